@@ -1,0 +1,15 @@
+//! What every layer of a phaser speaks of: the modes in which a task is registered, the entry of a
+//! registered task, and the limits that a phaser is made with. The first call is `Spec::new`.
+#![tactic(auto)]
+
+mod entry;
+mod limits;
+mod mode;
+mod spec;
+#[cfg(test)]
+mod tests;
+
+pub use entry::Entry;
+pub use limits::{BOUND_MAX, MEMBERS_MAX, PHASES_MAX, SENDS_MAX};
+pub use mode::Mode;
+pub use spec::{Spec, SpecFault};
