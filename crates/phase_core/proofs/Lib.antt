@@ -1,0 +1,6 @@
+mod Examples
+pub mod Each
+pub mod MemberLemmas
+pub mod Refused
+pub mod Steps
+pub mod Streams

@@ -1,0 +1,128 @@
+-- The refusals of the calls, each a table in the order in which its rows are checked: the first
+-- row that applies is the answer.
+use Rattle.std.specs.Prelude.{ℕ, ℤ, ◌+◌, List, [], ◌∷◌, ◌++◌, Option, Some, None, Bool, true, false, not, ◌&&◌, ◌||◌, length, is_some, if◌then◌else◌, ◌==◌, nat_le, nat_lt}
+use Rattle.std.specs.Ordering.{int_eq}
+use Rattle.phase_base.specs.Limits.{Limits}
+use Rattle.phase_base.specs.Modes.{holds, mode_signals, mode_waits, is_single}
+use Rattle.phase_base.specs.declared.mode.Mode.{Mode}
+use Rattle.phase_base.specs.declared.mode.Mode.TheVariants.{Wait}
+use Rattle.phase_base.specs.declared.entry.Entry.{Entry}
+use Rattle.phase_accum.specs.declared.single.Single.{Single}
+use Rattle.phase_accum.specs.declared.single.Single.TheVariants.{Neg, Abs, Halve, Clamp}
+use Rattle.phase_core.specs.declared.refusal.NoTask.{NoTask}
+use Rattle.phase_core.specs.declared.refusal.RegisterRefusal.{RegisterRefusal}
+use Rattle.phase_core.specs.declared.refusal.RegisterRefusal.TheVariants as register
+use Rattle.phase_core.specs.declared.refusal.SignalRefusal.{SignalRefusal}
+use Rattle.phase_core.specs.declared.refusal.SignalRefusal.TheVariants as signal
+use Rattle.phase_core.specs.declared.refusal.WaitRefusal.{WaitRefusal}
+use Rattle.phase_core.specs.declared.refusal.WaitRefusal.TheVariants as wait
+use Rattle.phase_core.specs.Members.{Members, entry_of, signal_phases, wait_phases, least, signalled}
+use Rattle.phase_core.specs.Histories.{History, Positions, positions_of, members_of, done_at, greatest_used}
+use Rattle.phase_core.specs.Phases.{sends_of_phase, named_in_phase}
+
+-- the answer of a table: its first row that applies
+abbrev pub first_row : {R : Type 0} → List (Bool × R) → Option R
+first_row [] = None
+first_row (row ∷ rows) = if row.0 then Some row.1 else first_row rows
+
+-- the refusal of a call by a task: that it is no member, or what its entry's rows answer
+abbrev pub refusal_at : {R : Type 0} → Option Entry → R → (Entry → List (Bool × R)) → Option R
+refusal_at None no_task rows = Some no_task
+refusal_at (Some entry) no_task rows = first_row (rows entry)
+
+-- a registration, by the parent's entry
+abbrev pub register_rows : Members → ℕ → ℕ → Mode → Entry → List (Bool × RegisterRefusal)
+register_rows members greatest child mode parent =
+    (not (holds parent.mode mode), register.NotAllowed)
+    ∷ (nat_le child greatest, register.NotNew)
+    ∷ (nat_le 1024 (length members), register.TooManyTasks)
+    ∷ []
+
+-- whether a signal of phase s is the bound or more ahead of the slowest waiter
+abbrev pub is_ahead : Option ℕ → ℕ → ℕ → Bool
+is_ahead None bound s = false
+is_ahead (Some slowest) bound s = nat_le (slowest + bound) s
+
+-- whether two singles are the same
+abbrev pub is_same : Single → Single → Bool
+is_same Neg Neg = true
+is_same Abs Abs = true
+is_same Halve Halve = true
+is_same (Clamp range) (Clamp other) = int_eq range.0 other.0 && int_eq range.1 other.1
+is_same _ _ = false
+
+-- whether a signal that names `single`, or none, joins signals that named otherwise
+abbrev pub differs : Option (Option Single) → Option Single → Bool
+differs None single = false
+differs (Some None) None = false
+differs (Some (Some named)) (Some single) = not (is_same named single)
+differs _ _ = true
+
+-- one phase of a signal: `slowest` is the least wait phase of the waiters, where there is one;
+-- the phase has `count` sends, its first signal named `named`, and n more sends would join it
+abbrev pub phase_rows : Limits → Option ℕ → ℕ → Option (Option Single) → ℕ → Option Single → Entry
+    → List (Bool × SignalRefusal)
+phase_rows limits slowest count named n single entry =
+    (mode_waits entry.mode && (entry.signal_phase == entry.wait_phase + 1), signal.SignalTwice)
+    ∷ (nat_le limits.phases_max entry.signal_phase, signal.Spent)
+    ∷ (is_ahead slowest limits.bound entry.signal_phase, signal.Ahead)
+    ∷ (is_some slowest && differs named single, signal.SingleDiffers)
+    ∷ (is_some slowest && nat_lt 65536 (count + n), signal.PhaseFull)
+    ∷ []
+
+-- a signal, phase by phase: what its later lists of sends meet where the earlier ones have joined
+abbrev pub list_rows : Limits → History → List (List ℤ) → Option Single → Entry
+    → List (Bool × SignalRefusal)
+list_rows limits h [] single entry = []
+list_rows limits h (sends ∷ lists) single entry =
+    phase_rows limits (least (wait_phases (members_of h)))
+        (length (sends_of_phase h entry.signal_phase)) (named_in_phase h entry.signal_phase)
+        (length sends) single entry
+    ++ list_rows limits h lists single (signalled 1 entry)
+
+-- whether a block of n phases is too short or too long
+abbrev pub is_bad_block : Limits → ℕ → Bool
+is_bad_block limits n = n == 0 || nat_lt limits.bound n
+
+-- a signal of as many phases as there are lists of sends, by the task's entry
+abbrev pub signal_rows : Limits → History → List (List ℤ) → Option Single → Entry
+    → List (Bool × SignalRefusal)
+signal_rows limits h lists single entry =
+    (not (mode_signals entry.mode), signal.NoSignal)
+    ∷ (is_some single && not (is_single entry.mode), signal.NotSingle)
+    ∷ (is_bad_block limits (length lists), signal.BadBlock)
+    ∷ list_rows limits h lists single entry
+
+-- a wait for at most n phases, by the task's entry
+abbrev pub wait_rows : Limits → Positions → ℕ → Entry → List (Bool × WaitRefusal)
+wait_rows limits now n entry =
+    (not (mode_waits entry.mode), wait.NoWait)
+    ∷ (is_bad_block limits n, wait.BadBlock)
+    ∷ (mode_signals entry.mode && (entry.signal_phase == entry.wait_phase), wait.SignalFirst)
+    ∷ (nat_le (done_at now) entry.wait_phase && is_some (least (signal_phases now.members)),
+        wait.NotYet)
+    ∷ []
+
+-- the refusal of a registration of the child by the parent
+abbrev pub register_refusal : History → ℕ → ℕ → Mode → Option RegisterRefusal
+register_refusal h parent child mode =
+    refusal_at (entry_of (members_of h) parent) register.NoTask
+        (register_rows (members_of h) (greatest_used h) child mode)
+
+-- the refusal of a registration of the child as a waiter that joins now
+abbrev pub register_now_refusal : History → ℕ → ℕ → Option RegisterRefusal
+register_now_refusal h parent child = register_refusal h parent child Wait
+
+-- the refusal of a signal
+abbrev pub signal_refusal : Limits → History → ℕ → List (List ℤ) → Option Single → Option SignalRefusal
+signal_refusal limits h task lists single =
+    refusal_at (entry_of (members_of h) task) signal.NoTask (signal_rows limits h lists single)
+
+-- the refusal of a wait for at most n phases
+abbrev pub wait_refusal : Limits → History → ℕ → ℕ → Option WaitRefusal
+wait_refusal limits h task n =
+    refusal_at (entry_of (members_of h) task) wait.NoTask (wait_rows limits (positions_of h) n)
+
+-- the refusal of a drop
+abbrev pub drop_refusal : History → ℕ → Option NoTask
+drop_refusal h task = refusal_at (entry_of (members_of h) task) (record {}) (λ entry. [])
