@@ -4,3 +4,5 @@ pub mod MemberLemmas
 pub mod Refused
 pub mod Steps
 pub mod Streams
+pub mod Received
+pub mod LawProofs

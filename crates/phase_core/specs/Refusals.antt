@@ -93,15 +93,31 @@ signal_rows limits h lists single entry =
     ∷ (is_bad_block limits (length lists), signal.BadBlock)
     ∷ list_rows limits h lists single entry
 
+-- a plain signal of n sends: one list, by what its phase has
+abbrev pub plain_signal_rows : Limits → Option ℕ → ℕ → Option (Option Single) → ℕ → Option Single
+    → Entry → List (Bool × SignalRefusal)
+plain_signal_rows limits slowest count named n single entry =
+    (not (mode_signals entry.mode), signal.NoSignal)
+    ∷ (is_some single && not (is_single entry.mode), signal.NotSingle)
+    ∷ (is_bad_block limits 1, signal.BadBlock)
+    ∷ phase_rows limits slowest count named n single entry
+
 -- a wait for at most n phases, by the task's entry
-abbrev pub wait_rows : Limits → Positions → ℕ → Entry → List (Bool × WaitRefusal)
-wait_rows limits now n entry =
+abbrev pub wait_rows_at : Limits → ℕ → Bool → ℕ → Entry → List (Bool × WaitRefusal)
+wait_rows_at limits done has_signaller n entry =
     (not (mode_waits entry.mode), wait.NoWait)
     ∷ (is_bad_block limits n, wait.BadBlock)
     ∷ (mode_signals entry.mode && (entry.signal_phase == entry.wait_phase), wait.SignalFirst)
-    ∷ (nat_le (done_at now) entry.wait_phase && is_some (least (signal_phases now.members)),
-        wait.NotYet)
+    ∷ (nat_le done entry.wait_phase && has_signaller, wait.NotYet)
     ∷ []
+
+abbrev pub wait_rows : Limits → Positions → ℕ → Entry → List (Bool × WaitRefusal)
+wait_rows limits now n entry =
+    wait_rows_at limits (done_at now) (is_some (least (signal_phases now.members))) n entry
+
+-- a plain wait, for one phase
+abbrev pub plain_wait_rows : Limits → ℕ → Bool → Entry → List (Bool × WaitRefusal)
+plain_wait_rows limits done has_signaller entry = wait_rows_at limits done has_signaller 1 entry
 
 -- the refusal of a registration of the child by the parent
 abbrev pub register_refusal : History → ℕ → ℕ → Mode → Option RegisterRefusal

@@ -2,8 +2,12 @@
 #![tactic(auto)]
 
 mod event;
-mod refusal;
 mod got;
+pub mod laws;
+mod phase_list;
+mod refusal;
+mod refusal_rows;
+mod slot;
 
 pub use event::Event;
 pub use got::Got;

@@ -1,0 +1,56 @@
+//! The phases of a phaser in one plain list, none of which is given up.
+ghost use Rattle.std.specs.Prelude.{◌≡◌, ◌∷◌, [], ◌++◌, length, slice_get, OnOk, OnErr, IfOk, MatchOption, Some, None};
+
+use crate::slot::Slot;
+use std::alloc::{AllocError, Global};
+use std::marker::Model;
+
+/// A slot for each phase from phase 0 on.
+#[derive(Drop)]
+pub struct PhaseList<A> {
+    slots: Vec<Slot<A>>,
+}
+
+impl<A> Model for PhaseList<A> {
+    ghost use Rattle.std.specs.Prelude.{List};
+    ghost use Rattle.phase_core.specs.declared.slot.Slot.{Slot};
+
+    ghost Value = { List (Slot A) };
+
+    ghost view = { λ l. l.slots.items };
+}
+
+impl<A: Drop> PhaseList<A> {
+    /// Makes a list of no phase.
+    pub fn new(alloc: Global) -> Result<PhaseList<A>, AllocError>
+        ensures { IfOk result (λ l. l ≡ []) }
+    {
+        Ok(PhaseList {
+            slots: Vec::with_capacity(alloc, 16)?,
+        })
+    }
+
+    /// Tells how many phases there are.
+    pub fn len(&self) -> u64
+        ensures { result ≡ length self.now }
+    {
+        self.slots.len() as u64
+    }
+
+    /// Opens one more phase.
+    pub fn push(&mut self, slot: Slot<A>) -> Result<(), AllocError>
+        ensures ok { OnOk result (self.new ≡ self.old ++ slot ∷ []) }
+        ensures err { OnErr result (self.new ≡ self.old) }
+    {
+        self.slots.push(slot)?;
+        Ok(())
+    }
+
+    /// The slot of a phase.
+    pub fn get(&self, phase: u64) -> Option<&Slot<A>>
+        ensures { MatchOption result (slice_get self.now phase ≡ None)
+            (λ slot. slice_get self.now phase ≡ Some slot.now) }
+    {
+        self.slots.get(phase as usize)
+    }
+}
