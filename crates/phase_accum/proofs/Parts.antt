@@ -1,7 +1,7 @@
 -- Parts of lists of sends, and what a task holds, under the laws of an accumulator.
 use Rattle.std.proofs.Common.{◌≡◌, ◌+◌, ◌≤◌, ℤ, List, [], ◌∷◌, ◌++◌, length, refl, sym, ◌∙◌, ap, arith, length-append}
 use Rattle.phase_base.specs.declared.limits.TheConstants.{SENDS_MAX}
-use Rattle.phase_accum.specs.Values.{IsSend, AreSends}
+use Rattle.phase_accum.specs.Sends.{IsSend, AreSends}
 use Rattle.phase_accum.specs.Operations.{Operation, part, IsPartOf, MayJoin, AccumulateLaws}
 use Rattle.phase_accum.specs.Parcels.{Parcel, parcel, StandsForSends}
 
@@ -21,19 +21,28 @@ AreSends-append_right (x ∷ xs) ys s = AreSends-append_right xs ys s.1
 
 -- ---- parts
 
+-- the unit is the part of no send
 pub IsPartOf-nil : {A : Type 0} (op : Operation A) → IsPartOf op op.unit []
 IsPartOf-nil op = record { is = refl; are_sends = tt; few = omega arith }
 
-pub IsPartOf-one : {A : Type 0} (op : Operation A) (v : ℤ) → AccumulateLaws op → IsSend v → IsPartOf op (op.of v) (v ∷ [])
-IsPartOf-one op v laws s = record { is = sym (laws.of_is v (s, tt)); are_sends = (s, tt); few = omega arith }
+-- `of` gives the part of one send
+pub IsPartOf-one : {A : Type 0} (op : Operation A) (v : ℤ) → AccumulateLaws op
+    → IsSend v → IsPartOf op (op.of v) (v ∷ [])
+IsPartOf-one op v laws s = record {
+  is = sym (laws.of_is v (s, tt));
+  are_sends = (s, tt);
+  few = omega arith;
+}
 
--- the first of two lists has the part that the definition gives it
-IsPartOf-part : {A : Type 0} (op : Operation A) (xs : List ℤ) → AreSends xs → length xs ≤ SENDS_MAX → IsPartOf op (part op xs) xs
+-- a list has the part that the definition gives it
+pub IsPartOf-part : {A : Type 0} (op : Operation A) (xs : List ℤ)
+    → AreSends xs → length xs ≤ SENDS_MAX → IsPartOf op (part op xs) xs
 IsPartOf-part op xs s few = record { is = refl; are_sends = s; few = few }
 
 -- the part of two lists put together is the join of their parts
-pub part-append : {A : Type 0} (op : Operation A) (xs ys : List ℤ) → AccumulateLaws op → AreSends xs → AreSends ys
-    → length xs + length ys ≤ SENDS_MAX → op.join (part op xs) (part op ys) ≡ part op (xs ++ ys)
+pub part-append : {A : Type 0} (op : Operation A) (xs ys : List ℤ) → AccumulateLaws op
+    → AreSends xs → AreSends ys → length xs + length ys ≤ SENDS_MAX
+    → op.join (part op xs) (part op ys) ≡ part op (xs ++ ys)
 part-append op [] ys laws s t few =
     laws.left_unit (part op ys) ys (IsPartOf-part op ys t (omega arith))
 part-append op (x ∷ xs) ys laws s t few =
@@ -44,8 +53,10 @@ part-append op (x ∷ xs) ys laws s t few =
     (omega arith)
     ∙ ap (op.join (op.of x)) (part-append op xs ys laws s.1 t (omega arith))
 
-pub IsPartOf-join : {A : Type 0} (op : Operation A) (x y : A) (xs ys : List ℤ) → AccumulateLaws op
-    → IsPartOf op x xs → IsPartOf op y ys → length xs + length ys ≤ SENDS_MAX → IsPartOf op (op.join x y) (xs ++ ys)
+-- the join of two parts is the part of their lists put together
+pub IsPartOf-join : {A : Type 0} (op : Operation A) (x y : A) (xs ys : List ℤ)
+    → AccumulateLaws op → IsPartOf op x xs → IsPartOf op y ys
+    → length xs + length ys ≤ SENDS_MAX → IsPartOf op (op.join x y) (xs ++ ys)
 IsPartOf-join op x y xs ys laws p q few = record {
   is = rw (p.is, q.is) (part-append op xs ys laws p.are_sends q.are_sends few);
   are_sends = AreSends-append xs ys p.are_sends q.are_sends;
@@ -53,8 +64,8 @@ IsPartOf-join op x y xs ys laws p q few = record {
 }
 
 -- lists with one part have one value
-pub value-same : {A : Type 0} (op : Operation A) (x : A) (xs ys : List ℤ) → AccumulateLaws op
-    → IsPartOf op x xs → IsPartOf op x ys → op.value xs ≡ op.value ys
+pub value-same : {A : Type 0} (op : Operation A) (x : A) (xs ys : List ℤ)
+    → AccumulateLaws op → IsPartOf op x xs → IsPartOf op x ys → op.value xs ≡ op.value ys
 value-same op x xs ys laws p q = sym (laws.finishes x xs p) ∙ laws.finishes x ys q
 
 -- single sends with one part are one
@@ -66,31 +77,43 @@ one_send-same op x v w laws p q =
 
 -- ---- the sends that a task holds
 
-pub StandsForSends-nil : {A : Type 0} (op : Operation A) → StandsForSends op (parcel op.unit 0) []
+-- a task that holds the unit, and no send
+pub StandsForSends-nil : {A : Type 0} (op : Operation A)
+    → StandsForSends op (parcel op.unit 0) []
 StandsForSends-nil op = record { part_is = IsPartOf-nil op; count_is = refl }
 
-pub StandsForSends-one : {A : Type 0} (op : Operation A) (v : ℤ) → AccumulateLaws op → IsSend v
-    → StandsForSends op (parcel (op.of v) 1) (v ∷ [])
-StandsForSends-one op v laws s = record { part_is = IsPartOf-one op v laws s; count_is = omega arith }
+-- a task that holds one send
+pub StandsForSends-one : {A : Type 0} (op : Operation A) (v : ℤ) → AccumulateLaws op
+    → IsSend v → StandsForSends op (parcel (op.of v) 1) (v ∷ [])
+StandsForSends-one op v laws s =
+    record { part_is = IsPartOf-one op v laws s; count_is = omega arith }
 
-pub StandsForSends-append : {A : Type 0} (op : Operation A) (held other : Parcel A) (xs ys : List ℤ) → AccumulateLaws op
-    → StandsForSends op held xs → StandsForSends op other ys → held.count + other.count ≤ SENDS_MAX
-    → StandsForSends op (parcel (op.join held.part other.part) (held.count + other.count)) (xs ++ ys)
+-- what two tasks hold, put together
+pub StandsForSends-append : {A : Type 0} (op : Operation A) (held other : Parcel A)
+    (xs ys : List ℤ) → AccumulateLaws op
+    → StandsForSends op held xs → StandsForSends op other ys
+    → held.count + other.count ≤ SENDS_MAX
+    → StandsForSends op (parcel (op.join held.part other.part) (held.count + other.count))
+    (xs ++ ys)
 StandsForSends-append op held other xs ys laws p q few = record {
-  part_is = IsPartOf-join op held.part other.part xs ys laws p.part_is q.part_is (rw (← p.count_is, ← q.count_is) few);
+  part_is = IsPartOf-join op held.part other.part xs ys laws p.part_is q.part_is
+      (rw (← p.count_is, ← q.count_is) few);
   count_is = rw (p.count_is, q.count_is) (sym (length-append xs ys));
 }
 
-pub StandsForSends-push : {A : Type 0} (op : Operation A) (held : Parcel A) (xs : List ℤ) (v : ℤ) → AccumulateLaws op
+-- what a task holds, and one more send
+pub StandsForSends-push : {A : Type 0} (op : Operation A) (held : Parcel A) (xs : List ℤ)
+    (v : ℤ) → AccumulateLaws op
     → StandsForSends op held xs → IsSend v → held.count + 1 ≤ SENDS_MAX
     → StandsForSends op (parcel (op.join held.part (op.of v)) (held.count + 1)) (xs ++ v ∷ [])
 StandsForSends-push op held xs v laws p s few =
-    StandsForSends-append op held (parcel (op.of v) 1) xs (v ∷ []) laws p (StandsForSends-one op v laws s) few
+    let one = StandsForSends-one op v laws s in
+    StandsForSends-append op held (parcel (op.of v) 1) xs (v ∷ []) laws p one few
 
--- two parcels that stand for sends, together not too many, may be joined
+-- what two tasks hold may be joined where it is together not too much
 pub MayJoin-held : {A : Type 0} (op : Operation A) (held other : Parcel A) (xs ys : List ℤ)
-    → StandsForSends op held xs → StandsForSends op other ys → held.count + other.count ≤ SENDS_MAX
-    → MayJoin op held.part other.part
+    → StandsForSends op held xs → StandsForSends op other ys
+    → held.count + other.count ≤ SENDS_MAX → MayJoin op held.part other.part
 MayJoin-held op held other xs ys p q few = record {
   first = xs;
   second = ys;
@@ -100,6 +123,6 @@ MayJoin-held op held other xs ys p q few = record {
 }
 
 -- what is held finishes as the value of the sends that it stands for
-pub finish-held : {A : Type 0} (op : Operation A) (held : Parcel A) (xs : List ℤ) → AccumulateLaws op
-    → StandsForSends op held xs → op.finish held.part ≡ op.value xs
+pub finish-held : {A : Type 0} (op : Operation A) (held : Parcel A) (xs : List ℤ)
+    → AccumulateLaws op → StandsForSends op held xs → op.finish held.part ≡ op.value xs
 finish-held op held xs laws p = laws.finishes held.part xs p.part_is

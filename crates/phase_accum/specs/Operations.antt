@@ -2,7 +2,8 @@
 use Rattle.std.specs.Prelude.{◌≡◌, ◌+◌, ◌≤◌, ℤ, List, [], ◌∷◌, length}
 use Rattle.phase_base.specs.declared.limits.TheConstants.{SENDS_MAX}
 use Rattle.phase_accum.specs.declared.outcome.Outcome.{Outcome}
-use Rattle.phase_accum.specs.Values.{IsSend, AreSends}
+use Rattle.phase_accum.specs.Sends.{IsSend, AreSends}
+use Rattle.phase_accum.specs.Values.{IsInRange}
 
 -- the four calls as functions, and the definition of the value of a list of sends
 pub record Operation (A : Type 0) : Type 0 where
@@ -41,6 +42,7 @@ pub record AccumulateLaws {A : Type 0} (op : Operation A) : Type 0 where
       → length xs + length ys + length zs ≤ SENDS_MAX
       → op.join (op.join x y) z ≡ op.join x (op.join y z)
   pub finishes : (x : A) (xs : List ℤ) → IsPartOf op x xs → op.finish x ≡ op.value xs
+  pub in_range : (xs : List ℤ) → AreSends xs → IsInRange (op.value xs)
   pub of_tells : (v w : ℤ) → IsSend v → IsSend w → op.of v ≡ op.of w → v ≡ w
 
 -- the order of two parts makes no difference

@@ -12,6 +12,7 @@ abbrev pub parcel : {A : Type 0} → A → ℕ → Parcel A
 parcel part count = record { part = part; count = count }
 
 -- these sends are held, in their order
-pub record StandsForSends {A : Type 0} (op : Operation A) (held : Parcel A) (sends : List ℤ) : Type 0 where
+pub record StandsForSends {A : Type 0} (op : Operation A) (held : Parcel A) (sends : List ℤ)
+    : Type 0 where
   pub part_is : IsPartOf op held.part sends
   pub count_is : held.count ≡ length sends

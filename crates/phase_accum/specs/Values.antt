@@ -1,25 +1,12 @@
--- The value of a list of sends for each operation, and a single applied. Exact, over all integers.
-use Rattle.std.specs.Prelude.{ℕ, ◌/◌, ◌≤◌, nat_le, ℤ, pos, negsuc, ◌+ℤ◌, ◌*ℤ◌, neg_ℤ, unsigned_abs, List, [], ◌∷◌, if◌then◌else◌, Option, Some, None}
+-- The value of a list of sends for each of the five operations, and a single applied. All numbers
+-- are exact integers, and the range is checked where `ranged` says so.
+use Rattle.std.specs.Prelude.{◌/◌, ◌≤◌, nat_le, ℤ, pos, negsuc, ◌+ℤ◌, ◌*ℤ◌, neg_ℤ, unsigned_abs, List, [], ◌∷◌, if◌then◌else◌, Option, Some, None}
 use Rattle.std.specs.Int.{int_min, int_max}
+pub use Rattle.phase_accum.specs.Sends.{value_max, IsSend, AreSends}
 use Rattle.phase_accum.specs.declared.outcome.Outcome.{Outcome}
 use Rattle.phase_accum.specs.declared.outcome.Outcome.TheVariants.{Value, Empty, TooBig}
 use Rattle.phase_accum.specs.declared.single.Single.{Single}
 use Rattle.phase_accum.specs.declared.single.Single.TheVariants.{Neg, Abs, Halve, Clamp}
-
--- the greatest magnitude of a value, 2^63 - 1
-abbrev pub value_max : ℕ
-value_max = 9223372036854775807
-
--- ---- sends
-
--- the number can be sent: its magnitude is one of a value
-pub record IsSend (v : ℤ) : Type 0 where
-  pub small : unsigned_abs v ≤ value_max
-
--- each number of the list can be sent
-abbrev pub AreSends : List ℤ → Type 0
-AreSends [] = Unit {0}
-AreSends (v ∷ vs) = IsSend v × AreSends vs
 
 -- ---- the value of a list of sends
 
@@ -69,6 +56,12 @@ greatest_value (v ∷ vs) = Value (greatest_of v vs)
 abbrev pub any_value : List ℤ → Outcome
 any_value [] = Empty
 any_value (v ∷ vs) = Value v
+
+-- a value has a magnitude of one
+abbrev pub IsInRange : Outcome → Type 0
+IsInRange (Value v) = unsigned_abs v ≤ value_max
+IsInRange Empty = Unit {0}
+IsInRange TooBig = Unit {0}
 
 -- ---- singles
 

@@ -1,7 +1,7 @@
 //! How the sends of a phase become its value.
 ghost use Rattle.std.specs.Prelude.{◌≡◌};
 ghost use Rattle.phase_accum.specs.Operations.{Operation, MayJoin, AccumulateLaws, Commutes};
-ghost use Rattle.phase_accum.specs.Values.{IsSend};
+ghost use Rattle.phase_accum.specs.Sends.{IsSend};
 
 use crate::outcome::Outcome;
 

@@ -32,7 +32,8 @@ impl<A: Accumulate> Model for Pending<A> {
 
     ghost view = { λ p. parcel p.part p.count };
 
-    ghost invariant = { λ p. (sends : List ℤ) × StandsForSends A.operation (parcel p.part p.count) sends };
+    ghost invariant = { λ p. (sends : List ℤ)
+        × StandsForSends A.operation (parcel p.part p.count) sends };
 
     ghost inverse = { λ p. record { part = p.part; count = p.count } };
 }

@@ -1,5 +1,5 @@
 //! The range of a clamp.
-ghost use Rattle.std.specs.Prelude.{◌≡◌, ◌↔◌, ◌≤◌, ◌<◌, ◌≤ℤ◌, ◌<ℤ◌, ◌⊎◌, unsigned_abs};
+ghost use Rattle.std.specs.Prelude.{◌≡◌, ◌↔◌, IsOk, IfOk};
 ghost use Rattle.phase_accum.specs.Ranges.{IsRange};
 
 use crate::outcome::NO_VALUE;
@@ -32,7 +32,8 @@ impl Model for Range {
 impl Range {
     /// Makes the range of a clamp.
     pub fn new(low: i64, high: i64) -> Result<Range, BadClamp>
-        ensures { (result ≡ Ok (low, high)) ↔ IsRange (low, high) }
+        ensures ok { IsOk result ↔ IsRange (low, high) }
+        ensures ends { IfOk result (λ range. range ≡ (low, high)) }
     {
         if low == NO_VALUE || high == NO_VALUE || low > high {
             return Err(BadClamp);

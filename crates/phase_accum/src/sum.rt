@@ -1,5 +1,4 @@
 //! The sum of the sends of a phase.
-ghost use Rattle.std.specs.Prelude.{◌≡◌};
 ghost use Rattle.phase_accum.specs.Sums.{sum_operation, sum_laws, sum_commutes};
 
 use crate::accumulate::{Accumulate, Exact};

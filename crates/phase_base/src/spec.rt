@@ -1,5 +1,5 @@
 //! The limits that a phaser is made with.
-ghost use Rattle.std.specs.Prelude.{◌≡◌, ◌↔◌, ◌<◌, ◌≤◌, ◌⊎◌};
+ghost use Rattle.std.specs.Prelude.{◌≡◌, ◌↔◌, ◌<◌, ◌⊎◌};
 ghost use Rattle.phase_base.specs.Limits.{limits, AreLimits, IsBound};
 
 use crate::limits::{BOUND_MAX, PHASES_MAX};

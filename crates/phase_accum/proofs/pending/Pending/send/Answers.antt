@@ -2,7 +2,7 @@
 -- not too many.
 use Rattle.std.proofs.Common.{◌≡◌, ℤ, [], ◌∷◌, ◌++◌, arith, SFits, of_z, w64, to_z-of_z}
 use Rattle.std.proofs.lemmas.Int.{ints}
-use Rattle.phase_accum.specs.Values.{IsSend}
+use Rattle.phase_accum.specs.Sends.{IsSend}
 use Rattle.phase_accum.specs.Parcels.{StandsForSends, parcel}
 use Rattle.phase_accum.proofs.Parts.{MayJoin-held, StandsForSends-one, StandsForSends-push}
 use Rattle.phase_accum.proofs.pending.Pending.send.Goals as goal
