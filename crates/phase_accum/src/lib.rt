@@ -3,6 +3,7 @@
 #![tactic(auto)]
 
 mod accumulate;
+mod applied;
 mod outcome;
 mod pending;
 mod range;
@@ -12,6 +13,7 @@ mod sum;
 mod tests;
 
 pub use accumulate::{Accumulate, Exact};
+pub use applied::apply;
 pub use outcome::{NO_VALUE, Outcome, VALUE_MAX};
 pub use pending::{Pending, SendFault};
 pub use range::{BadClamp, Range};
