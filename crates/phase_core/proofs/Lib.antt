@@ -6,3 +6,5 @@ pub mod Steps
 pub mod Streams
 pub mod Received
 pub mod LawProofs
+pub mod CoreSteps
+pub mod OneMember

@@ -1,6 +1,7 @@
 //! A phaser for one thread.
 #![tactic(auto)]
 
+mod core_one;
 mod event;
 mod got;
 pub mod laws;
@@ -9,6 +10,7 @@ mod refusal;
 mod refusal_rows;
 mod slot;
 
+pub use core_one::PhaserCore;
 pub use event::Event;
 pub use got::Got;
 pub use refusal::{NoTask, RegisterRefusal, SignalRefusal, WaitRefusal};
