@@ -13,21 +13,21 @@ use crate::outcome::Outcome;
 pub trait Accumulate: Copy {
     ghost operation: { Operation Self };
 
-    /// The part of no send.
+    /// Gives the part of no send.
     fn unit() -> Self
         ensures { result ≡ operation.unit };
 
-    /// The part of one send.
+    /// Gives the part of one send.
     fn of(value: i64) -> Self
         requires { IsSend value }
         ensures { result ≡ operation.of value };
 
-    /// The part of the sends of `first`, and then of those of `second`.
+    /// Gives the part of the sends of `first`, and then of those of `second`.
     fn join(first: Self, second: Self) -> Self
         requires { MayJoin operation first second }
         ensures { result ≡ operation.join first second };
 
-    /// The value of the sends.
+    /// Gives the value of the sends.
     fn finish(self) -> Outcome
         ensures { result ≡ operation.finish self };
 

@@ -1,4 +1,5 @@
-//! The edges of the limits, and each reader once.
+//! The mode table, and the edges of the limits.
+use crate::mode::Mode;
 use crate::spec::{Spec, SpecFault};
 
 #[test]
@@ -26,5 +27,22 @@ fn the_greatest_limits_are_taken(rt: HostRuntime) {
             assert_eq!(rt; spec.phases_max(), 4611686018427387904);
         }
         Err(fault) => panic!(rt; "refused: {fault:?}"),
+    }
+}
+
+#[test]
+fn modes_hold_what_the_rule_says(rt: HostRuntime) {
+    for (mode, held) in [
+        (Mode::Sig, [true, false, false, false]),
+        (Mode::Wait, [false, true, false, false]),
+        (Mode::SigWait, [true, true, true, false]),
+        (Mode::Single, [true, true, true, true]),
+    ] {
+        assert_eq!(rt; mode.holds(Mode::Sig), held[0], "{mode:?}");
+        assert_eq!(rt; mode.holds(Mode::Wait), held[1], "{mode:?}");
+        assert_eq!(rt; mode.holds(Mode::SigWait), held[2], "{mode:?}");
+        assert_eq!(rt; mode.holds(Mode::Single), held[3], "{mode:?}");
+        assert_eq!(rt; mode.signals(), held[0], "{mode:?}");
+        assert_eq!(rt; mode.waits(), held[1], "{mode:?}");
     }
 }
