@@ -96,7 +96,8 @@ impl<A: Accumulate> Pending<A> {
 
     /// Tells the part of the sends that are held.
     pub fn part(&self) -> A
-        ensures { result ≡ self.now.part }
+        ensures value { result ≡ self.now.part }
+        ensures held { (sends : List ℤ) × StandsForSends A.operation self.now sends }
     {
         self.part
     }

@@ -1,5 +1,5 @@
 -- A fact of each element of a list, by recursion over the list; the least of a list of numbers.
-use Rattle.std.proofs.Common.{◌≡◌, ℕ, ◌+◌, ◌<◌, ◌≤◌, Bool, true, false, cond, List, [], ◌∷◌, ◌++◌, Option, Some, None, map, min, unwrap_or, refl, sym, ap, subst, arith}
+use Rattle.std.proofs.Common.{◌≡◌, ℕ, ◌≤◌, Bool, true, false, cond, List, [], ◌∷◌, ◌++◌, Some, None, map, unwrap_or, refl, arith}
 use Rattle.std.specs.List.{filter}
 use Rattle.std.proofs.lemmas.Option.{same_Some}
 use Rattle.phase_core.specs.Members.{least, lesser}
@@ -23,7 +23,9 @@ Each-filter P test [] each = tt
 Each-filter P test (x ∷ xs) each =
     let rest : Each P (filter test xs) = Each-filter P test xs each.1 in
     elim (test x) as (λ b. Each P (cond b (x ∷ filter test xs) (filter test xs))) [
-      true ↦ (each.0, rest) | false ↦ rest ]
+      | true ↦ (each.0, rest)
+      | false ↦ rest
+    ]
 
 -- of what each element that passes gives
 pub Each-picked : {X Y : Type 0} (P : Y → Type 0) (f : X → Y) (test : X → Bool) (xs : List X)
@@ -32,7 +34,9 @@ Each-picked P f test [] each = tt
 Each-picked P f test (x ∷ xs) each =
     let rest : Each P (map f (filter test xs)) = Each-picked P f test xs each.1 in
     elim (test x) as (λ b. (test x ≡ b) → Each P (map f (cond b (x ∷ filter test xs) (filter test xs)))) [
-      true ↦ λ e. (each.0 e, rest) | false ↦ λ e. rest ] refl
+      | true ↦ λ e. (each.0 e, rest)
+      | false ↦ λ e. rest
+    ] refl
 
 -- and back
 pub Each-of_picked : {X Y : Type 0} (P : Y → Type 0) (f : X → Y) (test : X → Bool) (xs : List X)
@@ -40,9 +44,10 @@ pub Each-of_picked : {X Y : Type 0} (P : Y → Type 0) (f : X → Y) (test : X �
 Each-of_picked P f test [] each = tt
 Each-of_picked P f test (x ∷ xs) each =
     elim (test x) as (λ b. (test x ≡ b) → Each P (map f (cond b (x ∷ filter test xs) (filter test xs)))
-        → (test x ≡ true → P (f x)) × Each (λ x. test x ≡ true → P (f x)) xs) [
-      true ↦ λ e h. (λ _. h.0, Each-of_picked P f test xs h.1)
-    | false ↦ λ e h. (λ t. absurd (let no : true ≡ false = (cc) in cc), Each-of_picked P f test xs h) ]
+    → (test x ≡ true → P (f x)) × Each (λ x. test x ≡ true → P (f x)) xs) [
+      | true ↦ λ e h. (λ _. h.0, Each-of_picked P f test xs h.1)
+      | false ↦ λ e h. (λ t. absurd (let no : true ≡ false = (cc) in cc), Each-of_picked P f test xs h)
+    ]
     refl each
 
 -- ---- the least of a list
@@ -53,8 +58,9 @@ least_low [] b e = tt
 least_low (x ∷ xs) b e =
     let is : lesser x (least xs) ≡ b = same_Some _ _ e in
     elim (least xs) as (λ o. (least xs ≡ o) → (lesser x o ≡ b) → (b ≤ x) × Each (λ x. b ≤ x) xs) [
-      None ↦ λ none w. (omega arith, nothing xs b none)
-    | Some m ↦ λ some w. (omega arith, Each-from (λ x. m ≤ x) (λ x. b ≤ x) (λ y h. omega arith) xs (least_low xs m some)) ]
+      | None ↦ λ none w. (omega arith, nothing xs b none)
+      | Some m ↦ λ some w. (omega arith, Each-from (λ x. m ≤ x) (λ x. b ≤ x) (λ y h. omega arith) xs (least_low xs m some))
+    ]
     refl is
   where
     nothing : (xs : List ℕ) (b : ℕ) → least xs ≡ None → Each (λ x. b ≤ x) xs
@@ -72,7 +78,9 @@ least_or_high [] t b each h = h
 least_or_high (x ∷ xs) t b each h =
     let rest : b ≤ unwrap_or (least xs) x = least_or_high xs x b each.1 each.0 in
     elim (least xs) as (λ o. b ≤ unwrap_or o x → b ≤ lesser x o) [
-      None ↦ λ r. each.0 | Some m ↦ λ r. let here : b ≤ x = each.0 in omega arith ] rest
+      | None ↦ λ r. each.0
+      | Some m ↦ λ r. let here : b ≤ x = each.0 in omega arith
+    ] rest
 
 -- where no number is above t, neither is the least
 pub least_or_top : (xs : List ℕ) (t : ℕ) → Each (λ x. x ≤ t) xs → unwrap_or (least xs) t ≤ t

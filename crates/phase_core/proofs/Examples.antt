@@ -1,14 +1,14 @@
 -- The definitions at work: short scripts of calls, whose replies are computed here and compared
 -- with replies that were found by hand.
-use Rattle.std.proofs.Common.{◌≡◌, ℕ, List, [], ◌∷◌, ◌++◌, Option, Some, None, ℤ, pos, negsuc, cond, eqb, refl}
+use Rattle.std.proofs.Common.{◌≡◌, ℕ, List, [], ◌∷◌, ◌++◌, Some, None, ℤ, pos, cond, eqb, refl}
 use Rattle.phase_base.specs.Limits.{Limits, limits}
 use Rattle.phase_base.specs.declared.mode.Mode.{Mode}
-use Rattle.phase_base.specs.declared.mode.Mode.TheVariants.{Sig, Wait, SigWait, Single}
+use Rattle.phase_base.specs.declared.mode.Mode.TheVariants.{Sig, Wait, SigWait}
 use Rattle.phase_accum.specs.declared.outcome.Outcome.{Outcome}
-use Rattle.phase_accum.specs.declared.outcome.Outcome.TheVariants.{Value, Empty, TooBig}
+use Rattle.phase_accum.specs.declared.outcome.Outcome.TheVariants.{Value, Empty}
 use Rattle.phase_accum.specs.declared.single.Single.{Single as SingleFn}
 use Rattle.phase_accum.specs.declared.single.Single.TheVariants.{Neg, Halve}
-use Rattle.phase_accum.specs.Values.{sum_value, product_value, least_value, greatest_value, any_value}
+use Rattle.phase_accum.specs.Values.{sum_value, product_value, least_value, any_value}
 use Rattle.phase_core.specs.declared.event.Event.TheVariants.{Made}
 use Rattle.phase_core.specs.declared.got.Got.TheVariants as gets
 use Rattle.phase_core.specs.declared.refusal.RegisterRefusal.TheVariants as joins
@@ -96,73 +96,73 @@ modes : run sum_value 2 100 (add 0 1 Wait ∷ add 1 2 Sig ∷ add 0 1 Sig ∷ ad
 modes = refl
 
 members_come_and_go : run sum_value 2 100
-        (add 0 1 Sig ∷ add 0 2 Wait ∷ leave 0 ∷ send 1 (pos 7) ∷ signal 1 ∷ signal 1 ∷ signal 1
-        ∷ wait 2 ∷ signal 1 ∷ [])
+    (add 0 1 Sig ∷ add 0 2 Wait ∷ leave 0 ∷ send 1 (pos 7) ∷ signal 1 ∷ signal 1 ∷ signal 1
+    ∷ wait 2 ∷ signal 1 ∷ [])
     ≡ Accepted ∷ Accepted ∷ Accepted ∷ Accepted ∷ SignalledIn 0 ∷ SignalledIn 1
-        ∷ NotSignalled signals.Ahead ∷ got 0 (pos 7) ∷ SignalledIn 2 ∷ []
+    ∷ NotSignalled signals.Ahead ∷ got 0 (pos 7) ∷ SignalledIn 2 ∷ []
 members_come_and_go = refl
 
 -- a signaller that joins late holds the phases back, and the slower waiter holds the signallers
 members_hold_back : run sum_value 2 100
-        (add 0 1 Sig ∷ add 0 2 Wait ∷ add 0 3 Wait ∷ leave 0 ∷ signal 1 ∷ signal 1 ∷ add 1 4 Sig
-        ∷ wait 2 ∷ wait 2 ∷ wait 2 ∷ signal 1 ∷ wait 3 ∷ send 1 (pos 5) ∷ signal 1 ∷ wait 2
-        ∷ send 4 (pos 6) ∷ signal 4 ∷ wait 2 ∷ wait 3 ∷ wait 3 ∷ [])
+    (add 0 1 Sig ∷ add 0 2 Wait ∷ add 0 3 Wait ∷ leave 0 ∷ signal 1 ∷ signal 1 ∷ add 1 4 Sig
+    ∷ wait 2 ∷ wait 2 ∷ wait 2 ∷ signal 1 ∷ wait 3 ∷ send 1 (pos 5) ∷ signal 1 ∷ wait 2
+    ∷ send 4 (pos 6) ∷ signal 4 ∷ wait 2 ∷ wait 3 ∷ wait 3 ∷ [])
     ≡ Accepted ∷ Accepted ∷ Accepted ∷ Accepted ∷ SignalledIn 0 ∷ SignalledIn 1 ∷ Accepted
-        ∷ got 0 (pos 0) ∷ got 1 (pos 0) ∷ NotReceived waits.NotYet ∷ NotSignalled signals.Ahead
-        ∷ got 0 (pos 0) ∷ Accepted ∷ SignalledIn 2 ∷ NotReceived waits.NotYet
-        ∷ Accepted ∷ SignalledIn 2 ∷ got 2 (pos 11) ∷ got 1 (pos 0) ∷ got 2 (pos 11) ∷ []
+    ∷ got 0 (pos 0) ∷ got 1 (pos 0) ∷ NotReceived waits.NotYet ∷ NotSignalled signals.Ahead
+    ∷ got 0 (pos 0) ∷ Accepted ∷ SignalledIn 2 ∷ NotReceived waits.NotYet
+    ∷ Accepted ∷ SignalledIn 2 ∷ got 2 (pos 11) ∷ got 1 (pos 0) ∷ got 2 (pos 11) ∷ []
 members_hold_back = refl
 
 late_waiter : run sum_value 4 100
-        (add 0 1 Sig ∷ add 0 2 Wait ∷ leave 0 ∷ send 1 (pos 10) ∷ signal 1 ∷ send 1 (pos 20)
-        ∷ signal 1 ∷ send 1 (pos 30) ∷ signal 1 ∷ send 1 (pos 40) ∷ signal 1 ∷ wait 2 ∷ wait 2
-        ∷ add 2 3 Wait ∷ wait 3 ∷ wait 2 ∷ wait 3 ∷ wait 3 ∷ [])
+    (add 0 1 Sig ∷ add 0 2 Wait ∷ leave 0 ∷ send 1 (pos 10) ∷ signal 1 ∷ send 1 (pos 20)
+    ∷ signal 1 ∷ send 1 (pos 30) ∷ signal 1 ∷ send 1 (pos 40) ∷ signal 1 ∷ wait 2 ∷ wait 2
+    ∷ add 2 3 Wait ∷ wait 3 ∷ wait 2 ∷ wait 3 ∷ wait 3 ∷ [])
     ≡ Accepted ∷ Accepted ∷ Accepted ∷ Accepted ∷ SignalledIn 0 ∷ Accepted ∷ SignalledIn 1 ∷ Accepted
-        ∷ SignalledIn 2 ∷ Accepted ∷ SignalledIn 3 ∷ got 0 (pos 10) ∷ got 1 (pos 20) ∷ Accepted
-        ∷ got 2 (pos 30) ∷ got 2 (pos 30) ∷ got 3 (pos 40) ∷ NotReceived waits.NotYet ∷ []
+    ∷ SignalledIn 2 ∷ Accepted ∷ SignalledIn 3 ∷ got 0 (pos 10) ∷ got 1 (pos 20) ∷ Accepted
+    ∷ got 2 (pos 30) ∷ got 2 (pos 30) ∷ got 3 (pos 40) ∷ NotReceived waits.NotYet ∷ []
 late_waiter = refl
 
 last_signaller_drops : run sum_value 4 100
-        (add 0 1 Sig ∷ add 0 2 Sig ∷ add 0 3 Wait ∷ leave 0 ∷ send 1 (pos 1) ∷ signal 1
-        ∷ send 2 (pos 10) ∷ signal 2 ∷ send 2 (pos 20) ∷ signal 2 ∷ send 2 (pos 30) ∷ signal 2
-        ∷ leave 2 ∷ wait 3 ∷ wait 3 ∷ leave 1 ∷ wait 3 ∷ wait 3 ∷ wait 3 ∷ wait 3 ∷ [])
+    (add 0 1 Sig ∷ add 0 2 Sig ∷ add 0 3 Wait ∷ leave 0 ∷ send 1 (pos 1) ∷ signal 1
+    ∷ send 2 (pos 10) ∷ signal 2 ∷ send 2 (pos 20) ∷ signal 2 ∷ send 2 (pos 30) ∷ signal 2
+    ∷ leave 2 ∷ wait 3 ∷ wait 3 ∷ leave 1 ∷ wait 3 ∷ wait 3 ∷ wait 3 ∷ wait 3 ∷ [])
     ≡ Accepted ∷ Accepted ∷ Accepted ∷ Accepted ∷ Accepted ∷ SignalledIn 0 ∷ Accepted ∷ SignalledIn 0
-        ∷ Accepted ∷ SignalledIn 1 ∷ Accepted ∷ SignalledIn 2 ∷ Accepted ∷ got 0 (pos 11)
-        ∷ NotReceived waits.NotYet ∷ Accepted ∷ got 1 (pos 20) ∷ got 2 (pos 30)
-        ∷ Received gets.Ended ∷ Received gets.Ended ∷ []
+    ∷ Accepted ∷ SignalledIn 1 ∷ Accepted ∷ SignalledIn 2 ∷ Accepted ∷ got 0 (pos 11)
+    ∷ NotReceived waits.NotYet ∷ Accepted ∷ got 1 (pos 20) ∷ got 2 (pos 30)
+    ∷ Received gets.Ended ∷ Received gets.Ended ∷ []
 last_signaller_drops = refl
 
 drop_gives_up_sends : run sum_value 4 100
-        (add 0 1 Sig ∷ send 1 (pos 9) ∷ leave 1 ∷ send 0 (pos 4) ∷ signal 0 ∷ wait 0 ∷ [])
+    (add 0 1 Sig ∷ send 1 (pos 9) ∷ leave 1 ∷ send 0 (pos 4) ∷ signal 0 ∷ wait 0 ∷ [])
     ≡ Accepted ∷ Accepted ∷ Accepted ∷ Accepted ∷ SignalledIn 0 ∷ got 0 (pos 4) ∷ []
 drop_gives_up_sends = refl
 
 singles : run sum_value 2 100
-        (add 0 1 Wait ∷ add 0 2 SigWait ∷ send 0 (pos 5) ∷ signal_by 0 Halve ∷ signal 2
-        ∷ signal_by 2 Halve ∷ leave 2 ∷ wait 0 ∷ wait 1 ∷ [])
+    (add 0 1 Wait ∷ add 0 2 SigWait ∷ send 0 (pos 5) ∷ signal_by 0 Halve ∷ signal 2
+    ∷ signal_by 2 Halve ∷ leave 2 ∷ wait 0 ∷ wait 1 ∷ [])
     ≡ Accepted ∷ Accepted ∷ Accepted ∷ SignalledIn 0 ∷ NotSignalled signals.SingleDiffers
-        ∷ NotSignalled signals.NotSingle ∷ Accepted ∷ got 0 (pos 2) ∷ got 0 (pos 2) ∷ []
+    ∷ NotSignalled signals.NotSingle ∷ Accepted ∷ got 0 (pos 2) ∷ got 0 (pos 2) ∷ []
 singles = refl
 
 any_takes_first : run any_value 2 100
-        (add 0 1 Sig ∷ send 0 (pos 4) ∷ send 1 (pos 9) ∷ signal 1 ∷ signal 0 ∷ wait 0 ∷ [])
+    (add 0 1 Sig ∷ send 0 (pos 4) ∷ send 1 (pos 9) ∷ signal 1 ∷ signal 0 ∷ wait 0 ∷ [])
     ≡ Accepted ∷ Accepted ∷ Accepted ∷ SignalledIn 0 ∷ SignalledIn 0 ∷ got 0 (pos 9) ∷ []
 any_takes_first = refl
 
 least_takes_least : run least_value 2 100
-        (add 0 1 Sig ∷ send 0 (pos 4) ∷ send 1 (pos 9) ∷ signal 1 ∷ signal 0 ∷ wait 0 ∷ [])
+    (add 0 1 Sig ∷ send 0 (pos 4) ∷ send 1 (pos 9) ∷ signal 1 ∷ signal 0 ∷ wait 0 ∷ [])
     ≡ Accepted ∷ Accepted ∷ Accepted ∷ SignalledIn 0 ∷ SignalledIn 0 ∷ got 0 (pos 4) ∷ []
 least_takes_least = refl
 
 child_between_signal_and_wait : run sum_value 2 100
-        (signal 0 ∷ add 0 1 SigWait ∷ signal 1 ∷ wait 1 ∷ wait 0 ∷ [])
+    (signal 0 ∷ add 0 1 SigWait ∷ signal 1 ∷ wait 1 ∷ wait 0 ∷ [])
     ≡ SignalledIn 0 ∷ Accepted ∷ NotSignalled signals.SignalTwice ∷ got 0 (pos 0) ∷ got 0 (pos 0) ∷ []
 child_between_signal_and_wait = refl
 
 without_waiters : run sum_value 1 100
-        (add 0 1 Sig ∷ signal_by 0 Neg ∷ signal 1 ∷ leave 0 ∷ signal 1 ∷ signal 1 ∷ signal 1 ∷ [])
+    (add 0 1 Sig ∷ signal_by 0 Neg ∷ signal 1 ∷ leave 0 ∷ signal 1 ∷ signal 1 ∷ signal 1 ∷ [])
     ≡ Accepted ∷ SignalledIn 0 ∷ NotSignalled signals.SingleDiffers ∷ Accepted ∷ SignalledIn 0
-        ∷ SignalledIn 1 ∷ SignalledIn 2 ∷ []
+    ∷ SignalledIn 1 ∷ SignalledIn 2 ∷ []
 without_waiters = refl
 
 -- the limit of phases
@@ -172,10 +172,10 @@ limits_of_phases = refl
 
 -- a waiter that joins now begins at the first phase that is not complete
 joins_now : run sum_value 4 100
-        (add 0 1 Sig ∷ add 0 2 Wait ∷ leave 0 ∷ send 1 (pos 10) ∷ signal 1 ∷ send 1 (pos 20)
-        ∷ signal 1 ∷ now 2 3 ∷ wait 3 ∷ signal 1 ∷ wait 3 ∷ wait 2 ∷ now 1 4 ∷ now 9 4 ∷ now 2 3
-        ∷ [])
+    (add 0 1 Sig ∷ add 0 2 Wait ∷ leave 0 ∷ send 1 (pos 10) ∷ signal 1 ∷ send 1 (pos 20)
+    ∷ signal 1 ∷ now 2 3 ∷ wait 3 ∷ signal 1 ∷ wait 3 ∷ wait 2 ∷ now 1 4 ∷ now 9 4 ∷ now 2 3
+    ∷ [])
     ≡ Accepted ∷ Accepted ∷ Accepted ∷ Accepted ∷ SignalledIn 0 ∷ Accepted ∷ SignalledIn 1
-        ∷ JoinedAt 2 ∷ NotReceived waits.NotYet ∷ SignalledIn 2 ∷ got 2 (pos 0) ∷ got 0 (pos 10)
-        ∷ NotRegistered joins.NotAllowed ∷ NotRegistered joins.NoTask ∷ NotRegistered joins.NotNew ∷ []
+    ∷ JoinedAt 2 ∷ NotReceived waits.NotYet ∷ SignalledIn 2 ∷ got 2 (pos 0) ∷ got 0 (pos 10)
+    ∷ NotRegistered joins.NotAllowed ∷ NotRegistered joins.NoTask ∷ NotRegistered joins.NotNew ∷ []
 joins_now = refl

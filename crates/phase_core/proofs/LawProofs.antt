@@ -1,13 +1,12 @@
 -- The laws of histories, as the contracts of `laws` state them.
-use Rattle.std.proofs.Common.{◌≡◌, ℕ, ◌+◌, ◌-◌, ◌≤◌, ℤ, List, take, drop, Some, sym, ap, ◌∙◌, arith}
-use Rattle.std.specs.Prelude.{slice_range}
+use Rattle.std.proofs.Common.{◌≡◌, ℕ, ◌+◌, ◌-◌, ℤ, List, take, drop, Some, ap, ◌∙◌, arith}
 use Rattle.phase_base.specs.Limits.{Limits}
 use Rattle.phase_base.specs.declared.entry.Entry.{Entry}
 use Rattle.phase_accum.specs.declared.outcome.Outcome.{Outcome}
 use Rattle.phase_accum.specs.declared.outcome.Outcome.TheVariants.{Empty}
 use Rattle.phase_core.specs.Members.{entry_of}
 use Rattle.phase_core.specs.Histories.{History, members_of, done_of, top_of, greatest_used, IsWaiter, phases_waited}
-use Rattle.phase_core.specs.Phases.{stream_of, received_by}
+use Rattle.phase_core.specs.Phases.{stream_of}
 use Rattle.phase_core.specs.Legal.{IsLegal}
 use Rattle.phase_core.specs.Laws.{HasReceived, HasCounted}
 use Rattle.phase_core.proofs.MemberLemmas.{Each-entry}
@@ -19,7 +18,7 @@ pub got_of : (value : List ℤ → Outcome) (limits : Limits) (h : History) (tas
 got_of value limits h task entry legal waiter =
     let c : Counted value h task entry = counted value limits h task entry legal waiter.is_member in
     let good : StandsWell (done_of h) (top_of h) (greatest_used h) (task, entry) =
-        Each-entry _ (members_of h) task entry waiter.is_member (sound_of limits h legal) in
+    Each-entry _ (members_of h) task entry waiter.is_member (sound_of limits h legal) in
     let a = c.start.wait_phase in
     let e : a + phases_waited h task ≡ entry.wait_phase = c.waits in
     let k : phases_waited h task ≡ entry.wait_phase - a = omega arith in
@@ -28,7 +27,8 @@ got_of value limits h task entry legal waiter =
       start_is = c.start_is;
       from_start = omega arith;
       complete = good.waits waiter.waits;
-      received = c.received waiter.waits ∙ ap (λ n. take n (drop a (stream_of value h))) k }
+      received = c.received waiter.waits ∙ ap (λ n. take n (drop a (stream_of value h))) k;
+    }
 
 pub counted_of : (limits : Limits) (h : History) (task : ℕ) (entry : Entry)
     → IsLegal limits h → entry_of (members_of h) task ≡ Some entry → HasCounted h task entry

@@ -1,24 +1,25 @@
 -- What it means for a call that it is not refused.
-use Rattle.std.proofs.Common.{◌≡◌, ℕ, ◌+◌, ◌<◌, ◌≤◌, Bool, true, false, not, ◌&&◌, ◌||◌, cond, eqb, leb, ltb, List, [], ◌∷◌, ◌++◌, Option, Some, None, ℤ, length, refl, sym, ap, subst, ◌∙◌, arith}
-use Rattle.std.specs.Prelude.{is_some}
-use Rattle.std.proofs.lemmas.Bool.{leb-false, eqb-false}
+use Rattle.std.proofs.Common.{◌≡◌, ℕ, ◌<◌, Bool, true, false, not, cond, List, [], ◌∷◌, Option, Some, None, ℤ, refl}
+use Rattle.std.proofs.lemmas.Bool.{leb-false}
 use Rattle.phase_base.specs.Limits.{Limits}
-use Rattle.phase_base.specs.Modes.{mode_signals, mode_waits, holds, is_single}
+use Rattle.phase_base.specs.Modes.{mode_signals, mode_waits, holds}
 use Rattle.phase_base.specs.declared.mode.Mode.{Mode}
 use Rattle.phase_base.specs.declared.entry.Entry.{Entry}
 use Rattle.phase_accum.specs.declared.single.Single.{Single}
-use Rattle.phase_core.specs.Members.{Members, entry_of, signal_phases, wait_phases, least}
-use Rattle.phase_core.specs.Histories.{History, Positions, positions_of, members_of, done_at, greatest_used}
+use Rattle.phase_core.specs.Members.{entry_of}
+use Rattle.phase_core.specs.Histories.{History, positions_of, members_of, greatest_used}
 use Rattle.phase_core.proofs.Each.{Each}
-use Rattle.phase_core.specs.Refusals.{first_row, refusal_at, register_rows, register_refusal, signal_rows, signal_refusal, wait_rows, wait_refusal, is_bad_block, list_rows}
+use Rattle.phase_core.specs.Refusals.{first_row, refusal_at, register_rows, register_refusal, signal_rows, signal_refusal, wait_rows, wait_refusal}
 
 -- the table answers nothing where none of its rows applies
 pub no_row : {R : Type 0} (rows : List (Bool × R)) → first_row rows ≡ None → Each (λ (row : Bool × R). row.0 ≡ false) rows
 no_row [] none = tt
 no_row {R} (row ∷ rows) none =
     elim (row.0) as (λ b. (row.0 ≡ b) → (cond b (Some row.1) (first_row rows) ≡ None)
-        → (row.0 ≡ false) × Each (λ (r : Bool × R). r.0 ≡ false) rows) [
-      true ↦ λ t n. absurd (cc) | false ↦ λ t n. (t, no_row rows n) ]
+    → (row.0 ≡ false) × Each (λ (r : Bool × R). r.0 ≡ false) rows) [
+      | true ↦ λ t n. absurd (cc)
+      | false ↦ λ t n. (t, no_row rows n)
+    ]
     refl none
 
 -- and then it answers nothing
@@ -53,12 +54,13 @@ pub registers_from : (h : History) (parent child : ℕ) (mode : Mode)
     → register_refusal h parent child mode ≡ None → Registers h parent child mode
 registers_from h parent child mode none =
     let p : Passes (entry_of (members_of h) parent) (register_rows (members_of h) (greatest_used h) child mode) =
-        passes_from _ _ _ none in
+    passes_from _ _ _ none in
     record {
       entry = p.entry;
       is_member = p.is_member;
       allowed = not_false _ p.passes.0;
-      new_number = leb-false _ _ p.passes.1.0 }
+      new_number = leb-false _ _ p.passes.1.0;
+    }
 
 -- an accepted signal: the task is a member that signals
 pub record SignalsNow (h : History) (task : ℕ) : Type 0 where

@@ -1,10 +1,9 @@
 -- One more event of a legal history: where the members stand, and that no complete phase changes.
-use Rattle.std.proofs.Common.{◌≡◌, ℕ, ◌+◌, ◌<◌, ◌≤◌, Bool, true, false, not, ◌&&◌, cond, eqb, leb, ltb, List, [], ◌∷◌, ◌++◌, Option, Some, None, ℤ, length, map, max, unwrap_or, refl, sym, ap, subst, ◌∙◌, arith}
-use Rattle.std.specs.List.{filter, range_with_len}
+use Rattle.std.proofs.Common.{◌≡◌, ℕ, ◌+◌, ◌<◌, ◌≤◌, Bool, true, false, not, eqb, leb, List, [], ◌∷◌, ◌++◌, Option, Some, None, ℤ, length, max, unwrap_or, refl, sym, ap, subst, ◌∙◌, arith}
 use Rattle.std.proofs.lemmas.List.{append-nil}
-use Rattle.std.proofs.lemmas.Bool.{eqb-true, eqb-false, ne_eqb, lt-leb}
+use Rattle.std.proofs.lemmas.Bool.{ne_eqb, lt-leb}
 use Rattle.phase_base.specs.Limits.{Limits}
-use Rattle.phase_base.specs.Modes.{mode_signals, mode_waits, holds}
+use Rattle.phase_base.specs.Modes.{mode_signals, mode_waits}
 use Rattle.phase_base.specs.declared.mode.Mode.{Mode}
 use Rattle.phase_base.specs.declared.mode.Mode.TheVariants.{Wait}
 use Rattle.phase_base.specs.declared.entry.Entry.{Entry}
@@ -13,7 +12,7 @@ use Rattle.phase_accum.specs.declared.single.Single.{Single}
 use Rattle.phase_accum.specs.Values.{applied}
 use Rattle.phase_core.specs.declared.event.Event.{Event}
 use Rattle.phase_core.specs.declared.event.Event.TheVariants.{Made, Registered, RegisteredNow, Signalled, Waited, Dropped}
-use Rattle.phase_core.specs.Members.{Members, entry_of, changed_at, without, signal_phases, wait_phases, least, signalled, waited}
+use Rattle.phase_core.specs.Members.{Members, entry_of, signal_phases, least, signalled, waited}
 use Rattle.phase_core.specs.Histories.{History, Positions, positions_of, members_of, top_of, done_of, done_at, founder, entry_at, member_entry, signal_phase, wait_phase, greatest_used}
 use Rattle.phase_core.specs.Phases.{sends_of_phase, named_in_phase, value_of_phase, list_in_phase, first_named, is_among, single_of_phase}
 use Rattle.phase_core.specs.Legal.{IsAccepted, IsLegal}
@@ -35,20 +34,20 @@ done_high : (now : Positions) (b : ℕ) → Each (λ (m : ℕ × Entry). mode_si
     → b ≤ now.top → b ≤ done_at now
 done_high now b each top =
     least_or_high (signal_phases now.members) now.top b
-      (Each-picked (λ x. b ≤ x) (λ (m : ℕ × Entry). m.1.signal_phase) (λ (m : ℕ × Entry). mode_signals m.1.mode) now.members each) top
+    (Each-picked (λ x. b ≤ x) (λ (m : ℕ × Entry). m.1.signal_phase) (λ (m : ℕ × Entry). mode_signals m.1.mode) now.members each) top
 
 -- done is no more than each signaller's phase
 pub done_low : (now : Positions) → Each (λ (m : ℕ × Entry). mode_signals m.1.mode ≡ true → done_at now ≤ m.1.signal_phase) now.members
 done_low now =
     Each-of_picked (λ x. done_at now ≤ x) (λ (m : ℕ × Entry). m.1.signal_phase) (λ (m : ℕ × Entry). mode_signals m.1.mode) now.members
-      (least_or_low (signal_phases now.members) now.top)
+    (least_or_low (signal_phases now.members) now.top)
 
 -- in a sound history done is no more than the top
 pub done_below_top : (h : History) → IsSound h → done_of h ≤ top_of h
 done_below_top h sound =
     least_or_top (signal_phases (members_of h)) (top_of h)
-      (Each-picked (λ x. x ≤ top_of h) (λ (m : ℕ × Entry). m.1.signal_phase) (λ (m : ℕ × Entry). mode_signals m.1.mode) (members_of h)
-        (Each-from (StandsWell (done_of h) (top_of h) (greatest_used h)) _ (λ m good _. good.below) (members_of h) sound))
+    (Each-picked (λ x. x ≤ top_of h) (λ (m : ℕ × Entry). m.1.signal_phase) (λ (m : ℕ × Entry). mode_signals m.1.mode) (members_of h)
+    (Each-from (StandsWell (done_of h) (top_of h) (greatest_used h)) _ (λ m good _. good.below) (members_of h) sound))
 
 -- the entry of a member is the one that is looked up
 pub member_entry_is : (ms : Members) (task : ℕ) (e : Entry) → entry_of ms task ≡ Some e → member_entry ms task ≡ e
@@ -60,14 +59,15 @@ stands_later : (done top greatest done' top' greatest' : ℕ) → done ≤ done'
 stands_later done top greatest done' top' greatest' a b c m good = record {
   below = (let h : m.1.signal_phase ≤ top = good.below in omega arith);
   waits = λ w. (let h : m.1.wait_phase ≤ done = good.waits w in omega arith);
-  used = (let h : m.0 ≤ greatest = good.used in omega arith) }
+  used = (let h : m.0 ≤ greatest = good.used in omega arith);
+}
 
 -- what an event leaves: done is no less, the members stand well, and no complete phase changed
 pub record Steps (before : History) (event : Event) : Type 0 where
   pub grows : done_of before ≤ done_of (event ∷ before)
   pub sound : IsSound (event ∷ before)
   pub same : (value : List ℤ → Outcome) (p : ℕ) → p < done_of before
-    → value_of_phase value (event ∷ before) p ≡ value_of_phase value before p
+      → value_of_phase value (event ∷ before) p ≡ value_of_phase value before p
 
 -- a child that stands at a phase of its parent, and at a wait phase that is complete
 joins : (h : History) (e : Entry) (child : ℕ) (mode : Mode) (w : ℕ) → IsSound h → (parent : ℕ) → entry_of (members_of h) parent ≡ Some e
@@ -83,16 +83,18 @@ joins h e child mode w sound parent found signals waits greatest grows new now m
     let all_low : P now.members = subst P (sym members_are) (Each-push _ (members_of h) (child, entry_at mode e.signal_phase w) lows (λ s. parent_low (signals s))) in
     let top_low : done_of h ≤ now.top = (let a : done_of h ≤ top_of h = done_below_top h sound in omega arith) in
     let done_grows : done_of h ≤ done_at now = done_high now (done_of h) all_low top_low in
-    let Q : Members → Type 0 = λ ms. Each (StandsWell (done_at now) now.top greatest) ms in
-    (done_grows,
-     subst Q (sym members_are)
-       (Each-push _ (members_of h) (child, entry_at mode e.signal_phase w)
-         (Each-from (StandsWell (done_of h) (top_of h) (greatest_used h)) (StandsWell (done_at now) now.top greatest)
-           (stands_later _ _ _ _ _ _ done_grows (omega arith) grows) (members_of h) sound)
-         (record {
-           below = (let a : e.signal_phase ≤ top_of h = parent_good.below in omega arith);
-           waits = λ t. (let a : w ≤ done_of h = waits t in omega arith);
-           used = new })))
+    let Q : Members → Type 0 = λ ms. Each (StandsWell (done_at now) now.top greatest) ms in (
+      done_grows,
+      subst Q (sym members_are)
+          (Each-push _ (members_of h) (child, entry_at mode e.signal_phase w)
+          (Each-from (StandsWell (done_of h) (top_of h) (greatest_used h)) (StandsWell (done_at now) now.top greatest)
+          (stands_later _ _ _ _ _ _ done_grows (omega arith) grows) (members_of h) sound)
+          (record {
+            below = (let a : e.signal_phase ≤ top_of h = parent_good.below in omega arith);
+            waits = λ t. (let a : w ≤ done_of h = waits t in omega arith);
+            used = new;
+          })),
+    )
 
 steps_registered : (before : History) (parent child : ℕ) (mode : Mode) → IsSound before
     → Registers before parent child mode → Steps before (Registered parent child mode)
@@ -101,10 +103,10 @@ steps_registered before parent child mode sound r =
     let is : member_entry ms parent ≡ r.entry = member_entry_is ms parent r.entry r.is_member in
     let good : StandsWell (done_of before) (top_of before) (greatest_used before) (parent, r.entry) = Each-entry _ ms parent r.entry r.is_member sound in
     let j = joins before r.entry child mode r.entry.wait_phase sound parent r.is_member
-        (holds_signals r.entry.mode mode r.allowed) (λ w. good.waits (holds_waits r.entry.mode mode r.allowed w))
-        (max child (greatest_used before)) (omega arith) (omega arith)
-        (positions_of (Registered parent child mode ∷ before))
-        (ap (λ (e : Entry). ms ++ (child, entry_at mode e.signal_phase e.wait_phase) ∷ []) is) refl in
+    (holds_signals r.entry.mode mode r.allowed) (λ w. good.waits (holds_waits r.entry.mode mode r.allowed w))
+    (max child (greatest_used before)) (omega arith) (omega arith)
+    (positions_of (Registered parent child mode ∷ before))
+    (ap (λ (e : Entry). ms ++ (child, entry_at mode e.signal_phase e.wait_phase) ∷ []) is) refl in
     record { grows = j.0; sound = j.1; same = λ value p h. refl }
 
 steps_registered_now : (before : History) (parent child : ℕ) → IsSound before
@@ -113,10 +115,10 @@ steps_registered_now before parent child sound r =
     let ms = members_of before in
     let is : member_entry ms parent ≡ r.entry = member_entry_is ms parent r.entry r.is_member in
     let j = joins before r.entry child Wait (done_of before) sound parent r.is_member
-        (holds_signals r.entry.mode Wait r.allowed) (λ w. omega arith)
-        (max child (greatest_used before)) (omega arith) (omega arith)
-        (positions_of (RegisteredNow parent child ∷ before))
-        (ap (λ (e : Entry). ms ++ (child, entry_at Wait e.signal_phase (done_of before)) ∷ []) is) refl in
+    (holds_signals r.entry.mode Wait r.allowed) (λ w. omega arith)
+    (max child (greatest_used before)) (omega arith) (omega arith)
+    (positions_of (RegisteredNow parent child ∷ before))
+    (ap (λ (e : Entry). ms ++ (child, entry_at Wait e.signal_phase (done_of before)) ∷ []) is) refl in
     record { grows = j.0; sound = j.1; same = λ value p h. refl }
 
 -- no list stands in a phase before the first
@@ -137,11 +139,11 @@ pub signalled_before : (value : List ℤ → Outcome) (before : History) (task :
 signalled_before value before task lists single p h =
     let s = signal_phase before task in
     let sends : sends_of_phase (Signalled task lists single ∷ before) p ≡ sends_of_phase before p =
-        ap (λ l. sends_of_phase before p ++ l) (list_in_phase_before lists s p h) ∙ append-nil _ in
+    ap (λ l. sends_of_phase before p ++ l) (list_in_phase_before lists s p h) ∙ append-nil _ in
     let early : leb s p ≡ false = lt-leb s p h in
     let outside : is_among s (length lists) p ≡ false = rw early refl in
     let named : named_in_phase (Signalled task lists single ∷ before) p ≡ named_in_phase before p =
-        first_named_not (named_in_phase before p) _ single outside in
+    first_named_not (named_in_phase before p) _ single outside in
     ap (λ n. applied (single_of n) (value (sends_of_phase (Signalled task lists single ∷ before) p))) named
     ∙ ap (λ l. applied (single_of_phase before p) (value l)) sends
   where
@@ -163,19 +165,21 @@ steps_signalled before task lists single sound r =
     let top_is : now.top ≡ max (top_of before) (r.entry.signal_phase + n) = ap (λ (e : Entry). max (top_of before) (e.signal_phase + n)) is in
     let top_low : done_of before ≤ now.top = (let a : done_of before ≤ top_of before = done_below_top before sound in omega arith) in
     let all_low : Each (λ (m : ℕ × Entry). mode_signals m.1.mode ≡ true → done_of before ≤ m.1.signal_phase) now.members =
-        Each-changed _ _ task (signalled n) r.entry ms r.is_member (λ m h. h) (λ h t. omega arith) lows in
+    Each-changed _ _ task (signalled n) r.entry ms r.is_member (λ m h. h) (λ h t. omega arith) lows in
     let done_grows : done_of before ≤ done_at now = done_high now (done_of before) all_low top_low in
     record {
       grows = done_grows;
       sound = Each-changed (StandsWell (done_of before) (top_of before) (greatest_used before)) (StandsWell (done_at now) now.top (greatest_used before))
-        task (signalled n) r.entry ms r.is_member
-        (stands_later _ _ _ _ _ _ done_grows (omega arith) (omega arith))
-        (λ good. record {
-          below = omega arith;
-          waits = λ t. (let a : r.entry.wait_phase ≤ done_of before = good.waits t in omega arith);
-          used = good.used })
-        sound;
-      same = λ value p h. signalled_before value before task lists single p (omega arith) }
+          task (signalled n) r.entry ms r.is_member
+          (stands_later _ _ _ _ _ _ done_grows (omega arith) (omega arith))
+          (λ good. record {
+            below = omega arith;
+            waits = λ t. (let a : r.entry.wait_phase ≤ done_of before = good.waits t in omega arith);
+            used = good.used;
+          })
+          sound;
+      same = λ value p h. signalled_before value before task lists single p (omega arith);
+    }
 
 steps_waited : (before : History) (task n : ℕ) → IsSound before → WaitsNow before task
     → wait_phase before task + n ≤ done_of before → Steps before (Waited task n)
@@ -184,15 +188,16 @@ steps_waited before task n sound r fits =
     let is : member_entry ms task ≡ r.entry = member_entry_is ms task r.entry r.is_member in
     let w_is : wait_phase before task ≡ r.entry.wait_phase = ap (λ (e : Entry). e.wait_phase) is in
     let done_is : done_of (Waited task n ∷ before) ≡ done_of before =
-        ap (λ xs. unwrap_or (least xs) (top_of before)) (signal_phases-waited ms task n) in
+    ap (λ xs. unwrap_or (least xs) (top_of before)) (signal_phases-waited ms task n) in
     record {
       grows = omega arith;
       sound = Each-changed (StandsWell (done_of before) (top_of before) (greatest_used before)) (StandsWell (done_of (Waited task n ∷ before)) (top_of before) (greatest_used before))
-        task (waited n) r.entry ms r.is_member
-        (stands_later _ _ _ _ _ _ (omega arith) (omega arith) (omega arith))
-        (λ good. record { below = good.below; waits = λ t. omega arith; used = good.used })
-        sound;
-      same = λ value p h. refl }
+          task (waited n) r.entry ms r.is_member
+          (stands_later _ _ _ _ _ _ (omega arith) (omega arith) (omega arith))
+          (λ good. record { below = good.below; waits = λ t. omega arith; used = good.used })
+          sound;
+      same = λ value p h. refl;
+    }
 
 steps_dropped : (before : History) (task : ℕ) → IsSound before → Steps before (Dropped task)
 steps_dropped before task sound =
@@ -200,13 +205,14 @@ steps_dropped before task sound =
     let now = positions_of (Dropped task ∷ before) in
     let test : ℕ × Entry → Bool = λ m. not (eqb m.0 task) in
     let done_grows : done_of before ≤ done_at now =
-        done_high now (done_of before) (Each-filter _ test ms (done_low (positions_of before))) (done_below_top before sound) in
+    done_high now (done_of before) (Each-filter _ test ms (done_low (positions_of before))) (done_below_top before sound) in
     record {
       grows = done_grows;
       sound = Each-filter _ test ms
-        (Each-from (StandsWell (done_of before) (top_of before) (greatest_used before)) (StandsWell (done_at now) (top_of before) (greatest_used before))
+          (Each-from (StandsWell (done_of before) (top_of before) (greatest_used before)) (StandsWell (done_at now) (top_of before) (greatest_used before))
           (stands_later _ _ _ _ _ _ done_grows (omega arith) (omega arith)) ms sound);
-      same = λ value p h. refl }
+      same = λ value p h. refl;
+    }
 
 -- the founder alone stands well
 made_sound : (task : ℕ) → IsSound (Made task ∷ [])

@@ -1,23 +1,21 @@
 -- The stream of a longer history begins with this one's, and does not grow where none signals.
-use Rattle.std.proofs.Common.{◌≡◌, ℕ, ◌+◌, ◌-◌, ◌<◌, ◌≤◌, Bool, true, false, not, cond, eqb, List, [], ◌∷◌, ◌++◌, Option, Some, None, ℤ, length, map, take, drop, get_or, max, unwrap_or, refl, sym, ap, subst, ◌∙◌, arith}
+use Rattle.std.proofs.Common.{◌≡◌, ℕ, ◌<◌, ◌≤◌, true, false, not, cond, eqb, List, [], ◌∷◌, ◌++◌, ℤ, map, take, drop, unwrap_or, refl, sym, ap, subst, ◌∙◌, arith}
 use Rattle.std.specs.List.{range_with_len, filter}
 use Rattle.std.proofs.lemmas.List.{append-nil, take-append-drop, append_assoc}
 use Rattle.std.proofs.lemmas.List.FromFn.{length-map-range_with_len, get_or-map-range_with_len, take-map-range_with_len, fill_by_all}
 use mathlib.Core.List.{IsPrefix}
 use Rattle.phase_base.specs.Limits.{Limits}
-use Rattle.phase_base.specs.Modes.{mode_signals, holds}
-use Rattle.phase_base.specs.declared.mode.Mode.{Mode}
-use Rattle.phase_base.specs.declared.mode.Mode.TheVariants.{Wait}
+use Rattle.phase_base.specs.Modes.{mode_signals}
 use Rattle.phase_base.specs.declared.entry.Entry.{Entry}
 use Rattle.phase_accum.specs.declared.outcome.Outcome.{Outcome}
 use Rattle.phase_accum.specs.declared.outcome.Outcome.TheVariants.{Empty}
 use Rattle.phase_core.specs.declared.event.Event.{Event}
 use Rattle.phase_core.specs.declared.event.Event.TheVariants.{Made, Registered, RegisteredNow, Signalled, Waited, Dropped}
-use Rattle.phase_core.specs.Members.{Members, entry_of, signal_phases, least, waited}
-use Rattle.phase_core.specs.Histories.{History, positions_of, members_of, done_of, top_of, HasNoSignaller}
+use Rattle.phase_core.specs.Members.{Members, signal_phases, least, waited}
+use Rattle.phase_core.specs.Histories.{History, members_of, done_of, top_of, HasNoSignaller}
 use Rattle.phase_core.specs.Phases.{value_of_phase, stream_of}
 use Rattle.phase_core.specs.Legal.{IsAccepted, IsLegal}
-use Rattle.phase_core.proofs.Each.{Each, Each-push, Each-filter, Each-picked, Each-of_picked}
+use Rattle.phase_core.proofs.Each.{Each, Each-push, Each-filter, Each-of_picked}
 use Rattle.phase_core.proofs.MemberLemmas.{Each-entry, Each-changed, holds_signals}
 use Rattle.phase_core.proofs.Refused.{registers_from, signals_from, waits_from}
 use Rattle.phase_core.proofs.Steps.{Steps, steps, sound_of}
@@ -27,7 +25,7 @@ same_values : {X : Type 0} (f g : ℕ → X) (n : ℕ) (d : X) → ((p : ℕ) �
     → map g (range_with_len 0 n) ≡ map f (range_with_len 0 n)
 same_values f g n d same =
     fill_by_all f (map g (range_with_len 0 n)) n d (length-map-range_with_len g 0 n)
-      (λ k h. get_or-map-range_with_len g 0 n k k d h (omega arith) ∙ same k h)
+    (λ k h. get_or-map-range_with_len g 0 n k k d h (omega arith) ∙ same k h)
 
 -- and more of them begin with fewer
 pub prefix_of_values : {X : Type 0} (f g : ℕ → X) (n m : ℕ) (d : X) → n ≤ m → ((p : ℕ) → p < n → g p ≡ f p)
@@ -35,7 +33,7 @@ pub prefix_of_values : {X : Type 0} (f g : ℕ → X) (n m : ℕ) (d : X) → n 
 prefix_of_values f g n m d fewer same =
     let all = map g (range_with_len 0 m) in
     let front : take n all ≡ map f (range_with_len 0 n) =
-        take-map-range_with_len g 0 m n fewer ∙ same_values f g n d same in
+    take-map-range_with_len g 0 m n fewer ∙ same_values f g n d same in
     (drop n all, ap (λ xs. xs ++ drop n all) (sym front) ∙ take-append-drop n all)
 
 IsPrefix-trans : {X : Type 0} (xs ys zs : List X) → IsPrefix xs ys → IsPrefix ys zs → IsPrefix xs zs
@@ -47,7 +45,7 @@ pub stream_grows : (value : List ℤ → Outcome) (before : History) (event : Ev
     → IsPrefix (stream_of value before) (stream_of value (event ∷ before))
 stream_grows value before event s =
     prefix_of_values (value_of_phase value before) (value_of_phase value (event ∷ before))
-      (done_of before) (done_of (event ∷ before)) Empty s.grows (s.same value)
+    (done_of before) (done_of (event ∷ before)) Empty s.grows (s.same value)
 
 -- a legal history has an event
 pub legal_some : (limits : Limits) (h more : History) → IsLegal limits h → more ++ h ≡ [] → ⊥
@@ -82,14 +80,16 @@ Quiet ms = Each (λ (m : ℕ × Entry). mode_signals m.1.mode ≡ true → ⊥) 
 quiet_from : (h : History) → HasNoSignaller h → Quiet (members_of h)
 quiet_from h none =
     Each-of_picked (λ x. ⊥) (λ (m : ℕ × Entry). m.1.signal_phase) (λ (m : ℕ × Entry). mode_signals m.1.mode) (members_of h)
-      (let P : List ℕ → Type 0 = λ xs. Each (λ x. ⊥) xs in subst P (sym none) tt)
+    (let P : List ℕ → Type 0 = λ xs. Each (λ x. ⊥) xs in subst P (sym none) tt)
 
 signal_phases_quiet : (ms : Members) → Quiet ms → signal_phases ms ≡ []
 signal_phases_quiet [] quiet = refl
 signal_phases_quiet (m ∷ ms) quiet =
     elim (mode_signals m.1.mode) as (λ b. (mode_signals m.1.mode ≡ b)
-        → map (λ (m : ℕ × Entry). m.1.signal_phase) (cond b (m ∷ filter (λ (m : ℕ × Entry). mode_signals m.1.mode) ms) (filter (λ (m : ℕ × Entry). mode_signals m.1.mode) ms)) ≡ []) [
-      true ↦ λ t. absurd (quiet.0 t) | false ↦ λ t. signal_phases_quiet ms quiet.1 ] refl
+    → map (λ (m : ℕ × Entry). m.1.signal_phase) (cond b (m ∷ filter (λ (m : ℕ × Entry). mode_signals m.1.mode) ms) (filter (λ (m : ℕ × Entry). mode_signals m.1.mode) ms)) ≡ []) [
+      | true ↦ λ t. absurd (quiet.0 t)
+      | false ↦ λ t. signal_phases_quiet ms quiet.1
+    ] refl
 
 -- one more event leaves it so, and the top
 quiet_step : (limits : Limits) (before : History) (event : Event) → IsLegal limits before → IsAccepted limits before event
@@ -129,13 +129,14 @@ closed_from value limits h (event ∷ more) quiet legal longer =
     let step : Steps (more ++ h) event = steps limits (more ++ h) event r.0 (sound_of limits (more ++ h) r.0) r.1 in
     let now = quiet_step limits (more ++ h) event r.0 r.1 before.quiet in
     let done_same : done_of (event ∷ more ++ h) ≡ done_of (more ++ h) =
-        done_quiet (event ∷ more ++ h) now.0 ∙ now.1 ∙ sym (done_quiet (more ++ h) before.quiet) in
+    done_quiet (event ∷ more ++ h) now.0 ∙ now.1 ∙ sym (done_quiet (more ++ h) before.quiet) in
     record {
       quiet = now.0;
       same =
-        ap (λ n. map (value_of_phase value (event ∷ more ++ h)) (range_with_len 0 n)) done_same
-        ∙ same_values (value_of_phase value (more ++ h)) (value_of_phase value (event ∷ more ++ h)) (done_of (more ++ h)) Empty (step.same value)
-        ∙ before.same }
+          ap (λ n. map (value_of_phase value (event ∷ more ++ h)) (range_with_len 0 n)) done_same
+          ∙ same_values (value_of_phase value (more ++ h)) (value_of_phase value (event ∷ more ++ h)) (done_of (more ++ h)) Empty (step.same value)
+          ∙ before.same;
+    }
 
 -- where no task signals, no longer history has a longer stream
 pub stream_closed : (value : List ℤ → Outcome) (limits : Limits) (h more : History) → HasNoSignaller h

@@ -45,7 +45,7 @@ pub record StandsFor {A : Type 0} (op : Operation A) (core : CoreState A) (h : H
   pub newest_is : core.newest ≡ greatest_used h
   pub top_is : core.top ≡ top_of h
   pub phases_are : (slowest p : ℕ) → least (wait_phases core.members) ≡ Some slowest
-    → slowest ≤ p → p < core.top → KeepsPhase op core h p
+      → slowest ≤ p → p < core.top → KeepsPhase op core h p
 
 -- a core of one member that keeps all phases
 abbrev pub one_member : {A : Type 0} → Limits → ℕ → Entry → List (Slot A) → CoreState A
@@ -55,4 +55,5 @@ one_member limits task entry slots = record {
   newest = task;
   top = length slots;
   base = 0;
-  slots = slots }
+  slots = slots;
+}

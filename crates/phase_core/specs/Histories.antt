@@ -40,18 +40,18 @@ after_event (Made task) now = record { members = (task, founder) ∷ []; top = 0
 after_event (Registered parent child mode) now =
     let entry = member_entry now.members parent in
     record now {
-        members = now.members ++ (child, entry_at mode entry.signal_phase entry.wait_phase) ∷ []
+      members = now.members ++ (child, entry_at mode entry.signal_phase entry.wait_phase) ∷ [];
     }
 after_event (RegisteredNow parent child) now =
     let entry = member_entry now.members parent in
     record now {
-        members = now.members ++ (child, entry_at Wait entry.signal_phase (done_at now)) ∷ []
+      members = now.members ++ (child, entry_at Wait entry.signal_phase (done_at now)) ∷ [];
     }
 after_event (Signalled task lists single) now =
     let entry = member_entry now.members task in
     record {
-        members = changed_at task (signalled (length lists)) now.members;
-        top = max now.top (entry.signal_phase + length lists)
+      members = changed_at task (signalled (length lists)) now.members;
+      top = max now.top (entry.signal_phase + length lists);
     }
 after_event (Waited task phases) now =
     record now { members = changed_at task (waited phases) now.members }

@@ -12,7 +12,7 @@ pub record HasReceived (value : List ℤ → Outcome) (h : History) (task : ℕ)
   pub from_start : start.wait_phase ≤ entry.wait_phase
   pub complete : entry.wait_phase ≤ done_of h
   pub received : received_by value h task
-    ≡ slice_range (stream_of value h) start.wait_phase entry.wait_phase
+      ≡ slice_range (stream_of value h) start.wait_phase entry.wait_phase
 
 -- a task's phases are its start and the number of phases in its events
 pub record HasCounted (h : History) (task : ℕ) (entry : Entry) : Type 0 where

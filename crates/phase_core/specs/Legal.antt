@@ -1,5 +1,5 @@
 -- Which lists of events are histories that the calls of a phaser can make.
-use Rattle.std.specs.Prelude.{◌≡◌, ℕ, ◌+◌, ◌≤◌, ℤ, List, [], ◌∷◌, None, length}
+use Rattle.std.specs.Prelude.{◌≡◌, ◌+◌, ◌≤◌, ℤ, List, [], ◌∷◌, None, length}
 use Rattle.phase_base.specs.Limits.{Limits, AreLimits}
 use Rattle.phase_accum.specs.Values.{AreSends}
 use Rattle.phase_core.specs.declared.event.Event.{Event}

@@ -6,3 +6,4 @@ pub mod Legal
 pub mod Replies
 pub mod Laws
 pub mod Cores
+pub mod Slots

@@ -1,6 +1,6 @@
 -- The members of a phaser: the numbers of its registered tasks with their entries, in the order
 -- in which they joined.
-use Rattle.std.specs.Prelude.{ℕ, ◌+◌, List, [], ◌∷◌, Option, Some, None, Bool, not, map, min, if◌then◌else◌, ◌==◌}
+use Rattle.std.specs.Prelude.{ℕ, ◌+◌, List, [], ◌∷◌, Option, Some, None, not, map, min, if◌then◌else◌, ◌==◌}
 use Rattle.std.specs.List.{filter}
 use Rattle.phase_base.specs.Modes.{mode_signals, mode_waits}
 use Rattle.phase_base.specs.declared.entry.Entry.{Entry}

@@ -5,7 +5,6 @@ use Rattle.std.specs.Option.{option_and_then}
 use Rattle.phase_accum.specs.Values.{applied}
 use Rattle.phase_accum.specs.declared.outcome.Outcome.{Outcome}
 use Rattle.phase_accum.specs.declared.single.Single.{Single}
-use Rattle.phase_core.specs.declared.event.Event.{Event}
 use Rattle.phase_core.specs.declared.event.Event.TheVariants.{Signalled, Waited}
 use Rattle.phase_core.specs.Histories.{History, signal_phase, wait_phase, done_of}
 
@@ -55,6 +54,6 @@ received_by value [] task = []
 received_by value (Waited waiter phases ∷ before) task =
     if waiter == task
     then received_by value before task
-        ++ take phases (drop (wait_phase before task) (stream_of value before))
+    ++ take phases (drop (wait_phase before task) (stream_of value before))
     else received_by value before task
 received_by value (event ∷ before) task = received_by value before task

@@ -76,8 +76,8 @@ abbrev pub list_rows : Limits → History → List (List ℤ) → Option Single 
 list_rows limits h [] single entry = []
 list_rows limits h (sends ∷ lists) single entry =
     phase_rows limits (least (wait_phases (members_of h)))
-        (length (sends_of_phase h entry.signal_phase)) (named_in_phase h entry.signal_phase)
-        (length sends) single entry
+    (length (sends_of_phase h entry.signal_phase)) (named_in_phase h entry.signal_phase)
+    (length sends) single entry
     ++ list_rows limits h lists single (signalled 1 entry)
 
 -- whether a block of n phases is too short or too long
@@ -123,7 +123,7 @@ plain_wait_rows limits done has_signaller entry = wait_rows_at limits done has_s
 abbrev pub register_refusal : History → ℕ → ℕ → Mode → Option RegisterRefusal
 register_refusal h parent child mode =
     refusal_at (entry_of (members_of h) parent) register.NoTask
-        (register_rows (members_of h) (greatest_used h) child mode)
+    (register_rows (members_of h) (greatest_used h) child mode)
 
 -- the refusal of a registration of the child as a waiter that joins now
 abbrev pub register_now_refusal : History → ℕ → ℕ → Option RegisterRefusal

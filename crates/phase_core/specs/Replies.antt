@@ -1,11 +1,11 @@
 -- What a phaser answers to a call after a history, and the event that an accepted call makes.
-use Rattle.std.specs.Prelude.{ℕ, ℤ, List, [], ◌∷◌, ◌++◌, Option, Some, None, Result, Ok, Err, if◌then◌else◌, nat_lt}
+use Rattle.std.specs.Prelude.{ℕ, ℤ, List, [], ◌∷◌, Option, Some, None, Result, Ok, Err, if◌then◌else◌, nat_lt}
 use Rattle.phase_base.specs.Limits.{Limits}
 use Rattle.phase_base.specs.declared.mode.Mode.{Mode}
 use Rattle.phase_accum.specs.declared.outcome.Outcome.{Outcome}
 use Rattle.phase_accum.specs.declared.single.Single.{Single}
 use Rattle.phase_core.specs.declared.event.Event.{Event}
-use Rattle.phase_core.specs.declared.event.Event.TheVariants.{Made, Registered, RegisteredNow, Signalled, Waited, Dropped}
+use Rattle.phase_core.specs.declared.event.Event.TheVariants.{Registered, RegisteredNow, Signalled, Waited, Dropped}
 use Rattle.phase_core.specs.declared.got.Got.{Got}
 use Rattle.phase_core.specs.declared.got.Got.TheVariants as got
 use Rattle.phase_core.specs.declared.refusal.NoTask.{NoTask}
@@ -74,7 +74,7 @@ reply_by ok err (Err refusal) = err refusal
 abbrev pub reply_to : (List ℤ → Outcome) → Limits → History → Call → Reply
 reply_to value limits h (Register parent child mode) =
     reply_by (λ answer. Accepted) NotRegistered
-        (refused_or (register_refusal h parent child mode) child)
+    (refused_or (register_refusal h parent child mode) child)
 reply_to value limits h (RegisterNow parent child) =
     reply_by JoinedAt NotRegistered (refused_or (register_now_refusal h parent child) (done_of h))
 reply_to value limits h (Signal task lists single) =

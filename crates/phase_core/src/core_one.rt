@@ -1,9 +1,10 @@
 //! The phaser itself, for one thread.
-ghost use Rattle.std.specs.Prelude.{◌≡◌, ◌≢◌, ℕ, ℤ, List, [], ◌∷◌, OnErr, IfOk, IfErr, IsOk, Ok, Err, None};
+ghost use Rattle.std.specs.Prelude.{◌≡◌, ◌≢◌, ◌≤◌, ℕ, ℤ, List, [], ◌∷◌, length, OnErr, IfOk, IfErr, IsOk, Ok, Err, None};
 ghost use Rattle.phase_accum.specs.Parcels.{StandsForSends};
 ghost use Rattle.phase_core.specs.declared.event.Event.TheVariants.{Made};
 ghost use Rattle.phase_core.specs.Members.{entry_of};
 ghost use Rattle.phase_core.specs.Histories.{History, done_of, top_of};
+ghost use Rattle.phase_core.specs.Refusals.{signal_refusal};
 ghost use Rattle.phase_core.specs.Replies.{signal_reply, wait_reply, after_signal, after_wait};
 ghost use Rattle.phase_core.specs.Cores.{StandsFor};
 
@@ -11,9 +12,8 @@ use crate::got::Got;
 use crate::phase_list::PhaseList;
 use crate::refusal::{SignalRefusal, WaitRefusal};
 use crate::refusal_rows::{self, Joined};
-use crate::slot::Slot;
-use phase_accum::{self, Accumulate, Pending, Single};
-use phase_base::{Entry, Mode, Spec};
+use phase_accum::{Accumulate, Pending, Single};
+use phase_base::{Entry, Mode, SENDS_MAX, Spec};
 use std::alloc::{AllocError, Global};
 use std::marker::Model;
 
@@ -82,5 +82,98 @@ impl<A: Accumulate> PhaserCore<A> {
         ensures { (h : History) → StandsFor A.operation self.now h → result ≡ top_of h }
     {
         self.phases.len()
+    }
+
+    /// The refusal of a signal by the task, which holds so many sends.
+    fn signal_refusal(
+        &self,
+        task: u64,
+        sends: u64,
+        single: &Option<Single>,
+    ) -> Option<SignalRefusal>
+        requires { sends ≤ SENDS_MAX }
+        ensures { (h : History) (list : List ℤ) → StandsFor A.operation self.now h → length list ≡ sends
+            → signal_refusal self.now.limits h task (list ∷ []) single.now ≡ result }
+    {
+        let Some(entry) = self.view(task) else {
+            return Some(SignalRefusal::NoTask);
+        };
+        let slowest = entry.mode.waits().then_some(entry.wait_phase);
+        let joined = Joined {
+            count: 0,
+            named: None,
+        };
+        refusal_rows::signal_refusal(self.spec, slowest, joined, sends, *single, entry)
+    }
+
+    /// Signals the task's phase, with the sends that it held and a single or none, and answers that
+    /// phase. A refused signal hands the sends back.
+    pub fn signal(
+        &mut self,
+        task: u64,
+        pending: Pending<A>,
+        single: Option<Single>,
+    ) -> Result<u64, (SignalRefusal, Pending<A>)>
+        ensures ok { IfOk result (λ phase. (h : History) (sends : List ℤ)
+            → StandsFor A.operation self.old h → StandsForSends A.operation pending sends
+            → signal_reply self.old.limits h task (sends ∷ []) single ≡ Ok phase) }
+        ensures refused { IfErr result (λ e. e.0 ≢ SignalRefusal.OutOfMemory
+            → (h : History) (sends : List ℤ)
+            → StandsFor A.operation self.old h → StandsForSends A.operation pending sends
+            → signal_reply self.old.limits h task (sends ∷ []) single ≡ Err e.0) }
+        // Want of memory is answered last: only where the signal is accepted.
+        ensures out_of_memory { IfErr result (λ e. e.0 ≡ SignalRefusal.OutOfMemory
+            → (h : History) (sends : List ℤ)
+            → StandsFor A.operation self.old h → StandsForSends A.operation pending sends
+            → IsOk (signal_reply self.old.limits h task (sends ∷ []) single)) }
+        ensures after { (h : History) (sends : List ℤ)
+            → StandsFor A.operation self.old h → StandsForSends A.operation pending sends
+            → StandsFor A.operation self.new (after_signal result task sends single h) }
+
+        ensures limits { self.new.limits ≡ self.old.limits }
+        ensures err { OnErr result (self.new ≡ self.old) }
+        ensures pending { IfErr result (λ e. e.1 ≡ pending) }
+    {
+        let sends = pending.count();
+        if let Some(refusal) = self.signal_refusal(task, sends, &single) {
+            return Err((refusal, pending));
+        }
+        let phase = self.entry.signal_phase;
+        let part = pending.part();
+        let Ok(()) = self.phases.open(part, sends, single) else {
+            return Err((SignalRefusal::OutOfMemory, pending));
+        };
+        self.entry.signal_phase += 1;
+        Ok(phase)
+    }
+
+    /// Waits for the task's phase, and answers it with its value, or that no more will come.
+    pub fn wait(&mut self, task: u64) -> Result<Got, WaitRefusal>
+        ensures reply { (h : History) → StandsFor A.operation self.old h
+            → wait_reply A.operation.value self.old.limits h task ≡ result }
+        ensures after { (h : History) → StandsFor A.operation self.old h
+            → StandsFor A.operation self.new (after_wait result task h) }
+
+        ensures limits { self.new.limits ≡ self.old.limits }
+        ensures err { OnErr result (self.new ≡ self.old) }
+    {
+        let Some(entry) = self.view(task) else {
+            return Err(WaitRefusal::NoTask);
+        };
+        let done = self.done();
+        let signals = entry.mode.signals();
+        if let Some(refusal) = refusal_rows::wait_refusal(self.spec, done, signals, entry) {
+            return Err(refusal);
+        }
+        let phase = entry.wait_phase;
+        if done <= phase {
+            return Ok(Got::Ended);
+        }
+        let outcome = match self.phases.get(phase) {
+            Some(slot) => slot.value(),
+            None => unreachable!(),
+        };
+        self.entry.wait_phase += 1;
+        Ok(Got::Value { phase, outcome })
     }
 }

@@ -7,11 +7,20 @@ use std::collections::LinkedList;
 #[derive(Drop)]
 pub enum Event {
     /// The task made the phaser.
-    Made { task: u64 },
+    Made {
+        task: u64,
+    },
     /// The parent registered the child in the mode, at the parent's own phases.
-    Registered { parent: u64, child: u64, mode: Mode },
+    Registered {
+        parent: u64,
+        child: u64,
+        mode: Mode,
+    },
     /// The parent registered the child as a waiter from the first phase that was not complete.
-    RegisteredNow { parent: u64, child: u64 },
+    RegisteredNow {
+        parent: u64,
+        child: u64,
+    },
     /// The task signalled as many phases as there are lists of sends, and named a single or none.
     Signalled {
         task: u64,
@@ -19,7 +28,12 @@ pub enum Event {
         single: Option<Single>,
     },
     /// The task waited for this many phases, and got their values.
-    Waited { task: u64, phases: u64 },
+    Waited {
+        task: u64,
+        phases: u64,
+    },
     /// The task dropped its registration.
-    Dropped { task: u64 },
+    Dropped {
+        task: u64,
+    },
 }

@@ -16,29 +16,25 @@ ghost use Rattle.phase_core.specs.Laws.{HasReceived, HasCounted};
 pub fn got()
     ensures { (value : List ℤ → Outcome) (limits : Limits) (h : History) (task : ℕ) (entry : Entry)
         → IsLegal limits h → IsWaiter h task entry → HasReceived value h task entry }
-{
-}
+{}
 
 /// The stream of a longer history begins with this one's: no complete phase ever changes.
 pub fn prefix()
     ensures { (value : List ℤ → Outcome) (limits : Limits) (h more : History)
         → IsLegal limits h → IsLegal limits (more ++ h)
         → IsPrefix (stream_of value h) (stream_of value (more ++ h)) }
-{
-}
+{}
 
 /// Where no task signals, no longer history has a longer stream.
 pub fn closed()
     ensures { (value : List ℤ → Outcome) (limits : Limits) (h more : History)
         → HasNoSignaller h → IsLegal limits h → IsLegal limits (more ++ h)
         → stream_of value (more ++ h) ≡ stream_of value h }
-{
-}
+{}
 
 /// A task's signal phase is its start and the number of phases that it signalled since, its wait
 /// phase its start and the number of phases that it waited for.
 pub fn counted()
     ensures { (limits : Limits) (h : History) (task : ℕ) (entry : Entry)
         → IsLegal limits h → entry_of (members_of h) task ≡ Some entry → HasCounted h task entry }
-{
-}
+{}

@@ -2,6 +2,7 @@
 ghost use Rattle.std.specs.Prelude.{◌≡◌, ◌∷◌, [], ◌++◌, length, slice_get, OnOk, OnErr, IfOk, MatchOption, Some, None};
 
 use crate::slot::Slot;
+use phase_accum::Single;
 use std::alloc::{AllocError, Global};
 use std::marker::Model;
 
@@ -21,6 +22,9 @@ impl<A> Model for PhaseList<A> {
 }
 
 impl<A: Drop> PhaseList<A> {
+    ghost use Rattle.phase_accum.specs.Parcels.{parcel};
+    ghost use Rattle.phase_core.specs.Slots.{opened_slot};
+
     /// Makes a list of no phase.
     pub fn new(alloc: Global) -> Result<PhaseList<A>, AllocError>
         ensures { IfOk result (λ l. l ≡ []) }
@@ -37,12 +41,17 @@ impl<A: Drop> PhaseList<A> {
         self.slots.len() as u64
     }
 
-    /// Opens one more phase.
-    pub fn push(&mut self, slot: Slot<A>) -> Result<(), AllocError>
-        ensures ok { OnOk result (self.new ≡ self.old ++ slot ∷ []) }
+    /// Opens one more phase, whose first signal had these sends and named `single`.
+    pub fn open(&mut self, part: A, count: u64, single: Option<Single>) -> Result<(), AllocError>
+        ensures ok { OnOk result
+            (self.new ≡ self.old ++ opened_slot (parcel part count) single ∷ []) }
         ensures err { OnErr result (self.new ≡ self.old) }
     {
-        self.slots.push(slot)?;
+        self.slots.push(Slot {
+            part,
+            count,
+            named: Some(single),
+        })?;
         Ok(())
     }
 

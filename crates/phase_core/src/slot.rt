@@ -1,5 +1,8 @@
 //! What a phaser keeps of one phase.
-use phase_accum::Single;
+ghost use Rattle.std.specs.Prelude.{◌≡◌};
+ghost use Rattle.phase_accum.specs.Values.{IsInRange};
+
+use phase_accum::{self, Accumulate, Outcome, Single};
 
 /// The part of a phase's sends, their number, and what its first signal named: nothing yet where
 /// there is none, no single, or one.
@@ -8,4 +11,20 @@ pub struct Slot<A> {
     pub part: A,
     pub count: u64,
     pub named: Option<Option<Single>>,
+}
+
+impl<A: Accumulate> Slot<A> {
+    ghost use Rattle.phase_core.specs.Slots.{slot_value};
+
+    /// The value of the phase.
+    pub fn value(&self) -> Outcome
+        requires { IsInRange (A.operation.finish self.now.part) }
+        ensures { result ≡ slot_value A.operation self.now }
+    {
+        let outcome = self.part.finish();
+        match self.named.flatten() {
+            Some(single) => phase_accum::apply(single, outcome),
+            None => outcome,
+        }
+    }
 }
