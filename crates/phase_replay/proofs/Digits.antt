@@ -1,9 +1,9 @@
 -- The numbers of a line: what is read is what std writes, and nothing else.
-use Rattle.std.proofs.Common.{◌≡◌, ℕ, zero, suc, ◌+◌, ◌*◌, ◌^◌, ◌<◌, ◌≤◌, Bool, true, false, not, ◌&&◌, ◌==◌, nat_le, if◌then◌else◌, List, [], ◌∷◌, length, get_or, decimal, nat_abs, ℤ, pos, negsuc, Option, Some, None, option_and_then, option_map, refl, sym, ◌∙◌, ap, subst, arith}
+use Rattle.std.proofs.Common.{◌≡◌, ◌≢◌, ℕ, zero, suc, ◌+◌, ◌*◌, ◌^◌, ◌<◌, ◌≤◌, Bool, true, false, not, ◌&&◌, ◌==◌, nat_le, if◌then◌else◌, List, [], ◌∷◌, length, get_or, decimal, nat_abs, ℤ, pos, negsuc, Option, Some, None, option_and_then, option_map, refl, sym, ◌∙◌, ap, subst, arith}
 use Rattle.std.proofs.Math.Nat.{pow-succ', pow-le-pow_right}
 use Rattle.std.proofs.lemmas.Bool.{and_parts, leb-true, le-leb, eq-eqb, eqb-true, ne_eqb}
 use Rattle.std.proofs.lemmas.Option.{cond_some, option_and_then_some}
-use Rattle.std.proofs.lemmas.Fmt.{decimal-digits_value, digits_decimal, digits_value-decimal, decimal_nonempty, first_decimal, length-decimal-le}
+use Rattle.std.proofs.lemmas.Fmt.{decimal-digits_value, digits_decimal, digits_value-decimal, decimal_digit, decimal_nonempty, first_decimal, length-decimal-le}
 use Rattle.std.proofs.lemmas.Str.Parse.{IsNumeralModel, numerals_by_value, tells_all_ascii_digits, not_in_digits}
 use Rattle.std.specs.Fmt.{signed_decimal}
 use Rattle.std.specs.Str.{all_ascii_digits}
@@ -26,7 +26,7 @@ plain_from (b ∷ []) some one = refl
 plain_from (b ∷ c ∷ bs) some one = rw (ne_eqb b 48 (λ z. absurd (omega (arith, one z)))) refl
 
 plain_decimal : (n : ℕ) → n < 2 ^ 64 → is_plain_front (decimal n) ≡ true
-plain_decimal zero small = refl
+plain_decimal zero small = rw (decimal_digit 0 (omega arith)) refl
 plain_decimal (suc n) small =
     plain_from (decimal (suc n)) (decimal_nonempty (suc n) small)
         (λ z. absurd (omega (arith, first_decimal (suc n) (omega arith) small)))
@@ -109,6 +109,10 @@ int_only (pos n) le =
     int_plain (decimal n) (digits_decimal own n small) (decimal_nonempty n small)
         ∙ rw (nat_only n le) refl
 int_only (negsuc n) le = rw (nat_only (suc n) le) refl
+
+pub decimal_has_no_space : (n : ℕ) → n ≤ most → (i : ℕ) → i < length (decimal n) → get_or (decimal n) i 0 ≢ 32
+decimal_has_no_space n le =
+    not_in_digits own (decimal n) 32 (digits_decimal own n (omega arith)) (λ h. omega arith)
 
 -- one more digit after at most 18 fits 64 bits
 pub digit_fits : (n i len : ℕ) → n < 10 ^ i → i < len → len ≤ 19 → n * 10 + 9 < 2 ^ 64
