@@ -29,7 +29,7 @@ plain_decimal : (n : ℕ) → n < 2 ^ 64 → is_plain_front (decimal n) ≡ true
 plain_decimal zero small = rw (decimal_digit 0 (omega arith)) refl
 plain_decimal (suc n) small =
     plain_from (decimal (suc n)) (decimal_nonempty (suc n) small)
-        (λ z. absurd (omega (arith, first_decimal (suc n) (omega arith) small)))
+    (λ z. absurd (omega (arith, first_decimal (suc n) (omega arith) small)))
 
 -- a number that is read is the word's text, and within the limit
 pub nat_found : (word : List ℕ) (n : ℕ) → nat_of word ≡ Some n → (word ≡ decimal n) × (n ≤ most)
@@ -77,10 +77,10 @@ int_found_at : (t : Bool) (b : ℕ) (bs : List ℕ) (v : ℤ) → (b == 45) ≡ 
     → (b ∷ bs ≡ signed_decimal v) × (nat_abs v ≤ most)
 int_found_at true b bs v test e =
     option_and_then_some negated (nat_of bs) v e (λ n is neg.
-        let found = nat_found bs n is in
-        let minus = negated_some n v neg in
-        let first : b ≡ 45 = eqb-true b 45 test in
-        (rw (first, found.0) minus.0, omega (arith, minus.1, found.1)))
+    let found = nat_found bs n is in
+    let minus = negated_some n v neg in
+    let first : b ≡ 45 = eqb-true b 45 test in
+    (rw (first, found.0) minus.0, omega (arith, minus.1, found.1)))
 int_found_at false b bs v test e =
     let plus = map_some (nat_of (b ∷ bs)) v e in
     let found = nat_found (b ∷ bs) plus.0 plus.1 in
@@ -107,7 +107,7 @@ unfolding int_of
 int_only (pos n) le =
     let small : n < 2 ^ 64 = omega arith in
     int_plain (decimal n) (digits_decimal own n small) (decimal_nonempty n small)
-        ∙ rw (nat_only n le) refl
+    ∙ rw (nat_only n le) refl
 int_only (negsuc n) le = rw (nat_only (suc n) le) refl
 
 pub decimal_has_no_space : (n : ℕ) → n ≤ most → (i : ℕ) → i < length (decimal n) → get_or (decimal n) i 0 ≢ 32

@@ -60,9 +60,9 @@ operator_found : (name : List ℕ) (operator : Operator) → operator_of name �
 unfolding operator_of
 operator_found name operator e =
     chosen name (codes "sum") (Some Sum) None operator e
-        (λ same is. let P : Operator → Type 0 = λ o. name ≡ operator_text o in
-            subst P (same_Some Sum operator is) same)
-        (λ no. absurd (cc))
+    (λ same is. let P : Operator → Type 0 = λ o. name ≡ operator_text o in
+    subst P (same_Some Sum operator is) same)
+    (λ no. absurd (cc))
 
 make_found : (text : List ℕ) (c : Command) → make_of text ≡ Some c → Spells (codes "make" ++ 32 ∷ text) c
 unfolding make_of spelling
@@ -72,19 +72,20 @@ make_found text c e =
     option_and_then_some _ (nat_of (word numbers)) c e2 (λ bound is_bound e3.
     option_and_then_some _ (rest numbers) c e3 (λ last is_last e4.
     option_and_then_some _ (nat_of last) c e4 (λ phases is_phases e5.
-        let first = operator_found (word text) operator is_operator in
-        let second = nat_found (word numbers) bound is_bound in
-        let third = nat_found last phases is_phases in
-        let text_is = rest_found text numbers is_numbers in
-        let numbers_is = rest_found numbers last is_last in
-        let P : Command → Type 0 = Spells (codes "make" ++ 32 ∷ text) in
-        subst P (same_Some _ c e5)
-            ((second.1, third.1),
-            ap (λ t. codes "make" ++ 32 ∷ t)
-                (text_is ∙ ap (λ w. w ++ 32 ∷ numbers) first
-                ∙ ap (λ t. operator_text operator ++ 32 ∷ t)
-                    (numbers_is ∙ ap (λ w. w ++ 32 ∷ last) second.0
-                    ∙ ap (λ t. decimal bound ++ 32 ∷ t) third.0))))))))
+    let first = operator_found (word text) operator is_operator in
+    let second = nat_found (word numbers) bound is_bound in
+    let third = nat_found last phases is_phases in
+    let text_is = rest_found text numbers is_numbers in
+    let numbers_is = rest_found numbers last is_last in
+    let P : Command → Type 0 = Spells (codes "make" ++ 32 ∷ text) in
+    subst P (same_Some _ c e5) (
+      (second.1, third.1),
+      ap (λ t. codes "make" ++ 32 ∷ t)
+          (text_is ∙ ap (λ w. w ++ 32 ∷ numbers) first
+          ∙ ap (λ t. operator_text operator ++ 32 ∷ t)
+          (numbers_is ∙ ap (λ w. w ++ 32 ∷ last) second.0
+          ∙ ap (λ t. decimal bound ++ 32 ∷ t) third.0)),
+    ))))))
 
 send_found : (text : List ℕ) (c : Command) → send_of text ≡ Some c → Spells (codes "send" ++ 32 ∷ text) c
 unfolding send_of spelling
@@ -92,37 +93,38 @@ send_found text c e =
     option_and_then_some _ (nat_of (word text)) c e (λ task is_task e1.
     option_and_then_some _ (rest text) c e1 (λ last is_last e2.
     option_and_then_some _ (int_of last) c e2 (λ value is_value e3.
-        let first = nat_found (word text) task is_task in
-        let second = int_found last value is_value in
-        let text_is = rest_found text last is_last in
-        let P : Command → Type 0 = Spells (codes "send" ++ 32 ∷ text) in
-        subst P (same_Some _ c e3)
-            ((first.1, second.1),
-            ap (λ t. codes "send" ++ 32 ∷ t)
-                (text_is ∙ ap (λ w. w ++ 32 ∷ last) first.0
-                ∙ ap (λ t. decimal task ++ 32 ∷ t) second.0)))))
+    let first = nat_found (word text) task is_task in
+    let second = int_found last value is_value in
+    let text_is = rest_found text last is_last in
+    let P : Command → Type 0 = Spells (codes "send" ++ 32 ∷ text) in
+    subst P (same_Some _ c e3) (
+      (first.1, second.1),
+      ap (λ t. codes "send" ++ 32 ∷ t)
+          (text_is ∙ ap (λ w. w ++ 32 ∷ last) first.0
+          ∙ ap (λ t. decimal task ++ 32 ∷ t) second.0),
+    ))))
 
 signal_found : (text : List ℕ) (c : Command) → signal_of text ≡ Some c → Spells (codes "signal" ++ 32 ∷ text) c
 unfolding signal_of spelling
 signal_found text c e =
     option_and_then_some _ (nat_of text) c e (λ task is_task e1.
-        let first = nat_found text task is_task in
-        let P : Command → Type 0 = Spells (codes "signal" ++ 32 ∷ text) in
-        subst P (same_Some _ c e1) (first.1, ap (λ t. codes "signal" ++ 32 ∷ t) first.0))
+    let first = nat_found text task is_task in
+    let P : Command → Type 0 = Spells (codes "signal" ++ 32 ∷ text) in
+    subst P (same_Some _ c e1) (first.1, ap (λ t. codes "signal" ++ 32 ∷ t) first.0))
 
 wait_found : (text : List ℕ) (c : Command) → wait_of text ≡ Some c → Spells (codes "wait" ++ 32 ∷ text) c
 unfolding wait_of spelling
 wait_found text c e =
     option_and_then_some _ (nat_of text) c e (λ task is_task e1.
-        let first = nat_found text task is_task in
-        let P : Command → Type 0 = Spells (codes "wait" ++ 32 ∷ text) in
-        subst P (same_Some _ c e1) (first.1, ap (λ t. codes "wait" ++ 32 ∷ t) first.0))
+    let first = nat_found text task is_task in
+    let P : Command → Type 0 = Spells (codes "wait" ++ 32 ∷ text) in
+    subst P (same_Some _ c e1) (first.1, ap (λ t. codes "wait" ++ 32 ∷ t) first.0))
 
 after_found : (verb text : List ℕ) (c : Command) → command_after verb text ≡ Some c → Spells (verb ++ 32 ∷ text) c
 unfolding command_after
 after_found verb text c e =
     let named : (name : List ℕ) → verb ≡ name → Spells (name ++ 32 ∷ text) c → Spells (verb ++ 32 ∷ text) c =
-        λ name same spells. (spells.0, ap (λ v. v ++ 32 ∷ text) same ∙ spells.1) in
+    λ name same spells. (spells.0, ap (λ v. v ++ 32 ∷ text) same ∙ spells.1) in
     chosen verb (codes "make") _ _ c e (λ same is. named _ same (make_found text c is)) (λ e1.
     chosen verb (codes "send") _ _ c e1 (λ same is. named _ same (send_found text c is)) (λ e2.
     chosen verb (codes "signal") _ _ c e2 (λ same is. named _ same (signal_found text c is)) (λ e3.
@@ -133,8 +135,8 @@ pub command_found : (line : List ℕ) (c : Command) → command_of line ≡ Some
 unfolding command_of
 command_found line c e =
     option_and_then_some _ (rest line) c e (λ text is_text after.
-        let found = after_found (word line) text c after in
-        (found.0, rest_found line text is_text ∙ found.1))
+    let found = after_found (word line) text c after in
+    (found.0, rest_found line text is_text ∙ found.1))
 
 -- each spelling is read as its command
 
@@ -147,16 +149,24 @@ make_only : (operator : Operator) (bound phases : ℕ) → bound ≤ most → ph
 unfolding make_of operator_of
 make_only Sum bound phases small few =
     let free = decimal_has_no_space bound small in
-    rw (word_front (decimal phases) (decimal bound) free, nat_only bound small,
-        rest_front (decimal phases) (decimal bound) free, nat_only phases few) refl
+    rw (
+      word_front (decimal phases) (decimal bound) free,
+      nat_only bound small,
+      rest_front (decimal phases) (decimal bound) free,
+      nat_only phases few,
+    ) refl
 
 send_only : (task : ℕ) (value : ℤ) → task ≤ most → nat_abs value ≤ most
     → send_of (decimal task ++ 32 ∷ signed_decimal value) ≡ Some (Send task value)
 unfolding send_of
 send_only task value small few =
     let free = decimal_has_no_space task small in
-    rw (word_front (signed_decimal value) (decimal task) free, nat_only task small,
-        rest_front (signed_decimal value) (decimal task) free, int_only value few) refl
+    rw (
+      word_front (signed_decimal value) (decimal task) free,
+      nat_only task small,
+      rest_front (signed_decimal value) (decimal task) free,
+      int_only value few,
+    ) refl
 
 -- the spelling of a command within its limits is read as the command
 pub command_only : (c : Command) → IsCommand c → command_of (spelling c) ≡ Some c

@@ -17,9 +17,16 @@ pub enum Command {
         phases: u64,
     },
     /// Holds one more send for the task.
-    Send { task: u64, value: i64 },
+    Send {
+        task: u64,
+        value: i64,
+    },
     /// Makes the task's signal, with the sends that it holds.
-    Signal { task: u64 },
+    Signal {
+        task: u64,
+    },
     /// Waits for the task's next phase.
-    Wait { task: u64 },
+    Wait {
+        task: u64,
+    },
 }

@@ -2,13 +2,16 @@
 #![tactic(auto)]
 
 mod command;
-mod script_line;
 mod refusal;
 mod reply;
 mod reply_line;
+mod script_line;
 
 pub use command::{Command, Operator};
-pub use script_line::read;
 pub use refusal::Refusal;
 pub use reply::Reply;
 pub use reply_line::{ReplyLine, line};
+pub use script_line::read;
+
+#[cfg(test)]
+mod tests;

@@ -7,6 +7,7 @@ ghost use Rattle.phase_replay.specs.Numbers.{most, is_plain_front, nat_of, int_o
 
 // The greatest number, and how many digits it has.
 const MOST: u64 = 9223372036854775807;
+
 const DIGITS_MAX: usize = 19;
 
 // The number that the word is.

@@ -9,5 +9,9 @@ overflow_mul-n c =
 
 pub overflow_add-n : goal.overflow_add-n
 overflow_add-n c =
-    omega (arith, digit_fits c.loop-b.n c.loop-b.b-index _ c.loop-b.invariant.small c.loop-b-test.true
-    c.requires, c.if-not-is_ascii_digit.ensures.cases)
+    omega (
+      arith,
+      digit_fits c.loop-b.n c.loop-b.b-index _ c.loop-b.invariant.small c.loop-b-test.true
+          c.requires,
+      c.if-not-is_ascii_digit.ensures.cases,
+    )
