@@ -1,11 +1,12 @@
 -- The numbers of a line: what is read is what std writes, and nothing else.
-use Rattle.std.proofs.Common.{◌≡◌, ◌≢◌, ℕ, zero, suc, ◌+◌, ◌*◌, ◌^◌, ◌<◌, ◌≤◌, Bool, true, false, not, ◌&&◌, ◌==◌, nat_le, if◌then◌else◌, List, [], ◌∷◌, length, get_or, decimal, nat_abs, ℤ, pos, negsuc, Option, Some, None, option_and_then, option_map, refl, sym, ◌∙◌, ap, subst, arith}
+use Rattle.std.proofs.Common.{◌≡◌, ◌≢◌, ℕ, zero, suc, ◌+◌, ◌*◌, ◌^◌, ◌<◌, ◌≤◌, Bool, true, false, not, ◌==◌, if◌then◌else◌, List, [], ◌∷◌, length, get_or, decimal, nat_abs, ℤ, pos, negsuc, Option, Some, None, option_and_then, option_map, refl, sym, ◌∙◌, ap, subst, arith}
 use Rattle.std.proofs.Math.Nat.{pow-succ', pow-le-pow_right}
 use Rattle.std.proofs.lemmas.Bool.{and_parts, leb-true, le-leb, eq-eqb, eqb-true, ne_eqb}
 use Rattle.std.proofs.lemmas.Option.{cond_some, option_and_then_some}
 use Rattle.std.proofs.lemmas.Fmt.{decimal-digits_value, digits_decimal, digits_value-decimal, decimal_digit, decimal_nonempty, first_decimal, length-decimal-le}
 use Rattle.std.proofs.lemmas.Str.Parse.{IsNumeralModel, numerals_by_value, tells_all_ascii_digits, not_in_digits}
 use Rattle.std.specs.Fmt.{signed_decimal}
+use Rattle.std.specs.List.{list_all}
 use Rattle.std.specs.Str.{all_ascii_digits}
 use Rattle.std.specs.Str.Parse.{digits_value}
 use Rattle.phase_replay.specs.Numbers.{most, is_plain_front, nat_of, negated, int_of}
@@ -110,9 +111,27 @@ int_only (pos n) le =
     ∙ rw (nat_only n le) refl
 int_only (negsuc n) le = rw (nat_only (suc n) le) refl
 
+-- how long a number's text can be, and what is not in it
+
+pub decimal_short : (n : ℕ) → n ≤ most → length (decimal n) ≤ 19
+decimal_short n le = length-decimal-le 19 n (omega arith) (omega arith) (omega arith)
+
+pub signed_short : (v : ℤ) → nat_abs v ≤ most → length (signed_decimal v) ≤ 20
+signed_short (pos n) le = omega (arith, decimal_short n le)
+signed_short (negsuc n) le = omega (arith, decimal_short (suc n) le)
+
 pub decimal_has_no_space : (n : ℕ) → n ≤ most → (i : ℕ) → i < length (decimal n) → get_or (decimal n) i 0 ≢ 32
 decimal_has_no_space n le =
     not_in_digits own (decimal n) 32 (digits_decimal own n (omega arith)) (λ h. omega arith)
+
+digits_have_no_line_end : (bs : List ℕ) → all_ascii_digits bs ≡ true → list_all (λ b. not (b == 10)) bs ≡ true
+digits_have_no_line_end [] digits = refl
+digits_have_no_line_end (b ∷ bs) digits =
+    let first = not_in_digits own (b ∷ bs) 10 digits (λ h. omega arith) 0 (omega arith) in
+    rw (ne_eqb b 10 first) (digits_have_no_line_end bs (and_parts _ _ digits).1)
+
+pub decimal_has_no_line_end : (n : ℕ) → n ≤ most → list_all (λ b. not (b == 10)) (decimal n) ≡ true
+decimal_has_no_line_end n le = digits_have_no_line_end (decimal n) (digits_decimal own n (omega arith))
 
 -- one more digit after at most 18 fits 64 bits
 pub digit_fits : (n i len : ℕ) → n < 10 ^ i → i < len → len ≤ 19 → n * 10 + 9 < 2 ^ 64

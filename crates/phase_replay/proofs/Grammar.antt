@@ -1,12 +1,11 @@
 -- The lines and their commands: a line that is read is its command's spelling, and each spelling is read.
-use Rattle.std.proofs.Common.{◌≡◌, ◌≢◌, ℕ, suc, ◌+◌, ◌^◌, ◌<◌, ◌≤◌, Bool, true, false, ◌==◌, if◌then◌else◌, List, [], ◌∷◌, ◌++◌, length, get_or, codes, decimal, bytes_eq, nat_abs, ℤ, pos, negsuc, IfSome, Option, Some, None, option_and_then, refl, sym, ◌∙◌, ap, subst, arith}
+use Rattle.std.proofs.Common.{◌≡◌, ◌≢◌, ℕ, suc, ◌<◌, ◌≤◌, Bool, true, false, ◌==◌, if◌then◌else◌, List, [], ◌∷◌, ◌++◌, length, get_or, codes, decimal, bytes_eq, nat_abs, ℤ, IfSome, Option, Some, None, option_and_then, refl, sym, ◌∙◌, ap, subst, arith}
 use Rattle.std.proofs.lemmas.Bool.{eqb-true, ne_eqb}
 use Rattle.std.proofs.lemmas.Option.{option_and_then_some, same_Some}
 use Rattle.std.proofs.lemmas.Slice.Eq.{bytes_eq-Decides}
-use Rattle.std.proofs.lemmas.Fmt.{length-decimal-le}
 use Rattle.std.proofs.lemmas.List.{length-append}
 use Rattle.std.specs.Fmt.{signed_decimal}
-use Rattle.phase_replay.proofs.Digits.{nat_found, nat_only, int_found, int_only, decimal_has_no_space}
+use Rattle.phase_replay.proofs.Digits.{nat_found, nat_only, int_found, int_only, decimal_has_no_space, decimal_short, signed_short}
 use Rattle.phase_replay.specs.Numbers.{most, nat_of, int_of}
 use Rattle.phase_replay.specs.Words.{word, rest}
 use Rattle.phase_replay.specs.Commands.{IsCommand, spelling, operator_text, operator_of, make_of, send_of, signal_of, wait_of, command_after, command_of}
@@ -62,7 +61,7 @@ operator_found name operator e =
     chosen name (codes "sum") (Some Sum) None operator e
     (λ same is. let P : Operator → Type 0 = λ o. name ≡ operator_text o in
     subst P (same_Some Sum operator is) same)
-    (λ no. absurd (cc))
+    (λ other. absurd (cc))
 
 make_found : (text : List ℕ) (c : Command) → make_of text ≡ Some c → Spells (codes "make" ++ 32 ∷ text) c
 unfolding make_of spelling
@@ -128,7 +127,7 @@ after_found verb text c e =
     chosen verb (codes "make") _ _ c e (λ same is. named _ same (make_found text c is)) (λ e1.
     chosen verb (codes "send") _ _ c e1 (λ same is. named _ same (send_found text c is)) (λ e2.
     chosen verb (codes "signal") _ _ c e2 (λ same is. named _ same (signal_found text c is)) (λ e3.
-    chosen verb (codes "wait") _ _ c e3 (λ same is. named _ same (wait_found text c is)) (λ no. absurd (cc)))))
+    chosen verb (codes "wait") _ _ c e3 (λ same is. named _ same (wait_found text c is)) (λ other. absurd (cc)))))
 
 -- a line that is read is the spelling of its command, whose numbers are within their limits
 pub command_found : (line : List ℕ) (c : Command) → command_of line ≡ Some c → IsCommand c × (line ≡ spelling c)
@@ -188,13 +187,6 @@ pub only_at : (line : List ℕ) (o : Option Command) → o ≡ command_of line
 only_at line o e c is same = e ∙ ap command_of same ∙ command_only c is
 
 -- how long a line can be
-
-decimal_short : (n : ℕ) → n ≤ most → length (decimal n) ≤ 19
-decimal_short n le = length-decimal-le 19 n (omega arith) (omega arith) (omega arith)
-
-signed_short : (v : ℤ) → nat_abs v ≤ most → length (signed_decimal v) ≤ 20
-signed_short (pos n) le = omega (arith, decimal_short n le)
-signed_short (negsuc n) le = omega (arith, decimal_short (suc n) le)
 
 operator_short : (operator : Operator) → length (operator_text operator) ≤ 8
 operator_short Sum = omega arith

@@ -1,5 +1,5 @@
 -- The script lines: each command within its limits has exactly one, its spelling.
-use Rattle.std.specs.Prelude.{ℕ, ◌≤◌, List, [], ◌∷◌, ◌++◌, codes, decimal, nat_abs, bytes_eq, if◌then◌else◌, Option, Some, None, option_and_then}
+use Rattle.std.specs.Prelude.{ℕ, ◌≤◌, List, ◌∷◌, ◌++◌, codes, decimal, nat_abs, bytes_eq, if◌then◌else◌, Option, Some, None, option_and_then}
 use Rattle.std.specs.Fmt.{signed_decimal}
 use Rattle.phase_replay.specs.Numbers.{most, nat_of, int_of}
 use Rattle.phase_replay.specs.Words.{word, rest}

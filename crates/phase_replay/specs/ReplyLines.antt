@@ -1,6 +1,8 @@
 -- The reply lines, with their line end.
-use Rattle.std.specs.Prelude.{ℕ, List, ◌++◌, codes, decimal}
+use Rattle.std.specs.Prelude.{◌≡◌, ℕ, ◌≤◌, ◌==◌, not, true, List, ◌++◌, codes, decimal, nat_abs}
 use Rattle.std.specs.Fmt.{signed_decimal}
+use Rattle.std.specs.List.{list_all}
+use Rattle.phase_replay.specs.Numbers.{most}
 use Rattle.phase_replay.specs.declared.refusal.Refusal.{Refusal}
 use Rattle.phase_replay.specs.declared.refusal.Refusal.TheVariants.{NoPhaser, Made, BadBound, BadPhases, NoTask, NoSignal, TooManySends, NotSingle, SignalTwice, Spent, Ahead, SingleDiffers, PhaseFull, NoWait, SignalFirst, NotYet, NotAllowed, NotNew, TooManyTasks}
 use Rattle.phase_replay.specs.declared.reply.Reply.{Reply}
@@ -43,3 +45,16 @@ reply_text (TooBig phase) = phase_text (codes "toobig") phase
 reply_text Ended = codes "ended\n"
 reply_text (Refused refusal) = codes "no " ++ reason_text refusal ++ codes "\n"
 reply_text BadLine = codes "bad line\n"
+
+-- the numbers of the reply are within those of a script
+abbrev pub IsReply : Reply → Type 0
+IsReply (Signalled phase) = phase ≤ most
+IsReply (Value phase value) = (phase ≤ most) × (nat_abs value ≤ most)
+IsReply (Empty phase) = phase ≤ most
+IsReply (TooBig phase) = phase ≤ most
+IsReply _ = Unit {0}
+
+-- the text has one line end, its last byte
+abbrev pub IsOneLine : List ℕ → Type 0
+IsOneLine text =
+    (front : List ℕ) × (text ≡ front ++ codes "\n") × (list_all (λ b. not (b == 10)) front ≡ true)

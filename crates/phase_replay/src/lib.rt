@@ -2,6 +2,7 @@
 #![tactic(auto)]
 
 mod command;
+pub mod laws;
 mod refusal;
 mod reply;
 mod reply_line;

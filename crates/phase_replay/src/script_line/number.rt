@@ -1,9 +1,7 @@
 //! The numbers of a line.
 
-ghost use Rattle.std.specs.Prelude.{◌≡◌, ◌≤◌, length, None, Some, nat_abs, IfSome, if◌then◌else◌};
-ghost use Rattle.std.specs.Str.{all_ascii_digits};
-ghost use Rattle.std.specs.Str.Parse.{digits_value};
-ghost use Rattle.phase_replay.specs.Numbers.{most, is_plain_front, nat_of, int_of};
+ghost use Rattle.std.specs.Prelude.{◌≡◌, ◌≤◌, length, nat_abs, IfSome};
+ghost use Rattle.phase_replay.specs.Numbers.{most, is_plain_front, digits_of, nat_of, int_of};
 
 // The greatest number, and how many digits it has.
 const MOST: u64 = 9223372036854775807;
@@ -43,7 +41,7 @@ fn is_plain(word: &[u8]) -> bool
 // The number that the digits are, where all bytes are digits.
 fn digits(word: &[u8]) -> Option<u64>
     requires { length word.now ≤ 19 }
-    ensures { result ≡ (if all_ascii_digits word.now then Some (digits_value 10 word.now) else None) }
+    ensures { result ≡ digits_of word.now }
 {
     let mut n = 0;
     for b in word {
