@@ -49,13 +49,22 @@ pub nat_only : (n : ℕ) → n ≤ most → nat_of (decimal n) ≡ Some n
 unfolding nat_of
 nat_only n le =
     let small : n < 2 ^ 64 = omega arith in
-    rw (plain_decimal n small, digits_decimal own n small, digits_value-decimal own n small, le-leb n most le) refl
+    rw (
+      plain_decimal n small,
+      digits_decimal own n small,
+      digits_value-decimal own n small,
+      le-leb n most le,
+    ) refl
 
 short_nat : (word : List ℕ) (o : Option ℕ) → nat_of word ≡ o → 19 < length word → o ≡ None
 short_nat word None e long = refl
 short_nat word (Some n) e long =
     let found = nat_found word n e in
-    absurd (omega (arith, ap (λ w. length w) found.0, length-decimal-le 19 n (omega arith) (omega arith) (omega arith)))
+    absurd (omega (
+      arith,
+      ap (λ w. length w) found.0,
+      length-decimal-le 19 n (omega arith) (omega arith) (omega arith),
+    ))
 
 -- no number of a line has 20 bytes
 pub long_nat : (word : List ℕ) → 19 < length word → nat_of word ≡ None
@@ -120,20 +129,25 @@ pub signed_short : (v : ℤ) → nat_abs v ≤ most → length (signed_decimal v
 signed_short (pos n) le = omega (arith, decimal_short n le)
 signed_short (negsuc n) le = omega (arith, decimal_short (suc n) le)
 
-pub decimal_has_no_space : (n : ℕ) → n ≤ most → (i : ℕ) → i < length (decimal n) → get_or (decimal n) i 0 ≢ 32
+pub decimal_has_no_space : (n : ℕ) → n ≤ most → (i : ℕ) → i < length (decimal n)
+    → get_or (decimal n) i 0 ≢ 32
 decimal_has_no_space n le =
     not_in_digits own (decimal n) 32 (digits_decimal own n (omega arith)) (λ h. omega arith)
 
-digits_have_no_line_end : (bs : List ℕ) → all_ascii_digits bs ≡ true → list_all (λ b. not (b == 10)) bs ≡ true
+digits_have_no_line_end : (bs : List ℕ) → all_ascii_digits bs ≡ true
+    → list_all (λ b. not (b == 10)) bs ≡ true
 digits_have_no_line_end [] digits = refl
 digits_have_no_line_end (b ∷ bs) digits =
     let first = not_in_digits own (b ∷ bs) 10 digits (λ h. omega arith) 0 (omega arith) in
     rw (ne_eqb b 10 first) (digits_have_no_line_end bs (and_parts _ _ digits).1)
 
 pub decimal_has_no_line_end : (n : ℕ) → n ≤ most → list_all (λ b. not (b == 10)) (decimal n) ≡ true
-decimal_has_no_line_end n le = digits_have_no_line_end (decimal n) (digits_decimal own n (omega arith))
+decimal_has_no_line_end n le =
+    digits_have_no_line_end (decimal n) (digits_decimal own n (omega arith))
 
 -- one more digit after at most 18 fits 64 bits
 pub digit_fits : (n i len : ℕ) → n < 10 ^ i → i < len → len ≤ 19 → n * 10 + 9 < 2 ^ 64
 digit_fits n i len small below few =
-    omega (arith, pow-succ' 10 i, pow-le-pow_right {n = 10} (omega arith) {i = suc i} {j = 19} (omega arith))
+    let place : suc i ≤ 19 = omega arith in
+    let more : 10 ^ suc i ≤ 10 ^ 19 = pow-le-pow_right {n = 10} (omega arith) place in
+    omega (arith, pow-succ' 10 i)

@@ -1,4 +1,4 @@
--- The lines and their commands: a line that is read is its command's spelling, and each spelling is read.
+-- The lines and their commands: what is read is a spelling, and each spelling is read.
 use Rattle.std.proofs.Common.{◌≡◌, ◌≢◌, ℕ, suc, ◌<◌, ◌≤◌, Bool, true, false, ◌==◌, if◌then◌else◌, List, [], ◌∷◌, ◌++◌, length, get_or, codes, decimal, bytes_eq, nat_abs, ℤ, IfSome, Option, Some, None, option_and_then, refl, sym, ◌∙◌, ap, subst, arith}
 use Rattle.std.proofs.lemmas.Bool.{eqb-true, ne_eqb}
 use Rattle.std.proofs.lemmas.Option.{option_and_then_some, same_Some}
@@ -31,15 +31,23 @@ rest_found [] more e = cc
 rest_found (b ∷ bs) more e = rest_step (b == 32) b bs more refl (rest_found bs more) e
 
 module _ (more : List ℕ) where
-  word_front : (w : List ℕ) → ((i : ℕ) → i < length w → get_or w i 0 ≢ 32) → word (w ++ 32 ∷ more) ≡ w
+  word_front : (w : List ℕ) → ((i : ℕ) → i < length w → get_or w i 0 ≢ 32)
+      → word (w ++ 32 ∷ more) ≡ w
   word_front [] free = refl
   word_front (b ∷ bs) free =
-      rw (ne_eqb b 32 (free 0 (omega arith)), word_front bs (λ i l. free (suc i) (omega arith))) refl
+      rw (
+        ne_eqb b 32 (free 0 (omega arith)),
+        word_front bs (λ i l. free (suc i) (omega arith)),
+      ) refl
 
-  rest_front : (w : List ℕ) → ((i : ℕ) → i < length w → get_or w i 0 ≢ 32) → rest (w ++ 32 ∷ more) ≡ Some more
+  rest_front : (w : List ℕ) → ((i : ℕ) → i < length w → get_or w i 0 ≢ 32)
+      → rest (w ++ 32 ∷ more) ≡ Some more
   rest_front [] free = refl
   rest_front (b ∷ bs) free =
-      rw (ne_eqb b 32 (free 0 (omega arith)), rest_front bs (λ i l. free (suc i) (omega arith))) refl
+      rw (
+        ne_eqb b 32 (free 0 (omega arith)),
+        rest_front bs (λ i l. free (suc i) (omega arith)),
+      ) refl
 
 -- a line that is read is the spelling of a command
 
@@ -47,7 +55,8 @@ abbrev Spells : List ℕ → Command → Type 0
 Spells line c = IsCommand c × (line ≡ spelling c)
 
 chosen : {A P : Type 0} (verb name : List ℕ) (o p : Option A) (x : A)
-    → (if bytes_eq verb name then o else p) ≡ Some x → (verb ≡ name → o ≡ Some x → P) → (p ≡ Some x → P) → P
+    → (if bytes_eq verb name then o else p) ≡ Some x → (verb ≡ name → o ≡ Some x → P)
+    → (p ≡ Some x → P) → P
 chosen {A} {P} verb name o p x = at (bytes_eq verb name) (bytes_eq-Decides verb name).0
   where
     at : (t : Bool) → (t ≡ true → verb ≡ name) → (if t then o else p) ≡ Some x
@@ -55,7 +64,8 @@ chosen {A} {P} verb name o p x = at (bytes_eq verb name) (bytes_eq-Decides verb 
     at true same e here there = here (same refl) e
     at false same e here there = there e
 
-operator_found : (name : List ℕ) (operator : Operator) → operator_of name ≡ Some operator → name ≡ operator_text operator
+operator_found : (name : List ℕ) (operator : Operator) → operator_of name ≡ Some operator
+    → name ≡ operator_text operator
 unfolding operator_of
 operator_found name operator e =
     chosen name (codes "sum") (Some Sum) None operator e
@@ -63,7 +73,8 @@ operator_found name operator e =
     subst P (same_Some Sum operator is) same)
     (λ other. absurd (cc))
 
-make_found : (text : List ℕ) (c : Command) → make_of text ≡ Some c → Spells (codes "make" ++ 32 ∷ text) c
+make_found : (text : List ℕ) (c : Command) → make_of text ≡ Some c
+    → Spells (codes "make" ++ 32 ∷ text) c
 unfolding make_of spelling
 make_found text c e =
     option_and_then_some _ (operator_of (word text)) c e (λ operator is_operator e1.
@@ -86,7 +97,8 @@ make_found text c e =
           ∙ ap (λ t. decimal bound ++ 32 ∷ t) third.0)),
     ))))))
 
-send_found : (text : List ℕ) (c : Command) → send_of text ≡ Some c → Spells (codes "send" ++ 32 ∷ text) c
+send_found : (text : List ℕ) (c : Command) → send_of text ≡ Some c
+    → Spells (codes "send" ++ 32 ∷ text) c
 unfolding send_of spelling
 send_found text c e =
     option_and_then_some _ (nat_of (word text)) c e (λ task is_task e1.
@@ -103,7 +115,8 @@ send_found text c e =
           ∙ ap (λ t. decimal task ++ 32 ∷ t) second.0),
     ))))
 
-signal_found : (text : List ℕ) (c : Command) → signal_of text ≡ Some c → Spells (codes "signal" ++ 32 ∷ text) c
+signal_found : (text : List ℕ) (c : Command) → signal_of text ≡ Some c
+    → Spells (codes "signal" ++ 32 ∷ text) c
 unfolding signal_of spelling
 signal_found text c e =
     option_and_then_some _ (nat_of text) c e (λ task is_task e1.
@@ -111,7 +124,8 @@ signal_found text c e =
     let P : Command → Type 0 = Spells (codes "signal" ++ 32 ∷ text) in
     subst P (same_Some _ c e1) (first.1, ap (λ t. codes "signal" ++ 32 ∷ t) first.0))
 
-wait_found : (text : List ℕ) (c : Command) → wait_of text ≡ Some c → Spells (codes "wait" ++ 32 ∷ text) c
+wait_found : (text : List ℕ) (c : Command) → wait_of text ≡ Some c
+    → Spells (codes "wait" ++ 32 ∷ text) c
 unfolding wait_of spelling
 wait_found text c e =
     option_and_then_some _ (nat_of text) c e (λ task is_task e1.
@@ -119,18 +133,22 @@ wait_found text c e =
     let P : Command → Type 0 = Spells (codes "wait" ++ 32 ∷ text) in
     subst P (same_Some _ c e1) (first.1, ap (λ t. codes "wait" ++ 32 ∷ t) first.0))
 
-after_found : (verb text : List ℕ) (c : Command) → command_after verb text ≡ Some c → Spells (verb ++ 32 ∷ text) c
+after_found : (verb text : List ℕ) (c : Command) → command_after verb text ≡ Some c
+    → Spells (verb ++ 32 ∷ text) c
 unfolding command_after
 after_found verb text c e =
-    let named : (name : List ℕ) → verb ≡ name → Spells (name ++ 32 ∷ text) c → Spells (verb ++ 32 ∷ text) c =
+    let named : (name : List ℕ) → verb ≡ name → Spells (name ++ 32 ∷ text) c
+    → Spells (verb ++ 32 ∷ text) c =
     λ name same spells. (spells.0, ap (λ v. v ++ 32 ∷ text) same ∙ spells.1) in
     chosen verb (codes "make") _ _ c e (λ same is. named _ same (make_found text c is)) (λ e1.
     chosen verb (codes "send") _ _ c e1 (λ same is. named _ same (send_found text c is)) (λ e2.
     chosen verb (codes "signal") _ _ c e2 (λ same is. named _ same (signal_found text c is)) (λ e3.
-    chosen verb (codes "wait") _ _ c e3 (λ same is. named _ same (wait_found text c is)) (λ other. absurd (cc)))))
+    chosen verb (codes "wait") _ _ c e3 (λ same is. named _ same (wait_found text c is))
+    (λ other. absurd (cc)))))
 
 -- a line that is read is the spelling of its command, whose numbers are within their limits
-pub command_found : (line : List ℕ) (c : Command) → command_of line ≡ Some c → IsCommand c × (line ≡ spelling c)
+pub command_found : (line : List ℕ) (c : Command) → command_of line ≡ Some c
+    → IsCommand c × (line ≡ spelling c)
 unfolding command_of
 command_found line c e =
     option_and_then_some _ (rest line) c e (λ text is_text after.
@@ -144,7 +162,8 @@ then_some : {A B : Type 0} (f : A → Option B) (o : Option A) (x : A) (r : Opti
 then_some f o x r is e = rw is e
 
 make_only : (operator : Operator) (bound phases : ℕ) → bound ≤ most → phases ≤ most
-    → make_of (operator_text operator ++ 32 ∷ (decimal bound ++ 32 ∷ decimal phases)) ≡ Some (Make operator bound phases)
+    → make_of (operator_text operator ++ 32 ∷ (decimal bound ++ 32 ∷ decimal phases))
+    ≡ Some (Make operator bound phases)
 unfolding make_of operator_of
 make_only Sum bound phases small few =
     let free = decimal_has_no_space bound small in
@@ -194,7 +213,12 @@ operator_short Sum = omega arith
 pub short_line : (c : Command) → IsCommand c → length (spelling c) ≤ 74
 unfolding spelling
 short_line (Make operator bound phases) is =
-    simp length-append (omega (arith, operator_short operator, decimal_short bound is.0, decimal_short phases is.1))
+    simp length-append (omega (
+      arith,
+      operator_short operator,
+      decimal_short bound is.0,
+      decimal_short phases is.1,
+    ))
 short_line (Send task value) is =
     simp length-append (omega (arith, decimal_short task is.0, signed_short value is.1))
 short_line (Signal task) is = omega (arith, decimal_short task is)

@@ -43,16 +43,37 @@ reason_has_no_line_end TooManyTasks = refl
 pub reply_is_one_line : (reply : Reply) → IsReply reply → IsOneLine (reply_text reply)
 unfolding reply_text
 reply_is_one_line Accepted is = (codes "ok", refl, refl)
-reply_is_one_line (Signalled phase) is = (codes "ok " ++ decimal phase, refl, decimal_has_no_line_end phase is)
+reply_is_one_line (Signalled phase) is = (
+  codes "ok " ++ decimal phase,
+  refl,
+  decimal_has_no_line_end phase is,
+)
 reply_is_one_line (Value phase value) is = (
   codes "value " ++ decimal phase ++ codes " " ++ signed_decimal value,
   refl,
-  rw (list_all-append, list_all-append, decimal_has_no_line_end phase is.0, signed_has_no_line_end value is.1) refl,
+  rw (
+    list_all-append,
+    list_all-append,
+    decimal_has_no_line_end phase is.0,
+    signed_has_no_line_end value is.1,
+  ) refl,
 )
-reply_is_one_line (Empty phase) is = (codes "empty " ++ decimal phase, refl, decimal_has_no_line_end phase is)
-reply_is_one_line (TooBig phase) is = (codes "toobig " ++ decimal phase, refl, decimal_has_no_line_end phase is)
+reply_is_one_line (Empty phase) is = (
+  codes "empty " ++ decimal phase,
+  refl,
+  decimal_has_no_line_end phase is,
+)
+reply_is_one_line (TooBig phase) is = (
+  codes "toobig " ++ decimal phase,
+  refl,
+  decimal_has_no_line_end phase is,
+)
 reply_is_one_line Ended is = (codes "ended", refl, refl)
-reply_is_one_line (Refused refusal) is = (codes "no " ++ reason_text refusal, refl, reason_has_no_line_end refusal)
+reply_is_one_line (Refused refusal) is = (
+  codes "no " ++ reason_text refusal,
+  refl,
+  reason_has_no_line_end refusal,
+)
 reply_is_one_line BadLine is = (codes "bad line", refl, refl)
 
 reason_short : (refusal : Refusal) → length (reason_text refusal) ≤ 14

@@ -24,7 +24,8 @@ digits_of bs = if all_ascii_digits bs then Some (digits_value 10 bs) else None
 -- the number that a word is, if it is one within the limit
 unfoldable pub nat_of : List ℕ → Option ℕ
 nat_of word =
-    if is_numeral word && nat_le (digits_value 10 word) most then Some (digits_value 10 word) else None
+    let n = digits_value 10 word in
+    if is_numeral word && nat_le n most then Some n else None
 
 -- the number with a minus, for which 0 has no text
 abbrev pub negated : ℕ → Option ℤ
