@@ -3,9 +3,10 @@
 ghost use Rattle.std.specs.Prelude.{◌≡◌, ◌≤◌, length, nat_abs, IfSome};
 ghost use Rattle.phase_replay.specs.Numbers.{most, is_plain_front, digits_of, nat_of, int_of};
 
-// The greatest number, and how many digits it has.
+// The greatest number.
 const MOST: u64 = 9223372036854775807;
 
+// How many digits the greatest number has.
 const DIGITS_MAX: usize = 19;
 
 // The number that the word is.
