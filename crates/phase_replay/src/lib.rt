@@ -1,0 +1,18 @@
+//! Scripts of phaser calls: their lines are read by `read`, and their replies written by `line`.
+#![tactic(auto)]
+
+mod command;
+pub mod laws;
+mod refusal;
+mod reply;
+mod reply_line;
+mod script_line;
+
+pub use command::{Command, Operator};
+pub use refusal::Refusal;
+pub use reply::Reply;
+pub use reply_line::{ReplyLine, line};
+pub use script_line::read;
+
+#[cfg(test)]
+mod tests;
