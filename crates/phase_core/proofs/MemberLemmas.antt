@@ -1,5 +1,6 @@
 -- Facts of members: looked up, changed, added and dropped.
 use Rattle.std.proofs.Common.{◌≡◌, ℕ, ◌<◌, true, false, not, cond, eqb, [], ◌∷◌, ◌++◌, Some, None, map, refl, sym, ap, subst, arith}
+use Rattle.std.specs.Prelude.{is_some}
 use Rattle.std.specs.List.{filter}
 use Rattle.std.proofs.lemmas.Option.{same_Some}
 use Rattle.std.proofs.lemmas.Bool.{eqb-true, eq-eqb, ne_eqb}
@@ -77,6 +78,21 @@ entry_of-changed_other task other f (m ∷ ms) ne =
       | false ↦ λ t. ap (λ o. cond (eqb m.0 other) (Some m.1) o) (entry_of-changed_other task other f ms ne)
     ]
     refl
+
+-- a change makes no task a member, and none no member
+pub is_some-entry_of-changed : (task other : ℕ) (f : Entry → Entry) (ms : Members)
+    → is_some (entry_of (changed_at task f ms) other) ≡ is_some (entry_of ms other)
+is_some-entry_of-changed task other f [] = refl
+is_some-entry_of-changed task other f (m ∷ ms) =
+    elim (eqb m.0 task) as (λ b.
+        is_some (entry_of (cond b ((m.0, f m.1) ∷ ms) (m ∷ changed_at task f ms)) other)
+        ≡ is_some (cond (eqb m.0 other) (Some m.1) (entry_of ms other))) [
+      true ↦ elim (eqb m.0 other) as (λ b.
+          is_some (cond b (Some (f m.1)) (entry_of ms other)) ≡ is_some (cond b (Some m.1) (entry_of ms other))) [
+        true ↦ refl | false ↦ refl ]
+    | false ↦ elim (eqb m.0 other) as (λ b.
+          is_some (cond b (Some m.1) (entry_of (changed_at task f ms) other)) ≡ is_some (cond b (Some m.1) (entry_of ms other))) [
+        true ↦ refl | false ↦ is_some-entry_of-changed task other f ms ] ]
 
 pub entry_of-push_old : (ms : Members) (n task : ℕ) (x e : Entry)
     → entry_of ms task ≡ Some e → entry_of (ms ++ (n, x) ∷ []) task ≡ Some e

@@ -6,13 +6,16 @@ pub mod laws;
 mod refusal;
 mod reply;
 mod reply_line;
+mod running;
 mod script_line;
+mod session;
 
 pub use command::{Command, Operator};
 pub use refusal::Refusal;
 pub use reply::Reply;
 pub use reply_line::{ReplyLine, line};
 pub use script_line::read;
+pub use session::Session;
 
 #[cfg(test)]
 mod tests;

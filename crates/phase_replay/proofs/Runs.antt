@@ -1,0 +1,213 @@
+-- A phaser of one task, 0, and its sends, through the calls that it makes.
+use Rattle.std.proofs.Common.{◌≡◌, ℕ, ◌+◌, ◌≤◌, Bool, true, false, cond, eqb, List, [], ◌∷◌, ◌++◌, Option, Some, None, Ok, Err, ℤ, Result, leb, not, length, refl, sym, ap, subst, ◌∙◌, ⊎_elim, arith, length-append}
+use Rattle.std.specs.Prelude.{is_some, IsSome, IfOk, OnOk}
+use Rattle.std.proofs.lemmas.List.{append-nil}
+use Rattle.std.proofs.lemmas.Bool.{cases_eq, eq-eqb, lt-leb}
+use Rattle.phase_base.specs.Limits.{Limits}
+use Rattle.phase_base.specs.Modes.{mode_signals}
+use Rattle.phase_base.specs.declared.entry.Entry.{Entry}
+use Rattle.phase_accum.specs.Values.{sum_value}
+use Rattle.phase_accum.specs.Parcels.{Parcel, StandsForSends}
+use Rattle.phase_accum.specs.Sums.{sum_operation}
+use Rattle.phase_accum.specs.declared.single.Single.{Single}
+use Rattle.phase_core.specs.declared.event.Event.TheVariants.{Signalled, Waited}
+use Rattle.phase_core.specs.declared.refusal.SignalRefusal.{SignalRefusal}
+use Rattle.phase_core.specs.declared.refusal.SignalRefusal.TheVariants as signal
+use Rattle.phase_core.specs.declared.refusal.WaitRefusal.{WaitRefusal}
+use Rattle.phase_core.specs.declared.got.Got.{Got}
+use Rattle.phase_core.specs.declared.got.Got.TheVariants as got
+use Rattle.phase_core.specs.Members.{Members, entry_of, changed_at, signalled, waited}
+use Rattle.phase_core.specs.Histories.{History, members_of, signal_phase}
+use Rattle.phase_core.specs.Refusals.{refusal_at, signal_refusal, signal_rows}
+use Rattle.phase_core.specs.Replies.{signal_reply, wait_reply, after_wait, refused_or}
+use Rattle.phase_core.specs.Cores.{CoreState, StandsFor}
+use Rattle.phase_core.proofs.MemberLemmas.{is_some-entry_of-changed}
+use Rattle.phase_replay.specs.declared.running.Running.{Running as RunningPhaser}
+use Rattle.phase_replay.specs.declared.refusal.Refusal.{Refusal}
+use Rattle.phase_replay.specs.declared.refusal.Refusal.TheVariants as no
+use Rattle.phase_replay.specs.declared.reply.Reply.{Reply}
+use Rattle.phase_replay.specs.declared.reply.Reply.TheVariants.{Accepted}
+use Rattle.phase_replay.specs.Scripts.{ScriptState, NoPhaser, Running, command_reply, after_command, Held, held_by, held_by_others, send_rows, send_reply, held_after_send, refused_or as refused}
+use Rattle.phase_replay.specs.declared.command.Command.{Command}
+use Rattle.phase_replay.specs.declared.command.Command.TheVariants.{Send}
+use Rattle.phase_replay.specs.Session.{RunsFor, MaybeRunsFor}
+
+-- the sends of a task after one more of its own
+pub held_by-push : (held : Held) (task : ℕ) (v : ℤ) → held_by (held ++ (task, v) ∷ []) task ≡ held_by held task ++ v ∷ []
+held_by-push [] task v = ap (λ b. cond b (v ∷ []) []) (eq-eqb task task refl)
+held_by-push (send ∷ sends) task v =
+    elim (eqb send.0 task) as (λ b. cond b (send.1 ∷ held_by (sends ++ (task, v) ∷ []) task) (held_by (sends ++ (task, v) ∷ []) task)
+        ≡ cond b (send.1 ∷ held_by sends task) (held_by sends task) ++ v ∷ []) [
+      true ↦ ap (λ l. send.1 ∷ l) (held_by-push sends task v) | false ↦ held_by-push sends task v ]
+
+-- a task holds none of the sends of the others
+pub held_by-others : (held : Held) (task : ℕ) → held_by (held_by_others held task) task ≡ []
+held_by-others [] task = refl
+held_by-others (send ∷ sends) task =
+    elim (eqb send.0 task) as (λ b. (eqb send.0 task ≡ b) → held_by (cond b (held_by_others sends task) (send ∷ held_by_others sends task)) task ≡ []) [
+      true ↦ λ t. held_by-others sends task
+    | false ↦ λ t. ap (λ b. cond b (send.1 ∷ held_by (held_by_others sends task) task) (held_by (held_by_others sends task) task)) t ∙ held_by-others sends task ] refl
+
+-- a member is task 0
+pub member_is_founder : (running : RunningPhaser) (limits : Limits) (h : History) (held : Held) (task : ℕ) (e : Entry)
+    → RunsFor running limits h held → Some e ≡ entry_of running.core.members task → task ≡ 0
+member_is_founder running limits h held task e runs found =
+    runs.alone task (ap is_some (sym (found ∙ ap (λ ms. entry_of ms task) runs.core.members_are)))
+
+-- an accepted signal is that of task 0
+pub signaller_is_founder : (running : RunningPhaser) (limits : Limits) (h : History) (held : Held) (task phase : ℕ) (sends : List ℤ) (single : Option Single)
+    → RunsFor running limits h held → signal_reply limits h task (sends ∷ []) single ≡ Ok phase → task ≡ 0
+signaller_is_founder running limits h held task phase sends single runs accepted =
+    runs.alone task
+      (elim (entry_of (members_of h) task) as (λ o.
+          (refused_or (refusal_at o signal.NoTask (signal_rows limits h (sends ∷ []) single)) (signal_phase h task) ≡ Ok phase) → is_some o ≡ true) [
+        None ↦ λ e. absurd (cc) | Some e ↦ λ a. refl ] accepted)
+
+-- the reply to a signal does not look at the sends of a task that is no member
+pub signal_reply-held : (running : RunningPhaser) (limits : Limits) (h : History) (held : Held) (task : ℕ) (single : Option Single)
+    → RunsFor running limits h held
+    → signal_reply limits h task (held_by held task ∷ []) single ≡ signal_reply limits h task (held_by held 0 ∷ []) single
+signal_reply-held running limits h held task single runs =
+    ⊎_elim
+      (λ founder. ap (λ n. signal_reply limits h task (held_by held n ∷ []) single) founder)
+      (λ other. elim (entry_of (members_of h) task) as (λ o. (entry_of (members_of h) task ≡ o)
+          → refused_or (refusal_at o signal.NoTask (signal_rows limits h (held_by held task ∷ []) single)) (signal_phase h task)
+            ≡ refused_or (refusal_at o signal.NoTask (signal_rows limits h (held_by held 0 ∷ []) single)) (signal_phase h task)) [
+        None ↦ λ n. refl | Some e ↦ λ some. absurd (other (runs.alone task (ap is_some some))) ] refl)
+      (cases_eq task 0)
+
+-- no task becomes a member by a signal or a wait
+pub alone_signalled : (h : History) (task : ℕ) (lists : List (List ℤ)) (single : Option Single)
+    → ((k : ℕ) → IsSome (entry_of (members_of h) k) → k ≡ 0)
+    → (k : ℕ) → IsSome (entry_of (members_of (Signalled task lists single ∷ h)) k) → k ≡ 0
+alone_signalled h task lists single alone k some =
+    alone k (sym (is_some-entry_of-changed task k (signalled (length lists)) (members_of h)) ∙ some)
+
+pub alone_waited : (h : History) (task n : ℕ) → ((k : ℕ) → IsSome (entry_of (members_of h) k) → k ≡ 0)
+    → (k : ℕ) → IsSome (entry_of (members_of (Waited task n ∷ h)) k) → k ≡ 0
+alone_waited h task n alone k some = alone k (sym (is_some-entry_of-changed task k (waited n) (members_of h)) ∙ some)
+
+-- ---- what follows from a clause on an Ok
+
+pub ok_then : {A E : Type 0} (P Q : A → Type 0) (r : Result A E) → IfOk r P → ((x : A) → P x → Q x) → IfOk r Q
+ok_then P Q (Ok x) holds then = then x holds
+ok_then P Q (Err e) holds then = tt
+
+pub ok_gives : {A E : Type 0} (P : A → Type 0) (Q : Type 0) (r : Result A E) → IfOk r P → ((x : A) → P x → Q) → OnOk r Q
+ok_gives P Q (Ok x) holds then = then x holds
+ok_gives P Q (Err e) holds then = tt
+
+-- ---- the calls
+
+-- an accepted send stands behind those that the one task holds
+pub running_sent : (old : RunningPhaser) (holding : Parcel ℤ) (limits : Limits) (h : History) (held : Held) (task : ℕ) (e : Entry) (v : ℤ)
+    → RunsFor old limits h held → Some e ≡ entry_of old.core.members task → mode_signals e.mode ≡ true
+    → StandsForSends sum_operation holding (held_by held 0 ++ v ∷ [])
+    → RunsFor (record { core = old.core; held = holding }) limits h (held_after_send (send_reply h held task) held task v)
+running_sent old holding limits h held task e v runs found signals holds =
+    let founder : task ≡ 0 = member_is_founder old limits h held task e runs found in
+    let found_h : entry_of (members_of h) task ≡ Some e = sym (found ∙ ap (λ ms. entry_of ms task) runs.core.members_are) in
+    let own : held_by held task ≡ held_by held 0 = ap (held_by held) founder in
+    let one_more : length (held_by held 0 ++ v ∷ []) ≤ 65536 = holds.part_is.few in
+    let longer : length (held_by held 0 ++ v ∷ []) ≡ length (held_by held 0) + 1 = length-append _ _ in
+    let few : leb 65536 (length (held_by held 0)) ≡ false = lt-leb 65536 (length (held_by held 0)) (omega arith) in
+    let accepted : send_reply h held task ≡ Accepted =
+        ap (λ o. refused (refusal_at o no.NoTask (send_rows (length (held_by held task))))) found_h
+        ∙ ap (λ b. refused (cond (not b) (Some no.NoSignal) (cond (leb 65536 (length (held_by held task))) (Some no.TooManySends) None))) signals
+        ∙ ap (λ l. refused (cond (leb 65536 (length l)) (Some no.TooManySends) None)) own
+        ∙ ap (λ b. refused (cond b (Some no.TooManySends) None)) few in
+    let R : Reply → Type 0 = λ r. RunsFor (record { core = old.core; held = holding }) limits h (held_after_send r held task v) in
+    let T : ℕ → Type 0 = λ t. RunsFor (record { core = old.core; held = holding }) limits h (held ++ (t, v) ∷ []) in
+    let S : List ℤ → Type 0 = λ l. StandsForSends sum_operation holding l in
+    subst R (sym accepted)
+      (subst T (sym founder)
+        (record {
+          limits_are = runs.limits_are;
+          core = runs.core;
+          holds = subst S (sym (held_by-push held 0 v)) holds;
+          alone = runs.alone }))
+
+-- an accepted signal is that of the one task, which then holds nothing
+pub record HasSignalled (new : RunningPhaser) (limits : Limits) (h : History) (held : Held) (task phase : ℕ) : Type 0 where
+  pub accepted : signal_reply limits h task (held_by held task ∷ []) None ≡ Ok phase
+  pub runs : RunsFor new limits (Signalled task (held_by held task ∷ []) None ∷ h) (held_by_others held task)
+
+pub running_signalled : (old : RunningPhaser) (core : CoreState ℤ) (fresh : Parcel ℤ) (limits : Limits) (h : History) (held : Held) (task phase : ℕ)
+    → RunsFor old limits h held → StandsForSends sum_operation fresh [] → core.limits ≡ old.core.limits
+    → signal_reply old.core.limits h task (held_by held 0 ∷ []) None ≡ Ok phase
+    → StandsFor sum_operation core (Signalled task (held_by held 0 ∷ []) None ∷ h)
+    → HasSignalled (record { core = core; held = fresh }) limits h held task phase
+running_signalled old core fresh limits h held task phase runs holds limits_same ok after =
+    let L : Limits → Type 0 = λ l. signal_reply l h task (held_by held 0 ∷ []) None ≡ Ok phase in
+    let ok_0 : signal_reply limits h task (held_by held 0 ∷ []) None ≡ Ok phase = subst L runs.limits_are ok in
+    let founder : task ≡ 0 = signaller_is_founder old limits h held task phase (held_by held 0) None runs ok_0 in
+    let own : held_by held 0 ≡ held_by held task = ap (held_by held) (sym founder) in
+    let S : List ℤ → Type 0 = λ l. StandsFor sum_operation core (Signalled task (l ∷ []) None ∷ h) in
+    let E : List ℤ → Type 0 = λ l. StandsForSends sum_operation fresh l in
+    let none : held_by (held_by_others held task) 0 ≡ [] = ap (λ t. held_by (held_by_others held t) 0) founder ∙ held_by-others held 0 in
+    record {
+      accepted = signal_reply-held old limits h held task None runs ∙ ok_0;
+      runs = record {
+        limits_are = limits_same ∙ runs.limits_are;
+        core = subst S own after;
+        holds = subst E (sym none) holds;
+        alone = alone_signalled h task (held_by held task ∷ []) None runs.alone } }
+
+-- a refused signal leaves what was
+pub running_refused : (old : RunningPhaser) (limits : Limits) (h : History) (held : Held) (task : ℕ) (refusal : SignalRefusal)
+    → RunsFor old limits h held → signal_reply old.core.limits h task (held_by held 0 ∷ []) None ≡ Err refusal
+    → signal_reply limits h task (held_by held task ∷ []) None ≡ Err refusal
+running_refused old limits h held task refusal runs err =
+    let L : Limits → Type 0 = λ l. signal_reply l h task (held_by held 0 ∷ []) None ≡ Err refusal in
+    signal_reply-held old limits h held task None runs ∙ subst L runs.limits_are err
+
+-- and the phaser runs for the same state
+pub running_kept : (old : RunningPhaser) (core : CoreState ℤ) (holding : Parcel ℤ) (limits : Limits) (h : History) (held : Held)
+    → RunsFor old limits h held → core ≡ old.core → holding ≡ old.held
+    → RunsFor (record { core = core; held = holding }) limits h held
+running_kept old core holding limits h held runs core_is holding_is =
+    let C : CoreState ℤ → Type 0 = λ c. RunsFor (record { core = c; held = holding }) limits h held in
+    let H : Parcel ℤ → Type 0 = λ p. RunsFor (record { core = old.core; held = p }) limits h held in
+    subst C (sym core_is) (subst H (sym holding_is)
+      (record { limits_are = runs.limits_are; core = runs.core; holds = runs.holds; alone = runs.alone }))
+
+alone_after : (h : History) (task : ℕ) (r : Result Got WaitRefusal) → ((k : ℕ) → IsSome (entry_of (members_of h) k) → k ≡ 0)
+    → (k : ℕ) → IsSome (entry_of (members_of (after_wait r task h)) k) → k ≡ 0
+alone_after h task (Ok (got.Value phase outcome)) alone = alone_waited h task 1 alone
+alone_after h task (Ok got.Ended) alone = alone
+alone_after h task (Err refusal) alone = alone
+
+-- a wait leaves the sends that are held
+pub running_waited : (old : RunningPhaser) (core : CoreState ℤ) (limits : Limits) (h : History) (held : Held) (task : ℕ)
+    → RunsFor old limits h held → core.limits ≡ old.core.limits
+    → StandsFor sum_operation core (after_wait (wait_reply sum_value old.core.limits h task) task h)
+    → RunsFor (record { core = core; held = old.held }) limits (after_wait (wait_reply sum_value limits h task) task h) held
+running_waited old core limits h held task runs limits_same after =
+    let L : Limits → Type 0 = λ l. StandsFor sum_operation core (after_wait (wait_reply sum_value l h task) task h) in
+    record {
+      limits_are = limits_same ∙ runs.limits_are;
+      core = subst L runs.limits_are after;
+      holds = runs.holds;
+      alone = alone_after h task (wait_reply sum_value limits h task) runs.alone }
+
+-- ---- a send, in any state
+
+pub sent_reply : (running : RunningPhaser) (state : ScriptState) (command : Command) (task : ℕ) (v : ℤ) (reply : Reply)
+    → MaybeRunsFor (Some running) state → command ≡ Send task v
+    → ((limits : Limits) (h : History) (held : Held) → RunsFor running limits h held → reply ≡ send_reply h held task)
+    → reply ≡ command_reply state command
+unfolding command_reply MaybeRunsFor
+sent_reply running NoPhaser command task v reply runs is sent = absurd runs
+sent_reply running (Running operator limits h held) command task v reply runs is sent =
+    sent limits h held runs ∙ ap (command_reply (Running operator limits h held)) (sym is)
+
+pub sent_state : (old new : RunningPhaser) (state : ScriptState) (command : Command) (task : ℕ) (v : ℤ)
+    → MaybeRunsFor (Some old) state → command ≡ Send task v
+    → ((limits : Limits) (h : History) (held : Held) → RunsFor old limits h held
+        → RunsFor new limits h (held_after_send (send_reply h held task) held task v))
+    → MaybeRunsFor (Some new) (after_command state command)
+unfolding after_command MaybeRunsFor
+sent_state old new NoPhaser command task v runs is sent = absurd runs
+sent_state old new (Running operator limits h held) command task v runs is sent =
+    let P : Command → Type 0 = λ c. MaybeRunsFor (Some new) (after_command (Running operator limits h held) c) in
+    subst P (sym is) (sent limits h held runs)

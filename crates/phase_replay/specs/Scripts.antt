@@ -1,0 +1,185 @@
+-- What the lines of a script are answered, and what they leave.
+use Rattle.std.specs.Prelude.{ℕ, ℤ, ◌<◌, List, [], ◌∷◌, ◌++◌, Option, Some, None, Result, Ok, Err, Bool, not, ◌||◌, ◌==◌, nat_le, nat_lt, length, if◌then◌else◌}
+use Rattle.phase_base.specs.Limits.{Limits, limits}
+use Rattle.phase_base.specs.Modes.{mode_signals}
+use Rattle.phase_base.specs.declared.entry.Entry.{Entry}
+use Rattle.phase_accum.specs.Values.{sum_value}
+use Rattle.phase_accum.specs.declared.outcome.Outcome.{Outcome}
+use Rattle.phase_accum.specs.declared.outcome.Outcome.TheVariants as outcome
+use Rattle.phase_core.specs.declared.event.Event.TheVariants.{Made, Signalled as SignalledEvent}
+use Rattle.phase_core.specs.declared.got.Got.{Got}
+use Rattle.phase_core.specs.declared.got.Got.TheVariants as got
+use Rattle.phase_core.specs.declared.refusal.SignalRefusal.{SignalRefusal}
+use Rattle.phase_core.specs.declared.refusal.SignalRefusal.TheVariants as signal
+use Rattle.phase_core.specs.declared.refusal.WaitRefusal.{WaitRefusal}
+use Rattle.phase_core.specs.declared.refusal.WaitRefusal.TheVariants as wait
+use Rattle.phase_core.specs.Members.{entry_of}
+use Rattle.phase_core.specs.Histories.{History, members_of}
+use Rattle.phase_core.specs.Refusals.{first_row, refusal_at}
+use Rattle.phase_core.specs.Replies.{signal_reply, wait_reply, after_wait}
+use Rattle.phase_replay.specs.declared.command.Operator.{Operator}
+use Rattle.phase_replay.specs.declared.command.Operator.TheVariants.{Sum}
+use Rattle.phase_replay.specs.declared.command.Command.{Command}
+use Rattle.phase_replay.specs.declared.command.Command.TheVariants.{Make, Send, Signal, Wait}
+use Rattle.phase_replay.specs.declared.refusal.Refusal.{Refusal}
+use Rattle.phase_replay.specs.declared.refusal.Refusal.TheVariants as no
+use Rattle.phase_replay.specs.declared.reply.Reply.{Reply}
+use Rattle.phase_replay.specs.declared.reply.Reply.TheVariants.{Accepted, Signalled, Value, Empty, TooBig, Ended, Refused, BadLine}
+use Rattle.phase_replay.specs.Commands.{command_of}
+use Rattle.phase_replay.specs.ReplyLines.{reply_text}
+
+-- the sends that tasks hold, each with its task, in the order in which they came
+abbrev pub Held : Type 0
+Held = List (ℕ × ℤ)
+
+-- what the lines so far have made: no phaser, or one with its operator, its limits, its history
+-- and the sends that its tasks hold
+pub data ScriptState : Type 0 where
+  NoPhaser : ScriptState
+  Running : (operator : Operator) (limits : Limits) (history : History) (held : Held) → ScriptState
+
+-- before the first line
+unfoldable pub start : ScriptState
+start = NoPhaser
+
+-- the value of a list of sends under an operator
+abbrev pub value_of : Operator → List ℤ → Outcome
+value_of Sum = sum_value
+
+-- the sends that a task holds
+abbrev pub held_by : Held → ℕ → List ℤ
+held_by [] task = []
+held_by (send ∷ sends) task =
+    if send.0 == task then send.1 ∷ held_by sends task else held_by sends task
+
+-- the sends that the other tasks hold
+abbrev pub held_by_others : Held → ℕ → Held
+held_by_others [] task = []
+held_by_others (send ∷ sends) task =
+    if send.0 == task then held_by_others sends task else send ∷ held_by_others sends task
+
+-- the refusals of a line that makes a phaser, where there is none yet
+abbrev pub make_rows : ℕ → ℕ → List (Bool × Refusal)
+make_rows bound phases =
+    (nat_lt bound 1 || nat_lt 65536 bound, no.BadBound)
+    ∷ (nat_lt phases 1 || nat_lt 4611686018427387904 phases, no.BadPhases)
+    ∷ []
+
+-- the refusals of a send by a member that holds so many sends
+abbrev pub send_rows : ℕ → Entry → List (Bool × Refusal)
+send_rows count entry =
+    (not (mode_signals entry.mode), no.NoSignal)
+    ∷ (nat_le 65536 count, no.TooManySends)
+    ∷ []
+
+-- the refusal, or else what is done
+abbrev pub refused_or : Option Refusal → Reply
+refused_or (Some refusal) = Refused refusal
+refused_or None = Accepted
+
+abbrev pub make_reply : ℕ → ℕ → Reply
+make_reply bound phases = refused_or (first_row (make_rows bound phases))
+
+abbrev pub send_reply : History → Held → ℕ → Reply
+send_reply h held task =
+    refused_or (refusal_at (entry_of (members_of h) task) no.NoTask
+        (send_rows (length (held_by held task))))
+
+-- the reason of a refused signal. The last two are answered by no table: a plain signal is no bad
+-- block, and want of memory is no reply
+abbrev pub signal_reason : SignalRefusal → Reply
+signal_reason signal.NoTask = Refused no.NoTask
+signal_reason signal.NoSignal = Refused no.NoSignal
+signal_reason signal.NotSingle = Refused no.NotSingle
+signal_reason signal.SignalTwice = Refused no.SignalTwice
+signal_reason signal.Spent = Refused no.Spent
+signal_reason signal.Ahead = Refused no.Ahead
+signal_reason signal.SingleDiffers = Refused no.SingleDiffers
+signal_reason signal.PhaseFull = Refused no.PhaseFull
+signal_reason signal.BadBlock = BadLine
+signal_reason signal.OutOfMemory = BadLine
+
+-- the reason of a refused wait. The last is answered by no table: a plain wait is no bad block
+abbrev pub wait_reason : WaitRefusal → Reply
+wait_reason wait.NoTask = Refused no.NoTask
+wait_reason wait.NoWait = Refused no.NoWait
+wait_reason wait.SignalFirst = Refused no.SignalFirst
+wait_reason wait.NotYet = Refused no.NotYet
+wait_reason wait.BadBlock = BadLine
+
+-- what a phaser answers to a signal, as a reply
+abbrev pub signalled_reply : Result ℕ SignalRefusal → Reply
+signalled_reply (Ok phase) = Signalled phase
+signalled_reply (Err refusal) = signal_reason refusal
+
+-- the value of a phase, as a reply
+abbrev pub value_reply : ℕ → Outcome → Reply
+value_reply phase (outcome.Value value) = Value phase value
+value_reply phase outcome.Empty = Empty phase
+value_reply phase outcome.TooBig = TooBig phase
+
+-- what a phaser answers to a wait, as a reply
+abbrev pub received_reply : Result Got WaitRefusal → Reply
+received_reply (Ok (got.Value phase outcome)) = value_reply phase outcome
+received_reply (Ok got.Ended) = Ended
+received_reply (Err refusal) = wait_reason refusal
+
+-- the reply to a command
+unfoldable pub command_reply : ScriptState → Command → Reply
+command_reply NoPhaser (Make operator bound phases) = make_reply bound phases
+command_reply NoPhaser command = Refused no.NoPhaser
+command_reply (Running operator limits h held) (Make other bound phases) = Refused no.Made
+command_reply (Running operator limits h held) (Send task value) = send_reply h held task
+command_reply (Running operator limits h held) (Signal task) =
+    signalled_reply (signal_reply limits h task (held_by held task ∷ []) None)
+command_reply (Running operator limits h held) (Wait task) =
+    received_reply (wait_reply (value_of operator) limits h task)
+
+-- a phaser is made where its limits are within theirs
+abbrev pub made_by : Reply → Operator → ℕ → ℕ → ScriptState
+made_by Accepted operator bound phases = Running operator (limits bound phases) (Made 0 ∷ []) []
+made_by reply operator bound phases = NoPhaser
+
+-- an accepted send is held, behind the others
+abbrev pub held_after_send : Reply → Held → ℕ → ℤ → Held
+held_after_send Accepted held task value = held ++ (task, value) ∷ []
+held_after_send reply held task value = held
+
+-- an accepted signal takes the task's sends with it
+abbrev pub after_signal : Result ℕ SignalRefusal → Operator → Limits → History → Held → ℕ → ScriptState
+after_signal (Ok phase) operator limits h held task =
+    Running operator limits (SignalledEvent task (held_by held task ∷ []) None ∷ h)
+        (held_by_others held task)
+after_signal (Err refusal) operator limits h held task = Running operator limits h held
+
+-- what a command leaves
+unfoldable pub after_command : ScriptState → Command → ScriptState
+after_command NoPhaser (Make operator bound phases) =
+    made_by (make_reply bound phases) operator bound phases
+after_command NoPhaser command = NoPhaser
+after_command (Running operator limits h held) (Make other bound phases) =
+    Running operator limits h held
+after_command (Running operator limits h held) (Send task value) =
+    Running operator limits h (held_after_send (send_reply h held task) held task value)
+after_command (Running operator limits h held) (Signal task) =
+    after_signal (signal_reply limits h task (held_by held task ∷ []) None)
+        operator limits h held task
+after_command (Running operator limits h held) (Wait task) =
+    Running operator limits (after_wait (wait_reply (value_of operator) limits h task) task h) held
+
+-- the reply to a line that gives this command, or none
+abbrev pub reply_by : ScriptState → Option Command → Reply
+reply_by state (Some command) = command_reply state command
+reply_by state None = BadLine
+
+abbrev pub after_by : ScriptState → Option Command → ScriptState
+after_by state (Some command) = after_command state command
+after_by state None = state
+
+-- the reply line to a script line
+unfoldable pub reply_to : ScriptState → List ℕ → List ℕ
+reply_to state line = reply_text (reply_by state (command_of line))
+
+-- what a script line leaves
+unfoldable pub after_line : ScriptState → List ℕ → ScriptState
+after_line state line = after_by state (command_of line)

@@ -1,0 +1,106 @@
+//! A session: the lines of a script, one at a time.
+ghost use Rattle.std.specs.Prelude.{◌≡◌, OnOk, OnErr, IfOk, None};
+ghost use Rattle.phase_replay.specs.Commands.{IsCommand};
+ghost use Rattle.phase_replay.specs.Scripts.{ScriptState, start, reply_to, after_line};
+ghost use Rattle.phase_replay.specs.Scripts.{command_reply, after_command};
+
+use crate::command::{Command, Operator};
+use crate::reply::Reply;
+use crate::reply_line::{self, ReplyLine};
+use crate::running::Running;
+use crate::{Refusal, script_line};
+use phase_base::{Spec, SpecFault};
+use std::alloc::{AllocError, Global};
+
+/// A script that is answered line by line. It holds at most one phaser, and the sends that the
+/// phaser's task holds.
+///
+/// ```text
+/// make sum 2 100      ok
+/// send 0 5            ok
+/// signal 0            ok 0
+/// wait 0              value 0 5
+/// ```
+#[derive(Drop)]
+pub struct Session {
+    alloc: Global,
+    running: Option<Running>,
+}
+
+#[tactic(auto, unfolding(crate::specs::Session::Stands, crate::specs::Session::MaybeRunsFor, crate::specs::Scripts::start, crate::specs::Scripts::reply_to, crate::specs::Scripts::after_line, crate::specs::Scripts::command_reply, crate::specs::Scripts::after_command))]
+impl Session {
+    ghost use Rattle.phase_replay.specs.Session.{Stands};
+
+    /// Makes a session before its first line. It takes no memory.
+    pub fn new(alloc: Global) -> Session
+        ensures { Stands result start }
+    {
+        Session {
+            alloc,
+            running: None,
+        }
+    }
+
+    /// Answers one line, given with neither its line feed nor the carriage return before it.
+    ///
+    /// Want of memory comes only from `make` and `signal`, and leaves the session unchanged.
+    pub fn line(&mut self, line: &[u8]) -> Result<ReplyLine, AllocError>
+        ensures reply { IfOk result (λ reply. (state : ScriptState) → Stands self.old state
+            → reply ≡ reply_to state line.now) }
+        ensures after { OnOk result ((state : ScriptState) → Stands self.old state
+            → Stands self.new (after_line state line.now)) }
+        ensures err { OnErr result (self.new ≡ self.old) }
+    {
+        let Some(command) = script_line::read(line) else {
+            return Ok(reply_line::line(Reply::BadLine));
+        };
+        let reply = self.obey(command)?;
+        Ok(reply_line::line(reply))
+    }
+
+    // The reply to a command.
+    fn obey(&mut self, command: Command) -> Result<Reply, AllocError>
+        requires { IsCommand command }
+        ensures reply { IfOk result (λ reply. (state : ScriptState) → Stands self.old state
+            → reply ≡ command_reply state command) }
+        ensures after { OnOk result ((state : ScriptState) → Stands self.old state
+            → Stands self.new (after_command state command)) }
+        ensures err { OnErr result (self.new ≡ self.old) }
+    {
+        let Some(running) = &mut self.running else {
+            return self.begin(command);
+        };
+        match command {
+            Command::Make { .. } => Ok(Reply::Refused(Refusal::Made)),
+            Command::Send { task, value } => Ok(running.send(task, value)),
+            Command::Signal { task } => running.signal(task),
+            Command::Wait { task } => Ok(running.wait(task)),
+        }
+    }
+
+    // The reply to a command where no phaser was made yet.
+    fn begin(&mut self, command: Command) -> Result<Reply, AllocError>
+        requires { self.old.running ≡ None }
+        ensures reply { IfOk result (λ reply. (state : ScriptState) → Stands self.old state
+            → reply ≡ command_reply state command) }
+        ensures after { OnOk result ((state : ScriptState) → Stands self.old state
+            → Stands self.new (after_command state command)) }
+        ensures err { OnErr result (self.new ≡ self.old) }
+    {
+        let Command::Make {
+            operator: Operator::Sum,
+            bound,
+            phases,
+        } = command
+        else {
+            return Ok(Reply::Refused(Refusal::NoPhaser));
+        };
+        let spec = match Spec::new(bound, phases) {
+            Ok(spec) => spec,
+            Err(SpecFault::BadBound) => return Ok(Reply::Refused(Refusal::BadBound)),
+            Err(SpecFault::BadPhases) => return Ok(Reply::Refused(Refusal::BadPhases)),
+        };
+        self.running = Some(Running::new(self.alloc, spec)?);
+        Ok(Reply::Accepted)
+    }
+}
