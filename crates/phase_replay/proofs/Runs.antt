@@ -37,16 +37,19 @@ pub held_by-push : (held : Held) (task : ℕ) (v : ℤ) → held_by (held ++ (ta
 held_by-push [] task v = ap (λ b. cond b (v ∷ []) []) (eq-eqb task task refl)
 held_by-push (send ∷ sends) task v =
     elim (eqb send.0 task) as (λ b. cond b (send.1 ∷ held_by (sends ++ (task, v) ∷ []) task) (held_by (sends ++ (task, v) ∷ []) task)
-        ≡ cond b (send.1 ∷ held_by sends task) (held_by sends task) ++ v ∷ []) [
-      true ↦ ap (λ l. send.1 ∷ l) (held_by-push sends task v) | false ↦ held_by-push sends task v ]
+    ≡ cond b (send.1 ∷ held_by sends task) (held_by sends task) ++ v ∷ []) [
+      | true ↦ ap (λ l. send.1 ∷ l) (held_by-push sends task v)
+      | false ↦ held_by-push sends task v
+    ]
 
 -- a task holds none of the sends of the others
 pub held_by-others : (held : Held) (task : ℕ) → held_by (held_by_others held task) task ≡ []
 held_by-others [] task = refl
 held_by-others (send ∷ sends) task =
     elim (eqb send.0 task) as (λ b. (eqb send.0 task ≡ b) → held_by (cond b (held_by_others sends task) (send ∷ held_by_others sends task)) task ≡ []) [
-      true ↦ λ t. held_by-others sends task
-    | false ↦ λ t. ap (λ b. cond b (send.1 ∷ held_by (held_by_others sends task) task) (held_by (held_by_others sends task) task)) t ∙ held_by-others sends task ] refl
+      | true ↦ λ t. held_by-others sends task
+      | false ↦ λ t. ap (λ b. cond b (send.1 ∷ held_by (held_by_others sends task) task) (held_by (held_by_others sends task) task)) t ∙ held_by-others sends task
+    ] refl
 
 -- a member is task 0
 pub member_is_founder : (running : RunningPhaser) (limits : Limits) (h : History) (held : Held) (task : ℕ) (e : Entry)
@@ -59,9 +62,11 @@ pub signaller_is_founder : (running : RunningPhaser) (limits : Limits) (h : Hist
     → RunsFor running limits h held → signal_reply limits h task (sends ∷ []) single ≡ Ok phase → task ≡ 0
 signaller_is_founder running limits h held task phase sends single runs accepted =
     runs.alone task
-      (elim (entry_of (members_of h) task) as (λ o.
-          (refused_or (refusal_at o signal.NoTask (signal_rows limits h (sends ∷ []) single)) (signal_phase h task) ≡ Ok phase) → is_some o ≡ true) [
-        None ↦ λ e. absurd (cc) | Some e ↦ λ a. refl ] accepted)
+    (elim (entry_of (members_of h) task) as (λ o.
+    (refused_or (refusal_at o signal.NoTask (signal_rows limits h (sends ∷ []) single)) (signal_phase h task) ≡ Ok phase) → is_some o ≡ true) [
+      | None ↦ λ e. absurd (cc)
+      | Some e ↦ λ a. refl
+    ] accepted)
 
 -- the reply to a signal does not look at the sends of a task that is no member
 pub signal_reply-held : (running : RunningPhaser) (limits : Limits) (h : History) (held : Held) (task : ℕ) (single : Option Single)
@@ -69,12 +74,14 @@ pub signal_reply-held : (running : RunningPhaser) (limits : Limits) (h : History
     → signal_reply limits h task (held_by held task ∷ []) single ≡ signal_reply limits h task (held_by held 0 ∷ []) single
 signal_reply-held running limits h held task single runs =
     ⊎_elim
-      (λ founder. ap (λ n. signal_reply limits h task (held_by held n ∷ []) single) founder)
-      (λ other. elim (entry_of (members_of h) task) as (λ o. (entry_of (members_of h) task ≡ o)
-          → refused_or (refusal_at o signal.NoTask (signal_rows limits h (held_by held task ∷ []) single)) (signal_phase h task)
-            ≡ refused_or (refusal_at o signal.NoTask (signal_rows limits h (held_by held 0 ∷ []) single)) (signal_phase h task)) [
-        None ↦ λ n. refl | Some e ↦ λ some. absurd (other (runs.alone task (ap is_some some))) ] refl)
-      (cases_eq task 0)
+    (λ founder. ap (λ n. signal_reply limits h task (held_by held n ∷ []) single) founder)
+    (λ other. elim (entry_of (members_of h) task) as (λ o. (entry_of (members_of h) task ≡ o)
+    → refused_or (refusal_at o signal.NoTask (signal_rows limits h (held_by held task ∷ []) single)) (signal_phase h task)
+    ≡ refused_or (refusal_at o signal.NoTask (signal_rows limits h (held_by held 0 ∷ []) single)) (signal_phase h task)) [
+      | None ↦ λ n. refl
+      | Some e ↦ λ some. absurd (other (runs.alone task (ap is_some some)))
+    ] refl)
+    (cases_eq task 0)
 
 -- no task becomes a member by a signal or a wait
 pub alone_signalled : (h : History) (task : ℕ) (lists : List (List ℤ)) (single : Option Single)
@@ -112,20 +119,21 @@ running_sent old holding limits h held task e v runs found signals holds =
     let longer : length (held_by held 0 ++ v ∷ []) ≡ length (held_by held 0) + 1 = length-append _ _ in
     let few : leb 65536 (length (held_by held 0)) ≡ false = lt-leb 65536 (length (held_by held 0)) (omega arith) in
     let accepted : send_reply h held task ≡ Accepted =
-        ap (λ o. refused (refusal_at o no.NoTask (send_rows (length (held_by held task))))) found_h
-        ∙ ap (λ b. refused (cond (not b) (Some no.NoSignal) (cond (leb 65536 (length (held_by held task))) (Some no.TooManySends) None))) signals
-        ∙ ap (λ l. refused (cond (leb 65536 (length l)) (Some no.TooManySends) None)) own
-        ∙ ap (λ b. refused (cond b (Some no.TooManySends) None)) few in
+    ap (λ o. refused (refusal_at o no.NoTask (send_rows (length (held_by held task))))) found_h
+    ∙ ap (λ b. refused (cond (not b) (Some no.NoSignal) (cond (leb 65536 (length (held_by held task))) (Some no.TooManySends) None))) signals
+    ∙ ap (λ l. refused (cond (leb 65536 (length l)) (Some no.TooManySends) None)) own
+    ∙ ap (λ b. refused (cond b (Some no.TooManySends) None)) few in
     let R : Reply → Type 0 = λ r. RunsFor (record { core = old.core; held = holding }) limits h (held_after_send r held task v) in
     let T : ℕ → Type 0 = λ t. RunsFor (record { core = old.core; held = holding }) limits h (held ++ (t, v) ∷ []) in
     let S : List ℤ → Type 0 = λ l. StandsForSends sum_operation holding l in
     subst R (sym accepted)
-      (subst T (sym founder)
-        (record {
-          limits_are = runs.limits_are;
-          core = runs.core;
-          holds = subst S (sym (held_by-push held 0 v)) holds;
-          alone = runs.alone }))
+    (subst T (sym founder)
+    (record {
+      limits_are = runs.limits_are;
+      core = runs.core;
+      holds = subst S (sym (held_by-push held 0 v)) holds;
+      alone = runs.alone;
+    }))
 
 -- an accepted signal is that of the one task, which then holds nothing
 pub record HasSignalled (new : RunningPhaser) (limits : Limits) (h : History) (held : Held) (task phase : ℕ) : Type 0 where
@@ -151,7 +159,9 @@ running_signalled old core fresh limits h held task phase runs holds limits_same
         limits_are = limits_same ∙ runs.limits_are;
         core = subst S own after;
         holds = subst E (sym none) holds;
-        alone = alone_signalled h task (held_by held task ∷ []) None runs.alone } }
+        alone = alone_signalled h task (held_by held task ∷ []) None runs.alone;
+      };
+    }
 
 -- a refused signal leaves what was
 pub running_refused : (old : RunningPhaser) (limits : Limits) (h : History) (held : Held) (task : ℕ) (refusal : SignalRefusal)
@@ -169,7 +179,7 @@ running_kept old core holding limits h held runs core_is holding_is =
     let C : CoreState ℤ → Type 0 = λ c. RunsFor (record { core = c; held = holding }) limits h held in
     let H : Parcel ℤ → Type 0 = λ p. RunsFor (record { core = old.core; held = p }) limits h held in
     subst C (sym core_is) (subst H (sym holding_is)
-      (record { limits_are = runs.limits_are; core = runs.core; holds = runs.holds; alone = runs.alone }))
+    (record { limits_are = runs.limits_are; core = runs.core; holds = runs.holds; alone = runs.alone }))
 
 alone_after : (h : History) (task : ℕ) (r : Result Got WaitRefusal) → ((k : ℕ) → IsSome (entry_of (members_of h) k) → k ≡ 0)
     → (k : ℕ) → IsSome (entry_of (members_of (after_wait r task h)) k) → k ≡ 0
@@ -188,7 +198,8 @@ running_waited old core limits h held task runs limits_same after =
       limits_are = limits_same ∙ runs.limits_are;
       core = subst L runs.limits_are after;
       holds = runs.holds;
-      alone = alone_after h task (wait_reply sum_value limits h task) runs.alone }
+      alone = alone_after h task (wait_reply sum_value limits h task) runs.alone;
+    }
 
 -- ---- a send, in any state
 
@@ -204,7 +215,7 @@ sent_reply running (Running operator limits h held) command task v reply runs is
 pub sent_state : (old new : RunningPhaser) (state : ScriptState) (command : Command) (task : ℕ) (v : ℤ)
     → MaybeRunsFor (Some old) state → command ≡ Send task v
     → ((limits : Limits) (h : History) (held : Held) → RunsFor old limits h held
-        → RunsFor new limits h (held_after_send (send_reply h held task) held task v))
+    → RunsFor new limits h (held_after_send (send_reply h held task) held task v))
     → MaybeRunsFor (Some new) (after_command state command)
 unfolding after_command MaybeRunsFor
 sent_state old new NoPhaser command task v runs is sent = absurd runs

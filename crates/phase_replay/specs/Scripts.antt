@@ -83,7 +83,7 @@ make_reply bound phases = refused_or (first_row (make_rows bound phases))
 abbrev pub send_reply : History → Held → ℕ → Reply
 send_reply h held task =
     refused_or (refusal_at (entry_of (members_of h) task) no.NoTask
-        (send_rows (length (held_by held task))))
+    (send_rows (length (held_by held task))))
 
 -- the reason of a refused signal. The last two are answered by no table: a plain signal is no bad
 -- block, and want of memory is no reply
@@ -149,7 +149,7 @@ held_after_send reply held task value = held
 abbrev pub after_signal : Result ℕ SignalRefusal → Operator → Limits → History → Held → ℕ → ScriptState
 after_signal (Ok phase) operator limits h held task =
     Running operator limits (SignalledEvent task (held_by held task ∷ []) None ∷ h)
-        (held_by_others held task)
+    (held_by_others held task)
 after_signal (Err refusal) operator limits h held task = Running operator limits h held
 
 -- what a command leaves
@@ -163,7 +163,7 @@ after_command (Running operator limits h held) (Send task value) =
     Running operator limits h (held_after_send (send_reply h held task) held task value)
 after_command (Running operator limits h held) (Signal task) =
     after_signal (signal_reply limits h task (held_by held task ∷ []) None)
-        operator limits h held task
+    operator limits h held task
 after_command (Running operator limits h held) (Wait task) =
     Running operator limits (after_wait (wait_reply (value_of operator) limits h task) task h) held
 

@@ -3,6 +3,7 @@
 ghost use Rattle.std.specs.Prelude.{◌≡◌, ℕ, ◌≤◌, List, length, Some, None};
 ghost use Rattle.phase_replay.specs.Commands.{IsCommand, spelling, command_of};
 ghost use Rattle.phase_replay.specs.ReplyLines.{reply_text, IsReply, IsOneLine};
+ghost use Rattle.phase_replay.specs.Cuts.{LinesAreCutAtLf, EveryScriptIsCut};
 
 use crate::{Command, Reply};
 
@@ -30,4 +31,11 @@ pub fn replies_are_single_lines()
 /// No reply line has more than 47 bytes.
 pub fn replies_are_short()
     ensures { (reply : Reply) → IsReply reply → length (reply_text reply) ≤ 47 }
+{}
+
+/// Where pieces with no LF are joined by an LF behind each, and bytes with no LF follow, the lines
+/// are the pieces less one CR each, and a last line where bytes follow. Each script is such a join.
+pub fn lines_are_cut_at_lf()
+    ensures lines { LinesAreCutAtLf }
+    ensures every { EveryScriptIsCut }
 {}

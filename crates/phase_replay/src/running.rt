@@ -9,8 +9,8 @@ ghost use Rattle.phase_replay.specs.Scripts.{Held, held_by, send_reply, held_aft
 ghost use Rattle.phase_replay.specs.Scripts.{signal_reason, signalled_reply, after_signal};
 ghost use Rattle.phase_replay.specs.Scripts.{wait_reason, value_reply, received_reply};
 
-use crate::reply::Reply;
 use crate::Refusal;
+use crate::reply::Reply;
 use phase_accum::{Outcome, Pending, SendFault, Sum};
 use phase_base::Spec;
 use phase_core::{Got, PhaserCore, SignalRefusal, WaitRefusal};
@@ -115,8 +115,8 @@ impl Running {
         ensures after { OnOk result ((operator : Operator) (limits : Limits) (h : History)
             (held : Held) → RunsFor self.old limits h held
             → MaybeRunsFor (Some self.new)
-                (after_signal (signal_reply limits h task (held_by held task ∷ []) None)
-                    operator limits h held task)) }
+            (after_signal (signal_reply limits h task (held_by held task ∷ []) None)
+            operator limits h held task)) }
         ensures err { OnErr result (self.new ≡ self.old) }
     {
         let held = mem::replace(&mut self.held, Pending::new());

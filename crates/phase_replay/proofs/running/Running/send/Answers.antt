@@ -12,4 +12,4 @@ pub returns-in-Ok-clause-after : goal.returns-in-Ok-clause-after
 returns-in-Ok-clause-after c limits h held runs =
     let signals : mode_signals c.in-Some.entry.mode ≡ true = search rules in
     running_sent c.args.self.now c.send.new.self limits h held c.args.task c.in-Some.entry c.args.value runs c.in-Some.ensures
-      signals (simp (to_z-of_z, c.ranges.value) at (c.in-Ok.ensures.stands (held_by held 0) runs.holds))
+    signals (simp (to_z-of_z, c.ranges.value) at (c.in-Ok.ensures.stands (held_by held 0) runs.holds))

@@ -12,4 +12,4 @@ pub returns-in-Ok-Value-clause-after : goal.returns-in-Ok-Value-clause-after
 returns-in-Ok-Value-clause-after c limits h held runs =
     let P : Result Got WaitRefusal → Type 0 = λ r. StandsFor sum_operation c.wait.new.self (after_wait r c.args.task h) in
     running_waited c.args.self.now c.wait.new.self limits h held c.args.task runs c.wait.ensures.limits
-      (subst P (sym (c.wait.ensures.reply h runs.core)) (c.wait.ensures.after h runs.core))
+    (subst P (sym (c.wait.ensures.reply h runs.core)) (c.wait.ensures.after h runs.core))

@@ -14,7 +14,7 @@ unfolding Stands
 returns-in-Send-clause-reply c state stands =
     let P : Option RunningPhaser → Type 0 = λ o. MaybeRunsFor o state in
     sent_reply c.in-Some.running state c.args.command c.in-Send.task c.in-Send.value c.send.result
-      (subst P c.in-Some.is stands) c.in-Send.is c.send.ensures.reply
+    (subst P c.in-Some.is stands) c.in-Send.is c.send.ensures.reply
 
 pub returns-in-Send-clause-after : goal.returns-in-Send-clause-after
 unfolding Stands
@@ -25,4 +25,4 @@ returns-in-Send-clause-after c state stands =
     let small : nat_abs c.in-Send.value ≤ most = is_command.1 in
     let same : to_z w64 (of_z w64 c.in-Send.value) ≡ c.in-Send.value = omega (arith, ints, small) in
     sent_state c.in-Some.running c.send.new.self state c.args.command c.in-Send.task c.in-Send.value
-      (subst P c.in-Some.is stands) c.in-Send.is (simp same at c.send.ensures.after)
+    (subst P c.in-Some.is stands) c.in-Send.is (simp same at c.send.ensures.after)

@@ -1,0 +1,96 @@
+-- A script is cut at its LFs.
+use Rattle.std.proofs.Common.{◌≡◌, ◌≢◌, ℕ, zero, suc, List, [], ◌∷◌, ◌++◌, map, false, nat_eq, refl, sym, ◌∙◌, ap, append_assoc, append-nil, arith, inl, inr}
+use Rattle.std.proofs.lemmas.Bool.{ne_eqb, cases_eq}
+use Rattle.std.specs.List.{All}
+use Rattle.phase_replay.specs.Lines.{without_cr, last_line, lines_after, lines_of}
+use Rattle.phase_replay.specs.Cuts.{HasNoLf, ended, IsCut, LinesAreCutAtLf, EveryScriptIsCut}
+
+-- what holds of all members, member by member
+module _ {X : Type 0} (P : X → Type 0) where
+  all_none : All P []
+  all_none k d h = absurd (omega arith)
+
+  all_more : (x : X) (xs : List X) → P x → All P xs → All P (x ∷ xs)
+  all_more x xs p all zero d h = p
+  all_more x xs p all (suc k) d h = all k d (omega arith)
+
+  all_first : (x : X) (xs : List X) → All P (x ∷ xs) → P x
+  all_first x xs all = all 0 x (omega arith)
+
+  all_rest : (x : X) (xs : List X) → All P (x ∷ xs) → All P xs
+  all_rest x xs all k d h = all (suc k) d (omega arith)
+
+abbrev is_other : ℕ → Type 0
+is_other b = b ≢ 10
+
+-- a byte other than LF goes to the front
+lines_after-other : (front : List ℕ) (b : ℕ) (bs : List ℕ) → b ≢ 10 → lines_after front (b ∷ bs) ≡ lines_after (front ++ b ∷ []) bs
+lines_after-other front b bs other = let no : nat_eq b 10 ≡ false = ne_eqb b 10 other in rw no refl
+
+-- bytes with no LF go to the front
+pub lines_after-front : (front bs later : List ℕ) → HasNoLf bs → lines_after front (bs ++ later) ≡ lines_after (front ++ bs) later
+lines_after-front front [] later none = ap (λ l. lines_after l later) (sym (append-nil front))
+lines_after-front front (b ∷ bs) later none =
+    lines_after-other front b (bs ++ later) (all_first is_other b bs none)
+    ∙ lines_after-front (front ++ b ∷ []) bs later (all_rest is_other b bs none)
+    ∙ ap (λ l. lines_after l later) (append_assoc front (b ∷ []) bs)
+
+-- at the end they are a last line
+lines_after-rest : (front rest : List ℕ) → HasNoLf rest → lines_after front rest ≡ last_line (front ++ rest)
+lines_after-rest front rest none = ap (lines_after front) (sym (append-nil rest)) ∙ lines_after-front front rest [] none
+
+lines_after-ended : (pieces : List (List ℕ)) (rest : List ℕ) → All HasNoLf pieces → HasNoLf rest
+    → lines_after [] (ended pieces ++ rest) ≡ map without_cr pieces ++ last_line rest
+lines_after-ended [] rest all none = lines_after-rest [] rest none
+lines_after-ended (piece ∷ pieces) rest all none =
+    ap (lines_after []) (append_assoc (piece ++ 10 ∷ []) (ended pieces) rest ∙ append_assoc piece (10 ∷ []) (ended pieces ++ rest))
+    ∙ lines_after-front [] piece (10 ∷ (ended pieces ++ rest)) (all_first HasNoLf piece pieces all)
+    ∙ ap (λ lines. without_cr piece ∷ lines) (lines_after-ended pieces rest (all_rest HasNoLf piece pieces all) none)
+
+pub lines_cut : LinesAreCutAtLf
+unfolding lines_of
+lines_cut script pieces rest cut =
+    ap (lines_after []) cut.whole ∙ lines_after-ended pieces rest cut.pieces_have_none cut.rest_has_none
+
+-- a byte before a cut script
+cut_before : (b : ℕ) (script : List ℕ) (pieces : List (List ℕ)) (rest : List ℕ) → b ≢ 10 → IsCut script pieces rest
+    → (more : List (List ℕ)) × (left : List ℕ) × IsCut (b ∷ script) more left
+cut_before b script [] rest other cut = (
+  [],
+  b ∷ rest,
+  record {
+    whole = ap (λ l. b ∷ l) cut.whole;
+    pieces_have_none = all_none HasNoLf;
+    rest_has_none = all_more is_other b rest other cut.rest_has_none;
+  },
+)
+cut_before b script (piece ∷ pieces) rest other cut =
+    let none = cut.pieces_have_none in (
+      (b ∷ piece) ∷ pieces,
+      rest,
+      record {
+        whole = ap (λ l. b ∷ l) cut.whole;
+        pieces_have_none =
+            all_more HasNoLf (b ∷ piece) pieces
+            (all_more is_other b piece other (all_first HasNoLf piece pieces none))
+            (all_rest HasNoLf piece pieces none);
+        rest_has_none = cut.rest_has_none;
+      },
+    )
+
+pub every_cut : EveryScriptIsCut
+every_cut [] = ([], [], record { whole = refl; pieces_have_none = all_none HasNoLf; rest_has_none = all_none is_other })
+every_cut (b ∷ bs) =
+    let cut = every_cut bs in
+    elim (cases_eq b 10) [
+      | inl lf ↦ (
+        [] ∷ cut.0,
+        cut.1,
+        record {
+          whole = rw lf (ap (λ l. 10 ∷ l) cut.2.whole);
+          pieces_have_none = all_more HasNoLf [] cut.0 (all_none is_other) cut.2.pieces_have_none;
+          rest_has_none = cut.2.rest_has_none;
+        },
+      )
+      | inr other ↦ cut_before b bs cut.0 cut.1 other cut.2
+    ]

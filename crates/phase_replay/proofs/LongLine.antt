@@ -1,0 +1,15 @@
+-- A line longer than any line of the grammar.
+use Rattle.std.proofs.Common.{◌≡◌, ℕ, ◌≤◌, List, length, codes, None, Option, refl, sym, ap, ◌∙◌}
+use Rattle.phase_replay.specs.declared.command.Command.{Command}
+use Rattle.phase_replay.specs.Commands.{command_of}
+use Rattle.phase_replay.specs.ReplyLines.{reply_text}
+use Rattle.phase_replay.specs.Scripts.{ScriptState, reply_to, after_line, reply_by, after_by}
+use Rattle.phase_replay.proofs.Grammar.{long_none}
+
+-- it is a bad line, and changes nothing
+pub long_line : (state : ScriptState) (line : List ℕ) → 75 ≤ length line
+    → (reply_to state line ≡ codes "bad line\n") × (after_line state line ≡ state)
+unfolding reply_to after_line reply_text
+long_line state line long =
+    let none : command_of line ≡ None = long_none line long in
+    (ap (λ c. reply_text (reply_by state c)) none, ap (λ c. after_by state c) none)

@@ -1,0 +1,15 @@
+use Rattle.std.proofs.Common.{sym, ◌∙◌, subst}
+use Rattle.std.proofs.lemmas.Result.{err_from_is_err_and}
+use Rattle.std.specs.Io.KnownBytes.{Appends}
+use Rattle.phase_replay.specs.Front.{AppendsFront}
+use Rattle.phase_replay.proofs.run.Run.finish.Goals as goal
+
+-- The replies that wait are all that is owed, and a front of them was written.
+pub returns-in_err-send-clause-err : goal.returns-in_err-send-clause-err
+returns-in_err-send-clause-err g c =
+    let p = err_from_is_err_and c.from_residual-in_err-send.result c.from_residual-in_err-send.ensures.1 in
+    rw p.1 (λ owed owes. subst (AppendsFront _ _) (c.as_slice.ensures.value ∙ sym (c.in_ok-last.ensures owed owes)) c.in_err-send.ensures.err)
+
+-- All of them were written.
+pub returns-clause-ok : goal.returns-clause-ok
+returns-clause-ok g c = λ owed owes. subst (Appends _ _) (c.as_slice.ensures.value ∙ sym (c.in_ok-last.ensures owed owes)) c.in_ok-send.ensures.ok

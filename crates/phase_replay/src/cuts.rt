@@ -1,0 +1,26 @@
+//! Where lines end.
+ghost use Rattle.std.specs.Prelude.{◌≡◌, ◌<◌, ◌≤◌, ◌+◌, ◌∷◌, ◌++◌, take, drop, length, slice_index, MatchOption};
+ghost use Rattle.phase_replay.specs.Cuts.{HasNoLf};
+ghost use Rattle.phase_replay.specs.Lines.{without_cr};
+
+const CR: u8 = 13;
+
+const LF: u8 = 10;
+
+/// Where the first LF stands.
+pub fn lf_of(bytes: &[u8]) -> Option<usize>
+    ensures { MatchOption result (HasNoLf bytes.now) (λ end. (end < length bytes.now)
+        × HasNoLf (take end bytes.now) × (slice_index bytes.now end ≡ 10)) }
+{
+    bytes.iter().position(|byte| *byte == LF)
+}
+
+/// The line less one CR at its end.
+pub fn cut(line: &[u8]) -> &[u8]
+    ensures { result.now ≡ without_cr line.now }
+{
+    match line {
+        [front @ .., CR] => front,
+        _ => line,
+    }
+}

@@ -1,0 +1,65 @@
+//! The front of a line, as far as any line of the grammar goes.
+ghost use Rattle.std.specs.Prelude.{◌≡◌, ◌≤◌, List, [], ◌++◌, ℕ, length, take, nat_eq};
+ghost use Rattle.phase_replay.specs.declared.kept.TheConstants.{KEPT_MAX};
+
+use std::marker::Model;
+
+/// The bytes of the longest line of the grammar, its CR, and a byte that shows a longer line.
+pub const KEPT_MAX: usize = 76;
+
+/// The first `KEPT_MAX` bytes of a line that may have any length.
+#[derive(Drop)]
+pub struct Kept {
+    buf: [u8; KEPT_MAX],
+    len: usize,
+}
+
+impl Model for Kept {
+    ghost Value = { List ℕ };
+
+    ghost view = { λ k. take k.len k.buf };
+
+    ghost invariant = { λ k. k.len ≤ KEPT_MAX };
+}
+
+impl Kept {
+    /// The front of a line of which no byte has come.
+    pub fn new() -> Kept
+        ensures { result ≡ [] }
+    {
+        Kept {
+            buf: [0; KEPT_MAX],
+            len: 0,
+        }
+    }
+
+    /// Whether no byte of the line has come.
+    pub fn is_empty(&self) -> bool
+        ensures { result ≡ nat_eq (length self.now) 0 }
+    {
+        self.len == 0
+    }
+
+    /// Takes the line's next bytes, of which those past `KEPT_MAX` are forgotten.
+    pub fn extend(&mut self, bytes: &[u8])
+        ensures { self.new ≡ take KEPT_MAX (self.old ++ bytes.now) }
+    {
+        let count = bytes.len().min(KEPT_MAX - self.len);
+        self.buf[self.len..self.len + count].copy_from_slice(&bytes[..count]);
+        self.len += count;
+    }
+
+    /// Forgets the line.
+    pub fn clear(&mut self)
+        ensures { self.new ≡ [] }
+    {
+        self.len = 0;
+    }
+
+    /// The bytes that are kept.
+    pub fn bytes(&self) -> &[u8]
+        ensures { result.now ≡ self.now }
+    {
+        &self.buf[..self.len]
+    }
+}

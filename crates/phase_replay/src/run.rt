@@ -1,0 +1,171 @@
+//! A replay on its way: the session, the front of the line that is read, and the replies that wait.
+ghost use Rattle.std.specs.Prelude.{◌≡◌, ◌<◌, true, length, List, [], ℕ, ◌∷◌, ◌++◌, OnOk, OnErr, IsErrOf};
+ghost use Rattle.std.specs.Io.KnownBytes.{Appends};
+ghost use Rattle.phase_replay.specs.Cuts.{HasNoLf};
+ghost use Rattle.phase_replay.specs.Front.{AppendsFront};
+ghost use Rattle.phase_replay.specs.Scripts.{ScriptState, reply_to, after_line};
+ghost use Rattle.phase_replay.specs.Session.{Stands};
+ghost use Rattle.phase_replay.specs.declared.fault.ReplayFault.TheVariants.{ReadFault, WriteFault};
+
+use super::cuts::{cut, lf_of};
+use super::fault::{ReplayFault, WriteFailed};
+use super::kept::Kept;
+use super::session::Session;
+use super::watched::Watched;
+use std::alloc::{AllocError, Global};
+use std::io::Write;
+
+/// How many bytes of replies are handed to the writer at once.
+const OUT_MAX: usize = 65536;
+
+/// Answers a line behind the replies that wait.
+fn reply(session: &mut Session, line: &[u8], out: &mut Vec<u8>) -> Result<(), AllocError>
+    ensures reply { OnOk result ((state : ScriptState) → Stands session.old state
+        → out.new.items ≡ out.old.items ++ reply_to state line.now) }
+
+    ensures after { OnOk result ((state : ScriptState) → Stands session.old state
+        → Stands session.new (after_line state line.now)) }
+{
+    let reply = session.line(line)?;
+    out.extend_from_slice(reply.bytes())?;
+    Ok(())
+}
+
+/// A replay on its way.
+#[derive(Drop)]
+pub struct Run {
+    session: Session,
+    kept: Kept,
+    out: Vec<u8>,
+}
+
+impl Run {
+    ghost use Rattle.phase_replay.specs.Run.{Owes, Goes, waiting_of};
+    ghost use Rattle.phase_replay.specs.Replies.{replies_of};
+    ghost use Rattle.phase_replay.specs.Watched.{inner_of, has_failed_of};
+
+    /// A replay of which no byte has been read.
+    pub fn new(alloc: Global) -> Run
+        ensures { (script : List ℕ) → Owes result script (replies_of script) }
+    {
+        Run {
+            session: Session::new(alloc),
+            kept: Kept::new(),
+            out: Vec::new(alloc),
+        }
+    }
+
+    /// Answers the line that `end` ends, and begins the next one.
+    fn answer(&mut self, end: &[u8]) -> Result<(), AllocError>
+        requires { HasNoLf end.now }
+        ensures ok { OnOk result ((later owed : List ℕ) → Owes self.old (end.now ++ 10 ∷ later) owed
+            → Owes self.new later owed) }
+
+        ensures begun { OnOk result (self.new.kept ≡ []) }
+    {
+        if self.kept.is_empty() {
+            reply(&mut self.session, cut(end), &mut self.out)?;
+            return Ok(());
+        }
+        self.kept.extend(end);
+        reply(&mut self.session, cut(self.kept.bytes()), &mut self.out)?;
+        self.kept.clear();
+        Ok(())
+    }
+
+    /// Hands the replies that wait to the writer.
+    pub fn hand_over<W: Write>(&mut self, writer: &mut Watched<W>) -> Result<(), WriteFailed>
+        ensures ok { OnOk result ((later owed : List ℕ) → Owes self.old later owed
+            → Goes (W.contents (inner_of writer.old)) (W.contents (inner_of writer.new))
+            self.new later owed) }
+
+        ensures err { OnErr result ((later owed : List ℕ) → Owes self.old later owed
+            → AppendsFront (W.contents (inner_of writer.old)) (W.contents (inner_of writer.new))
+            owed) }
+
+        ensures failed { OnErr result (has_failed_of writer.new ≡ true) }
+        ensures watched { OnOk result (has_failed_of writer.new ≡ has_failed_of writer.old) }
+        ensures empty { OnOk result (waiting_of self.new ≡ []) }
+    {
+        writer.send(self.out.as_slice())?;
+        self.out.clear();
+        Ok(())
+    }
+
+    /// Hands the replies over where many wait.
+    fn make_room<W: Write>(&mut self, writer: &mut Watched<W>) -> Result<(), WriteFailed>
+        ensures ok { OnOk result ((later owed : List ℕ) → Owes self.old later owed
+            → Goes (W.contents (inner_of writer.old)) (W.contents (inner_of writer.new))
+            self.new later owed) }
+
+        ensures err { OnErr result ((later owed : List ℕ) → Owes self.old later owed
+            → AppendsFront (W.contents (inner_of writer.old)) (W.contents (inner_of writer.new))
+            owed) }
+
+        ensures failed { OnErr result (has_failed_of writer.new ≡ true) }
+        ensures watched { OnOk result (has_failed_of writer.new ≡ has_failed_of writer.old) }
+        ensures room { OnOk result (length (waiting_of self.new) < OUT_MAX) }
+    {
+        if self.out.len() < OUT_MAX {
+            return Ok(());
+        }
+        self.hand_over(writer)
+    }
+
+    /// Reads a piece of the script, and hands replies over as they grow many.
+    pub fn piece<W: Write>(
+        &mut self,
+        piece: &[u8],
+        writer: &mut Watched<W>,
+    ) -> Result<(), ReplayFault>
+        ensures ok { OnOk result ((later owed : List ℕ) → Owes self.old (piece.now ++ later) owed
+            → Goes (W.contents (inner_of writer.old)) (W.contents (inner_of writer.new))
+            self.new later owed) }
+
+        ensures err { OnErr result ((later owed : List ℕ)
+            → Owes self.old (piece.now ++ later) owed
+            → AppendsFront (W.contents (inner_of writer.old)) (W.contents (inner_of writer.new))
+            owed) }
+
+        ensures read { IsErrOf result ReadFault → ⊥ }
+        ensures write { IsErrOf result WriteFault → has_failed_of writer.new ≡ true }
+    {
+        let mut rest = piece;
+        while let Some(end) = lf_of(rest) {
+            self.answer(&rest[..end])?;
+            self.make_room(writer)?;
+            rest = &rest[end + 1..];
+        }
+        self.kept.extend(rest);
+        Ok(())
+    }
+
+    /// Answers a last line with no LF, where its front is not empty.
+    fn last(&mut self) -> Result<(), AllocError>
+        ensures { OnOk result ((owed : List ℕ) → Owes self.old [] owed
+            → owed ≡ waiting_of self.new) }
+    {
+        if self.kept.is_empty() {
+            return Ok(());
+        }
+        self.answer(&[])?;
+        Ok(())
+    }
+
+    /// Ends the script, and hands over the replies that are left.
+    pub fn finish<W: Write>(&mut self, writer: &mut Watched<W>) -> Result<(), ReplayFault>
+        ensures ok { OnOk result ((owed : List ℕ) → Owes self.old [] owed
+            → Appends (W.contents (inner_of writer.old)) (W.contents (inner_of writer.new)) owed) }
+
+        ensures err { OnErr result ((owed : List ℕ) → Owes self.old [] owed
+            → AppendsFront (W.contents (inner_of writer.old)) (W.contents (inner_of writer.new))
+            owed) }
+
+        ensures read { IsErrOf result ReadFault → ⊥ }
+        ensures write { IsErrOf result WriteFault → has_failed_of writer.new ≡ true }
+    {
+        self.last()?;
+        writer.send(self.out.as_slice())?;
+        Ok(())
+    }
+}
