@@ -6,31 +6,37 @@ ghost use Rattle.phase_cli.specs.CommandLine.{kinds_of, phase_app, texts};
 use clap::{Command, Error};
 use std::alloc::{AllocError, Global};
 
+/// What the program is, in its help.
 const ABOUT: &str = "\
-Replays scripts of calls on a phaser: a barrier that tasks may join and leave, on which the tasks
-of a phase also add up a value. The script comes on standard input, a call a line, and each line
-is answered by one line on standard output.";
+Replays a script of calls on a phaser, a barrier on which the tasks of a phase
+also add up a value. The script is read from standard input, a call a line, and
+each line is answered by one line on standard output.";
 
+/// What `replay` does, in the list of commands.
+const ABOUT_REPLAY: &str = "Replays the script, as `phase` with no command does";
+
+/// The end of the program's help.
 const EXAMPLE: &str = "\
-A script makes one phaser and calls it for task 0, which founded it:
-    make sum 2 100    a phaser that adds up, at most 2 phases ahead and 100 in all: ok
-    send 0 5          task 0 sends 5 into its phase: ok
-    signal 0          task 0 is done with phase 0: ok 0
-    wait 0            the value of phase 0: value 0 5
-A line that is no call is answered by `bad line`, and a call that breaks a rule by its refusal.
+Example, with the reply to each line and what it means:
+  make sum 2 100    ok           a phaser that adds up, for phases 0 to 99
+  send 0 5          ok           task 0, which founded it, sends 5
+  signal 0          ok 0         task 0 has done its part of phase 0
+  wait 0            value 0 5    phase 0 is complete, and its value is 5
+A line that is no call is answered by `bad line`.
 
-Exit status: 0 done, 2 the words were not understood, 5 a read or a write failed or memory ran out.";
+Exit status: 0 done; 2 the words were not understood; 5 a read or a write
+failed, or memory ran out.";
 
+/// The program's command line.
 fn command<'a>(alloc: Global) -> Result<Command<'a>, AllocError>
     ensures { IfOk result (λ c. app_of c ≡ phase_app) }
 {
-    let replay = Command::new(alloc, "replay").about(
-        "Replays the script on standard input (what `phase` alone does)",
-    );
+    let replay = Command::new(alloc, "replay").about(ABOUT_REPLAY);
     Command::new(alloc, "phase")
         .no_binary_name(true)
         .about(ABOUT)
         .after_help(EXAMPLE)
+        .bin_name("phase")?
         .subcommand(replay)
 }
 

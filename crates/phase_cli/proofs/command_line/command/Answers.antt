@@ -13,8 +13,10 @@ returns c =
     ap shape_of_fields c.about-replay.ensures ∙ ap (λ (a : App). a.top) c.new.ensures.app in
     let local =
     ap (λ f. f.has_globals) c.about-replay.ensures ∙ c.new.ensures.local in
-    let phase_is : app_of c.after_help.result ≡ without_own_name (new_app (codes "phase")) =
-    ap app_of_fields c.after_help.ensures ∙ (ap app_of_fields c.about.ensures
-    ∙ (ap app_of_fields c.no_binary_name.ensures ∙ ap without_own_name c.new-2.ensures.app)) in
+    let named = c.in_ok-bin_name in
+    let phase_is : app_of named.field-0 ≡ without_own_name (new_app (codes "phase")) =
+    ap app_of_fields named.ensures.0 ∙ (ap app_of_fields c.after_help.ensures
+    ∙ (ap app_of_fields c.about.ensures ∙ (ap app_of_fields c.no_binary_name.ensures
+    ∙ ap without_own_name c.new-2.ensures.app))) in
     IfOk-weaker c.subcommand.result _ _
     (λ r adds. adds.shape local ∙ ap₂ with_subcommand phase_is replay_is) c.subcommand.ensures
