@@ -1,7 +1,6 @@
 -- The program's command line is one whose faults clap computes exactly.
 use Rattle.std.proofs.Common.{◌≡◌, ◌∙◌, List, true, refl, ap, subst}
-use Rattle.std.specs.Prelude.{Result}
-use Rattle.clap.specs.Words.{App, FailsBy, Kinds, Text, fault_of, is_simple_and_free}
+use Rattle.clap.specs.Words.{App, Kinds, Text, fault_of, is_simple_and_free}
 use Rattle.clap.proofs.OnLiterals.{clap_on_literals}
 use Rattle.phase_cli.specs.CommandLine.{kinds_of, phase_app}
 

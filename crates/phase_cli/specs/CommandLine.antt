@@ -1,6 +1,6 @@
 -- What the words of a command line ask for, by what clap makes of them. The program's own name is
 -- not among them.
-use Rattle.std.specs.Prelude.{◌≡◌, ◌≢◌, ℕ, Bool, true, false, List, [], ◌∷◌, Option, Some, None}
+use Rattle.std.specs.Prelude.{◌≡◌, ◌≢◌, Bool, true, List, [], ◌∷◌, Option, Some, None}
 use Rattle.std.specs.Prelude.{String, codes, map, string_bytes}
 use Rattle.std.specs.Str.{bytes_eq}
 use Rattle.clap.specs.Words.{App, IsAmong, Kinds, Row, Text, fault_of, new_app, subcommand_of}

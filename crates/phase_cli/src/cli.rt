@@ -2,8 +2,9 @@
 ghost use Rattle.std.specs.Prelude.{◌≡◌, ◌≢◌, ◌⊎◌, ℕ, Bool, List, Option};
 ghost use Rattle.clap.specs.Words.{HasKind, kind_of};
 ghost use Rattle.phase_cli.specs.CommandLine.{AreRefused, AreTaken, AskHelp, AskReplay, texts};
-ghost use Rattle.phase_cli.specs.Statuses.{HasCause, Replays, ReplaysFront, Reports};
-ghost use Rattle.phase_replay.specs.declared.scripts.ReplayFault.{ReplayFault};
+ghost use Rattle.phase_cli.specs.Statuses.{HasCause, RepliesWhole, RepliesFront, Reports};
+ghost use Rattle.phase_replay.specs.declared.fault.ReplayFault.{ReplayFault};
+ghost use Rattle.phase_replay.specs.Watched.{has_failed_of, inner_of};
 
 use crate::command_line::read_words;
 use crate::status::{DONE, REFUSED, report};
@@ -28,10 +29,12 @@ pub fn run_cli<R: Read, W: Write, E: Write>(
     ensures status { (result ≡ 0) ⊎ ((result ≡ 2) ⊎ (result ≡ 5)) }
 
     // What a replay wrote, whole or up to the fault.
-    ensures replay { result ≡ 0 → AskReplay (texts words.now) → Replays
-        (R.remaining input.old.inner) (W.contents output.old.inner) (W.contents output.new.inner) }
-    ensures front { result ≡ 5 → AskReplay (texts words.now) → ReplaysFront
-        (R.remaining input.old.inner) (W.contents output.old.inner) (W.contents output.new.inner) }
+    ensures replay { result ≡ 0 → AskReplay (texts words.now) → RepliesWhole
+        (R.remaining (inner_of input.old))
+        (W.contents (inner_of output.old)) (W.contents (inner_of output.new)) }
+    ensures front { result ≡ 5 → AskReplay (texts words.now) → RepliesFront
+        (R.remaining (inner_of input.old))
+        (W.contents (inner_of output.old)) (W.contents (inner_of output.new)) }
 
     // When each status comes.
     ensures taken { AreTaken (texts words.now) → result ≢ 2 }
@@ -43,9 +46,10 @@ pub fn run_cli<R: Read, W: Write, E: Write>(
     ensures kept { result ≡ 2 → (input.new ≡ input.old) × (output.new ≡ output.old) }
     ensures quiet { result ≡ 0 → faults.new ≡ faults.old }
     ensures fault { result ≡ 5 → (fault : ReplayFault)
-        × HasCause fault (R.remaining input.old.inner) input.new.has_failed output.new.has_failed
-        × Reports fault faults.new.has_failed
-        (E.contents faults.old.inner) (E.contents faults.new.inner) }
+        × HasCause fault (R.remaining (inner_of input.old))
+        (has_failed_of input.new) (has_failed_of output.new)
+        × Reports fault (has_failed_of faults.new)
+        (E.contents (inner_of faults.old)) (E.contents (inner_of faults.new)) }
 {
     match read_words(alloc, words) {
         Ok(()) => replay_input(alloc, input, output, faults),
@@ -61,15 +65,16 @@ fn replay_input<R: Read, W: Write, E: Write>(
     faults: &mut Watched<E>,
 ) -> u8
     ensures status { (result ≡ 0) ⊎ (result ≡ 5) }
-    ensures replay { result ≡ 0 → Replays (R.remaining input.old.inner)
-        (W.contents output.old.inner) (W.contents output.new.inner) }
-    ensures front { result ≡ 5 → ReplaysFront (R.remaining input.old.inner)
-        (W.contents output.old.inner) (W.contents output.new.inner) }
+    ensures replay { result ≡ 0 → RepliesWhole (R.remaining (inner_of input.old))
+        (W.contents (inner_of output.old)) (W.contents (inner_of output.new)) }
+    ensures front { result ≡ 5 → RepliesFront (R.remaining (inner_of input.old))
+        (W.contents (inner_of output.old)) (W.contents (inner_of output.new)) }
     ensures quiet { result ≡ 0 → faults.new ≡ faults.old }
     ensures fault { result ≡ 5 → (fault : ReplayFault)
-        × HasCause fault (R.remaining input.old.inner) input.new.has_failed output.new.has_failed
-        × Reports fault faults.new.has_failed
-        (E.contents faults.old.inner) (E.contents faults.new.inner) }
+        × HasCause fault (R.remaining (inner_of input.old))
+        (has_failed_of input.new) (has_failed_of output.new)
+        × Reports fault (has_failed_of faults.new)
+        (E.contents (inner_of faults.old)) (E.contents (inner_of faults.new)) }
 {
     match replay(alloc, input, output) {
         Ok(()) => DONE,
@@ -93,9 +98,9 @@ fn answer<W: Write, E: Write>(
     ensures quiet { result ≡ 0 → faults.new ≡ faults.old }
     ensures fault { result ≡ 5 → (fault : ReplayFault)
         × ((known : Option (List ℕ)) (failed : Bool)
-        → HasCause fault known failed output.new.has_failed)
-        × Reports fault faults.new.has_failed
-        (E.contents faults.old.inner) (E.contents faults.new.inner) }
+        → HasCause fault known failed (has_failed_of output.new))
+        × Reports fault (has_failed_of faults.new)
+        (E.contents (inner_of faults.old)) (E.contents (inner_of faults.new)) }
 {
     let kind = error.kind();
     if kind == ErrorKind::OutOfMemory {

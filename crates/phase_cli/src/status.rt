@@ -1,6 +1,7 @@
 //! The exit statuses of the program, and the lines that go with a fault.
 ghost use Rattle.std.specs.Prelude.{◌≡◌};
 ghost use Rattle.phase_cli.specs.Statuses.{Reports, fault_line};
+ghost use Rattle.phase_replay.specs.Watched.{has_failed_of, inner_of};
 
 use phase_replay::{ReplayFault, Watched};
 use std::io::Write;
@@ -17,8 +18,8 @@ pub const FAILED: u8 = 5;
 /// Writes a fault's line, and answers the status after a fault.
 pub fn report<E: Write>(fault: ReplayFault, faults: &mut Watched<E>) -> u8
     ensures status { result ≡ 5 }
-    ensures line { Reports fault faults.new.has_failed
-        (E.contents faults.old.inner) (E.contents faults.new.inner) }
+    ensures line { Reports fault (has_failed_of faults.new)
+        (E.contents (inner_of faults.old)) (E.contents (inner_of faults.new)) }
 {
     let _ = faults.send(line_of(fault).as_bytes());
     FAILED

@@ -1,2 +1,3 @@
-pub mod Script
-pub mod Streams
+pub mod Front
+pub mod Replies
+pub mod Watched

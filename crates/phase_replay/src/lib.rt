@@ -1,8 +1,10 @@
 //! A toy in place of the replay of scripts: it stands here only until the real crate is merged.
 #![tactic(auto)]
 
-mod scripts;
+mod fault;
 mod watched;
+mod whole;
 
-pub use scripts::{ReplayFault, replay};
-pub use watched::{ReadFailed, Watched, WriteFailed};
+pub use fault::{ReadFailed, ReplayFault, WriteFailed};
+pub use watched::Watched;
+pub use whole::{SCRIPT_MAX, replay};

@@ -1,7 +1,7 @@
 -- The texts of help are no part of what a parse reads.
 use Rattle.std.proofs.Common.{◌≡◌, ◌∙◌, ap, ap₂, codes}
 use Rattle.std.proofs.lemmas.Result.{IfOk-weaker}
-use Rattle.clap.specs.Words.{App, Shape, app_of, new_app, shape_of, with_subcommand}
+use Rattle.clap.specs.Words.{App, app_of, new_app, shape_of, with_subcommand}
 use Rattle.clap.specs.Simple.{app_of_fields, shape_of_fields}
 use Rattle.phase_cli.specs.CommandLine.{phase_app, without_own_name}
 use Rattle.phase_cli.proofs.command_line.command.Goals as goal

@@ -1,5 +1,5 @@
 -- What the writer took is the front of the bytes.
-use Rattle.std.proofs.Common.{◌++◌, take, drop, sym}
+use Rattle.std.proofs.Common.{take, drop, sym}
 use Rattle.std.proofs.lemmas.List.{take-append-drop}
 use Rattle.phase_replay.proofs.watched.Watched.send.Goals as goal
 

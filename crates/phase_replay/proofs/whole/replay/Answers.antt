@@ -1,8 +1,8 @@
 -- Nothing was left to read, so the script is empty.
-use Rattle.std.proofs.Common.{◌<◌, ℕ, rules, arith, take, subst}
+use Rattle.std.proofs.Common.{ℕ, rules, take, subst}
 use Rattle.std.specs.Io.KnownBytes.{Consumes}
 use Rattle.phase_replay.proofs.Empty.{empty_replayed}
-use Rattle.phase_replay.proofs.scripts.replay.Goals as goal
+use Rattle.phase_replay.proofs.whole.replay.Goals as goal
 
 pub returns-in-Ok-eq0-clause-ok : goal.returns-in-Ok-eq0-clause-ok
 returns-in-Ok-eq0-clause-ok g c =

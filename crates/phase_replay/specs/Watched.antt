@@ -1,0 +1,11 @@
+-- What a `Watched` reader or writer is to its callers.
+use Rattle.std.specs.Prelude.{Bool}
+use Rattle.phase_replay.specs.declared.watched.Watched.{Watched}
+
+-- the reader or the writer itself
+abbrev pub inner_of : {T : Type 0} → Watched T → T
+inner_of watched = watched.inner
+
+-- whether a call has failed since `new`
+abbrev pub has_failed_of : {T : Type 0} → Watched T → Bool
+has_failed_of watched = watched.has_failed
