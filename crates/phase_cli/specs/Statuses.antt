@@ -1,0 +1,38 @@
+-- How a run ends: its status, and what stands on its streams then.
+use Rattle.std.specs.Prelude.{◌≡◌, ◌≤◌, ◌<◌, ◌⊎◌, ℕ, Bool, true, List, length, codes}
+use Rattle.std.specs.Prelude.{IfSome, Option}
+use Rattle.std.specs.Io.KnownBytes.{Appends}
+use Rattle.phase_replay.specs.Front.{AppendsFront}
+use Rattle.phase_replay.specs.Replies.{replies_of}
+use Rattle.phase_replay.specs.declared.fault.ReplayFault.{ReplayFault}
+use Rattle.phase_replay.specs.declared.fault.ReplayFault.TheVariants.{OutOfMemory}
+use Rattle.phase_replay.specs.declared.fault.ReplayFault.TheVariants.{ReadFault, WriteFault}
+use Rattle.phase_replay.specs.declared.whole.TheConstants.{SCRIPT_MAX}
+
+-- the line on the fault stream
+abbrev pub fault_line : ReplayFault → List ℕ
+fault_line ReadFault = codes "phase: read fault\n"
+fault_line WriteFault = codes "phase: write fault\n"
+fault_line OutOfMemory = codes "phase: out of memory\n"
+
+-- where the script is known, the output grew by its replies, whole
+abbrev pub RepliesWhole : Option (List ℕ) → Option (List ℕ) → Option (List ℕ) → Type 0
+RepliesWhole known old new =
+    IfSome known (λ script. (length script ≤ SCRIPT_MAX) × Appends old new (replies_of script))
+
+-- where the script is known, the output grew by a front of its replies
+abbrev pub RepliesFront : Option (List ℕ) → Option (List ℕ) → Option (List ℕ) → Type 0
+RepliesFront known old new = IfSome known (λ script. AppendsFront old new (replies_of script))
+
+-- the fault has its cause: a read failed or the known script is too long; a write failed; of memory
+-- nothing can be said
+abbrev pub HasCause : ReplayFault → Option (List ℕ) → Bool → Bool → Type 0
+HasCause ReadFault known read_failed write_failed =
+    (read_failed ≡ true) ⊎ IfSome known (λ script. SCRIPT_MAX < length script)
+HasCause WriteFault known read_failed write_failed = write_failed ≡ true
+HasCause OutOfMemory known read_failed write_failed = Unit {0}
+
+-- the fault stream grew by the fault's line, or, where a write to it failed, by a front of that
+pub record Reports (fault : ReplayFault) (failed : Bool) (old new : Option (List ℕ)) : Type 0 where
+  pub whole : (failed ≡ true) ⊎ Appends old new (fault_line fault)
+  pub front : AppendsFront old new (fault_line fault)

@@ -1,0 +1,120 @@
+//! A run of the program over any input and outputs.
+ghost use Rattle.std.specs.Prelude.{◌≡◌, ◌≢◌, ◌⊎◌, ℕ, Bool, List, Option};
+ghost use Rattle.clap.specs.Words.{HasKind, kind_of};
+ghost use Rattle.phase_cli.specs.CommandLine.{AreRefused, AreTaken, AskHelp, AskReplay, texts};
+ghost use Rattle.phase_cli.specs.Statuses.{HasCause, RepliesWhole, RepliesFront, Reports};
+ghost use Rattle.phase_replay.specs.declared.fault.ReplayFault.{ReplayFault};
+ghost use Rattle.phase_replay.specs.Watched.{has_failed_of, inner_of};
+
+use crate::command_line::read_words;
+use crate::status::{DONE, REFUSED, report};
+use clap::Error;
+use clap::error::ErrorKind;
+use phase_replay::{ReplayFault, Watched, replay};
+use std::alloc::Global;
+use std::io::{Read, Write};
+
+/// Runs the program on its words, without its own name, and answers its exit status: 0 where the
+/// script was replayed or help was shown, 2 where the words are refused, and 5 after a fault.
+///
+/// A refusal's text goes to the fault stream, and so does a fault's line. Where that stream fails
+/// too, the status stands alone.
+pub fn run_cli<R: Read, W: Write, E: Write>(
+    alloc: Global,
+    words: &[String],
+    input: &mut Watched<R>,
+    output: &mut Watched<W>,
+    faults: &mut Watched<E>,
+) -> u8
+    ensures status { (result ≡ 0) ⊎ ((result ≡ 2) ⊎ (result ≡ 5)) }
+
+    // What a replay wrote, whole or up to the fault.
+    ensures replay { result ≡ 0 → AskReplay (texts words.now) → RepliesWhole
+        (R.remaining (inner_of input.old))
+        (W.contents (inner_of output.old)) (W.contents (inner_of output.new)) }
+    ensures front { result ≡ 5 → AskReplay (texts words.now) → RepliesFront
+        (R.remaining (inner_of input.old))
+        (W.contents (inner_of output.old)) (W.contents (inner_of output.new)) }
+
+    // When each status comes.
+    ensures taken { AreTaken (texts words.now) → result ≢ 2 }
+    ensures help { AskHelp (texts words.now) → (result ≢ 2) × (input.new ≡ input.old) }
+    ensures refused { AreRefused (texts words.now)
+        → (result ≢ 0) × (input.new ≡ input.old) × (output.new ≡ output.old) }
+
+    // What else stands on the streams.
+    ensures kept { result ≡ 2 → (input.new ≡ input.old) × (output.new ≡ output.old) }
+    ensures quiet { result ≡ 0 → faults.new ≡ faults.old }
+    ensures fault { result ≡ 5 → (fault : ReplayFault)
+        × HasCause fault (R.remaining (inner_of input.old))
+        (has_failed_of input.new) (has_failed_of output.new)
+        × Reports fault (has_failed_of faults.new)
+        (E.contents (inner_of faults.old)) (E.contents (inner_of faults.new)) }
+{
+    match read_words(alloc, words) {
+        Ok(()) => replay_input(alloc, input, output, faults),
+        Err(error) => answer(alloc, &error, output, faults),
+    }
+}
+
+/// Replays the input, and reports the fault where there is one.
+fn replay_input<R: Read, W: Write, E: Write>(
+    alloc: Global,
+    input: &mut Watched<R>,
+    output: &mut Watched<W>,
+    faults: &mut Watched<E>,
+) -> u8
+    ensures status { (result ≡ 0) ⊎ (result ≡ 5) }
+    ensures replay { result ≡ 0 → RepliesWhole (R.remaining (inner_of input.old))
+        (W.contents (inner_of output.old)) (W.contents (inner_of output.new)) }
+    ensures front { result ≡ 5 → RepliesFront (R.remaining (inner_of input.old))
+        (W.contents (inner_of output.old)) (W.contents (inner_of output.new)) }
+    ensures quiet { result ≡ 0 → faults.new ≡ faults.old }
+    ensures fault { result ≡ 5 → (fault : ReplayFault)
+        × HasCause fault (R.remaining (inner_of input.old))
+        (has_failed_of input.new) (has_failed_of output.new)
+        × Reports fault (has_failed_of faults.new)
+        (E.contents (inner_of faults.old)) (E.contents (inner_of faults.new)) }
+{
+    match replay(alloc, input, output) {
+        Ok(()) => DONE,
+        Err(fault) => report(fault, faults),
+    }
+}
+
+/// Shows what clap says in place of taking the words: help on the output, and a refusal on the
+/// fault stream.
+fn answer<W: Write, E: Write>(
+    alloc: Global,
+    error: &Error,
+    output: &mut Watched<W>,
+    faults: &mut Watched<E>,
+) -> u8
+    ensures status { (result ≡ 0) ⊎ ((result ≡ 2) ⊎ (result ≡ 5)) }
+    ensures done { result ≡ 0 → kind_of error.now ≡ ErrorKind.DisplayHelp }
+    ensures help { kind_of error.now ≡ ErrorKind.DisplayHelp → result ≢ 2 }
+    ensures memory { kind_of error.now ≡ ErrorKind.OutOfMemory → result ≡ 5 }
+    ensures kept { kind_of error.now ≢ ErrorKind.DisplayHelp → output.new ≡ output.old }
+    ensures quiet { result ≡ 0 → faults.new ≡ faults.old }
+    ensures fault { result ≡ 5 → (fault : ReplayFault)
+        × ((known : Option (List ℕ)) (failed : Bool)
+        → HasCause fault known failed (has_failed_of output.new))
+        × Reports fault (has_failed_of faults.new)
+        (E.contents (inner_of faults.old)) (E.contents (inner_of faults.new)) }
+{
+    let kind = error.kind();
+    if kind == ErrorKind::OutOfMemory {
+        return report(ReplayFault::OutOfMemory, faults);
+    }
+    let Ok(text) = error.to_string(alloc) else {
+        return report(ReplayFault::OutOfMemory, faults);
+    };
+    if kind != ErrorKind::DisplayHelp {
+        let _ = faults.send(text.as_bytes());
+        return REFUSED;
+    }
+    match output.send(text.as_bytes()) {
+        Ok(()) => DONE,
+        Err(_) => report(ReplayFault::WriteFault, faults),
+    }
+}

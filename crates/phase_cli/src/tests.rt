@@ -1,0 +1,175 @@
+//! Runs of the program whose text no clause says, and calls that have to succeed.
+use crate::cli::run_cli;
+use crate::words::refuse_words;
+use phase_replay::Watched;
+use std::alloc::Global;
+use std::io;
+use std::io::{ErrorKind, Read, Write};
+use std::test::Fail;
+
+/// A stream whose every call fails.
+#[derive(Clone, Copy)]
+struct Broken;
+
+impl Read for Broken {
+    fn read(&mut self, _buf: &mut [u8]) -> io::Result<usize> {
+        Err(io::Error::from(ErrorKind::BrokenPipe))
+    }
+}
+
+impl Write for Broken {
+    fn write(&mut self, _buf: &[u8]) -> io::Result<usize> {
+        Err(io::Error::from(ErrorKind::BrokenPipe))
+    }
+
+    fn flush(&mut self) -> io::Result<()> {
+        Err(io::Error::from(ErrorKind::BrokenPipe))
+    }
+}
+
+/// The status of a run over these streams.
+fn status_of<R: Read + Drop, W: Write + Drop, E: Write + Drop>(
+    alloc: Global,
+    words: &[&str],
+    input: R,
+    output: W,
+    faults: E,
+) -> Result<u8, Fail> {
+    let mut texts = Vec::new(alloc);
+    for word in words {
+        texts.push(String::from_str(alloc, word)?)?;
+    }
+    let mut input = Watched::new(input);
+    let mut output = Watched::new(output);
+    let mut faults = Watched::new(faults);
+    let status = run_cli(
+        alloc,
+        texts.as_slice(),
+        &mut input,
+        &mut output,
+        &mut faults,
+    );
+    Ok(status)
+}
+
+/// What a run left.
+#[derive(Drop)]
+struct Outcome {
+    status: u8,
+    output: Vec<u8>,
+    faults: Vec<u8>,
+}
+
+/// A run over streams that never fail.
+fn run(alloc: Global, words: &[&str], script: &[u8]) -> Result<Outcome, Fail> {
+    let mut output = Vec::new(alloc);
+    let mut faults = Vec::new(alloc);
+    let status = status_of(alloc, words, script, &mut output, &mut faults)?;
+    Ok(Outcome {
+        status,
+        output,
+        faults,
+    })
+}
+
+/// Whether the text stands somewhere in the bytes.
+fn has(bytes: &Vec<u8>, text: &str) -> bool {
+    match str::from_utf8(bytes.as_slice()) {
+        Ok(all) => all.contains(text),
+        Err(_) => false,
+    }
+}
+
+#[test]
+fn other_words_are_refused_by_claps_text(rt: HostRuntime) -> Result<(), Fail> {
+    let bogus = run(rt.alloc(), ["bogus"].as_slice(), b"make sum 2 100\n")?;
+    assert_eq!(rt; bogus.status, 2);
+    assert!(rt; bogus.output.is_empty());
+    assert!(rt; has(&bogus.faults, "bogus"));
+    let extra = run(rt.alloc(), ["replay", "extra"].as_slice(), b"")?;
+    assert_eq!(rt; extra.status, 2);
+    assert!(rt; extra.output.is_empty());
+    assert!(rt; has(&extra.faults, "extra"));
+    let stray = run(rt.alloc(), ["help", "bogus"].as_slice(), b"")?;
+    assert_eq!(rt; stray.status, 2);
+    Ok(())
+}
+
+#[test]
+fn help_goes_to_the_output(rt: HostRuntime) -> Result<(), Fail> {
+    for word in ["--help", "-h", "help"] {
+        let help = run(rt.alloc(), [word].as_slice(), b"make sum 2 100\n")?;
+        assert_eq!(rt; help.status, 0, "at {word}");
+        assert!(rt; has(&help.output, "Usage: phase"), "at {word}");
+        assert!(rt; has(&help.output, "value 0 5"), "at {word}");
+        assert!(rt; help.faults.is_empty(), "at {word}");
+    }
+    for words in [["replay", "--help"], ["help", "replay"]] {
+        let help = run(rt.alloc(), words.as_slice(), b"")?;
+        assert_eq!(rt; help.status, 0);
+        assert!(rt; has(&help.output, "Usage: phase replay"));
+        assert!(rt; help.faults.is_empty());
+    }
+    Ok(())
+}
+
+#[test]
+fn an_empty_script_has_no_reply(rt: HostRuntime) -> Result<(), Fail> {
+    let bare = run(rt.alloc(), &[], b"")?;
+    assert_eq!(rt; bare.status, 0);
+    assert!(rt; bare.output.is_empty() && bare.faults.is_empty());
+    let named = run(rt.alloc(), ["replay"].as_slice(), b"")?;
+    assert_eq!(rt; named.status, 0);
+    assert!(rt; named.output.is_empty() && named.faults.is_empty());
+    Ok(())
+}
+
+#[test]
+fn a_reader_that_fails_is_a_read_fault(rt: HostRuntime) -> Result<(), Fail> {
+    let mut output = Vec::new(rt.alloc());
+    let mut faults = Vec::new(rt.alloc());
+    let status = status_of(rt.alloc(), &[], Broken, &mut output, &mut faults)?;
+    assert_eq!(rt; status, 5);
+    assert!(rt; output.is_empty());
+    assert_eq!(rt; faults.as_slice(), b"phase: read fault\n".as_slice());
+    Ok(())
+}
+
+#[test]
+fn a_writer_that_fails_is_a_write_fault(rt: HostRuntime) -> Result<(), Fail> {
+    for words in [&[], ["--help"].as_slice()] {
+        let mut faults = Vec::new(rt.alloc());
+        let script = b"make sum 2 100\n".as_slice();
+        let status = status_of(rt.alloc(), words, script, Broken, &mut faults)?;
+        assert_eq!(rt; status, 5);
+        assert_eq!(rt; faults.as_slice(), b"phase: write fault\n".as_slice());
+    }
+    Ok(())
+}
+
+#[test]
+fn the_status_stands_where_the_fault_stream_fails(rt: HostRuntime) -> Result<(), Fail> {
+    let mut output = Vec::new(rt.alloc());
+    let status = status_of(rt.alloc(), &[], Broken, &mut output, Broken)?;
+    assert_eq!(rt; status, 5);
+    let status = status_of(
+        rt.alloc(),
+        ["bogus"].as_slice(),
+        Broken,
+        &mut output,
+        Broken,
+    )?;
+    assert_eq!(rt; status, 2);
+    assert!(rt; output.is_empty());
+    Ok(())
+}
+
+#[test]
+fn words_that_cannot_be_read_are_refused(rt: HostRuntime) -> Result<(), Fail> {
+    let mut text = Vec::new(rt.alloc());
+    let mut faults = Watched::new(&mut text);
+    let error = io::Error::from(ErrorKind::InvalidData);
+    assert_eq!(rt; refuse_words(&error, &mut faults), 2);
+    assert!(rt; has(&text, "UTF-8"));
+    Ok(())
+}
