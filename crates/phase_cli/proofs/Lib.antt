@@ -1,2 +1,3 @@
 pub mod Simple
 pub mod Refused
+pub mod Untouched

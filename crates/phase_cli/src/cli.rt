@@ -4,6 +4,7 @@ ghost use Rattle.clap.specs.Words.{HasKind, kind_of};
 ghost use Rattle.phase_cli.specs.CommandLine.{AreRefused, AreTaken, AskHelp, AskReplay, texts};
 ghost use Rattle.phase_cli.specs.Statuses.{HasCause, RepliesWhole, RepliesFront, Reports};
 ghost use Rattle.phase_replay.specs.declared.fault.ReplayFault.{ReplayFault};
+ghost use Rattle.phase_replay.specs.Replay.{ReplaysAll, ReplaysFront};
 ghost use Rattle.phase_replay.specs.Watched.{has_failed_of, inner_of};
 
 use crate::command_line::read_words;
@@ -34,6 +35,12 @@ pub fn run_cli<R: Read, W: Write, E: Write>(
         (W.contents (inner_of output.old)) (W.contents (inner_of output.new)) }
     ensures front { result ≡ 5 → AskReplay (texts words.now) → RepliesFront
         (R.remaining (inner_of input.old))
+        (W.contents (inner_of output.old)) (W.contents (inner_of output.new)) }
+    ensures all { result ≡ 0 → AskReplay (texts words.now) → ReplaysAll
+        (R.remaining (inner_of input.old)) (R.remaining (inner_of input.new))
+        (W.contents (inner_of output.old)) (W.contents (inner_of output.new)) }
+    ensures stopped { result ≡ 5 → AskReplay (texts words.now) → ReplaysFront
+        (R.remaining (inner_of input.old)) (R.remaining (inner_of input.new))
         (W.contents (inner_of output.old)) (W.contents (inner_of output.new)) }
 
     // When each status comes.
@@ -68,6 +75,12 @@ fn replay_input<R: Read, W: Write, E: Write>(
     ensures replay { result ≡ 0 → RepliesWhole (R.remaining (inner_of input.old))
         (W.contents (inner_of output.old)) (W.contents (inner_of output.new)) }
     ensures front { result ≡ 5 → RepliesFront (R.remaining (inner_of input.old))
+        (W.contents (inner_of output.old)) (W.contents (inner_of output.new)) }
+    ensures all { result ≡ 0 → ReplaysAll
+        (R.remaining (inner_of input.old)) (R.remaining (inner_of input.new))
+        (W.contents (inner_of output.old)) (W.contents (inner_of output.new)) }
+    ensures stopped { result ≡ 5 → ReplaysFront
+        (R.remaining (inner_of input.old)) (R.remaining (inner_of input.new))
         (W.contents (inner_of output.old)) (W.contents (inner_of output.new)) }
     ensures quiet { result ≡ 0 → faults.new ≡ faults.old }
     ensures fault { result ≡ 5 → (fault : ReplayFault)
