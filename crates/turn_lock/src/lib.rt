@@ -1,0 +1,11 @@
+//! A lock whose value one seat at a time has the turn at, under a rule of the caller's.
+#![tactic(auto)]
+
+mod lock;
+mod rule;
+mod seat;
+mod turn;
+
+pub use lock::TurnLock;
+pub use rule::{Learns, Tells, TurnRule};
+pub use seat::{Doing, Seat, Turn};
