@@ -6,12 +6,12 @@ use lib.ListN.{get_elem?}
 use lib.Seq.{map-set}
 use prog.Atomic.{either}
 use Rattle.atomic_table.proofs.Lists.{at_set, at_snoc, at_map, at_longer, set_here, set_else, set_again}
-use Rattle.atomic_table.specs.Table.{State, Me, step, Act, keeps, takes, gives, stepped, carried_after, Valid, Allows, Splits, Joins}
+use Rattle.atomic_table.specs.Table.{State, Me, step, Act, keeps, takes, gives, stepped, carried_after, rest, Valid, Allows, Splits, Joins}
 use Rattle.turn_lock.specs.declared.seat.Doing.{Doing}
 use Rattle.turn_lock.specs.Steps.{Takes, Gives, Looks, Forks, Merges, Busy}
 use Rattle.turn_lock.specs.Word.{doing, client, IsFree, IsTaken, Locked, tried, gave, looked}
 
-within : {A : Type 0} (l : List A) (i : ℕ) (a : A) → get_elem? l i ≡ some a → i < length l
+pub within : {A : Type 0} (l : List A) (i : ℕ) (a : A) → get_elem? l i ≡ some a → i < length l
 within [] i a e = absurd (some-ne-none a (sym e))
 within (x ∷ xs) zero a e = omega arith
 within (x ∷ xs) (suc i) a e = let h = within xs i a e in omega arith
@@ -156,10 +156,10 @@ module _ {N T V : Type 0} (holds : N → Option T → List V → Type 0) (name :
       (asked home views k apart (at_map client s.views id v at) (at_map client s.views other w there)))
 
   -- the step that looks at the rule and leaves the word as it is
-  pub looks : (slots id : ℕ) (me : Me (Option T) (Doing N V)) (then : N → V → V → Type 0) → me.0.turn ≡ false → me.0.name ≡ Some name
+  looks_here : (slots id : ℕ) (me : Me (Option T) (Doing N V)) (then : N → V → V → Type 0) → me.0.turn ≡ false → me.0.name ≡ Some name
       → Looks holds name id me.0.client (then name)
       → Allows (Locked holds name) slots id me 0 (λ n. n) (looked then (step slots 0 0 0 none) me)
-  looks slots id me then idle is asked s locked _ at _ = ⊎_elim
+  looks_here slots id me then idle is asked s locked _ at _ = ⊎_elim
       (λ (f : IsFree holds name s).
       let t = asked (Some f.value) (map client s.views) f.kept (at_map client s.views id me.0 at) in
       let w : Doing N V = doing me.0.name false t.0 in (
@@ -183,6 +183,14 @@ module _ {N T V : Type 0} (holds : N → Option T → List V → Type 0) (name :
         (sym idle, refl, refl, λ n e. subst (λ (k : N). then k me.0.client t.0) (named name n me.0.name is e) t.2),
       ))
       locked
+
+  pub looks : (slots id number : ℕ) (me : Me (Option T) (Doing N V)) (d : Doing N V) (held : List (ℕ × Option T)) (then : N → V → V → Type 0)
+      → id ≡ number → me ≡ (d, held) → d.turn ≡ false → d.name ≡ Some name → Looks holds name number d.client (then name)
+      → Allows (Locked holds name) slots id me 0 (λ n. n) (looked then (step slots 0 0 0 none) me)
+  looks slots id number me d held then same same' idle is asked =
+      let P : ℕ × Me (Option T) (Doing N V) → Type 0 =
+      λ m. Allows (Locked holds name) slots m.0 m.1 0 (λ n. n) (looked then (step slots 0 0 0 none) m.1) in
+      subst P {x = (number, (d, held))} {y = (id, me)} (λ i. (sym same i, sym same' i)) (looks_here slots number (d, held) then idle is asked)
 
   -- what a try to take the turn owes at the state s, for a seat that holds no slot
   abbrev Tries : ℕ → ℕ → Doing N V → (N → V → T → V → Type 0) → Hub N T V → Type 0
@@ -298,19 +306,19 @@ module _ {N T V : Type 0} (holds : N → Option T → List V → Type 0) (name :
         ),
       )
 
-  pub gives_back : (slots id : ℕ) (me : Me (Option T) (Doing N V)) (y : T) (then : N → V → T → V → Type 0) → me.0.turn ≡ true
-      → me.1 ≡ (0, Some y) ∷ [] → me.0.name ≡ Some name → Gives holds name id me.0.client y (then name)
+  pub gives_back : (slots id number : ℕ) (me : Me (Option T) (Doing N V)) (d : Doing N V) (held : List (ℕ × Option T)) (y : T)
+      (then : N → V → T → V → Type 0) → id ≡ number → me ≡ (d, (0, Some y) ∷ rest held) → held ≡ (0, None) ∷ [] → d.turn ≡ true → d.name ≡ Some name → Gives holds name number d.client y (then name)
       → Allows (Locked holds name) slots id me 0 (λ _. 0) (gave then (step slots 0 0 0 none) me)
-  gives_back slots id me y then turns lies is asked =
-      let P : Me (Option T) (Doing N V) → Type 0 =
-      λ m. Allows (Locked holds name) slots id m 0 (λ _. 0) (gave then (step slots 0 0 0 none) m) in
-      let d : Doing N V = me.0 in
-      let with_slot : P (d, (0, Some y) ∷ []) = λ s locked _ at _. ⊎_elim
-      (λ (f : IsFree holds name s). absurd (not_both d.turn turns (f.rests id d at)))
+  gives_back slots id number me d held y then same lies was turns is asked =
+      let P : ℕ × Me (Option T) (Doing N V) → Type 0 =
+      λ m. Allows (Locked holds name) slots m.0 m.1 0 (λ _. 0) (gave then (step slots 0 0 0 none) m.1) in
+      let with_slot : P (number, (d, alone y)) = λ s locked _ at _. ⊎_elim
+      (λ (f : IsFree holds name s). absurd (not_both d.turn turns (f.rests number d at)))
       (λ (f : IsTaken holds name s).
       let is_hub : s ≡ hub (1 ∷ []) (none ∷ []) s.views = λ i. hub (f.word i) (f.home i) s.views in
-      let mine : id ≡ f.holder = f.only id d at turns in
-      subst (Returns slots id d y then) (sym is_hub)
-      (give_taken slots id d y then s.views is asked at (λ j u e h. f.only j u e h ∙ sym mine) f.kept))
+      let mine : number ≡ f.holder = f.only number d at turns in
+      subst (Returns slots number d y then) (sym is_hub)
+      (give_taken slots number d y then s.views is asked at (λ j u e h. f.only j u e h ∙ sym mine) f.kept))
       locked in
-      subst P (λ i. (d, sym lies i)) with_slot
+      let same' : me ≡ (d, alone y) = lies ∙ ap (λ (xs : List (ℕ × Option T)). (d, (0, Some y) ∷ rest xs)) was in
+      subst P {x = (number, (d, alone y))} {y = (id, me)} (λ i. (sym same i, sym same' i)) with_slot

@@ -1,6 +1,7 @@
 //! A lock whose value one seat at a time has the turn at, under a rule of the caller's.
 #![tactic(auto)]
 
+pub mod counting;
 mod lock;
 mod rule;
 mod seat;

@@ -1,5 +1,5 @@
-use Rattle.std.proofs.Common.{ℕ, arith, ap, sym, ◌∙◌, subst}
-use Rattle.turn_lock.specs.Steps.{Looks}
+use Rattle.std.proofs.Common.{arith, ap, refl, ◌∙◌}
+use Rattle.turn_lock.specs.Seats.{lock_name, seat_number}
 use Rattle.turn_lock.proofs.Keeping.{joins, looks}
 use Rattle.turn_lock.proofs.lock.TurnLock.join.Goals as goal
 
@@ -18,12 +18,9 @@ join_seat-requires g c = (
 pub load-requires : goal.load-requires
 load-requires g c =
     let e = c.join_seat.ensures in
-    let key = c.args.self.now.table.shared.key in (
-      e.0 ∙ ap (λ p. p.0) c.requires.seats.0,
+    let is = c.requires.seats.0 in (
+      e.0 ∙ ap (λ p. p.0) is,
       (let sized = c.args.self.now.sized in omega arith),
-      looks g.R.TurnRule.holds key c.args.self.now.table.shared.table_id.slots c.join_seat.new.seat.id c.join_seat.new.seat.me g.L.Learns.then
-          (ap (λ m. m.0.turn) e.2)
-          (ap (λ m. m.0.name) e.2 ∙ ap (λ p. p.1) c.requires.seats.0)
-          (subst (λ (z : ℕ × g.row.R-View.Denot). Looks g.R.TurnRule.holds key z.0 z.1 (g.L.Learns.then key))
-          (λ i. (sym e.1 i, (sym e.2 i).0.client)) c.requires.looks),
+      looks g.R.TurnRule.holds (lock_name c.args.self.now) _ _ (seat_number c.args.seat) _ _ _ g.L.Learns.then
+          e.1 e.2 refl (ap (λ p. p.1) is) c.requires.looks,
     )
