@@ -1,6 +1,8 @@
 -- The rule of a number that is the sum of what its lock's seats counted.
--- The first seat begins with all parts of the right to know the sum, as many as the lock's name says. A split shares out the parts.
-use Rattle.std.specs.Prelude.{◌≡◌, ◌≢◌, ℕ, ◌+◌, ◌-◌, ◌/◌, ◌%◌, ◌^◌, Option, Some, None, List, [], ◌∷◌}
+-- The first seat begins with all parts of the right to know the sum, as many as the lock's name
+-- says. A split shares them out, and a join puts them together.
+use Rattle.std.specs.Prelude.{◌≡◌, ◌≢◌, ℕ, ◌+◌, ◌-◌, ◌/◌, ◌%◌, ◌^◌, Option, Some, None, List}
+use Rattle.std.specs.Prelude.{[], ◌∷◌}
 use mathlib.Core.Option.{some}
 use lib.ListN.{get_elem?}
 use Rattle.turn_lock.specs.declared.counting.Tally.{Tally}

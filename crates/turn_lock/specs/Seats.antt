@@ -1,5 +1,5 @@
 -- What a clause says of a lock, its seats and its turns.
--- A place says which lock it is, as plain data: the table that no other lock shares, and the lock's name.
+-- A place says which lock it is, as plain data: its table, which no other lock has, and its name.
 use Rattle.std.specs.Prelude.{◌≡◌, ℕ, Option, Some}
 use Rattle.atomic_table.specs.Seated.{TableId}
 use Rattle.turn_lock.specs.declared.seat.Seat.{Seat}
@@ -48,7 +48,9 @@ module _ {T N V : Type 0} where
 
   -- a seat of the same lock, with the same number and view
   abbrev pub IsSameSeat : Seat T N V → Seat T N V → Type 0
-  IsSameSeat old new = (seat_place new ≡ seat_place old) × (seat_number new ≡ seat_number old) × (seat_view new ≡ seat_view old)
+  IsSameSeat old new =
+      (seat_place new ≡ seat_place old) × (seat_number new ≡ seat_number old)
+      × (seat_view new ≡ seat_view old)
 
 module _ {T R N V : Type 0} where
   abbrev pub lock_name : TurnLock T R N V → N

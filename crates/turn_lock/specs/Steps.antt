@@ -1,12 +1,14 @@
 -- What a caller shows of each kind of step of a lock, and what a refused take tells.
--- `holds name home views` is the caller's rule: over the lock's name, the value at home, which is None while a turn has it,
--- and what each seat knows. Each seat has a number, and `views` at that number is its view.
-use Rattle.std.specs.Prelude.{◌≡◌, ◌≢◌, ℕ, ◌<◌, Option, Some, None, List, [], ◌∷◌, ◌++◌, length, slice_set}
+-- `holds name home views` is the caller's rule: over the lock's name, the value at home, which is
+-- None while a turn has it, and what all seats know. `views` at a seat's number is its view.
+use Rattle.std.specs.Prelude.{◌≡◌, ◌≢◌, ℕ, ◌<◌, Option, Some, None, List, [], ◌∷◌, ◌++◌, length}
+use Rattle.std.specs.Prelude.{slice_set}
 use mathlib.Core.Option.{some}
 use lib.ListN.{get_elem?}
 
 module _ {N T V : Type 0} (holds : N → Option T → List V → Type 0) (name : N) where
-  -- whatever value is at home and whatever the others know, the rule stays when the value goes out and this seat's view becomes some w
+  -- whatever value is at home and whatever the others know, the rule stays when the value goes
+  -- out, and this seat's view becomes some w
   abbrev pub Takes : ℕ → V → (V → T → V → Type 0) → Type 0
   Takes number v then =
       (x : T) (views : List V) → holds name (Some x) views → get_elem? views number ≡ some v
@@ -38,7 +40,8 @@ module _ {N T V : Type 0} (holds : N → Option T → List V → Type 0) (name :
       → holds name home (slice_set (slice_set views number both) other spent)
 
 -- while the value is out, the rule allows this view beside another seat, which has the turn
-pub record Busy {N T V : Type 0} (holds : N → Option T → List V → Type 0) (name : N) (v : V) : Type 0 where
+pub record Busy {N T V : Type 0} (holds : N → Option T → List V → Type 0) (name : N) (v : V)
+    : Type 0 where
   pub views : List V
   pub number : ℕ
   pub holder : ℕ

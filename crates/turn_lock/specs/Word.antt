@@ -1,6 +1,7 @@
 -- The rule of the lock's one word and one slot, and what each of its steps tells.
 -- The word is 0 while the turn is free, and 1 while a seat has it.
-use Rattle.std.specs.Prelude.{◌≡◌, ◌≢◌, ℕ, Bool, true, false, Option, Some, None, List, [], ◌∷◌, map, ◌⊎◌}
+use Rattle.std.specs.Prelude.{◌≡◌, ◌≢◌, ℕ, Bool, true, false, Option, Some, None, List, [], ◌∷◌}
+use Rattle.std.specs.Prelude.{map, ◌⊎◌}
 use mathlib.Core.Option.{none, some}
 use lib.ListN.{get_elem?}
 use Rattle.atomic_table.specs.Table.{State, Me, Step}
@@ -56,13 +57,16 @@ module _ {N T V : Type 0} where
       × (r ≢ 0 → (m' ≡ m) × ((name : N) → m.0.name ≡ Some name → Busy holds name m.0.client))
 
   -- the seat gave back the turn, with the value that lay in the slot
-  abbrev pub gave : (N → V → T → V → Type 0) → Step (Option T) → Stand N T V → ℕ → Stand N T V → Type 0
+  abbrev pub gave : (N → V → T → V → Type 0)
+      → Step (Option T) → Stand N T V → ℕ → Stand N T V → Type 0
   gave then st m r m' =
       (m'.0.turn ≡ false) × (m'.0.name ≡ m.0.name) × (m'.1 ≡ [])
-      × ((name : N) (y : T) → m.0.name ≡ Some name → m.1 ≡ (0, Some y) ∷ [] → then name m.0.client y m'.0.client)
+      × ((name : N) (y : T) → m.0.name ≡ Some name → m.1 ≡ (0, Some y) ∷ []
+      → then name m.0.client y m'.0.client)
 
   -- the seat looked at the rule
-  abbrev pub looked : (N → V → V → Type 0) → Step (Option T) → Stand N T V → ℕ → Stand N T V → Type 0
+  abbrev pub looked : (N → V → V → Type 0)
+      → Step (Option T) → Stand N T V → ℕ → Stand N T V → Type 0
   looked then st m r m' =
       (m'.0.turn ≡ m.0.turn) × (m'.0.name ≡ m.0.name) × (m'.1 ≡ m.1)
       × ((name : N) → m.0.name ≡ Some name → then name m.0.client m'.0.client)

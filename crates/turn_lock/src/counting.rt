@@ -1,5 +1,6 @@
-//! A rule as an example: a number that is the sum, modulo 2^64, of what the seats of its lock counted.
-ghost use Rattle.std.specs.Prelude.{◌≡◌, ◌+◌, ◌-◌, ◌*◌, ◌%◌, ◌^◌, ◌<◌, None, Some, IfOk, IfErr, IsOk};
+//! A rule as an example: a number that is the sum of what the seats of its lock counted.
+ghost use Rattle.std.specs.Prelude.{◌≡◌, ◌+◌, ◌-◌, ◌*◌, ◌%◌, ◌^◌, ◌<◌, None, Some};
+ghost use Rattle.std.specs.Prelude.{IfOk, IfErr, IsOk};
 ghost use denote.Param.Send.{IsSync};
 ghost use Rattle.turn_lock.specs.Counting.{tally, IsCounted, Grabs, first_half, second_half, both};
 ghost use Rattle.turn_lock.specs.Seats.{lock_name, IsSeatOf, IsTurnOf, IsSameSeat};
@@ -198,7 +199,9 @@ pub fn count_apart<R: Threads + Wait + Sync>(
     counter.join::<Both, Same>(left, right)
 }
 
-/// Reads the sum. It may wait. A caller who joined every seat has all parts, and learns the sum of their counts.
+/// Reads the sum. It may wait.
+///
+/// A caller who joined every seat has all parts, and learns that it is the sum of their counts.
 pub fn read_sum<R: Wait>(rt: &R, counter: &Counter, seat: CounterSeat) -> (u64, CounterSeat)
     requires seat { IsSeatOf counter.now seat }
     requires part { 0 < (seat_view seat).parts }

@@ -5,8 +5,10 @@ pub mod counting;
 mod lock;
 mod rule;
 mod seat;
+#[cfg(test)]
+mod tests;
 mod turn;
 
 pub use lock::TurnLock;
 pub use rule::{Learns, Tells, TurnRule};
-pub use seat::{Doing, Seat, Turn};
+pub use seat::{Seat, Turn};
