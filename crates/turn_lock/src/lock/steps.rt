@@ -57,7 +57,8 @@ impl<T, R: TurnRule<T>> TurnLock<T, R> {
     {
         let Seat { mut inner } = seat;
         let shared = &self.table.shared;
-        if shared.compare_exchange::<Try<M, R>>(&mut inner, 0, FREE, TAKEN) != FREE {
+        let found = shared.compare_exchange::<Try<M, R>>(&mut inner, 0, FREE, TAKEN);
+        if found != FREE {
             return Err(Seat { inner });
         }
         let Some(value) = shared.exchange(&mut inner, 0, None) else {
