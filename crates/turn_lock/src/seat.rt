@@ -10,14 +10,14 @@ pub struct Doing<N, V> {
     pub client: V,
 }
 
-/// The right to take turns at one lock. It has no bytes.
+/// The right to take turns at the lock that made it. It has no bytes, and may go to any thread.
 #[derive(Drop)]
 pub struct Seat<T, N, V> {
     pub(crate) inner: TableSeat<Option<T>, Doing<N, V>>,
     ghost rests: { (inner.me.0.turn ≡ false) × (inner.me.1 ≡ []) },
 }
 
-/// The turn at a lock, with the lock's value. It has no `Drop`, so it is given back.
+/// The turn at a lock, with the lock's value. It cannot be thrown away: `TurnLock::give` ends it.
 pub struct Turn<T, N, V> {
     pub(crate) inner: TableSeat<Option<T>, Doing<N, V>>,
     pub(crate) value: T,

@@ -52,7 +52,9 @@ fn turn_lock(rt: HostRuntime) -> Result<(), Fail> {
     assert!(rt; was_busy);
     assert_eq!(rt; first, 5);
 
-    let mut turn = lock.take::<AnyValue, HostRuntime>(&rt, b);
+    let Ok(mut turn) = lock.try_take::<AnyValue>(b) else {
+        panic!(rt; "the turn was free")
+    };
     let second = *turn.value();
     let b = lock.give::<AnyValue>(turn);
     assert_eq!(rt; second, 6);

@@ -18,7 +18,9 @@ const FREE: u64 = 0;
 const TAKEN: u64 = 1;
 
 impl<T, R: TurnRule<T>> TurnLock<T, R> {
-    /// Makes a lock with its first seat. It takes memory, and drops the value where there is none.
+    /// Makes a lock and its first seat, which has the number 0.
+    ///
+    /// It takes memory. Where there is none, the value is dropped.
     pub fn new(
         alloc: Global,
         name: &R::Name,
@@ -39,7 +41,7 @@ impl<T, R: TurnRule<T>> TurnLock<T, R> {
         Ok((TurnLock { table }, Seat { inner }))
     }
 
-    /// Tries once to take the turn. Where another seat has it, the same seat comes back.
+    /// Takes the turn, or hands the seat back where another seat has it. It takes no memory.
     pub fn try_take<M: Tells<R::Name, T, R::View>>(
         &self,
         seat: Seat<T, R::Name, R::View>,
@@ -67,7 +69,7 @@ impl<T, R: TurnRule<T>> TurnLock<T, R> {
         Ok(Turn { inner, value })
     }
 
-    /// Gives the turn back with its value. It is the only way to end a turn.
+    /// Ends a turn: the value goes home as the turn left it. It takes no memory.
     pub fn give<M: Tells<R::Name, T, R::View>>(
         &self,
         turn: Turn<T, R::Name, R::View>,
@@ -87,7 +89,8 @@ impl<T, R: TurnRule<T>> TurnLock<T, R> {
         Seat { inner }
     }
 
-    /// Cuts a seat's view in two. The first seat keeps its number, and the second is new.
+    /// Cuts a seat's view in two: the first seat of the answer keeps the number, and the second is
+    /// new. It takes no memory.
     pub fn split<M: Split<R::View>>(
         &self,
         seat: Seat<T, R::Name, R::View>,
@@ -105,7 +108,8 @@ impl<T, R: TurnRule<T>> TurnLock<T, R> {
         (Seat { inner }, Seat { inner: other })
     }
 
-    /// Makes one seat of two, and looks at the rule with both views.
+    /// Makes one seat of two, which keeps the first one's number, and looks at the rule with what
+    /// both knew. It takes no memory.
     pub fn join<M: Join<R::View>, L: Learns<R::Name, R::View>>(
         &self,
         seat: Seat<T, R::Name, R::View>,
@@ -129,7 +133,7 @@ impl<T, R: TurnRule<T>> TurnLock<T, R> {
         Seat { inner }
     }
 
-    /// Takes the turn, and waits where another seat has it: it spins briefly, and then yields.
+    /// Takes the turn. It may wait, while another seat has it, and takes no memory.
     pub fn take<M: Tells<R::Name, T, R::View>, W: Wait>(
         &self,
         rt: &W,
