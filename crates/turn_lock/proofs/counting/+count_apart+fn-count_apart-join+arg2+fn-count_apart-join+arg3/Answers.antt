@@ -12,17 +12,15 @@ split-left-requires-clause-rule g t c =
 -- both threads are done, and their seats rest
 pub join-requires-clause-merges : goal.join-requires-clause-merges
 join-requires-clause-merges g t c =
-    let left = c.join-left.result.0 in
-    let right = c.join-left.result.1 in
-    let parts : (seat_view left).parts ≡ c.args.parts - c.args.parts / 2 = ap (λ v. v.parts) c.join-left.ensures.first.1 in
-    merges_sum (lock_name c.args.counter.now) (seat_number left) (seat_number right) (seat_view left) (seat_view right) (omega arith)
-    (ap (λ v. v.took) c.join-left.ensures.second.1)
+    let parts : (seat_view c.join-left.result.0).parts ≡ c.args.parts - c.args.parts / 2 = ap (λ v. v.parts) c.join-left.ensures.first.1 in
+    merges_sum (lock_name c.args.counter.now) (seat_number c.join-left.result.0) (seat_number c.join-left.result.1)
+    (seat_view c.join-left.result.0) (seat_view c.join-left.result.1) (omega arith) (ap (λ v. v.took) c.join-left.ensures.second.1)
 
 -- the look changes nothing
 pub join-requires-clause-looks : goal.join-requires-clause-looks
 join-requires-clause-looks g t c =
-    let left = c.join-left.result.0 in
-    looks_sum (lock_name c.args.counter.now) (seat_number left) (both (seat_view left) (seat_view c.join-left.result.1))
+    looks_sum (lock_name c.args.counter.now) (seat_number c.join-left.result.0)
+    (both (seat_view c.join-left.result.0) (seat_view c.join-left.result.1))
 
 -- the counts of both halves are the counts of all parts
 pub returns-clause-view : goal.returns-clause-view

@@ -1,5 +1,6 @@
-use Rattle.std.proofs.Common.{arith, ap, refl, ◌∙◌}
-use Rattle.turn_lock.specs.Seats.{lock_name, seat_number}
+use Rattle.std.proofs.Common.{false, arith, ap, refl, ◌∙◌}
+use Rattle.turn_lock.specs.Seats.{lock_name, seat_number, seat_view}
+use Rattle.turn_lock.specs.Word.{doing}
 use Rattle.turn_lock.proofs.Keeping.{joins, looks}
 use Rattle.turn_lock.proofs.lock.TurnLock.join.Goals as goal
 
@@ -16,11 +17,11 @@ join_seat-requires g c = (
 
 -- the joined seat looks
 pub load-requires : goal.load-requires
-load-requires g c =
-    let e = c.join_seat.ensures in
-    let is = c.requires.seats.0 in (
-      e.0 ∙ ap (λ p. p.0) is,
-      (let sized = c.args.self.now.sized in omega arith),
-      looks g.R.TurnRule.holds (lock_name c.args.self.now) _ _ (seat_number c.args.seat) _ _ _ g.L.Learns.then
-          e.1 e.2 refl (ap (λ p. p.1) is) c.requires.looks,
-    )
+load-requires g c = (
+  c.join_seat.ensures.0 ∙ ap (λ p. p.0) c.requires.seats.0,
+  (let sized = c.args.self.now.sized in omega arith),
+  looks g.R.TurnRule.holds (lock_name c.args.self.now) c.args.self.now.table.shared.table_id.slots c.join_seat.new.seat.id (seat_number c.args.seat)
+      c.join_seat.new.seat.me (doing c.args.seat.inner.me.0.name false (g.M.Join.both (seat_view c.args.seat) (seat_view c.args.other)))
+      c.args.seat.inner.me.1 g.L.Learns.then c.join_seat.ensures.1 c.join_seat.ensures.2 refl (ap (λ p. p.1) c.requires.seats.0)
+      c.requires.looks,
+)
