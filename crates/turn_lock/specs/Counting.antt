@@ -7,6 +7,7 @@ use mathlib.Core.Option.{some}
 use lib.ListN.{get_elem?}
 use Rattle.turn_lock.specs.declared.counting.Tally.{Tally}
 
+-- a view with these parts and this count, which took this sum or none
 abbrev pub tally : ℕ → ℕ → Option ℕ → Tally
 tally parts count took = record { parts = parts; count = count; took = took }
 
@@ -15,6 +16,7 @@ abbrev pub total : (Tally → ℕ) → List Tally → ℕ
 total f [] = 0
 total f (v ∷ vs) = f v + total f vs
 
+-- the sum of the counts
 abbrev pub counted : List Tally → ℕ
 counted views = total (λ v. v.count) views
 
@@ -42,8 +44,10 @@ Grabs parts v x w = (w ≡ tally v.parts v.count (Some x)) × (v.parts ≡ parts
 abbrev pub first_half : Tally → Tally
 first_half v = tally (v.parts - v.parts / 2) v.count v.took
 
+-- the other half of the parts, with nothing counted
 abbrev pub second_half : Tally → Tally
 second_half v = tally (v.parts / 2) 0 None
 
+-- the parts and the counts of both
 abbrev pub both : Tally → Tally → Tally
 both v w = tally (v.parts + w.parts) (v.count + w.count) v.took

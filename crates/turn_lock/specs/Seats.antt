@@ -6,6 +6,7 @@ use Rattle.turn_lock.specs.declared.seat.Seat.{Seat}
 use Rattle.turn_lock.specs.declared.seat.Turn.{Turn}
 use Rattle.turn_lock.specs.declared.lock.TurnLock.{TurnLock}
 
+-- a lock's place, with names of type N
 abbrev pub Place : Type 0 → Type 0
 Place N = TableId × Option N
 
@@ -22,12 +23,15 @@ module _ {T N V : Type 0} where
   abbrev pub seat_view : Seat T N V → V
   seat_view s = s.inner.me.0.client
 
+  -- the lock that the turn belongs to
   abbrev pub turn_place : Turn T N V → Place N
   turn_place t = (t.inner.table_id, t.inner.me.0.name)
 
+  -- the number of the seat that the turn was made of
   abbrev pub turn_number : Turn T N V → ℕ
   turn_number t = t.inner.id
 
+  -- what the seat that has the turn knows
   abbrev pub turn_view : Turn T N V → V
   turn_view t = t.inner.me.0.client
 
@@ -43,6 +47,7 @@ module _ {T N V : Type 0} where
   abbrev pub IsSeatAt : Place N → Seat T N V → Type 0
   IsSeatAt place s = seat_place s ≡ place
 
+  -- the turn belongs to the lock at the place
   abbrev pub IsTurnAt : Place N → Turn T N V → Type 0
   IsTurnAt place t = turn_place t ≡ place
 
@@ -53,6 +58,7 @@ module _ {T N V : Type 0} where
       × (seat_view new ≡ seat_view old)
 
 module _ {T R N V : Type 0} where
+  -- what the lock was told when it was made
   abbrev pub lock_name : TurnLock T R N V → N
   lock_name l = l.table.shared.key
 
@@ -60,8 +66,10 @@ module _ {T R N V : Type 0} where
   abbrev pub lock_place : TurnLock T R N V → Place N
   lock_place l = (l.table.shared.table_id, Some (lock_name l))
 
+  -- the seat belongs to the lock
   abbrev pub IsSeatOf : TurnLock T R N V → Seat T N V → Type 0
   IsSeatOf l s = IsSeatAt (lock_place l) s
 
+  -- the turn belongs to the lock
   abbrev pub IsTurnOf : TurnLock T R N V → Turn T N V → Type 0
   IsTurnOf l t = IsTurnAt (lock_place l) t

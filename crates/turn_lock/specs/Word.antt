@@ -12,9 +12,11 @@ use Rattle.turn_lock.specs.Steps.{Busy}
 abbrev pub Stand : Type 0 → Type 0 → Type 0 → Type 0
 Stand N T V = Me (Option T) (Doing N V)
 
+-- a seat's record of the lock's name, whether it has the turn, and what its caller knows
 abbrev pub doing : {N V : Type 0} → Option N → Bool → V → Doing N V
 doing name turn v = record { name = name; turn = turn; client = v }
 
+-- what the caller's rule sees of a seat
 abbrev pub client : {N V : Type 0} → Doing N V → V
 client d = d.client
 
@@ -40,6 +42,7 @@ pub record IsTaken {N T V : Type 0} (holds : N → Option T → List V → Type 
   pub kept : holds name None (map client s.views)
 
 module _ {N T V : Type 0} where
+  -- the rule of the table
   abbrev pub Locked : (N → Option T → List V → Type 0) → N → State (Option T) (Doing N V) → Type 0
   Locked holds name s = IsFree holds name s ⊎ IsTaken holds name s
 

@@ -37,6 +37,7 @@ mod seat;
 mod tests;
 mod turn;
 
+pub use atomic_table::{Join, Split};
 pub use lock::TurnLock;
 pub use rule::{Learns, Tells, TurnRule};
 pub use seat::{Seat, Turn};

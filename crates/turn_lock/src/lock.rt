@@ -35,8 +35,7 @@ impl<T, R: TurnRule<T>> TableRule<Option<T>, Doing<R::Name, R::View>, R::Name> f
 ///
 /// **The rule.** What a step owes is said of any value at home and any views that the rule allows.
 /// A type parameter of the call says what the step tells of the new view: `Tells` at a take and a
-/// give, `Split` and `Join` of `atomic_table` at a split and a join, and `Learns` at the look after
-/// a join.
+/// give, `Split` at a split, `Join` at a join, and `Learns` at the look that follows a join.
 ///
 /// **Waiting.** `try_take` answers at once, with the same seat where another one has the turn.
 /// `take` tries until it has the turn. Between two tries it spins briefly at first, and then

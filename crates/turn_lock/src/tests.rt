@@ -1,6 +1,5 @@
 use crate::counting::{count_by_threads, make_counter, read_sum, try_add_one};
-use crate::{Learns, Tells, TurnLock, TurnRule};
-use atomic_table::{Join, Split};
+use crate::{Join, Learns, Split, Tells, TurnLock, TurnRule};
 use std::test::Fail;
 
 // A rule that allows everything.
