@@ -1,0 +1,324 @@
+-- Each step of the table keeps the rule of the word and the slot.
+use Rattle.std.proofs.Common.{◌≡◌, ◌≢◌, ℕ, zero, suc, ◌<◌, Bool, true, false, Option, Some, None, List, [], ◌∷◌, ◌++◌, map, length, set, slice_index, sym, refl, ap, ◌∙◌, subst, inl, inr, ⊎_elim, eqb, arith}
+use mathlib.Core.Option.{none, some, some-injective, some-ne-none}
+use mathlib.Core.List.{map-append}
+use lib.ListN.{get_elem?}
+use lib.Seq.{map-set}
+use prog.Atomic.{either}
+use Rattle.atomic_table.proofs.Lists.{at_set, at_snoc, at_map, at_longer, set_here, set_else, set_again}
+use Rattle.atomic_table.specs.Table.{State, Me, step, Act, keeps, takes, gives, stepped, carried_after, rest, Valid, Allows, Splits, Joins}
+use Rattle.turn_lock.specs.declared.seat.Doing.{Doing}
+use Rattle.turn_lock.specs.Steps.{Takes, Gives, Looks, Forks, Merges, Busy}
+use Rattle.turn_lock.specs.Word.{doing, client, IsFree, IsTaken, Locked, tried, gave, looked}
+
+pub within : {A : Type 0} (l : List A) (i : ℕ) (a : A) → get_elem? l i ≡ some a → i < length l
+within [] i a e = absurd (some-ne-none a (sym e))
+within (x ∷ xs) zero a e = omega arith
+within (x ∷ xs) (suc i) a e = let h = within xs i a e in omega arith
+
+-- the name in a view is the lock's
+named : {N : Type 0} (n m : N) (o : Option N) → o ≡ Some n → o ≡ Some m → n ≡ m
+named n m o e f = cc
+
+not_true : (b : Bool) → (b ≡ true → ⊥) → b ≡ false
+not_true true h = absurd (h refl)
+not_true false h = refl
+
+not_both : (b : Bool) → b ≡ true → b ≡ false → ⊥
+not_both b e f = cc
+
+abbrev Hub : Type 0 → Type 0 → Type 0 → Type 0
+Hub N T V = State (Option T) (Doing N V)
+
+abbrev hub : {N T V : Type 0} → List ℕ → List (mathlib.Core.Option.Option (Option T)) → List (Doing N V) → Hub N T V
+hub ws hs vs = record { words = ws; homes = hs; views = vs }
+
+-- a word that is one number stays as it is
+same_word : (ws : List ℕ) (n : ℕ) → ws ≡ n ∷ [] → set ws 0 (slice_index ws 0) ≡ ws
+same_word ws n e = subst (λ (z : List ℕ). set z 0 (slice_index z 0) ≡ z) (sym e) refl
+
+abbrev swapped : ℕ → ℕ
+swapped n = either (eqb n 0) 1 n
+
+same_tried : (ws : List ℕ) → ws ≡ 1 ∷ [] → set ws 0 (swapped (slice_index ws 0)) ≡ ws
+same_tried ws e = subst (λ (z : List ℕ). set z 0 (swapped (slice_index z 0)) ≡ z) (sym e) refl
+
+one_not_zero : (ws : List ℕ) → ws ≡ 1 ∷ [] → slice_index ws 0 ≡ 0 → ⊥
+one_not_zero ws e h = let p : slice_index ws 0 ≡ 1 = ap (λ (z : List ℕ). slice_index z 0) e in omega arith
+
+-- the value in a slot that is held alone
+abbrev item : {T : Type 0} → Option T → List (ℕ × Option T) → Option T
+item x [] = x
+item x (y ∷ ys) = y.1
+
+same_some : {T : Type 0} (y z : T) → Some y ≡ Some z → y ≡ z
+same_some y z e = cc
+
+abbrev alone : {T : Type 0} → T → List (ℕ × Option T)
+alone y = (0, Some y) ∷ []
+
+same_item : {T : Type 0} (y z : T) → alone y ≡ alone z → y ≡ z
+same_item {T} y z e = same_some y z (ap (item (Some y)) e)
+
+module _ {N V : Type 0} where
+  -- the same seats have the turn
+  record SameTurns (xs ys : List (Doing N V)) : Type 0 where
+    back : (j : ℕ) (d : Doing N V) → get_elem? ys j ≡ some d → d.turn ≡ true → get_elem? xs j ≡ some d
+    forth : (j : ℕ) (d : Doing N V) → get_elem? xs j ≡ some d → d.turn ≡ true → get_elem? ys j ≡ some d
+
+  set_same : (xs : List (Doing N V)) (i : ℕ) (v w : Doing N V) → get_elem? xs i ≡ some v → v.turn ≡ false → w.turn ≡ false → SameTurns xs (set xs i w)
+  set_same xs i v w at idle rests = record {
+    back = λ j d e t. ⊎_elim
+        (λ (p : (j ≡ i) × (w ≡ d)). absurd (not_both d.turn t (ap (λ (z : Doing N V). z.turn) (sym p.1) ∙ rests)))
+        (λ (p : (j ≢ i) × (get_elem? xs j ≡ some d)). p.1)
+        (at_set xs i j w d e);
+    forth = λ j d e t.
+        set_else xs i j w (λ (same : j ≡ i).
+        not_both d.turn t (ap (λ (z : Doing N V). z.turn) (some-injective d v (sym e ∙ ap (get_elem? xs) same ∙ at)) ∙ idle))
+        ∙ e;
+  }
+
+  snoc_same : (xs : List (Doing N V)) (w : Doing N V) → w.turn ≡ false → SameTurns xs (xs ++ w ∷ [])
+  snoc_same xs w rests = record {
+    back = λ j d e t. ⊎_elim
+        (λ (p : get_elem? xs j ≡ some d). p)
+        (λ (p : w ≡ d). absurd (not_both d.turn t (ap (λ (z : Doing N V). z.turn) (sym p) ∙ rests)))
+        (at_snoc xs w d j e);
+    forth = λ j d e t. at_longer xs (w ∷ []) j d e;
+  }
+
+  then_same : (xs ys zs : List (Doing N V)) → SameTurns xs ys → SameTurns ys zs → SameTurns xs zs
+  then_same xs ys zs p q = record {
+    back = λ j d e t. p.back j d (q.back j d e t) t;
+    forth = λ j d e t. q.forth j d (p.forth j d e t) t;
+  }
+
+module _ {N T V : Type 0} (holds : N → Option T → List V → Type 0) (name : N) where
+  still_free : (s : Hub N T V) (ys : List (Doing N V)) (f : IsFree holds name s) → SameTurns s.views ys
+      → holds name (Some f.value) (map client ys) → IsFree holds name (hub s.words s.homes ys)
+  still_free s ys f same k = record {
+    value = f.value;
+    word = f.word;
+    home = f.home;
+    rests = λ j d e. not_true d.turn (λ t. not_both d.turn t (f.rests j d (same.back j d e t)));
+    kept = k;
+  }
+
+  still_taken : (s : Hub N T V) (ys : List (Doing N V)) → IsTaken holds name s → SameTurns s.views ys
+      → holds name None (map client ys) → IsTaken holds name (hub s.words s.homes ys)
+  still_taken s ys f same k = record {
+    holder = f.holder;
+    view = f.view;
+    word = f.word;
+    home = f.home;
+    there = same.forth f.holder f.view f.there f.turns;
+    turns = f.turns;
+    only = λ j d e t. f.only j d (same.back j d e t) t;
+    kept = k;
+  }
+
+  -- a step that leaves the value and the turn where they are
+  still : (s : Hub N T V) (ys : List (Doing N V)) → Locked holds name s → SameTurns s.views ys
+      → ((home : Option T) → holds name home (map client s.views) → holds name home (map client ys))
+      → Locked holds name (hub s.words s.homes ys)
+  still s ys locked same k = ⊎_elim
+      (λ (f : IsFree holds name s). inl (still_free s ys f same (k (Some f.value) f.kept)))
+      (λ (f : IsTaken holds name s). inr (still_taken s ys f same (k None f.kept)))
+      locked
+
+  pub splits : (id : ℕ) (v : Doing N V) (left right : V) → v.turn ≡ false → Forks holds name id v.client left right
+      → Splits (Locked holds name) id v (doing v.name false left) (doing v.name false right)
+  splits id v left right idle asked s locked at =
+      let l : Doing N V = doing v.name false left in
+      let r : Doing N V = doing v.name false right in
+      let views : List V = map client s.views in
+      let shape : map client (set s.views id l ++ r ∷ []) ≡ set views id left ++ right ∷ [] =
+      map-append client (set s.views id l) (r ∷ []) ∙ ap (λ (z : List V). z ++ right ∷ []) (map-set client s.views id l) in
+      still s (set s.views id l ++ r ∷ []) locked
+      (then_same s.views (set s.views id l) (set s.views id l ++ r ∷ [])
+      (set_same s.views id v l at idle refl) (snoc_same (set s.views id l) r refl))
+      (λ home k. subst (holds name home) (sym shape) (asked home views k (at_map client s.views id v at)))
+
+  pub joins : (id other : ℕ) (v w : Doing N V) (both spent : V) → v.turn ≡ false → w.turn ≡ false
+      → Merges holds name id v.client other w.client both spent
+      → Joins (Locked holds name) id v other w (doing v.name false both) (doing None false spent)
+  joins id other v w both spent idle idle' asked s locked at apart at' =
+      let b : Doing N V = doing v.name false both in
+      let n : Doing N V = doing None false spent in
+      let views : List V = map client s.views in
+      let there : get_elem? s.views other ≡ some w = sym (set_else s.views id other b apart) ∙ at' in
+      let shape : map client (set (set s.views id b) other n) ≡ set (set views id both) other spent =
+      map-set client (set s.views id b) other n ∙ ap (λ (z : List V). set z other spent) (map-set client s.views id b) in
+      still s (set (set s.views id b) other n) locked
+      (then_same s.views (set s.views id b) (set (set s.views id b) other n)
+      (set_same s.views id v b at idle refl) (set_same (set s.views id b) other w n at' idle' refl))
+      (λ home k. subst (holds name home) (sym shape)
+      (asked home views k apart (at_map client s.views id v at) (at_map client s.views other w there)))
+
+  -- the step that looks at the rule and leaves the word as it is
+  looks_here : (slots id : ℕ) (me : Me (Option T) (Doing N V)) (then : N → V → V → Type 0) → me.0.turn ≡ false → me.0.name ≡ Some name
+      → Looks holds name id me.0.client (then name)
+      → Allows (Locked holds name) slots id me 0 (λ n. n) (looked then (step slots 0 0 0 none) me)
+  looks_here slots id me then idle is asked s locked _ at _ = ⊎_elim
+      (λ (f : IsFree holds name s).
+      let t = asked (Some f.value) (map client s.views) f.kept (at_map client s.views id me.0 at) in
+      let w : Doing N V = doing me.0.name false t.0 in (
+        w,
+        keeps,
+        tt,
+        inl (subst (λ (ws : List ℕ). IsFree holds name (hub ws s.homes (set s.views id w))) (sym (same_word s.words 0 f.word))
+            (still_free s (set s.views id w) f (set_same s.views id me.0 w at idle refl)
+            (subst (holds name (Some f.value)) (sym (map-set client s.views id w)) t.1))),
+        (sym idle, refl, refl, λ n e. subst (λ (k : N). then k me.0.client t.0) (named name n me.0.name is e) t.2),
+      ))
+      (λ (f : IsTaken holds name s).
+      let t = asked None (map client s.views) f.kept (at_map client s.views id me.0 at) in
+      let w : Doing N V = doing me.0.name false t.0 in (
+        w,
+        keeps,
+        tt,
+        inr (subst (λ (ws : List ℕ). IsTaken holds name (hub ws s.homes (set s.views id w))) (sym (same_word s.words 1 f.word))
+            (still_taken s (set s.views id w) f (set_same s.views id me.0 w at idle refl)
+            (subst (holds name None) (sym (map-set client s.views id w)) t.1))),
+        (sym idle, refl, refl, λ n e. subst (λ (k : N). then k me.0.client t.0) (named name n me.0.name is e) t.2),
+      ))
+      locked
+
+  pub looks : (slots id number : ℕ) (me : Me (Option T) (Doing N V)) (d : Doing N V) (held : List (ℕ × Option T)) (then : N → V → V → Type 0)
+      → id ≡ number → me ≡ (d, held) → d.turn ≡ false → d.name ≡ Some name → Looks holds name number d.client (then name)
+      → Allows (Locked holds name) slots id me 0 (λ n. n) (looked then (step slots 0 0 0 none) me)
+  looks slots id number me d held then same same' idle is asked =
+      let P : ℕ × Me (Option T) (Doing N V) → Type 0 =
+      λ m. Allows (Locked holds name) slots m.0 m.1 0 (λ n. n) (looked then (step slots 0 0 0 none) m.1) in
+      subst P {x = (number, (d, held))} {y = (id, me)} (λ i. (sym same i, sym same' i)) (looks_here slots number (d, held) then idle is asked)
+
+  -- what a try to take the turn owes at the state s, for a seat that holds no slot
+  abbrev Tries : ℕ → ℕ → Doing N V → (N → V → T → V → Type 0) → Hub N T V → Type 0
+  Tries slots id d then s =
+      (w : Doing N V) × (a : Act (Option T)) × Valid s.homes [] a
+      × Locked holds name (stepped s 0 (swapped (slice_index s.words 0)) id [] w a)
+      × tried holds then (step slots 0 0 1 none) (d, []) (slice_index s.words 0) (w, carried_after [] a)
+
+  take_free : (slots id : ℕ) (d : Doing N V) (then : N → V → T → V → Type 0) (views : List (Doing N V)) (x : T) → d.name ≡ Some name
+      → Takes holds name id d.client (then name)
+      → ((j : ℕ) (u : Doing N V) → get_elem? views j ≡ some u → u.turn ≡ false) → holds name (Some x) (map client views)
+      → get_elem? views id ≡ some d
+      → Tries slots id d then (hub (0 ∷ []) (some (Some x) ∷ []) views)
+  take_free slots id d then views x is asked rests kept at =
+      let t = asked x (map client views) kept (at_map client views id d at) in
+      let w : Doing N V = doing d.name true t.0 in (
+        w,
+        takes 0 (Some x),
+        refl,
+        inr record {
+          holder = id;
+          view = w;
+          word = refl;
+          home = refl;
+          there = set_here views id w (within views id d at);
+          turns = refl;
+          only = λ j u e turns. ⊎_elim
+              (λ (p : (j ≡ id) × (w ≡ u)). p.0)
+              (λ (p : (j ≢ id) × (get_elem? views j ≡ some u)). absurd (not_both u.turn turns (rests j u p.1)))
+              (at_set views id j w u e);
+          kept = subst (holds name None) (sym (map-set client views id w)) t.1;
+        },
+        (
+          (λ _. (x, refl, refl, refl, λ n e. subst (λ (k : N). then k d.client x t.0) (named name n d.name is e) t.2)),
+          (λ differs. absurd (differs refl)),
+        ),
+      )
+
+  take_taken : (slots id : ℕ) (d : Doing N V) (then : N → V → T → V → Type 0) (s : Hub N T V) → d.turn ≡ false → d.name ≡ Some name
+      → IsTaken holds name s → get_elem? s.views id ≡ some d → Tries slots id d then s
+  take_taken slots id d then s idle is f at = (
+    d,
+    keeps,
+    tt,
+    inr (subst (IsTaken holds name) (λ i. hub (sym (same_tried s.words f.word) i) s.homes (sym (set_again s.views id d at) i)) f),
+    (
+      (λ free. absurd (one_not_zero s.words f.word free)),
+      λ _. (
+        refl,
+        λ n e. subst (λ (k : N). Busy holds k d.client) (named name n d.name is e) record {
+          views = map client s.views;
+          number = id;
+          holder = f.holder;
+          kept = f.kept;
+          here = at_map client s.views id d at;
+          other = λ same. not_both d.turn
+              (ap (λ (z : Doing N V). z.turn) (some-injective d f.view (sym at ∙ ap (get_elem? s.views) (sym same) ∙ f.there)) ∙ f.turns)
+              idle;
+          there = within (map client s.views) f.holder f.view.client (at_map client s.views f.holder f.view f.there);
+        },
+      ),
+    ),
+  )
+
+  pub tries : (slots id : ℕ) (me : Me (Option T) (Doing N V)) (then : N → V → T → V → Type 0) → me.0.turn ≡ false → me.1 ≡ []
+      → me.0.name ≡ Some name → Takes holds name id me.0.client (then name)
+      → Allows (Locked holds name) slots id me 0 swapped (tried holds then (step slots 0 0 1 none) me)
+  tries slots id me then idle empty is asked =
+      let P : Me (Option T) (Doing N V) → Type 0 =
+      λ m. Allows (Locked holds name) slots id m 0 swapped (tried holds then (step slots 0 0 1 none) m) in
+      let d : Doing N V = me.0 in
+      let at_none : P (d, []) = λ s locked _ at _. ⊎_elim
+      (λ (f : IsFree holds name s).
+      let is_hub : s ≡ hub (0 ∷ []) (some (Some f.value) ∷ []) s.views = λ i. hub (f.word i) (f.home i) s.views in
+      subst (Tries slots id d then) (sym is_hub) (take_free slots id d then s.views f.value is asked f.rests f.kept at))
+      (λ (f : IsTaken holds name s). take_taken slots id d then s idle is f at)
+      locked in
+      subst P (λ i. (d, sym empty i)) at_none
+
+  -- what the step that gives back owes at the state s, for a seat that holds the slot with y
+  abbrev Returns : ℕ → ℕ → Doing N V → T → (N → V → T → V → Type 0) → Hub N T V → Type 0
+  Returns slots id d y then s =
+      (w : Doing N V) × (a : Act (Option T)) × Valid s.homes ((0, Some y) ∷ []) a
+      × Locked holds name (stepped s 0 0 id ((0, Some y) ∷ []) w a)
+      × gave then (step slots 0 0 0 none) (d, (0, Some y) ∷ []) (slice_index s.words 0) (w, carried_after ((0, Some y) ∷ []) a)
+
+  give_taken : (slots id : ℕ) (d : Doing N V) (y : T) (then : N → V → T → V → Type 0) (views : List (Doing N V)) → d.name ≡ Some name
+      → Gives holds name id d.client y (then name) → get_elem? views id ≡ some d
+      → ((j : ℕ) (u : Doing N V) → get_elem? views j ≡ some u → u.turn ≡ true → j ≡ id) → holds name None (map client views)
+      → Returns slots id d y then (hub (1 ∷ []) (none ∷ []) views)
+  give_taken slots id d y then views is asked at only kept =
+      let t = asked (map client views) kept (at_map client views id d at) in
+      let w : Doing N V = doing d.name false t.0 in (
+        w,
+        gives,
+        tt,
+        inl record {
+          value = y;
+          word = refl;
+          home = refl;
+          rests = λ j u e. not_true u.turn (λ turns. ⊎_elim
+              (λ (p : (j ≡ id) × (w ≡ u)). not_both u.turn turns (ap (λ (z : Doing N V). z.turn) (sym p.1)))
+              (λ (p : (j ≢ id) × (get_elem? views j ≡ some u)). p.0 (only j u p.1 turns))
+              (at_set views id j w u e));
+          kept = subst (holds name (Some y)) (sym (map-set client views id w)) t.1;
+        },
+        (
+          refl,
+          refl,
+          refl,
+          λ n z e lies.
+              subst (λ (k : N × T). then k.0 d.client k.1 t.0) (λ i. (named name n d.name is e i, same_item y z lies i)) t.2,
+        ),
+      )
+
+  pub gives_back : (slots id number : ℕ) (me : Me (Option T) (Doing N V)) (d : Doing N V) (held : List (ℕ × Option T)) (y : T)
+      (then : N → V → T → V → Type 0) → id ≡ number → me ≡ (d, (0, Some y) ∷ rest held) → held ≡ (0, None) ∷ [] → d.turn ≡ true → d.name ≡ Some name → Gives holds name number d.client y (then name)
+      → Allows (Locked holds name) slots id me 0 (λ _. 0) (gave then (step slots 0 0 0 none) me)
+  gives_back slots id number me d held y then same lies was turns is asked =
+      let P : ℕ × Me (Option T) (Doing N V) → Type 0 =
+      λ m. Allows (Locked holds name) slots m.0 m.1 0 (λ _. 0) (gave then (step slots 0 0 0 none) m.1) in
+      let with_slot : P (number, (d, alone y)) = λ s locked _ at _. ⊎_elim
+      (λ (f : IsFree holds name s). absurd (not_both d.turn turns (f.rests number d at)))
+      (λ (f : IsTaken holds name s).
+      let is_hub : s ≡ hub (1 ∷ []) (none ∷ []) s.views = λ i. hub (f.word i) (f.home i) s.views in
+      let mine : number ≡ f.holder = f.only number d at turns in
+      subst (Returns slots number d y then) (sym is_hub)
+      (give_taken slots number d y then s.views is asked at (λ j u e h. f.only j u e h ∙ sym mine) f.kept))
+      locked in
+      let same' : me ≡ (d, alone y) = lies ∙ ap (λ (xs : List (ℕ × Option T)). (d, (0, Some y) ∷ rest xs)) was in
+      subst P {x = (number, (d, alone y))} {y = (id, me)} (λ i. (sym same i, sym same' i)) with_slot

@@ -1,0 +1,4 @@
+pub mod Seats
+pub mod Steps
+pub mod Word
+pub mod Counting

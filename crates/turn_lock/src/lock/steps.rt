@@ -1,0 +1,160 @@
+//! The calls.
+ghost use Rattle.std.specs.Prelude.{◌≡◌, [], ◌∷◌, Some, IfOk, IfErr, OnErr};
+ghost use Rattle.turn_lock.specs.Seats.{lock_name, IsSeatOf, IsTurnOf, IsSameSeat};
+ghost use Rattle.turn_lock.specs.Seats.{seat_number, seat_view, turn_number, turn_value, turn_view};
+ghost use Rattle.turn_lock.specs.Steps.{Takes, Gives, Looks, Forks, Merges, Busy};
+
+use super::TurnLock;
+use super::plays::{Give, Look, Pair, Try, Twin};
+use crate::rule::{Learns, Tells, TurnRule};
+use crate::seat::{Seat, Turn};
+use atomic_table::{Join, Split, Table};
+use crossbeam_utils::Backoff;
+use std::alloc::{AllocError, Global};
+use std::sync::Wait;
+
+const FREE: u64 = 0;
+
+const TAKEN: u64 = 1;
+
+impl<T, R: TurnRule<T>> TurnLock<T, R> {
+    /// Makes a lock and its first seat, which has the number 0.
+    ///
+    /// It takes memory. Where there is none, the value is dropped.
+    pub fn new(
+        alloc: Global,
+        name: &R::Name,
+        value: T,
+    ) -> Result<(TurnLock<T, R>, Seat<T, R::Name, R::View>), AllocError>
+    where
+        T: Drop,
+        requires rule { R.holds name.now (Some value) (R.first name.now ∷ []) }
+        ensures name { IfOk result (λ made. lock_name made.0 ≡ name.now) }
+        ensures seat { IfOk result (λ made. IsSeatOf made.0 made.1 × (seat_number made.1 ≡ 0)) }
+        ensures view { IfOk result (λ made. seat_view made.1 ≡ R.first name.now) }
+    {
+        let mut slots = Vec::with_capacity(alloc, 1)?;
+        slots.push(Some(value))?;
+        let Ok((table, inner)) = Table::new(alloc, &[FREE], slots, name) else {
+            return Err(AllocError);
+        };
+        Ok((TurnLock { table }, Seat { inner }))
+    }
+
+    /// Takes the turn, or hands the seat back where another seat has it. It takes no memory.
+    pub fn try_take<M: Tells<R::Name, T, R::View>>(
+        &self,
+        seat: Seat<T, R::Name, R::View>,
+    ) -> Result<Turn<T, R::Name, R::View>, Seat<T, R::Name, R::View>>
+        requires seat { IsSeatOf self.now seat }
+        requires rule { Takes R.holds (lock_name self.now) (seat_number seat) (seat_view seat)
+            (M.then (lock_name self.now)) }
+        ensures turn { IfOk result (λ turn. IsTurnOf self.now turn
+            × (turn_number turn ≡ seat_number seat)) }
+        ensures rule { IfOk result (λ turn. M.then (lock_name self.now) (seat_view seat)
+            (turn_value turn) (turn_view turn)) }
+
+        ensures err { IfErr result (λ back. IsSameSeat seat back) }
+        ensures busy { OnErr result (Busy R.holds (lock_name self.now) (seat_view seat)) }
+    {
+        let Seat { mut inner } = seat;
+        let shared = &self.table.shared;
+        let found = shared.compare_exchange::<Try<M, R>>(&mut inner, 0, FREE, TAKEN);
+        if found != FREE {
+            return Err(Seat { inner });
+        }
+        let Some(value) = shared.exchange(&mut inner, 0, None) else {
+            unreachable!()
+        };
+        Ok(Turn { inner, value })
+    }
+
+    /// Ends a turn: the value goes home as the turn left it. It takes no memory.
+    pub fn give<M: Tells<R::Name, T, R::View>>(
+        &self,
+        turn: Turn<T, R::Name, R::View>,
+    ) -> Seat<T, R::Name, R::View>
+        requires turn { IsTurnOf self.now turn }
+        requires rule { Gives R.holds (lock_name self.now) (turn_number turn) (turn_view turn)
+            (turn_value turn) (M.then (lock_name self.now)) }
+        ensures seat { IsSeatOf self.now result × (seat_number result ≡ turn_number turn) }
+        ensures rule { M.then (lock_name self.now) (turn_view turn) (turn_value turn)
+            (seat_view result) }
+    {
+        let Turn { mut inner, value } = turn;
+        let shared = &self.table.shared;
+        let spent = shared.exchange(&mut inner, 0, Some(value));
+        let None = spent else { unreachable!() };
+        shared.swap::<Give<M>>(&mut inner, 0, FREE);
+        Seat { inner }
+    }
+
+    /// Cuts a seat's view in two: the first seat of the answer keeps the number, and the second is
+    /// new. It takes no memory.
+    pub fn split<M: Split<R::View>>(
+        &self,
+        seat: Seat<T, R::Name, R::View>,
+    ) -> (Seat<T, R::Name, R::View>, Seat<T, R::Name, R::View>)
+        requires seat { IsSeatOf self.now seat }
+        requires rule { Forks R.holds (lock_name self.now) (seat_number seat) (seat_view seat)
+            (M.left (seat_view seat)) (M.right (seat_view seat)) }
+        ensures seats { IsSeatOf self.now result.0 × IsSeatOf self.now result.1 }
+        ensures number { seat_number result.0 ≡ seat_number seat }
+        ensures left { seat_view result.0 ≡ M.left (seat_view seat) }
+        ensures right { seat_view result.1 ≡ M.right (seat_view seat) }
+    {
+        let Seat { mut inner } = seat;
+        let other = self.table.shared.split_seat::<Twin<M>>(&mut inner);
+        (Seat { inner }, Seat { inner: other })
+    }
+
+    /// Makes one seat of two, which keeps the first one's number, and looks at the rule with what
+    /// both knew. It takes no memory.
+    pub fn join<M: Join<R::View>, L: Learns<R::Name, R::View>>(
+        &self,
+        seat: Seat<T, R::Name, R::View>,
+        other: Seat<T, R::Name, R::View>,
+    ) -> Seat<T, R::Name, R::View>
+        requires seats { IsSeatOf self.now seat × IsSeatOf self.now other }
+        requires merges { Merges R.holds (lock_name self.now) (seat_number seat) (seat_view seat)
+            (seat_number other) (seat_view other)
+            (M.both (seat_view seat) (seat_view other)) M.spent }
+        requires looks { Looks R.holds (lock_name self.now) (seat_number seat)
+            (M.both (seat_view seat) (seat_view other)) (L.then (lock_name self.now)) }
+        ensures seat { IsSeatOf self.now result × (seat_number result ≡ seat_number seat) }
+        ensures rule { L.then (lock_name self.now) (M.both (seat_view seat) (seat_view other))
+            (seat_view result) }
+    {
+        let Seat { mut inner } = seat;
+        let Seat { inner: other } = other;
+        let shared = &self.table.shared;
+        shared.join_seat::<Pair<M>>(&mut inner, other);
+        shared.load::<Look<L>>(&mut inner, 0);
+        Seat { inner }
+    }
+
+    /// Takes the turn. It may wait, while another seat has it, and takes no memory.
+    pub fn take<M: Tells<R::Name, T, R::View>, W: Wait>(
+        &self,
+        rt: &W,
+        seat: Seat<T, R::Name, R::View>,
+    ) -> Turn<T, R::Name, R::View>
+        requires seat { IsSeatOf self.now seat }
+        requires rule { Takes R.holds (lock_name self.now) (seat_number seat) (seat_view seat)
+            (M.then (lock_name self.now)) }
+        ensures turn { IsTurnOf self.now result × (turn_number result ≡ seat_number seat) }
+        ensures rule { M.then (lock_name self.now) (seat_view seat) (turn_value result)
+            (turn_view result) }
+    {
+        let backoff = Backoff::new();
+        let mut seat = seat;
+        for _ in rt.forever() {
+            match self.try_take::<M>(seat) {
+                Ok(turn) => return turn,
+                Err(back) => seat = back,
+            }
+            backoff.snooze();
+        }
+        unreachable!()
+    }
+}

@@ -1,0 +1,90 @@
+use crate::counting::{count_by_threads, make_counter, read_sum, try_add_one};
+use crate::{Join, Learns, Split, Tells, TurnLock, TurnRule};
+use std::test::Fail;
+
+// A rule that allows everything.
+struct AnyValue;
+
+impl TurnRule<u64> for AnyValue {
+    type Name = ();
+
+    type View = ();
+
+    ghost holds = { λ _ _ _. Unit {0} };
+
+    ghost first = { λ _. tt };
+}
+
+impl Tells<(), u64, ()> for AnyValue {
+    ghost then = { λ _ _ _ _. Unit {0} };
+}
+
+impl Learns<(), ()> for AnyValue {
+    ghost then = { λ _ _ _. Unit {0} };
+}
+
+impl Split<()> for AnyValue {
+    ghost left = { λ _. tt };
+
+    ghost right = { λ _. tt };
+}
+
+impl Join<()> for AnyValue {
+    ghost both = { λ _ _. tt };
+
+    ghost spent = { tt };
+}
+
+#[test]
+fn turn_lock(rt: HostRuntime) -> Result<(), Fail> {
+    let (lock, seat) = TurnLock::<u64, AnyValue>::new(rt.alloc(), &(), 5)?;
+    let (a, b) = lock.split::<AnyValue>(seat);
+
+    let mut turn = lock.take::<AnyValue, HostRuntime>(&rt, a);
+    let first = *turn.value();
+    let (b, was_busy) = match lock.try_take::<AnyValue>(b) {
+        Ok(turn) => (lock.give::<AnyValue>(turn), false),
+        Err(b) => (b, true),
+    };
+    *turn.value() = 6;
+    let a = lock.give::<AnyValue>(turn);
+    assert!(rt; was_busy);
+    assert_eq!(rt; first, 5);
+
+    let Ok(mut turn) = lock.try_take::<AnyValue>(b) else {
+        panic!(rt; "the turn was free")
+    };
+    let second = *turn.value();
+    let b = lock.give::<AnyValue>(turn);
+    assert_eq!(rt; second, 6);
+
+    let seat = lock.join::<AnyValue, AnyValue>(a, b);
+    let mut turn = lock.take::<AnyValue, HostRuntime>(&rt, seat);
+    let last = *turn.value();
+    let _seat = lock.give::<AnyValue>(turn);
+    assert_eq!(rt; last, 6);
+    Ok(())
+}
+
+#[test]
+fn a_seat_alone_is_never_busy(rt: HostRuntime) -> Result<(), Fail> {
+    let (counter, seat) = make_counter(rt.alloc(), 1)?;
+    let Ok(seat) = try_add_one(&counter, seat) else {
+        panic!(rt; "no other seat could have the turn")
+    };
+    let (sum, _seat) = read_sum(&rt, &counter, seat);
+    assert_eq!(rt; sum, 1);
+    Ok(())
+}
+
+#[test]
+fn thousand_turns(rt: HostRuntime) -> Result<(), Fail> {
+    assert_eq!(rt; count_by_threads(&rt, rt.alloc(), 2, 1000)?, 2000);
+    Ok(())
+}
+
+#[test]
+fn sixteen_threads(rt: HostRuntime) -> Result<(), Fail> {
+    assert_eq!(rt; count_by_threads(&rt, rt.alloc(), 16, 2000)?, 32_000);
+    Ok(())
+}
