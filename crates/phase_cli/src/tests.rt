@@ -113,6 +113,56 @@ fn help_goes_to_the_output(rt: HostRuntime) -> Result<(), Fail> {
     Ok(())
 }
 
+/// A script and its replies, where the run ends well and says nothing of a fault.
+fn is_answered(alloc: Global, script: &str, replies: &str) -> Result<bool, Fail> {
+    let done = run(alloc, ["replay"].as_slice(), script.as_bytes())?;
+    Ok(done.status == 0 && done.faults.is_empty() && done.output.as_slice() == replies.as_bytes())
+}
+
+#[test]
+fn first_run(rt: HostRuntime) -> Result<(), Fail> {
+    assert!(rt;
+        is_answered(
+            rt.alloc(),
+            "make sum 2 100\nsend 0 5\nsignal 0\nwait 0\n",
+            "ok\nok\nok 0\nvalue 0 5\n",
+        )?
+    );
+    Ok(())
+}
+
+#[test]
+fn a_founder_alone(rt: HostRuntime) -> Result<(), Fail> {
+    // Turns, and a sum that is exact before its range is checked.
+    assert!(rt;
+        is_answered(
+            rt.alloc(),
+            "make sum 2 4\nwait 0\nsend 0 9223372036854775807\nsend 0 1\n\
+         send 0 -9223372036854775807\nsignal 0\nsignal 0\nwait 0\n",
+            "ok\nno signal-first\nok\nok\nok\nok 0\nno signal-twice\nvalue 0 1\n",
+        )?
+    );
+    // A sum past the range, a phase with no send, tasks that are not registered, the last phase.
+    assert!(rt;
+        is_answered(
+            rt.alloc(),
+            "make sum 2 2\nsend 0 9223372036854775807\nsend 0 1\nsignal 0\nwait 0\nsignal 0\n\
+         wait 0\nsend 5 1\nsignal 5\nwait 5\nsignal 0\nmake sum 2 2\n",
+            "ok\nok\nok\nok 0\ntoobig 0\nok 1\nvalue 1 0\nno no-task\nno no-task\nno no-task\n\
+         no spent\nno made\n",
+        )?
+    );
+    // Line ends, lines outside the grammar, and a last line without its line feed.
+    assert!(rt;
+        is_answered(
+            rt.alloc(),
+            "make sum 2 100\r\n wait 0\nwait  0\nwait 05\nsend 0 -0\nWait 0\n\nsignal 0",
+            "ok\nbad line\nbad line\nbad line\nbad line\nbad line\nbad line\nok 0\n",
+        )?
+    );
+    Ok(())
+}
+
 #[test]
 fn an_empty_script_has_no_reply(rt: HostRuntime) -> Result<(), Fail> {
     let bare = run(rt.alloc(), &[], b"")?;
