@@ -1,0 +1,7 @@
+-- The range of the values on a stream.
+use Rattle.std.specs.Prelude.{ℤ, nat_le, unsigned_abs, Result, Ok, Err, if◌then◌else◌}
+use Rattle.stream_filters.specs.declared.fault.TooBigValue.{TooBigValue}
+
+-- the value where its magnitude is at most 9223372036854775807, else `TooBigValue`
+abbrev pub ranged : ℤ → Result ℤ TooBigValue
+ranged z = if nat_le (unsigned_abs z) 9223372036854775807 then Ok z else Err (record {})

@@ -1,0 +1,110 @@
+//! The filter with a finite window.
+ghost use Rattle.std.specs.Prelude.{◌≡◌, ◌≢◌, ◌↔◌, ◌^◌, ◌<◌, ◌≤◌, List, [], ◌∷◌, ◌++◌, ℤ, IsTrue, IfOk, negsuc};
+ghost use Rattle.stream_filters.specs.Filter.{AreTaps, StandsFor, output_after, weight};
+ghost use Rattle.stream_filters.specs.Range.{ranged};
+
+use crate::fault::{FirFault, TooBigValue};
+use crate::sums::wide_answer;
+use circular_buffer::HeapCircularBuffer;
+use std::alloc::Global;
+use std::marker::Model;
+
+/// The most taps of a filter.
+pub const TAPS_MAX: usize = 64;
+/// The greatest magnitude of a tap.
+pub const TAP_MAX: u64 = 2_147_483_647;
+/// The greatest shift, in bits.
+pub const SHIFT_MAX: u32 = 62;
+
+/// Whether a filter may have these taps and this shift.
+fn are_taps(taps: &[i64], shift: u32) -> bool
+    ensures { IsTrue result ↔ AreTaps taps.now shift }
+{
+    !taps.is_empty()
+        && taps.len() <= TAPS_MAX
+        && shift <= SHIFT_MAX
+        && taps.iter().all(|tap| tap.unsigned_abs() <= TAP_MAX)
+}
+
+/// A filter: each answer is a weighted sum of the last samples.
+#[derive(Drop)]
+pub struct Fir {
+    taps: Vec<i64>,
+    shift: u32,
+    // the last samples, the newest in front
+    window: HeapCircularBuffer<i64>,
+}
+
+impl Model for Fir {
+    ghost use Rattle.stream_filters.specs.Filter.{FirState};
+
+    ghost Value = { FirState };
+
+    ghost use Rattle.stream_filters.specs.Inside.{fir_view, IsFir};
+
+    ghost view = { fir_view };
+
+    ghost invariant = { IsFir };
+}
+
+impl Fir {
+    ghost use Rattle.stream_filters.specs.Inside.{after_sample, answer_at};
+
+    /// A filter with these taps, the first for the newest sample, whose sums are shifted down by
+    /// `shift` bits. No sample came yet.
+    ///
+    /// It takes memory for the taps and for a window of as many samples.
+    pub fn new(alloc: Global, taps: &[i64], shift: u32) -> Result<Fir, FirFault>
+        ensures stands { IfOk result (λ fir. StandsFor fir []) }
+        ensures taps { IfOk result (λ fir. fir.taps ≡ taps.now) }
+        ensures shift { IfOk result (λ fir. fir.shift ≡ shift) }
+
+        ensures bad_taps { (result ≡ Err FirFault.BadTaps) ↔ ¬ (AreTaps taps.now shift) }
+    {
+        if !are_taps(taps, shift) {
+            return Err(FirFault::BadTaps);
+        }
+        let Ok(window) = HeapCircularBuffer::with_capacity(alloc, taps.len()) else {
+            return Err(FirFault::OutOfMemory);
+        };
+        let Ok(taps) = Vec::from_slice(alloc, taps) else {
+            return Err(FirFault::OutOfMemory);
+        };
+        Ok(Fir {
+            taps,
+            shift,
+            window,
+        })
+    }
+
+    /// Takes the sample `x` into the window, and answers the weighted sum of the last samples, or
+    /// `TooBigValue` where that is out of range. It takes no memory.
+    pub fn step(&mut self, x: i64) -> Result<i64, TooBigValue>
+        requires { x ≢ negsuc 9223372036854775807 }
+        ensures answer { (samples : List ℤ) → StandsFor self.old samples
+            → result ≡ ranged (output_after self.old.taps self.old.shift (samples ++ x ∷ [])) }
+        ensures stands { (samples : List ℤ) → StandsFor self.old samples
+            → StandsFor self.new (samples ++ x ∷ []) }
+
+        ensures taps { self.new.taps ≡ self.old.taps }
+        ensures shift { self.new.shift ≡ self.old.shift }
+    {
+        self.take(x);
+        self.answer()
+    }
+
+    /// Puts the sample `x` in front of the window, which gives up its oldest sample where it is full.
+    fn take(&mut self, x: i64)
+        ensures { self.new ≡ after_sample self.old x }
+    {
+        self.window.push_front(x);
+    }
+
+    /// The answer at the samples in the window.
+    fn answer(&self) -> Result<i64, TooBigValue>
+        ensures { result ≡ answer_at self.now.taps self.now.shift self.now.window }
+    {
+        let (front, back) = self.window.as_slices();
+        wide_answer(&self.taps, self.shift, front, back)
+    }
+}

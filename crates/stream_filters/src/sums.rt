@@ -1,0 +1,61 @@
+//! The sums of products that the filters answer.
+ghost use Rattle.std.specs.Prelude.{◌≡◌, ◌+◌, ◌^◌, ◌≤◌, ◌++◌, length, ◌*ℤ◌, unsigned_abs};
+ghost use Rattle.stream_filters.specs.Filter.{shifted_down, weight, weighted, at_place};
+ghost use Rattle.stream_filters.specs.Inside.{answer_at};
+
+use crate::fault::TooBigValue;
+use crate::range::in_range;
+
+/// The product of two values, which always fits 128 bits.
+pub(crate) fn product(x: i64, y: i64) -> i128
+    ensures value { result ≡ x *ℤ y }
+    ensures small { unsigned_abs result ≤ 2 ^ 126 }
+{
+    i128::from(x) * i128::from(y)
+}
+
+/// The sum of each sample times its tap, over samples of any size.
+fn wide_sum(taps: &[i64], samples: &[i64]) -> i128
+    requires short { length samples.now ≤ length taps.now }
+    requires light { weight taps.now ≤ 2 ^ 37 }
+    ensures sum { result ≡ weighted (at_place samples.now) taps.now }
+    ensures small { unsigned_abs result ≤ 2 ^ 100 }
+{
+    let mut sum = 0;
+    for i in 0..samples.len() {
+        sum += product(taps[i], samples[i]);
+    }
+    sum
+}
+
+/// The weighted sum of a window that lies in two slices, over samples of any size.
+fn wide_window_sum(taps: &[i64], front: &[i64], back: &[i64]) -> i128
+    requires short { length front.now + length back.now ≤ length taps.now }
+    requires light { weight taps.now ≤ 2 ^ 37 }
+    ensures sum { result ≡ weighted (at_place (front.now ++ back.now)) taps.now }
+{
+    wide_sum(taps, front) + wide_sum(&taps[front.len()..], back)
+}
+
+/// The sum divided by 2 to the power `shift`, rounded down.
+fn wide_shifted(sum: i128, shift: u32) -> i128
+    requires { shift ≤ 62 }
+    ensures { result ≡ shifted_down sum shift }
+{
+    sum >> shift
+}
+
+/// A filter's answer at a window that lies in two slices, over samples of any size.
+pub(crate) fn wide_answer(
+    taps: &[i64],
+    shift: u32,
+    front: &[i64],
+    back: &[i64],
+) -> Result<i64, TooBigValue>
+    requires short { length front.now + length back.now ≤ length taps.now }
+    requires light { weight taps.now ≤ 2 ^ 37 }
+    requires shift { shift ≤ 62 }
+    ensures { result ≡ answer_at taps.now shift (front.now ++ back.now) }
+{
+    in_range(wide_shifted(wide_window_sum(taps, front, back), shift))
+}
