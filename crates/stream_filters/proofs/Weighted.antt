@@ -1,13 +1,16 @@
 -- Weighted sums of windows.
-use Rattle.std.proofs.Common.{◌≡◌, ℕ, zero, suc, ◌+◌, ◌*◌, ◌<◌, ◌≤◌, List, [], ◌∷◌, ◌++◌, length, get_or, take, drop, ℤ, pos, negsuc, ◌+ℤ◌, ◌*ℤ◌, refl, sym, ap, ◌∙◌, arith}
+use Rattle.std.proofs.Common.{◌≡◌, ℕ, zero, suc, ◌+◌, ◌*◌, ◌^◌, ◌<◌, ◌≤◌, List, [], ◌∷◌, ◌++◌, length, get_or, take, drop, ℤ, pos, negsuc, ◌+ℤ◌, ◌*ℤ◌, Ok, refl, sym, ap, ◌∙◌, arith}
 use Rattle.std.specs.List.{All, sum_by}
 use Rattle.std.specs.Prelude.{unsigned_abs}
 use Rattle.std.proofs.Math.IntN.{+ℤ_assoc, +ℤ_idl, +ℤ_idr, *ℤ-zero}
 use Rattle.std.proofs.lemmas.Int.{ints, unsigned_abs-mul}
-use Rattle.std.proofs.lemmas.List.{take_more, length-take-le}
+use Rattle.std.proofs.lemmas.List.{take_more, length-take-le, length-append, get_or_append_left, get_or-append-add}
 use Rattle.std.proofs.lemmas.List.Sums.{sum_by-cons, sum_by_more, sum_by-take-le, sum_by-take-drop, get_or-le-sum_by}
-use Rattle.std.proofs.lemmas.Nat.{mul-le}
-use Rattle.stream_filters.specs.Filter.{weighted, at_place, weight}
+use Rattle.std.proofs.lemmas.Nat.{mul-le, shr_le}
+use Rattle.std.proofs.lemmas.Bool.Decides.{nat_tests}
+use Rattle.stream_filters.specs.Filter.{weighted, at_place, weight, shifted_down}
+use Rattle.stream_filters.specs.Range.{ranged}
+use Rattle.stream_filters.specs.Inside.{IsNarrow}
 
 -- only what stands below the number of taps counts
 pub weighted-same : (f g : ℕ → ℤ) (taps : List ℤ) → ((j : ℕ) → j < length taps → f j ≡ g j)
@@ -119,3 +122,45 @@ IsSumOf-small limit taps samples i sum so_far =
 
 pub weight-drop-le : (taps : List ℤ) (n : ℕ) → weight (drop n taps) ≤ weight taps
 weight-drop-le taps n = omega (arith, sum_by-take-drop unsigned_abs taps n)
+
+-- what stands in a list of small samples is small, and so is the 0 past its end
+pub at_place-small : (limit : ℕ) (samples : List ℤ) → All (λ x. unsigned_abs x ≤ limit) samples
+    → (j : ℕ) → unsigned_abs (at_place samples j) ≤ limit
+at_place-small limit [] small j = omega arith
+at_place-small limit (x ∷ samples) small zero = small 0 (pos 0) (omega arith)
+at_place-small limit (x ∷ samples) small (suc j) =
+    at_place-small limit samples (λ k d lt. small (suc k) d (omega arith)) j
+
+-- a sum over narrow samples
+pub IsNarrow-small : (taps samples : List ℤ) → IsNarrow taps samples → unsigned_abs (weighted (at_place samples) taps) < 2 ^ 63
+IsNarrow-small taps samples narrow =
+    let small = weighted-small narrow.limit (at_place samples) taps (at_place-small narrow.limit samples narrow.small) in
+    let fits = narrow.fits in
+    omega arith
+
+pub IsNarrow-front : (taps front back : List ℤ) → IsNarrow taps (front ++ back) → IsNarrow taps front
+IsNarrow-front taps front back narrow = record {
+  limit = narrow.limit;
+  small = λ k d lt. rw (sym (get_or_append_left front back d k lt)) (narrow.small k d (omega (arith, length-append front back)));
+  fits = narrow.fits;
+}
+
+pub IsNarrow-back : (taps front back : List ℤ) (n : ℕ) → IsNarrow taps (front ++ back) → IsNarrow (drop n taps) back
+IsNarrow-back taps front back n narrow = record {
+  limit = narrow.limit;
+  small = λ k d lt. rw (sym (get_or-append-add front back k d)) (narrow.small (length front + k) d (omega (arith, length-append front back)));
+  fits = let light = mul-le (weight (drop n taps)) narrow.limit (weight taps) narrow.limit (weight-drop-le taps n) (omega arith) in
+      let fits = narrow.fits in omega arith;
+}
+
+-- a shift does not lead away from zero
+shifted_down-le : (z : ℤ) (shift : ℕ) → unsigned_abs (shifted_down z shift) ≤ unsigned_abs z
+shifted_down-le (pos n) shift = shr_le n shift
+shifted_down-le (negsuc n) shift = let le = shr_le n shift in omega arith
+
+-- so what is shifted down is in range
+pub ranged-shifted_down : (z : ℤ) (shift : ℕ) → unsigned_abs z < 2 ^ 63 → ranged (shifted_down z shift) ≡ Ok (shifted_down z shift)
+ranged-shifted_down z shift small =
+    let le = shifted_down-le z shift in
+    let within : unsigned_abs (shifted_down z shift) ≤ 9223372036854775807 = omega arith in
+    grind (arith, nat_tests)

@@ -1,11 +1,11 @@
 -- Windows that stand for lists of samples.
 use Rattle.std.proofs.Common.{◌≡◌, ℕ, zero, suc, ◌+◌, ◌*◌, ◌^◌, ◌<◌, ◌≤◌, List, [], ◌∷◌, ◌++◌, length, get_or, reverse, take, ℤ, pos, refl, sym, ap, ◌∙◌, arith}
 use Rattle.std.specs.Prelude.{unsigned_abs}
-use Rattle.std.proofs.lemmas.List.{get_or-take, reverse-append}
+use Rattle.std.proofs.lemmas.List.{get_or-take, get_or_default, reverse-append}
 use Rattle.std.proofs.lemmas.List.Sums.{sum_by-le}
 use Rattle.std.proofs.lemmas.Nat.{mul-le}
 use Rattle.stream_filters.specs.Filter.{weighted, at_place, back, weight, shifted_down, output_after, AreTaps, StandsFor, FirState}
-use Rattle.stream_filters.specs.Inside.{answer_at, after_sample}
+use Rattle.stream_filters.specs.Inside.{answer_at, after_sample, IsNarrow}
 use Rattle.stream_filters.specs.Range.{ranged}
 use Rattle.stream_filters.proofs.Weighted.{weighted-same}
 
@@ -49,3 +49,12 @@ pub answer_at-push : (fir : FirState) (samples : List ℤ) (x : ℤ) → StandsF
     ≡ ranged (output_after fir.taps fir.shift (samples ++ x ∷ []))
 answer_at-push fir samples x stands =
     ap (λ z. ranged (shifted_down z fir.shift)) (weighted-StandsFor _ _ (StandsFor-push fir samples x stands))
+
+-- a window of samples within a limit that the taps allow
+pub IsNarrow-window : (taps window : List ℤ) (limit : ℕ) → length window ≤ length taps → weight taps * limit < 2 ^ 63
+    → ((j : ℕ) → j < length taps → unsigned_abs (at_place window j) ≤ limit) → IsNarrow taps window
+IsNarrow-window taps window limit held fits small = record {
+  limit = limit;
+  small = λ k d lt. rw (get_or_default window k d (pos 0) lt) (small k (omega arith));
+  fits = fits;
+}

@@ -1,6 +1,7 @@
 -- What the fields of a filter stand for.
-use Rattle.std.specs.Prelude.{◌≡◌, ◌≤◌, ℕ, ℤ, List, ◌∷◌, length, take, Result}
-use Rattle.stream_filters.specs.Filter.{FirState, AreTaps, shifted_down, weighted, at_place}
+use Rattle.std.specs.Prelude.{◌≡◌, ◌+◌, ◌*◌, ◌^◌, ◌<◌, ◌≤◌, unsigned_abs, ℕ, ℤ, List, ◌∷◌, length, take, Result}
+use Rattle.stream_filters.specs.Filter.{FirState, AreTaps, shifted_down, weighted, weight, at_place}
+use Rattle.std.specs.List.{All}
 use Rattle.stream_filters.specs.Range.{ranged}
 use Rattle.stream_filters.specs.declared.fault.TooBigValue.{TooBigValue}
 use Rattle.stream_filters.specs.declared.fir.Fir.TheInside.{Inside}
@@ -16,8 +17,16 @@ answer_at taps shift window = ranged (shifted_down (weighted (at_place window) t
 abbrev pub after_sample : FirState → ℤ → FirState
 after_sample fir x = record fir { window = take (length fir.taps) (x ∷ fir.window) }
 
+-- no sum over these samples leaves 64 bits, since they are at most this limit
+pub record IsNarrow (taps samples : List ℤ) : Type 0 where
+  pub limit : ℕ
+  pub small : All (λ x. unsigned_abs x ≤ limit) samples
+  pub fits : weight taps * limit < 2 ^ 63
+
 -- what holds of the fields of every filter
 pub record IsFir (f : Inside) : Type 0 where
   pub are_taps : AreTaps f.taps.items f.shift
   pub places : f.window.capacity ≡ length f.taps.items
   pub held : length f.window.items ≤ length f.taps.items
+  pub light : weight f.taps.items * f.limit < 2 ^ 63
+  pub recent : (j : ℕ) → j + f.wide < length f.taps.items → unsigned_abs (at_place f.window.items j) ≤ f.limit

@@ -4,7 +4,7 @@ ghost use Rattle.stream_filters.specs.Filter.{AreTaps, StandsFor, output_after, 
 ghost use Rattle.stream_filters.specs.Range.{ranged};
 
 use crate::fault::{FirFault, TooBigValue};
-use crate::sums::wide_answer;
+use crate::sums::{narrow_answer, narrow_limit, weight_of, wide_answer};
 use circular_buffer::HeapCircularBuffer;
 use std::alloc::Global;
 use std::marker::Model;
@@ -33,6 +33,10 @@ pub struct Fir {
     shift: u32,
     // the last samples, the newest in front
     window: HeapCircularBuffer<i64>,
+    // the greatest magnitude of samples at which 64 bits hold each sum
+    limit: u64,
+    // after so many more samples within the limit, the window holds no other
+    wide: usize,
 }
 
 impl Model for Fir {
@@ -64,6 +68,7 @@ impl Fir {
         if !are_taps(taps, shift) {
             return Err(FirFault::BadTaps);
         }
+        let limit = narrow_limit(weight_of(taps));
         let Ok(window) = HeapCircularBuffer::with_capacity(alloc, taps.len()) else {
             return Err(FirFault::OutOfMemory);
         };
@@ -74,6 +79,8 @@ impl Fir {
             taps,
             shift,
             window,
+            limit,
+            wide: 0,
         })
     }
 
@@ -98,6 +105,11 @@ impl Fir {
         ensures { self.new ≡ after_sample self.old x }
     {
         self.window.push_front(x);
+        self.wide = if x.unsigned_abs() > self.limit {
+            self.taps.len()
+        } else {
+            self.wide.saturating_sub(1)
+        };
     }
 
     /// The answer at the samples in the window.
@@ -105,6 +117,9 @@ impl Fir {
         ensures { result ≡ answer_at self.now.taps self.now.shift self.now.window }
     {
         let (front, back) = self.window.as_slices();
-        wide_answer(&self.taps, self.shift, front, back)
+        if self.wide > 0 {
+            return wide_answer(&self.taps, self.shift, front, back);
+        }
+        Ok(narrow_answer(&self.taps, self.shift, front, back))
     }
 }

@@ -1,7 +1,7 @@
 //! The sums of products that the filters answer.
-ghost use Rattle.std.specs.Prelude.{◌≡◌, ◌+◌, ◌^◌, ◌≤◌, ◌++◌, length, ◌*ℤ◌, unsigned_abs};
+ghost use Rattle.std.specs.Prelude.{◌≡◌, ◌+◌, ◌*◌, ◌^◌, ◌<◌, ◌≤◌, ◌++◌, length, ◌*ℤ◌, unsigned_abs};
 ghost use Rattle.stream_filters.specs.Filter.{shifted_down, weight, weighted, at_place};
-ghost use Rattle.stream_filters.specs.Inside.{answer_at};
+ghost use Rattle.stream_filters.specs.Inside.{answer_at, IsNarrow};
 
 use crate::fault::TooBigValue;
 use crate::range::in_range;
@@ -58,4 +58,59 @@ pub(crate) fn wide_answer(
     ensures { result ≡ answer_at taps.now shift (front.now ++ back.now) }
 {
     in_range(wide_shifted(wide_window_sum(taps, front, back), shift))
+}
+
+/// The sum of each sample times its tap, where 64 bits hold it.
+fn narrow_sum(taps: &[i64], samples: &[i64]) -> i64
+    requires short { length samples.now ≤ length taps.now }
+    requires narrow { IsNarrow taps.now samples.now }
+    ensures sum { result ≡ weighted (at_place samples.now) taps.now }
+{
+    let mut sum = 0;
+    for i in 0..samples.len() {
+        sum += taps[i] * samples[i];
+    }
+    sum
+}
+
+/// The weighted sum of a window that lies in two slices, where 64 bits hold it.
+fn narrow_window_sum(taps: &[i64], front: &[i64], back: &[i64]) -> i64
+    requires short { length front.now + length back.now ≤ length taps.now }
+    requires narrow { IsNarrow taps.now (front.now ++ back.now) }
+    ensures sum { result ≡ weighted (at_place (front.now ++ back.now)) taps.now }
+{
+    narrow_sum(taps, front) + narrow_sum(&taps[front.len()..], back)
+}
+
+/// The sum divided by 2 to the power `shift`, rounded down.
+fn narrow_shifted(sum: i64, shift: u32) -> i64
+    requires { shift ≤ 62 }
+    ensures { result ≡ shifted_down sum shift }
+{
+    sum >> shift
+}
+
+/// A filter's answer at a window that lies in two slices, where 64 bits hold the sum.
+pub(crate) fn narrow_answer(taps: &[i64], shift: u32, front: &[i64], back: &[i64]) -> i64
+    requires short { length front.now + length back.now ≤ length taps.now }
+    requires narrow { IsNarrow taps.now (front.now ++ back.now) }
+    requires shift { shift ≤ 62 }
+    ensures { Ok result ≡ answer_at taps.now shift (front.now ++ back.now) }
+{
+    narrow_shifted(narrow_window_sum(taps, front, back), shift)
+}
+
+/// The sum of the taps' magnitudes.
+pub(crate) fn weight_of(taps: &[i64]) -> u64
+    requires { weight taps.now ≤ 2 ^ 37 }
+    ensures { result ≡ weight taps.now }
+{
+    taps.iter().map(|tap| tap.unsigned_abs()).sum()
+}
+
+/// The greatest magnitude of samples at which 64 bits hold each sum of taps of this weight.
+pub(crate) fn narrow_limit(weight: u64) -> u64
+    ensures { weight * result < 2 ^ 63 }
+{
+    0x7fff_ffff_ffff_ffff / weight.max(1)
 }
