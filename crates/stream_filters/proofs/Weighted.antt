@@ -5,6 +5,7 @@ use Rattle.std.specs.Prelude.{unsigned_abs}
 use Rattle.std.proofs.Math.IntN.{+ℤ_assoc, +ℤ_idl, +ℤ_idr, *ℤ-zero}
 use Rattle.std.proofs.lemmas.Int.{ints, unsigned_abs-mul}
 use Rattle.std.proofs.lemmas.List.{take_more, length-take-le, length-append, get_or_append_left, get_or-append-add}
+use Rattle.std.proofs.lemmas.List.Elements.{All-drop}
 use Rattle.std.proofs.lemmas.List.Sums.{sum_by-cons, sum_by_more, sum_by-take-le, sum_by-take-drop, get_or-le-sum_by}
 use Rattle.std.proofs.lemmas.Nat.{mul-le, shr_le}
 use Rattle.std.proofs.lemmas.Bool.Decides.{nat_tests}
@@ -141,6 +142,8 @@ IsNarrow-small taps samples narrow =
 pub IsNarrow-front : (taps front back : List ℤ) → IsNarrow taps (front ++ back) → IsNarrow taps front
 IsNarrow-front taps front back narrow = record {
   limit = narrow.limit;
+  short = narrow.short;
+  short_taps = narrow.short_taps;
   small = λ k d lt. rw (sym (get_or_append_left front back d k lt)) (narrow.small k d (omega (arith, length-append front back)));
   fits = narrow.fits;
 }
@@ -148,6 +151,8 @@ IsNarrow-front taps front back narrow = record {
 pub IsNarrow-back : (taps front back : List ℤ) (n : ℕ) → IsNarrow taps (front ++ back) → IsNarrow (drop n taps) back
 IsNarrow-back taps front back n narrow = record {
   limit = narrow.limit;
+  short = narrow.short;
+  short_taps = All-drop (λ tap. unsigned_abs tap < 2 ^ 31) n taps narrow.short_taps;
   small = λ k d lt. rw (sym (get_or-append-add front back k d)) (narrow.small (length front + k) d (omega (arith, length-append front back)));
   fits = let light = mul-le (weight (drop n taps)) narrow.limit (weight taps) narrow.limit (weight-drop-le taps n) (omega arith) in
       let fits = narrow.fits in omega arith;

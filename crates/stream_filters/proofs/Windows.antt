@@ -2,6 +2,7 @@
 use Rattle.std.proofs.Common.{◌≡◌, ℕ, zero, suc, ◌+◌, ◌*◌, ◌^◌, ◌<◌, ◌≤◌, List, [], ◌∷◌, ◌++◌, length, get_or, reverse, take, ℤ, pos, refl, sym, ap, ◌∙◌, arith}
 use Rattle.std.specs.Prelude.{unsigned_abs}
 use Rattle.std.proofs.lemmas.List.{get_or-take, get_or_default, reverse-append}
+use Rattle.std.proofs.lemmas.List.Elements.{All-weaker}
 use Rattle.std.proofs.lemmas.List.Sums.{sum_by-le}
 use Rattle.std.proofs.lemmas.Nat.{mul-le}
 use Rattle.stream_filters.specs.Filter.{weighted, at_place, back, weight, shifted_down, output_after, AreTaps, StandsFor, FirState}
@@ -51,10 +52,12 @@ answer_at-push fir samples x stands =
     ap (λ z. ranged (shifted_down z fir.shift)) (weighted-StandsFor _ _ (StandsFor-push fir samples x stands))
 
 -- a window of samples within a limit that the taps allow
-pub IsNarrow-window : (taps window : List ℤ) (limit : ℕ) → length window ≤ length taps → weight taps * limit < 2 ^ 63
+pub IsNarrow-window : (taps window : List ℤ) (shift limit : ℕ) → AreTaps taps shift → length window ≤ length taps → limit < 2 ^ 31 → weight taps * limit < 2 ^ 63
     → ((j : ℕ) → j < length taps → unsigned_abs (at_place window j) ≤ limit) → IsNarrow taps window
-IsNarrow-window taps window limit held fits small = record {
+IsNarrow-window taps window shift limit are held short fits small = record {
   limit = limit;
+  short = short;
+  short_taps = All-weaker (λ tap. unsigned_abs tap ≤ 2147483647) (λ tap. unsigned_abs tap < 2 ^ 31) (λ tap le. omega arith) taps are.small;
   small = λ k d lt. rw (get_or_default window k d (pos 0) lt) (small k (omega arith));
   fits = fits;
 }

@@ -17,9 +17,11 @@ answer_at taps shift window = ranged (shifted_down (weighted (at_place window) t
 abbrev pub after_sample : FirState → ℤ → FirState
 after_sample fir x = record fir { window = take (length fir.taps) (x ∷ fir.window) }
 
--- no sum over these samples leaves 64 bits, since they are at most this limit
+-- taps and samples have 32 bits, and no sum over samples of at most this limit leaves 64 bits
 pub record IsNarrow (taps samples : List ℤ) : Type 0 where
   pub limit : ℕ
+  pub short : limit < 2 ^ 31
+  pub short_taps : All (λ tap. unsigned_abs tap < 2 ^ 31) taps
   pub small : All (λ x. unsigned_abs x ≤ limit) samples
   pub fits : weight taps * limit < 2 ^ 63
 
@@ -28,5 +30,6 @@ pub record IsFir (f : Inside) : Type 0 where
   pub are_taps : AreTaps f.taps.items f.shift
   pub places : f.window.capacity ≡ length f.taps.items
   pub held : length f.window.items ≤ length f.taps.items
+  pub short : f.limit < 2 ^ 31
   pub light : weight f.taps.items * f.limit < 2 ^ 63
   pub recent : (j : ℕ) → j + f.wide < length f.taps.items → unsigned_abs (at_place f.window.items j) ≤ f.limit

@@ -60,6 +60,15 @@ pub(crate) fn wide_answer(
     in_range(wide_shifted(wide_window_sum(taps, front, back), shift))
 }
 
+/// The product of two values of 32 bits, which a processor multiplies faster than longer ones.
+fn short_product(x: i64, y: i64) -> i64
+    requires x { unsigned_abs x < 2 ^ 31 }
+    requires y { unsigned_abs y < 2 ^ 31 }
+    ensures { result ≡ x *ℤ y }
+{
+    i64::from(x as i32) * i64::from(y as i32)
+}
+
 /// The sum of each sample times its tap, where 64 bits hold it.
 fn narrow_sum(taps: &[i64], samples: &[i64]) -> i64
     requires short { length samples.now ≤ length taps.now }
@@ -68,7 +77,7 @@ fn narrow_sum(taps: &[i64], samples: &[i64]) -> i64
 {
     let mut sum = 0;
     for i in 0..samples.len() {
-        sum += taps[i] * samples[i];
+        sum += short_product(taps[i], samples[i]);
     }
     sum
 }
@@ -108,9 +117,10 @@ pub(crate) fn weight_of(taps: &[i64]) -> u64
     taps.iter().map(|tap| tap.unsigned_abs()).sum()
 }
 
-/// The greatest magnitude of samples at which 64 bits hold each sum of taps of this weight.
+/// The greatest magnitude of samples of 32 bits at which 64 bits hold each sum of taps of this weight.
 pub(crate) fn narrow_limit(weight: u64) -> u64
-    ensures { weight * result < 2 ^ 63 }
+    ensures light { weight * result < 2 ^ 63 }
+    ensures short { result < 2 ^ 31 }
 {
-    0x7fff_ffff_ffff_ffff / weight.max(1)
+    (0x7fff_ffff_ffff_ffff / weight.max(1)).min(0x7fff_ffff)
 }
