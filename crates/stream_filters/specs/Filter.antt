@@ -1,6 +1,6 @@
 -- What a filter answers, as a function of the whole list of its samples.
 use Rattle.std.specs.Prelude.{◌≡◌, ℕ, suc, ◌+◌, ◌/◌, ◌^◌, ◌<◌, ◌≤◌, List, [], ◌∷◌, ◌++◌, length, map, reverse, take, get_or, ℤ, pos, negsuc, ◌+ℤ◌, ◌*ℤ◌, unsigned_abs}
-use Rattle.std.specs.List.{All, sum_by}
+use Rattle.std.specs.List.{All, sum_by, range_with_len}
 
 -- z divided by 2 ^ shift, rounded down
 abbrev pub shifted_down : ℤ → ℕ → ℤ
@@ -31,6 +31,10 @@ output_after taps shift samples = shifted_down (weighted (back samples) taps) sh
 -- the output of a filter at sample number n of these, before its range is checked
 abbrev pub output_at : List ℤ → ℕ → List ℤ → ℕ → ℤ
 output_at taps shift samples n = output_after taps shift (take (suc n) samples)
+
+-- the outputs of a filter at each of these samples in turn, before their range is checked
+abbrev pub outputs : List ℤ → ℕ → List ℤ → List ℤ
+outputs taps shift samples = map (output_at taps shift samples) (range_with_len 0 (length samples))
 
 -- a filter's taps and shift, and the samples that its window holds, the newest first
 pub record FirState : Type 0 where

@@ -7,6 +7,7 @@ use crate::range::in_range;
 use crate::sums::product;
 
 /// A peer: it answers its input times a constant, less what another stream brought.
+#[derive(Clone, Copy, Debug, PartialEq, Eq)]
 pub struct Peer;
 
 impl Peer {

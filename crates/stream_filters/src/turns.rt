@@ -14,6 +14,7 @@ fn place_after(place: usize, count: usize) -> usize
 }
 
 /// A splitter's turns: which of its outputs takes the next sample.
+#[derive(Drop)]
 pub struct Split {
     count: usize,
     next: usize,
@@ -55,6 +56,7 @@ impl Split {
 }
 
 /// A joiner's turns: which of its inputs gives the next sample.
+#[derive(Drop)]
 pub struct Join {
     count: usize,
     next: usize,

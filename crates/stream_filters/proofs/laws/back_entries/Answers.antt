@@ -1,0 +1,5 @@
+use Rattle.stream_filters.proofs.Outputs.{back_is, back-before}
+use Rattle.stream_filters.proofs.laws.back_entries.Goals as goal
+
+pub returns : goal.returns
+returns c = record { entry = back_is; before = back-before }
