@@ -38,11 +38,11 @@ fn wide_window_sum(taps: &[i64], front: &[i64], back: &[i64]) -> i128
 }
 
 /// The sum divided by 2 to the power `shift`, rounded down.
-fn wide_shifted(sum: i128, shift: u32) -> i128
+fn wide_shifted(wide: i128, shift: u32) -> i128
     requires { shift ≤ 62 }
-    ensures { result ≡ shifted_down sum shift }
+    ensures { result ≡ shifted_down wide shift }
 {
-    sum >> shift
+    wide >> shift
 }
 
 /// A filter's answer at a window that lies in two slices, over samples of any size.
@@ -92,11 +92,11 @@ fn narrow_window_sum(taps: &[i64], front: &[i64], back: &[i64]) -> i64
 }
 
 /// The sum divided by 2 to the power `shift`, rounded down.
-fn narrow_shifted(sum: i64, shift: u32) -> i64
+fn narrow_shifted(narrow: i64, shift: u32) -> i64
     requires { shift ≤ 62 }
-    ensures { result ≡ shifted_down sum shift }
+    ensures { result ≡ shifted_down narrow shift }
 {
-    sum >> shift
+    narrow >> shift
 }
 
 /// A filter's answer at a window that lies in two slices, where 64 bits hold the sum.

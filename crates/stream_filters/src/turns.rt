@@ -49,9 +49,9 @@ impl Split {
         ensures within { result < self.old.count }
         ensures count { self.new.count ≡ self.old.count }
     {
-        let turn = self.next;
-        self.next = place_after(turn, self.count);
-        turn
+        let output = self.next;
+        self.next = place_after(output, self.count);
+        output
     }
 }
 
@@ -91,8 +91,8 @@ impl Join {
         ensures within { result < self.old.count }
         ensures count { self.new.count ≡ self.old.count }
     {
-        let turn = self.next;
-        self.next = place_after(turn, self.count);
-        turn
+        let input = self.next;
+        self.next = place_after(input, self.count);
+        input
     }
 }

@@ -1,7 +1,6 @@
-use Rattle.std.proofs.Common.{rules, ◌≡◌, ℤ, Ok, w64, FitsSigned, to_z, of_z, sym, ap, ◌∙◌}
+use Rattle.std.proofs.Common.{rules, ◌≡◌, w64, FitsSigned, sym, ap, ◌∙◌}
 use Rattle.std.proofs.lemmas.Int.{to_z-of_z}
 use Rattle.stream_filters.specs.Filter.{shifted_down}
-use Rattle.stream_filters.specs.Range.{ranged}
 use Rattle.stream_filters.proofs.Weighted.{IsNarrow-small, ranged-shifted_down}
 use Rattle.stream_filters.proofs.sums.narrow_answer.Goals as goal
 

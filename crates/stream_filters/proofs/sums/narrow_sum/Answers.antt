@@ -1,8 +1,8 @@
-use Rattle.std.proofs.Common.{rules, arith, ◌≡◌, ℕ, take, ◌+◌, ◌*◌, ◌^◌, ◌<◌, ◌≤◌, length, slice_index_or, ℤ, pos, ◌+ℤ◌, ◌*ℤ◌, unsigned_abs, w64, FitsSigned, to_z, of_z, refl, sym, ap, ◌∙◌}
+use Rattle.std.proofs.Common.{rules, arith, ◌≡◌, ℕ, take, ◌+◌, ◌≤◌, slice_index_or, pos, ◌+ℤ◌, ◌*ℤ◌, unsigned_abs, w64, FitsSigned, to_z, of_z, refl, ap, ◌∙◌}
 use Rattle.std.proofs.lemmas.Int.{to_z-of_z, fits_signed_from_abs}
 use Rattle.std.proofs.lemmas.List.{take_all}
 use Rattle.std.specs.List.{All}
-use Rattle.stream_filters.specs.Filter.{weight, weighted, at_place}
+use Rattle.stream_filters.specs.Filter.{weighted, at_place}
 use Rattle.stream_filters.proofs.Weighted.{IsSumOf, IsSumOf-none, IsSumOf-more, IsSumOf-small}
 use Rattle.stream_filters.proofs.sums.narrow_sum.Goals as goal
 use Rattle.stream_filters.proofs.sums.narrow_sum.Goals.{After-short_product-sum}

@@ -1,4 +1,4 @@
-use Rattle.std.proofs.Common.{rules, arith, ◌≡◌, ◌++◌, length, drop, ℤ, ◌+ℤ◌, w64, FitsSigned, to_z, of_z, sym, ap, ◌∙◌}
+use Rattle.std.proofs.Common.{rules, ◌≡◌, ◌++◌, length, drop, ◌+ℤ◌, w64, FitsSigned, to_z, of_z, sym, ap, ◌∙◌}
 use Rattle.std.proofs.lemmas.Int.{to_z-of_z, fits_signed_from_abs}
 use Rattle.std.proofs.lemmas.List.{take_rest}
 use Rattle.stream_filters.specs.Filter.{weighted, at_place}

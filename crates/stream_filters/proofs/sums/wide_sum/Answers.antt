@@ -1,4 +1,4 @@
-use Rattle.std.proofs.Common.{rules, arith, ◌≡◌, ℕ, take, ◌+◌, ◌*◌, ◌^◌, ◌<◌, ◌≤◌, slice_index_or, ℤ, pos, ◌+ℤ◌, ◌*ℤ◌, unsigned_abs, w64, FitsSigned, to_z, of_z, refl, sym, ap, ◌∙◌}
+use Rattle.std.proofs.Common.{rules, arith, ◌≡◌, ℕ, take, ◌+◌, ◌*◌, ◌^◌, ◌≤◌, slice_index_or, pos, ◌+ℤ◌, ◌*ℤ◌, w64, FitsSigned, to_z, of_z, refl, ap, ◌∙◌}
 use Rattle.std.specs.Int.{w128}
 use Rattle.std.proofs.lemmas.Int.{to_z-of_z, fits_signed_from_abs}
 use Rattle.std.proofs.lemmas.List.{take_all}

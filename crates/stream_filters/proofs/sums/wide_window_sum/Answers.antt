@@ -1,8 +1,8 @@
-use Rattle.std.proofs.Common.{rules, arith, ◌≡◌, ◌+◌, ◌*◌, ◌^◌, ◌<◌, ◌≤◌, length, drop, ℤ, pos, ◌+ℤ◌, ◌*ℤ◌, unsigned_abs, w64, FitsSigned, to_z, of_z, refl, sym, ap, ◌∙◌}
+use Rattle.std.proofs.Common.{rules, arith, ◌≡◌, length, drop, ◌+ℤ◌, FitsSigned, to_z, of_z, sym, ap, ◌∙◌}
 use Rattle.std.specs.Int.{w128}
-use Rattle.std.proofs.lemmas.Int.{to_z-of_z, fits_signed_from_abs}
+use Rattle.std.proofs.lemmas.Int.{to_z-of_z}
 use Rattle.std.proofs.lemmas.List.{take_rest}
-use Rattle.stream_filters.specs.Filter.{weight, weighted, at_place}
+use Rattle.stream_filters.specs.Filter.{weighted, at_place}
 use Rattle.stream_filters.proofs.Weighted.{weighted-append, weight-drop-le}
 use Rattle.stream_filters.proofs.sums.wide_window_sum.Goals as goal
 

@@ -1,4 +1,4 @@
-use Rattle.std.proofs.Common.{◌<◌, ◌≤◌, ◌+◌, ℕ, length, arith}
+use Rattle.std.proofs.Common.{arith}
 use Rattle.stream_filters.proofs.Windows.{weight-small, IsNarrow-window}
 use Rattle.stream_filters.proofs.fir.Fir.answer.Goals as goal
 

@@ -1,4 +1,4 @@
-use Rattle.std.proofs.Common.{◌≡◌, Bool, true, IsTrue, rules}
+use Rattle.std.proofs.Common.{rules}
 use Rattle.stream_filters.specs.Filter.{AreTaps}
 use Rattle.stream_filters.proofs.Windows.{weight-small}
 use Rattle.stream_filters.proofs.fir.Fir.new.Goals as goal

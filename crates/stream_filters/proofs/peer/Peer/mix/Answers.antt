@@ -1,7 +1,6 @@
-use Rattle.std.proofs.Common.{rules, ◌≡◌, ◌*ℤ◌, ◌-ℤ◌, w64, ℤ, FitsSigned, to_z, of_z, arith, sym, ap, ◌∙◌}
+use Rattle.std.proofs.Common.{rules, ◌≡◌, ◌*ℤ◌, ◌-ℤ◌, FitsSigned}
 use Rattle.std.specs.Int.{w128}
 use Rattle.std.proofs.lemmas.Int.{to_z-of_z}
-use Rattle.stream_filters.specs.Range.{ranged}
 use Rattle.stream_filters.proofs.peer.Peer.mix.Goals as goal
 
 -- 128 bits hold the product, and what is left of it
