@@ -12,4 +12,4 @@ pub narrow_answer-requires-clause-narrow : goal.narrow_answer-requires-clause-na
 narrow_answer-requires-clause-narrow c =
     rw (c.deref-2.ensures.value, c.as_slices.ensures)
     (IsNarrow-window _ _ _ c.self.inside.limit c.self.invariant.are_taps c.self.invariant.held c.self.invariant.short c.self.invariant.light
-    (λ j lt. c.self.invariant.recent j (let none = c.if-self-gt0.false in omega arith)))
+    (λ j lt. c.self.invariant.recent j (omega arith)))
