@@ -26,7 +26,19 @@ fn are_taps(taps: &[i64], shift: u32) -> bool
         && taps.iter().all(|tap| tap.unsigned_abs() <= TAP_MAX)
 }
 
-/// A filter: each answer is a weighted sum of the last samples.
+/// A filter with a finite window: each answer is a weighted sum of the last samples.
+///
+/// **Samples.** The first tap weighs the newest sample, the next the one before it, and so on.
+/// Before the first sample there are zeros.
+///
+/// **Answers.** The sum is divided by 2 to the power of the shift and rounded down, so -1 shifted
+/// by one bit is -1. Where that is out of range the answer is `TooBigValue`, and the window has
+/// taken the sample all the same.
+///
+/// **Speed.** While each sample in the window is small enough for the taps, the sums have 64 bits,
+/// and else 128. The answers are the same.
+///
+/// **Example.** With the taps 1, 2 and 1 and a shift of 2, the samples -1, -1 and 0 give -1 each.
 #[derive(Drop)]
 pub struct Fir {
     taps: Vec<i64>,
@@ -54,10 +66,9 @@ impl Model for Fir {
 impl Fir {
     ghost use Rattle.stream_filters.specs.Inside.{after_sample, answer_at};
 
-    /// A filter with these taps, the first for the newest sample, whose sums are shifted down by
-    /// `shift` bits. No sample came yet.
+    /// Makes a filter with these taps and a shift in bits, before its first sample.
     ///
-    /// It takes memory for the taps and for a window of as many samples.
+    /// It takes memory for the taps and for a window of as many samples. `BadTaps` comes first.
     pub fn new(alloc: Global, taps: &[i64], shift: u32) -> Result<Fir, FirFault>
         ensures stands { IfOk result (λ fir. StandsFor fir []) }
         ensures taps { IfOk result (λ fir. fir.taps ≡ taps.now) }
@@ -85,7 +96,7 @@ impl Fir {
     }
 
     /// Takes the sample `x` into the window, and answers the weighted sum of the last samples, or
-    /// `TooBigValue` where that is out of range. It takes no memory.
+    /// `TooBigValue` where that is out of range. `x` is in the range of values. It takes no memory.
     pub fn step(&mut self, x: i64) -> Result<i64, TooBigValue>
         requires { x ≢ lowest }
         ensures answer { (samples : List ℤ) → StandsFor self.old samples
@@ -100,7 +111,7 @@ impl Fir {
         self.answer()
     }
 
-    /// Puts the sample `x` in front of the window, which gives up its oldest sample where it is full.
+    /// Puts the sample `x` in front of the window, which gives up its oldest one where it is full.
     fn take(&mut self, x: i64)
         ensures { self.new ≡ after_sample self.old x }
     {

@@ -18,9 +18,10 @@ pub fn rounds_down()
         → z <ℤ ((shifted_down z shift +ℤ pos 1) *ℤ pos (2 ^ shift)) }
 {}
 
-/// The sample `j` places back from sample number `n` is number `n - j`, and 0 where `j` is above `n`.
+/// The sample `j` places back from sample number `n` is number `n - j`, and 0 where there is none.
 pub fn back_entries()
     ensures entry { (samples : List ℤ) (n j : ℕ) → length samples ≡ n + 1 → j ≤ n
         → back samples j ≡ get_or samples (n - j) (pos 0) }
-    ensures before { (samples : List ℤ) (j : ℕ) → length samples ≤ j → back samples j ≡ pos 0 }
+    ensures before { (samples : List ℤ) (j : ℕ) → length samples ≤ j
+        → back samples j ≡ pos 0 }
 {}

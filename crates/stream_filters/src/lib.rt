@@ -1,4 +1,7 @@
-//! The arithmetic of the graph program: filters over streams of samples, and the turns of splitters and joiners.
+//! The arithmetic of streams: filters over samples, peers, and the turns of splitters and joiners.
+//!
+//! It is for a scheduler that moves the samples itself: make a `Fir` with `Fir::new`, and give it
+//! one sample after the other with `Fir::step`.
 #![tactic(auto)]
 
 mod fault;

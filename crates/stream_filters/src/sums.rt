@@ -117,7 +117,8 @@ pub(crate) fn weight_of(taps: &[i64]) -> u64
     taps.iter().map(|tap| tap.unsigned_abs()).sum()
 }
 
-/// The greatest magnitude of samples of 32 bits at which 64 bits hold each sum of taps of this weight.
+/// The greatest magnitude of samples of 32 bits at which 64 bits hold each sum, for taps of this
+/// weight.
 pub(crate) fn narrow_limit(weight: u64) -> u64
     ensures light { weight * result < 2 ^ 63 }
     ensures short { result < 2 ^ 31 }

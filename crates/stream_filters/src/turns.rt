@@ -28,11 +28,11 @@ impl Model for Split {
 
     ghost view = { λ s. record { count = s.count; next = s.next } };
 
-    ghost invariant = { (λ s. (s.next < s.count) × (s.count ≤ 8)) };
+    ghost invariant = { λ s. (s.next < s.count) × (s.count ≤ 8) };
 }
 
 impl Split {
-    /// The turns of a splitter with `m` outputs, before its first sample.
+    /// Makes the turns of a splitter with `m` outputs, before its first sample.
     pub fn new(m: usize) -> Split
         requires { (2 ≤ m) × (m ≤ 8) }
         ensures count { result.count ≡ m }
@@ -41,7 +41,8 @@ impl Split {
         Split { count: m, next: 0 }
     }
 
-    /// The output that takes the next sample: 0, 1, .., m - 1, 0, and so on. It takes no memory.
+    /// Answers which output takes the next sample: 0, 1, .., m - 1, 0, and so on. It takes no
+    /// memory.
     pub fn turn(&mut self) -> usize
         ensures turn { (n : ℕ) → HasTurned self.old n → result ≡ turn_after self.old.count n }
         ensures turned { (n : ℕ) → HasTurned self.old n → HasTurned self.new (n + 1) }
@@ -70,11 +71,11 @@ impl Model for Join {
 
     ghost view = { λ j. record { count = j.count; next = j.next } };
 
-    ghost invariant = { (λ j. (j.next < j.count) × (j.count ≤ 8)) };
+    ghost invariant = { λ j. (j.next < j.count) × (j.count ≤ 8) };
 }
 
 impl Join {
-    /// The turns of a joiner with `m` inputs, before its first sample.
+    /// Makes the turns of a joiner with `m` inputs, before its first sample.
     pub fn new(m: usize) -> Join
         requires { (2 ≤ m) × (m ≤ 8) }
         ensures count { result.count ≡ m }
@@ -83,7 +84,8 @@ impl Join {
         Join { count: m, next: 0 }
     }
 
-    /// The input that gives the next sample: 0, 1, .., m - 1, 0, and so on. It takes no memory.
+    /// Answers which input gives the next sample: 0, 1, .., m - 1, 0, and so on. It takes no
+    /// memory.
     pub fn turn(&mut self) -> usize
         ensures turn { (n : ℕ) → HasTurned self.old n → result ≡ turn_after self.old.count n }
         ensures turned { (n : ℕ) → HasTurned self.old n → HasTurned self.new (n + 1) }
