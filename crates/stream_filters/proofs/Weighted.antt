@@ -1,12 +1,12 @@
 -- Weighted sums of windows.
-use Rattle.std.proofs.Common.{◌≡◌, ℕ, zero, suc, ◌+◌, ◌*◌, ◌^◌, ◌<◌, ◌≤◌, List, [], ◌∷◌, ◌++◌, length, get_or, take, drop, ℤ, pos, negsuc, ◌+ℤ◌, ◌*ℤ◌, Ok, refl, sym, ap, ◌∙◌, arith}
+use Rattle.std.proofs.Common.{◌≡◌, ℕ, zero, suc, ◌+◌, ◌-◌, ◌*◌, ◌^◌, ◌<◌, ◌≤◌, List, [], ◌∷◌, ◌++◌, length, get_or, take, drop, ℤ, pos, negsuc, ◌+ℤ◌, ◌*ℤ◌, Ok, refl, sym, ap, ◌∙◌, arith}
 use Rattle.std.specs.List.{All}
 use Rattle.std.specs.Prelude.{unsigned_abs}
 use Rattle.std.proofs.Math.IntN.{+ℤ_assoc, +ℤ_idl, +ℤ_idr, *ℤ-zero}
 use Rattle.std.proofs.lemmas.Int.{ints, unsigned_abs-mul}
-use Rattle.std.proofs.lemmas.List.{take_more, length-take-le, length-append, get_or_append_left, get_or-append-add}
+use Rattle.std.proofs.lemmas.List.{take_more, take_rest, take_all, length-take-le, length-append, get_or-append-add}
 use Rattle.std.proofs.lemmas.List.Elements.{All-drop}
-use Rattle.std.proofs.lemmas.List.Sums.{sum_by-cons, sum_by_more, sum_by-take-le, sum_by-take-drop, get_or-le-sum_by}
+use Rattle.std.proofs.lemmas.List.Sums.{sum_by-cons, sum_by_more, sum_by-take-le, sum_by-take-drop}
 use Rattle.std.proofs.lemmas.Nat.{mul-le, shr_le}
 use Rattle.std.proofs.lemmas.Bool.Decides.{nat_tests}
 use Rattle.stream_filters.specs.Filter.{weighted, at_place, weight, shifted_down}
@@ -39,6 +39,15 @@ weighted-append (x ∷ xs) ys [] = refl
 weighted-append (x ∷ xs) ys (tap ∷ taps) =
     ap (λ z. (tap *ℤ x) +ℤ z) (weighted-append xs ys taps) ∙ sym (+ℤ_assoc (tap *ℤ x) _ _)
 
+-- the sums over a window's two parts make the sum over it
+pub weighted-parts : (taps front back : List ℤ) (first then : ℤ) → first ≡ weighted (at_place front) taps
+    → then ≡ weighted (at_place back) (take (length taps - length front) (drop (length front) taps))
+    → first +ℤ then ≡ weighted (at_place (front ++ back)) taps
+weighted-parts taps front back first then first_is then_is =
+    let rest = ap (weighted (at_place back)) (take_rest taps (length front)) in
+    ap (λ z. z +ℤ then) first_is
+    ∙ (ap (λ z. weighted (at_place front) taps +ℤ z) (then_is ∙ rest) ∙ sym (weighted-append front back taps))
+
 -- one more sample of a window that has fewer than there are taps
 pub weighted-push : (xs : List ℤ) (taps : List ℤ) (x : ℤ) → length xs < length taps
     → weighted (at_place (xs ++ x ∷ [])) taps
@@ -54,6 +63,7 @@ weighted-push [] (tap ∷ taps) x lt =
 weighted-push (y ∷ xs) (tap ∷ taps) x lt =
     ap (λ z. (tap *ℤ y) +ℤ z) (weighted-push xs taps x (omega arith)) ∙ sym (+ℤ_assoc (tap *ℤ y) _ _)
 
+-- a sum is at most the magnitudes together
 abs_add : (a b : ℤ) → unsigned_abs (a +ℤ b) ≤ unsigned_abs a + unsigned_abs b
 abs_add (pos a) (pos b) = omega arith
 abs_add (pos a) (negsuc b) = grind (arith, ints)
@@ -77,14 +87,9 @@ pub record IsSumOf (limit : ℕ) (taps samples : List ℤ) (i : ℕ) (sum : ℤ)
   pub is : sum ≡ weighted (at_place (take i samples)) taps
   pub small : unsigned_abs sum ≤ weight (take i taps) * limit
 
+-- no sample
 pub IsSumOf-none : (limit : ℕ) (taps samples : List ℤ) → IsSumOf limit taps samples 0 (pos 0)
 IsSumOf-none limit taps samples = record { is = sym (weighted-zero taps); small = omega arith }
-
-pub product-small : (limit : ℕ) (taps : List ℤ) (i : ℕ) (tap x : ℤ) → i < length taps
-    → tap ≡ get_or taps i (pos 0) → unsigned_abs x ≤ limit → unsigned_abs (tap *ℤ x) ≤ weight taps * limit
-product-small limit taps i tap x lt tap_is small =
-    rw (unsigned_abs-mul tap x) (mul-le (unsigned_abs tap) (unsigned_abs x) (weight taps) limit
-    (rw tap_is (get_or-le-sum_by unsigned_abs taps i (pos 0) lt)) small)
 
 -- one more sample
 pub IsSumOf-more : (limit : ℕ) (taps samples : List ℤ) (i : ℕ) (sum tap x : ℤ) → IsSumOf limit taps samples i sum
@@ -114,6 +119,7 @@ IsSumOf-more limit taps samples i sum tap x so_far lt short tap_is x_is x_small 
       small = rw weights (omega arith);
     }
 
+-- the bound of the sum so far is one of the whole
 pub IsSumOf-small : (limit : ℕ) (taps samples : List ℤ) (i : ℕ) (sum : ℤ) → IsSumOf limit taps samples i sum
     → unsigned_abs sum ≤ weight taps * limit
 IsSumOf-small limit taps samples i sum so_far =
@@ -121,6 +127,13 @@ IsSumOf-small limit taps samples i sum so_far =
     let small = so_far.small in
     omega (arith, part)
 
+-- all samples
+pub IsSumOf-whole : (limit : ℕ) (taps samples : List ℤ) (i : ℕ) (sum : ℤ) → IsSumOf limit taps samples i sum
+    → length samples ≤ i → sum ≡ weighted (at_place samples) taps
+IsSumOf-whole limit taps samples i sum so_far le =
+    so_far.is ∙ ap (λ z. weighted (at_place z) taps) (take_all i samples le)
+
+-- fewer taps weigh less
 pub weight-drop-le : (taps : List ℤ) (n : ℕ) → weight (drop n taps) ≤ weight taps
 weight-drop-le taps n = omega (arith, sum_by-take-drop unsigned_abs taps n)
 
@@ -139,15 +152,7 @@ IsNarrow-small taps samples narrow =
     let fits = narrow.fits in
     omega arith
 
-pub IsNarrow-front : (taps front back : List ℤ) → IsNarrow taps (front ++ back) → IsNarrow taps front
-IsNarrow-front taps front back narrow = record {
-  limit = narrow.limit;
-  short = narrow.short;
-  short_taps = narrow.short_taps;
-  small = λ k d lt. rw (sym (get_or_append_left front back d k lt)) (narrow.small k d (omega (arith, length-append front back)));
-  fits = narrow.fits;
-}
-
+-- the back of narrow samples, at the taps that are left
 pub IsNarrow-back : (taps front back : List ℤ) (n : ℕ) → IsNarrow taps (front ++ back) → IsNarrow (drop n taps) back
 IsNarrow-back taps front back n narrow = record {
   limit = narrow.limit;

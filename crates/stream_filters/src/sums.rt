@@ -29,6 +29,8 @@ fn wide_sum(taps: &[i64], samples: &[i64]) -> i128
 }
 
 /// The weighted sum of a window that lies in two slices, over samples of any size.
+// Inlined, its loops would take the registers of a step that does not run them.
+#[inline(never)]
 fn wide_window_sum(taps: &[i64], front: &[i64], back: &[i64]) -> i128
     requires short { length front.now + length back.now ≤ length taps.now }
     requires light { weight taps.now ≤ 2 ^ 37 }
@@ -83,6 +85,8 @@ fn narrow_sum(taps: &[i64], samples: &[i64]) -> i64
 }
 
 /// The weighted sum of a window that lies in two slices, where 64 bits hold it.
+// Inlined, its loops would take the registers of a step that does not run them.
+#[inline(never)]
 fn narrow_window_sum(taps: &[i64], front: &[i64], back: &[i64]) -> i64
     requires short { length front.now + length back.now ≤ length taps.now }
     requires narrow { IsNarrow taps.now (front.now ++ back.now) }

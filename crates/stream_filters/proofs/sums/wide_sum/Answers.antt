@@ -1,16 +1,17 @@
-use Rattle.std.proofs.Common.{rules, arith, ◌≡◌, ℕ, take, ◌+◌, ◌*◌, ◌^◌, ◌≤◌, slice_index_or, pos, ◌+ℤ◌, ◌*ℤ◌, w64, FitsSigned, to_z, of_z, refl, ap, ◌∙◌}
+use Rattle.std.proofs.Common.{rules, arith, ◌≡◌, ℕ, ◌+◌, ◌*◌, ◌^◌, ◌≤◌, slice_index_or, pos, ◌+ℤ◌, ◌*ℤ◌, w64, FitsSigned, to_z, of_z, refl, ◌∙◌}
 use Rattle.std.specs.Int.{w128}
 use Rattle.std.proofs.lemmas.Int.{to_z-of_z, fits_signed_from_abs}
-use Rattle.std.proofs.lemmas.List.{take_all}
 use Rattle.std.proofs.lemmas.Nat.{mul-le}
 use Rattle.std.specs.Int.Signed.{nat_abs-le}
-use Rattle.stream_filters.specs.Filter.{weight, weighted, at_place}
-use Rattle.stream_filters.proofs.Weighted.{IsSumOf, IsSumOf-none, IsSumOf-more, IsSumOf-small}
+use Rattle.stream_filters.specs.Filter.{weight}
+use Rattle.stream_filters.proofs.Weighted.{IsSumOf, IsSumOf-none, IsSumOf-more, IsSumOf-small, IsSumOf-whole}
 use Rattle.stream_filters.proofs.sums.wide_sum.Goals as goal
 
+-- no sample is summed yet
 pub loop-i-init : goal.loop-i-init
 loop-i-init c = IsSumOf-none _ c.args.taps.now c.args.samples.now
 
+-- a sum over taps of this weight has at most 100 bits
 light_taps : (n : ℕ) → n ≤ 2 ^ 37 → n * 2 ^ 63 ≤ 2 ^ 100
 light_taps n light = mul-le n (2 ^ 63) (2 ^ 37) (2 ^ 63) light (omega arith)
 
@@ -31,6 +32,7 @@ more c =
     IsSumOf-more _ c.args.taps.now c.args.samples.now c.loop-i.i _ _ _ c.loop-i.invariant
     c.loop-i-test.true c.requires.short refl refl (nat_abs-le (slice_index_or c.args.samples.now c.loop-i.i (pos 0)) sample.sfits)
 
+-- which the sum's type holds
 pub overflow_add-sum : goal.overflow_add-sum
 overflow_add-sum c =
     rw (added c) (fits_signed_from_abs w128 _ (
@@ -38,16 +40,17 @@ overflow_add-sum c =
     let light : weight c.args.taps.now * 2 ^ 63 ≤ 2 ^ 100 = light_taps _ c.requires.light in
     omega arith))
 
+-- so nothing is lost
 pub loop-i-preserved : goal.loop-i-preserved
 loop-i-preserved c =
     let fits = overflow_add-sum c in
     rw (to_z-of_z w128 _ fits, added c) (more c)
 
+-- each sample is summed
 pub returns-clause-sum : goal.returns-clause-sum
-returns-clause-sum c =
-    let all : take c.loop-i.i c.args.samples.now ≡ c.args.samples.now = take_all _ _ c.loop-i-test.false in
-    c.loop-i.invariant.is ∙ ap (λ z. weighted (at_place z) c.args.taps.now) all
+returns-clause-sum c = IsSumOf-whole _ _ _ _ _ c.loop-i.invariant c.loop-i-test.false
 
+-- by the sum's bound
 pub returns-clause-small : goal.returns-clause-small
 returns-clause-small c =
     let small = IsSumOf-small _ _ _ _ _ c.loop-i.invariant in
