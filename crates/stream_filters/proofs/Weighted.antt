@@ -1,0 +1,176 @@
+-- Weighted sums of windows.
+use Rattle.std.proofs.Common.{◌≡◌, ℕ, zero, suc, ◌+◌, ◌-◌, ◌*◌, ◌^◌, ◌<◌, ◌≤◌, List, [], ◌∷◌, ◌++◌, length, get_or, take, drop, ℤ, pos, negsuc, ◌+ℤ◌, ◌*ℤ◌, Ok, refl, sym, ap, ◌∙◌, arith}
+use Rattle.std.specs.List.{All}
+use Rattle.std.specs.Prelude.{unsigned_abs}
+use Rattle.std.proofs.Math.IntN.{+ℤ_assoc, +ℤ_idl, +ℤ_idr, *ℤ-zero}
+use Rattle.std.proofs.lemmas.Int.{ints, unsigned_abs-mul}
+use Rattle.std.proofs.lemmas.List.{take_more, take_rest, take_all, length-take-le, length-append, get_or-append-add}
+use Rattle.std.proofs.lemmas.List.Elements.{All-drop}
+use Rattle.std.proofs.lemmas.List.Sums.{sum_by-cons, sum_by_more, sum_by-take-le, sum_by-take-drop}
+use Rattle.std.proofs.lemmas.Nat.{mul-le, shr_le}
+use Rattle.std.proofs.lemmas.Bool.Decides.{nat_tests}
+use Rattle.stream_filters.specs.Filter.{weighted, at_place, weight, shifted_down}
+use Rattle.stream_filters.specs.Range.{ranged}
+use Rattle.stream_filters.specs.Inside.{IsNarrow}
+
+-- only what stands below the number of taps counts
+pub weighted-same : (f g : ℕ → ℤ) (taps : List ℤ) → ((j : ℕ) → j < length taps → f j ≡ g j)
+    → weighted f taps ≡ weighted g taps
+weighted-same f g [] same = refl
+weighted-same f g (tap ∷ taps) same =
+    let here : f 0 ≡ g 0 = same 0 (omega arith) in
+    let rest : weighted (λ j. f (suc j)) taps ≡ weighted (λ j. g (suc j)) taps =
+    weighted-same (λ j. f (suc j)) (λ j. g (suc j)) taps (λ j lt. same (suc j) (omega arith)) in
+    ap (λ z. (tap *ℤ z) +ℤ weighted (λ j. f (suc j)) taps) here
+    ∙ ap (λ z. (tap *ℤ g 0) +ℤ z) rest
+
+-- zeros add nothing
+pub weighted-zero : (taps : List ℤ) → weighted (at_place []) taps ≡ pos 0
+weighted-zero [] = refl
+weighted-zero (tap ∷ taps) =
+    ap (λ z. z +ℤ weighted (at_place []) taps) (*ℤ-zero tap) ∙ (+ℤ_idl _ ∙ weighted-zero taps)
+
+-- the sum over a window is that over its beginning and that over its rest, at the taps that are left
+pub weighted-append : (xs ys : List ℤ) (taps : List ℤ) → weighted (at_place (xs ++ ys)) taps
+    ≡ weighted (at_place xs) taps +ℤ weighted (at_place ys) (drop (length xs) taps)
+weighted-append [] ys taps =
+    sym (ap (λ z. z +ℤ weighted (at_place ys) taps) (weighted-zero taps) ∙ +ℤ_idl _)
+weighted-append (x ∷ xs) ys [] = refl
+weighted-append (x ∷ xs) ys (tap ∷ taps) =
+    ap (λ z. (tap *ℤ x) +ℤ z) (weighted-append xs ys taps) ∙ sym (+ℤ_assoc (tap *ℤ x) _ _)
+
+-- the sums over a window's two parts make the sum over it
+pub weighted-parts : (taps front back : List ℤ) (first then : ℤ) → first ≡ weighted (at_place front) taps
+    → then ≡ weighted (at_place back) (take (length taps - length front) (drop (length front) taps))
+    → first +ℤ then ≡ weighted (at_place (front ++ back)) taps
+weighted-parts taps front back first then first_is then_is =
+    let rest = ap (weighted (at_place back)) (take_rest taps (length front)) in
+    ap (λ z. z +ℤ then) first_is
+    ∙ (ap (λ z. weighted (at_place front) taps +ℤ z) (then_is ∙ rest) ∙ sym (weighted-append front back taps))
+
+-- one more sample of a window that has fewer than there are taps
+pub weighted-push : (xs : List ℤ) (taps : List ℤ) (x : ℤ) → length xs < length taps
+    → weighted (at_place (xs ++ x ∷ [])) taps
+    ≡ weighted (at_place xs) taps +ℤ (get_or taps (length xs) (pos 0) *ℤ x)
+weighted-push xs [] x lt = absurd (omega arith)
+weighted-push [] (tap ∷ taps) x lt =
+    let none : weighted (at_place []) (tap ∷ taps) ≡ pos 0 = weighted-zero (tap ∷ taps) in
+    let rest : (tap *ℤ x) +ℤ weighted (at_place []) taps ≡ (tap *ℤ x) +ℤ pos 0 =
+    ap (λ z. (tap *ℤ x) +ℤ z) (weighted-zero taps) in
+    let left : (tap *ℤ x) +ℤ pos 0 ≡ tap *ℤ x = +ℤ_idr _ in
+    let right : pos 0 +ℤ (tap *ℤ x) ≡ tap *ℤ x = +ℤ_idl _ in
+    cc (rest, left, right, none)
+weighted-push (y ∷ xs) (tap ∷ taps) x lt =
+    ap (λ z. (tap *ℤ y) +ℤ z) (weighted-push xs taps x (omega arith)) ∙ sym (+ℤ_assoc (tap *ℤ y) _ _)
+
+-- a sum is at most the magnitudes together
+abs_add : (a b : ℤ) → unsigned_abs (a +ℤ b) ≤ unsigned_abs a + unsigned_abs b
+abs_add (pos a) (pos b) = omega arith
+abs_add (pos a) (negsuc b) = grind (arith, ints)
+abs_add (negsuc a) (pos b) = grind (arith, ints)
+abs_add (negsuc a) (negsuc b) = omega arith
+
+-- a sum over samples of at most this magnitude
+pub weighted-small : (limit : ℕ) (at : ℕ → ℤ) (taps : List ℤ) → ((j : ℕ) → unsigned_abs (at j) ≤ limit)
+    → unsigned_abs (weighted at taps) ≤ weight taps * limit
+weighted-small limit at [] small = omega arith
+weighted-small limit at (tap ∷ taps) small =
+    let rest : unsigned_abs (weighted (λ j. at (suc j)) taps) ≤ weight taps * limit =
+    weighted-small limit (λ j. at (suc j)) taps (λ j. small (suc j)) in
+    let here : unsigned_abs (tap *ℤ at 0) ≤ unsigned_abs tap * limit =
+    rw (unsigned_abs-mul tap (at 0)) (mul-le (unsigned_abs tap) (unsigned_abs (at 0)) (unsigned_abs tap) limit (omega arith) (small 0)) in
+    let both = abs_add (tap *ℤ at 0) (weighted (λ j. at (suc j)) taps) in
+    rw (sum_by-cons unsigned_abs tap taps) (omega arith)
+
+-- after i samples: the sum so far, of samples of at most this magnitude
+pub record IsSumOf (limit : ℕ) (taps samples : List ℤ) (i : ℕ) (sum : ℤ) : Type 0 where
+  pub is : sum ≡ weighted (at_place (take i samples)) taps
+  pub small : unsigned_abs sum ≤ weight (take i taps) * limit
+
+-- no sample
+pub IsSumOf-none : (limit : ℕ) (taps samples : List ℤ) → IsSumOf limit taps samples 0 (pos 0)
+IsSumOf-none limit taps samples = record { is = sym (weighted-zero taps); small = omega arith }
+
+-- one more sample
+pub IsSumOf-more : (limit : ℕ) (taps samples : List ℤ) (i : ℕ) (sum tap x : ℤ) → IsSumOf limit taps samples i sum
+    → i < length samples → length samples ≤ length taps → tap ≡ get_or taps i (pos 0)
+    → x ≡ get_or samples i (pos 0) → unsigned_abs x ≤ limit
+    → IsSumOf limit taps samples (i + 1) (sum +ℤ (tap *ℤ x))
+IsSumOf-more limit taps samples i sum tap x so_far lt short tap_is x_is x_small =
+    let few : i < length taps = omega arith in
+    let more : take (i + 1) samples ≡ take i samples ++ x ∷ [] =
+    take_more samples i (pos 0) lt ∙ ap (λ z. take i samples ++ z ∷ []) (sym x_is) in
+    let len : length (take i samples) ≡ i = length-take-le i samples (omega arith) in
+    let pushed : weighted (at_place (take i samples ++ x ∷ [])) taps
+    ≡ weighted (at_place (take i samples)) taps +ℤ (get_or taps (length (take i samples)) (pos 0) *ℤ x) =
+    weighted-push (take i samples) taps x (omega arith) in
+    let tap_at : get_or taps (length (take i samples)) (pos 0) ≡ tap =
+    ap (λ n. get_or taps n (pos 0)) len ∙ sym tap_is in
+    let weights : weight (take (i + 1) taps) ≡ weight (take i taps) + unsigned_abs tap =
+    sum_by_more unsigned_abs taps i (pos 0) few ∙ ap (λ z. weight (take i taps) + unsigned_abs z) (sym tap_is) in
+    let here : unsigned_abs (tap *ℤ x) ≤ unsigned_abs tap * limit =
+    rw (unsigned_abs-mul tap x) (mul-le (unsigned_abs tap) (unsigned_abs x) (unsigned_abs tap) limit (omega arith) x_small) in
+    let both = abs_add sum (tap *ℤ x) in
+    let smalls : unsigned_abs sum ≤ weight (take i taps) * limit = so_far.small in
+    record {
+      is = ap (λ z. z +ℤ (tap *ℤ x)) so_far.is
+          ∙ (ap (λ z. weighted (at_place (take i samples)) taps +ℤ (z *ℤ x)) (sym tap_at)
+          ∙ (sym pushed ∙ ap (λ z. weighted (at_place z) taps) (sym more)));
+      small = rw weights (omega arith);
+    }
+
+-- the bound of the sum so far is one of the whole
+pub IsSumOf-small : (limit : ℕ) (taps samples : List ℤ) (i : ℕ) (sum : ℤ) → IsSumOf limit taps samples i sum
+    → unsigned_abs sum ≤ weight taps * limit
+IsSumOf-small limit taps samples i sum so_far =
+    let part = mul-le (weight (take i taps)) limit (weight taps) limit (sum_by-take-le unsigned_abs taps i) (omega arith) in
+    let small = so_far.small in
+    omega (arith, part)
+
+-- all samples
+pub IsSumOf-whole : (limit : ℕ) (taps samples : List ℤ) (i : ℕ) (sum : ℤ) → IsSumOf limit taps samples i sum
+    → length samples ≤ i → sum ≡ weighted (at_place samples) taps
+IsSumOf-whole limit taps samples i sum so_far le =
+    so_far.is ∙ ap (λ z. weighted (at_place z) taps) (take_all i samples le)
+
+-- fewer taps weigh less
+pub weight-drop-le : (taps : List ℤ) (n : ℕ) → weight (drop n taps) ≤ weight taps
+weight-drop-le taps n = omega (arith, sum_by-take-drop unsigned_abs taps n)
+
+-- what stands in a list of small samples is small, and so is the 0 past its end
+pub at_place-small : (limit : ℕ) (samples : List ℤ) → All (λ x. unsigned_abs x ≤ limit) samples
+    → (j : ℕ) → unsigned_abs (at_place samples j) ≤ limit
+at_place-small limit [] small j = omega arith
+at_place-small limit (x ∷ samples) small zero = small 0 (pos 0) (omega arith)
+at_place-small limit (x ∷ samples) small (suc j) =
+    at_place-small limit samples (λ k d lt. small (suc k) d (omega arith)) j
+
+-- a sum over narrow samples
+pub IsNarrow-small : (taps samples : List ℤ) → IsNarrow taps samples → unsigned_abs (weighted (at_place samples) taps) < 2 ^ 63
+IsNarrow-small taps samples narrow =
+    let small = weighted-small narrow.limit (at_place samples) taps (at_place-small narrow.limit samples narrow.small) in
+    let fits = narrow.fits in
+    omega arith
+
+-- the back of narrow samples, at the taps that are left
+pub IsNarrow-back : (taps front back : List ℤ) (n : ℕ) → IsNarrow taps (front ++ back) → IsNarrow (drop n taps) back
+IsNarrow-back taps front back n narrow = record {
+  limit = narrow.limit;
+  short = narrow.short;
+  short_taps = All-drop (λ tap. unsigned_abs tap < 2 ^ 31) n taps narrow.short_taps;
+  small = λ k d lt. rw (sym (get_or-append-add front back k d)) (narrow.small (length front + k) d (omega (arith, length-append front back)));
+  fits = let light = mul-le (weight (drop n taps)) narrow.limit (weight taps) narrow.limit (weight-drop-le taps n) (omega arith) in
+      let fits = narrow.fits in omega arith;
+}
+
+-- a shift does not lead away from zero
+shifted_down-le : (z : ℤ) (shift : ℕ) → unsigned_abs (shifted_down z shift) ≤ unsigned_abs z
+shifted_down-le (pos n) shift = shr_le n shift
+shifted_down-le (negsuc n) shift = let le = shr_le n shift in omega arith
+
+-- so what is shifted down is in range
+pub ranged-shifted_down : (z : ℤ) (shift : ℕ) → unsigned_abs z < 2 ^ 63 → ranged (shifted_down z shift) ≡ Ok (shifted_down z shift)
+ranged-shifted_down z shift small =
+    let le = shifted_down-le z shift in
+    let within : unsigned_abs (shifted_down z shift) ≤ 9223372036854775807 = omega arith in
+    grind (arith, nat_tests)

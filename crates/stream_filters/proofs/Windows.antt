@@ -1,0 +1,62 @@
+-- Windows that stand for lists of samples.
+use Rattle.std.proofs.Common.{◌≡◌, ℕ, zero, suc, ◌*◌, ◌^◌, ◌<◌, ◌≤◌, List, [], ◌∷◌, ◌++◌, length, get_or, ℤ, pos, sym, ap, ◌∙◌, arith}
+use Rattle.std.specs.Prelude.{unsigned_abs}
+use Rattle.std.proofs.lemmas.List.{get_or-take, get_or_default, reverse-append}
+use Rattle.std.proofs.lemmas.List.Elements.{All-weaker}
+use Rattle.std.proofs.lemmas.List.Sums.{sum_by-le}
+use Rattle.stream_filters.specs.Filter.{weighted, at_place, back, weight, shifted_down, output_after, AreTaps, StandsFor, FirState}
+use Rattle.stream_filters.specs.Inside.{answer_at, after_sample, IsNarrow}
+use Rattle.stream_filters.specs.Range.{ranged}
+use Rattle.stream_filters.proofs.Weighted.{weighted-same}
+
+-- taps of a filter are light enough for 128 bits
+pub weight-small : (taps : List ℤ) (shift : ℕ) → AreTaps taps shift → weight taps ≤ 2 ^ 37
+weight-small taps shift are =
+    let all : weight taps ≤ length taps * 2147483647 = sum_by-le unsigned_abs 2147483647 taps are.small in
+    let few : length taps ≤ 64 = are.few in
+    omega arith
+
+-- a window that stands for the samples gives their sum
+pub weighted-StandsFor : (fir : FirState) (samples : List ℤ) → StandsFor fir samples
+    → weighted (at_place fir.window) fir.taps ≡ weighted (back samples) fir.taps
+weighted-StandsFor fir samples stands =
+    weighted-same (at_place fir.window) (back samples) fir.taps stands.shows
+
+back-zero : (samples : List ℤ) (x : ℤ) → back (samples ++ x ∷ []) 0 ≡ x
+back-zero samples x = ap (λ s. get_or s 0 (pos 0)) (reverse-append samples (x ∷ []))
+
+back-suc : (samples : List ℤ) (x : ℤ) (j : ℕ) → back (samples ++ x ∷ []) (suc j) ≡ back samples j
+back-suc samples x j = ap (λ s. get_or s (suc j) (pos 0)) (reverse-append samples (x ∷ []))
+
+-- a new sample in front
+shows-push : (n : ℕ) (window samples : List ℤ) (x : ℤ) → ((j : ℕ) → j < n → at_place window j ≡ back samples j)
+    → (j : ℕ) → j < n → at_place (x ∷ window) j ≡ back (samples ++ x ∷ []) j
+shows-push n window samples x shows zero lt = sym (back-zero samples x)
+shows-push n window samples x shows (suc j) lt =
+    let lt_before : j < n = omega arith in
+    shows j lt_before ∙ sym (back-suc samples x j)
+
+pub StandsFor-push : (fir : FirState) (samples : List ℤ) (x : ℤ) → StandsFor fir samples
+    → StandsFor (after_sample fir x) (samples ++ x ∷ [])
+StandsFor-push fir samples x stands = record {
+  shows = λ j lt. get_or-take (length fir.taps) (x ∷ fir.window) j (pos 0) lt
+      ∙ shows-push (length fir.taps) fir.window samples x stands.shows j lt;
+}
+
+-- what the window then gives is the filter's output
+pub answer_at-push : (fir : FirState) (samples : List ℤ) (x : ℤ) → StandsFor fir samples
+    → answer_at fir.taps fir.shift (after_sample fir x).window
+    ≡ ranged (output_after fir.taps fir.shift (samples ++ x ∷ []))
+answer_at-push fir samples x stands =
+    ap (λ z. ranged (shifted_down z fir.shift)) (weighted-StandsFor _ _ (StandsFor-push fir samples x stands))
+
+-- a window of samples within a limit that the taps allow
+pub IsNarrow-window : (taps window : List ℤ) (shift limit : ℕ) → AreTaps taps shift → length window ≤ length taps → limit < 2 ^ 31 → weight taps * limit < 2 ^ 63
+    → ((j : ℕ) → j < length taps → unsigned_abs (at_place window j) ≤ limit) → IsNarrow taps window
+IsNarrow-window taps window shift limit are held short fits small = record {
+  limit = limit;
+  short = short;
+  short_taps = All-weaker (λ tap. unsigned_abs tap ≤ 2147483647) (λ tap. unsigned_abs tap < 2 ^ 31) (λ tap le. omega arith) taps are.small;
+  small = λ k d lt. rw (get_or_default window k d (pos 0) lt) (small k (omega arith));
+  fits = fits;
+}

@@ -1,0 +1,36 @@
+-- What the fields of a filter stand for.
+use Rattle.std.specs.Prelude.{◌≡◌, ◌+◌, ◌*◌, ◌^◌, ◌<◌, ◌≤◌, unsigned_abs, ℕ, ℤ, List, ◌∷◌, length, take, Result}
+use Rattle.stream_filters.specs.Filter.{FirState, AreTaps, shifted_down, weighted, weight, at_place}
+use Rattle.std.specs.List.{All}
+use Rattle.stream_filters.specs.Range.{ranged}
+use Rattle.stream_filters.specs.declared.fault.TooBigValue.{TooBigValue}
+use Rattle.stream_filters.specs.declared.fir.Fir.TheInside.{Inside}
+
+abbrev pub fir_view : Inside → FirState
+fir_view f = record { taps = f.taps.items; shift = f.shift; window = f.window.items }
+
+-- the answer that a window gives
+abbrev pub answer_at : List ℤ → ℕ → List ℤ → Result ℤ TooBigValue
+answer_at taps shift window = ranged (shifted_down (weighted (at_place window) taps) shift)
+
+-- with the sample x in front of the window, which holds as many samples as there are taps
+abbrev pub after_sample : FirState → ℤ → FirState
+after_sample fir x = record fir { window = take (length fir.taps) (x ∷ fir.window) }
+
+-- taps and samples have 32 bits, and no sum over samples of at most this limit leaves 64 bits
+pub record IsNarrow (taps samples : List ℤ) : Type 0 where
+  pub limit : ℕ
+  pub short : limit < 2 ^ 31
+  pub short_taps : All (λ tap. unsigned_abs tap < 2 ^ 31) taps
+  pub small : All (λ x. unsigned_abs x ≤ limit) samples
+  pub fits : weight taps * limit < 2 ^ 63
+
+-- what holds of the fields of every filter
+pub record IsFir (f : Inside) : Type 0 where
+  pub are_taps : AreTaps f.taps.items f.shift
+  pub places : f.window.capacity ≡ length f.taps.items
+  pub held : length f.window.items ≤ length f.taps.items
+  pub short : f.limit < 2 ^ 31
+  pub light : weight f.taps.items * f.limit < 2 ^ 63
+  pub recent : (j : ℕ) → j + f.wide < length f.taps.items
+      → unsigned_abs (at_place f.window.items j) ≤ f.limit

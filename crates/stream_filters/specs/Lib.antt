@@ -1,0 +1,4 @@
+pub mod Filter
+pub mod Inside
+pub mod Range
+pub mod Turns

@@ -1,0 +1,27 @@
+//! Laws of the definitions.
+ghost use Rattle.std.specs.Prelude.{◌≡◌, ℕ, ◌+◌, ◌-◌, ◌^◌, ◌<◌, ◌≤◌, List, [], ◌∷◌, ◌++◌, length, get_or, ℤ, pos, ◌+ℤ◌, ◌*ℤ◌, ◌≤ℤ◌, ◌<ℤ◌};
+ghost use Rattle.stream_filters.specs.Filter.{back, output_after, outputs, shifted_down};
+
+/// One more sample leaves the outputs as they were and adds one, the output after it. So a run of
+/// steps from a new filter answers the outputs of all its samples.
+pub fn outputs_grow()
+    ensures { (taps : List ℤ) (shift : ℕ) (samples : List ℤ) (x : ℤ)
+        → outputs taps shift (samples ++ x ∷ [])
+        ≡ outputs taps shift samples ++ output_after taps shift (samples ++ x ∷ []) ∷ [] }
+{}
+
+/// A shift divides and rounds down: the quotient times the divisor is at most the value, and the
+/// next quotient's is above it.
+pub fn rounds_down()
+    ensures below { (z : ℤ) (shift : ℕ) → (shifted_down z shift *ℤ pos (2 ^ shift)) ≤ℤ z }
+    ensures above { (z : ℤ) (shift : ℕ)
+        → z <ℤ ((shifted_down z shift +ℤ pos 1) *ℤ pos (2 ^ shift)) }
+{}
+
+/// The sample `j` places back from sample number `n` is number `n - j`, and 0 where there is none.
+pub fn back_entries()
+    ensures entry { (samples : List ℤ) (n j : ℕ) → length samples ≡ n + 1 → j ≤ n
+        → back samples j ≡ get_or samples (n - j) (pos 0) }
+    ensures before { (samples : List ℤ) (j : ℕ) → length samples ≤ j
+        → back samples j ≡ pos 0 }
+{}

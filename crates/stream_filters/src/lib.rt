@@ -1,0 +1,22 @@
+//! The arithmetic of streams: filters over samples, peers, and the turns of splitters and joiners.
+//!
+//! It is for a scheduler that moves the samples itself: make a `Fir` with `Fir::new`, and give it
+//! one sample after the other with `Fir::step`.
+#![tactic(auto)]
+
+mod fault;
+mod fir;
+mod laws;
+mod peer;
+mod range;
+mod sums;
+#[cfg(test)]
+mod tests;
+mod turns;
+
+pub use fault::{FirFault, TooBigValue};
+pub use fir::{Fir, SHIFT_MAX, TAP_MAX, TAPS_MAX};
+pub use laws::{back_entries, outputs_grow, rounds_down};
+pub use peer::Peer;
+pub use range::{VALUE_MAX, VALUE_MIN};
+pub use turns::{Join, Split};

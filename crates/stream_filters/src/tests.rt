@@ -1,0 +1,79 @@
+use crate::{Fir, FirFault, Join, Peer, Split, TooBigValue, VALUE_MAX, VALUE_MIN};
+use std::alloc::AllocError;
+use std::test::*;
+
+/// The filter, or that memory ran out.
+fn made(fir: Result<Fir, FirFault>) -> Result<Fir, AllocError> {
+    fir.map_err(|_fault| AllocError)
+}
+
+#[test]
+fn rounds_down_and_not_towards_zero(rt: HostRuntime) -> Result<(), Fail> {
+    let mut fir = made(Fir::new(rt.alloc(), &[1, 2, 1], 2))?;
+    assert_eq!(rt; fir.step(-1), Ok(-1));
+    assert_eq!(rt; fir.step(-1), Ok(-1));
+    assert_eq!(rt; fir.step(0), Ok(-1));
+    Ok(())
+}
+
+#[test]
+fn one_tap_of_one_answers_the_sample(rt: HostRuntime) -> Result<(), Fail> {
+    let mut fir = made(Fir::new(rt.alloc(), &[1], 0))?;
+    assert_eq!(rt; fir.step(7), Ok(7));
+    Ok(())
+}
+
+#[test]
+fn only_a_sum_out_of_range_is_too_big(rt: HostRuntime) -> Result<(), Fail> {
+    let mut fir = made(Fir::new(rt.alloc(), &[2], 0))?;
+    assert_eq!(rt; fir.step(VALUE_MAX), Err(TooBigValue));
+    assert_eq!(rt; fir.step(1), Ok(2));
+    let mut halved = made(Fir::new(rt.alloc(), &[2], 1))?;
+    assert_eq!(rt; halved.step(VALUE_MAX), Ok(VALUE_MAX));
+    assert_eq!(rt; halved.step(VALUE_MIN), Ok(VALUE_MIN));
+    Ok(())
+}
+
+#[test]
+fn sixty_four_greatest_taps_meet_the_extremes(rt: HostRuntime) -> Result<(), Fail> {
+    let taps = [2_147_483_647; 64];
+    let mut fir = made(Fir::new(rt.alloc(), &taps, 62))?;
+    assert_eq!(rt; fir.step(VALUE_MAX), Ok(4_294_967_293));
+    for _ in 0..62 {
+        assert!(rt; fir.step(VALUE_MAX).is_ok());
+    }
+    assert_eq!(rt; fir.step(VALUE_MAX), Ok(274_877_906_815));
+    for _ in 0..63 {
+        assert!(rt; fir.step(VALUE_MIN).is_ok());
+    }
+    assert_eq!(rt; fir.step(VALUE_MIN), Ok(-274_877_906_816));
+    Ok(())
+}
+
+#[test]
+fn peers_and_turns(rt: HostRuntime) -> Result<(), Fail> {
+    assert_eq!(rt; Peer::mix(2, 1, 11), Ok(-9));
+    let mut split = Split::new(2);
+    let mut join = Join::new(3);
+    assert_eq!(rt; (split.turn(), split.turn(), split.turn()), (0, 1, 0));
+    assert_eq!(rt;
+        (join.turn(), join.turn(), join.turn(), join.turn()),
+        (0, 1, 2, 0)
+    );
+    Ok(())
+}
+
+#[test]
+fn bad_taps_are_refused(rt: HostRuntime) -> Result<(), Fail> {
+    let many = [0; 65];
+    assert!(rt; matches!(Fir::new(rt.alloc(), &[], 0), Err(FirFault::BadTaps)));
+    assert!(rt; matches!(Fir::new(rt.alloc(), &many, 0), Err(FirFault::BadTaps)));
+    assert!(rt;
+        matches!(
+            Fir::new(rt.alloc(), &[2_147_483_648], 0),
+            Err(FirFault::BadTaps)
+        )
+    );
+    assert!(rt; matches!(Fir::new(rt.alloc(), &[1], 63), Err(FirFault::BadTaps)));
+    Ok(())
+}
