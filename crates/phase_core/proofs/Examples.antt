@@ -1,20 +1,21 @@
 -- The definitions at work: short scripts of calls, whose replies are computed here and compared
 -- with replies that were found by hand.
-use Rattle.std.proofs.Common.{◌≡◌, ℕ, List, [], ◌∷◌, ◌++◌, Some, None, ℤ, pos, cond, eqb, refl}
+use Rattle.std.proofs.Common.{◌≡◌, ℕ, List, [], ◌∷◌, ◌++◌, Some, None, ℤ, pos, negsuc, cond, eqb, refl}
 use Rattle.phase_base.specs.Limits.{Limits, limits}
 use Rattle.phase_base.specs.declared.mode.Mode.{Mode}
 use Rattle.phase_base.specs.declared.mode.Mode.TheVariants.{Sig, Wait, SigWait}
 use Rattle.phase_accum.specs.declared.outcome.Outcome.{Outcome}
-use Rattle.phase_accum.specs.declared.outcome.Outcome.TheVariants.{Value, Empty}
+use Rattle.phase_accum.specs.declared.outcome.Outcome.TheVariants.{Value, Empty, TooBig}
 use Rattle.phase_accum.specs.declared.single.Single.{Single as SingleFn}
-use Rattle.phase_accum.specs.declared.single.Single.TheVariants.{Neg, Halve}
+use Rattle.phase_accum.specs.declared.single.Single.TheVariants.{Neg, Abs, Halve, Clamp}
 use Rattle.phase_accum.specs.Values.{sum_value, product_value, least_value, any_value}
-use Rattle.phase_core.specs.declared.event.Event.TheVariants.{Made}
+use Rattle.phase_core.specs.declared.event.Event.TheVariants.{Made, Registered, Signalled, Waited, Dropped}
 use Rattle.phase_core.specs.declared.got.Got.TheVariants as gets
 use Rattle.phase_core.specs.declared.refusal.RegisterRefusal.TheVariants as joins
 use Rattle.phase_core.specs.declared.refusal.SignalRefusal.TheVariants as signals
 use Rattle.phase_core.specs.declared.refusal.WaitRefusal.TheVariants as waits
 use Rattle.phase_core.specs.Histories.{History}
+use Rattle.phase_core.specs.Phases.{stream_of, received_by}
 use Rattle.phase_core.specs.Replies.{Call, Reply, Register, RegisterNow, Signal, Drop, Wait as WaitCall, Accepted, JoinedAt, SignalledIn, Received, NotRegistered, NotSignalled, NotReceived, reply_to, after_reply}
 
 -- a line of a script: a send that the task holds until its next signal, or another call
@@ -26,6 +27,7 @@ data Line : Type 0 where
   signal_by : (task : ℕ) (single : SingleFn) → Line
   wait : (task : ℕ) → Line
   leave : (task : ℕ) → Line
+  block : (task : ℕ) (lists : List (List ℤ)) → Line
 
 -- the sends that a task holds, of sends with their tasks in order
 abbrev held_by : List (ℕ × ℤ) → ℕ → List ℤ
@@ -45,6 +47,7 @@ call_of held (signal task) = Signal task (held_by held task ∷ []) None
 call_of held (signal_by task single) = Signal task (held_by held task ∷ []) (Some single)
 call_of held (wait task) = WaitCall task
 call_of held (leave task) = Drop task
+call_of held (block task lists) = Signal task lists None
 
 -- what stays held after a line and its reply
 abbrev held_after : List (ℕ × ℤ) → Line → Reply → List (ℕ × ℤ)
@@ -70,6 +73,17 @@ run value bound phases lines = replies value (limits bound phases) (Made 0 ∷ [
 -- a value of a phase
 abbrev got : ℕ → ℤ → Reply
 got phase v = Received (gets.Value phase (Value v))
+
+-- a list of one send
+abbrev one : ℕ → List ℤ
+one n = pos n ∷ []
+
+-- the events of `late_waiter`, the newest first
+abbrev late_history : History
+late_history =
+    Waited 3 1 ∷ Waited 2 1 ∷ Waited 3 1 ∷ Registered 2 3 Wait ∷ Waited 2 1 ∷ Waited 2 1
+    ∷ Signalled 1 (one 40 ∷ []) None ∷ Signalled 1 (one 30 ∷ []) None ∷ Signalled 1 (one 20 ∷ []) None
+    ∷ Signalled 1 (one 10 ∷ []) None ∷ Dropped 0 ∷ Registered 0 2 Wait ∷ Registered 0 1 Sig ∷ Made 0 ∷ []
 
 first_run : run sum_value 2 100 (send 0 (pos 5) ∷ signal 0 ∷ wait 0 ∷ [])
     ≡ Accepted ∷ SignalledIn 0 ∷ got 0 (pos 5) ∷ []
@@ -179,3 +193,46 @@ joins_now : run sum_value 4 100
     ∷ JoinedAt 2 ∷ NotReceived waits.NotYet ∷ SignalledIn 2 ∷ got 2 (pos 0) ∷ got 0 (pos 10)
     ∷ NotRegistered joins.NotAllowed ∷ NotRegistered joins.NoTask ∷ NotRegistered joins.NotNew ∷ []
 joins_now = refl
+
+-- a block signals as many phases as it has lists of sends, or none of them
+blocks : run sum_value 4 100
+    (add 0 1 Sig ∷ add 0 2 Wait ∷ leave 0 ∷ block 1 (one 5 ∷ one 6 ∷ one 7 ∷ []) ∷ wait 2 ∷ wait 2
+    ∷ block 1 (one 8 ∷ one 9 ∷ one 10 ∷ one 11 ∷ []) ∷ block 1 (one 8 ∷ one 9 ∷ []) ∷ wait 2 ∷ wait 2
+    ∷ wait 2 ∷ wait 2 ∷ block 1 [] ∷ block 1 (one 1 ∷ one 2 ∷ one 3 ∷ one 4 ∷ one 5 ∷ []) ∷ [])
+    ≡ Accepted ∷ Accepted ∷ Accepted ∷ SignalledIn 0 ∷ got 0 (pos 5) ∷ got 1 (pos 6)
+    ∷ NotSignalled signals.Ahead ∷ SignalledIn 3 ∷ got 2 (pos 7) ∷ got 3 (pos 8)
+    ∷ got 4 (pos 9) ∷ NotReceived waits.NotYet ∷ NotSignalled signals.BadBlock
+    ∷ NotSignalled signals.BadBlock ∷ []
+blocks = refl
+
+-- a task that waits too signals one phase at a time, and a block past the last phase is refused
+blocks_in_turn : run sum_value 4 100 (block 0 (one 1 ∷ one 2 ∷ []) ∷ block 0 (one 1 ∷ []) ∷ wait 0 ∷ [])
+    ≡ NotSignalled signals.SignalTwice ∷ SignalledIn 0 ∷ got 0 (pos 1) ∷ []
+blocks_in_turn = refl
+
+blocks_past_the_limit : run sum_value 4 2 (add 0 1 Sig ∷ block 1 (one 1 ∷ one 2 ∷ one 3 ∷ []) ∷ [])
+    ≡ Accepted ∷ NotSignalled signals.Spent ∷ []
+blocks_past_the_limit = refl
+
+-- two signallers' blocks meet phase by phase
+blocks_meet : run sum_value 2 100
+    (add 0 1 Sig ∷ add 0 2 Sig ∷ add 0 3 Wait ∷ leave 0 ∷ block 1 (one 9223372036854775807 ∷ one 1 ∷ [])
+    ∷ block 2 (one 1 ∷ one 2 ∷ []) ∷ wait 3 ∷ wait 3 ∷ [])
+    ≡ Accepted ∷ Accepted ∷ Accepted ∷ Accepted ∷ SignalledIn 0 ∷ SignalledIn 0
+    ∷ Received (gets.Value 0 TooBig) ∷ got 1 (pos 3) ∷ []
+blocks_meet = refl
+
+-- singles are applied once, after the range check, and leave a phase without a value
+singles_in_turn : run least_value 2 100
+    (signal_by 0 Abs ∷ wait 0 ∷ send 0 (negsuc 4) ∷ signal_by 0 Halve ∷ wait 0 ∷ send 0 (pos 15)
+    ∷ signal_by 0 (Clamp (pos 0, pos 10)) ∷ wait 0 ∷ [])
+    ≡ SignalledIn 0 ∷ Received (gets.Value 0 Empty) ∷ Accepted ∷ SignalledIn 1 ∷ got 1 (negsuc 2)
+    ∷ Accepted ∷ SignalledIn 2 ∷ got 2 (pos 10) ∷ []
+singles_in_turn = refl
+
+-- what the waiter of `late_waiter` has received, by its events: the stream from its start
+late_waiter_received : received_by sum_value late_history 3 ≡ Value (pos 30) ∷ Value (pos 40) ∷ []
+late_waiter_received = refl
+
+late_waiter_stream : stream_of sum_value late_history ≡ Value (pos 10) ∷ Value (pos 20) ∷ Value (pos 30) ∷ Value (pos 40) ∷ []
+late_waiter_stream = refl

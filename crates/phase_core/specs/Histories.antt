@@ -1,7 +1,7 @@
 -- A history is the list of the events on a phaser, the newest first: `event ∷ before` is a
 -- history whose last event came after those of `before`, and `more ++ before` a longer one.
 use Rattle.std.specs.Prelude.{◌≡◌, ℕ, ◌+◌, List, [], ◌∷◌, ◌++◌, Option, Some, None, IsSome, length, max, unwrap_or, true, if◌then◌else◌, ◌==◌}
-use Rattle.phase_base.specs.Modes.{mode_waits}
+use Rattle.phase_base.specs.Modes.{mode_signals, mode_waits}
 use Rattle.phase_base.specs.declared.mode.Mode.{Mode}
 use Rattle.phase_base.specs.declared.mode.Mode.TheVariants.{Wait, Single}
 use Rattle.phase_base.specs.declared.entry.Entry.{Entry}
@@ -89,6 +89,11 @@ IsAlive h task = IsSome (entry_of (members_of h) task)
 pub record IsWaiter (h : History) (task : ℕ) (entry : Entry) : Type 0 where
   pub is_member : entry_of (members_of h) task ≡ Some entry
   pub waits : mode_waits entry.mode ≡ true
+
+-- the task is registered with this entry, in a mode that signals
+pub record IsSignaller (h : History) (task : ℕ) (entry : Entry) : Type 0 where
+  pub is_member : entry_of (members_of h) task ≡ Some entry
+  pub signals : mode_signals entry.mode ≡ true
 
 -- no registered task signals
 abbrev pub HasNoSignaller : History → Type 0
