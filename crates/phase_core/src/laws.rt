@@ -1,6 +1,6 @@
 //! What holds of every history. Each function here makes no call and has no effect: its contract
 //! is a law, for every history of every phaser, however the phaser is kept.
-ghost use Rattle.std.specs.Prelude.{◌≡◌, ◌+◌, ◌<◌, ◌≤◌, ℕ, ℤ, List, ◌++◌, Some, true};
+ghost use Rattle.std.specs.Prelude.{◌≡◌, ◌+◌, ◌<◌, ◌≤◌, ℕ, ℤ, List, ◌++◌, Ok, Some, true};
 ghost use mathlib.Core.List.{IsPrefix};
 ghost use Rattle.phase_base.specs.Limits.{Limits};
 ghost use Rattle.phase_base.specs.Modes.{mode_signals, mode_waits};
@@ -11,7 +11,10 @@ ghost use Rattle.phase_core.specs.Histories.{History, IsWaiter, HasNoSignaller};
 ghost use Rattle.phase_core.specs.Histories.{members_of, top_of, greatest_used};
 ghost use Rattle.phase_core.specs.Phases.{stream_of};
 ghost use Rattle.phase_core.specs.Legal.{IsLegal};
-ghost use Rattle.phase_core.specs.Laws.{HasReceived, HasCounted, HasNoEvents, IsInTurn};
+ghost use Rattle.phase_core.specs.Laws.{HasReceived, HasCounted, HasNoEvents, IsInTurn, IsAnswered};
+ghost use Rattle.phase_core.specs.Replies.{wait_reply};
+
+use crate::got::Got;
 
 /// A waiter has received the stream from its start to its wait phase, each value once and in
 /// order.
@@ -59,4 +62,11 @@ pub fn turns()
 pub fn unused()
     ensures { (value : List ℤ → Outcome) (limits : Limits) (h : History) (task : ℕ)
         → IsLegal limits h → greatest_used h < task → HasNoEvents value h task }
+{}
+
+/// What a wait answers is what its task then has received last: the value of its wait phase.
+pub fn answers()
+    ensures { (value : List ℤ → Outcome) (limits : Limits) (h : History) (task phase : ℕ)
+        (outcome : Outcome) → wait_reply value limits h task ≡ Ok (Got.Value phase outcome)
+        → IsAnswered value h task phase outcome }
 {}
