@@ -72,15 +72,21 @@ joined_slot op slot held single = record {
   named = first_named slot.named true single;
 }
 
--- what a plain signal in this phase leaves of a core
-pub record Signals {A : Type 0} (op : Operation A) (old new : CoreState A) (task phase : ℕ) (held : Parcel A) (single : Option Single) : Type 0 where
+-- what a plain signal in this phase leaves of a core. The slots matter only while there is a waiter,
+-- and from the slowest waiter's phase on
+pub record Signals {A : Type 0} (op : Operation A) (old new : CoreState A) (task phase : ℕ)
+    (held : Parcel A) (single : Option Single) : Type 0 where
   pub limits_same : new.limits ≡ old.limits
-  pub newest_same : new.newest ≡ old.newest
+  pub greatest_same : new.greatest ≡ old.greatest
   pub members_are : new.members ≡ changed_at task (signalled 1) old.members
   pub top_is : new.top ≡ max old.top (phase + 1)
-  pub others : (p : ℕ) (slot : Slot A) → (p ≡ phase → ⊥) → IsSlotOf old p slot → IsSlotOf new p slot
-  pub joined : (slot : Slot A) → phase < old.top → IsSlotOf old phase slot → IsSlotOf new phase (joined_slot op slot held single)
-  pub opened : phase ≡ old.top → IsSlotOf new phase (opened_slot held single)
+  pub others : (slowest p : ℕ) (slot : Slot A) → least (wait_phases new.members) ≡ Some slowest
+      → slowest ≤ p → (p ≡ phase → ⊥) → IsSlotOf old p slot → IsSlotOf new p slot
+  pub joined : (slowest : ℕ) (slot : Slot A) → least (wait_phases new.members) ≡ Some slowest
+      → slowest ≤ phase → phase < old.top → IsSlotOf old phase slot
+      → IsSlotOf new phase (joined_slot op slot held single)
+  pub opened : (slowest : ℕ) → least (wait_phases new.members) ≡ Some slowest → slowest ≤ phase
+      → phase ≡ old.top → IsSlotOf new phase (opened_slot held single)
 
 -- in the phase of a plain signal, its sends join those of the phase
 sends_joined : (h : History) (task p : ℕ) (sends : List ℤ) (single : Option Single) → signal_phase h task ≡ p
@@ -156,7 +162,7 @@ signals_stands {A} op laws old new h task e held sends single stands found_old n
     record {
       legal = subst L (sym s.limits_same) (stands.legal, (none, are_lists));
       members_are = members_same;
-      newest_is = s.newest_same ∙ stands.newest_is;
+      greatest_is = s.greatest_same ∙ stands.greatest_is;
       top_is = top_new ∙ ap (λ t. max t (e.signal_phase + 1)) top_old
           ∙ ap (λ p. max (top_of h) (p + 1)) (sym at_phase);
       phases_are = λ slowest p waiter behind below.
@@ -175,7 +181,7 @@ signals_stands {A} op laws old new h task e held sends single stands found_old n
           let few_p : length (sends_of_phase h p) + length sends ≤ SENDS_MAX = (rw here few) in
           let I : ℕ → Type 0 = λ q. IsSlotOf old q k.slot → IsSlotOf new q (joined_slot op k.slot held single) in
           let joins : IsSlotOf old p k.slot → IsSlotOf new p (joined_slot op k.slot held single) =
-          subst I (sym here) (s.joined k.slot kept_already) in
+          subst I (sym here) (s.joined slowest k.slot waiter (omega arith) kept_already) in
           let part : IsPartOf op (op.join k.slot.part held.part) (sends_of_phase h p ++ sends) =
           IsPartOf-join op k.slot.part held.part (sends_of_phase h p) sends laws k.keeps.part_is holds.part_is few_p in
           let S : List ℤ → Type 0 = λ l. IsPartOf op (op.join k.slot.part held.part) l in
@@ -203,7 +209,7 @@ signals_stands {A} op laws old new h task e held sends single stands found_old n
           let I : ℕ → Type 0 = λ q. IsSlotOf new q (opened_slot held single) in
           record {
             slot = opened_slot held single;
-            is_slot = subst I (sym here) (s.opened is_top);
+            is_slot = subst I (sym here) (s.opened slowest waiter (omega arith) is_top);
             keeps = record {
               part_is = subst S (sym more) holds.part_is;
               count_is = holds.count_is ∙ ap length (sym more);
@@ -218,7 +224,7 @@ signals_stands {A} op laws old new h task e held sends single stands found_old n
           let S : List ℤ → Type 0 = λ l. IsPartOf op k.slot.part l in
           record {
             slot = k.slot;
-            is_slot = s.others p k.slot apart k.is_slot;
+            is_slot = s.others slowest p k.slot waiter behind apart k.is_slot;
             keeps = record {
               part_is = subst S (sym sends_same) k.keeps.part_is;
               count_is = k.keeps.count_is ∙ ap length (sym sends_same);
@@ -233,7 +239,7 @@ signals_stands {A} op laws old new h task e held sends single stands found_old n
 -- what a plain wait leaves of a core: a phase that a waiter has still to get is kept
 pub record Waits {A : Type 0} (old new : CoreState A) (task : ℕ) : Type 0 where
   pub limits_same : new.limits ≡ old.limits
-  pub newest_same : new.newest ≡ old.newest
+  pub greatest_same : new.greatest ≡ old.greatest
   pub members_are : new.members ≡ changed_at task (waited 1) old.members
   pub top_same : new.top ≡ old.top
   pub kept : (slowest p : ℕ) (slot : Slot A) → least (wait_phases new.members) ≡ Some slowest → slowest ≤ p
@@ -283,7 +289,7 @@ waits_stands op old new h task e stands found_old none complete s =
     record {
       legal = subst L (sym s.limits_same) (stands.legal, (none, omega arith));
       members_are = s.members_are ∙ ap (λ ms. changed_at task (waited 1) ms) stands.members_are;
-      newest_is = s.newest_same ∙ stands.newest_is;
+      greatest_is = s.greatest_same ∙ stands.greatest_is;
       top_is = s.top_same ∙ stands.top_is;
       phases_are = λ slowest p waiter behind below.
           let waiter_changed : least (wait_phases (changed_at task (waited 1) old.members)) ≡ Some slowest =
@@ -306,7 +312,7 @@ pub made_stands : {A : Type 0} (op : Operation A) (limits : Limits) (task : ℕ)
 made_stands op limits task are = record {
   legal = (are, refl);
   members_are = refl;
-  newest_is = refl;
+  greatest_is = refl;
   top_is = refl;
   phases_are = λ slowest p waiter behind below. absurd (omega arith);
 }

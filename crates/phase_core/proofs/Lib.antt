@@ -8,3 +8,4 @@ pub mod Received
 pub mod LawProofs
 pub mod CoreSteps
 pub mod OneMember
+pub mod Bounded

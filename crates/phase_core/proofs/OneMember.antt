@@ -132,12 +132,12 @@ push_signals op limits founder task e slots held single own at_top =
     let n : length (slots ++ opened_slot held single ∷ []) ≡ length slots + 1 = length-append _ _ in
     record {
       limits_same = refl;
-      newest_same = refl;
+      greatest_same = refl;
       members_are = sym (ap (λ b. cond b ((founder, signalled 1 e) ∷ []) ((founder, e) ∷ [])) own);
       top_is = omega arith;
-      others = λ p slot apart is. record { place = is.place; place_is = is.place_is; found = slice_get-append_some slots (opened_slot held single ∷ []) is.place slot is.found };
-      joined = λ slot below is. absurd (omega arith);
-      opened = λ top. record { place = length slots; place_is = omega arith; found = slice_get-push_last slots (opened_slot held single) };
+      others = λ slowest p slot waiter behind apart is. record { place = is.place; place_is = is.place_is; found = slice_get-append_some slots (opened_slot held single ∷ []) is.place slot is.found };
+      joined = λ slowest slot waiter behind below is. absurd (omega arith);
+      opened = λ slowest waiter behind top. record { place = length slots; place_is = omega arith; found = slice_get-push_last slots (opened_slot held single) };
     }
 
 -- a wait of the one member leaves all phases
@@ -145,7 +145,7 @@ wait_waits : {A : Type 0} (limits : Limits) (founder task : ℕ) (e : Entry) (sl
     → Waits (one_member limits founder e slots) (one_member limits founder (waited 1 e) slots) task
 wait_waits limits founder task e slots own = record {
   limits_same = refl;
-  newest_same = refl;
+  greatest_same = refl;
   members_are = sym (ap (λ b. cond b ((founder, waited 1 e) ∷ []) ((founder, e) ∷ [])) own);
   top_same = refl;
   kept = λ slowest p slot waiter behind is. record { place = is.place; place_is = is.place_is; found = is.found };

@@ -34,17 +34,17 @@ pub record Counted (value : List ℤ → Outcome) (h : History) (task : ℕ) (en
       → received_by value h task ≡ take (phases_waited h task) (drop start.wait_phase (stream_of value h))
 
 -- a task that was never used has no event
-record Unused (value : List ℤ → Outcome) (h : History) (task : ℕ) : Type 0 where
-  signals : phases_signalled h task ≡ 0
-  waits : phases_waited h task ≡ 0
-  received : received_by value h task ≡ []
+pub record Unused (value : List ℤ → Outcome) (h : History) (task : ℕ) : Type 0 where
+  pub signals : phases_signalled h task ≡ 0
+  pub waits : phases_waited h task ≡ 0
+  pub received : received_by value h task ≡ []
 
 -- a member's number is not above the greatest
 member_used : (h : History) (task : ℕ) (e : Entry) → IsSound h → entry_of (members_of h) task ≡ Some e → task ≤ greatest_used h
 member_used h task e sound found =
     let good : StandsWell (done_of h) (top_of h) (greatest_used h) (task, e) = Each-entry _ (members_of h) task e found sound in good.used
 
-unused : (value : List ℤ → Outcome) (limits : Limits) (h : History) (task : ℕ) → IsLegal limits h → greatest_used h < task → Unused value h task
+pub unused : (value : List ℤ → Outcome) (limits : Limits) (h : History) (task : ℕ) → IsLegal limits h → greatest_used h < task → Unused value h task
 unused value limits [] task legal above = absurd legal
 unused value limits (Made founding ∷ before) task legal above =
     let P : History → Type 0 = λ b. Unused value (Made founding ∷ b) task in

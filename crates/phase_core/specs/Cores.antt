@@ -14,13 +14,14 @@ use Rattle.phase_core.specs.Legal.{IsLegal}
 pub record CoreState (A : Type 0) : Type 0 where
   pub limits : Limits
   pub members : Members
-  pub newest : ℕ
+  pub greatest : ℕ
   pub top : ℕ
   pub base : ℕ
   pub slots : List (Slot A)
 
 -- the slot has the part, the number and the single of the sends of phase p
-pub record KeepsSends {A : Type 0} (op : Operation A) (slot : Slot A) (h : History) (p : ℕ) : Type 0 where
+pub record KeepsSends {A : Type 0} (op : Operation A) (slot : Slot A) (h : History) (p : ℕ)
+    : Type 0 where
   pub part_is : IsPartOf op slot.part (sends_of_phase h p)
   pub count_is : slot.count ≡ length (sends_of_phase h p)
   pub named_is : slot.named ≡ named_in_phase h p
@@ -32,27 +33,29 @@ pub record IsSlotOf {A : Type 0} (core : CoreState A) (p : ℕ) (slot : Slot A) 
   pub found : slice_get core.slots place ≡ Some slot
 
 -- phase p is kept
-pub record KeepsPhase {A : Type 0} (op : Operation A) (core : CoreState A) (h : History) (p : ℕ) : Type 0 where
+pub record KeepsPhase {A : Type 0} (op : Operation A) (core : CoreState A) (h : History) (p : ℕ)
+    : Type 0 where
   pub slot : Slot A
   pub is_slot : IsSlotOf core p slot
   pub keeps : KeepsSends op slot h p
 
 -- the core is one that the history leaves: while a waiter is registered, each phase from the
 -- least wait phase to the top is kept
-pub record StandsFor {A : Type 0} (op : Operation A) (core : CoreState A) (h : History) : Type 0 where
+pub record StandsFor {A : Type 0} (op : Operation A) (core : CoreState A) (h : History)
+    : Type 0 where
   pub legal : IsLegal core.limits h
   pub members_are : core.members ≡ members_of h
-  pub newest_is : core.newest ≡ greatest_used h
+  pub greatest_is : core.greatest ≡ greatest_used h
   pub top_is : core.top ≡ top_of h
   pub phases_are : (slowest p : ℕ) → least (wait_phases core.members) ≡ Some slowest
       → slowest ≤ p → p < core.top → KeepsPhase op core h p
 
--- a core of one member that keeps all phases
+-- for the code: a core of one member that keeps all phases
 abbrev pub one_member : {A : Type 0} → Limits → ℕ → Entry → List (Slot A) → CoreState A
 one_member limits task entry slots = record {
   limits = limits;
   members = (task, entry) ∷ [];
-  newest = task;
+  greatest = task;
   top = length slots;
   base = 0;
   slots = slots;

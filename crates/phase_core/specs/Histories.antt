@@ -1,7 +1,7 @@
 -- A history is the list of the events on a phaser, the newest first: `event ∷ before` is a
 -- history whose last event came after those of `before`, and `more ++ before` a longer one.
 use Rattle.std.specs.Prelude.{◌≡◌, ℕ, ◌+◌, List, [], ◌∷◌, ◌++◌, Option, Some, None, IsSome, length, max, unwrap_or, true, if◌then◌else◌, ◌==◌}
-use Rattle.phase_base.specs.Modes.{mode_waits}
+use Rattle.phase_base.specs.Modes.{mode_signals, mode_waits}
 use Rattle.phase_base.specs.declared.mode.Mode.{Mode}
 use Rattle.phase_base.specs.declared.mode.Mode.TheVariants.{Wait, Single}
 use Rattle.phase_base.specs.declared.entry.Entry.{Entry}
@@ -9,6 +9,7 @@ use Rattle.phase_core.specs.declared.event.Event.{Event}
 use Rattle.phase_core.specs.declared.event.Event.TheVariants.{Made, Registered, RegisteredNow, Signalled, Waited, Dropped}
 use Rattle.phase_core.specs.Members.{Members, entry_of, changed_at, without, signal_phases, least, signalled, waited}
 
+-- a list of events, the newest first
 abbrev pub History : Type 0
 History = List Event
 
@@ -25,13 +26,13 @@ pub record Positions : Type 0 where
   pub members : Members
   pub top : ℕ
 
--- the entry of a member
+-- the entry of a member. Of no member it is the founder's, which no reply shows
 abbrev pub member_entry : Members → ℕ → Entry
 member_entry members task = unwrap_or (entry_of members task) founder
 
 -- the phases below this one are complete: the least signal phase of the signallers, or the top
 abbrev pub done_at : Positions → ℕ
-done_at at_now = unwrap_or (least (signal_phases at_now.members)) at_now.top
+done_at now = unwrap_or (least (signal_phases now.members)) now.top
 
 -- what one event makes of the positions. A child stands at both phases of its parent; one that
 -- was registered now stands at the first phase that is not complete
@@ -57,6 +58,7 @@ after_event (Waited task phases) now =
     record now { members = changed_at task (waited phases) now.members }
 after_event (Dropped task) now = record now { members = without task now.members }
 
+-- where the tasks stand after a history
 abbrev pub positions_of : History → Positions
 positions_of [] = record { members = []; top = 0 }
 positions_of (event ∷ before) = after_event event (positions_of before)
@@ -89,6 +91,11 @@ IsAlive h task = IsSome (entry_of (members_of h) task)
 pub record IsWaiter (h : History) (task : ℕ) (entry : Entry) : Type 0 where
   pub is_member : entry_of (members_of h) task ≡ Some entry
   pub waits : mode_waits entry.mode ≡ true
+
+-- the task is registered with this entry, in a mode that signals
+pub record IsSignaller (h : History) (task : ℕ) (entry : Entry) : Type 0 where
+  pub is_member : entry_of (members_of h) task ≡ Some entry
+  pub signals : mode_signals entry.mode ≡ true
 
 -- no registered task signals
 abbrev pub HasNoSignaller : History → Type 0

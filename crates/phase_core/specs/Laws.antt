@@ -1,12 +1,15 @@
 -- What the laws of histories say.
-use Rattle.std.specs.Prelude.{◌≡◌, ℕ, ◌+◌, ◌≤◌, ℤ, List, Some, slice_range}
+use Rattle.std.specs.Prelude.{◌≡◌, ℕ, ◌+◌, ◌<◌, ◌≤◌, ℤ, List, [], ◌∷◌, ◌++◌, Some, slice_range}
 use Rattle.phase_base.specs.declared.entry.Entry.{Entry}
 use Rattle.phase_accum.specs.declared.outcome.Outcome.{Outcome}
-use Rattle.phase_core.specs.Histories.{History, done_of, start_of, phases_signalled, phases_waited}
+use Rattle.phase_core.specs.declared.event.Event.TheVariants.{Waited}
+use Rattle.phase_core.specs.Histories.{History, wait_phase, done_of, start_of}
+use Rattle.phase_core.specs.Histories.{phases_signalled, phases_waited}
 use Rattle.phase_core.specs.Phases.{stream_of, received_by}
 
 -- a task with this entry has received the stream from its start to its wait phase
-pub record HasReceived (value : List ℤ → Outcome) (h : History) (task : ℕ) (entry : Entry) : Type 0 where
+pub record HasReceived (value : List ℤ → Outcome) (h : History) (task : ℕ) (entry : Entry)
+    : Type 0 where
   pub start : Entry
   pub start_is : start_of h task ≡ Some start
   pub from_start : start.wait_phase ≤ entry.wait_phase
@@ -20,3 +23,22 @@ pub record HasCounted (h : History) (task : ℕ) (entry : Entry) : Type 0 where
   pub start_is : start_of h task ≡ Some start
   pub signals : start.signal_phase + phases_signalled h task ≡ entry.signal_phase
   pub waits : start.wait_phase + phases_waited h task ≡ entry.wait_phase
+
+-- a task that was never used has no events: it signalled no phase, waited for none, and received
+-- nothing
+pub record HasNoEvents (value : List ℤ → Outcome) (h : History) (task : ℕ) : Type 0 where
+  pub signals : phases_signalled h task ≡ 0
+  pub waits : phases_waited h task ≡ 0
+  pub received : received_by value h task ≡ []
+
+-- an entry that is at most one signal ahead of its waits
+pub record IsInTurn (entry : Entry) : Type 0 where
+  pub low : entry.wait_phase ≤ entry.signal_phase
+  pub high : entry.signal_phase ≤ entry.wait_phase + 1
+
+-- a wait that is answered by this phase and outcome adds the outcome to what the task has received
+pub record IsAnswered (value : List ℤ → Outcome) (h : History) (task phase : ℕ) (outcome : Outcome)
+    : Type 0 where
+  pub phase_is : phase ≡ wait_phase h task
+  pub complete : phase < done_of h
+  pub received : received_by value (Waited task 1 ∷ h) task ≡ received_by value h task ++ outcome ∷ []

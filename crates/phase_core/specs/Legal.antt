@@ -1,6 +1,7 @@
 -- Which lists of events are histories that the calls of a phaser can make.
 use Rattle.std.specs.Prelude.{◌≡◌, ◌+◌, ◌≤◌, ℤ, List, [], ◌∷◌, None, length}
 use Rattle.phase_base.specs.Limits.{Limits, AreLimits}
+use Rattle.phase_base.specs.declared.limits.TheConstants.{SENDS_MAX}
 use Rattle.phase_accum.specs.Values.{AreSends}
 use Rattle.phase_core.specs.declared.event.Event.{Event}
 use Rattle.phase_core.specs.declared.event.Event.TheVariants.{Made, Registered, RegisteredNow, Signalled, Waited, Dropped}
@@ -10,7 +11,7 @@ use Rattle.phase_core.specs.Refusals.{register_refusal, register_now_refusal, si
 -- each list is of values that can be sent, and not too long
 abbrev pub AreLists : List (List ℤ) → Type 0
 AreLists [] = Unit {0}
-AreLists (sends ∷ lists) = AreSends sends × (length sends ≤ 65536) × AreLists lists
+AreLists (sends ∷ lists) = AreSends sends × (length sends ≤ SENDS_MAX) × AreLists lists
 
 -- after these events the event is that of an accepted call
 abbrev pub IsAccepted : Limits → History → Event → Type 0

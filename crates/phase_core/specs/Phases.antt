@@ -24,7 +24,7 @@ sends_of_phase (Signalled task lists single ∷ before) p =
     sends_of_phase before p ++ list_in_phase lists (signal_phase before task) p
 sends_of_phase (event ∷ before) p = sends_of_phase before p
 
--- what was named first, where a signal that names `single` comes next, if it joins the phase
+-- what was named first in a phase, after one more signal, which joins the phase or not
 abbrev pub first_named : Option (Option Single) → Bool → Option Single → Option (Option Single)
 first_named (Some named) joins single = Some named
 first_named None joins single = if joins then Some single else None

@@ -3,6 +3,7 @@
 use Rattle.std.specs.Prelude.{ℕ, ℤ, ◌+◌, List, [], ◌∷◌, ◌++◌, Option, Some, None, Bool, true, false, not, ◌&&◌, ◌||◌, length, is_some, if◌then◌else◌, ◌==◌, nat_le, nat_lt}
 use Rattle.std.specs.Ordering.{int_eq}
 use Rattle.phase_base.specs.Limits.{Limits}
+use Rattle.phase_base.specs.declared.limits.TheConstants.{MEMBERS_MAX, SENDS_MAX}
 use Rattle.phase_base.specs.Modes.{holds, mode_signals, mode_waits, is_single}
 use Rattle.phase_base.specs.declared.mode.Mode.{Mode}
 use Rattle.phase_base.specs.declared.mode.Mode.TheVariants.{Wait}
@@ -35,7 +36,7 @@ abbrev pub register_rows : Members → ℕ → ℕ → Mode → Entry → List (
 register_rows members greatest child mode parent =
     (not (holds parent.mode mode), register.NotAllowed)
     ∷ (nat_le child greatest, register.NotNew)
-    ∷ (nat_le 1024 (length members), register.TooManyTasks)
+    ∷ (nat_le MEMBERS_MAX (length members), register.TooManyTasks)
     ∷ []
 
 -- whether a signal of phase s is the bound or more ahead of the slowest waiter
@@ -58,8 +59,9 @@ differs (Some None) None = false
 differs (Some (Some named)) (Some single) = not (is_same named single)
 differs _ _ = true
 
--- one phase of a signal: `slowest` is the least wait phase of the waiters, where there is one;
--- the phase has `count` sends, its first signal named `named`, and n more sends would join it
+-- the rows that one phase of a signal can meet. The phase is the entry's; `slowest` is the least wait
+-- phase of the waiters, where there is one; the phase has `count` sends, and its first signal named
+-- `named`; n more sends would join it
 abbrev pub phase_rows : Limits → Option ℕ → ℕ → Option (Option Single) → ℕ → Option Single → Entry
     → List (Bool × SignalRefusal)
 phase_rows limits slowest count named n single entry =
@@ -67,7 +69,7 @@ phase_rows limits slowest count named n single entry =
     ∷ (nat_le limits.phases_max entry.signal_phase, signal.Spent)
     ∷ (is_ahead slowest limits.bound entry.signal_phase, signal.Ahead)
     ∷ (is_some slowest && differs named single, signal.SingleDiffers)
-    ∷ (is_some slowest && nat_lt 65536 (count + n), signal.PhaseFull)
+    ∷ (is_some slowest && nat_lt SENDS_MAX (count + n), signal.PhaseFull)
     ∷ []
 
 -- a signal, phase by phase: what its later lists of sends meet where the earlier ones have joined
@@ -84,23 +86,26 @@ list_rows limits h (sends ∷ lists) single entry =
 abbrev pub is_bad_block : Limits → ℕ → Bool
 is_bad_block limits n = n == 0 || nat_lt limits.bound n
 
+-- the rows of a signal for n phases, by the task's entry, before those of its phases
+abbrev pub signal_rows_before : Limits → ℕ → Option Single → Entry → List (Bool × SignalRefusal)
+    → List (Bool × SignalRefusal)
+signal_rows_before limits n single entry rows =
+    (not (mode_signals entry.mode), signal.NoSignal)
+    ∷ (is_some single && not (is_single entry.mode), signal.NotSingle)
+    ∷ (is_bad_block limits n, signal.BadBlock)
+    ∷ rows
+
 -- a signal of as many phases as there are lists of sends, by the task's entry
 abbrev pub signal_rows : Limits → History → List (List ℤ) → Option Single → Entry
     → List (Bool × SignalRefusal)
 signal_rows limits h lists single entry =
-    (not (mode_signals entry.mode), signal.NoSignal)
-    ∷ (is_some single && not (is_single entry.mode), signal.NotSingle)
-    ∷ (is_bad_block limits (length lists), signal.BadBlock)
-    ∷ list_rows limits h lists single entry
+    signal_rows_before limits (length lists) single entry (list_rows limits h lists single entry)
 
--- a plain signal of n sends: one list, by what its phase has
+-- for the code: a plain signal of n sends, by what its phase has
 abbrev pub plain_signal_rows : Limits → Option ℕ → ℕ → Option (Option Single) → ℕ → Option Single
     → Entry → List (Bool × SignalRefusal)
 plain_signal_rows limits slowest count named n single entry =
-    (not (mode_signals entry.mode), signal.NoSignal)
-    ∷ (is_some single && not (is_single entry.mode), signal.NotSingle)
-    ∷ (is_bad_block limits 1, signal.BadBlock)
-    ∷ phase_rows limits slowest count named n single entry
+    signal_rows_before limits 1 single entry (phase_rows limits slowest count named n single entry)
 
 -- a wait for at most n phases, by the task's entry
 abbrev pub wait_rows_at : Limits → ℕ → Bool → ℕ → Entry → List (Bool × WaitRefusal)
@@ -111,11 +116,12 @@ wait_rows_at limits done has_signaller n entry =
     ∷ (nat_le done entry.wait_phase && has_signaller, wait.NotYet)
     ∷ []
 
+-- the same, by where the members stand
 abbrev pub wait_rows : Limits → Positions → ℕ → Entry → List (Bool × WaitRefusal)
 wait_rows limits now n entry =
     wait_rows_at limits (done_at now) (is_some (least (signal_phases now.members))) n entry
 
--- a plain wait, for one phase
+-- for the code: a plain wait, for one phase
 abbrev pub plain_wait_rows : Limits → ℕ → Bool → Entry → List (Bool × WaitRefusal)
 plain_wait_rows limits done has_signaller entry = wait_rows_at limits done has_signaller 1 entry
 
@@ -130,7 +136,8 @@ abbrev pub register_now_refusal : History → ℕ → ℕ → Option RegisterRef
 register_now_refusal h parent child = register_refusal h parent child Wait
 
 -- the refusal of a signal
-abbrev pub signal_refusal : Limits → History → ℕ → List (List ℤ) → Option Single → Option SignalRefusal
+abbrev pub signal_refusal : Limits → History → ℕ → List (List ℤ) → Option Single
+    → Option SignalRefusal
 signal_refusal limits h task lists single =
     refusal_at (entry_of (members_of h) task) signal.NoTask (signal_rows limits h lists single)
 

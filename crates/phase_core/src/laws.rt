@@ -1,15 +1,20 @@
 //! What holds of every history. Each function here makes no call and has no effect: its contract
 //! is a law, for every history of every phaser, however the phaser is kept.
-ghost use Rattle.std.specs.Prelude.{◌≡◌, ℕ, ℤ, List, ◌++◌, Some};
+ghost use Rattle.std.specs.Prelude.{◌≡◌, ◌+◌, ◌<◌, ◌≤◌, ℕ, ℤ, List, ◌++◌, Ok, Some, true};
 ghost use mathlib.Core.List.{IsPrefix};
 ghost use Rattle.phase_base.specs.Limits.{Limits};
+ghost use Rattle.phase_base.specs.Modes.{mode_signals, mode_waits};
 ghost use Rattle.phase_base.specs.declared.entry.Entry.{Entry};
 ghost use Rattle.phase_accum.specs.declared.outcome.Outcome.{Outcome};
-ghost use Rattle.phase_core.specs.Members.{entry_of};
-ghost use Rattle.phase_core.specs.Histories.{History, IsWaiter, HasNoSignaller, members_of};
+ghost use Rattle.phase_core.specs.Members.{entry_of, wait_phases, least};
+ghost use Rattle.phase_core.specs.Histories.{History, IsWaiter, HasNoSignaller};
+ghost use Rattle.phase_core.specs.Histories.{members_of, top_of, greatest_used};
 ghost use Rattle.phase_core.specs.Phases.{stream_of};
 ghost use Rattle.phase_core.specs.Legal.{IsLegal};
-ghost use Rattle.phase_core.specs.Laws.{HasReceived, HasCounted};
+ghost use Rattle.phase_core.specs.Laws.{HasReceived, HasCounted, HasNoEvents, IsInTurn, IsAnswered};
+ghost use Rattle.phase_core.specs.Replies.{wait_reply};
+
+use crate::got::Got;
 
 /// A waiter has received the stream from its start to its wait phase, each value once and in
 /// order.
@@ -37,4 +42,31 @@ pub fn closed()
 pub fn counted()
     ensures { (limits : Limits) (h : History) (task : ℕ) (entry : Entry)
         → IsLegal limits h → entry_of (members_of h) task ≡ Some entry → HasCounted h task entry }
+{}
+
+/// While a waiter is registered, no signal is further than the bound ahead of the slowest waiter.
+pub fn bound()
+    ensures { (limits : Limits) (h : History) (slowest : ℕ) → IsLegal limits h
+        → least (wait_phases (members_of h)) ≡ Some slowest
+        → top_of h ≤ slowest + limits.bound }
+{}
+
+/// A task that signals and waits does so in turn: it is at most one signal ahead of its waits.
+pub fn turns()
+    ensures { (limits : Limits) (h : History) (task : ℕ) (entry : Entry) → IsLegal limits h
+        → entry_of (members_of h) task ≡ Some entry
+        → mode_signals entry.mode ≡ true → mode_waits entry.mode ≡ true → IsInTurn entry }
+{}
+
+/// A number above all that were used has no events, so a task that is registered now did nothing.
+pub fn unused()
+    ensures { (value : List ℤ → Outcome) (limits : Limits) (h : History) (task : ℕ)
+        → IsLegal limits h → greatest_used h < task → HasNoEvents value h task }
+{}
+
+/// What a wait answers is what its task then has received last: the value of its wait phase.
+pub fn answers()
+    ensures { (value : List ℤ → Outcome) (limits : Limits) (h : History) (task phase : ℕ)
+        (outcome : Outcome) → wait_reply value limits h task ≡ Ok (Got.Value phase outcome)
+        → IsAnswered value h task phase outcome }
 {}

@@ -1,6 +1,7 @@
 pub mod CutAtLf
 pub mod Cutting
 pub mod Digits
+mod Examples
 pub mod Going
 pub mod Grammar
 pub mod Keeping
@@ -10,4 +11,5 @@ pub mod Owing
 pub mod Reading
 pub mod Replayed
 pub mod Runs
+pub mod Scripted
 pub mod Writing

@@ -1,6 +1,7 @@
 -- What the lines of a script are answered, and what they leave.
 use Rattle.std.specs.Prelude.{ℕ, ℤ, ◌<◌, List, [], ◌∷◌, ◌++◌, Option, Some, None, Result, Ok, Err, Bool, not, ◌||◌, ◌==◌, nat_le, nat_lt, length, if◌then◌else◌}
 use Rattle.phase_base.specs.Limits.{Limits, limits}
+use Rattle.phase_base.specs.declared.limits.TheConstants.{BOUND_MAX, PHASES_MAX, SENDS_MAX}
 use Rattle.phase_base.specs.Modes.{mode_signals}
 use Rattle.phase_base.specs.declared.entry.Entry.{Entry}
 use Rattle.phase_accum.specs.Values.{sum_value}
@@ -61,15 +62,15 @@ held_by_others (send ∷ sends) task =
 -- the refusals of a line that makes a phaser, where there is none yet
 abbrev pub make_rows : ℕ → ℕ → List (Bool × Refusal)
 make_rows bound phases =
-    (nat_lt bound 1 || nat_lt 65536 bound, no.BadBound)
-    ∷ (nat_lt phases 1 || nat_lt 4611686018427387904 phases, no.BadPhases)
+    (nat_lt bound 1 || nat_lt BOUND_MAX bound, no.BadBound)
+    ∷ (nat_lt phases 1 || nat_lt PHASES_MAX phases, no.BadPhases)
     ∷ []
 
 -- the refusals of a send by a member that holds so many sends
 abbrev pub send_rows : ℕ → Entry → List (Bool × Refusal)
 send_rows count entry =
     (not (mode_signals entry.mode), no.NoSignal)
-    ∷ (nat_le 65536 count, no.TooManySends)
+    ∷ (nat_le SENDS_MAX count, no.TooManySends)
     ∷ []
 
 -- the refusal, or else what is done
@@ -77,16 +78,18 @@ abbrev pub refused_or : Option Refusal → Reply
 refused_or (Some refusal) = Refused refusal
 refused_or None = Accepted
 
+-- the reply to a line that makes a phaser, where there is none yet
 abbrev pub make_reply : ℕ → ℕ → Reply
 make_reply bound phases = refused_or (first_row (make_rows bound phases))
 
+-- the reply to a send
 abbrev pub send_reply : History → Held → ℕ → Reply
 send_reply h held task =
     refused_or (refusal_at (entry_of (members_of h) task) no.NoTask
     (send_rows (length (held_by held task))))
 
--- the reason of a refused signal. The last two are answered by no table: a plain signal is no bad
--- block, and want of memory is no reply
+-- the reason of a refused signal. No plain signal is a bad block, since a bound is at least 1, and
+-- want of memory is no row of a table: what stands for these two is never seen
 abbrev pub signal_reason : SignalRefusal → Reply
 signal_reason signal.NoTask = Refused no.NoTask
 signal_reason signal.NoSignal = Refused no.NoSignal
@@ -99,7 +102,8 @@ signal_reason signal.PhaseFull = Refused no.PhaseFull
 signal_reason signal.BadBlock = BadLine
 signal_reason signal.OutOfMemory = BadLine
 
--- the reason of a refused wait. The last is answered by no table: a plain wait is no bad block
+-- the reason of a refused wait. No plain wait is a bad block, since a bound is at least 1: what
+-- stands for it is never seen
 abbrev pub wait_reason : WaitRefusal → Reply
 wait_reason wait.NoTask = Refused no.NoTask
 wait_reason wait.NoWait = Refused no.NoWait
@@ -146,7 +150,8 @@ held_after_send Accepted held task value = held ++ (task, value) ∷ []
 held_after_send reply held task value = held
 
 -- an accepted signal takes the task's sends with it
-abbrev pub after_signal : Result ℕ SignalRefusal → Operator → Limits → History → Held → ℕ → ScriptState
+abbrev pub after_signal : Result ℕ SignalRefusal → Operator → Limits → History → Held → ℕ
+    → ScriptState
 after_signal (Ok phase) operator limits h held task =
     Running operator limits (SignalledEvent task (held_by held task ∷ []) None ∷ h)
     (held_by_others held task)
@@ -172,6 +177,7 @@ abbrev pub reply_by : ScriptState → Option Command → Reply
 reply_by state (Some command) = command_reply state command
 reply_by state None = BadLine
 
+-- what a line leaves that gives this command, or none
 abbrev pub after_by : ScriptState → Option Command → ScriptState
 after_by state (Some command) = after_command state command
 after_by state None = state
@@ -183,3 +189,12 @@ reply_to state line = reply_text (reply_by state (command_of line))
 -- what a script line leaves
 unfoldable pub after_line : ScriptState → List ℕ → ScriptState
 after_line state line = after_by state (command_of line)
+
+-- what the lines leave, from the state before them
+abbrev pub state_from : ScriptState → List (List ℕ) → ScriptState
+state_from state [] = state
+state_from state (line ∷ lines) = state_from (after_line state line) lines
+
+-- what the lines of a script leave
+abbrev pub state_after : List (List ℕ) → ScriptState
+state_after lines = state_from start lines

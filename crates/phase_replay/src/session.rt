@@ -1,8 +1,8 @@
 //! A session: the lines of a script, one at a time.
-ghost use Rattle.std.specs.Prelude.{◌≡◌, OnOk, OnErr, IfOk, None};
+ghost use Rattle.std.specs.Prelude.{◌≡◌, ℕ, List, [], ◌∷◌, ◌++◌, OnOk, OnErr, IfOk, None};
 ghost use Rattle.phase_replay.specs.Commands.{IsCommand};
 ghost use Rattle.phase_replay.specs.Scripts.{ScriptState, start, reply_to, after_line};
-ghost use Rattle.phase_replay.specs.Scripts.{command_reply, after_command};
+ghost use Rattle.phase_replay.specs.Scripts.{command_reply, after_command, state_after};
 
 use crate::command::{Command, Operator};
 use crate::reply::Reply;
@@ -29,7 +29,7 @@ pub struct Session {
 
 #[tactic(auto, unfolding(crate::specs::Session::Stands, crate::specs::Session::MaybeRunsFor, crate::specs::Scripts::start, crate::specs::Scripts::reply_to, crate::specs::Scripts::after_line, crate::specs::Scripts::command_reply, crate::specs::Scripts::after_command))]
 impl Session {
-    ghost use Rattle.phase_replay.specs.Session.{Stands};
+    ghost use Rattle.phase_replay.specs.Session.{Stands, StandsForLines};
 
     /// Makes a session before its first line. It takes no memory.
     pub fn new(alloc: Global) -> Session
@@ -44,12 +44,17 @@ impl Session {
     /// Answers one line, given with neither its line feed nor the carriage return before it.
     ///
     /// Want of memory comes only from `make` and `signal`, and leaves the session unchanged.
+    #[tactic(auto, using(crate::proofs::Scripted::state_after_push), unfolding(crate::specs::Session::Stands, crate::specs::Scripts::reply_to, crate::specs::Scripts::after_line))]
     pub fn line(&mut self, line: &[u8]) -> Result<ReplyLine, AllocError>
         ensures reply { IfOk result (λ reply. (state : ScriptState) → Stands self.old state
             → reply ≡ reply_to state line.now) }
         ensures after { OnOk result ((state : ScriptState) → Stands self.old state
             → Stands self.new (after_line state line.now)) }
         ensures err { OnErr result (self.new ≡ self.old) }
+        // The same over the lines so far: the session then stands for them with this one.
+        ensures script { IfOk result (λ reply. (lines : List (List ℕ))
+            → StandsForLines self.old lines → (reply ≡ reply_to (state_after lines) line.now)
+            × StandsForLines self.new (lines ++ line.now ∷ [])) }
     {
         let Some(command) = script_line::read(line) else {
             return Ok(reply_line::line(Reply::BadLine));
