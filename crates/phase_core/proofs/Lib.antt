@@ -9,3 +9,4 @@ pub mod LawProofs
 pub mod CoreSteps
 pub mod OneMember
 pub mod Bounded
+pub mod Alive

@@ -40,7 +40,7 @@ pub record Unused (value : List ℤ → Outcome) (h : History) (task : ℕ) : Ty
   pub received : received_by value h task ≡ []
 
 -- a member's number is not above the greatest
-member_used : (h : History) (task : ℕ) (e : Entry) → IsSound h → entry_of (members_of h) task ≡ Some e → task ≤ greatest_used h
+pub member_used : (h : History) (task : ℕ) (e : Entry) → IsSound h → entry_of (members_of h) task ≡ Some e → task ≤ greatest_used h
 member_used h task e sound found =
     let good : StandsWell (done_of h) (top_of h) (greatest_used h) (task, e) = Each-entry _ (members_of h) task e found sound in good.used
 
@@ -117,7 +117,7 @@ began value h task e start u = record {
 }
 
 -- a number above all that were used is no member's
-fresh : (h : History) (task : ℕ) → IsSound h → greatest_used h < task → entry_of (members_of h) task ≡ None
+pub fresh : (h : History) (task : ℕ) → IsSound h → greatest_used h < task → entry_of (members_of h) task ≡ None
 fresh h task sound above =
     entry_of_above (members_of h) task
     (Each-from (StandsWell (done_of h) (top_of h) (greatest_used h)) _ (λ m good. (let u : m.0 ≤ greatest_used h = good.used in omega arith)) (members_of h) sound)

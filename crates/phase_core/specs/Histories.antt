@@ -1,6 +1,6 @@
 -- A history is the list of the events on a phaser, the newest first: `event ∷ before` is a
 -- history whose last event came after those of `before`, and `more ++ before` a longer one.
-use Rattle.std.specs.Prelude.{◌≡◌, ℕ, ◌+◌, List, [], ◌∷◌, ◌++◌, Option, Some, None, IsSome, length, max, unwrap_or, true, if◌then◌else◌, ◌==◌}
+use Rattle.std.specs.Prelude.{◌≡◌, ℕ, ◌+◌, List, [], ◌∷◌, ◌++◌, Option, Some, None, IsSome, length, max, unwrap_or, Bool, true, false, if◌then◌else◌, ◌==◌}
 use Rattle.phase_base.specs.Modes.{mode_signals, mode_waits}
 use Rattle.phase_base.specs.declared.mode.Mode.{Mode}
 use Rattle.phase_base.specs.declared.mode.Mode.TheVariants.{Wait, Single}
@@ -138,3 +138,9 @@ phases_waited [] task = 0
 phases_waited (Waited waiter phases ∷ before) task =
     if waiter == task then phases_waited before task + phases else phases_waited before task
 phases_waited (event ∷ before) task = phases_waited before task
+
+-- whether the task has dropped its registration, by its events alone
+abbrev pub has_dropped : History → ℕ → Bool
+has_dropped [] task = false
+has_dropped (Dropped gone ∷ before) task = if gone == task then true else has_dropped before task
+has_dropped (event ∷ before) task = has_dropped before task

@@ -1,6 +1,6 @@
 //! What holds of every history. Each function here makes no call and has no effect: its contract
 //! is a law, for every history of every phaser, however the phaser is kept.
-ghost use Rattle.std.specs.Prelude.{◌≡◌, ◌+◌, ◌<◌, ◌≤◌, ℕ, ℤ, List, ◌++◌, Ok, Some, true};
+ghost use Rattle.std.specs.Prelude.{◌≡◌, ◌+◌, ◌<◌, ◌≤◌, ℕ, ℤ, List, ◌++◌, Ok, Some, IsSome, true, false, ◌↔◌};
 ghost use mathlib.Core.List.{IsPrefix};
 ghost use Rattle.phase_base.specs.Limits.{Limits};
 ghost use Rattle.phase_base.specs.Modes.{mode_signals, mode_waits};
@@ -9,6 +9,7 @@ ghost use Rattle.phase_accum.specs.declared.outcome.Outcome.{Outcome};
 ghost use Rattle.phase_core.specs.Members.{entry_of, wait_phases, least};
 ghost use Rattle.phase_core.specs.Histories.{History, IsWaiter, HasNoSignaller};
 ghost use Rattle.phase_core.specs.Histories.{members_of, top_of, greatest_used};
+ghost use Rattle.phase_core.specs.Histories.{IsAlive, start_of, has_dropped};
 ghost use Rattle.phase_core.specs.Phases.{stream_of};
 ghost use Rattle.phase_core.specs.Legal.{IsLegal};
 ghost use Rattle.phase_core.specs.Laws.{HasReceived, HasCounted, HasNoEvents, IsInTurn, IsAnswered};
@@ -69,4 +70,11 @@ pub fn answers()
     ensures { (value : List ℤ → Outcome) (limits : Limits) (h : History) (task phase : ℕ)
         (outcome : Outcome) → wait_reply value limits h task ≡ Ok (Got.Value phase outcome)
         → IsAnswered value h task phase outcome }
+{}
+
+/// A task is registered where it began, by making the phaser or by being registered, and has not
+/// dropped its registration since.
+pub fn alive()
+    ensures { (limits : Limits) (h : History) (task : ℕ) → IsLegal limits h
+        → IsAlive h task ↔ (IsSome (start_of h task) × (has_dropped h task ≡ false)) }
 {}
