@@ -85,14 +85,19 @@ pub is_some-entry_of-changed : (task other : ℕ) (f : Entry → Entry) (ms : Me
 is_some-entry_of-changed task other f [] = refl
 is_some-entry_of-changed task other f (m ∷ ms) =
     elim (eqb m.0 task) as (λ b.
-        is_some (entry_of (cond b ((m.0, f m.1) ∷ ms) (m ∷ changed_at task f ms)) other)
-        ≡ is_some (cond (eqb m.0 other) (Some m.1) (entry_of ms other))) [
-      true ↦ elim (eqb m.0 other) as (λ b.
+    is_some (entry_of (cond b ((m.0, f m.1) ∷ ms) (m ∷ changed_at task f ms)) other)
+    ≡ is_some (cond (eqb m.0 other) (Some m.1) (entry_of ms other))) [
+      | true ↦ elim (eqb m.0 other) as (λ b.
           is_some (cond b (Some (f m.1)) (entry_of ms other)) ≡ is_some (cond b (Some m.1) (entry_of ms other))) [
-        true ↦ refl | false ↦ refl ]
-    | false ↦ elim (eqb m.0 other) as (λ b.
+            | true ↦ refl
+            | false ↦ refl
+          ]
+      | false ↦ elim (eqb m.0 other) as (λ b.
           is_some (cond b (Some m.1) (entry_of (changed_at task f ms) other)) ≡ is_some (cond b (Some m.1) (entry_of ms other))) [
-        true ↦ refl | false ↦ is_some-entry_of-changed task other f ms ] ]
+            | true ↦ refl
+            | false ↦ is_some-entry_of-changed task other f ms
+          ]
+    ]
 
 pub entry_of-push_old : (ms : Members) (n task : ℕ) (x e : Entry)
     → entry_of ms task ≡ Some e → entry_of (ms ++ (n, x) ∷ []) task ≡ Some e

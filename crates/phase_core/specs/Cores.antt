@@ -20,7 +20,8 @@ pub record CoreState (A : Type 0) : Type 0 where
   pub slots : List (Slot A)
 
 -- the slot has the part, the number and the single of the sends of phase p
-pub record KeepsSends {A : Type 0} (op : Operation A) (slot : Slot A) (h : History) (p : ℕ) : Type 0 where
+pub record KeepsSends {A : Type 0} (op : Operation A) (slot : Slot A) (h : History) (p : ℕ)
+    : Type 0 where
   pub part_is : IsPartOf op slot.part (sends_of_phase h p)
   pub count_is : slot.count ≡ length (sends_of_phase h p)
   pub named_is : slot.named ≡ named_in_phase h p
@@ -32,14 +33,16 @@ pub record IsSlotOf {A : Type 0} (core : CoreState A) (p : ℕ) (slot : Slot A) 
   pub found : slice_get core.slots place ≡ Some slot
 
 -- phase p is kept
-pub record KeepsPhase {A : Type 0} (op : Operation A) (core : CoreState A) (h : History) (p : ℕ) : Type 0 where
+pub record KeepsPhase {A : Type 0} (op : Operation A) (core : CoreState A) (h : History) (p : ℕ)
+    : Type 0 where
   pub slot : Slot A
   pub is_slot : IsSlotOf core p slot
   pub keeps : KeepsSends op slot h p
 
 -- the core is one that the history leaves: while a waiter is registered, each phase from the
 -- least wait phase to the top is kept
-pub record StandsFor {A : Type 0} (op : Operation A) (core : CoreState A) (h : History) : Type 0 where
+pub record StandsFor {A : Type 0} (op : Operation A) (core : CoreState A) (h : History)
+    : Type 0 where
   pub legal : IsLegal core.limits h
   pub members_are : core.members ≡ members_of h
   pub newest_is : core.newest ≡ greatest_used h

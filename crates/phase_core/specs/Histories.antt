@@ -9,6 +9,7 @@ use Rattle.phase_core.specs.declared.event.Event.{Event}
 use Rattle.phase_core.specs.declared.event.Event.TheVariants.{Made, Registered, RegisteredNow, Signalled, Waited, Dropped}
 use Rattle.phase_core.specs.Members.{Members, entry_of, changed_at, without, signal_phases, least, signalled, waited}
 
+-- the events, the newest first
 abbrev pub History : Type 0
 History = List Event
 

@@ -6,7 +6,8 @@ use Rattle.phase_core.specs.Histories.{History, done_of, start_of, phases_signal
 use Rattle.phase_core.specs.Phases.{stream_of, received_by}
 
 -- a task with this entry has received the stream from its start to its wait phase
-pub record HasReceived (value : List ℤ → Outcome) (h : History) (task : ℕ) (entry : Entry) : Type 0 where
+pub record HasReceived (value : List ℤ → Outcome) (h : History) (task : ℕ) (entry : Entry)
+    : Type 0 where
   pub start : Entry
   pub start_is : start_of h task ≡ Some start
   pub from_start : start.wait_phase ≤ entry.wait_phase

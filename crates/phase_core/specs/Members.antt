@@ -5,6 +5,7 @@ use Rattle.std.specs.List.{filter}
 use Rattle.phase_base.specs.Modes.{mode_signals, mode_waits}
 use Rattle.phase_base.specs.declared.entry.Entry.{Entry}
 
+-- the members, in the order in which they joined
 abbrev pub Members : Type 0
 Members = List (ℕ × Entry)
 
@@ -34,6 +35,7 @@ signal_phases members = map (λ m. m.1.signal_phase) (filter (λ m. mode_signals
 abbrev pub wait_phases : Members → List ℕ
 wait_phases members = map (λ m. m.1.wait_phase) (filter (λ m. mode_waits m.1.mode) members)
 
+-- the lesser of a number and of another, where there is one
 abbrev pub lesser : ℕ → Option ℕ → ℕ
 lesser n None = n
 lesser n (Some m) = min n m

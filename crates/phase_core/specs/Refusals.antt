@@ -111,6 +111,7 @@ wait_rows_at limits done has_signaller n entry =
     ∷ (nat_le done entry.wait_phase && has_signaller, wait.NotYet)
     ∷ []
 
+-- a wait for at most n phases, where the members stand so
 abbrev pub wait_rows : Limits → Positions → ℕ → Entry → List (Bool × WaitRefusal)
 wait_rows limits now n entry =
     wait_rows_at limits (done_at now) (is_some (least (signal_phases now.members))) n entry
@@ -130,7 +131,8 @@ abbrev pub register_now_refusal : History → ℕ → ℕ → Option RegisterRef
 register_now_refusal h parent child = register_refusal h parent child Wait
 
 -- the refusal of a signal
-abbrev pub signal_refusal : Limits → History → ℕ → List (List ℤ) → Option Single → Option SignalRefusal
+abbrev pub signal_refusal : Limits → History → ℕ → List (List ℤ) → Option Single
+    → Option SignalRefusal
 signal_refusal limits h task lists single =
     refusal_at (entry_of (members_of h) task) signal.NoTask (signal_rows limits h lists single)
 
