@@ -1,9 +1,12 @@
 //! Sums through a task's pending sends, and each other public function once.
 use crate::accumulate::Accumulate;
+use crate::applied::apply;
 use crate::outcome::{NO_VALUE, Outcome, VALUE_MAX};
 use crate::pending::{Pending, SendFault};
 use crate::range::{BadClamp, Range};
+use crate::single::Single;
 use crate::sum::Sum;
+use std::test::Fail;
 
 fn outcome_of<A: Accumulate>(values: &[i64]) -> Result<Outcome, SendFault> {
     let mut pending = Pending::<A>::new();
@@ -59,4 +62,26 @@ fn a_range_has_its_ends_in_order(rt: HostRuntime) {
         }
         Err(fault) => panic!(rt; "refused: {fault:?}"),
     }
+}
+
+#[test]
+fn a_single_is_applied_to_a_value(rt: HostRuntime) -> Result<(), Fail> {
+    let clamp = Single::Clamp(Range::new(0, 10)?);
+    for (single, value, want) in [
+        (Single::Halve, 5, 2),
+        (Single::Halve, -5, -3),
+        (Single::Neg, 13, -13),
+        (Single::Abs, -7, 7),
+        (clamp, 15, 10),
+        (clamp, -3, 0),
+    ] {
+        assert_eq!(rt;
+            apply(single, Outcome::Value(value)),
+            Outcome::Value(want),
+            "{single:?} of {value}"
+        );
+    }
+    assert_eq!(rt; apply(clamp, Outcome::Empty), Outcome::Empty);
+    assert_eq!(rt; apply(clamp, Outcome::TooBig), Outcome::TooBig);
+    Ok(())
 }

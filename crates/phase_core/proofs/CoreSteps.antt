@@ -27,7 +27,7 @@ use Rattle.phase_core.specs.Cores.{CoreState, one_member, KeepsSends, IsSlotOf, 
 use Rattle.phase_core.proofs.Each.{Each, Each-of_picked, Each-picked, least_low, least_or_high}
 use Rattle.phase_core.proofs.MemberLemmas.{Each-entry, Each-changed, wait_phases-signalled}
 use Rattle.phase_core.proofs.Refused.{Passes, passes_from, WaitsNow, waits_from}
-use Rattle.phase_core.proofs.Steps.{StandsWell, IsSound, sound_of, done_below_top, member_entry_is}
+use Rattle.phase_core.proofs.Steps.{StandsWell, IsSound, sound_of, done_below_top, member_entry_is, first_named_not}
 
 -- ---- phases that no signal has joined
 
@@ -37,10 +37,6 @@ list_in_phase_behind [] s p h = refl
 list_in_phase_behind (sends ∷ lists) s p h =
     let apart : eqb s p ≡ false = ne_eqb s p (λ e. omega arith) in
     rw apart (list_in_phase_behind lists (s + 1) p (omega arith))
-
-first_named_not : (named : Option (Option Single)) (joins : Bool) (single : Option Single) → joins ≡ false → first_named named joins single ≡ named
-first_named_not (Some named) joins single e = refl
-first_named_not None joins single e = rw e refl
 
 -- a phase from the top on has no sends, and no single is named in it
 pub none_from_top : (limits : Limits) (h : History) (p : ℕ) → IsLegal limits h → top_of h ≤ p

@@ -128,7 +128,8 @@ list_in_phase_before (sends ∷ lists) s p h =
     let apart : eqb s p ≡ false = ne_eqb s p (λ e. omega arith) in
     rw apart (list_in_phase_before lists (s + 1) p (omega arith))
 
-first_named_not : (named : Option (Option Single)) (joins : Bool) (single : Option Single) → joins ≡ false → first_named named joins single ≡ named
+-- a signal that does not join the phase names nothing there
+pub first_named_not : (named : Option (Option Single)) (joins : Bool) (single : Option Single) → joins ≡ false → first_named named joins single ≡ named
 first_named_not (Some named) joins single e = refl
 first_named_not None joins single e = rw e refl
 

@@ -33,7 +33,8 @@ first_named None joins single = if joins then Some single else None
 abbrev pub named_in_phase : History → ℕ → Option (Option Single)
 named_in_phase [] p = None
 named_in_phase (Signalled task lists single ∷ before) p =
-    first_named (named_in_phase before p) (is_among (signal_phase before task) (length lists) p) single
+    first_named (named_in_phase before p) (is_among (signal_phase before task) (length lists) p)
+    single
 named_in_phase (event ∷ before) p = named_in_phase before p
 
 -- the single of a phase, where it has one

@@ -23,10 +23,12 @@ refused_or None answer = Ok answer
 
 -- what a waiter at this wait phase gets
 abbrev pub got_at : (List ℤ → Outcome) → History → ℕ → Got
-got_at value h w = if nat_lt w (done_of h) then got.Value w (value_of_phase value h w) else got.Ended
+got_at value h w =
+    if nat_lt w (done_of h) then got.Value w (value_of_phase value h w) else got.Ended
 
 -- a signal answers its first phase
-abbrev pub signal_reply : Limits → History → ℕ → List (List ℤ) → Option Single → Result ℕ SignalRefusal
+abbrev pub signal_reply : Limits → History → ℕ → List (List ℤ) → Option Single
+    → Result ℕ SignalRefusal
 signal_reply limits h task lists single =
     refused_or (signal_refusal limits h task lists single) (signal_phase h task)
 

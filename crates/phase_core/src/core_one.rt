@@ -18,6 +18,39 @@ use std::alloc::{AllocError, Global};
 use std::marker::Model;
 
 /// A phaser, for one thread.
+///
+/// **Registration.** The task that makes a phaser is its founder. It is registered in `Single`, at
+/// phase 0, for as long as the phaser is there. No other task can join.
+///
+/// **Signalling.** A signal joins the task's signal phase with the sends that the task held, and
+/// takes the task to the next phase. A task in `Single` may name a single, which is applied once to
+/// the value of the phase. A phase is complete when each signaller has signalled it, and never
+/// changes then.
+///
+/// **Waiting.** A wait answers the task's wait phase with its value where that phase is complete,
+/// and takes the task to the next phase, so that a task gets each phase once and in order. It never
+/// blocks: where the phase is not complete it is refused. A task that signals and waits does so in
+/// turn, and signals first.
+///
+/// **Ending.** Where no signaller is registered, a task that has got every phase is answered
+/// `Ended`. The founder is a signaller, so that no wait is answered so today.
+///
+/// **Limits.** The signallers may be as many phases ahead of the slowest waiter as the bound says.
+/// A phaser has at most as many phases as it was made for, and a phase at most `SENDS_MAX` sends. A
+/// refused call changes nothing. `SignalRefusal` and `WaitRefusal` have the refusals in the order in
+/// which they are checked.
+///
+/// **Example.** A founder gets what it sent:
+/// ```text
+/// let mut core = PhaserCore::<Sum>::new(alloc, Spec::new(2, 100)?, 0)?;
+/// let mut pending = Pending::new();
+/// pending.send(5)?;
+/// core.signal(0, pending, None)     Ok(0)
+/// core.wait(0)                      Ok(Got::Value { phase: 0, outcome: Outcome::Value(5) })
+/// ```
+///
+/// **Not promised.** That a phase is ever complete, that memory is left for a signal, and that the
+/// memory of a phase is given back before the phaser is dropped.
 #[derive(Drop)]
 pub struct PhaserCore<A: Accumulate> {
     spec: Spec,
@@ -36,11 +69,13 @@ impl<A: Accumulate> Model for PhaserCore<A> {
     ghost view = { λ c. one_member c.spec c.founder c.entry c.phases };
 
     ghost invariant = { λ c. (c.entry.signal_phase ≡ length c.phases)
-        × ((h : History) × StandsFor A.operation (one_member c.spec c.founder c.entry c.phases) h) };
+        × ((h : History)
+        × StandsFor A.operation (one_member c.spec c.founder c.entry c.phases) h) };
 }
 
 impl<A: Accumulate> PhaserCore<A> {
-    /// Makes a phaser, whose one task is `first`, registered in `Single` at phase 0.
+    /// Makes a phaser, whose one task is `first`, registered in `Single` at phase 0. It takes memory
+    /// for the first phases.
     pub fn new(alloc: Global, spec: Spec, first: u64) -> Result<PhaserCore<A>, AllocError>
         ensures stands { IfOk result (λ core. StandsFor A.operation core (Made first ∷ [])) }
         ensures limits { IfOk result (λ core. core.limits ≡ spec) }
@@ -66,7 +101,7 @@ impl<A: Accumulate> PhaserCore<A> {
         (self.founder == task).then_some(self.entry)
     }
 
-    /// Tells the first phase that is not complete.
+    /// Tells the first phase that is not complete, counted from 0. The phases below it are.
     pub fn done(&self) -> u64
         ensures { (h : History) → StandsFor A.operation self.now h → result ≡ done_of h }
     {
@@ -92,7 +127,8 @@ impl<A: Accumulate> PhaserCore<A> {
         single: &Option<Single>,
     ) -> Option<SignalRefusal>
         requires { sends ≤ SENDS_MAX }
-        ensures { (h : History) (list : List ℤ) → StandsFor A.operation self.now h → length list ≡ sends
+        ensures { (h : History) (list : List ℤ)
+            → StandsFor A.operation self.now h → length list ≡ sends
             → signal_refusal self.now.limits h task (list ∷ []) single.now ≡ result }
     {
         let Some(entry) = self.view(task) else {
@@ -108,6 +144,9 @@ impl<A: Accumulate> PhaserCore<A> {
 
     /// Signals the task's phase, with the sends that it held and a single or none, and answers that
     /// phase. A refused signal hands the sends back.
+    ///
+    /// It may take memory, which it asks for last, so that a signal that was refused as
+    /// `OutOfMemory` can be made again.
     pub fn signal(
         &mut self,
         task: u64,
@@ -147,7 +186,8 @@ impl<A: Accumulate> PhaserCore<A> {
         Ok(phase)
     }
 
-    /// Waits for the task's phase, and answers it with its value, or that no more will come.
+    /// Waits for the task's phase, and answers it with its value, or that no more will come. It
+    /// never blocks, and takes no memory.
     pub fn wait(&mut self, task: u64) -> Result<Got, WaitRefusal>
         ensures reply { (h : History) → StandsFor A.operation self.old h
             → wait_reply A.operation.value self.old.limits h task ≡ result }

@@ -1,4 +1,6 @@
-//! A phaser for one thread.
+//! A phaser for one thread: a task signals phases with its sends, and waits for their values. The
+//! contracts speak of histories, which are lists of the accepted calls. The first calls are
+//! `PhaserCore::new`, `PhaserCore::signal` and `PhaserCore::wait`.
 #![tactic(auto)]
 
 mod core_one;
@@ -9,6 +11,8 @@ mod phase_list;
 mod refusal;
 mod refusal_rows;
 mod slot;
+#[cfg(test)]
+mod tests;
 
 pub use core_one::PhaserCore;
 pub use event::Event;

@@ -25,7 +25,7 @@ impl<A: Drop> PhaseList<A> {
     ghost use Rattle.phase_accum.specs.Parcels.{parcel};
     ghost use Rattle.phase_core.specs.Slots.{opened_slot};
 
-    /// Makes a list of no phase.
+    /// Makes a list of no phase, with memory for the first ones.
     pub fn new(alloc: Global) -> Result<PhaseList<A>, AllocError>
         ensures { IfOk result (λ l. l ≡ []) }
     {
@@ -41,7 +41,8 @@ impl<A: Drop> PhaseList<A> {
         self.slots.len() as u64
     }
 
-    /// Opens one more phase, whose first signal had these sends and named `single`.
+    /// Opens one more phase, whose first signal had these sends and named `single`, or none. It may
+    /// take memory.
     pub fn open(&mut self, part: A, count: u64, single: Option<Single>) -> Result<(), AllocError>
         ensures ok { OnOk result
             (self.new ≡ self.old ++ opened_slot (parcel part count) single ∷ []) }
@@ -55,7 +56,7 @@ impl<A: Drop> PhaseList<A> {
         Ok(())
     }
 
-    /// The slot of a phase.
+    /// Tells the slot of a phase, where it is open.
     pub fn get(&self, phase: u64) -> Option<&Slot<A>>
         ensures { MatchOption result (slice_get self.now phase ≡ None)
             (λ slot. slice_get self.now phase ≡ Some slot.now) }

@@ -16,7 +16,7 @@ pub struct Slot<A> {
 impl<A: Accumulate> Slot<A> {
     ghost use Rattle.phase_core.specs.Slots.{slot_value};
 
-    /// The value of the phase.
+    /// Tells the value of the phase, with the single applied where there is one.
     pub fn value(&self) -> Outcome
         requires { IsInRange (A.operation.finish self.now.part) }
         ensures { result ≡ slot_value A.operation self.now }
