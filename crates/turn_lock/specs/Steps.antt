@@ -39,7 +39,8 @@ module _ {N T V : Type 0} (holds : N → Option T → List V → Type 0) (name :
       → get_elem? views number ≡ some v → get_elem? views other ≡ some w
       → holds name home (slice_set (slice_set views number both) other spent)
 
--- while the value is out, the rule allows this view beside another seat, which has the turn
+-- while the value is out, the rule allows this view and another seat beside it. That the other one
+-- has the turn is for the rule to say
 pub record Busy {N T V : Type 0} (holds : N → Option T → List V → Type 0) (name : N) (v : V)
     : Type 0 where
   pub views : List V
