@@ -3,18 +3,18 @@
 //! `PhaserCore::new`, `PhaserCore::signal` and `PhaserCore::wait`.
 #![tactic(auto)]
 
-mod core_one;
 mod event;
 mod got;
 pub mod laws;
 mod phase_list;
+mod phaser_core;
 mod refusal;
 mod refusal_rows;
 mod slot;
 #[cfg(test)]
 mod tests;
 
-pub use core_one::PhaserCore;
 pub use event::Event;
 pub use got::Got;
+pub use phaser_core::PhaserCore;
 pub use refusal::{NoTask, RegisterRefusal, SignalRefusal, WaitRefusal};

@@ -8,7 +8,7 @@ use Rattle.phase_core.specs.Histories.{done_of}
 use Rattle.phase_core.specs.Replies.{wait_reply}
 use Rattle.phase_core.specs.Cores.{CoreState, StandsFor, one_member}
 use Rattle.phase_core.proofs.OneMember.{GetsOne, gets_one, value_one, entry_of_one}
-use Rattle.phase_core.proofs.core_one.PhaserCore.wait.Goals as goal
+use Rattle.phase_core.proofs.phaser_core.PhaserCore.wait.Goals as goal
 
 pub value-outcome-requires : goal.value-outcome-requires
 value-outcome-requires g c =

@@ -4,7 +4,7 @@ use Rattle.phase_core.specs.Refusals.{signal_refusal}
 use Rattle.phase_core.specs.Members.{entry_of}
 use Rattle.phase_core.specs.Cores.{CoreState, StandsFor}
 use Rattle.phase_core.proofs.OneMember.{signal_refusal_one}
-use Rattle.phase_core.proofs.core_one.PhaserCore.signal_refusal.Goals as goal
+use Rattle.phase_core.proofs.phaser_core.PhaserCore.signal_refusal.Goals as goal
 
 pub returns : goal.returns
 returns g c h list stands count =

@@ -2,7 +2,7 @@
 use Rattle.std.proofs.Common.{◌≡◌, [], ◌∷◌, refl}
 use Rattle.phase_core.specs.declared.event.Event.TheVariants.{Made}
 use Rattle.phase_core.proofs.CoreSteps.{made_stands}
-use Rattle.phase_core.proofs.core_one.PhaserCore.new.Goals as goal
+use Rattle.phase_core.proofs.phaser_core.PhaserCore.new.Goals as goal
 
 pub invariant_of-result : goal.invariant_of-result
 invariant_of-result g c =

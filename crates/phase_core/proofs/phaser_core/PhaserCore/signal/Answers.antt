@@ -5,7 +5,7 @@ use Rattle.phase_core.specs.declared.event.Event.TheVariants.{Signalled}
 use Rattle.phase_core.specs.Refusals.{signal_refusal}
 use Rattle.phase_core.specs.Cores.{CoreState, StandsFor, one_member}
 use Rattle.phase_core.proofs.OneMember.{SignalsOne, signals_one, signal_one}
-use Rattle.phase_core.proofs.core_one.PhaserCore.signal.Goals as goal
+use Rattle.phase_core.proofs.phaser_core.PhaserCore.signal.Goals as goal
 
 pub overflow_add-self : goal.overflow_add-self
 overflow_add-self g c =
