@@ -1,18 +1,16 @@
 -- A task is a member where it began and has not dropped.
-use Rattle.std.proofs.Common.{◌≡◌, ℕ, ◌+◌, ◌<◌, ◌≤◌, Bool, true, false, not, ◌&&◌, cond, eqb, List, [], ◌∷◌, ◌++◌, Option, Some, None, length, max, refl, sym, ap, subst, ◌∙◌, arith}
+use Rattle.std.proofs.Common.{◌≡◌, ℕ, ◌<◌, ◌≤◌, Bool, true, false, not, ◌&&◌, cond, eqb, [], ◌∷◌, ◌++◌, Option, Some, None, length, refl, sym, ap, subst, ◌∙◌, arith}
 use Rattle.std.specs.Prelude.{is_some, IsSome, ◌↔◌}
 use Rattle.std.proofs.lemmas.Bool.{eqb-true, ne_eqb, and_parts, and_from, not-true, not_from_false}
 use Rattle.phase_base.specs.Limits.{Limits}
 use Rattle.phase_base.specs.declared.mode.Mode.TheVariants.{Wait}
 use Rattle.phase_base.specs.declared.entry.Entry.{Entry}
-use Rattle.phase_core.specs.declared.event.Event.{Event}
 use Rattle.phase_core.specs.declared.event.Event.TheVariants.{Made, Registered, RegisteredNow, Signalled, Waited, Dropped}
-use Rattle.phase_core.specs.Members.{Members, entry_of, signalled, waited}
+use Rattle.phase_core.specs.Members.{entry_of, signalled, waited}
 use Rattle.phase_core.specs.Histories.{History, members_of, founder, entry_at, signal_phase, wait_phase, done_of, greatest_used, start_of, has_dropped, IsAlive}
-use Rattle.phase_core.specs.Refusals.{drop_refusal}
 use Rattle.phase_core.specs.Legal.{IsLegal}
 use Rattle.phase_core.proofs.MemberLemmas.{is_some-entry_of-changed, entry_of-push_new, entry_of-push_other, entry_of-without_same, entry_of-without_other}
-use Rattle.phase_core.proofs.Refused.{Registers, registers_from, Passes, passes_from}
+use Rattle.phase_core.proofs.Refused.{registers_from, passes_from}
 use Rattle.phase_core.proofs.Steps.{sound_of}
 use Rattle.phase_core.proofs.Received.{fresh, member_used}
 

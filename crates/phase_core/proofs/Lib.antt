@@ -10,3 +10,4 @@ pub mod CoreSteps
 pub mod OneMember
 pub mod Bounded
 pub mod Alive
+pub mod Standstill

@@ -1,9 +1,14 @@
 -- What the laws of histories say.
-use Rattle.std.specs.Prelude.{◌≡◌, ℕ, ◌+◌, ◌<◌, ◌≤◌, ℤ, List, [], ◌∷◌, ◌++◌, Some, slice_range}
+use Rattle.std.specs.Prelude.{◌≡◌, ℕ, ◌+◌, ◌<◌, ◌≤◌, ℤ, List, [], ◌∷◌, ◌++◌, ◌⊎◌, ◌≢◌, Option, None, Some, slice_range}
 use Rattle.phase_base.specs.declared.entry.Entry.{Entry}
 use Rattle.phase_accum.specs.declared.outcome.Outcome.{Outcome}
-use Rattle.phase_core.specs.declared.event.Event.TheVariants.{Waited}
-use Rattle.phase_core.specs.Histories.{History, wait_phase, done_of, start_of}
+use Rattle.phase_base.specs.Limits.{Limits}
+use Rattle.phase_accum.specs.declared.single.Single.{Single}
+use Rattle.phase_core.specs.declared.event.Event.TheVariants.{Signalled, Waited}
+use Rattle.phase_core.specs.declared.refusal.SignalRefusal.TheVariants as signal
+use Rattle.phase_core.specs.declared.refusal.WaitRefusal.TheVariants as wait
+use Rattle.phase_core.specs.Refusals.{signal_refusal, wait_refusal}
+use Rattle.phase_core.specs.Histories.{History, IsSignaller, IsWaiter, wait_phase, done_of, start_of}
 use Rattle.phase_core.specs.Histories.{phases_signalled, phases_waited}
 use Rattle.phase_core.specs.Phases.{stream_of, received_by}
 
@@ -42,3 +47,34 @@ pub record IsAnswered (value : List ℤ → Outcome) (h : History) (task phase :
   pub phase_is : phase ≡ wait_phase h task
   pub complete : phase < done_of h
   pub received : received_by value (Waited task 1 ∷ h) task ≡ received_by value h task ++ outcome ∷ []
+
+-- whatever it sends and names, the task's signal is not refused as ahead or as a second one
+pub record MaySignal (limits : Limits) (h : History) (task : ℕ) : Type 0 where
+  pub entry : Entry
+  pub is_signaller : IsSignaller h task entry
+  pub not_ahead : (sends : List ℤ) (single : Option Single)
+      → signal_refusal limits h task (sends ∷ []) single ≢ Some signal.Ahead
+  pub not_twice : (sends : List ℤ) (single : Option Single)
+      → signal_refusal limits h task (sends ∷ []) single ≢ Some signal.SignalTwice
+
+-- the task's wait is not refused as too early, before its phase is complete or before its signal
+pub record MayWait (limits : Limits) (h : History) (task : ℕ) : Type 0 where
+  pub entry : Entry
+  pub is_waiter : IsWaiter h task entry
+  pub complete : wait_refusal limits h task 1 ≢ Some wait.NotYet
+  pub signalled : wait_refusal limits h task 1 ≢ Some wait.SignalFirst
+
+-- some task may go on
+abbrev pub GoesOn : Limits → History → Type 0
+GoesOn limits h = (task : ℕ) × (MaySignal limits h task ⊎ MayWait limits h task)
+
+-- some task may wait, or its signal with no send and no single is accepted
+abbrev pub GoesOnPlainly : Limits → History → Type 0
+GoesOnPlainly limits h =
+    (task : ℕ) × ((signal_refusal limits h task ([] ∷ []) None ≡ None) ⊎ MayWait limits h task)
+
+-- no event names a single
+abbrev pub NamesNoSingle : History → Type 0
+NamesNoSingle [] = Unit {0}
+NamesNoSingle (Signalled task lists single ∷ before) = (single ≡ None) × NamesNoSingle before
+NamesNoSingle (event ∷ before) = NamesNoSingle before

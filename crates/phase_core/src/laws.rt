@@ -8,11 +8,12 @@ ghost use Rattle.phase_base.specs.declared.entry.Entry.{Entry};
 ghost use Rattle.phase_accum.specs.declared.outcome.Outcome.{Outcome};
 ghost use Rattle.phase_core.specs.Members.{entry_of, wait_phases, least};
 ghost use Rattle.phase_core.specs.Histories.{History, IsWaiter, HasNoSignaller};
-ghost use Rattle.phase_core.specs.Histories.{members_of, top_of, greatest_used};
+ghost use Rattle.phase_core.specs.Histories.{members_of, top_of, done_of, greatest_used};
 ghost use Rattle.phase_core.specs.Histories.{IsAlive, start_of, has_dropped};
 ghost use Rattle.phase_core.specs.Phases.{stream_of};
 ghost use Rattle.phase_core.specs.Legal.{IsLegal};
 ghost use Rattle.phase_core.specs.Laws.{HasReceived, HasCounted, HasNoEvents, IsInTurn, IsAnswered};
+ghost use Rattle.phase_core.specs.Laws.{GoesOn, GoesOnPlainly, NamesNoSingle};
 ghost use Rattle.phase_core.specs.Replies.{wait_reply};
 
 use crate::got::Got;
@@ -77,4 +78,15 @@ pub fn answers()
 pub fn alive()
     ensures { (limits : Limits) (h : History) (task : ℕ) → IsLegal limits h
         → IsAlive h task ↔ (IsSome (start_of h task) × (has_dropped h task ≡ false)) }
+{}
+
+/// While a task is registered, some task can go on: its signal is neither ahead nor a second one, or
+/// its wait is neither too early nor before its signal. So phasers alone bring no task to a stop.
+/// Where no single is named and phases are left, some signal with no send is accepted, or some wait.
+pub fn no_standstill()
+    ensures goes { (limits : Limits) (h : History) (task : ℕ) → IsLegal limits h
+        → IsAlive h task → GoesOn limits h }
+    ensures plainly { (limits : Limits) (h : History) (task : ℕ) → IsLegal limits h
+        → IsAlive h task → NamesNoSingle h → done_of h < limits.phases_max
+        → GoesOnPlainly limits h }
 {}
