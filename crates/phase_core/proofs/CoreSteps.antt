@@ -126,7 +126,8 @@ not_full : (limits : Limits) (h : History) (task slowest : ℕ) (e : Entry) (sen
 not_full limits h task slowest e sends single found waiter none =
     let p : Passes (entry_of (members_of h) task) (signal_rows limits h (sends ∷ []) single) = passes_from _ _ _ none in
     let same : p.entry ≡ e = same_Some _ _ (sym p.is_member ∙ found) in
-    let row : (is_some (least (wait_phases (members_of h))) && ltb 65536 (length (sends_of_phase h p.entry.signal_phase) + length sends)) ≡ false =
+    let row : (is_some (least (wait_phases (members_of h))) && ltb 65536
+    (length (sends_of_phase h p.entry.signal_phase) + length sends)) ≡ false =
     p.passes.1.1.1.1.1.1.1.0 in
     let has : is_some (least (wait_phases (members_of h))) ≡ true = ap (λ o. is_some o) waiter in
     let few : ltb 65536 (length (sends_of_phase h p.entry.signal_phase) + length sends) ≡ false =
@@ -144,7 +145,8 @@ pub signals_stands : {A : Type 0} (op : Operation A) (laws : AccumulateLaws op) 
 signals_stands {A} op laws old new h task e held sends single stands found_old none holds s =
     let event = Signalled task (sends ∷ []) single in
     let found : entry_of (members_of h) task ≡ Some e = (rw (← stands.members_are) found_old) in
-    let at_phase : signal_phase h task ≡ e.signal_phase = ap (λ (x : Entry). x.signal_phase) (member_entry_is (members_of h) task e found) in
+    let at_phase : signal_phase h task ≡ e.signal_phase =
+    ap (λ (x : Entry). x.signal_phase) (member_entry_is (members_of h) task e found) in
     let sound : IsSound h = sound_of old.limits h stands.legal in
     let good : StandsWell (done_of h) (top_of h) (greatest_used h) (task, e) = Each-entry _ (members_of h) task e found sound in
     let top_old : old.top ≡ top_of h = stands.top_is in
@@ -163,7 +165,8 @@ signals_stands {A} op laws old new h task e held sends single stands found_old n
           ∙ ap (λ p. max (top_of h) (p + 1)) (sym at_phase);
       phases_are = λ slowest p waiter behind below.
           let waiter_old : least (wait_phases old.members) ≡ Some slowest =
-          sym (ap least (wait_phases-signalled old.members task 1)) ∙ sym (ap (λ ms. least (wait_phases ms)) s.members_are) ∙ waiter in
+          sym (ap least (wait_phases-signalled old.members task 1))
+          ∙ sym (ap (λ ms. least (wait_phases ms)) s.members_are) ∙ waiter in
           let waiter_of : least (wait_phases (members_of h)) ≡ Some slowest =
           sym (ap (λ ms. least (wait_phases ms)) stands.members_are) ∙ waiter_old in
           ⊎_elim
@@ -254,18 +257,23 @@ slowest_before ms task n slowest e found waits least_new =
     elim (least (wait_phases ms)) as (λ o. (least (wait_phases ms) ≡ o) → (b : ℕ) × (o ≡ Some b) × (b ≤ slowest)) [
       | None ↦ λ none.
           let each : Each (λ (m : ℕ × Entry). mode_waits m.1.mode ≡ true → ⊥) ms =
-          Each-of_picked (λ x. ⊥) (λ (m : ℕ × Entry). m.1.wait_phase) (λ (m : ℕ × Entry). mode_waits m.1.mode) ms (none_least (λ x. ⊥) (wait_phases ms) none) in
+          Each-of_picked (λ x. ⊥) (λ (m : ℕ × Entry). m.1.wait_phase)
+          (λ (m : ℕ × Entry). mode_waits m.1.mode) ms (none_least (λ x. ⊥) (wait_phases ms) none) in
           let no_waiter : mode_waits e.mode ≡ true → ⊥ = Each-entry _ ms task e found each in
           absurd (no_waiter waits)
       | Some b ↦ λ some.
           let each : Each (λ (m : ℕ × Entry). mode_waits m.1.mode ≡ true → b ≤ m.1.wait_phase) ms =
-          Each-of_picked (λ x. b ≤ x) (λ (m : ℕ × Entry). m.1.wait_phase) (λ (m : ℕ × Entry). mode_waits m.1.mode) ms (least_low (wait_phases ms) b some) in
-          let each_new : Each (λ (m : ℕ × Entry). mode_waits m.1.mode ≡ true → b ≤ m.1.wait_phase) (changed_at task (waited n) ms) =
+          Each-of_picked (λ x. b ≤ x) (λ (m : ℕ × Entry). m.1.wait_phase)
+          (λ (m : ℕ × Entry). mode_waits m.1.mode) ms (least_low (wait_phases ms) b some) in
+          let each_new : Each (λ (m : ℕ × Entry). mode_waits m.1.mode ≡ true → b ≤ m.1.wait_phase)
+          (changed_at task (waited n) ms) =
           Each-changed _ _ task (waited n) e ms found (λ m h. h) (λ h w. (let a : b ≤ e.wait_phase = h w in omega arith)) each in
           let low : b ≤ unwrap_or (least (wait_phases (changed_at task (waited n) ms))) b =
           least_or_high (wait_phases (changed_at task (waited n) ms)) b b
-          (Each-picked (λ x. b ≤ x) (λ (m : ℕ × Entry). m.1.wait_phase) (λ (m : ℕ × Entry). mode_waits m.1.mode) (changed_at task (waited n) ms) each_new) (omega arith) in
-          let is : unwrap_or (least (wait_phases (changed_at task (waited n) ms))) b ≡ slowest = ap (λ o. unwrap_or o b) least_new in
+          (Each-picked (λ x. b ≤ x) (λ (m : ℕ × Entry). m.1.wait_phase)
+          (λ (m : ℕ × Entry). mode_waits m.1.mode) (changed_at task (waited n) ms) each_new) (omega arith) in
+          let is : unwrap_or (least (wait_phases (changed_at task (waited n) ms))) b ≡ slowest =
+          ap (λ o. unwrap_or o b) least_new in
           (b, refl, omega arith)
     ] refl
 
@@ -280,7 +288,8 @@ waits_stands op old new h task e stands found_old none complete s =
     let same : r.entry ≡ e = same_Some _ _ (sym r.is_member ∙ found) in
     let W : Entry → Type 0 = λ x. mode_waits x.mode ≡ true in
     let waits : mode_waits e.mode ≡ true = subst W same r.waits in
-    let at_phase : wait_phase h task ≡ e.wait_phase = ap (λ (x : Entry). x.wait_phase) (member_entry_is (members_of h) task e found) in
+    let at_phase : wait_phase h task ≡ e.wait_phase =
+    ap (λ (x : Entry). x.wait_phase) (member_entry_is (members_of h) task e found) in
     let L : Limits → Type 0 = λ l. IsLegal l (Waited task 1 ∷ h) in
     record {
       legal = subst L (sym s.limits_same) (stands.legal, (none, omega arith));
@@ -326,12 +335,14 @@ kept_phase op core h task e stands found waits complete =
     elim (least (wait_phases core.members)) as (λ o. (least (wait_phases core.members) ≡ o) → KeepsPhase op core h e.wait_phase) [
       | None ↦ λ none.
           let each : Each (λ (m : ℕ × Entry). mode_waits m.1.mode ≡ true → ⊥) core.members =
-          Each-of_picked (λ x. ⊥) (λ (m : ℕ × Entry). m.1.wait_phase) (λ (m : ℕ × Entry). mode_waits m.1.mode) core.members (none_least (λ x. ⊥) (wait_phases core.members) none) in
+          Each-of_picked (λ x. ⊥) (λ (m : ℕ × Entry). m.1.wait_phase)
+          (λ (m : ℕ × Entry). mode_waits m.1.mode) core.members (none_least (λ x. ⊥) (wait_phases core.members) none) in
           let no_waiter : mode_waits e.mode ≡ true → ⊥ = Each-entry _ core.members task e found each in
           absurd (no_waiter waits)
       | Some b ↦ λ some.
           let each : Each (λ (m : ℕ × Entry). mode_waits m.1.mode ≡ true → b ≤ m.1.wait_phase) core.members =
-          Each-of_picked (λ x. b ≤ x) (λ (m : ℕ × Entry). m.1.wait_phase) (λ (m : ℕ × Entry). mode_waits m.1.mode) core.members (least_low (wait_phases core.members) b some) in
+          Each-of_picked (λ x. b ≤ x) (λ (m : ℕ × Entry). m.1.wait_phase)
+          (λ (m : ℕ × Entry). mode_waits m.1.mode) core.members (least_low (wait_phases core.members) b some) in
           let behind : mode_waits e.mode ≡ true → b ≤ e.wait_phase = Each-entry _ core.members task e found each in
           stands.phases_are b e.wait_phase some (behind waits) (omega arith)
     ] refl

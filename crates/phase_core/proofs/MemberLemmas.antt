@@ -189,13 +189,16 @@ signal_phases-waited [] task n = refl
 signal_phases-waited (m ∷ ms) task n =
     elim (eqb m.0 task) as (λ b. signal_phases (cond b ((m.0, waited n m.1) ∷ ms) (m ∷ changed_at task (waited n) ms)) ≡ signal_phases (m ∷ ms)) [
       | true ↦ elim (mode_signals m.1.mode) as (λ b.
-          map (λ m. m.1.signal_phase) (cond b ((m.0, waited n m.1) ∷ filter (λ m. mode_signals m.1.mode) ms) (filter (λ m. mode_signals m.1.mode) ms))
+          map (λ m. m.1.signal_phase) (cond b
+          ((m.0, waited n m.1) ∷ filter (λ m. mode_signals m.1.mode) ms) (filter (λ m. mode_signals m.1.mode) ms))
           ≡ map (λ m. m.1.signal_phase) (cond b (m ∷ filter (λ m. mode_signals m.1.mode) ms) (filter (λ m. mode_signals m.1.mode) ms))) [
             | true ↦ refl
             | false ↦ refl
           ]
       | false ↦ elim (mode_signals m.1.mode) as (λ b.
-          map (λ m. m.1.signal_phase) (cond b (m ∷ filter (λ m. mode_signals m.1.mode) (changed_at task (waited n) ms)) (filter (λ m. mode_signals m.1.mode) (changed_at task (waited n) ms)))
+          map (λ m. m.1.signal_phase) (cond b
+          (m ∷ filter (λ m. mode_signals m.1.mode) (changed_at task (waited n) ms))
+          (filter (λ m. mode_signals m.1.mode) (changed_at task (waited n) ms)))
           ≡ map (λ m. m.1.signal_phase) (cond b (m ∷ filter (λ m. mode_signals m.1.mode) ms) (filter (λ m. mode_signals m.1.mode) ms))) [
             | true ↦ ap (λ xs. m.1.signal_phase ∷ xs) (signal_phases-waited ms task n)
             | false ↦ signal_phases-waited ms task n
@@ -208,13 +211,16 @@ wait_phases-signalled [] task n = refl
 wait_phases-signalled (m ∷ ms) task n =
     elim (eqb m.0 task) as (λ b. wait_phases (cond b ((m.0, signalled n m.1) ∷ ms) (m ∷ changed_at task (signalled n) ms)) ≡ wait_phases (m ∷ ms)) [
       | true ↦ elim (mode_waits m.1.mode) as (λ b.
-          map (λ m. m.1.wait_phase) (cond b ((m.0, signalled n m.1) ∷ filter (λ m. mode_waits m.1.mode) ms) (filter (λ m. mode_waits m.1.mode) ms))
+          map (λ m. m.1.wait_phase) (cond b ((m.0, signalled n m.1) ∷ filter (λ m. mode_waits m.1.mode) ms)
+          (filter (λ m. mode_waits m.1.mode) ms))
           ≡ map (λ m. m.1.wait_phase) (cond b (m ∷ filter (λ m. mode_waits m.1.mode) ms) (filter (λ m. mode_waits m.1.mode) ms))) [
             | true ↦ refl
             | false ↦ refl
           ]
       | false ↦ elim (mode_waits m.1.mode) as (λ b.
-          map (λ m. m.1.wait_phase) (cond b (m ∷ filter (λ m. mode_waits m.1.mode) (changed_at task (signalled n) ms)) (filter (λ m. mode_waits m.1.mode) (changed_at task (signalled n) ms)))
+          map (λ m. m.1.wait_phase) (cond b
+          (m ∷ filter (λ m. mode_waits m.1.mode) (changed_at task (signalled n) ms))
+          (filter (λ m. mode_waits m.1.mode) (changed_at task (signalled n) ms)))
           ≡ map (λ m. m.1.wait_phase) (cond b (m ∷ filter (λ m. mode_waits m.1.mode) ms) (filter (λ m. mode_waits m.1.mode) ms))) [
             | true ↦ ap (λ xs. m.1.wait_phase ∷ xs) (wait_phases-signalled ms task n)
             | false ↦ wait_phases-signalled ms task n

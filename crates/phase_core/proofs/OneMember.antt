@@ -42,7 +42,8 @@ wait_refusal_is op core h task stands =
     ap (λ ms. refusal_at (entry_of ms task) wait.NoTask
     (wait_rows_at core.limits (done_of h) (is_some (least (signal_phases ms))) 1)) (sym stands.members_are)
 
-pub wait_no_task : {A : Type 0} (op : Operation A) (value : List ℤ → Outcome) (core : CoreState A) (h : History) (task : ℕ) → StandsFor op core h
+pub wait_no_task : {A : Type 0} (op : Operation A) (value : List ℤ → Outcome) (core : CoreState A)
+    (h : History) (task : ℕ) → StandsFor op core h
     → entry_of core.members task ≡ None → wait_reply value core.limits h task ≡ Err wait.NoTask
 wait_no_task op value core h task stands none =
     ap (λ r. refused_or r (got_at value h (wait_phase h task)))
@@ -50,7 +51,8 @@ wait_no_task op value core h task stands none =
     (wait_rows_at core.limits (done_of h) (is_some (least (signal_phases core.members))) 1)) none)
 
 -- the reply to a plain wait of a member, by its refusal
-pub wait_reply_is : {A : Type 0} (op : Operation A) (value : List ℤ → Outcome) (core : CoreState A) (h : History) (task : ℕ) (e : Entry)
+pub wait_reply_is : {A : Type 0} (op : Operation A) (value : List ℤ → Outcome) (core : CoreState A)
+    (h : History) (task : ℕ) (e : Entry)
     (r : Option WaitRefusal) → StandsFor op core h → entry_of core.members task ≡ Some e
     → r ≡ first_row (plain_wait_rows core.limits (done_of h) (is_some (least (signal_phases core.members))) e)
     → (wait_refusal core.limits h task 1 ≡ r) × (wait_reply value core.limits h task ≡ refused_or r (got_at value h e.wait_phase))
@@ -59,10 +61,12 @@ wait_reply_is op value core h task e r stands found row =
     wait_refusal_is op core h task stands ∙ ap (λ o. refusal_at o wait.NoTask
     (wait_rows_at core.limits (done_of h) (is_some (least (signal_phases core.members))) 1)) found ∙ sym row in
     let found_h : entry_of (members_of h) task ≡ Some e = (rw (← stands.members_are) found) in
-    let phase : wait_phase h task ≡ e.wait_phase = ap (λ (x : Entry). x.wait_phase) (member_entry_is (members_of h) task e found_h) in
+    let phase : wait_phase h task ≡ e.wait_phase =
+    ap (λ (x : Entry). x.wait_phase) (member_entry_is (members_of h) task e found_h) in
     (is, ap (λ o. refused_or o (got_at value h (wait_phase h task))) is ∙ ap (λ w. refused_or r (got_at value h w)) phase)
 
-pub got_value : (value : List ℤ → Outcome) (h : History) (w : ℕ) → w < done_of h → got_at value h w ≡ got.Value w (value_of_phase value h w)
+pub got_value : (value : List ℤ → Outcome) (h : History) (w : ℕ) → w < done_of h
+    → got_at value h w ≡ got.Value w (value_of_phase value h w)
 got_value value h w complete =
     ap (λ b. cond b (got.Value w (value_of_phase value h w)) got.Ended) (lt-ltb w (done_of h) complete)
 
@@ -77,12 +81,16 @@ pub signal_refusal_is : {A : Type 0} (op : Operation A) (core : CoreState A) (h 
     ≡ first_row (plain_signal_rows core.limits (least (wait_phases core.members)) 0 None (length sends) single e)
 signal_refusal_is op core h task e sends single stands found at_top =
     let found_h : entry_of (members_of h) task ≡ Some e = (rw (← stands.members_are) found) in
-    let nothing = none_from_top core.limits h e.signal_phase stands.legal (let t : core.top ≡ top_of h = stands.top_is in omega arith) in
+    let nothing = none_from_top core.limits h e.signal_phase stands.legal
+    (let t : core.top ≡ top_of h = stands.top_is in omega arith) in
     ap (λ o. refusal_at o signal.NoTask (λ x. plain_signal_rows core.limits (least (wait_phases (members_of h)))
     (length (sends_of_phase h x.signal_phase)) (named_in_phase h x.signal_phase) (length sends) single x)) found_h
-    ∙ ap (λ l. first_row (plain_signal_rows core.limits (least (wait_phases (members_of h))) (length l) (named_in_phase h e.signal_phase) (length sends) single e)) nothing.0
-    ∙ ap (λ n. first_row (plain_signal_rows core.limits (least (wait_phases (members_of h))) 0 n (length sends) single e)) nothing.1
-    ∙ ap (λ ms. first_row (plain_signal_rows core.limits (least (wait_phases ms)) 0 None (length sends) single e)) (sym stands.members_are)
+    ∙ ap (λ l. first_row (plain_signal_rows core.limits (least (wait_phases (members_of h))) (length l)
+    (named_in_phase h e.signal_phase) (length sends) single e)) nothing.0
+    ∙ ap (λ n. first_row (plain_signal_rows core.limits (least (wait_phases (members_of h))) 0 n
+    (length sends) single e)) nothing.1
+    ∙ ap (λ ms. first_row (plain_signal_rows core.limits (least (wait_phases ms)) 0 None
+    (length sends) single e)) (sym stands.members_are)
 
 pub signal_no_task : {A : Type 0} (op : Operation A) (core : CoreState A) (h : History) (task : ℕ) (sends : List ℤ)
     (single : Option Single) → StandsFor op core h → entry_of core.members task ≡ None
@@ -101,7 +109,8 @@ signal_phase_is op core h task e stands found =
 -- ---- one member
 
 -- the least wait phase of one member, and whether it signals
-pub slowest_of_one : (task : ℕ) (e : Entry) → least (wait_phases ((task, e) ∷ [])) ≡ cond (mode_waits e.mode) (Some e.wait_phase) None
+pub slowest_of_one : (task : ℕ) (e : Entry)
+    → least (wait_phases ((task, e) ∷ [])) ≡ cond (mode_waits e.mode) (Some e.wait_phase) None
 slowest_of_one task e =
     elim (mode_waits e.mode) as (λ b. least (map (λ (m : ℕ × Entry). m.1.wait_phase) (cond b ((task, e) ∷ []) [])) ≡ cond b (Some e.wait_phase) None) [
       | true ↦ refl
@@ -125,9 +134,11 @@ slice_get-push_last [] x = refl
 slice_get-push_last (y ∷ xs) x = slice_get-push_last xs x
 
 -- a signal of the one member opens one more phase
-push_signals : {A : Type 0} (op : Operation A) (limits : Limits) (founder task : ℕ) (e : Entry) (slots : List (Slot A)) (held : Parcel A) (single : Option Single)
+push_signals : {A : Type 0} (op : Operation A) (limits : Limits) (founder task : ℕ) (e : Entry)
+    (slots : List (Slot A)) (held : Parcel A) (single : Option Single)
     → eqb founder task ≡ true → e.signal_phase ≡ length slots
-    → Signals op (one_member limits founder e slots) (one_member limits founder (signalled 1 e) (slots ++ opened_slot held single ∷ [])) task e.signal_phase held single
+    → Signals op (one_member limits founder e slots)
+    (one_member limits founder (signalled 1 e) (slots ++ opened_slot held single ∷ [])) task e.signal_phase held single
 push_signals op limits founder task e slots held single own at_top =
     let n : length (slots ++ opened_slot held single ∷ []) ≡ length slots + 1 = length-append _ _ in
     record {
@@ -135,9 +146,19 @@ push_signals op limits founder task e slots held single own at_top =
       greatest_same = refl;
       members_are = sym (ap (λ b. cond b ((founder, signalled 1 e) ∷ []) ((founder, e) ∷ [])) own);
       top_is = omega arith;
-      others = λ slowest p slot waiter behind apart is. record { place = is.place; place_is = is.place_is; found = slice_get-append_some slots (opened_slot held single ∷ []) is.place slot is.found };
+      others = λ slowest p slot waiter behind apart is. record {
+        place = is.place;
+        place_is = is.place_is;
+        found =
+            slice_get-append_some slots (opened_slot held single ∷ []) is.place slot is.found;
+      };
       joined = λ slowest slot waiter behind below is. absurd (omega arith);
-      opened = λ slowest waiter behind top. record { place = length slots; place_is = omega arith; found = slice_get-push_last slots (opened_slot held single) };
+      opened = λ slowest waiter behind top. record {
+        place = length slots;
+        place_is = omega arith;
+        found =
+            slice_get-push_last slots (opened_slot held single);
+      };
     }
 
 -- a wait of the one member leaves all phases
@@ -161,7 +182,8 @@ entry_of_one founder task e x found =
 
 -- what the code answers for a signal of the one member is its refusal
 pub signal_refusal_one : {A : Type 0} (op : Operation A) (limits : Limits) (founder : ℕ) (e : Entry) (slots : List (Slot A))
-    (h : History) (task : ℕ) (x : Entry) (n : ℕ) (sends : List ℤ) (single : Option Single) (slowest : Option ℕ) (r : Option SignalRefusal)
+    (h : History) (task : ℕ) (x : Entry) (n : ℕ) (sends : List ℤ) (single : Option Single)
+    (slowest : Option ℕ) (r : Option SignalRefusal)
     → StandsFor op (one_member limits founder e slots) h → e.signal_phase ≡ length slots
     → entry_of ((founder, e) ∷ []) task ≡ Some x
     → slowest ≡ cond (mode_waits x.mode) (Some x.wait_phase) None
@@ -174,7 +196,8 @@ signal_refusal_one op limits founder e slots h task x n sends single slowest r s
     let slow_e : cond (mode_waits x.mode) (Some x.wait_phase) None ≡ cond (mode_waits e.mode) (Some e.wait_phase) None =
     ap (λ (y : Entry). cond (mode_waits y.mode) (Some y.wait_phase) None) is in
     signal_refusal_is op core h task x sends single stands found top
-    ∙ ap (λ l. first_row (plain_signal_rows limits l 0 None (length sends) single x)) (slowest_of_one founder e ∙ sym slow_e ∙ sym slow)
+    ∙ ap (λ l. first_row (plain_signal_rows limits l 0 None (length sends) single x))
+    (slowest_of_one founder e ∙ sym slow_e ∙ sym slow)
     ∙ ap (λ k. first_row (plain_signal_rows limits slowest 0 None k single x)) count
     ∙ sym row
 
@@ -221,7 +244,8 @@ signals_one op limits founder e slots h task sends single stands none =
       below = omega arith;
     }
 
-pub signal_one : {A : Type 0} (op : Operation A) (laws : AccumulateLaws op) (limits : Limits) (founder : ℕ) (e : Entry) (slots new : List (Slot A))
+pub signal_one : {A : Type 0} (op : Operation A) (laws : AccumulateLaws op) (limits : Limits) (founder : ℕ)
+    (e : Entry) (slots new : List (Slot A))
     (h : History) (task : ℕ) (held : Parcel A) (part : A) (count : ℕ) (sends : List ℤ) (single : Option Single)
     → StandsFor op (one_member limits founder e slots) h → e.signal_phase ≡ length slots
     → signal_refusal limits h task (sends ∷ []) single ≡ None → StandsForSends op held sends
@@ -230,16 +254,19 @@ pub signal_one : {A : Type 0} (op : Operation A) (laws : AccumulateLaws op) (lim
 signal_one {A} op laws limits founder e slots new h task held part count sends single stands at_top none holds part_is count_is new_is =
     let o : SignalsOne founder task e = signals_one op limits founder e slots h task sends single stands none in
     let same : parcel part count ≡ held = ap (λ x. parcel x count) part_is ∙ ap (λ n. parcel held.part n) count_is in
-    let P : List (Slot A) → Type 0 = λ l. StandsFor op (one_member limits founder (signalled 1 e) l) (Signalled task (sends ∷ []) single ∷ h) in
+    let P : List (Slot A) → Type 0 =
+    λ l. StandsFor op (one_member limits founder (signalled 1 e) l) (Signalled task (sends ∷ []) single ∷ h) in
     subst P (sym (new_is ∙ ap (λ x. slots ++ opened_slot x single ∷ []) same))
-    (signals_stands op laws (one_member limits founder e slots) (one_member limits founder (signalled 1 e) (slots ++ opened_slot held single ∷ []))
+    (signals_stands op laws (one_member limits founder e slots)
+    (one_member limits founder (signalled 1 e) (slots ++ opened_slot held single ∷ []))
     h task e held sends single stands o.is_member none holds
     (push_signals op limits founder task e slots held single o.own at_top))
 
 -- ---- an accepted wait of the one member
 
 -- what a wait that gets a value says
-pub record GetsOne {A : Type 0} (op : Operation A) (limits : Limits) (founder : ℕ) (e : Entry) (slots : List (Slot A)) (h : History) (task : ℕ) : Type 0 where
+pub record GetsOne {A : Type 0} (op : Operation A) (limits : Limits) (founder : ℕ) (e : Entry)
+    (slots : List (Slot A)) (h : History) (task : ℕ) : Type 0 where
   pub accepted : wait_refusal limits h task 1 ≡ None
   pub reply : wait_reply op.value limits h task ≡ Ok (got.Value e.wait_phase (value_of_phase op.value h e.wait_phase))
   pub slot : Slot A
@@ -249,7 +276,8 @@ pub record GetsOne {A : Type 0} (op : Operation A) (limits : Limits) (founder : 
 
 -- the refusal that the code computes for the one member
 pub wait_one : {A : Type 0} (op : Operation A) (limits : Limits) (founder : ℕ) (e : Entry) (slots : List (Slot A))
-    (h : History) (task done : ℕ) (signals : Bool) (x : Entry) (r : Option WaitRefusal) → StandsFor op (one_member limits founder e slots) h
+    (h : History) (task done : ℕ) (signals : Bool) (x : Entry) (r : Option WaitRefusal)
+    → StandsFor op (one_member limits founder e slots) h
     → entry_of ((founder, e) ∷ []) task ≡ Some x → done ≡ done_of h → signals ≡ mode_signals x.mode
     → r ≡ first_row (plain_wait_rows limits done signals x)
     → (wait_refusal limits h task 1 ≡ r) × (wait_reply op.value limits h task ≡ refused_or r (got_at op.value h x.wait_phase))
@@ -280,19 +308,22 @@ gets_one {A} op limits founder e slots h task done signals x stands found done_i
     let M : Entry → Type 0 = λ y. mode_waits y.mode ≡ true in
     let k : KeepsPhase op (one_member limits founder x slots) h x.wait_phase =
     kept_phase op (one_member limits founder x slots) h task x here found_x (subst M same w.waits) low in
-    let place : k.is_slot.place ≡ x.wait_phase = (let z : 0 + k.is_slot.place ≡ x.wait_phase = k.is_slot.place_is in omega arith) in
+    let place : k.is_slot.place ≡ x.wait_phase =
+    (let z : 0 + k.is_slot.place ≡ x.wait_phase = k.is_slot.place_is in omega arith) in
     record {
       accepted = a.0;
       reply = a.1 ∙ ap (λ g. Ok g) (got_value op.value h x.wait_phase low);
       slot = k.slot;
       found = (let P : ℕ → Type 0 = λ n. slice_get slots n ≡ Some k.slot in subst P place k.is_slot.found);
       keeps = k.keeps;
-      after = waits_stands op (one_member limits founder x slots) (one_member limits founder (waited 1 x) slots) h task x here found_x a.0 low
+      after = waits_stands op (one_member limits founder x slots)
+          (one_member limits founder (waited 1 x) slots) h task x here found_x a.0 low
           (wait_waits limits founder task x slots (own_of_one founder task x x found_x));
     }
 
 -- the slot that the code reads is the phase's, its value in range and that of the phase
-pub value_one : {A : Type 0} (op : Operation A) (laws : AccumulateLaws op) (limits : Limits) (founder : ℕ) (e : Entry) (slots : List (Slot A))
+pub value_one : {A : Type 0} (op : Operation A) (laws : AccumulateLaws op) (limits : Limits) (founder : ℕ)
+    (e : Entry) (slots : List (Slot A))
     (h : History) (task : ℕ) (slot : Slot A) → GetsOne op limits founder e slots h task → slice_get slots e.wait_phase ≡ Some slot
     → IsInRange (op.finish slot.part) × (slot_value op slot ≡ value_of_phase op.value h e.wait_phase)
 value_one {A} op laws limits founder e slots h task slot gets found =

@@ -42,9 +42,11 @@ pub record Unused (value : List ℤ → Outcome) (h : History) (task : ℕ) : Ty
 -- a member's number is not above the greatest
 pub member_used : (h : History) (task : ℕ) (e : Entry) → IsSound h → entry_of (members_of h) task ≡ Some e → task ≤ greatest_used h
 member_used h task e sound found =
-    let good : StandsWell (done_of h) (top_of h) (greatest_used h) (task, e) = Each-entry _ (members_of h) task e found sound in good.used
+    let good : StandsWell (done_of h) (top_of h) (greatest_used h) (task, e) =
+    Each-entry _ (members_of h) task e found sound in good.used
 
-pub unused : (value : List ℤ → Outcome) (limits : Limits) (h : History) (task : ℕ) → IsLegal limits h → greatest_used h < task → Unused value h task
+pub unused : (value : List ℤ → Outcome) (limits : Limits) (h : History) (task : ℕ) → IsLegal limits h
+    → greatest_used h < task → Unused value h task
 unused value limits [] task legal above = absurd legal
 unused value limits (Made founding ∷ before) task legal above =
     let P : History → Type 0 = λ b. Unused value (Made founding ∷ b) task in
@@ -58,7 +60,8 @@ unused value limits (RegisteredNow parent child ∷ before) task legal above =
 unused value limits (Signalled signaller lists single ∷ before) task legal above =
     let u : Unused value before task = unused value limits before task legal.0 above in
     let r : SignalsNow before signaller = signals_from limits before signaller lists single legal.1.0 in
-    let known : signaller ≤ greatest_used before = member_used before signaller r.entry (sound_of limits before legal.0) r.is_member in
+    let known : signaller ≤ greatest_used before =
+    member_used before signaller r.entry (sound_of limits before legal.0) r.is_member in
     let apart : eqb signaller task ≡ false = ne_eqb signaller task (λ e. omega arith) in
     record { signals = rw apart u.signals; waits = u.waits; received = u.received }
 unused value limits (Waited waiter n ∷ before) task legal above =
@@ -72,7 +75,8 @@ unused value limits (Dropped gone ∷ before) task legal above =
     record { signals = u.signals; waits = u.waits; received = u.received }
 
 -- a part of a list is that part of a longer one
-part_of_longer : {X : Type 0} (xs ys : List X) (w k : ℕ) → IsPrefix xs ys → w + k ≤ length xs → take k (drop w ys) ≡ take k (drop w xs)
+part_of_longer : {X : Type 0} (xs ys : List X) (w k : ℕ) → IsPrefix xs ys → w + k ≤ length xs
+    → take k (drop w ys) ≡ take k (drop w xs)
 part_of_longer xs ys w k longer fits =
     ap (λ l. take k (drop w l)) (sym longer.1)
     ∙ ap (λ l. take k l) (drop-append-le w xs longer.0 (omega arith))
@@ -90,7 +94,8 @@ kept : (value : List ℤ → Outcome) (before : History) (event : Event) (task :
     → received_by value (event ∷ before) task ≡ received_by value before task
     → Counted value (event ∷ before) task e
 kept value before event task e sound step found c start signals waits received =
-    let good : StandsWell (done_of before) (top_of before) (greatest_used before) (task, e) = Each-entry _ (members_of before) task e found sound in
+    let good : StandsWell (done_of before) (top_of before) (greatest_used before) (task, e) =
+    Each-entry _ (members_of before) task e found sound in
     let w_is : c.start.wait_phase + phases_waited before task ≡ e.wait_phase = c.waits in
     let long : length (stream_of value before) ≡ done_of before = length-stream value before in
     record {
@@ -101,13 +106,15 @@ kept value before event task e sound step found c start signals waits received =
       received = λ t.
           let low : e.wait_phase ≤ done_of before = good.waits t in
           received ∙ c.received t
-          ∙ sym (part_of_longer (stream_of value before) (stream_of value (event ∷ before)) c.start.wait_phase (phases_waited before task)
+          ∙ sym (part_of_longer (stream_of value before)
+          (stream_of value (event ∷ before)) c.start.wait_phase (phases_waited before task)
           (stream_grows value before event step) (omega arith))
           ∙ ap (λ n. take n (drop c.start.wait_phase (stream_of value (event ∷ before)))) (sym waits);
     }
 
 -- a new member begins at its entry
-began : (value : List ℤ → Outcome) (h : History) (task : ℕ) (e : Entry) → start_of h task ≡ Some e → Unused value h task → Counted value h task e
+began : (value : List ℤ → Outcome) (h : History) (task : ℕ) (e : Entry) → start_of h task ≡ Some e
+    → Unused value h task → Counted value h task e
 began value h task e start u = record {
   start = e;
   start_is = start;
@@ -120,7 +127,8 @@ began value h task e start u = record {
 pub fresh : (h : History) (task : ℕ) → IsSound h → greatest_used h < task → entry_of (members_of h) task ≡ None
 fresh h task sound above =
     entry_of_above (members_of h) task
-    (Each-from (StandsWell (done_of h) (top_of h) (greatest_used h)) _ (λ m good. (let u : m.0 ≤ greatest_used h = good.used in omega arith)) (members_of h) sound)
+    (Each-from (StandsWell (done_of h) (top_of h) (greatest_used h)) _
+    (λ m good. (let u : m.0 ≤ greatest_used h = good.used in omega arith)) (members_of h) sound)
 
 pub counted : (value : List ℤ → Outcome) (limits : Limits) (h : History) (task : ℕ) (e : Entry) → IsLegal limits h
     → entry_of (members_of h) task ≡ Some e → Counted value h task e
@@ -142,13 +150,16 @@ counted value limits (Registered parent child mode ∷ before) task e legal foun
           let above : greatest_used before < task = (let a : greatest_used before < child = r.new_number in omega arith) in
           let P : ℕ → Type 0 = λ n. entry_of (members_of before ++ (n, x) ∷ []) task ≡ Some e in
           let at_task : entry_of (members_of before ++ (task, x) ∷ []) task ≡ Some e = subst P same found in
-          let is : x ≡ e = same_Some _ _ (sym (entry_of-push_new (members_of before) task x (fresh before task sound above)) ∙ at_task) in
+          let is : x ≡ e = same_Some _ _ (sym
+          (entry_of-push_new (members_of before) task x (fresh before task sound above)) ∙ at_task) in
           let u : Unused value before task = unused value limits before task legal.0 above in
           began value (Registered parent child mode ∷ before) task e (rw t (ap (λ y. Some y) is))
           (record { signals = u.signals; waits = u.waits; received = u.received })
       | false ↦ λ t.
-          let old : entry_of (members_of before) task ≡ Some e = sym (entry_of-push_other (members_of before) child task x t) ∙ found in
-          kept value before (Registered parent child mode) task e sound (steps limits before (Registered parent child mode) legal.0 sound legal.1)
+          let old : entry_of (members_of before) task ≡ Some e =
+          sym (entry_of-push_other (members_of before) child task x t) ∙ found in
+          kept value before (Registered parent child mode) task e sound
+          (steps limits before (Registered parent child mode) legal.0 sound legal.1)
           old (counted value limits before task e legal.0 old) (rw t refl) refl refl refl
     ] refl
 counted value limits (RegisteredNow parent child ∷ before) task e legal found =
@@ -161,13 +172,16 @@ counted value limits (RegisteredNow parent child ∷ before) task e legal found 
           let above : greatest_used before < task = (let a : greatest_used before < child = r.new_number in omega arith) in
           let P : ℕ → Type 0 = λ n. entry_of (members_of before ++ (n, x) ∷ []) task ≡ Some e in
           let at_task : entry_of (members_of before ++ (task, x) ∷ []) task ≡ Some e = subst P same found in
-          let is : x ≡ e = same_Some _ _ (sym (entry_of-push_new (members_of before) task x (fresh before task sound above)) ∙ at_task) in
+          let is : x ≡ e = same_Some _ _ (sym
+          (entry_of-push_new (members_of before) task x (fresh before task sound above)) ∙ at_task) in
           let u : Unused value before task = unused value limits before task legal.0 above in
           began value (RegisteredNow parent child ∷ before) task e (rw t (ap (λ y. Some y) is))
           (record { signals = u.signals; waits = u.waits; received = u.received })
       | false ↦ λ t.
-          let old : entry_of (members_of before) task ≡ Some e = sym (entry_of-push_other (members_of before) child task x t) ∙ found in
-          kept value before (RegisteredNow parent child) task e sound (steps limits before (RegisteredNow parent child) legal.0 sound legal.1)
+          let old : entry_of (members_of before) task ≡ Some e =
+          sym (entry_of-push_other (members_of before) child task x t) ∙ found in
+          kept value before (RegisteredNow parent child) task e sound
+          (steps limits before (RegisteredNow parent child) legal.0 sound legal.1)
           old (counted value limits before task e legal.0 old) (rw t refl) refl refl refl
     ] refl
 counted value limits (Signalled signaller lists single ∷ before) task e legal found =
@@ -186,7 +200,8 @@ counted value limits (Signalled signaller lists single ∷ before) task e legal 
           let Q : ℕ → Type 0 = λ k. entry_of (members_of (event ∷ before)) k ≡ Some (signalled n r.entry) in
           let is : signalled n r.entry ≡ e = same_Some _ _ (sym (subst Q same new_entry) ∙ found) in
           let c : Counted value before task r.entry = counted value limits before task r.entry legal.0 old in
-          let good : StandsWell (done_of before) (top_of before) (greatest_used before) (task, r.entry) = Each-entry _ (members_of before) task r.entry old sound in
+          let good : StandsWell (done_of before) (top_of before) (greatest_used before) (task, r.entry) =
+          Each-entry _ (members_of before) task r.entry old sound in
           let long : length (stream_of value before) ≡ done_of before = length-stream value before in
           let s_is : c.start.signal_phase + phases_signalled before task ≡ r.entry.signal_phase = c.signals in
           let w_is : c.start.wait_phase + phases_waited before task ≡ r.entry.wait_phase = c.waits in
@@ -200,12 +215,15 @@ counted value limits (Signalled signaller lists single ∷ before) task e legal 
             received = λ w.
                 let low : r.entry.wait_phase ≤ done_of before = good.waits w in
                 c.received w
-                ∙ sym (part_of_longer (stream_of value before) (stream_of value (event ∷ before)) c.start.wait_phase (phases_waited before task)
+                ∙ sym (part_of_longer (stream_of value before)
+                (stream_of value (event ∷ before)) c.start.wait_phase (phases_waited before task)
                 (stream_grows value before event step) (omega arith));
           })
       | false ↦ λ t.
-          let old : entry_of (members_of before) task ≡ Some e = sym (entry_of-changed_other signaller task (signalled n) (members_of before) t) ∙ found in
-          kept value before event task e sound step old (counted value limits before task e legal.0 old) refl (rw t refl) refl refl
+          let old : entry_of (members_of before) task ≡ Some e =
+          sym (entry_of-changed_other signaller task (signalled n) (members_of before) t) ∙ found in
+          kept value before event task e sound step old
+          (counted value limits before task e legal.0 old) refl (rw t refl) refl refl
     ] refl
 counted value limits (Waited waiter n ∷ before) task e legal found =
     let sound = sound_of limits before legal.0 in
@@ -224,14 +242,17 @@ counted value limits (Waited waiter n ∷ before) task e legal found =
           let c : Counted value before task r.entry = counted value limits before task r.entry legal.0 old in
           let long : length (stream_of value before) ≡ done_of before = length-stream value before in
           let w_is : c.start.wait_phase + phases_waited before task ≡ r.entry.wait_phase = c.waits in
-          let w_now : wait_phase before waiter ≡ r.entry.wait_phase = ap (λ (x : Entry). x.wait_phase) (member_entry_is (members_of before) waiter r.entry r.is_member) in
-          let w_task : wait_phase before task ≡ r.entry.wait_phase = ap (λ (x : Entry). x.wait_phase) (member_entry_is (members_of before) task r.entry old) in
+          let w_now : wait_phase before waiter ≡ r.entry.wait_phase =
+          ap (λ (x : Entry). x.wait_phase) (member_entry_is (members_of before) waiter r.entry r.is_member) in
+          let w_task : wait_phase before task ≡ r.entry.wait_phase =
+          ap (λ (x : Entry). x.wait_phase) (member_entry_is (members_of before) task r.entry old) in
           let fits : wait_phase before waiter + n ≤ done_of before = legal.1.1 in
           let k = phases_waited before task in
           let a = c.start.wait_phase in
           let xs = stream_of value before in
           let more : phases_waited (event ∷ before) task ≡ k + n = rw t refl in
-          let got : received_by value (event ∷ before) task ≡ received_by value before task ++ take n (drop (wait_phase before task) xs) = rw t refl in
+          let got : received_by value (event ∷ before) task
+          ≡ received_by value before task ++ take n (drop (wait_phase before task) xs) = rw t refl in
           let C : Entry → Type 0 = λ x. Counted value (event ∷ before) task x in
           subst C is (record {
             start = c.start;
@@ -244,12 +265,15 @@ counted value limits (Waited waiter n ∷ before) task e legal found =
                 ∙ ap (λ m. take k (drop a xs) ++ take n (drop m xs)) (let e : wait_phase before task ≡ a + k = omega arith in e)
                 ∙ ap (λ l. take k (drop a xs) ++ take n l) (sym (drop-drop k a xs))
                 ∙ sym (take-add k n (drop a xs))
-                ∙ sym (part_of_longer xs (stream_of value (event ∷ before)) a (k + n) (stream_grows value before event step) (omega arith))
+                ∙ sym (part_of_longer xs (stream_of value (event ∷ before)) a (k + n)
+                (stream_grows value before event step) (omega arith))
                 ∙ ap (λ m. take m (drop a (stream_of value (event ∷ before)))) (sym more);
           })
       | false ↦ λ t.
-          let old : entry_of (members_of before) task ≡ Some e = sym (entry_of-changed_other waiter task (waited n) (members_of before) t) ∙ found in
-          kept value before event task e sound step old (counted value limits before task e legal.0 old) refl refl (rw t refl) (rw t refl)
+          let old : entry_of (members_of before) task ≡ Some e =
+          sym (entry_of-changed_other waiter task (waited n) (members_of before) t) ∙ found in
+          kept value before event task e sound step old
+          (counted value limits before task e legal.0 old) refl refl (rw t refl) (rw t refl)
     ] refl
 counted value limits (Dropped gone ∷ before) task e legal found =
     let sound = sound_of limits before legal.0 in
@@ -257,10 +281,12 @@ counted value limits (Dropped gone ∷ before) task e legal found =
       | true ↦ λ t.
           let same : gone ≡ task = eqb-true _ _ t in
           let P : ℕ → Type 0 = λ k. entry_of (members_of (Dropped gone ∷ before)) k ≡ None in
-          let none : entry_of (members_of (Dropped gone ∷ before)) task ≡ None = subst P same (entry_of-without_same (members_of before) gone) in
+          let none : entry_of (members_of (Dropped gone ∷ before)) task ≡ None =
+          subst P same (entry_of-without_same (members_of before) gone) in
           absurd (cc)
       | false ↦ λ t.
-          let old : entry_of (members_of before) task ≡ Some e = sym (entry_of-without_other (members_of before) gone task t) ∙ found in
+          let old : entry_of (members_of before) task ≡ Some e =
+          sym (entry_of-without_other (members_of before) gone task t) ∙ found in
           kept value before (Dropped gone) task e sound (steps limits before (Dropped gone) legal.0 sound legal.1)
           old (counted value limits before task e legal.0 old) refl refl refl refl
     ] refl

@@ -34,19 +34,23 @@ done_high : (now : Positions) (b : ℕ) → Each (λ (m : ℕ × Entry). mode_si
     → b ≤ now.top → b ≤ done_at now
 done_high now b each top =
     least_or_high (signal_phases now.members) now.top b
-    (Each-picked (λ x. b ≤ x) (λ (m : ℕ × Entry). m.1.signal_phase) (λ (m : ℕ × Entry). mode_signals m.1.mode) now.members each) top
+    (Each-picked (λ x. b ≤ x) (λ (m : ℕ × Entry). m.1.signal_phase)
+    (λ (m : ℕ × Entry). mode_signals m.1.mode) now.members each) top
 
 -- done is no more than each signaller's phase
-pub done_low : (now : Positions) → Each (λ (m : ℕ × Entry). mode_signals m.1.mode ≡ true → done_at now ≤ m.1.signal_phase) now.members
+pub done_low : (now : Positions)
+    → Each (λ (m : ℕ × Entry). mode_signals m.1.mode ≡ true → done_at now ≤ m.1.signal_phase) now.members
 done_low now =
-    Each-of_picked (λ x. done_at now ≤ x) (λ (m : ℕ × Entry). m.1.signal_phase) (λ (m : ℕ × Entry). mode_signals m.1.mode) now.members
+    Each-of_picked (λ x. done_at now ≤ x) (λ (m : ℕ × Entry). m.1.signal_phase)
+    (λ (m : ℕ × Entry). mode_signals m.1.mode) now.members
     (least_or_low (signal_phases now.members) now.top)
 
 -- in a sound history done is no more than the top
 pub done_below_top : (h : History) → IsSound h → done_of h ≤ top_of h
 done_below_top h sound =
     least_or_top (signal_phases (members_of h)) (top_of h)
-    (Each-picked (λ x. x ≤ top_of h) (λ (m : ℕ × Entry). m.1.signal_phase) (λ (m : ℕ × Entry). mode_signals m.1.mode) (members_of h)
+    (Each-picked (λ x. x ≤ top_of h) (λ (m : ℕ × Entry). m.1.signal_phase)
+    (λ (m : ℕ × Entry). mode_signals m.1.mode) (members_of h)
     (Each-from (StandsWell (done_of h) (top_of h) (greatest_used h)) _ (λ m good _. good.below) (members_of h) sound))
 
 -- the entry of a member is the one that is looked up
@@ -70,7 +74,8 @@ pub record Steps (before : History) (event : Event) : Type 0 where
       → value_of_phase value (event ∷ before) p ≡ value_of_phase value before p
 
 -- a child that stands at a phase of its parent, and at a wait phase that is complete
-joins : (h : History) (e : Entry) (child : ℕ) (mode : Mode) (w : ℕ) → IsSound h → (parent : ℕ) → entry_of (members_of h) parent ≡ Some e
+joins : (h : History) (e : Entry) (child : ℕ) (mode : Mode) (w : ℕ) → IsSound h → (parent : ℕ)
+    → entry_of (members_of h) parent ≡ Some e
     → (mode_signals mode ≡ true → mode_signals e.mode ≡ true) → (mode_waits mode ≡ true → w ≤ done_of h)
     → (greatest : ℕ) → greatest_used h ≤ greatest → child ≤ greatest
     → (now : Positions) → now.members ≡ members_of h ++ (child, entry_at mode e.signal_phase w) ∷ [] → now.top ≡ top_of h
@@ -79,8 +84,10 @@ joins h e child mode w sound parent found signals waits greatest grows new now m
     let lows = done_low (positions_of h) in
     let P : Members → Type 0 = λ ms. Each (λ (m : ℕ × Entry). mode_signals m.1.mode ≡ true → done_of h ≤ m.1.signal_phase) ms in
     let parent_low : mode_signals e.mode ≡ true → done_of h ≤ e.signal_phase = Each-entry _ (members_of h) parent e found lows in
-    let parent_good : StandsWell (done_of h) (top_of h) (greatest_used h) (parent, e) = Each-entry _ (members_of h) parent e found sound in
-    let all_low : P now.members = subst P (sym members_are) (Each-push _ (members_of h) (child, entry_at mode e.signal_phase w) lows (λ s. parent_low (signals s))) in
+    let parent_good : StandsWell (done_of h) (top_of h) (greatest_used h) (parent, e) =
+    Each-entry _ (members_of h) parent e found sound in
+    let all_low : P now.members = subst P (sym members_are)
+    (Each-push _ (members_of h) (child, entry_at mode e.signal_phase w) lows (λ s. parent_low (signals s))) in
     let top_low : done_of h ≤ now.top = (let a : done_of h ≤ top_of h = done_below_top h sound in omega arith) in
     let done_grows : done_of h ≤ done_at now = done_high now (done_of h) all_low top_low in
     let Q : Members → Type 0 = λ ms. Each (StandsWell (done_at now) now.top greatest) ms in (
@@ -101,7 +108,8 @@ steps_registered : (before : History) (parent child : ℕ) (mode : Mode) → IsS
 steps_registered before parent child mode sound r =
     let ms = members_of before in
     let is : member_entry ms parent ≡ r.entry = member_entry_is ms parent r.entry r.is_member in
-    let good : StandsWell (done_of before) (top_of before) (greatest_used before) (parent, r.entry) = Each-entry _ ms parent r.entry r.is_member sound in
+    let good : StandsWell (done_of before) (top_of before) (greatest_used before) (parent, r.entry) =
+    Each-entry _ ms parent r.entry r.is_member sound in
     let j = joins before r.entry child mode r.entry.wait_phase sound parent r.is_member
     (holds_signals r.entry.mode mode r.allowed) (λ w. good.waits (holds_waits r.entry.mode mode r.allowed w))
     (max child (greatest_used before)) (omega arith) (omega arith)
@@ -129,12 +137,14 @@ list_in_phase_before (sends ∷ lists) s p h =
     rw apart (list_in_phase_before lists (s + 1) p (omega arith))
 
 -- a signal that does not join the phase names nothing there
-pub first_named_not : (named : Option (Option Single)) (joins : Bool) (single : Option Single) → joins ≡ false → first_named named joins single ≡ named
+pub first_named_not : (named : Option (Option Single)) (joins : Bool) (single : Option Single)
+    → joins ≡ false → first_named named joins single ≡ named
 first_named_not (Some named) joins single e = refl
 first_named_not None joins single e = rw e refl
 
 -- a signal changes no phase before its own
-pub signalled_before : (value : List ℤ → Outcome) (before : History) (task : ℕ) (lists : List (List ℤ)) (single : Option Single) (p : ℕ)
+pub signalled_before : (value : List ℤ → Outcome) (before : History) (task : ℕ) (lists : List (List ℤ))
+    (single : Option Single) (p : ℕ)
     → p < signal_phase before task
     → value_of_phase value (Signalled task lists single ∷ before) p ≡ value_of_phase value before p
 signalled_before value before task lists single p h =
@@ -161,16 +171,20 @@ steps_signalled before task lists single sound r =
     let is : member_entry ms task ≡ r.entry = member_entry_is ms task r.entry r.is_member in
     let s_is : signal_phase before task ≡ r.entry.signal_phase = ap (λ (e : Entry). e.signal_phase) is in
     let lows = done_low (positions_of before) in
-    let own : mode_signals r.entry.mode ≡ true → done_of before ≤ r.entry.signal_phase = Each-entry _ ms task r.entry r.is_member lows in
+    let own : mode_signals r.entry.mode ≡ true → done_of before ≤ r.entry.signal_phase =
+    Each-entry _ ms task r.entry r.is_member lows in
     let own_low : done_of before ≤ r.entry.signal_phase = own r.signals in
-    let top_is : now.top ≡ max (top_of before) (r.entry.signal_phase + n) = ap (λ (e : Entry). max (top_of before) (e.signal_phase + n)) is in
-    let top_low : done_of before ≤ now.top = (let a : done_of before ≤ top_of before = done_below_top before sound in omega arith) in
+    let top_is : now.top ≡ max (top_of before) (r.entry.signal_phase + n) =
+    ap (λ (e : Entry). max (top_of before) (e.signal_phase + n)) is in
+    let top_low : done_of before ≤ now.top =
+    (let a : done_of before ≤ top_of before = done_below_top before sound in omega arith) in
     let all_low : Each (λ (m : ℕ × Entry). mode_signals m.1.mode ≡ true → done_of before ≤ m.1.signal_phase) now.members =
     Each-changed _ _ task (signalled n) r.entry ms r.is_member (λ m h. h) (λ h t. omega arith) lows in
     let done_grows : done_of before ≤ done_at now = done_high now (done_of before) all_low top_low in
     record {
       grows = done_grows;
-      sound = Each-changed (StandsWell (done_of before) (top_of before) (greatest_used before)) (StandsWell (done_at now) now.top (greatest_used before))
+      sound = Each-changed (StandsWell (done_of before) (top_of before) (greatest_used before))
+          (StandsWell (done_at now) now.top (greatest_used before))
           task (signalled n) r.entry ms r.is_member
           (stands_later _ _ _ _ _ _ done_grows (omega arith) (omega arith))
           (λ good. record {
@@ -192,7 +206,8 @@ steps_waited before task n sound r fits =
     ap (λ xs. unwrap_or (least xs) (top_of before)) (signal_phases-waited ms task n) in
     record {
       grows = omega arith;
-      sound = Each-changed (StandsWell (done_of before) (top_of before) (greatest_used before)) (StandsWell (done_of (Waited task n ∷ before)) (top_of before) (greatest_used before))
+      sound = Each-changed (StandsWell (done_of before) (top_of before) (greatest_used before))
+          (StandsWell (done_of (Waited task n ∷ before)) (top_of before) (greatest_used before))
           task (waited n) r.entry ms r.is_member
           (stands_later _ _ _ _ _ _ (omega arith) (omega arith) (omega arith))
           (λ good. record { below = good.below; waits = λ t. omega arith; used = good.used })
@@ -210,7 +225,8 @@ steps_dropped before task sound =
     record {
       grows = done_grows;
       sound = Each-filter _ test ms
-          (Each-from (StandsWell (done_of before) (top_of before) (greatest_used before)) (StandsWell (done_at now) (top_of before) (greatest_used before))
+          (Each-from (StandsWell (done_of before) (top_of before) (greatest_used before))
+          (StandsWell (done_at now) (top_of before) (greatest_used before))
           (stands_later _ _ _ _ _ _ done_grows (omega arith) (omega arith)) ms sound);
       same = λ value p h. refl;
     }

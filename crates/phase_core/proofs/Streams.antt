@@ -134,7 +134,8 @@ closed_from value limits h (event ∷ more) quiet legal longer =
       quiet = now.0;
       same =
           ap (λ n. map (value_of_phase value (event ∷ more ++ h)) (range_with_len 0 n)) done_same
-          ∙ same_values (value_of_phase value (more ++ h)) (value_of_phase value (event ∷ more ++ h)) (done_of (more ++ h)) Empty (step.same value)
+          ∙ same_values (value_of_phase value (more ++ h)) (value_of_phase value (event ∷ more ++ h))
+          (done_of (more ++ h)) Empty (step.same value)
           ∙ before.same;
     }
 

@@ -35,10 +35,10 @@ use std::marker::Model;
 /// **Ending.** Where no signaller is registered, a task that has got every phase is answered
 /// `Ended`. The founder is a signaller, so that no wait is answered so today.
 ///
-/// **Limits.** The signallers may be as many phases ahead of the slowest waiter as the bound says.
-/// A phaser has at most as many phases as it was made for, and a phase at most `SENDS_MAX` sends. A
-/// refused call changes nothing. `SignalRefusal` and `WaitRefusal` have the refusals in the order in
-/// which they are checked.
+/// **Limits.** While a waiter is registered, the signallers may be as many phases ahead of the
+/// slowest one as the bound says, and a phase has at most `SENDS_MAX` sends. A phaser has at most as
+/// many phases as it was made for. A refused call changes nothing. `SignalRefusal` and
+/// `WaitRefusal` have the refusals in the order in which they are checked.
 ///
 /// **Example.** A founder gets what it sent:
 /// ```text
@@ -74,8 +74,8 @@ impl<A: Accumulate> Model for PhaserCore<A> {
 }
 
 impl<A: Accumulate> PhaserCore<A> {
-    /// Makes a phaser, whose one task is `first`, registered in `Single` at phase 0. It takes memory
-    /// for the first phases.
+    /// Makes a phaser, whose one task is `first`, registered in `Single` at phase 0. It takes
+    /// memory for the first phases.
     pub fn new(alloc: Global, spec: Spec, first: u64) -> Result<PhaserCore<A>, AllocError>
         ensures stands { IfOk result (λ core. StandsFor A.operation core (Made first ∷ [])) }
         ensures limits { IfOk result (λ core. core.limits ≡ spec) }

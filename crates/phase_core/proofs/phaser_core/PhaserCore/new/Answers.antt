@@ -7,4 +7,11 @@ use Rattle.phase_core.proofs.phaser_core.PhaserCore.new.Goals as goal
 pub invariant_of-result : goal.invariant_of-result
 invariant_of-result g c =
     let none : c.in_ok-new.field-0 ≡ [] = c.in_ok-new.ensures in
-    rw none (refl, (Made c.args.first ∷ [], made_stands g.A.Accumulate.operation c.args.spec c.args.first c.bound-bound.ensures.limits))
+    rw none (
+      refl,
+      (
+        Made c.args.first
+            ∷ [],
+        made_stands g.A.Accumulate.operation c.args.spec c.args.first c.bound-bound.ensures.limits,
+      ),
+    )

@@ -13,9 +13,11 @@ overflow_add-self g c =
     let stands = c.self.invariant.1.1 in
     let list : List ℤ = replicate c.count-sends.result (pos 0) in
     let P : CoreState g.row.A.Denot → Type 0 = λ k.
-    StandsFor g.A.Accumulate.operation k h → signal_refusal k.limits h c.args.task (list ∷ []) c.args.single ≡ c.signal_refusal.result in
+    StandsFor g.A.Accumulate.operation k h
+    → signal_refusal k.limits h c.args.task (list ∷ []) c.args.single ≡ c.signal_refusal.result in
     let none : signal_refusal c.self.inside.spec h c.args.task (list ∷ []) c.args.single ≡ None =
-    subst P (sym c.self.view_is) (λ s. c.signal_refusal.ensures h list s (length-replicate c.count-sends.result (pos 0))) stands ∙ c.in_default.is in
+    subst P (sym c.self.view_is) (λ s. c.signal_refusal.ensures h list s
+    (length-replicate c.count-sends.result (pos 0))) stands ∙ c.in_default.is in
     let o : SignalsOne c.self.inside.founder c.args.task c.self.inside.entry =
     signals_one g.A.Accumulate.operation c.self.inside.spec c.self.inside.founder c.self.inside.entry c.self.inside.phases h c.args.task list c.args.single stands none in
     omega arith
@@ -23,8 +25,10 @@ overflow_add-self g c =
 pub returns-clause-after : goal.returns-clause-after
 returns-clause-after g c h sends stands holds =
     let P : CoreState g.row.A.Denot → Type 0 = λ k.
-    StandsFor g.A.Accumulate.operation k h → signal_refusal k.limits h c.args.task (sends ∷ []) c.args.single ≡ c.signal_refusal.result in
-    let here : StandsFor g.A.Accumulate.operation (one_member c.self.inside.spec c.self.inside.founder c.self.inside.entry c.self.inside.phases) h =
+    StandsFor g.A.Accumulate.operation k h
+    → signal_refusal k.limits h c.args.task (sends ∷ []) c.args.single ≡ c.signal_refusal.result in
+    let here : StandsFor g.A.Accumulate.operation
+    (one_member c.self.inside.spec c.self.inside.founder c.self.inside.entry c.self.inside.phases) h =
     rw c.self.view_is stands in
     let count : length sends ≡ c.count-sends.result = sym (c.count-sends.ensures.value ∙ holds.count_is) in
     let none : signal_refusal c.self.inside.spec h c.args.task (sends ∷ []) c.args.single ≡ None =
@@ -40,7 +44,8 @@ invariant_of-self-2 g c =
     let sends = c.part-part.ensures.held.0 in
     let holds = c.part-part.ensures.held.1 in
     let P : CoreState g.row.A.Denot → Type 0 = λ k.
-    StandsFor g.A.Accumulate.operation k h → signal_refusal k.limits h c.args.task (sends ∷ []) c.args.single ≡ c.signal_refusal.result in
+    StandsFor g.A.Accumulate.operation k h
+    → signal_refusal k.limits h c.args.task (sends ∷ []) c.args.single ≡ c.signal_refusal.result in
     let count : length sends ≡ c.count-sends.result = sym (c.count-sends.ensures.value ∙ holds.count_is) in
     let none : signal_refusal c.self.inside.spec h c.args.task (sends ∷ []) c.args.single ≡ None =
     subst P (sym c.self.view_is) (λ s. c.signal_refusal.ensures h sends s count) here ∙ c.in_default.is in

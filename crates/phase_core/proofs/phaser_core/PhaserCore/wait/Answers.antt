@@ -59,12 +59,14 @@ invariant_of-self g c =
     let same : c.in-Some.entry ≡ c.self.inside.entry =
     entry_of_one c.self.inside.founder c.args.task c.self.inside.entry c.in-Some.entry found in
     let E : Entry → Type 0 = λ e.
-    StandsFor g.A.Accumulate.operation (one_member c.self.inside.spec c.self.inside.founder (waited 1 e) c.self.inside.phases) (Waited c.args.task 1 ∷ h) in
+    StandsFor g.A.Accumulate.operation
+    (one_member c.self.inside.spec c.self.inside.founder (waited 1 e) c.self.inside.phases) (Waited c.args.task 1 ∷ h) in
     (c.self.invariant.0, (Waited c.args.task 1 ∷ h, subst E same gets.after))
 
 pub returns-clause-reply : goal.returns-clause-reply
 returns-clause-reply g c h stands =
-    let here : StandsFor g.A.Accumulate.operation (one_member c.self.inside.spec c.self.inside.founder c.self.inside.entry c.self.inside.phases) h =
+    let here : StandsFor g.A.Accumulate.operation
+    (one_member c.self.inside.spec c.self.inside.founder c.self.inside.entry c.self.inside.phases) h =
     rw c.self.view_is stands in
     let K : CoreState g.row.A.Denot → Type 0 = λ k. entry_of k.members c.args.task ≡ Some c.in-Some.entry in
     let found : entry_of ((c.self.inside.founder, c.self.inside.entry) ∷ []) c.args.task ≡ Some c.in-Some.entry =
@@ -78,13 +80,15 @@ returns-clause-reply g c h stands =
     let v = value_one g.A.Accumulate.operation g.met.A.Accumulate.laws c.self.inside.spec c.self.inside.founder c.in-Some.entry c.self.inside.phases h c.args.task
     c.in-Some-get.slot.now gets c.in-Some-get.ensures in
     let L : CoreState g.row.A.Denot → Type 0 = λ k.
-    wait_reply g.A.Accumulate.operation.value k.limits h c.args.task ≡ Ok (got.Value c.in-Some.entry.wait_phase c.value-outcome.result) in
+    wait_reply g.A.Accumulate.operation.value k.limits h c.args.task
+    ≡ Ok (got.Value c.in-Some.entry.wait_phase c.value-outcome.result) in
     subst L c.self.view_is
     (gets.reply ∙ ap (λ o. Ok (got.Value c.in-Some.entry.wait_phase o)) (sym (c.value-outcome.ensures ∙ v.1)))
 
 pub returns-clause-after : goal.returns-clause-after
 returns-clause-after g c h stands =
-    let here : StandsFor g.A.Accumulate.operation (one_member c.self.inside.spec c.self.inside.founder c.self.inside.entry c.self.inside.phases) h =
+    let here : StandsFor g.A.Accumulate.operation
+    (one_member c.self.inside.spec c.self.inside.founder c.self.inside.entry c.self.inside.phases) h =
     rw c.self.view_is stands in
     let K : CoreState g.row.A.Denot → Type 0 = λ k. entry_of k.members c.args.task ≡ Some c.in-Some.entry in
     let found : entry_of ((c.self.inside.founder, c.self.inside.entry) ∷ []) c.args.task ≡ Some c.in-Some.entry =
@@ -98,5 +102,6 @@ returns-clause-after g c h stands =
     let same : c.in-Some.entry ≡ c.self.inside.entry =
     entry_of_one c.self.inside.founder c.args.task c.self.inside.entry c.in-Some.entry found in
     let E : Entry → Type 0 = λ e.
-    StandsFor g.A.Accumulate.operation (one_member c.self.inside.spec c.self.inside.founder (waited 1 e) c.self.inside.phases) (Waited c.args.task 1 ∷ h) in
+    StandsFor g.A.Accumulate.operation
+    (one_member c.self.inside.spec c.self.inside.founder (waited 1 e) c.self.inside.phases) (Waited c.args.task 1 ∷ h) in
     subst E same gets.after
