@@ -4,10 +4,10 @@ pub mod Digits
 pub mod Going
 pub mod Grammar
 pub mod Keeping
-pub mod Lines
 pub mod LongLine
+pub mod Obeying
 pub mod Owing
 pub mod Reading
 pub mod Replayed
-pub mod Runs
+pub mod ReplyLines
 pub mod Writing

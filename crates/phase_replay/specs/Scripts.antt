@@ -1,5 +1,5 @@
 -- What the lines of a script are answered, and what they leave.
-use Rattle.std.specs.Prelude.{ℕ, ℤ, ◌<◌, List, [], ◌∷◌, ◌++◌, Option, Some, None, Result, Ok, Err, Bool, not, ◌||◌, ◌==◌, nat_le, nat_lt, length, if◌then◌else◌}
+use Rattle.std.specs.Prelude.{ℕ, ℤ, List, [], ◌∷◌, ◌++◌, Option, Some, None, Result, Ok, Err, Bool, not, ◌||◌, ◌==◌, nat_le, nat_lt, length, if◌then◌else◌}
 use Rattle.phase_base.specs.Limits.{Limits, limits}
 use Rattle.phase_base.specs.Modes.{mode_signals}
 use Rattle.phase_base.specs.declared.entry.Entry.{Entry}
@@ -146,7 +146,8 @@ held_after_send Accepted held task value = held ++ (task, value) ∷ []
 held_after_send reply held task value = held
 
 -- an accepted signal takes the task's sends with it
-abbrev pub after_signal : Result ℕ SignalRefusal → Operator → Limits → History → Held → ℕ → ScriptState
+abbrev pub after_signal : Result ℕ SignalRefusal → Operator → Limits → History → Held → ℕ
+    → ScriptState
 after_signal (Ok phase) operator limits h held task =
     Running operator limits (SignalledEvent task (held_by held task ∷ []) None ∷ h)
     (held_by_others held task)

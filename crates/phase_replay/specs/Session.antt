@@ -1,18 +1,18 @@
 -- The scripts that a session stands for.
-use Rattle.std.specs.Prelude.{◌≡◌, ℕ, List, [], Option, Some, None, IsSome}
+use Rattle.std.specs.Prelude.{◌≡◌, ℕ, Option, Some, None, IsSome}
 use Rattle.phase_base.specs.Limits.{Limits}
 use Rattle.phase_accum.specs.Parcels.{StandsForSends}
 use Rattle.phase_accum.specs.Sums.{sum_operation}
 use Rattle.phase_core.specs.Members.{entry_of}
 use Rattle.phase_core.specs.Histories.{History, members_of}
 use Rattle.phase_core.specs.Cores.{StandsFor}
-use Rattle.phase_replay.specs.declared.command.Operator.{Operator}
 use Rattle.phase_replay.specs.declared.session.Session.{Session}
 use Rattle.phase_replay.specs.declared.running.Running.{Running as RunningPhaser}
 use Rattle.phase_replay.specs.Scripts.{ScriptState, NoPhaser, Running, Held, held_by}
 
 -- the phaser has this history, and the sends that it holds are those of its one task, 0
-pub record RunsFor (running : RunningPhaser) (limits : Limits) (h : History) (held : Held) : Type 0 where
+pub record RunsFor (running : RunningPhaser) (limits : Limits) (h : History) (held : Held)
+    : Type 0 where
   pub limits_are : running.core.limits ≡ limits
   pub core : StandsFor sum_operation running.core h
   pub holds : StandsForSends sum_operation running.held (held_by held 0)

@@ -41,7 +41,7 @@ impl Session {
         }
     }
 
-    /// Answers one line, given with neither its line feed nor the carriage return before it.
+    /// Answers one line, given with neither its LF nor the CR before it.
     ///
     /// Want of memory comes only from `make` and `signal`, and leaves the session unchanged.
     pub fn line(&mut self, line: &[u8]) -> Result<ReplyLine, AllocError>
