@@ -1,24 +1,10 @@
 -- A script is cut at its LFs.
-use Rattle.std.proofs.Common.{◌≡◌, ◌≢◌, ℕ, zero, suc, List, [], ◌∷◌, ◌++◌, map, false, nat_eq, refl, sym, ◌∙◌, ap, append_assoc, append-nil, arith, inl, inr}
+use Rattle.std.proofs.Common.{◌≡◌, ◌≢◌, ℕ, List, [], ◌∷◌, ◌++◌, map, false, nat_eq, refl, sym, ◌∙◌, ap, append_assoc, append-nil, inl, inr}
 use Rattle.std.proofs.lemmas.Bool.{ne_eqb, cases_eq}
+use Rattle.std.proofs.lemmas.List.Elements.{All-nil, All-cons, All-head, All-tail}
 use Rattle.std.specs.List.{All}
 use Rattle.phase_replay.specs.Lines.{without_cr, last_line, lines_after, lines_of}
 use Rattle.phase_replay.specs.Cuts.{HasNoLf, ended, IsCut, LinesAreCutAtLf, EveryScriptIsCut}
-
--- what holds of all members, member by member
-module _ {X : Type 0} (P : X → Type 0) where
-  all_none : All P []
-  all_none k d h = absurd (omega arith)
-
-  all_more : (x : X) (xs : List X) → P x → All P xs → All P (x ∷ xs)
-  all_more x xs p all zero d h = p
-  all_more x xs p all (suc k) d h = all k d (omega arith)
-
-  all_first : (x : X) (xs : List X) → All P (x ∷ xs) → P x
-  all_first x xs all = all 0 x (omega arith)
-
-  all_rest : (x : X) (xs : List X) → All P (x ∷ xs) → All P xs
-  all_rest x xs all k d h = all (suc k) d (omega arith)
 
 abbrev is_other : ℕ → Type 0
 is_other b = b ≢ 10
@@ -31,8 +17,8 @@ lines_after-other front b bs other = let no : nat_eq b 10 ≡ false = ne_eqb b 1
 pub lines_after-front : (front bs later : List ℕ) → HasNoLf bs → lines_after front (bs ++ later) ≡ lines_after (front ++ bs) later
 lines_after-front front [] later none = ap (λ l. lines_after l later) (sym (append-nil front))
 lines_after-front front (b ∷ bs) later none =
-    lines_after-other front b (bs ++ later) (all_first is_other b bs none)
-    ∙ lines_after-front (front ++ b ∷ []) bs later (all_rest is_other b bs none)
+    lines_after-other front b (bs ++ later) (All-head is_other b bs none)
+    ∙ lines_after-front (front ++ b ∷ []) bs later (All-tail is_other b bs none)
     ∙ ap (λ l. lines_after l later) (append_assoc front (b ∷ []) bs)
 
 -- at the end they are a last line
@@ -44,8 +30,8 @@ lines_after-ended : (pieces : List (List ℕ)) (rest : List ℕ) → All HasNoLf
 lines_after-ended [] rest all none = lines_after-rest [] rest none
 lines_after-ended (piece ∷ pieces) rest all none =
     ap (lines_after []) (append_assoc (piece ++ 10 ∷ []) (ended pieces) rest ∙ append_assoc piece (10 ∷ []) (ended pieces ++ rest))
-    ∙ lines_after-front [] piece (10 ∷ (ended pieces ++ rest)) (all_first HasNoLf piece pieces all)
-    ∙ ap (λ lines. without_cr piece ∷ lines) (lines_after-ended pieces rest (all_rest HasNoLf piece pieces all) none)
+    ∙ lines_after-front [] piece (10 ∷ (ended pieces ++ rest)) (All-head HasNoLf piece pieces all)
+    ∙ ap (λ lines. without_cr piece ∷ lines) (lines_after-ended pieces rest (All-tail HasNoLf piece pieces all) none)
 
 pub lines_cut : LinesAreCutAtLf
 unfolding lines_of
@@ -60,8 +46,8 @@ cut_before b script [] rest other cut = (
   b ∷ rest,
   record {
     whole = ap (λ l. b ∷ l) cut.whole;
-    pieces_have_none = all_none HasNoLf;
-    rest_has_none = all_more is_other b rest other cut.rest_has_none;
+    pieces_have_none = All-nil HasNoLf;
+    rest_has_none = All-cons is_other b rest other cut.rest_has_none;
   },
 )
 cut_before b script (piece ∷ pieces) rest other cut =
@@ -71,15 +57,15 @@ cut_before b script (piece ∷ pieces) rest other cut =
       record {
         whole = ap (λ l. b ∷ l) cut.whole;
         pieces_have_none =
-            all_more HasNoLf (b ∷ piece) pieces
-            (all_more is_other b piece other (all_first HasNoLf piece pieces none))
-            (all_rest HasNoLf piece pieces none);
+            All-cons HasNoLf (b ∷ piece) pieces
+            (All-cons is_other b piece other (All-head HasNoLf piece pieces none))
+            (All-tail HasNoLf piece pieces none);
         rest_has_none = cut.rest_has_none;
       },
     )
 
 pub every_cut : EveryScriptIsCut
-every_cut [] = ([], [], record { whole = refl; pieces_have_none = all_none HasNoLf; rest_has_none = all_none is_other })
+every_cut [] = ([], [], record { whole = refl; pieces_have_none = All-nil HasNoLf; rest_has_none = All-nil is_other })
 every_cut (b ∷ bs) =
     let cut = every_cut bs in
     elim (cases_eq b 10) [
@@ -88,7 +74,7 @@ every_cut (b ∷ bs) =
         cut.1,
         record {
           whole = rw lf (ap (λ l. 10 ∷ l) cut.2.whole);
-          pieces_have_none = all_more HasNoLf [] cut.0 (all_none is_other) cut.2.pieces_have_none;
+          pieces_have_none = All-cons HasNoLf [] cut.0 (All-nil is_other) cut.2.pieces_have_none;
           rest_has_none = cut.2.rest_has_none;
         },
       )

@@ -5,11 +5,11 @@ mod Examples
 pub mod Going
 pub mod Grammar
 pub mod Keeping
-pub mod Lines
 pub mod LongLine
+pub mod Obeying
 pub mod Owing
 pub mod Reading
 pub mod Replayed
-pub mod Runs
+pub mod ReplyLines
 pub mod Scripted
 pub mod Writing

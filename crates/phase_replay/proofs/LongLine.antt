@@ -1,6 +1,5 @@
 -- A line longer than any line of the grammar.
-use Rattle.std.proofs.Common.{◌≡◌, ℕ, ◌≤◌, List, length, codes, None, Option, refl, sym, ap, ◌∙◌}
-use Rattle.phase_replay.specs.declared.command.Command.{Command}
+use Rattle.std.proofs.Common.{◌≡◌, ℕ, ◌≤◌, List, length, codes, None, ap}
 use Rattle.phase_replay.specs.Commands.{command_of}
 use Rattle.phase_replay.specs.ReplyLines.{reply_text}
 use Rattle.phase_replay.specs.Scripts.{ScriptState, reply_to, after_line, reply_by, after_by}

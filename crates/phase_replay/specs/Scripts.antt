@@ -1,5 +1,5 @@
 -- What the lines of a script are answered, and what they leave.
-use Rattle.std.specs.Prelude.{ℕ, ℤ, ◌<◌, List, [], ◌∷◌, ◌++◌, Option, Some, None, Result, Ok, Err, Bool, not, ◌||◌, ◌==◌, nat_le, nat_lt, length, if◌then◌else◌}
+use Rattle.std.specs.Prelude.{ℕ, ℤ, List, [], ◌∷◌, ◌++◌, Option, Some, None, Result, Ok, Err, Bool, not, ◌||◌, ◌==◌, nat_le, nat_lt, length, if◌then◌else◌}
 use Rattle.phase_base.specs.Limits.{Limits, limits}
 use Rattle.phase_base.specs.declared.limits.TheConstants.{BOUND_MAX, PHASES_MAX, SENDS_MAX}
 use Rattle.phase_base.specs.Modes.{mode_signals}

@@ -1,11 +1,10 @@
 -- The scripts that a session stands for.
-use Rattle.std.specs.Prelude.{◌≡◌, ℕ, List, Option, Some, None}
+use Rattle.std.specs.Prelude.{◌≡◌, ℕ, List, Option, Some, None, IsSome}
 use Rattle.phase_base.specs.Limits.{Limits}
 use Rattle.phase_accum.specs.Parcels.{StandsForSends}
 use Rattle.phase_accum.specs.Sums.{sum_operation}
 use Rattle.phase_core.specs.Histories.{History, IsAlive}
 use Rattle.phase_core.specs.Cores.{StandsFor}
-use Rattle.phase_replay.specs.declared.command.Operator.{Operator}
 use Rattle.phase_replay.specs.declared.session.Session.{Session}
 use Rattle.phase_replay.specs.declared.running.Running.{Running as RunningPhaser}
 use Rattle.phase_replay.specs.Scripts.{ScriptState, NoPhaser, Running, Held, held_by, state_after}

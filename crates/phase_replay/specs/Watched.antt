@@ -1,4 +1,4 @@
--- What a `Watched` is to its callers: the reader or writer in it, and whether a call of that failed.
+-- What a `Watched` is to its callers: the reader or writer in it, and whether a call of it failed.
 use Rattle.std.specs.Prelude.{Bool}
 use Rattle.phase_replay.specs.declared.watched.Watched.{Watched}
 

@@ -7,7 +7,7 @@ const CR: u8 = 13;
 
 const LF: u8 = 10;
 
-/// Where the first LF stands.
+/// Finds the first LF.
 pub fn lf_of(bytes: &[u8]) -> Option<usize>
     ensures { MatchOption result (HasNoLf bytes.now) (λ end. (end < length bytes.now)
         × HasNoLf (take end bytes.now) × (slice_index bytes.now end ≡ 10)) }
@@ -15,8 +15,8 @@ pub fn lf_of(bytes: &[u8]) -> Option<usize>
     bytes.iter().position(|byte| *byte == LF)
 }
 
-/// The line less one CR at its end.
-pub fn cut(line: &[u8]) -> &[u8]
+/// Gives the line less one CR at its end.
+pub fn without_cr(line: &[u8]) -> &[u8]
     ensures { result.now ≡ without_cr line.now }
 {
     match line {

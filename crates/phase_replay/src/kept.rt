@@ -23,7 +23,7 @@ impl Model for Kept {
 }
 
 impl Kept {
-    /// The front of a line of which no byte has come.
+    /// Makes the front of a line of which no byte has come.
     pub fn new() -> Kept
         ensures { result ≡ [] }
     {
@@ -33,7 +33,7 @@ impl Kept {
         }
     }
 
-    /// Whether no byte of the line has come.
+    /// Tells whether no byte of the line has come.
     pub fn is_empty(&self) -> bool
         ensures { result ≡ nat_eq (length self.now) 0 }
     {
@@ -56,7 +56,7 @@ impl Kept {
         self.len = 0;
     }
 
-    /// The bytes that are kept.
+    /// Gives the bytes that are kept.
     pub fn bytes(&self) -> &[u8]
         ensures { result.now ≡ self.now }
     {

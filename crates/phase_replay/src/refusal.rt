@@ -47,7 +47,7 @@ pub enum Refusal {
 }
 
 impl Refusal {
-    /// The text that follows `no` and a space, in small letters and hyphens.
+    /// Gives the text that follows `no` and a space, in small letters and hyphens.
     pub fn reason(self) -> &'static [u8]
         ensures { result.now ≡ reason_text self }
     {

@@ -10,7 +10,7 @@ use std::marker::Model;
 // The longest reply line has a phase of 20 digits and a value of 20 bytes.
 const LENGTH_MAX: usize = 48;
 
-/// A reply line as bytes, with its line end. It takes no memory.
+/// A reply line as bytes, with its LF.
 #[derive(Drop)]
 pub struct ReplyLine {
     buf: [u8; LENGTH_MAX],
@@ -87,7 +87,7 @@ impl ReplyLine {
         line
     }
 
-    /// The bytes of the line, up to and with its line end.
+    /// Gives the bytes of the line, up to and with its LF.
     pub fn bytes(&self) -> &[u8]
         ensures { result.now ≡ self.now }
     {
@@ -95,7 +95,7 @@ impl ReplyLine {
     }
 }
 
-/// The line that tells the reply.
+/// Writes the reply as a line. It takes no memory.
 #[tactic(auto, unfolding(crate::specs::ReplyLines::reply_text))]
 pub fn line(reply: Reply) -> ReplyLine
     ensures { result ≡ reply_text reply }

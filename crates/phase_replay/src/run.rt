@@ -7,18 +7,16 @@ ghost use Rattle.phase_replay.specs.Scripts.{ScriptState, reply_to, after_line};
 ghost use Rattle.phase_replay.specs.Session.{Stands};
 ghost use Rattle.phase_replay.specs.declared.fault.ReplayFault.TheVariants.{ReadFault, WriteFault};
 
-use super::cuts::{cut, lf_of};
-use super::fault::{ReplayFault, WriteFailed};
-use super::kept::Kept;
-use super::session::Session;
-use super::watched::Watched;
+use crate::cuts::{lf_of, without_cr};
+use crate::kept::Kept;
+use crate::{ReplayFault, Session, Watched, WriteFailed};
 use std::alloc::{AllocError, Global};
 use std::io::Write;
 
-/// How many bytes of replies are handed to the writer at once.
+// As soon as so many bytes of replies wait, they go to the writer.
 const OUT_MAX: usize = 65536;
 
-/// Answers a line behind the replies that wait.
+// Answers a line behind the replies that wait.
 fn reply(session: &mut Session, line: &[u8], out: &mut Vec<u8>) -> Result<(), AllocError>
     ensures reply { OnOk result ((state : ScriptState) → Stands session.old state
         → out.new.items ≡ out.old.items ++ reply_to state line.now) }
@@ -44,7 +42,7 @@ impl Run {
     ghost use Rattle.phase_replay.specs.Replies.{replies_of};
     ghost use Rattle.phase_replay.specs.Watched.{inner_of, has_failed_of};
 
-    /// A replay of which no byte has been read.
+    /// Makes a replay of which no byte has been read.
     pub fn new(alloc: Global) -> Run
         ensures { (script : List ℕ) → Owes result script (replies_of script) }
     {
@@ -55,7 +53,7 @@ impl Run {
         }
     }
 
-    /// Answers the line that `end` ends, and begins the next one.
+    // Answers the line that `end` ends, and begins the next one.
     fn answer(&mut self, end: &[u8]) -> Result<(), AllocError>
         requires { HasNoLf end.now }
         ensures ok { OnOk result ((later owed : List ℕ) → Owes self.old (end.now ++ 10 ∷ later) owed
@@ -64,11 +62,15 @@ impl Run {
         ensures begun { OnOk result (self.new.kept ≡ []) }
     {
         if self.kept.is_empty() {
-            reply(&mut self.session, cut(end), &mut self.out)?;
+            reply(&mut self.session, without_cr(end), &mut self.out)?;
             return Ok(());
         }
         self.kept.extend(end);
-        reply(&mut self.session, cut(self.kept.bytes()), &mut self.out)?;
+        reply(
+            &mut self.session,
+            without_cr(self.kept.bytes()),
+            &mut self.out,
+        )?;
         self.kept.clear();
         Ok(())
     }
@@ -92,7 +94,7 @@ impl Run {
         Ok(())
     }
 
-    /// Hands the replies over where many wait.
+    // Hands the replies over where many wait.
     fn make_room<W: Write>(&mut self, writer: &mut Watched<W>) -> Result<(), WriteFailed>
         ensures ok { OnOk result ((later owed : List ℕ) → Owes self.old later owed
             → Goes (W.contents (inner_of writer.old)) (W.contents (inner_of writer.new))
@@ -140,7 +142,7 @@ impl Run {
         Ok(())
     }
 
-    /// Answers a last line with no LF, where its front is not empty.
+    // Answers a last line with no LF, where its front is not empty.
     fn last(&mut self) -> Result<(), AllocError>
         ensures { OnOk result ((owed : List ℕ) → Owes self.old [] owed
             → owed ≡ waiting_of self.new) }

@@ -89,9 +89,10 @@ impl Running {
     /// Holds one more send for the task.
     pub fn send(&mut self, task: u64, value: i64) -> Reply
         requires { IsSend value }
-        ensures reply { (limits : Limits) (h : History) (held : Held) → RunsFor self.old limits h held
-            → result ≡ send_reply h held task }
-        ensures after { (limits : Limits) (h : History) (held : Held) → RunsFor self.old limits h held
+        ensures reply { (limits : Limits) (h : History) (held : Held)
+            → RunsFor self.old limits h held → result ≡ send_reply h held task }
+        ensures after { (limits : Limits) (h : History) (held : Held)
+            → RunsFor self.old limits h held
             → RunsFor self.new limits h (held_after_send (send_reply h held task) held task value) }
     {
         let Some(entry) = self.core.view(task) else {
@@ -131,10 +132,13 @@ impl Running {
 
     /// Waits for the task's next phase.
     pub fn wait(&mut self, task: u64) -> Reply
-        ensures reply { (limits : Limits) (h : History) (held : Held) → RunsFor self.old limits h held
+        ensures reply { (limits : Limits) (h : History) (held : Held)
+            → RunsFor self.old limits h held
             → result ≡ received_reply (wait_reply sum_value limits h task) }
-        ensures after { (limits : Limits) (h : History) (held : Held) → RunsFor self.old limits h held
-            → RunsFor self.new limits (after_wait (wait_reply sum_value limits h task) task h) held }
+        ensures after { (limits : Limits) (h : History) (held : Held)
+            → RunsFor self.old limits h held
+            → RunsFor self.new limits (after_wait (wait_reply sum_value limits h task) task h)
+            held }
     {
         match self.core.wait(task) {
             Ok(Got::Value { phase, outcome }) => value_reply(phase, outcome),

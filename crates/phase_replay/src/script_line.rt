@@ -11,7 +11,7 @@ use crate::{Command, Operator};
 use number::{int, nat};
 use words::cut;
 
-/// Reads a script line, without its line end, as the one command that it gives.
+/// Reads a script line, without its LF and CR, as the one command that it gives.
 ///
 /// The first word names the command, and one space stands between two words. A number has no
 /// needless zero and no plus. Any other line gives `None`. It takes no memory.

@@ -41,7 +41,7 @@ impl Session {
         }
     }
 
-    /// Answers one line, given with neither its line feed nor the carriage return before it.
+    /// Answers one line, given with neither its LF nor the CR before it.
     ///
     /// Want of memory comes only from `make` and `signal`, and leaves the session unchanged.
     #[tactic(auto, using(crate::proofs::Scripted::state_after_push), unfolding(crate::specs::Session::Stands, crate::specs::Scripts::reply_to, crate::specs::Scripts::after_line))]

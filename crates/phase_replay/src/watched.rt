@@ -4,7 +4,7 @@ ghost use Rattle.std.specs.Io.{ReadsAtMost};
 ghost use Rattle.std.specs.Io.KnownBytes.{ReadConsumes, Appends, Keeps};
 ghost use Rattle.phase_replay.specs.Front.{AppendsFront};
 
-use super::fault::{ReadFailed, WriteFailed};
+use crate::{ReadFailed, WriteFailed};
 use std::io::{Read, Write};
 
 /// A reader or a writer, and whether one of its calls through here has failed.
@@ -30,7 +30,7 @@ impl<T> Watched<T> {
         }
     }
 
-    /// Whether a call has failed since `new`.
+    /// Tells whether a call has failed since `new`.
     pub fn has_failed(&self) -> bool
         ensures { result ≡ has_failed_of self.now }
     {
@@ -52,7 +52,8 @@ impl<T> Watched<T> {
 impl<R: Read> Watched<R> {
     ghost use Rattle.phase_replay.specs.Watched.{inner_of, has_failed_of};
 
-    /// Reads once into `piece`, and answers how many bytes were read. No failed read is tried again.
+    /// Reads once into `piece`, and answers how many bytes were read. No failed read is tried
+    /// again.
     pub fn read(&mut self, piece: &mut [u8]) -> Result<usize, ReadFailed>
         ensures bound { ReadsAtMost result piece.new }
         ensures bytes { ReadConsumes (R.remaining (inner_of self.old))

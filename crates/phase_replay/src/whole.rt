@@ -6,19 +6,18 @@ ghost use Rattle.phase_replay.specs.Replay.{ReplaysAll, ReplaysFront, ReadsTooMu
 ghost use Rattle.phase_replay.specs.Replies.{replies_of};
 ghost use Rattle.phase_replay.specs.Watched.{inner_of, has_failed_of};
 
-use super::fault::ReplayFault;
-use super::run::Run;
-use super::watched::Watched;
+use crate::run::Run;
+use crate::{ReplayFault, Watched};
 use std::alloc::Global;
 use std::io::{Read, Write};
 
 /// The longest script that is replayed, in bytes.
 pub const SCRIPT_MAX: usize = 1_073_741_824;
 
-/// How many bytes are read at once.
+// How many bytes are read at once.
 const PIECE: usize = 65536;
 
-/// Replays the whole script that the reader has left.
+// Replays the whole script that the reader has left.
 fn replay_pieces<R: Read, W: Write>(
     alloc: Global,
     reader: &mut Watched<R>,

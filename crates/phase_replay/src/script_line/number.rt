@@ -9,7 +9,7 @@ const MOST: u64 = 9223372036854775807;
 // How many digits the greatest number has.
 const DIGITS_MAX: usize = 19;
 
-// The number that the word is.
+/// Reads the word as a number.
 #[tactic(auto, unfolding(crate::specs::Numbers::nat_of))]
 pub fn nat(word: &[u8]) -> Option<u64>
     ensures value { result ≡ nat_of word.now }
@@ -54,7 +54,7 @@ fn digits(word: &[u8]) -> Option<u64>
     Some(n)
 }
 
-// The signed number that the word is.
+/// Reads the word as a signed number.
 #[tactic(auto, unfolding(crate::specs::Numbers::int_of))]
 pub fn int(word: &[u8]) -> Option<i64>
     ensures value { result ≡ int_of word.now }

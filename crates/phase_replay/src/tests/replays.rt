@@ -1,5 +1,5 @@
 //! Replays with readers and writers that give, take and fail in every place.
-use crate::{ReplayFault, Session, Watched, replay};
+use crate::{ReplayFault, Watched, replay};
 use std::alloc::Global;
 use std::io;
 use std::io::{Read, Write};
@@ -88,7 +88,7 @@ fn taking(alloc: Global, size: usize) -> Choppy {
 
 #[test]
 fn each_line_has_its_reply(rt: HostRuntime) -> Result<(), Fail> {
-    let rows: [(&[u8], &[u8]); 13] = [
+    let rows: [(&[u8], &[u8]); 14] = [
         (b"", b""),
         (b"make sum 2 100\n", b"ok\n"),
         (b"make sum 2 100", b"ok\n"),
@@ -107,6 +107,10 @@ fn each_line_has_its_reply(rt: HostRuntime) -> Result<(), Fail> {
         (
             b"make sum 2 100\n\nmake sum 2 100\r",
             b"ok\nbad line\nno made\n",
+        ),
+        (
+            b"make sum 2 100\r\nsend 0 5\nsignal 0\r\nwait 0\nsignal 0",
+            b"ok\nok\nok 0\nvalue 0 5\nok 1\n",
         ),
     ];
     for (script, replies) in rows {
@@ -199,13 +203,5 @@ fn many_replies_go_out_in_large_pieces(rt: HostRuntime) -> Result<(), Fail> {
     let writer = writer.into_inner();
     assert_eq!(rt; writer.got.len(), 180_000);
     assert_eq!(rt; writer.writes, 3);
-    Ok(())
-}
-
-#[test]
-fn a_session_answers_line_by_line(rt: HostRuntime) -> Result<(), Fail> {
-    let mut session = Session::new(rt.alloc());
-    let reply = session.line(b"make sum 2 100")?;
-    assert_eq!(rt; reply.bytes(), b"ok\n".as_slice());
     Ok(())
 }

@@ -1,5 +1,5 @@
 -- The longest line is that of a value with two long numbers.
-use Rattle.phase_replay.proofs.Lines.{reply_short}
+use Rattle.phase_replay.proofs.ReplyLines.{reply_short}
 use Rattle.phase_replay.proofs.laws.replies_are_short.Goals as goal
 
 pub returns : goal.returns

@@ -1,5 +1,5 @@
 -- Neither the words nor the numbers have a line end.
-use Rattle.phase_replay.proofs.Lines.{reply_is_one_line}
+use Rattle.phase_replay.proofs.ReplyLines.{reply_is_one_line}
 use Rattle.phase_replay.proofs.laws.replies_are_single_lines.Goals as goal
 
 pub returns : goal.returns

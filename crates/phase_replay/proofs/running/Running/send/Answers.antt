@@ -1,11 +1,9 @@
 -- A send that is taken is that of the one task, and stands behind those that it holds.
-use Rattle.std.proofs.Common.{◌≡◌, true, List, [], ◌∷◌, ◌++◌, rules}
+use Rattle.std.proofs.Common.{◌≡◌, true, rules}
 use Rattle.std.proofs.lemmas.Int.{to_z-of_z}
 use Rattle.phase_base.specs.Modes.{mode_signals}
-use Rattle.phase_accum.specs.Parcels.{StandsForSends}
-use Rattle.phase_accum.specs.Sums.{sum_operation}
 use Rattle.phase_replay.specs.Scripts.{held_by}
-use Rattle.phase_replay.proofs.Runs.{running_sent}
+use Rattle.phase_replay.proofs.Obeying.{running_sent}
 use Rattle.phase_replay.proofs.running.Running.send.Goals as goal
 
 pub returns-in-Ok-clause-after : goal.returns-in-Ok-clause-after

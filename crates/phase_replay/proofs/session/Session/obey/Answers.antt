@@ -1,12 +1,12 @@
 -- A send is the phaser's, in any state of a script in which there is one.
-use Rattle.std.proofs.Common.{◌≡◌, ◌≤◌, ℤ, Option, Some, w64, to_z, of_z, nat_abs, sym, subst, ap, arith}
-use Rattle.std.proofs.lemmas.Int.{to_z-of_z, ints}
+use Rattle.std.proofs.Common.{◌≡◌, ◌≤◌, Option, w64, to_z, of_z, nat_abs, subst, arith}
+use Rattle.std.proofs.lemmas.Int.{ints}
 use Rattle.phase_replay.specs.declared.command.Command.{Command}
 use Rattle.phase_replay.specs.declared.running.Running.{Running as RunningPhaser}
 use Rattle.phase_replay.specs.Commands.{IsCommand}
 use Rattle.phase_replay.specs.Numbers.{most}
 use Rattle.phase_replay.specs.Session.{Stands, MaybeRunsFor}
-use Rattle.phase_replay.proofs.Runs.{sent_reply, sent_state}
+use Rattle.phase_replay.proofs.Obeying.{sent_reply, sent_state}
 use Rattle.phase_replay.proofs.session.Session.obey.Goals as goal
 
 pub returns-in-Send-clause-reply : goal.returns-in-Send-clause-reply

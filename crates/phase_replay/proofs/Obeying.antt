@@ -1,7 +1,6 @@
 -- A phaser of one task, 0, and its sends, through the calls that it makes.
-use Rattle.std.proofs.Common.{◌≡◌, ℕ, ◌+◌, ◌≤◌, Bool, true, false, cond, eqb, List, [], ◌∷◌, ◌++◌, Option, Some, None, Ok, Err, ℤ, Result, leb, not, length, refl, sym, ap, subst, ◌∙◌, ⊎_elim, arith, length-append}
+use Rattle.std.proofs.Common.{◌≡◌, ℕ, ◌+◌, ◌≤◌, true, false, cond, eqb, List, [], ◌∷◌, ◌++◌, Option, Some, None, Ok, Err, ℤ, Result, leb, not, length, refl, sym, ap, subst, ◌∙◌, ⊎_elim, arith, length-append}
 use Rattle.std.specs.Prelude.{is_some, IsSome, IfOk, OnOk}
-use Rattle.std.proofs.lemmas.List.{append-nil}
 use Rattle.std.proofs.lemmas.Bool.{cases_eq, eq-eqb, lt-leb}
 use Rattle.phase_base.specs.Limits.{Limits}
 use Rattle.phase_base.specs.Modes.{mode_signals}
@@ -16,18 +15,18 @@ use Rattle.phase_core.specs.declared.refusal.SignalRefusal.TheVariants as signal
 use Rattle.phase_core.specs.declared.refusal.WaitRefusal.{WaitRefusal}
 use Rattle.phase_core.specs.declared.got.Got.{Got}
 use Rattle.phase_core.specs.declared.got.Got.TheVariants as got
-use Rattle.phase_core.specs.Members.{Members, entry_of, changed_at, signalled, waited}
+use Rattle.phase_core.specs.Members.{entry_of, signalled, waited}
 use Rattle.phase_core.specs.Histories.{History, members_of, signal_phase}
-use Rattle.phase_core.specs.Refusals.{refusal_at, signal_refusal, signal_rows}
+use Rattle.phase_core.specs.Refusals.{refusal_at, signal_rows}
 use Rattle.phase_core.specs.Replies.{signal_reply, wait_reply, after_wait, refused_or}
 use Rattle.phase_core.specs.Cores.{CoreState, StandsFor}
 use Rattle.phase_core.proofs.MemberLemmas.{is_some-entry_of-changed}
 use Rattle.phase_replay.specs.declared.running.Running.{Running as RunningPhaser}
-use Rattle.phase_replay.specs.declared.refusal.Refusal.{Refusal}
 use Rattle.phase_replay.specs.declared.refusal.Refusal.TheVariants as no
 use Rattle.phase_replay.specs.declared.reply.Reply.{Reply}
 use Rattle.phase_replay.specs.declared.reply.Reply.TheVariants.{Accepted}
-use Rattle.phase_replay.specs.Scripts.{ScriptState, NoPhaser, Running, command_reply, after_command, Held, held_by, held_by_others, send_rows, send_reply, held_after_send, refused_or as refused}
+use Rattle.phase_replay.specs.Scripts.{ScriptState, NoPhaser, Running, command_reply, after_command, Held, held_by, held_by_others, send_rows, send_reply, held_after_send, after_signal, refused_or as refused}
+use Rattle.phase_replay.specs.declared.command.Operator.{Operator}
 use Rattle.phase_replay.specs.declared.command.Command.{Command}
 use Rattle.phase_replay.specs.declared.command.Command.TheVariants.{Send}
 use Rattle.phase_replay.specs.Session.{RunsFor, MaybeRunsFor}
@@ -96,10 +95,6 @@ alone_waited h task n alone k some = alone k (sym (is_some-entry_of-changed task
 
 -- ---- what follows from a clause on an Ok
 
-pub ok_then : {A E : Type 0} (P Q : A → Type 0) (r : Result A E) → IfOk r P → ((x : A) → P x → Q x) → IfOk r Q
-ok_then P Q (Ok x) holds then = then x holds
-ok_then P Q (Err e) holds then = tt
-
 pub ok_gives : {A E : Type 0} (P : A → Type 0) (Q : Type 0) (r : Result A E) → IfOk r P → ((x : A) → P x → Q) → OnOk r Q
 ok_gives P Q (Ok x) holds then = then x holds
 ok_gives P Q (Err e) holds then = tt
@@ -135,44 +130,14 @@ running_sent old holding limits h held task e v runs found signals holds =
       alone = runs.alone;
     }))
 
--- an accepted signal is that of the one task, which then holds nothing
-pub record HasSignalled (new : RunningPhaser) (limits : Limits) (h : History) (held : Held) (task phase : ℕ) : Type 0 where
-  pub accepted : signal_reply limits h task (held_by held task ∷ []) None ≡ Ok phase
-  pub runs : RunsFor new limits (Signalled task (held_by held task ∷ []) None ∷ h) (held_by_others held task)
+-- the sends that the core is handed are those of the one task
+held_stands : (old : RunningPhaser) (given : Parcel ℤ) (limits : Limits) (h : History) (held : Held) → RunsFor old limits h held
+    → given ≡ old.held → StandsForSends sum_operation given (held_by held 0)
+held_stands old given limits h held runs given_is =
+    let S : Parcel ℤ → Type 0 = λ p. StandsForSends sum_operation p (held_by held 0) in subst S (sym given_is) runs.holds
 
-pub running_signalled : (old : RunningPhaser) (core : CoreState ℤ) (fresh : Parcel ℤ) (limits : Limits) (h : History) (held : Held) (task phase : ℕ)
-    → RunsFor old limits h held → StandsForSends sum_operation fresh [] → core.limits ≡ old.core.limits
-    → signal_reply old.core.limits h task (held_by held 0 ∷ []) None ≡ Ok phase
-    → StandsFor sum_operation core (Signalled task (held_by held 0 ∷ []) None ∷ h)
-    → HasSignalled (record { core = core; held = fresh }) limits h held task phase
-running_signalled old core fresh limits h held task phase runs holds limits_same ok after =
-    let L : Limits → Type 0 = λ l. signal_reply l h task (held_by held 0 ∷ []) None ≡ Ok phase in
-    let ok_0 : signal_reply limits h task (held_by held 0 ∷ []) None ≡ Ok phase = subst L runs.limits_are ok in
-    let founder : task ≡ 0 = signaller_is_founder old limits h held task phase (held_by held 0) None runs ok_0 in
-    let own : held_by held 0 ≡ held_by held task = ap (held_by held) (sym founder) in
-    let S : List ℤ → Type 0 = λ l. StandsFor sum_operation core (Signalled task (l ∷ []) None ∷ h) in
-    let E : List ℤ → Type 0 = λ l. StandsForSends sum_operation fresh l in
-    let none : held_by (held_by_others held task) 0 ≡ [] = ap (λ t. held_by (held_by_others held t) 0) founder ∙ held_by-others held 0 in
-    record {
-      accepted = signal_reply-held old limits h held task None runs ∙ ok_0;
-      runs = record {
-        limits_are = limits_same ∙ runs.limits_are;
-        core = subst S own after;
-        holds = subst E (sym none) holds;
-        alone = alone_signalled h task (held_by held task ∷ []) None runs.alone;
-      };
-    }
-
--- a refused signal leaves what was
-pub running_refused : (old : RunningPhaser) (limits : Limits) (h : History) (held : Held) (task : ℕ) (refusal : SignalRefusal)
-    → RunsFor old limits h held → signal_reply old.core.limits h task (held_by held 0 ∷ []) None ≡ Err refusal
-    → signal_reply limits h task (held_by held task ∷ []) None ≡ Err refusal
-running_refused old limits h held task refusal runs err =
-    let L : Limits → Type 0 = λ l. signal_reply l h task (held_by held 0 ∷ []) None ≡ Err refusal in
-    signal_reply-held old limits h held task None runs ∙ subst L runs.limits_are err
-
--- and the phaser runs for the same state
-pub running_kept : (old : RunningPhaser) (core : CoreState ℤ) (holding : Parcel ℤ) (limits : Limits) (h : History) (held : Held)
+-- with nothing changed, the phaser runs for the same state
+running_kept : (old : RunningPhaser) (core : CoreState ℤ) (holding : Parcel ℤ) (limits : Limits) (h : History) (held : Held)
     → RunsFor old limits h held → core ≡ old.core → holding ≡ old.held
     → RunsFor (record { core = core; held = holding }) limits h held
 running_kept old core holding limits h held runs core_is holding_is =
@@ -180,6 +145,69 @@ running_kept old core holding limits h held runs core_is holding_is =
     let H : Parcel ℤ → Type 0 = λ p. RunsFor (record { core = old.core; held = p }) limits h held in
     subst C (sym core_is) (subst H (sym holding_is)
     (record { limits_are = runs.limits_are; core = runs.core; holds = runs.holds; alone = runs.alone }))
+
+-- an accepted signal is that of the one task, which then holds nothing
+pub record HasSignalled (new : RunningPhaser) (limits : Limits) (h : History) (held : Held) (task phase : ℕ) : Type 0 where
+  pub accepted : signal_reply limits h task (held_by held task ∷ []) None ≡ Ok phase
+  pub runs : RunsFor new limits (Signalled task (held_by held task ∷ []) None ∷ h) (held_by_others held task)
+
+-- `given` are the sends that the core was handed, and `fresh` is none
+pub running_signalled : (old : RunningPhaser) (core : CoreState ℤ) (given fresh none : Parcel ℤ) (limits : Limits) (h : History) (held : Held) (task phase : ℕ)
+    → RunsFor old limits h held → given ≡ old.held → fresh ≡ none → StandsForSends sum_operation none []
+    → core.limits ≡ old.core.limits
+    → ((sends : List ℤ) → StandsForSends sum_operation given sends → signal_reply old.core.limits h task (sends ∷ []) None ≡ Ok phase)
+    → ((sends : List ℤ) → StandsForSends sum_operation given sends → StandsFor sum_operation core (Signalled task (sends ∷ []) None ∷ h))
+    → HasSignalled (record { core = core; held = fresh }) limits h held task phase
+running_signalled old core given fresh none limits h held task phase runs given_is fresh_is none_holds limits_same ok after =
+    let holds : StandsForSends sum_operation given (held_by held 0) = held_stands old given limits h held runs given_is in
+    let L : Limits → Type 0 = λ l. signal_reply l h task (held_by held 0 ∷ []) None ≡ Ok phase in
+    let ok_0 : signal_reply limits h task (held_by held 0 ∷ []) None ≡ Ok phase = subst L runs.limits_are (ok (held_by held 0) holds) in
+    let founder : task ≡ 0 = signaller_is_founder old limits h held task phase (held_by held 0) None runs ok_0 in
+    let own : held_by held 0 ≡ held_by held task = ap (held_by held) (sym founder) in
+    let S : List ℤ → Type 0 = λ l. StandsFor sum_operation core (Signalled task (l ∷ []) None ∷ h) in
+    let F : Parcel ℤ → Type 0 = λ p. StandsForSends sum_operation p [] in
+    let E : List ℤ → Type 0 = λ l. StandsForSends sum_operation fresh l in
+    let none_left : held_by (held_by_others held task) 0 ≡ [] = ap (λ t. held_by (held_by_others held t) 0) founder ∙ held_by-others held 0 in
+    record {
+      accepted = signal_reply-held old limits h held task None runs ∙ ok_0;
+      runs = record {
+        limits_are = limits_same ∙ runs.limits_are;
+        core = subst S own (after (held_by held 0) holds);
+        holds = subst E (sym none_left) (subst F (sym fresh_is) none_holds);
+        alone = alone_signalled h task (held_by held task ∷ []) None runs.alone;
+      };
+    }
+
+-- what an accepted signal leaves
+pub signalled_state : (new : RunningPhaser) (operator : Operator) (limits : Limits) (h : History) (held : Held) (task phase : ℕ)
+    → HasSignalled new limits h held task phase
+    → MaybeRunsFor (Some new) (after_signal (signal_reply limits h task (held_by held task ∷ []) None) operator limits h held task)
+unfolding MaybeRunsFor
+signalled_state new operator limits h held task phase s =
+    let A : Result ℕ SignalRefusal → Type 0 = λ r. MaybeRunsFor (Some new) (after_signal r operator limits h held task) in
+    subst A (sym s.accepted) s.runs
+
+-- a refused signal is refused whatever task the sends are said to be of
+pub running_refused : (old : RunningPhaser) (given : Parcel ℤ) (limits : Limits) (h : History) (held : Held) (task : ℕ) (refusal : SignalRefusal)
+    → RunsFor old limits h held → given ≡ old.held
+    → ((sends : List ℤ) → StandsForSends sum_operation given sends → signal_reply old.core.limits h task (sends ∷ []) None ≡ Err refusal)
+    → signal_reply limits h task (held_by held task ∷ []) None ≡ Err refusal
+running_refused old given limits h held task refusal runs given_is err =
+    let L : Limits → Type 0 = λ l. signal_reply l h task (held_by held 0 ∷ []) None ≡ Err refusal in
+    signal_reply-held old limits h held task None runs
+    ∙ subst L runs.limits_are (err (held_by held 0) (held_stands old given limits h held runs given_is))
+
+-- what a refused signal leaves, where its sends are handed back
+pub refused_state : (old : RunningPhaser) (core : CoreState ℤ) (holding : Parcel ℤ) (operator : Operator) (limits : Limits) (h : History) (held : Held) (task : ℕ) (refusal : SignalRefusal)
+    → RunsFor old limits h held → core ≡ old.core → holding ≡ old.held
+    → signal_reply limits h task (held_by held task ∷ []) None ≡ Err refusal
+    → MaybeRunsFor (Some (record { core = core; held = holding }))
+    (after_signal (signal_reply limits h task (held_by held task ∷ []) None) operator limits h held task)
+unfolding MaybeRunsFor
+refused_state old core holding operator limits h held task refusal runs core_is holding_is refused =
+    let A : Result ℕ SignalRefusal → Type 0 = λ r.
+    MaybeRunsFor (Some (record { core = core; held = holding })) (after_signal r operator limits h held task) in
+    subst A (sym refused) (running_kept old core holding limits h held runs core_is holding_is)
 
 alone_after : (h : History) (task : ℕ) (r : Result Got WaitRefusal) → ((k : ℕ) → IsSome (entry_of (members_of h) k) → k ≡ 0)
     → (k : ℕ) → IsSome (entry_of (members_of (after_wait r task h)) k) → k ≡ 0
