@@ -1,6 +1,6 @@
 -- A phaser of one task, 0, and its sends, through the calls that it makes.
 use Rattle.std.proofs.Common.{◌≡◌, ℕ, ◌+◌, ◌≤◌, true, false, cond, eqb, List, [], ◌∷◌, ◌++◌, Option, Some, None, Ok, Err, ℤ, Result, leb, not, length, refl, sym, ap, subst, ◌∙◌, ⊎_elim, arith, length-append}
-use Rattle.std.specs.Prelude.{is_some, IsSome, IfOk, OnOk}
+use Rattle.std.specs.Prelude.{is_some, IsSome, IfOk, OnOk, IsOk}
 use Rattle.std.proofs.lemmas.Bool.{cases_eq, eq-eqb, lt-leb}
 use Rattle.phase_base.specs.Limits.{Limits}
 use Rattle.phase_base.specs.Modes.{mode_signals}
@@ -25,7 +25,7 @@ use Rattle.phase_replay.specs.declared.running.Running.{Running as RunningPhaser
 use Rattle.phase_replay.specs.declared.refusal.Refusal.TheVariants as no
 use Rattle.phase_replay.specs.declared.reply.Reply.{Reply}
 use Rattle.phase_replay.specs.declared.reply.Reply.TheVariants.{Accepted}
-use Rattle.phase_replay.specs.Scripts.{ScriptState, NoPhaser, Running, command_reply, after_command, Held, held_by, held_by_others, send_rows, send_reply, held_after_send, after_signal, refused_or as refused}
+use Rattle.phase_replay.specs.Scripts.{ScriptState, NoPhaser, Running, command_reply, after_command, Held, held_by, held_by_others, send_rows, send_reply, held_after_send, after_signal, signalled_reply, IsOkReply, refused_or as refused}
 use Rattle.phase_replay.specs.declared.command.Operator.{Operator}
 use Rattle.phase_replay.specs.declared.command.Command.{Command}
 use Rattle.phase_replay.specs.declared.command.Command.TheVariants.{Send}
@@ -196,6 +196,22 @@ running_refused old given limits h held task refusal runs given_is err =
     let L : Limits → Type 0 = λ l. signal_reply l h task (held_by held 0 ∷ []) None ≡ Err refusal in
     signal_reply-held old limits h held task None runs
     ∙ subst L runs.limits_are (err (held_by held 0) (held_stands old given limits h held runs given_is))
+
+-- an accepted signal is answered `ok` with its phase
+accepted_is_ok : (r : Result ℕ SignalRefusal) → IsOk r → IsOkReply (signalled_reply r)
+accepted_is_ok (Ok phase) ok = tt
+accepted_is_ok (Err refusal) ok = absurd (cc ok)
+
+-- memory is wanted for an accepted signal alone
+pub running_wanting : (old : RunningPhaser) (given : Parcel ℤ) (limits : Limits) (h : History) (held : Held) (task : ℕ)
+    → RunsFor old limits h held → given ≡ old.held
+    → ((sends : List ℤ) → StandsForSends sum_operation given sends → IsOk (signal_reply old.core.limits h task (sends ∷ []) None))
+    → IsOkReply (signalled_reply (signal_reply limits h task (held_by held task ∷ []) None))
+running_wanting old given limits h held task runs given_is ok =
+    let L : Limits → Type 0 = λ l. IsOk (signal_reply l h task (held_by held 0 ∷ []) None) in
+    let R : Result ℕ SignalRefusal → Type 0 = λ r. IsOk r in
+    accepted_is_ok _ (subst R (sym (signal_reply-held old limits h held task None runs))
+    (subst L runs.limits_are (ok (held_by held 0) (held_stands old given limits h held runs given_is))))
 
 -- what a refused signal leaves, where its sends are handed back
 pub refused_state : (old : RunningPhaser) (core : CoreState ℤ) (holding : Parcel ℤ) (operator : Operator) (limits : Limits) (h : History) (held : Held) (task : ℕ) (refusal : SignalRefusal)

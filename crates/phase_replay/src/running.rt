@@ -7,7 +7,7 @@ ghost use Rattle.phase_core.specs.Replies.{signal_reply, wait_reply, after_wait}
 ghost use Rattle.phase_replay.specs.declared.command.Operator.{Operator};
 ghost use Rattle.phase_replay.specs.Scripts.{Held, held_by, send_reply, held_after_send};
 ghost use Rattle.phase_replay.specs.Scripts.{signal_reason, signalled_reply, after_signal};
-ghost use Rattle.phase_replay.specs.Scripts.{wait_reason, value_reply, received_reply};
+ghost use Rattle.phase_replay.specs.Scripts.{wait_reason, value_reply, received_reply, IsOkReply};
 
 use crate::Refusal;
 use crate::reply::Reply;
@@ -119,6 +119,9 @@ impl Running {
             (after_signal (signal_reply limits h task (held_by held task ∷ []) None)
             operator limits h held task)) }
         ensures err { OnErr result (self.new ≡ self.old) }
+        ensures memory { OnErr result ((limits : Limits) (h : History) (held : Held)
+            → RunsFor self.old limits h held → IsOkReply
+            (signalled_reply (signal_reply limits h task (held_by held task ∷ []) None))) }
     {
         let held = mem::replace(&mut self.held, Pending::new());
         match self.core.signal(task, held, None) {

@@ -1,8 +1,9 @@
 //! A session: the lines of a script, one at a time.
 ghost use Rattle.std.specs.Prelude.{◌≡◌, ℕ, List, [], ◌∷◌, ◌++◌, OnOk, OnErr, IfOk, None};
-ghost use Rattle.phase_replay.specs.Commands.{IsCommand};
+ghost use Rattle.phase_replay.specs.Commands.{command_of, IsCommand};
 ghost use Rattle.phase_replay.specs.Scripts.{ScriptState, start, reply_to, after_line};
 ghost use Rattle.phase_replay.specs.Scripts.{command_reply, after_command, state_after};
+ghost use Rattle.phase_replay.specs.Scripts.{reply_by, IsOkReply};
 
 use crate::command::{Command, Operator};
 use crate::reply::Reply;
@@ -43,7 +44,8 @@ impl Session {
 
     /// Answers one line, given with neither its LF nor the CR before it.
     ///
-    /// Want of memory comes only from `make` and `signal`, and leaves the session unchanged.
+    /// Want of memory comes only from a `make` or `signal` that would be answered `ok`, and leaves
+    /// the session unchanged.
     #[tactic(auto, using(crate::proofs::Scripted::state_after_push), unfolding(crate::specs::Session::Stands, crate::specs::Scripts::reply_to, crate::specs::Scripts::after_line))]
     pub fn line(&mut self, line: &[u8]) -> Result<ReplyLine, AllocError>
         ensures reply { IfOk result (λ reply. (state : ScriptState) → Stands self.old state
@@ -51,6 +53,9 @@ impl Session {
         ensures after { OnOk result ((state : ScriptState) → Stands self.old state
             → Stands self.new (after_line state line.now)) }
         ensures err { OnErr result (self.new ≡ self.old) }
+        // Memory is wanted only where the line would be answered `ok` or `ok N`.
+        ensures memory { OnErr result ((state : ScriptState) → Stands self.old state
+            → IsOkReply (reply_by state (command_of line.now))) }
         // The same over the lines so far: the session then stands for them with this one.
         ensures script { IfOk result (λ reply. (lines : List (List ℕ))
             → StandsForLines self.old lines → (reply ≡ reply_to (state_after lines) line.now)
@@ -71,6 +76,8 @@ impl Session {
         ensures after { OnOk result ((state : ScriptState) → Stands self.old state
             → Stands self.new (after_command state command)) }
         ensures err { OnErr result (self.new ≡ self.old) }
+        ensures memory { OnErr result ((state : ScriptState) → Stands self.old state
+            → IsOkReply (command_reply state command)) }
     {
         let Some(running) = &mut self.running else {
             return self.begin(command);
@@ -91,6 +98,8 @@ impl Session {
         ensures after { OnOk result ((state : ScriptState) → Stands self.old state
             → Stands self.new (after_command state command)) }
         ensures err { OnErr result (self.new ≡ self.old) }
+        ensures memory { OnErr result ((state : ScriptState) → Stands self.old state
+            → IsOkReply (command_reply state command)) }
     {
         let Command::Make {
             operator: Operator::Sum,

@@ -1,8 +1,8 @@
 -- The core is handed the sends of the one task, and hands them back where it refuses.
 use Rattle.std.proofs.Common.{sym, ap, ◌∙◌}
-use Rattle.std.proofs.lemmas.Result.{IfOk-weaker}
+use Rattle.std.proofs.lemmas.Result.{IfOk-weaker, on_err_weaker}
 use Rattle.phase_replay.specs.Scripts.{signalled_reply}
-use Rattle.phase_replay.proofs.Obeying.{running_signalled, signalled_state, running_refused, refused_state, ok_gives}
+use Rattle.phase_replay.proofs.Obeying.{running_signalled, signalled_state, running_refused, refused_state, running_wanting, ok_gives}
 use Rattle.phase_replay.proofs.running.Running.signal.Goals as goal
 
 pub returns-in-Ok-clause-reply : goal.returns-in-Ok-clause-reply
@@ -35,3 +35,10 @@ returns-in-Err-clause-after c =
     c.in-Err.ensures.err (c.in-Err.ensures.pending ∙ c.replace-held.ensures.value)
     (running_refused c.args.self.now _ limits h held c.args.task c.in-Err.refused.0 runs
     c.replace-held.ensures.value (λ sends. c.in-Err.ensures.refused why.0 h sends runs.core)))
+
+pub returns-in-Err-clause-memory : goal.returns-in-Err-clause-memory
+returns-in-Err-clause-memory c =
+    on_err_weaker c.signal_reason.result
+    (λ wanted limits h held runs. running_wanting c.args.self.now _ limits h held c.args.task runs
+    c.replace-held.ensures.value (λ sends. c.in-Err.ensures.out_of_memory wanted h sends runs.core))
+    c.signal_reason.ensures.err
