@@ -23,6 +23,8 @@ fn reply(session: &mut Session, line: &[u8], out: &mut Vec<u8>) -> Result<(), Al
 
     ensures after { OnOk result ((state : ScriptState) → Stands session.old state
         → Stands session.new (after_line state line.now)) }
+
+    ensures err { OnErr result (out.new.items ≡ out.old.items) }
 {
     let reply = session.line(line)?;
     out.extend_from_slice(reply.bytes())?;
@@ -60,6 +62,7 @@ impl Run {
             → Owes self.new later owed) }
 
         ensures begun { OnOk result (self.new.kept ≡ []) }
+        ensures err { OnErr result (waiting_of self.new ≡ waiting_of self.old) }
     {
         if self.kept.is_empty() {
             reply(&mut self.session, without_cr(end), &mut self.out)?;
@@ -92,6 +95,17 @@ impl Run {
         writer.send(self.out.as_slice())?;
         self.out.clear();
         Ok(())
+    }
+
+    // Hands over the replies that wait, where memory ran out for the next one. That fault is the one
+    // to tell, also where this write fails.
+    fn stop<W: Write>(&self, writer: &mut Watched<W>)
+        ensures { (before : Run) (later owed : List ℕ) → Owes before later owed
+            → waiting_of self.now ≡ waiting_of before
+            → AppendsFront (W.contents (inner_of writer.old)) (W.contents (inner_of writer.new))
+            owed }
+    {
+        let _ = writer.send(self.out.as_slice());
     }
 
     // Hands the replies over where many wait.
@@ -134,7 +148,10 @@ impl Run {
     {
         let mut rest = piece;
         while let Some(end) = lf_of(rest) {
-            self.answer(&rest[..end])?;
+            let Ok(()) = self.answer(&rest[..end]) else {
+                self.stop(writer);
+                return Err(ReplayFault::OutOfMemory);
+            };
             self.make_room(writer)?;
             rest = &rest[end + 1..];
         }
@@ -144,8 +161,9 @@ impl Run {
 
     // Answers a last line with no LF, where its front is not empty.
     fn last(&mut self) -> Result<(), AllocError>
-        ensures { OnOk result ((owed : List ℕ) → Owes self.old [] owed
+        ensures ok { OnOk result ((owed : List ℕ) → Owes self.old [] owed
             → owed ≡ waiting_of self.new) }
+        ensures err { OnErr result (waiting_of self.new ≡ waiting_of self.old) }
     {
         if self.kept.is_empty() {
             return Ok(());
@@ -166,7 +184,10 @@ impl Run {
         ensures read { IsErrOf result ReadFault → ⊥ }
         ensures write { IsErrOf result WriteFault → has_failed_of writer.new ≡ true }
     {
-        self.last()?;
+        let Ok(()) = self.last() else {
+            self.stop(writer);
+            return Err(ReplayFault::OutOfMemory);
+        };
         writer.send(self.out.as_slice())?;
         Ok(())
     }

@@ -59,7 +59,8 @@ fn replay_pieces<R: Read, W: Write>(
 ///
 /// A user at a terminal thus sees each reply at once. Bytes are read and written 65,536 at a time,
 /// and a line of any length takes no memory beyond the longest line of the grammar. A fault stops
-/// the replay, and no call that failed is tried again.
+/// the replay, and no call that failed is tried again; where memory runs out, the replies that
+/// wait are written first.
 pub fn replay<R: Read, W: Write>(
     alloc: Global,
     reader: &mut Watched<R>,

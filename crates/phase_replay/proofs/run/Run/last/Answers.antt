@@ -3,9 +3,9 @@ use Rattle.phase_replay.proofs.Owing.{owes_waiting, owes_last}
 use Rattle.phase_replay.proofs.run.Run.last.Goals as goal
 
 -- No line was begun.
-pub returns-then-is_empty : goal.returns-then-is_empty
-returns-then-is_empty c = λ owed. owes_waiting c.args.self.now owed (search rules)
+pub returns-then-is_empty-clause-ok : goal.returns-then-is_empty-clause-ok
+returns-then-is_empty-clause-ok c = λ owed. owes_waiting c.args.self.now owed (search rules)
 
 -- The line that was begun is answered.
-pub returns : goal.returns
-returns c = λ owed. owes_last c.args.self.now c.answer.new.self owed (search rules) (c.in_ok-answer.ensures.ok [] owed) c.in_ok-answer.ensures.begun
+pub returns-clause-ok : goal.returns-clause-ok
+returns-clause-ok c = λ owed. owes_last c.args.self.now c.answer.new.self owed (search rules) (c.in_ok-answer.ensures.ok [] owed) c.in_ok-answer.ensures.begun

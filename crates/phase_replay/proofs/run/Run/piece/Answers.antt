@@ -5,19 +5,18 @@ use Rattle.phase_replay.proofs.Going.{goes_stopped, goes_on, goes_further, goes_
 use Rattle.phase_replay.proofs.Owing.{owes_more}
 use Rattle.phase_replay.proofs.run.Run.piece.Goals as goal
 
--- Memory ran out, after a front was written.
-pub returns-in_err-answer-clause-err : goal.returns-in_err-answer-clause-err
-returns-in_err-answer-clause-err g c =
-    let p = err_from_is_err_and c.from_residual.result c.from_residual.ensures.1 in
-    rw p.1 (λ later owed owes. goes_stopped _ _ _ _ owed (c.loop-end.invariant.1 later owed owes))
+-- Memory ran out, and the replies that waited, or a front of them, were written.
+pub returns-in_default-answer-clause-err : goal.returns-in_default-answer-clause-err
+returns-in_default-answer-clause-err g c = λ later owed owes. goes_failed _ _ _ _ _ owed (c.loop-end.invariant.1 later owed owes)
+    (λ rest owed_then. c.stop.ensures c.loop-end.self _ rest owed_then c.in_default-answer.ensures.err)
 
 -- A write failed, after a front of what was owed before it.
 pub returns-in_err-make_room-clause-err : goal.returns-in_err-make_room-clause-err
 returns-in_err-make_room-clause-err g c =
-    let p = err_from_is_err_and c.from_residual-in_err-make_room.result c.from_residual-in_err-make_room.ensures.1 in
+    let p = err_from_is_err_and c.from_residual.result c.from_residual.ensures.1 in
     rw p.1 (λ later owed owes. goes_failed _ _ _ _ _ owed
     (goes_answered _ _ _ _ c.loop-end.rest.now c.in-Some.end later owed c.in-Some.ensures.0 c.in-Some.ensures.2
-    c.in_ok-answer.ensures.ok (c.loop-end.invariant.1 later owed owes))
+    c.in-Ok.ensures.ok (c.loop-end.invariant.1 later owed owes))
     (c.in_err-make_room.ensures.err (drop (c.in-Some.end + 1) c.loop-end.rest.now ++ later)))
 
 -- The line's end is within the piece.
@@ -30,7 +29,7 @@ loop-end-preserved g c = (
   length-left _ _ _ c.loop-end.rest.now c.loop-end.invariant.0,
   λ later owed owes. rw take_rest (goes_further _ _ _ _ _ _ _ owed
       (goes_answered _ _ _ _ c.loop-end.rest.now c.in-Some.end later owed c.in-Some.ensures.0 c.in-Some.ensures.2
-      c.in_ok-answer.ensures.ok (c.loop-end.invariant.1 later owed owes))
+      c.in-Ok.ensures.ok (c.loop-end.invariant.1 later owed owes))
       (c.in_ok-make_room.ensures.ok (drop (c.in-Some.end + 1) c.loop-end.rest.now ++ later))),
 )
 
