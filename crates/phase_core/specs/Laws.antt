@@ -46,7 +46,8 @@ pub record IsAnswered (value : List ℤ → Outcome) (h : History) (task phase :
     : Type 0 where
   pub phase_is : phase ≡ wait_phase h task
   pub complete : phase < done_of h
-  pub received : received_by value (Waited task 1 ∷ h) task ≡ received_by value h task ++ outcome ∷ []
+  pub received : received_by value (Waited task 1 ∷ h) task
+      ≡ received_by value h task ++ outcome ∷ []
 
 -- whatever it sends and names, the task's signal is not refused as ahead or as a second one
 pub record MaySignal (limits : Limits) (h : History) (task : ℕ) : Type 0 where

@@ -59,9 +59,9 @@ differs (Some None) None = false
 differs (Some (Some named)) (Some single) = not (is_same named single)
 differs _ _ = true
 
--- the rows that one phase of a signal can meet. The phase is the entry's; `slowest` is the least wait
--- phase of the waiters, where there is one; the phase has `count` sends, and its first signal named
--- `named`; n more sends would join it
+-- the rows that one phase of a signal can meet. The phase is the entry's; `slowest` is the least
+-- wait phase of the waiters, where there is one; the phase has `count` sends, and its first signal
+-- named `named`; n more sends would join it
 abbrev pub phase_rows : Limits → Option ℕ → ℕ → Option (Option Single) → ℕ → Option Single → Entry
     → List (Bool × SignalRefusal)
 phase_rows limits slowest count named n single entry =

@@ -80,9 +80,9 @@ pub fn alive()
         → IsAlive h task ↔ (IsSome (start_of h task) × (has_dropped h task ≡ false)) }
 {}
 
-/// While a task is registered, some task can go on: its signal is neither ahead nor a second one, or
-/// its wait is neither too early nor before its signal. So phasers alone bring no task to a stop.
-/// Where no single is named and phases are left, some signal with no send is accepted, or some wait.
+/// While a task is registered, some task could go on: its signal is neither ahead nor a second one,
+/// or its wait is neither too early nor before its signal. That it will is not promised. Where no
+/// single is named and phases are left, some signal with no send is accepted, or some wait.
 pub fn no_standstill()
     ensures goes { (limits : Limits) (h : History) (task : ℕ) → IsLegal limits h
         → IsAlive h task → GoesOn limits h }

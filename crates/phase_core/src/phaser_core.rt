@@ -36,8 +36,8 @@ use std::marker::Model;
 /// `Ended`. The founder is a signaller, so that no wait is answered so today.
 ///
 /// **Limits.** While a waiter is registered, the signallers may be as many phases ahead of the
-/// slowest one as the bound says, and a phase has at most `SENDS_MAX` sends. A phaser has at most as
-/// many phases as it was made for. A refused call changes nothing. `SignalRefusal` and
+/// slowest one as the bound says, and a phase has at most `SENDS_MAX` sends. A phaser has at most
+/// as many phases as it was made for. A refused call changes nothing. `SignalRefusal` and
 /// `WaitRefusal` have the refusals in the order in which they are checked.
 ///
 /// **Example.** A founder gets what it sent:
@@ -114,7 +114,9 @@ impl<A: Accumulate> PhaserCore<A> {
 
     /// Tells one more than the greatest phase that was ever signalled, or 0.
     pub fn top(&self) -> u64
-        ensures { (h : History) → StandsFor A.operation self.now h → result ≡ top_of h }
+        ensures top { (h : History) → StandsFor A.operation self.now h → result ≡ top_of h }
+        // A phaser stands for some history, whatever was done with it before.
+        ensures stands { (h : History) × StandsFor A.operation self.now h }
     {
         self.phases.len()
     }

@@ -97,8 +97,8 @@ impl Run {
         Ok(())
     }
 
-    // Hands over the replies that wait, where memory ran out for the next one. That fault is the one
-    // to tell, also where this write fails.
+    // Hands over the replies that wait, where memory ran out for the next one. That fault is the
+    // one to tell, also where this write fails.
     fn stop<W: Write>(&self, writer: &mut Watched<W>)
         ensures { (before : Run) (later owed : List ℕ) → Owes before later owed
             → waiting_of self.now ≡ waiting_of before

@@ -23,10 +23,10 @@
 //!
 //! Proved for every value and rule: what the clauses say, so that the rule holds between any two
 //! steps, that a turn's value is one that the rule allows beside its view, and that a refused take
-//! comes only where it allows another seat beside it while the value is out. Only `new` takes memory,
-//! and only `take` may wait. Only tested: that `new` succeeds, that a try wins where the turn is free, and
-//! that a waiter gets its turn. Not promised: that a refusal could not have been avoided, that
-//! turns come in any order, or that each seat gets one.
+//! comes only where it allows another seat beside it while the value is out. Only `new` takes
+//! memory, and only `take` may wait. Only tested: that `new` succeeds, that a try wins where the
+//! turn is free, and that a waiter gets its turn. Not promised: that a refusal could not have been
+//! avoided, that turns come in any order, or that each seat gets one.
 #![tactic(auto)]
 
 pub mod counting;
