@@ -1,7 +1,7 @@
 -- Scripts at work: their bytes, cut into lines and read, and the reply to each line, computed in the
 -- definitions and compared with replies that were found by hand. The text of a number is left out: a
 -- reply stands here as data.
-use Rattle.std.proofs.Common.{◌≡◌, List, ℕ, [], ◌∷◌, ◌++◌, pos, negsuc, codes, refl}
+use Rattle.std.proofs.Common.{◌≡◌, List, ℕ, [], ◌∷◌, pos, negsuc, codes, refl}
 use Rattle.phase_replay.specs.declared.refusal.Refusal.TheVariants as no
 use Rattle.phase_replay.specs.declared.reply.Reply.{Reply}
 use Rattle.phase_replay.specs.declared.reply.Reply.TheVariants.{Accepted, Signalled, Value, TooBig, Refused, BadLine}

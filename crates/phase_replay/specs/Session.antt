@@ -1,5 +1,5 @@
 -- The scripts that a session stands for.
-use Rattle.std.specs.Prelude.{◌≡◌, ℕ, List, Option, Some, None, IsSome}
+use Rattle.std.specs.Prelude.{◌≡◌, ℕ, List, Option, Some, None}
 use Rattle.phase_base.specs.Limits.{Limits}
 use Rattle.phase_accum.specs.Parcels.{StandsForSends}
 use Rattle.phase_accum.specs.Sums.{sum_operation}

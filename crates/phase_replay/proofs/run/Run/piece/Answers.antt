@@ -1,7 +1,7 @@
 use Rattle.std.proofs.Common.{◌+◌, ◌++◌, drop, refl, arith}
 use Rattle.std.proofs.lemmas.List.{take_rest}
 use Rattle.std.proofs.lemmas.Result.{err_from_is_err_and}
-use Rattle.phase_replay.proofs.Going.{goes_stopped, goes_on, goes_further, goes_failed, goes_answered, length-left, none_said}
+use Rattle.phase_replay.proofs.Going.{goes_on, goes_further, goes_failed, goes_answered, length-left, none_said}
 use Rattle.phase_replay.proofs.Owing.{owes_more}
 use Rattle.phase_replay.proofs.run.Run.piece.Goals as goal
 
