@@ -15,19 +15,19 @@ use Rattle.phase_accum.specs.Values.{AreSends, applied}
 use Rattle.phase_accum.specs.Operations.{Operation, AccumulateLaws, IsPartOf}
 use Rattle.phase_accum.specs.Parcels.{Parcel, StandsForSends}
 use Rattle.phase_accum.proofs.Parts.{IsPartOf-join}
-use Rattle.phase_core.specs.declared.event.Event.TheVariants.{Made, Registered, RegisteredNow, Signalled, Waited, Dropped}
+use Rattle.phase_history.specs.declared.event.Event.TheVariants.{Made, Registered, RegisteredNow, Signalled, Waited, Dropped}
 use Rattle.phase_core.specs.declared.slot.Slot.{Slot}
-use Rattle.phase_core.specs.Members.{Members, entry_of, changed_at, wait_phases, least, signalled, waited}
-use Rattle.phase_core.specs.Histories.{History, founder, members_of, top_of, done_of, greatest_used, signal_phase, wait_phase}
-use Rattle.phase_core.specs.Phases.{value_of_phase, single_of_phase, sends_of_phase, named_in_phase, list_in_phase, first_named, is_among}
-use Rattle.phase_core.specs.Refusals.{signal_refusal, signal_rows, wait_refusal}
-use Rattle.phase_core.specs.Legal.{IsLegal}
+use Rattle.phase_base.specs.Members.{Members, entry_of, changed_at, wait_phases, least, signalled, waited}
+use Rattle.phase_history.specs.Histories.{History, founder, members_of, top_of, done_of, greatest_used, signal_phase, wait_phase}
+use Rattle.phase_history.specs.Phases.{value_of_phase, single_of_phase, sends_of_phase, named_in_phase, list_in_phase, first_named, is_among}
+use Rattle.phase_history.specs.Refusals.{signal_refusal, signal_rows, wait_refusal}
+use Rattle.phase_history.specs.Legal.{IsLegal}
 use Rattle.phase_core.specs.Slots.{opened_slot, slot_value}
 use Rattle.phase_core.specs.Cores.{CoreState, one_member, KeepsSends, IsSlotOf, KeepsPhase, StandsFor}
-use Rattle.phase_core.proofs.Each.{Each, Each-of_picked, Each-picked, least_low, least_or_high}
-use Rattle.phase_core.proofs.MemberLemmas.{Each-entry, Each-changed, wait_phases-signalled}
-use Rattle.phase_core.proofs.Refused.{Passes, passes_from, WaitsNow, waits_from}
-use Rattle.phase_core.proofs.Steps.{StandsWell, IsSound, sound_of, done_below_top, member_entry_is, first_named_not}
+use Rattle.phase_history.proofs.Each.{Each, Each-of_picked, Each-picked, least_low, least_or_high}
+use Rattle.phase_history.proofs.MemberLemmas.{Each-entry, Each-changed, wait_phases-signalled}
+use Rattle.phase_history.proofs.Refused.{Passes, passes_from, WaitsNow, waits_from}
+use Rattle.phase_history.proofs.Steps.{StandsWell, IsSound, sound_of, done_below_top, member_entry_is, first_named_not}
 
 -- ---- phases that no signal has joined
 

@@ -12,23 +12,23 @@ use Rattle.phase_accum.specs.declared.single.Single.{Single}
 use Rattle.phase_accum.specs.Values.{IsInRange}
 use Rattle.phase_accum.specs.Operations.{Operation, AccumulateLaws}
 use Rattle.phase_accum.specs.Parcels.{Parcel, parcel, StandsForSends}
-use Rattle.phase_core.specs.declared.event.Event.TheVariants.{Made, Registered, RegisteredNow, Signalled, Waited, Dropped}
-use Rattle.phase_core.specs.declared.got.Got.TheVariants as got
-use Rattle.phase_core.specs.declared.refusal.SignalRefusal.{SignalRefusal}
-use Rattle.phase_core.specs.declared.refusal.SignalRefusal.TheVariants as signal
-use Rattle.phase_core.specs.declared.refusal.WaitRefusal.{WaitRefusal}
-use Rattle.phase_core.specs.declared.refusal.WaitRefusal.TheVariants as wait
+use Rattle.phase_history.specs.declared.event.Event.TheVariants.{Made, Registered, RegisteredNow, Signalled, Waited, Dropped}
+use Rattle.phase_history.specs.declared.got.Got.TheVariants as got
+use Rattle.phase_history.specs.declared.refusal.SignalRefusal.{SignalRefusal}
+use Rattle.phase_history.specs.declared.refusal.SignalRefusal.TheVariants as signal
+use Rattle.phase_history.specs.declared.refusal.WaitRefusal.{WaitRefusal}
+use Rattle.phase_history.specs.declared.refusal.WaitRefusal.TheVariants as wait
 use Rattle.phase_core.specs.declared.slot.Slot.{Slot}
-use Rattle.phase_core.specs.Members.{entry_of, signal_phases, wait_phases, least, signalled, waited}
-use Rattle.phase_core.specs.Histories.{History, members_of, top_of, done_of, wait_phase, signal_phase}
-use Rattle.phase_core.specs.Phases.{value_of_phase, sends_of_phase, named_in_phase}
-use Rattle.phase_core.specs.Refusals.{first_row, refusal_at, signal_rows, signal_refusal, wait_refusal, plain_signal_rows, plain_wait_rows, wait_rows_at}
-use Rattle.phase_core.specs.Replies.{wait_reply, refused_or, got_at}
+use Rattle.phase_base.specs.Members.{entry_of, signal_phases, wait_phases, least, signalled, waited}
+use Rattle.phase_history.specs.Histories.{History, members_of, top_of, done_of, wait_phase, signal_phase}
+use Rattle.phase_history.specs.Phases.{value_of_phase, sends_of_phase, named_in_phase}
+use Rattle.phase_history.specs.Refusals.{first_row, refusal_at, signal_rows, signal_refusal, wait_refusal, plain_signal_rows, plain_wait_rows, wait_rows_at}
+use Rattle.phase_history.specs.Replies.{wait_reply, refused_or, got_at}
 use Rattle.phase_core.specs.Slots.{opened_slot, slot_value}
-use Rattle.phase_core.specs.Legal.{IsLegal}
+use Rattle.phase_history.specs.Legal.{IsLegal}
 use Rattle.phase_core.specs.Cores.{CoreState, KeepsSends, KeepsPhase, StandsFor, one_member}
-use Rattle.phase_core.proofs.Steps.{member_entry_is}
-use Rattle.phase_core.proofs.Refused.{Passes, passes_from, WaitsNow, waits_from}
+use Rattle.phase_history.proofs.Steps.{member_entry_is}
+use Rattle.phase_history.proofs.Refused.{Passes, passes_from, WaitsNow, waits_from}
 use Rattle.phase_core.proofs.CoreSteps.{Signals, Waits, none_from_top, signals_stands, waits_stands, kept_phase, kept_value}
 
 -- ---- refusals, for any core

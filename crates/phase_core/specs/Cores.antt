@@ -4,10 +4,10 @@ use Rattle.phase_base.specs.Limits.{Limits}
 use Rattle.phase_base.specs.declared.entry.Entry.{Entry}
 use Rattle.phase_accum.specs.Operations.{Operation, IsPartOf}
 use Rattle.phase_core.specs.declared.slot.Slot.{Slot}
-use Rattle.phase_core.specs.Members.{Members, wait_phases, least}
-use Rattle.phase_core.specs.Histories.{History, members_of, top_of, greatest_used}
-use Rattle.phase_core.specs.Phases.{sends_of_phase, named_in_phase}
-use Rattle.phase_core.specs.Legal.{IsLegal}
+use Rattle.phase_base.specs.Members.{Members, wait_phases, least}
+use Rattle.phase_history.specs.Histories.{History, members_of, top_of, greatest_used}
+use Rattle.phase_history.specs.Phases.{sends_of_phase, named_in_phase}
+use Rattle.phase_history.specs.Legal.{IsLegal}
 
 -- the limits, the members, the greatest number used, the top, and a slot for each phase from the
 -- base on, as far as phases are kept

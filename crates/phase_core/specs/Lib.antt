@@ -1,9 +1,2 @@
-pub mod Members
-pub mod Histories
-pub mod Phases
-pub mod Refusals
-pub mod Legal
-pub mod Replies
-pub mod Laws
 pub mod Cores
 pub mod Slots

@@ -3,18 +3,12 @@
 //! `PhaserCore::new`, `PhaserCore::signal` and `PhaserCore::wait`.
 #![tactic(auto)]
 
-mod event;
-mod got;
-pub mod laws;
 mod phase_list;
 mod phaser_core;
-mod refusal;
 mod refusal_rows;
 mod slot;
 #[cfg(test)]
 mod tests;
 
-pub use event::Event;
-pub use got::Got;
+pub use phase_history::{Event, Got, NoTask, RegisterRefusal, SignalRefusal, WaitRefusal, laws};
 pub use phaser_core::PhaserCore;
-pub use refusal::{NoTask, RegisterRefusal, SignalRefusal, WaitRefusal};

@@ -1,19 +1,18 @@
 //! The phaser itself, for one thread.
 ghost use Rattle.std.specs.Prelude.{◌≡◌, ◌≢◌, ◌≤◌, ℕ, ℤ, List, [], ◌∷◌, length, OnErr, IfOk, IfErr, IsOk, Ok, Err, None};
 ghost use Rattle.phase_accum.specs.Parcels.{StandsForSends};
-ghost use Rattle.phase_core.specs.declared.event.Event.TheVariants.{Made};
-ghost use Rattle.phase_core.specs.Members.{entry_of};
-ghost use Rattle.phase_core.specs.Histories.{History, done_of, top_of};
-ghost use Rattle.phase_core.specs.Refusals.{signal_refusal};
-ghost use Rattle.phase_core.specs.Replies.{signal_reply, wait_reply, after_signal, after_wait};
+ghost use Rattle.phase_history.specs.declared.event.Event.TheVariants.{Made};
+ghost use Rattle.phase_base.specs.Members.{entry_of};
+ghost use Rattle.phase_history.specs.Histories.{History, done_of, top_of};
+ghost use Rattle.phase_history.specs.Refusals.{signal_refusal};
+ghost use Rattle.phase_history.specs.Replies.{signal_reply, wait_reply, after_signal, after_wait};
 ghost use Rattle.phase_core.specs.Cores.{StandsFor};
 
-use crate::got::Got;
 use crate::phase_list::PhaseList;
-use crate::refusal::{SignalRefusal, WaitRefusal};
 use crate::refusal_rows::{self, Joined};
 use phase_accum::{Accumulate, Pending, Single};
 use phase_base::{Entry, Mode, SENDS_MAX, Spec};
+use phase_history::{Got, SignalRefusal, WaitRefusal};
 use std::alloc::{AllocError, Global};
 use std::marker::Model;
 
@@ -61,7 +60,7 @@ pub struct PhaserCore<A: Accumulate> {
 
 impl<A: Accumulate> Model for PhaserCore<A> {
     ghost use Rattle.std.specs.Prelude.{◌≡◌, length};
-    ghost use Rattle.phase_core.specs.Histories.{History};
+    ghost use Rattle.phase_history.specs.Histories.{History};
     ghost use Rattle.phase_core.specs.Cores.{CoreState, StandsFor, one_member};
 
     ghost Value = { CoreState A };

@@ -1,10 +1,10 @@
 //! The refusals of a signal and of a wait by a task with a given entry.
 ghost use Rattle.std.specs.Prelude.{◌≡◌, ◌≤◌, is_some};
-ghost use Rattle.phase_core.specs.Refusals.{first_row, plain_signal_rows, plain_wait_rows, differs};
+ghost use Rattle.phase_history.specs.Refusals.{first_row, plain_signal_rows, plain_wait_rows, differs};
 
-use crate::refusal::{SignalRefusal, WaitRefusal};
 use phase_accum::Single;
 use phase_base::{Entry, Mode, SENDS_MAX, Spec};
+use phase_history::{SignalRefusal, WaitRefusal};
 
 /// What a phase has when a signal comes: the number of its sends, and what was named first.
 #[derive(Clone, Copy)]

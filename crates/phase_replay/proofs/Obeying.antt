@@ -9,18 +9,18 @@ use Rattle.phase_accum.specs.Values.{sum_value}
 use Rattle.phase_accum.specs.Parcels.{Parcel, StandsForSends}
 use Rattle.phase_accum.specs.Sums.{sum_operation}
 use Rattle.phase_accum.specs.declared.single.Single.{Single}
-use Rattle.phase_core.specs.declared.event.Event.TheVariants.{Signalled, Waited}
-use Rattle.phase_core.specs.declared.refusal.SignalRefusal.{SignalRefusal}
-use Rattle.phase_core.specs.declared.refusal.SignalRefusal.TheVariants as signal
-use Rattle.phase_core.specs.declared.refusal.WaitRefusal.{WaitRefusal}
-use Rattle.phase_core.specs.declared.got.Got.{Got}
-use Rattle.phase_core.specs.declared.got.Got.TheVariants as got
-use Rattle.phase_core.specs.Members.{entry_of, signalled, waited}
-use Rattle.phase_core.specs.Histories.{History, members_of, signal_phase}
-use Rattle.phase_core.specs.Refusals.{refusal_at, signal_rows}
-use Rattle.phase_core.specs.Replies.{signal_reply, wait_reply, after_wait, refused_or}
+use Rattle.phase_history.specs.declared.event.Event.TheVariants.{Signalled, Waited}
+use Rattle.phase_history.specs.declared.refusal.SignalRefusal.{SignalRefusal}
+use Rattle.phase_history.specs.declared.refusal.SignalRefusal.TheVariants as signal
+use Rattle.phase_history.specs.declared.refusal.WaitRefusal.{WaitRefusal}
+use Rattle.phase_history.specs.declared.got.Got.{Got}
+use Rattle.phase_history.specs.declared.got.Got.TheVariants as got
+use Rattle.phase_base.specs.Members.{entry_of, signalled, waited}
+use Rattle.phase_history.specs.Histories.{History, members_of, signal_phase}
+use Rattle.phase_history.specs.Refusals.{refusal_at, signal_rows}
+use Rattle.phase_history.specs.Replies.{signal_reply, wait_reply, after_wait, refused_or}
 use Rattle.phase_core.specs.Cores.{CoreState, StandsFor}
-use Rattle.phase_core.proofs.MemberLemmas.{is_some-entry_of-changed}
+use Rattle.phase_history.proofs.MemberLemmas.{is_some-entry_of-changed}
 use Rattle.phase_replay.specs.declared.running.Running.{Running as RunningPhaser}
 use Rattle.phase_replay.specs.declared.refusal.Refusal.TheVariants as no
 use Rattle.phase_replay.specs.declared.reply.Reply.{Reply}

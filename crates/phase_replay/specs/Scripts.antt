@@ -7,17 +7,17 @@ use Rattle.phase_base.specs.declared.entry.Entry.{Entry}
 use Rattle.phase_accum.specs.Values.{sum_value}
 use Rattle.phase_accum.specs.declared.outcome.Outcome.{Outcome}
 use Rattle.phase_accum.specs.declared.outcome.Outcome.TheVariants as outcome
-use Rattle.phase_core.specs.declared.event.Event.TheVariants.{Made, Signalled as SignalledEvent}
-use Rattle.phase_core.specs.declared.got.Got.{Got}
-use Rattle.phase_core.specs.declared.got.Got.TheVariants as got
-use Rattle.phase_core.specs.declared.refusal.SignalRefusal.{SignalRefusal}
-use Rattle.phase_core.specs.declared.refusal.SignalRefusal.TheVariants as signal
-use Rattle.phase_core.specs.declared.refusal.WaitRefusal.{WaitRefusal}
-use Rattle.phase_core.specs.declared.refusal.WaitRefusal.TheVariants as wait
-use Rattle.phase_core.specs.Members.{entry_of}
-use Rattle.phase_core.specs.Histories.{History, members_of}
-use Rattle.phase_core.specs.Refusals.{first_row, refusal_at}
-use Rattle.phase_core.specs.Replies.{signal_reply, wait_reply, after_wait}
+use Rattle.phase_history.specs.declared.event.Event.TheVariants.{Made, Signalled as SignalledEvent}
+use Rattle.phase_history.specs.declared.got.Got.{Got}
+use Rattle.phase_history.specs.declared.got.Got.TheVariants as got
+use Rattle.phase_history.specs.declared.refusal.SignalRefusal.{SignalRefusal}
+use Rattle.phase_history.specs.declared.refusal.SignalRefusal.TheVariants as signal
+use Rattle.phase_history.specs.declared.refusal.WaitRefusal.{WaitRefusal}
+use Rattle.phase_history.specs.declared.refusal.WaitRefusal.TheVariants as wait
+use Rattle.phase_base.specs.Members.{entry_of}
+use Rattle.phase_history.specs.Histories.{History, members_of}
+use Rattle.phase_history.specs.Refusals.{first_row, refusal_at}
+use Rattle.phase_history.specs.Replies.{signal_reply, wait_reply, after_wait}
 use Rattle.phase_replay.specs.declared.command.Operator.{Operator}
 use Rattle.phase_replay.specs.declared.command.Operator.TheVariants.{Sum}
 use Rattle.phase_replay.specs.declared.command.Command.{Command}

@@ -3,7 +3,7 @@ use Rattle.std.specs.Prelude.{◌≡◌, ℕ, List, Option, Some, None}
 use Rattle.phase_base.specs.Limits.{Limits}
 use Rattle.phase_accum.specs.Parcels.{StandsForSends}
 use Rattle.phase_accum.specs.Sums.{sum_operation}
-use Rattle.phase_core.specs.Histories.{History, IsAlive}
+use Rattle.phase_history.specs.Histories.{History, IsAlive}
 use Rattle.phase_core.specs.Cores.{StandsFor}
 use Rattle.phase_replay.specs.declared.session.Session.{Session}
 use Rattle.phase_replay.specs.declared.running.Running.{Running as RunningPhaser}

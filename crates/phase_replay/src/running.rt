@@ -2,8 +2,8 @@
 ghost use Rattle.std.specs.Prelude.{◌≡◌, ◌≢◌, List, [], ◌∷◌, IfOk, OnOk, OnErr, Some, None};
 ghost use Rattle.phase_base.specs.Limits.{Limits};
 ghost use Rattle.phase_accum.specs.Values.{IsSend, sum_value};
-ghost use Rattle.phase_core.specs.Histories.{History};
-ghost use Rattle.phase_core.specs.Replies.{signal_reply, wait_reply, after_wait};
+ghost use Rattle.phase_history.specs.Histories.{History};
+ghost use Rattle.phase_history.specs.Replies.{signal_reply, wait_reply, after_wait};
 ghost use Rattle.phase_replay.specs.declared.command.Operator.{Operator};
 ghost use Rattle.phase_replay.specs.Scripts.{Held, held_by, send_reply, held_after_send};
 ghost use Rattle.phase_replay.specs.Scripts.{signal_reason, signalled_reply, after_signal};
@@ -73,7 +73,7 @@ fn value_reply(phase: u64, outcome: Outcome) -> Reply
 }
 
 impl Running {
-    ghost use Rattle.phase_core.specs.declared.event.Event.TheVariants.{Made};
+    ghost use Rattle.phase_history.specs.declared.event.Event.TheVariants.{Made};
     ghost use Rattle.phase_replay.specs.Session.{RunsFor, MaybeRunsFor};
 
     /// Makes a phaser whose founder, task 0, holds no sends.

@@ -1,6 +1,6 @@
 -- A new core stands for the history of its making.
 use Rattle.std.proofs.Common.{◌≡◌, [], ◌∷◌, refl}
-use Rattle.phase_core.specs.declared.event.Event.TheVariants.{Made}
+use Rattle.phase_history.specs.declared.event.Event.TheVariants.{Made}
 use Rattle.phase_core.proofs.CoreSteps.{made_stands}
 use Rattle.phase_core.proofs.phaser_core.PhaserCore.new.Goals as goal
 

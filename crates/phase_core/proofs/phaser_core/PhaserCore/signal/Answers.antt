@@ -1,8 +1,8 @@
 -- An accepted signal of the one member opens one more phase, at the top.
 use Rattle.std.proofs.Common.{◌≡◌, ◌+◌, ℤ, List, [], ◌∷◌, None, length, replicate, pos, sym, subst, ◌∙◌, ap, arith, length-append}
 use Rattle.std.proofs.lemmas.List.{length-replicate}
-use Rattle.phase_core.specs.declared.event.Event.TheVariants.{Signalled}
-use Rattle.phase_core.specs.Refusals.{signal_refusal}
+use Rattle.phase_history.specs.declared.event.Event.TheVariants.{Signalled}
+use Rattle.phase_history.specs.Refusals.{signal_refusal}
 use Rattle.phase_core.specs.Cores.{CoreState, StandsFor, one_member}
 use Rattle.phase_core.proofs.OneMember.{SignalsOne, signals_one, signal_one}
 use Rattle.phase_core.proofs.phaser_core.PhaserCore.signal.Goals as goal

@@ -1,7 +1,7 @@
 -- The one member stands at the top, so that its phase has no sends yet.
 use Rattle.std.proofs.Common.{◌≡◌, [], ◌∷◌, Some, sym, subst, rules}
-use Rattle.phase_core.specs.Refusals.{signal_refusal}
-use Rattle.phase_core.specs.Members.{entry_of}
+use Rattle.phase_history.specs.Refusals.{signal_refusal}
+use Rattle.phase_base.specs.Members.{entry_of}
 use Rattle.phase_core.specs.Cores.{CoreState, StandsFor}
 use Rattle.phase_core.proofs.OneMember.{signal_refusal_one}
 use Rattle.phase_core.proofs.phaser_core.PhaserCore.signal_refusal.Goals as goal

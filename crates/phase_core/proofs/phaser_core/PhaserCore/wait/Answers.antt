@@ -1,11 +1,11 @@
 -- A wait of the one member reads the slot of its phase, which is kept.
 use Rattle.std.proofs.Common.{◌≡◌, [], ◌∷◌, Some, None, Ok, sym, subst, ◌∙◌, ap}
 use Rattle.phase_base.specs.declared.entry.Entry.{Entry}
-use Rattle.phase_core.specs.declared.event.Event.TheVariants.{Waited}
-use Rattle.phase_core.specs.declared.got.Got.TheVariants as got
-use Rattle.phase_core.specs.Members.{entry_of, waited}
-use Rattle.phase_core.specs.Histories.{done_of}
-use Rattle.phase_core.specs.Replies.{wait_reply}
+use Rattle.phase_history.specs.declared.event.Event.TheVariants.{Waited}
+use Rattle.phase_history.specs.declared.got.Got.TheVariants as got
+use Rattle.phase_base.specs.Members.{entry_of, waited}
+use Rattle.phase_history.specs.Histories.{done_of}
+use Rattle.phase_history.specs.Replies.{wait_reply}
 use Rattle.phase_core.specs.Cores.{CoreState, StandsFor, one_member}
 use Rattle.phase_core.proofs.OneMember.{GetsOne, gets_one, value_one, entry_of_one}
 use Rattle.phase_core.proofs.phaser_core.PhaserCore.wait.Goals as goal

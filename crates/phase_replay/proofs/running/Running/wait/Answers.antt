@@ -1,9 +1,9 @@
 -- The core's reply and history, with the sends as they were.
 use Rattle.std.proofs.Common.{Result, sym, subst}
 use Rattle.phase_accum.specs.Sums.{sum_operation}
-use Rattle.phase_core.specs.declared.got.Got.{Got}
-use Rattle.phase_core.specs.declared.refusal.WaitRefusal.{WaitRefusal}
-use Rattle.phase_core.specs.Replies.{after_wait}
+use Rattle.phase_history.specs.declared.got.Got.{Got}
+use Rattle.phase_history.specs.declared.refusal.WaitRefusal.{WaitRefusal}
+use Rattle.phase_history.specs.Replies.{after_wait}
 use Rattle.phase_core.specs.Cores.{StandsFor}
 use Rattle.phase_replay.proofs.Obeying.{running_waited}
 use Rattle.phase_replay.proofs.running.Running.wait.Goals as goal

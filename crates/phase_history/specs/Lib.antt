@@ -1,0 +1,6 @@
+pub mod Histories
+pub mod Phases
+pub mod Refusals
+pub mod Legal
+pub mod Replies
+pub mod Laws

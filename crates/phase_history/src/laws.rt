@@ -1,0 +1,92 @@
+//! What holds of every history. Each function here makes no call and has no effect: its contract
+//! is a law, for every history of every phaser, however the phaser is kept.
+ghost use Rattle.std.specs.Prelude.{◌≡◌, ◌+◌, ◌<◌, ◌≤◌, ℕ, ℤ, List, ◌++◌, Ok, Some, IsSome, true, false, ◌↔◌};
+ghost use mathlib.Core.List.{IsPrefix};
+ghost use Rattle.phase_base.specs.Limits.{Limits};
+ghost use Rattle.phase_base.specs.Modes.{mode_signals, mode_waits};
+ghost use Rattle.phase_base.specs.declared.entry.Entry.{Entry};
+ghost use Rattle.phase_accum.specs.declared.outcome.Outcome.{Outcome};
+ghost use Rattle.phase_base.specs.Members.{entry_of, wait_phases, least};
+ghost use Rattle.phase_history.specs.Histories.{History, IsWaiter, HasNoSignaller};
+ghost use Rattle.phase_history.specs.Histories.{members_of, top_of, done_of, greatest_used};
+ghost use Rattle.phase_history.specs.Histories.{IsAlive, start_of, has_dropped};
+ghost use Rattle.phase_history.specs.Phases.{stream_of};
+ghost use Rattle.phase_history.specs.Legal.{IsLegal};
+ghost use Rattle.phase_history.specs.Laws.{HasReceived, HasCounted, HasNoEvents, IsInTurn, IsAnswered};
+ghost use Rattle.phase_history.specs.Laws.{GoesOn, GoesOnPlainly, NamesNoSingle};
+ghost use Rattle.phase_history.specs.Replies.{wait_reply};
+
+use crate::got::Got;
+
+/// A waiter has received the stream from its start to its wait phase, each value once and in
+/// order.
+pub fn got()
+    ensures { (value : List ℤ → Outcome) (limits : Limits) (h : History) (task : ℕ) (entry : Entry)
+        → IsLegal limits h → IsWaiter h task entry → HasReceived value h task entry }
+{}
+
+/// The stream of a longer history begins with this one's: no complete phase ever changes.
+pub fn prefix()
+    ensures { (value : List ℤ → Outcome) (limits : Limits) (h more : History)
+        → IsLegal limits h → IsLegal limits (more ++ h)
+        → IsPrefix (stream_of value h) (stream_of value (more ++ h)) }
+{}
+
+/// Where no task signals, no longer history has a longer stream.
+pub fn closed()
+    ensures { (value : List ℤ → Outcome) (limits : Limits) (h more : History)
+        → HasNoSignaller h → IsLegal limits h → IsLegal limits (more ++ h)
+        → stream_of value (more ++ h) ≡ stream_of value h }
+{}
+
+/// A task's signal phase is its start and the number of phases that it signalled since, its wait
+/// phase its start and the number of phases that it waited for.
+pub fn counted()
+    ensures { (limits : Limits) (h : History) (task : ℕ) (entry : Entry)
+        → IsLegal limits h → entry_of (members_of h) task ≡ Some entry → HasCounted h task entry }
+{}
+
+/// While a waiter is registered, no signal is further than the bound ahead of the slowest waiter.
+pub fn bound()
+    ensures { (limits : Limits) (h : History) (slowest : ℕ) → IsLegal limits h
+        → least (wait_phases (members_of h)) ≡ Some slowest
+        → top_of h ≤ slowest + limits.bound }
+{}
+
+/// A task that signals and waits does so in turn: it is at most one signal ahead of its waits.
+pub fn turns()
+    ensures { (limits : Limits) (h : History) (task : ℕ) (entry : Entry) → IsLegal limits h
+        → entry_of (members_of h) task ≡ Some entry
+        → mode_signals entry.mode ≡ true → mode_waits entry.mode ≡ true → IsInTurn entry }
+{}
+
+/// A number above all that were used has no events, so a task that is registered now did nothing.
+pub fn unused()
+    ensures { (value : List ℤ → Outcome) (limits : Limits) (h : History) (task : ℕ)
+        → IsLegal limits h → greatest_used h < task → HasNoEvents value h task }
+{}
+
+/// What a wait answers is what its task then has received last: the value of its wait phase.
+pub fn answers()
+    ensures { (value : List ℤ → Outcome) (limits : Limits) (h : History) (task phase : ℕ)
+        (outcome : Outcome) → wait_reply value limits h task ≡ Ok (Got.Value phase outcome)
+        → IsAnswered value h task phase outcome }
+{}
+
+/// A task is registered where it began, by making the phaser or by being registered, and has not
+/// dropped its registration since.
+pub fn alive()
+    ensures { (limits : Limits) (h : History) (task : ℕ) → IsLegal limits h
+        → IsAlive h task ↔ (IsSome (start_of h task) × (has_dropped h task ≡ false)) }
+{}
+
+/// While a task is registered, some task could go on: its signal is neither ahead nor a second one,
+/// or its wait is neither too early nor before its signal. That it will is not promised. Where no
+/// single is named and phases are left, some signal with no send is accepted, or some wait.
+pub fn no_standstill()
+    ensures goes { (limits : Limits) (h : History) (task : ℕ) → IsLegal limits h
+        → IsAlive h task → GoesOn limits h }
+    ensures plainly { (limits : Limits) (h : History) (task : ℕ) → IsLegal limits h
+        → IsAlive h task → NamesNoSingle h → done_of h < limits.phases_max
+        → GoesOnPlainly limits h }
+{}
