@@ -10,3 +10,6 @@ pub mod Bounded
 pub mod Alive
 pub mod Standstill
 pub mod InRange
+pub mod Beginnings
+pub mod Tops
+pub mod Left
