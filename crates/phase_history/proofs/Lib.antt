@@ -9,3 +9,7 @@ pub mod LawProofs
 pub mod Bounded
 pub mod Alive
 pub mod Standstill
+pub mod InRange
+pub mod Beginnings
+pub mod Tops
+pub mod Left
