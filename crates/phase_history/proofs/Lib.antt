@@ -1,4 +1,5 @@
 mod Examples
+mod OthersExamples
 pub mod Each
 pub mod MemberLemmas
 pub mod Refused
@@ -9,3 +10,6 @@ pub mod LawProofs
 pub mod Bounded
 pub mod Alive
 pub mod Standstill
+pub mod OthersEvents
+pub mod Used
+pub mod Answered

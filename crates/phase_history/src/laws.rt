@@ -18,6 +18,13 @@ ghost use Rattle.phase_history.specs.Replies.{wait_reply};
 
 use crate::got::Got;
 
+mod others;
+
+pub use others::{
+    beginning_is_legal, ended, entry_stays, events_add_up, member_is_known, member_is_used,
+    no_stranger, only_used_stays, others_come, own_part_stays, use_stays,
+};
+
 /// A waiter has received the stream from its start to its wait phase, each value once and in
 /// order.
 pub fn got()
