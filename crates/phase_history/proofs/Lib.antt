@@ -1,5 +1,6 @@
 mod Examples
 mod OthersExamples
+mod SentExamples
 pub mod Each
 pub mod MemberLemmas
 pub mod Refused
@@ -13,3 +14,6 @@ pub mod Standstill
 pub mod OthersEvents
 pub mod Used
 pub mod Answered
+pub mod Gathered
+pub mod Sendings
+pub mod Signallers

@@ -12,23 +12,23 @@ use Rattle.phase_history.specs.Replies.{after_register, after_drop}
 use Rattle.phase_history.specs.Others.{is_by, events_of, phases_of_signal, phases_of_wait, IsUsed, is_in, is_distinct, OthersCame}
 
 -- a list of one send
-abbrev one : ℕ → List ℤ
+abbrev pub one : ℕ → List ℤ
 one n = pos n ∷ []
 
 -- the founder registers a signaller and two waiters, and leaves; the signaller runs ahead, and
 -- registers a signaller that joins at phase 2
-abbrev first_events : History
+abbrev pub first_events : History
 first_events =
     Registered 1 4 Sig ∷ Signalled 1 ([] ∷ []) None ∷ Signalled 1 ([] ∷ []) None ∷ Dropped 0
     ∷ Registered 0 3 Wait ∷ Registered 0 2 Wait ∷ Registered 0 1 Sig ∷ Made 0 ∷ []
 
 -- the waiters follow, and both signallers send in phase 2
-abbrev later_events : History
+abbrev pub later_events : History
 later_events =
     Waited 3 1 ∷ Waited 3 1 ∷ Waited 2 1 ∷ Signalled 4 (one 6 ∷ []) None ∷ Signalled 1 (one 5 ∷ []) None
     ∷ Waited 3 1 ∷ Waited 2 1 ∷ Waited 2 1 ∷ []
 
-abbrev events : History
+abbrev pub events : History
 events = later_events ++ first_events
 
 -- the parent's registrations are its own, its child's are not, and the making is nobody's
