@@ -1,4 +1,6 @@
 mod Examples
+mod OthersExamples
+mod SentExamples
 pub mod Each
 pub mod MemberLemmas
 pub mod Refused
@@ -13,3 +15,9 @@ pub mod InRange
 pub mod Beginnings
 pub mod Tops
 pub mod Left
+pub mod OthersEvents
+pub mod Used
+pub mod Answered
+pub mod Gathered
+pub mod Sendings
+pub mod Signallers

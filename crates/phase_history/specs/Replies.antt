@@ -48,6 +48,16 @@ abbrev pub after_signal : {R : Type 0} → Result ℕ R → ℕ → List ℤ →
 after_signal (Ok phase) task sends single h = Signalled task (sends ∷ []) single ∷ h
 after_signal (Err refusal) task sends single h = h
 
+-- the history after a registration
+abbrev pub after_register : {A R : Type 0} → Result A R → ℕ → ℕ → Mode → History → History
+after_register (Ok answer) parent child mode h = Registered parent child mode ∷ h
+after_register (Err refusal) parent child mode h = h
+
+-- the history after a drop
+abbrev pub after_drop : {A R : Type 0} → Result A R → ℕ → History → History
+after_drop (Ok answer) task h = Dropped task ∷ h
+after_drop (Err refusal) task h = h
+
 -- a call of a phaser
 pub data Call : Type 0 where
   Register : (parent child : ℕ) (mode : Mode) → Call

@@ -31,6 +31,18 @@ pub fn in_range<A: Accumulate>()
         → IsInRange outcome }
 {}
 
+mod others;
+mod sent;
+
+pub use others::{
+    beginning_is_legal, ended, entry_stays, events_add_up, member_is_known, member_is_used,
+    no_stranger, only_used_stays, others_come, own_part_stays, use_stays,
+};
+pub use sent::{
+    all_dropped, each_phase_is_named, holds_open, mode_stays, one_sender, sends_are_gathered,
+    sent_in_turn, sent_stays, top_is_reached, unused_is_silent,
+};
+
 /// A waiter has received the stream from its start to its wait phase, each value once and in
 /// order.
 pub fn got()

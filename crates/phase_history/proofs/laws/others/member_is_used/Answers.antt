@@ -1,0 +1,6 @@
+-- A registered task is one that began.
+use Rattle.phase_history.proofs.Used.{IsUsed-member}
+use Rattle.phase_history.proofs.laws.others.member_is_used.Goals as goal
+
+pub returns : goal.returns
+returns c = IsUsed-member
