@@ -9,7 +9,7 @@ use Rattle.phase_base.specs.declared.entry.Entry.{Entry}
 use Rattle.phase_accum.specs.declared.outcome.Outcome.{Outcome}
 use Rattle.phase_accum.specs.declared.outcome.Outcome.TheVariants.{Empty}
 use Rattle.phase_base.specs.Members.{entry_of}
-use Rattle.phase_history.specs.Histories.{History, members_of, wait_phase, done_of, top_of, greatest_used, IsWaiter, phases_waited}
+use Rattle.phase_history.specs.Histories.{History, members_of, wait_phase, done_of, top_of, greatest_used, start_of, IsWaiter, phases_waited}
 use Rattle.phase_history.specs.Phases.{value_of_phase, stream_of, received_by}
 use Rattle.phase_history.specs.declared.got.Got.TheVariants as got
 use Rattle.phase_history.specs.Refusals.{wait_refusal}
@@ -18,7 +18,7 @@ use Rattle.phase_history.specs.Legal.{IsLegal}
 use Rattle.phase_history.specs.Laws.{HasReceived, HasCounted, HasNoEvents, IsInTurn, IsAnswered}
 use Rattle.phase_history.proofs.MemberLemmas.{Each-entry}
 use Rattle.phase_history.proofs.Steps.{StandsWell, sound_of}
-use Rattle.phase_history.proofs.Received.{Counted, counted, Unused, unused}
+use Rattle.phase_history.proofs.Received.{Counted, counted, Unused, unused, entry_of-none, start_of-above}
 use Rattle.phase_history.proofs.Bounded.{TakesTurns, turns_of}
 
 pub got_of : (value : List ℤ → Outcome) (limits : Limits) (h : History) (task : ℕ) (entry : Entry)
@@ -51,10 +51,21 @@ turns_law limits h task entry legal found signals waits =
     record { low = (turn signals waits).0; high = (turn signals waits).1 }
 
 pub unused_law : (value : List ℤ → Outcome) (limits : Limits) (h : History) (task : ℕ)
+    → IsLegal limits h → start_of h task ≡ None → HasNoEvents value h task
+unused_law value limits h task legal never =
+    let u : Unused value h task = unused value limits h task legal never in
+    record {
+      start = never;
+      no_member = entry_of-none h task never;
+      signals = u.signals;
+      waits = u.waits;
+      received = u.received;
+      stays = u.stays;
+    }
+
+pub above_law : (value : List ℤ → Outcome) (limits : Limits) (h : History) (task : ℕ)
     → IsLegal limits h → greatest_used h < task → HasNoEvents value h task
-unused_law value limits h task legal above =
-    let u : Unused value h task = unused value limits h task legal above in
-    record { signals = u.signals; waits = u.waits; received = u.received }
+above_law value limits h task legal above = unused_law value limits h task legal (start_of-above h task above)
 
 -- one entry of a list, cut out
 take_one : {X : Type 0} (xs : List X) (w : ℕ) (d : X) → w < length xs → take 1 (drop w xs) ≡ get_or xs w d ∷ []
@@ -71,16 +82,24 @@ got_tells value h w phase outcome is =
       | false ↦ λ t e. absurd (cc)
     ] refl is
 
-pub answers_law : (value : List ℤ → Outcome) (limits : Limits) (h : History) (task phase : ℕ) (outcome : Outcome)
-    → wait_reply value limits h task ≡ Ok (got.Value phase outcome) → IsAnswered value h task phase outcome
-answers_law value limits h task phase outcome reply =
+-- and what the reply to a wait tells
+pub reply_tells : (value : List ℤ → Outcome) (limits : Limits) (h : History) (task phase : ℕ) (outcome : Outcome)
+    → wait_reply value limits h task ≡ Ok (got.Value phase outcome)
+    → (wait_phase h task < done_of h) × (phase ≡ wait_phase h task) × (outcome ≡ value_of_phase value h (wait_phase h task))
+reply_tells value limits h task phase outcome reply =
     let w = wait_phase h task in
     let gets : got_at value h w ≡ got.Value phase outcome =
     elim (wait_refusal limits h task 1) as (λ r. (refused_or r (got_at value h w) ≡ Ok (got.Value phase outcome)) → got_at value h w ≡ got.Value phase outcome) [
       | None ↦ λ e. (let g : got_at value h w ≡ got.Value phase outcome = (cc) in g)
       | Some refusal ↦ λ e. absurd (cc)
     ] reply in
-    let t = got_tells value h w phase outcome gets in
+    got_tells value h w phase outcome gets
+
+pub answers_law : (value : List ℤ → Outcome) (limits : Limits) (h : History) (task phase : ℕ) (outcome : Outcome)
+    → wait_reply value limits h task ≡ Ok (got.Value phase outcome) → IsAnswered value h task phase outcome
+answers_law value limits h task phase outcome reply =
+    let w = wait_phase h task in
+    let t = reply_tells value limits h task phase outcome reply in
     let long : length (stream_of value h) ≡ done_of h = length-map-range_with_len _ 0 (done_of h) in
     let within : w < length (stream_of value h) = (let a : w < done_of h = t.0 in omega arith) in
     let entry : get_or (stream_of value h) w Empty ≡ value_of_phase value h w =

@@ -17,3 +17,7 @@ pub mod Answered
 pub mod Gathered
 pub mod Sendings
 pub mod Signallers
+pub mod InRange
+pub mod Beginnings
+pub mod Tops
+pub mod Left
