@@ -11,13 +11,13 @@ pub mod LawProofs
 pub mod Bounded
 pub mod Alive
 pub mod Standstill
-pub mod InRange
-pub mod Beginnings
-pub mod Tops
-pub mod Left
 pub mod OthersEvents
 pub mod Used
 pub mod Answered
 pub mod Gathered
 pub mod Sendings
 pub mod Signallers
+pub mod InRange
+pub mod Beginnings
+pub mod Tops
+pub mod Left

@@ -8,7 +8,7 @@ use Rattle.std.proofs.lemmas.Bool.{eq-eqb}
 use Rattle.phase_accum.specs.declared.outcome.Outcome.{Outcome}
 use Rattle.phase_history.specs.declared.event.Event.{Event}
 use Rattle.phase_history.specs.declared.event.Event.TheVariants.{Made, Registered, RegisteredNow, Signalled, Waited, Dropped}
-use Rattle.phase_history.specs.Histories.{History, signal_phase, wait_phase, phases_signalled, phases_waited, has_dropped}
+use Rattle.phase_history.specs.Histories.{History, IsBeginning, signal_phase, wait_phase, phases_signalled, phases_waited, has_dropped}
 use Rattle.phase_history.specs.Phases.{list_in_phase, stream_of, received_by}
 use Rattle.phase_history.specs.Others.{is_by, events_of, phases_of_signal, phases_of_wait, is_in, OthersCame}
 use Rattle.phase_history.specs.Sent.{sent_by, sent_in, gathered}
@@ -27,6 +27,9 @@ skips task event before none =
     refl none
 
 -- ---- that others' events came
+
+pub IsBeginning-others : (tasks : List ℕ) (old new : History) → OthersCame tasks old new → IsBeginning old new
+IsBeginning-others tasks old new came = record { later = came.later; is = came.is }
 
 pub OthersCame-refl : (tasks : List ℕ) (h : History) → OthersCame tasks h h
 OthersCame-refl tasks h = record { later = []; is = refl; others = λ task has. refl }

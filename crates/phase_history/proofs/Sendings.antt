@@ -19,7 +19,7 @@ use Rattle.phase_history.specs.Legal.{IsLegal}
 use Rattle.phase_history.proofs.Refused.{Registers, registers_from, SignalsNow, signals_from}
 use Rattle.phase_history.proofs.Steps.{StandsWell, sound_of, member_entry_is}
 use Rattle.phase_history.proofs.MemberLemmas.{Each-entry}
-use Rattle.phase_history.proofs.Received.{Counted, counted, Unused, unused}
+use Rattle.phase_history.proofs.Received.{Counted, counted, Unused, unused, start_of-above}
 use Rattle.phase_history.specs.Others.{phases_of_signal}
 use Rattle.phase_history.specs.Sent.{sent_by, sent_in, NamesAll, IsSilent}
 use Rattle.phase_history.proofs.Gathered.{no_lists}
@@ -140,7 +140,7 @@ SentInTurn-of limits (Registered parent child mode ∷ before) task start legal 
       | true ↦ λ t s.
           let same : child ≡ task = eqb-true _ _ t in
           let above : greatest_used before < child = r.new_number in
-          let u : Unused nothing before task = unused nothing limits before task legal.0 (omega arith) in
+          let u : Unused nothing before task = unused nothing limits before task legal.0 (start_of-above before task (omega arith)) in
           SentInTurn-silent before task start u.signals
       | false ↦ λ t s. SentInTurn-of limits before task start legal.0 s
     ] refl is)
@@ -152,7 +152,7 @@ SentInTurn-of limits (RegisteredNow parent child ∷ before) task start legal is
       | true ↦ λ t s.
           let same : child ≡ task = eqb-true _ _ t in
           let above : greatest_used before < child = r.new_number in
-          let u : Unused nothing before task = unused nothing limits before task legal.0 (omega arith) in
+          let u : Unused nothing before task = unused nothing limits before task legal.0 (start_of-above before task (omega arith)) in
           SentInTurn-silent before task start u.signals
       | false ↦ λ t s. SentInTurn-of limits before task start legal.0 s
     ] refl is)

@@ -17,7 +17,7 @@ use Rattle.phase_history.proofs.Each.{Each, Each-of_picked}
 use Rattle.phase_history.proofs.Refused.{Registers, registers_from, SignalsNow, signals_from, WaitsNow, waits_from}
 use Rattle.phase_history.proofs.Steps.{StandsWell, IsSound, sound_of, member_entry_is, done_low}
 use Rattle.phase_history.proofs.MemberLemmas.{Each-entry, entry_of-changed_same, entry_of-changed_other, entry_of-push_other, entry_of-push_new, entry_of-without_other, entry_of-without_same}
-use Rattle.phase_history.proofs.Received.{Counted, counted, fresh, Unused, unused}
+use Rattle.phase_history.proofs.Received.{Counted, counted, fresh, Unused, unused, start_of-above}
 use Rattle.phase_history.specs.Sent.{ReachesTop}
 use Rattle.phase_history.proofs.Alive.{alive_law}
 use Rattle.phase_history.proofs.Used.{start_from, start_used}
@@ -221,7 +221,7 @@ below_top limits (Registered parent child mode ∷ before) task start legal is =
       | true ↦ λ e f.
           let same : child ≡ task = eqb-true _ _ e in
           let above : greatest_used before < child = r.new_number in
-          let u : Unused nothing before task = unused nothing limits before task legal.0 (omega arith) in
+          let u : Unused nothing before task = unused nothing limits before task legal.0 (start_of-above before task (omega arith)) in
           let none : phases_signalled before task ≡ 0 = u.signals in
           let here : signal_phase before parent ≡ start.signal_phase = ap (λ (x : Entry). x.signal_phase) (same_Some _ _ f) in omega arith
       | false ↦ λ e f. below_top limits before task start legal.0 f
@@ -236,7 +236,7 @@ below_top limits (RegisteredNow parent child ∷ before) task start legal is =
       | true ↦ λ e f.
           let same : child ≡ task = eqb-true _ _ e in
           let above : greatest_used before < child = r.new_number in
-          let u : Unused nothing before task = unused nothing limits before task legal.0 (omega arith) in
+          let u : Unused nothing before task = unused nothing limits before task legal.0 (start_of-above before task (omega arith)) in
           let none : phases_signalled before task ≡ 0 = u.signals in
           let here : signal_phase before parent ≡ start.signal_phase = ap (λ (x : Entry). x.signal_phase) (same_Some _ _ f) in omega arith
       | false ↦ λ e f. below_top limits before task start legal.0 f

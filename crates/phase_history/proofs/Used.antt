@@ -1,20 +1,20 @@
 -- The numbers that were used: a use stays, and the task of every event was used before.
-use Rattle.std.proofs.Common.{◌≡◌, ℕ, ◌<◌, ◌≤◌, true, false, cond, eqb, List, [], ◌∷◌, ◌++◌, Option, Some, None, length, max, refl, sym, ap, subst, ◌∙◌, arith}
+use Rattle.std.proofs.Common.{◌≡◌, ℕ, ◌<◌, ◌≤◌, true, false, cond, eqb, List, [], ◌∷◌, ◌++◌, Option, Some, None, length, inl, inr, refl, sym, ap, subst, ◌∙◌, arith}
 use Rattle.std.specs.Prelude.{is_some}
-use Rattle.std.proofs.lemmas.Bool.{eqb-true, eq-eqb, ne_eqb}
+use Rattle.std.proofs.lemmas.Bool.{eqb-true, eq-eqb, ne_eqb, cases_lt}
 use Rattle.phase_base.specs.Limits.{Limits}
 use Rattle.phase_base.specs.declared.mode.Mode.TheVariants.{Wait}
 use Rattle.phase_base.specs.declared.entry.Entry.{Entry}
 use Rattle.phase_base.specs.Members.{entry_of, signalled, waited}
 use Rattle.phase_history.specs.declared.event.Event.{Event}
 use Rattle.phase_history.specs.declared.event.Event.TheVariants.{Made, Registered, RegisteredNow, Signalled, Waited, Dropped}
-use Rattle.phase_history.specs.Histories.{History, members_of, founder, entry_at, signal_phase, wait_phase, done_of, greatest_used, start_of, IsAlive}
+use Rattle.phase_history.specs.Histories.{History, IsBeginning, members_of, entry_at, signal_phase, wait_phase, done_of, greatest_used, start_of, IsAlive}
 use Rattle.phase_history.specs.Legal.{IsLegal, IsAccepted}
 use Rattle.phase_history.specs.Others.{is_by, events_of, IsUsed, OnlyUsed, is_in}
 use Rattle.phase_history.proofs.MemberLemmas.{entry_of-push_old, entry_of-changed_other, entry_of-without_other}
 use Rattle.phase_history.proofs.Refused.{registers_from, passes_from, signals_from, waits_from}
 use Rattle.phase_history.proofs.Streams.{legal_rest}
-use Rattle.phase_history.proofs.Alive.{alive_law}
+use Rattle.phase_history.proofs.Received.{start_of-above, entry_of-none}
 use Rattle.phase_history.proofs.OthersEvents.{skips}
 
 -- ---- beginnings
@@ -24,38 +24,29 @@ more_some : (h more : History) → (h ≡ [] → ⊥) → more ++ h ≡ [] → �
 more_some h [] some none = some none
 more_some h (event ∷ more) some none = (cc)
 
-pub IsLegal-beginning : (limits : Limits) (h more : History) → (h ≡ [] → ⊥) → IsLegal limits (more ++ h) → IsLegal limits h
-IsLegal-beginning limits h [] some legal = legal
-IsLegal-beginning limits h (event ∷ more) some legal =
-    IsLegal-beginning limits h more some (legal_rest limits event (more ++ h) (more_some h more some) legal).0
+legal_end : (limits : Limits) (h more : History) → (h ≡ [] → ⊥) → IsLegal limits (more ++ h) → IsLegal limits h
+legal_end limits h [] some legal = legal
+legal_end limits h (event ∷ more) some legal =
+    legal_end limits h more some (legal_rest limits event (more ++ h) (more_some h more some) legal).0
+
+-- a longer history is one of more events in front
+of_longer : (limits : Limits) (h longer : History) (b : IsBeginning h longer) → IsLegal limits longer → IsLegal limits (b.later ++ h)
+of_longer limits h longer b legal = (let L : History → Type 0 = λ l. IsLegal limits l in subst L b.is legal)
+
+pub IsLegal-beginning : (limits : Limits) (h longer : History) → (h ≡ [] → ⊥) → IsLegal limits longer → IsBeginning h longer
+    → IsLegal limits h
+IsLegal-beginning limits h longer some legal b = legal_end limits h b.later some (of_longer limits h longer b legal)
 
 -- ---- starts
 
 -- a number with a start is not above the greatest
 pub start_used : (h : History) (task : ℕ) (start : Entry) → start_of h task ≡ Some start → task ≤ greatest_used h
-start_used [] task start is = absurd (cc)
-start_used (Made founding ∷ before) task start is =
-    elim (eqb founding task) as (λ b. (eqb founding task ≡ b) → (cond b (Some founder) None ≡ Some start) → task ≤ founding) [
-      | true ↦ λ t s. (let same : founding ≡ task = eqb-true _ _ t in omega arith)
-      | false ↦ λ t s. absurd (cc)
-    ] refl is
-start_used (Registered parent child mode ∷ before) task start is =
-    elim (eqb child task) as (λ b. (eqb child task ≡ b)
-    → (cond b (Some (entry_at mode (signal_phase before parent) (wait_phase before parent))) (start_of before task) ≡ Some start)
-    → task ≤ max child (greatest_used before)) [
-      | true ↦ λ t s. (let same : child ≡ task = eqb-true _ _ t in omega arith)
-      | false ↦ λ t s. (let low : task ≤ greatest_used before = start_used before task start s in omega arith)
-    ] refl is
-start_used (RegisteredNow parent child ∷ before) task start is =
-    elim (eqb child task) as (λ b. (eqb child task ≡ b)
-    → (cond b (Some (entry_at Wait (signal_phase before parent) (done_of before))) (start_of before task) ≡ Some start)
-    → task ≤ max child (greatest_used before)) [
-      | true ↦ λ t s. (let same : child ≡ task = eqb-true _ _ t in omega arith)
-      | false ↦ λ t s. (let low : task ≤ greatest_used before = start_used before task start s in omega arith)
-    ] refl is
-start_used (Signalled signaller lists single ∷ before) task start is = start_used before task start is
-start_used (Waited waiter n ∷ before) task start is = start_used before task start is
-start_used (Dropped gone ∷ before) task start is = start_used before task start is
+start_used h task start is =
+    elim (cases_lt (greatest_used h) task) as (λ x. task ≤ greatest_used h) [
+      | inl above ↦ absurd (let none : start_of h task ≡ None = start_of-above h task above in
+          let both : None ≡ Some start = sym none ∙ is in cc)
+      | inr within ↦ within
+    ]
 
 -- an accepted event leaves each start
 start_of-event : (limits : Limits) (event : Event) (before : History) (task : ℕ) (start : Entry) → IsAccepted limits before event
@@ -82,12 +73,17 @@ start_some : (h : History) (task : ℕ) (start : Entry) → start_of h task ≡ 
 start_some [] task start is none = absurd (cc)
 start_some (event ∷ before) task start is none = (cc)
 
-pub start_of-more : (limits : Limits) (h more : History) (task : ℕ) (start : Entry) → IsLegal limits (more ++ h)
+start_of-more : (limits : Limits) (h more : History) (task : ℕ) (start : Entry) → IsLegal limits (more ++ h)
     → start_of h task ≡ Some start → start_of (more ++ h) task ≡ Some start
 start_of-more limits h [] task start legal is = is
 start_of-more limits h (event ∷ more) task start legal is =
     let r = legal_rest limits event (more ++ h) (more_some h more (start_some h task start is)) legal in
     start_of-event limits event (more ++ h) task start r.1 (start_of-more limits h more task start r.0 is)
+
+pub start_of-longer : (limits : Limits) (h longer : History) (task : ℕ) (start : Entry) → IsLegal limits longer → IsBeginning h longer
+    → start_of h task ≡ Some start → start_of longer task ≡ Some start
+start_of-longer limits h longer task start legal b is =
+    ap (λ l. start_of l task) b.is ∙ start_of-more limits h b.later task start (of_longer limits h longer b legal) is
 
 -- ---- uses
 
@@ -96,13 +92,19 @@ pub start_from : (o : Option Entry) → is_some o ≡ true → (start : Entry) �
 start_from None used = absurd (cc)
 start_from (Some start) used = (start, refl)
 
-pub IsUsed-more : (limits : Limits) (h more : History) (task : ℕ) → IsLegal limits (more ++ h) → IsUsed h task → IsUsed (more ++ h) task
-IsUsed-more limits h more task legal used =
+pub IsUsed-longer : (limits : Limits) (h longer : History) (task : ℕ) → IsLegal limits longer → IsBeginning h longer
+    → IsUsed h task → IsUsed longer task
+IsUsed-longer limits h longer task legal b used =
     let s = start_from (start_of h task) used in
-    ap is_some (start_of-more limits h more task s.0 legal s.1)
+    ap is_some (start_of-longer limits h longer task s.0 legal b s.1)
 
-pub IsUsed-member : (limits : Limits) (h : History) (task : ℕ) → IsLegal limits h → IsAlive h task → IsUsed h task
-IsUsed-member limits h task legal alive = ((alive_law limits h task legal).0 alive).0
+-- who has no start is no member
+pub IsUsed-member : (h : History) (task : ℕ) → IsAlive h task → IsUsed h task
+IsUsed-member h task alive =
+    elim (start_of h task) as (λ o. (start_of h task ≡ o) → is_some o ≡ true) [
+      | None ↦ λ never. sym (ap is_some (entry_of-none h task never)) ∙ alive
+      | Some start ↦ λ is. refl
+    ] refl
 
 -- the task of an accepted event is registered
 pub IsAlive-by : (limits : Limits) (before : History) (event : Event) (task : ℕ) → IsAccepted limits before event
@@ -126,26 +128,24 @@ IsAlive-by limits before (Dropped gone) task accepted by =
 
 -- the event in front of a legal history was accepted, where it is a task's
 accepted_by : (limits : Limits) (event : Event) (before : History) (task : ℕ) → IsLegal limits (event ∷ before)
-    → is_by task event ≡ true → IsLegal limits before × IsAccepted limits before event
+    → is_by task event ≡ true → IsAccepted limits before event
 accepted_by limits (Made founding) before task legal by = absurd (let no : false ≡ true = by in cc)
-accepted_by limits (Registered parent child mode) before task legal by = legal
-accepted_by limits (RegisteredNow parent child) before task legal by = legal
-accepted_by limits (Signalled signaller lists single) before task legal by = legal
-accepted_by limits (Waited waiter n) before task legal by = legal
-accepted_by limits (Dropped gone) before task legal by = legal
+accepted_by limits (Registered parent child mode) before task legal by = legal.1
+accepted_by limits (RegisteredNow parent child) before task legal by = legal.1
+accepted_by limits (Signalled signaller lists single) before task legal by = legal.1
+accepted_by limits (Waited waiter n) before task legal by = legal.1
+accepted_by limits (Dropped gone) before task legal by = legal.1
 
-pub registered_before : (limits : Limits) (before more : History) (event : Event) (task : ℕ)
-    → IsLegal limits (more ++ event ∷ before) → is_by task event ≡ true → IsAlive before task
-registered_before limits before more event task legal by =
-    let now : IsLegal limits (event ∷ before) = IsLegal-beginning limits (event ∷ before) more (λ none. (cc)) legal in
-    IsAlive-by limits before event task (accepted_by limits event before task now by).1 by
+pub registered_before : (limits : Limits) (before longer : History) (event : Event) (task : ℕ)
+    → IsLegal limits longer → IsBeginning (event ∷ before) longer → is_by task event ≡ true → IsAlive before task
+registered_before limits before longer event task legal b by =
+    let now : IsLegal limits (event ∷ before) = IsLegal-beginning limits (event ∷ before) longer (λ none. (cc)) legal b in
+    IsAlive-by limits before event task (accepted_by limits event before task now by) by
 
-pub used_before : (limits : Limits) (before more : History) (event : Event) (task : ℕ)
-    → IsLegal limits (more ++ event ∷ before) → is_by task event ≡ true → IsUsed before task
-used_before limits before more event task legal by =
-    let now : IsLegal limits (event ∷ before) = IsLegal-beginning limits (event ∷ before) more (λ none. (cc)) legal in
-    let a = accepted_by limits event before task now by in
-    IsUsed-member limits before task a.0 (IsAlive-by limits before event task a.1 by)
+pub used_before : (limits : Limits) (before longer : History) (event : Event) (task : ℕ)
+    → IsLegal limits longer → IsBeginning (event ∷ before) longer → is_by task event ≡ true → IsUsed before task
+used_before limits before longer event task legal b by =
+    IsUsed-member before task (registered_before limits before longer event task legal b by)
 
 -- ---- a number that was never used
 
@@ -165,7 +165,7 @@ events_of-unused_more : (limits : Limits) (event : Event) (before : History) (ta
 events_of-unused_more limits event before task legal none earlier =
     elim (is_by task event) as (λ b. (is_by task event ≡ b) → cond b (event ∷ events_of task before) (events_of task before) ≡ []) [
       | true ↦ λ by.
-          let used : IsUsed before task = used_before limits before [] event task legal by in
+          let used : IsUsed before task = used_before limits before (event ∷ before) event task legal (record { later = []; is = refl }) by in
           let unused : start_of before task ≡ None = not_used_before limits event before task legal none in
           absurd (let no : false ≡ true = sym (ap is_some unused) ∙ used in cc)
       | false ↦ λ by. earlier
@@ -224,11 +224,11 @@ entry_of-others limits (event ∷ later) h task entry legal none found =
 -- ---- where only some numbers were used
 
 -- who registers a child is one of them, and then its event is one of theirs
-parent_known : (limits : Limits) (before : History) (event : Event) (parent : ℕ) (tasks : List ℕ) → IsLegal limits before
+parent_known : (limits : Limits) (before : History) (event : Event) (parent : ℕ) (tasks : List ℕ)
     → IsAccepted limits before event → is_by parent event ≡ true
     → ((task : ℕ) → is_in task tasks ≡ true → is_by task event ≡ false) → OnlyUsed tasks before → ⊥
-parent_known limits before event parent tasks legal accepted by other only =
-    let used : IsUsed before parent = IsUsed-member limits before parent legal (IsAlive-by limits before event parent accepted by) in
+parent_known limits before event parent tasks accepted by other only =
+    let used : IsUsed before parent = IsUsed-member before parent (IsAlive-by limits before event parent accepted by) in
     let no : true ≡ false = sym by ∙ other parent (only parent used) in cc
 
 OnlyUsed-other : (limits : Limits) (event : Event) (before : History) (tasks : List ℕ) → IsLegal limits before → IsAccepted limits before event
@@ -237,9 +237,9 @@ OnlyUsed-other limits (Made founding) before tasks legal accepted other only tas
     let P : History → Type 0 = λ b. IsLegal limits b in
     absurd (subst P accepted.1 legal)
 OnlyUsed-other limits (Registered parent child mode) before tasks legal accepted other only task used =
-    absurd (parent_known limits before (Registered parent child mode) parent tasks legal accepted (eq-eqb parent parent refl) other only)
+    absurd (parent_known limits before (Registered parent child mode) parent tasks accepted (eq-eqb parent parent refl) other only)
 OnlyUsed-other limits (RegisteredNow parent child) before tasks legal accepted other only task used =
-    absurd (parent_known limits before (RegisteredNow parent child) parent tasks legal accepted (eq-eqb parent parent refl) other only)
+    absurd (parent_known limits before (RegisteredNow parent child) parent tasks accepted (eq-eqb parent parent refl) other only)
 OnlyUsed-other limits (Signalled signaller lists single) before tasks legal accepted other only task used = only task used
 OnlyUsed-other limits (Waited waiter n) before tasks legal accepted other only task used = only task used
 OnlyUsed-other limits (Dropped gone) before tasks legal accepted other only task used = only task used

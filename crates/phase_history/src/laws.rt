@@ -18,8 +18,19 @@ ghost use Rattle.phase_history.specs.Laws.{HasReceived, HasReceivedFrom, HasCoun
 ghost use Rattle.phase_history.specs.Laws.{GoesOn, GoesOnPlainly, NamesNoSingle};
 ghost use Rattle.phase_history.specs.Replies.{wait_reply};
 
+mod others;
+mod sent;
+
 use crate::got::Got;
+pub use others::{
+    beginning_is_legal, ended, entry_stays, events_add_up, member_is_known, member_is_used,
+    no_stranger, only_used_stays, others_come, own_part_stays, use_stays,
+};
 use phase_accum::Accumulate;
+pub use sent::{
+    all_dropped, each_phase_is_named, holds_open, mode_stays, one_sender, sends_are_gathered,
+    sent_in_turn, sent_stays, top_is_reached, unused_is_silent,
+};
 
 /// Under an accumulator each value of the stream is in range, and so is what a wait is answered: its
 /// magnitude is one of a value.
@@ -30,18 +41,6 @@ pub fn in_range<A: Accumulate>()
         → IsLegal limits h → wait_reply A.operation.value limits h task ≡ Ok (Got.Value phase outcome)
         → IsInRange outcome }
 {}
-
-mod others;
-mod sent;
-
-pub use others::{
-    beginning_is_legal, ended, entry_stays, events_add_up, member_is_known, member_is_used,
-    no_stranger, only_used_stays, others_come, own_part_stays, use_stays,
-};
-pub use sent::{
-    all_dropped, each_phase_is_named, holds_open, mode_stays, one_sender, sends_are_gathered,
-    sent_in_turn, sent_stays, top_is_reached, unused_is_silent,
-};
 
 /// A waiter has received the stream from its start to its wait phase, each value once and in
 /// order.

@@ -8,7 +8,8 @@ ghost use Rattle.phase_base.specs.declared.mode.Mode.{Mode};
 ghost use Rattle.phase_accum.specs.declared.outcome.Outcome.{Outcome};
 ghost use Rattle.phase_accum.specs.declared.single.Single.{Single};
 ghost use Rattle.phase_history.specs.declared.event.Event.{Event};
-ghost use Rattle.phase_history.specs.Histories.{History, members_of, done_of, wait_phase, start_of};
+ghost use Rattle.phase_history.specs.Histories.{History, IsBeginning, members_of, done_of};
+ghost use Rattle.phase_history.specs.Histories.{wait_phase, start_of};
 ghost use Rattle.phase_history.specs.Histories.{IsAlive, HasNoSignaller, has_dropped};
 ghost use Rattle.phase_history.specs.Histories.{phases_signalled, phases_waited};
 ghost use Rattle.phase_history.specs.Phases.{received_by};
@@ -24,34 +25,33 @@ use crate::refusal::{RegisterRefusal, SignalRefusal, WaitRefusal};
 
 /// A beginning of a legal history is legal, where it has an event.
 pub fn beginning_is_legal()
-    ensures { (limits : Limits) (h more : History)
-        → h ≢ [] → IsLegal limits (more ++ h) → IsLegal limits h }
+    ensures { (limits : Limits) (h longer : History)
+        → h ≢ [] → IsLegal limits longer → IsBeginning h longer → IsLegal limits h }
 {}
 
 /// A number that was used stays used, and its task's start stays the same.
 pub fn use_stays()
-    ensures used { (limits : Limits) (h more : History) (task : ℕ)
-        → IsLegal limits (more ++ h) → IsUsed h task → IsUsed (more ++ h) task }
-    ensures start { (limits : Limits) (h more : History) (task : ℕ) (start : Entry)
-        → IsLegal limits (more ++ h) → start_of h task ≡ Some start
-        → start_of (more ++ h) task ≡ Some start }
+    ensures used { (limits : Limits) (h longer : History) (task : ℕ)
+        → IsLegal limits longer → IsBeginning h longer → IsUsed h task → IsUsed longer task }
+    ensures start { (limits : Limits) (h longer : History) (task : ℕ) (start : Entry)
+        → IsLegal limits longer → IsBeginning h longer → start_of h task ≡ Some start
+        → start_of longer task ≡ Some start }
 {}
 
 /// The number of a registered task was used.
 pub fn member_is_used()
-    ensures { (limits : Limits) (h : History) (task : ℕ)
-        → IsLegal limits h → IsAlive h task → IsUsed h task }
+    ensures { (h : History) (task : ℕ) → IsAlive h task → IsUsed h task }
 {}
 
 /// There is no stranger: the task of an event was registered when it came, so its number was used
 /// before. A number that was never used has no events.
 pub fn no_stranger()
-    ensures registered { (limits : Limits) (before more : History) (event : Event) (task : ℕ)
-        → IsLegal limits (more ++ event ∷ before) → is_by task event ≡ true
-        → IsAlive before task }
-    ensures used { (limits : Limits) (before more : History) (event : Event) (task : ℕ)
-        → IsLegal limits (more ++ event ∷ before) → is_by task event ≡ true
-        → IsUsed before task }
+    ensures registered { (limits : Limits) (before longer : History) (event : Event) (task : ℕ)
+        → IsLegal limits longer → IsBeginning (event ∷ before) longer
+        → is_by task event ≡ true → IsAlive before task }
+    ensures used { (limits : Limits) (before longer : History) (event : Event) (task : ℕ)
+        → IsLegal limits longer → IsBeginning (event ∷ before) longer
+        → is_by task event ≡ true → IsUsed before task }
     ensures unused { (limits : Limits) (h : History) (task : ℕ)
         → IsLegal limits h → start_of h task ≡ None → events_of task h ≡ [] }
 {}
@@ -64,9 +64,11 @@ pub fn events_add_up()
         → phases_waited h task ≡ sum_by phases_of_wait (events_of task h) }
 {}
 
-/// That others' events came is true of no event and of each event of another task, adds up, and
-/// holds of fewer tasks where it holds of more.
+/// That others' events came says that the old history is a beginning of the new one. It is true
+/// where none came and where one of another task came, adds up, and holds of fewer tasks too.
 pub fn others_come()
+    ensures beginning { (tasks : List ℕ) (old new : History)
+        → OthersCame tasks old new → IsBeginning old new }
     ensures reflexive { (tasks : List ℕ) (h : History) → OthersCame tasks h h }
     ensures event { (tasks : List ℕ) (h : History) (event : Event)
         → ((task : ℕ) → is_in task tasks ≡ true → is_by task event ≡ false)

@@ -1,4 +1,4 @@
--- A registered task is one that began.
+-- Who did not begin is no member.
 use Rattle.phase_history.proofs.Used.{IsUsed-member}
 use Rattle.phase_history.proofs.laws.others.member_is_used.Goals as goal
 

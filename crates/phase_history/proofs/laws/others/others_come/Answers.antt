@@ -1,6 +1,9 @@
 -- The later events, one after another.
-use Rattle.phase_history.proofs.OthersEvents.{OthersCame-refl, OthersCame-event, OthersCame-trans, OthersCame-fewer}
+use Rattle.phase_history.proofs.OthersEvents.{IsBeginning-others, OthersCame-refl, OthersCame-event, OthersCame-trans, OthersCame-fewer}
 use Rattle.phase_history.proofs.laws.others.others_come.Goals as goal
+
+pub returns-clause-beginning : goal.returns-clause-beginning
+returns-clause-beginning c = IsBeginning-others
 
 pub returns-clause-reflexive : goal.returns-clause-reflexive
 returns-clause-reflexive c = OthersCame-refl

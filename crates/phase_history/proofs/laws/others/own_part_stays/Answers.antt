@@ -1,5 +1,5 @@
 -- Another task's event leaves each part.
-use Rattle.std.proofs.Common.{ap, ◌∙◌}
+use Rattle.std.proofs.Common.{◌∙◌, ap}
 use Rattle.phase_history.specs.Histories.{phases_signalled, phases_waited, has_dropped}
 use Rattle.phase_history.specs.Phases.{received_by}
 use Rattle.phase_history.specs.Others.{events_of}
