@@ -1,4 +1,5 @@
 mod Examples
+mod LimitExamples
 pub mod Each
 pub mod MemberLemmas
 pub mod Refused
@@ -13,3 +14,6 @@ pub mod InRange
 pub mod Beginnings
 pub mod Tops
 pub mod Left
+pub mod BlockAnswers
+pub mod BlockSignals
+pub mod Accepted

@@ -4,3 +4,4 @@ pub mod Refusals
 pub mod Legal
 pub mod Replies
 pub mod Laws
+pub mod Blocks

@@ -21,6 +21,10 @@ ghost use Rattle.phase_history.specs.Replies.{wait_reply};
 use crate::got::Got;
 use phase_accum::Accumulate;
 
+mod blocks;
+
+pub use blocks::{accepted, block_answers, block_signals};
+
 /// Under an accumulator each value of the stream is in range, and so is what a wait is answered: its
 /// magnitude is one of a value.
 pub fn in_range<A: Accumulate>()
