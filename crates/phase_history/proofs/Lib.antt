@@ -1,5 +1,7 @@
 mod Examples
 mod LimitExamples
+mod OthersExamples
+mod SentExamples
 pub mod Each
 pub mod MemberLemmas
 pub mod Refused
@@ -10,6 +12,12 @@ pub mod LawProofs
 pub mod Bounded
 pub mod Alive
 pub mod Standstill
+pub mod OthersEvents
+pub mod Used
+pub mod Answered
+pub mod Gathered
+pub mod Sendings
+pub mod Signallers
 pub mod InRange
 pub mod Beginnings
 pub mod Tops

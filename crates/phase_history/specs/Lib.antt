@@ -5,3 +5,5 @@ pub mod Legal
 pub mod Replies
 pub mod Laws
 pub mod Blocks
+pub mod Others
+pub mod Sent

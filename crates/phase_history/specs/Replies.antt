@@ -1,6 +1,7 @@
 -- What a phaser answers to a call after a history, and the event that a call with its reply makes.
 use Rattle.std.specs.Prelude.{ℕ, ◌-◌, ℤ, min, List, ◌∷◌, Option, Some, None, Result, Ok, Err, if◌then◌else◌, nat_lt}
 use Rattle.phase_base.specs.Limits.{Limits}
+use Rattle.phase_base.specs.declared.mode.Mode.{Mode}
 use Rattle.phase_accum.specs.declared.outcome.Outcome.{Outcome}
 use Rattle.phase_accum.specs.declared.single.Single.{Single}
 use Rattle.phase_history.specs.declared.event.Event.{Event}
@@ -62,6 +63,16 @@ abbrev pub after_signal : {R : Type 0} → Result ℕ R → ℕ → List (List �
     → History
 after_signal (Ok phase) task lists single h = Signalled task lists single ∷ h
 after_signal (Err refusal) task lists single h = h
+
+-- the history after a registration
+abbrev pub after_register : {A R : Type 0} → Result A R → ℕ → ℕ → Mode → History → History
+after_register (Ok answer) parent child mode h = Registered parent child mode ∷ h
+after_register (Err refusal) parent child mode h = h
+
+-- the history after a drop
+abbrev pub after_drop : {A R : Type 0} → Result A R → ℕ → History → History
+after_drop (Ok answer) task h = Dropped task ∷ h
+after_drop (Err refusal) task h = h
 
 -- the history after a wait for a block: one that got values is an event
 abbrev pub after_wait_block : Result GotBlock WaitRefusal → ℕ → History → History

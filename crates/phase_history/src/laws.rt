@@ -18,12 +18,21 @@ ghost use Rattle.phase_history.specs.Laws.{HasReceived, HasReceivedFrom, HasCoun
 ghost use Rattle.phase_history.specs.Laws.{GoesOn, GoesOnPlainly, NamesNoSingle};
 ghost use Rattle.phase_history.specs.Replies.{wait_reply};
 
-use crate::got::Got;
-use phase_accum::Accumulate;
-
 mod blocks;
+mod others;
+mod sent;
 
+use crate::got::Got;
 pub use blocks::{accepted, block_answers, block_signals};
+pub use others::{
+    beginning_is_legal, ended, entry_stays, events_add_up, member_is_known, member_is_used,
+    no_stranger, only_used_stays, others_come, own_part_stays, use_stays,
+};
+use phase_accum::Accumulate;
+pub use sent::{
+    all_dropped, each_phase_is_named, holds_open, mode_stays, one_sender, sends_are_gathered,
+    sent_in_turn, sent_stays, top_is_reached, unused_is_silent,
+};
 
 /// Under an accumulator each value of the stream is in range, and so is what a wait is answered: its
 /// magnitude is one of a value.
