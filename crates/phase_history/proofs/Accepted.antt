@@ -1,17 +1,26 @@
 -- The event of a call and its reply is accepted.
-use Rattle.std.proofs.Common.{◌≡◌, ◌+◌, ◌-◌, ◌<◌, ◌≤◌, true, false, cond, ltb, min, ℤ, List, Some, None, refl, arith}
+use Rattle.std.proofs.Common.{ℕ, ◌≡◌, ◌+◌, ◌-◌, ◌<◌, ◌≤◌, true, false, cond, ltb, min, ℤ, List, Some, None, refl, arith, Option, Ok, Err}
+use Rattle.std.specs.Prelude.{Result}
 use Rattle.std.proofs.lemmas.Bool.{ltb-true}
 use Rattle.phase_base.specs.Limits.{Limits}
 use Rattle.phase_accum.specs.declared.outcome.Outcome.{Outcome}
 use Rattle.phase_history.specs.declared.call.Call.{Call}
 use Rattle.phase_history.specs.declared.call.Call.TheVariants.{Register, RegisterNow, Signal, Wait, WaitBlock, Drop}
 use Rattle.phase_history.specs.declared.reply.Reply.TheVariants.{Accepted, JoinedAt, SignalledIn, Received, ReceivedBlock, NotRegistered, NotSignalled, NotReceived, NotDropped}
+use Rattle.phase_base.specs.declared.mode.Mode.{Mode}
+use Rattle.phase_accum.specs.declared.single.Single.{Single}
+use Rattle.phase_history.specs.declared.refusal.NoTask.{NoTask}
+use Rattle.phase_history.specs.declared.refusal.RegisterRefusal.{RegisterRefusal}
+use Rattle.phase_history.specs.declared.refusal.SignalRefusal.{SignalRefusal}
+use Rattle.phase_history.specs.declared.refusal.WaitRefusal.{WaitRefusal}
+use Rattle.phase_history.specs.declared.got.Got.{Got}
+use Rattle.phase_history.specs.declared.got.GotBlock.{GotBlock}
 use Rattle.phase_history.specs.declared.got.Got.TheVariants as got
 use Rattle.phase_history.specs.declared.got.GotBlock.TheVariants as block
 use Rattle.phase_history.specs.Histories.{History, signal_phase, wait_phase, done_of}
 use Rattle.phase_history.specs.Phases.{value_of_phase}
 use Rattle.phase_history.specs.Refusals.{register_refusal, register_now_refusal, signal_refusal, wait_refusal, drop_refusal}
-use Rattle.phase_history.specs.Replies.{refused_or, got_at, got_block_at, reply_by, reply_to, after_reply}
+use Rattle.phase_history.specs.Replies.{refused_or, got_at, got_block_at, reply_by, reply_to, after_reply, after_register, after_register_now, after_signal, after_wait, after_wait_block, after_drop}
 use Rattle.phase_history.specs.Legal.{IsLegal}
 use Rattle.phase_history.specs.Blocks.{CanBeMade}
 use Rattle.phase_history.proofs.BlockAnswers.{wait_refusal-fewer, asked_some}
@@ -72,3 +81,39 @@ accepted_law value limits h (Drop task) legal can =
       | None ↦ λ none. (legal, none)
       | Some refusal ↦ λ some. legal
     ] refl
+
+-- ---- the words for single calls
+
+pub after_register-is : (parent child : ℕ) (mode : Mode) (h : History) (r : Result ℕ RegisterRefusal)
+    → after_register r parent child mode h
+    ≡ after_reply (Register parent child mode) (reply_by (λ answer. Accepted) NotRegistered r) h
+after_register-is parent child mode h (Ok answer) = refl
+after_register-is parent child mode h (Err refusal) = refl
+
+pub after_register_now-is : (parent child : ℕ) (h : History) (r : Result ℕ RegisterRefusal)
+    → after_register_now r parent child h ≡ after_reply (RegisterNow parent child) (reply_by JoinedAt NotRegistered r) h
+after_register_now-is parent child h (Ok answer) = refl
+after_register_now-is parent child h (Err refusal) = refl
+
+pub after_signal-is : (task : ℕ) (lists : List (List ℤ)) (single : Option Single) (h : History) (r : Result ℕ SignalRefusal)
+    → after_signal r task lists single h
+    ≡ after_reply (Signal task lists single) (reply_by SignalledIn NotSignalled r) h
+after_signal-is task lists single h (Ok answer) = refl
+after_signal-is task lists single h (Err refusal) = refl
+
+pub after_wait-is : (task : ℕ) (h : History) (r : Result Got WaitRefusal)
+    → after_wait r task h ≡ after_reply (Wait task) (reply_by Received NotReceived r) h
+after_wait-is task h (Ok (got.Value phase outcome)) = refl
+after_wait-is task h (Ok got.Ended) = refl
+after_wait-is task h (Err refusal) = refl
+
+pub after_wait_block-is : (task n : ℕ) (h : History) (r : Result GotBlock WaitRefusal)
+    → after_wait_block r task h ≡ after_reply (WaitBlock task n) (reply_by ReceivedBlock NotReceived r) h
+after_wait_block-is task n h (Ok (block.Values phase count)) = refl
+after_wait_block-is task n h (Ok block.Ended) = refl
+after_wait_block-is task n h (Err refusal) = refl
+
+pub after_drop-is : (task : ℕ) (h : History) (r : Result ℕ NoTask)
+    → after_drop r task h ≡ after_reply (Drop task) (reply_by (λ answer. Accepted) NotDropped r) h
+after_drop-is task h (Ok answer) = refl
+after_drop-is task h (Err refusal) = refl
