@@ -1,5 +1,5 @@
 //! A phaser for one thread: a task signals phases with its sends, and waits for their values. The
-//! contracts speak of histories, which are lists of the accepted calls. The first calls are
+//! contracts speak of histories, which are lists of what the calls did. The first calls are
 //! `PhaserCore::new`, `PhaserCore::signal` and `PhaserCore::wait`.
 #![tactic(auto)]
 
