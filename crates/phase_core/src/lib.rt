@@ -10,5 +10,7 @@ mod slot;
 #[cfg(test)]
 mod tests;
 
-pub use phase_history::{Event, Got, NoTask, RegisterRefusal, SignalRefusal, WaitRefusal, laws};
+pub use phase_history::{
+    Call, Event, Got, GotBlock, NoTask, RegisterRefusal, Reply, SignalRefusal, WaitRefusal, laws,
+};
 pub use phaser_core::PhaserCore;
