@@ -87,8 +87,8 @@ members_of_lists : is_in 3 (2 ∷ 3 ∷ []) ∷ is_in 1 (2 ∷ 3 ∷ []) ∷ is_
     ≡ true ∷ false ∷ false ∷ []
 members_of_lists = refl
 
-distinct_lists : is_distinct [] ∷ is_distinct (2 ∷ 3 ∷ 1 ∷ []) ∷ is_distinct (2 ∷ 3 ∷ 2 ∷ []) ∷ []
-    ≡ true ∷ true ∷ false ∷ []
+distinct_lists : is_distinct [] ∷ is_distinct (2 ∷ 3 ∷ 1 ∷ []) ∷ is_distinct (2 ∷ 3 ∷ 2 ∷ []) ∷ is_distinct (3 ∷ 2 ∷ 2 ∷ []) ∷ []
+    ≡ true ∷ true ∷ false ∷ false ∷ []
 distinct_lists = refl
 
 -- to the founder, which has left, all later events are others'
