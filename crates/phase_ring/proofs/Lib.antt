@@ -1,0 +1,4 @@
+pub mod Held
+pub mod Slots
+pub mod Moves
+pub mod Kept
