@@ -16,13 +16,12 @@ use Rattle.phase_accum.specs.Operations.{Operation, AccumulateLaws, IsPartOf}
 use Rattle.phase_accum.specs.Parcels.{Parcel, StandsForSends}
 use Rattle.phase_accum.proofs.Parts.{IsPartOf-join}
 use Rattle.phase_history.specs.declared.event.Event.TheVariants.{Made, Registered, RegisteredNow, Signalled, Waited, Dropped}
-use Rattle.phase_core.specs.declared.slot.Slot.{Slot}
 use Rattle.phase_base.specs.Members.{Members, entry_of, changed_at, wait_phases, least, signalled, waited}
 use Rattle.phase_history.specs.Histories.{History, founder, members_of, top_of, done_of, greatest_used, signal_phase, wait_phase}
 use Rattle.phase_history.specs.Phases.{value_of_phase, single_of_phase, sends_of_phase, named_in_phase, list_in_phase, first_named, is_among}
 use Rattle.phase_history.specs.Refusals.{signal_refusal, signal_rows, wait_refusal}
 use Rattle.phase_history.specs.Legal.{IsLegal}
-use Rattle.phase_core.specs.Slots.{opened_slot, slot_value}
+use Rattle.phase_core.specs.Slots.{KeptSlot, opened_slot, slot_value}
 use Rattle.phase_core.specs.Cores.{CoreState, one_member, KeepsSends, IsSlotOf, KeepsPhase, StandsFor}
 use Rattle.phase_history.proofs.Each.{Each, Each-of_picked, Each-picked, least_low, least_or_high}
 use Rattle.phase_history.proofs.MemberLemmas.{Each-entry, Each-changed, wait_phases-signalled}
@@ -61,7 +60,7 @@ none_from_top limits (Dropped task ∷ before) p legal past = none_from_top limi
 -- ---- a signal
 
 -- the slot of a phase after more sends have joined it
-abbrev pub joined_slot : {A : Type 0} → Operation A → Slot A → Parcel A → Option Single → Slot A
+abbrev pub joined_slot : {A : Type 0} → Operation A → KeptSlot A → Parcel A → Option Single → KeptSlot A
 joined_slot op slot held single = record {
   part = op.join slot.part held.part;
   count = slot.count + held.count;
@@ -76,9 +75,9 @@ pub record Signals {A : Type 0} (op : Operation A) (old new : CoreState A) (task
   pub greatest_same : new.greatest ≡ old.greatest
   pub members_are : new.members ≡ changed_at task (signalled 1) old.members
   pub top_is : new.top ≡ max old.top (phase + 1)
-  pub others : (slowest p : ℕ) (slot : Slot A) → least (wait_phases new.members) ≡ Some slowest
+  pub others : (slowest p : ℕ) (slot : KeptSlot A) → least (wait_phases new.members) ≡ Some slowest
       → slowest ≤ p → (p ≡ phase → ⊥) → IsSlotOf old p slot → IsSlotOf new p slot
-  pub joined : (slowest : ℕ) (slot : Slot A) → least (wait_phases new.members) ≡ Some slowest
+  pub joined : (slowest : ℕ) (slot : KeptSlot A) → least (wait_phases new.members) ≡ Some slowest
       → slowest ≤ phase → phase < old.top → IsSlotOf old phase slot
       → IsSlotOf new phase (joined_slot op slot held single)
   pub opened : (slowest : ℕ) → least (wait_phases new.members) ≡ Some slowest → slowest ≤ phase
@@ -241,7 +240,7 @@ pub record Waits {A : Type 0} (old new : CoreState A) (task : ℕ) : Type 0 wher
   pub greatest_same : new.greatest ≡ old.greatest
   pub members_are : new.members ≡ changed_at task (waited 1) old.members
   pub top_same : new.top ≡ old.top
-  pub kept : (slowest p : ℕ) (slot : Slot A) → least (wait_phases new.members) ≡ Some slowest → slowest ≤ p
+  pub kept : (slowest p : ℕ) (slot : KeptSlot A) → least (wait_phases new.members) ≡ Some slowest → slowest ≤ p
       → IsSlotOf old p slot → IsSlotOf new p slot
 
 -- a list without a least has no number
@@ -348,7 +347,7 @@ kept_phase op core h task e stands found waits complete =
     ] refl
 
 -- the value of a phase by its slot
-pub kept_value : {A : Type 0} (op : Operation A) (laws : AccumulateLaws op) (slot : Slot A) (h : History) (p : ℕ)
+pub kept_value : {A : Type 0} (op : Operation A) (laws : AccumulateLaws op) (slot : KeptSlot A) (h : History) (p : ℕ)
     → KeepsSends op slot h p
     → slot_value op slot ≡ value_of_phase op.value h p
 kept_value op laws slot h p keeps =

@@ -18,13 +18,12 @@ use Rattle.phase_history.specs.declared.refusal.SignalRefusal.{SignalRefusal}
 use Rattle.phase_history.specs.declared.refusal.SignalRefusal.TheVariants as signal
 use Rattle.phase_history.specs.declared.refusal.WaitRefusal.{WaitRefusal}
 use Rattle.phase_history.specs.declared.refusal.WaitRefusal.TheVariants as wait
-use Rattle.phase_core.specs.declared.slot.Slot.{Slot}
 use Rattle.phase_base.specs.Members.{entry_of, signal_phases, wait_phases, least, signalled, waited}
 use Rattle.phase_history.specs.Histories.{History, members_of, top_of, done_of, wait_phase, signal_phase}
 use Rattle.phase_history.specs.Phases.{value_of_phase, sends_of_phase, named_in_phase}
 use Rattle.phase_history.specs.Refusals.{first_row, refusal_at, signal_rows, signal_refusal, wait_refusal, plain_signal_rows, plain_wait_rows, wait_rows_at}
 use Rattle.phase_history.specs.Replies.{wait_reply, refused_or, got_at}
-use Rattle.phase_core.specs.Slots.{opened_slot, slot_value}
+use Rattle.phase_core.specs.Slots.{KeptSlot, opened_slot, slot_value}
 use Rattle.phase_history.specs.Legal.{IsLegal}
 use Rattle.phase_core.specs.Cores.{CoreState, KeepsSends, KeepsPhase, StandsFor, one_member}
 use Rattle.phase_history.proofs.Steps.{member_entry_is}
@@ -135,7 +134,7 @@ slice_get-push_last (y ∷ xs) x = slice_get-push_last xs x
 
 -- a signal of the one member opens one more phase
 push_signals : {A : Type 0} (op : Operation A) (limits : Limits) (founder task : ℕ) (e : Entry)
-    (slots : List (Slot A)) (held : Parcel A) (single : Option Single)
+    (slots : List (KeptSlot A)) (held : Parcel A) (single : Option Single)
     → eqb founder task ≡ true → e.signal_phase ≡ length slots
     → Signals op (one_member limits founder e slots)
     (one_member limits founder (signalled 1 e) (slots ++ opened_slot held single ∷ [])) task e.signal_phase held single
@@ -162,7 +161,7 @@ push_signals op limits founder task e slots held single own at_top =
     }
 
 -- a wait of the one member leaves all phases
-wait_waits : {A : Type 0} (limits : Limits) (founder task : ℕ) (e : Entry) (slots : List (Slot A)) → eqb founder task ≡ true
+wait_waits : {A : Type 0} (limits : Limits) (founder task : ℕ) (e : Entry) (slots : List (KeptSlot A)) → eqb founder task ≡ true
     → Waits (one_member limits founder e slots) (one_member limits founder (waited 1 e) slots) task
 wait_waits limits founder task e slots own = record {
   limits_same = refl;
@@ -181,7 +180,7 @@ entry_of_one founder task e x found =
     ] found
 
 -- what the code answers for a signal of the one member is its refusal
-pub signal_refusal_one : {A : Type 0} (op : Operation A) (limits : Limits) (founder : ℕ) (e : Entry) (slots : List (Slot A))
+pub signal_refusal_one : {A : Type 0} (op : Operation A) (limits : Limits) (founder : ℕ) (e : Entry) (slots : List (KeptSlot A))
     (h : History) (task : ℕ) (x : Entry) (n : ℕ) (sends : List ℤ) (single : Option Single)
     (slowest : Option ℕ) (r : Option SignalRefusal)
     → StandsFor op (one_member limits founder e slots) h → e.signal_phase ≡ length slots
@@ -227,7 +226,7 @@ pub record SignalsOne (founder task : ℕ) (e : Entry) : Type 0 where
   pub is_member : entry_of ((founder, e) ∷ []) task ≡ Some e
   pub below : e.signal_phase < PHASES_MAX
 
-pub signals_one : {A : Type 0} (op : Operation A) (limits : Limits) (founder : ℕ) (e : Entry) (slots : List (Slot A))
+pub signals_one : {A : Type 0} (op : Operation A) (limits : Limits) (founder : ℕ) (e : Entry) (slots : List (KeptSlot A))
     (h : History) (task : ℕ) (sends : List ℤ) (single : Option Single) → StandsFor op (one_member limits founder e slots) h
     → signal_refusal limits h task (sends ∷ []) single ≡ None → SignalsOne founder task e
 signals_one op limits founder e slots h task sends single stands none =
@@ -245,7 +244,7 @@ signals_one op limits founder e slots h task sends single stands none =
     }
 
 pub signal_one : {A : Type 0} (op : Operation A) (laws : AccumulateLaws op) (limits : Limits) (founder : ℕ)
-    (e : Entry) (slots new : List (Slot A))
+    (e : Entry) (slots new : List (KeptSlot A))
     (h : History) (task : ℕ) (held : Parcel A) (part : A) (count : ℕ) (sends : List ℤ) (single : Option Single)
     → StandsFor op (one_member limits founder e slots) h → e.signal_phase ≡ length slots
     → signal_refusal limits h task (sends ∷ []) single ≡ None → StandsForSends op held sends
@@ -254,7 +253,7 @@ pub signal_one : {A : Type 0} (op : Operation A) (laws : AccumulateLaws op) (lim
 signal_one {A} op laws limits founder e slots new h task held part count sends single stands at_top none holds part_is count_is new_is =
     let o : SignalsOne founder task e = signals_one op limits founder e slots h task sends single stands none in
     let same : parcel part count ≡ held = ap (λ x. parcel x count) part_is ∙ ap (λ n. parcel held.part n) count_is in
-    let P : List (Slot A) → Type 0 =
+    let P : List (KeptSlot A) → Type 0 =
     λ l. StandsFor op (one_member limits founder (signalled 1 e) l) (Signalled task (sends ∷ []) single ∷ h) in
     subst P (sym (new_is ∙ ap (λ x. slots ++ opened_slot x single ∷ []) same))
     (signals_stands op laws (one_member limits founder e slots)
@@ -266,16 +265,16 @@ signal_one {A} op laws limits founder e slots new h task held part count sends s
 
 -- what a wait that gets a value says
 pub record GetsOne {A : Type 0} (op : Operation A) (limits : Limits) (founder : ℕ) (e : Entry)
-    (slots : List (Slot A)) (h : History) (task : ℕ) : Type 0 where
+    (slots : List (KeptSlot A)) (h : History) (task : ℕ) : Type 0 where
   pub accepted : wait_refusal limits h task 1 ≡ None
   pub reply : wait_reply op.value limits h task ≡ Ok (got.Value e.wait_phase (value_of_phase op.value h e.wait_phase))
-  pub slot : Slot A
+  pub slot : KeptSlot A
   pub found : slice_get slots e.wait_phase ≡ Some slot
   pub keeps : KeepsSends op slot h e.wait_phase
   pub after : StandsFor op (one_member limits founder (waited 1 e) slots) (Waited task 1 ∷ h)
 
 -- the refusal that the code computes for the one member
-pub wait_one : {A : Type 0} (op : Operation A) (limits : Limits) (founder : ℕ) (e : Entry) (slots : List (Slot A))
+pub wait_one : {A : Type 0} (op : Operation A) (limits : Limits) (founder : ℕ) (e : Entry) (slots : List (KeptSlot A))
     (h : History) (task done : ℕ) (signals : Bool) (x : Entry) (r : Option WaitRefusal)
     → StandsFor op (one_member limits founder e slots) h
     → entry_of ((founder, e) ∷ []) task ≡ Some x → done ≡ done_of h → signals ≡ mode_signals x.mode
@@ -289,7 +288,7 @@ wait_one op limits founder e slots h task done signals x r stands found done_is 
     (row ∙ ap (λ d. first_row (plain_wait_rows limits d signals x)) done_is
     ∙ ap (λ b. first_row (plain_wait_rows limits (done_of h) b x)) has)
 
-pub gets_one : {A : Type 0} (op : Operation A) (limits : Limits) (founder : ℕ) (e : Entry) (slots : List (Slot A))
+pub gets_one : {A : Type 0} (op : Operation A) (limits : Limits) (founder : ℕ) (e : Entry) (slots : List (KeptSlot A))
     (h : History) (task done : ℕ) (signals : Bool) (x : Entry) → StandsFor op (one_member limits founder e slots) h
     → entry_of ((founder, e) ∷ []) task ≡ Some x → done ≡ done_of h → signals ≡ mode_signals x.mode
     → None ≡ first_row (plain_wait_rows limits done signals x) → x.wait_phase < done
@@ -323,12 +322,12 @@ gets_one {A} op limits founder e slots h task done signals x stands found done_i
 
 -- the slot that the code reads is the phase's, its value in range and that of the phase
 pub value_one : {A : Type 0} (op : Operation A) (laws : AccumulateLaws op) (limits : Limits) (founder : ℕ)
-    (e : Entry) (slots : List (Slot A))
-    (h : History) (task : ℕ) (slot : Slot A) → GetsOne op limits founder e slots h task → slice_get slots e.wait_phase ≡ Some slot
+    (e : Entry) (slots : List (KeptSlot A))
+    (h : History) (task : ℕ) (slot : KeptSlot A) → GetsOne op limits founder e slots h task → slice_get slots e.wait_phase ≡ Some slot
     → IsInRange (op.finish slot.part) × (slot_value op slot ≡ value_of_phase op.value h e.wait_phase)
 value_one {A} op laws limits founder e slots h task slot gets found =
     let same : gets.slot ≡ slot = same_Some _ _ (sym gets.found ∙ found) in
-    let K : Slot A → Type 0 = λ s. KeepsSends op s h e.wait_phase in
+    let K : KeptSlot A → Type 0 = λ s. KeepsSends op s h e.wait_phase in
     let keeps : KeepsSends op slot h e.wait_phase = subst K same gets.keeps in
     let R : Outcome → Type 0 = λ o. IsInRange o in (
       subst R (sym (laws.finishes slot.part (sends_of_phase h e.wait_phase) keeps.part_is))

@@ -3,7 +3,7 @@ use Rattle.std.specs.Prelude.{◌≡◌, ℕ, ◌+◌, ◌<◌, ◌≤◌, List,
 use Rattle.phase_base.specs.Limits.{Limits}
 use Rattle.phase_base.specs.declared.entry.Entry.{Entry}
 use Rattle.phase_accum.specs.Operations.{Operation, IsPartOf}
-use Rattle.phase_core.specs.declared.slot.Slot.{Slot}
+use Rattle.phase_core.specs.Slots.{KeptSlot}
 use Rattle.phase_base.specs.Members.{Members, wait_phases, least}
 use Rattle.phase_history.specs.Histories.{History, members_of, top_of, greatest_used}
 use Rattle.phase_history.specs.Phases.{sends_of_phase, named_in_phase}
@@ -17,17 +17,17 @@ pub record CoreState (A : Type 0) : Type 0 where
   pub greatest : ℕ
   pub top : ℕ
   pub base : ℕ
-  pub slots : List (Slot A)
+  pub slots : List (KeptSlot A)
 
 -- the slot has the part, the number and the single of the sends of phase p
-pub record KeepsSends {A : Type 0} (op : Operation A) (slot : Slot A) (h : History) (p : ℕ)
+pub record KeepsSends {A : Type 0} (op : Operation A) (slot : KeptSlot A) (h : History) (p : ℕ)
     : Type 0 where
   pub part_is : IsPartOf op slot.part (sends_of_phase h p)
   pub count_is : slot.count ≡ length (sends_of_phase h p)
   pub named_is : slot.named ≡ named_in_phase h p
 
 -- the slot is that of phase p
-pub record IsSlotOf {A : Type 0} (core : CoreState A) (p : ℕ) (slot : Slot A) : Type 0 where
+pub record IsSlotOf {A : Type 0} (core : CoreState A) (p : ℕ) (slot : KeptSlot A) : Type 0 where
   pub place : ℕ
   pub place_is : core.base + place ≡ p
   pub found : slice_get core.slots place ≡ Some slot
@@ -35,7 +35,7 @@ pub record IsSlotOf {A : Type 0} (core : CoreState A) (p : ℕ) (slot : Slot A) 
 -- phase p is kept
 pub record KeepsPhase {A : Type 0} (op : Operation A) (core : CoreState A) (h : History) (p : ℕ)
     : Type 0 where
-  pub slot : Slot A
+  pub slot : KeptSlot A
   pub is_slot : IsSlotOf core p slot
   pub keeps : KeepsSends op slot h p
 
@@ -51,7 +51,7 @@ pub record StandsFor {A : Type 0} (op : Operation A) (core : CoreState A) (h : H
       → slowest ≤ p → p < core.top → KeepsPhase op core h p
 
 -- for the code: a core of one member that keeps all phases
-abbrev pub one_member : {A : Type 0} → Limits → ℕ → Entry → List (Slot A) → CoreState A
+abbrev pub one_member : {A : Type 0} → Limits → ℕ → Entry → List (KeptSlot A) → CoreState A
 one_member limits task entry slots = record {
   limits = limits;
   members = (task, entry) ∷ [];

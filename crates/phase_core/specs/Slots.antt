@@ -1,17 +1,23 @@
--- What a slot says of its phase.
-use Rattle.std.specs.Prelude.{Option, Some}
+-- What is kept of a phase, and what it says of the phase.
+use Rattle.std.specs.Prelude.{ℕ, Option, Some}
 use Rattle.std.specs.Option.{option_and_then}
 use Rattle.phase_accum.specs.declared.outcome.Outcome.{Outcome}
 use Rattle.phase_accum.specs.Values.{applied}
 use Rattle.phase_accum.specs.Operations.{Operation}
 use Rattle.phase_accum.specs.Parcels.{Parcel}
 use Rattle.phase_accum.specs.declared.single.Single.{Single}
-use Rattle.phase_core.specs.declared.slot.Slot.{Slot}
+
+-- of one phase: the part of its sends, their number, and what its first signal named, as
+-- `named_in_phase` has it
+pub record KeptSlot (A : Type 0) : Type 0 where
+  pub part : A
+  pub count : ℕ
+  pub named : Option (Option Single)
 
 -- the slot of a phase after its first signal
-abbrev pub opened_slot : {A : Type 0} → Parcel A → Option Single → Slot A
+abbrev pub opened_slot : {A : Type 0} → Parcel A → Option Single → KeptSlot A
 opened_slot held single = record { part = held.part; count = held.count; named = Some single }
 
 -- the value of the phase: that of its part, with the single that its first signal named
-abbrev pub slot_value : {A : Type 0} → Operation A → Slot A → Outcome
+abbrev pub slot_value : {A : Type 0} → Operation A → KeptSlot A → Outcome
 slot_value op slot = applied (option_and_then (λ named. named) slot.named) (op.finish slot.part)

@@ -14,9 +14,9 @@ pub struct PhaseList<A> {
 
 impl<A> Model for PhaseList<A> {
     ghost use Rattle.std.specs.Prelude.{List};
-    ghost use Rattle.phase_core.specs.declared.slot.Slot.{Slot};
+    ghost use Rattle.phase_core.specs.Slots.{KeptSlot};
 
-    ghost Value = { List (Slot A) };
+    ghost Value = { List (KeptSlot A) };
 
     ghost view = { λ l. l.slots.items };
 }

@@ -3,6 +3,7 @@ ghost use Rattle.std.specs.Prelude.{◌≡◌};
 ghost use Rattle.phase_accum.specs.Values.{IsInRange};
 
 use phase_accum::{self, Accumulate, Outcome, Single};
+use std::marker::Model;
 
 /// The part of a phase's sends, their number, and what its first signal named: nothing yet where
 /// there is none, no single, or one.
@@ -11,6 +12,16 @@ pub struct Slot<A> {
     pub part: A,
     pub count: u64,
     pub named: Option<Option<Single>>,
+}
+
+impl<A> Model for Slot<A> {
+    ghost use Rattle.phase_core.specs.Slots.{KeptSlot};
+
+    ghost Value = { KeptSlot A };
+
+    ghost view = { λ s. record { part = s.part; count = s.count; named = s.named } };
+
+    ghost inverse = { λ k. record { part = k.part; count = k.count; named = k.named } };
 }
 
 impl<A: Accumulate> Slot<A> {
