@@ -2,3 +2,4 @@ pub mod Held
 pub mod Slots
 pub mod Moves
 pub mod Kept
+pub mod Founded

@@ -183,7 +183,7 @@ length-released op r some = length-moved r.slots (empty_slot op) some
 pub slot_at-past : {A : Type 0} (r : Ring A) (p : ℕ) → r.base + length r.slots ≤ p → slot_at r p ≡ None
 slot_at-past r p past = slice_get_past r.slots (p - r.base) (omega arith)
 
-empty-standing : {A : Type 0} (op : Operation A) (role : Role) → standing_of role (empty_slot op) ≡ 0
+pub empty-standing : {A : Type 0} (op : Operation A) (role : Role) → standing_of role (empty_slot op) ≡ 0
 empty-standing op Signaller = refl
 empty-standing op Waiter = refl
 

@@ -1,5 +1,5 @@
 //! A ring with the first phase that is not complete, and the top.
-ghost use Rattle.std.specs.Prelude.{◌≡◌, ℕ, ◌<◌, ◌≤◌, ◌+◌, ◌⊎◌, max, true, OnOk, OnErr, IfErr, Some, None};
+ghost use Rattle.std.specs.Prelude.{◌≡◌, ℕ, ◌<◌, ◌≤◌, ◌+◌, ◌⊎◌, max, true, OnOk, OnErr, IfOk, IfErr, Some, None};
 ghost use Rattle.phase_ring.specs.declared.slot.Slot.{Slot};
 ghost use Rattle.phase_ring.specs.declared.role.Role.{Role};
 ghost use Rattle.phase_ring.specs.declared.role.Role.TheVariants.{Signaller, Waiter};
@@ -13,6 +13,7 @@ use crate::slot::MergeRefusal;
 use crate::slot_ring::SlotRing;
 use phase_accum::{Accumulate, Outcome, Pending, Single};
 use phase_base::{Entry, MEMBERS_MAX, PHASES_MAX, Spec};
+use std::alloc::{AllocError, Global};
 
 /// The phases that are kept while a waiter is registered, and which of them are complete.
 ///
@@ -32,6 +33,29 @@ pub struct Board<A: Accumulate> {
 }
 
 impl<A: Accumulate> Board<A> {
+    /// Makes the board of a phaser whose one task stands at phase 0 in both roles, with all the
+    /// memory that the board will ever need.
+    pub fn new(alloc: Global, limits: Spec) -> Result<Board<A>, AllocError>
+        ensures kept { IfOk result (λ now.
+            IsKept A.operation now.ring now.limits.bound now.done now.top) }
+        ensures limits { IfOk result (λ now. now.limits ≡ limits) }
+        ensures done { IfOk result (λ now. now.done ≡ 0) }
+        ensures top { IfOk result (λ now. now.top ≡ 0) }
+        ensures base { IfOk result (λ now. now.ring.base ≡ 0) }
+        ensures standing { IfOk result (λ now. (role : Role) (p : ℕ)
+            → standing now.ring role p ≡ is 0 p) }
+    {
+        let mut ring = SlotRing::<A>::with_bound(alloc, limits.bound())?;
+        ring.enter(0, Role::Signaller);
+        ring.enter(0, Role::Waiter);
+        Ok(Board {
+            limits,
+            ring,
+            done: 0,
+            top: 0,
+        })
+    }
+
     /// Seals the phases at which no signaller stands any more, up to the top.
     fn settle(&mut self)
         requires { let now = self.old in
