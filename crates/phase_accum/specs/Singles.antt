@@ -1,8 +1,16 @@
--- Singles that are compared, as a signal's with that of the first signal of its phase.
+-- Which singles a signal can name, and singles that are compared, as a signal's with that of the
+-- first signal of its phase.
 use Rattle.std.specs.Prelude.{Option, Some, None, Bool, true, false, not, ◌&&◌}
 use Rattle.std.specs.Ordering.{int_eq}
+use Rattle.phase_accum.specs.Ranges.{IsRange}
 use Rattle.phase_accum.specs.declared.single.Single.{Single}
 use Rattle.phase_accum.specs.declared.single.Single.TheVariants.{Neg, Abs, Halve, Clamp}
+
+-- a signal can name it: no single, or one that can be made, which of a clamp says that its ends are
+-- a range
+abbrev pub CanBeNamed : Option Single → Type 0
+CanBeNamed (Some (Clamp range)) = IsRange range
+CanBeNamed _ = Unit {0}
 
 -- whether two singles are the same
 abbrev pub is_same : Single → Single → Bool

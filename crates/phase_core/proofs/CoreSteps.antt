@@ -12,6 +12,7 @@ use Rattle.phase_base.specs.declared.entry.Entry.{Entry}
 use Rattle.phase_base.specs.declared.limits.TheConstants.{SENDS_MAX}
 use Rattle.phase_accum.specs.declared.single.Single.{Single}
 use Rattle.phase_accum.specs.Values.{AreSends, applied}
+use Rattle.phase_accum.specs.Singles.{CanBeNamed}
 use Rattle.phase_accum.specs.Operations.{Operation, AccumulateLaws, IsPartOf}
 use Rattle.phase_accum.specs.Parcels.{Parcel, StandsForSends}
 use Rattle.phase_accum.proofs.Parts.{IsPartOf-join}
@@ -139,9 +140,9 @@ pub signals_stands : {A : Type 0} (op : Operation A) (laws : AccumulateLaws op) 
     (task : ℕ) (e : Entry) (held : Parcel A) (sends : List ℤ) (single : Option Single)
     → StandsFor op old h → entry_of old.members task ≡ Some e
     → signal_refusal old.limits h task (sends ∷ []) single ≡ None
-    → StandsForSends op held sends → Signals op old new task e.signal_phase held single
+    → StandsForSends op held sends → CanBeNamed single → Signals op old new task e.signal_phase held single
     → StandsFor op new (Signalled task (sends ∷ []) single ∷ h)
-signals_stands {A} op laws old new h task e held sends single stands found_old none holds s =
+signals_stands {A} op laws old new h task e held sends single stands found_old none holds can s =
     let event = Signalled task (sends ∷ []) single in
     let found : entry_of (members_of h) task ≡ Some e = (rw (← stands.members_are) found_old) in
     let at_phase : signal_phase h task ≡ e.signal_phase =
@@ -157,7 +158,7 @@ signals_stands {A} op laws old new h task e held sends single stands found_old n
     s.members_are ∙ ap (λ ms. changed_at task (signalled 1) ms) stands.members_are in
     let L : Limits → Type 0 = λ l. IsLegal l (event ∷ h) in
     record {
-      legal = subst L (sym s.limits_same) (stands.legal, (none, are_lists));
+      legal = subst L (sym s.limits_same) (stands.legal, (none, are_lists, can));
       members_are = members_same;
       greatest_is = s.greatest_same ∙ stands.greatest_is;
       top_is = top_new ∙ ap (λ t. max t (e.signal_phase + 1)) top_old

@@ -10,6 +10,7 @@ use Rattle.phase_base.specs.declared.entry.Entry.{Entry}
 use Rattle.phase_accum.specs.declared.outcome.Outcome.{Outcome}
 use Rattle.phase_accum.specs.declared.single.Single.{Single}
 use Rattle.phase_accum.specs.Values.{IsInRange}
+use Rattle.phase_accum.specs.Singles.{CanBeNamed}
 use Rattle.phase_accum.specs.Operations.{Operation, AccumulateLaws}
 use Rattle.phase_accum.specs.Parcels.{Parcel, parcel, StandsForSends}
 use Rattle.phase_history.specs.declared.event.Event.TheVariants.{Made, Registered, RegisteredNow, Signalled, Waited, Dropped}
@@ -247,10 +248,10 @@ pub signal_one : {A : Type 0} (op : Operation A) (laws : AccumulateLaws op) (lim
     (e : Entry) (slots new : List (KeptSlot A))
     (h : History) (task : ℕ) (held : Parcel A) (part : A) (count : ℕ) (sends : List ℤ) (single : Option Single)
     → StandsFor op (one_member limits founder e slots) h → e.signal_phase ≡ length slots
-    → signal_refusal limits h task (sends ∷ []) single ≡ None → StandsForSends op held sends
+    → signal_refusal limits h task (sends ∷ []) single ≡ None → StandsForSends op held sends → CanBeNamed single
     → part ≡ held.part → count ≡ held.count → new ≡ slots ++ opened_slot (parcel part count) single ∷ []
     → StandsFor op (one_member limits founder (signalled 1 e) new) (Signalled task (sends ∷ []) single ∷ h)
-signal_one {A} op laws limits founder e slots new h task held part count sends single stands at_top none holds part_is count_is new_is =
+signal_one {A} op laws limits founder e slots new h task held part count sends single stands at_top none holds can part_is count_is new_is =
     let o : SignalsOne founder task e = signals_one op limits founder e slots h task sends single stands none in
     let same : parcel part count ≡ held = ap (λ x. parcel x count) part_is ∙ ap (λ n. parcel held.part n) count_is in
     let P : List (KeptSlot A) → Type 0 =
@@ -258,7 +259,7 @@ signal_one {A} op laws limits founder e slots new h task held part count sends s
     subst P (sym (new_is ∙ ap (λ x. slots ++ opened_slot x single ∷ []) same))
     (signals_stands op laws (one_member limits founder e slots)
     (one_member limits founder (signalled 1 e) (slots ++ opened_slot held single ∷ []))
-    h task e held sends single stands o.is_member none holds
+    h task e held sends single stands o.is_member none holds can
     (push_signals op limits founder task e slots held single o.own at_top))
 
 -- ---- an accepted wait of the one member

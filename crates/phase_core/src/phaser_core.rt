@@ -1,6 +1,9 @@
 //! The phaser itself, for one thread.
 ghost use Rattle.std.specs.Prelude.{◌≡◌, ◌≢◌, ◌≤◌, ℕ, ℤ, List, [], ◌∷◌, length, OnErr, IfOk, IfErr, IsOk, Ok, Err, None};
+ghost use Rattle.phase_accum.specs.declared.outcome.Outcome.{Outcome};
 ghost use Rattle.phase_accum.specs.Parcels.{StandsForSends};
+ghost use Rattle.phase_accum.specs.Singles.{CanBeNamed};
+ghost use Rattle.phase_accum.specs.Values.{IsInRange};
 ghost use Rattle.phase_history.specs.declared.event.Event.TheVariants.{Made};
 ghost use Rattle.phase_base.specs.Members.{entry_of};
 ghost use Rattle.phase_history.specs.Histories.{History, done_of, top_of};
@@ -56,6 +59,15 @@ pub struct PhaserCore<A: Accumulate> {
     founder: u64,
     entry: Entry,
     phases: PhaseList<A>,
+}
+
+/// Reads a clamp's range, which says that its ends are one. It does nothing.
+fn check_single(single: &Option<Single>)
+    ensures { CanBeNamed single.now }
+{
+    if let Some(Single::Clamp(range)) = single {
+        let _low = range.low();
+    }
 }
 
 impl<A: Accumulate> Model for PhaserCore<A> {
@@ -178,6 +190,7 @@ impl<A: Accumulate> PhaserCore<A> {
         if let Some(refusal) = self.signal_refusal(task, sends, &single) {
             return Err((refusal, pending));
         }
+        check_single(&single);
         let phase = self.entry.signal_phase;
         let part = pending.part();
         let Ok(()) = self.phases.open(part, sends, single) else {
@@ -194,6 +207,8 @@ impl<A: Accumulate> PhaserCore<A> {
             → wait_reply A.operation.value self.old.limits h task ≡ result }
         ensures after { (h : History) → StandsFor A.operation self.old h
             → StandsFor A.operation self.new (after_wait result task h) }
+        ensures range { (phase : ℕ) (outcome : Outcome) → result ≡ Ok (Got.Value phase outcome)
+            → IsInRange outcome }
 
         ensures limits { self.new.limits ≡ self.old.limits }
         ensures err { OnErr result (self.new ≡ self.old) }

@@ -1,6 +1,6 @@
 -- The definitions at work: short scripts of calls, whose replies are computed here and compared
 -- with replies that were found by hand.
-use Rattle.std.proofs.Common.{◌≡◌, ℕ, List, [], ◌∷◌, ◌++◌, Some, None, ℤ, pos, negsuc, cond, eqb, refl, arith}
+use Rattle.std.proofs.Common.{◌≡◌, ℕ, ◌≤◌, List, [], ◌∷◌, ◌++◌, Some, None, ℤ, pos, negsuc, cond, eqb, refl, arith}
 use Rattle.phase_base.specs.Limits.{Limits, limits, AreLimits}
 use Rattle.phase_base.specs.declared.mode.Mode.{Mode}
 use Rattle.phase_base.specs.declared.mode.Mode.TheVariants.{Sig, Wait, SigWait, Single}
@@ -297,7 +297,13 @@ limits_are = record { bound_least = omega arith; bound_most = omega arith; phase
 
 eight_is_legal : IsLegal (limits 2 100) eight_events
 eight_is_legal =
-    ((((((((limits_are, refl), refl), refl), refl), (refl, ((record { small = omega arith }, tt), omega arith, tt))), (refl, (tt, omega arith, tt))), (refl, omega arith)), (refl, (tt, omega arith, tt)))
+    ((((((((limits_are, refl), refl), refl), refl), (refl, ((record { small = omega arith }, tt), omega arith, tt), tt)), (refl, (tt, omega arith, tt), tt)), (refl, omega arith)), (refl, (tt, omega arith, tt), tt))
+
+-- no call can name a clamp whose ends are no values
+names_no_clamp_past_the_values : IsLegal (limits 2 100)
+    (Signalled 0 ([] ∷ []) (Some (Clamp (pos 9223372036854775808, pos 9223372036854775808))) ∷ Made 0 ∷ []) → ⊥
+names_no_clamp_past_the_values legal =
+    let low : 9223372036854775808 ≤ 9223372036854775807 = legal.1.2.low_small in omega arith
 
 -- one signal more would be ahead
 nine_are_too_many : signal_refusal (limits 2 100) eight_events 1 ([] ∷ []) None ≡ Some signals.Ahead

@@ -71,16 +71,24 @@ got_tells value h w phase outcome is =
       | false ↦ λ t e. absurd (cc)
     ] refl is
 
-pub answers_law : (value : List ℤ → Outcome) (limits : Limits) (h : History) (task phase : ℕ) (outcome : Outcome)
-    → wait_reply value limits h task ≡ Ok (got.Value phase outcome) → IsAnswered value h task phase outcome
-answers_law value limits h task phase outcome reply =
+-- and what the reply to a wait tells
+pub reply_tells : (value : List ℤ → Outcome) (limits : Limits) (h : History) (task phase : ℕ) (outcome : Outcome)
+    → wait_reply value limits h task ≡ Ok (got.Value phase outcome)
+    → (wait_phase h task < done_of h) × (phase ≡ wait_phase h task) × (outcome ≡ value_of_phase value h (wait_phase h task))
+reply_tells value limits h task phase outcome reply =
     let w = wait_phase h task in
     let gets : got_at value h w ≡ got.Value phase outcome =
     elim (wait_refusal limits h task 1) as (λ r. (refused_or r (got_at value h w) ≡ Ok (got.Value phase outcome)) → got_at value h w ≡ got.Value phase outcome) [
       | None ↦ λ e. (let g : got_at value h w ≡ got.Value phase outcome = (cc) in g)
       | Some refusal ↦ λ e. absurd (cc)
     ] reply in
-    let t = got_tells value h w phase outcome gets in
+    got_tells value h w phase outcome gets
+
+pub answers_law : (value : List ℤ → Outcome) (limits : Limits) (h : History) (task phase : ℕ) (outcome : Outcome)
+    → wait_reply value limits h task ≡ Ok (got.Value phase outcome) → IsAnswered value h task phase outcome
+answers_law value limits h task phase outcome reply =
+    let w = wait_phase h task in
+    let t = reply_tells value limits h task phase outcome reply in
     let long : length (stream_of value h) ≡ done_of h = length-map-range_with_len _ 0 (done_of h) in
     let within : w < length (stream_of value h) = (let a : w < done_of h = t.0 in omega arith) in
     let entry : get_or (stream_of value h) w Empty ≡ value_of_phase value h w =

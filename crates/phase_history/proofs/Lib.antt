@@ -9,3 +9,4 @@ pub mod LawProofs
 pub mod Bounded
 pub mod Alive
 pub mod Standstill
+pub mod InRange

@@ -3,6 +3,7 @@ use Rattle.std.specs.Prelude.{◌≡◌, ◌+◌, ◌≤◌, ℤ, List, [], ◌�
 use Rattle.phase_base.specs.Limits.{Limits, AreLimits}
 use Rattle.phase_base.specs.declared.limits.TheConstants.{SENDS_MAX}
 use Rattle.phase_accum.specs.Values.{AreSends}
+use Rattle.phase_accum.specs.Singles.{CanBeNamed}
 use Rattle.phase_history.specs.declared.event.Event.{Event}
 use Rattle.phase_history.specs.declared.event.Event.TheVariants.{Made, Registered, RegisteredNow, Signalled, Waited, Dropped}
 use Rattle.phase_history.specs.Histories.{History, wait_phase, done_of}
@@ -21,7 +22,7 @@ IsAccepted limits before (Registered parent child mode) =
 IsAccepted limits before (RegisteredNow parent child) =
     register_now_refusal before parent child ≡ None
 IsAccepted limits before (Signalled task lists single) =
-    (signal_refusal limits before task lists single ≡ None) × AreLists lists
+    (signal_refusal limits before task lists single ≡ None) × AreLists lists × CanBeNamed single
 IsAccepted limits before (Waited task n) =
     (wait_refusal limits before task n ≡ None) × (wait_phase before task + n ≤ done_of before)
 IsAccepted limits before (Dropped task) = drop_refusal before task ≡ None

@@ -1,6 +1,6 @@
 -- The refusals of the calls, each a table in the order in which its rows are checked: the first
 -- row that applies is the answer.
-use Rattle.std.specs.Prelude.{ℕ, ℤ, ◌+◌, List, [], ◌∷◌, ◌++◌, Option, Some, None, Bool, true, false, not, ◌&&◌, ◌||◌, length, is_some, if◌then◌else◌, ◌==◌, nat_le, nat_lt}
+use Rattle.std.specs.Prelude.{ℕ, ℤ, ◌+◌, List, [], ◌∷◌, ◌++◌, Option, Some, None, Bool, false, not, ◌&&◌, ◌||◌, length, is_some, if◌then◌else◌, ◌==◌, nat_le, nat_lt}
 use Rattle.phase_base.specs.Limits.{Limits}
 use Rattle.phase_base.specs.declared.limits.TheConstants.{MEMBERS_MAX, SENDS_MAX}
 use Rattle.phase_base.specs.Modes.{holds, mode_signals, mode_waits, is_single}

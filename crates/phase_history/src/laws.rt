@@ -1,11 +1,13 @@
 //! What holds of every history. Each function here makes no call and has no effect: its contract
 //! is a law, for every history of every phaser, however the phaser is kept.
 ghost use Rattle.std.specs.Prelude.{◌≡◌, ◌+◌, ◌<◌, ◌≤◌, ℕ, ℤ, List, ◌++◌, Ok, Some, IsSome, true, false, ◌↔◌};
+ghost use Rattle.std.specs.List.{All};
 ghost use mathlib.Core.List.{IsPrefix};
 ghost use Rattle.phase_base.specs.Limits.{Limits};
 ghost use Rattle.phase_base.specs.Modes.{mode_signals, mode_waits};
 ghost use Rattle.phase_base.specs.declared.entry.Entry.{Entry};
 ghost use Rattle.phase_accum.specs.declared.outcome.Outcome.{Outcome};
+ghost use Rattle.phase_accum.specs.Values.{IsInRange};
 ghost use Rattle.phase_base.specs.Members.{entry_of, wait_phases, least};
 ghost use Rattle.phase_history.specs.Histories.{History, IsWaiter, HasNoSignaller};
 ghost use Rattle.phase_history.specs.Histories.{members_of, top_of, done_of, greatest_used};
@@ -17,6 +19,17 @@ ghost use Rattle.phase_history.specs.Laws.{GoesOn, GoesOnPlainly, NamesNoSingle}
 ghost use Rattle.phase_history.specs.Replies.{wait_reply};
 
 use crate::got::Got;
+use phase_accum::Accumulate;
+
+/// Under an accumulator each value of the stream is in range, and so is what a wait is answered: its
+/// magnitude is one of a value.
+pub fn in_range<A: Accumulate>()
+    ensures stream { (limits : Limits) (h : History) → IsLegal limits h
+        → All IsInRange (stream_of A.operation.value h) }
+    ensures answer { (limits : Limits) (h : History) (task phase : ℕ) (outcome : Outcome)
+        → IsLegal limits h → wait_reply A.operation.value limits h task ≡ Ok (Got.Value phase outcome)
+        → IsInRange outcome }
+{}
 
 /// A waiter has received the stream from its start to its wait phase, each value once and in
 /// order.

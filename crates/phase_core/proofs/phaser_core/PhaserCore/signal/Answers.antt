@@ -34,7 +34,7 @@ returns-clause-after g c h sends stands holds =
     let none : signal_refusal c.self.inside.spec h c.args.task (sends ∷ []) c.args.single ≡ None =
     subst P (sym c.self.view_is) (λ s. c.signal_refusal.ensures h sends s count) here ∙ c.in_default.is in
     signal_one g.A.Accumulate.operation g.met.A.Accumulate.laws c.self.inside.spec c.self.inside.founder c.self.inside.entry c.self.inside.phases c.open.new.self
-    h c.args.task c.args.pending c.part-part.result c.count-sends.result sends c.args.single here c.self.invariant.0 none holds
+    h c.args.task c.args.pending c.part-part.result c.count-sends.result sends c.args.single here c.self.invariant.0 none holds c.check_single.ensures
     c.part-part.ensures.value c.count-sends.ensures.value c.in-Ok.ensures.ok
 
 pub invariant_of-self-2 : goal.invariant_of-self-2
@@ -56,7 +56,7 @@ invariant_of-self-2 g c =
       (
         Signalled c.args.task (sends ∷ []) c.args.single ∷ h,
         signal_one g.A.Accumulate.operation g.met.A.Accumulate.laws c.self.inside.spec c.self.inside.founder c.self.inside.entry c.self.inside.phases c.open.new.self
-            h c.args.task c.args.pending c.part-part.result c.count-sends.result sends c.args.single here c.self.invariant.0 none holds
+            h c.args.task c.args.pending c.part-part.result c.count-sends.result sends c.args.single here c.self.invariant.0 none holds c.check_single.ensures
             c.part-part.ensures.value c.count-sends.ensures.value c.in-Ok.ensures.ok,
       ),
     )

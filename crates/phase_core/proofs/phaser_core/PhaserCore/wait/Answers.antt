@@ -6,6 +6,7 @@ use Rattle.phase_history.specs.declared.got.Got.TheVariants as got
 use Rattle.phase_base.specs.Members.{entry_of, waited}
 use Rattle.phase_history.specs.Histories.{done_of}
 use Rattle.phase_history.specs.Replies.{wait_reply}
+use Rattle.phase_history.proofs.InRange.{wait_reply-in_range}
 use Rattle.phase_core.specs.Cores.{CoreState, StandsFor, one_member}
 use Rattle.phase_core.proofs.OneMember.{GetsOne, gets_one, value_one, entry_of_one}
 use Rattle.phase_core.proofs.phaser_core.PhaserCore.wait.Goals as goal
@@ -105,3 +106,12 @@ returns-clause-after g c h stands =
     StandsFor g.A.Accumulate.operation
     (one_member c.self.inside.spec c.self.inside.founder (waited 1 e) c.self.inside.phases) (Waited c.args.task 1 ∷ h) in
     subst E same gets.after
+
+-- what it answers is a value of some legal history
+pub returns-clause-range : goal.returns-clause-range
+returns-clause-range g c phase outcome is =
+    let h = c.self.invariant.1.0 in
+    let P : CoreState g.row.A.Denot → Type 0 = λ k. StandsFor g.A.Accumulate.operation k h in
+    let stands : StandsFor g.A.Accumulate.operation c.args.self.now h = subst P c.self.view_is c.self.invariant.1.1 in
+    wait_reply-in_range g.A.Accumulate.operation g.met.A.Accumulate.laws c.args.self.now.limits h c.args.task phase outcome
+    stands.legal (returns-clause-reply g c h stands ∙ is)
