@@ -1,2 +1,6 @@
+pub mod Boarded
 pub mod CoreSteps
-pub mod OneMember
+pub mod LeastCounts
+pub mod NewCore
+pub mod Replies
+pub mod RingSlots
