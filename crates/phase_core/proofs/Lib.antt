@@ -4,3 +4,6 @@ pub mod LeastCounts
 pub mod NewCore
 pub mod Replies
 pub mod RingSlots
+pub mod SignalCore
+pub mod SignalRows
+pub mod WaitCore

@@ -1,2 +1,3 @@
 pub mod Cores
+pub mod Rows
 pub mod Slots
