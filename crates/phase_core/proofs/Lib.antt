@@ -1,6 +1,10 @@
 pub mod Boarded
 pub mod CoreSteps
+pub mod Joining
 pub mod LeastCounts
+pub mod Leaving
+pub mod MemberCounts
+pub mod MemberSteps
 pub mod NewCore
 pub mod Replies
 pub mod RingSlots

@@ -1,7 +1,6 @@
 -- What a core keeps, and the histories that it stands for.
 use Rattle.std.specs.Prelude.{◌≡◌, ℕ, ◌+◌, ◌<◌, ◌≤◌, ◌⊎◌, List, [], Some, IsSome, length, map, slice_get, unwrap_or}
 use Rattle.phase_base.specs.Limits.{Limits}
-use Rattle.phase_base.specs.declared.entry.Entry.{Entry}
 use Rattle.phase_accum.specs.Operations.{Operation, IsPartOf}
 use Rattle.phase_core.specs.Slots.{KeptSlot}
 use Rattle.phase_base.specs.Members.{Members, signal_phases, wait_phases, least}
