@@ -41,7 +41,7 @@ impl Single {
     }
 
     /// Gives the single that takes the nearest value of the range from `low` to `high`, both ends
-    /// included.
+    /// included. `BadClamp` where `low` is above `high`, or an end is `NO_VALUE`.
     pub fn clamp(low: i64, high: i64) -> Result<Single, BadClamp>
         ensures ok { (result ≡ Ok (Single.Clamp (low, high))) ↔ IsRange (low, high) }
         ensures bad_clamp { IsErr result
