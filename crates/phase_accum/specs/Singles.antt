@@ -6,8 +6,8 @@ use Rattle.phase_accum.specs.Ranges.{IsRange}
 use Rattle.phase_accum.specs.declared.single.Single.{Single}
 use Rattle.phase_accum.specs.declared.single.Single.TheVariants.{Neg, Abs, Halve, Clamp}
 
--- a signal can name it: no single, or one that can be made, which of a clamp says that its ends are
--- a range
+-- what a signal can name: no single, or one that can be made. A clamp can be where its ends are a
+-- range
 abbrev pub CanBeNamed : Option Single → Type 0
 CanBeNamed (Some (Clamp range)) = IsRange range
 CanBeNamed _ = Unit {0}

@@ -24,4 +24,5 @@ pub mod Tops
 pub mod Left
 pub mod BlockAnswers
 pub mod BlockSignals
+pub mod BlockLeaves
 pub mod Accepted

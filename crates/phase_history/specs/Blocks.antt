@@ -10,8 +10,8 @@ use Rattle.phase_history.specs.declared.call.Call.{Call}
 use Rattle.phase_history.specs.declared.call.Call.TheVariants.{Signal}
 use Rattle.phase_history.specs.declared.event.Event.TheVariants.{Signalled, Waited}
 use Rattle.phase_history.specs.declared.refusal.SignalRefusal.{SignalRefusal}
-use Rattle.phase_history.specs.Histories.{History, wait_phase, done_of}
-use Rattle.phase_history.specs.Phases.{stream_of, received_by}
+use Rattle.phase_history.specs.Histories.{History, members_of, top_of, wait_phase, done_of}
+use Rattle.phase_history.specs.Phases.{sends_of_phase, named_in_phase, stream_of, received_by}
 use Rattle.phase_history.specs.Refusals.{signal_refusal}
 use Rattle.phase_history.specs.Legal.{AreLists}
 
@@ -22,6 +22,20 @@ one_by_one_refusal limits h task [] single = None
 one_by_one_refusal limits h task (sends ∷ lists) single =
     option_or (signal_refusal limits h task (sends ∷ []) single)
     (one_by_one_refusal limits (Signalled task (sends ∷ []) single ∷ h) task lists single)
+
+-- the history after plain signals one by one
+abbrev pub one_by_one : History → ℕ → List (List ℤ) → Option Single → History
+one_by_one h task [] single = h
+one_by_one h task (sends ∷ lists) single =
+    one_by_one (Signalled task (sends ∷ []) single ∷ h) task lists single
+
+-- two histories leave the same: the same members and top, and in each phase the same sends and the
+-- same name of the first signal
+pub record LeavesSame (one other : History) : Type 0 where
+  pub members : members_of one ≡ members_of other
+  pub top : top_of one ≡ top_of other
+  pub sends : (p : ℕ) → sends_of_phase one p ≡ sends_of_phase other p
+  pub named : (p : ℕ) → named_in_phase one p ≡ named_in_phase other p
 
 -- a wait for at most n phases that is answered by this phase and count adds the values of these
 -- phases to what the task has received: at least one, and all that are complete or all n

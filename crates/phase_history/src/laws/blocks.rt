@@ -1,10 +1,10 @@
 //! Laws of blocks of phases, and of what a call with its reply makes of a history.
-ghost use Rattle.std.specs.Prelude.{◌≡◌, ℕ, ℤ, List, length, Option, Ok, false};
+ghost use Rattle.std.specs.Prelude.{◌≡◌, ℕ, ℤ, List, ◌∷◌, length, Option, Ok, false};
 ghost use Rattle.phase_base.specs.Limits.{Limits};
 ghost use Rattle.phase_accum.specs.declared.outcome.Outcome.{Outcome};
 ghost use Rattle.phase_accum.specs.declared.single.Single.{Single};
 ghost use Rattle.phase_base.specs.declared.mode.Mode.{Mode};
-ghost use Rattle.phase_history.specs.Histories.{History, done_of};
+ghost use Rattle.phase_history.specs.Histories.{History, IsAlive, done_of};
 ghost use Rattle.phase_history.specs.Legal.{IsLegal};
 ghost use Rattle.phase_history.specs.Refusals.{is_bad_block, register_refusal, register_now_refusal};
 ghost use Rattle.phase_history.specs.Refusals.{signal_refusal, drop_refusal};
@@ -13,9 +13,11 @@ ghost use Rattle.phase_history.specs.Replies.{wait_block_reply, reply_to, after_
 ghost use Rattle.phase_history.specs.Replies.{after_register, after_register_now};
 ghost use Rattle.phase_history.specs.Replies.{after_signal, after_wait};
 ghost use Rattle.phase_history.specs.Replies.{after_wait_block, after_drop};
-ghost use Rattle.phase_history.specs.Blocks.{one_by_one_refusal, IsAnsweredBlock, CanBeMade};
+ghost use Rattle.phase_history.specs.Blocks.{one_by_one_refusal, one_by_one, LeavesSame};
+ghost use Rattle.phase_history.specs.Blocks.{IsAnsweredBlock, CanBeMade};
 
 use crate::call::Call;
+use crate::event::Event;
 use crate::got::GotBlock;
 
 /// A block that is neither too short nor too long is refused as the first of its signals that would
@@ -23,7 +25,16 @@ use crate::got::GotBlock;
 pub fn block_signals()
     ensures { (limits : Limits) (h : History) (task : ℕ) (lists : List (List ℤ))
         (single : Option Single) → is_bad_block limits (length lists) ≡ false
-        → signal_refusal limits h task lists single ≡ one_by_one_refusal limits h task lists single }
+        → signal_refusal limits h task lists single
+        ≡ one_by_one_refusal limits h task lists single }
+{}
+
+/// A block leaves what its signals one by one leave, where the task is registered.
+pub fn block_leaves()
+    ensures { (h : History) (task : ℕ) (sends : List ℤ) (lists : List (List ℤ))
+        (single : Option Single) → IsAlive h task
+        → LeavesSame (Event.Signalled task (sends ∷ lists) single ∷ h)
+        (one_by_one h task (sends ∷ lists) single) }
 {}
 
 /// What a wait for a block is answered is what its task then has received last: the values of the
@@ -46,7 +57,8 @@ pub fn accepted()
 pub fn after()
     ensures register { (value : List ℤ → Outcome) (limits : Limits) (h : History)
         (parent child : ℕ) (mode : Mode)
-        → after_register (refused_or (register_refusal h parent child mode) child) parent child mode h
+        → after_register (refused_or (register_refusal h parent child mode) child)
+        parent child mode h
         ≡ after_reply (Call.Register parent child mode)
         (reply_to value limits h (Call.Register parent child mode)) h }
     ensures register_now { (value : List ℤ → Outcome) (limits : Limits) (h : History)
