@@ -23,7 +23,7 @@ use Rattle.phase_history.specs.Phases.{value_of_phase, single_of_phase, sends_of
 use Rattle.phase_history.specs.Refusals.{signal_refusal, signal_rows, wait_refusal}
 use Rattle.phase_history.specs.Legal.{IsLegal}
 use Rattle.phase_core.specs.Slots.{KeptSlot, opened_slot, slot_value}
-use Rattle.phase_core.specs.Cores.{CoreState, one_member, KeepsSends, IsSlotOf, KeepsPhase, StandsFor}
+use Rattle.phase_core.specs.Cores.{CoreState, KeepsSends, IsSlotOf, KeepsPhase, StandsFor}
 use Rattle.phase_history.proofs.Each.{Each, Each-of_picked, Each-picked, least_low, least_or_high}
 use Rattle.phase_history.proofs.MemberLemmas.{Each-entry, Each-changed, wait_phases-signalled}
 use Rattle.phase_history.proofs.Refused.{Passes, passes_from, WaitsNow, waits_from}
@@ -245,7 +245,7 @@ pub record Waits {A : Type 0} (old new : CoreState A) (task : ℕ) : Type 0 wher
       → IsSlotOf old p slot → IsSlotOf new p slot
 
 -- a list without a least has no number
-none_least : (P : ℕ → Type 0) (xs : List ℕ) → least xs ≡ None → Each P xs
+pub none_least : (P : ℕ → Type 0) (xs : List ℕ) → least xs ≡ None → Each P xs
 none_least P [] none = tt
 none_least P (x ∷ xs) none = absurd (cc)
 
@@ -309,18 +309,6 @@ waits_stands op old new h task e stands found_old none complete s =
             keeps = record { part_is = k.keeps.part_is; count_is = k.keeps.count_is; named_is = k.keeps.named_is };
           };
     }
-
--- ---- a new core
-
-pub made_stands : {A : Type 0} (op : Operation A) (limits : Limits) (task : ℕ) → AreLimits limits
-    → StandsFor op (one_member limits task founder []) (Made task ∷ [])
-made_stands op limits task are = record {
-  legal = (are, refl);
-  members_are = refl;
-  greatest_is = refl;
-  top_is = refl;
-  phases_are = λ slowest p waiter behind below. absurd (omega arith);
-}
 
 -- ---- replies
 

@@ -1,2 +1,13 @@
+pub mod Boarded
 pub mod CoreSteps
-pub mod OneMember
+pub mod Joining
+pub mod LeastCounts
+pub mod Leaving
+pub mod MemberCounts
+pub mod MemberSteps
+pub mod NewCore
+pub mod Replies
+pub mod RingSlots
+pub mod SignalCore
+pub mod SignalRows
+pub mod WaitCore

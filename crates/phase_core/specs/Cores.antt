@@ -1,13 +1,19 @@
 -- What a core keeps, and the histories that it stands for.
-use Rattle.std.specs.Prelude.{◌≡◌, ℕ, ◌+◌, ◌<◌, ◌≤◌, List, [], ◌∷◌, Some, length, slice_get}
+use Rattle.std.specs.Prelude.{◌≡◌, ℕ, ◌+◌, ◌<◌, ◌≤◌, ◌⊎◌, List, [], Some, IsSome, length, map, slice_get, unwrap_or}
 use Rattle.phase_base.specs.Limits.{Limits}
-use Rattle.phase_base.specs.declared.entry.Entry.{Entry}
 use Rattle.phase_accum.specs.Operations.{Operation, IsPartOf}
 use Rattle.phase_core.specs.Slots.{KeptSlot}
-use Rattle.phase_base.specs.Members.{Members, wait_phases, least}
+use Rattle.phase_base.specs.Members.{Members, signal_phases, wait_phases, least}
 use Rattle.phase_history.specs.Histories.{History, members_of, top_of, greatest_used}
 use Rattle.phase_history.specs.Phases.{sends_of_phase, named_in_phase}
 use Rattle.phase_history.specs.Legal.{IsLegal}
+use Rattle.phase_registry.specs.Rosters.{Roster}
+use Rattle.phase_ring.specs.declared.slot.Slot.{Slot}
+use Rattle.phase_ring.specs.declared.role.Role.TheVariants.{Signaller, Waiter}
+use Rattle.phase_ring.specs.declared.board.Board.{Board}
+use Rattle.phase_ring.specs.Rings.{Ring, standing}
+use Rattle.phase_ring.specs.Standings.{count_of}
+use Rattle.phase_ring.specs.Boards.{IsKept}
 
 -- the limits, the members, the greatest number used, the top, and a slot for each phase from the
 -- base on, as far as phases are kept
@@ -50,13 +56,42 @@ pub record StandsFor {A : Type 0} (op : Operation A) (core : CoreState A) (h : H
   pub phases_are : (slowest p : ℕ) → least (wait_phases core.members) ≡ Some slowest
       → slowest ≤ p → p < core.top → KeepsPhase op core h p
 
--- for the code: a core of one member that keeps all phases
-abbrev pub one_member : {A : Type 0} → Limits → ℕ → Entry → List (KeptSlot A) → CoreState A
-one_member limits task entry slots = record {
+-- ---- a core over a registry and a board
+
+-- what a slot of the ring says of its phase
+abbrev pub sent_of : {A : Type 0} → Slot A → KeptSlot A
+sent_of slot = record { part = slot.part; count = slot.count; named = slot.named }
+
+-- a registry, limits, a ring and the top as a core
+abbrev pub core_with : {A : Type 0} → Roster → Limits → Ring A → ℕ → CoreState A
+core_with r limits ring top = record {
   limits = limits;
-  members = (task, entry) ∷ [];
-  greatest = task;
-  top = length slots;
-  base = 0;
-  slots = slots;
+  members = r.members;
+  greatest = unwrap_or r.greatest 0;
+  top = top;
+  base = ring.base;
+  slots = map sent_of ring.slots;
 }
+
+-- a registry and a board as a core
+abbrev pub core_of : {A : Type 0} → Roster → Board A → CoreState A
+core_of r board = core_with r board.limits board.ring board.top
+
+-- while a waiter is registered, at the end of each call: the board is kept, done is the first
+-- phase at which a signaller stands, or the top, a waiter stands at the base, and as many stand at
+-- each phase as the members say
+pub record IsBoarded {A : Type 0} (op : Operation A) (members : Members) (r : Ring A)
+    (bound done top : ℕ) : Type 0 where
+  pub kept : IsKept op r bound done top
+  pub done_at : (done ≡ top) ⊎ (0 < standing r Signaller done)
+  pub base_at : 0 < standing r Waiter r.base
+  pub signallers_are : (p : ℕ) → standing r Signaller p ≡ count_of p (signal_phases members)
+  pub waiters_are : (p : ℕ) → standing r Waiter p ≡ count_of p (wait_phases members)
+
+-- for the code: the two stand for some history, and agree while a waiter is registered
+pub record IsCore {A : Type 0} (op : Operation A) (r : Roster) (board : Board A) : Type 0 where
+  pub history : History
+  pub stands : StandsFor op (core_of r board) history
+  pub boarded : (wait_phases r.members ≡ [])
+      ⊎ IsBoarded op r.members board.ring board.limits.bound board.done board.top
+  pub used : IsSome r.greatest

@@ -1,14 +1,13 @@
-//! A phaser for one thread: a task signals phases with its sends, and waits for their values. The
-//! contracts speak of histories, which are lists of the accepted calls. The first calls are
-//! `PhaserCore::new`, `PhaserCore::signal` and `PhaserCore::wait`.
+//! A phaser for one thread: tasks join and leave, signal phases with their sends, and wait for the
+//! values of the phases. The contracts speak of histories, which are lists of what the calls did.
+//! The first calls are `PhaserCore::new`, `PhaserCore::signal` and `PhaserCore::wait`.
 #![tactic(auto)]
 
-mod phase_list;
+mod members;
 mod phaser_core;
 mod refusal_rows;
-mod slot;
-#[cfg(test)]
-mod tests;
+mod signalling;
+mod waiting;
 
 pub use phase_history::{
     Call, Event, Got, GotBlock, NoTask, RegisterRefusal, Reply, SignalRefusal, WaitRefusal, laws,

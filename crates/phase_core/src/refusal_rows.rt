@@ -1,44 +1,23 @@
 //! The refusals of a signal and of a wait by a task with a given entry.
-ghost use Rattle.std.specs.Prelude.{◌≡◌, ◌≤◌, is_some};
-ghost use Rattle.phase_history.specs.Refusals.{first_row, plain_signal_rows, plain_wait_rows, differs};
+ghost use Rattle.std.specs.Prelude.{◌≡◌, None};
+ghost use Rattle.phase_history.specs.Refusals.{first_row, plain_signal_rows, plain_wait_rows};
+ghost use Rattle.phase_core.specs.Rows.{refusal_of};
 
 use phase_accum::Single;
-use phase_base::{Entry, Mode, SENDS_MAX, Spec};
+use phase_base::{Entry, Mode, Spec};
 use phase_history::{SignalRefusal, WaitRefusal};
+use phase_ring::MergeRefusal;
 
-/// What a phase has when a signal comes: the number of its sends, and what was named first.
-#[derive(Clone, Copy)]
-pub struct Joined {
-    /// The number of sends, at most `SENDS_MAX`.
-    pub count: u64,
-    /// What the first signal named, where there is one.
-    pub named: Option<Option<Single>>,
-}
-
-/// Tells whether a signal that names `single`, or none, joins signals that named otherwise.
-fn is_other(named: Option<Option<Single>>, single: Option<Single>) -> bool
-    ensures { result ≡ differs named single }
-{
-    match named {
-        None => false,
-        Some(first) => first != single,
-    }
-}
-
-/// The first refusal of a plain signal of `sends` sends, in the order of the table. `slowest` is
-/// the least wait phase of the waiters.
+/// The first refusal of a plain signal that does not look into its phase, in the order of the
+/// table. `slowest` is the least wait phase of the waiters.
 pub fn signal_refusal(
     spec: Spec,
     slowest: Option<u64>,
-    joined: Joined,
-    sends: u64,
-    single: Option<Single>,
+    single: &Option<Single>,
     entry: Entry,
 ) -> Option<SignalRefusal>
-    requires joined { joined.count ≤ SENDS_MAX }
-    requires sends { sends ≤ SENDS_MAX }
-    ensures { result
-        ≡ first_row (plain_signal_rows spec slowest joined.count joined.named sends single entry) }
+    // A signal of no send meets no refusal in a phase that no signal has joined.
+    ensures { result ≡ first_row (plain_signal_rows spec slowest 0 None 0 single.now entry) }
 {
     if !entry.mode.signals() {
         return Some(SignalRefusal::NoSignal);
@@ -54,16 +33,17 @@ pub fn signal_refusal(
         return Some(SignalRefusal::Spent);
     }
     let slowest = slowest?;
-    if phase.saturating_sub(slowest) >= spec.bound() {
-        return Some(SignalRefusal::Ahead);
+    (phase.saturating_sub(slowest) >= spec.bound()).then_some(SignalRefusal::Ahead)
+}
+
+/// The refusal of a signal whose sends do not join its phase.
+pub fn phase_refusal(refusal: MergeRefusal) -> SignalRefusal
+    ensures { result ≡ refusal_of refusal }
+{
+    match refusal {
+        MergeRefusal::SingleDiffers => SignalRefusal::SingleDiffers,
+        MergeRefusal::PhaseFull => SignalRefusal::PhaseFull,
     }
-    if is_other(joined.named, single) {
-        return Some(SignalRefusal::SingleDiffers);
-    }
-    if joined.count + sends > SENDS_MAX {
-        return Some(SignalRefusal::PhaseFull);
-    }
-    None
 }
 
 /// The first refusal of a plain wait, in the order of the table. `done` is the first phase that is

@@ -1,17 +1,15 @@
--- A new core stands for the history of its making.
-use Rattle.std.proofs.Common.{◌≡◌, [], ◌∷◌, refl}
-use Rattle.phase_history.specs.declared.event.Event.TheVariants.{Made}
-use Rattle.phase_core.proofs.CoreSteps.{made_stands}
+-- The founder alone stands on the board and in the registry.
+use Rattle.std.proofs.Common.{◌≡◌, sym, ◌∙◌, ap, subst}
+use Rattle.phase_base.specs.Limits.{Limits, AreLimits}
+use Rattle.phase_history.specs.Histories.{founder}
+use Rattle.phase_registry.specs.Rosters.{added}
+use Rattle.phase_core.proofs.NewCore.{made_core}
 use Rattle.phase_core.proofs.phaser_core.PhaserCore.new.Goals as goal
 
 pub invariant_of-result : goal.invariant_of-result
 invariant_of-result g c =
-    let none : c.in_ok-new.field-0 ≡ [] = c.in_ok-new.ensures in
-    rw none (
-      refl,
-      (
-        Made c.args.first
-            ∷ [],
-        made_stands g.A.Accumulate.operation c.args.spec c.args.first c.bound-bound.ensures.limits,
-      ),
-    )
+    let b = c.in_ok-board.ensures in
+    let L : Limits → Type 0 = λ l. AreLimits l in
+    (made_core g.A.Accumulate.operation c.add.new.self c.in_ok-board.board c.args.first
+    (c.in-Ok.ensures.added ∙ ap (added c.args.first founder) c.new-registry.ensures)
+    (subst L (sym b.limits) c.bound-bound.ensures.limits) b.kept b.done b.top b.base b.standing).holds

@@ -1,0 +1,175 @@
+-- The least of a list of numbers, by how often each number stands in it.
+use Rattle.std.proofs.Common.{◌≡◌, ℕ, ◌+◌, ◌<◌, ◌≤◌, ◌⊎◌, Bool, true, false, cond, eqb, List, [], ◌∷◌, Option, Some, None, map, min, length, unwrap_or, refl, sym, ap, subst, ◌∙◌, ⊎_elim, arith, inl, inr}
+use Rattle.std.specs.List.{filter}
+use Rattle.std.proofs.lemmas.Option.{same_Some}
+use Rattle.std.proofs.lemmas.Bool.{cases_eq, cases_lt, eq-eqb, ne_eqb}
+use Rattle.phase_base.specs.Modes.{mode_signals, mode_waits}
+use Rattle.phase_base.specs.declared.entry.Entry.{Entry}
+use Rattle.phase_base.specs.Members.{Members, entry_of, changed_at, signal_phases, wait_phases, least, lesser, signalled, waited}
+use Rattle.phase_ring.specs.Standings.{is, count_of}
+use Rattle.phase_history.proofs.Each.{Each}
+
+pub is-same : (n : ℕ) → is n n ≡ 1
+is-same n = ap (λ b. cond b 1 0) (eq-eqb n n refl)
+
+pub is-other : (m n : ℕ) → (m ≡ n → ⊥) → is m n ≡ 0
+is-other m n apart = ap (λ b. cond b 1 0) (ne_eqb m n apart)
+
+-- ---- the least number, by how often each stands in the list
+
+-- where no number below b stands in the list, each is at least b
+pub low_by_counts : (xs : List ℕ) (b : ℕ) → ((p : ℕ) → p < b → count_of p xs ≡ 0) → Each (λ x. b ≤ x) xs
+low_by_counts [] b none = tt
+low_by_counts (x ∷ xs) b none = (
+  ⊎_elim (λ below. absurd (let n : is x x + count_of x xs ≡ 0 = none x below in let one = is-same x in omega arith)) (λ h. h) (cases_lt x b),
+  low_by_counts xs b (λ p h. let n : is x p + count_of p xs ≡ 0 = none p h in omega arith),
+)
+
+lesser_low : (xs : List ℕ) (b : ℕ) → Each (λ x. b ≤ x) xs → lesser b (least xs) ≡ b
+lesser_low [] b each = refl
+lesser_low (x ∷ xs) b each =
+    let rest : lesser b (least xs) ≡ b = lesser_low xs b each.1 in
+    let first : b ≤ x = each.0 in
+    elim (least xs) as (λ o. lesser b o ≡ b → min b (lesser x o) ≡ b) [
+      | None ↦ λ r. omega arith
+      | Some m ↦ λ r. omega arith
+    ] rest
+
+pub least_by_counts : (xs : List ℕ) (b : ℕ) → ((p : ℕ) → p < b → count_of p xs ≡ 0) → 0 < count_of b xs → least xs ≡ Some b
+least_by_counts [] b none some = absurd (omega arith)
+least_by_counts (x ∷ xs) b none some =
+    let each = low_by_counts (x ∷ xs) b none in
+    let first : b ≤ x = each.0 in
+    ⊎_elim
+    (λ (same : x ≡ b). ap (λ n. Some (lesser n (least xs))) same ∙ ap Some (lesser_low xs b each.1))
+    (λ (apart : x ≡ b → ⊥).
+    let away : is x b ≡ 0 = is-other x b apart in
+    let rest : least xs ≡ Some b = least_by_counts xs b
+    (λ p h. let n : is x p + count_of p xs ≡ 0 = none p h in omega arith)
+    (let s : 0 < is x b + count_of b xs = some in omega arith) in
+    ap (λ o. Some (lesser x o)) rest ∙ ap Some (let m : min x b ≡ b = omega arith in m))
+    (cases_eq x b)
+
+-- done by the numbers of signallers: the first phase at which one stands, or the top
+pub done_by_counts : (xs : List ℕ) (d top : ℕ) → ((p : ℕ) → p < d → count_of p xs ≡ 0) → ((p : ℕ) → top < p → count_of p xs ≡ 0)
+    → (d ≡ top) ⊎ (0 < count_of d xs) → unwrap_or (least xs) top ≡ d
+done_by_counts [] d top low high (inl at) = sym at
+done_by_counts [] d top low high (inr some) = absurd (omega arith)
+done_by_counts (x ∷ xs) d top low high (inr some) = ap (λ o. unwrap_or o top) (least_by_counts (x ∷ xs) d low some)
+done_by_counts (x ∷ xs) d top low high (inl at) =
+    let each = low_by_counts (x ∷ xs) d low in
+    let first : d ≤ x = each.0 in
+    let last : x ≤ top = ⊎_elim (λ above. absurd (let n : is x x + count_of x xs ≡ 0 = high x above in let one = is-same x in omega arith)) (λ h. h) (cases_lt top x) in
+    let here : x ≡ d = omega arith in
+    let one : is x d ≡ 1 = ap (λ n. is n d) here ∙ is-same d in
+    let some : 0 < is x d + count_of d xs = omega arith in
+    ap (λ o. unwrap_or o top) (least_by_counts (x ∷ xs) d low some)
+
+-- ---- the members that stand at a phase
+
+-- one signaller moves on
+pub signallers-signalled : (ms : Members) (task p : ℕ) (e : Entry) → entry_of ms task ≡ Some e → mode_signals e.mode ≡ true
+    → count_of p (signal_phases (changed_at task (signalled 1) ms)) + is e.signal_phase p
+    ≡ count_of p (signal_phases ms) + is (e.signal_phase + 1) p
+signallers-signalled [] task p e found signals = absurd (cc)
+signallers-signalled (m ∷ ms) task p e found signals =
+    elim (eqb m.0 task) as (λ b. (cond b (Some m.1) (entry_of ms task) ≡ Some e)
+    → count_of p (signal_phases (cond b ((m.0, signalled 1 m.1) ∷ ms) (m ∷ changed_at task (signalled 1) ms))) + is e.signal_phase p
+    ≡ count_of p (signal_phases (m ∷ ms)) + is (e.signal_phase + 1) p) [
+      | true ↦ λ f.
+          let same : m.1 ≡ e = same_Some _ _ f in
+          let mode : mode_signals m.1.mode ≡ true = ap (λ (x : Entry). mode_signals x.mode) same ∙ signals in
+          let s : m.1.signal_phase ≡ e.signal_phase = ap (λ (x : Entry). x.signal_phase) same in
+          let S : ℕ → Type 0 = λ n. (is (n + 1) p + count_of p (signal_phases ms)) + is e.signal_phase p ≡ (is n p + count_of p (signal_phases ms)) + is (e.signal_phase + 1) p in
+          let B : Bool → Type 0 = λ b.
+          count_of p (map (λ (x : ℕ × Entry). x.1.signal_phase) (cond b ((m.0, signalled 1 m.1) ∷ filter (λ (x : ℕ × Entry). mode_signals x.1.mode) ms) (filter (λ (x : ℕ × Entry). mode_signals x.1.mode) ms))) + is e.signal_phase p
+          ≡ count_of p (map (λ (x : ℕ × Entry). x.1.signal_phase) (cond b (m ∷ filter (λ (x : ℕ × Entry). mode_signals x.1.mode) ms) (filter (λ (x : ℕ × Entry). mode_signals x.1.mode) ms))) + is (e.signal_phase + 1) p in
+          subst B (sym mode) (subst S (sym s) (omega arith))
+      | false ↦ λ f.
+          let rest = signallers-signalled ms task p e f signals in
+          elim (mode_signals m.1.mode) as (λ b.
+          count_of p (map (λ (x : ℕ × Entry). x.1.signal_phase) (cond b (m ∷ filter (λ (x : ℕ × Entry). mode_signals x.1.mode) (changed_at task (signalled 1) ms)) (filter (λ (x : ℕ × Entry). mode_signals x.1.mode) (changed_at task (signalled 1) ms)))) + is e.signal_phase p
+          ≡ count_of p (map (λ (x : ℕ × Entry). x.1.signal_phase) (cond b (m ∷ filter (λ (x : ℕ × Entry). mode_signals x.1.mode) ms) (filter (λ (x : ℕ × Entry). mode_signals x.1.mode) ms))) + is (e.signal_phase + 1) p) [
+            | true ↦ omega arith
+            | false ↦ rest
+          ]
+    ] found
+
+-- one waiter moves on
+pub waiters-waited : (ms : Members) (task p : ℕ) (e : Entry) → entry_of ms task ≡ Some e → mode_waits e.mode ≡ true
+    → count_of p (wait_phases (changed_at task (waited 1) ms)) + is e.wait_phase p
+    ≡ count_of p (wait_phases ms) + is (e.wait_phase + 1) p
+waiters-waited [] task p e found waits = absurd (cc)
+waiters-waited (m ∷ ms) task p e found waits =
+    elim (eqb m.0 task) as (λ b. (cond b (Some m.1) (entry_of ms task) ≡ Some e)
+    → count_of p (wait_phases (cond b ((m.0, waited 1 m.1) ∷ ms) (m ∷ changed_at task (waited 1) ms))) + is e.wait_phase p
+    ≡ count_of p (wait_phases (m ∷ ms)) + is (e.wait_phase + 1) p) [
+      | true ↦ λ f.
+          let same : m.1 ≡ e = same_Some _ _ f in
+          let mode : mode_waits m.1.mode ≡ true = ap (λ (x : Entry). mode_waits x.mode) same ∙ waits in
+          let s : m.1.wait_phase ≡ e.wait_phase = ap (λ (x : Entry). x.wait_phase) same in
+          let S : ℕ → Type 0 = λ n. (is (n + 1) p + count_of p (wait_phases ms)) + is e.wait_phase p ≡ (is n p + count_of p (wait_phases ms)) + is (e.wait_phase + 1) p in
+          let B : Bool → Type 0 = λ b.
+          count_of p (map (λ (x : ℕ × Entry). x.1.wait_phase) (cond b ((m.0, waited 1 m.1) ∷ filter (λ (x : ℕ × Entry). mode_waits x.1.mode) ms) (filter (λ (x : ℕ × Entry). mode_waits x.1.mode) ms))) + is e.wait_phase p
+          ≡ count_of p (map (λ (x : ℕ × Entry). x.1.wait_phase) (cond b (m ∷ filter (λ (x : ℕ × Entry). mode_waits x.1.mode) ms) (filter (λ (x : ℕ × Entry). mode_waits x.1.mode) ms))) + is (e.wait_phase + 1) p in
+          subst B (sym mode) (subst S (sym s) (omega arith))
+      | false ↦ λ f.
+          let rest = waiters-waited ms task p e f waits in
+          elim (mode_waits m.1.mode) as (λ b.
+          count_of p (map (λ (x : ℕ × Entry). x.1.wait_phase) (cond b (m ∷ filter (λ (x : ℕ × Entry). mode_waits x.1.mode) (changed_at task (waited 1) ms)) (filter (λ (x : ℕ × Entry). mode_waits x.1.mode) (changed_at task (waited 1) ms)))) + is e.wait_phase p
+          ≡ count_of p (map (λ (x : ℕ × Entry). x.1.wait_phase) (cond b (m ∷ filter (λ (x : ℕ × Entry). mode_waits x.1.mode) ms) (filter (λ (x : ℕ × Entry). mode_waits x.1.mode) ms))) + is (e.wait_phase + 1) p) [
+            | true ↦ omega arith
+            | false ↦ rest
+          ]
+    ] found
+
+-- ---- few members at a phase
+
+-- who stands at one of two phases is a member
+pub two_counts : (xs : List ℕ) (p q : ℕ) → (p ≡ q → ⊥) → count_of p xs + count_of q xs ≤ length xs
+two_counts [] p q apart = omega arith
+two_counts (x ∷ xs) p q apart =
+    let rest = two_counts xs p q apart in
+    let one : is x p + is x q ≤ 1 = ⊎_elim
+    (λ here. let b : is x q ≡ 0 = ap (λ b. cond b 1 0) (ne_eqb x q (λ e. apart (sym here ∙ e))) in let a = at_most x p in omega arith)
+    (λ away. let b : is x p ≡ 0 = ap (λ b. cond b 1 0) (ne_eqb x p away) in let a = at_most x q in omega arith)
+    (cases_eq x p) in
+    omega arith
+  where
+    at_most : (x p : ℕ) → cond (eqb x p) 1 0 ≤ 1
+    at_most x p = elim (eqb x p) as (λ b. cond b 1 0 ≤ 1) [ true ↦ omega arith | false ↦ omega arith ]
+
+pub signal_phases-few : (ms : Members) → length (signal_phases ms) ≤ length ms
+signal_phases-few [] = omega arith
+signal_phases-few (m ∷ ms) =
+    let rest = signal_phases-few ms in
+    elim (mode_signals m.1.mode) as (λ b. length (map (λ (x : ℕ × Entry). x.1.signal_phase) (cond b (m ∷ filter (λ (x : ℕ × Entry). mode_signals x.1.mode) ms) (filter (λ (x : ℕ × Entry). mode_signals x.1.mode) ms))) ≤ length (m ∷ ms)) [
+      | true ↦ omega arith
+      | false ↦ omega arith
+    ]
+
+pub wait_phases-few : (ms : Members) → length (wait_phases ms) ≤ length ms
+wait_phases-few [] = omega arith
+wait_phases-few (m ∷ ms) =
+    let rest = wait_phases-few ms in
+    elim (mode_waits m.1.mode) as (λ b. length (map (λ (x : ℕ × Entry). x.1.wait_phase) (cond b (m ∷ filter (λ (x : ℕ × Entry). mode_waits x.1.mode) ms) (filter (λ (x : ℕ × Entry). mode_waits x.1.mode) ms))) ≤ length (m ∷ ms)) [
+      | true ↦ omega arith
+      | false ↦ omega arith
+    ]
+
+-- a signaller stands at its phase, and a waiter at its own
+pub signaller-counted : (ms : Members) (task : ℕ) (e : Entry) → entry_of ms task ≡ Some e → mode_signals e.mode ≡ true
+    → 0 < count_of e.signal_phase (signal_phases ms)
+signaller-counted ms task e found signals =
+    let moved = signallers-signalled ms task e.signal_phase e found signals in
+    let one = is-same e.signal_phase in
+    let none = is-other (e.signal_phase + 1) e.signal_phase (λ x. omega arith) in
+    omega arith
+
+pub waiter-counted : (ms : Members) (task : ℕ) (e : Entry) → entry_of ms task ≡ Some e → mode_waits e.mode ≡ true
+    → 0 < count_of e.wait_phase (wait_phases ms)
+waiter-counted ms task e found waits =
+    let moved = waiters-waited ms task e.wait_phase e found waits in
+    let one = is-same e.wait_phase in
+    let none = is-other (e.wait_phase + 1) e.wait_phase (λ x. omega arith) in
+    omega arith

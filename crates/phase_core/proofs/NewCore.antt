@@ -1,0 +1,69 @@
+-- A new core, and what the readers tell.
+use Rattle.std.proofs.Common.{◌≡◌, ℕ, ◌+◌, ◌<◌, ◌≤◌, ◌⊎◌, List, [], ◌∷◌, Option, Some, None, length, unwrap_or, refl, sym, ◌∙◌, ap, subst, arith, inl, inr}
+use Rattle.std.specs.Prelude.{IsSome, IfOk}
+use Rattle.phase_base.specs.Limits.{Limits, AreLimits}
+use Rattle.phase_base.specs.Members.{signal_phases, wait_phases, least}
+use Rattle.phase_accum.specs.Operations.{Operation}
+use Rattle.phase_history.specs.declared.event.Event.TheVariants.{Made}
+use Rattle.phase_history.specs.Histories.{History, founder, members_of, top_of, done_of}
+use Rattle.phase_registry.specs.Rosters.{Roster, roster, next_after}
+use Rattle.phase_ring.specs.declared.board.Board.{Board}
+use Rattle.phase_ring.specs.declared.role.Role.{Role}
+use Rattle.phase_ring.specs.declared.role.Role.TheVariants.{Signaller, Waiter}
+use Rattle.phase_ring.specs.Rings.{Ring, standing}
+use Rattle.phase_ring.specs.Standings.{is, count_of}
+use Rattle.phase_ring.specs.Boards.{IsKept}
+use Rattle.phase_core.specs.Cores.{CoreState, StandsFor, IsBoarded, IsCore, core_of}
+use Rattle.phase_core.proofs.LeastCounts.{is-same}
+use Rattle.phase_core.proofs.Boarded.{done_is}
+
+-- ---- a new core
+
+-- a registry and a board with one task at phase 0
+pub record IsNew {A : Type 0} (op : Operation A) (reg : Roster) (b : Board A) (first : ℕ) : Type 0 where
+  pub stands : StandsFor op (core_of reg b) (Made first ∷ [])
+  pub holds : IsCore op reg b
+
+pub made_core : {A : Type 0} (op : Operation A) (reg : Roster) (b : Board A) (first : ℕ)
+    → reg ≡ roster ((first, founder) ∷ []) (Some first) → AreLimits b.limits → IsKept op b.ring b.limits.bound b.done b.top
+    → b.done ≡ 0 → b.top ≡ 0 → b.ring.base ≡ 0 → ((role : Role) (p : ℕ) → standing b.ring role p ≡ is 0 p)
+    → IsNew op reg b first
+made_core {A} op reg b first reg_is are kept done top base standing_is =
+    let want = roster ((first, founder) ∷ []) (Some first) in
+    let there : StandsFor op (core_of want b) (Made first ∷ []) = record {
+      legal = (are, refl);
+      members_are = refl;
+      greatest_is = refl;
+      top_is = top;
+      phases_are = λ slowest p waiter behind below. absurd (omega arith);
+    } in
+    let boarded : IsBoarded op want.members b.ring b.limits.bound b.done b.top = record {
+      kept = kept;
+      done_at = inl (omega arith);
+      base_at = (let w = standing_is Waiter b.ring.base in let z : is 0 b.ring.base ≡ is 0 0 = ap (is 0) base in let one = is-same 0 in omega arith);
+      signallers_are = λ p. (let s = standing_is Signaller p in omega arith);
+      waiters_are = λ p. (let s = standing_is Waiter p in omega arith);
+    } in
+    let S : Roster → Type 0 = λ r. IsNew op r b first in
+    subst S (sym reg_is) (record {
+      stands = there;
+      holds = record { history = Made first ∷ []; stands = there; boarded = inr boarded; used = refl };
+    })
+
+-- ---- readers
+
+-- done is the least signal phase, or the top
+pub done_of_core : {A : Type 0} (op : Operation A) (reg : Roster) (b : Board A) (h : History) → StandsFor op (core_of reg b) h
+    → unwrap_or (least (signal_phases reg.members)) b.top ≡ done_of h
+done_of_core op reg b h stands =
+    ap (λ ms. unwrap_or (least (signal_phases ms)) b.top) stands.members_are
+    ∙ ap (λ t. unwrap_or (least (signal_phases (members_of h))) t) stands.top_is
+
+pub done_of_boarded : {A : Type 0} (op : Operation A) (reg : Roster) (b : Board A) (h : History) → StandsFor op (core_of reg b) h
+    → IsBoarded op reg.members b.ring b.limits.bound b.done b.top → b.done ≡ done_of h
+done_of_boarded op reg b h stands boarded =
+    sym (done_is op reg.members b.ring b.limits.bound b.done b.top boarded) ∙ done_of_core op reg b h stands
+
+pub next_after-used : (greatest : Option ℕ) → IsSome greatest → next_after greatest ≡ next_after (Some (unwrap_or greatest 0))
+next_after-used None used = absurd (cc)
+next_after-used (Some n) used = refl

@@ -1,0 +1,12 @@
+-- A list has a least number where it is not empty.
+use Rattle.std.proofs.Common.{◌≡◌, sym, ◌∙◌, ap, subst}
+use Rattle.std.specs.Prelude.{nat_lt, is_some}
+use Rattle.phase_base.specs.Members.{signal_phases, least}
+use Rattle.phase_core.specs.Cores.{CoreState}
+use Rattle.phase_core.proofs.Boarded.{is_some-least}
+use Rattle.phase_core.proofs.phaser_core.PhaserCore.has_signaller.Goals as goal
+
+pub returns : goal.returns
+returns g c =
+    let P : CoreState g.row.A.Denot → Type 0 = λ k. nat_lt 0 c.signallers.result ≡ is_some (least (signal_phases k.members)) in
+    subst P c.self.view_is (ap (nat_lt 0) c.signallers.ensures ∙ sym (is_some-least (signal_phases c.self.inside.registry.members)))

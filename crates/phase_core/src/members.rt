@@ -1,0 +1,96 @@
+//! Tasks that join a phaser and leave it.
+ghost use Rattle.std.specs.Prelude.{◌≡◌, ◌≢◌, ◌↔◌, ◌∷◌, Some, None, Err, IsOk, IsSome, OnOk, OnErr, IfErr};
+ghost use Rattle.phase_base.specs.Members.{entry_of};
+ghost use Rattle.phase_history.specs.declared.event.Event.TheVariants.{Registered, Dropped};
+ghost use Rattle.phase_history.specs.Histories.{History};
+ghost use Rattle.phase_history.specs.Refusals.{register_refusal};
+ghost use Rattle.phase_core.specs.Cores.{StandsFor};
+ghost use Rattle.phase_core.specs.Additions.{refusal_of_add};
+
+use crate::phaser_core::PhaserCore;
+use phase_accum::Accumulate;
+use phase_base::{Entry, Mode};
+use phase_history::{NoTask, RegisterRefusal};
+use phase_registry::AddRefusal;
+
+/// The refusal of a registration whose child was not added.
+fn register_refusal_of(refusal: AddRefusal) -> RegisterRefusal
+    ensures { result ≡ refusal_of_add refusal }
+{
+    match refusal {
+        AddRefusal::NotNew => RegisterRefusal::NotNew,
+        AddRefusal::TooManyTasks => RegisterRefusal::TooManyTasks,
+        AddRefusal::OutOfMemory => RegisterRefusal::OutOfMemory,
+    }
+}
+
+impl<A: Accumulate> PhaserCore<A> {
+    /// Registers the task `child`, in a mode that the mode of `parent` holds and at both phases of
+    /// `parent`. The child's number is above every number that was ever used on the phaser.
+    ///
+    /// It may take memory, which it asks for last, so that a registration that was refused as
+    /// `OutOfMemory` can be made again.
+    pub fn register(&mut self, parent: u64, child: u64, mode: Mode) -> Result<(), RegisterRefusal>
+        ensures ok { OnOk result ((h : History) → StandsFor A.operation self.old h
+            → register_refusal h parent child mode ≡ None) }
+        ensures refused { IfErr result (λ e. e ≢ RegisterRefusal.OutOfMemory
+            → (h : History) → StandsFor A.operation self.old h
+            → register_refusal h parent child mode ≡ Some e) }
+        // Want of memory is answered last: only where the registration is accepted.
+        ensures out_of_memory { IfErr result (λ e. e ≡ RegisterRefusal.OutOfMemory
+            → (h : History) → StandsFor A.operation self.old h
+            → register_refusal h parent child mode ≡ None) }
+        ensures after { OnOk result ((h : History) → StandsFor A.operation self.old h
+            → StandsFor A.operation self.new (Registered parent child mode ∷ h)) }
+
+        ensures limits { self.new.limits ≡ self.old.limits }
+        ensures err { OnErr result (self.new ≡ self.old) }
+    {
+        let Some(entry) = self.registry.get(parent) else {
+            return Err(RegisterRefusal::NoTask);
+        };
+        if !entry.mode.holds(mode) {
+            return Err(RegisterRefusal::NotAllowed);
+        }
+        let waiters = self.registry.waiters();
+        let added = self
+            .registry
+            .add(child, mode, entry.signal_phase, entry.wait_phase);
+        if let Err(refusal) = added {
+            return Err(register_refusal_of(refusal));
+        }
+        if waiters == 0 {
+            return Ok(());
+        }
+        self.board.register(Entry { mode, ..entry });
+        Ok(())
+    }
+
+    /// Ends a task's registration. What it held and never signalled is in no phase.
+    ///
+    /// The phases for which the others waited for the task alone are complete then, and the phases
+    /// that no waiter has still to get are given up.
+    pub fn drop_task(&mut self, task: u64) -> Result<(), NoTask>
+        ensures ok { IsOk result ↔ IsSome (entry_of self.old.members task) }
+        ensures after { OnOk result ((h : History) → StandsFor A.operation self.old h
+            → StandsFor A.operation self.new (Dropped task ∷ h)) }
+
+        ensures limits { self.new.limits ≡ self.old.limits }
+        ensures err { OnErr result (self.new ≡ self.old) }
+    {
+        let Some(entry) = self.registry.get(task) else {
+            return Err(NoTask);
+        };
+        let waiters = self.registry.waiters();
+        let _ = self.registry.remove(task);
+        if waiters == 0 {
+            return Ok(());
+        }
+        if self.registry.waiters() == 0 {
+            self.board.ring.clear();
+            return Ok(());
+        }
+        self.board.leave(entry);
+        Ok(())
+    }
+}

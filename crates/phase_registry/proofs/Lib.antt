@@ -1,0 +1,4 @@
+pub mod Places
+pub mod Weights
+pub mod Kept
+pub mod Leasts

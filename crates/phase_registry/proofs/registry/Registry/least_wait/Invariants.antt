@@ -1,0 +1,10 @@
+-- the least phase of the members so far
+use Rattle.std.proofs.Common.{◌≡◌, None, take}
+use Rattle.std.specs.List.{fold}
+use Rattle.phase_base.specs.Modes.{mode_waits}
+use Rattle.phase_registry.proofs.Leasts.{lower}
+use Rattle.phase_registry.proofs.registry.Registry.least_wait.Given as goal
+
+abbrev pub invariant-loop-member : goal.invariant-loop-member
+invariant-loop-member l =
+    l.least ≡ fold (lower (λ e. mode_waits e.mode) (λ e. e.wait_phase)) None (take l.member-index l.member-items)

@@ -1,0 +1,4 @@
+pub mod Boards
+pub mod Rings
+pub mod Slots
+pub mod Standings

@@ -1,0 +1,14 @@
+//! The phases of a phaser that can still be asked for, in a ring of slots whose number never
+//! changes, and a board that keeps the ring with the first phase that is not complete. The first
+//! calls are `SlotRing::with_bound` and `SlotRing::merge`.
+#![tactic(auto)]
+
+mod board;
+mod role;
+mod slot;
+mod slot_ring;
+
+pub use board::Board;
+pub use role::Role;
+pub use slot::{MergeRefusal, Slot};
+pub use slot_ring::SlotRing;
