@@ -16,7 +16,8 @@ use Rattle.phase_history.specs.Histories.{History, IsAlive, signal_phase, positi
 use Rattle.phase_history.specs.declared.refusal.SignalRefusal.TheVariants as signal
 use Rattle.phase_history.specs.declared.refusal.WaitRefusal.TheVariants as wait
 use Rattle.phase_history.specs.Refusals.{first_row, refusal_at, is_ahead, differs, list_rows, signal_rows, wait_rows, signal_refusal, wait_refusal}
-use Rattle.phase_history.specs.Laws.{MaySignal, MayWait, GoesOn, GoesOnPlainly, NamesNoSingle}
+use Rattle.phase_history.specs.Laws.{MaySignal, MayWait, GoesOn, GoesOnPlainly}
+use Rattle.phase_history.specs.Sent.{NamesAll}
 use Rattle.phase_history.specs.Phases.{sends_of_phase, named_in_phase, list_in_phase, first_named}
 use Rattle.phase_history.specs.declared.refusal.SignalRefusal.{SignalRefusal}
 use Rattle.phase_accum.specs.declared.single.Single.{Single as SingleFn}
@@ -424,7 +425,7 @@ first_of_none (Some named) joins single none known = known
 first_of_none None true single none known = ap (λ x. differs (Some x) None) none
 first_of_none None false single none known = refl
 
-differs_not : (h : History) (p : ℕ) → NamesNoSingle h → differs (named_in_phase h p) None ≡ false
+differs_not : (h : History) (p : ℕ) → NamesAll None h → differs (named_in_phase h p) None ≡ false
 differs_not [] p none = refl
 differs_not (Made task ∷ before) p none = differs_not before p none
 differs_not (Registered parent child mode ∷ before) p none = differs_not before p none
@@ -434,7 +435,7 @@ differs_not (Signalled task lists single ∷ before) p none =
 differs_not (Waited task n ∷ before) p none = differs_not before p none
 differs_not (Dropped task ∷ before) p none = differs_not before p none
 
-plain_signal : (limits : Limits) (h : History) → IsLegal limits h → NamesNoSingle h → done_of h < limits.phases_max
+plain_signal : (limits : Limits) (h : History) → IsLegal limits h → NamesAll None h → done_of h < limits.phases_max
     → (f : FreeSignal limits.bound (members_of h) (done_of h)) → signal_refusal limits h f.task ([] ∷ []) None ≡ None
 plain_signal limits h legal none left f =
     let s_is : f.entry.signal_phase ≡ done_of h = f.at in
@@ -468,7 +469,7 @@ plain_signal limits h legal none left f =
       ),
     )
 
-pub goes_on_plainly : (limits : Limits) (h : History) (task : ℕ) → IsLegal limits h → IsAlive h task → NamesNoSingle h
+pub goes_on_plainly : (limits : Limits) (h : History) (task : ℕ) → IsLegal limits h → IsAlive h task → NamesAll None h
     → done_of h < limits.phases_max → GoesOnPlainly limits h
 goes_on_plainly limits h task legal alive none left =
     ⊎_elim (λ f. (f.task, inr (may_wait limits h f))) (λ f. (f.task, inl (plain_signal limits h legal none left f))) (someone_free limits h task legal alive)

@@ -4,7 +4,7 @@ use Rattle.phase_base.specs.declared.entry.Entry.{Entry}
 use Rattle.phase_accum.specs.declared.outcome.Outcome.{Outcome}
 use Rattle.phase_base.specs.Limits.{Limits}
 use Rattle.phase_accum.specs.declared.single.Single.{Single}
-use Rattle.phase_history.specs.declared.event.Event.TheVariants.{Signalled, Waited}
+use Rattle.phase_history.specs.declared.event.Event.TheVariants.{Waited}
 use Rattle.phase_history.specs.declared.refusal.SignalRefusal.TheVariants as signal
 use Rattle.phase_history.specs.declared.refusal.WaitRefusal.TheVariants as wait
 use Rattle.phase_history.specs.Refusals.{signal_refusal, wait_refusal}
@@ -30,7 +30,7 @@ pub record HasCounted (h : History) (task : ℕ) (entry : Entry) : Type 0 where
   pub signals : start.signal_phase + phases_signalled h task ≡ entry.signal_phase
   pub waits : start.wait_phase + phases_waited h task ≡ entry.wait_phase
 
--- each task with this start, registered or gone, has received the stream from its start over as many
+-- a task with this start, registered or gone, has received the stream from its start over as many
 -- phases as it waited for, all of them complete
 pub record HasReceivedFrom (value : List ℤ → Outcome) (h : History) (task : ℕ) (start : Entry)
     : Type 0 where
@@ -86,9 +86,3 @@ GoesOn limits h = (task : ℕ) × (MaySignal limits h task ⊎ MayWait limits h 
 abbrev pub GoesOnPlainly : Limits → History → Type 0
 GoesOnPlainly limits h =
     (task : ℕ) × ((signal_refusal limits h task ([] ∷ []) None ≡ None) ⊎ MayWait limits h task)
-
--- no event names a single
-abbrev pub NamesNoSingle : History → Type 0
-NamesNoSingle [] = Unit {0}
-NamesNoSingle (Signalled task lists single ∷ before) = (single ≡ None) × NamesNoSingle before
-NamesNoSingle (event ∷ before) = NamesNoSingle before

@@ -105,8 +105,8 @@ reply_to value limits h (WaitBlock task n) =
 reply_to value limits h (Drop task) =
     reply_by (λ answer. Accepted) NotDropped (refused_or (drop_refusal h task) task)
 
--- the event of a call with this reply. A refusal and `Ended` make none, and a wait for a block waited
--- for the phases that it got
+-- the event of a call with this reply. A refusal and `Ended` make none, and a wait for a block
+-- waited for the phases that it got
 abbrev pub event_of : Call → Reply → Option Event
 event_of (Register parent child mode) Accepted = Some (Registered parent child mode)
 event_of (RegisterNow parent child) (JoinedAt phase) = Some (RegisteredNow parent child)

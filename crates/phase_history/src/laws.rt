@@ -15,7 +15,8 @@ ghost use Rattle.phase_history.specs.Histories.{IsAlive, start_of, has_dropped};
 ghost use Rattle.phase_history.specs.Phases.{stream_of};
 ghost use Rattle.phase_history.specs.Legal.{IsLegal};
 ghost use Rattle.phase_history.specs.Laws.{HasReceived, HasReceivedFrom, HasCounted, HasNoEvents, IsInTurn, IsAnswered};
-ghost use Rattle.phase_history.specs.Laws.{GoesOn, GoesOnPlainly, NamesNoSingle};
+ghost use Rattle.phase_history.specs.Laws.{GoesOn, GoesOnPlainly};
+ghost use Rattle.phase_history.specs.Sent.{NamesAll};
 ghost use Rattle.phase_history.specs.Replies.{wait_reply};
 
 mod blocks;
@@ -34,13 +35,14 @@ pub use sent::{
     sent_in_turn, sent_stays, top_is_reached, unused_is_silent,
 };
 
-/// Under an accumulator each value of the stream is in range, and so is what a wait is answered: its
-/// magnitude is one of a value.
+/// Under an accumulator each value of the stream is in range, and so is what a wait is answered:
+/// its magnitude is one of a value.
 pub fn in_range<A: Accumulate>()
     ensures stream { (limits : Limits) (h : History) → IsLegal limits h
         → All IsInRange (stream_of A.operation.value h) }
     ensures answer { (limits : Limits) (h : History) (task phase : ℕ) (outcome : Outcome)
-        → IsLegal limits h → wait_reply A.operation.value limits h task ≡ Ok (Got.Value phase outcome)
+        → IsLegal limits h
+        → wait_reply A.operation.value limits h task ≡ Ok (Got.Value phase outcome)
         → IsInRange outcome }
 {}
 
@@ -144,6 +146,6 @@ pub fn no_standstill()
     ensures goes { (limits : Limits) (h : History) (task : ℕ) → IsLegal limits h
         → IsAlive h task → GoesOn limits h }
     ensures plainly { (limits : Limits) (h : History) (task : ℕ) → IsLegal limits h
-        → IsAlive h task → NamesNoSingle h → done_of h < limits.phases_max
+        → IsAlive h task → NamesAll None h → done_of h < limits.phases_max
         → GoesOnPlainly limits h }
 {}

@@ -23,7 +23,8 @@ use crate::got::GotBlock;
 pub fn block_signals()
     ensures { (limits : Limits) (h : History) (task : ℕ) (lists : List (List ℤ))
         (single : Option Single) → is_bad_block limits (length lists) ≡ false
-        → signal_refusal limits h task lists single ≡ one_by_one_refusal limits h task lists single }
+        → signal_refusal limits h task lists single
+        ≡ one_by_one_refusal limits h task lists single }
 {}
 
 /// What a wait for a block is answered is what its task then has received last: the values of the
@@ -46,7 +47,8 @@ pub fn accepted()
 pub fn after()
     ensures register { (value : List ℤ → Outcome) (limits : Limits) (h : History)
         (parent child : ℕ) (mode : Mode)
-        → after_register (refused_or (register_refusal h parent child mode) child) parent child mode h
+        → after_register (refused_or (register_refusal h parent child mode) child)
+        parent child mode h
         ≡ after_reply (Call.Register parent child mode)
         (reply_to value limits h (Call.Register parent child mode)) h }
     ensures register_now { (value : List ℤ → Outcome) (limits : Limits) (h : History)
