@@ -3,12 +3,13 @@
 use Rattle.std.proofs.Common.{◌≡◌, ℕ, ◌+◌, Bool, true, false, not, ◌||◌, cond, eqb, List, [], ◌∷◌, ◌++◌, Option, ℤ, length, refl, sym, ap, ◌∙◌, arith}
 use Rattle.std.proofs.lemmas.List.{append-nil, append_assoc}
 use Rattle.std.proofs.lemmas.Bool.{eqb-true, eqb-false, ne_eqb, eq-eqb, and_parts, not-true}
+use Rattle.phase_accum.specs.Exchanges.{Exchanges}
 use Rattle.phase_accum.specs.declared.single.Single.{Single}
 use Rattle.phase_history.specs.declared.event.Event.TheVariants.{Made, Registered, RegisteredNow, Signalled, Waited, Dropped}
 use Rattle.phase_history.specs.Histories.{History, signal_phase, phases_signalled}
 use Rattle.phase_history.specs.Phases.{list_in_phase, sends_of_phase}
 use Rattle.phase_history.specs.Others.{is_in, is_distinct}
-use Rattle.phase_history.specs.Sent.{sent_in, gathered, OnlySignalled, Exchanges}
+use Rattle.phase_history.specs.Sent.{sent_in, gathered, OnlySignalled}
 
 -- ---- one more signal
 

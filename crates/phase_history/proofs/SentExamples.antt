@@ -1,17 +1,19 @@
 -- Who sent what, computed on a script whose members come and go, and compared with what was found
 -- by hand.
-use Rattle.std.proofs.Common.{◌≡◌, ◌+◌, ◌∙◌, ◌||◌, pos, [], ◌∷◌, ◌++◌, Bool, true, false, eqb, Some, None, length, refl, sym, ap, arith}
-use Rattle.std.proofs.lemmas.List.{length-append}
+use Rattle.std.proofs.Common.{◌≡◌, ◌||◌, pos, [], ◌∷◌, Bool, true, false, eqb, Some, None, refl, sym, ap, arith}
 use Rattle.std.proofs.lemmas.Option.{same_Some}
 use Rattle.phase_base.specs.declared.entry.Entry.{Entry}
 use Rattle.phase_base.specs.declared.mode.Mode.TheVariants.{Sig, Wait}
+use Rattle.phase_accum.specs.Exchanges.{Exchanges}
 use Rattle.phase_accum.specs.declared.outcome.Outcome.TheVariants.{Value}
 use Rattle.phase_accum.specs.declared.single.Single.TheVariants.{Neg, Halve}
 use Rattle.phase_accum.specs.Values.{sum_value, any_value}
 use Rattle.phase_history.specs.declared.event.Event.TheVariants.{Made, Registered, Signalled, Waited}
 use Rattle.phase_history.specs.Histories.{History, entry_at, done_of, top_of, phases_signalled}
 use Rattle.phase_history.specs.Phases.{sends_of_phase, stream_of, single_of_phase}
-use Rattle.phase_history.specs.Sent.{sent_by, sent_in, gathered, OnlySignalled, NamesAll, IsSilent, ReachesTop, Exchanges}
+use Rattle.phase_history.specs.Sent.{sent_by, sent_in, gathered, OnlySignalled, NamesAll, IsSilent, ReachesTop}
+use Rattle.phase_accum.proofs.Orders.{Exchanges-sum}
+use Rattle.phase_history.proofs.Gathered.{sends_are_gathered}
 use Rattle.phase_history.proofs.OthersExamples.{one, first_events, events}
 
 -- a list a phase; the child's first list stands in phase 2, where it joined
@@ -45,10 +47,10 @@ gathered_in_blocks : gathered blocks (0 ∷ 2 ∷ 1 ∷ []) 0 ∷ gathered block
 gathered_in_blocks = refl
 
 -- no task has signalled but the two, and it is not so that none has but the second
-only_two : OnlySignalled (1 ∷ 4 ∷ []) events
-only_two other none = apart (eqb 1 other) (eqb 4 other) refl refl none
+only_these : OnlySignalled (4 ∷ 1 ∷ []) events
+only_these other none = apart (eqb 4 other) (eqb 1 other) refl refl none
   where
-    apart : (b c : Bool) → eqb 1 other ≡ b → eqb 4 other ≡ c → (b || (c || false)) ≡ false → phases_signalled events other ≡ 0
+    apart : (b c : Bool) → eqb 4 other ≡ b → eqb 1 other ≡ c → (b || (c || false)) ≡ false → phases_signalled events other ≡ 0
     apart true c first second outside = absurd (cc)
     apart false true first second outside = absurd (cc)
     apart false false first second outside = rw (first, second) refl
@@ -102,16 +104,13 @@ reached_by_child = record { task = 4; start = entry_at Sig 2 0; start_is = refl;
 reached_by_first : ReachesTop events
 reached_by_first = record { task = 1; start = entry_at Sig 0 0; start_is = refl; reaches = refl }
 
--- how many sends there are is the same in any order, and which is the first is not
-length_exchanges : Exchanges length
-length_exchanges front xs ys back =
-    let a : length (front ++ (xs ++ (ys ++ back))) ≡ length front + (length xs + (length ys + length back)) =
-    length-append front (xs ++ (ys ++ back))
-    ∙ ap (λ n. length front + n) (length-append xs (ys ++ back) ∙ ap (λ n. length xs + n) (length-append ys back)) in
-    let b : length (front ++ (ys ++ (xs ++ back))) ≡ length front + (length ys + (length xs + length back)) =
-    length-append front (ys ++ (xs ++ back))
-    ∙ ap (λ n. length front + n) (length-append ys (xs ++ back) ∙ ap (λ n. length ys + n) (length-append xs back)) in
-    omega arith
+-- the sum is the same in any order, so it is that of what the two have sent; the first send is not
+sum_is_gathered : sum_value (sends_of_phase events 2) ≡ sum_value (gathered events (4 ∷ 1 ∷ []) 2)
+sum_is_gathered = sends_are_gathered sum_value events (4 ∷ 1 ∷ []) 2 Exchanges-sum refl only_these
+
+any_is_not_gathered : any_value (sends_of_phase events 2) ∷ any_value (gathered events (4 ∷ 1 ∷ []) 2) ∷ []
+    ≡ Value (pos 5) ∷ Value (pos 6) ∷ []
+any_is_not_gathered = refl
 
 any_does_not_exchange : Exchanges any_value → ⊥
 any_does_not_exchange swaps = (let e : Value (pos 1) ≡ Value (pos 2) = swaps [] (one 1) (one 2) [] in cc)

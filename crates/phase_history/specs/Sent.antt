@@ -49,9 +49,3 @@ pub record ReachesTop (h : History) : Type 0 where
   pub start : Entry
   pub start_is : start_of h task ≡ Some start
   pub reaches : start.signal_phase + phases_signalled h task ≡ top_of h
-
--- what is made of a list of sends stays the same where two parts of the list change places
-abbrev pub Exchanges : {X : Type 0} → (List ℤ → X) → Type 0
-Exchanges value =
-    (front xs ys back : List ℤ)
-    → value (front ++ (xs ++ (ys ++ back))) ≡ value (front ++ (ys ++ (xs ++ back)))

@@ -4,6 +4,7 @@ ghost use Rattle.phase_base.specs.Limits.{Limits};
 ghost use Rattle.phase_base.specs.Members.{entry_of};
 ghost use Rattle.phase_base.specs.Modes.{mode_signals};
 ghost use Rattle.phase_base.specs.declared.entry.Entry.{Entry};
+ghost use Rattle.phase_accum.specs.Exchanges.{Exchanges};
 ghost use Rattle.phase_accum.specs.declared.outcome.Outcome.{Outcome};
 ghost use Rattle.phase_accum.specs.declared.single.Single.{Single};
 ghost use Rattle.phase_history.specs.Histories.{History, members_of, done_of, top_of, start_of};
@@ -11,7 +12,7 @@ ghost use Rattle.phase_history.specs.Histories.{HasNoSignaller, has_dropped, pha
 ghost use Rattle.phase_history.specs.Phases.{sends_of_phase, named_in_phase, single_of_phase};
 ghost use Rattle.phase_history.specs.Legal.{IsLegal};
 ghost use Rattle.phase_history.specs.Others.{is_in, is_distinct, OthersCame};
-ghost use Rattle.phase_history.specs.Sent.{sent_by, sent_in, gathered, Exchanges};
+ghost use Rattle.phase_history.specs.Sent.{sent_by, sent_in, gathered};
 ghost use Rattle.phase_history.specs.Sent.{OnlySignalled, NamesAll, IsSilent, ReachesTop};
 
 /// The sends of a phase are those of its tasks put together: whatever is the same in any order is
