@@ -8,3 +8,6 @@ pub mod MemberSteps
 pub mod NewCore
 pub mod Replies
 pub mod RingSlots
+pub mod SignalCore
+pub mod SignalRows
+pub mod WaitCore

@@ -5,6 +5,7 @@ use Rattle.std.specs.Option.{option_map}
 use Rattle.std.proofs.lemmas.Option.{same_Some}
 use Rattle.std.proofs.lemmas.Bool.{lt-ltb, le-ltb, leb-false}
 use Rattle.phase_base.specs.Limits.{Limits, AreLimits}
+use Rattle.phase_base.specs.declared.limits.TheConstants.{PHASES_MAX}
 use Rattle.phase_base.specs.Modes.{mode_signals, mode_waits}
 use Rattle.phase_base.specs.declared.entry.Entry.{Entry}
 use Rattle.phase_accum.specs.declared.outcome.Outcome.{Outcome}
@@ -108,3 +109,7 @@ limits_of limits (RegisteredNow parent child ∷ before) legal = limits_of limit
 limits_of limits (Signalled task lists single ∷ before) legal = limits_of limits before legal.0
 limits_of limits (Waited task n ∷ before) legal = limits_of limits before legal.0
 limits_of limits (Dropped task ∷ before) legal = limits_of limits before legal.0
+
+-- the phases of a core that stands for some history are at most so many
+pub phases_most : {A : Type 0} {op : Operation A} {core : CoreState A} {h : History} → StandsFor op core h → core.limits.phases_max ≤ PHASES_MAX
+phases_most {core = core} {h = h} stands = (limits_of core.limits h stands.legal).phases_most

@@ -1,3 +1,4 @@
 pub mod Additions
 pub mod Cores
+pub mod Rows
 pub mod Slots

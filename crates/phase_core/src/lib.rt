@@ -5,6 +5,9 @@
 
 mod members;
 mod phaser_core;
+mod refusal_rows;
+mod signalling;
+mod waiting;
 
 pub use phase_history::{Event, Got, NoTask, RegisterRefusal, SignalRefusal, WaitRefusal, laws};
 pub use phaser_core::PhaserCore;
