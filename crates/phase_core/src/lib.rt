@@ -9,5 +9,7 @@ mod refusal_rows;
 mod signalling;
 mod waiting;
 
-pub use phase_history::{Event, Got, NoTask, RegisterRefusal, SignalRefusal, WaitRefusal, laws};
+pub use phase_history::{
+    Call, Event, Got, GotBlock, NoTask, RegisterRefusal, Reply, SignalRefusal, WaitRefusal, laws,
+};
 pub use phaser_core::PhaserCore;

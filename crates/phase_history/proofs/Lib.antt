@@ -1,4 +1,6 @@
 mod Examples
+mod OthersExamples
+mod SentExamples
 pub mod Each
 pub mod MemberLemmas
 pub mod Refused
@@ -9,4 +11,13 @@ pub mod LawProofs
 pub mod Bounded
 pub mod Alive
 pub mod Standstill
+pub mod OthersEvents
+pub mod Used
+pub mod Answered
+pub mod Gathered
+pub mod Sendings
+pub mod Signallers
 pub mod InRange
+pub mod Beginnings
+pub mod Tops
+pub mod Left

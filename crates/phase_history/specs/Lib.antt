@@ -4,3 +4,5 @@ pub mod Refusals
 pub mod Legal
 pub mod Replies
 pub mod Laws
+pub mod Others
+pub mod Sent

@@ -40,8 +40,6 @@ pub enum SignalRefusal {
     SingleDiffers,
     /// A waiter is registered, and the phase would hold more than `SENDS_MAX` sends.
     PhaseFull,
-    /// A growth was refused.
-    OutOfMemory,
 }
 
 /// Why a wait was refused.
