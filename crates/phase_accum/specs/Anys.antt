@@ -19,13 +19,13 @@ chosen-earlier : (v : ℤ) (x : Option ℤ) → chosen earlier (Some v) x ≡ So
 chosen-earlier v None = refl
 chosen-earlier v (Some w) = refl
 
-value_of_send-part : (xs : List ℤ) → value_of_send (part any_operation xs) ≡ any_value xs
-value_of_send-part [] = refl
-value_of_send-part (v ∷ vs) = ap value_of_send (chosen-earlier v (part any_operation vs))
+any-value_of_send : (xs : List ℤ) → value_of_send (part any_operation xs) ≡ any_value xs
+any-value_of_send [] = refl
+any-value_of_send (v ∷ vs) = ap value_of_send (chosen-earlier v (part any_operation vs))
 
 any_value-in_range : (xs : List ℤ) → AreSends xs → IsInRange (any_value xs)
 any_value-in_range [] s = tt
 any_value-in_range (v ∷ vs) s = s.0.small
 
 pub any_laws : AccumulateLaws any_operation
-any_laws = choosing-laws earlier any_value (λ a b c. refl) value_of_send-part any_value-in_range
+any_laws = choosing-laws earlier any_value (λ a b c. refl) any-value_of_send any_value-in_range

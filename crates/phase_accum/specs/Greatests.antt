@@ -31,15 +31,17 @@ part-greatest : (v : ℤ) (vs : List ℤ) → part greatest_operation (v ∷ vs)
 part-greatest v [] = refl
 part-greatest v (w ∷ ws) = ap (chosen int_max (Some v)) (part-greatest w ws)
 
-value_of_send-part : (xs : List ℤ) → value_of_send (part greatest_operation xs) ≡ greatest_value xs
-value_of_send-part [] = refl
-value_of_send-part (v ∷ vs) = ap value_of_send (part-greatest v vs)
+pub greatest-value_of_send : (xs : List ℤ)
+    → value_of_send (part greatest_operation xs) ≡ greatest_value xs
+greatest-value_of_send [] = refl
+greatest-value_of_send (v ∷ vs) = ap value_of_send (part-greatest v vs)
 
 -- the greatest of numbers with a magnitude of a value has one
 greatest_of-small : (v : ℤ) (vs : List ℤ) → AreSends (v ∷ vs)
     → unsigned_abs (greatest_of v vs) ≤ value_max
 greatest_of-small v [] s = s.0.small
-greatest_of-small v (w ∷ ws) s = int_max-small v (greatest_of w ws) s.0.small (greatest_of-small w ws s.1)
+greatest_of-small v (w ∷ ws) s =
+    int_max-small v (greatest_of w ws) s.0.small (greatest_of-small w ws s.1)
 
 greatest_value-in_range : (xs : List ℤ) → AreSends xs → IsInRange (greatest_value xs)
 greatest_value-in_range [] s = tt
@@ -47,7 +49,8 @@ greatest_value-in_range (v ∷ vs) s = greatest_of-small v vs s
 
 pub greatest_laws : AccumulateLaws greatest_operation
 greatest_laws =
-    choosing-laws int_max greatest_value int_max-assoc value_of_send-part greatest_value-in_range
+    choosing-laws int_max greatest_value int_max-assoc greatest-value_of_send
+    greatest_value-in_range
 
 pub greatest_commutes : Commutes greatest_operation
 greatest_commutes = choosing-commutes int_max greatest_value int_max-swap

@@ -31,15 +31,17 @@ part-least : (v : ℤ) (vs : List ℤ) → part least_operation (v ∷ vs) ≡ S
 part-least v [] = refl
 part-least v (w ∷ ws) = ap (chosen int_min (Some v)) (part-least w ws)
 
-value_of_send-part : (xs : List ℤ) → value_of_send (part least_operation xs) ≡ least_value xs
-value_of_send-part [] = refl
-value_of_send-part (v ∷ vs) = ap value_of_send (part-least v vs)
+pub least-value_of_send : (xs : List ℤ)
+    → value_of_send (part least_operation xs) ≡ least_value xs
+least-value_of_send [] = refl
+least-value_of_send (v ∷ vs) = ap value_of_send (part-least v vs)
 
 -- the least of numbers with a magnitude of a value has one
 least_of-small : (v : ℤ) (vs : List ℤ) → AreSends (v ∷ vs)
     → unsigned_abs (least_of v vs) ≤ value_max
 least_of-small v [] s = s.0.small
-least_of-small v (w ∷ ws) s = int_min-small v (least_of w ws) s.0.small (least_of-small w ws s.1)
+least_of-small v (w ∷ ws) s =
+    int_min-small v (least_of w ws) s.0.small (least_of-small w ws s.1)
 
 least_value-in_range : (xs : List ℤ) → AreSends xs → IsInRange (least_value xs)
 least_value-in_range [] s = tt
@@ -47,7 +49,8 @@ least_value-in_range (v ∷ vs) s = least_of-small v vs s
 
 pub least_laws : AccumulateLaws least_operation
 least_laws =
-    choosing-laws int_min least_value int_min-assoc value_of_send-part least_value-in_range
+    choosing-laws int_min least_value int_min-assoc least-value_of_send
+    least_value-in_range
 
 pub least_commutes : Commutes least_operation
 least_commutes = choosing-commutes int_min least_value int_min-swap

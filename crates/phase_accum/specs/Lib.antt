@@ -1,5 +1,6 @@
 pub mod Anys
 pub mod Chosen
+pub mod Exchanges
 pub mod Factors
 pub mod Greatests
 pub mod Leasts

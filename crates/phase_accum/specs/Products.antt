@@ -59,7 +59,8 @@ capped-times a b =
     both : value_max < unsigned_abs b → (0 < unsigned_abs a) ⊎ (unsigned_abs a ≤ 0)
         → capped (a *ℤ too_big) ≡ capped (a *ℤ b)
     both big = ⊎_elim
-        (λ some. capped-times_big a too_big some (omega arith) ∙ sym (capped-times_big a b some big))
+        (λ some. capped-times_big a too_big some (omega arith)
+        ∙ sym (capped-times_big a b some big))
         (λ none. ap capped (*ℤ-nothing_left a too_big (omega arith)
         ∙ sym (*ℤ-nothing_left a b (omega arith))))
 

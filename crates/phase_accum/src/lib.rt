@@ -6,6 +6,7 @@ mod accumulate;
 mod any;
 mod applied;
 mod greatest;
+pub mod laws;
 mod least;
 mod outcome;
 mod pending;

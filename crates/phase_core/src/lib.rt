@@ -1,5 +1,5 @@
 //! A phaser for one thread: tasks join and leave, signal phases with their sends, and wait for the
-//! values of the phases. The contracts speak of histories, which are lists of the accepted calls.
+//! values of the phases. The contracts speak of histories, which are lists of what the calls did.
 //! The first calls are `PhaserCore::new`, `PhaserCore::signal` and `PhaserCore::wait`.
 #![tactic(auto)]
 

@@ -25,6 +25,7 @@ use Rattle.phase_history.specs.declared.call.Call.TheVariants.{Register, Registe
 use Rattle.phase_history.specs.declared.reply.Reply.{Reply}
 use Rattle.phase_history.specs.declared.reply.Reply.TheVariants.{Accepted, JoinedAt, SignalledIn, Received, ReceivedBlock, NotRegistered, NotSignalled, NotReceived, NotDropped}
 use Rattle.phase_history.specs.Replies.{reply_to, after_reply}
+use Rattle.phase_history.specs.Blocks.{one_by_one_refusal}
 
 -- a line of a script: a send that the task holds until its next signal, or another call
 data Line : Type 0 where
@@ -181,6 +182,11 @@ any_takes_first : run any_value 2 100
     ≡ Accepted ∷ Accepted ∷ Accepted ∷ SignalledIn 0 ∷ SignalledIn 0 ∷ got 0 (pos 9) ∷ []
 any_takes_first = refl
 
+any_takes_first_of_one : run any_value 2 100
+    (add 0 1 Sig ∷ send 0 (pos 3) ∷ send 0 (pos 8) ∷ send 1 (pos 9) ∷ signal 0 ∷ signal 1 ∷ wait 0 ∷ [])
+    ≡ Accepted ∷ Accepted ∷ Accepted ∷ Accepted ∷ SignalledIn 0 ∷ SignalledIn 0 ∷ got 0 (pos 3) ∷ []
+any_takes_first_of_one = refl
+
 least_takes_least : run least_value 2 100
     (add 0 1 Sig ∷ send 0 (pos 4) ∷ send 1 (pos 9) ∷ signal 1 ∷ signal 0 ∷ wait 0 ∷ [])
     ≡ Accepted ∷ Accepted ∷ Accepted ∷ SignalledIn 0 ∷ SignalledIn 0 ∷ got 0 (pos 4) ∷ []
@@ -241,6 +247,12 @@ values_taken : received_by sum_value
     ∷ Dropped 0 ∷ Registered 0 2 Wait ∷ Registered 0 1 Sig ∷ Made 0 ∷ []) 2
     ≡ Value (pos 5) ∷ Value (pos 6) ∷ Value (pos 7) ∷ Value (pos 8) ∷ Value (pos 9) ∷ []
 values_taken = refl
+
+-- the second block is refused for the last of its signals
+ahead_one_by_one : one_by_one_refusal (limits 4 100)
+    (Waited 2 2 ∷ Signalled 1 (one 5 ∷ one 6 ∷ one 7 ∷ []) None ∷ Dropped 0 ∷ Registered 0 2 Wait
+    ∷ Registered 0 1 Sig ∷ Made 0 ∷ []) 1 (one 8 ∷ one 9 ∷ one 10 ∷ one 11 ∷ []) None ≡ Some signals.Ahead
+ahead_one_by_one = refl
 
 -- a task that waits too signals one phase at a time, and a block past the last phase is refused
 blocks_in_turn : run sum_value 4 100 (block 0 (one 1 ∷ one 2 ∷ []) ∷ block 0 (one 1 ∷ []) ∷ take 0 3 ∷ [])

@@ -1,4 +1,5 @@
 mod Examples
+mod LimitExamples
 mod OthersExamples
 mod SentExamples
 pub mod Each
@@ -21,3 +22,6 @@ pub mod InRange
 pub mod Beginnings
 pub mod Tops
 pub mod Left
+pub mod BlockAnswers
+pub mod BlockSignals
+pub mod Accepted

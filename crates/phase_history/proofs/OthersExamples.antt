@@ -1,15 +1,15 @@
 -- Whose an event is, computed on a script whose members come and go, and compared with what was
 -- found by hand.
-use Rattle.std.proofs.Common.{◌≡◌, ℕ, List, [], ◌∷◌, ◌++◌, Bool, true, false, eqb, ◌||◌, ℤ, None, refl, subst, pos}
-use Rattle.std.specs.Prelude.{Ok, Err, Result}
+use Rattle.std.proofs.Common.{◌≡◌, ◌||◌, ℕ, ℤ, pos, List, [], ◌∷◌, ◌++◌, Bool, true, false, cond, eqb, Some, None, refl, subst}
+use Rattle.std.specs.Prelude.{Ok, Err, Result, is_some}
 use Rattle.std.specs.List.{sum_by}
 use Rattle.std.proofs.lemmas.Bool.{eqb-true}
 use Rattle.phase_base.specs.declared.mode.Mode.TheVariants.{Sig, Wait}
 use Rattle.phase_history.specs.declared.event.Event.TheVariants.{Made, Registered, RegisteredNow, Signalled, Waited, Dropped}
 use Rattle.phase_history.specs.declared.refusal.NoTask.{NoTask}
-use Rattle.phase_history.specs.Histories.{History, phases_signalled, phases_waited}
+use Rattle.phase_history.specs.Histories.{History, founder, entry_at, phases_signalled, phases_waited}
 use Rattle.phase_history.specs.Replies.{after_register, after_drop}
-use Rattle.phase_history.specs.Others.{is_by, events_of, phases_of_signal, phases_of_wait, IsUsed, is_in, is_distinct, OthersCame}
+use Rattle.phase_history.specs.Others.{is_by, events_of, phases_of_signal, phases_of_wait, IsUsed, OnlyUsed, is_in, is_distinct, OthersCame}
 
 -- a list of one send
 abbrev pub one : ℕ → List ℤ
@@ -69,12 +69,26 @@ child_is_used = refl
 child_was_not_used : IsUsed (Dropped 0 ∷ Registered 0 1 Sig ∷ Made 0 ∷ []) 4 → ⊥
 child_was_not_used used = cc
 
+-- no number was used but those of the two tasks, and it is not so that none was but the founder's
+only_two : OnlyUsed (0 ∷ 1 ∷ []) (Registered 0 1 Sig ∷ Made 0 ∷ [])
+only_two task used = within (eqb 1 task) (eqb 0 task) refl used
+  where
+    within : (b c : Bool) → eqb 1 task ≡ b → is_some (cond b (Some (entry_at Sig 0 0)) (cond c (Some founder) None)) ≡ true
+        → (c || (b || false)) ≡ true
+    within true true here has = refl
+    within true false here has = refl
+    within false true here has = refl
+    within false false here has = absurd (cc)
+
+not_only_one : OnlyUsed (0 ∷ []) (Registered 0 1 Sig ∷ Made 0 ∷ []) → ⊥
+not_only_one only = (let no : is_in 1 (0 ∷ []) ≡ true = only 1 refl in cc)
+
 members_of_lists : is_in 3 (2 ∷ 3 ∷ []) ∷ is_in 1 (2 ∷ 3 ∷ []) ∷ is_in 1 [] ∷ []
     ≡ true ∷ false ∷ false ∷ []
 members_of_lists = refl
 
-distinct_lists : is_distinct [] ∷ is_distinct (2 ∷ 3 ∷ 1 ∷ []) ∷ is_distinct (2 ∷ 3 ∷ 2 ∷ []) ∷ []
-    ≡ true ∷ true ∷ false ∷ []
+distinct_lists : is_distinct [] ∷ is_distinct (2 ∷ 3 ∷ 1 ∷ []) ∷ is_distinct (2 ∷ 3 ∷ 2 ∷ []) ∷ is_distinct (3 ∷ 2 ∷ 2 ∷ []) ∷ []
+    ≡ true ∷ true ∷ false ∷ false ∷ []
 distinct_lists = refl
 
 -- to the founder, which has left, all later events are others'

@@ -69,6 +69,11 @@ abbrev pub after_register : {A R : Type 0} → Result A R → ℕ → ℕ → Mo
 after_register (Ok answer) parent child mode h = Registered parent child mode ∷ h
 after_register (Err refusal) parent child mode h = h
 
+-- the history after a registration of a waiter that joins now
+abbrev pub after_register_now : {A R : Type 0} → Result A R → ℕ → ℕ → History → History
+after_register_now (Ok answer) parent child h = RegisteredNow parent child ∷ h
+after_register_now (Err refusal) parent child h = h
+
 -- the history after a drop
 abbrev pub after_drop : {A R : Type 0} → Result A R → ℕ → History → History
 after_drop (Ok answer) task h = Dropped task ∷ h

@@ -18,10 +18,12 @@ ghost use Rattle.phase_history.specs.Laws.{HasReceived, HasReceivedFrom, HasCoun
 ghost use Rattle.phase_history.specs.Laws.{GoesOn, GoesOnPlainly, NamesNoSingle};
 ghost use Rattle.phase_history.specs.Replies.{wait_reply};
 
+mod blocks;
 mod others;
 mod sent;
 
 use crate::got::Got;
+pub use blocks::{accepted, after, block_answers, block_signals};
 pub use others::{
     beginning_is_legal, ended, entry_stays, events_add_up, member_is_known, member_is_used,
     no_stranger, only_used_stays, others_come, own_part_stays, use_stays,
