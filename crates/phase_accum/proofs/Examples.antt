@@ -1,7 +1,9 @@
 -- Worked examples of the values of lists of sends and of the singles, computed by the checker.
-use Rattle.std.proofs.Common.{◌≡◌, ℤ, pos, neg_ℤ, [], ◌∷◌, Some, None, refl}
+use Rattle.std.proofs.Common.{◌≡◌, ◌≤◌, ℤ, pos, neg_ℤ, [], ◌∷◌, replicate, Some, None, refl, arith}
 use Rattle.phase_accum.specs.declared.outcome.Outcome.TheVariants.{Value, Empty, TooBig}
 use Rattle.phase_accum.specs.declared.single.Single.TheVariants.{Neg, Abs, Halve, Clamp}
+use Rattle.phase_accum.specs.Operations.{IsPartOf}
+use Rattle.phase_accum.specs.Sums.{sum_operation}
 use Rattle.phase_accum.specs.Values.{sum_value, product_value, least_value, greatest_value, any_value, applied}
 
 -- the greatest value
@@ -83,8 +85,34 @@ least-nine_four = refl
 greatest-four_nine : greatest_value (pos 4 ∷ pos 9 ∷ []) ≡ Value (pos 9)
 greatest-four_nine = refl
 
+-- a number below 0 is less than one above it, whatever their magnitudes
+least-minus_nine_four : least_value (neg_ℤ (pos 9) ∷ pos 4 ∷ []) ≡ Value (neg_ℤ (pos 9))
+least-minus_nine_four = refl
+
+greatest-minus_nine_four : greatest_value (neg_ℤ (pos 9) ∷ pos 4 ∷ []) ≡ Value (pos 4)
+greatest-minus_nine_four = refl
+
 any-nine_four : any_value (pos 9 ∷ pos 4 ∷ []) ≡ Value (pos 9)
 any-nine_four = refl
+
+-- the first send, though it is neither the greatest, nor the least, nor the last
+any-five_nine_two_eight : any_value (pos 5 ∷ pos 9 ∷ pos 2 ∷ pos 8 ∷ []) ≡ Value (pos 5)
+any-five_nine_two_eight = refl
+
+any-two_nine : any_value (pos 2 ∷ pos 9 ∷ []) ≡ Value (pos 2)
+any-two_nine = refl
+
+-- ---- as many sends as a phase may have
+
+sum-full : sum_value (replicate 65536 max) ≡ TooBig
+sum-full = refl
+
+sum-full_of_ones : sum_value (replicate 65536 (pos 1)) ≡ Value (pos 65536)
+sum-full_of_ones = refl
+
+-- one more is too many, whatever their part would be
+is_part-one_too_many : (x : ℤ) → IsPartOf sum_operation x (replicate 65537 (pos 1)) → ⊥
+is_part-one_too_many x h = let few : 65537 ≤ 65536 = h.few in absurd (omega arith)
 
 -- ---- singles
 

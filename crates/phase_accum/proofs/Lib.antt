@@ -1,3 +1,4 @@
 mod Examples
+pub mod Orders
 pub mod Parts
 pub mod SumBounds

@@ -7,13 +7,16 @@ use crate::outcome::NO_VALUE;
 use phase_base::SENDS_MAX;
 use std::alloc::AllocError;
 use std::marker::Model;
+use thiserror::Error;
 
 /// Why a send was refused.
-#[derive(Clone, Copy, Debug, PartialEq, Eq, Hash)]
+#[derive(Clone, Copy, Debug, PartialEq, Eq, Hash, Error)]
 pub enum SendFault {
     /// The value is `NO_VALUE`.
+    #[error("{NO_VALUE} is no value and cannot be sent")]
     BadValue,
     /// The task holds `SENDS_MAX` sends already.
+    #[error("the task holds {SENDS_MAX} sends already, and must signal first")]
     TooManySends,
 }
 

@@ -4,9 +4,11 @@ ghost use Rattle.phase_accum.specs.Ranges.{IsRange};
 
 use crate::outcome::NO_VALUE;
 use std::marker::Model;
+use thiserror::Error;
 
 /// Why a clamp was refused: its low end is above its high end, or an end is `NO_VALUE`.
-#[derive(Clone, Copy, Debug, PartialEq, Eq, Hash)]
+#[derive(Clone, Copy, Debug, PartialEq, Eq, Hash, Error)]
+#[error("a clamp needs a low end at most its high end, and neither may be {NO_VALUE}")]
 pub struct BadClamp;
 
 /// The range of a clamp: its low end and its high end, which are values and belong to it.

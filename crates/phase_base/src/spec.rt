@@ -4,13 +4,16 @@ ghost use Rattle.phase_base.specs.Limits.{limits, AreLimits, IsBound};
 
 use crate::limits::{BOUND_MAX, PHASES_MAX};
 use std::marker::Model;
+use thiserror::Error;
 
 /// Why limits were refused.
-#[derive(Clone, Copy, Debug, PartialEq, Eq, Hash)]
+#[derive(Clone, Copy, Debug, PartialEq, Eq, Hash, Error)]
 pub enum SpecFault {
     /// The bound is 0 or above `BOUND_MAX`.
+    #[error("the bound is not from 1 to {BOUND_MAX}")]
     BadBound,
     /// The number of phases is 0 or above `PHASES_MAX`.
+    #[error("the number of phases is not from 1 to {PHASES_MAX}")]
     BadPhases,
 }
 

@@ -2,7 +2,7 @@
 use Rattle.std.specs.Prelude.{◌≡◌, ◌≤◌, ◌<◌, ◌⊎◌, ℕ, Bool, true, List, length, codes}
 use Rattle.std.specs.Prelude.{IfSome, Option}
 use Rattle.std.specs.Io.KnownBytes.{Appends}
-use Rattle.phase_replay.specs.Front.{AppendsFront}
+use Rattle.watched_io.specs.Prefix.{AppendsPrefix}
 use Rattle.phase_replay.specs.Replies.{replies_of}
 use Rattle.phase_replay.specs.declared.fault.ReplayFault.{ReplayFault}
 use Rattle.phase_replay.specs.declared.fault.ReplayFault.TheVariants.{OutOfMemory}
@@ -20,9 +20,9 @@ abbrev pub RepliesWhole : Option (List ℕ) → Option (List ℕ) → Option (Li
 RepliesWhole known old new =
     IfSome known (λ script. (length script ≤ SCRIPT_MAX) × Appends old new (replies_of script))
 
--- where the script is known, the output grew by a front of its replies
-abbrev pub RepliesFront : Option (List ℕ) → Option (List ℕ) → Option (List ℕ) → Type 0
-RepliesFront known old new = IfSome known (λ script. AppendsFront old new (replies_of script))
+-- where the script is known, the output grew by a prefix of its replies
+abbrev pub RepliesPrefix : Option (List ℕ) → Option (List ℕ) → Option (List ℕ) → Type 0
+RepliesPrefix known old new = IfSome known (λ script. AppendsPrefix old new (replies_of script))
 
 -- the fault has its cause: a read failed or the known script is too long; a write failed; of memory
 -- nothing can be said
@@ -32,7 +32,7 @@ HasCause ReadFault known read_failed write_failed =
 HasCause WriteFault known read_failed write_failed = write_failed ≡ true
 HasCause OutOfMemory known read_failed write_failed = Unit {0}
 
--- the fault stream grew by the fault's line, or, where a write to it failed, by a front of that
+-- the fault stream grew by the fault's line, or, where a write to it failed, by a prefix of that
 pub record Reports (fault : ReplayFault) (failed : Bool) (old new : Option (List ℕ)) : Type 0 where
   pub whole : (failed ≡ true) ⊎ Appends old new (fault_line fault)
-  pub front : AppendsFront old new (fault_line fault)
+  pub prefix : AppendsPrefix old new (fault_line fault)

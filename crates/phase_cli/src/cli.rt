@@ -2,10 +2,10 @@
 ghost use Rattle.std.specs.Prelude.{◌≡◌, ◌≢◌, ◌⊎◌, ℕ, Bool, List, Option};
 ghost use Rattle.clap.specs.Words.{HasKind, kind_of};
 ghost use Rattle.phase_cli.specs.CommandLine.{AreRefused, AreTaken, AskHelp, AskReplay, texts};
-ghost use Rattle.phase_cli.specs.Statuses.{HasCause, RepliesWhole, RepliesFront, Reports};
+ghost use Rattle.phase_cli.specs.Statuses.{HasCause, RepliesWhole, RepliesPrefix, Reports};
 ghost use Rattle.phase_replay.specs.declared.fault.ReplayFault.{ReplayFault};
-ghost use Rattle.phase_replay.specs.Replay.{ReplaysAll, ReplaysFront};
-ghost use Rattle.phase_replay.specs.Watched.{has_failed_of, inner_of};
+ghost use Rattle.phase_replay.specs.Replay.{ReplaysAll, ReplaysPrefix};
+ghost use Rattle.watched_io.specs.Watched.{has_failed_of, inner_of};
 
 use crate::command_line::read_words;
 use crate::status::{DONE, REFUSED, report};
@@ -33,13 +33,13 @@ pub fn run_cli<R: Read, W: Write, E: Write>(
     ensures replay { result ≡ 0 → AskReplay (texts words.now) → RepliesWhole
         (R.remaining (inner_of input.old))
         (W.contents (inner_of output.old)) (W.contents (inner_of output.new)) }
-    ensures front { result ≡ 5 → AskReplay (texts words.now) → RepliesFront
+    ensures prefix { result ≡ 5 → AskReplay (texts words.now) → RepliesPrefix
         (R.remaining (inner_of input.old))
         (W.contents (inner_of output.old)) (W.contents (inner_of output.new)) }
     ensures all { result ≡ 0 → AskReplay (texts words.now) → ReplaysAll
         (R.remaining (inner_of input.old)) (R.remaining (inner_of input.new))
         (W.contents (inner_of output.old)) (W.contents (inner_of output.new)) }
-    ensures stopped { result ≡ 5 → AskReplay (texts words.now) → ReplaysFront
+    ensures stopped { result ≡ 5 → AskReplay (texts words.now) → ReplaysPrefix
         (R.remaining (inner_of input.old)) (R.remaining (inner_of input.new))
         (W.contents (inner_of output.old)) (W.contents (inner_of output.new)) }
 
@@ -74,12 +74,12 @@ fn replay_input<R: Read, W: Write, E: Write>(
     ensures status { (result ≡ 0) ⊎ (result ≡ 5) }
     ensures replay { result ≡ 0 → RepliesWhole (R.remaining (inner_of input.old))
         (W.contents (inner_of output.old)) (W.contents (inner_of output.new)) }
-    ensures front { result ≡ 5 → RepliesFront (R.remaining (inner_of input.old))
+    ensures prefix { result ≡ 5 → RepliesPrefix (R.remaining (inner_of input.old))
         (W.contents (inner_of output.old)) (W.contents (inner_of output.new)) }
     ensures all { result ≡ 0 → ReplaysAll
         (R.remaining (inner_of input.old)) (R.remaining (inner_of input.new))
         (W.contents (inner_of output.old)) (W.contents (inner_of output.new)) }
-    ensures stopped { result ≡ 5 → ReplaysFront
+    ensures stopped { result ≡ 5 → ReplaysPrefix
         (R.remaining (inner_of input.old)) (R.remaining (inner_of input.new))
         (W.contents (inner_of output.old)) (W.contents (inner_of output.new)) }
     ensures quiet { result ≡ 0 → faults.new ≡ faults.old }

@@ -1,7 +1,7 @@
 //! The exit statuses of the program, and the lines that go with a fault.
 ghost use Rattle.std.specs.Prelude.{◌≡◌};
 ghost use Rattle.phase_cli.specs.Statuses.{Reports, fault_line};
-ghost use Rattle.phase_replay.specs.Watched.{has_failed_of, inner_of};
+ghost use Rattle.watched_io.specs.Watched.{has_failed_of, inner_of};
 
 use phase_replay::{ReplayFault, Watched};
 use std::io::Write;

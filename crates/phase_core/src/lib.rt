@@ -1,5 +1,5 @@
 //! A phaser for one thread: tasks join and leave, signal phases with their sends, and wait for the
-//! values of the phases. The contracts speak of histories, which are lists of the accepted calls.
+//! values of the phases. The contracts speak of histories, which are lists of what the calls did.
 //! The first calls are `PhaserCore::new`, `PhaserCore::signal` and `PhaserCore::wait`.
 #![tactic(auto)]
 
@@ -11,5 +11,7 @@ mod refusal_rows;
 mod signalling;
 mod waiting;
 
-pub use phase_history::{Event, Got, NoTask, RegisterRefusal, SignalRefusal, WaitRefusal, laws};
+pub use phase_history::{
+    Call, Event, Got, GotBlock, NoTask, RegisterRefusal, Reply, SignalRefusal, WaitRefusal, laws,
+};
 pub use phaser_core::PhaserCore;

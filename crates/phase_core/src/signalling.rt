@@ -37,7 +37,7 @@ impl<A: Accumulate> PhaserCore<A> {
             → signal_reply self.old.limits h task (sends ∷ []) single ≡ Err e.0) }
         ensures after { (h : History) (sends : List ℤ)
             → StandsFor A.operation self.old h → StandsForSends A.operation pending sends
-            → StandsFor A.operation self.new (after_signal result task sends single h) }
+            → StandsFor A.operation self.new (after_signal result task (sends ∷ []) single h) }
 
         ensures limits { self.new.limits ≡ self.old.limits }
         ensures err { OnErr result (self.new ≡ self.old) }

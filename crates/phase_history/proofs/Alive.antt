@@ -1,33 +1,19 @@
 -- A task is a member where it began and has not dropped.
-use Rattle.std.proofs.Common.{◌≡◌, ℕ, ◌<◌, ◌≤◌, Bool, true, false, not, ◌&&◌, cond, eqb, [], ◌∷◌, ◌++◌, Option, Some, None, length, refl, sym, ap, subst, ◌∙◌, arith}
+use Rattle.std.proofs.Common.{◌≡◌, ℕ, ◌<◌, Bool, true, false, not, ◌&&◌, cond, eqb, [], ◌∷◌, ◌++◌, Option, Some, None, length, refl, sym, ap, subst, ◌∙◌, arith}
 use Rattle.std.specs.Prelude.{is_some, IsSome, ◌↔◌}
-use Rattle.std.proofs.lemmas.Bool.{eqb-true, ne_eqb, and_parts, and_from, not-true, not_from_false}
+use Rattle.std.proofs.lemmas.Bool.{eqb-true, and_parts, and_from, not-true, not_from_false}
 use Rattle.phase_base.specs.Limits.{Limits}
 use Rattle.phase_base.specs.declared.mode.Mode.TheVariants.{Wait}
 use Rattle.phase_base.specs.declared.entry.Entry.{Entry}
+use Rattle.phase_accum.specs.declared.outcome.Outcome.TheVariants.{Empty}
 use Rattle.phase_history.specs.declared.event.Event.TheVariants.{Made, Registered, RegisteredNow, Signalled, Waited, Dropped}
 use Rattle.phase_base.specs.Members.{entry_of, signalled, waited}
 use Rattle.phase_history.specs.Histories.{History, members_of, founder, entry_at, signal_phase, wait_phase, done_of, greatest_used, start_of, has_dropped, IsAlive}
 use Rattle.phase_history.specs.Legal.{IsLegal}
 use Rattle.phase_history.proofs.MemberLemmas.{is_some-entry_of-changed, entry_of-push_new, entry_of-push_other, entry_of-without_same, entry_of-without_other}
-use Rattle.phase_history.proofs.Refused.{registers_from, passes_from}
+use Rattle.phase_history.proofs.Refused.{registers_from}
 use Rattle.phase_history.proofs.Steps.{sound_of}
-use Rattle.phase_history.proofs.Received.{fresh, member_used}
-
--- a number above all that were used has not dropped
-unused_stays : (limits : Limits) (h : History) (task : ℕ) → IsLegal limits h → greatest_used h < task → has_dropped h task ≡ false
-unused_stays limits [] task legal above = absurd legal
-unused_stays limits (Made founding ∷ before) task legal above =
-    let P : History → Type 0 = λ b. has_dropped (Made founding ∷ b) task ≡ false in subst P (sym legal.1) refl
-unused_stays limits (Registered parent child mode ∷ before) task legal above = unused_stays limits before task legal.0 (omega arith)
-unused_stays limits (RegisteredNow parent child ∷ before) task legal above = unused_stays limits before task legal.0 (omega arith)
-unused_stays limits (Signalled signaller lists single ∷ before) task legal above = unused_stays limits before task legal.0 above
-unused_stays limits (Waited waiter n ∷ before) task legal above = unused_stays limits before task legal.0 above
-unused_stays limits (Dropped gone ∷ before) task legal above =
-    let p = passes_from (entry_of (members_of before) gone) (record {}) (λ entry. []) legal.1 in
-    let known : gone ≤ greatest_used before = member_used before gone p.entry (sound_of limits before legal.0) p.is_member in
-    let apart : eqb gone task ≡ false = ne_eqb gone task (λ e. omega arith) in
-    ap (λ b. cond b true (has_dropped before task)) apart ∙ unused_stays limits before task legal.0 above
+use Rattle.phase_history.proofs.Received.{fresh, unused, start_of-above}
 
 and_false : (b : Bool) → (b && false) ≡ false
 and_false true = refl
@@ -46,7 +32,7 @@ joined before child task x some limits legal new_number known =
           let P : ℕ → Type 0 = λ n. entry_of (members_of before ++ (n, x) ∷ []) task ≡ Some x in
           let found : entry_of (members_of before ++ (child, x) ∷ []) task ≡ Some x =
           subst P (sym same) (entry_of-push_new (members_of before) task x (fresh before task (sound_of limits before legal) above)) in
-          ap is_some found ∙ sym (ap not (unused_stays limits before task legal above))
+          ap is_some found ∙ sym (ap not (unused (λ sends. Empty) limits before task legal (start_of-above before task above)).stays)
       | false ↦ λ t. ap is_some (entry_of-push_other (members_of before) child task x t) ∙ known
     ] refl
 

@@ -19,7 +19,13 @@ use Rattle.phase_history.specs.Legal.{IsLegal}
 use Rattle.phase_history.specs.Refusals.{signal_refusal, wait_refusal}
 use Rattle.phase_history.specs.declared.refusal.NoTask.{NoTask}
 use Rattle.phase_history.specs.Phases.{stream_of, received_by}
-use Rattle.phase_history.specs.Replies.{Call, Reply, Register, RegisterNow, Signal, Drop, Wait as WaitCall, Accepted, JoinedAt, SignalledIn, Received, NotRegistered, NotSignalled, NotReceived, NotDropped, reply_to, after_reply}
+use Rattle.phase_history.specs.declared.got.GotBlock.TheVariants as got_block
+use Rattle.phase_history.specs.declared.call.Call.{Call}
+use Rattle.phase_history.specs.declared.call.Call.TheVariants.{Register, RegisterNow, Signal, Drop, WaitBlock, Wait as WaitCall}
+use Rattle.phase_history.specs.declared.reply.Reply.{Reply}
+use Rattle.phase_history.specs.declared.reply.Reply.TheVariants.{Accepted, JoinedAt, SignalledIn, Received, ReceivedBlock, NotRegistered, NotSignalled, NotReceived, NotDropped}
+use Rattle.phase_history.specs.Replies.{reply_to, after_reply}
+use Rattle.phase_history.specs.Blocks.{one_by_one_refusal}
 
 -- a line of a script: a send that the task holds until its next signal, or another call
 data Line : Type 0 where
@@ -31,6 +37,7 @@ data Line : Type 0 where
   wait : (task : ℕ) → Line
   leave : (task : ℕ) → Line
   block : (task : ℕ) (lists : List (List ℤ)) → Line
+  take : (task n : ℕ) → Line
 
 -- the sends that a task holds, of sends with their tasks in order
 abbrev held_by : List (ℕ × ℤ) → ℕ → List ℤ
@@ -52,6 +59,7 @@ call_of held (signal_by task single) = Signal task (held_by held task ∷ []) (S
 call_of held (wait task) = WaitCall task
 call_of held (leave task) = Drop task
 call_of held (block task lists) = Signal task lists None
+call_of held (take task n) = WaitBlock task n
 
 -- what stays held after a line and its reply
 abbrev held_after : List (ℕ × ℤ) → Line → Reply → List (ℕ × ℤ)
@@ -77,6 +85,10 @@ run value bound phases lines = replies value (limits bound phases) (Made 0 ∷ [
 -- a value of a phase
 abbrev got : ℕ → ℤ → Reply
 got phase v = Received (gets.Value phase (Value v))
+
+-- values of so many phases from this one on
+abbrev values : ℕ → ℕ → Reply
+values phase count = ReceivedBlock (got_block.Values phase count)
 
 abbrev no_task : NoTask
 no_task = record {}
@@ -170,6 +182,11 @@ any_takes_first : run any_value 2 100
     ≡ Accepted ∷ Accepted ∷ Accepted ∷ SignalledIn 0 ∷ SignalledIn 0 ∷ got 0 (pos 9) ∷ []
 any_takes_first = refl
 
+any_takes_first_of_one : run any_value 2 100
+    (add 0 1 Sig ∷ send 0 (pos 3) ∷ send 0 (pos 8) ∷ send 1 (pos 9) ∷ signal 0 ∷ signal 1 ∷ wait 0 ∷ [])
+    ≡ Accepted ∷ Accepted ∷ Accepted ∷ Accepted ∷ SignalledIn 0 ∷ SignalledIn 0 ∷ got 0 (pos 3) ∷ []
+any_takes_first_of_one = refl
+
 least_takes_least : run least_value 2 100
     (add 0 1 Sig ∷ send 0 (pos 4) ∷ send 1 (pos 9) ∷ signal 1 ∷ signal 0 ∷ wait 0 ∷ [])
     ≡ Accepted ∷ Accepted ∷ Accepted ∷ SignalledIn 0 ∷ SignalledIn 0 ∷ got 0 (pos 4) ∷ []
@@ -212,9 +229,34 @@ blocks : run sum_value 4 100
     ∷ NotSignalled signals.BadBlock ∷ []
 blocks = refl
 
+-- a wait for a block takes what is complete, at most what was asked
+blocks_taken : run sum_value 4 100
+    (add 0 1 Sig ∷ add 0 2 Wait ∷ leave 0 ∷ block 1 (one 5 ∷ one 6 ∷ one 7 ∷ []) ∷ take 2 2
+    ∷ block 1 (one 8 ∷ one 9 ∷ one 10 ∷ one 11 ∷ []) ∷ block 1 (one 8 ∷ one 9 ∷ []) ∷ take 2 5
+    ∷ take 2 4 ∷ take 2 1 ∷ leave 1 ∷ take 2 1 ∷ take 2 0 ∷ [])
+    ≡ Accepted ∷ Accepted ∷ Accepted ∷ SignalledIn 0 ∷ values 0 2
+    ∷ NotSignalled signals.Ahead ∷ SignalledIn 3 ∷ NotReceived waits.BadBlock
+    ∷ values 2 3 ∷ NotReceived waits.NotYet ∷ Accepted ∷ ReceivedBlock got_block.Ended
+    ∷ NotReceived waits.BadBlock ∷ []
+blocks_taken = refl
+
+-- and what it took
+values_taken : received_by sum_value
+    (Waited 2 3 ∷ Signalled 1 (one 8 ∷ one 9 ∷ []) None ∷ Waited 2 2
+    ∷ Signalled 1 (one 5 ∷ one 6 ∷ one 7 ∷ []) None
+    ∷ Dropped 0 ∷ Registered 0 2 Wait ∷ Registered 0 1 Sig ∷ Made 0 ∷ []) 2
+    ≡ Value (pos 5) ∷ Value (pos 6) ∷ Value (pos 7) ∷ Value (pos 8) ∷ Value (pos 9) ∷ []
+values_taken = refl
+
+-- the second block is refused for the last of its signals
+ahead_one_by_one : one_by_one_refusal (limits 4 100)
+    (Waited 2 2 ∷ Signalled 1 (one 5 ∷ one 6 ∷ one 7 ∷ []) None ∷ Dropped 0 ∷ Registered 0 2 Wait
+    ∷ Registered 0 1 Sig ∷ Made 0 ∷ []) 1 (one 8 ∷ one 9 ∷ one 10 ∷ one 11 ∷ []) None ≡ Some signals.Ahead
+ahead_one_by_one = refl
+
 -- a task that waits too signals one phase at a time, and a block past the last phase is refused
-blocks_in_turn : run sum_value 4 100 (block 0 (one 1 ∷ one 2 ∷ []) ∷ block 0 (one 1 ∷ []) ∷ wait 0 ∷ [])
-    ≡ NotSignalled signals.SignalTwice ∷ SignalledIn 0 ∷ got 0 (pos 1) ∷ []
+blocks_in_turn : run sum_value 4 100 (block 0 (one 1 ∷ one 2 ∷ []) ∷ block 0 (one 1 ∷ []) ∷ take 0 3 ∷ [])
+    ≡ NotSignalled signals.SignalTwice ∷ SignalledIn 0 ∷ values 0 1 ∷ []
 blocks_in_turn = refl
 
 blocks_past_the_limit : run sum_value 4 2 (add 0 1 Sig ∷ block 1 (one 1 ∷ one 2 ∷ one 3 ∷ []) ∷ [])

@@ -9,7 +9,7 @@ use Rattle.phase_base.specs.declared.entry.Entry.{Entry}
 use Rattle.phase_accum.specs.declared.outcome.Outcome.{Outcome}
 use Rattle.phase_accum.specs.declared.outcome.Outcome.TheVariants.{Empty}
 use Rattle.phase_base.specs.Members.{entry_of}
-use Rattle.phase_history.specs.Histories.{History, members_of, wait_phase, done_of, top_of, greatest_used, IsWaiter, phases_waited}
+use Rattle.phase_history.specs.Histories.{History, members_of, wait_phase, done_of, top_of, greatest_used, start_of, IsWaiter, phases_waited}
 use Rattle.phase_history.specs.Phases.{value_of_phase, stream_of, received_by}
 use Rattle.phase_history.specs.declared.got.Got.TheVariants as got
 use Rattle.phase_history.specs.Refusals.{wait_refusal}
@@ -18,7 +18,7 @@ use Rattle.phase_history.specs.Legal.{IsLegal}
 use Rattle.phase_history.specs.Laws.{HasReceived, HasCounted, HasNoEvents, IsInTurn, IsAnswered}
 use Rattle.phase_history.proofs.MemberLemmas.{Each-entry}
 use Rattle.phase_history.proofs.Steps.{StandsWell, sound_of}
-use Rattle.phase_history.proofs.Received.{Counted, counted, Unused, unused}
+use Rattle.phase_history.proofs.Received.{Counted, counted, Unused, unused, entry_of-none, start_of-above}
 use Rattle.phase_history.proofs.Bounded.{TakesTurns, turns_of}
 
 pub got_of : (value : List ℤ → Outcome) (limits : Limits) (h : History) (task : ℕ) (entry : Entry)
@@ -51,10 +51,21 @@ turns_law limits h task entry legal found signals waits =
     record { low = (turn signals waits).0; high = (turn signals waits).1 }
 
 pub unused_law : (value : List ℤ → Outcome) (limits : Limits) (h : History) (task : ℕ)
+    → IsLegal limits h → start_of h task ≡ None → HasNoEvents value h task
+unused_law value limits h task legal never =
+    let u : Unused value h task = unused value limits h task legal never in
+    record {
+      start = never;
+      no_member = entry_of-none h task never;
+      signals = u.signals;
+      waits = u.waits;
+      received = u.received;
+      stays = u.stays;
+    }
+
+pub above_law : (value : List ℤ → Outcome) (limits : Limits) (h : History) (task : ℕ)
     → IsLegal limits h → greatest_used h < task → HasNoEvents value h task
-unused_law value limits h task legal above =
-    let u : Unused value h task = unused value limits h task legal above in
-    record { signals = u.signals; waits = u.waits; received = u.received }
+above_law value limits h task legal above = unused_law value limits h task legal (start_of-above h task above)
 
 -- one entry of a list, cut out
 take_one : {X : Type 0} (xs : List X) (w : ℕ) (d : X) → w < length xs → take 1 (drop w xs) ≡ get_or xs w d ∷ []

@@ -1,4 +1,7 @@
 mod Examples
+mod LimitExamples
+mod OthersExamples
+mod SentExamples
 pub mod Each
 pub mod MemberLemmas
 pub mod Refused
@@ -9,4 +12,16 @@ pub mod LawProofs
 pub mod Bounded
 pub mod Alive
 pub mod Standstill
+pub mod OthersEvents
+pub mod Used
+pub mod Answered
+pub mod Gathered
+pub mod Sendings
+pub mod Signallers
 pub mod InRange
+pub mod Beginnings
+pub mod Tops
+pub mod Left
+pub mod BlockAnswers
+pub mod BlockSignals
+pub mod Accepted

@@ -1,6 +1,7 @@
 -- What a task has received is the stream from its start to its wait phase, and its phases are its
 -- start and the number of its events.
-use Rattle.std.proofs.Common.{◌≡◌, ℕ, ◌+◌, ◌-◌, ◌<◌, ◌≤◌, true, false, cond, eqb, List, [], ◌∷◌, ◌++◌, Some, None, ℤ, length, take, drop, refl, sym, ap, subst, ◌∙◌, arith}
+use Rattle.std.proofs.Common.{◌≡◌, ℕ, ◌+◌, ◌-◌, ◌<◌, ◌≤◌, Bool, true, false, cond, eqb, List, [], ◌∷◌, ◌++◌, Option, Some, None, ℤ, length, take, drop, refl, sym, ap, subst, ◌∙◌, arith}
+use Rattle.std.specs.Prelude.{is_some}
 use Rattle.std.proofs.lemmas.List.{take-append-le, drop-append-le, length-drop, drop-drop}
 use Rattle.std.proofs.lemmas.List.FromFn.{length-map-range_with_len}
 use Rattle.std.proofs.lemmas.Option.{same_Some}
@@ -15,12 +16,12 @@ use Rattle.phase_accum.specs.declared.outcome.Outcome.{Outcome}
 use Rattle.phase_history.specs.declared.event.Event.{Event}
 use Rattle.phase_history.specs.declared.event.Event.TheVariants.{Made, Registered, RegisteredNow, Signalled, Waited, Dropped}
 use Rattle.phase_base.specs.Members.{entry_of, signalled, waited}
-use Rattle.phase_history.specs.Histories.{History, members_of, done_of, top_of, founder, entry_at, signal_phase, wait_phase, greatest_used, start_of, phases_signalled, phases_waited}
+use Rattle.phase_history.specs.Histories.{History, members_of, done_of, top_of, founder, entry_at, signal_phase, wait_phase, greatest_used, start_of, phases_signalled, phases_waited, has_dropped}
 use Rattle.phase_history.specs.Phases.{stream_of, received_by}
 use Rattle.phase_history.specs.Legal.{IsLegal}
 use Rattle.phase_history.proofs.Each.{Each-from}
-use Rattle.phase_history.proofs.MemberLemmas.{Each-entry, entry_of-changed_same, entry_of-changed_other, entry_of-push_other, entry_of-push_new, entry_of_above, entry_of-without_other, entry_of-without_same}
-use Rattle.phase_history.proofs.Refused.{Registers, registers_from, SignalsNow, signals_from, WaitsNow, waits_from}
+use Rattle.phase_history.proofs.MemberLemmas.{Each-entry, is_some-entry_of-changed, entry_of-changed_same, entry_of-changed_other, entry_of-push_other, entry_of-push_new, entry_of_above, entry_of-without_other, entry_of-without_same}
+use Rattle.phase_history.proofs.Refused.{passes_from, Registers, registers_from, SignalsNow, signals_from, WaitsNow, waits_from}
 use Rattle.phase_history.proofs.Steps.{StandsWell, IsSound, Steps, steps, sound_of, member_entry_is}
 use Rattle.phase_history.proofs.Streams.{stream_grows}
 
@@ -33,46 +34,99 @@ pub record Counted (value : List ℤ → Outcome) (h : History) (task : ℕ) (en
   pub received : mode_waits entry.mode ≡ true
       → received_by value h task ≡ take (phases_waited h task) (drop start.wait_phase (stream_of value h))
 
--- a task that was never used has no event
+-- what holds of a number that was never given to a task
 pub record Unused (value : List ℤ → Outcome) (h : History) (task : ℕ) : Type 0 where
   pub signals : phases_signalled h task ≡ 0
   pub waits : phases_waited h task ≡ 0
   pub received : received_by value h task ≡ []
+  pub stays : has_dropped h task ≡ false
 
--- a member's number is not above the greatest
-pub member_used : (h : History) (task : ℕ) (e : Entry) → IsSound h → entry_of (members_of h) task ≡ Some e → task ≤ greatest_used h
-member_used h task e sound found =
-    let good : StandsWell (done_of h) (top_of h) (greatest_used h) (task, e) =
-    Each-entry _ (members_of h) task e found sound in good.used
+some_or : {X : Type 0} (b : Bool) (x : X) (o : Option X) → cond b (Some x) o ≡ None → (b ≡ false) × (o ≡ None)
+some_or true x o none = absurd (cc)
+some_or false x o none = (refl, none)
+
+none_from : {X : Type 0} (o : Option X) → is_some o ≡ false → o ≡ None
+none_from None e = refl
+none_from (Some x) e = absurd (cc)
+
+-- who did not begin is no member
+pub entry_of-none : (h : History) (task : ℕ) → start_of h task ≡ None → entry_of (members_of h) task ≡ None
+entry_of-none [] task never = refl
+entry_of-none (Made founding ∷ before) task never = never
+entry_of-none (Registered parent child mode ∷ before) task never =
+    let n = some_or (eqb child task) _ (start_of before task) never in
+    entry_of-push_other (members_of before) child task _ n.0 ∙ entry_of-none before task n.1
+entry_of-none (RegisteredNow parent child ∷ before) task never =
+    let n = some_or (eqb child task) _ (start_of before task) never in
+    entry_of-push_other (members_of before) child task _ n.0 ∙ entry_of-none before task n.1
+entry_of-none (Signalled signaller lists single ∷ before) task never =
+    none_from _ (is_some-entry_of-changed signaller task (signalled (length lists)) (members_of before)
+    ∙ ap is_some (entry_of-none before task never))
+entry_of-none (Waited waiter n ∷ before) task never =
+    none_from _ (is_some-entry_of-changed waiter task (waited n) (members_of before) ∙ ap is_some (entry_of-none before task never))
+entry_of-none (Dropped gone ∷ before) task never =
+    elim (eqb gone task) as (λ b. (eqb gone task ≡ b) → entry_of (members_of (Dropped gone ∷ before)) task ≡ None) [
+      | true ↦ λ t.
+          let P : ℕ → Type 0 = λ n. entry_of (members_of (Dropped gone ∷ before)) n ≡ None in
+          subst P (eqb-true _ _ t) (entry_of-without_same (members_of before) gone)
+      | false ↦ λ t. entry_of-without_other (members_of before) gone task t ∙ entry_of-none before task never
+    ] refl
+
+-- so a member is another task
+member_is_other : (h : History) (member task : ℕ) (e : Entry) → start_of h task ≡ None
+    → entry_of (members_of h) member ≡ Some e → eqb member task ≡ false
+member_is_other h member task e never found =
+    ne_eqb member task (λ same.
+    (let P : ℕ → Type 0 = λ n. entry_of (members_of h) n ≡ Some e in
+    let here : entry_of (members_of h) task ≡ Some e = subst P same found in
+    let none : entry_of (members_of h) task ≡ None = entry_of-none h task never in cc))
+
+-- a number above all that were used did not begin
+pub start_of-above : (h : History) (task : ℕ) → greatest_used h < task → start_of h task ≡ None
+start_of-above [] task above = refl
+start_of-above (Made founding ∷ before) task above =
+    ap (λ b. cond b (Some founder) None) (ne_eqb founding task (λ e. omega arith))
+start_of-above (Registered parent child mode ∷ before) task above =
+    let x : Entry = entry_at mode (signal_phase before parent) (wait_phase before parent) in
+    ap (λ b. cond b (Some x) (start_of before task)) (ne_eqb child task (λ e. omega arith))
+    ∙ start_of-above before task (omega arith)
+start_of-above (RegisteredNow parent child ∷ before) task above =
+    let x : Entry = entry_at Wait (signal_phase before parent) (done_of before) in
+    ap (λ b. cond b (Some x) (start_of before task)) (ne_eqb child task (λ e. omega arith))
+    ∙ start_of-above before task (omega arith)
+start_of-above (Signalled signaller lists single ∷ before) task above = start_of-above before task above
+start_of-above (Waited waiter n ∷ before) task above = start_of-above before task above
+start_of-above (Dropped gone ∷ before) task above = start_of-above before task above
 
 pub unused : (value : List ℤ → Outcome) (limits : Limits) (h : History) (task : ℕ) → IsLegal limits h
-    → greatest_used h < task → Unused value h task
-unused value limits [] task legal above = absurd legal
-unused value limits (Made founding ∷ before) task legal above =
+    → start_of h task ≡ None → Unused value h task
+unused value limits [] task legal never = absurd legal
+unused value limits (Made founding ∷ before) task legal never =
     let P : History → Type 0 = λ b. Unused value (Made founding ∷ b) task in
-    subst P (sym legal.1) (record { signals = refl; waits = refl; received = refl })
-unused value limits (Registered parent child mode ∷ before) task legal above =
-    let u : Unused value before task = unused value limits before task legal.0 (omega arith) in
-    record { signals = u.signals; waits = u.waits; received = u.received }
-unused value limits (RegisteredNow parent child ∷ before) task legal above =
-    let u : Unused value before task = unused value limits before task legal.0 (omega arith) in
-    record { signals = u.signals; waits = u.waits; received = u.received }
-unused value limits (Signalled signaller lists single ∷ before) task legal above =
-    let u : Unused value before task = unused value limits before task legal.0 above in
+    subst P (sym legal.1) (record { signals = refl; waits = refl; received = refl; stays = refl })
+unused value limits (Registered parent child mode ∷ before) task legal never =
+    let n = some_or (eqb child task) _ (start_of before task) never in
+    let u : Unused value before task = unused value limits before task legal.0 n.1 in
+    record { signals = u.signals; waits = u.waits; received = u.received; stays = u.stays }
+unused value limits (RegisteredNow parent child ∷ before) task legal never =
+    let n = some_or (eqb child task) _ (start_of before task) never in
+    let u : Unused value before task = unused value limits before task legal.0 n.1 in
+    record { signals = u.signals; waits = u.waits; received = u.received; stays = u.stays }
+unused value limits (Signalled signaller lists single ∷ before) task legal never =
+    let u : Unused value before task = unused value limits before task legal.0 never in
     let r : SignalsNow before signaller = signals_from limits before signaller lists single legal.1.0 in
-    let known : signaller ≤ greatest_used before =
-    member_used before signaller r.entry (sound_of limits before legal.0) r.is_member in
-    let apart : eqb signaller task ≡ false = ne_eqb signaller task (λ e. omega arith) in
-    record { signals = rw apart u.signals; waits = u.waits; received = u.received }
-unused value limits (Waited waiter n ∷ before) task legal above =
-    let u : Unused value before task = unused value limits before task legal.0 above in
+    let apart : eqb signaller task ≡ false = member_is_other before signaller task r.entry never r.is_member in
+    record { signals = rw apart u.signals; waits = u.waits; received = u.received; stays = u.stays }
+unused value limits (Waited waiter n ∷ before) task legal never =
+    let u : Unused value before task = unused value limits before task legal.0 never in
     let r : WaitsNow before waiter = waits_from limits before waiter n legal.1.0 in
-    let known : waiter ≤ greatest_used before = member_used before waiter r.entry (sound_of limits before legal.0) r.is_member in
-    let apart : eqb waiter task ≡ false = ne_eqb waiter task (λ e. omega arith) in
-    record { signals = u.signals; waits = rw apart u.waits; received = rw apart u.received }
-unused value limits (Dropped gone ∷ before) task legal above =
-    let u : Unused value before task = unused value limits before task legal.0 above in
-    record { signals = u.signals; waits = u.waits; received = u.received }
+    let apart : eqb waiter task ≡ false = member_is_other before waiter task r.entry never r.is_member in
+    record { signals = u.signals; waits = rw apart u.waits; received = rw apart u.received; stays = u.stays }
+unused value limits (Dropped gone ∷ before) task legal never =
+    let u : Unused value before task = unused value limits before task legal.0 never in
+    let p = passes_from (entry_of (members_of before) gone) (record {}) (λ entry. []) legal.1 in
+    let apart : eqb gone task ≡ false = member_is_other before gone task p.entry never p.is_member in
+    record { signals = u.signals; waits = u.waits; received = u.received; stays = rw apart u.stays }
 
 -- a part of a list is that part of a longer one
 part_of_longer : {X : Type 0} (xs ys : List X) (w k : ℕ) → IsPrefix xs ys → w + k ≤ length xs
@@ -137,7 +191,7 @@ counted value limits (Made founding ∷ before) task e legal found =
     let P : History → Type 0 = λ b. Counted value (Made founding ∷ b) task e in
     subst P (sym legal.1)
     (elim (eqb founding task) as (λ b. (eqb founding task ≡ b) → (cond b (Some founder) None ≡ Some e) → Counted value (Made founding ∷ []) task e) [
-      | true ↦ λ t f. began value (Made founding ∷ []) task e (rw t f) (record { signals = refl; waits = refl; received = refl })
+      | true ↦ λ t f. began value (Made founding ∷ []) task e (rw t f) (record { signals = refl; waits = refl; received = refl; stays = refl })
       | false ↦ λ t f. absurd (cc)
     ] refl found)
 counted value limits (Registered parent child mode ∷ before) task e legal found =
@@ -152,9 +206,9 @@ counted value limits (Registered parent child mode ∷ before) task e legal foun
           let at_task : entry_of (members_of before ++ (task, x) ∷ []) task ≡ Some e = subst P same found in
           let is : x ≡ e = same_Some _ _ (sym
           (entry_of-push_new (members_of before) task x (fresh before task sound above)) ∙ at_task) in
-          let u : Unused value before task = unused value limits before task legal.0 above in
+          let u : Unused value before task = unused value limits before task legal.0 (start_of-above before task above) in
           began value (Registered parent child mode ∷ before) task e (rw t (ap (λ y. Some y) is))
-          (record { signals = u.signals; waits = u.waits; received = u.received })
+          (record { signals = u.signals; waits = u.waits; received = u.received; stays = u.stays })
       | false ↦ λ t.
           let old : entry_of (members_of before) task ≡ Some e =
           sym (entry_of-push_other (members_of before) child task x t) ∙ found in
@@ -174,9 +228,9 @@ counted value limits (RegisteredNow parent child ∷ before) task e legal found 
           let at_task : entry_of (members_of before ++ (task, x) ∷ []) task ≡ Some e = subst P same found in
           let is : x ≡ e = same_Some _ _ (sym
           (entry_of-push_new (members_of before) task x (fresh before task sound above)) ∙ at_task) in
-          let u : Unused value before task = unused value limits before task legal.0 above in
+          let u : Unused value before task = unused value limits before task legal.0 (start_of-above before task above) in
           began value (RegisteredNow parent child ∷ before) task e (rw t (ap (λ y. Some y) is))
-          (record { signals = u.signals; waits = u.waits; received = u.received })
+          (record { signals = u.signals; waits = u.waits; received = u.received; stays = u.stays })
       | false ↦ λ t.
           let old : entry_of (members_of before) task ≡ Some e =
           sym (entry_of-push_other (members_of before) child task x t) ∙ found in

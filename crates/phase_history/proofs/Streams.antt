@@ -12,7 +12,7 @@ use Rattle.phase_accum.specs.declared.outcome.Outcome.TheVariants.{Empty}
 use Rattle.phase_history.specs.declared.event.Event.{Event}
 use Rattle.phase_history.specs.declared.event.Event.TheVariants.{Made, Registered, RegisteredNow, Signalled, Waited, Dropped}
 use Rattle.phase_base.specs.Members.{Members, signal_phases, least, waited}
-use Rattle.phase_history.specs.Histories.{History, members_of, done_of, top_of, HasNoSignaller}
+use Rattle.phase_history.specs.Histories.{History, IsBeginning, members_of, done_of, top_of, HasNoSignaller}
 use Rattle.phase_history.specs.Phases.{value_of_phase, stream_of}
 use Rattle.phase_history.specs.Legal.{IsAccepted, IsLegal}
 use Rattle.phase_history.proofs.Each.{Each, Each-push, Each-filter, Each-of_picked}
@@ -62,14 +62,21 @@ legal_rest limits (Signalled task lists single) rest some legal = legal
 legal_rest limits (Waited task n) rest some legal = legal
 legal_rest limits (Dropped task) rest some legal = legal
 
--- the stream of a longer history begins with this one's
-pub stream_prefix : (value : List ℤ → Outcome) (limits : Limits) (h more : History)
+prefix_from : (value : List ℤ → Outcome) (limits : Limits) (h more : History)
     → IsLegal limits h → IsLegal limits (more ++ h) → IsPrefix (stream_of value h) (stream_of value (more ++ h))
-stream_prefix value limits h [] legal longer = ([], append-nil _)
-stream_prefix value limits h (event ∷ more) legal longer =
+prefix_from value limits h [] legal longer = ([], append-nil _)
+prefix_from value limits h (event ∷ more) legal longer =
     let r = legal_rest limits event (more ++ h) (legal_some limits h more legal) longer in
     let step : Steps (more ++ h) event = steps limits (more ++ h) event r.0 (sound_of limits (more ++ h) r.0) r.1 in
-    IsPrefix-trans _ _ _ (stream_prefix value limits h more legal r.0) (stream_grows value (more ++ h) event step)
+    IsPrefix-trans _ _ _ (prefix_from value limits h more legal r.0) (stream_grows value (more ++ h) event step)
+
+-- the stream of a longer history begins with this one's
+pub stream_prefix : (value : List ℤ → Outcome) (limits : Limits) (h longer : History)
+    → IsLegal limits h → IsLegal limits longer → IsBeginning h longer → IsPrefix (stream_of value h) (stream_of value longer)
+stream_prefix value limits h longer legal legal_longer b =
+    let L : History → Type 0 = λ l. IsLegal limits l in
+    let P : History → Type 0 = λ l. IsPrefix (stream_of value h) (stream_of value l) in
+    subst P (sym b.is) (prefix_from value limits h b.later legal (subst L b.is legal_longer))
 
 -- ---- where no task signals
 
@@ -139,8 +146,21 @@ closed_from value limits h (event ∷ more) quiet legal longer =
           ∙ before.same;
     }
 
+closed_of : (value : List ℤ → Outcome) (limits : Limits) (h longer : History) → HasNoSignaller h
+    → IsLegal limits h → IsLegal limits longer → IsBeginning h longer → Closed value h longer
+closed_of value limits h longer none legal legal_longer b =
+    let L : History → Type 0 = λ l. IsLegal limits l in
+    let C : History → Type 0 = λ l. Closed value h l in
+    subst C (sym b.is) (closed_from value limits h b.later (quiet_from h none) legal (subst L b.is legal_longer))
+
 -- where no task signals, no longer history has a longer stream
-pub stream_closed : (value : List ℤ → Outcome) (limits : Limits) (h more : History) → HasNoSignaller h
-    → IsLegal limits h → IsLegal limits (more ++ h) → stream_of value (more ++ h) ≡ stream_of value h
-stream_closed value limits h more none legal longer =
-    (closed_from value limits h more (quiet_from h none) legal longer).same
+pub stream_closed : (value : List ℤ → Outcome) (limits : Limits) (h longer : History) → HasNoSignaller h
+    → IsLegal limits h → IsLegal limits longer → IsBeginning h longer → stream_of value longer ≡ stream_of value h
+stream_closed value limits h longer none legal legal_longer b =
+    (closed_of value limits h longer none legal legal_longer b).same
+
+-- and in none does a task signal
+pub signallers_closed : (limits : Limits) (h longer : History) → HasNoSignaller h
+    → IsLegal limits h → IsLegal limits longer → IsBeginning h longer → HasNoSignaller longer
+signallers_closed limits h longer none legal legal_longer b =
+    signal_phases_quiet (members_of longer) (closed_of (λ sends. Empty) limits h longer none legal legal_longer b).quiet

@@ -17,6 +17,11 @@ History = List Event
 abbrev pub entry_at : Mode → ℕ → ℕ → Entry
 entry_at mode s w = record { mode = mode; signal_phase = s; wait_phase = w }
 
+-- the old history is a beginning of the new one: the later events came after it, or none came
+pub record IsBeginning (old new : History) : Type 0 where
+  pub later : History
+  pub is : new ≡ later ++ old
+
 -- what the task that makes a phaser starts with
 abbrev pub founder : Entry
 founder = entry_at Single 0 0

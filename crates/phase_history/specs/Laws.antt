@@ -1,5 +1,5 @@
 -- What the laws of histories say.
-use Rattle.std.specs.Prelude.{◌≡◌, ℕ, ◌+◌, ◌<◌, ◌≤◌, ℤ, List, [], ◌∷◌, ◌++◌, ◌⊎◌, ◌≢◌, Option, None, Some, slice_range}
+use Rattle.std.specs.Prelude.{◌≡◌, ℕ, ◌+◌, ◌<◌, ◌≤◌, ℤ, List, [], ◌∷◌, ◌++◌, ◌⊎◌, ◌≢◌, Option, None, Some, false, slice_range}
 use Rattle.phase_base.specs.declared.entry.Entry.{Entry}
 use Rattle.phase_accum.specs.declared.outcome.Outcome.{Outcome}
 use Rattle.phase_base.specs.Limits.{Limits}
@@ -8,8 +8,9 @@ use Rattle.phase_history.specs.declared.event.Event.TheVariants.{Signalled, Wait
 use Rattle.phase_history.specs.declared.refusal.SignalRefusal.TheVariants as signal
 use Rattle.phase_history.specs.declared.refusal.WaitRefusal.TheVariants as wait
 use Rattle.phase_history.specs.Refusals.{signal_refusal, wait_refusal}
-use Rattle.phase_history.specs.Histories.{History, IsSignaller, IsWaiter, wait_phase, done_of, start_of}
-use Rattle.phase_history.specs.Histories.{phases_signalled, phases_waited}
+use Rattle.phase_base.specs.Members.{entry_of}
+use Rattle.phase_history.specs.Histories.{History, IsSignaller, IsWaiter, members_of, wait_phase, done_of, start_of}
+use Rattle.phase_history.specs.Histories.{phases_signalled, phases_waited, has_dropped}
 use Rattle.phase_history.specs.Phases.{stream_of, received_by}
 
 -- a task with this entry has received the stream from its start to its wait phase
@@ -29,12 +30,24 @@ pub record HasCounted (h : History) (task : ℕ) (entry : Entry) : Type 0 where
   pub signals : start.signal_phase + phases_signalled h task ≡ entry.signal_phase
   pub waits : start.wait_phase + phases_waited h task ≡ entry.wait_phase
 
--- a task that was never used has no events: it signalled no phase, waited for none, and received
--- nothing
+-- each task with this start, registered or gone, has received the stream from its start over as many
+-- phases as it waited for, all of them complete
+pub record HasReceivedFrom (value : List ℤ → Outcome) (h : History) (task : ℕ) (start : Entry)
+    : Type 0 where
+  pub complete : start.wait_phase + phases_waited h task ≤ done_of h
+  pub received : received_by value h task
+      ≡ slice_range (stream_of value h) start.wait_phase
+      (start.wait_phase + phases_waited h task)
+
+-- a number that was never given to a task has no events: it did not begin and is not registered,
+-- signalled no phase, waited for none, received nothing and did not drop
 pub record HasNoEvents (value : List ℤ → Outcome) (h : History) (task : ℕ) : Type 0 where
+  pub start : start_of h task ≡ None
+  pub no_member : entry_of (members_of h) task ≡ None
   pub signals : phases_signalled h task ≡ 0
   pub waits : phases_waited h task ≡ 0
   pub received : received_by value h task ≡ []
+  pub stays : has_dropped h task ≡ false
 
 -- an entry that is at most one signal ahead of its waits
 pub record IsInTurn (entry : Entry) : Type 0 where

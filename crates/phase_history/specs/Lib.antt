@@ -4,3 +4,6 @@ pub mod Refusals
 pub mod Legal
 pub mod Replies
 pub mod Laws
+pub mod Blocks
+pub mod Others
+pub mod Sent

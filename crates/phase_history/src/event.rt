@@ -3,7 +3,8 @@ use phase_accum::Single;
 use phase_base::Mode;
 use std::collections::LinkedList;
 
-/// One accepted call on a phaser.
+/// What one call did on a phaser. A refused call makes no event, nor does a wait that is answered
+/// `Ended`.
 #[derive(Drop)]
 pub enum Event {
     /// The task made the phaser.

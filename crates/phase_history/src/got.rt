@@ -1,4 +1,4 @@
-//! What a wait answers.
+//! What a wait, or a wait for a block of phases, answers.
 use phase_accum::Outcome;
 
 /// What a wait answers where it is accepted.
@@ -10,6 +10,20 @@ pub enum Got {
         phase: u64,
         /// Its value.
         outcome: Outcome,
+    },
+    /// No signaller is registered, and the task has got every phase.
+    Ended,
+}
+
+/// What a wait for a block of phases answers where it is accepted.
+#[derive(Clone, Copy, Debug, PartialEq, Eq)]
+pub enum GotBlock {
+    /// The values of complete phases, one after another, stand where the caller asked for them.
+    Values {
+        /// The first of the phases, counted from 0.
+        phase: u64,
+        /// How many phases there are: as many as were asked for, or as are complete.
+        count: u64,
     },
     /// No signaller is registered, and the task has got every phase.
     Ended,

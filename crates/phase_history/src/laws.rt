@@ -1,6 +1,6 @@
 //! What holds of every history. Each function here makes no call and has no effect: its contract
 //! is a law, for every history of every phaser, however the phaser is kept.
-ghost use Rattle.std.specs.Prelude.{◌≡◌, ◌+◌, ◌<◌, ◌≤◌, ℕ, ℤ, List, ◌++◌, Ok, Some, IsSome, true, false, ◌↔◌};
+ghost use Rattle.std.specs.Prelude.{◌≡◌, ◌+◌, ◌<◌, ◌≤◌, ℕ, ℤ, List, length, Ok, Some, None, IsSome, true, false, ◌↔◌};
 ghost use Rattle.std.specs.List.{All};
 ghost use mathlib.Core.List.{IsPrefix};
 ghost use Rattle.phase_base.specs.Limits.{Limits};
@@ -9,17 +9,30 @@ ghost use Rattle.phase_base.specs.declared.entry.Entry.{Entry};
 ghost use Rattle.phase_accum.specs.declared.outcome.Outcome.{Outcome};
 ghost use Rattle.phase_accum.specs.Values.{IsInRange};
 ghost use Rattle.phase_base.specs.Members.{entry_of, wait_phases, least};
-ghost use Rattle.phase_history.specs.Histories.{History, IsWaiter, HasNoSignaller};
+ghost use Rattle.phase_history.specs.Histories.{History, IsBeginning, IsWaiter, HasNoSignaller};
 ghost use Rattle.phase_history.specs.Histories.{members_of, top_of, done_of, greatest_used};
 ghost use Rattle.phase_history.specs.Histories.{IsAlive, start_of, has_dropped};
 ghost use Rattle.phase_history.specs.Phases.{stream_of};
 ghost use Rattle.phase_history.specs.Legal.{IsLegal};
-ghost use Rattle.phase_history.specs.Laws.{HasReceived, HasCounted, HasNoEvents, IsInTurn, IsAnswered};
+ghost use Rattle.phase_history.specs.Laws.{HasReceived, HasReceivedFrom, HasCounted, HasNoEvents, IsInTurn, IsAnswered};
 ghost use Rattle.phase_history.specs.Laws.{GoesOn, GoesOnPlainly, NamesNoSingle};
 ghost use Rattle.phase_history.specs.Replies.{wait_reply};
 
+mod blocks;
+mod others;
+mod sent;
+
 use crate::got::Got;
+pub use blocks::{accepted, after, block_answers, block_signals};
+pub use others::{
+    beginning_is_legal, ended, entry_stays, events_add_up, member_is_known, member_is_used,
+    no_stranger, only_used_stays, others_come, own_part_stays, use_stays,
+};
 use phase_accum::Accumulate;
+pub use sent::{
+    all_dropped, each_phase_is_named, holds_open, mode_stays, one_sender, sends_are_gathered,
+    sent_in_turn, sent_stays, top_is_reached, unused_is_silent,
+};
 
 /// Under an accumulator each value of the stream is in range, and so is what a wait is answered: its
 /// magnitude is one of a value.
@@ -38,18 +51,40 @@ pub fn got()
         → IsLegal limits h → IsWaiter h task entry → HasReceived value h task entry }
 {}
 
-/// The stream of a longer history begins with this one's: no complete phase ever changes.
-pub fn prefix()
-    ensures { (value : List ℤ → Outcome) (limits : Limits) (h more : History)
-        → IsLegal limits h → IsLegal limits (more ++ h)
-        → IsPrefix (stream_of value h) (stream_of value (more ++ h)) }
+/// Each task that began in a mode that waits, registered or gone, has received the stream from its
+/// start over as many phases as it waited for.
+pub fn received()
+    ensures { (value : List ℤ → Outcome) (limits : Limits) (h : History) (task : ℕ) (start : Entry)
+        → IsLegal limits h → start_of h task ≡ Some start → mode_waits start.mode ≡ true
+        → HasReceivedFrom value h task start }
 {}
 
-/// Where no task signals, no longer history has a longer stream.
+/// The stream of a longer history begins with this one's: no complete phase ever changes.
+pub fn prefix()
+    ensures { (value : List ℤ → Outcome) (limits : Limits) (h longer : History)
+        → IsLegal limits h → IsLegal limits longer → IsBeginning h longer
+        → IsPrefix (stream_of value h) (stream_of value longer) }
+{}
+
+/// Where no task signals, no longer history has a longer stream, and in none does a task signal.
 pub fn closed()
-    ensures { (value : List ℤ → Outcome) (limits : Limits) (h more : History)
-        → HasNoSignaller h → IsLegal limits h → IsLegal limits (more ++ h)
-        → stream_of value (more ++ h) ≡ stream_of value h }
+    ensures stream { (value : List ℤ → Outcome) (limits : Limits) (h longer : History)
+        → HasNoSignaller h → IsLegal limits h → IsLegal limits longer → IsBeginning h longer
+        → stream_of value longer ≡ stream_of value h }
+    ensures no_signaller { (limits : Limits) (h longer : History)
+        → HasNoSignaller h → IsLegal limits h → IsLegal limits longer → IsBeginning h longer
+        → HasNoSignaller longer }
+{}
+
+/// A history is a beginning of itself, a beginning of its beginnings is one of its own, and of two
+/// beginnings of one history the longer begins with the shorter.
+pub fn beginnings()
+    ensures itself { (h : History) → IsBeginning h h }
+    ensures transitive { (first second third : History)
+        → IsBeginning first second → IsBeginning second third → IsBeginning first third }
+    ensures nested { (shorter longer whole : History)
+        → IsBeginning shorter whole → IsBeginning longer whole
+        → length shorter ≤ length longer → IsBeginning shorter longer }
 {}
 
 /// A task's signal phase is its start and the number of phases that it signalled since, its wait
@@ -66,6 +101,12 @@ pub fn bound()
         → top_of h ≤ slowest + limits.bound }
 {}
 
+/// No signal is of a phase past those that the phaser was made for.
+pub fn top()
+    ensures { (limits : Limits) (h : History) → IsLegal limits h
+        → top_of h ≤ limits.phases_max }
+{}
+
 /// A task that signals and waits does so in turn: it is at most one signal ahead of its waits.
 pub fn turns()
     ensures { (limits : Limits) (h : History) (task : ℕ) (entry : Entry) → IsLegal limits h
@@ -73,9 +114,12 @@ pub fn turns()
         → mode_signals entry.mode ≡ true → mode_waits entry.mode ≡ true → IsInTurn entry }
 {}
 
-/// A number above all that were used has no events, so a task that is registered now did nothing.
+/// A number that was never given to a task has no events, so a task that is registered now did
+/// nothing. Each number above the greatest that was used is one.
 pub fn unused()
-    ensures { (value : List ℤ → Outcome) (limits : Limits) (h : History) (task : ℕ)
+    ensures never { (value : List ℤ → Outcome) (limits : Limits) (h : History) (task : ℕ)
+        → IsLegal limits h → start_of h task ≡ None → HasNoEvents value h task }
+    ensures above { (value : List ℤ → Outcome) (limits : Limits) (h : History) (task : ℕ)
         → IsLegal limits h → greatest_used h < task → HasNoEvents value h task }
 {}
 

@@ -3,11 +3,15 @@
 //! `specs/Histories.antt`, and then the laws in `src/laws.rt`.
 #![tactic(auto)]
 
+mod call;
 mod event;
 mod got;
 pub mod laws;
 mod refusal;
+mod reply;
 
+pub use call::Call;
 pub use event::Event;
-pub use got::Got;
+pub use got::{Got, GotBlock};
 pub use refusal::{NoTask, RegisterRefusal, SignalRefusal, WaitRefusal};
+pub use reply::Reply;

@@ -1,8 +1,8 @@
--- The kept front of a line is answered as the whole line is.
+-- The kept prefix of a line is answered as the whole line is.
 use Rattle.std.proofs.Common.{◌≡◌, ℕ, ◌+◌, ◌-◌, ◌≤◌, List, ◌++◌, length, take, slice_index, nat_eq, sym, ◌∙◌, ap, arith, inl, inr}
 use Rattle.std.proofs.lemmas.Bool.{cond_both, cases_lt}
 use Rattle.std.proofs.lemmas.List.{take_all, take-take, take-append-le, length-take-le}
-use Rattle.phase_replay.specs.Lines.{without_cr}
+use Rattle.phase_script.specs.Lines.{without_cr}
 use Rattle.phase_replay.specs.Scripts.{ScriptState, reply_to, after_line}
 use Rattle.phase_replay.proofs.LongLine.{long_line}
 
@@ -24,25 +24,25 @@ long_lines_alike state line other h k =
     let q = long_line state other k in
     record { reply = p.0 ∙ sym q.0; after = p.1 ∙ sym q.1 }
 
--- the kept front of a line is answered as the line is
-pub kept_alike : (state : ScriptState) (front : List ℕ) → AreAnsweredAlike state (without_cr (take 76 front)) (without_cr front)
-kept_alike state front = elim (cases_lt 76 (length front)) [
+-- the kept prefix of a line is answered as the line is
+pub kept_alike : (state : ScriptState) (prefix : List ℕ) → AreAnsweredAlike state (without_cr (take 76 prefix)) (without_cr prefix)
+kept_alike state prefix = elim (cases_lt 76 (length prefix)) [
   | inl long ↦
-      let cut : length (take 76 front) ≡ 76 = length-take-le 76 front (omega arith) in
-      long_lines_alike state (without_cr (take 76 front)) (without_cr front)
-      (omega (arith, length-without_cr (take 76 front)))
-      (omega (arith, length-without_cr front))
-  | inr short ↦ let same : take 76 front ≡ front = take_all 76 front short in record {
+      let cut : length (take 76 prefix) ≡ 76 = length-take-le 76 prefix (omega arith) in
+      long_lines_alike state (without_cr (take 76 prefix)) (without_cr prefix)
+      (omega (arith, length-without_cr (take 76 prefix)))
+      (omega (arith, length-without_cr prefix))
+  | inr short ↦ let same : take 76 prefix ≡ prefix = take_all 76 prefix short in record {
     reply = ap (λ l. reply_to state (without_cr l)) same;
     after = ap (λ l. after_line state (without_cr l)) same;
   }
 ]
 
--- bytes behind the kept front are kept as they are behind the line
-pub take-kept_more : (n : ℕ) (front bs : List ℕ) → take n (take n front ++ bs) ≡ take n (front ++ bs)
-take-kept_more n front bs = elim (cases_lt n (length front)) [
+-- bytes behind the kept prefix are kept as they are behind the line
+pub take-kept_more : (n : ℕ) (prefix bs : List ℕ) → take n (take n prefix ++ bs) ≡ take n (prefix ++ bs)
+take-kept_more n prefix bs = elim (cases_lt n (length prefix)) [
   | inl long ↦
-      let cut : length (take n front) ≡ n = length-take-le n front (omega arith) in
-      take-append-le n (take n front) bs (omega arith) ∙ take-take n n front (omega arith) ∙ sym (take-append-le n front bs (omega arith))
-  | inr short ↦ ap (λ l. take n (l ++ bs)) (take_all n front short)
+      let cut : length (take n prefix) ≡ n = length-take-le n prefix (omega arith) in
+      take-append-le n (take n prefix) bs (omega arith) ∙ take-take n n prefix (omega arith) ∙ sym (take-append-le n prefix bs (omega arith))
+  | inr short ↦ ap (λ l. take n (l ++ bs)) (take_all n prefix short)
 ]

@@ -2,12 +2,12 @@
 -- definitions and compared with replies that were found by hand. The text of a number is left out: a
 -- reply stands here as data.
 use Rattle.std.proofs.Common.{◌≡◌, List, ℕ, [], ◌∷◌, pos, negsuc, codes, refl}
-use Rattle.phase_replay.specs.declared.refusal.Refusal.TheVariants as no
-use Rattle.phase_replay.specs.declared.reply.Reply.{Reply}
-use Rattle.phase_replay.specs.declared.reply.Reply.TheVariants.{Accepted, Signalled, Value, TooBig, Refused, BadLine}
-use Rattle.phase_replay.specs.Commands.{command_of, operator_of, make_of, send_of, signal_of, wait_of, command_after}
-use Rattle.phase_replay.specs.Numbers.{nat_of, int_of}
-use Rattle.phase_replay.specs.Lines.{lines_of}
+use Rattle.phase_script.specs.declared.refusal.Refusal.TheVariants as no
+use Rattle.phase_script.specs.declared.reply.Reply.{Reply}
+use Rattle.phase_script.specs.declared.reply.Reply.TheVariants.{Accepted, Signalled, Value, TooBig, Refused, BadLine}
+use Rattle.phase_script.specs.Commands.{command_of, operator_of, make_of, send_of, signal_of, wait_of, command_after}
+use Rattle.phase_script.specs.Numbers.{nat_of, int_of}
+use Rattle.phase_script.specs.Lines.{lines_of}
 use Rattle.phase_replay.specs.Scripts.{ScriptState, start, reply_by, after_line, command_reply, after_command}
 
 -- the replies to the lines from a state on, as data

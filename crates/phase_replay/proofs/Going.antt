@@ -1,18 +1,18 @@
--- A run on its way: what is written, and what it owes still.
+-- A replayer on its way: what is written, and what it owes still.
 use Rattle.std.proofs.Common.{◌≡◌, ℕ, ◌+◌, ◌<◌, ◌≤◌, List, ◌∷◌, ◌++◌, length, take, drop, get_or, sym, ◌∙◌, ap, subst, append_assoc, take-append-drop, add-one, drop-cons, arith, length-drop, Some, None, refl, MatchOption}
 use Rattle.std.proofs.KnownBytes.{Appends-trans}
 use Rattle.std.proofs.lemmas.List.{length-take}
 use Rattle.std.specs.declared.option.Option.{Option}
-use Rattle.phase_replay.specs.Front.{AppendsFront}
-use Rattle.phase_replay.specs.Run.{Owes, Goes}
-use Rattle.phase_replay.specs.declared.run.Run.{Run}
+use Rattle.watched_io.specs.Prefix.{AppendsPrefix}
+use Rattle.phase_replay.specs.Replayer.{Owes, Goes}
+use Rattle.phase_replay.specs.declared.replayer.Replayer.{Replayer}
 
--- what is written is a front of what was owed
-pub goes_stopped : (a b : Option (List ℕ)) (run : Run) (later owed : List ℕ) → Goes a b run later owed → AppendsFront a b owed
-goes_stopped a b run later owed goes = (goes.sent, goes.rest, goes.whole, goes.appends)
+-- what is written is a prefix of what was owed
+pub goes_stopped : (a b : Option (List ℕ)) (replayer : Replayer) (later owed : List ℕ) → Goes a b replayer later owed → AppendsPrefix a b owed
+goes_stopped a b replayer later owed goes = (goes.sent, goes.rest, goes.whole, goes.appends)
 
 -- a step further
-pub goes_further : (a b c : Option (List ℕ)) (old new : Run) (later later' owed : List ℕ) → Goes a b old later owed
+pub goes_further : (a b c : Option (List ℕ)) (old new : Replayer) (later later' owed : List ℕ) → Goes a b old later owed
     → ((rest : List ℕ) → Owes old later rest → Goes b c new later' rest) → Goes a c new later' owed
 goes_further a b c old new later later' owed goes step =
     let next = step goes.rest goes.owes in
@@ -25,9 +25,9 @@ goes_further a b c old new later later' owed goes step =
     }
 
 -- a step that fails
-pub goes_failed : (a b c : Option (List ℕ)) (run : Run) (later owed : List ℕ) → Goes a b run later owed
-    → ((rest : List ℕ) → Owes run later rest → AppendsFront b c rest) → AppendsFront a c owed
-goes_failed a b c run later owed goes step =
+pub goes_failed : (a b c : Option (List ℕ)) (replayer : Replayer) (later owed : List ℕ) → Goes a b replayer later owed
+    → ((rest : List ℕ) → Owes replayer later rest → AppendsPrefix b c rest) → AppendsPrefix a c owed
+goes_failed a b c replayer later owed goes step =
     let last = step goes.rest goes.owes in (
       goes.sent ++ last.0,
       last.1,
@@ -36,7 +36,7 @@ goes_failed a b c run later owed goes step =
     )
 
 -- a step that writes nothing
-pub goes_on : (a b : Option (List ℕ)) (old new : Run) (later later' owed : List ℕ) → Goes a b old later owed
+pub goes_on : (a b : Option (List ℕ)) (old new : Replayer) (later later' owed : List ℕ) → Goes a b old later owed
     → ((rest : List ℕ) → Owes old later rest → Owes new later' rest) → Goes a b new later' owed
 goes_on a b old new later later' owed goes step = record {
   sent = goes.sent;
@@ -53,7 +53,7 @@ cut_at bytes i h lf =
     sym (take-append-drop i bytes) ∙ ap (λ l. take i bytes ++ l) behind
 
 -- a line that ends in what is left of a piece is answered
-pub goes_answered : (a b : Option (List ℕ)) (old new : Run) (bytes : List ℕ) (i : ℕ) (later owed : List ℕ) → i < length bytes → get_or bytes i 0 ≡ 10
+pub goes_answered : (a b : Option (List ℕ)) (old new : Replayer) (bytes : List ℕ) (i : ℕ) (later owed : List ℕ) → i < length bytes → get_or bytes i 0 ≡ 10
     → ((later rest : List ℕ) → Owes old (take i bytes ++ 10 ∷ later) rest → Owes new later rest)
     → Goes a b old (bytes ++ later) owed → Goes a b new (drop (i + 1) bytes ++ later) owed
 goes_answered a b old new bytes i later owed h lf answered goes =

@@ -1,4 +1,4 @@
--- The front of a line that is kept in a buffer.
+-- The prefix of a line that is kept in a buffer.
 use Rattle.std.proofs.Common.{◌≡◌, ℕ, ◌+◌, ◌-◌, ◌≤◌, min, List, ◌++◌, length, take, sym, ◌∙◌, ap, append_assoc, length-append, arith}
 use Rattle.std.proofs.lemmas.List.{take_at, take_min, length-take-le}
 use Rattle.std.proofs.Math.Seq.{take-append-add}

@@ -1,9 +1,9 @@
 -- A line longer than any line of the grammar.
 use Rattle.std.proofs.Common.{◌≡◌, ℕ, ◌≤◌, List, length, codes, None, ap}
-use Rattle.phase_replay.specs.Commands.{command_of}
-use Rattle.phase_replay.specs.ReplyLines.{reply_text}
+use Rattle.phase_script.specs.Commands.{command_of}
+use Rattle.phase_script.specs.ReplyLines.{reply_text}
 use Rattle.phase_replay.specs.Scripts.{ScriptState, reply_to, after_line, reply_by, after_by}
-use Rattle.phase_replay.proofs.Grammar.{long_none}
+use Rattle.phase_script.proofs.Grammar.{long_none}
 
 -- it is a bad line, and changes nothing
 pub long_line : (state : ScriptState) (line : List ℕ) → 75 ≤ length line

@@ -21,15 +21,15 @@ use Rattle.phase_history.specs.Refusals.{refusal_at, signal_rows}
 use Rattle.phase_history.specs.Replies.{signal_reply, wait_reply, after_wait, refused_or}
 use Rattle.phase_core.specs.Cores.{CoreState, StandsFor}
 use Rattle.phase_history.proofs.MemberLemmas.{is_some-entry_of-changed}
-use Rattle.phase_replay.specs.declared.running.Running.{Running as RunningPhaser}
-use Rattle.phase_replay.specs.declared.refusal.Refusal.TheVariants as no
-use Rattle.phase_replay.specs.declared.reply.Reply.{Reply}
-use Rattle.phase_replay.specs.declared.reply.Reply.TheVariants.{Accepted}
-use Rattle.phase_replay.specs.Scripts.{ScriptState, NoPhaser, Running, command_reply, after_command, Held, held_by, held_by_others, send_rows, send_reply, held_after_send, after_signal, signalled_reply, IsOkReply, refused_or as refused}
-use Rattle.phase_replay.specs.declared.command.Operator.{Operator}
-use Rattle.phase_replay.specs.declared.command.Command.{Command}
-use Rattle.phase_replay.specs.declared.command.Command.TheVariants.{Send}
-use Rattle.phase_replay.specs.Session.{RunsFor, MaybeRunsFor}
+use Rattle.phase_replay.specs.declared.script_phaser.ScriptPhaser.{ScriptPhaser}
+use Rattle.phase_script.specs.declared.refusal.Refusal.TheVariants as no
+use Rattle.phase_script.specs.declared.reply.Reply.{Reply}
+use Rattle.phase_script.specs.declared.reply.Reply.TheVariants.{Accepted}
+use Rattle.phase_replay.specs.Scripts.{ScriptState, NoPhaser, OnePhaser, command_reply, after_command, Held, held_by, held_by_others, send_rows, send_reply, held_after_send, after_signal, signalled_reply, IsOkReply, refused_or as refused}
+use Rattle.phase_script.specs.declared.command.Operator.{Operator}
+use Rattle.phase_script.specs.declared.command.Command.{Command}
+use Rattle.phase_script.specs.declared.command.Command.TheVariants.{Send}
+use Rattle.phase_replay.specs.Session.{PhaserStandsFor, MaybeStandsFor}
 
 -- the sends of a task after one more of its own
 pub held_by-push : (held : Held) (task : ℕ) (v : ℤ) → held_by (held ++ (task, v) ∷ []) task ≡ held_by held task ++ v ∷ []
@@ -51,15 +51,15 @@ held_by-others (send ∷ sends) task =
     ] refl
 
 -- a member is task 0
-pub member_is_founder : (running : RunningPhaser) (limits : Limits) (h : History) (held : Held) (task : ℕ) (e : Entry)
-    → RunsFor running limits h held → Some e ≡ entry_of running.core.members task → task ≡ 0
-member_is_founder running limits h held task e runs found =
+pub member_is_founder : (phaser : ScriptPhaser) (limits : Limits) (h : History) (held : Held) (task : ℕ) (e : Entry)
+    → PhaserStandsFor phaser limits h held → Some e ≡ entry_of phaser.core.members task → task ≡ 0
+member_is_founder phaser limits h held task e runs found =
     runs.alone task (ap is_some (sym (found ∙ ap (λ ms. entry_of ms task) runs.core.members_are)))
 
 -- an accepted signal is that of task 0
-pub signaller_is_founder : (running : RunningPhaser) (limits : Limits) (h : History) (held : Held) (task phase : ℕ) (sends : List ℤ) (single : Option Single)
-    → RunsFor running limits h held → signal_reply limits h task (sends ∷ []) single ≡ Ok phase → task ≡ 0
-signaller_is_founder running limits h held task phase sends single runs accepted =
+pub signaller_is_founder : (phaser : ScriptPhaser) (limits : Limits) (h : History) (held : Held) (task phase : ℕ) (sends : List ℤ) (single : Option Single)
+    → PhaserStandsFor phaser limits h held → signal_reply limits h task (sends ∷ []) single ≡ Ok phase → task ≡ 0
+signaller_is_founder phaser limits h held task phase sends single runs accepted =
     runs.alone task
     (elim (entry_of (members_of h) task) as (λ o.
     (refused_or (refusal_at o signal.NoTask (signal_rows limits h (sends ∷ []) single)) (signal_phase h task) ≡ Ok phase) → is_some o ≡ true) [
@@ -68,10 +68,10 @@ signaller_is_founder running limits h held task phase sends single runs accepted
     ] accepted)
 
 -- the reply to a signal does not look at the sends of a task that is no member
-pub signal_reply-held : (running : RunningPhaser) (limits : Limits) (h : History) (held : Held) (task : ℕ) (single : Option Single)
-    → RunsFor running limits h held
+pub signal_reply-held : (phaser : ScriptPhaser) (limits : Limits) (h : History) (held : Held) (task : ℕ) (single : Option Single)
+    → PhaserStandsFor phaser limits h held
     → signal_reply limits h task (held_by held task ∷ []) single ≡ signal_reply limits h task (held_by held 0 ∷ []) single
-signal_reply-held running limits h held task single runs =
+signal_reply-held phaser limits h held task single runs =
     ⊎_elim
     (λ founder. ap (λ n. signal_reply limits h task (held_by held n ∷ []) single) founder)
     (λ other. elim (entry_of (members_of h) task) as (λ o. (entry_of (members_of h) task ≡ o)
@@ -102,10 +102,10 @@ ok_gives P Q (Err e) holds then = tt
 -- ---- the calls
 
 -- an accepted send stands behind those that the one task holds
-pub running_sent : (old : RunningPhaser) (holding : Parcel ℤ) (limits : Limits) (h : History) (held : Held) (task : ℕ) (e : Entry) (v : ℤ)
-    → RunsFor old limits h held → Some e ≡ entry_of old.core.members task → mode_signals e.mode ≡ true
+pub running_sent : (old : ScriptPhaser) (holding : Parcel ℤ) (limits : Limits) (h : History) (held : Held) (task : ℕ) (e : Entry) (v : ℤ)
+    → PhaserStandsFor old limits h held → Some e ≡ entry_of old.core.members task → mode_signals e.mode ≡ true
     → StandsForSends sum_operation holding (held_by held 0 ++ v ∷ [])
-    → RunsFor (record { core = old.core; held = holding }) limits h (held_after_send (send_reply h held task) held task v)
+    → PhaserStandsFor (record { core = old.core; held = holding }) limits h (held_after_send (send_reply h held task) held task v)
 running_sent old holding limits h held task e v runs found signals holds =
     let founder : task ≡ 0 = member_is_founder old limits h held task e runs found in
     let found_h : entry_of (members_of h) task ≡ Some e = sym (found ∙ ap (λ ms. entry_of ms task) runs.core.members_are) in
@@ -118,8 +118,8 @@ running_sent old holding limits h held task e v runs found signals holds =
     ∙ ap (λ b. refused (cond (not b) (Some no.NoSignal) (cond (leb 65536 (length (held_by held task))) (Some no.TooManySends) None))) signals
     ∙ ap (λ l. refused (cond (leb 65536 (length l)) (Some no.TooManySends) None)) own
     ∙ ap (λ b. refused (cond b (Some no.TooManySends) None)) few in
-    let R : Reply → Type 0 = λ r. RunsFor (record { core = old.core; held = holding }) limits h (held_after_send r held task v) in
-    let T : ℕ → Type 0 = λ t. RunsFor (record { core = old.core; held = holding }) limits h (held ++ (t, v) ∷ []) in
+    let R : Reply → Type 0 = λ r. PhaserStandsFor (record { core = old.core; held = holding }) limits h (held_after_send r held task v) in
+    let T : ℕ → Type 0 = λ t. PhaserStandsFor (record { core = old.core; held = holding }) limits h (held ++ (t, v) ∷ []) in
     let S : List ℤ → Type 0 = λ l. StandsForSends sum_operation holding l in
     subst R (sym accepted)
     (subst T (sym founder)
@@ -131,29 +131,29 @@ running_sent old holding limits h held task e v runs found signals holds =
     }))
 
 -- the sends that the core is handed are those of the one task
-held_stands : (old : RunningPhaser) (given : Parcel ℤ) (limits : Limits) (h : History) (held : Held) → RunsFor old limits h held
+held_stands : (old : ScriptPhaser) (given : Parcel ℤ) (limits : Limits) (h : History) (held : Held) → PhaserStandsFor old limits h held
     → given ≡ old.held → StandsForSends sum_operation given (held_by held 0)
 held_stands old given limits h held runs given_is =
     let S : Parcel ℤ → Type 0 = λ p. StandsForSends sum_operation p (held_by held 0) in subst S (sym given_is) runs.holds
 
 -- with nothing changed, the phaser runs for the same state
-running_kept : (old : RunningPhaser) (core : CoreState ℤ) (holding : Parcel ℤ) (limits : Limits) (h : History) (held : Held)
-    → RunsFor old limits h held → core ≡ old.core → holding ≡ old.held
-    → RunsFor (record { core = core; held = holding }) limits h held
+running_kept : (old : ScriptPhaser) (core : CoreState ℤ) (holding : Parcel ℤ) (limits : Limits) (h : History) (held : Held)
+    → PhaserStandsFor old limits h held → core ≡ old.core → holding ≡ old.held
+    → PhaserStandsFor (record { core = core; held = holding }) limits h held
 running_kept old core holding limits h held runs core_is holding_is =
-    let C : CoreState ℤ → Type 0 = λ c. RunsFor (record { core = c; held = holding }) limits h held in
-    let H : Parcel ℤ → Type 0 = λ p. RunsFor (record { core = old.core; held = p }) limits h held in
+    let C : CoreState ℤ → Type 0 = λ c. PhaserStandsFor (record { core = c; held = holding }) limits h held in
+    let H : Parcel ℤ → Type 0 = λ p. PhaserStandsFor (record { core = old.core; held = p }) limits h held in
     subst C (sym core_is) (subst H (sym holding_is)
     (record { limits_are = runs.limits_are; core = runs.core; holds = runs.holds; alone = runs.alone }))
 
 -- an accepted signal is that of the one task, which then holds nothing
-pub record HasSignalled (new : RunningPhaser) (limits : Limits) (h : History) (held : Held) (task phase : ℕ) : Type 0 where
+pub record HasSignalled (new : ScriptPhaser) (limits : Limits) (h : History) (held : Held) (task phase : ℕ) : Type 0 where
   pub accepted : signal_reply limits h task (held_by held task ∷ []) None ≡ Ok phase
-  pub runs : RunsFor new limits (Signalled task (held_by held task ∷ []) None ∷ h) (held_by_others held task)
+  pub runs : PhaserStandsFor new limits (Signalled task (held_by held task ∷ []) None ∷ h) (held_by_others held task)
 
 -- `given` are the sends that the core was handed, and `fresh` is none
-pub running_signalled : (old : RunningPhaser) (core : CoreState ℤ) (given fresh none : Parcel ℤ) (limits : Limits) (h : History) (held : Held) (task phase : ℕ)
-    → RunsFor old limits h held → given ≡ old.held → fresh ≡ none → StandsForSends sum_operation none []
+pub running_signalled : (old : ScriptPhaser) (core : CoreState ℤ) (given fresh none : Parcel ℤ) (limits : Limits) (h : History) (held : Held) (task phase : ℕ)
+    → PhaserStandsFor old limits h held → given ≡ old.held → fresh ≡ none → StandsForSends sum_operation none []
     → core.limits ≡ old.core.limits
     → ((sends : List ℤ) → StandsForSends sum_operation given sends → signal_reply old.core.limits h task (sends ∷ []) None ≡ Ok phase)
     → ((sends : List ℤ) → StandsForSends sum_operation given sends → StandsFor sum_operation core (Signalled task (sends ∷ []) None ∷ h))
@@ -179,17 +179,17 @@ running_signalled old core given fresh none limits h held task phase runs given_
     }
 
 -- what an accepted signal leaves
-pub signalled_state : (new : RunningPhaser) (operator : Operator) (limits : Limits) (h : History) (held : Held) (task phase : ℕ)
+pub signalled_state : (new : ScriptPhaser) (operator : Operator) (limits : Limits) (h : History) (held : Held) (task phase : ℕ)
     → HasSignalled new limits h held task phase
-    → MaybeRunsFor (Some new) (after_signal (signal_reply limits h task (held_by held task ∷ []) None) operator limits h held task)
-unfolding MaybeRunsFor
+    → MaybeStandsFor (Some new) (after_signal (signal_reply limits h task (held_by held task ∷ []) None) operator limits h held task)
+unfolding MaybeStandsFor
 signalled_state new operator limits h held task phase s =
-    let A : Result ℕ SignalRefusal → Type 0 = λ r. MaybeRunsFor (Some new) (after_signal r operator limits h held task) in
+    let A : Result ℕ SignalRefusal → Type 0 = λ r. MaybeStandsFor (Some new) (after_signal r operator limits h held task) in
     subst A (sym s.accepted) s.runs
 
 -- a refused signal is refused whatever task the sends are said to be of
-pub running_refused : (old : RunningPhaser) (given : Parcel ℤ) (limits : Limits) (h : History) (held : Held) (task : ℕ) (refusal : SignalRefusal)
-    → RunsFor old limits h held → given ≡ old.held
+pub running_refused : (old : ScriptPhaser) (given : Parcel ℤ) (limits : Limits) (h : History) (held : Held) (task : ℕ) (refusal : SignalRefusal)
+    → PhaserStandsFor old limits h held → given ≡ old.held
     → ((sends : List ℤ) → StandsForSends sum_operation given sends → signal_reply old.core.limits h task (sends ∷ []) None ≡ Err refusal)
     → signal_reply limits h task (held_by held task ∷ []) None ≡ Err refusal
 running_refused old given limits h held task refusal runs given_is err =
@@ -203,8 +203,8 @@ accepted_is_ok (Ok phase) ok = tt
 accepted_is_ok (Err refusal) ok = absurd (cc ok)
 
 -- memory is wanted for an accepted signal alone
-pub running_wanting : (old : RunningPhaser) (given : Parcel ℤ) (limits : Limits) (h : History) (held : Held) (task : ℕ)
-    → RunsFor old limits h held → given ≡ old.held
+pub running_wanting : (old : ScriptPhaser) (given : Parcel ℤ) (limits : Limits) (h : History) (held : Held) (task : ℕ)
+    → PhaserStandsFor old limits h held → given ≡ old.held
     → ((sends : List ℤ) → StandsForSends sum_operation given sends → IsOk (signal_reply old.core.limits h task (sends ∷ []) None))
     → IsOkReply (signalled_reply (signal_reply limits h task (held_by held task ∷ []) None))
 running_wanting old given limits h held task runs given_is ok =
@@ -214,15 +214,15 @@ running_wanting old given limits h held task runs given_is ok =
     (subst L runs.limits_are (ok (held_by held 0) (held_stands old given limits h held runs given_is))))
 
 -- what a refused signal leaves, where its sends are handed back
-pub refused_state : (old : RunningPhaser) (core : CoreState ℤ) (holding : Parcel ℤ) (operator : Operator) (limits : Limits) (h : History) (held : Held) (task : ℕ) (refusal : SignalRefusal)
-    → RunsFor old limits h held → core ≡ old.core → holding ≡ old.held
+pub refused_state : (old : ScriptPhaser) (core : CoreState ℤ) (holding : Parcel ℤ) (operator : Operator) (limits : Limits) (h : History) (held : Held) (task : ℕ) (refusal : SignalRefusal)
+    → PhaserStandsFor old limits h held → core ≡ old.core → holding ≡ old.held
     → signal_reply limits h task (held_by held task ∷ []) None ≡ Err refusal
-    → MaybeRunsFor (Some (record { core = core; held = holding }))
+    → MaybeStandsFor (Some (record { core = core; held = holding }))
     (after_signal (signal_reply limits h task (held_by held task ∷ []) None) operator limits h held task)
-unfolding MaybeRunsFor
+unfolding MaybeStandsFor
 refused_state old core holding operator limits h held task refusal runs core_is holding_is refused =
     let A : Result ℕ SignalRefusal → Type 0 = λ r.
-    MaybeRunsFor (Some (record { core = core; held = holding })) (after_signal r operator limits h held task) in
+    MaybeStandsFor (Some (record { core = core; held = holding })) (after_signal r operator limits h held task) in
     subst A (sym refused) (running_kept old core holding limits h held runs core_is holding_is)
 
 alone_after : (h : History) (task : ℕ) (r : Result Got WaitRefusal) → ((k : ℕ) → IsSome (entry_of (members_of h) k) → k ≡ 0)
@@ -232,10 +232,10 @@ alone_after h task (Ok got.Ended) alone = alone
 alone_after h task (Err refusal) alone = alone
 
 -- a wait leaves the sends that are held
-pub running_waited : (old : RunningPhaser) (core : CoreState ℤ) (limits : Limits) (h : History) (held : Held) (task : ℕ)
-    → RunsFor old limits h held → core.limits ≡ old.core.limits
+pub running_waited : (old : ScriptPhaser) (core : CoreState ℤ) (limits : Limits) (h : History) (held : Held) (task : ℕ)
+    → PhaserStandsFor old limits h held → core.limits ≡ old.core.limits
     → StandsFor sum_operation core (after_wait (wait_reply sum_value old.core.limits h task) task h)
-    → RunsFor (record { core = core; held = old.held }) limits (after_wait (wait_reply sum_value limits h task) task h) held
+    → PhaserStandsFor (record { core = core; held = old.held }) limits (after_wait (wait_reply sum_value limits h task) task h) held
 running_waited old core limits h held task runs limits_same after =
     let L : Limits → Type 0 = λ l. StandsFor sum_operation core (after_wait (wait_reply sum_value l h task) task h) in
     record {
@@ -247,22 +247,22 @@ running_waited old core limits h held task runs limits_same after =
 
 -- ---- a send, in any state
 
-pub sent_reply : (running : RunningPhaser) (state : ScriptState) (command : Command) (task : ℕ) (v : ℤ) (reply : Reply)
-    → MaybeRunsFor (Some running) state → command ≡ Send task v
-    → ((limits : Limits) (h : History) (held : Held) → RunsFor running limits h held → reply ≡ send_reply h held task)
+pub sent_reply : (phaser : ScriptPhaser) (state : ScriptState) (command : Command) (task : ℕ) (v : ℤ) (reply : Reply)
+    → MaybeStandsFor (Some phaser) state → command ≡ Send task v
+    → ((limits : Limits) (h : History) (held : Held) → PhaserStandsFor phaser limits h held → reply ≡ send_reply h held task)
     → reply ≡ command_reply state command
-unfolding command_reply MaybeRunsFor
-sent_reply running NoPhaser command task v reply runs is sent = absurd runs
-sent_reply running (Running operator limits h held) command task v reply runs is sent =
-    sent limits h held runs ∙ ap (command_reply (Running operator limits h held)) (sym is)
+unfolding command_reply MaybeStandsFor
+sent_reply phaser NoPhaser command task v reply runs is sent = absurd runs
+sent_reply phaser (OnePhaser operator limits h held) command task v reply runs is sent =
+    sent limits h held runs ∙ ap (command_reply (OnePhaser operator limits h held)) (sym is)
 
-pub sent_state : (old new : RunningPhaser) (state : ScriptState) (command : Command) (task : ℕ) (v : ℤ)
-    → MaybeRunsFor (Some old) state → command ≡ Send task v
-    → ((limits : Limits) (h : History) (held : Held) → RunsFor old limits h held
-    → RunsFor new limits h (held_after_send (send_reply h held task) held task v))
-    → MaybeRunsFor (Some new) (after_command state command)
-unfolding after_command MaybeRunsFor
+pub sent_state : (old new : ScriptPhaser) (state : ScriptState) (command : Command) (task : ℕ) (v : ℤ)
+    → MaybeStandsFor (Some old) state → command ≡ Send task v
+    → ((limits : Limits) (h : History) (held : Held) → PhaserStandsFor old limits h held
+    → PhaserStandsFor new limits h (held_after_send (send_reply h held task) held task v))
+    → MaybeStandsFor (Some new) (after_command state command)
+unfolding after_command MaybeStandsFor
 sent_state old new NoPhaser command task v runs is sent = absurd runs
-sent_state old new (Running operator limits h held) command task v runs is sent =
-    let P : Command → Type 0 = λ c. MaybeRunsFor (Some new) (after_command (Running operator limits h held) c) in
+sent_state old new (OnePhaser operator limits h held) command task v runs is sent =
+    let P : Command → Type 0 = λ c. MaybeStandsFor (Some new) (after_command (OnePhaser operator limits h held) c) in
     subst P (sym is) (sent limits h held runs)

@@ -1,57 +1,57 @@
--- What a run owes, as it reads, answers and ends.
+-- What a replayer owes, as it reads, answers and ends.
 use Rattle.std.proofs.Common.{◌≡◌, ℕ, List, [], ◌∷◌, ◌++◌, length, take, refl, sym, ◌∙◌, ap, subst, append_assoc, append-nil, min, arith}
 use Rattle.std.proofs.lemmas.List.{length-take, nil_from_length}
 use Rattle.std.specs.declared.option.Option.{Option}
-use Rattle.phase_replay.specs.Front.{AppendsFront}
-use Rattle.phase_replay.proofs.Writing.{front_of_front}
+use Rattle.watched_io.specs.Prefix.{AppendsPrefix}
+use Rattle.watched_io.proofs.Writing.{prefix_of_prefix}
 use Rattle.std.proofs.Math.Seq.{take-nil}
-use Rattle.phase_replay.specs.declared.run.Run.{Run}
-use Rattle.phase_replay.specs.Cuts.{HasNoLf}
-use Rattle.phase_replay.proofs.CutAtLf.{lines_after-front}
-use Rattle.phase_replay.specs.Lines.{without_cr, lines_after, lines_of}
+use Rattle.phase_replay.specs.declared.replayer.Replayer.{Replayer}
+use Rattle.phase_script.specs.Cuts.{HasNoLf}
+use Rattle.phase_script.proofs.CutAtLf.{lines_after-prefix}
+use Rattle.phase_script.specs.Lines.{without_cr, lines_after, lines_of}
 use Rattle.phase_replay.specs.Replies.{replies, replies_of}
-use Rattle.phase_replay.specs.Run.{Owes}
+use Rattle.phase_replay.specs.Replayer.{Owes}
 use Rattle.phase_replay.specs.Scripts.{ScriptState, start, reply_to, after_line}
 use Rattle.phase_replay.specs.Session.{Stands}
 use Rattle.phase_replay.proofs.Cutting.{AreAnsweredAlike, kept_alike, take-kept_more}
 
--- a run that has read nothing owes the replies to the whole script
-pub owes_all : (run : Run) (script : List ℕ) → Stands run.session start → run.kept ≡ [] → run.out.items ≡ [] → Owes run script (replies_of script)
+-- a replayer that has read nothing owes the replies to the whole script
+pub owes_all : (replayer : Replayer) (script : List ℕ) → Stands replayer.session start → replayer.kept ≡ [] → replayer.out.items ≡ [] → Owes replayer script (replies_of script)
 unfolding replies_of lines_of
-owes_all run script stands kept out = record {
+owes_all replayer script stands kept out = record {
   state = start;
-  front = [];
+  prefix = [];
   stands = stands;
   kept = kept ∙ sym (take-nil 76);
   owed_is = ap (λ waiting. waiting ++ replies start (lines_after [] script)) (sym out);
 }
 
 -- where no byte of a line is kept, none has come
-length-kept : (kept front : List ℕ) → kept ≡ take 76 front → length kept ≡ min 76 (length front)
-length-kept kept front e = ap length e ∙ length-take 76 front
+length-kept : (kept prefix : List ℕ) → kept ≡ take 76 prefix → length kept ≡ min 76 (length prefix)
+length-kept kept prefix e = ap length e ∙ length-take 76 prefix
 
 -- bytes of a line are kept
-pub owes_more : (old new : Run) (bs later owed : List ℕ) → HasNoLf bs → new.session ≡ old.session → new.out ≡ old.out
+pub owes_more : (old new : Replayer) (bs later owed : List ℕ) → HasNoLf bs → new.session ≡ old.session → new.out ≡ old.out
     → new.kept ≡ take 76 (old.kept ++ bs) → Owes old (bs ++ later) owed → Owes new later owed
 owes_more old new bs later owed none session out kept owes =
-    let owed_is : owed ≡ old.out.items ++ replies owes.state (lines_after (owes.front ++ bs) later) =
-    owes.owed_is ∙ ap (λ lines. old.out.items ++ replies owes.state lines) (lines_after-front owes.front bs later none) in
+    let owed_is : owed ≡ old.out.items ++ replies owes.state (lines_after (owes.prefix ++ bs) later) =
+    owes.owed_is ∙ ap (λ lines. old.out.items ++ replies owes.state lines) (lines_after-prefix owes.prefix bs later none) in
     record {
       state = owes.state;
-      front = owes.front ++ bs;
+      prefix = owes.prefix ++ bs;
       stands = subst (λ s. Stands s owes.state) (sym session) owes.stands;
-      kept = kept ∙ ap (λ k. take 76 (k ++ bs)) owes.kept ∙ take-kept_more 76 owes.front bs;
+      kept = kept ∙ ap (λ k. take 76 (k ++ bs)) owes.kept ∙ take-kept_more 76 owes.prefix bs;
       owed_is = rw out owed_is;
     }
 
 -- the reply to a line stands behind the replies that waited
-pub record Answers (old new : Run) (line : List ℕ) : Type 0 where
+pub record Answers (old new : Replayer) (line : List ℕ) : Type 0 where
   pub reply : (state : ScriptState) → Stands old.session state → new.out.items ≡ old.out.items ++ reply_to state line
   pub after : (state : ScriptState) → Stands old.session state → Stands new.session (after_line state line)
   pub begun : new.kept ≡ []
 
 -- a line that is answered as the whole line is
-owes_next : (old new : Run) (state : ScriptState) (line whole later owed : List ℕ) → Answers old new line → AreAnsweredAlike state line whole
+owes_next : (old new : Replayer) (state : ScriptState) (line whole later owed : List ℕ) → Answers old new line → AreAnsweredAlike state line whole
     → Stands old.session state → owed ≡ old.out.items ++ replies state (whole ∷ lines_after [] later) → Owes new later owed
 unfolding replies
 owes_next old new state line whole later owed answers alike stands owed_is =
@@ -59,29 +59,29 @@ owes_next old new state line whole later owed answers alike stands owed_is =
     answers.reply state stands ∙ ap (λ reply. old.out.items ++ reply) alike.reply in
     record {
       state = after_line state whole;
-      front = [];
+      prefix = [];
       stands = subst (Stands new.session) alike.after (answers.after state stands);
       kept = answers.begun ∙ sym (take-nil 76);
       owed_is = rw (out, append_assoc) owed_is;
     }
 
 -- an LF ends the line that is kept
-pub owes_answered : (old new : Run) (line later owed : List ℕ) → line ≡ without_cr old.kept → Answers old new line
+pub owes_answered : (old new : Replayer) (line later owed : List ℕ) → line ≡ without_cr old.kept → Answers old new line
     → Owes old (10 ∷ later) owed → Owes new later owed
 owes_answered old new line later owed cut answers owes =
-    let same : without_cr (take 76 owes.front) ≡ line = sym (cut ∙ ap without_cr owes.kept) in
-    let alike : AreAnsweredAlike owes.state line (without_cr owes.front) =
-    subst (λ l. AreAnsweredAlike owes.state l (without_cr owes.front)) same (kept_alike owes.state owes.front) in
-    owes_next old new owes.state line (without_cr owes.front) later owed answers alike owes.stands owes.owed_is
+    let same : without_cr (take 76 owes.prefix) ≡ line = sym (cut ∙ ap without_cr owes.kept) in
+    let alike : AreAnsweredAlike owes.state line (without_cr owes.prefix) =
+    subst (λ l. AreAnsweredAlike owes.state l (without_cr owes.prefix)) same (kept_alike owes.state owes.prefix) in
+    owes_next old new owes.state line (without_cr owes.prefix) later owed answers alike owes.stands owes.owed_is
 
 -- an LF ends a line of which no byte was kept before
-pub owes_answered_whole : (old new : Run) (line end later owed : List ℕ) → length old.kept ≡ 0 → HasNoLf end → line ≡ without_cr end
+pub owes_answered_whole : (old new : Replayer) (line end later owed : List ℕ) → length old.kept ≡ 0 → HasNoLf end → line ≡ without_cr end
     → Answers old new line → Owes old (end ++ 10 ∷ later) owed → Owes new later owed
 owes_answered_whole old new line end later owed empty none cut answers owes =
-    let long = length-kept old.kept owes.front owes.kept in
-    let no_front : owes.front ≡ [] = nil_from_length owes.front (omega arith) in
-    let lines : lines_after owes.front (end ++ 10 ∷ later) ≡ without_cr end ∷ lines_after [] later =
-    lines_after-front owes.front end (10 ∷ later) none ∙ ap (λ front. lines_after (front ++ end) (10 ∷ later)) no_front in
+    let long = length-kept old.kept owes.prefix owes.kept in
+    let no_prefix : owes.prefix ≡ [] = nil_from_length owes.prefix (omega arith) in
+    let lines : lines_after owes.prefix (end ++ 10 ∷ later) ≡ without_cr end ∷ lines_after [] later =
+    lines_after-prefix owes.prefix end (10 ∷ later) none ∙ ap (λ prefix. lines_after (prefix ++ end) (10 ∷ later)) no_prefix in
     let alike : AreAnsweredAlike owes.state line (without_cr end) = record {
       reply = ap (reply_to owes.state) cut;
       after = ap (after_line owes.state) cut;
@@ -90,42 +90,42 @@ owes_answered_whole old new line end later owed empty none cut answers owes =
     (owes.owed_is ∙ ap (λ l. old.out.items ++ replies owes.state l) lines)
 
 -- a last piece that is not empty is answered as if an LF came
-lines_after-last : (front : List ℕ) → (length front ≡ 0 → ⊥) → lines_after front [] ≡ lines_after front (10 ∷ [])
+lines_after-last : (prefix : List ℕ) → (length prefix ≡ 0 → ⊥) → lines_after prefix [] ≡ lines_after prefix (10 ∷ [])
 lines_after-last [] some = absurd (some refl)
 lines_after-last (b ∷ bs) some = refl
 
 -- an empty one is not
-lines_after-none : (front : List ℕ) → length front ≡ 0 → lines_after front [] ≡ []
+lines_after-none : (prefix : List ℕ) → length prefix ≡ 0 → lines_after prefix [] ≡ []
 lines_after-none [] none = refl
 lines_after-none (b ∷ bs) none = absurd (omega arith)
 
 -- with no line begun and no byte to come, the replies that wait are all that is owed
-pub owes_waiting : (run : Run) (owed : List ℕ) → length run.kept ≡ 0 → Owes run [] owed → owed ≡ run.out.items
+pub owes_waiting : (replayer : Replayer) (owed : List ℕ) → length replayer.kept ≡ 0 → Owes replayer [] owed → owed ≡ replayer.out.items
 unfolding replies
-owes_waiting run owed none owes =
-    let long = length-kept run.kept owes.front owes.kept in
-    let no_front : length owes.front ≡ 0 = omega arith in
-    let no_lines = lines_after-none owes.front no_front in
-    rw no_lines at owes.owed_is ∙ append-nil run.out.items
+owes_waiting replayer owed none owes =
+    let long = length-kept replayer.kept owes.prefix owes.kept in
+    let no_prefix : length owes.prefix ≡ 0 = omega arith in
+    let no_lines = lines_after-none owes.prefix no_prefix in
+    rw no_lines at owes.owed_is ∙ append-nil replayer.out.items
 
 -- a line begun is answered at the end as if an LF came
-pub owes_last : (old new : Run) (owed : List ℕ) → (length old.kept ≡ 0 → ⊥) → (Owes old (10 ∷ []) owed → Owes new [] owed) → new.kept ≡ []
+pub owes_last : (old new : Replayer) (owed : List ℕ) → (length old.kept ≡ 0 → ⊥) → (Owes old (10 ∷ []) owed → Owes new [] owed) → new.kept ≡ []
     → Owes old [] owed → owed ≡ new.out.items
 owes_last old new owed some answered begun owes =
-    let long = length-kept old.kept owes.front owes.kept in
-    let some_front : length owes.front ≡ 0 → ⊥ = λ none. some (omega arith) in
+    let long = length-kept old.kept owes.prefix owes.kept in
+    let some_prefix : length owes.prefix ≡ 0 → ⊥ = λ none. some (omega arith) in
     let ended : Owes old (10 ∷ []) owed = record {
       state = owes.state;
-      front = owes.front;
+      prefix = owes.prefix;
       stands = owes.stands;
       kept = owes.kept;
-      owed_is = owes.owed_is ∙ ap (λ lines. old.out.items ++ replies owes.state lines) (lines_after-last owes.front some_front);
+      owed_is = owes.owed_is ∙ ap (λ lines. old.out.items ++ replies owes.state lines) (lines_after-last owes.prefix some_prefix);
     } in
     owes_waiting new owed (ap length begun) (answered ended)
 
--- the replies that wait are a front of what is owed
-pub owes_front : (old new : Option (List ℕ)) (run : Run) (waiting later owed : List ℕ) → waiting ≡ run.out.items → Owes run later owed
-    → AppendsFront old new waiting → AppendsFront old new owed
-owes_front old new run waiting later owed e owes =
-    front_of_front old new waiting (replies owes.state (lines_after owes.front later)) owed
-    (owes.owed_is ∙ ap (λ l. l ++ replies owes.state (lines_after owes.front later)) (sym e))
+-- the replies that wait are a prefix of what is owed
+pub owes_prefix : (old new : Option (List ℕ)) (replayer : Replayer) (waiting later owed : List ℕ) → waiting ≡ replayer.out.items → Owes replayer later owed
+    → AppendsPrefix old new waiting → AppendsPrefix old new owed
+owes_prefix old new replayer waiting later owed e owes =
+    prefix_of_prefix old new waiting (replies owes.state (lines_after owes.prefix later)) owed
+    (owes.owed_is ∙ ap (λ l. l ++ replies owes.state (lines_after owes.prefix later)) (sym e))

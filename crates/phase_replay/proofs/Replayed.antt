@@ -3,8 +3,8 @@ use Rattle.std.proofs.Common.{◌≡◌, ◌<◌, ◌≤◌, ℕ, ◌⊎◌, inl
 use Rattle.std.proofs.lemmas.Option.{IfSome_then}
 use Rattle.std.specs.Io.KnownBytes.{Appends, Consumes, IsAtEnd}
 use Rattle.std.specs.declared.option.Option.{Option}
-use Rattle.phase_replay.specs.Front.{AppendsFront}
-use Rattle.phase_replay.specs.Replay.{known_bytes, ReplaysAll, ReplaysFront, ReadsTooMuch}
+use Rattle.watched_io.specs.Prefix.{AppendsPrefix}
+use Rattle.phase_replay.specs.Replay.{known_bytes, ReplaysAll, ReplaysPrefix, ReadsTooMuch}
 use Rattle.phase_replay.specs.Replies.{replies_of}
 use Rattle.phase_replay.specs.declared.whole.TheConstants.{SCRIPT_MAX}
 
@@ -26,9 +26,9 @@ replayed_all unread rest old new replays =
     IfSome_then unread (all_is unread rest replays.script replays.read replays.ends)
     (λ script e. rw e (replays.short, replays.replied))
 
-pub replayed_front : (unread rest old new : Option (List ℕ)) → ReplaysFront unread rest old new
-    → IfSome unread (λ script. AppendsFront old new (replies_of script))
-replayed_front unread rest old new replays =
+pub replayed_prefix : (unread rest old new : Option (List ℕ)) → ReplaysPrefix unread rest old new
+    → IfSome unread (λ script. AppendsPrefix old new (replies_of script))
+replayed_prefix unread rest old new replays =
     IfSome_then unread (consumed_is unread rest replays.script replays.read) (λ script e. rw e replays.replied)
 
 pub replayed_long : (unread rest : Option (List ℕ)) → ReadsTooMuch unread rest → IfSome unread (λ script. SCRIPT_MAX < length script)

@@ -1,13 +1,5 @@
-pub mod Commands
-pub mod Cuts
-pub mod Front
-pub mod Lines
-pub mod Numbers
 pub mod Replay
+pub mod Replayer
 pub mod Replies
-pub mod ReplyLines
-pub mod Run
 pub mod Scripts
 pub mod Session
-pub mod Watched
-pub mod Words

@@ -2,7 +2,7 @@
 use Rattle.std.specs.Prelude.{ℕ, ◌<◌, ◌≤◌, List, [], ◌++◌, length, None, Some}
 use Rattle.std.specs.Io.KnownBytes.{Appends, Consumes, IsAtEnd}
 use Rattle.std.specs.declared.option.Option.{Option}
-use Rattle.phase_replay.specs.Front.{AppendsFront}
+use Rattle.watched_io.specs.Prefix.{AppendsPrefix}
 use Rattle.phase_replay.specs.Replies.{replies_of}
 use Rattle.phase_replay.specs.declared.whole.TheConstants.{SCRIPT_MAX}
 
@@ -19,11 +19,11 @@ pub record ReplaysAll (unread rest old new : Option (List ℕ)) : Type 0 where
   pub short : length script ≤ SCRIPT_MAX
   pub replied : Appends old new (replies_of script)
 
--- the reader gave a front of a script, and the writer got a front of the replies
-pub record ReplaysFront (unread rest old new : Option (List ℕ)) : Type 0 where
+-- the reader gave a prefix of a script, and the writer got a prefix of the replies
+pub record ReplaysPrefix (unread rest old new : Option (List ℕ)) : Type 0 where
   pub script : List ℕ
   pub read : Consumes unread rest script
-  pub replied : AppendsFront old new (replies_of (script ++ known_bytes rest))
+  pub replied : AppendsPrefix old new (replies_of (script ++ known_bytes rest))
 
 -- the reader gave more than a script may have
 pub record ReadsTooMuch (unread rest : Option (List ℕ)) : Type 0 where

@@ -18,16 +18,16 @@ use Rattle.phase_base.specs.Members.{entry_of}
 use Rattle.phase_history.specs.Histories.{History, members_of}
 use Rattle.phase_history.specs.Refusals.{first_row, refusal_at}
 use Rattle.phase_history.specs.Replies.{signal_reply, wait_reply, after_wait}
-use Rattle.phase_replay.specs.declared.command.Operator.{Operator}
-use Rattle.phase_replay.specs.declared.command.Operator.TheVariants.{Sum}
-use Rattle.phase_replay.specs.declared.command.Command.{Command}
-use Rattle.phase_replay.specs.declared.command.Command.TheVariants.{Make, Send, Signal, Wait}
-use Rattle.phase_replay.specs.declared.refusal.Refusal.{Refusal}
-use Rattle.phase_replay.specs.declared.refusal.Refusal.TheVariants as no
-use Rattle.phase_replay.specs.declared.reply.Reply.{Reply}
-use Rattle.phase_replay.specs.declared.reply.Reply.TheVariants.{Accepted, Signalled, Value, Empty, TooBig, Ended, Refused, BadLine}
-use Rattle.phase_replay.specs.Commands.{command_of}
-use Rattle.phase_replay.specs.ReplyLines.{reply_text}
+use Rattle.phase_script.specs.declared.command.Operator.{Operator}
+use Rattle.phase_script.specs.declared.command.Operator.TheVariants.{Sum}
+use Rattle.phase_script.specs.declared.command.Command.{Command}
+use Rattle.phase_script.specs.declared.command.Command.TheVariants.{Make, Send, Signal, Wait}
+use Rattle.phase_script.specs.declared.refusal.Refusal.{Refusal}
+use Rattle.phase_script.specs.declared.refusal.Refusal.TheVariants as no
+use Rattle.phase_script.specs.declared.reply.Reply.{Reply}
+use Rattle.phase_script.specs.declared.reply.Reply.TheVariants.{Accepted, Signalled, Value, Empty, TooBig, Ended, Refused, BadLine}
+use Rattle.phase_script.specs.Commands.{command_of}
+use Rattle.phase_script.specs.ReplyLines.{reply_text}
 
 -- the sends that tasks hold, each with its task, in the order in which they came
 abbrev pub Held : Type 0
@@ -37,7 +37,7 @@ Held = List (ℕ × ℤ)
 -- and the sends that its tasks hold
 pub data ScriptState : Type 0 where
   NoPhaser : ScriptState
-  Running : (operator : Operator) (limits : Limits) (history : History) (held : Held) → ScriptState
+  OnePhaser : (operator : Operator) (limits : Limits) (history : History) (held : Held) → ScriptState
 
 -- before the first line
 unfoldable pub start : ScriptState
@@ -88,8 +88,8 @@ send_reply h held task =
     refused_or (refusal_at (entry_of (members_of h) task) no.NoTask
     (send_rows (length (held_by held task))))
 
--- the reason of a refused signal. No plain signal is a bad block, since a bound is at least 1, and
--- want of memory is no row of a table: what stands for these two is never seen
+-- the reason of a refused signal. No plain signal is a bad block, since a bound is at least 1: what
+-- stands for it is never seen
 abbrev pub signal_reason : SignalRefusal → Reply
 signal_reason signal.NoTask = Refused no.NoTask
 signal_reason signal.NoSignal = Refused no.NoSignal
@@ -100,7 +100,6 @@ signal_reason signal.Ahead = Refused no.Ahead
 signal_reason signal.SingleDiffers = Refused no.SingleDiffers
 signal_reason signal.PhaseFull = Refused no.PhaseFull
 signal_reason signal.BadBlock = BadLine
-signal_reason signal.OutOfMemory = BadLine
 
 -- the reason of a refused wait. No plain wait is a bad block, since a bound is at least 1: what
 -- stands for it is never seen
@@ -132,16 +131,16 @@ received_reply (Err refusal) = wait_reason refusal
 unfoldable pub command_reply : ScriptState → Command → Reply
 command_reply NoPhaser (Make operator bound phases) = make_reply bound phases
 command_reply NoPhaser command = Refused no.NoPhaser
-command_reply (Running operator limits h held) (Make other bound phases) = Refused no.Made
-command_reply (Running operator limits h held) (Send task value) = send_reply h held task
-command_reply (Running operator limits h held) (Signal task) =
+command_reply (OnePhaser operator limits h held) (Make other bound phases) = Refused no.Made
+command_reply (OnePhaser operator limits h held) (Send task value) = send_reply h held task
+command_reply (OnePhaser operator limits h held) (Signal task) =
     signalled_reply (signal_reply limits h task (held_by held task ∷ []) None)
-command_reply (Running operator limits h held) (Wait task) =
+command_reply (OnePhaser operator limits h held) (Wait task) =
     received_reply (wait_reply (value_of operator) limits h task)
 
 -- a phaser is made where its limits are within theirs
 abbrev pub made_by : Reply → Operator → ℕ → ℕ → ScriptState
-made_by Accepted operator bound phases = Running operator (limits bound phases) (Made 0 ∷ []) []
+made_by Accepted operator bound phases = OnePhaser operator (limits bound phases) (Made 0 ∷ []) []
 made_by reply operator bound phases = NoPhaser
 
 -- an accepted send is held, behind the others
@@ -153,24 +152,24 @@ held_after_send reply held task value = held
 abbrev pub after_signal : Result ℕ SignalRefusal → Operator → Limits → History → Held → ℕ
     → ScriptState
 after_signal (Ok phase) operator limits h held task =
-    Running operator limits (SignalledEvent task (held_by held task ∷ []) None ∷ h)
+    OnePhaser operator limits (SignalledEvent task (held_by held task ∷ []) None ∷ h)
     (held_by_others held task)
-after_signal (Err refusal) operator limits h held task = Running operator limits h held
+after_signal (Err refusal) operator limits h held task = OnePhaser operator limits h held
 
 -- what a command leaves
 unfoldable pub after_command : ScriptState → Command → ScriptState
 after_command NoPhaser (Make operator bound phases) =
     made_by (make_reply bound phases) operator bound phases
 after_command NoPhaser command = NoPhaser
-after_command (Running operator limits h held) (Make other bound phases) =
-    Running operator limits h held
-after_command (Running operator limits h held) (Send task value) =
-    Running operator limits h (held_after_send (send_reply h held task) held task value)
-after_command (Running operator limits h held) (Signal task) =
+after_command (OnePhaser operator limits h held) (Make other bound phases) =
+    OnePhaser operator limits h held
+after_command (OnePhaser operator limits h held) (Send task value) =
+    OnePhaser operator limits h (held_after_send (send_reply h held task) held task value)
+after_command (OnePhaser operator limits h held) (Signal task) =
     after_signal (signal_reply limits h task (held_by held task ∷ []) None)
     operator limits h held task
-after_command (Running operator limits h held) (Wait task) =
-    Running operator limits (after_wait (wait_reply (value_of operator) limits h task) task h) held
+after_command (OnePhaser operator limits h held) (Wait task) =
+    OnePhaser operator limits (after_wait (wait_reply (value_of operator) limits h task) task h) held
 
 -- the reply to a line that gives this command, or none
 abbrev pub reply_by : ScriptState → Option Command → Reply

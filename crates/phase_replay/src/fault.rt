@@ -3,14 +3,7 @@ ghost use Rattle.std.specs.Prelude.{◌≡◌};
 ghost use Rattle.phase_replay.specs.declared.fault.ReplayFault.TheVariants.{ReadFault, WriteFault, OutOfMemory};
 
 use std::alloc::AllocError;
-
-/// A read failed.
-#[derive(Clone, Copy, Debug, PartialEq, Eq, Hash)]
-pub struct ReadFailed;
-
-/// A write or a flush failed, or a write took no byte.
-#[derive(Clone, Copy, Debug, PartialEq, Eq, Hash)]
-pub struct WriteFailed;
+use watched_io::{ReadFailed, WriteFailed};
 
 /// Why a replay stopped before the end of its script.
 #[derive(Clone, Copy, Debug, PartialEq, Eq, Hash)]

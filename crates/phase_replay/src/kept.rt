@@ -1,4 +1,4 @@
-//! The front of a line, as far as any line of the grammar goes.
+//! The prefix of a line, as far as any line of the grammar goes.
 ghost use Rattle.std.specs.Prelude.{◌≡◌, ◌≤◌, List, [], ◌++◌, ℕ, length, take, nat_eq};
 ghost use Rattle.phase_replay.specs.declared.kept.TheConstants.{KEPT_MAX};
 
@@ -23,7 +23,7 @@ impl Model for Kept {
 }
 
 impl Kept {
-    /// Makes the front of a line of which no byte has come.
+    /// Makes the prefix of a line of which no byte has come.
     pub fn new() -> Kept
         ensures { result ≡ [] }
     {

@@ -1,16 +1,13 @@
 //! A session: the lines of a script, one at a time.
 ghost use Rattle.std.specs.Prelude.{◌≡◌, ℕ, List, [], ◌∷◌, ◌++◌, OnOk, OnErr, IfOk, None};
-ghost use Rattle.phase_replay.specs.Commands.{command_of, IsCommand};
+ghost use Rattle.phase_script.specs.Commands.{command_of, IsCommand};
 ghost use Rattle.phase_replay.specs.Scripts.{ScriptState, start, reply_to, after_line};
 ghost use Rattle.phase_replay.specs.Scripts.{command_reply, after_command, state_after};
 ghost use Rattle.phase_replay.specs.Scripts.{reply_by, IsOkReply};
 
-use crate::command::{Command, Operator};
-use crate::reply::Reply;
-use crate::reply_line::{self, ReplyLine};
-use crate::running::Running;
-use crate::{Refusal, script_line};
+use crate::script_phaser::ScriptPhaser;
 use phase_base::{Spec, SpecFault};
+use phase_script::{Command, Operator, Refusal, Reply, ReplyLine};
 use std::alloc::{AllocError, Global};
 
 /// A script that is answered line by line. It holds at most one phaser, and the sends that the
@@ -25,10 +22,10 @@ use std::alloc::{AllocError, Global};
 #[derive(Drop)]
 pub struct Session {
     alloc: Global,
-    running: Option<Running>,
+    phaser: Option<ScriptPhaser>,
 }
 
-#[tactic(auto, unfolding(crate::specs::Session::Stands, crate::specs::Session::MaybeRunsFor, crate::specs::Scripts::start, crate::specs::Scripts::reply_to, crate::specs::Scripts::after_line, crate::specs::Scripts::command_reply, crate::specs::Scripts::after_command))]
+#[tactic(auto, unfolding(crate::specs::Session::Stands, crate::specs::Session::MaybeStandsFor, crate::specs::Scripts::start, crate::specs::Scripts::reply_to, crate::specs::Scripts::after_line, crate::specs::Scripts::command_reply, crate::specs::Scripts::after_command))]
 impl Session {
     ghost use Rattle.phase_replay.specs.Session.{Stands, StandsForLines};
 
@@ -38,7 +35,7 @@ impl Session {
     {
         Session {
             alloc,
-            running: None,
+            phaser: None,
         }
     }
 
@@ -61,11 +58,11 @@ impl Session {
             → StandsForLines self.old lines → (reply ≡ reply_to (state_after lines) line.now)
             × StandsForLines self.new (lines ++ line.now ∷ [])) }
     {
-        let Some(command) = script_line::read(line) else {
-            return Ok(reply_line::line(Reply::BadLine));
+        let Some(command) = phase_script::read(line) else {
+            return Ok(phase_script::line(Reply::BadLine));
         };
         let reply = self.obey(command)?;
-        Ok(reply_line::line(reply))
+        Ok(phase_script::line(reply))
     }
 
     // The reply to a command.
@@ -79,20 +76,20 @@ impl Session {
         ensures memory { OnErr result ((state : ScriptState) → Stands self.old state
             → IsOkReply (command_reply state command)) }
     {
-        let Some(running) = &mut self.running else {
+        let Some(phaser) = &mut self.phaser else {
             return self.begin(command);
         };
         match command {
             Command::Make { .. } => Ok(Reply::Refused(Refusal::Made)),
-            Command::Send { task, value } => Ok(running.send(task, value)),
-            Command::Signal { task } => running.signal(task),
-            Command::Wait { task } => Ok(running.wait(task)),
+            Command::Send { task, value } => Ok(phaser.send(task, value)),
+            Command::Signal { task } => phaser.signal(task),
+            Command::Wait { task } => Ok(phaser.wait(task)),
         }
     }
 
     // The reply to a command where no phaser was made yet.
     fn begin(&mut self, command: Command) -> Result<Reply, AllocError>
-        requires { self.old.running ≡ None }
+        requires { self.old.phaser ≡ None }
         ensures reply { IfOk result (λ reply. (state : ScriptState) → Stands self.old state
             → reply ≡ command_reply state command) }
         ensures after { OnOk result ((state : ScriptState) → Stands self.old state
@@ -114,7 +111,7 @@ impl Session {
             Err(SpecFault::BadBound) => return Ok(Reply::Refused(Refusal::BadBound)),
             Err(SpecFault::BadPhases) => return Ok(Reply::Refused(Refusal::BadPhases)),
         };
-        self.running = Some(Running::new(self.alloc, spec)?);
+        self.phaser = Some(ScriptPhaser::new(self.alloc, spec)?);
         Ok(Reply::Accepted)
     }
 }

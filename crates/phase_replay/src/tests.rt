@@ -1,5 +1,4 @@
-//! What no clause says, at chosen lines and scripts.
+//! What no clause says, at chosen scripts.
 
-mod lines;
 mod replays;
 mod sessions;

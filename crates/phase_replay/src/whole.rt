@@ -1,15 +1,16 @@
 //! Replay of a script from a reader to a writer.
 ghost use Rattle.std.specs.Prelude.{◌≡◌, ◌⊎◌, ◌<◌, ◌≤◌, true, length, OnOk, OnErr, IfSome, IsErrOf};
 ghost use Rattle.std.specs.Io.KnownBytes.{Appends};
-ghost use Rattle.phase_replay.specs.Front.{AppendsFront};
-ghost use Rattle.phase_replay.specs.Replay.{ReplaysAll, ReplaysFront, ReadsTooMuch};
+ghost use Rattle.watched_io.specs.Prefix.{AppendsPrefix};
+ghost use Rattle.phase_replay.specs.Replay.{ReplaysAll, ReplaysPrefix, ReadsTooMuch};
 ghost use Rattle.phase_replay.specs.Replies.{replies_of};
-ghost use Rattle.phase_replay.specs.Watched.{inner_of, has_failed_of};
+ghost use Rattle.watched_io.specs.Watched.{inner_of, has_failed_of};
 
-use crate::run::Run;
-use crate::{ReplayFault, Watched};
+use crate::ReplayFault;
+use crate::replayer::Replayer;
 use std::alloc::Global;
 use std::io::{Read, Write};
+use watched_io::Watched;
 
 /// The longest script that is replayed, in bytes.
 pub const SCRIPT_MAX: usize = 1_073_741_824;
@@ -27,7 +28,7 @@ fn replay_pieces<R: Read, W: Write>(
         (R.remaining (inner_of reader.old)) (R.remaining (inner_of reader.new))
         (W.contents (inner_of writer.old)) (W.contents (inner_of writer.new))) }
 
-    ensures err { OnErr result (ReplaysFront
+    ensures err { OnErr result (ReplaysPrefix
         (R.remaining (inner_of reader.old)) (R.remaining (inner_of reader.new))
         (W.contents (inner_of writer.old)) (W.contents (inner_of writer.new))) }
 
@@ -37,20 +38,20 @@ fn replay_pieces<R: Read, W: Write>(
     ensures write { IsErrOf result ReplayFault.WriteFault → has_failed_of writer.new ≡ true }
 {
     let mut piece = vec![in alloc; 0u8; PIECE]?;
-    let mut run = Run::new(alloc);
+    let mut replayer = Replayer::new(alloc);
     let mut left = SCRIPT_MAX;
     'replaying: loop {
-        run.hand_over(writer)?;
+        replayer.hand_over(writer)?;
         let count = reader.read(piece.as_mut_slice())?;
         if count == 0 {
-            run.finish(writer)?;
+            replayer.finish(writer)?;
             return Ok(());
         }
         if count > left {
             return Err(ReplayFault::ReadFault);
         }
         left -= count;
-        run.piece(&piece[..count], writer)?;
+        replayer.piece(&piece[..count], writer)?;
     }
 }
 
@@ -71,7 +72,7 @@ pub fn replay<R: Read, W: Write>(
         (W.contents (inner_of writer.new)) (replies_of script))) }
 
     ensures err { OnErr result (IfSome (R.remaining (inner_of reader.old)) (λ script.
-        AppendsFront (W.contents (inner_of writer.old)) (W.contents (inner_of writer.new))
+        AppendsPrefix (W.contents (inner_of writer.old)) (W.contents (inner_of writer.new))
         (replies_of script))) }
 
     ensures read { IsErrOf result ReplayFault.ReadFault → (has_failed_of reader.new ≡ true)
@@ -84,7 +85,7 @@ pub fn replay<R: Read, W: Write>(
         (R.remaining (inner_of reader.old)) (R.remaining (inner_of reader.new))
         (W.contents (inner_of writer.old)) (W.contents (inner_of writer.new))) }
 
-    ensures front { OnErr result (ReplaysFront
+    ensures prefix { OnErr result (ReplaysPrefix
         (R.remaining (inner_of reader.old)) (R.remaining (inner_of reader.new))
         (W.contents (inner_of writer.old)) (W.contents (inner_of writer.new))) }
 {

@@ -35,6 +35,19 @@ outputs-push taps shift samples x =
     (map-range_with_len_same _ _ n (output_at-push taps shift samples x))
     ∙ ap (λ zs. outputs taps shift samples ++ output_after taps shift zs ∷ []) whole))
 
+pub outputs-entry : (taps : List ℤ) (shift : ℕ) (samples : List ℤ) (n : ℕ) (default : ℤ)
+    → n < length samples
+    → get_or (outputs taps shift samples) n default ≡ output_after taps shift (take (n + 1) samples)
+outputs-entry taps shift samples n default lt =
+    let next : suc n ≡ n + 1 = omega arith in
+    get_or-map-range_with_len (output_at taps shift samples) 0 (length samples) n n default lt (zero-add n)
+    ∙ ap (λ m. output_after taps shift (take m samples)) next
+
+pub outputs-length : (taps : List ℤ) (shift : ℕ) (samples : List ℤ)
+    → length (outputs taps shift samples) ≡ length samples
+outputs-length taps shift samples =
+    length-map-range_with_len (output_at taps shift samples) 0 (length samples)
+
 pub back_is : (samples : List ℤ) (n j : ℕ) → length samples ≡ n + 1 → j ≤ n → back samples j ≡ get_or samples (n - j) (pos 0)
 back_is samples n j len le =
     let lt : j < length samples = omega arith in

@@ -1,15 +1,21 @@
 //! The faults of the filters.
+use crate::fir::{SHIFT_MAX, TAP_MAX, TAPS_MAX};
+use crate::range::{VALUE_MAX, VALUE_MIN};
+use thiserror::Error;
 
 /// A value is out of range: below `VALUE_MIN` or above `VALUE_MAX`.
-#[derive(Clone, Copy, Debug, PartialEq, Eq)]
+#[derive(Clone, Copy, Debug, PartialEq, Eq, Error)]
+#[error("a value is not from {VALUE_MIN} to {VALUE_MAX}")]
 pub struct TooBigValue;
 
 /// Why no filter was made.
-#[derive(Clone, Copy, Debug, PartialEq, Eq)]
+#[derive(Clone, Copy, Debug, PartialEq, Eq, Error)]
 pub enum FirFault {
     /// There is no tap, there are more than `TAPS_MAX`, a tap's magnitude is above `TAP_MAX`, or
     /// the shift is above `SHIFT_MAX`.
+    #[error("a filter has 1 to {TAPS_MAX} taps up to {TAP_MAX}, and a shift up to {SHIFT_MAX}")]
     BadTaps,
     /// There was no memory for the taps or for the window.
+    #[error("there was no memory for a filter")]
     OutOfMemory,
 }

@@ -1,7 +1,7 @@
 //! The filter with a finite window.
-ghost use Rattle.std.specs.Prelude.{◌≡◌, ◌≢◌, ◌↔◌, ◌^◌, ◌<◌, ◌≤◌, List, [], ◌∷◌, ◌++◌, ℤ, IsTrue, IfOk};
+ghost use Rattle.std.specs.Prelude.{◌≡◌, ◌↔◌, ◌^◌, ◌<◌, ◌≤◌, List, [], ◌∷◌, ◌++◌, ℤ, IsTrue, IfOk};
 ghost use Rattle.stream_filters.specs.Filter.{AreTaps, StandsFor, output_after, weight};
-ghost use Rattle.stream_filters.specs.Range.{lowest, ranged};
+ghost use Rattle.stream_filters.specs.Range.{ranged};
 
 use crate::fault::{FirFault, TooBigValue};
 use crate::sums::{narrow_answer, narrow_limit, weight_of, wide_answer};
@@ -96,9 +96,8 @@ impl Fir {
     }
 
     /// Takes the sample `x` into the window, and answers the weighted sum of the last samples, or
-    /// `TooBigValue` where that is out of range. `x` is in the range of values. It takes no memory.
+    /// `TooBigValue` where that is out of range. `x` may be any number. It takes no memory.
     pub fn step(&mut self, x: i64) -> Result<i64, TooBigValue>
-        requires { x ≢ lowest }
         ensures answer { (samples : List ℤ) → StandsFor self.old samples
             → result ≡ ranged (output_after self.old.taps self.old.shift (samples ++ x ∷ [])) }
         ensures stands { (samples : List ℤ) → StandsFor self.old samples

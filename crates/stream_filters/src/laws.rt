@@ -1,5 +1,5 @@
 //! Laws of the definitions.
-ghost use Rattle.std.specs.Prelude.{◌≡◌, ℕ, ◌+◌, ◌-◌, ◌^◌, ◌<◌, ◌≤◌, List, [], ◌∷◌, ◌++◌, length, get_or, ℤ, pos, ◌+ℤ◌, ◌*ℤ◌, ◌≤ℤ◌, ◌<ℤ◌};
+ghost use Rattle.std.specs.Prelude.{◌≡◌, ℕ, ◌+◌, ◌-◌, ◌^◌, ◌<◌, ◌≤◌, List, [], ◌∷◌, ◌++◌, length, take, get_or, ℤ, pos, ◌+ℤ◌, ◌*ℤ◌, ◌≤ℤ◌, ◌<ℤ◌};
 ghost use Rattle.stream_filters.specs.Filter.{back, output_after, outputs, shifted_down};
 
 /// One more sample leaves the outputs as they were and adds one, the output after it. So a run of
@@ -8,6 +8,15 @@ pub fn outputs_grow()
     ensures { (taps : List ℤ) (shift : ℕ) (samples : List ℤ) (x : ℤ)
         → outputs taps shift (samples ++ x ∷ [])
         ≡ outputs taps shift samples ++ output_after taps shift (samples ++ x ∷ []) ∷ [] }
+{}
+
+/// The outputs are one for each sample: number `n` is the output after the first `n + 1` samples.
+pub fn outputs_entries()
+    ensures entry { (taps : List ℤ) (shift : ℕ) (samples : List ℤ) (n : ℕ) (default : ℤ)
+        → n < length samples → get_or (outputs taps shift samples) n default
+        ≡ output_after taps shift (take (n + 1) samples) }
+    ensures length { (taps : List ℤ) (shift : ℕ) (samples : List ℤ)
+        → length (outputs taps shift samples) ≡ length samples }
 {}
 
 /// A shift divides and rounds down: the quotient times the divisor is at most the value, and the

@@ -6,7 +6,7 @@
 
 mod fault;
 mod fir;
-mod laws;
+pub mod laws;
 mod peer;
 mod range;
 mod sums;
@@ -16,7 +16,6 @@ mod turns;
 
 pub use fault::{FirFault, TooBigValue};
 pub use fir::{Fir, SHIFT_MAX, TAP_MAX, TAPS_MAX};
-pub use laws::{back_entries, outputs_grow, rounds_down};
 pub use peer::Peer;
 pub use range::{VALUE_MAX, VALUE_MIN};
 pub use turns::{Join, Split};

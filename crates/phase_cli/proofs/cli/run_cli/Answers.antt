@@ -1,5 +1,5 @@
 use Rattle.std.proofs.Common.{rules}
-use Rattle.phase_replay.specs.Watched.{inner_of}
+use Rattle.watched_io.specs.Watched.{inner_of}
 use Rattle.phase_cli.proofs.Untouched.{replays_nothing}
 use Rattle.phase_cli.proofs.cli.run_cli.Goals as goal
 

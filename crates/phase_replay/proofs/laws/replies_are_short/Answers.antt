@@ -1,6 +1,0 @@
--- The longest line is that of a value with two long numbers.
-use Rattle.phase_replay.proofs.ReplyLines.{reply_short}
-use Rattle.phase_replay.proofs.laws.replies_are_short.Goals as goal
-
-pub returns : goal.returns
-returns c = reply_short

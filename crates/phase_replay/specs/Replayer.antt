@@ -1,0 +1,30 @@
+-- What a replay on its way still owes its writer.
+use Rattle.std.specs.Prelude.{◌≡◌, ℕ, List, ◌++◌, take}
+use Rattle.std.specs.Io.KnownBytes.{Appends}
+use Rattle.std.specs.declared.option.Option.{Option}
+use Rattle.phase_script.specs.Lines.{lines_after}
+use Rattle.phase_replay.specs.Replies.{replies}
+use Rattle.phase_replay.specs.Scripts.{ScriptState}
+use Rattle.phase_replay.specs.Session.{Stands}
+use Rattle.phase_replay.specs.declared.replayer.Replayer.{Replayer}
+use Rattle.phase_replay.specs.declared.kept.TheConstants.{KEPT_MAX}
+
+-- the replies that wait to be written
+abbrev pub waiting_of : Replayer → List ℕ
+waiting_of replayer = replayer.out.items
+
+-- with `later` still to be read, `owed` is still to be written
+pub record Owes (replayer : Replayer) (later owed : List ℕ) : Type 0 where
+  pub state : ScriptState
+  pub prefix : List ℕ
+  pub stands : Stands replayer.session state
+  pub kept : replayer.kept ≡ take KEPT_MAX prefix
+  pub owed_is : owed ≡ waiting_of replayer ++ replies state (lines_after prefix later)
+
+-- a prefix of `owed` was written, and with `later` still to be read the replayer owes the rest
+pub record Goes (old new : Option (List ℕ)) (replayer : Replayer) (later owed : List ℕ) : Type 0 where
+  pub sent : List ℕ
+  pub rest : List ℕ
+  pub whole : owed ≡ sent ++ rest
+  pub appends : Appends old new sent
+  pub owes : Owes replayer later rest

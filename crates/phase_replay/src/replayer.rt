@@ -1,0 +1,195 @@
+//! A replay on its way: the session, the prefix of the line that is read, and the replies that wait.
+ghost use Rattle.std.specs.Prelude.{◌≡◌, ◌<◌, true, length, List, [], ℕ, ◌∷◌, ◌++◌, OnOk, OnErr, IsErrOf};
+ghost use Rattle.std.specs.Io.KnownBytes.{Appends};
+ghost use Rattle.phase_script.specs.Cuts.{HasNoLf};
+ghost use Rattle.watched_io.specs.Prefix.{AppendsPrefix};
+ghost use Rattle.phase_replay.specs.Scripts.{ScriptState, reply_to, after_line};
+ghost use Rattle.phase_replay.specs.Session.{Stands};
+ghost use Rattle.phase_replay.specs.declared.fault.ReplayFault.TheVariants.{ReadFault, WriteFault};
+
+use crate::kept::Kept;
+use crate::{ReplayFault, Session};
+use phase_script::{lf_of, without_cr};
+use std::alloc::{AllocError, Global};
+use std::io::Write;
+use watched_io::{Watched, WriteFailed};
+
+// As soon as so many bytes of replies wait, they go to the writer.
+const OUT_MAX: usize = 65536;
+
+// Answers a line behind the replies that wait.
+fn reply(session: &mut Session, line: &[u8], out: &mut Vec<u8>) -> Result<(), AllocError>
+    ensures reply { OnOk result ((state : ScriptState) → Stands session.old state
+        → out.new.items ≡ out.old.items ++ reply_to state line.now) }
+
+    ensures after { OnOk result ((state : ScriptState) → Stands session.old state
+        → Stands session.new (after_line state line.now)) }
+
+    ensures err { OnErr result (out.new.items ≡ out.old.items) }
+{
+    let reply = session.line(line)?;
+    out.extend_from_slice(reply.bytes())?;
+    Ok(())
+}
+
+/// A replay on its way.
+#[derive(Drop)]
+pub struct Replayer {
+    session: Session,
+    kept: Kept,
+    out: Vec<u8>,
+}
+
+impl Replayer {
+    ghost use Rattle.phase_replay.specs.Replayer.{Owes, Goes, waiting_of};
+    ghost use Rattle.phase_replay.specs.Replies.{replies_of};
+    ghost use Rattle.watched_io.specs.Watched.{inner_of, has_failed_of};
+
+    /// Makes a replay of which no byte has been read.
+    pub fn new(alloc: Global) -> Replayer
+        ensures { (script : List ℕ) → Owes result script (replies_of script) }
+    {
+        Replayer {
+            session: Session::new(alloc),
+            kept: Kept::new(),
+            out: Vec::new(alloc),
+        }
+    }
+
+    // Answers the line that `end` ends, and begins the next one.
+    fn answer(&mut self, end: &[u8]) -> Result<(), AllocError>
+        requires { HasNoLf end.now }
+        ensures ok { OnOk result ((later owed : List ℕ) → Owes self.old (end.now ++ 10 ∷ later) owed
+            → Owes self.new later owed) }
+
+        ensures begun { OnOk result (self.new.kept ≡ []) }
+        ensures err { OnErr result (waiting_of self.new ≡ waiting_of self.old) }
+    {
+        if self.kept.is_empty() {
+            reply(&mut self.session, without_cr(end), &mut self.out)?;
+            return Ok(());
+        }
+        self.kept.extend(end);
+        reply(
+            &mut self.session,
+            without_cr(self.kept.bytes()),
+            &mut self.out,
+        )?;
+        self.kept.clear();
+        Ok(())
+    }
+
+    /// Hands the replies that wait to the writer.
+    pub fn hand_over<W: Write>(&mut self, writer: &mut Watched<W>) -> Result<(), WriteFailed>
+        ensures ok { OnOk result ((later owed : List ℕ) → Owes self.old later owed
+            → Goes (W.contents (inner_of writer.old)) (W.contents (inner_of writer.new))
+            self.new later owed) }
+
+        ensures err { OnErr result ((later owed : List ℕ) → Owes self.old later owed
+            → AppendsPrefix (W.contents (inner_of writer.old)) (W.contents (inner_of writer.new))
+            owed) }
+
+        ensures failed { OnErr result (has_failed_of writer.new ≡ true) }
+        ensures watched { OnOk result (has_failed_of writer.new ≡ has_failed_of writer.old) }
+        ensures empty { OnOk result (waiting_of self.new ≡ []) }
+    {
+        writer.send(self.out.as_slice())?;
+        self.out.clear();
+        Ok(())
+    }
+
+    // Hands over the replies that wait, where memory ran out for the next one. That fault is the
+    // one to tell, also where this write fails.
+    fn stop<W: Write>(&self, writer: &mut Watched<W>)
+        ensures { (before : Replayer) (later owed : List ℕ) → Owes before later owed
+            → waiting_of self.now ≡ waiting_of before
+            → AppendsPrefix (W.contents (inner_of writer.old)) (W.contents (inner_of writer.new))
+            owed }
+    {
+        let _ = writer.send(self.out.as_slice());
+    }
+
+    // Hands the replies over where many wait.
+    fn make_room<W: Write>(&mut self, writer: &mut Watched<W>) -> Result<(), WriteFailed>
+        ensures ok { OnOk result ((later owed : List ℕ) → Owes self.old later owed
+            → Goes (W.contents (inner_of writer.old)) (W.contents (inner_of writer.new))
+            self.new later owed) }
+
+        ensures err { OnErr result ((later owed : List ℕ) → Owes self.old later owed
+            → AppendsPrefix (W.contents (inner_of writer.old)) (W.contents (inner_of writer.new))
+            owed) }
+
+        ensures failed { OnErr result (has_failed_of writer.new ≡ true) }
+        ensures watched { OnOk result (has_failed_of writer.new ≡ has_failed_of writer.old) }
+        ensures room { OnOk result (length (waiting_of self.new) < OUT_MAX) }
+    {
+        if self.out.len() < OUT_MAX {
+            return Ok(());
+        }
+        self.hand_over(writer)
+    }
+
+    /// Reads a piece of the script, and hands replies over as they grow many.
+    pub fn piece<W: Write>(
+        &mut self,
+        piece: &[u8],
+        writer: &mut Watched<W>,
+    ) -> Result<(), ReplayFault>
+        ensures ok { OnOk result ((later owed : List ℕ) → Owes self.old (piece.now ++ later) owed
+            → Goes (W.contents (inner_of writer.old)) (W.contents (inner_of writer.new))
+            self.new later owed) }
+
+        ensures err { OnErr result ((later owed : List ℕ)
+            → Owes self.old (piece.now ++ later) owed
+            → AppendsPrefix (W.contents (inner_of writer.old)) (W.contents (inner_of writer.new))
+            owed) }
+
+        ensures read { IsErrOf result ReadFault → ⊥ }
+        ensures write { IsErrOf result WriteFault → has_failed_of writer.new ≡ true }
+    {
+        let mut rest = piece;
+        while let Some(end) = lf_of(rest) {
+            let Ok(()) = self.answer(&rest[..end]) else {
+                self.stop(writer);
+                return Err(ReplayFault::OutOfMemory);
+            };
+            self.make_room(writer)?;
+            rest = &rest[end + 1..];
+        }
+        self.kept.extend(rest);
+        Ok(())
+    }
+
+    // Answers a last line with no LF, where its prefix is not empty.
+    fn last(&mut self) -> Result<(), AllocError>
+        ensures ok { OnOk result ((owed : List ℕ) → Owes self.old [] owed
+            → owed ≡ waiting_of self.new) }
+        ensures err { OnErr result (waiting_of self.new ≡ waiting_of self.old) }
+    {
+        if self.kept.is_empty() {
+            return Ok(());
+        }
+        self.answer(&[])?;
+        Ok(())
+    }
+
+    /// Ends the script, and hands over the replies that are left.
+    pub fn finish<W: Write>(&mut self, writer: &mut Watched<W>) -> Result<(), ReplayFault>
+        ensures ok { OnOk result ((owed : List ℕ) → Owes self.old [] owed
+            → Appends (W.contents (inner_of writer.old)) (W.contents (inner_of writer.new)) owed) }
+
+        ensures err { OnErr result ((owed : List ℕ) → Owes self.old [] owed
+            → AppendsPrefix (W.contents (inner_of writer.old)) (W.contents (inner_of writer.new))
+            owed) }
+
+        ensures read { IsErrOf result ReadFault → ⊥ }
+        ensures write { IsErrOf result WriteFault → has_failed_of writer.new ≡ true }
+    {
+        let Ok(()) = self.last() else {
+            self.stop(writer);
+            return Err(ReplayFault::OutOfMemory);
+        };
+        writer.send(self.out.as_slice())?;
+        Ok(())
+    }
+}

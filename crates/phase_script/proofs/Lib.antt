@@ -1,0 +1,4 @@
+pub mod CutAtLf
+pub mod Digits
+pub mod Grammar
+pub mod ReplyLines

@@ -1,0 +1,60 @@
+-- The reply lines, with their line end.
+use Rattle.std.specs.Prelude.{◌≡◌, ℕ, ◌≤◌, ◌==◌, not, true, List, ◌++◌, codes, decimal, nat_abs}
+use Rattle.std.specs.Fmt.{signed_decimal}
+use Rattle.std.specs.List.{list_all}
+use Rattle.phase_script.specs.Numbers.{most}
+use Rattle.phase_script.specs.declared.refusal.Refusal.{Refusal}
+use Rattle.phase_script.specs.declared.refusal.Refusal.TheVariants.{NoPhaser, Made, BadBound, BadPhases, NoTask, NoSignal, TooManySends, NotSingle, SignalTwice, Spent, Ahead, SingleDiffers, PhaseFull, NoWait, SignalFirst, NotYet, NotAllowed, NotNew, TooManyTasks}
+use Rattle.phase_script.specs.declared.reply.Reply.{Reply}
+use Rattle.phase_script.specs.declared.reply.Reply.TheVariants.{Accepted, Signalled, Value, Empty, TooBig, Ended, Refused, BadLine}
+
+-- the text of a reason, which follows `no` and a space
+abbrev pub reason_text : Refusal → List ℕ
+reason_text NoPhaser = codes "phaser"
+reason_text Made = codes "made"
+reason_text BadBound = codes "bad-bound"
+reason_text BadPhases = codes "bad-phases"
+reason_text NoTask = codes "no-task"
+reason_text NoSignal = codes "no-signal"
+reason_text TooManySends = codes "too-many-sends"
+reason_text NotSingle = codes "not-single"
+reason_text SignalTwice = codes "signal-twice"
+reason_text Spent = codes "spent"
+reason_text Ahead = codes "ahead"
+reason_text SingleDiffers = codes "single-differs"
+reason_text PhaseFull = codes "phase-full"
+reason_text NoWait = codes "no-wait"
+reason_text SignalFirst = codes "signal-first"
+reason_text NotYet = codes "not-yet"
+reason_text NotAllowed = codes "not-allowed"
+reason_text NotNew = codes "not-new"
+reason_text TooManyTasks = codes "too-many-tasks"
+
+-- a word, a space and the phase
+abbrev pub phase_text : List ℕ → ℕ → List ℕ
+phase_text name phase = name ++ codes " " ++ decimal phase ++ codes "\n"
+
+-- the line that tells the reply
+unfoldable pub reply_text : Reply → List ℕ
+reply_text Accepted = codes "ok\n"
+reply_text (Signalled phase) = phase_text (codes "ok") phase
+reply_text (Value phase value) =
+    codes "value " ++ decimal phase ++ codes " " ++ signed_decimal value ++ codes "\n"
+reply_text (Empty phase) = phase_text (codes "empty") phase
+reply_text (TooBig phase) = phase_text (codes "toobig") phase
+reply_text Ended = codes "ended\n"
+reply_text (Refused refusal) = codes "no " ++ reason_text refusal ++ codes "\n"
+reply_text BadLine = codes "bad line\n"
+
+-- the numbers of the reply are within those of a script
+abbrev pub IsReply : Reply → Type 0
+IsReply (Signalled phase) = phase ≤ most
+IsReply (Value phase value) = (phase ≤ most) × (nat_abs value ≤ most)
+IsReply (Empty phase) = phase ≤ most
+IsReply (TooBig phase) = phase ≤ most
+IsReply _ = Unit {0}
+
+-- the text has one line end, its last byte
+abbrev pub IsOneLine : List ℕ → Type 0
+IsOneLine text =
+    (prefix : List ℕ) × (text ≡ prefix ++ codes "\n") × (list_all (λ b. not (b == 10)) prefix ≡ true)

@@ -1,0 +1,41 @@
+//! Laws of script lines and reply lines. The contract of each function is the law.
+
+ghost use Rattle.std.specs.Prelude.{◌≡◌, ℕ, ◌≤◌, List, length, Some, None};
+ghost use Rattle.phase_script.specs.Commands.{IsCommand, spelling, command_of};
+ghost use Rattle.phase_script.specs.ReplyLines.{reply_text, IsReply, IsOneLine};
+ghost use Rattle.phase_script.specs.Cuts.{LinesAreCutAtLf, EveryScriptIsCut};
+
+use crate::{Command, Reply};
+
+/// A line that is read is its command's spelling, and the command's numbers are within limits.
+pub fn grammar_found()
+    ensures { (line : List ℕ) (c : Command) → command_of line ≡ Some c
+        → IsCommand c × (line ≡ spelling c) }
+{}
+
+/// The spelling of a command whose numbers are within limits is read as that command.
+pub fn grammar_only()
+    ensures { (c : Command) → IsCommand c → command_of (spelling c) ≡ Some c }
+{}
+
+/// No line of the grammar has more than 74 bytes.
+pub fn lines_are_short()
+    ensures { (line : List ℕ) → 75 ≤ length line → command_of line ≡ None }
+{}
+
+/// A reply line has one line end, which is its last byte.
+pub fn replies_are_single_lines()
+    ensures { (reply : Reply) → IsReply reply → IsOneLine (reply_text reply) }
+{}
+
+/// No reply line has more than 47 bytes.
+pub fn replies_are_short()
+    ensures { (reply : Reply) → IsReply reply → length (reply_text reply) ≤ 47 }
+{}
+
+/// Where pieces with no LF are joined by an LF behind each, and bytes with no LF follow, the lines
+/// are the pieces less one CR each, and a last line where bytes follow. Each script is such a join.
+pub fn lines_are_cut_at_lf()
+    ensures lines { LinesAreCutAtLf }
+    ensures every { EveryScriptIsCut }
+{}

@@ -1,0 +1,76 @@
+//! Why a command was refused.
+
+ghost use Rattle.std.specs.Prelude.{◌≡◌};
+ghost use Rattle.phase_script.specs.ReplyLines.{reason_text};
+
+/// Why a command was refused. The line of the refusal is `no`, a space and the reason's text.
+#[derive(Clone, Copy, Debug, PartialEq, Eq)]
+pub enum Refusal {
+    /// There is no phaser yet.
+    NoPhaser,
+    /// There is a phaser already.
+    Made,
+    /// The bound is outside its limits.
+    BadBound,
+    /// The number of phases is outside its limits.
+    BadPhases,
+    /// No such task is registered.
+    NoTask,
+    /// The task does not signal.
+    NoSignal,
+    /// The task holds as many sends as it may.
+    TooManySends,
+    /// A single is given, and the task's mode has none.
+    NotSingle,
+    /// The task has to wait before it signals again.
+    SignalTwice,
+    /// The task has signalled all phases.
+    Spent,
+    /// The signal would be further ahead of a waiter than the bound.
+    Ahead,
+    /// The phase has another single.
+    SingleDiffers,
+    /// The phase has no room for the sends.
+    PhaseFull,
+    /// The task does not wait.
+    NoWait,
+    /// The task has to signal before it waits.
+    SignalFirst,
+    /// The phase is not complete yet.
+    NotYet,
+    /// The parent does not hold what the child asks for.
+    NotAllowed,
+    /// The number of the child was used before.
+    NotNew,
+    /// There are as many tasks as there may be.
+    TooManyTasks,
+}
+
+impl Refusal {
+    /// Gives the text that follows `no` and a space, in small letters and hyphens.
+    pub fn reason(self) -> &'static [u8]
+        ensures { result.now ≡ reason_text self }
+    {
+        match self {
+            Refusal::NoPhaser => b"phaser",
+            Refusal::Made => b"made",
+            Refusal::BadBound => b"bad-bound",
+            Refusal::BadPhases => b"bad-phases",
+            Refusal::NoTask => b"no-task",
+            Refusal::NoSignal => b"no-signal",
+            Refusal::TooManySends => b"too-many-sends",
+            Refusal::NotSingle => b"not-single",
+            Refusal::SignalTwice => b"signal-twice",
+            Refusal::Spent => b"spent",
+            Refusal::Ahead => b"ahead",
+            Refusal::SingleDiffers => b"single-differs",
+            Refusal::PhaseFull => b"phase-full",
+            Refusal::NoWait => b"no-wait",
+            Refusal::SignalFirst => b"signal-first",
+            Refusal::NotYet => b"not-yet",
+            Refusal::NotAllowed => b"not-allowed",
+            Refusal::NotNew => b"not-new",
+            Refusal::TooManyTasks => b"too-many-tasks",
+        }
+    }
+}
