@@ -88,8 +88,8 @@ send_reply h held task =
     refused_or (refusal_at (entry_of (members_of h) task) no.NoTask
     (send_rows (length (held_by held task))))
 
--- the reason of a refused signal. No plain signal is a bad block, since a bound is at least 1, and
--- want of memory is no row of a table: what stands for these two is never seen
+-- the reason of a refused signal. No plain signal is a bad block, since a bound is at least 1: what
+-- stands for it is never seen
 abbrev pub signal_reason : SignalRefusal → Reply
 signal_reason signal.NoTask = Refused no.NoTask
 signal_reason signal.NoSignal = Refused no.NoSignal
@@ -100,7 +100,6 @@ signal_reason signal.Ahead = Refused no.Ahead
 signal_reason signal.SingleDiffers = Refused no.SingleDiffers
 signal_reason signal.PhaseFull = Refused no.PhaseFull
 signal_reason signal.BadBlock = BadLine
-signal_reason signal.OutOfMemory = BadLine
 
 -- the reason of a refused wait. No plain wait is a bad block, since a bound is at least 1: what
 -- stands for it is never seen

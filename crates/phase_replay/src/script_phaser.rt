@@ -23,11 +23,9 @@ pub struct ScriptPhaser {
     held: Pending<Sum>,
 }
 
-// The reply that tells why a signal was refused. Want of memory is no reply.
-fn signal_reason(refusal: SignalRefusal) -> Result<Reply, AllocError>
-    ensures ok { IfOk result (λ reply. (refusal ≢ SignalRefusal.OutOfMemory)
-        × (reply ≡ signal_reason refusal)) }
-    ensures err { OnErr result (refusal ≡ SignalRefusal.OutOfMemory) }
+// The reply that tells why a signal was refused.
+fn signal_reason(refusal: SignalRefusal) -> Reply
+    ensures { result ≡ signal_reason refusal }
 {
     let reason = match refusal {
         SignalRefusal::NoTask => Refusal::NoTask,
@@ -39,10 +37,9 @@ fn signal_reason(refusal: SignalRefusal) -> Result<Reply, AllocError>
         SignalRefusal::SingleDiffers => Refusal::SingleDiffers,
         SignalRefusal::PhaseFull => Refusal::PhaseFull,
         // No plain signal is answered so.
-        SignalRefusal::BadBlock => return Ok(Reply::BadLine),
-        SignalRefusal::OutOfMemory => return Err(AllocError),
+        SignalRefusal::BadBlock => return Reply::BadLine,
     };
-    Ok(Reply::Refused(reason))
+    Reply::Refused(reason)
 }
 
 // The reply that tells why a wait was refused.
@@ -127,7 +124,7 @@ impl ScriptPhaser {
             Ok(phase) => Ok(Reply::Signalled { phase }),
             Err(refused) => {
                 self.held = refused.1;
-                signal_reason(refused.0)
+                Ok(signal_reason(refused.0))
             }
         }
     }

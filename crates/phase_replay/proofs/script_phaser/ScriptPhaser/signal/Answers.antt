@@ -1,8 +1,7 @@
 -- The core is handed the sends of the one task, and hands them back where it refuses.
 use Rattle.std.proofs.Common.{sym, ap, ◌∙◌}
-use Rattle.std.proofs.lemmas.Result.{IfOk-weaker, on_err_weaker}
 use Rattle.phase_replay.specs.Scripts.{signalled_reply}
-use Rattle.phase_replay.proofs.Obeying.{running_signalled, signalled_state, running_refused, refused_state, running_wanting, ok_gives}
+use Rattle.phase_replay.proofs.Obeying.{running_signalled, signalled_state, running_refused, refused_state}
 use Rattle.phase_replay.proofs.script_phaser.ScriptPhaser.signal.Goals as goal
 
 pub returns-in-Ok-clause-reply : goal.returns-in-Ok-clause-reply
@@ -20,25 +19,14 @@ returns-in-Ok-clause-after c operator limits h held runs =
     (λ sends. c.in-Ok.ensures.ok h sends runs.core) (λ sends. c.in-Ok.ensures.after h sends runs.core))
 
 pub returns-in-Err-clause-reply : goal.returns-in-Err-clause-reply
-returns-in-Err-clause-reply c =
-    IfOk-weaker c.signal_reason.result _ _
-    (λ reply why limits h held runs.
-    why.1 ∙ ap signalled_reply (sym (running_refused c.args.self.now _ limits h held c.args.task c.in-Err.refused.0 runs
-    c.replace-held.ensures.value (λ sends. c.in-Err.ensures.refused why.0 h sends runs.core))))
-    c.signal_reason.ensures.ok
+returns-in-Err-clause-reply c limits h held runs =
+    c.signal_reason.ensures
+    ∙ ap signalled_reply (sym (running_refused c.args.self.now _ limits h held c.args.task c.in-Err.refused.0 runs
+    c.replace-held.ensures.value (λ sends. c.in-Err.ensures.refused h sends runs.core)))
 
 pub returns-in-Err-clause-after : goal.returns-in-Err-clause-after
-returns-in-Err-clause-after c =
-    ok_gives _ _ c.signal_reason.result c.signal_reason.ensures.ok
-    (λ reply why operator limits h held runs.
+returns-in-Err-clause-after c operator limits h held runs =
     refused_state c.args.self.now c.signal.new.self c.in-Err.refused.1 operator limits h held c.args.task c.in-Err.refused.0 runs
     c.in-Err.ensures.err (c.in-Err.ensures.pending ∙ c.replace-held.ensures.value)
     (running_refused c.args.self.now _ limits h held c.args.task c.in-Err.refused.0 runs
-    c.replace-held.ensures.value (λ sends. c.in-Err.ensures.refused why.0 h sends runs.core)))
-
-pub returns-in-Err-clause-memory : goal.returns-in-Err-clause-memory
-returns-in-Err-clause-memory c =
-    on_err_weaker c.signal_reason.result
-    (λ wanted limits h held runs. running_wanting c.args.self.now _ limits h held c.args.task runs
-    c.replace-held.ensures.value (λ sends. c.in-Err.ensures.out_of_memory wanted h sends runs.core))
-    c.signal_reason.ensures.err
+    c.replace-held.ensures.value (λ sends. c.in-Err.ensures.refused h sends runs.core))
