@@ -7,6 +7,8 @@ mod board;
 mod role;
 mod slot;
 mod slot_ring;
+#[cfg(test)]
+mod tests;
 
 pub use board::Board;
 pub use role::Role;
