@@ -1,8 +1,9 @@
 -- How a run ends: its status, and what stands on its streams then.
-use Rattle.std.specs.Prelude.{◌≡◌, ◌≤◌, ◌<◌, ◌⊎◌, ℕ, Bool, true, List, length, codes}
+use Rattle.std.specs.Prelude.{◌≡◌, ◌≤◌, ◌⊎◌, ℕ, Bool, true, List, length, codes}
 use Rattle.std.specs.Prelude.{IfSome, Option}
 use Rattle.std.specs.Io.KnownBytes.{Appends}
 use Rattle.watched_io.specs.Prefix.{AppendsPrefix}
+use Rattle.phase_replay.specs.Replay.{ReadsTooMuch, ReadsWithin}
 use Rattle.phase_replay.specs.Replies.{replies_of}
 use Rattle.phase_replay.specs.declared.fault.ReplayFault.{ReplayFault}
 use Rattle.phase_replay.specs.declared.fault.ReplayFault.TheVariants.{OutOfMemory}
@@ -24,13 +25,16 @@ RepliesWhole known old new =
 abbrev pub RepliesPrefix : Option (List ℕ) → Option (List ℕ) → Option (List ℕ) → Type 0
 RepliesPrefix known old new = IfSome known (λ script. AppendsPrefix old new (replies_of script))
 
--- the fault has its cause: a read failed or the known script is too long; a write failed; of memory
--- nothing can be said
-abbrev pub HasCause : ReplayFault → Option (List ℕ) → Bool → Bool → Type 0
-HasCause ReadFault known read_failed write_failed =
-    (read_failed ≡ true) ⊎ IfSome known (λ script. SCRIPT_MAX < length script)
-HasCause WriteFault known read_failed write_failed = write_failed ≡ true
-HasCause OutOfMemory known read_failed write_failed = Unit {0}
+-- the fault has its cause: a read failed or the script is too long; a write failed; memory ran out,
+-- with no more read than a script may have, and no read or write failed
+abbrev pub HasCause : ReplayFault → Option (List ℕ) → Option (List ℕ) → ℕ → ℕ
+    → Bool → Bool → Bool → Bool → Type 0
+HasCause ReadFault unread rest before after read_old read_new write_old write_new =
+    (read_new ≡ true) ⊎ ReadsTooMuch unread rest before after
+HasCause WriteFault unread rest before after read_old read_new write_old write_new =
+    write_new ≡ true
+HasCause OutOfMemory unread rest before after read_old read_new write_old write_new =
+    ReadsWithin unread rest before after × (read_new ≡ read_old) × (write_new ≡ write_old)
 
 -- the fault stream grew by the fault's line, or, where a write to it failed, by a prefix of that
 pub record Reports (fault : ReplayFault) (failed : Bool) (old new : Option (List ℕ)) : Type 0 where

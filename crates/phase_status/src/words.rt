@@ -3,10 +3,11 @@ ghost use Rattle.std.specs.Prelude.{◌≡◌, ◌≢◌};
 ghost use Rattle.std.specs.IoError.{error_kind};
 
 use crate::status::{REFUSED, report};
-use phase_replay::{ReplayFault, Watched};
+use phase_replay::ReplayFault;
 use std::env::Env;
 use std::io::{ErrorKind, Write};
 use std::{env, io};
+use watched_io::Watched;
 
 /// The words of the process, without the program's own name.
 pub fn own_words<R: Env + Alloc>(rt: &R) -> io::Result<Vec<String<R::A>, R::A>> {

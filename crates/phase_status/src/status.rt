@@ -1,10 +1,11 @@
 //! The exit statuses of the program, and the lines that go with a fault.
 ghost use Rattle.std.specs.Prelude.{◌≡◌};
-ghost use Rattle.phase_cli.specs.Statuses.{Reports, fault_line};
+ghost use Rattle.phase_status.specs.Statuses.{Reports, fault_line};
 ghost use Rattle.watched_io.specs.Watched.{has_failed_of, inner_of};
 
-use phase_replay::{ReplayFault, Watched};
+use phase_replay::ReplayFault;
 use std::io::Write;
+use watched_io::Watched;
 
 /// The script was replayed, or help was shown.
 pub const DONE: u8 = 0;
