@@ -57,9 +57,6 @@ pub enum SignalRefusal {
     /// A waiter is registered, and the phase would hold more than `SENDS_MAX` sends.
     #[error("the phase would have more than {max} sends", max = SENDS_MAX)]
     PhaseFull,
-    /// A growth was refused.
-    #[error("out of memory")]
-    OutOfMemory,
 }
 
 /// Why a wait was refused.

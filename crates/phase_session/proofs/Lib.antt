@@ -1,0 +1,3 @@
+pub mod Obeying
+pub mod Operators
+pub mod Scripted
