@@ -1,4 +1,5 @@
 //! What no clause says, at chosen scripts.
 
+mod once;
 mod replays;
 mod sessions;
