@@ -1,11 +1,11 @@
 //! Runs of the program whose text no clause says, and calls that have to succeed.
 use crate::cli::run_cli;
-use crate::words::refuse_words;
-use phase_replay::Watched;
+use phase_status::refuse_words;
 use std::alloc::Global;
 use std::io;
 use std::io::{ErrorKind, Read, Write};
 use std::test::Fail;
+use watched_io::Watched;
 
 /// A stream whose every call fails.
 #[derive(Clone, Copy)]
@@ -95,13 +95,38 @@ fn other_words_are_refused_by_claps_text(rt: HostRuntime) -> Result<(), Fail> {
     Ok(())
 }
 
+/// The whole help of the program.
+const HELP: &str = "\
+Replays a script of calls on a phaser, a barrier on which the tasks of a phase
+also add up a value. The script is read from standard input, a call a line, and
+each line is answered by one line on standard output.
+
+Usage: phase [COMMAND]
+
+Commands:
+  replay  Replays the script, as `phase` with no command does
+  help    Print this message or the help of the given subcommand(s)
+
+Options:
+  -h, --help  Print help
+
+Example, with the reply to each line and what it means:
+  make sum 2 100    ok           a phaser that adds up, for phases 0 to 99
+  send 0 5          ok           task 0, which founded it, sends 5
+  signal 0          ok 0         task 0 has done its part of phase 0
+  wait 0            value 0 5    phase 0 is complete, and its value is 5
+A line that is no call is answered by `bad line`.
+
+Exit status: 0 done; 2 the words were not understood; 5 a read or a write
+failed, or memory ran out.
+";
+
 #[test]
 fn help_goes_to_the_output(rt: HostRuntime) -> Result<(), Fail> {
     for word in ["--help", "-h", "help"] {
         let help = run(rt.alloc(), [word].as_slice(), b"make sum 2 100\n")?;
         assert_eq!(rt; help.status, 0, "at {word}");
-        assert!(rt; has(&help.output, "Usage: phase"), "at {word}");
-        assert!(rt; has(&help.output, "value 0 5"), "at {word}");
+        assert_eq!(rt; help.output.as_slice(), HELP.as_bytes(), "at {word}");
         assert!(rt; help.faults.is_empty(), "at {word}");
     }
     for words in [["replay", "--help"], ["help", "replay"]] {
@@ -110,6 +135,34 @@ fn help_goes_to_the_output(rt: HostRuntime) -> Result<(), Fail> {
         assert!(rt; has(&help.output, "Usage: phase replay"));
         assert!(rt; help.faults.is_empty());
     }
+    Ok(())
+}
+
+#[test]
+fn the_example_in_help_is_answered_so(rt: HostRuntime) -> Result<(), Fail> {
+    let mut script = String::new(rt.alloc());
+    let mut replies = String::new(rt.alloc());
+    for line in HELP.lines() {
+        // The example's lines alone have three columns.
+        let mut columns = line
+            .split("    ")
+            .map(|column| column.trim())
+            .filter(|column| !column.is_empty());
+        let (Some(call), Some(reply), Some(_)) = (columns.next(), columns.next(), columns.next())
+        else {
+            continue;
+        };
+        script.push_str(call)?;
+        script.push_str("\n")?;
+        replies.push_str(reply)?;
+        replies.push_str("\n")?;
+    }
+    assert_eq!(rt;
+        script.as_str(),
+        "make sum 2 100\nsend 0 5\nsignal 0\nwait 0\n"
+    );
+    assert_eq!(rt; replies.as_str(), "ok\nok\nok 0\nvalue 0 5\n");
+    assert!(rt; is_answered(rt.alloc(), script.as_str(), replies.as_str())?);
     Ok(())
 }
 

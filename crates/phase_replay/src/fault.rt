@@ -3,16 +3,20 @@ ghost use Rattle.std.specs.Prelude.{◌≡◌};
 ghost use Rattle.phase_replay.specs.declared.fault.ReplayFault.TheVariants.{ReadFault, WriteFault, OutOfMemory};
 
 use std::alloc::AllocError;
+use thiserror::Error;
 use watched_io::{ReadFailed, WriteFailed};
 
 /// Why a replay stopped before the end of its script.
-#[derive(Clone, Copy, Debug, PartialEq, Eq, Hash)]
+#[derive(Clone, Copy, Debug, PartialEq, Eq, Hash, Error)]
 pub enum ReplayFault {
     /// A read failed, or the script is longer than `SCRIPT_MAX`.
+    #[error("a read failed, or the script is longer than 1073741824 bytes")]
     ReadFault,
     /// A write or a flush failed, or a write took no byte.
+    #[error("a write failed")]
     WriteFault,
     /// Memory ran out.
+    #[error("memory ran out")]
     OutOfMemory,
 }
 

@@ -1,4 +1,4 @@
 //! What no clause says, at chosen scripts.
 
+mod once;
 mod replays;
-mod sessions;

@@ -134,6 +134,12 @@ pub decimal_has_no_space : (n : ℕ) → n ≤ most → (i : ℕ) → i < length
 decimal_has_no_space n le =
     not_in_digits own (decimal n) 32 (digits_decimal own n (omega arith)) (λ h. omega arith)
 
+pub signed_has_no_space : (v : ℤ) → nat_abs v ≤ most → (i : ℕ) → i < length (signed_decimal v)
+    → get_or (signed_decimal v) i 0 ≢ 32
+signed_has_no_space (pos n) le i lt = decimal_has_no_space n le i lt
+signed_has_no_space (negsuc n) le zero lt = omega arith
+signed_has_no_space (negsuc n) le (suc i) lt = decimal_has_no_space (suc n) le i (omega arith)
+
 digits_have_no_line_end : (bs : List ℕ) → all_ascii_digits bs ≡ true
     → list_all (λ b. not (b == 10)) bs ≡ true
 digits_have_no_line_end [] digits = refl

@@ -1,18 +1,26 @@
 -- The lines and their commands: what is read is a spelling, and each spelling is read.
-use Rattle.std.proofs.Common.{◌≡◌, ◌≢◌, ℕ, suc, ◌<◌, ◌≤◌, Bool, true, false, ◌==◌, if◌then◌else◌, List, [], ◌∷◌, ◌++◌, length, get_or, codes, decimal, bytes_eq, nat_abs, ℤ, IfSome, Option, Some, None, option_and_then, refl, sym, ◌∙◌, ap, subst, arith}
+use Rattle.std.proofs.Common.{◌≡◌, ◌≢◌, ℕ, suc, ◌<◌, ◌≤◌, Bool, true, false, T, ◌==◌, if◌then◌else◌, List, [], ◌∷◌, ◌++◌, length, get_or, codes, decimal, bytes_eq, nat_abs, ℤ, IfSome, Option, Some, None, option_and_then, refl, sym, ◌∙◌, ap, subst, arith}
+use Rattle.std.specs.Prelude.{int_le}
 use Rattle.std.proofs.lemmas.Bool.{eqb-true, ne_eqb}
 use Rattle.std.proofs.lemmas.Option.{option_and_then_some, same_Some}
 use Rattle.std.proofs.lemmas.Slice.Eq.{bytes_eq-Decides}
-use Rattle.std.proofs.lemmas.List.{length-append}
+use Rattle.std.proofs.lemmas.List.{length-append, append-nil}
 use Rattle.std.specs.Fmt.{signed_decimal}
-use Rattle.phase_script.proofs.Digits.{nat_found, nat_only, int_found, int_only, decimal_has_no_space, decimal_short, signed_short}
+use Rattle.phase_script.proofs.Digits.{nat_found, nat_only, int_found, int_only, decimal_has_no_space, signed_has_no_space, decimal_short, signed_short}
 use Rattle.phase_script.specs.Numbers.{most, nat_of, int_of}
 use Rattle.phase_script.specs.Words.{word, rest}
-use Rattle.phase_script.specs.Commands.{IsCommand, spelling, operator_text, operator_of, make_of, send_of, signal_of, wait_of, command_after, command_of}
+use Rattle.phase_base.specs.declared.mode.Mode.{Mode}
+use Rattle.phase_base.specs.declared.mode.Mode.TheVariants as mode
+use Rattle.phase_accum.specs.Ranges.{IsRange}
+use Rattle.phase_accum.specs.Singles.{CanBeNamed}
+use Rattle.phase_accum.specs.declared.single.Single.{Single}
+use Rattle.phase_accum.specs.declared.single.Single.TheVariants.{Neg, Abs, Halve, Clamp}
+use Rattle.phase_script.specs.Commands.{IsCommand, spelling, operator_text, mode_text, single_text, maybe_single_text, operator_of, mode_of, clamp_of, ends_of, clamp_after, single_of}
+use Rattle.phase_script.specs.Commands.{make_of, add_of, send_of, signal_of, signal_with, wait_of, drop_of, command_after, command_of}
 use Rattle.phase_script.specs.declared.command.Operator.{Operator}
-use Rattle.phase_script.specs.declared.command.Operator.TheVariants.{Sum}
+use Rattle.phase_script.specs.declared.command.Operator.TheVariants.{Sum, Product, Least, Greatest, Any}
 use Rattle.phase_script.specs.declared.command.Command.{Command}
-use Rattle.phase_script.specs.declared.command.Command.TheVariants.{Make, Send, Signal, Wait}
+use Rattle.phase_script.specs.declared.command.Command.TheVariants.{Make, Add, Send, Signal, Wait, Drop}
 
 -- words
 
@@ -29,6 +37,14 @@ rest_step false b bs more test ih e = ap (λ w. b ∷ w) (ih e)
 rest_found : (text more : List ℕ) → rest text ≡ Some more → text ≡ word text ++ 32 ∷ more
 rest_found [] more e = cc
 rest_found (b ∷ bs) more e = rest_step (b == 32) b bs more refl (rest_found bs more) e
+
+-- a text without a space is one word
+word_alone : (text : List ℕ) → rest text ≡ None → word text ≡ text
+word_alone [] e = refl
+word_alone (b ∷ bs) e = elim (b == 32) as (λ t. ((b == 32) ≡ t) → (if t then Some bs else rest bs) ≡ None → (if t then [] else b ∷ word bs) ≡ b ∷ bs) [
+  | true ↦ λ t f. absurd (cc)
+  | false ↦ λ t f. ap (λ w. b ∷ w) (word_alone bs f)
+] refl e
 
 module _ (more : List ℕ) where
   word_prefix : (w : List ℕ) → ((i : ℕ) → i < length w → get_or w i 0 ≢ 32)
@@ -49,6 +65,17 @@ module _ (more : List ℕ) where
         rest_prefix bs (λ i l. free (suc i) (omega arith)),
       ) refl
 
+-- a word with no space stands alone
+word_free : (w : List ℕ) → ((i : ℕ) → i < length w → get_or w i 0 ≢ 32) → word w ≡ w
+word_free [] free = refl
+word_free (b ∷ bs) free =
+    rw (ne_eqb b 32 (free 0 (omega arith)), word_free bs (λ i l. free (suc i) (omega arith))) refl
+
+rest_free : (w : List ℕ) → ((i : ℕ) → i < length w → get_or w i 0 ≢ 32) → rest w ≡ None
+rest_free [] free = refl
+rest_free (b ∷ bs) free =
+    rw (ne_eqb b 32 (free 0 (omega arith)), rest_free bs (λ i l. free (suc i) (omega arith))) refl
+
 -- a line that is read is the spelling of a command
 
 abbrev Spells : List ℕ → Command → Type 0
@@ -68,10 +95,82 @@ operator_found : (name : List ℕ) (operator : Operator) → operator_of name �
     → name ≡ operator_text operator
 unfolding operator_of
 operator_found name operator e =
-    chosen name (codes "sum") (Some Sum) None operator e
-    (λ same is. let P : Operator → Type 0 = λ o. name ≡ operator_text o in
-    subst P (same_Some Sum operator is) same)
+    let P : Operator → Type 0 = λ o. name ≡ operator_text o in
+    chosen name (codes "sum") _ _ operator e (λ same is. subst P (same_Some Sum operator is) same) (λ e1.
+    chosen name (codes "product") _ _ operator e1 (λ same is. subst P (same_Some Product operator is) same) (λ e2.
+    chosen name (codes "least") _ _ operator e2 (λ same is. subst P (same_Some Least operator is) same) (λ e3.
+    chosen name (codes "greatest") _ _ operator e3 (λ same is. subst P (same_Some Greatest operator is) same) (λ e4.
+    chosen name (codes "any") (Some Any) None operator e4 (λ same is. subst P (same_Some Any operator is) same)
+    (λ other. absurd (cc))))))
+
+mode_found : (name : List ℕ) (m : Mode) → mode_of name ≡ Some m → name ≡ mode_text m
+unfolding mode_of
+mode_found name m e =
+    let P : Mode → Type 0 = λ o. name ≡ mode_text o in
+    chosen name (codes "sig") _ _ m e (λ same is. subst P (same_Some mode.Sig m is) same) (λ e1.
+    chosen name (codes "wait") _ _ m e1 (λ same is. subst P (same_Some mode.Wait m is) same) (λ e2.
+    chosen name (codes "sigwait") _ _ m e2 (λ same is. subst P (same_Some mode.SigWait m is) same) (λ e3.
+    chosen name (codes "single") (Some mode.Single) None m e3 (λ same is. subst P (same_Some mode.Single m is) same)
+    (λ other. absurd (cc)))))
+
+-- a text that is read as a single is its words, and the single can be named
+
+abbrev SpellsSingle : List ℕ → Single → Type 0
+SpellsSingle text single = CanBeNamed (Some single) × (text ≡ single_text single)
+
+t_true : (b : Bool) → T b → b ≡ true
+t_true true t = refl
+t_true false t = absurd t
+
+clamp_is : (low high : ℤ) (single : Single) → nat_abs low ≤ most → nat_abs high ≤ most
+    → clamp_of low high ≡ Some single
+    → IsRange (low, high) × (Clamp (low, high) ≡ single)
+clamp_is low high single small few e = elim (int_le low high) as (λ t. (int_le low high ≡ t)
+    → (if t then Some (Clamp (low, high)) else None) ≡ Some single
+    → IsRange (low, high) × (Clamp (low, high) ≡ single)) [
+      | true ↦ λ t f. (record { ordered = record { le = subst T (sym t) tt }; low_small = small; high_small = few }, same_Some _ single f)
+      | false ↦ λ t f. absurd (cc)
+    ] refl e
+
+ends_found : (text : List ℕ) (single : Single) → ends_of text ≡ Some single
+    → SpellsSingle (codes "clamp" ++ 32 ∷ text) single
+unfolding ends_of
+ends_found text single e =
+    option_and_then_some _ (int_of (word text)) single e (λ low is_low e1.
+    option_and_then_some _ (rest text) single e1 (λ last is_last e2.
+    option_and_then_some _ (int_of last) single e2 (λ high is_high e3.
+    let first = int_found (word text) low is_low in
+    let second = int_found last high is_high in
+    let text_is = rest_found text last is_last in
+    let made = clamp_is low high single first.1 second.1 e3 in
+    let P : Single → Type 0 = SpellsSingle (codes "clamp" ++ 32 ∷ text) in
+    subst P made.1 (
+      made.0,
+      ap (λ t. codes "clamp" ++ 32 ∷ t)
+          (text_is ∙ ap (λ w. w ++ 32 ∷ last) first.0
+          ∙ ap (λ t. signed_decimal low ++ 32 ∷ t) second.0),
+    ))))
+
+clamp_found : (name text : List ℕ) (single : Single) → clamp_after name text ≡ Some single
+    → SpellsSingle (name ++ 32 ∷ text) single
+unfolding clamp_after
+clamp_found name text single e =
+    chosen name (codes "clamp") (ends_of text) None single e (λ same is.
+    let found = ends_found text single is in
+    (found.0, ap (λ v. v ++ 32 ∷ text) same ∙ found.1))
     (λ other. absurd (cc))
+
+single_found : (text : List ℕ) (single : Single) → single_of text ≡ Some single
+    → SpellsSingle text single
+unfolding single_of
+single_found text single e =
+    let P : Single → Type 0 = SpellsSingle text in
+    chosen text (codes "neg") _ _ single e (λ same is. subst P (same_Some Neg single is) (tt, same)) (λ e1.
+    chosen text (codes "abs") _ _ single e1 (λ same is. subst P (same_Some Abs single is) (tt, same)) (λ e2.
+    chosen text (codes "halve") _ _ single e2 (λ same is. subst P (same_Some Halve single is) (tt, same)) (λ e3.
+    option_and_then_some _ (rest text) single e3 (λ more is_more e4.
+    let found = clamp_found (word text) more single e4 in
+    (found.0, rest_found text more is_more ∙ found.1)))))
 
 make_found : (text : List ℕ) (c : Command) → make_of text ≡ Some c
     → Spells (codes "make" ++ 32 ∷ text) c
@@ -97,6 +196,30 @@ make_found text c e =
           ∙ ap (λ t. decimal bound ++ 32 ∷ t) third.0)),
     ))))))
 
+add_found : (text : List ℕ) (c : Command) → add_of text ≡ Some c
+    → Spells (codes "add" ++ 32 ∷ text) c
+unfolding add_of spelling
+add_found text c e =
+    option_and_then_some _ (nat_of (word text)) c e (λ parent is_parent e1.
+    option_and_then_some _ (rest text) c e1 (λ words is_words e2.
+    option_and_then_some _ (nat_of (word words)) c e2 (λ child is_child e3.
+    option_and_then_some _ (rest words) c e3 (λ last is_last e4.
+    option_and_then_some _ (mode_of last) c e4 (λ m is_mode e5.
+    let first = nat_found (word text) parent is_parent in
+    let second = nat_found (word words) child is_child in
+    let third = mode_found last m is_mode in
+    let text_is = rest_found text words is_words in
+    let words_are = rest_found words last is_last in
+    let P : Command → Type 0 = Spells (codes "add" ++ 32 ∷ text) in
+    subst P (same_Some _ c e5) (
+      (first.1, second.1),
+      ap (λ t. codes "add" ++ 32 ∷ t)
+          (text_is ∙ ap (λ w. w ++ 32 ∷ words) first.0
+          ∙ ap (λ t. decimal parent ++ 32 ∷ t)
+          (words_are ∙ ap (λ w. w ++ 32 ∷ last) second.0
+          ∙ ap (λ t. decimal child ++ 32 ∷ t) third)),
+    ))))))
+
 send_found : (text : List ℕ) (c : Command) → send_of text ≡ Some c
     → Spells (codes "send" ++ 32 ∷ text) c
 unfolding send_of spelling
@@ -115,14 +238,30 @@ send_found text c e =
           ∙ ap (λ t. decimal task ++ 32 ∷ t) second.0),
     ))))
 
+signal_with_found : (text : List ℕ) (task : ℕ) (o : Option (List ℕ)) (c : Command)
+    → rest text ≡ o → signal_with task o ≡ Some c → word text ≡ decimal task → task ≤ most
+    → Spells (codes "signal" ++ 32 ∷ text) c
+unfolding signal_with spelling
+signal_with_found text task None c alone e first small =
+    let P : Command → Type 0 = Spells (codes "signal" ++ 32 ∷ text) in
+    let text_is : text ≡ decimal task ++ [] = sym (word_alone text alone) ∙ first ∙ sym (append-nil (decimal task)) in
+    subst P (same_Some _ c e) ((small, tt), ap (λ t. codes "signal" ++ 32 ∷ t) text_is)
+signal_with_found text task (Some more) c is_more e first small =
+    option_and_then_some _ (single_of more) c e (λ single is_single e1.
+    let found = single_found more single is_single in
+    let text_is : text ≡ decimal task ++ 32 ∷ single_text single =
+    rest_found text more is_more ∙ ap (λ w. w ++ 32 ∷ more) first
+    ∙ ap (λ t. decimal task ++ 32 ∷ t) found.1 in
+    let P : Command → Type 0 = Spells (codes "signal" ++ 32 ∷ text) in
+    subst P (same_Some _ c e1) ((small, found.0), ap (λ t. codes "signal" ++ 32 ∷ t) text_is))
+
 signal_found : (text : List ℕ) (c : Command) → signal_of text ≡ Some c
     → Spells (codes "signal" ++ 32 ∷ text) c
-unfolding signal_of spelling
+unfolding signal_of
 signal_found text c e =
-    option_and_then_some _ (nat_of text) c e (λ task is_task e1.
-    let first = nat_found text task is_task in
-    let P : Command → Type 0 = Spells (codes "signal" ++ 32 ∷ text) in
-    subst P (same_Some _ c e1) (first.1, ap (λ t. codes "signal" ++ 32 ∷ t) first.0))
+    option_and_then_some _ (nat_of (word text)) c e (λ task is_task e1.
+    let first = nat_found (word text) task is_task in
+    signal_with_found text task (rest text) c refl e1 first.0 first.1)
 
 wait_found : (text : List ℕ) (c : Command) → wait_of text ≡ Some c
     → Spells (codes "wait" ++ 32 ∷ text) c
@@ -133,6 +272,15 @@ wait_found text c e =
     let P : Command → Type 0 = Spells (codes "wait" ++ 32 ∷ text) in
     subst P (same_Some _ c e1) (first.1, ap (λ t. codes "wait" ++ 32 ∷ t) first.0))
 
+drop_found : (text : List ℕ) (c : Command) → drop_of text ≡ Some c
+    → Spells (codes "drop" ++ 32 ∷ text) c
+unfolding drop_of spelling
+drop_found text c e =
+    option_and_then_some _ (nat_of text) c e (λ task is_task e1.
+    let first = nat_found text task is_task in
+    let P : Command → Type 0 = Spells (codes "drop" ++ 32 ∷ text) in
+    subst P (same_Some _ c e1) (first.1, ap (λ t. codes "drop" ++ 32 ∷ t) first.0))
+
 after_found : (verb text : List ℕ) (c : Command) → command_after verb text ≡ Some c
     → Spells (verb ++ 32 ∷ text) c
 unfolding command_after
@@ -141,10 +289,12 @@ after_found verb text c e =
     → Spells (verb ++ 32 ∷ text) c =
     λ name same spells. (spells.0, ap (λ v. v ++ 32 ∷ text) same ∙ spells.1) in
     chosen verb (codes "make") _ _ c e (λ same is. named _ same (make_found text c is)) (λ e1.
-    chosen verb (codes "send") _ _ c e1 (λ same is. named _ same (send_found text c is)) (λ e2.
-    chosen verb (codes "signal") _ _ c e2 (λ same is. named _ same (signal_found text c is)) (λ e3.
-    chosen verb (codes "wait") _ _ c e3 (λ same is. named _ same (wait_found text c is))
-    (λ other. absurd (cc)))))
+    chosen verb (codes "add") _ _ c e1 (λ same is. named _ same (add_found text c is)) (λ e2.
+    chosen verb (codes "send") _ _ c e2 (λ same is. named _ same (send_found text c is)) (λ e3.
+    chosen verb (codes "signal") _ _ c e3 (λ same is. named _ same (signal_found text c is)) (λ e4.
+    chosen verb (codes "wait") _ _ c e4 (λ same is. named _ same (wait_found text c is)) (λ e5.
+    chosen verb (codes "drop") _ _ c e5 (λ same is. named _ same (drop_found text c is))
+    (λ other. absurd (cc)))))))
 
 -- a line that is read is the spelling of its command, whose numbers are within their limits
 pub command_found : (line : List ℕ) (c : Command) → command_of line ≡ Some c
@@ -161,17 +311,88 @@ then_some : {A B : Type 0} (f : A → Option B) (o : Option A) (x : A) (r : Opti
     → o ≡ Some x → f x ≡ r → option_and_then f o ≡ r
 then_some f o x r is e = rw is e
 
+operator_only : (operator : Operator) (more : List ℕ)
+    → (word (operator_text operator ++ 32 ∷ more) ≡ operator_text operator)
+    × (rest (operator_text operator ++ 32 ∷ more) ≡ Some more)
+    × (operator_of (operator_text operator) ≡ Some operator)
+unfolding operator_of
+operator_only Sum more = (refl, refl, refl)
+operator_only Product more = (refl, refl, refl)
+operator_only Least more = (refl, refl, refl)
+operator_only Greatest more = (refl, refl, refl)
+operator_only Any more = (refl, refl, refl)
+
+mode_only : (m : Mode) → mode_of (mode_text m) ≡ Some m
+unfolding mode_of
+mode_only mode.Sig = refl
+mode_only mode.Wait = refl
+mode_only mode.SigWait = refl
+mode_only mode.Single = refl
+
 make_only : (operator : Operator) (bound phases : ℕ) → bound ≤ most → phases ≤ most
     → make_of (operator_text operator ++ 32 ∷ (decimal bound ++ 32 ∷ decimal phases))
     ≡ Some (Make operator bound phases)
-unfolding make_of operator_of
-make_only Sum bound phases small few =
+unfolding make_of
+make_only operator bound phases small few =
+    let named = operator_only operator (decimal bound ++ 32 ∷ decimal phases) in
     let free = decimal_has_no_space bound small in
     rw (
+      named.0,
+      named.2,
+      named.1,
       word_prefix (decimal phases) (decimal bound) free,
       nat_only bound small,
       rest_prefix (decimal phases) (decimal bound) free,
       nat_only phases few,
+    ) refl
+
+add_only : (parent child : ℕ) (m : Mode) → parent ≤ most → child ≤ most
+    → add_of (decimal parent ++ 32 ∷ (decimal child ++ 32 ∷ mode_text m)) ≡ Some (Add parent child m)
+unfolding add_of
+add_only parent child m small few =
+    let free = decimal_has_no_space parent small in
+    let free_child = decimal_has_no_space child few in
+    rw (
+      word_prefix (decimal child ++ 32 ∷ mode_text m) (decimal parent) free,
+      nat_only parent small,
+      rest_prefix (decimal child ++ 32 ∷ mode_text m) (decimal parent) free,
+      word_prefix (mode_text m) (decimal child) free_child,
+      nat_only child few,
+      rest_prefix (mode_text m) (decimal child) free_child,
+      mode_only m,
+    ) refl
+
+-- the words of a single that can be named are read as it
+single_only : (single : Single) → CanBeNamed (Some single)
+    → single_of (single_text single) ≡ Some single
+unfolding single_of clamp_after ends_of
+single_only Neg can = refl
+single_only Abs can = refl
+single_only Halve can = refl
+single_only (Clamp range) can =
+    let free = signed_has_no_space range.0 can.low_small in
+    let ordered : int_le range.0 range.1 ≡ true = t_true (int_le range.0 range.1) can.ordered.le in
+    rw (
+      word_prefix (signed_decimal range.1) (signed_decimal range.0) free,
+      int_only range.0 can.low_small,
+      rest_prefix (signed_decimal range.1) (signed_decimal range.0) free,
+      int_only range.1 can.high_small,
+      ordered,
+    ) refl
+
+signal_only : (task : ℕ) (single : Option Single) → task ≤ most → CanBeNamed single
+    → signal_of (decimal task ++ maybe_single_text single) ≡ Some (Signal task single)
+unfolding signal_of signal_with
+signal_only task None small can =
+    let free = decimal_has_no_space task small in
+    rw (append-nil (decimal task), word_free (decimal task) free, nat_only task small, rest_free (decimal task) free) refl
+signal_only task (Some single) small can =
+    let free = decimal_has_no_space task small in
+    rw (
+      word_prefix (single_text single) (decimal task) free,
+      nat_only task small,
+      rest_prefix (single_text single) (decimal task) free,
+      single_only single can,
     ) refl
 
 send_only : (task : ℕ) (value : ℤ) → task ≤ most → nat_abs value ≤ most
@@ -188,11 +409,13 @@ send_only task value small few =
 
 -- the spelling of a command within its limits is read as the command
 pub command_only : (c : Command) → IsCommand c → command_of (spelling c) ≡ Some c
-unfolding command_of command_after signal_of wait_of spelling
+unfolding command_of command_after wait_of drop_of spelling
 command_only (Make operator bound phases) is = make_only operator bound phases is.0 is.1
+command_only (Add parent child m) is = add_only parent child m is.0 is.1
 command_only (Send task value) is = send_only task value is.0 is.1
-command_only (Signal task) is = rw (nat_only task is) refl
+command_only (Signal task single) is = signal_only task single is.0 is.1
 command_only (Wait task) is = rw (nat_only task is) refl
+command_only (Drop task) is = rw (nat_only task is) refl
 
 -- the two laws at what a reader answers
 
@@ -209,6 +432,29 @@ only_at line o e c is same = e ∙ ap command_of same ∙ command_only c is
 
 operator_short : (operator : Operator) → length (operator_text operator) ≤ 8
 operator_short Sum = omega arith
+operator_short Product = omega arith
+operator_short Least = omega arith
+operator_short Greatest = omega arith
+operator_short Any = omega arith
+
+mode_short : (m : Mode) → length (mode_text m) ≤ 7
+mode_short mode.Sig = omega arith
+mode_short mode.Wait = omega arith
+mode_short mode.SigWait = omega arith
+mode_short mode.Single = omega arith
+
+single_short : (single : Option Single) → CanBeNamed single
+    → length (maybe_single_text single) ≤ 48
+single_short None can = omega arith
+single_short (Some Neg) can = omega arith
+single_short (Some Abs) can = omega arith
+single_short (Some Halve) can = omega arith
+single_short (Some (Clamp range)) can =
+    simp length-append (omega (
+      arith,
+      signed_short range.0 can.low_small,
+      signed_short range.1 can.high_small,
+    ))
 
 pub short_line : (c : Command) → IsCommand c → length (spelling c) ≤ 74
 unfolding spelling
@@ -221,8 +467,17 @@ short_line (Make operator bound phases) is =
     ))
 short_line (Send task value) is =
     simp length-append (omega (arith, decimal_short task is.0, signed_short value is.1))
-short_line (Signal task) is = omega (arith, decimal_short task is)
+short_line (Add parent child m) is =
+    simp length-append (omega (
+      arith,
+      decimal_short parent is.0,
+      decimal_short child is.1,
+      mode_short m,
+    ))
+short_line (Signal task single) is =
+    simp length-append (omega (arith, decimal_short task is.0, single_short single is.1))
 short_line (Wait task) is = omega (arith, decimal_short task is)
+short_line (Drop task) is = omega (arith, decimal_short task is)
 
 long_at : (line : List ℕ) (o : Option Command) → command_of line ≡ o → 75 ≤ length line → o ≡ None
 long_at line None e long = refl

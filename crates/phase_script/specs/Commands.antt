@@ -1,31 +1,69 @@
 -- The script lines: each command within its limits has exactly one, its spelling.
-use Rattle.std.specs.Prelude.{ℕ, ◌≤◌, List, ◌∷◌, ◌++◌, codes, decimal, nat_abs, bytes_eq, if◌then◌else◌, Option, Some, None, option_and_then}
+use Rattle.std.specs.Prelude.{ℕ, ◌≤◌, ℤ, List, [], ◌∷◌, ◌++◌, codes, decimal, nat_abs, bytes_eq, int_le, if◌then◌else◌, Option, Some, None, option_and_then}
 use Rattle.std.specs.Fmt.{signed_decimal}
+use Rattle.phase_base.specs.declared.mode.Mode.{Mode}
+use Rattle.phase_base.specs.declared.mode.Mode.TheVariants as mode
+use Rattle.phase_accum.specs.Singles.{CanBeNamed}
+use Rattle.phase_accum.specs.declared.single.Single.{Single}
+use Rattle.phase_accum.specs.declared.single.Single.TheVariants.{Neg, Abs, Halve, Clamp}
 use Rattle.phase_script.specs.Numbers.{most, nat_of, int_of}
 use Rattle.phase_script.specs.Words.{word, rest}
 use Rattle.phase_script.specs.declared.command.Operator.{Operator}
-use Rattle.phase_script.specs.declared.command.Operator.TheVariants.{Sum}
+use Rattle.phase_script.specs.declared.command.Operator.TheVariants.{Sum, Product, Least, Greatest, Any}
 use Rattle.phase_script.specs.declared.command.Command.{Command}
-use Rattle.phase_script.specs.declared.command.Command.TheVariants.{Make, Send, Signal, Wait}
+use Rattle.phase_script.specs.declared.command.Command.TheVariants.{Make, Add, Send, Signal, Wait, Drop}
+
+-- ---- the one line of a command
 
 -- the word for an operator
 abbrev pub operator_text : Operator → List ℕ
 operator_text Sum = codes "sum"
+operator_text Product = codes "product"
+operator_text Least = codes "least"
+operator_text Greatest = codes "greatest"
+operator_text Any = codes "any"
+
+-- the word for a mode
+abbrev pub mode_text : Mode → List ℕ
+mode_text mode.Sig = codes "sig"
+mode_text mode.Wait = codes "wait"
+mode_text mode.SigWait = codes "sigwait"
+mode_text mode.Single = codes "single"
+
+-- the words for a single
+abbrev pub single_text : Single → List ℕ
+single_text Neg = codes "neg"
+single_text Abs = codes "abs"
+single_text Halve = codes "halve"
+single_text (Clamp range) =
+    codes "clamp" ++ 32 ∷ (signed_decimal range.0 ++ 32 ∷ signed_decimal range.1)
+
+-- the words for a single behind others, or nothing for none
+abbrev pub maybe_single_text : Option Single → List ℕ
+maybe_single_text None = []
+maybe_single_text (Some single) = 32 ∷ single_text single
 
 -- the one line that gives the command, without its line end
 unfoldable pub spelling : Command → List ℕ
 spelling (Make operator bound phases) =
     codes "make" ++ 32 ∷ (operator_text operator ++ 32 ∷ (decimal bound ++ 32 ∷ decimal phases))
+spelling (Add parent child mode) =
+    codes "add" ++ 32 ∷ (decimal parent ++ 32 ∷ (decimal child ++ 32 ∷ mode_text mode))
 spelling (Send task value) = codes "send" ++ 32 ∷ (decimal task ++ 32 ∷ signed_decimal value)
-spelling (Signal task) = codes "signal" ++ 32 ∷ decimal task
+spelling (Signal task single) = codes "signal" ++ 32 ∷ (decimal task ++ maybe_single_text single)
 spelling (Wait task) = codes "wait" ++ 32 ∷ decimal task
+spelling (Drop task) = codes "drop" ++ 32 ∷ decimal task
 
 -- the numbers of the command are within their limits
 abbrev pub IsCommand : Command → Type 0
 IsCommand (Make _ bound phases) = (bound ≤ most) × (phases ≤ most)
+IsCommand (Add parent child _) = (parent ≤ most) × (child ≤ most)
 IsCommand (Send task value) = (task ≤ most) × (nat_abs value ≤ most)
-IsCommand (Signal task) = task ≤ most
+IsCommand (Signal task single) = (task ≤ most) × CanBeNamed single
 IsCommand (Wait task) = task ≤ most
+IsCommand (Drop task) = task ≤ most
+
+-- ---- how a line is read
 
 -- the ? of the definitions: the second step, if the first gave a value
 infixl 10 ◌>>=◌
@@ -34,7 +72,46 @@ o >>= f = option_and_then f o
 
 -- the operator that a word names
 unfoldable pub operator_of : List ℕ → Option Operator
-operator_of name = if bytes_eq name (codes "sum") then Some Sum else None
+operator_of name =
+    if bytes_eq name (codes "sum") then Some Sum
+    else if bytes_eq name (codes "product") then Some Product
+    else if bytes_eq name (codes "least") then Some Least
+    else if bytes_eq name (codes "greatest") then Some Greatest
+    else if bytes_eq name (codes "any") then Some Any
+    else None
+
+-- the mode that a word names
+unfoldable pub mode_of : List ℕ → Option Mode
+mode_of name =
+    if bytes_eq name (codes "sig") then Some mode.Sig
+    else if bytes_eq name (codes "wait") then Some mode.Wait
+    else if bytes_eq name (codes "sigwait") then Some mode.SigWait
+    else if bytes_eq name (codes "single") then Some mode.Single
+    else None
+
+-- the clamp of two ends, if the first is not above the second
+abbrev pub clamp_of : ℤ → ℤ → Option Single
+clamp_of low high = if int_le low high then Some (Clamp (low, high)) else None
+
+-- the clamp whose two ends are in the text
+unfoldable pub ends_of : List ℕ → Option Single
+ends_of text = do
+  low ← int_of (word text)
+  last ← rest text
+  high ← int_of last
+  clamp_of low high
+
+-- the clamp of a first word and of the text that follows it
+unfoldable pub clamp_after : List ℕ → List ℕ → Option Single
+clamp_after name ends = if bytes_eq name (codes "clamp") then ends_of ends else None
+
+-- the single that a text names
+unfoldable pub single_of : List ℕ → Option Single
+single_of text =
+    if bytes_eq text (codes "neg") then Some Neg
+    else if bytes_eq text (codes "abs") then Some Abs
+    else if bytes_eq text (codes "halve") then Some Halve
+    else (rest text >>= clamp_after (word text))
 
 -- the command whose words after the first are in the text, for each first word
 unfoldable pub make_of : List ℕ → Option Command
@@ -46,6 +123,15 @@ make_of text = do
   phases ← nat_of last
   Some (Make operator bound phases)
 
+unfoldable pub add_of : List ℕ → Option Command
+add_of text = do
+  parent ← nat_of (word text)
+  words ← rest text
+  child ← nat_of (word words)
+  last ← rest words
+  mode ← mode_of last
+  Some (Add parent child mode)
+
 unfoldable pub send_of : List ℕ → Option Command
 send_of text = do
   task ← nat_of (word text)
@@ -53,23 +139,37 @@ send_of text = do
   value ← int_of last
   Some (Send task value)
 
+-- a signal of the task, with the single that is in the text, where there is one
+unfoldable pub signal_with : ℕ → Option (List ℕ) → Option Command
+signal_with task None = Some (Signal task None)
+signal_with task (Some text) = do
+  single ← single_of text
+  Some (Signal task (Some single))
+
 unfoldable pub signal_of : List ℕ → Option Command
 signal_of text = do
-  task ← nat_of text
-  Some (Signal task)
+  task ← nat_of (word text)
+  signal_with task (rest text)
 
 unfoldable pub wait_of : List ℕ → Option Command
 wait_of text = do
   task ← nat_of text
   Some (Wait task)
 
+unfoldable pub drop_of : List ℕ → Option Command
+drop_of text = do
+  task ← nat_of text
+  Some (Drop task)
+
 -- the command of a first word and of the text that follows it
 unfoldable pub command_after : List ℕ → List ℕ → Option Command
 command_after verb text =
     if bytes_eq verb (codes "make") then make_of text
+    else if bytes_eq verb (codes "add") then add_of text
     else if bytes_eq verb (codes "send") then send_of text
     else if bytes_eq verb (codes "signal") then signal_of text
     else if bytes_eq verb (codes "wait") then wait_of text
+    else if bytes_eq verb (codes "drop") then drop_of text
     else None
 
 -- the command that the line gives, if it is in the grammar

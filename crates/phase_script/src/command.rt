@@ -1,10 +1,21 @@
 //! The commands that a script line can give.
 
+use phase_accum::Single;
+use phase_base::Mode;
+
 /// How the sends of a phase make its value.
 #[derive(Clone, Copy, Debug, PartialEq, Eq)]
 pub enum Operator {
     /// The sends are added up.
     Sum,
+    /// The sends are multiplied.
+    Product,
+    /// The least send is the value.
+    Least,
+    /// The greatest send is the value.
+    Greatest,
+    /// The first send is the value.
+    Any,
 }
 
 /// What a script line asks for. Task 0 is the founder.
@@ -16,17 +27,28 @@ pub enum Command {
         bound: u64,
         phases: u64,
     },
+    /// Registers the child, in a mode that the parent's holds.
+    Add {
+        parent: u64,
+        child: u64,
+        mode: Mode,
+    },
     /// Holds one more send for the task.
     Send {
         task: u64,
         value: i64,
     },
-    /// Makes the task's signal, with the sends that it holds.
+    /// Makes the task's signal, with the sends that it holds, and names a single or none.
     Signal {
         task: u64,
+        single: Option<Single>,
     },
     /// Waits for the task's next phase.
     Wait {
+        task: u64,
+    },
+    /// Drops the task's registration. The sends that it holds are given up.
+    Drop {
         task: u64,
     },
 }

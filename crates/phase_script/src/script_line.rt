@@ -3,12 +3,17 @@
 mod number;
 mod words;
 
-ghost use Rattle.std.specs.Prelude.{◌≡◌, IfSome};
+ghost use Rattle.std.specs.Prelude.{◌≡◌, ◌≤◌, nat_abs, IfSome};
+ghost use Rattle.phase_script.specs.Numbers.{most};
 ghost use Rattle.phase_script.specs.Commands.{IsCommand, spelling, command_of, command_after};
-ghost use Rattle.phase_script.specs.Commands.{operator_of, make_of, send_of, signal_of, wait_of};
+ghost use Rattle.phase_script.specs.Commands.{operator_of, mode_of, single_of, clamp_after, ends_of};
+ghost use Rattle.phase_script.specs.Commands.{clamp_of, make_of, add_of, send_of, signal_of};
+ghost use Rattle.phase_script.specs.Commands.{wait_of, drop_of};
 
 use crate::{Command, Operator};
 use number::{int, nat};
+use phase_accum::Single;
+use phase_base::Mode;
 use words::cut;
 
 /// Reads a script line, without its LF and CR, as the one command that it gives.
@@ -37,12 +42,16 @@ fn command_with(verb: &[u8], text: &[u8]) -> Option<Command>
 {
     if verb == b"make".as_slice() {
         make(text)
+    } else if verb == b"add".as_slice() {
+        add(text)
     } else if verb == b"send".as_slice() {
         send(text)
     } else if verb == b"signal".as_slice() {
         signal(text)
     } else if verb == b"wait".as_slice() {
         wait(text)
+    } else if verb == b"drop".as_slice() {
+        drop_task(text)
     } else {
         None
     }
@@ -70,6 +79,47 @@ fn operator(name: &[u8]) -> Option<Operator>
 {
     if name == b"sum".as_slice() {
         Some(Operator::Sum)
+    } else if name == b"product".as_slice() {
+        Some(Operator::Product)
+    } else if name == b"least".as_slice() {
+        Some(Operator::Least)
+    } else if name == b"greatest".as_slice() {
+        Some(Operator::Greatest)
+    } else if name == b"any".as_slice() {
+        Some(Operator::Any)
+    } else {
+        None
+    }
+}
+
+#[tactic(auto, unfolding(crate::specs::Commands::add_of))]
+fn add(text: &[u8]) -> Option<Command>
+    ensures { result ≡ add_of text.now }
+{
+    let (parent, words) = cut(text);
+    let parent = nat(parent)?;
+    let (child, last) = cut(words?);
+    let child = nat(child)?;
+    let mode = mode(last?)?;
+    Some(Command::Add {
+        parent,
+        child,
+        mode,
+    })
+}
+
+#[tactic(auto, unfolding(crate::specs::Commands::mode_of))]
+fn mode(name: &[u8]) -> Option<Mode>
+    ensures { result ≡ mode_of name.now }
+{
+    if name == b"sig".as_slice() {
+        Some(Mode::Sig)
+    } else if name == b"wait".as_slice() {
+        Some(Mode::Wait)
+    } else if name == b"sigwait".as_slice() {
+        Some(Mode::SigWait)
+    } else if name == b"single".as_slice() {
+        Some(Mode::Single)
     } else {
         None
     }
@@ -85,12 +135,69 @@ fn send(text: &[u8]) -> Option<Command>
     Some(Command::Send { task, value })
 }
 
-#[tactic(auto, unfolding(crate::specs::Commands::signal_of))]
+#[tactic(auto, unfolding(crate::specs::Commands::signal_of, crate::specs::Commands::signal_with))]
 fn signal(text: &[u8]) -> Option<Command>
     ensures { result ≡ signal_of text.now }
 {
-    let task = nat(text)?;
-    Some(Command::Signal { task })
+    let (task, last) = cut(text);
+    let task = nat(task)?;
+    let Some(text) = last else {
+        return Some(Command::Signal { task, single: None });
+    };
+    let single = single(text)?;
+    Some(Command::Signal {
+        task,
+        single: Some(single),
+    })
+}
+
+#[tactic(auto, unfolding(crate::specs::Commands::single_of))]
+fn single(text: &[u8]) -> Option<Single>
+    ensures { result ≡ single_of text.now }
+{
+    if text == b"neg".as_slice() {
+        return Some(Single::neg());
+    }
+    if text == b"abs".as_slice() {
+        return Some(Single::abs());
+    }
+    if text == b"halve".as_slice() {
+        return Some(Single::halve());
+    }
+    let (name, ends) = cut(text);
+    clamp(name, ends?)
+}
+
+#[tactic(auto, unfolding(crate::specs::Commands::clamp_after))]
+fn clamp(name: &[u8], text: &[u8]) -> Option<Single>
+    ensures { result ≡ clamp_after name.now text.now }
+{
+    if name == b"clamp".as_slice() {
+        ends(text)
+    } else {
+        None
+    }
+}
+
+#[tactic(auto, unfolding(crate::specs::Commands::ends_of))]
+fn ends(text: &[u8]) -> Option<Single>
+    ensures { result ≡ ends_of text.now }
+{
+    let (low, last) = cut(text);
+    let low = int(low)?;
+    let high = int(last?)?;
+    clamp_between(low, high)
+}
+
+fn clamp_between(low: i64, high: i64) -> Option<Single>
+    requires low { nat_abs low ≤ most }
+    requires high { nat_abs high ≤ most }
+    ensures { result ≡ clamp_of low high }
+{
+    match Single::clamp(low, high) {
+        Ok(single) => Some(single),
+        Err(_) => None,
+    }
 }
 
 #[tactic(auto, unfolding(crate::specs::Commands::wait_of))]
@@ -99,4 +206,12 @@ fn wait(text: &[u8]) -> Option<Command>
 {
     let task = nat(text)?;
     Some(Command::Wait { task })
+}
+
+#[tactic(auto, unfolding(crate::specs::Commands::drop_of))]
+fn drop_task(text: &[u8]) -> Option<Command>
+    ensures { result ≡ drop_of text.now }
+{
+    let task = nat(text)?;
+    Some(Command::Drop { task })
 }

@@ -1,0 +1,4 @@
+mod Examples
+pub mod Obeying
+pub mod Operators
+pub mod Scripted

@@ -1,0 +1,17 @@
+-- An accepted drop gives the task's sends up.
+use Rattle.phase_history.specs.Refusals.{drop_refusal}
+use Rattle.std.proofs.Common.{◌≡◌, Option, Some, None, sym, ap, refl, ◌∙◌}
+use Rattle.std.specs.Prelude.{IsSome}
+use Rattle.phase_base.specs.declared.entry.Entry.{Entry}
+use Rattle.phase_base.specs.Members.{entry_of}
+use Rattle.phase_history.specs.declared.refusal.NoTask.{NoTask}
+use Rattle.phase_history.specs.Histories.{History, members_of}
+use Rattle.phase_session.proofs.Obeying.{phaser_dropped, drop_is_accepted}
+use Rattle.phase_session.proofs.script_phaser.ScriptPhaser.drop_task.Goals as goal
+
+pub returns-clause-after : goal.returns-clause-after
+returns-clause-after g c limits h held stands =
+    phaser_dropped g.A.Accumulate.operation c.args.self.now c.drop_task.new.self c.clear.new.self limits h held c.args.task stands
+    c.drop_task.ensures.limits
+    (drop_is_accepted g.A.Accumulate.operation c.args.self.now limits h held c.args.task stands (c.in-Ok.ensures.ok.0 refl))
+    (c.in-Ok.ensures.after h stands.core) c.clear.ensures

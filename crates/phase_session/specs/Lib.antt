@@ -1,0 +1,3 @@
+pub mod HeldSends
+pub mod Scripts
+pub mod Session

@@ -1,0 +1,258 @@
+-- What the lines of a script are answered, and what they leave.
+use Rattle.std.specs.Prelude.{ℕ, ℤ, List, [], ◌∷◌, ◌++◌, Option, Some, None, Result, Ok, Err, Bool, not, ◌||◌, ◌==◌, nat_le, nat_lt, length, if◌then◌else◌}
+use Rattle.phase_base.specs.Limits.{Limits, limits}
+use Rattle.phase_base.specs.declared.limits.TheConstants.{BOUND_MAX, PHASES_MAX, SENDS_MAX}
+use Rattle.phase_base.specs.Modes.{mode_signals}
+use Rattle.phase_base.specs.declared.entry.Entry.{Entry}
+use Rattle.phase_base.specs.Members.{entry_of}
+use Rattle.phase_accum.specs.Values.{sum_value, product_value, least_value, greatest_value, any_value}
+use Rattle.phase_accum.specs.declared.outcome.Outcome.{Outcome}
+use Rattle.phase_accum.specs.declared.outcome.Outcome.TheVariants as outcome
+use Rattle.phase_history.specs.declared.event.Event.TheVariants.{Made}
+use Rattle.phase_history.specs.declared.got.Got.{Got}
+use Rattle.phase_history.specs.declared.got.Got.TheVariants as got
+use Rattle.phase_history.specs.declared.refusal.NoTask.{NoTask}
+use Rattle.phase_history.specs.declared.refusal.RegisterRefusal.{RegisterRefusal}
+use Rattle.phase_history.specs.declared.refusal.RegisterRefusal.TheVariants as register
+use Rattle.phase_history.specs.declared.refusal.SignalRefusal.{SignalRefusal}
+use Rattle.phase_history.specs.declared.refusal.SignalRefusal.TheVariants as signal
+use Rattle.phase_history.specs.declared.refusal.WaitRefusal.{WaitRefusal}
+use Rattle.phase_history.specs.declared.refusal.WaitRefusal.TheVariants as wait
+use Rattle.phase_history.specs.Histories.{History, members_of}
+use Rattle.phase_history.specs.Refusals.{first_row, refusal_at, register_refusal, drop_refusal}
+use Rattle.phase_history.specs.Replies.{refused_or, signal_reply, wait_reply, after_register, after_signal, after_wait, after_drop}
+use Rattle.phase_script.specs.declared.command.Operator.{Operator}
+use Rattle.phase_script.specs.declared.command.Operator.TheVariants.{Sum, Product, Least, Greatest, Any}
+use Rattle.phase_script.specs.declared.command.Command.{Command}
+use Rattle.phase_script.specs.declared.command.Command.TheVariants.{Make, Add, Send, Signal, Wait, Drop}
+use Rattle.phase_script.specs.declared.refusal.Refusal.{Refusal}
+use Rattle.phase_script.specs.declared.refusal.Refusal.TheVariants as no
+use Rattle.phase_script.specs.declared.reply.Reply.{Reply}
+use Rattle.phase_script.specs.declared.reply.Reply.TheVariants.{Accepted, Signalled, Value, Empty, TooBig, Ended, Refused, BadLine}
+use Rattle.phase_script.specs.Commands.{command_of}
+use Rattle.phase_script.specs.ReplyLines.{reply_text}
+
+-- the sends that tasks hold, each with its task, in the order in which they came
+abbrev pub Held : Type 0
+Held = List (ℕ × ℤ)
+
+-- what the lines so far have made: no phaser, or one with its operator, its limits, its history
+-- and the sends that its tasks hold
+pub data ScriptState : Type 0 where
+  NoPhaser : ScriptState
+  OnePhaser : (operator : Operator) (limits : Limits) (history : History) (held : Held) → ScriptState
+
+-- before the first line
+unfoldable pub start : ScriptState
+start = NoPhaser
+
+-- the value of a list of sends under an operator
+abbrev pub value_of : Operator → List ℤ → Outcome
+value_of Sum = sum_value
+value_of Product = product_value
+value_of Least = least_value
+value_of Greatest = greatest_value
+value_of Any = any_value
+
+-- the sends that a task holds
+abbrev pub held_by : Held → ℕ → List ℤ
+held_by [] task = []
+held_by (send ∷ sends) task =
+    if send.0 == task then send.1 ∷ held_by sends task else held_by sends task
+
+-- the sends that the other tasks hold
+abbrev pub held_by_others : Held → ℕ → Held
+held_by_others [] task = []
+held_by_others (send ∷ sends) task =
+    if send.0 == task then held_by_others sends task else send ∷ held_by_others sends task
+
+-- the refusals of a line that makes a phaser, where there is none yet
+abbrev pub make_rows : ℕ → ℕ → List (Bool × Refusal)
+make_rows bound phases =
+    (nat_lt bound 1 || nat_lt BOUND_MAX bound, no.BadBound)
+    ∷ (nat_lt phases 1 || nat_lt PHASES_MAX phases, no.BadPhases)
+    ∷ []
+
+-- the refusals of a send by a member that holds so many sends
+abbrev pub send_rows : ℕ → Entry → List (Bool × Refusal)
+send_rows count entry =
+    (not (mode_signals entry.mode), no.NoSignal)
+    ∷ (nat_le SENDS_MAX count, no.TooManySends)
+    ∷ []
+
+-- the refusal, or else that it is done
+abbrev pub done_unless : Option Refusal → Reply
+done_unless (Some refusal) = Refused refusal
+done_unless None = Accepted
+
+-- the reply to a line that makes a phaser, where there is none yet
+abbrev pub make_reply : ℕ → ℕ → Reply
+make_reply bound phases = done_unless (first_row (make_rows bound phases))
+
+-- the reply to a send
+abbrev pub send_reply : History → Held → ℕ → Reply
+send_reply h held task =
+    done_unless (refusal_at (entry_of (members_of h) task) no.NoTask
+    (send_rows (length (held_by held task))))
+
+-- the reason of a refused registration. Want of memory is no row of a table: what stands for it is
+-- never seen
+abbrev pub register_reason : RegisterRefusal → Reply
+register_reason register.NoTask = Refused no.NoTask
+register_reason register.NotAllowed = Refused no.NotAllowed
+register_reason register.NotNew = Refused no.NotNew
+register_reason register.TooManyTasks = Refused no.TooManyTasks
+register_reason register.OutOfMemory = BadLine
+
+-- the reason of a refused signal. No plain signal is a bad block, since a bound is at least 1: what
+-- stands for it is never seen
+abbrev pub signal_reason : SignalRefusal → Reply
+signal_reason signal.NoTask = Refused no.NoTask
+signal_reason signal.NoSignal = Refused no.NoSignal
+signal_reason signal.NotSingle = Refused no.NotSingle
+signal_reason signal.SignalTwice = Refused no.SignalTwice
+signal_reason signal.Spent = Refused no.Spent
+signal_reason signal.Ahead = Refused no.Ahead
+signal_reason signal.SingleDiffers = Refused no.SingleDiffers
+signal_reason signal.PhaseFull = Refused no.PhaseFull
+signal_reason signal.BadBlock = BadLine
+
+-- the reason of a refused wait. No plain wait is a bad block, since a bound is at least 1: what
+-- stands for it is never seen
+abbrev pub wait_reason : WaitRefusal → Reply
+wait_reason wait.NoTask = Refused no.NoTask
+wait_reason wait.NoWait = Refused no.NoWait
+wait_reason wait.SignalFirst = Refused no.SignalFirst
+wait_reason wait.NotYet = Refused no.NotYet
+wait_reason wait.BadBlock = BadLine
+
+-- what a phaser answers to a signal, as a reply
+abbrev pub signalled_reply : Result ℕ SignalRefusal → Reply
+signalled_reply (Ok phase) = Signalled phase
+signalled_reply (Err refusal) = signal_reason refusal
+
+-- the value of a phase, as a reply
+abbrev pub value_reply : ℕ → Outcome → Reply
+value_reply phase (outcome.Value value) = Value phase value
+value_reply phase outcome.Empty = Empty phase
+value_reply phase outcome.TooBig = TooBig phase
+
+-- what a phaser answers to a wait, as a reply
+abbrev pub received_reply : Result Got WaitRefusal → Reply
+received_reply (Ok (got.Value phase outcome)) = value_reply phase outcome
+received_reply (Ok got.Ended) = Ended
+received_reply (Err refusal) = wait_reason refusal
+
+-- what a phaser answers to a registration, as a reply
+abbrev pub registered_reply : Option RegisterRefusal → Reply
+registered_reply (Some refusal) = register_reason refusal
+registered_reply None = Accepted
+
+-- what a phaser answers to a drop, as a reply
+abbrev pub dropped_reply : Option NoTask → Reply
+dropped_reply (Some refusal) = Refused no.NoTask
+dropped_reply None = Accepted
+
+-- the reply to a command where there is a phaser
+abbrev pub phaser_reply : (List ℤ → Outcome) → Limits → History → Held → Command → Reply
+phaser_reply value limits h held (Make operator bound phases) = Refused no.Made
+phaser_reply value limits h held (Add parent child mode) =
+    registered_reply (register_refusal h parent child mode)
+phaser_reply value limits h held (Send task number) = send_reply h held task
+phaser_reply value limits h held (Signal task single) =
+    signalled_reply (signal_reply limits h task (held_by held task ∷ []) single)
+phaser_reply value limits h held (Wait task) = received_reply (wait_reply value limits h task)
+phaser_reply value limits h held (Drop task) = dropped_reply (drop_refusal h task)
+
+-- the reply to a command
+unfoldable pub command_reply : ScriptState → Command → Reply
+command_reply NoPhaser (Make operator bound phases) = make_reply bound phases
+command_reply NoPhaser command = Refused no.NoPhaser
+command_reply (OnePhaser operator limits h held) command =
+    phaser_reply (value_of operator) limits h held command
+
+-- a phaser is made where its limits are within theirs
+abbrev pub made_by : Reply → Operator → ℕ → ℕ → ScriptState
+made_by Accepted operator bound phases = OnePhaser operator (limits bound phases) (Made 0 ∷ []) []
+made_by reply operator bound phases = NoPhaser
+
+-- an accepted send is held, behind the others
+abbrev pub held_after_send : Reply → Held → ℕ → ℤ → Held
+held_after_send Accepted held task value = held ++ (task, value) ∷ []
+held_after_send reply held task value = held
+
+-- an accepted signal takes the task's sends with it
+abbrev pub held_after_signal : Result ℕ SignalRefusal → Held → ℕ → Held
+held_after_signal (Ok phase) held task = held_by_others held task
+held_after_signal (Err refusal) held task = held
+
+-- a task that drops gives up its sends
+abbrev pub held_after_drop : Option NoTask → Held → ℕ → Held
+held_after_drop (Some refusal) held task = held
+held_after_drop None held task = held_by_others held task
+
+-- the history that a command leaves where there is a phaser
+abbrev pub history_after : (List ℤ → Outcome) → Limits → History → Held → Command → History
+history_after value limits h held (Make operator bound phases) = h
+history_after value limits h held (Add parent child mode) =
+    after_register (refused_or (register_refusal h parent child mode) child) parent child mode h
+history_after value limits h held (Send task number) = h
+history_after value limits h held (Signal task single) =
+    after_signal (signal_reply limits h task (held_by held task ∷ []) single)
+    task (held_by held task ∷ []) single h
+history_after value limits h held (Wait task) = after_wait (wait_reply value limits h task) task h
+history_after value limits h held (Drop task) =
+    after_drop (refused_or (drop_refusal h task) task) task h
+
+-- the sends that tasks hold after a command where there is a phaser
+abbrev pub held_after : Limits → History → Held → Command → Held
+held_after limits h held (Make operator bound phases) = held
+held_after limits h held (Add parent child mode) = held
+held_after limits h held (Send task number) =
+    held_after_send (send_reply h held task) held task number
+held_after limits h held (Signal task single) =
+    held_after_signal (signal_reply limits h task (held_by held task ∷ []) single) held task
+held_after limits h held (Wait task) = held
+held_after limits h held (Drop task) = held_after_drop (drop_refusal h task) held task
+
+-- what a command leaves
+unfoldable pub after_command : ScriptState → Command → ScriptState
+after_command NoPhaser (Make operator bound phases) =
+    made_by (make_reply bound phases) operator bound phases
+after_command NoPhaser command = NoPhaser
+after_command (OnePhaser operator limits h held) command =
+    OnePhaser operator limits (history_after (value_of operator) limits h held command)
+    (held_after limits h held command)
+
+-- the reply to a line that gives this command, or none
+abbrev pub reply_by : ScriptState → Option Command → Reply
+reply_by state (Some command) = command_reply state command
+reply_by state None = BadLine
+
+-- the reply is `ok`, alone or with a phase: the line was done
+abbrev pub IsOkReply : Reply → Type 0
+IsOkReply Accepted = Unit {0}
+IsOkReply (Signalled phase) = Unit {0}
+IsOkReply reply = ⊥
+
+-- what a line leaves that gives this command, or none
+abbrev pub after_by : ScriptState → Option Command → ScriptState
+after_by state (Some command) = after_command state command
+after_by state None = state
+
+-- the reply line to a script line
+unfoldable pub reply_to : ScriptState → List ℕ → List ℕ
+reply_to state line = reply_text (reply_by state (command_of line))
+
+-- what a script line leaves
+unfoldable pub after_line : ScriptState → List ℕ → ScriptState
+after_line state line = after_by state (command_of line)
+
+-- what the lines leave, from the state before them
+abbrev pub state_from : ScriptState → List (List ℕ) → ScriptState
+state_from state [] = state
+state_from state (line ∷ lines) = state_from (after_line state line) lines
+
+-- what the lines of a script leave
+abbrev pub state_after : List (List ℕ) → ScriptState
+state_after lines = state_from start lines

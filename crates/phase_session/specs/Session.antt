@@ -1,0 +1,52 @@
+-- The scripts that a session stands for.
+use Rattle.std.specs.Prelude.{◌≡◌, ℕ, List, Option, Some, None}
+use Rattle.phase_base.specs.Limits.{Limits}
+use Rattle.phase_accum.specs.Operations.{Operation}
+use Rattle.phase_accum.specs.Parcels.{StandsForSends}
+use Rattle.phase_accum.specs.Sums.{sum_operation}
+use Rattle.phase_accum.specs.Products.{product_operation}
+use Rattle.phase_accum.specs.Leasts.{least_operation}
+use Rattle.phase_accum.specs.Greatests.{greatest_operation}
+use Rattle.phase_accum.specs.Anys.{any_operation}
+use Rattle.phase_history.specs.Histories.{History}
+use Rattle.phase_core.specs.Cores.{StandsFor}
+use Rattle.phase_script.specs.declared.command.Operator.{Operator}
+use Rattle.phase_script.specs.declared.command.Operator.TheVariants.{Sum, Product, Least, Greatest, Any}
+use Rattle.phase_session.specs.declared.script_phaser.ScriptPhaser.{ScriptPhaser}
+use Rattle.phase_session.specs.declared.any_phaser.AnyPhaser.{AnyPhaser}
+use Rattle.phase_session.specs.declared.any_phaser.AnyPhaser.TheVariants as phaser
+use Rattle.phase_session.specs.declared.session.Session.{Session}
+use Rattle.phase_session.specs.HeldSends.{held_at}
+use Rattle.phase_session.specs.Scripts.{ScriptState, NoPhaser, OnePhaser, Held, held_by, state_after}
+
+-- the phaser has this history, and of each task's sends it keeps what they are
+pub record PhaserStandsFor {A : Type 0} (op : Operation A) (phaser : ScriptPhaser A)
+    (limits : Limits) (h : History) (held : Held) : Type 0 where
+  pub limits_are : phaser.core.limits ≡ limits
+  pub core : StandsFor op phaser.core h
+  pub holds : (task : ℕ) → StandsForSends op (held_at op phaser.held task) (held_by held task)
+
+-- the phaser is one under the operator, and has this history and these sends
+unfoldable pub AnyStandsFor : AnyPhaser → Operator → Limits → History → Held → Type 0
+AnyStandsFor (phaser.Sum p) Sum limits h held = PhaserStandsFor sum_operation p limits h held
+AnyStandsFor (phaser.Product p) Product limits h held =
+    PhaserStandsFor product_operation p limits h held
+AnyStandsFor (phaser.Least p) Least limits h held = PhaserStandsFor least_operation p limits h held
+AnyStandsFor (phaser.Greatest p) Greatest limits h held =
+    PhaserStandsFor greatest_operation p limits h held
+AnyStandsFor (phaser.Any p) Any limits h held = PhaserStandsFor any_operation p limits h held
+AnyStandsFor p operator limits h held = ⊥
+
+-- both have no phaser, or the phaser has the state's operator, history and sends
+unfoldable pub MaybeStandsFor : Option AnyPhaser → ScriptState → Type 0
+MaybeStandsFor None NoPhaser = Unit {0}
+MaybeStandsFor (Some p) (OnePhaser operator limits h held) = AnyStandsFor p operator limits h held
+MaybeStandsFor p state = ⊥
+
+-- the session has come as far as the state
+unfoldable pub Stands : Session → ScriptState → Type 0
+Stands session state = MaybeStandsFor session.phaser state
+
+-- the session has answered these lines of a script
+abbrev pub StandsForLines : Session → List (List ℕ) → Type 0
+StandsForLines session lines = Stands session (state_after lines)

@@ -1,0 +1,245 @@
+//! The phaser of a session, with the sends that its tasks hold.
+ghost use Rattle.std.specs.Prelude.{◌≡◌, ◌≢◌, List, [], ◌∷◌, IfOk, OnOk, OnErr, Some, None};
+ghost use Rattle.phase_base.specs.Limits.{Limits};
+ghost use Rattle.phase_accum.specs.Sends.{IsSend};
+ghost use Rattle.phase_history.specs.Histories.{History};
+ghost use Rattle.phase_history.specs.Refusals.{register_refusal, drop_refusal};
+ghost use Rattle.phase_history.specs.Replies.{refused_or, signal_reply, wait_reply};
+ghost use Rattle.phase_history.specs.Replies.{after_register, after_signal, after_wait, after_drop};
+ghost use Rattle.phase_script.specs.Commands.{IsCommand};
+ghost use Rattle.phase_session.specs.Scripts.{Held, held_by, send_reply, held_after_send};
+ghost use Rattle.phase_session.specs.Scripts.{register_reason, registered_reply, dropped_reply};
+ghost use Rattle.phase_session.specs.Scripts.{signal_reason, signalled_reply, held_after_signal};
+ghost use Rattle.phase_session.specs.Scripts.{wait_reason, value_reply, received_reply};
+ghost use Rattle.phase_session.specs.Scripts.{held_after_drop, IsOkReply};
+ghost use Rattle.phase_session.specs.Scripts.{phaser_reply, history_after, held_after};
+
+use crate::held_sends::HeldSends;
+use phase_accum::{Accumulate, Outcome, SendFault, Single};
+use phase_base::{Mode, Spec};
+use phase_core::{Got, PhaserCore, RegisterRefusal, SignalRefusal, WaitRefusal};
+use phase_script::{Command, Refusal, Reply};
+use std::alloc::{AllocError, Global};
+
+/// A phaser that a script made, and the sends that its tasks hold.
+#[derive(Drop)]
+pub struct ScriptPhaser<A: Accumulate> {
+    core: PhaserCore<A>,
+    held: HeldSends<A>,
+}
+
+// The reply that tells why a registration was refused. Want of memory is no reply.
+fn register_reason(refusal: RegisterRefusal) -> Result<Reply, AllocError>
+    ensures ok { IfOk result (λ reply. (refusal ≢ RegisterRefusal.OutOfMemory)
+        × (reply ≡ register_reason refusal)) }
+    ensures err { OnErr result (refusal ≡ RegisterRefusal.OutOfMemory) }
+{
+    let reason = match refusal {
+        RegisterRefusal::NoTask => Refusal::NoTask,
+        RegisterRefusal::NotAllowed => Refusal::NotAllowed,
+        RegisterRefusal::NotNew => Refusal::NotNew,
+        RegisterRefusal::TooManyTasks => Refusal::TooManyTasks,
+        RegisterRefusal::OutOfMemory => return Err(AllocError),
+    };
+    Ok(Reply::Refused(reason))
+}
+
+// The reply that tells why a signal was refused.
+fn signal_reason(refusal: SignalRefusal) -> Reply
+    ensures { result ≡ signal_reason refusal }
+{
+    let reason = match refusal {
+        SignalRefusal::NoTask => Refusal::NoTask,
+        SignalRefusal::NoSignal => Refusal::NoSignal,
+        SignalRefusal::NotSingle => Refusal::NotSingle,
+        SignalRefusal::SignalTwice => Refusal::SignalTwice,
+        SignalRefusal::Spent => Refusal::Spent,
+        SignalRefusal::Ahead => Refusal::Ahead,
+        SignalRefusal::SingleDiffers => Refusal::SingleDiffers,
+        SignalRefusal::PhaseFull => Refusal::PhaseFull,
+        // No plain signal is answered so.
+        SignalRefusal::BadBlock => return Reply::BadLine,
+    };
+    Reply::Refused(reason)
+}
+
+// The reply that tells why a wait was refused.
+fn wait_reason(refusal: WaitRefusal) -> Reply
+    ensures { result ≡ wait_reason refusal }
+{
+    let reason = match refusal {
+        WaitRefusal::NoTask => Refusal::NoTask,
+        WaitRefusal::NoWait => Refusal::NoWait,
+        WaitRefusal::SignalFirst => Refusal::SignalFirst,
+        WaitRefusal::NotYet => Refusal::NotYet,
+        // No plain wait is answered so.
+        WaitRefusal::BadBlock => return Reply::BadLine,
+    };
+    Reply::Refused(reason)
+}
+
+// The reply that tells the value of a phase.
+fn value_reply(phase: u64, outcome: Outcome) -> Reply
+    ensures { result ≡ value_reply phase outcome }
+{
+    match outcome {
+        Outcome::Value(value) => Reply::Value { phase, value },
+        Outcome::Empty => Reply::Empty { phase },
+        Outcome::TooBig => Reply::TooBig { phase },
+    }
+}
+
+impl<A: Accumulate> ScriptPhaser<A> {
+    ghost use Rattle.phase_history.specs.declared.event.Event.TheVariants.{Made};
+    ghost use Rattle.phase_session.specs.Session.{PhaserStandsFor};
+
+    /// Makes a phaser whose founder, task 0, holds no sends.
+    pub fn new(alloc: Global, spec: Spec) -> Result<ScriptPhaser<A>, AllocError>
+        ensures { IfOk result (λ phaser. PhaserStandsFor A.operation phaser spec (Made 0 ∷ []) []) }
+    {
+        Ok(ScriptPhaser {
+            core: PhaserCore::new(alloc, spec, 0)?,
+            held: HeldSends::new(alloc),
+        })
+    }
+
+    /// The reply to a command.
+    pub fn obey(&mut self, command: Command) -> Result<Reply, AllocError>
+        requires { IsCommand command }
+        ensures reply { IfOk result (λ reply. (limits : Limits) (h : History) (held : Held)
+            → PhaserStandsFor A.operation self.old limits h held
+            → reply ≡ phaser_reply A.operation.value limits h held command) }
+        ensures after { OnOk result ((limits : Limits) (h : History) (held : Held)
+            → PhaserStandsFor A.operation self.old limits h held
+            → PhaserStandsFor A.operation self.new limits
+            (history_after A.operation.value limits h held command)
+            (held_after limits h held command)) }
+        ensures err { OnErr result (self.new ≡ self.old) }
+        ensures memory { OnErr result ((limits : Limits) (h : History) (held : Held)
+            → PhaserStandsFor A.operation self.old limits h held
+            → IsOkReply (phaser_reply A.operation.value limits h held command)) }
+    {
+        match command {
+            Command::Make { .. } => Ok(Reply::Refused(Refusal::Made)),
+            Command::Add {
+                parent,
+                child,
+                mode,
+            } => self.add(parent, child, mode),
+            Command::Send { task, value } => self.send(task, value),
+            Command::Signal { task, single } => Ok(self.signal(task, single)),
+            Command::Wait { task } => Ok(self.wait(task)),
+            Command::Drop { task } => Ok(self.drop_task(task)),
+        }
+    }
+
+    // Registers the child.
+    fn add(&mut self, parent: u64, child: u64, mode: Mode) -> Result<Reply, AllocError>
+        ensures reply { IfOk result (λ reply. (limits : Limits) (h : History) (held : Held)
+            → PhaserStandsFor A.operation self.old limits h held
+            → reply ≡ registered_reply (register_refusal h parent child mode)) }
+        ensures after { OnOk result ((limits : Limits) (h : History) (held : Held)
+            → PhaserStandsFor A.operation self.old limits h held
+            → PhaserStandsFor A.operation self.new limits
+            (after_register (refused_or (register_refusal h parent child mode) child)
+            parent child mode h) held) }
+        ensures err { OnErr result (self.new ≡ self.old) }
+        ensures memory { OnErr result ((limits : Limits) (h : History) (held : Held)
+            → PhaserStandsFor A.operation self.old limits h held
+            → IsOkReply (registered_reply (register_refusal h parent child mode))) }
+    {
+        match self.core.register(parent, child, mode) {
+            Ok(()) => Ok(Reply::Accepted),
+            Err(refusal) => register_reason(refusal),
+        }
+    }
+
+    // Holds one more send for the task.
+    fn send(&mut self, task: u64, value: i64) -> Result<Reply, AllocError>
+        requires { IsSend value }
+        ensures reply { IfOk result (λ reply. (limits : Limits) (h : History) (held : Held)
+            → PhaserStandsFor A.operation self.old limits h held → reply ≡ send_reply h held task) }
+        ensures after { OnOk result ((limits : Limits) (h : History) (held : Held)
+            → PhaserStandsFor A.operation self.old limits h held
+            → PhaserStandsFor A.operation self.new limits h
+            (held_after_send (send_reply h held task) held task value)) }
+        ensures err { OnErr result (self.new ≡ self.old) }
+        ensures memory { OnErr result ((limits : Limits) (h : History) (held : Held)
+            → PhaserStandsFor A.operation self.old limits h held
+            → IsOkReply (send_reply h held task)) }
+    {
+        let Some(entry) = self.core.view(task) else {
+            return Ok(Reply::Refused(Refusal::NoTask));
+        };
+        if !entry.mode.signals() {
+            return Ok(Reply::Refused(Refusal::NoSignal));
+        }
+        let mut pending = self.held.of(task);
+        match pending.send(value) {
+            Ok(()) => {
+                self.held.put(task, pending)?;
+                Ok(Reply::Accepted)
+            }
+            Err(SendFault::TooManySends) => Ok(Reply::Refused(Refusal::TooManySends)),
+            Err(SendFault::BadValue) => unreachable!(),
+        }
+    }
+
+    // Makes the task's signal, with the sends that it holds.
+    fn signal(&mut self, task: u64, single: Option<Single>) -> Reply
+        ensures reply { (limits : Limits) (h : History) (held : Held)
+            → PhaserStandsFor A.operation self.old limits h held
+            → result ≡ signalled_reply (signal_reply limits h task (held_by held task ∷ []) single) }
+        ensures after { (limits : Limits) (h : History) (held : Held)
+            → PhaserStandsFor A.operation self.old limits h held
+            → PhaserStandsFor A.operation self.new limits
+            (after_signal (signal_reply limits h task (held_by held task ∷ []) single)
+            task (held_by held task ∷ []) single h)
+            (held_after_signal (signal_reply limits h task (held_by held task ∷ []) single)
+            held task) }
+    {
+        let pending = self.held.of(task);
+        match self.core.signal(task, pending, single) {
+            Ok(phase) => {
+                self.held.clear(task);
+                Reply::Signalled { phase }
+            }
+            Err(refused) => signal_reason(refused.0),
+        }
+    }
+
+    // Waits for the task's next phase.
+    fn wait(&mut self, task: u64) -> Reply
+        ensures reply { (limits : Limits) (h : History) (held : Held)
+            → PhaserStandsFor A.operation self.old limits h held
+            → result ≡ received_reply (wait_reply A.operation.value limits h task) }
+        ensures after { (limits : Limits) (h : History) (held : Held)
+            → PhaserStandsFor A.operation self.old limits h held
+            → PhaserStandsFor A.operation self.new limits
+            (after_wait (wait_reply A.operation.value limits h task) task h) held }
+    {
+        match self.core.wait(task) {
+            Ok(Got::Value { phase, outcome }) => value_reply(phase, outcome),
+            Ok(Got::Ended) => Reply::Ended,
+            Err(refusal) => wait_reason(refusal),
+        }
+    }
+
+    // Drops the task's registration, and gives up its sends.
+    fn drop_task(&mut self, task: u64) -> Reply
+        ensures reply { (limits : Limits) (h : History) (held : Held)
+            → PhaserStandsFor A.operation self.old limits h held
+            → result ≡ dropped_reply (drop_refusal h task) }
+        ensures after { (limits : Limits) (h : History) (held : Held)
+            → PhaserStandsFor A.operation self.old limits h held
+            → PhaserStandsFor A.operation self.new limits
+            (after_drop (refused_or (drop_refusal h task) task) task h)
+            (held_after_drop (drop_refusal h task) held task) }
+    {
+        let Ok(()) = self.core.drop_task(task) else {
+            return Reply::Refused(Refusal::NoTask);
+        };
+        self.held.clear(task);
+        Reply::Accepted
+    }
+}

@@ -1,0 +1,112 @@
+//! A session: the lines of a script, one at a time.
+ghost use Rattle.std.specs.Prelude.{◌≡◌, ℕ, List, [], ◌∷◌, ◌++◌, OnOk, OnErr, IfOk, None};
+ghost use Rattle.phase_script.specs.Commands.{command_of, IsCommand};
+ghost use Rattle.phase_session.specs.Scripts.{ScriptState, start, reply_to, after_line};
+ghost use Rattle.phase_session.specs.Scripts.{command_reply, after_command, state_after};
+ghost use Rattle.phase_session.specs.Scripts.{reply_by, IsOkReply};
+
+use crate::any_phaser::AnyPhaser;
+use phase_base::{Spec, SpecFault};
+use phase_script::{Command, Refusal, Reply, ReplyLine};
+use std::alloc::{AllocError, Global};
+
+/// A script that is answered line by line. It holds at most one phaser, and the sends that the
+/// phaser's tasks hold.
+///
+/// ```text
+/// make sum 2 100      ok
+/// send 0 5            ok
+/// signal 0            ok 0
+/// wait 0              value 0 5
+/// ```
+#[derive(Drop)]
+pub struct Session {
+    alloc: Global,
+    phaser: Option<AnyPhaser>,
+}
+
+#[tactic(auto, unfolding(crate::specs::Session::Stands, crate::specs::Session::MaybeStandsFor, crate::specs::Scripts::start, crate::specs::Scripts::reply_to, crate::specs::Scripts::after_line, crate::specs::Scripts::command_reply, crate::specs::Scripts::after_command))]
+impl Session {
+    ghost use Rattle.phase_session.specs.Session.{Stands, StandsForLines};
+
+    /// Makes a session before its first line. It takes no memory.
+    pub fn new(alloc: Global) -> Session
+        ensures { Stands result start }
+    {
+        Session {
+            alloc,
+            phaser: None,
+        }
+    }
+
+    /// Answers one line, given with neither its LF nor the CR before it.
+    ///
+    /// Want of memory comes only from a `make`, `add` or `send` that would be answered `ok`, and
+    /// leaves the session unchanged.
+    #[tactic(auto, using(crate::proofs::Scripted::state_after_push), unfolding(crate::specs::Session::Stands, crate::specs::Scripts::reply_to, crate::specs::Scripts::after_line))]
+    pub fn line(&mut self, line: &[u8]) -> Result<ReplyLine, AllocError>
+        ensures reply { IfOk result (λ reply. (state : ScriptState) → Stands self.old state
+            → reply ≡ reply_to state line.now) }
+        ensures after { OnOk result ((state : ScriptState) → Stands self.old state
+            → Stands self.new (after_line state line.now)) }
+        ensures err { OnErr result (self.new ≡ self.old) }
+        // Memory is wanted only where the line would be answered `ok` or `ok N`.
+        ensures memory { OnErr result ((state : ScriptState) → Stands self.old state
+            → IsOkReply (reply_by state (command_of line.now))) }
+        // The same over the lines so far: the session then stands for them with this one.
+        ensures script { IfOk result (λ reply. (lines : List (List ℕ))
+            → StandsForLines self.old lines → (reply ≡ reply_to (state_after lines) line.now)
+            × StandsForLines self.new (lines ++ line.now ∷ [])) }
+    {
+        let Some(command) = phase_script::read(line) else {
+            return Ok(phase_script::line(Reply::BadLine));
+        };
+        let reply = self.obey(command)?;
+        Ok(phase_script::line(reply))
+    }
+
+    // The reply to a command.
+    fn obey(&mut self, command: Command) -> Result<Reply, AllocError>
+        requires { IsCommand command }
+        ensures reply { IfOk result (λ reply. (state : ScriptState) → Stands self.old state
+            → reply ≡ command_reply state command) }
+        ensures after { OnOk result ((state : ScriptState) → Stands self.old state
+            → Stands self.new (after_command state command)) }
+        ensures err { OnErr result (self.new ≡ self.old) }
+        ensures memory { OnErr result ((state : ScriptState) → Stands self.old state
+            → IsOkReply (command_reply state command)) }
+    {
+        let Some(phaser) = &mut self.phaser else {
+            return self.begin(command);
+        };
+        phaser.obey(command)
+    }
+
+    // The reply to a command where no phaser was made yet.
+    fn begin(&mut self, command: Command) -> Result<Reply, AllocError>
+        requires { self.old.phaser ≡ None }
+        ensures reply { IfOk result (λ reply. (state : ScriptState) → Stands self.old state
+            → reply ≡ command_reply state command) }
+        ensures after { OnOk result ((state : ScriptState) → Stands self.old state
+            → Stands self.new (after_command state command)) }
+        ensures err { OnErr result (self.new ≡ self.old) }
+        ensures memory { OnErr result ((state : ScriptState) → Stands self.old state
+            → IsOkReply (command_reply state command)) }
+    {
+        let Command::Make {
+            operator,
+            bound,
+            phases,
+        } = command
+        else {
+            return Ok(Reply::Refused(Refusal::NoPhaser));
+        };
+        let spec = match Spec::new(bound, phases) {
+            Ok(spec) => spec,
+            Err(SpecFault::BadBound) => return Ok(Reply::Refused(Refusal::BadBound)),
+            Err(SpecFault::BadPhases) => return Ok(Reply::Refused(Refusal::BadPhases)),
+        };
+        self.phaser = Some(AnyPhaser::new(self.alloc, operator, spec)?);
+        Ok(Reply::Accepted)
+    }
+}

@@ -1,0 +1,433 @@
+//! Sessions at chosen scripts, line by line.
+use crate::Session;
+use std::process::Abort;
+use std::test::Fail;
+
+/// Lines, each beside its reply.
+type Rows<'a> = &'a [(&'a str, &'a str)];
+
+// Hands the lines to the session, each of which must have its reply.
+fn follow(rt: &impl Abort, session: &mut Session, name: &str, rows: Rows<'_>) -> Result<(), Fail> {
+    for (line, reply) in rows {
+        let got = session.line(line.as_bytes())?;
+        let text = got.bytes().strip_suffix(b"\n").unwrap_or(b"no line end");
+        assert_eq!(rt; text, reply.as_bytes(), "{name} at '{line}'");
+    }
+    Ok(())
+}
+
+#[test]
+fn sessions_answer_line_by_line(rt: HostRuntime) -> Result<(), Fail> {
+    let scripts: [(&str, Rows<'_>); 25] = [
+        (
+            "first_run",
+            &[
+                ("make sum 2 100", "ok"),
+                ("send 0 5", "ok"),
+                ("signal 0", "ok 0"),
+                ("wait 0", "value 0 5"),
+            ],
+        ),
+        (
+            "sum_of_no_send",
+            &[
+                ("make sum 2 100", "ok"),
+                ("signal 0", "ok 0"),
+                ("wait 0", "value 0 0"),
+            ],
+        ),
+        (
+            "product_of_no_send",
+            &[
+                ("make product 2 100", "ok"),
+                ("signal 0", "ok 0"),
+                ("wait 0", "value 0 1"),
+            ],
+        ),
+        (
+            "least_of_no_send",
+            &[
+                ("make least 2 100", "ok"),
+                ("signal 0", "ok 0"),
+                ("wait 0", "empty 0"),
+            ],
+        ),
+        (
+            "greatest_of_no_send",
+            &[
+                ("make greatest 2 100", "ok"),
+                ("signal 0", "ok 0"),
+                ("wait 0", "empty 0"),
+            ],
+        ),
+        (
+            "any_of_no_send",
+            &[
+                ("make any 2 100", "ok"),
+                ("signal 0", "ok 0"),
+                ("wait 0", "empty 0"),
+            ],
+        ),
+        (
+            "turns",
+            &[
+                ("make sum 2 100", "ok"),
+                ("wait 0", "no signal-first"),
+                ("signal 0", "ok 0"),
+                ("signal 0", "no signal-twice"),
+                ("wait 0", "value 0 0"),
+            ],
+        ),
+        (
+            "modes",
+            &[
+                ("make sum 2 100", "ok"),
+                ("add 0 1 wait", "ok"),
+                ("add 1 2 sig", "no not-allowed"),
+                ("add 0 1 sig", "no not-new"),
+                ("add 1 2 wait", "ok"),
+            ],
+        ),
+        (
+            "members_come_and_go",
+            &[
+                ("make sum 2 100", "ok"),
+                ("add 0 1 sig", "ok"),
+                ("add 0 2 wait", "ok"),
+                ("drop 0", "ok"),
+                ("send 1 7", "ok"),
+                ("signal 1", "ok 0"),
+                ("signal 1", "ok 1"),
+                ("signal 1", "no ahead"),
+                ("wait 2", "value 0 7"),
+                ("signal 1", "ok 2"),
+            ],
+        ),
+        (
+            "members_hold_back",
+            &[
+                ("make sum 2 100", "ok"),
+                ("add 0 1 sig", "ok"),
+                ("add 0 2 wait", "ok"),
+                ("add 0 3 wait", "ok"),
+                ("drop 0", "ok"),
+                ("signal 1", "ok 0"),
+                ("signal 1", "ok 1"),
+                ("add 1 4 sig", "ok"),
+                ("wait 2", "value 0 0"),
+                ("wait 2", "value 1 0"),
+                ("wait 2", "no not-yet"),
+                ("signal 1", "no ahead"),
+                ("wait 3", "value 0 0"),
+                ("send 1 5", "ok"),
+                ("signal 1", "ok 2"),
+                ("wait 2", "no not-yet"),
+                ("send 4 6", "ok"),
+                ("signal 4", "ok 2"),
+                ("wait 2", "value 2 11"),
+                ("wait 3", "value 1 0"),
+                ("wait 3", "value 2 11"),
+            ],
+        ),
+        (
+            "late_waiter",
+            &[
+                ("make sum 4 100", "ok"),
+                ("add 0 1 sig", "ok"),
+                ("add 0 2 wait", "ok"),
+                ("drop 0", "ok"),
+                ("send 1 10", "ok"),
+                ("signal 1", "ok 0"),
+                ("send 1 20", "ok"),
+                ("signal 1", "ok 1"),
+                ("send 1 30", "ok"),
+                ("signal 1", "ok 2"),
+                ("send 1 40", "ok"),
+                ("signal 1", "ok 3"),
+                ("wait 2", "value 0 10"),
+                ("wait 2", "value 1 20"),
+                ("add 2 3 wait", "ok"),
+                ("wait 3", "value 2 30"),
+                ("wait 2", "value 2 30"),
+                ("wait 3", "value 3 40"),
+                ("wait 3", "no not-yet"),
+            ],
+        ),
+        (
+            "last_signaller_drops",
+            &[
+                ("make sum 4 100", "ok"),
+                ("add 0 1 sig", "ok"),
+                ("add 0 2 sig", "ok"),
+                ("add 0 3 wait", "ok"),
+                ("drop 0", "ok"),
+                ("send 1 1", "ok"),
+                ("signal 1", "ok 0"),
+                ("send 2 10", "ok"),
+                ("signal 2", "ok 0"),
+                ("send 2 20", "ok"),
+                ("signal 2", "ok 1"),
+                ("send 2 30", "ok"),
+                ("signal 2", "ok 2"),
+                ("drop 2", "ok"),
+                ("wait 3", "value 0 11"),
+                ("wait 3", "no not-yet"),
+                ("drop 1", "ok"),
+                ("wait 3", "value 1 20"),
+                ("wait 3", "value 2 30"),
+                ("wait 3", "ended"),
+                ("wait 3", "ended"),
+            ],
+        ),
+        (
+            "drop_gives_up_sends",
+            &[
+                ("make sum 4 100", "ok"),
+                ("add 0 1 sig", "ok"),
+                ("send 1 9", "ok"),
+                ("drop 1", "ok"),
+                ("send 0 4", "ok"),
+                ("signal 0", "ok 0"),
+                ("wait 0", "value 0 4"),
+            ],
+        ),
+        (
+            "singles",
+            &[
+                ("make sum 2 100", "ok"),
+                ("add 0 1 wait", "ok"),
+                ("add 0 2 sigwait", "ok"),
+                ("send 0 5", "ok"),
+                ("signal 0 halve", "ok 0"),
+                ("signal 2", "no single-differs"),
+                ("signal 2 halve", "no not-single"),
+                ("drop 2", "ok"),
+                ("wait 0", "value 0 2"),
+                ("wait 1", "value 0 2"),
+            ],
+        ),
+        (
+            "limits",
+            &[
+                ("make sum 4 2", "ok"),
+                ("signal 0", "ok 0"),
+                ("wait 0", "value 0 0"),
+                ("signal 0", "ok 1"),
+                ("wait 0", "value 1 0"),
+                ("signal 0", "no spent"),
+            ],
+        ),
+        (
+            "singles_in_turn",
+            &[
+                ("make least 2 100", "ok"),
+                ("signal 0 abs", "ok 0"),
+                ("wait 0", "empty 0"),
+                ("send 0 -5", "ok"),
+                ("signal 0 halve", "ok 1"),
+                ("wait 0", "value 1 -3"),
+                ("send 0 15", "ok"),
+                ("signal 0 clamp 0 10", "ok 2"),
+                ("wait 0", "value 2 10"),
+                ("signal 0 clamp 10 0", "bad line"),
+            ],
+        ),
+        (
+            "any_takes_first",
+            &[
+                ("make any 2 100", "ok"),
+                ("add 0 1 sig", "ok"),
+                ("send 0 4", "ok"),
+                ("send 1 9", "ok"),
+                ("signal 1", "ok 0"),
+                ("signal 0", "ok 0"),
+                ("wait 0", "value 0 9"),
+            ],
+        ),
+        (
+            "any_is_not_the_greatest",
+            &[
+                ("make any 2 100", "ok"),
+                ("add 0 1 sig", "ok"),
+                ("send 0 9", "ok"),
+                ("send 1 4", "ok"),
+                ("signal 1", "ok 0"),
+                ("signal 0", "ok 0"),
+                ("wait 0", "value 0 4"),
+            ],
+        ),
+        (
+            "least_takes_least",
+            &[
+                ("make least 2 100", "ok"),
+                ("add 0 1 sig", "ok"),
+                ("send 0 4", "ok"),
+                ("send 1 9", "ok"),
+                ("signal 1", "ok 0"),
+                ("signal 0", "ok 0"),
+                ("wait 0", "value 0 4"),
+            ],
+        ),
+        (
+            "greatest_takes_greatest",
+            &[
+                ("make greatest 2 100", "ok"),
+                ("add 0 1 sig", "ok"),
+                ("send 0 9", "ok"),
+                ("send 1 4", "ok"),
+                ("signal 1", "ok 0"),
+                ("signal 0", "ok 0"),
+                ("wait 0", "value 0 9"),
+            ],
+        ),
+        (
+            "refusals",
+            &[
+                ("send 0 1", "no phaser"),
+                ("make sum 0 5", "no bad-bound"),
+                ("make sum 65537 5", "no bad-bound"),
+                ("make sum 1 0", "no bad-phases"),
+                ("make sum 1 4611686018427387905", "no bad-phases"),
+                ("make sum 65536 4611686018427387904", "ok"),
+                ("make sum 1 1", "no made"),
+                ("signal 5", "no no-task"),
+                ("add 5 6 sig", "no no-task"),
+                ("add 0 1 wait", "ok"),
+                ("send 1 1", "no no-signal"),
+                ("signal 1", "no no-signal"),
+                ("add 0 2 sig", "ok"),
+                ("wait 2", "no no-wait"),
+                ("drop 5", "no no-task"),
+            ],
+        ),
+        (
+            "without_waiters",
+            &[
+                ("make sum 1 100", "ok"),
+                ("add 0 1 sig", "ok"),
+                ("signal 0 neg", "ok 0"),
+                ("signal 1", "no single-differs"),
+                ("drop 0", "ok"),
+                ("signal 1", "ok 0"),
+                ("signal 1", "ok 1"),
+                ("signal 1", "ok 2"),
+            ],
+        ),
+        (
+            "line_grammar",
+            &[
+                ("make sum 2 100", "ok"),
+                (" wait 0", "bad line"),
+                ("wait  0", "bad line"),
+                ("wait 05", "bad line"),
+                ("send 0 -0", "bad line"),
+                ("Wait 0", "bad line"),
+                ("", "bad line"),
+                ("signal 0", "ok 0"),
+            ],
+        ),
+        (
+            "child_between_signal_and_wait",
+            &[
+                ("make sum 2 100", "ok"),
+                ("signal 0", "ok 0"),
+                ("add 0 1 sigwait", "ok"),
+                ("signal 1", "no signal-twice"),
+                ("wait 1", "value 0 0"),
+                ("wait 0", "value 0 0"),
+            ],
+        ),
+        (
+            "product_range",
+            &[
+                ("make product 2 100", "ok"),
+                ("send 0 4611686018427387904", "ok"),
+                ("send 0 4", "ok"),
+                ("send 0 0", "ok"),
+                ("signal 0", "ok 0"),
+                ("wait 0", "value 0 0"),
+                ("send 0 4611686018427387904", "ok"),
+                ("send 0 4", "ok"),
+                ("signal 0", "ok 1"),
+                ("wait 0", "toobig 1"),
+                ("send 0 -7", "ok"),
+                ("send 0 1317624576693539401", "ok"),
+                ("signal 0", "ok 2"),
+                ("wait 0", "value 2 -9223372036854775807"),
+            ],
+        ),
+    ];
+    for (name, rows) in scripts {
+        follow(&rt, &mut Session::new(rt.alloc()), name, rows)?;
+    }
+    Ok(())
+}
+
+// In each order the three sends add up to 2^63 - 1; then one more than that is too big.
+#[test]
+fn sum_range(rt: HostRuntime) -> Result<(), Fail> {
+    let most = "send 0 9223372036854775807";
+    let least = "send 0 -9223372036854775807";
+    for [first, second, third] in [
+        [most, most, least],
+        [most, least, most],
+        [least, most, most],
+    ] {
+        let rows: Rows<'_> = &[
+            ("make sum 2 100", "ok"),
+            (first, "ok"),
+            (second, "ok"),
+            (third, "ok"),
+            ("signal 0", "ok 0"),
+            ("wait 0", "value 0 9223372036854775807"),
+            (most, "ok"),
+            ("send 0 1", "ok"),
+            ("signal 0", "ok 1"),
+            ("wait 0", "toobig 1"),
+            ("send 0 -9223372036854775808", "bad line"),
+        ];
+        follow(&rt, &mut Session::new(rt.alloc()), "sum_range", rows)?;
+    }
+    Ok(())
+}
+
+#[test]
+fn full_sends_and_a_full_phase(rt: HostRuntime) -> Result<(), Fail> {
+    let mut session = Session::new(rt.alloc());
+    let rows: Rows<'_> = &[("make sum 4 100", "ok"), ("add 0 1 sig", "ok")];
+    follow(&rt, &mut session, "made", rows)?;
+    for _ in 0..65_536u32 {
+        follow(&rt, &mut session, "filling", &[("send 0 1", "ok")])?;
+    }
+    let rows: Rows<'_> = &[
+        ("send 0 1", "no too-many-sends"),
+        ("signal 0", "ok 0"),
+        ("send 1 1", "ok"),
+        ("signal 1", "no phase-full"),
+        ("drop 1", "ok"),
+        ("wait 0", "value 0 65536"),
+    ];
+    follow(&rt, &mut session, "full", rows)
+}
+
+// Registers the children from `first` up to, but without, `end`.
+fn add_children(rt: &impl Abort, session: &mut Session, first: u32, end: u32) -> Result<(), Fail> {
+    for child in first..end {
+        let line = format!(in session.alloc; "add 0 {child} sig")?;
+        follow(rt, session, "filling", &[(line.as_str(), "ok")])?;
+    }
+    Ok(())
+}
+
+#[test]
+fn full_phaser(rt: HostRuntime) -> Result<(), Fail> {
+    let mut session = Session::new(rt.alloc());
+    follow(&rt, &mut session, "made", &[("make sum 2 100", "ok")])?;
+    add_children(&rt, &mut session, 1, 1024)?;
+    let rows: Rows<'_> = &[
+        ("add 0 1024 sig", "no too-many-tasks"),
+        ("drop 7", "ok"),
+        ("add 0 1024 sig", "ok"),
+    ];
+    follow(&rt, &mut session, "full", rows)
+}
