@@ -19,9 +19,12 @@ const ABOUT_REPLAY: &str = "Replays the script, as `phase` with no command does"
 const EXAMPLE: &str = "\
 Example, with the reply to each line and what it means:
   make sum 2 100    ok           a phaser that adds up, for phases 0 to 99
-  send 0 5          ok           task 0, which founded it, sends 5
-  signal 0          ok 0         task 0 has done its part of phase 0
-  wait 0            value 0 5    phase 0 is complete, and its value is 5
+  add 0 1 sig       ok           task 0, which founded it, registers task 1
+  send 0 3          ok           task 0 sends 3
+  send 1 4          ok           task 1 sends 4
+  signal 1          ok 0         task 1 has done its part of phase 0
+  signal 0          ok 0         and so has task 0
+  wait 0            value 0 7    phase 0 is complete, and its value is 7
 A line that is no call is answered by `bad line`.
 
 Exit status: 0 done; 2 the words were not understood; 5 a read or a write
@@ -31,7 +34,9 @@ failed, or memory ran out.";
 fn command<'a>(alloc: Global) -> Result<Command<'a>, AllocError>
     ensures { IfOk result (λ c. app_of c ≡ phase_app) }
 {
-    let replay = Command::new(alloc, "replay").about(ABOUT_REPLAY);
+    let replay = Command::new(alloc, "replay")
+        .about(ABOUT_REPLAY)
+        .after_help(EXAMPLE);
     Command::new(alloc, "phase")
         .no_binary_name(true)
         .about(ABOUT)

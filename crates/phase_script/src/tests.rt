@@ -1,5 +1,8 @@
 //! The grammar and the reply lines at chosen texts, which no clause names.
 use crate::{Command, Operator, Refusal, Reply, line, read};
+use phase_accum::{Range, Single};
+use phase_base::Mode;
+use std::test::Fail;
 
 #[test]
 fn loose_lines_are_not_read(rt: HostRuntime) {
@@ -13,9 +16,15 @@ fn loose_lines_are_not_read(rt: HostRuntime) {
         "send 0 -0",
         "send 0 -9223372036854775808",
         "send 0 9223372036854775808",
-        "signal 0 neg",
-        "add 0 1 sig",
-        "make product 2 100",
+        "signal 0 ",
+        "signal 0 negs",
+        "signal 0 clamp 10 0",
+        "signal 0 clamp 0 9223372036854775808",
+        "signal 0 clamp 0  5",
+        "add 0 1 Sig",
+        "add 0 1",
+        "drop 0 0",
+        "make mean 2 100",
     ] {
         assert_eq!(rt; read(text.as_bytes()), None, "at '{text}'");
     }
@@ -47,7 +56,37 @@ fn commands_are_read(rt: HostRuntime) {
                 value: -9223372036854775807,
             },
         ),
-        ("signal 0", Command::Signal { task: 0 }),
+        (
+            "signal 0",
+            Command::Signal {
+                task: 0,
+                single: None,
+            },
+        ),
+        (
+            "signal 7 halve",
+            Command::Signal {
+                task: 7,
+                single: Some(Single::Halve),
+            },
+        ),
+        (
+            "make greatest 1 2",
+            Command::Make {
+                operator: Operator::Greatest,
+                bound: 1,
+                phases: 2,
+            },
+        ),
+        (
+            "add 0 1 sigwait",
+            Command::Add {
+                parent: 0,
+                child: 1,
+                mode: Mode::SigWait,
+            },
+        ),
+        ("drop 3", Command::Drop { task: 3 }),
         (
             "wait 9223372036854775807",
             Command::Wait {
@@ -57,6 +96,17 @@ fn commands_are_read(rt: HostRuntime) {
     ] {
         assert_eq!(rt; read(text.as_bytes()), Some(command), "at '{text}'");
     }
+}
+
+#[test]
+fn a_clamp_is_read(rt: HostRuntime) -> Result<(), Fail> {
+    let range = Range::new(-5, 10)?;
+    let command = Command::Signal {
+        task: 0,
+        single: Some(Single::Clamp(range)),
+    };
+    assert_eq!(rt; read(b"signal 0 clamp -5 10"), Some(command));
+    Ok(())
 }
 
 #[test]
