@@ -3,6 +3,8 @@
 //! The first calls are `PhaserCore::new`, `PhaserCore::signal` and `PhaserCore::wait`.
 #![tactic(auto)]
 
+#[cfg(test)]
+mod member_tests;
 mod members;
 mod phaser_core;
 mod refusal_rows;
