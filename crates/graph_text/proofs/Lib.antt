@@ -1,0 +1,6 @@
+mod Answered
+mod Digits
+mod Fronts
+mod Kept
+mod Spelled
+mod Taken
