@@ -1,2 +1,5 @@
-mod Readers
+mod Alls
 mod Examples
+mod Known
+mod Readers
+mod Single

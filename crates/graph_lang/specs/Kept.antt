@@ -6,6 +6,7 @@ use Rattle.graph_lang.specs.Names.{names_of}
 use Rattle.graph_lang.specs.TaskLines.{IsGraph}
 use Rattle.graph_lang.specs.declared.line.TaskLine.{TaskLine}
 use Rattle.graph_lang.specs.declared.graph.Graph.TheInside.{Inside}
+use Rattle.graph_lang.specs.declared.draft.Draft.TheInside.{Inside as DraftInside}
 
 -- the line of a task, with its lists as lists
 abbrev pub task_of : TaskLine → Task
@@ -36,3 +37,12 @@ graph_view graph = record {
 -- what holds of the fields of every graph
 abbrev pub IsKept : Inside → Type 0
 IsKept graph = IsGraph (graph_view graph)
+
+-- the lines that were read so far
+abbrev pub draft_view : DraftInside → Graph
+draft_view draft = record {
+  names = names_of draft.names.entries;
+  phasers = draft.phasers.items;
+  tasks = map task_of draft.tasks.items;
+  files = files_of draft.files.items;
+}

@@ -2,5 +2,5 @@ mod Answered
 mod Digits
 mod Fronts
 mod Kept
-mod Spelled
+pub mod Spelled
 mod Taken

@@ -3,12 +3,13 @@ use Rattle.std.proofs.Common.{◌≡◌, ◌==◌, Bool, true, false, List, [], 
 use Rattle.std.specs.List.{list_all}
 use Rattle.std.specs.Str.{bytes_eq}
 use Rattle.graph_text.specs.Texts.{Word}
+use Rattle.std.proofs.lemmas.Option.{same_Some}
 use Rattle.std.proofs.lemmas.Slice.Eq.{bytes_eq-Decides}
 use Rattle.graph_text.proofs.Digits.{both}
 use Rattle.graph_text.specs.Words.{is_name, is_function}
 use Rattle.graph_text.specs.Numbers.{is_nat, is_int}
 use Rattle.graph_text.specs.Decls.{Decl, phaser, task, FunctionWords, plain, clamp, ByWords, EndWords, BodyWords, source, fir, split, join, peer, sink}
-use Rattle.graph_text.specs.Decls.{spelling, function_words, single_words, by_words, until_words, end_words, kind_word, body_words, IsFunction, IsBody, AreEnds, AreSome, IsWellFormed, may_have_parent}
+use Rattle.graph_text.specs.Decls.{spelling, function_words, single_words, by_words, until_words, end_words, kind_word, body_words, IsFunction, IsBody, AreEnds, AreSome, IsWellFormed, may_have_parent, Spells}
 use Rattle.graph_text.specs.Reading.{word_at, after, begins, front, rest, some_at, function_at, single_at, by_at, until_at, ends_at, source_at, fir_at, split_at, join_at, peer_at, sink_at, body_at, phaser_at, task_at, line_at}
 
 -- ---- words
@@ -156,3 +157,11 @@ line_again (task name body ends) is =
       body_again body (end_words ends) is.1 ints names,
       ends_again (may_have_parent body) ends is.2,
     ) refl
+
+-- words declare one thing at most
+pub one_declaration : (words : List Word) (d e : Decl) → Spells words d → Spells words e → d ≡ e
+one_declaration words d e first second =
+    same_Some d e
+    (sym (line_again d first.well_formed)
+    ∙ ap line_at (sym first.spelled ∙ second.spelled)
+    ∙ line_again e second.well_formed)
