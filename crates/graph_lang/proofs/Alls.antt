@@ -1,5 +1,5 @@
 -- Tests of each word of a line, and of each number of a list, one after another.
-use Rattle.std.proofs.Common.{ℕ, suc, ◌≡◌, ◌<◌, ◌≤◌, ◌+◌, ◌&&◌, ◌||◌, List, [], ◌∷◌, ◌++◌, Bool, true, false, Bor, length, map, take, drop, get_or, refl, ap, sym, ◌∙◌, arith, drop-cons}
+use Rattle.std.proofs.Common.{ℕ, suc, ◌≡◌, ◌<◌, ◌≤◌, ◌+◌, ◌&&◌, ◌||◌, List, [], ◌∷◌, ◌++◌, Bool, true, false, Bor, length, map, take, drop, get_or, refl, ap, sym, ◌∙◌, arith, drop-cons, is_some, if◌then◌else◌, Some, None}
 use Rattle.std.specs.List.{list_all, list_any}
 use Rattle.std.proofs.Math.Seq.{take-length}
 use Rattle.std.proofs.lemmas.List.{drop_all, take_more, map-append}
@@ -9,6 +9,10 @@ use Rattle.graph_text.specs.Plain.{plain}
 pub both : (a b : Bool) → (a && b) ≡ true → (a ≡ true) × (b ≡ true)
 both true b h = (refl, h)
 both false b h = absurd (cc)
+
+pub is_some-if : {A : Type 0} (b : Bool) (x : A) → is_some (if b then Some x else None) ≡ b
+is_some-if true x = refl
+is_some-if false x = refl
 
 -- the items from i on are item i and those after it
 pub cut : {A : Type 0} (xs : List A) (i : ℕ) (d : A) → i < length xs

@@ -1,4 +1,5 @@
 mod Alls
+mod Ends
 mod Examples
 mod Known
 mod Readers

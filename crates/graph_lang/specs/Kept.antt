@@ -1,8 +1,7 @@
 -- What the fields of a graph stand for.
-use Rattle.std.specs.Prelude.{ℕ, List, map, String, string_bytes}
-use Rattle.std.specs.Global.{Global}
+use Rattle.std.specs.Prelude.{map}
 use Rattle.graph_lang.specs.Graphs.{Task, Graph}
-use Rattle.graph_lang.specs.Names.{names_of}
+use Rattle.graph_lang.specs.Names.{names_of, files_of}
 use Rattle.graph_lang.specs.TaskLines.{IsGraph}
 use Rattle.graph_lang.specs.declared.line.TaskLine.{TaskLine}
 use Rattle.graph_lang.specs.declared.graph.Graph.TheInside.{Inside}
@@ -21,10 +20,6 @@ task_of line = record {
   shift = line.shift;
   mul = line.mul;
 }
-
--- files as bytes
-abbrev pub files_of : List (String Global) → List (List ℕ)
-files_of files = map string_bytes files
 
 abbrev pub graph_view : Inside → Graph
 graph_view graph = record {

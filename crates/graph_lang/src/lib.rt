@@ -2,6 +2,8 @@
 //! each line. The first calls are `Graph::tasks` and `Graph::task`.
 #![tactic(auto)]
 
+mod add;
+mod declare;
 mod draft;
 mod fault;
 mod graph;
@@ -11,6 +13,7 @@ mod line;
 mod parents;
 mod phasers;
 mod place;
+mod read;
 mod within;
 
 pub use fault::{FaultKind, GraphFault, GraphRefusal};
