@@ -4,3 +4,4 @@ mod Examples
 mod Known
 mod Readers
 mod Single
+mod Sound

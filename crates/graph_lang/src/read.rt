@@ -39,4 +39,27 @@ impl Draft {
     {
         !(is_body_within(words.body) && are_ends_within(words.ends) && self.tasks.len() < TASKS_MAX)
     }
+
+    /// Declares a phaser as line `number`.
+    fn declare_phaser(
+        &mut self,
+        alloc: Global,
+        number: u64,
+        words: PhaserWords<'_>,
+    ) -> Result<(), GraphRefusal>
+        requires { IsWellFormed (decl_of (line.Phaser words)) }
+        ensures ok { OnOk result
+            (TellsDecl number self.old (decl_of (line.Phaser words.entry)) (Ok self.new)) }
+        ensures fault { IfErr result (λ e.
+            TellsDecl number self.old (decl_of (line.Phaser words.entry)) (Err e)) }
+    {
+        if let Some(kind) = self.phaser_kind(words) {
+            return Err(fault(number, kind));
+        }
+        let operation = operation_of(words.operation);
+        let bound = bound_in(words.bound);
+        let single = single_in(words.single);
+        self.add_phaser(alloc, words.name, operation, bound, single)?;
+        Ok(())
+    }
 }
