@@ -1,7 +1,5 @@
 -- Lines have one reading.
-use Rattle.std.proofs.Common.{ℕ, ◌≡◌, ◌+◌, List, [], ◌∷◌, refl, ap, sym, ◌∙◌, Result, Ok, Err, true, false, ◌⊎◌, inl, inr, subst}
-use Rattle.graph_text.specs.Texts.{is_ignored}
-use Rattle.graph_text.specs.Decls.{Decl, spelling, Declares}
+use Rattle.std.proofs.Common.{ℕ, ◌≡◌, ◌+◌, List, [], ◌∷◌, ap, sym, ◌∙◌, Result, Ok, Err, true, false, inl, inr, subst}
 use Rattle.graph_lang.specs.Graphs.{Graph}
 use Rattle.graph_lang.specs.Faults.{kind_of}
 use Rattle.graph_lang.specs.Reads.{Steps, Reads, told}

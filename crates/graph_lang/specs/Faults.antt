@@ -1,5 +1,5 @@
 -- The kinds of fault of a line that is in the grammar, and their order.
-use Rattle.std.specs.Prelude.{ℕ, ◌<◌, ◌≤◌, ◌==◌, Bool, true, false, ◌&&◌, ◌||◌, not, nat_lt, nat_le, List, [], ◌∷◌, ◌++◌, length, map, get_or, Option, Some, None, is_some, if◌then◌else◌, ℤ, unsigned_abs}
+use Rattle.std.specs.Prelude.{ℕ, ◌==◌, Bool, true, false, ◌&&◌, ◌||◌, not, nat_lt, nat_le, List, [], ◌∷◌, ◌++◌, length, get_or, Option, Some, None, is_some, if◌then◌else◌, unsigned_abs}
 use Rattle.std.specs.List.{list_all, list_any}
 use Rattle.std.specs.Option.{option_map_or}
 use Rattle.std.specs.Int.Signed.{le_z}
@@ -17,7 +17,6 @@ use Rattle.graph_lang.specs.declared.limits.TheConstants.{PHASERS_MAX, TASKS_MAX
 use Rattle.graph_lang.specs.declared.line.Kind.{Kind}
 use Rattle.graph_lang.specs.declared.line.Kind.TheVariants as kind
 use Rattle.graph_lang.specs.declared.line.Parent.{Parent}
-use Rattle.graph_lang.specs.declared.line.PhaserLine.{PhaserLine}
 use Rattle.graph_lang.specs.declared.fault.FaultKind.{FaultKind}
 use Rattle.graph_lang.specs.declared.fault.FaultKind.TheVariants.{Limit, Twice, Unknown, OutBeforeIn, BadParent, NotHeld}
 use Rattle.stream_filters.specs.declared.fir.TheConstants.{TAPS_MAX, TAP_MAX, SHIFT_MAX}

@@ -1,5 +1,5 @@
 -- What the words of a line stand for, after the lines above it.
-use Rattle.std.specs.Prelude.{ℕ, Bool, true, false, ◌&&◌, List, [], ◌∷◌, ◌++◌, length, map, Option, Some, None, option_map, if◌then◌else◌, codes, ℤ, pos}
+use Rattle.std.specs.Prelude.{ℕ, List, [], ◌∷◌, map, Option, Some, None, option_map, if◌then◌else◌, codes, ℤ, pos}
 use Rattle.std.specs.Str.{bytes_eq}
 use Rattle.phase_accum.specs.declared.single.Single.{Single}
 use Rattle.phase_accum.specs.declared.single.Single.TheVariants.{Neg, Abs, Halve, Clamp}
@@ -7,7 +7,7 @@ use Rattle.graph_text.specs.Texts.{Word}
 use Rattle.graph_text.specs.Numbers.{nat_value, int_value}
 use Rattle.graph_text.specs.Decls.{FunctionWords, plain, clamp, ByWords, EndWords}
 use Rattle.graph_text.specs.Decls.{BodyWords, source, fir, split, join, peer, sink}
-use Rattle.graph_lang.specs.Graphs.{Graph, Task, Named}
+use Rattle.graph_lang.specs.Graphs.{Task, Named}
 use Rattle.graph_lang.specs.declared.line.Op.{Op}
 use Rattle.graph_lang.specs.declared.line.Op.TheVariants.{Sum, Product, Least, Greatest, Any}
 use Rattle.graph_lang.specs.declared.line.Kind.{Kind}

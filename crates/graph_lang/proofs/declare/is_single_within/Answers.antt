@@ -1,4 +1,4 @@
-use Rattle.std.proofs.Common.{◌≡◌, ◌∙◌, ap, is_some}
+use Rattle.std.proofs.Common.{◌∙◌, ap, is_some}
 use Rattle.graph_text.specs.Lines.{function_of}
 use Rattle.graph_lang.specs.LineTasks.{single_of}
 use Rattle.graph_lang.specs.Faults.{is_function_within}

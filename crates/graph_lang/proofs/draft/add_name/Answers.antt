@@ -1,4 +1,3 @@
-use Rattle.std.proofs.Common.{string_bytes}
 use Rattle.graph_lang.proofs.Known.{added}
 use Rattle.graph_lang.proofs.draft.add_name.Goals as goal
 

@@ -1,4 +1,4 @@
-use Rattle.std.proofs.Common.{◌≡◌, ◌∙◌}
+use Rattle.std.proofs.Common.{◌∙◌}
 use Rattle.graph_lang.proofs.Known.{lookup_is}
 use Rattle.graph_lang.proofs.draft.place_of.Goals as goal
 

@@ -1,4 +1,4 @@
-use Rattle.std.proofs.Common.{rules, ◌≡◌, ◌∙◌, sym, ap, arith, refl, Bor, []}
+use Rattle.std.proofs.Common.{◌∙◌, sym, arith, Bor, []}
 use Rattle.std.specs.Str.{bytes_eq}
 use Rattle.graph_text.specs.Texts.{Word}
 use Rattle.graph_lang.proofs.Alls.{words-found, words-missed, words-none}

@@ -1,10 +1,10 @@
-use Rattle.std.proofs.Common.{rules, ◌≡◌, ◌∙◌, sym, ap, arith, refl, Bor, [], true, false, drop, get_or, ◌+◌, ◌++◌, ◌∷◌, take, length}
+use Rattle.std.proofs.Common.{◌∙◌, sym, ap, Bor, [], ◌++◌, ◌∷◌, take}
 use Rattle.graph_text.specs.Texts.{Word}
 use Rattle.graph_text.specs.Words.{is_name}
 use Rattle.graph_lang.specs.Names.{names_of}
 use Rattle.graph_lang.specs.LineTasks.{or_zero, phaser_named, numbers_of}
 use Rattle.graph_text.specs.Plain.{plain}
-use Rattle.graph_lang.proofs.Alls.{words-first, words-more, words-all}
+use Rattle.graph_lang.proofs.Alls.{words-first, words-more}
 use Rattle.graph_lang.proofs.phasers.numbers_of.Goals as goal
 
 abbrev nowhere : Bor Word

@@ -1,4 +1,4 @@
-use Rattle.std.proofs.Common.{◌≡◌, ◌∙◌, sym, arith, refl, Bor, [], true, drop, get_or, ◌+◌}
+use Rattle.std.proofs.Common.{◌∙◌, sym, arith, refl, Bor, [], drop, get_or, ◌+◌}
 use Rattle.std.specs.List.{list_all}
 use Rattle.graph_text.specs.Texts.{Word}
 use Rattle.graph_text.specs.Plain.{plain}

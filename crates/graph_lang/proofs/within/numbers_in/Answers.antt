@@ -1,9 +1,9 @@
-use Rattle.std.proofs.Common.{rules, ◌≡◌, ◌∙◌, sym, ap, arith, refl, Bor, [], true, false, drop, get_or, ◌+◌, ◌++◌, ◌∷◌, take, map, FitsSigned, w64, to_z-of_z}
+use Rattle.std.proofs.Common.{rules, ◌∙◌, sym, ap, Bor, [], ◌++◌, ◌∷◌, take, map, FitsSigned, w64, to_z-of_z}
 use Rattle.graph_text.specs.Texts.{Word}
 use Rattle.graph_text.specs.Plain.{plain}
 use Rattle.graph_text.specs.Numbers.{is_int, int_value}
 use Rattle.graph_lang.specs.Faults.{is_tap_within}
-use Rattle.graph_lang.proofs.Alls.{words-first, words-more, words-all}
+use Rattle.graph_lang.proofs.Alls.{words-first, words-more}
 use Rattle.graph_lang.proofs.within.numbers_in.Goals as goal
 
 abbrev nowhere : Bor Word

@@ -1,4 +1,4 @@
-use Rattle.std.proofs.Common.{◌≡◌, ◌∙◌, sym}
+use Rattle.std.proofs.Common.{◌∙◌, sym}
 use Rattle.graph_text.specs.Lines.{single_of}
 use Rattle.graph_lang.proofs.Sound.{phaser-within, phaser-new}
 use Rattle.graph_lang.proofs.draft.Draft.declare_phaser.Goals as goal

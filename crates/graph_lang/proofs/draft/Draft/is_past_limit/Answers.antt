@@ -1,6 +1,6 @@
 use Rattle.graph_text.specs.Decls.{may_have_parent}
 use Rattle.graph_text.specs.Lines.{body_of, ends_of}
-use Rattle.graph_lang.proofs.Ends.{ends-by, ends-until, phasers-names}
+use Rattle.graph_lang.proofs.Ends.{ends-by, ends-until}
 use Rattle.graph_lang.proofs.draft.Draft.is_past_limit.Goals as goal
 
 -- the ends are those of a line that may name a parent, or of one that may not
