@@ -43,7 +43,8 @@ is_number_of_ends n = nat_le 2 n && nat_le n ENDS_MAX
 abbrev pub is_body_within : BodyWords → Bool
 is_body_within (source file output) = true
 is_body_within (fir input output shift taps) =
-    nat_le (nat_value shift) SHIFT_MAX && nat_le (length taps) TAPS_MAX && list_all is_tap_within taps
+    nat_le (nat_value shift) SHIFT_MAX && nat_le (length taps) TAPS_MAX
+    && list_all is_tap_within taps
 is_body_within (split input outputs) = is_number_of_ends (length outputs)
 is_body_within (join inputs output) = is_number_of_ends (length inputs)
 is_body_within (peer input exchange output factor) =

@@ -45,7 +45,8 @@ TellsDecl n before d (Err refusal.OutOfMemory) = Unit {0}
 abbrev pub Steps : ℕ → Graph → List ℕ → Result Graph GraphFault → Type 0
 Steps n before line outcome =
     ((is_ignored line ≡ true) × (outcome ≡ Ok before))
-    ⊎ ((is_ignored line ≡ false) × ((d : Decl) → ¬ (Declares line d)) × (outcome ≡ fault_at n Syntax))
+    ⊎ ((is_ignored line ≡ false) × ((d : Decl) → ¬ (Declares line d))
+    × (outcome ≡ fault_at n Syntax))
     ⊎ ((is_ignored line ≡ false)
     × (d : Decl) × Declares line d × (outcome ≡ told n before d (kind_of before d)))
 
