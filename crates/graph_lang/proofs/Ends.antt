@@ -1,0 +1,45 @@
+-- What well-formed words say of a task's line.
+use Rattle.std.proofs.Common.{◌≡◌, ◌&&◌, Bool, true, false, Some, None, Option, IfSome, IsTrue, refl, ap, ◌∙◌}
+use Rattle.std.specs.List.{list_all}
+use Rattle.std.proofs.lemmas.List.Folds.{list_all-append}
+use Rattle.graph_text.specs.Words.{is_name}
+use Rattle.graph_text.specs.Numbers.{is_nat}
+use Rattle.graph_text.specs.Decls.{EndWords, ByWords, BodyWords, source, fir, split, join, peer, sink, IsBody, IsBy, AreEnds}
+use Rattle.graph_lang.specs.LineTasks.{inputs_of, outputs_of}
+use Rattle.graph_lang.specs.Faults.{phasers_of}
+
+no_by : (by : Option ByWords) → by ≡ None → IfSome by IsBy
+no_by None e = tt
+no_by (Some by) e = let clash : Some by ≡ None = e in absurd (cc)
+
+-- the parent is a name, and its steps a number
+pub ends-by : (allowed : Bool) (ends : EndWords) → AreEnds allowed ends → IfSome ends.by IsBy
+ends-by true ends are = are.0
+ends-by false ends are = no_by ends.by are.0
+
+pub ends-until : (allowed : Bool) (ends : EndWords) → AreEnds allowed ends
+    → IfSome ends.until (λ steps. IsTrue (is_nat steps))
+ends-until true ends are = are.1
+ends-until false ends are = are.1
+
+-- the inputs and the outputs are names
+pub inputs-names : (body : BodyWords) → IsBody body → list_all is_name (inputs_of body) ≡ true
+inputs-names (source file output) is = refl
+inputs-names (fir input output shift taps) is = rw is.0 refl
+inputs-names (split input outputs) is = rw is.0 refl
+inputs-names (join inputs output) is = is.0.1
+inputs-names (peer input exchange output factor) is = rw (is.0, is.1) refl
+inputs-names (sink input) is = rw is refl
+
+pub outputs-names : (body : BodyWords) → IsBody body → list_all is_name (outputs_of body) ≡ true
+outputs-names (source file output) is = rw is.1 refl
+outputs-names (fir input output shift taps) is = rw is.1 refl
+outputs-names (split input outputs) is = is.1.1
+outputs-names (join inputs output) is = rw is.1 refl
+outputs-names (peer input exchange output factor) is = rw is.2 refl
+outputs-names (sink input) is = refl
+
+pub phasers-names : (body : BodyWords) → IsBody body → list_all is_name (phasers_of body) ≡ true
+phasers-names body is = list_all-append is_name (inputs_of body) (outputs_of body)
+    ∙ ap (λ b. b && list_all is_name (outputs_of body)) (inputs-names body is)
+    ∙ outputs-names body is

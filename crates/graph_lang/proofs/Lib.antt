@@ -1,0 +1,7 @@
+mod Alls
+mod Ends
+mod Examples
+mod Known
+mod Readers
+mod Single
+mod Sound

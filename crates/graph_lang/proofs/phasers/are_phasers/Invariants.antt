@@ -1,0 +1,15 @@
+use Rattle.std.proofs.Common.{◌≡◌, drop, true}
+use Rattle.std.specs.List.{list_all}
+use Rattle.graph_text.specs.Plain.{plain}
+use Rattle.graph_text.specs.Words.{is_name}
+use Rattle.graph_lang.specs.Names.{names_of}
+use Rattle.graph_lang.specs.Faults.{is_phaser}
+use Rattle.graph_lang.proofs.phasers.are_phasers.Given as goal
+
+-- the words that are left are names, and decide
+abbrev pub invariant-loop-word : goal.invariant-loop-word
+invariant-loop-word l = record {
+  names : list_all is_name (plain (drop l.word-index l.words)) ≡ true;
+  rest : list_all (is_phaser (names_of l.names.entries)) (plain l.words)
+      ≡ list_all (is_phaser (names_of l.names.entries)) (plain (drop l.word-index l.words));
+}

@@ -1,0 +1,14 @@
+use Rattle.std.proofs.Common.{◌≡◌, drop, take, true}
+use Rattle.std.specs.List.{list_all}
+use Rattle.graph_text.specs.Plain.{plain}
+use Rattle.graph_text.specs.Words.{is_name}
+use Rattle.graph_lang.specs.Names.{names_of}
+use Rattle.graph_lang.specs.LineTasks.{numbers_of}
+use Rattle.graph_lang.proofs.phasers.numbers_of.Given as goal
+
+-- the words that are left are names, and the numbers of the others are there
+abbrev pub invariant-loop-word : goal.invariant-loop-word
+invariant-loop-word l = record {
+  names : list_all is_name (plain (drop l.word-index l.words)) ≡ true;
+  made : l.numbers.items ≡ numbers_of (names_of l.names.entries) (plain (take l.word-index l.words));
+}

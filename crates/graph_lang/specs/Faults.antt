@@ -1,0 +1,173 @@
+-- The kinds of fault of a line that is in the grammar, and their order.
+use Rattle.std.specs.Prelude.{ℕ, ◌==◌, Bool, true, false, ◌&&◌, ◌||◌, not, nat_lt, nat_le, List, [], ◌∷◌, ◌++◌, length, get_or, Option, Some, None, is_some, if◌then◌else◌, unsigned_abs}
+use Rattle.std.specs.List.{list_all, list_any}
+use Rattle.std.specs.Option.{option_map_or}
+use Rattle.std.specs.Int.Signed.{le_z}
+use Rattle.std.specs.Str.{bytes_eq}
+use Rattle.phase_base.specs.declared.limits.TheConstants.{BOUND_MAX}
+use Rattle.phase_accum.specs.Sends.{value_max}
+use Rattle.graph_text.specs.Texts.{Word}
+use Rattle.graph_text.specs.Numbers.{nat_value, int_value}
+use Rattle.graph_text.specs.Decls.{Decl, phaser, task, FunctionWords, plain, clamp, ByWords, EndWords}
+use Rattle.graph_text.specs.Decls.{BodyWords, source, fir, split, join, peer, sink}
+use Rattle.graph_lang.specs.Graphs.{Graph, Task, Named, task_at, phaser_at}
+use Rattle.graph_lang.specs.LineTasks.{place_of, phaser_named, task_named, inputs_of, outputs_of, task_line}
+use Rattle.graph_lang.specs.TaskLines.{has_children}
+use Rattle.graph_lang.specs.declared.limits.TheConstants.{PHASERS_MAX, TASKS_MAX, ENDS_MAX, COUNT_MAX, FACTOR_MAX}
+use Rattle.graph_lang.specs.declared.line.Kind.{Kind}
+use Rattle.graph_lang.specs.declared.line.Kind.TheVariants as kind
+use Rattle.graph_lang.specs.declared.line.Parent.{Parent}
+use Rattle.graph_lang.specs.declared.fault.FaultKind.{FaultKind}
+use Rattle.graph_lang.specs.declared.fault.FaultKind.TheVariants.{Limit, Twice, Unknown, OutBeforeIn, BadParent, NotHeld}
+use Rattle.stream_filters.specs.declared.fir.TheConstants.{TAPS_MAX, TAP_MAX, SHIFT_MAX}
+
+-- ---- limits
+
+-- whether the numbers of a function are within their limits
+abbrev pub is_function_within : FunctionWords → Bool
+is_function_within (plain function) = true
+is_function_within (clamp low high) = nat_le (unsigned_abs (int_value low)) value_max
+    && nat_le (unsigned_abs (int_value high)) value_max && le_z (int_value low) (int_value high)
+
+abbrev pub is_bound_within : Word → Bool
+is_bound_within bound = nat_le 1 (nat_value bound) && nat_le (nat_value bound) BOUND_MAX
+
+abbrev pub is_tap_within : Word → Bool
+is_tap_within tap = nat_le (unsigned_abs (int_value tap)) TAP_MAX
+
+-- how many outputs a splitter, or inputs a joiner, may have
+abbrev pub is_number_of_ends : ℕ → Bool
+is_number_of_ends n = nat_le 2 n && nat_le n ENDS_MAX
+
+-- whether the numbers of a task's words are within their limits
+abbrev pub is_body_within : BodyWords → Bool
+is_body_within (source file output) = true
+is_body_within (fir input output shift taps) =
+    nat_le (nat_value shift) SHIFT_MAX && nat_le (length taps) TAPS_MAX
+    && list_all is_tap_within taps
+is_body_within (split input outputs) = is_number_of_ends (length outputs)
+is_body_within (join inputs output) = is_number_of_ends (length inputs)
+is_body_within (peer input exchange output factor) =
+    nat_le (unsigned_abs (int_value factor)) FACTOR_MAX
+is_body_within (sink input) = true
+
+abbrev pub is_count_within : Word → Bool
+is_count_within count = nat_le (nat_value count) COUNT_MAX
+
+abbrev pub are_ends_within : EndWords → Bool
+are_ends_within ends = option_map_or (λ by. is_count_within by.at) ends.by true
+    && option_map_or is_count_within ends.until true
+
+abbrev pub is_past_limit : Graph → Decl → Bool
+is_past_limit before (phaser name operation bound single) =
+    not (is_bound_within bound && option_map_or is_function_within single true
+    && nat_lt (length before.phasers) PHASERS_MAX)
+is_past_limit before (task name body ends) =
+    not (is_body_within body && are_ends_within ends && nat_lt (length before.tasks) TASKS_MAX)
+
+-- ---- names
+
+-- the phasers of a line
+abbrev pub phasers_of : BodyWords → List Word
+phasers_of body = inputs_of body ++ outputs_of body
+
+-- whether no word stands twice
+abbrev pub are_distinct : List Word → Bool
+are_distinct [] = true
+are_distinct (word ∷ words) = not (list_any (bytes_eq word) words) && are_distinct words
+
+abbrev pub is_twice : Graph → Decl → Bool
+is_twice before (phaser name operation bound single) = is_some (place_of before.names name)
+is_twice before (task name body ends) =
+    is_some (place_of before.names name) || not (are_distinct (phasers_of body))
+
+abbrev pub is_phaser : List Named → Word → Bool
+is_phaser names word = is_some (phaser_named names word)
+
+abbrev pub is_parent_known : List Named → Option ByWords → Bool
+is_parent_known names None = true
+is_parent_known names (Some by) = is_some (task_named names by.parent)
+
+abbrev pub is_unknown : Graph → Decl → Bool
+is_unknown before (phaser name operation bound single) = false
+is_unknown before (task name body ends) =
+    not (list_all (is_phaser before.names) (phasers_of body)
+    && is_parent_known before.names ends.by)
+
+-- ---- the order of phasers
+
+-- of a peer, E stands below X
+abbrev pub is_exchange_below : Kind → List ℕ → Bool
+is_exchange_below kind.Peer inputs = nat_lt (get_or inputs 0 0) (get_or inputs 1 0)
+is_exchange_below other inputs = true
+
+-- each output stands below each input
+abbrev pub is_in_order : Task → Bool
+is_in_order t = list_all (λ x. list_all (nat_lt x) t.outputs) t.inputs
+    && is_exchange_below t.kind t.inputs
+
+abbrev pub is_out_before_in : Graph → Decl → Bool
+is_out_before_in before (phaser name operation bound single) = false
+is_out_before_in before (task name body ends) =
+    not (is_in_order (task_line before.names 0 body ends))
+
+-- ---- parents
+
+abbrev pub may_be_parent : Graph → Option Parent → Bool
+may_be_parent before None = true
+may_be_parent before (Some parent) = has_children (task_at before parent.task).kind
+
+abbrev pub is_bad_parent : Graph → Decl → Bool
+is_bad_parent before (phaser name operation bound single) = false
+is_bad_parent before (task name body ends) =
+    not (may_be_parent before (task_line before.names 0 body ends).parent)
+
+abbrev pub is_among : List ℕ → ℕ → Bool
+is_among qs p = list_any (λ q. q == p) qs
+
+-- whether the parent waits for what the child waits for, and signals what the child signals
+abbrev pub holds_for : Graph → Task → Option Parent → Bool
+holds_for before child None = true
+holds_for before child (Some parent) =
+    list_all (is_among (task_at before parent.task).inputs) child.inputs
+    && list_all (is_among (task_at before parent.task).outputs) child.outputs
+
+-- whether phaser y has no single
+abbrev pub is_plain : Graph → ℕ → Bool
+is_plain before y = not (is_some (phaser_at before y).single)
+
+abbrev pub is_held : Graph → Task → Bool
+is_held before t = list_all (is_plain before) t.outputs && holds_for before t t.parent
+
+abbrev pub is_not_held : Graph → Decl → Bool
+is_not_held before (phaser name operation bound single) = false
+is_not_held before (task name body ends) =
+    not (is_held before (task_line before.names 0 body ends))
+
+-- ---- the order of the kinds
+
+-- what stands beside the first `true`
+abbrev pub first_row : {R : Type 0} → List (Bool × R) → Option R
+first_row [] = None
+first_row (row ∷ rows) = if row.0 then Some row.1 else first_row rows
+
+-- the first kind of fault of a line, after the lines above it
+abbrev pub kind_of : Graph → Decl → Option FaultKind
+kind_of before d = first_row (
+    (is_past_limit before d, Limit)
+    ∷ (is_twice before d, Twice)
+    ∷ (is_unknown before d, Unknown)
+    ∷ (is_out_before_in before d, OutBeforeIn)
+    ∷ (is_bad_parent before d, BadParent)
+    ∷ (is_not_held before d, NotHeld)
+    ∷ [])
+
+-- the first kind after Limit of a task's line, of its name, its phasers, its parent and the task
+abbrev pub later_kind : Graph → Word → List Word → Option ByWords → Task → Option FaultKind
+later_kind before name phasers by t = first_row (
+    (is_some (place_of before.names name) || not (are_distinct phasers), Twice)
+    ∷ (not (list_all (is_phaser before.names) phasers && is_parent_known before.names by), Unknown)
+    ∷ (not (is_in_order t), OutBeforeIn)
+    ∷ (not (may_be_parent before t.parent), BadParent)
+    ∷ (not (is_held before t), NotHeld)
+    ∷ [])

@@ -1,0 +1,143 @@
+-- What the words of a line stand for, after the lines above it.
+use Rattle.std.specs.Prelude.{ℕ, List, [], ◌∷◌, map, Option, Some, None, option_map, if◌then◌else◌, codes, ℤ, pos}
+use Rattle.std.specs.Str.{bytes_eq}
+use Rattle.phase_accum.specs.declared.single.Single.{Single}
+use Rattle.phase_accum.specs.declared.single.Single.TheVariants.{Neg, Abs, Halve, Clamp}
+use Rattle.graph_text.specs.Texts.{Word}
+use Rattle.graph_text.specs.Numbers.{nat_value, int_value}
+use Rattle.graph_text.specs.Decls.{FunctionWords, plain, clamp, ByWords, EndWords}
+use Rattle.graph_text.specs.Decls.{BodyWords, source, fir, split, join, peer, sink}
+use Rattle.graph_lang.specs.Graphs.{Task, Named}
+use Rattle.graph_lang.specs.declared.line.Op.{Op}
+use Rattle.graph_lang.specs.declared.line.Op.TheVariants.{Sum, Product, Least, Greatest, Any}
+use Rattle.graph_lang.specs.declared.line.Kind.{Kind}
+use Rattle.graph_lang.specs.declared.line.Kind.TheVariants as kind
+use Rattle.graph_lang.specs.declared.line.Parent.{Parent}
+use Rattle.graph_lang.specs.declared.line.PhaserLine.{PhaserLine}
+use Rattle.graph_lang.specs.declared.place.Place.{Place}
+use Rattle.graph_lang.specs.declared.place.Place.TheVariants as place
+
+-- ---- names
+
+-- what a name stands for, where it was declared
+abbrev pub place_of : List Named → Word → Option Place
+place_of [] name = None
+place_of (named ∷ others) name =
+    if bytes_eq name named.0 then Some named.1 else place_of others name
+
+abbrev pub phaser_number : Option Place → Option ℕ
+phaser_number None = None
+phaser_number (Some (place.Phaser p)) = Some p
+phaser_number (Some (place.Task t)) = None
+
+abbrev pub task_number : Option Place → Option ℕ
+task_number None = None
+task_number (Some (place.Phaser p)) = None
+task_number (Some (place.Task t)) = Some t
+
+-- the phaser of that name
+abbrev pub phaser_named : List Named → Word → Option ℕ
+phaser_named names name = phaser_number (place_of names name)
+
+-- the task of that name
+abbrev pub task_named : List Named → Word → Option ℕ
+task_named names name = task_number (place_of names name)
+
+abbrev pub or_zero : Option ℕ → ℕ
+or_zero None = 0
+or_zero (Some n) = n
+
+-- ---- a phaser
+
+abbrev pub operation_of : Word → Op
+operation_of word =
+    if bytes_eq word (codes "sum") then Sum
+    else if bytes_eq word (codes "product") then Product
+    else if bytes_eq word (codes "least") then Least
+    else if bytes_eq word (codes "greatest") then Greatest
+    else Any
+
+abbrev pub plain_single : Word → Single
+plain_single word =
+    if bytes_eq word (codes "neg") then Neg
+    else if bytes_eq word (codes "abs") then Abs
+    else Halve
+
+abbrev pub single_of : FunctionWords → Single
+single_of (plain function) = plain_single function
+single_of (clamp low high) = Clamp (int_value low, int_value high)
+
+abbrev pub phaser_line : Word → Word → Option FunctionWords → PhaserLine
+phaser_line operation bound single = record {
+  op = operation_of operation;
+  bound = nat_value bound;
+  single = option_map single_of single;
+}
+
+-- ---- a task
+
+abbrev pub kind_of_body : BodyWords → Kind
+kind_of_body (source file output) = kind.Source
+kind_of_body (fir input output shift taps) = kind.Fir
+kind_of_body (split input outputs) = kind.Split
+kind_of_body (join inputs output) = kind.Join
+kind_of_body (peer input exchange output factor) = kind.Peer
+kind_of_body (sink input) = kind.Sink
+
+-- the phasers that the task waits for; of a peer X and then E
+abbrev pub inputs_of : BodyWords → List Word
+inputs_of (source file output) = []
+inputs_of (fir input output shift taps) = input ∷ []
+inputs_of (split input outputs) = input ∷ []
+inputs_of (join inputs output) = inputs
+inputs_of (peer input exchange output factor) = input ∷ exchange ∷ []
+inputs_of (sink input) = input ∷ []
+
+-- the phasers that the task signals; of a peer Y alone
+abbrev pub outputs_of : BodyWords → List Word
+outputs_of (source file output) = output ∷ []
+outputs_of (fir input output shift taps) = output ∷ []
+outputs_of (split input outputs) = outputs
+outputs_of (join inputs output) = output ∷ []
+outputs_of (peer input exchange output factor) = output ∷ []
+outputs_of (sink input) = []
+
+abbrev pub taps_of : BodyWords → List ℤ
+taps_of (fir input output shift taps) = map int_value taps
+taps_of body = []
+
+abbrev pub shift_of : BodyWords → ℕ
+shift_of (fir input output shift taps) = nat_value shift
+shift_of body = 0
+
+abbrev pub factor_of : BodyWords → ℤ
+factor_of (peer input exchange output factor) = int_value factor
+factor_of body = pos 0
+
+-- the file of a source
+abbrev pub files_in : BodyWords → List (List ℕ)
+files_in (source file output) = file ∷ []
+files_in body = []
+
+abbrev pub numbers_of : List Named → List Word → List ℕ
+numbers_of names words = map (λ word. or_zero (phaser_named names word)) words
+
+abbrev pub parent_of : List Named → ByWords → Parent
+parent_of names by = record {
+  task = or_zero (task_named names by.parent);
+  at = nat_value by.at;
+}
+
+-- the task that line n declares, after lines that declared these names
+abbrev pub task_line : List Named → ℕ → BodyWords → EndWords → Task
+task_line names n body ends = record {
+  line = n;
+  kind = kind_of_body body;
+  inputs = numbers_of names (inputs_of body);
+  outputs = numbers_of names (outputs_of body);
+  parent = option_map (parent_of names) ends.by;
+  until = option_map nat_value ends.until;
+  taps = taps_of body;
+  shift = shift_of body;
+  mul = factor_of body;
+}

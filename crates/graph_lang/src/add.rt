@@ -1,0 +1,115 @@
+//! What a line adds to the graph.
+ghost use Rattle.std.specs.Prelude.{◌≡◌, ◌++◌, ◌∷◌, [], IsTrue, IfOk, IfSome, OnOk, None, length, true};
+ghost use Rattle.std.specs.Option.{option_map_or};
+ghost use Rattle.std.specs.List.{list_all};
+ghost use Rattle.graph_text.specs.Numbers.{is_nat};
+ghost use Rattle.graph_text.specs.Words.{is_name, is_file};
+ghost use Rattle.graph_text.specs.Decls.{IsBody, IsBy};
+ghost use Rattle.graph_text.specs.Lines.{body_of, ends_of, by_of, word_of};
+ghost use Rattle.graph_lang.specs.Kept.{task_of};
+ghost use Rattle.graph_lang.specs.Names.{files_of};
+ghost use Rattle.graph_lang.specs.LineTasks.{place_of, files_in, task_line, inputs_of, outputs_of};
+ghost use Rattle.graph_lang.specs.Faults.{is_body_within, is_count_within};
+
+use crate::declare::until_in;
+use crate::draft::{Draft, add_name};
+use crate::line::{Op, PhaserLine, TaskLine};
+use crate::parents::parent_of;
+use crate::phasers::{input_words, kind_of, numbers_of, output_words};
+use crate::place::Place;
+use crate::within::{factor_of, shift_of, taps_of};
+use graph_text::{Body, TaskWords, file_text, name_text};
+use phase_accum::Single;
+use std::alloc::{AllocError, Global};
+
+/// Adds the file of a task, where it is a source.
+fn add_file(alloc: Global, files: &mut Vec<String>, body: Body<'_, '_>) -> Result<(), AllocError>
+    requires { IsBody (body_of body) }
+    ensures { OnOk result (files_of files.new.items
+        ≡ files_of files.old.items ++ files_in (body_of body.entry)) }
+{
+    if let Body::Source(file, _) = body {
+        let file = String::from_str(alloc, file_text(file))?;
+        files.push(file)?;
+    }
+    Ok(())
+}
+
+impl Draft {
+    /// Adds a phaser of a new name.
+    pub(crate) fn add_phaser(
+        &mut self,
+        alloc: Global,
+        name: &[u8],
+        op: Op,
+        bound: u64,
+        single: Option<Single>,
+    ) -> Result<(), AllocError>
+        requires name { IsTrue (is_name name.now) }
+        requires new { place_of self.old.names name.now ≡ None }
+        ensures { OnOk result (self.new ≡ record self.old {
+          names = self.old.names ++ (name.now, Place.Phaser (length self.old.phasers)) ∷ [];
+          phasers = self.old.phasers ++ record { op = op; bound = bound; single = single } ∷ [];
+        }) }
+    {
+        let place = Place::Phaser(self.phasers.len());
+        self.phasers.push(PhaserLine { op, bound, single })?;
+        add_name(alloc, &mut self.names, name_text(name), place)
+    }
+
+    /// The line of a task whose numbers are within their limits, as line `number`.
+    pub(crate) fn task_line(
+        &self,
+        alloc: Global,
+        number: u64,
+        words: TaskWords<'_, '_>,
+    ) -> Result<TaskLine, AllocError>
+        requires body { IsBody (body_of words.body) }
+        requires inputs { IsTrue (list_all is_name (inputs_of (body_of words.body))) }
+        requires outputs { IsTrue (list_all is_name (outputs_of (body_of words.body))) }
+        requires by { IfSome (by_of words.ends.by) IsBy }
+        requires until { IfSome (word_of words.ends.until) (λ steps. IsTrue (is_nat steps)) }
+        requires within { IsTrue (is_body_within (body_of words.body)) }
+        requires at { IfSome (by_of words.ends.by) (λ by. IsTrue (is_count_within by.at)) }
+        requires steps { IsTrue (option_map_or is_count_within (word_of words.ends.until) true) }
+        ensures { IfOk result (λ line. task_of line ≡ task_line self.now.names number
+            (body_of words.entry.body) (ends_of words.entry.ends)) }
+    {
+        let inputs = input_words(alloc, words.body)?;
+        let outputs = output_words(alloc, words.body)?;
+        Ok(TaskLine {
+            line: number,
+            kind: kind_of(words.body),
+            inputs: numbers_of(alloc, &self.names, &inputs)?,
+            outputs: numbers_of(alloc, &self.names, &outputs)?,
+            parent: parent_of(&self.names, words.ends.by),
+            until: until_in(words.ends.until),
+            taps: taps_of(alloc, words.body)?,
+            shift: shift_of(words.body),
+            mul: factor_of(words.body),
+        })
+    }
+
+    /// Adds a task of a new name, and its file where it is a source.
+    pub(crate) fn add_task(
+        &mut self,
+        alloc: Global,
+        name: &[u8],
+        body: Body<'_, '_>,
+        line: TaskLine,
+    ) -> Result<(), AllocError>
+        requires name { IsTrue (is_name name.now) }
+        requires body { IsBody (body_of body) }
+        requires new { place_of self.old.names name.now ≡ None }
+        ensures { OnOk result (self.new ≡ record self.old {
+          names = self.old.names ++ (name.now, Place.Task (length self.old.tasks)) ∷ [];
+          tasks = self.old.tasks ++ task_of line ∷ [];
+          files = self.old.files ++ files_in (body_of body.entry);
+        }) }
+    {
+        let place = Place::Task(self.tasks.len());
+        add_name(alloc, &mut self.names, name_text(name), place)?;
+        self.tasks.push(line)?;
+        add_file(alloc, &mut self.files, body)
+    }
+}

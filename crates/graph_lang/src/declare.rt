@@ -1,0 +1,121 @@
+//! What a line adds to the graph.
+ghost use Rattle.std.specs.Prelude.{◌≡◌, IsTrue, IfOk, IfSome, option_map, true};
+ghost use Rattle.std.specs.Option.{option_map_or};
+ghost use Rattle.graph_text.specs.Plain.{plain};
+ghost use Rattle.graph_text.specs.Decls.{IsWellFormed, IsFunction};
+ghost use Rattle.graph_text.specs.Numbers.{is_nat, nat_value};
+ghost use Rattle.graph_text.specs.Lines.{decl_of, body_of, single_of as function_words, word_of};
+ghost use Rattle.graph_text.specs.declared.line.Line.TheVariants as line;
+ghost use Rattle.graph_lang.specs.LineTasks.{phaser_line, single_of as single_value};
+ghost use Rattle.graph_lang.specs.Faults.{phasers_of};
+ghost use Rattle.graph_lang.specs.Faults.{is_bound_within, is_function_within, is_count_within};
+
+use crate::fault::{FaultKind, GraphFault, GraphRefusal};
+use crate::line::PhaserLine;
+use crate::phasers::{input_words, output_words};
+use crate::within::{count_in, operation_of, single_of};
+use graph_text::{Body, Function, PhaserWords, nat_within};
+use phase_accum::Single;
+use phase_base::BOUND_MAX;
+use std::alloc::{AllocError, AllocFailed, Global};
+
+impl From<AllocError> for GraphRefusal {
+    ghost use Rattle.std.specs.Prelude.{◌≡◌};
+    ghost use Rattle.graph_lang.specs.declared.fault.GraphRefusal.TheVariants.{OutOfMemory};
+
+    ghost from_gives = { λ _ e. e ≡ OutOfMemory };
+
+    fn from(_: AllocError) -> GraphRefusal {
+        GraphRefusal::OutOfMemory
+    }
+}
+
+impl<T: Drop> From<AllocFailed<T>> for GraphRefusal {
+    ghost use Rattle.std.specs.Prelude.{◌≡◌};
+    ghost use Rattle.graph_lang.specs.declared.fault.GraphRefusal.TheVariants.{OutOfMemory};
+
+    ghost from_gives = { λ _ e. e ≡ OutOfMemory };
+
+    fn from(_: AllocFailed<T>) -> GraphRefusal {
+        GraphRefusal::OutOfMemory
+    }
+}
+
+/// The refusal of a line.
+pub(crate) fn fault(line: u64, kind: FaultKind) -> GraphRefusal
+    ensures { result ≡ GraphRefusal.Fault (record { line = line; kind = kind }) }
+{
+    GraphRefusal::Fault(GraphFault { line, kind })
+}
+
+/// Whether the numbers of a single, where there is one, are within their limits.
+pub(crate) fn is_single_within(single: Option<Function<'_>>) -> bool
+    requires { IfSome (function_words single) IsFunction }
+    ensures { result ≡ option_map_or is_function_within (function_words single.entry) true }
+{
+    match single {
+        None => true,
+        Some(function) => single_of(function).is_some(),
+    }
+}
+
+/// The single of a phaser, where it has one.
+pub(crate) fn single_in(single: Option<Function<'_>>) -> Option<Single>
+    requires function { IfSome (function_words single) IsFunction }
+    requires within { IsTrue (option_map_or is_function_within (function_words single) true) }
+    ensures { result ≡ option_map single_value (function_words single.entry) }
+{
+    match single {
+        None => None,
+        Some(function) => single_of(function),
+    }
+}
+
+/// The bound that a word within its limits writes.
+pub(crate) fn bound_in(word: &[u8]) -> u64
+    requires nat { IsTrue (is_nat word.now) }
+    requires within { IsTrue (is_bound_within word.now) }
+    ensures { result ≡ nat_value word.now }
+{
+    nat_within(word, BOUND_MAX).unwrap_or(0)
+}
+
+/// The line of a phaser whose numbers are within their limits.
+pub(crate) fn phaser_line(words: PhaserWords<'_>) -> PhaserLine
+    requires line { IsWellFormed (decl_of (line.Phaser words)) }
+    requires bound { IsTrue (is_bound_within words.bound.now) }
+    requires single { IsTrue (option_map_or is_function_within (function_words words.single) true) }
+    ensures { result ≡ phaser_line words.entry.operation.now words.entry.bound.now
+        (function_words words.entry.single) }
+{
+    PhaserLine {
+        op: operation_of(words.operation),
+        bound: bound_in(words.bound),
+        single: single_in(words.single),
+    }
+}
+
+/// The words of all phasers of a task's line.
+pub(crate) fn phaser_words<'a>(
+    alloc: Global,
+    body: Body<'_, 'a>,
+) -> Result<Vec<&'a [u8]>, AllocError>
+    ensures { IfOk result (λ words. plain words.items ≡ phasers_of (body_of body.entry)) }
+{
+    let mut words = input_words(alloc, body)?;
+    let outputs = output_words(alloc, body)?;
+    words.extend_from_slice(&outputs)?;
+    Ok(words)
+}
+
+/// The steps after which a task drops, where it does.
+pub(crate) fn until_in(until: Option<&[u8]>) -> Option<u64>
+    requires nat { IfSome (word_of until) (λ steps. IsTrue (is_nat steps)) }
+    requires within { IsTrue (option_map_or is_count_within (word_of until) true) }
+    ensures { result ≡ option_map nat_value (word_of until.entry) }
+{
+    match until {
+        None => None,
+        Some(steps) => Some(count_in(steps)),
+    }
+}

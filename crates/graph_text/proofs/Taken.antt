@@ -1,0 +1,403 @@
+-- Reading a line and spelling it agree: what is read is spelled so.
+use Rattle.std.proofs.Common.{◌≡◌, ◌≤◌, ◌==◌, ◌&&◌, Bool, true, false, List, [], ◌∷◌, ◌++◌, length, refl, ap, sym, ◌∙◌, arith, Option, Some, None, cond, option_and_then, codes, subst, IfSome, IsTrue, rules, append-nil, if◌then◌else◌}
+use Rattle.std.specs.List.{list_all}
+use Rattle.std.specs.Str.{bytes_eq}
+use Rattle.std.proofs.lemmas.Bool.Decides.{nat_tests}
+use Rattle.std.proofs.lemmas.List.{append_assoc}
+use Rattle.std.proofs.lemmas.Option.{cond_some, same_Some}
+use Rattle.std.proofs.lemmas.Slice.Eq.{bytes_eq-Decides}
+use Rattle.graph_text.specs.Texts.{Word}
+use Rattle.graph_text.specs.Words.{is_name, is_file, is_operation, is_function}
+use Rattle.graph_text.specs.Numbers.{is_nat, is_int}
+use Rattle.graph_text.specs.Decls.{Decl, phaser, task, FunctionWords, plain, clamp, ByWords, EndWords, BodyWords}
+use Rattle.graph_text.specs.Decls.{function_words, single_words, by_words, until_words, end_words, kind_word, body_words, IsFunction, IsBody, IsBy, AreEnds, AreSome, may_have_parent, Spells}
+use Rattle.graph_text.specs.Reading.{Found, ◌>>=◌, word_at, after, begins, front, rest, some_at, function_at, single_at, by_at, until_at, ends_at, source_at, fir_at, split_at, join_at, peer_at, sink_at, body_at, phaser_at, task_at, line_at}
+
+-- ---- words
+
+-- a reading in two steps has read something in each
+pub steps : {A B : Type 0} (f : A → Option B) (o : Option A) (y : B) → option_and_then f o ≡ Some y
+    → (x : A) × (o ≡ Some x) × (f x ≡ Some y)
+steps {A} {B} f None y e = absurd (cc)
+steps f (Some x) y e = (x, refl, e)
+
+-- a word, and what follows it
+followed : {ws before after : List Word} (w : Word) → ws ≡ w ∷ before → before ≡ after → ws ≡ w ∷ after
+followed w here e = here ∙ ap (λ ws. w ∷ ws) e
+
+same : (a b : Word) → bytes_eq a b ≡ true → a ≡ b
+same a b h = search (rules, bytes_eq-Decides a b)
+
+none_left : (ws : List Word) → (length ws == 0) ≡ true → ws ≡ []
+none_left [] h = refl
+none_left (w ∷ ws) h = absurd (grind (arith, nat_tests))
+
+word_takes : (test : Word → Bool) (ws : List Word) (x : Found Word) → word_at test ws ≡ Some x
+    → (test x.0 ≡ true) × (ws ≡ x.0 ∷ x.1)
+unfolding word_at
+word_takes test [] x e = absurd (cc)
+word_takes test (w ∷ ws) x e =
+    let c = cond_some (test w) (w, ws) x e in
+    let P : Found Word → Type 0 = λ x. (test x.0 ≡ true) × (w ∷ ws ≡ x.0 ∷ x.1) in
+    subst P c.1 (c.0, refl)
+
+after_takes : (sign : Word) (ws rest : List Word) → after sign ws ≡ Some rest → ws ≡ sign ∷ rest
+unfolding after
+after_takes sign [] rest e = absurd (cc)
+after_takes sign (w ∷ ws) rest e =
+    let c = cond_some (bytes_eq w sign) ws rest e in
+    rw (same w sign c.0, c.1) refl
+
+front_passes : (test : Word → Bool) (ws : List Word) → list_all test (front test ws) ≡ true
+unfolding front
+front_passes test [] = refl
+front_passes test (w ∷ ws) = at (test w) refl (front_passes test ws)
+  where
+    at : (pass : Bool) → test w ≡ pass → list_all test (front test ws) ≡ true
+        → list_all test (cond pass (w ∷ front test ws) []) ≡ true
+    at true pass others = rw pass others
+    at false stop others = refl
+
+front_rest : (test : Word → Bool) (ws : List Word) → ws ≡ front test ws ++ rest test ws
+unfolding front rest
+front_rest test [] = refl
+front_rest test (w ∷ ws) = at (test w) (front_rest test ws)
+  where
+    at : (pass : Bool) → ws ≡ front test ws ++ rest test ws
+        → w ∷ ws ≡ cond pass (w ∷ front test ws) [] ++ cond pass (rest test ws) (w ∷ ws)
+    at true others = ap (λ ws. w ∷ ws) others
+    at false others = refl
+
+some_takes : (test : Word → Bool) (ws : List Word) (x : Found (List Word)) → some_at test ws ≡ Some x
+    → AreSome test x.0 × (ws ≡ x.0 ++ x.1)
+unfolding some_at
+some_takes test ws x e = at (length (front test ws) == 0) refl e
+  where
+    at : (none : Bool) → (length (front test ws) == 0) ≡ none
+        → cond none None (Some (front test ws, rest test ws)) ≡ Some x
+        → AreSome test x.0 × (ws ≡ x.0 ++ x.1)
+    at true empty found = absurd (cc)
+    at false some found =
+        let P : Found (List Word) → Type 0 = λ x. AreSome test x.0 × (ws ≡ x.0 ++ x.1) in
+        let least : 1 ≤ length (front test ws) = grind (arith, nat_tests) in
+        subst P (same_Some (front test ws, rest test ws) x found)
+        ((least, front_passes test ws), front_rest test ws)
+
+-- ---- parts of a line
+
+function_takes : (ws : List Word) (x : Found FunctionWords) → function_at ws ≡ Some x
+    → IsFunction x.0 × (ws ≡ function_words x.0 ++ x.1)
+unfolding function_at
+function_takes ws x e = at (begins (codes "clamp") ws) e
+  where
+    P : Option (Found FunctionWords) → Type 0
+    P o = IfSome o (λ x. IsFunction x.0 × (ws ≡ function_words x.0 ++ x.1))
+
+    at : (is_clamp : Bool) → cond is_clamp
+        (after (codes "clamp") ws >>= (λ bounds. word_at is_int bounds >>= (λ low.
+        word_at is_int low.1 >>= (λ high. Some (clamp low.0 high.0, high.1)))))
+        (word_at is_function ws >>= (λ f. Some (plain f.0, f.1))) ≡ Some x
+        → IsFunction x.0 × (ws ≡ function_words x.0 ++ x.1)
+    at true found =
+        let b = steps _ (after (codes "clamp") ws) x found in
+        let l = steps _ (word_at is_int b.0) x b.2 in
+        let h = steps _ (word_at is_int l.0.1) x l.2 in
+        let low = word_takes is_int b.0 l.0 l.1 in
+        let high = word_takes is_int l.0.1 h.0 h.1 in
+        subst P h.2 (
+          (low.0, high.0),
+          followed (codes "clamp") (after_takes (codes "clamp") ws b.0 b.1)
+              (followed l.0.0 low.1 high.1),
+        )
+    at false found =
+        let f = steps _ (word_at is_function ws) x found in
+        subst P f.2 (word_takes is_function ws f.0 f.1)
+
+single_takes : (ws : List Word) (x : Found (Option FunctionWords)) → single_at ws ≡ Some x
+    → IfSome x.0 IsFunction × (ws ≡ single_words x.0 ++ x.1)
+unfolding single_at
+single_takes ws x e = at (begins (codes "single") ws) e
+  where
+    P : Option (Found (Option FunctionWords)) → Type 0
+    P o = IfSome o (λ x. IfSome x.0 IsFunction × (ws ≡ single_words x.0 ++ x.1))
+
+    at : (is_named : Bool) → cond is_named
+        (after (codes "single") ws >>= (λ named. function_at named >>= (λ f. Some (Some f.0, f.1))))
+        (Some (None, ws)) ≡ Some x
+        → IfSome x.0 IsFunction × (ws ≡ single_words x.0 ++ x.1)
+    at true found =
+        let n = steps _ (after (codes "single") ws) x found in
+        let f = steps _ (function_at n.0) x n.2 in
+        let function = function_takes n.0 f.0 f.1 in
+        subst P f.2 (
+          function.0,
+          after_takes (codes "single") ws n.0 n.1 ∙ ap (λ ws. codes "single" ∷ ws) function.1,
+        )
+    at false found = subst P found (tt, refl)
+
+by_takes : (allowed : Bool) (ws : List Word) (x : Found (Option ByWords)) → by_at allowed ws ≡ Some x
+    → ((allowed ≡ false → x.0 ≡ None) × IfSome x.0 IsBy) × (ws ≡ by_words x.0 ++ x.1)
+unfolding by_at
+by_takes allowed ws x e = at allowed (begins (codes "by") ws) e
+  where
+    P : Bool → Option (Found (Option ByWords)) → Type 0
+    P may o = IfSome o (λ x.
+        ((may ≡ false → x.0 ≡ None) × IfSome x.0 IsBy) × (ws ≡ by_words x.0 ++ x.1))
+
+    at : (may is_named : Bool) → cond (may && is_named)
+        (after (codes "by") ws >>= (λ named. word_at is_name named >>= (λ parent.
+        after (codes "at") parent.1 >>= (λ counted. word_at is_nat counted >>= (λ at.
+        Some (Some (record { parent = parent.0; at = at.0 }), at.1))))))
+        (Some (None, ws)) ≡ Some x
+        → ((may ≡ false → x.0 ≡ None) × IfSome x.0 IsBy) × (ws ≡ by_words x.0 ++ x.1)
+    at true true found =
+        let n = steps _ (after (codes "by") ws) x found in
+        let p = steps _ (word_at is_name n.0) x n.2 in
+        let c = steps _ (after (codes "at") p.0.1) x p.2 in
+        let a = steps _ (word_at is_nat c.0) x c.2 in
+        let parent = word_takes is_name n.0 p.0 p.1 in
+        let at = word_takes is_nat c.0 a.0 a.1 in
+        subst (P true) a.2 (
+          (λ e. absurd (cc), (parent.0, at.0)),
+          followed (codes "by") (after_takes (codes "by") ws n.0 n.1)
+              (followed p.0.0 parent.1
+              (followed (codes "at") (after_takes (codes "at") p.0.1 c.0 c.1) at.1)),
+        )
+    at true false found = subst (P true) found ((λ e. refl, tt), refl)
+    at false named found = subst (P false) found ((λ e. refl, tt), refl)
+
+until_takes : (ws : List Word) (x : Found (Option Word)) → until_at ws ≡ Some x
+    → IfSome x.0 (λ steps. IsTrue (is_nat steps)) × (ws ≡ until_words x.0 ++ x.1)
+unfolding until_at
+until_takes ws x e = at (begins (codes "until") ws) e
+  where
+    P : Option (Found (Option Word)) → Type 0
+    P o = IfSome o (λ x. IfSome x.0 (λ n. IsTrue (is_nat n)) × (ws ≡ until_words x.0 ++ x.1))
+
+    at : (is_counted : Bool) → cond is_counted
+        (after (codes "until") ws >>= (λ counted. word_at is_nat counted >>= (λ n. Some (Some n.0, n.1))))
+        (Some (None, ws)) ≡ Some x
+        → IfSome x.0 (λ n. IsTrue (is_nat n)) × (ws ≡ until_words x.0 ++ x.1)
+    at true found =
+        let c = steps _ (after (codes "until") ws) x found in
+        let n = steps _ (word_at is_nat c.0) x c.2 in
+        let number = word_takes is_nat c.0 n.0 n.1 in
+        subst P n.2 (
+          number.0,
+          after_takes (codes "until") ws c.0 c.1 ∙ ap (λ ws. codes "until" ∷ ws) number.1,
+        )
+    at false found = subst P found (tt, refl)
+
+are_ends : (allowed : Bool) (by : Option ByWords) (until : Option Word)
+    → (allowed ≡ false → by ≡ None) × IfSome by IsBy → IfSome until (λ n. IsTrue (is_nat n))
+    → AreEnds allowed (record { by = by; until = until })
+are_ends true by until is counted = (is.1, counted)
+are_ends false by until is counted = (is.0 refl, counted)
+
+ends_takes : (allowed : Bool) (ws : List Word) (ends : EndWords) → ends_at allowed ws ≡ Some ends
+    → AreEnds allowed ends × (ws ≡ end_words ends)
+unfolding ends_at
+ends_takes allowed ws ends e =
+    let b = steps _ (by_at allowed ws) ends e in
+    let u = steps _ (until_at b.0.1) ends b.2 in
+    let c = cond_some (length u.0.1 == 0) (record { by = b.0.0; until = u.0.0 }) ends u.2 in
+    let by = by_takes allowed ws b.0 b.1 in
+    let until = until_takes b.0.1 u.0 u.1 in
+    let P : EndWords → Type 0 = λ ends. AreEnds allowed ends × (ws ≡ end_words ends) in
+    let left : u.0.1 ≡ [] = none_left u.0.1 c.0 in
+    subst P c.1 (
+      are_ends allowed b.0.0 u.0.0 by.0 until.0,
+      by.1 ∙ ap (λ ws. by_words b.0.0 ++ ws)
+          (until.1 ∙ ap (λ ws. until_words u.0.0 ++ ws) left ∙ append-nil (until_words u.0.0)),
+    )
+
+-- ---- what a task does
+
+-- the words spell the body that was read, before the words that are left
+TakesBody : Word → List Word → Option (Found BodyWords) → Type 0
+TakesBody kind ws o = IfSome o (λ x.
+    IsBody x.0 × (kind ≡ kind_word x.0) × (ws ≡ body_words x.0 ++ x.1))
+
+source_takes : (ws : List Word) (x : Found BodyWords) → source_at ws ≡ Some x
+    → TakesBody (codes "source") ws (Some x)
+unfolding source_at TakesBody
+source_takes ws x e =
+    let f = steps _ (word_at is_file ws) x e in
+    let s = steps _ (after (codes "->") f.0.1) x f.2 in
+    let o = steps _ (word_at is_name s.0) x s.2 in
+    let file = word_takes is_file ws f.0 f.1 in
+    let sent = after_takes (codes "->") f.0.1 s.0 s.1 in
+    let output = word_takes is_name s.0 o.0 o.1 in
+    subst (TakesBody (codes "source") ws) o.2 (
+      (file.0, output.0),
+      refl,
+      followed f.0.0 file.1 (followed (codes "->") sent output.1),
+    )
+
+fir_takes : (ws : List Word) (x : Found BodyWords) → fir_at ws ≡ Some x
+    → TakesBody (codes "fir") ws (Some x)
+unfolding fir_at TakesBody
+fir_takes ws x e =
+    let i = steps _ (word_at is_name ws) x e in
+    let s = steps _ (after (codes "->") i.0.1) x i.2 in
+    let o = steps _ (word_at is_name s.0) x s.2 in
+    let m = steps _ (after (codes "shift") o.0.1) x o.2 in
+    let n = steps _ (word_at is_nat m.0) x m.2 in
+    let t = steps _ (after (codes "taps") n.0.1) x n.2 in
+    let l = steps _ (some_at is_int t.0) x t.2 in
+    let input = word_takes is_name ws i.0 i.1 in
+    let sent = after_takes (codes "->") i.0.1 s.0 s.1 in
+    let output = word_takes is_name s.0 o.0 o.1 in
+    let marked = after_takes (codes "shift") o.0.1 m.0 m.1 in
+    let shift = word_takes is_nat m.0 n.0 n.1 in
+    let tapped = after_takes (codes "taps") n.0.1 t.0 t.1 in
+    let taps = some_takes is_int t.0 l.0 l.1 in
+    subst (TakesBody (codes "fir") ws) l.2 (
+      (input.0, output.0, shift.0, taps.0),
+      refl,
+      followed i.0.0 input.1 (followed (codes "->") sent (followed o.0.0 output.1
+          (followed (codes "shift") marked (followed n.0.0 shift.1
+          (followed (codes "taps") tapped taps.1))))),
+    )
+
+split_takes : (ws : List Word) (x : Found BodyWords) → split_at ws ≡ Some x
+    → TakesBody (codes "split") ws (Some x)
+unfolding split_at TakesBody
+split_takes ws x e =
+    let i = steps _ (word_at is_name ws) x e in
+    let s = steps _ (after (codes "->") i.0.1) x i.2 in
+    let l = steps _ (some_at is_name s.0) x s.2 in
+    let input = word_takes is_name ws i.0 i.1 in
+    let sent = after_takes (codes "->") i.0.1 s.0 s.1 in
+    let outputs = some_takes is_name s.0 l.0 l.1 in
+    subst (TakesBody (codes "split") ws) l.2 (
+      (input.0, outputs.0),
+      refl,
+      followed i.0.0 input.1 (followed (codes "->") sent outputs.1),
+    )
+
+join_takes : (ws : List Word) (x : Found BodyWords) → join_at ws ≡ Some x
+    → TakesBody (codes "join") ws (Some x)
+unfolding join_at TakesBody
+join_takes ws x e =
+    let l = steps _ (some_at is_name ws) x e in
+    let s = steps _ (after (codes "->") l.0.1) x l.2 in
+    let o = steps _ (word_at is_name s.0) x s.2 in
+    let inputs = some_takes is_name ws l.0 l.1 in
+    let sent = after_takes (codes "->") l.0.1 s.0 s.1 in
+    let output = word_takes is_name s.0 o.0 o.1 in
+    let line = inputs.1 ∙ ap (λ ws. l.0.0 ++ ws) (followed (codes "->") sent output.1) in
+    subst (TakesBody (codes "join") ws) o.2 (
+      (inputs.0, output.0),
+      refl,
+      line ∙ sym (append_assoc l.0.0 (codes "->" ∷ o.0.0 ∷ []) o.0.1),
+    )
+
+peer_takes : (ws : List Word) (x : Found BodyWords) → peer_at ws ≡ Some x
+    → TakesBody (codes "peer") ws (Some x)
+unfolding peer_at TakesBody
+peer_takes ws x e =
+    let i = steps _ (word_at is_name ws) x e in
+    let b = steps _ (after (codes "<->") i.0.1) x i.2 in
+    let c = steps _ (word_at is_name b.0) x b.2 in
+    let s = steps _ (after (codes "->") c.0.1) x c.2 in
+    let o = steps _ (word_at is_name s.0) x s.2 in
+    let m = steps _ (after (codes "mul") o.0.1) x o.2 in
+    let f = steps _ (word_at is_int m.0) x m.2 in
+    let input = word_takes is_name ws i.0 i.1 in
+    let both = after_takes (codes "<->") i.0.1 b.0 b.1 in
+    let exchange = word_takes is_name b.0 c.0 c.1 in
+    let sent = after_takes (codes "->") c.0.1 s.0 s.1 in
+    let output = word_takes is_name s.0 o.0 o.1 in
+    let times = after_takes (codes "mul") o.0.1 m.0 m.1 in
+    let factor = word_takes is_int m.0 f.0 f.1 in
+    subst (TakesBody (codes "peer") ws) f.2 (
+      (input.0, exchange.0, output.0, factor.0),
+      refl,
+      followed i.0.0 input.1 (followed (codes "<->") both (followed c.0.0 exchange.1
+          (followed (codes "->") sent (followed o.0.0 output.1
+          (followed (codes "mul") times factor.1))))),
+    )
+
+sink_takes : (ws : List Word) (x : Found BodyWords) → sink_at ws ≡ Some x
+    → TakesBody (codes "sink") ws (Some x)
+unfolding sink_at TakesBody
+sink_takes ws x e =
+    let i = steps _ (word_at is_name ws) x e in
+    let input = word_takes is_name ws i.0 i.1 in
+    subst (TakesBody (codes "sink") ws) i.2 (input.0, refl, input.1)
+
+-- a choice by the first word
+by_kind : (kind sign : Word) (ws : List Word) (x : Found BodyWords) (one other : Option (Found BodyWords))
+    → (one ≡ Some x → TakesBody sign ws (Some x)) → (other ≡ Some x → TakesBody kind ws (Some x))
+    → (if bytes_eq kind sign then one else other) ≡ Some x → TakesBody kind ws (Some x)
+by_kind kind sign ws x one other takes others e = at (bytes_eq kind sign) refl e
+  where
+    at : (is : Bool) → bytes_eq kind sign ≡ is → (if is then one else other) ≡ Some x
+        → TakesBody kind ws (Some x)
+    at true is found =
+        let P : Word → Type 0 = λ k. TakesBody k ws (Some x) in
+        subst P (sym (same kind sign is)) (takes found)
+    at false is found = others found
+
+body_takes : (kind : Word) (ws : List Word) (x : Found BodyWords) → body_at kind ws ≡ Some x
+    → TakesBody kind ws (Some x)
+unfolding body_at
+body_takes kind ws x e =
+    by_kind kind (codes "source") ws x _ _ (source_takes ws x)
+    (by_kind kind (codes "fir") ws x _ _ (fir_takes ws x)
+    (by_kind kind (codes "split") ws x _ _ (split_takes ws x)
+    (by_kind kind (codes "join") ws x _ _ (join_takes ws x)
+    (by_kind kind (codes "peer") ws x _ _ (peer_takes ws x)
+    (by_kind kind (codes "sink") ws x _ _ (sink_takes ws x) (λ none. absurd (cc))))))) e
+
+-- ---- a line
+
+phaser_takes : (ws : List Word) (d : Decl) → phaser_at ws ≡ Some d → Spells (codes "phaser" ∷ ws) d
+unfolding phaser_at
+phaser_takes ws d e =
+    let n = steps _ (word_at is_name ws) d e in
+    let o = steps _ (word_at is_operation n.0.1) d n.2 in
+    let b = steps _ (word_at is_nat o.0.1) d o.2 in
+    let s = steps _ (single_at b.0.1) d b.2 in
+    let c = cond_some (length s.0.1 == 0) (phaser n.0.0 o.0.0 b.0.0 s.0.0) d s.2 in
+    let name = word_takes is_name ws n.0 n.1 in
+    let operation = word_takes is_operation n.0.1 o.0 o.1 in
+    let bound = word_takes is_nat o.0.1 b.0 b.1 in
+    let single = single_takes b.0.1 s.0 s.1 in
+    let left : s.0.1 ≡ [] = none_left s.0.1 c.0 in
+    let ends = single.1 ∙ ap (λ ws. single_words s.0.0 ++ ws) left ∙ append-nil (single_words s.0.0) in
+    subst (Spells (codes "phaser" ∷ ws)) c.1 (record {
+      well_formed = (name.0, operation.0, bound.0, single.0);
+      spelled = ap (λ ws. codes "phaser" ∷ ws)
+          (followed n.0.0 name.1 (followed o.0.0 operation.1 (followed b.0.0 bound.1 ends)));
+    })
+
+task_takes : (kind : Word) (ws : List Word) (d : Decl) → task_at kind ws ≡ Some d
+    → Spells (kind ∷ ws) d
+unfolding task_at TakesBody
+task_takes kind ws d e =
+    let n = steps _ (word_at is_name ws) d e in
+    let b = steps _ (body_at kind n.0.1) d n.2 in
+    let s = steps _ (ends_at (may_have_parent b.0.0) b.0.1) d b.2 in
+    let name = word_takes is_name ws n.0 n.1 in
+    let body = body_takes kind n.0.1 b.0 b.1 in
+    let ends = ends_takes (may_have_parent b.0.0) b.0.1 s.0 s.1 in
+    subst (Spells (kind ∷ ws)) (same_Some (task n.0.0 b.0.0 s.0) d s.2) (record {
+      well_formed = (name.0, body.0, ends.0);
+      spelled = ap (λ k. k ∷ ws) body.1 ∙ ap (λ ws. kind_word b.0.0 ∷ ws)
+          (followed n.0.0 name.1 (body.2 ∙ ap (λ ws. body_words b.0.0 ++ ws) ends.1));
+    })
+
+-- what is read is spelled so
+pub line_takes : (ws : List Word) (d : Decl) → line_at ws ≡ Some d → Spells ws d
+unfolding line_at
+line_takes [] d e = absurd (cc)
+line_takes (kind ∷ ws) d e = at (bytes_eq kind (codes "phaser")) refl e
+  where
+    at : (is : Bool) → bytes_eq kind (codes "phaser") ≡ is
+        → (if is then phaser_at ws else task_at kind ws) ≡ Some d → Spells (kind ∷ ws) d
+    at true is found =
+        let P : Word → Type 0 = λ k. Spells (k ∷ ws) d in
+        subst P (sym (same kind (codes "phaser") is)) (phaser_takes ws d found)
+    at false is found = task_takes kind ws d found

@@ -1,0 +1,18 @@
+use Rattle.std.proofs.Common.{sym, ◌∙◌}
+use Rattle.graph_text.specs.Plain.{plain}
+use Rattle.graph_text.specs.Words.{is_name}
+use Rattle.graph_text.proofs.Fronts.{some_at-none, some_at-split}
+use Rattle.graph_text.proofs.read.names_at.Goals as goal
+
+-- no word passes
+pub returns-then-count-eq0 : goal.returns-then-count-eq0
+returns-then-count-eq0 c =
+    let none = sym c.names_in_front-count.ensures.count ∙ c.if-count-eq0.true in
+    sym (some_at-none is_name (plain c.args.words.now) none)
+
+-- the words that pass were split off
+pub returns-else-count-eq0 : goal.returns-else-count-eq0
+returns-else-count-eq0 c =
+    rw (c.split_at.ensures.front, c.split_at.ensures.back)
+    (sym (some_at-split is_name c.args.words.now c.names_in_front-count.result
+    c.names_in_front-count.ensures.count c.if-count-eq0.false))

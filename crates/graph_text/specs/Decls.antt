@@ -1,0 +1,138 @@
+-- What a line declares, by its words, and the one way in which it is spelled. Names, files and
+-- numbers stand as they are written.
+use Rattle.std.specs.Prelude.{ℕ, ◌≡◌, ◌≤◌, Bool, true, false, List, [], ◌∷◌, ◌++◌, length, Option, Some, None, IsTrue, IfSome, codes}
+use Rattle.std.specs.List.{list_all}
+use Rattle.graph_text.specs.Texts.{Word, words_of, are_printable}
+use Rattle.graph_text.specs.Words.{is_name, is_file, is_operation, is_function}
+use Rattle.graph_text.specs.Numbers.{is_nat, is_int}
+
+-- ---- what a line declares
+
+-- the function of a single
+pub data FunctionWords : Type 0 where
+  plain : (function : Word) → FunctionWords
+  clamp : (low high : Word) → FunctionWords
+
+-- the parent of a task, and after how many of its steps it registers the task
+pub record ByWords : Type 0 where
+  pub parent : Word
+  pub at : Word
+
+-- the optional ends of a task's line
+pub record EndWords : Type 0 where
+  pub by : Option ByWords
+  pub until : Option Word
+
+-- what a task does, with its phasers
+pub data BodyWords : Type 0 where
+  source : (file output : Word) → BodyWords
+  fir : (input output shift : Word) (taps : List Word) → BodyWords
+  split : (input : Word) (outputs : List Word) → BodyWords
+  join : (inputs : List Word) (output : Word) → BodyWords
+  peer : (input exchange output factor : Word) → BodyWords
+  sink : (input : Word) → BodyWords
+
+pub data Decl : Type 0 where
+  phaser : (name operation bound : Word) (single : Option FunctionWords) → Decl
+  task : (name : Word) (body : BodyWords) (ends : EndWords) → Decl
+
+-- ---- how it is spelled
+
+abbrev pub function_words : FunctionWords → List Word
+function_words (plain function) = function ∷ []
+function_words (clamp low high) = codes "clamp" ∷ low ∷ high ∷ []
+
+abbrev pub single_words : Option FunctionWords → List Word
+single_words None = []
+single_words (Some function) = codes "single" ∷ function_words function
+
+abbrev pub by_words : Option ByWords → List Word
+by_words None = []
+by_words (Some by) = codes "by" ∷ by.parent ∷ codes "at" ∷ by.at ∷ []
+
+abbrev pub until_words : Option Word → List Word
+until_words None = []
+until_words (Some steps) = codes "until" ∷ steps ∷ []
+
+abbrev pub end_words : EndWords → List Word
+end_words ends = by_words ends.by ++ until_words ends.until
+
+-- the first word of the line
+abbrev pub kind_word : BodyWords → Word
+kind_word (source file output) = codes "source"
+kind_word (fir input output shift taps) = codes "fir"
+kind_word (split input outputs) = codes "split"
+kind_word (join inputs output) = codes "join"
+kind_word (peer input exchange output factor) = codes "peer"
+kind_word (sink input) = codes "sink"
+
+-- the words between the name and the ends
+abbrev pub body_words : BodyWords → List Word
+body_words (source file output) = file ∷ codes "->" ∷ output ∷ []
+body_words (fir input output shift taps) =
+    input ∷ codes "->" ∷ output ∷ codes "shift" ∷ shift ∷ codes "taps" ∷ taps
+body_words (split input outputs) = input ∷ codes "->" ∷ outputs
+body_words (join inputs output) = inputs ++ codes "->" ∷ output ∷ []
+body_words (peer input exchange output factor) =
+    input ∷ codes "<->" ∷ exchange ∷ codes "->" ∷ output ∷ codes "mul" ∷ factor ∷ []
+body_words (sink input) = input ∷ []
+
+-- the words of the line
+abbrev pub spelling : Decl → List Word
+spelling (phaser name operation bound single) =
+    codes "phaser" ∷ name ∷ operation ∷ bound ∷ single_words single
+spelling (task name body ends) = kind_word body ∷ name ∷ (body_words body ++ end_words ends)
+
+-- ---- which words may stand where
+
+abbrev pub IsFunction : FunctionWords → Type 0
+IsFunction (plain function) = IsTrue (is_function function)
+IsFunction (clamp low high) = IsTrue (is_int low) × IsTrue (is_int high)
+
+-- whether a line of the kind may name a parent
+abbrev pub may_have_parent : BodyWords → Bool
+may_have_parent (source file output) = true
+may_have_parent (fir input output shift taps) = true
+may_have_parent (split input outputs) = false
+may_have_parent (join inputs output) = false
+may_have_parent (peer input exchange output factor) = false
+may_have_parent (sink input) = true
+
+-- at least one word, and each passes the test
+abbrev pub AreSome : (Word → Bool) → List Word → Type 0
+AreSome test words = (1 ≤ length words) × IsTrue (list_all test words)
+
+abbrev pub IsBody : BodyWords → Type 0
+IsBody (source file output) = IsTrue (is_file file) × IsTrue (is_name output)
+IsBody (fir input output shift taps) = IsTrue (is_name input) × IsTrue (is_name output)
+    × IsTrue (is_nat shift) × AreSome is_int taps
+IsBody (split input outputs) = IsTrue (is_name input) × AreSome is_name outputs
+IsBody (join inputs output) = AreSome is_name inputs × IsTrue (is_name output)
+IsBody (peer input exchange output factor) = IsTrue (is_name input) × IsTrue (is_name exchange)
+    × IsTrue (is_name output) × IsTrue (is_int factor)
+IsBody (sink input) = IsTrue (is_name input)
+
+abbrev pub IsBy : ByWords → Type 0
+IsBy by = IsTrue (is_name by.parent) × IsTrue (is_nat by.at)
+
+-- the ends of a line whose kind may, or may not, name a parent
+abbrev pub AreEnds : Bool → EndWords → Type 0
+AreEnds true ends = IfSome ends.by IsBy × IfSome ends.until (λ steps. IsTrue (is_nat steps))
+AreEnds false ends = (ends.by ≡ None) × IfSome ends.until (λ steps. IsTrue (is_nat steps))
+
+-- names are names, numbers are numbers, and so on
+abbrev pub IsWellFormed : Decl → Type 0
+IsWellFormed (phaser name operation bound single) = IsTrue (is_name name)
+    × IsTrue (is_operation operation) × IsTrue (is_nat bound) × IfSome single IsFunction
+IsWellFormed (task name body ends) =
+    IsTrue (is_name name) × IsBody body × AreEnds (may_have_parent body) ends
+
+-- the words spell what is declared
+pub record Spells (words : List Word) (d : Decl) : Type 0 where
+  pub well_formed : IsWellFormed d
+  pub spelled : words ≡ spelling d
+
+-- the line is one of the grammar, and declares d
+pub record Declares (line : List ℕ) (d : Decl) : Type 0 where
+  pub printable : are_printable line ≡ true
+  pub spells : Spells (words_of line) d

@@ -1,0 +1,180 @@
+-- How the words of a line are read, one after another. What may be relied on is the spelling: the
+-- laws of reading say that the two agree.
+use Rattle.std.specs.Prelude.{◌==◌, ◌&&◌, Bool, false, List, [], ◌∷◌, length, Option, Some, None, option_and_then, if◌then◌else◌, codes}
+use Rattle.std.specs.Str.{bytes_eq}
+use Rattle.graph_text.specs.Texts.{Word}
+use Rattle.graph_text.specs.Words.{is_name, is_file, is_operation, is_function}
+use Rattle.graph_text.specs.Numbers.{is_nat, is_int}
+use Rattle.graph_text.specs.Decls.{Decl, phaser, task, FunctionWords, plain, clamp, ByWords, EndWords}
+use Rattle.graph_text.specs.Decls.{BodyWords, source, fir, split, join, peer, sink, may_have_parent}
+
+infixl 10 ◌>>=◌
+abbrev pub ◌>>=◌ : {A B : Type 0} → Option A → (A → Option B) → Option B
+o >>= f = option_and_then f o
+
+-- what was read, and the words after it
+abbrev pub Found : Type 0 → Type 0
+Found A = A × List Word
+
+-- ---- words
+
+-- a word that passes the test
+unfoldable pub word_at : (Word → Bool) → List Word → Option (Found Word)
+word_at test [] = None
+word_at test (word ∷ words) = if test word then Some (word, words) else None
+
+-- the words after this one, which stands first
+unfoldable pub after : Word → List Word → Option (List Word)
+after sign [] = None
+after sign (word ∷ words) = if bytes_eq word sign then Some words else None
+
+-- whether this word stands first
+unfoldable pub begins : Word → List Word → Bool
+begins sign [] = false
+begins sign (word ∷ words) = bytes_eq word sign
+
+-- the words before the first that does not pass the test
+unfoldable pub front : (Word → Bool) → List Word → List Word
+front test [] = []
+front test (word ∷ words) = if test word then word ∷ front test words else []
+
+-- the words from the first that does not pass the test on
+unfoldable pub rest : (Word → Bool) → List Word → List Word
+rest test [] = []
+rest test (word ∷ words) = if test word then rest test words else word ∷ words
+
+-- as many words as pass the test, at least one
+unfoldable pub some_at : (Word → Bool) → List Word → Option (Found (List Word))
+some_at test words =
+    if length (front test words) == 0 then None else Some (front test words, rest test words)
+
+-- ---- parts of a line
+
+unfoldable pub function_at : List Word → Option (Found FunctionWords)
+function_at words =
+    if begins (codes "clamp") words
+    then (do
+      bounds ← after (codes "clamp") words
+      low ← word_at is_int bounds
+      high ← word_at is_int low.1
+      Some (clamp low.0 high.0, high.1))
+    else (do
+      function ← word_at is_function words
+      Some (plain function.0, function.1))
+
+unfoldable pub single_at : List Word → Option (Found (Option FunctionWords))
+single_at words =
+    if begins (codes "single") words
+    then (do
+      named ← after (codes "single") words
+      function ← function_at named
+      Some (Some function.0, function.1))
+    else Some (None, words)
+
+unfoldable pub by_at : Bool → List Word → Option (Found (Option ByWords))
+by_at allowed words =
+    if allowed && begins (codes "by") words
+    then (do
+      named ← after (codes "by") words
+      parent ← word_at is_name named
+      counted ← after (codes "at") parent.1
+      at ← word_at is_nat counted
+      Some (Some (record { parent = parent.0; at = at.0 }), at.1))
+    else Some (None, words)
+
+unfoldable pub until_at : List Word → Option (Found (Option Word))
+until_at words =
+    if begins (codes "until") words
+    then (do
+      counted ← after (codes "until") words
+      steps ← word_at is_nat counted
+      Some (Some steps.0, steps.1))
+    else Some (None, words)
+
+-- the optional ends, with nothing after them
+unfoldable pub ends_at : Bool → List Word → Option EndWords
+ends_at allowed words = do
+  by ← by_at allowed words
+  until ← until_at by.1
+  if length until.1 == 0 then Some (record { by = by.0; until = until.0 }) else None
+
+unfoldable pub source_at : List Word → Option (Found BodyWords)
+source_at words = do
+  file ← word_at is_file words
+  sent ← after (codes "->") file.1
+  output ← word_at is_name sent
+  Some (source file.0 output.0, output.1)
+
+unfoldable pub fir_at : List Word → Option (Found BodyWords)
+fir_at words = do
+  input ← word_at is_name words
+  sent ← after (codes "->") input.1
+  output ← word_at is_name sent
+  shifted ← after (codes "shift") output.1
+  shift ← word_at is_nat shifted
+  tapped ← after (codes "taps") shift.1
+  taps ← some_at is_int tapped
+  Some (fir input.0 output.0 shift.0 taps.0, taps.1)
+
+unfoldable pub split_at : List Word → Option (Found BodyWords)
+split_at words = do
+  input ← word_at is_name words
+  sent ← after (codes "->") input.1
+  outputs ← some_at is_name sent
+  Some (split input.0 outputs.0, outputs.1)
+
+unfoldable pub join_at : List Word → Option (Found BodyWords)
+join_at words = do
+  inputs ← some_at is_name words
+  sent ← after (codes "->") inputs.1
+  output ← word_at is_name sent
+  Some (join inputs.0 output.0, output.1)
+
+unfoldable pub peer_at : List Word → Option (Found BodyWords)
+peer_at words = do
+  input ← word_at is_name words
+  exchanged ← after (codes "<->") input.1
+  exchange ← word_at is_name exchanged
+  sent ← after (codes "->") exchange.1
+  output ← word_at is_name sent
+  multiplied ← after (codes "mul") output.1
+  factor ← word_at is_int multiplied
+  Some (peer input.0 exchange.0 output.0 factor.0, factor.1)
+
+unfoldable pub sink_at : List Word → Option (Found BodyWords)
+sink_at words = do
+  input ← word_at is_name words
+  Some (sink input.0, input.1)
+
+-- what a task does, by the first word of its line
+unfoldable pub body_at : Word → List Word → Option (Found BodyWords)
+body_at kind words =
+    if bytes_eq kind (codes "source") then source_at words
+    else if bytes_eq kind (codes "fir") then fir_at words
+    else if bytes_eq kind (codes "split") then split_at words
+    else if bytes_eq kind (codes "join") then join_at words
+    else if bytes_eq kind (codes "peer") then peer_at words
+    else if bytes_eq kind (codes "sink") then sink_at words
+    else None
+
+-- ---- a line
+
+unfoldable pub phaser_at : List Word → Option Decl
+phaser_at words = do
+  name ← word_at is_name words
+  operation ← word_at is_operation name.1
+  bound ← word_at is_nat operation.1
+  single ← single_at bound.1
+  if length single.1 == 0 then Some (phaser name.0 operation.0 bound.0 single.0) else None
+
+unfoldable pub task_at : Word → List Word → Option Decl
+task_at kind words = do
+  name ← word_at is_name words
+  body ← body_at kind name.1
+  ends ← ends_at (may_have_parent body.0) body.1
+  Some (task name.0 body.0 ends)
+
+unfoldable pub line_at : List Word → Option Decl
+line_at [] = None
+line_at (kind ∷ words) =
+    if bytes_eq kind (codes "phaser") then phaser_at words else task_at kind words

@@ -1,0 +1,15 @@
+//! The lines of a graph's text.
+#![tactic(auto)]
+
+pub mod laws;
+mod line;
+mod number;
+mod read;
+mod text;
+mod word;
+
+pub use line::{Body, By, Ends, Function, Line, PhaserWords, TaskWords};
+pub use number::{int_within, nat_within};
+pub use read::line_at;
+pub use text::{are_printable, begins_comment, lines_of, without_cr, words_of};
+pub use word::{FILE_MAX, NAME_MAX, file_text, name_text};

@@ -1,0 +1,78 @@
+//! What a line declares, by its words.
+
+/// What a line declares, by its words. Names, files and numbers stand as they are written.
+#[derive(Clone, Copy)]
+pub enum Line<'w, 'a> {
+    /// A phaser.
+    Phaser(PhaserWords<'a>),
+    /// A task.
+    Task(TaskWords<'w, 'a>),
+}
+
+/// The words of a phaser's line.
+#[derive(Clone, Copy)]
+pub struct PhaserWords<'a> {
+    /// The name that it declares.
+    pub name: &'a [u8],
+    /// The operation on the sends of a phase.
+    pub operation: &'a [u8],
+    /// The bound, in phases.
+    pub bound: &'a [u8],
+    /// What is applied to the value of each phase.
+    pub single: Option<Function<'a>>,
+}
+
+/// The function of a single.
+#[derive(Clone, Copy)]
+pub enum Function<'a> {
+    /// A function without numbers.
+    Plain(&'a [u8]),
+    /// The clamp, with its low end and its high end.
+    Clamp(&'a [u8], &'a [u8]),
+}
+
+/// The words of a task's line.
+#[derive(Clone, Copy)]
+pub struct TaskWords<'w, 'a> {
+    /// The name that it declares.
+    pub name: &'a [u8],
+    /// What the task does, with its phasers.
+    pub body: Body<'w, 'a>,
+    /// The optional ends.
+    pub ends: Ends<'a>,
+}
+
+/// What a task does, with its phasers.
+#[derive(Clone, Copy)]
+pub enum Body<'w, 'a> {
+    /// `FILE -> Y`: the file, and the output.
+    Source(&'a [u8], &'a [u8]),
+    /// `X -> Y shift N taps T1 T2 ..`: the input, the output, the shift and the taps.
+    Fir(&'a [u8], &'a [u8], &'a [u8], &'w [&'a [u8]]),
+    /// `X -> Y0 Y1 ..`: the input, and the outputs.
+    Split(&'a [u8], &'w [&'a [u8]]),
+    /// `X0 X1 .. -> Y`: the inputs, and the output.
+    Join(&'w [&'a [u8]], &'a [u8]),
+    /// `X <-> E -> Y mul A`: the input, the phaser of the exchange, the output and the factor.
+    Peer(&'a [u8], &'a [u8], &'a [u8], &'a [u8]),
+    /// `X`: the input.
+    Sink(&'a [u8]),
+}
+
+/// The optional ends of a task's line.
+#[derive(Clone, Copy)]
+pub struct Ends<'a> {
+    /// `by P at N`, where a task registers this one.
+    pub by: Option<By<'a>>,
+    /// The number after `until`.
+    pub until: Option<&'a [u8]>,
+}
+
+/// Which task registers a child, and when.
+#[derive(Clone, Copy)]
+pub struct By<'a> {
+    /// The name of the task that registers it.
+    pub parent: &'a [u8],
+    /// How many steps that task makes before.
+    pub at: &'a [u8],
+}

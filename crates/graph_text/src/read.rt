@@ -1,0 +1,401 @@
+//! Reading the words of a line, one after another.
+ghost use Rattle.std.specs.Prelude.{◌≡◌, ◌≤◌, map, length, option_map, codes, IfSome, IfNone};
+ghost use Rattle.graph_text.specs.Plain.{plain};
+ghost use Rattle.graph_text.specs.Words.{is_name as is_name_word, is_file as is_file_word};
+ghost use Rattle.graph_text.specs.Words.{is_operation as is_operation_word};
+ghost use Rattle.graph_text.specs.Words.{is_function as is_function_word};
+ghost use Rattle.graph_text.specs.Numbers.{is_nat as is_nat_word, is_int as is_int_word};
+ghost use Rattle.graph_text.specs.Decls.{Decl, Spells, may_have_parent};
+ghost use Rattle.graph_text.specs.Lines.{found_word, found_words, found_function, found_single};
+ghost use Rattle.graph_text.specs.Lines.{found_by, found_until, found_body, body_of, ends_of};
+ghost use Rattle.graph_text.specs.Lines.{decl_of};
+ghost use Rattle.graph_text.specs.Reading.{word_at, after, begins, front, some_at, function_at};
+ghost use Rattle.graph_text.specs.Reading.{single_at, by_at, until_at, ends_at, source_at, fir_at};
+ghost use Rattle.graph_text.specs.Reading.{split_at, join_at, peer_at, sink_at, body_at};
+ghost use Rattle.graph_text.specs.Reading.{phaser_at, task_at, line_at};
+
+use crate::line::{Body, By, Ends, Function, Line, PhaserWords, TaskWords};
+use crate::number::{is_int, is_nat};
+use crate::word::{is_file, is_function, is_name, is_operation};
+
+// ---- words
+
+/// The first word, where it is a name, and the words after it.
+#[tactic(auto, unfolding(crate::specs::Reading::word_at))]
+fn name_at<'w, 'a>(words: &'w [&'a [u8]]) -> Option<(&'a [u8], &'w [&'a [u8]])>
+    ensures { option_map found_word result ≡ word_at is_name_word (plain words.now) }
+{
+    match words {
+        [word, rest @ ..] if is_name(word) => Some((*word, rest)),
+        _ => None,
+    }
+}
+
+/// The first word, where it is one that may name a file, and the words after it.
+#[tactic(auto, unfolding(crate::specs::Reading::word_at))]
+fn file_at<'w, 'a>(words: &'w [&'a [u8]]) -> Option<(&'a [u8], &'w [&'a [u8]])>
+    ensures { option_map found_word result ≡ word_at is_file_word (plain words.now) }
+{
+    match words {
+        [word, rest @ ..] if is_file(word) => Some((*word, rest)),
+        _ => None,
+    }
+}
+
+/// The first word, where it is a number without a sign, and the words after it.
+#[tactic(auto, unfolding(crate::specs::Reading::word_at))]
+fn nat_at<'w, 'a>(words: &'w [&'a [u8]]) -> Option<(&'a [u8], &'w [&'a [u8]])>
+    ensures { option_map found_word result ≡ word_at is_nat_word (plain words.now) }
+{
+    match words {
+        [word, rest @ ..] if is_nat(word) => Some((*word, rest)),
+        _ => None,
+    }
+}
+
+/// The first word, where it is a number, and the words after it.
+#[tactic(auto, unfolding(crate::specs::Reading::word_at))]
+fn int_at<'w, 'a>(words: &'w [&'a [u8]]) -> Option<(&'a [u8], &'w [&'a [u8]])>
+    ensures { option_map found_word result ≡ word_at is_int_word (plain words.now) }
+{
+    match words {
+        [word, rest @ ..] if is_int(word) => Some((*word, rest)),
+        _ => None,
+    }
+}
+
+/// The first word, where it is the operation of a phaser, and the words after it.
+#[tactic(auto, unfolding(crate::specs::Reading::word_at))]
+fn operation_at<'w, 'a>(words: &'w [&'a [u8]]) -> Option<(&'a [u8], &'w [&'a [u8]])>
+    ensures { option_map found_word result ≡ word_at is_operation_word (plain words.now) }
+{
+    match words {
+        [word, rest @ ..] if is_operation(word) => Some((*word, rest)),
+        _ => None,
+    }
+}
+
+/// The first word, where it is a function without numbers, and the words after it.
+#[tactic(auto, unfolding(crate::specs::Reading::word_at))]
+fn plain_function_at<'w, 'a>(words: &'w [&'a [u8]]) -> Option<(&'a [u8], &'w [&'a [u8]])>
+    ensures { option_map found_word result ≡ word_at is_function_word (plain words.now) }
+{
+    match words {
+        [word, rest @ ..] if is_function(word) => Some((*word, rest)),
+        _ => None,
+    }
+}
+
+/// The words after this one, where it stands first.
+#[tactic(auto, unfolding(crate::specs::Reading::after))]
+fn after<'w, 'a>(sign: &[u8], words: &'w [&'a [u8]]) -> Option<&'w [&'a [u8]]>
+    ensures { option_map (λ rest. plain rest.now) result ≡ after sign.now (plain words.now) }
+{
+    match words {
+        [word, rest @ ..] if *word == sign => Some(rest),
+        _ => None,
+    }
+}
+
+/// Whether this word stands first.
+#[tactic(auto, unfolding(crate::specs::Reading::begins))]
+fn begins(sign: &[u8], words: &[&[u8]]) -> bool
+    ensures { result ≡ begins sign.now (plain words.now) }
+{
+    match words {
+        [word, ..] => *word == sign,
+        [] => false,
+    }
+}
+
+/// How many names stand in front.
+fn names_in_front(words: &[&[u8]]) -> usize
+    ensures count { result ≡ length (front is_name_word (plain words.now)) }
+    ensures within { result ≤ length words.now }
+{
+    let mut count = 0;
+    for word in words {
+        if !is_name(word) {
+            return count;
+        }
+        count += 1;
+    }
+    count
+}
+
+/// The names in front, at least one, and the words after them.
+fn names_at<'w, 'a>(words: &'w [&'a [u8]]) -> Option<(&'w [&'a [u8]], &'w [&'a [u8]])>
+    ensures { option_map found_words result ≡ some_at is_name_word (plain words.now) }
+{
+    let count = names_in_front(words);
+    if count == 0 {
+        None
+    } else {
+        Some(words.split_at(count))
+    }
+}
+
+/// How many numbers stand in front.
+fn ints_in_front(words: &[&[u8]]) -> usize
+    ensures count { result ≡ length (front is_int_word (plain words.now)) }
+    ensures within { result ≤ length words.now }
+{
+    let mut count = 0;
+    for word in words {
+        if !is_int(word) {
+            return count;
+        }
+        count += 1;
+    }
+    count
+}
+
+/// The numbers in front, at least one, and the words after them.
+fn ints_at<'w, 'a>(words: &'w [&'a [u8]]) -> Option<(&'w [&'a [u8]], &'w [&'a [u8]])>
+    ensures { option_map found_words result ≡ some_at is_int_word (plain words.now) }
+{
+    let count = ints_in_front(words);
+    if count == 0 {
+        None
+    } else {
+        Some(words.split_at(count))
+    }
+}
+
+// ---- parts of a line
+
+/// The function of a single, and the words after it.
+#[tactic(auto, unfolding(crate::specs::Reading::function_at))]
+fn function_at<'w, 'a>(words: &'w [&'a [u8]]) -> Option<(Function<'a>, &'w [&'a [u8]])>
+    ensures { option_map found_function result ≡ function_at (plain words.now) }
+{
+    if begins(b"clamp", words) {
+        let rest = after(b"clamp", words)?;
+        let (low, rest) = int_at(rest)?;
+        let (high, rest) = int_at(rest)?;
+        Some((Function::Clamp(low, high), rest))
+    } else {
+        let (function, rest) = plain_function_at(words)?;
+        Some((Function::Plain(function), rest))
+    }
+}
+
+/// `single FN`, or nothing, and the words after it.
+#[tactic(auto, unfolding(crate::specs::Reading::single_at))]
+fn single_at<'w, 'a>(words: &'w [&'a [u8]]) -> Option<(Option<Function<'a>>, &'w [&'a [u8]])>
+    ensures { option_map found_single result ≡ single_at (plain words.now) }
+{
+    if begins(b"single", words) {
+        let rest = after(b"single", words)?;
+        let (function, rest) = function_at(rest)?;
+        Some((Some(function), rest))
+    } else {
+        Some((None, words))
+    }
+}
+
+/// `by P at N` where that is allowed, or nothing, and the words after it.
+#[tactic(auto, unfolding(crate::specs::Reading::by_at))]
+fn by_at<'w, 'a>(allowed: bool, words: &'w [&'a [u8]]) -> Option<(Option<By<'a>>, &'w [&'a [u8]])>
+    ensures { option_map found_by result ≡ by_at allowed (plain words.now) }
+{
+    if allowed && begins(b"by", words) {
+        let rest = after(b"by", words)?;
+        let (parent, rest) = name_at(rest)?;
+        let rest = after(b"at", rest)?;
+        let (at, rest) = nat_at(rest)?;
+        Some((Some(By { parent, at }), rest))
+    } else {
+        Some((None, words))
+    }
+}
+
+/// `until M`, or nothing, and the words after it.
+#[tactic(auto, unfolding(crate::specs::Reading::until_at))]
+fn until_at<'w, 'a>(words: &'w [&'a [u8]]) -> Option<(Option<&'a [u8]>, &'w [&'a [u8]])>
+    ensures { option_map found_until result ≡ until_at (plain words.now) }
+{
+    if begins(b"until", words) {
+        let rest = after(b"until", words)?;
+        let (steps, rest) = nat_at(rest)?;
+        Some((Some(steps), rest))
+    } else {
+        Some((None, words))
+    }
+}
+
+/// The optional ends, with nothing after them.
+#[tactic(auto, unfolding(crate::specs::Reading::ends_at))]
+fn ends_at<'a>(allowed: bool, words: &[&'a [u8]]) -> Option<Ends<'a>>
+    ensures { option_map ends_of result ≡ ends_at allowed (plain words.now) }
+{
+    let (by, rest) = by_at(allowed, words)?;
+    let (until, rest) = until_at(rest)?;
+    if rest.is_empty() {
+        Some(Ends { by, until })
+    } else {
+        None
+    }
+}
+
+// ---- what a task does
+
+/// `FILE -> Y`, and the words after it.
+#[tactic(auto, unfolding(crate::specs::Reading::source_at))]
+fn source_at<'w, 'a>(words: &'w [&'a [u8]]) -> Option<(Body<'w, 'a>, &'w [&'a [u8]])>
+    ensures { option_map found_body result ≡ source_at (plain words.now) }
+{
+    let (file, rest) = file_at(words)?;
+    let rest = after(b"->", rest)?;
+    let (output, rest) = name_at(rest)?;
+    Some((Body::Source(file, output), rest))
+}
+
+/// `X -> Y shift N taps T1 T2 ..`, and the words after it.
+#[tactic(auto, unfolding(crate::specs::Reading::fir_at))]
+fn fir_at<'w, 'a>(words: &'w [&'a [u8]]) -> Option<(Body<'w, 'a>, &'w [&'a [u8]])>
+    ensures { option_map found_body result ≡ fir_at (plain words.now) }
+{
+    let (input, rest) = name_at(words)?;
+    let rest = after(b"->", rest)?;
+    let (output, rest) = name_at(rest)?;
+    let rest = after(b"shift", rest)?;
+    let (shift, rest) = nat_at(rest)?;
+    let rest = after(b"taps", rest)?;
+    let (taps, rest) = ints_at(rest)?;
+    Some((Body::Fir(input, output, shift, taps), rest))
+}
+
+/// `X -> Y0 Y1 ..`, and the words after it.
+#[tactic(auto, unfolding(crate::specs::Reading::split_at))]
+fn split_at<'w, 'a>(words: &'w [&'a [u8]]) -> Option<(Body<'w, 'a>, &'w [&'a [u8]])>
+    ensures { option_map found_body result ≡ split_at (plain words.now) }
+{
+    let (input, rest) = name_at(words)?;
+    let rest = after(b"->", rest)?;
+    let (outputs, rest) = names_at(rest)?;
+    Some((Body::Split(input, outputs), rest))
+}
+
+/// `X0 X1 .. -> Y`, and the words after it.
+#[tactic(auto, unfolding(crate::specs::Reading::join_at))]
+fn join_at<'w, 'a>(words: &'w [&'a [u8]]) -> Option<(Body<'w, 'a>, &'w [&'a [u8]])>
+    ensures { option_map found_body result ≡ join_at (plain words.now) }
+{
+    let (inputs, rest) = names_at(words)?;
+    let rest = after(b"->", rest)?;
+    let (output, rest) = name_at(rest)?;
+    Some((Body::Join(inputs, output), rest))
+}
+
+/// `X <-> E -> Y mul A`, and the words after it.
+#[tactic(auto, unfolding(crate::specs::Reading::peer_at))]
+fn peer_at<'w, 'a>(words: &'w [&'a [u8]]) -> Option<(Body<'w, 'a>, &'w [&'a [u8]])>
+    ensures { option_map found_body result ≡ peer_at (plain words.now) }
+{
+    let (input, rest) = name_at(words)?;
+    let rest = after(b"<->", rest)?;
+    let (exchange, rest) = name_at(rest)?;
+    let rest = after(b"->", rest)?;
+    let (output, rest) = name_at(rest)?;
+    let rest = after(b"mul", rest)?;
+    let (factor, rest) = int_at(rest)?;
+    Some((Body::Peer(input, exchange, output, factor), rest))
+}
+
+/// `X`, and the words after it.
+#[tactic(auto, unfolding(crate::specs::Reading::sink_at))]
+fn sink_at<'w, 'a>(words: &'w [&'a [u8]]) -> Option<(Body<'w, 'a>, &'w [&'a [u8]])>
+    ensures { option_map found_body result ≡ sink_at (plain words.now) }
+{
+    let (input, rest) = name_at(words)?;
+    Some((Body::Sink(input), rest))
+}
+
+/// What a task does, by the first word of its line, and the words after it.
+#[tactic(auto, unfolding(crate::specs::Reading::body_at))]
+fn body_at<'w, 'a>(kind: &[u8], words: &'w [&'a [u8]]) -> Option<(Body<'w, 'a>, &'w [&'a [u8]])>
+    ensures { option_map found_body result ≡ body_at kind.now (plain words.now) }
+{
+    if kind == b"source".as_slice() {
+        source_at(words)
+    } else if kind == b"fir".as_slice() {
+        fir_at(words)
+    } else if kind == b"split".as_slice() {
+        split_at(words)
+    } else if kind == b"join".as_slice() {
+        join_at(words)
+    } else if kind == b"peer".as_slice() {
+        peer_at(words)
+    } else if kind == b"sink".as_slice() {
+        sink_at(words)
+    } else {
+        None
+    }
+}
+
+/// Whether a line of the kind may name a parent.
+fn may_have_parent(body: Body<'_, '_>) -> bool
+    ensures { result ≡ may_have_parent (body_of body.entry) }
+{
+    matches!(body, Body::Source(..) | Body::Fir(..) | Body::Sink(..))
+}
+
+// ---- a line
+
+/// What the words after `phaser` declare.
+#[tactic(auto, unfolding(crate::specs::Reading::phaser_at))]
+fn phaser_at<'w, 'a>(words: &'w [&'a [u8]]) -> Option<Line<'w, 'a>>
+    ensures { option_map decl_of result ≡ phaser_at (plain words.now) }
+{
+    let (name, rest) = name_at(words)?;
+    let (operation, rest) = operation_at(rest)?;
+    let (bound, rest) = nat_at(rest)?;
+    let (single, rest) = single_at(rest)?;
+    if rest.is_empty() {
+        Some(Line::Phaser(PhaserWords {
+            name,
+            operation,
+            bound,
+            single,
+        }))
+    } else {
+        None
+    }
+}
+
+/// What the words after the kind of a task declare.
+#[tactic(auto, unfolding(crate::specs::Reading::task_at))]
+fn task_at<'w, 'a>(kind: &[u8], words: &'w [&'a [u8]]) -> Option<Line<'w, 'a>>
+    ensures { option_map decl_of result ≡ task_at kind.now (plain words.now) }
+{
+    let (name, rest) = name_at(words)?;
+    let (body, rest) = body_at(kind, rest)?;
+    let ends = ends_at(may_have_parent(body), rest)?;
+    Some(Line::Task(TaskWords { name, body, ends }))
+}
+
+/// What the words declare, read one after another.
+#[tactic(auto, unfolding(crate::specs::Reading::line_at))]
+fn read<'w, 'a>(words: &'w [&'a [u8]]) -> Option<Line<'w, 'a>>
+    ensures { option_map decl_of result ≡ line_at (plain words.now) }
+{
+    match words {
+        [] => None,
+        [kind, rest @ ..] => {
+            if *kind == b"phaser".as_slice() {
+                phaser_at(rest)
+            } else {
+                task_at(kind, rest)
+            }
+        }
+    }
+}
+
+/// Tells what the words of a line declare, or that they declare nothing. It takes no memory.
+pub fn line_at<'w, 'a>(words: &'w [&'a [u8]]) -> Option<Line<'w, 'a>>
+    ensures found { IfSome result (λ line. Spells (plain words.now) (decl_of line)) }
+    ensures none { IfNone result ((d : Decl) → ¬ (Spells (plain words.now) d)) }
+{
+    read(words)
+}
