@@ -1,0 +1,6 @@
+pub mod Graphs
+pub mod Jobs
+pub mod Spans
+pub mod Lists
+pub mod Ranges
+pub mod Meetings
