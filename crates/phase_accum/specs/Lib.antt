@@ -1,5 +1,11 @@
+pub mod Anys
+pub mod Chosen
+pub mod Factors
+pub mod Greatests
+pub mod Leasts
 pub mod Operations
 pub mod Parcels
+pub mod Products
 pub mod Ranges
 pub mod Sends
 pub mod Singles

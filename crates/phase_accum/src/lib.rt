@@ -3,9 +3,13 @@
 #![tactic(auto)]
 
 mod accumulate;
+mod any;
 mod applied;
+mod greatest;
+mod least;
 mod outcome;
 mod pending;
+mod product;
 mod range;
 mod single;
 mod sum;
@@ -13,9 +17,13 @@ mod sum;
 mod tests;
 
 pub use accumulate::{Accumulate, Exact};
+pub use any::Any;
 pub use applied::apply;
+pub use greatest::Greatest;
+pub use least::Least;
 pub use outcome::{NO_VALUE, Outcome, VALUE_MAX};
 pub use pending::{Pending, SendFault};
+pub use product::Product;
 pub use range::{BadClamp, Range};
 pub use single::Single;
 pub use sum::Sum;

@@ -1,8 +1,12 @@
-//! Sums through a task's pending sends, and each other public function once.
+//! The five operations through a task's pending sends, and each other public function once.
 use crate::accumulate::Accumulate;
+use crate::any::Any;
 use crate::applied::apply;
+use crate::greatest::Greatest;
+use crate::least::Least;
 use crate::outcome::{NO_VALUE, Outcome, VALUE_MAX};
 use crate::pending::{Pending, SendFault};
+use crate::product::Product;
 use crate::range::{BadClamp, Range};
 use crate::single::Single;
 use crate::sum::Sum;
@@ -25,6 +29,36 @@ fn a_sum_is_exact_before_its_range_is_checked(rt: HostRuntime) {
     );
     assert_eq!(rt; sums(&[VALUE_MAX, 1]), Ok(Outcome::TooBig));
     assert_eq!(rt; sums(&[]), Ok(Outcome::Value(0)));
+}
+
+#[test]
+fn a_product_is_exact_before_its_range_is_checked(rt: HostRuntime) {
+    let products = outcome_of::<Product>;
+    for (values, want) in [
+        ([4611686018427387904, 4, 0], Outcome::Value(0)),
+        ([4611686018427387904, 0, 4], Outcome::Value(0)),
+        ([0, 4611686018427387904, 4], Outcome::Value(0)),
+        ([4611686018427387904, 2, -1], Outcome::TooBig),
+        (
+            [-7, 1317624576693539401, 1],
+            Outcome::Value(-9223372036854775807),
+        ),
+        ([2, -3, 7], Outcome::Value(-42)),
+    ] {
+        assert_eq!(rt; products(&values), Ok(want), "of {values:?}");
+    }
+    assert_eq!(rt; products(&[]), Ok(Outcome::Value(1)));
+}
+
+#[test]
+fn the_least_the_greatest_and_the_first_send_are_told_apart(rt: HostRuntime) {
+    let sends = [5, -2, 9, 3];
+    assert_eq!(rt; outcome_of::<Least>(&sends), Ok(Outcome::Value(-2)));
+    assert_eq!(rt; outcome_of::<Greatest>(&sends), Ok(Outcome::Value(9)));
+    assert_eq!(rt; outcome_of::<Any>(&sends), Ok(Outcome::Value(5)));
+    assert_eq!(rt; outcome_of::<Least>(&[]), Ok(Outcome::Empty));
+    assert_eq!(rt; outcome_of::<Greatest>(&[]), Ok(Outcome::Empty));
+    assert_eq!(rt; outcome_of::<Any>(&[]), Ok(Outcome::Empty));
 }
 
 #[test]
@@ -68,10 +102,10 @@ fn a_range_has_its_ends_in_order(rt: HostRuntime) {
 fn a_single_is_applied_to_a_value(rt: HostRuntime) -> Result<(), Fail> {
     let clamp = Single::Clamp(Range::new(0, 10)?);
     for (single, value, want) in [
-        (Single::Halve, 5, 2),
-        (Single::Halve, -5, -3),
-        (Single::Neg, 13, -13),
-        (Single::Abs, -7, 7),
+        (Single::halve(), 5, 2),
+        (Single::halve(), -5, -3),
+        (Single::neg(), 13, -13),
+        (Single::abs(), -7, 7),
         (clamp, 15, 10),
         (clamp, -3, 0),
     ] {
@@ -84,4 +118,15 @@ fn a_single_is_applied_to_a_value(rt: HostRuntime) -> Result<(), Fail> {
     assert_eq!(rt; apply(clamp, Outcome::Empty), Outcome::Empty);
     assert_eq!(rt; apply(clamp, Outcome::TooBig), Outcome::TooBig);
     Ok(())
+}
+
+#[test]
+fn a_clamp_is_made_of_a_range_alone(rt: HostRuntime) {
+    for (low, high) in [(1, 0), (NO_VALUE, 0), (0, NO_VALUE)] {
+        assert_eq!(rt; Single::clamp(low, high), Err(BadClamp), "{low} to {high}");
+    }
+    match Single::clamp(-3, -3) {
+        Ok(clamp) => assert_eq!(rt; apply(clamp, Outcome::Value(8)), Outcome::Value(-3)),
+        Err(fault) => panic!(rt; "refused: {fault:?}"),
+    }
 }

@@ -1,0 +1,14 @@
+//! Graphs: the phasers and the tasks that the lines of a graph's text declare, with what holds of
+//! each line. The first calls are `Graph::tasks` and `Graph::task`.
+#![tactic(auto)]
+
+mod graph;
+pub mod laws;
+mod limits;
+mod line;
+mod place;
+
+pub use graph::Graph;
+pub use limits::{COUNT_MAX, ENDS_MAX, FACTOR_MAX, PHASERS_MAX, TASKS_MAX};
+pub use line::{Kind, Op, Parent, PhaserLine, TaskLine};
+pub use place::Place;

@@ -1,0 +1,79 @@
+//! What a line of a graph's text declares.
+
+use phase_accum::Single;
+
+/// The operation of a phaser on the sends of a phase.
+#[derive(Clone, Copy, Debug, PartialEq, Eq)]
+pub enum Op {
+    /// Adds them up.
+    Sum,
+    /// Multiplies them.
+    Product,
+    /// Takes the least.
+    Least,
+    /// Takes the greatest.
+    Greatest,
+    /// Takes the only one.
+    Any,
+}
+
+/// What a task does.
+#[derive(Clone, Copy, Debug, PartialEq, Eq)]
+pub enum Kind {
+    /// Signals its output with each sample of a file in turn.
+    Source,
+    /// Waits for its input, and signals its output with a weighted sum of the last samples.
+    Fir,
+    /// Waits for its input, and signals its outputs in turn.
+    Split,
+    /// Waits for its inputs in turn, and signals its output.
+    Join,
+    /// Waits for X, exchanges its sample on E, and signals its output with the sample times a
+    /// factor, less what E gave.
+    Peer,
+    /// Waits for its input, and keeps each value.
+    Sink,
+}
+
+/// Which task registers a child, and when.
+#[derive(Clone, Copy, Debug, PartialEq, Eq)]
+pub struct Parent {
+    /// The number of the task that registers it.
+    pub task: usize,
+    /// How many steps that task makes before, at most `COUNT_MAX`.
+    pub at: u64,
+}
+
+/// The line of a phaser.
+#[derive(Clone, Copy, Debug, PartialEq, Eq)]
+pub struct PhaserLine {
+    /// The operation on the sends of a phase.
+    pub op: Op,
+    /// How far signallers may be ahead of the slowest waiter, in phases: 1 to `BOUND_MAX`.
+    pub bound: u64,
+    /// What is applied once to the value of each phase.
+    pub single: Option<Single>,
+}
+
+/// The line of a task. A field that its kind lacks is empty or 0.
+#[derive(Debug, Drop, PartialEq)]
+pub struct TaskLine {
+    /// The number of the line in the text, from 1 on.
+    pub line: u64,
+    /// What the task does.
+    pub kind: Kind,
+    /// The numbers of the phasers that it waits for. A peer has X and then E.
+    pub inputs: Vec<usize>,
+    /// The numbers of the phasers that it signals. A peer has Y alone.
+    pub outputs: Vec<usize>,
+    /// The task that registers it, where it is a child.
+    pub parent: Option<Parent>,
+    /// After how many steps it drops, at most `COUNT_MAX`.
+    pub until: Option<u64>,
+    /// The taps of a filter.
+    pub taps: Vec<i64>,
+    /// The shift of a filter, in bits.
+    pub shift: u32,
+    /// The factor of a peer, of a magnitude of at most `FACTOR_MAX`.
+    pub mul: i64,
+}
