@@ -2,12 +2,12 @@
 use Rattle.std.proofs.Common.{◌≡◌, [], ◌∷◌, List, ℕ, ℤ, pos, neg_ℤ, Some, None, Ok, Err, map, refl}
 use Rattle.phase_accum.specs.declared.single.Single.{Single}
 use Rattle.phase_accum.specs.declared.single.Single.TheVariants.{Neg, Halve, Clamp}
-use Rattle.stream_job.specs.declared.graph.Op.{Op}
-use Rattle.stream_job.specs.declared.graph.Op.TheVariants.{Sum, Product, Least, Greatest, Any}
-use Rattle.stream_job.specs.declared.graph.Kind.TheVariants.{Source, Fir, Split, Join, Peer}
-use Rattle.stream_job.specs.declared.graph.Place.TheVariants as place
-use Rattle.stream_job.specs.declared.graph.PhaserLine.{PhaserLine}
-use Rattle.stream_job.specs.Graphs.{Task, no_task}
+use Rattle.graph_lang.specs.declared.line.Op.{Op}
+use Rattle.graph_lang.specs.declared.line.Op.TheVariants.{Sum, Product, Least, Greatest, Any}
+use Rattle.graph_lang.specs.declared.line.Kind.TheVariants.{Source, Fir, Split, Join, Peer}
+use Rattle.graph_lang.specs.declared.place.Place.TheVariants as place
+use Rattle.graph_lang.specs.declared.line.PhaserLine.{PhaserLine}
+use Rattle.graph_lang.specs.Graphs.{Task, no_graph, no_task}
 use Rattle.stream_job.specs.Jobs.{Job}
 use Rattle.stream_job.specs.Ranges.{answer_of}
 use Rattle.stream_job.specs.Meetings.{meeting_line}
@@ -64,7 +64,7 @@ stops_at n task = record task { until = Some n }
 
 abbrev job_of : List PhaserLine → List Task → List (List ℤ) → Job
 job_of phasers tasks samples = record {
-  graph = record { phasers = phasers; tasks = tasks };
+  graph = record no_graph { phasers = phasers; tasks = tasks };
   samples = samples;
 }
 

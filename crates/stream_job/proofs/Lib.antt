@@ -1,1 +1,4 @@
 mod Examples
+pub mod FirSteps
+pub mod Made
+pub mod Mixing

@@ -1,4 +1,3 @@
-pub mod Graphs
 pub mod Jobs
 pub mod Spans
 pub mod Lists

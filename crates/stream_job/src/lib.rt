@@ -2,8 +2,8 @@
 //! sources, phaser by phaser.
 #![tactic(auto)]
 
-mod graph;
+mod list;
 mod span;
 
-pub use graph::{Kind, Op, Parent, PhaserLine, Place, TaskLine};
+pub use list::{every_list, fir_list, in_turn_list, mixed_list};
 pub use span::Span;
