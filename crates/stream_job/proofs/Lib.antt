@@ -1,4 +1,8 @@
+pub mod Composed
 mod Examples
+pub mod Firsts
 pub mod FirSteps
 pub mod Made
 pub mod Mixing
+pub mod Sendable
+pub mod Sends

@@ -1,5 +1,7 @@
 pub mod Jobs
-pub mod Spans
+pub mod Kept
 pub mod Lists
-pub mod Ranges
 pub mod Meetings
+pub mod Parts
+pub mod Ranges
+pub mod Spans

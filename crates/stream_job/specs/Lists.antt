@@ -122,16 +122,20 @@ number (Value v) = v
 number Empty = pos 0
 number TooBig = pos 0
 
--- phase n of a phaser with these members: its value, with the phaser's single
-abbrev pub phase_over : Job → ℕ → List Member → ℕ → Outcome
-phase_over job p members n =
-    let phaser = phaser_at job.graph p in
-    applied phaser.single (value_by phaser.op (sends_in members n))
+-- phase n of phaser p with these members, by this value of lists of sends, with the phaser's single
+abbrev pub phase_in : (List ℤ → Outcome) → Job → ℕ → List Member → ℕ → Outcome
+phase_in value job p members n =
+    applied (phaser_at job.graph p).single (value (sends_in members n))
+
+-- its number
+abbrev pub number_in : (List ℤ → Outcome) → Job → ℕ → List Member → ℕ → ℤ
+number_in value job p members n = number (phase_in value job p members n)
 
 -- the phases of a phaser, over the numbers of the lists of the phasers above
 abbrev pub list_over : Job → List Span → List ℕ → List (List ℤ) → ℕ → List Outcome
 list_over job spans lengths above p =
-    map (phase_over job p (members_of job spans above p)) (range_with_len 0 (get_or lengths p 0))
+    map (phase_in (value_by (phaser_at job.graph p).op) job p (members_of job spans above p))
+    (range_with_len 0 (get_or lengths p 0))
 
 -- the numbers of the lists of the first n phasers
 abbrev pub numbers_up_to : Job → List Span → List ℕ → ℕ → List (List ℤ)

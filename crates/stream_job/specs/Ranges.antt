@@ -40,12 +40,15 @@ are_made Split j = false
 are_made Join j = false
 are_made Sink j = false
 
+-- the first step at which a task of this kind makes a value that is out of range, where it puts
+-- this list on its output number j
+abbrev pub list_fault : Kind → ℕ → List ℤ → Option ℕ
+list_fault kind j list = if are_made kind j then position_from is_out_of_range 0 list else None
+
 -- the first step at which what task number t makes on its output number j is out of range
 abbrev pub made_fault : Job → List Span → List (List ℤ) → ℕ → ℕ → Option ℕ
 made_fault job spans lists t j =
-    if are_made (task_at job.graph t).kind j
-    then position_from is_out_of_range 0 (output_on job spans lists t j)
-    else None
+    list_fault (task_at job.graph t).kind j (output_on job spans lists t j)
 
 -- the same of a live task, on the phaser that is its output number j
 abbrev pub output_fault : Job → List Span → List (List ℤ) → ℕ → Option ℕ → Option ℕ

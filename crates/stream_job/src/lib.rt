@@ -1,9 +1,23 @@
 //! Whole lists of a graph: what each task puts on each phaser, composed from the samples of the
 //! sources, phaser by phaser.
+//!
+//! It is for whoever wants the exact lists of a graph's sinks, or the first value that is out of
+//! range: make a `Job` of a graph and the samples of its sources, and give it to `eval`.
 #![tactic(auto)]
 
+mod fault;
+mod job;
 mod list;
+mod members;
+mod numbers;
+mod outputs;
+mod phases;
 mod span;
+mod taken;
+mod takes;
+mod whole;
 
-pub use list::{every_list, fir_list, in_turn_list, mixed_list};
-pub use span::Span;
+pub use fault::{EvalFault, JobRefusal};
+pub use job::Job;
+pub use span::{LENGTH_MAX, Span};
+pub use whole::{Lines, eval};
