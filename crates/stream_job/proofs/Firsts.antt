@@ -5,6 +5,7 @@ use Rattle.std.specs.List.{range_with_len, fold, filter_map, cons_option, find, 
 use Rattle.std.proofs.lemmas.List.Elements.{filter_map-append, filter-append}
 use Rattle.std.proofs.lemmas.List.{append-nil}
 use Rattle.std.proofs.lemmas.List.Sums.{fold-append}
+use Rattle.std.proofs.lemmas.List.FromFn.{map-range_with_len_more}
 use Rattle.stream_job.specs.Ranges.{first_some}
 
 -- the first of the last m of f, from place i on, is the whole's first
@@ -41,6 +42,13 @@ range_more a (suc n) =
 -- a fold over the numbers below n + 1
 pub fold-range_more : {B : Type 0} (f : B → ℕ → B) (b : B) (n : ℕ) → fold f b (range_with_len 0 (n + 1)) ≡ f (fold f b (range_with_len 0 n)) n
 fold-range_more f b n = ap (fold f b) (range_more 0 n ∙ ap (λ k. range_with_len 0 n ++ k ∷ []) (zero-add n)) ∙ fold-append f b (range_with_len 0 n) (n ∷ [])
+
+-- a fold over what stands at the numbers below n + 1
+pub fold-map_more : {A B : Type 0} (f : B → A → B) (b : B) (g : ℕ → A) (n : ℕ)
+    → fold f b (map g (range_with_len 0 (n + 1))) ≡ f (fold f b (map g (range_with_len 0 n))) (g n)
+fold-map_more f b g n =
+    ap (fold f b) (map-range_with_len_more g 0 n n (zero-add n))
+    ∙ fold-append f b (map g (range_with_len 0 n)) (g n ∷ [])
 
 -- ---- what a test picks of the numbers below n + 1
 
@@ -84,6 +92,10 @@ find-end t m i le = let none : m - i ≡ 0 = omega arith in rw none refl
 
 pub any-pass : (t : ℕ → Bool) (m i : ℕ) → i < m → t i ≡ false → list_any t (range_with_len i (m - i)) ≡ list_any t (range_with_len (i + 1) (m - (i + 1)))
 any-pass t m i lt e = rw (range_next i m lt, e) refl
+
+pub any-here : (t : ℕ → Bool) (m i : ℕ) → i < m → t i ≡ true
+    → list_any t (range_with_len i (m - i)) ≡ true
+any-here t m i lt e = rw (range_next i m lt, e) refl
 
 pub filter-skip : (t : ℕ → Bool) (n : ℕ) → t n ≡ false → filter t (range_with_len 0 (n + 1)) ≡ filter t (range_with_len 0 n)
 filter-skip t n e =

@@ -2,6 +2,7 @@ pub mod Composed
 mod Examples
 pub mod Firsts
 pub mod FirSteps
+pub mod Given
 pub mod Made
 pub mod Mixing
 pub mod Sendable

@@ -3,7 +3,7 @@ use Rattle.std.specs.Prelude.{◌≡◌, ◌≤◌, ◌+◌, ℕ, ℤ, List, len
 use Rattle.std.specs.Global.{Global}
 use Rattle.std.specs.List.{All}
 use Rattle.phase_accum.specs.Sends.{AreSends}
-use Rattle.graph_lang.specs.Graphs.{Graph}
+use Rattle.graph_lang.specs.Graphs.{Graph, sources_of}
 use Rattle.stream_job.specs.Jobs.{Job}
 use Rattle.stream_job.specs.Spans.{spans_of, lengths_of}
 use Rattle.stream_job.specs.Meetings.{meeting_line}
@@ -32,6 +32,7 @@ IsShort span = span.offset + span.steps ≤ LENGTH_MAX
 
 -- what holds of every job
 pub record IsJob (job : Inside) : Type 0 where
+  pub each : length job.samples.items ≡ sources_of job.graph
   pub spans_are : job.spans.items ≡ spans_of (job_view job)
   pub lengths_are : job.lengths.items ≡ lengths_of (job_view job)
   pub span_each : length job.spans.items ≡ length job.graph.tasks

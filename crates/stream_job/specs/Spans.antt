@@ -2,7 +2,7 @@
 -- from the numbers of the samples alone.
 use Rattle.std.specs.Prelude.{ℕ, ◌+◌, ◌-◌, ◌*◌, ◌/◌, true, false, ◌&&◌, List, [], ◌∷◌, ◌++◌, length, map, Option, Some, None, get_or, nat_le, if◌then◌else◌, min, max}
 use Rattle.std.specs.List.{range_with_len, fold}
-use Rattle.graph_lang.specs.Graphs.{Task, task_at}
+use Rattle.graph_lang.specs.Graphs.{Graph, Task, task_at}
 use Rattle.stream_job.specs.Jobs.{Job, samples_at, place_in}
 use Rattle.stream_job.specs.declared.span.Span.{Span}
 use Rattle.graph_lang.specs.declared.line.Parent.{Parent}
@@ -43,12 +43,14 @@ takes_from task steps k = of task.kind
     of Join = turns_below (length task.inputs) k steps
     of kind = steps
 
--- the step at which the first input runs out, of inputs with so many values, from number k of m
--- on: input number k, with n values, runs out at step k + m * n
-abbrev pub first_run_out : ℕ → ℕ → List ℕ → ℕ
-first_run_out m k [] = 0
-first_run_out m k (n ∷ []) = k + m * n
-first_run_out m k (n ∷ ns) = min (k + m * n) (first_run_out m (k + 1) ns)
+-- input number k of m, with these numbers of values, runs out at this step
+abbrev pub run_out : List ℕ → ℕ → ℕ
+run_out values k = k + length values * get_or values k 0
+
+-- the step at which the first input runs out
+abbrev pub first_run_out : List ℕ → ℕ
+first_run_out values =
+    fold min (run_out values 0) (map (run_out values) (range_with_len 0 (length values)))
 
 -- how many steps a task's samples, or its inputs with so many values, are enough for
 abbrev pub enough_for : Task → ℕ → List ℕ → ℕ
@@ -56,7 +58,7 @@ enough_for task samples values = of task.kind
   where
     of : Kind → ℕ
     of Source = samples
-    of Join = first_run_out (length values) 0 values
+    of Join = first_run_out values
     of kind = get_or values 0 0
 
 -- at most `until` steps
@@ -111,9 +113,9 @@ end_on task span None = 0
 end_on task span (Some j) = if span.live then span.offset + puts_on task span.steps j else 0
 
 -- where task number t ends on phaser p
-abbrev pub end_of : Job → List Span → ℕ → ℕ → ℕ
-end_of job spans p t =
-    let task = task_at job.graph t in
+abbrev pub end_of : Graph → List Span → ℕ → ℕ → ℕ
+end_of graph spans p t =
+    let task = task_at graph t in
     end_on task (get_or spans t nowhere) (place_in (signalled_by task) p)
 
 -- the greatest number of a list, or 0
@@ -121,15 +123,16 @@ abbrev pub greatest : List ℕ → ℕ
 greatest ns = fold max 0 ns
 
 -- the length of a phaser's list: the greatest end of a task on it
-abbrev pub length_on : Job → List Span → ℕ → ℕ
-length_on job spans p =
-    greatest (map (end_of job spans p) (range_with_len 0 (length job.graph.tasks)))
+abbrev pub length_on : Graph → List Span → ℕ → ℕ
+length_on graph spans p =
+    greatest (map (end_of graph spans p) (range_with_len 0 (length graph.tasks)))
 
 -- the lengths of the lists of the first n phasers. A task that signals a phaser has its inputs
 -- above it, so that the lengths that are still missing make no difference
 abbrev pub lengths_up_to : Job → ℕ → List ℕ
 lengths_up_to job n =
-    fold (λ above p. above ++ length_on job (spans_over job above) p ∷ []) [] (range_with_len 0 n)
+    fold (λ above p. above ++ length_on job.graph (spans_over job above) p ∷ [])
+    [] (range_with_len 0 n)
 
 -- the lengths of the phasers' lists
 abbrev pub lengths_of : Job → List ℕ

@@ -1,16 +1,22 @@
 //! A graph with the samples of its sources.
-ghost use Rattle.std.specs.Prelude.{◌≡◌, ◌<◌, ◌≤◌, [], length, get_or, None};
+ghost use Rattle.std.specs.Prelude.{◌≡◌, ◌<◌, ◌≤◌, ℕ, [], length, get_or, Some, None, IfOk, Err};
+ghost use Rattle.std.specs.List.{All};
 ghost use Rattle.phase_accum.specs.Sends.{AreSends};
-ghost use Rattle.graph_lang.specs.Graphs.{is_source, phaser_at, task_at, source_number};
+ghost use Rattle.graph_lang.specs.Graphs.{is_source, phaser_at, task_at, source_number, sources_of};
 ghost use Rattle.graph_lang.specs.Kept.{task_of};
 ghost use Rattle.graph_lang.specs.TaskLines.{IsTaskLine};
 ghost use Rattle.stream_job.specs.Jobs.{samples_at};
-ghost use Rattle.stream_job.specs.Kept.{IsShort};
+ghost use Rattle.stream_job.specs.Kept.{given, items_of, IsShort};
 ghost use Rattle.stream_job.specs.Meetings.{meeting_line};
 ghost use Rattle.stream_job.specs.Spans.{spans_of, lengths_of, nowhere};
 
+use crate::fault::JobRefusal;
+use crate::lengths::all_lengths;
+use crate::meetings::first_meeting;
 use crate::span::Span;
+use crate::spans::all_spans;
 use graph_lang::{Graph, Kind, PhaserLine, TaskLine};
+use std::alloc::Global;
 use std::marker::Model;
 
 /// A graph with the samples of its sources, ready to be evaluated.
@@ -38,9 +44,43 @@ impl Model for Job {
 }
 
 impl Job {
+    /// Makes a job of a graph and the samples of its sources, one list for each source in the order
+    /// of their lines. A list has at most 67,108,864 values, none of which is `NO_VALUE`.
+    ///
+    /// Where two tasks signal in one phase of a phaser with `any`, the answer is `AnyMeets` with the
+    /// least line of a task that meets a task of an earlier line. A refusal drops the graph and the
+    /// samples.
+    pub fn new(alloc: Global, graph: Graph, samples: Vec<Vec<i64>>) -> Result<Job, JobRefusal>
+        requires each { length samples.items ≡ sources_of graph }
+        requires sends { All (λ list. AreSends list.items) samples.items }
+        requires few { All (λ list. length list.items ≤ 67108864) samples.items }
+        ensures graph { IfOk result (λ job. job.graph ≡ graph) }
+        ensures samples { IfOk result (λ job. job.samples ≡ items_of samples.items) }
+        ensures apart { IfOk result (λ job. meeting_line job ≡ None) }
+        ensures any_meets { (line : ℕ) → result ≡ Err (JobRefusal.AnyMeets line)
+            → meeting_line (given graph samples.items) ≡ Some line }
+    {
+        let Ok(lengths) = all_lengths(alloc, &graph, &samples) else {
+            return Err(JobRefusal::OutOfMemory);
+        };
+        let Ok(spans) = all_spans(alloc, &graph, &samples, &lengths) else {
+            return Err(JobRefusal::OutOfMemory);
+        };
+        if let Some(line) = first_meeting(&graph, &spans) {
+            return Err(JobRefusal::AnyMeets { line });
+        }
+        Ok(Job {
+            graph,
+            samples,
+            spans,
+            lengths,
+        })
+    }
+
     /// Lends the graph. It takes no memory.
     pub fn graph(&self) -> &Graph
         ensures graph { result.now ≡ self.now.graph }
+        ensures samples { length self.now.samples ≡ sources_of self.now.graph }
         ensures apart { meeting_line self.now ≡ None }
     {
         &self.graph

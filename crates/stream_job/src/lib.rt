@@ -7,12 +7,15 @@
 
 mod fault;
 mod job;
+mod lengths;
 mod list;
+mod meetings;
 mod members;
 mod numbers;
 mod outputs;
 mod phases;
 mod span;
+mod spans;
 mod taken;
 mod takes;
 mod whole;

@@ -24,7 +24,7 @@ use graph_lang::{Kind, Place, TaskLine};
 use std::alloc::Global;
 
 /// Which output of a task a phaser is.
-fn output_number(task: &TaskLine, p: usize) -> Option<usize>
+pub(crate) fn output_number(task: &TaskLine, p: usize) -> Option<usize>
     ensures number { result ≡ place_in (signalled_by (task_of task.now)) p }
     ensures turn { (j : ℕ) → result ≡ Some j → task.now.kind ≡ Split
         → j < length task.now.outputs.items }
