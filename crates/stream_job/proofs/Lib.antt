@@ -1,3 +1,4 @@
+pub mod Alone
 pub mod Composed
 mod Examples
 pub mod Firsts

@@ -56,11 +56,11 @@ unless : (b : Bool) (x y : Option ℤ) → (b ≡ false → x ≡ y) → (if b t
 unless true x y same = refl
 unless false x y same = same refl
 
-never : (b : Bool) (x : Option ℤ) → (b ≡ false → x ≡ None) → (if b then None else x) ≡ None
+pub never : (b : Bool) (x : Option ℤ) → (b ≡ false → x ≡ None) → (if b then None else x) ≡ None
 never true x none = refl
 never false x none = none refl
 
-beyond : (b : Bool) (x y : Option ℤ) → b ≡ false → x ≡ y → (if b then None else x) ≡ y
+pub beyond : (b : Bool) (x y : Option ℤ) → b ≡ false → x ≡ y → (if b then None else x) ≡ y
 beyond true x y e same = grind (arith, e)
 beyond false x y e same = same
 
@@ -90,7 +90,7 @@ abbrev pub one : Option ℤ → List ℤ
 one None = []
 one (Some v) = v ∷ []
 
-send_one : (n : ℕ) (m : Member) → filter_map (send_in n) (m ∷ []) ≡ one (send_in n m)
+pub send_one : (n : ℕ) (m : Member) → filter_map (send_in n) (m ∷ []) ≡ one (send_in n m)
 send_one n m = by (send_in n m)
   where
     by : (o : Option ℤ) → filter_map (λ x. x) (o ∷ []) ≡ one o

@@ -7,6 +7,7 @@
 
 mod fault;
 mod job;
+pub mod laws;
 mod lengths;
 mod list;
 mod meetings;

@@ -1,11 +1,12 @@
 //! The lists of all phasers and of all sinks.
-ghost use Rattle.std.specs.Prelude.{◌≡◌, ◌<◌, ℕ, length, map, IfOk, None, Some, Err};
+ghost use Rattle.std.specs.Prelude.{◌≡◌, ◌<◌, ◌∷◌, [], ℕ, length, map, get_or, IfOk, IfErr, None, Some, Err};
 ghost use Rattle.std.specs.List.{All};
 ghost use Rattle.phase_accum.specs.Sends.{AreSends};
 ghost use Rattle.graph_lang.specs.Graphs.{phaser_at};
 ghost use Rattle.graph_lang.specs.declared.place.Place.{Place as PlaceValue};
 ghost use Rattle.stream_job.specs.Kept.{items_of, told};
 ghost use Rattle.stream_job.specs.Lists.{is_sink_at, lines_of, list_over, number, numbers_of, sink_over, sinks_of, value_by};
+ghost use Rattle.stream_job.specs.Parts.{member_of};
 ghost use Rattle.stream_job.specs.Ranges.{fault_over, first_too_big, Fits};
 ghost use Rattle.stream_job.specs.Spans.{lengths_of, spans_of};
 
@@ -13,6 +14,7 @@ use crate::fault::EvalFault;
 use crate::job::Job;
 use crate::members::members_on;
 use crate::numbers::reduced;
+use crate::phases::MemberList;
 use crate::takes::taken_at;
 use graph_lang::{Kind, Op};
 use phase_accum::{Accumulate, Any, Greatest, Least, Product, Sum};
@@ -25,6 +27,32 @@ pub struct Lines {
     pub task: usize,
     /// Its values, none where it is not live.
     pub values: Vec<i64>,
+}
+
+/// The values of the only member, where they are the list of phaser number `p`: they begin in
+/// phase 0, there is one for each phase, and the phaser has no single. Else the members.
+fn only_values(job: &Job, p: usize, members: Vec<MemberList>) -> Result<Vec<i64>, Vec<MemberList>>
+    requires phaser { p < length job.now.graph.phasers }
+    requires sends { All (λ list. AreSends list.values.items) members.items }
+    ensures plain { IfOk result (λ values. (phaser_at job.now.graph p).single ≡ None) }
+    ensures sends { IfOk result (λ values. AreSends values.items) }
+    ensures alone { IfOk result (λ values.
+        map member_of members.items ≡ (0, values.items) ∷ []) }
+    ensures length { IfOk result (λ values.
+        length values.items ≡ get_or (lengths_of job.now) p 0) }
+    ensures others { IfErr result (λ others. others.items ≡ members.items) }
+{
+    let mut members = members;
+    if members.len() != 1 || job.phaser(p).single.is_some() {
+        return Err(members);
+    }
+    if members[0].offset != 0 || members[0].values.len() != job.length(p) {
+        return Err(members);
+    }
+    match members.pop() {
+        Some(only) => Ok(only.values),
+        None => Err(members),
+    }
 }
 
 /// The numbers of the list of phaser number `p`, whose operation is `A`, over those of the phasers
@@ -51,6 +79,10 @@ fn list_by<A: Accumulate>(
     let members = match members_on(alloc, job, above, p) {
         Ok(members) => members,
         Err(fault) => return Err(fault),
+    };
+    let members = match only_values(job, p, members) {
+        Ok(values) => return Ok(values),
+        Err(members) => members,
     };
     reduced::<A>(alloc, job, p, &members)
 }
