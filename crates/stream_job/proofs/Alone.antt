@@ -50,7 +50,8 @@ map-entries f a (v ∷ vs) each =
     let here : a ≡ a + 0 = omega arith in
     let first : f a ≡ v = ap f here ∙ each 0 (omega arith) in
     let rest = map-entries f (a + 1) vs
-    (λ n lt. let next : a + 1 + n ≡ a + suc n = omega arith in ap f next ∙ each (suc n) (omega arith)) in
+    (λ n lt. let next : a + 1 + n ≡ a + suc n = omega arith in ap f next
+    ∙ each (suc n) (omega arith)) in
     ap (λ w. w ∷ map f (range_with_len (a + 1) (length vs))) first ∙ ap (λ ws. v ∷ ws) rest
 
 -- no number passes
@@ -61,7 +62,8 @@ find-none t a (suc m) each =
     let here : a ≡ a + 0 = omega arith in
     let first : t a ≡ false = ap t here ∙ each 0 (omega arith) in
     let rest = find-none t (a + 1) m
-    (λ n lt. let next : a + 1 + n ≡ a + suc n = omega arith in ap t next ∙ each (suc n) (omega arith)) in
+    (λ n lt. let next : a + 1 + n ≡ a + suc n = omega arith in ap t next
+    ∙ each (suc n) (omega arith)) in
     rw first rest
 
 -- ---- the only member
@@ -81,12 +83,14 @@ value-alone op vs n sends lt =
     ∙ value_by-one op (entry vs n) (AreSends-at vs n (pos 0) sends lt)
 
 -- its values are the phaser's list
-pub numbers-alone : (job : Job) (p : ℕ) (value : List ℤ → Outcome) (members : List Member) (vs : List ℤ)
+pub numbers-alone : (job : Job) (p : ℕ) (value : List ℤ → Outcome) (members : List Member)
+    (vs : List ℤ)
     → value ≡ value_by (phaser_at job.graph p).op → (phaser_at job.graph p).single ≡ None
     → members ≡ (0, vs) ∷ [] → length vs ≡ get_or (lengths_of job) p 0 → AreSends vs
     → vs ≡ map (number_in value job p members) (range_with_len 0 (get_or (lengths_of job) p 0))
 numbers-alone job p value members vs value_is plain alone long sends =
-    sym (ap (λ v. map (number_in v job p members) (range_with_len 0 (get_or (lengths_of job) p 0))) value_is
+    sym (ap (λ v. map (number_in v job p members) (range_with_len 0 (get_or (lengths_of job) p 0)))
+    value_is
     ∙ (ap (λ ms. map (number_in op job p ms) (range_with_len 0 (get_or (lengths_of job) p 0))) alone
     ∙ (ap (λ m. map (number_in op job p ((0, vs) ∷ [])) (range_with_len 0 m)) (sym long)
     ∙ map-entries (number_in op job p ((0, vs) ∷ [])) 0 vs each)))
@@ -102,7 +106,8 @@ numbers-alone job p value members vs value_is plain alone long sends =
         ∙ ap number (value-alone (phaser_at job.graph p).op vs n sends lt))
 
 -- and none of them is too big
-pub fault-alone : (job : Job) (p : ℕ) (value : List ℤ → Outcome) (members : List Member) (vs : List ℤ)
+pub fault-alone : (job : Job) (p : ℕ) (value : List ℤ → Outcome) (members : List Member)
+    (vs : List ℤ)
     → value ≡ value_by (phaser_at job.graph p).op
     → members ≡ (0, vs) ∷ [] → length vs ≡ get_or (lengths_of job) p 0 → AreSends vs
     → first_fault value job (spans_of job) members p (get_or (lengths_of job) p 0) ≡ None

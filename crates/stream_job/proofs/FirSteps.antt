@@ -21,12 +21,14 @@ pub outputs-entry : (taps : List ℤ) (shift : ℕ) (samples : List ℤ) (n : �
     ≡ output_after taps shift (take n samples ++ get_or samples n (pos 0) ∷ [])
 outputs-entry taps shift samples n lt =
     let next : suc n ≡ n + 1 = omega arith in
-    get_or-map-range_with_len (output_at taps shift samples) 0 (length samples) n n (pos 0) lt (zero-add n)
+    get_or-map-range_with_len (output_at taps shift samples) 0 (length samples) n n (pos 0) lt
+    (zero-add n)
     ∙ (ap (λ m. output_after taps shift (take m samples)) next
     ∙ ap (output_after taps shift) (take_more samples n (pos 0) lt))
 
 -- what is known after n samples
-pub record Stepped (taps : List ℤ) (shift : ℕ) (samples : List ℤ) (fir : FirState) (list : List ℤ) (n : ℕ) : Type 0 where
+pub record Stepped (taps : List ℤ) (shift : ℕ) (samples : List ℤ) (fir : FirState) (list : List ℤ)
+    (n : ℕ) : Type 0 where
   pub taps_are : fir.taps ≡ taps
   pub shift_is : fir.shift ≡ shift
   pub stands : StandsFor fir (take n samples)
@@ -36,7 +38,13 @@ pub record Stepped (taps : List ℤ) (shift : ℕ) (samples : List ℤ) (fir : F
 pub Stepped-none : (taps : List ℤ) (shift : ℕ) (samples : List ℤ) (fir : FirState)
     → fir.taps ≡ taps → fir.shift ≡ shift → StandsFor fir [] → Stepped taps shift samples fir [] 0
 Stepped-none taps shift samples fir t s stands =
-    record { taps_are = t; shift_is = s; stands = stands; made = MadeSoFar-none (outputs taps shift samples) }
+    record {
+      taps_are = t;
+      shift_is = s;
+      stands = stands;
+      made = MadeSoFar-none
+          (outputs taps shift samples);
+    }
 
 -- the value that a step's answer checks is the next output
 pub next_output : (taps : List ℤ) (shift : ℕ) (samples : List ℤ) (fir : FirState) (list : List ℤ)
@@ -61,7 +69,8 @@ pub Stepped-more : (taps : List ℤ) (shift : ℕ) (samples : List ℤ) (fir aft
     → ((before : List ℤ) → StandsFor fir before → StandsFor after (before ++ x ∷ []))
     → after.taps ≡ fir.taps → after.shift ≡ fir.shift
     → Stepped taps shift samples after (list ++ y ∷ []) (n + 1)
-Stepped-more taps shift samples fir after list n x y stepped lt is answer stands taps_stay shift_stays =
+Stepped-more taps shift samples fir after list n x y stepped lt is answer stands taps_stay
+    shift_stays =
     let within : n < length (outputs taps shift samples) =
     omega (arith, length-outputs taps shift samples) in
     record {

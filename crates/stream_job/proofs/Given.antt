@@ -13,7 +13,8 @@ pub lengths-given : (graph : Graph) (samples lent : List (Vec ℤ Global)) (leng
     → lengths ≡ lengths_of (given graph samples)
 lengths-given graph samples lent lengths same is = is ∙ ap (λ s. lengths_of (given graph s)) same
 
-pub spans-given : (graph : Graph) (samples lent : List (Vec ℤ Global)) (lengths lengths_lent : List ℕ)
+pub spans-given : (graph : Graph) (samples lent : List (Vec ℤ Global))
+    (lengths lengths_lent : List ℕ)
     (spans : List Span) → lengths ≡ lengths_of (given graph samples)
     → lent ≡ samples → lengths_lent ≡ lengths → spans ≡ spans_over (given graph lent) lengths_lent
     → spans ≡ spans_of (given graph samples)
@@ -22,7 +23,8 @@ spans-given graph samples lent lengths lengths_lent spans lengths_are same lengt
     ∙ (ap (λ s. spans_over (given graph s) lengths_lent) same
     ∙ ap (spans_over (given graph samples)) (lengths_same ∙ lengths_are))
 
-pub meeting-given : (graph : Graph) (samples : List (Vec ℤ Global)) (spans lent : List Span) (found : Option ℕ)
+pub meeting-given : (graph : Graph) (samples : List (Vec ℤ Global)) (spans lent : List Span)
+    (found : Option ℕ)
     → spans ≡ spans_of (given graph samples) → lent ≡ spans → found ≡ meeting_at graph lent
     → meeting_line (given graph samples) ≡ found
 meeting-given graph samples spans lent found spans_are same is =

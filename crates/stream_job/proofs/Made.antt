@@ -97,7 +97,8 @@ pub MadeSoFar-fault : (whole list : List ℤ) (n : ℕ) (f : TooBigValue)
     → position_from is_out_of_range 0 whole ≡ Some n
 MadeSoFar-fault whole list n f made lt answer =
     made.none_yet
-    ∙ position-here is_out_of_range n whole n (pos 0) lt (ranged-err (get_or whole n (pos 0)) f answer)
+    ∙ position-here is_out_of_range n whole n (pos 0) lt
+    (ranged-err (get_or whole n (pos 0)) f answer)
 
 -- all values are made
 pub MadeSoFar-all : (whole list : List ℤ) (n : ℕ) → MadeSoFar whole list n → length whole ≤ n

@@ -17,4 +17,5 @@ next_mixed mul xs es n x e r lt x_is e_is answer =
     answer
     ∙ (ap (λ v. ranged ((mul *ℤ v) -ℤ e)) x_is
     ∙ (ap (λ v. ranged ((mul *ℤ entry xs n) -ℤ v)) e_is
-    ∙ ap ranged (sym (get_or-map-range_with_len (mixed_at mul xs es) 0 (length xs) n n (pos 0) lt (zero-add n)))))
+    ∙ ap ranged (sym (get_or-map-range_with_len (mixed_at mul xs es) 0 (length xs) n n (pos 0) lt
+    (zero-add n)))))

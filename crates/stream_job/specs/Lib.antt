@@ -5,3 +5,4 @@ pub mod Meetings
 pub mod Parts
 pub mod Ranges
 pub mod Spans
+pub mod Texts

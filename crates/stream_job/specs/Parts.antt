@@ -14,5 +14,7 @@ member_option None = None
 member_option (Some list) = Some (member_of list)
 
 -- each part is that of what the members send in its phase
-pub record HasParts {A : Type 0} (op : Operation A) (parts : List A) (members : List Member) : Type 0 where
-  pub each : (n : ℕ) (d : A) → n < length parts → IsPartOf op (get_or parts n d) (sends_in members n)
+pub record HasParts {A : Type 0} (op : Operation A) (parts : List A) (members : List Member)
+    : Type 0 where
+  pub each : (n : ℕ) (d : A) → n < length parts
+      → IsPartOf op (get_or parts n d) (sends_in members n)

@@ -119,7 +119,8 @@ pub(crate) fn members_on(
     requires sends { All (λ list. AreSends list.items) above.now }
     ensures ok { IfOk result (λ members. map member_of members.items
         ≡ members_of job.now (spans_of job.now) (items_of above.now) p) }
-    ensures sends { IfOk result (λ members. All (λ list. AreSends list.values.items) members.items) }
+    ensures sends { IfOk result (λ members.
+        All (λ list. AreSends list.values.items) members.items) }
     ensures few { IfOk result (λ members. length members.items ≤ 64) }
     ensures fits { IfOk result (λ members.
         first_some (output_faults job.now (spans_of job.now) (items_of above.now) p) ≡ None) }

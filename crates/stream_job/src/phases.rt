@@ -1,5 +1,6 @@
 //! The phases of a phaser, from the members' values.
 ghost use Rattle.std.specs.Prelude.{◌≡◌, ◌≤◌, ◌<◌, ◌∷◌, [], ◌++◌, ℕ, List, length, map, IfOk};
+ghost use Rattle.phase_base.specs.declared.limits.TheConstants.{SENDS_MAX};
 ghost use Rattle.phase_accum.specs.Sends.{AreSends};
 ghost use Rattle.std.specs.List.{All};
 ghost use Rattle.stream_job.specs.Lists.{Member};
@@ -20,8 +21,10 @@ pub struct MemberList {
 /// Sends a member's values, behind what was sent in each phase.
 fn add_member<A: Accumulate>(parts: &mut [A], member: &MemberList)
     requires sends { AreSends member.now.values.items }
-    requires stands { (members : List Member) × HasParts A.operation parts.old members × (length members < 65536) }
-    ensures stands { (members : List Member) → HasParts A.operation parts.old members → length members < 65536
+    requires stands { (members : List Member) × HasParts A.operation parts.old members
+        × (length members < SENDS_MAX) }
+    ensures stands { (members : List Member) → HasParts A.operation parts.old members
+        → length members < SENDS_MAX
         → HasParts A.operation parts.new (members ++ member_of member.now ∷ []) }
     ensures length { length parts.new ≡ length parts.old }
 {
@@ -55,7 +58,8 @@ pub fn parts_of<A: Accumulate>(
 ) -> Result<Vec<A>, AllocError>
     requires sends { All (λ member. AreSends member.values.items) members.now }
     requires few { length members.now ≤ 64 }
-    ensures parts { IfOk result (λ parts. HasParts A.operation parts.items (map member_of members.now)) }
+    ensures parts { IfOk result (λ parts.
+        HasParts A.operation parts.items (map member_of members.now)) }
     ensures length { IfOk result (λ parts. length parts.items ≡ phases) }
 {
     let mut parts = no_sends(alloc, phases)?;

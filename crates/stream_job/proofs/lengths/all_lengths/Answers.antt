@@ -14,7 +14,8 @@ loop-p-preserved c =
     let before = lengths_up_to job c.loop-p.p in
     let above = c.as_slice.ensures.value ∙ c.loop-p.invariant.0 in
     let spans = c.deref.ensures.value ∙ (c.in_ok-spans.ensures.spans ∙ ap (spans_over job) above) in
-    let length_is = c.longest.ensures.length ∙ ap (λ s. length_on c.args.graph.now s c.loop-p.p) spans in
+    let length_is = c.longest.ensures.length
+    ∙ ap (λ s. length_on c.args.graph.now s c.loop-p.p) spans in
     rw c.in_ok-push.ensures.items (
       ap (λ xs. xs ++ c.longest.result ∷ []) c.loop-p.invariant.0
           ∙ (ap (λ n. before ++ n ∷ []) length_is

@@ -12,6 +12,7 @@ loop-t-preserved c =
     let before = greatest (map ends (range_with_len 0 c.loop-t.t)) in (
       c.max-end.ensures
           ∙ (ap (λ n. max n c.end_on.result) c.loop-t.invariant.0
-          ∙ (ap (λ n. max before n) c.end_on.ensures.end ∙ sym (fold-map_more max 0 ends c.loop-t.t))),
+          ∙ (ap (λ n. max before n) c.end_on.ensures.end
+          ∙ sym (fold-map_more max 0 ends c.loop-t.t))),
       grind (arith, c.max-end.ensures, c.loop-t.invariant.1, c.end_on.ensures.short),
     )

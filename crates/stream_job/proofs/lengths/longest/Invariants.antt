@@ -7,4 +7,5 @@ use Rattle.stream_job.proofs.lengths.longest.Given as goal
 -- the greatest end of the tasks before this one
 abbrev pub invariant-loop-t : goal.invariant-loop-t
 invariant-loop-t l =
-    (l.end ≡ greatest (map (end_of l.graph l.spans l.p) (range_with_len 0 l.t))) × (l.end ≤ LENGTH_MAX)
+    (l.end ≡ greatest (map (end_of l.graph l.spans l.p) (range_with_len 0 l.t)))
+    × (l.end ≤ LENGTH_MAX)

@@ -16,7 +16,8 @@ returns-in_default-mix-clause-too_big c step e =
     let fits_e : FitsSigned w64 c.entry_of.result = search rules in
     let within : c.loop-step.step < length (mixed mul c.args.xs.now c.args.es.now) =
     omega (arith, length-mixed mul c.args.xs.now c.args.es.now, c.loop-step-test.true) in
-    let next = next_mixed mul c.args.xs.now c.args.es.now c.loop-step.step _ _ _ c.loop-step-test.true
+    let next = next_mixed mul c.args.xs.now c.args.es.now c.loop-step.step _ _ _
+    c.loop-step-test.true
     (to_z-of_z w64 _ fits_x) (to_z-of_z w64 _ fits_e ∙ c.entry_of.ensures) c.mix.ensures in
     let here = MadeSoFar-fault _ _ _ c.in_default-mix.field-0 c.loop-step.invariant within
     (sym next ∙ c.in_default-mix.is) in
@@ -33,7 +34,8 @@ loop-step-preserved c =
     let fits_y : FitsSigned w64 c.in-Ok-mix.y = search rules in
     let within : c.loop-step.step < length (mixed mul c.args.xs.now c.args.es.now) =
     omega (arith, length-mixed mul c.args.xs.now c.args.es.now, c.loop-step-test.true) in
-    let next = next_mixed mul c.args.xs.now c.args.es.now c.loop-step.step _ _ _ c.loop-step-test.true
+    let next = next_mixed mul c.args.xs.now c.args.es.now c.loop-step.step _ _ _
+    c.loop-step-test.true
     (to_z-of_z w64 _ fits_x) (to_z-of_z w64 _ fits_e ∙ c.entry_of.ensures) c.mix.ensures in
     rw (c.in-Ok-push.ensures.items, to_z-of_z w64 c.in-Ok-mix.y fits_y)
     (MadeSoFar-more _ _ _ c.in-Ok-mix.y c.loop-step.invariant within (sym next ∙ c.in-Ok-mix.is))

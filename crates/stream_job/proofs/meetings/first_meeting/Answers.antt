@@ -11,7 +11,8 @@ loop-t-preserved c =
     let within : c.loop-t.t < length c.args.graph.now.tasks =
     omega (arith, c.loop-t-test.true, c.tasks-t-end.ensures.count) in
     c.loop-t.invariant
-    ∙ find-pass (meets_above c.args.graph.now c.args.spans.now) _ c.loop-t.t within (sym c.meets_some.ensures ∙ c.if-meets_some.false)
+    ∙ find-pass (meets_above c.args.graph.now c.args.spans.now) _ c.loop-t.t within
+    (sym c.meets_some.ensures ∙ c.if-meets_some.false)
 
 -- this task is the first that does
 pub returns-then-meets_some : goal.returns-then-meets_some
@@ -21,4 +22,5 @@ returns-then-meets_some c =
     ap (λ task. Some task.line) c.task.ensures.task
     ∙ sym (ap (option_map (λ t. (task_at c.args.graph.now t).line))
     (c.loop-t.invariant
-    ∙ find-here (meets_above c.args.graph.now c.args.spans.now) _ c.loop-t.t within (sym c.meets_some.ensures ∙ c.if-meets_some.true)))
+    ∙ find-here (meets_above c.args.graph.now c.args.spans.now) _ c.loop-t.t within
+    (sym c.meets_some.ensures ∙ c.if-meets_some.true)))

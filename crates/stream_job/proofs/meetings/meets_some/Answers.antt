@@ -9,7 +9,8 @@ loop-p-preserved c =
     let within : c.loop-p.p < length c.args.graph.now.phasers =
     omega (arith, c.loop-p-test.true, c.phasers-p-end.ensures.count) in
     c.loop-p.invariant
-    ∙ any-pass (meets_on c.args.graph.now c.args.spans.now c.args.t) _ c.loop-p.p within (sym c.meets.ensures ∙ c.if-meets.false)
+    ∙ any-pass (meets_on c.args.graph.now c.args.spans.now c.args.t) _ c.loop-p.p within
+    (sym c.meets.ensures ∙ c.if-meets.false)
 
 -- it meets one on this phaser
 pub returns-then-meets : goal.returns-then-meets
@@ -17,4 +18,5 @@ returns-then-meets c =
     let within : c.loop-p.p < length c.args.graph.now.phasers =
     omega (arith, c.loop-p-test.true, c.phasers-p-end.ensures.count) in
     sym (c.loop-p.invariant
-    ∙ any-here (meets_on c.args.graph.now c.args.spans.now c.args.t) _ c.loop-p.p within (sym c.meets.ensures ∙ c.if-meets.true))
+    ∙ any-here (meets_on c.args.graph.now c.args.spans.now c.args.t) _ c.loop-p.p within
+    (sym c.meets.ensures ∙ c.if-meets.true))

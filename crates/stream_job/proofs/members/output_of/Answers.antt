@@ -8,4 +8,5 @@ list_put-requires-clause-ends c =
     let task = c.task-task.result.now in
     let many : length c.deref.result.now ≡ length task.inputs.items =
     ap length c.deref.ensures.value ∙ c.in-Ok.ensures.count in
-    subst (λ n. HasEnds task.kind n (length task.outputs.items)) (sym many) c.task-task.ensures.line.ends
+    subst (λ n. HasEnds task.kind n (length task.outputs.items)) (sym many)
+    c.task-task.ensures.line.ends

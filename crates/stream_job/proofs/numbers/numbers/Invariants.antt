@@ -11,7 +11,8 @@ use Rattle.stream_job.proofs.numbers.numbers.Given as goal
 abbrev pub invariant-loop-n : goal.invariant-loop-n
 invariant-loop-n g l =
     ((members : List Member) → HasParts g.A.Accumulate.operation l.parts members
-    → l.list.items ≡ map (number_in g.A.Accumulate.operation.value l.job l.p members) (range_with_len 0 l.n))
+    → l.list.items ≡ map (number_in g.A.Accumulate.operation.value l.job l.p members)
+    (range_with_len 0 l.n))
     × AreSends l.list.items
     × ((members : List Member) → HasParts g.A.Accumulate.operation l.parts members
     → first_fault g.A.Accumulate.operation.value l.job (spans_of l.job) members l.p (length l.parts)

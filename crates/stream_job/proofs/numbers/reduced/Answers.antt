@@ -12,7 +12,8 @@ pub returns-clause-ok : goal.returns-clause-ok
 returns-clause-ok g c =
     let op = g.A.Accumulate.operation in
     let members = map member_of c.args.members.now in
-    let has = subst (λ ps. HasParts op ps members) (sym c.deref.ensures.value) c.in-Ok.ensures.parts in
+    let has = subst (λ ps. HasParts op ps members) (sym c.deref.ensures.value)
+    c.in-Ok.ensures.parts in
     let as_many = ap length c.deref.ensures.value ∙ (c.in-Ok.ensures.length ∙ c.length.ensures) in
     subst (λ m. IfOk c.numbers.result (λ list. list.items
     ≡ map (number_in op.value c.args.job.now c.args.p members) (range_with_len 0 m)))
@@ -22,7 +23,8 @@ pub returns-clause-fits : goal.returns-clause-fits
 returns-clause-fits g c =
     let op = g.A.Accumulate.operation in
     let members = map member_of c.args.members.now in
-    let has = subst (λ ps. HasParts op ps members) (sym c.deref.ensures.value) c.in-Ok.ensures.parts in
+    let has = subst (λ ps. HasParts op ps members) (sym c.deref.ensures.value)
+    c.in-Ok.ensures.parts in
     let as_many = ap length c.deref.ensures.value ∙ (c.in-Ok.ensures.length ∙ c.length.ensures) in
     subst (λ m. IfOk c.numbers.result (λ list.
     first_fault op.value c.args.job.now (spans_of c.args.job.now) members c.args.p m ≡ None))
@@ -32,10 +34,12 @@ pub returns-clause-too_big : goal.returns-clause-too_big
 returns-clause-too_big g c place n e =
     let op = g.A.Accumulate.operation in
     let members = map member_of c.args.members.now in
-    let has = subst (λ ps. HasParts op ps members) (sym c.deref.ensures.value) c.in-Ok.ensures.parts in
+    let has = subst (λ ps. HasParts op ps members) (sym c.deref.ensures.value)
+    c.in-Ok.ensures.parts in
     let as_many = ap length c.deref.ensures.value ∙ (c.in-Ok.ensures.length ∙ c.length.ensures) in
     let found = c.numbers.ensures.too_big place n e members has in (
       found.0,
-      subst (λ m. first_fault op.value c.args.job.now (spans_of c.args.job.now) members c.args.p m ≡ Some n)
+      subst (λ m. first_fault op.value c.args.job.now (spans_of c.args.job.now) members c.args.p m
+          ≡ Some n)
           as_many found.1,
     )

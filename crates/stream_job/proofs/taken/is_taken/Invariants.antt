@@ -7,5 +7,7 @@ use Rattle.stream_job.proofs.taken.is_taken.Given as goal
 -- none of the tasks before this one takes it
 abbrev pub invariant-loop-t : goal.invariant-loop-t
 invariant-loop-t l =
-    list_any (task_takes l.job (spans_of l.job) l.p l.n) (range_with_len 0 (length l.job.graph.tasks))
-    ≡ list_any (task_takes l.job (spans_of l.job) l.p l.n) (range_with_len l.t (length l.job.graph.tasks - l.t))
+    list_any (task_takes l.job (spans_of l.job) l.p l.n)
+    (range_with_len 0 (length l.job.graph.tasks))
+    ≡ list_any (task_takes l.job (spans_of l.job) l.p l.n)
+    (range_with_len l.t (length l.job.graph.tasks - l.t))

@@ -16,10 +16,21 @@ loop-t-preserved c =
           rw (w.lines-is, w.in-Ok-push.ensures.items)
           (map_push told c.loop-t.lines.items w.in-Ok-sink_lines.one
           ∙ (ap (λ xs. xs ++ told w.in-Ok-sink_lines.one ∷ []) c.loop-t.invariant
-          ∙ (ap (λ v. map (sink_over c.args.job.now (spans_of c.args.job.now) (items_of c.args.lists.now)) (filter (is_sink_at c.args.job.now) (range_with_len 0 c.loop-t.t)) ++ v ∷ []) w.in-Ok-sink_lines.ensures.ok
-          ∙ (sym (map_push (sink_over c.args.job.now (spans_of c.args.job.now) (items_of c.args.lists.now)) (filter (is_sink_at c.args.job.now) (range_with_len 0 c.loop-t.t)) c.loop-t.t)
-          ∙ ap (map (sink_over c.args.job.now (spans_of c.args.job.now) (items_of c.args.lists.now))) (sym (filter-take (is_sink_at c.args.job.now) c.loop-t.t (sym c.is_sink_line.ensures ∙ w.if-is_sink_line.true)))))))
+          ∙ (ap (λ v. map (sink_over c.args.job.now (spans_of c.args.job.now)
+          (items_of c.args.lists.now))
+          (filter (is_sink_at c.args.job.now) (range_with_len 0 c.loop-t.t)) ++ v ∷ [])
+          w.in-Ok-sink_lines.ensures.ok
+          ∙ (sym (map_push (sink_over c.args.job.now (spans_of c.args.job.now)
+          (items_of c.args.lists.now))
+          (filter (is_sink_at c.args.job.now) (range_with_len 0 c.loop-t.t)) c.loop-t.t)
+          ∙ ap (map (sink_over c.args.job.now (spans_of c.args.job.now)
+          (items_of c.args.lists.now)))
+          (sym (filter-take (is_sink_at c.args.job.now) c.loop-t.t
+          (sym c.is_sink_line.ensures ∙ w.if-is_sink_line.true)))))))
       | else-is_sink_line w ↦
           rw w.lines-is
-          (c.loop-t.invariant ∙ ap (map (sink_over c.args.job.now (spans_of c.args.job.now) (items_of c.args.lists.now))) (sym (filter-skip (is_sink_at c.args.job.now) c.loop-t.t (sym c.is_sink_line.ensures ∙ w.if-is_sink_line.false))))
+          (c.loop-t.invariant ∙ ap
+          (map (sink_over c.args.job.now (spans_of c.args.job.now) (items_of c.args.lists.now)))
+          (sym (filter-skip (is_sink_at c.args.job.now) c.loop-t.t
+          (sym c.is_sink_line.ensures ∙ w.if-is_sink_line.false))))
     ]

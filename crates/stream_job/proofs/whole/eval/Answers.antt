@@ -9,5 +9,6 @@ use Rattle.stream_job.proofs.whole.eval.Goals as goal
 pub returns-clause-ok : goal.returns-clause-ok
 returns-clause-ok c =
     IfOk-weaker c.all_lines.result _ _
-    (λ lines is. is ∙ ap (λ ls. map (sink_over c.args.job.now (spans_of c.args.job.now) ls) (sinks_of c.args.job.now)) (ap items_of c.deref.ensures.value ∙ c.in-Ok.ensures.ok))
+    (λ lines is. is ∙ ap (λ ls. map (sink_over c.args.job.now (spans_of c.args.job.now) ls)
+    (sinks_of c.args.job.now)) (ap items_of c.deref.ensures.value ∙ c.in-Ok.ensures.ok))
     c.all_lines.ensures.ok

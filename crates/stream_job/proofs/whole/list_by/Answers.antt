@@ -42,7 +42,8 @@ returns-clause-ok g c =
     let lent = c.deref.ensures.value ∙ c.in-Err-only_values.ensures.others in
     let members = ap (map member_of) lent ∙ c.in-Ok.ensures.ok in
     IfOk-weaker c.reduced.result _ _
-    (λ list is. list-over c.args.job.now (items_of c.args.above.now) c.args.p _ g.A.Accumulate.operation.value list.items members c.requires.value is)
+    (λ list is. list-over c.args.job.now (items_of c.args.above.now) c.args.p _
+    g.A.Accumulate.operation.value list.items members c.requires.value is)
     c.reduced.ensures.ok
 
 -- no value of a member and no phase is out of range
@@ -51,7 +52,8 @@ returns-clause-fits g c =
     let lent = c.deref.ensures.value ∙ c.in-Err-only_values.ensures.others in
     let members = ap (map member_of) lent ∙ c.in-Ok.ensures.ok in
     IfOk-weaker c.reduced.result _ _
-    (λ list none. fault-phase c.args.job.now (items_of c.args.above.now) c.args.p _ g.A.Accumulate.operation.value None c.in-Ok.ensures.fits members c.requires.value none)
+    (λ list none. fault-phase c.args.job.now (items_of c.args.above.now) c.args.p _
+    g.A.Accumulate.operation.value None c.in-Ok.ensures.fits members c.requires.value none)
     c.reduced.ensures.fits
 
 -- a phase is
@@ -60,5 +62,6 @@ returns-clause-too_big g c place n e =
     let lent = c.deref.ensures.value ∙ c.in-Err-only_values.ensures.others in
     let members = ap (map member_of) lent ∙ c.in-Ok.ensures.ok in
     let found = c.reduced.ensures.too_big place n e in
-    fault-phase c.args.job.now (items_of c.args.above.now) c.args.p _ g.A.Accumulate.operation.value (Some n) c.in-Ok.ensures.fits members c.requires.value found.1
+    fault-phase c.args.job.now (items_of c.args.above.now) c.args.p _
+    g.A.Accumulate.operation.value (Some n) c.in-Ok.ensures.fits members c.requires.value found.1
     ∙ ap (λ w. Some (w, n)) (sym found.0)
