@@ -1,0 +1,10 @@
+pub mod Alone
+pub mod Composed
+mod Examples
+pub mod Firsts
+pub mod FirSteps
+pub mod Given
+pub mod Made
+pub mod Mixing
+pub mod Sendable
+pub mod Sends

@@ -1,0 +1,35 @@
+//! Why there is no answer.
+use graph_lang::Place;
+use thiserror::Error;
+
+/// Why no job was made.
+#[derive(Clone, Copy, Debug, PartialEq, Eq, Error)]
+pub enum JobRefusal {
+    /// On a phaser with `any`, the task of this line signals in a phase in which a task of an
+    /// earlier line signals. It is the least line of such a task.
+    #[error("graph line {line}: signals in one phase with an earlier line")]
+    AnyMeets {
+        /// The number of the line in the text, from 1 on.
+        line: u64,
+    },
+    /// There was no memory, or a list would have more than `LENGTH_MAX` values.
+    #[error("out of memory")]
+    OutOfMemory,
+}
+
+/// Why whole lists were not composed.
+#[derive(Clone, Copy, Debug, PartialEq, Eq, Error)]
+pub enum EvalFault {
+    /// A value is out of range. It is the first in the order of the phasers' lines; on one phaser
+    /// the outputs of filters and peers come before the phases.
+    #[error("{place:?}: the value of phase or step {phase} is out of range")]
+    TooBig {
+        /// The phaser of the value, or the filter or peer that made it.
+        place: Place,
+        /// The phase on the phaser, or the step of the task.
+        phase: usize,
+    },
+    /// There was no memory.
+    #[error("out of memory")]
+    OutOfMemory,
+}

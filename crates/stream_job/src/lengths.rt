@@ -1,0 +1,79 @@
+//! How long the list of each phaser is.
+ghost use Rattle.std.specs.Prelude.{◌≡◌, ◌≤◌, ◌<◌, length, IfOk};
+ghost use Rattle.std.specs.List.{All};
+ghost use Rattle.graph_lang.specs.Kept.{task_of};
+ghost use Rattle.graph_lang.specs.TaskLines.{HasEnds};
+ghost use Rattle.stream_job.specs.Kept.{given, IsShort};
+ghost use Rattle.stream_job.specs.Spans.{end_of, length_on, lengths_of, puts_on};
+
+use crate::members::output_number;
+use crate::span::{LENGTH_MAX, Span};
+use crate::spans::all_spans;
+use crate::takes::turns;
+use graph_lang::{Graph, Kind, TaskLine};
+use std::alloc::{AllocError, Global};
+
+/// How many values so many steps put on output number `j`.
+fn put_count(task: &TaskLine, steps: usize, j: usize) -> usize
+    requires ends { HasEnds task.now.kind (length task.now.inputs.items)
+        (length task.now.outputs.items) }
+    requires short { steps ≤ LENGTH_MAX }
+    ensures count { result ≡ puts_on (task_of task.now) steps j }
+    ensures short { result ≤ steps }
+{
+    if task.kind == Kind::Split {
+        return turns(task.outputs.len(), j, steps);
+    }
+    steps
+}
+
+/// Where task number `t` ends on phaser number `p`.
+pub(crate) fn end_on(graph: &Graph, spans: &[Span], p: usize, t: usize) -> usize
+    requires task { t < length graph.now.tasks }
+    requires short { All IsShort spans.now }
+    ensures end { result ≡ end_of graph.now spans.now p t }
+    ensures short { result ≤ LENGTH_MAX }
+{
+    let Some(span) = spans.get(t) else {
+        return 0;
+    };
+    let Some(j) = output_number(graph.task(t), p) else {
+        return 0;
+    };
+    if !span.live {
+        return 0;
+    }
+    span.offset + put_count(graph.task(t), span.steps, j)
+}
+
+/// The length of the list of phaser number `p`.
+fn longest(graph: &Graph, spans: &[Span], p: usize) -> usize
+    requires { All IsShort spans.now }
+    ensures length { result ≡ length_on graph.now spans.now p }
+    ensures short { result ≤ LENGTH_MAX }
+{
+    let mut end: usize = 0;
+    for t in 0..graph.tasks() {
+        end = end.max(end_on(graph, spans, p, t));
+    }
+    end
+}
+
+/// The lengths of the lists of all phasers.
+pub(crate) fn all_lengths(
+    alloc: Global,
+    graph: &Graph,
+    samples: &[Vec<i64>],
+) -> Result<Vec<usize>, AllocError>
+    ensures lengths { IfOk result (λ lengths.
+        lengths.items ≡ lengths_of (given graph.now samples.now)) }
+    ensures short { IfOk result (λ lengths. All (λ n. n ≤ LENGTH_MAX) lengths.items) }
+    ensures each { IfOk result (λ lengths. length lengths.items ≡ length graph.now.phasers) }
+{
+    let mut lengths = Vec::with_capacity(alloc, graph.phasers())?;
+    for p in 0..graph.phasers() {
+        let spans = all_spans(alloc, graph, samples, lengths.as_slice())?;
+        lengths.push(longest(graph, &spans, p))?;
+    }
+    Ok(lengths)
+}

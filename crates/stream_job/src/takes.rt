@@ -1,0 +1,112 @@
+//! What a task takes from its inputs.
+ghost use Rattle.std.specs.Prelude.{◌≡◌, ◌≤◌, ◌<◌, ◌^◌, List, ℤ, [], take, drop, length, map, get_or, IfOk};
+ghost use Rattle.std.specs.List.{All};
+ghost use Rattle.phase_accum.specs.Sends.{AreSends};
+ghost use Rattle.graph_lang.specs.Kept.{task_of};
+ghost use Rattle.graph_lang.specs.TaskLines.{HasEnds};
+ghost use Rattle.stream_job.specs.Jobs.{place_in};
+ghost use Rattle.stream_job.specs.Kept.{IsShort, items_of};
+ghost use Rattle.stream_job.specs.Lists.{taken_from, taken_by};
+ghost use Rattle.stream_job.specs.Spans.{takes_from, turns_below};
+
+use crate::span::{LENGTH_MAX, Span};
+use graph_lang::{Kind, TaskLine};
+use std::alloc::{AllocError, Global};
+
+/// So many values of a list, from a place on, as far as there are.
+pub(crate) fn part_of(list: &[i64], from: usize, count: usize) -> &[i64]
+    ensures { result.now ≡ take count (drop from list.now) }
+{
+    let rest = &list[from.min(list.len())..];
+    &rest[..count.min(rest.len())]
+}
+
+/// The list of phaser number `p`, where it is there.
+fn list_at(above: &[Vec<i64>], p: usize) -> &[i64]
+    ensures { result.now ≡ get_or (items_of above.now) p [] }
+{
+    match above.get(p) {
+        Some(list) => list.as_slice(),
+        None => &[],
+    }
+}
+
+/// The place of a phaser among those of a line.
+pub(crate) fn place_of(phasers: &[usize], p: usize) -> Option<usize>
+    ensures { result ≡ place_in phasers.now p }
+{
+    phasers.iter().position(|q| *q == p)
+}
+
+/// How many of the steps below `n` are step `k`, `k + m`, `k + 2 * m`, ..
+pub(crate) fn turns(m: usize, k: usize, n: usize) -> usize
+    requires some { 1 ≤ m }
+    requires few { m ≤ 64 }
+    requires short { n ≤ LENGTH_MAX }
+    ensures turns { result ≡ turns_below m k n }
+    ensures short { result ≤ n }
+{
+    (n + (m - 1).saturating_sub(k)) / m
+}
+
+/// How many values so many steps take from input number `k`.
+pub(crate) fn taken_count(task: &TaskLine, steps: usize, k: usize) -> usize
+    requires ends { HasEnds task.now.kind (length task.now.inputs.items)
+        (length task.now.outputs.items) }
+    requires short { steps ≤ LENGTH_MAX }
+    ensures count { result ≡ takes_from (task_of task.now) steps k }
+    ensures short { result ≤ steps }
+{
+    if task.kind == Kind::Join {
+        return turns(task.inputs.len(), k, steps);
+    }
+    steps
+}
+
+/// What a task takes from its input number `k`, over the phasers' lists.
+pub(crate) fn taken_at<'a>(
+    above: &'a [Vec<i64>],
+    task: &TaskLine,
+    span: Span,
+    k: usize,
+) -> &'a [i64]
+    requires ends { HasEnds task.now.kind (length task.now.inputs.items)
+        (length task.now.outputs.items) }
+    requires sends { All (λ list. AreSends list.items) above.now }
+    requires span { IsShort span }
+    ensures value { result.now ≡ taken_from (items_of above.now) (task_of task.now) span k }
+    ensures sends { AreSends result.now }
+    ensures short { length result.now ≤ LENGTH_MAX }
+{
+    let p = task.inputs.get(k).copied().unwrap_or(0);
+    part_of(
+        list_at(above, p),
+        span.offset,
+        taken_count(task, span.steps, k),
+    )
+}
+
+/// What a task takes from each of its inputs, over the phasers' lists.
+pub(crate) fn taken_lists<'a>(
+    alloc: Global,
+    above: &'a [Vec<i64>],
+    task: &TaskLine,
+    span: Span,
+) -> Result<Vec<&'a [i64]>, AllocError>
+    requires ends { HasEnds task.now.kind (length task.now.inputs.items)
+        (length task.now.outputs.items) }
+    requires sends { All (λ list. AreSends list.items) above.now }
+    requires span { IsShort span }
+    ensures lists { IfOk result (λ lists. map (λ list. list.now) lists.items
+        ≡ taken_by (items_of above.now) (task_of task.now) span) }
+    ensures count { IfOk result (λ lists.
+        length lists.items ≡ length task.now.inputs.items) }
+    ensures sends { IfOk result (λ lists. All (λ list. AreSends list.now) lists.items) }
+    ensures short { IfOk result (λ lists. All (λ list. length list.now ≤ LENGTH_MAX) lists.items) }
+{
+    let mut lists = Vec::with_capacity(alloc, task.inputs.len())?;
+    for k in 0..task.inputs.len() {
+        lists.push(taken_at(above, task, span, k))?;
+    }
+    Ok(lists)
+}
