@@ -1,3 +1,2 @@
 pub mod Simple
 pub mod Refused
-pub mod Untouched

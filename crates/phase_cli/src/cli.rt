@@ -2,18 +2,19 @@
 ghost use Rattle.std.specs.Prelude.{◌≡◌, ◌≢◌, ◌⊎◌, ℕ, Bool, List, Option};
 ghost use Rattle.clap.specs.Words.{HasKind, kind_of};
 ghost use Rattle.phase_cli.specs.CommandLine.{AreRefused, AreTaken, AskHelp, AskReplay, texts};
-ghost use Rattle.phase_cli.specs.Statuses.{HasCause, RepliesWhole, RepliesPrefix, Reports};
+ghost use Rattle.phase_status.specs.Statuses.{HasCause, RepliesWhole, RepliesPrefix, Reports};
 ghost use Rattle.phase_replay.specs.declared.fault.ReplayFault.{ReplayFault};
 ghost use Rattle.phase_replay.specs.Replay.{ReplaysAll, ReplaysPrefix};
-ghost use Rattle.watched_io.specs.Watched.{has_failed_of, inner_of};
+ghost use Rattle.watched_io.specs.Watched.{has_failed_of, inner_of, count_of};
 
 use crate::command_line::read_words;
-use crate::status::{DONE, REFUSED, report};
 use clap::Error;
 use clap::error::ErrorKind;
-use phase_replay::{ReplayFault, Watched, replay};
+use phase_replay::ReplayFault;
+use phase_status::{refuse, replay_and_report, report, show_help};
 use std::alloc::Global;
 use std::io::{Read, Write};
+use watched_io::Watched;
 
 /// Runs the program on its words, without its own name, and answers its exit status: 0 where the
 /// script was replayed or help was shown, 2 where the words are refused, and 5 after a fault.
@@ -38,9 +39,11 @@ pub fn run_cli<R: Read, W: Write, E: Write>(
         (W.contents (inner_of output.old)) (W.contents (inner_of output.new)) }
     ensures all { result ≡ 0 → AskReplay (texts words.now) → ReplaysAll
         (R.remaining (inner_of input.old)) (R.remaining (inner_of input.new))
+        (count_of input.old) (count_of input.new)
         (W.contents (inner_of output.old)) (W.contents (inner_of output.new)) }
     ensures stopped { result ≡ 5 → AskReplay (texts words.now) → ReplaysPrefix
         (R.remaining (inner_of input.old)) (R.remaining (inner_of input.new))
+        (count_of input.old) (count_of input.new)
         (W.contents (inner_of output.old)) (W.contents (inner_of output.new)) }
 
     // When each status comes.
@@ -53,45 +56,16 @@ pub fn run_cli<R: Read, W: Write, E: Write>(
     ensures kept { result ≡ 2 → (input.new ≡ input.old) × (output.new ≡ output.old) }
     ensures quiet { result ≡ 0 → faults.new ≡ faults.old }
     ensures fault { result ≡ 5 → (fault : ReplayFault)
-        × HasCause fault (R.remaining (inner_of input.old))
-        (has_failed_of input.new) (has_failed_of output.new)
+        × HasCause fault (R.remaining (inner_of input.old)) (R.remaining (inner_of input.new))
+        (count_of input.old) (count_of input.new)
+        (has_failed_of input.old) (has_failed_of input.new)
+        (has_failed_of output.old) (has_failed_of output.new)
         × Reports fault (has_failed_of faults.new)
         (E.contents (inner_of faults.old)) (E.contents (inner_of faults.new)) }
 {
     match read_words(alloc, words) {
-        Ok(()) => replay_input(alloc, input, output, faults),
+        Ok(()) => replay_and_report(alloc, input, output, faults),
         Err(error) => answer(alloc, &error, output, faults),
-    }
-}
-
-/// Replays the input, and reports the fault where there is one.
-fn replay_input<R: Read, W: Write, E: Write>(
-    alloc: Global,
-    input: &mut Watched<R>,
-    output: &mut Watched<W>,
-    faults: &mut Watched<E>,
-) -> u8
-    ensures status { (result ≡ 0) ⊎ (result ≡ 5) }
-    ensures replay { result ≡ 0 → RepliesWhole (R.remaining (inner_of input.old))
-        (W.contents (inner_of output.old)) (W.contents (inner_of output.new)) }
-    ensures prefix { result ≡ 5 → RepliesPrefix (R.remaining (inner_of input.old))
-        (W.contents (inner_of output.old)) (W.contents (inner_of output.new)) }
-    ensures all { result ≡ 0 → ReplaysAll
-        (R.remaining (inner_of input.old)) (R.remaining (inner_of input.new))
-        (W.contents (inner_of output.old)) (W.contents (inner_of output.new)) }
-    ensures stopped { result ≡ 5 → ReplaysPrefix
-        (R.remaining (inner_of input.old)) (R.remaining (inner_of input.new))
-        (W.contents (inner_of output.old)) (W.contents (inner_of output.new)) }
-    ensures quiet { result ≡ 0 → faults.new ≡ faults.old }
-    ensures fault { result ≡ 5 → (fault : ReplayFault)
-        × HasCause fault (R.remaining (inner_of input.old))
-        (has_failed_of input.new) (has_failed_of output.new)
-        × Reports fault (has_failed_of faults.new)
-        (E.contents (inner_of faults.old)) (E.contents (inner_of faults.new)) }
-{
-    match replay(alloc, input, output) {
-        Ok(()) => DONE,
-        Err(fault) => report(fault, faults),
     }
 }
 
@@ -110,8 +84,9 @@ fn answer<W: Write, E: Write>(
     ensures kept { kind_of error.now ≢ ErrorKind.DisplayHelp → output.new ≡ output.old }
     ensures quiet { result ≡ 0 → faults.new ≡ faults.old }
     ensures fault { result ≡ 5 → (fault : ReplayFault)
-        × ((known : Option (List ℕ)) (failed : Bool)
-        → HasCause fault known failed (has_failed_of output.new))
+        × ((unread : Option (List ℕ)) (count : ℕ) (failed : Bool)
+        → HasCause fault unread unread count count failed failed
+        (has_failed_of output.old) (has_failed_of output.new))
         × Reports fault (has_failed_of faults.new)
         (E.contents (inner_of faults.old)) (E.contents (inner_of faults.new)) }
 {
@@ -123,11 +98,7 @@ fn answer<W: Write, E: Write>(
         return report(ReplayFault::OutOfMemory, faults);
     };
     if kind != ErrorKind::DisplayHelp {
-        let _ = faults.send(text.as_bytes());
-        return REFUSED;
+        return refuse(text.as_str(), faults);
     }
-    match output.send(text.as_bytes()) {
-        Ok(()) => DONE,
-        Err(_) => report(ReplayFault::WriteFault, faults),
-    }
+    show_help(text.as_str(), output, faults)
 }

@@ -4,15 +4,13 @@
 mod cli;
 mod command_line;
 mod laws;
-mod status;
 #[cfg(test)]
 mod tests;
-mod words;
 
 use cli::run_cli;
-use phase_replay::Watched;
+use phase_status::{own_words, refuse_words};
 use std::process::ExitCode;
-use words::{own_words, refuse_words};
+use watched_io::Watched;
 
 fn main(rt: HostRuntime) -> ExitCode {
     let mut faults = Watched::new(rt.stderr());

@@ -1,11 +1,11 @@
 //! Runs of the program whose text no clause says, and calls that have to succeed.
 use crate::cli::run_cli;
-use crate::words::refuse_words;
-use phase_replay::Watched;
+use phase_status::refuse_words;
 use std::alloc::Global;
 use std::io;
 use std::io::{ErrorKind, Read, Write};
 use std::test::Fail;
+use watched_io::Watched;
 
 /// A stream whose every call fails.
 #[derive(Clone, Copy)]

@@ -20,22 +20,22 @@ all_is None rest bs p q = tt
 all_is (Some script) None bs p q = absurd p
 all_is (Some script) (Some left) bs p q = p ∙ ap (λ l. bs ++ l) q ∙ append-nil bs
 
-pub replayed_all : (unread rest old new : Option (List ℕ)) → ReplaysAll unread rest old new
+pub replayed_all : (unread rest : Option (List ℕ)) (before after : ℕ) (old new : Option (List ℕ)) → ReplaysAll unread rest before after old new
     → IfSome unread (λ script. (length script ≤ SCRIPT_MAX) × Appends old new (replies_of script))
-replayed_all unread rest old new replays =
-    IfSome_then unread (all_is unread rest replays.script replays.read replays.ends)
+replayed_all unread rest before after old new replays =
+    IfSome_then unread (all_is unread rest replays.script replays.gives.read replays.ends)
     (λ script e. rw e (replays.short, replays.replied))
 
-pub replayed_prefix : (unread rest old new : Option (List ℕ)) → ReplaysPrefix unread rest old new
+pub replayed_prefix : (unread rest : Option (List ℕ)) (before after : ℕ) (old new : Option (List ℕ)) → ReplaysPrefix unread rest before after old new
     → IfSome unread (λ script. AppendsPrefix old new (replies_of script))
-replayed_prefix unread rest old new replays =
-    IfSome_then unread (consumed_is unread rest replays.script replays.read) (λ script e. rw e replays.replied)
+replayed_prefix unread rest before after old new replays =
+    IfSome_then unread (consumed_is unread rest replays.script replays.gives.read) (λ script e. rw e replays.replied)
 
-pub replayed_long : (unread rest : Option (List ℕ)) → ReadsTooMuch unread rest → IfSome unread (λ script. SCRIPT_MAX < length script)
-replayed_long unread rest reads =
-    IfSome_then unread (consumed_is unread rest reads.script reads.read)
+pub replayed_long : (unread rest : Option (List ℕ)) (before after : ℕ) → ReadsTooMuch unread rest before after → IfSome unread (λ script. SCRIPT_MAX < length script)
+replayed_long unread rest before after reads =
+    IfSome_then unread (consumed_is unread rest reads.script reads.gives.read)
     (λ script e. omega (arith, ap length e, length-append reads.script (known_bytes rest), reads.long))
 
 -- a failed read, or a script that is too long
-pub replayed_read : (unread rest : Option (List ℕ)) (P : Type 0) → P ⊎ ReadsTooMuch unread rest → P ⊎ IfSome unread (λ script. SCRIPT_MAX < length script)
-replayed_read unread rest P p = elim p [ inl failed ↦ inl failed | inr long ↦ inr (replayed_long unread rest long) ]
+pub replayed_read : (unread rest : Option (List ℕ)) (before after : ℕ) (P : Type 0) → P ⊎ ReadsTooMuch unread rest before after → P ⊎ IfSome unread (λ script. SCRIPT_MAX < length script)
+replayed_read unread rest before after P p = elim p [ inl failed ↦ inl failed | inr long ↦ inr (replayed_long unread rest before after long) ]

@@ -1,3 +1,4 @@
+pub mod Reading
 pub mod Replay
 pub mod Replayer
 pub mod Replies

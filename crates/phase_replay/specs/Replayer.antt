@@ -1,7 +1,10 @@
 -- What a replay on its way still owes its writer.
-use Rattle.std.specs.Prelude.{◌≡◌, ℕ, List, ◌++◌, take}
+use Rattle.std.specs.Prelude.{◌≡◌, ℕ, Bool, List, ◌++◌, take, true, Ok, Err}
 use Rattle.std.specs.Io.KnownBytes.{Appends}
 use Rattle.std.specs.declared.option.Option.{Option}
+use Rattle.std.specs.declared.result.Result.{Result}
+use Rattle.phase_replay.specs.declared.fault.ReplayFault.{ReplayFault}
+use Rattle.phase_replay.specs.declared.fault.ReplayFault.TheVariants.{ReadFault, WriteFault, OutOfMemory}
 use Rattle.phase_script.specs.Lines.{lines_after}
 use Rattle.phase_replay.specs.Replies.{replies}
 use Rattle.phase_replay.specs.Scripts.{ScriptState}
@@ -28,3 +31,14 @@ pub record Goes (old new : Option (List ℕ)) (replayer : Replayer) (later owed 
   pub whole : owed ≡ sent ++ rest
   pub appends : Appends old new sent
   pub owes : Owes replayer later rest
+
+-- the note of a failed write, before and after, at a fault of a call that writes and reads nothing
+abbrev pub FaultIsNoted : ReplayFault → Bool → Bool → Type 0
+FaultIsNoted ReadFault old new = ⊥
+FaultIsNoted WriteFault old new = new ≡ true
+FaultIsNoted OutOfMemory old new = new ≡ old
+
+-- the same at each answer
+abbrev pub IsNoted : {A : Type 0} → Result A ReplayFault → Bool → Bool → Type 0
+IsNoted (Ok _) old new = new ≡ old
+IsNoted (Err fault) old new = FaultIsNoted fault old new

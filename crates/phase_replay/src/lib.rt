@@ -6,6 +6,7 @@
 
 mod fault;
 mod kept;
+pub mod laws;
 mod replayer;
 mod script_phaser;
 mod session;
@@ -14,7 +15,7 @@ mod tests;
 mod whole;
 
 pub use fault::ReplayFault;
-pub use phase_script::{Command, Operator, Refusal, Reply, ReplyLine, laws, line, read};
+pub use phase_script::{Command, Operator, Refusal, Reply, ReplyLine, line, read};
 pub use session::Session;
 pub use watched_io::{ReadFailed, Watched, WriteFailed};
-pub use whole::{SCRIPT_MAX, replay};
+pub use whole::{PIECE_MAX, SCRIPT_MAX, replay};

@@ -1,11 +1,10 @@
 //! A replay on its way: the session, the prefix of the line that is read, and the replies that wait.
-ghost use Rattle.std.specs.Prelude.{◌≡◌, ◌<◌, true, length, List, [], ℕ, ◌∷◌, ◌++◌, OnOk, OnErr, IsErrOf};
+ghost use Rattle.std.specs.Prelude.{◌≡◌, ◌<◌, true, length, List, [], ℕ, ◌∷◌, ◌++◌, OnOk, OnErr};
 ghost use Rattle.std.specs.Io.KnownBytes.{Appends};
 ghost use Rattle.phase_script.specs.Cuts.{HasNoLf};
 ghost use Rattle.watched_io.specs.Prefix.{AppendsPrefix};
 ghost use Rattle.phase_replay.specs.Scripts.{ScriptState, reply_to, after_line};
 ghost use Rattle.phase_replay.specs.Session.{Stands};
-ghost use Rattle.phase_replay.specs.declared.fault.ReplayFault.TheVariants.{ReadFault, WriteFault};
 
 use crate::kept::Kept;
 use crate::{ReplayFault, Session};
@@ -41,7 +40,7 @@ pub struct Replayer {
 }
 
 impl Replayer {
-    ghost use Rattle.phase_replay.specs.Replayer.{Owes, Goes, waiting_of};
+    ghost use Rattle.phase_replay.specs.Replayer.{Owes, Goes, waiting_of, FaultIsNoted, IsNoted};
     ghost use Rattle.phase_replay.specs.Replies.{replies_of};
     ghost use Rattle.watched_io.specs.Watched.{inner_of, has_failed_of};
 
@@ -98,15 +97,19 @@ impl Replayer {
         Ok(())
     }
 
-    // Hands over the replies that wait, where memory ran out for the next one. That fault is the
-    // one to tell, also where this write fails.
-    fn stop<W: Write>(&self, writer: &mut Watched<W>)
-        ensures { (before : Replayer) (later owed : List ℕ) → Owes before later owed
+    // Hands over the replies that wait, where memory ran out for the next one, and gives the fault
+    // to tell: a write that fails then is told in place of the want of memory.
+    fn stop<W: Write>(&self, writer: &mut Watched<W>) -> ReplayFault
+        ensures prefix { (before : Replayer) (later owed : List ℕ) → Owes before later owed
             → waiting_of self.now ≡ waiting_of before
             → AppendsPrefix (W.contents (inner_of writer.old)) (W.contents (inner_of writer.new))
             owed }
+        ensures noted { FaultIsNoted result (has_failed_of writer.old) (has_failed_of writer.new) }
     {
-        let _ = writer.send(self.out.as_slice());
+        match writer.send(self.out.as_slice()) {
+            Ok(()) => ReplayFault::OutOfMemory,
+            Err(_) => ReplayFault::WriteFault,
+        }
     }
 
     // Hands the replies over where many wait.
@@ -144,14 +147,12 @@ impl Replayer {
             → AppendsPrefix (W.contents (inner_of writer.old)) (W.contents (inner_of writer.new))
             owed) }
 
-        ensures read { IsErrOf result ReadFault → ⊥ }
-        ensures write { IsErrOf result WriteFault → has_failed_of writer.new ≡ true }
+        ensures noted { IsNoted result (has_failed_of writer.old) (has_failed_of writer.new) }
     {
         let mut rest = piece;
         while let Some(end) = lf_of(rest) {
             let Ok(()) = self.answer(&rest[..end]) else {
-                self.stop(writer);
-                return Err(ReplayFault::OutOfMemory);
+                return Err(self.stop(writer));
             };
             self.make_room(writer)?;
             rest = &rest[end + 1..];
@@ -182,12 +183,10 @@ impl Replayer {
             → AppendsPrefix (W.contents (inner_of writer.old)) (W.contents (inner_of writer.new))
             owed) }
 
-        ensures read { IsErrOf result ReadFault → ⊥ }
-        ensures write { IsErrOf result WriteFault → has_failed_of writer.new ≡ true }
+        ensures noted { IsNoted result (has_failed_of writer.old) (has_failed_of writer.new) }
     {
         let Ok(()) = self.last() else {
-            self.stop(writer);
-            return Err(ReplayFault::OutOfMemory);
+            return Err(self.stop(writer));
         };
         writer.send(self.out.as_slice())?;
         Ok(())

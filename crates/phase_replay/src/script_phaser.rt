@@ -1,11 +1,12 @@
 //! The phaser of a session, with the sends that its task holds.
 ghost use Rattle.std.specs.Prelude.{◌≡◌, ◌≢◌, List, [], ◌∷◌, IfOk, OnOk, OnErr, Some, None};
 ghost use Rattle.phase_base.specs.Limits.{Limits};
-ghost use Rattle.phase_accum.specs.Values.{IsSend, sum_value};
+ghost use Rattle.phase_accum.specs.Values.{IsSend};
 ghost use Rattle.phase_history.specs.Histories.{History};
 ghost use Rattle.phase_history.specs.Replies.{signal_reply, wait_reply, after_wait};
 ghost use Rattle.phase_script.specs.declared.command.Operator.{Operator};
-ghost use Rattle.phase_replay.specs.Scripts.{Held, held_by, send_reply, held_after_send};
+ghost use Rattle.phase_script.specs.declared.command.Operator.TheVariants as operators;
+ghost use Rattle.phase_replay.specs.Scripts.{Held, held_by, value_of, send_reply, held_after_send};
 ghost use Rattle.phase_replay.specs.Scripts.{signal_reason, signalled_reply, after_signal};
 ghost use Rattle.phase_replay.specs.Scripts.{wait_reason, value_reply, received_reply, IsOkReply};
 
@@ -77,7 +78,7 @@ impl ScriptPhaser {
 
     /// Makes a phaser whose founder, task 0, holds no sends.
     pub fn new(alloc: Global, spec: Spec) -> Result<ScriptPhaser, AllocError>
-        ensures { IfOk result (λ phaser. PhaserStandsFor phaser spec (Made 0 ∷ []) []) }
+        ensures { IfOk result (λ phaser. PhaserStandsFor phaser operators.Sum spec (Made 0 ∷ []) []) }
     {
         Ok(ScriptPhaser {
             core: PhaserCore::new(alloc, spec, 0)?,
@@ -88,11 +89,14 @@ impl ScriptPhaser {
     /// Holds one more send for the task.
     pub fn send(&mut self, task: u64, value: i64) -> Reply
         requires { IsSend value }
-        ensures reply { (limits : Limits) (h : History) (held : Held)
-            → PhaserStandsFor self.old limits h held → result ≡ send_reply h held task }
-        ensures after { (limits : Limits) (h : History) (held : Held)
-            → PhaserStandsFor self.old limits h held
-            → PhaserStandsFor self.new limits h (held_after_send (send_reply h held task) held task value) }
+        ensures reply { (operator : Operator) (limits : Limits) (h : History)
+            (held : Held)
+            → PhaserStandsFor self.old operator limits h held → result ≡ send_reply h held task }
+        ensures after { (operator : Operator) (limits : Limits) (h : History)
+            (held : Held)
+            → PhaserStandsFor self.old operator limits h held
+            → PhaserStandsFor self.new operator limits h
+            (held_after_send (send_reply h held task) held task value) }
     {
         let Some(entry) = self.core.view(task) else {
             return Reply::Refused(Refusal::NoTask);
@@ -109,17 +113,19 @@ impl ScriptPhaser {
 
     /// Makes the task's signal, with the sends that it holds.
     pub fn signal(&mut self, task: u64) -> Result<Reply, AllocError>
-        ensures reply { IfOk result (λ reply. (limits : Limits) (h : History) (held : Held)
-            → PhaserStandsFor self.old limits h held
+        ensures reply { IfOk result (λ reply. (operator : Operator) (limits : Limits) (h : History)
+            (held : Held)
+            → PhaserStandsFor self.old operator limits h held
             → reply ≡ signalled_reply (signal_reply limits h task (held_by held task ∷ []) None)) }
         ensures after { OnOk result ((operator : Operator) (limits : Limits) (h : History)
-            (held : Held) → PhaserStandsFor self.old limits h held
+            (held : Held) → PhaserStandsFor self.old operator limits h held
             → MaybeStandsFor (Some self.new)
             (after_signal (signal_reply limits h task (held_by held task ∷ []) None)
             operator limits h held task)) }
         ensures err { OnErr result (self.new ≡ self.old) }
-        ensures memory { OnErr result ((limits : Limits) (h : History) (held : Held)
-            → PhaserStandsFor self.old limits h held → IsOkReply
+        ensures memory { OnErr result ((operator : Operator) (limits : Limits) (h : History)
+            (held : Held)
+            → PhaserStandsFor self.old operator limits h held → IsOkReply
             (signalled_reply (signal_reply limits h task (held_by held task ∷ []) None))) }
     {
         let held = mem::replace(&mut self.held, Pending::new());
@@ -134,12 +140,15 @@ impl ScriptPhaser {
 
     /// Waits for the task's next phase.
     pub fn wait(&mut self, task: u64) -> Reply
-        ensures reply { (limits : Limits) (h : History) (held : Held)
-            → PhaserStandsFor self.old limits h held
-            → result ≡ received_reply (wait_reply sum_value limits h task) }
-        ensures after { (limits : Limits) (h : History) (held : Held)
-            → PhaserStandsFor self.old limits h held
-            → PhaserStandsFor self.new limits (after_wait (wait_reply sum_value limits h task) task h)
+        ensures reply { (operator : Operator) (limits : Limits) (h : History)
+            (held : Held)
+            → PhaserStandsFor self.old operator limits h held
+            → result ≡ received_reply (wait_reply (value_of operator) limits h task) }
+        ensures after { (operator : Operator) (limits : Limits) (h : History)
+            (held : Held)
+            → PhaserStandsFor self.old operator limits h held
+            → PhaserStandsFor self.new operator limits
+            (after_wait (wait_reply (value_of operator) limits h task) task h)
             held }
     {
         match self.core.wait(task) {

@@ -1,10 +1,14 @@
 //! Replay of a script from a reader to a writer.
-ghost use Rattle.std.specs.Prelude.{◌≡◌, ◌⊎◌, ◌<◌, ◌≤◌, true, length, OnOk, OnErr, IfSome, IsErrOf};
-ghost use Rattle.std.specs.Io.KnownBytes.{Appends};
+ghost use Rattle.std.specs.Prelude.{◌≡◌, ◌⊎◌, ◌<◌, ◌≤◌, true, length, take};
+ghost use Rattle.std.specs.Prelude.{OnOk, OnErr, IfOk, IfErr, IfSome, IsErrOf};
+ghost use Rattle.std.specs.Io.{ReadsAtMost};
+ghost use Rattle.std.specs.Io.KnownBytes.{Appends, IsAtEnd};
 ghost use Rattle.watched_io.specs.Prefix.{AppendsPrefix};
-ghost use Rattle.phase_replay.specs.Replay.{ReplaysAll, ReplaysPrefix, ReadsTooMuch};
+ghost use Rattle.watched_io.specs.Watched.{inner_of, has_failed_of, count_of};
+ghost use Rattle.phase_replay.specs.Reading.{StopsReading};
+ghost use Rattle.phase_replay.specs.Replay.{Gives, ReplaysAll, ReplaysPrefix};
+ghost use Rattle.phase_replay.specs.Replay.{ReadsTooMuch, ReadsWithin, NotesStay};
 ghost use Rattle.phase_replay.specs.Replies.{replies_of};
-ghost use Rattle.watched_io.specs.Watched.{inner_of, has_failed_of};
 
 use crate::ReplayFault;
 use crate::replayer::Replayer;
@@ -15,8 +19,34 @@ use watched_io::Watched;
 /// The longest script that is replayed, in bytes.
 pub const SCRIPT_MAX: usize = 1_073_741_824;
 
-// How many bytes are read at once.
-const PIECE: usize = 65536;
+/// The most bytes that are read at once.
+pub const PIECE_MAX: usize = 65_536;
+
+// Reads the next piece of a script, of which at most `left` bytes may still come.
+fn read_piece<R: Read>(
+    reader: &mut Watched<R>,
+    piece: &mut [u8],
+    left: usize,
+) -> Result<usize, ReplayFault>
+    ensures bound { ReadsAtMost result piece.new }
+    ensures fits { IfOk result (λ n. n ≤ left) }
+    ensures gives { IfOk result (λ n. Gives (R.remaining (inner_of reader.old))
+        (R.remaining (inner_of reader.new)) (count_of reader.old) (count_of reader.new)
+        (take n piece.new)) }
+    ensures end { IfOk result (λ n. n ≡ 0 → 0 < length piece.new
+        → IsAtEnd (R.remaining (inner_of reader.new))) }
+    ensures kept { OnOk result (has_failed_of reader.new ≡ has_failed_of reader.old) }
+    ensures err { IfErr result (λ fault. (fault ≡ ReplayFault.ReadFault)
+        × StopsReading (R.remaining (inner_of reader.old)) (R.remaining (inner_of reader.new))
+        (count_of reader.old) (count_of reader.new) (has_failed_of reader.new) left
+        (length piece.new)) }
+{
+    let count = reader.read(piece)?;
+    if count > left {
+        return Err(ReplayFault::ReadFault);
+    }
+    Ok(count)
+}
 
 // Replays the whole script that the reader has left.
 fn replay_pieces<R: Read, W: Write>(
@@ -26,29 +56,36 @@ fn replay_pieces<R: Read, W: Write>(
 ) -> Result<(), ReplayFault>
     ensures ok { OnOk result (ReplaysAll
         (R.remaining (inner_of reader.old)) (R.remaining (inner_of reader.new))
+        (count_of reader.old) (count_of reader.new)
         (W.contents (inner_of writer.old)) (W.contents (inner_of writer.new))) }
 
     ensures err { OnErr result (ReplaysPrefix
         (R.remaining (inner_of reader.old)) (R.remaining (inner_of reader.new))
+        (count_of reader.old) (count_of reader.new)
         (W.contents (inner_of writer.old)) (W.contents (inner_of writer.new))) }
 
     ensures read { IsErrOf result ReplayFault.ReadFault → (has_failed_of reader.new ≡ true)
-        ⊎ ReadsTooMuch (R.remaining (inner_of reader.old)) (R.remaining (inner_of reader.new)) }
+        ⊎ ReadsTooMuch (R.remaining (inner_of reader.old)) (R.remaining (inner_of reader.new))
+        (count_of reader.old) (count_of reader.new) }
 
     ensures write { IsErrOf result ReplayFault.WriteFault → has_failed_of writer.new ≡ true }
+
+    ensures memory { IsErrOf result ReplayFault.OutOfMemory → ReadsWithin
+        (R.remaining (inner_of reader.old)) (R.remaining (inner_of reader.new))
+        (count_of reader.old) (count_of reader.new) }
+
+    ensures notes { NotesStay result (has_failed_of reader.old) (has_failed_of reader.new)
+        (has_failed_of writer.old) (has_failed_of writer.new) }
 {
-    let mut piece = vec![in alloc; 0u8; PIECE]?;
+    let mut piece = vec![in alloc; 0u8; PIECE_MAX]?;
     let mut replayer = Replayer::new(alloc);
     let mut left = SCRIPT_MAX;
     'replaying: loop {
         replayer.hand_over(writer)?;
-        let count = reader.read(piece.as_mut_slice())?;
+        let count = read_piece(reader, piece.as_mut_slice(), left)?;
         if count == 0 {
             replayer.finish(writer)?;
             return Ok(());
-        }
-        if count > left {
-            return Err(ReplayFault::ReadFault);
         }
         left -= count;
         replayer.piece(&piece[..count], writer)?;
@@ -58,10 +95,10 @@ fn replay_pieces<R: Read, W: Write>(
 /// Replays the whole script that the reader has left: each of its lines is answered by one reply
 /// line, in order, written before the next read.
 ///
-/// A user at a terminal thus sees each reply at once. Bytes are read and written 65,536 at a time,
-/// and a line of any length takes no memory beyond the longest line of the grammar. A fault stops
-/// the replay, and no call that failed is tried again; where memory runs out, the replies that
-/// wait are written first.
+/// A user at a terminal thus sees each reply at once. Bytes are read and written `PIECE_MAX` at a
+/// time, and a line of any length takes no memory beyond the longest line of the grammar. A fault
+/// stops the replay, and no call that failed is tried again; where memory runs out, the replies
+/// that wait are written first.
 pub fn replay<R: Read, W: Write>(
     alloc: Global,
     reader: &mut Watched<R>,
@@ -80,14 +117,30 @@ pub fn replay<R: Read, W: Write>(
 
     ensures write { IsErrOf result ReplayFault.WriteFault → has_failed_of writer.new ≡ true }
 
-    // The same where the reader's bytes are not known beforehand: some script was read.
+    // The same where the reader's bytes are not known beforehand: some script was read, and its
+    // length is the count's.
     ensures all { OnOk result (ReplaysAll
         (R.remaining (inner_of reader.old)) (R.remaining (inner_of reader.new))
+        (count_of reader.old) (count_of reader.new)
         (W.contents (inner_of writer.old)) (W.contents (inner_of writer.new))) }
 
     ensures prefix { OnErr result (ReplaysPrefix
         (R.remaining (inner_of reader.old)) (R.remaining (inner_of reader.new))
+        (count_of reader.old) (count_of reader.new)
         (W.contents (inner_of writer.old)) (W.contents (inner_of writer.new))) }
+
+    ensures too_long { IsErrOf result ReplayFault.ReadFault → (has_failed_of reader.new ≡ true)
+        ⊎ ReadsTooMuch (R.remaining (inner_of reader.old)) (R.remaining (inner_of reader.new))
+        (count_of reader.old) (count_of reader.new) }
+
+    // A script that is too long is no want of memory.
+    ensures memory { IsErrOf result ReplayFault.OutOfMemory → ReadsWithin
+        (R.remaining (inner_of reader.old)) (R.remaining (inner_of reader.new))
+        (count_of reader.old) (count_of reader.new) }
+
+    // Where a read or a write fails, that is the answer.
+    ensures notes { NotesStay result (has_failed_of reader.old) (has_failed_of reader.new)
+        (has_failed_of writer.old) (has_failed_of writer.new) }
 {
     replay_pieces(alloc, reader, writer)
 }

@@ -16,4 +16,4 @@ returns-clause-ok g c = λ owed owes. subst (Appends _ _) (c.as_slice.ensures.va
 
 -- Memory ran out, and the replies that waited, or a prefix of them, were written.
 pub returns-in_default-clause-err : goal.returns-in_default-clause-err
-returns-in_default-clause-err g c = λ owed owes. c.stop.ensures c.args.self.now [] owed owes c.in_default.ensures.err
+returns-in_default-clause-err g c = λ owed owes. c.stop.ensures.prefix c.args.self.now [] owed owes c.in_default.ensures.err

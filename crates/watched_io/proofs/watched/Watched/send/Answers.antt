@@ -7,7 +7,7 @@ returns-in-Ok-eq0-clause-err g c = rw c.fail.ensures.inner (prefix_of_taken _ _ 
 
 -- The write took `count` bytes more.
 pub loop-sent-preserved : goal.loop-sent-preserved
-loop-sent-preserved g c = (written_within _ _ _ c.loop-sent.invariant.0 c.in-Ok.ensures.bound, written_more _ _ _ _ _ _ c.loop-sent.invariant.1 c.in-Ok.ensures.bytes, c.loop-sent.invariant.2)
+loop-sent-preserved g c = (written_within _ _ _ c.loop-sent.invariant.0 c.in-Ok.ensures.bound, written_more _ _ _ _ _ _ c.loop-sent.invariant.1 c.in-Ok.ensures.bytes, c.loop-sent.invariant.2, c.loop-sent.invariant.3)
 
 -- The failed write kept what the writer holds.
 pub returns-in-Err-clause-err : goal.returns-in-Err-clause-err

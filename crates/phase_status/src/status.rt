@@ -1,0 +1,38 @@
+//! The exit statuses of the program, and the lines that go with a fault.
+ghost use Rattle.std.specs.Prelude.{◌≡◌};
+ghost use Rattle.phase_status.specs.Statuses.{Reports, fault_line};
+ghost use Rattle.watched_io.specs.Watched.{has_failed_of, inner_of};
+
+use phase_replay::ReplayFault;
+use std::io::Write;
+use watched_io::Watched;
+
+/// The script was replayed, or help was shown.
+pub const DONE: u8 = 0;
+
+/// The words were not understood.
+pub const REFUSED: u8 = 2;
+
+/// A read or a write failed, or memory ran out.
+pub const FAILED: u8 = 5;
+
+/// Writes a fault's line, and answers the status after a fault.
+pub fn report<E: Write>(fault: ReplayFault, faults: &mut Watched<E>) -> u8
+    ensures status { result ≡ 5 }
+    ensures line { Reports fault (has_failed_of faults.new)
+        (E.contents (inner_of faults.old)) (E.contents (inner_of faults.new)) }
+{
+    let _ = faults.send(line_of(fault).as_bytes());
+    FAILED
+}
+
+/// A fault's line, with its line feed.
+fn line_of(fault: ReplayFault) -> &'static str
+    ensures { result.now ≡ fault_line fault }
+{
+    match fault {
+        ReplayFault::ReadFault => "phase: read fault\n",
+        ReplayFault::WriteFault => "phase: write fault\n",
+        ReplayFault::OutOfMemory => "phase: out of memory\n",
+    }
+}

@@ -1,0 +1,30 @@
+//! The words of the process, without the program's own name.
+ghost use Rattle.std.specs.Prelude.{◌≡◌, ◌≢◌};
+ghost use Rattle.std.specs.IoError.{error_kind};
+
+use crate::status::{REFUSED, report};
+use phase_replay::ReplayFault;
+use std::env::Env;
+use std::io::{ErrorKind, Write};
+use std::{env, io};
+use watched_io::Watched;
+
+/// The words of the process, without the program's own name.
+pub fn own_words<R: Env + Alloc>(rt: &R) -> io::Result<Vec<String<R::A>, R::A>> {
+    let mut words = env::args(rt)?;
+    let _own_name = words.next();
+    Ok(words.collect(rt.alloc())?)
+}
+
+/// Reports that the process's own words could not be read, and answers the status: 5 where memory
+/// ran out, and 2 where a word is not UTF-8.
+pub fn refuse_words<E: Write>(error: &io::Error, faults: &mut Watched<E>) -> u8
+    ensures memory { error_kind error.now ≡ ErrorKind.OutOfMemory → result ≡ 5 }
+    ensures refused { error_kind error.now ≢ ErrorKind.OutOfMemory → result ≡ 2 }
+{
+    if error.kind() == ErrorKind::OutOfMemory {
+        return report(ReplayFault::OutOfMemory, faults);
+    }
+    let _ = faults.send(b"error: a word of the command line is not UTF-8\n");
+    REFUSED
+}
