@@ -1,0 +1,38 @@
+//! Samples in files.
+ghost use Rattle.std.specs.Prelude.{◌≡◌, ◌≤◌, ℕ, List, length, IfOk, IfSome, IsErrOf};
+ghost use Rattle.phase_accum.specs.Sends.{AreSends};
+ghost use Rattle.phase_files.specs.Files.{MayBeRefused};
+ghost use Rattle.sample_text.specs.Samples.{AreShortSamples, IsBadShortSample};
+
+use crate::{FileFault, Files};
+use sample_text::{SampleFault, TEXT_MAX, samples_of};
+use std::alloc::Global;
+
+/// Reads the samples in the file of this name, the whole file before the first record.
+///
+/// A file of more than `TEXT_MAX` bytes is a `ReadFault`, whatever its records are.
+pub fn read_sample_file<F: Files>(
+    alloc: Global,
+    files: &mut F,
+    name: &str,
+) -> Result<Vec<i64>, SampleFault>
+    ensures ok { IfOk result (λ values. IfSome (F.file files.old name.now)
+        (AreShortSamples values.items)) }
+
+    ensures values { IfOk result (λ values. AreSends values.items
+        × (length values.items ≤ TEXT_MAX)) }
+
+    ensures bad { (n : ℕ) → IsErrOf result (SampleFault.BadSample n)
+        → IfSome (F.file files.old name.now) (IsBadShortSample n) }
+
+    ensures read { IsErrOf result SampleFault.ReadFault
+        → MayBeRefused TEXT_MAX (F.file files.old name.now) }
+
+    ensures kept { (other : List ℕ) → F.file files.new other ≡ F.file files.old other }
+{
+    match files.read(alloc, name, TEXT_MAX) {
+        Ok(text) => samples_of(alloc, text.as_slice()),
+        Err(FileFault::ReadFault) => Err(SampleFault::ReadFault),
+        Err(FileFault::OutOfMemory) => Err(SampleFault::OutOfMemory),
+    }
+}

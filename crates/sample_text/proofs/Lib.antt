@@ -1,0 +1,5 @@
+mod Digits
+mod Fields
+mod Reading
+mod Shrinks
+mod Unique

@@ -1,0 +1,57 @@
+-- Which texts are samples.
+use Rattle.std.specs.Prelude.{ℕ, ◌≡◌, ◌+◌, ◌≤◌, List, [], ◌∷◌, ◌++◌, length, map, ℤ}
+use Rattle.std.specs.Fmt.{signed_decimal}
+use Rattle.std.specs.declared.option.Option.{Option}
+use Rattle.csv.specs.Reading.{default_config, strip_bom, AreRecords, Reached}
+use Rattle.csv.specs.declared.parser.State.{State}
+use Rattle.csv.specs.declared.parser.State.TheVariants as st
+use Rattle.phase_accum.specs.Sends.{IsSend, AreSends}
+use Rattle.sample_text.specs.Texts.{ReadsAll}
+use Rattle.sample_text.specs.declared.sample.TheConstants.{TEXT_MAX}
+
+-- the record of a value: one field, with the value in decimal
+abbrev pub row_of : ℤ → List (List ℕ)
+row_of v = signed_decimal v ∷ []
+
+-- the records of the text are those of the values, one for each
+pub record AreSamples (text : List ℕ) (values : List ℤ) : Type 0 where
+  pub sends : AreSends values
+  pub records : AreRecords default_config st.StartRecord (strip_bom text) (map row_of values)
+
+-- the text begins with these records
+abbrev pub BeginsWith : List ℕ → List (List (List ℕ)) → Type 0
+BeginsWith text rows = (s : State) × (rest : List ℕ)
+    × Reached default_config st.StartRecord (strip_bom text) rows s rest
+
+-- record number n, counted from 1, is the first that is not of a value
+pub record IsBadSample (text : List ℕ) (n : ℕ) : Type 0 where
+  pub good : List ℤ
+  pub row : List (List ℕ)
+  pub number : n ≡ length good + 1
+  pub sends : AreSends good
+  pub begins : BeginsWith text (map row_of good ++ row ∷ [])
+  pub other : (v : ℤ) → IsSend v → row ≡ row_of v → ⊥
+
+-- the values are those of a text that is short enough
+pub record AreShortSamples (values : List ℤ) (text : List ℕ) : Type 0 where
+  pub samples : AreSamples text values
+  pub short : length text ≤ TEXT_MAX
+
+-- record number n is the first that is not of a value, in a text that is short enough
+pub record IsBadShortSample (n : ℕ) (text : List ℕ) : Type 0 where
+  pub bad : IsBadSample text n
+  pub short : length text ≤ TEXT_MAX
+
+-- the reader gave a whole text, of these values
+pub record ReadsSamples (unread rest : Option (List ℕ)) (before after : ℕ)
+    (values : List ℤ) : Type 0 where
+  pub text : List ℕ
+  pub reads : ReadsAll TEXT_MAX unread rest before after text
+  pub samples : AreSamples text values
+
+-- the reader gave a whole text, whose record number n is the first that is not of a value
+pub record ReadsBadSample (unread rest : Option (List ℕ)) (before after : ℕ)
+    (n : ℕ) : Type 0 where
+  pub text : List ℕ
+  pub reads : ReadsAll TEXT_MAX unread rest before after text
+  pub bad : IsBadSample text n

@@ -1,0 +1,124 @@
+//! Samples of a text and of a reader.
+ghost use Rattle.std.specs.Prelude.{◌≡◌, ◌≢◌, ◌⊎◌, ◌∷◌, [], ◌≤◌, ◌<◌, ℕ, ℤ, length, true};
+ghost use Rattle.std.specs.Prelude.{IfOk, OnOk, IfSome, IfNone, IsErrOf, Err};
+ghost use Rattle.std.specs.Fmt.{signed_decimal};
+ghost use Rattle.csv.specs.Records.{fields_of};
+ghost use Rattle.phase_accum.specs.Sends.{IsSend, AreSends};
+ghost use Rattle.sample_text.specs.Samples.{AreSamples, IsBadSample};
+ghost use Rattle.sample_text.specs.Samples.{AreShortSamples, IsBadShortSample};
+ghost use Rattle.sample_text.specs.Samples.{ReadsSamples, ReadsBadSample};
+ghost use Rattle.sample_text.specs.Texts.{ReadsTooMuch, ReadsWithin};
+ghost use Rattle.watched_io.specs.Watched.{inner_of, has_failed_of, count_of};
+
+use crate::number::value_of;
+use crate::text::read_text;
+use crate::{SampleFault, TextFault};
+use csv::{ByteRecord, ReaderBuilder};
+use std::alloc::Global;
+use std::io::Read;
+use watched_io::Watched;
+
+/// The longest text of samples that is read, in bytes.
+pub const TEXT_MAX: usize = 67_108_864;
+
+/// The value of a record of one field.
+fn sample_of(row: &ByteRecord) -> Option<i64>
+    ensures some { IfSome result (λ v. (fields_of row.now ≡ signed_decimal v ∷ []) × IsSend v) }
+    ensures none { IfNone result ((v : ℤ) → IsSend v
+        → fields_of row.now ≡ signed_decimal v ∷ [] → ⊥) }
+{
+    if row.len() != 1 {
+        return None;
+    }
+    match row.get(0) {
+        None => None,
+        Some(field) => value_of(field),
+    }
+}
+
+/// The samples of a text, whose records are of one number each.
+///
+/// Records are those that `csv` reads with its default settings and no header row. It answers no
+/// `ReadFault`.
+pub fn samples_of(alloc: Global, text: &[u8]) -> Result<Vec<i64>, SampleFault>
+    ensures ok { IfOk result (λ values. AreSamples text.now values.items) }
+    ensures values { IfOk result (λ values. AreSends values.items
+        × (length values.items ≤ length text.now)) }
+    ensures bad { (n : ℕ) → IsErrOf result (SampleFault.BadSample n) → IsBadSample text.now n }
+    ensures read { IsErrOf result SampleFault.ReadFault → ⊥ }
+{
+    let mut records = ReaderBuilder::new()
+        .has_headers(false)
+        .flexible(true)
+        .from_reader(alloc, text);
+    let mut row = ByteRecord::new(alloc);
+    let mut values = Vec::new(alloc);
+    loop {
+        match records.read_byte_record(&mut row) {
+            Err(_) => return Err(SampleFault::OutOfMemory),
+            Ok(false) => return Ok(values),
+            Ok(true) => match sample_of(&row) {
+                None => {
+                    let number = values.len() + 1;
+                    return Err(SampleFault::BadSample { number });
+                }
+                Some(value) => {
+                    if values.push(value).is_err() {
+                        return Err(SampleFault::OutOfMemory);
+                    }
+                }
+            },
+        }
+    }
+}
+
+/// Reads the samples that the reader has left, the whole text before the first record.
+///
+/// Records are those that `csv` reads with its default settings and no header row. A text of more
+/// than `TEXT_MAX` bytes is a `ReadFault`, whatever its records are.
+pub fn read_samples<R: Read>(
+    alloc: Global,
+    reader: &mut Watched<R>,
+) -> Result<Vec<i64>, SampleFault>
+    ensures ok { IfOk result (λ values. IfSome (R.remaining (inner_of reader.old))
+        (AreShortSamples values.items)) }
+
+    ensures values { IfOk result (λ values. AreSends values.items
+        × (length values.items ≤ TEXT_MAX)) }
+
+    ensures bad { (n : ℕ) → IsErrOf result (SampleFault.BadSample n)
+        → IfSome (R.remaining (inner_of reader.old)) (IsBadShortSample n) }
+
+    ensures read { IsErrOf result SampleFault.ReadFault → (has_failed_of reader.new ≡ true)
+        ⊎ IfSome (R.remaining (inner_of reader.old)) (λ text. TEXT_MAX < length text) }
+
+    // The same where the reader's bytes are not known beforehand: some text was read, and its
+    // length is the count's.
+    ensures all { IfOk result (λ values. ReadsSamples
+        (R.remaining (inner_of reader.old)) (R.remaining (inner_of reader.new))
+        (count_of reader.old) (count_of reader.new) values.items) }
+
+    ensures all_bad { (n : ℕ) → IsErrOf result (SampleFault.BadSample n) → ReadsBadSample
+        (R.remaining (inner_of reader.old)) (R.remaining (inner_of reader.new))
+        (count_of reader.old) (count_of reader.new) n }
+
+    ensures too_long { IsErrOf result SampleFault.ReadFault → (has_failed_of reader.new ≡ true)
+        ⊎ ReadsTooMuch TEXT_MAX
+        (R.remaining (inner_of reader.old)) (R.remaining (inner_of reader.new))
+        (count_of reader.old) (count_of reader.new) }
+
+    // A text that is too long is no want of memory.
+    ensures memory { IsErrOf result SampleFault.OutOfMemory → ReadsWithin TEXT_MAX
+        (R.remaining (inner_of reader.old)) (R.remaining (inner_of reader.new))
+        (count_of reader.old) (count_of reader.new) }
+
+    // Where a read fails, that is the answer.
+    ensures kept { (result ≢ Err SampleFault.ReadFault)
+        → has_failed_of reader.new ≡ has_failed_of reader.old }
+{
+    match read_text(alloc, reader, TEXT_MAX) {
+        Ok(text) => samples_of(alloc, text.as_slice()),
+        Err(TextFault::ReadFault) => Err(SampleFault::ReadFault),
+        Err(TextFault::OutOfMemory) => Err(SampleFault::OutOfMemory),
+    }
+}
