@@ -1,5 +1,6 @@
 //! Sessions at chosen scripts, line by line.
 use crate::Session;
+use std::alloc::Global;
 use std::process::Abort;
 use std::test::Fail;
 
@@ -411,9 +412,15 @@ fn full_sends_and_a_full_phase(rt: HostRuntime) -> Result<(), Fail> {
 }
 
 // Registers the children from `first` up to, but without, `end`.
-fn add_children(rt: &impl Abort, session: &mut Session, first: u32, end: u32) -> Result<(), Fail> {
+fn add_children(
+    rt: &impl Abort,
+    alloc: Global,
+    session: &mut Session,
+    first: u32,
+    end: u32,
+) -> Result<(), Fail> {
     for child in first..end {
-        let line = format!(in session.alloc; "add 0 {child} sig")?;
+        let line = format!(in alloc; "add 0 {child} sig")?;
         follow(rt, session, "filling", &[(line.as_str(), "ok")])?;
     }
     Ok(())
@@ -423,7 +430,7 @@ fn add_children(rt: &impl Abort, session: &mut Session, first: u32, end: u32) ->
 fn full_phaser(rt: HostRuntime) -> Result<(), Fail> {
     let mut session = Session::new(rt.alloc());
     follow(&rt, &mut session, "made", &[("make sum 2 100", "ok")])?;
-    add_children(&rt, &mut session, 1, 1024)?;
+    add_children(&rt, rt.alloc(), &mut session, 1, 1024)?;
     let rows: Rows<'_> = &[
         ("add 0 1024 sig", "no too-many-tasks"),
         ("drop 7", "ok"),

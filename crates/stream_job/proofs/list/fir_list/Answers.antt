@@ -1,18 +1,9 @@
 use Rattle.std.proofs.Common.{rules, arith, ◌≡◌, slice_index_or, pos, sym, ◌∙◌, FitsSigned, to_z, of_z, w64}
 use Rattle.std.proofs.lemmas.Int.{to_z-of_z}
-use Rattle.stream_job.proofs.Made.{AreSends-at, send-lowest}
 use Rattle.stream_job.proofs.FirSteps.{next_output, Stepped-more, Stepped-fault, Stepped-all}
 use Rattle.stream_job.proofs.list.fir_list.Goals as goal
 
--- each sample can be sent
-pub step-requires : goal.step-requires
-step-requires c =
-    let fits : FitsSigned w64 (slice_index_or c.args.samples.now c.loop-step.step (pos 0)) = search
-    rules in
-    rw (to_z-of_z w64 _ fits) (send-lowest _
-    (AreSends-at c.args.samples.now c.loop-step.step (pos 0) c.requires.samples
-    c.loop-step-test.true))
-
+-- the step's answer is the next output, or the step is the first out of range
 pub returns-in_default-step-clause-too_big : goal.returns-in_default-step-clause-too_big
 returns-in_default-step-clause-too_big c step e =
     let fits : FitsSigned w64 (slice_index_or c.args.samples.now c.loop-step.step (pos 0)) = search
