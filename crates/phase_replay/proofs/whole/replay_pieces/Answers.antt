@@ -1,6 +1,7 @@
-use Rattle.std.proofs.Common.{◌≡◌, ◌∙◌, take, refl, arith}
+use Rattle.std.proofs.Common.{◌≡◌, ◌∙◌, Err, ap, take, refl, arith}
 use Rattle.std.proofs.lemmas.List.{length-take-le}
 use Rattle.std.proofs.lemmas.Result.{err_from_is_err_and}
+use Rattle.phase_replay.proofs.Noted.{notes_stay}
 use Rattle.phase_replay.proofs.Reading.{reads_start, reads_sent, reads_send_failed, reads_stopped, reads_too_much, reads_pieced, reads_piece_failed, reads_within, reads_end, reads_end_failed, replays_nothing, reads_nothing, take-written}
 use Rattle.phase_replay.proofs.whole.replay_pieces.Goals as goal
 
@@ -84,3 +85,19 @@ pub returns-in_err-piece-2-clause-memory : goal.returns-in_err-piece-2-clause-me
 returns-in_err-piece-2-clause-memory g c = λ _. reads_within _ _ _ _ _ _ _ _ c.hand_over.new.self c.replaying.left _ _
     (reads_sent _ _ _ _ _ _ _ c.replaying.replayer c.hand_over.new.self c.replaying.left c.replaying.invariant.1 c.in_ok-hand_over.ensures.ok)
     c.in_ok-count.ensures.gives (length-take-le c.in_ok-count.count c.read_piece.new.piece (omega (arith, c.in_ok-count.ensures.bound))) c.in_ok-count.ensures.fits
+
+-- A failed write of the last replies is noted, and no read failed.
+pub returns-in_err-finish-clause-notes : goal.returns-in_err-finish-clause-notes
+returns-in_err-finish-clause-notes g c =
+    let p = err_from_is_err_and c.from_residual-in_err-finish.result c.from_residual-in_err-finish.ensures.1 in
+    notes_stay c.from_residual-in_err-finish.result c.in_err-finish.field-0.0 _ _ _ _ _ (p.1 ∙ ap Err p.2)
+    (c.in_ok-count.ensures.kept ∙ c.replaying.invariant.2)
+    (c.in_ok-hand_over.ensures.watched ∙ c.replaying.invariant.3) c.in_err-finish.ensures.noted
+
+-- The same on the way through a piece.
+pub returns-in_err-piece-2-clause-notes : goal.returns-in_err-piece-2-clause-notes
+returns-in_err-piece-2-clause-notes g c =
+    let p = err_from_is_err_and c.from_residual-in_err-piece-2.result c.from_residual-in_err-piece-2.ensures.1 in
+    notes_stay c.from_residual-in_err-piece-2.result c.in_err-piece-2.field-0.0 _ _ _ _ _ (p.1 ∙ ap Err p.2)
+    (c.in_ok-count.ensures.kept ∙ c.replaying.invariant.2)
+    (c.in_ok-hand_over.ensures.watched ∙ c.replaying.invariant.3) c.in_err-piece-2.ensures.noted
