@@ -1,5 +1,5 @@
 //! A session: the lines of a script, one at a time.
-ghost use Rattle.std.specs.Prelude.{◌≡◌, ℕ, List, [], ◌∷◌, ◌++◌, OnOk, OnErr, IfOk, None};
+ghost use Rattle.std.specs.Prelude.{◌≡◌, ◌≤◌, ℕ, List, length, [], ◌∷◌, ◌++◌, OnOk, OnErr, IfOk, None};
 ghost use Rattle.phase_script.specs.Commands.{command_of, IsCommand};
 ghost use Rattle.phase_session.specs.Scripts.{ScriptState, start, reply_to, after_line};
 ghost use Rattle.phase_session.specs.Scripts.{command_reply, after_command, state_after};
@@ -53,6 +53,9 @@ impl Session {
         // Memory is wanted only where the line would be answered `ok` or `ok N`.
         ensures memory { OnErr result ((state : ScriptState) → Stands self.old state
             → IsOkReply (reply_by state (command_of line.now))) }
+        // No reply line has more than 47 bytes.
+        ensures short { IfOk result (λ reply. (state : ScriptState) → Stands self.old state
+            → length reply ≤ 47) }
         // The same over the lines so far: the session then stands for them with this one.
         ensures script { IfOk result (λ reply. (lines : List (List ℕ))
             → StandsForLines self.old lines → (reply ≡ reply_to (state_after lines) line.now)

@@ -27,7 +27,8 @@ fn sample_of(row: &ByteRecord) -> Option<i64>
     ensures none { IfNone result ((v : ℤ) → IsSend v
         → fields_of row.now ≡ signed_decimal v ∷ [] → ⊥) }
 {
-    if row.len() != 1 {
+    let fields = row.len();
+    if fields != 1 {
         return None;
     }
     match row.get(0) {

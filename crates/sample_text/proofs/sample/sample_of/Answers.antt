@@ -4,14 +4,14 @@ use Rattle.sample_text.proofs.Fields.{only_field, some_field, some_sample, no_sa
 use Rattle.sample_text.proofs.sample.sample_of.Goals as goal
 
 pub returns-in-None-clause-none : goal.returns-in-None-clause-none
-returns-in-None-clause-none c v within e = some_field (fields_of c.args.row.now) (omega (arith, c.if-len-ne1.false, c.len.ensures)) c.in-None.ensures.value
+returns-in-None-clause-none c v within e = some_field (fields_of c.args.row.now) (omega (arith, c.if-fields-ne1.false, c.len-fields.ensures)) c.in-None.ensures.value
 
 pub returns-in-Some-clause-some : goal.returns-in-Some-clause-some
 returns-in-Some-clause-some c =
-    let one = only_field (fields_of c.args.row.now) c.in-Some.field.now (omega (arith, c.if-len-ne1.false, c.len.ensures)) c.in-Some.ensures.value in
+    let one = only_field (fields_of c.args.row.now) c.in-Some.field.now (omega (arith, c.if-fields-ne1.false, c.len-fields.ensures)) c.in-Some.ensures.value in
     some_sample c.value_of.result (fields_of c.args.row.now) c.in-Some.field.now one c.value_of.ensures.some
 
 pub returns-in-Some-clause-none : goal.returns-in-Some-clause-none
 returns-in-Some-clause-none c =
-    let one = only_field (fields_of c.args.row.now) c.in-Some.field.now (omega (arith, c.if-len-ne1.false, c.len.ensures)) c.in-Some.ensures.value in
+    let one = only_field (fields_of c.args.row.now) c.in-Some.field.now (omega (arith, c.if-fields-ne1.false, c.len-fields.ensures)) c.in-Some.ensures.value in
     no_sample c.value_of.result (fields_of c.args.row.now) c.in-Some.field.now one c.value_of.ensures.none

@@ -1,0 +1,202 @@
+-- The replies of a session are replies of scripts: their phases and values are within the limits.
+use Rattle.std.proofs.Common.{◌≡◌, ℕ, ◌<◌, ◌≤◌, Bool, true, false, List, [], ◌∷◌, Option, Some, None, Result, Ok, Err, ℤ, leb, length, refl, sym, ap, subst, ◌∙◌, arith}
+use Rattle.std.proofs.lemmas.Bool.{leb-false}
+use Rattle.phase_base.specs.Limits.{Limits, AreLimits}
+use Rattle.phase_base.specs.declared.entry.Entry.{Entry}
+use Rattle.phase_base.specs.Members.{entry_of}
+use Rattle.phase_accum.specs.declared.outcome.Outcome.{Outcome}
+use Rattle.phase_accum.specs.declared.outcome.Outcome.TheVariants as outcome
+use Rattle.phase_accum.specs.declared.single.Single.{Single}
+use Rattle.phase_accum.specs.Values.{IsInRange}
+use Rattle.phase_accum.specs.Operations.{Operation, AccumulateLaws}
+use Rattle.phase_accum.specs.Sums.{sum_operation, sum_laws}
+use Rattle.phase_accum.specs.Products.{product_operation, product_laws}
+use Rattle.phase_accum.specs.Leasts.{least_operation, least_laws}
+use Rattle.phase_accum.specs.Greatests.{greatest_operation, greatest_laws}
+use Rattle.phase_accum.specs.Anys.{any_operation, any_laws}
+use Rattle.phase_history.specs.declared.got.Got.{Got}
+use Rattle.phase_history.specs.declared.got.Got.TheVariants as got
+use Rattle.phase_history.specs.declared.refusal.NoTask.{NoTask}
+use Rattle.phase_history.specs.declared.refusal.RegisterRefusal.{RegisterRefusal}
+use Rattle.phase_history.specs.declared.refusal.RegisterRefusal.TheVariants as register
+use Rattle.phase_history.specs.declared.refusal.SignalRefusal.{SignalRefusal}
+use Rattle.phase_history.specs.declared.refusal.SignalRefusal.TheVariants as signal
+use Rattle.phase_history.specs.declared.refusal.WaitRefusal.{WaitRefusal}
+use Rattle.phase_history.specs.declared.refusal.WaitRefusal.TheVariants as wait
+use Rattle.phase_history.specs.Histories.{History, members_of, signal_phase, done_of, top_of}
+use Rattle.phase_history.specs.Legal.{IsLegal}
+use Rattle.phase_history.specs.Refusals.{signal_refusal, signal_rows, register_refusal, drop_refusal}
+use Rattle.phase_history.specs.Replies.{signal_reply, wait_reply, refused_or}
+use Rattle.phase_history.proofs.InRange.{wait_reply-in_range}
+use Rattle.phase_history.proofs.LawProofs.{answers_law}
+use Rattle.phase_history.proofs.Refused.{Passes, passes_from}
+use Rattle.phase_history.proofs.Steps.{done_below_top, sound_of, member_entry_is}
+use Rattle.phase_history.proofs.Tops.{top_within}
+use Rattle.phase_core.proofs.Replies.{limits_of}
+use Rattle.phase_script.specs.declared.command.Command.{Command}
+use Rattle.phase_script.specs.declared.command.Command.TheVariants.{Make, Add, Send, Signal, Wait, Drop}
+use Rattle.phase_script.specs.declared.command.Operator.{Operator}
+use Rattle.phase_script.specs.declared.command.Operator.TheVariants.{Sum, Product, Least, Greatest, Any}
+use Rattle.phase_script.specs.declared.refusal.Refusal.{Refusal}
+use Rattle.phase_script.specs.declared.reply.Reply.{Reply}
+use Rattle.phase_script.specs.Commands.{command_of}
+use Rattle.phase_script.specs.Numbers.{most}
+use Rattle.phase_script.specs.ReplyLines.{IsReply, reply_text}
+use Rattle.phase_script.proofs.ReplyLines.{reply_short}
+use Rattle.phase_session.specs.declared.script_phaser.ScriptPhaser.{ScriptPhaser}
+use Rattle.phase_session.specs.declared.any_phaser.AnyPhaser.{AnyPhaser}
+use Rattle.phase_session.specs.declared.any_phaser.AnyPhaser.TheVariants as phaser
+use Rattle.phase_session.specs.Scripts.{ScriptState, NoPhaser, OnePhaser, Held, held_by, value_of, done_unless, make_reply, registered_reply, dropped_reply, signalled_reply, received_reply, value_reply, phaser_reply, command_reply, reply_by, reply_to}
+use Rattle.phase_session.specs.Session.{PhaserStandsFor, AnyStandsFor, MaybeStandsFor}
+
+-- ---- replies without a phase
+
+done_is_reply : (o : Option Refusal) → IsReply (done_unless o)
+done_is_reply None = tt
+done_is_reply (Some refusal) = tt
+
+registered_is_reply : (o : Option RegisterRefusal) → IsReply (registered_reply o)
+registered_is_reply None = tt
+registered_is_reply (Some register.NoTask) = tt
+registered_is_reply (Some register.NotAllowed) = tt
+registered_is_reply (Some register.NotNew) = tt
+registered_is_reply (Some register.TooManyTasks) = tt
+registered_is_reply (Some register.OutOfMemory) = tt
+
+dropped_is_reply : (o : Option NoTask) → IsReply (dropped_reply o)
+dropped_is_reply None = tt
+dropped_is_reply (Some refusal) = tt
+
+signalled_is_reply : (r : Result ℕ SignalRefusal) → ((phase : ℕ) → r ≡ Ok phase → phase ≤ most) → IsReply (signalled_reply r)
+signalled_is_reply (Ok phase) low = low phase refl
+signalled_is_reply (Err signal.NoTask) low = tt
+signalled_is_reply (Err signal.NoSignal) low = tt
+signalled_is_reply (Err signal.NotSingle) low = tt
+signalled_is_reply (Err signal.BadBlock) low = tt
+signalled_is_reply (Err signal.SignalTwice) low = tt
+signalled_is_reply (Err signal.Spent) low = tt
+signalled_is_reply (Err signal.Ahead) low = tt
+signalled_is_reply (Err signal.SingleDiffers) low = tt
+signalled_is_reply (Err signal.PhaseFull) low = tt
+
+value_is_reply : (phase : ℕ) (o : Outcome) → phase ≤ most → IsInRange o → IsReply (value_reply phase o)
+value_is_reply phase (outcome.Value v) low range = (low, range)
+value_is_reply phase outcome.Empty low range = low
+value_is_reply phase outcome.TooBig low range = low
+
+received_is_reply : (r : Result Got WaitRefusal)
+    → ((phase : ℕ) (o : Outcome) → r ≡ Ok (got.Value phase o) → (phase ≤ most) × IsInRange o) → IsReply (received_reply r)
+received_is_reply (Ok (got.Value phase o)) within = let w = within phase o refl in value_is_reply phase o w.0 w.1
+received_is_reply (Ok got.Ended) within = tt
+received_is_reply (Err wait.NoTask) within = tt
+received_is_reply (Err wait.NoWait) within = tt
+received_is_reply (Err wait.BadBlock) within = tt
+received_is_reply (Err wait.SignalFirst) within = tt
+received_is_reply (Err wait.NotYet) within = tt
+
+-- ---- phases of answers
+
+-- an answer that is no refusal was not refused
+accepted_from : (o : Option SignalRefusal) (answer phase : ℕ) → refused_or o answer ≡ Ok phase → (o ≡ None) × (answer ≡ phase)
+accepted_from None answer phase e = (refl, ap (λ (r : Result ℕ SignalRefusal). phase_in r answer) e)
+  where
+    phase_in : Result ℕ SignalRefusal → ℕ → ℕ
+    phase_in (Ok n) default = n
+    phase_in (Err refusal) default = default
+accepted_from (Some refusal) answer phase e = absurd (cc)
+
+signalled_low : (limits : Limits) (h : History) (task : ℕ) (sends : List ℤ) (single : Option Single) (phase : ℕ)
+    → AreLimits limits → signal_reply limits h task (sends ∷ []) single ≡ Ok phase → phase ≤ most
+signalled_low limits h task sends single phase are ok =
+    let a = accepted_from (signal_refusal limits h task (sends ∷ []) single) (signal_phase h task) phase ok in
+    let p : Passes (entry_of (members_of h) task) (signal_rows limits h (sends ∷ []) single) = passes_from _ signal.NoTask (signal_rows limits h (sends ∷ []) single) a.0 in
+    let spent : leb limits.phases_max p.entry.signal_phase ≡ false = p.passes.1.1.1.1.0 in
+    let same : signal_phase h task ≡ p.entry.signal_phase = ap (λ (e : Entry). e.signal_phase) (member_entry_is (members_of h) task p.entry p.is_member) in
+    let below : p.entry.signal_phase < limits.phases_max = leb-false _ _ spent in
+    let is : signal_phase h task ≡ phase = a.1 in
+    omega (arith, are.phases_most)
+
+received_low : (value : List ℤ → Outcome) (limits : Limits) (h : History) (task phase : ℕ) (o : Outcome)
+    → IsLegal limits h → wait_reply value limits h task ≡ Ok (got.Value phase o) → phase ≤ most
+received_low value limits h task phase o legal reply =
+    let a = answers_law value limits h task phase o reply in
+    let below : done_of h ≤ top_of h = done_below_top h (sound_of limits h legal) in
+    let top : top_of h ≤ limits.phases_max = top_within limits h legal in
+    let are : AreLimits limits = limits_of limits h legal in
+    let complete : phase < done_of h = a.complete in
+    omega (arith, are.phases_most)
+
+-- ---- the replies of a session
+
+phaser_is_reply : {A : Type 0} (op : Operation A) (laws : AccumulateLaws op) (limits : Limits) (h : History) (held : Held)
+    → IsLegal limits h → (command : Command) → IsReply (phaser_reply op.value limits h held command)
+phaser_is_reply op laws limits h held legal (Make operator bound phases) = tt
+phaser_is_reply op laws limits h held legal (Add parent child mode) = registered_is_reply (register_refusal h parent child mode)
+phaser_is_reply op laws limits h held legal (Send task number) = done_is_reply _
+phaser_is_reply op laws limits h held legal (Signal task single) =
+    signalled_is_reply _ (λ phase ok. signalled_low limits h task (held_by held task) single phase (limits_of limits h legal) ok)
+phaser_is_reply op laws limits h held legal (Wait task) =
+    received_is_reply _ (λ phase o ok. (received_low op.value limits h task phase o legal ok, wait_reply-in_range op laws limits h task phase o legal ok))
+phaser_is_reply op laws limits h held legal (Drop task) = dropped_is_reply (drop_refusal h task)
+
+legal_at : {A : Type 0} (op : Operation A) (p : ScriptPhaser A) (limits : Limits) (h : History) (held : Held)
+    → PhaserStandsFor op p limits h held → IsLegal limits h
+legal_at op p limits h held stands =
+    let L : Limits → Type 0 = λ l. IsLegal l h in subst L stands.limits_are stands.core.legal
+
+any_is_reply : (p : AnyPhaser) (operator : Operator) (limits : Limits) (h : History) (held : Held) (command : Command)
+    → AnyStandsFor p operator limits h held → IsReply (phaser_reply (value_of operator) limits h held command)
+unfolding AnyStandsFor
+any_is_reply (phaser.Sum p) Sum limits h held command stands =
+    phaser_is_reply sum_operation sum_laws limits h held (legal_at sum_operation p limits h held stands) command
+any_is_reply (phaser.Sum p) Product limits h held command stands = absurd stands
+any_is_reply (phaser.Sum p) Least limits h held command stands = absurd stands
+any_is_reply (phaser.Sum p) Greatest limits h held command stands = absurd stands
+any_is_reply (phaser.Sum p) Any limits h held command stands = absurd stands
+any_is_reply (phaser.Product p) Sum limits h held command stands = absurd stands
+any_is_reply (phaser.Product p) Product limits h held command stands =
+    phaser_is_reply product_operation product_laws limits h held (legal_at product_operation p limits h held stands) command
+any_is_reply (phaser.Product p) Least limits h held command stands = absurd stands
+any_is_reply (phaser.Product p) Greatest limits h held command stands = absurd stands
+any_is_reply (phaser.Product p) Any limits h held command stands = absurd stands
+any_is_reply (phaser.Least p) Sum limits h held command stands = absurd stands
+any_is_reply (phaser.Least p) Product limits h held command stands = absurd stands
+any_is_reply (phaser.Least p) Least limits h held command stands =
+    phaser_is_reply least_operation least_laws limits h held (legal_at least_operation p limits h held stands) command
+any_is_reply (phaser.Least p) Greatest limits h held command stands = absurd stands
+any_is_reply (phaser.Least p) Any limits h held command stands = absurd stands
+any_is_reply (phaser.Greatest p) Sum limits h held command stands = absurd stands
+any_is_reply (phaser.Greatest p) Product limits h held command stands = absurd stands
+any_is_reply (phaser.Greatest p) Least limits h held command stands = absurd stands
+any_is_reply (phaser.Greatest p) Greatest limits h held command stands =
+    phaser_is_reply greatest_operation greatest_laws limits h held (legal_at greatest_operation p limits h held stands) command
+any_is_reply (phaser.Greatest p) Any limits h held command stands = absurd stands
+any_is_reply (phaser.Any p) Sum limits h held command stands = absurd stands
+any_is_reply (phaser.Any p) Product limits h held command stands = absurd stands
+any_is_reply (phaser.Any p) Least limits h held command stands = absurd stands
+any_is_reply (phaser.Any p) Greatest limits h held command stands = absurd stands
+any_is_reply (phaser.Any p) Any limits h held command stands =
+    phaser_is_reply any_operation any_laws limits h held (legal_at any_operation p limits h held stands) command
+
+pub state_is_reply : (p : Option AnyPhaser) (state : ScriptState) (command : Command) → MaybeStandsFor p state
+    → IsReply (command_reply state command)
+unfolding MaybeStandsFor command_reply
+state_is_reply None NoPhaser (Make operator bound phases) stands = done_is_reply _
+state_is_reply None NoPhaser (Add parent child mode) stands = tt
+state_is_reply None NoPhaser (Send task number) stands = tt
+state_is_reply None NoPhaser (Signal task single) stands = tt
+state_is_reply None NoPhaser (Wait task) stands = tt
+state_is_reply None NoPhaser (Drop task) stands = tt
+state_is_reply None (OnePhaser operator limits h held) command stands = absurd stands
+state_is_reply (Some p) NoPhaser command stands = absurd stands
+state_is_reply (Some p) (OnePhaser operator limits h held) command stands = any_is_reply p operator limits h held command stands
+
+line_is_reply : (p : Option AnyPhaser) (state : ScriptState) (o : Option Command) → MaybeStandsFor p state → IsReply (reply_by state o)
+line_is_reply p state None stands = tt
+line_is_reply p state (Some command) stands = state_is_reply p state command stands
+
+-- the reply line to a script line has at most 47 bytes
+pub short_reply : (p : Option AnyPhaser) (state : ScriptState) (line : List ℕ) → MaybeStandsFor p state
+    → length (reply_to state line) ≤ 47
+unfolding reply_to
+short_reply p state line stands = reply_short _ (line_is_reply p state (command_of line) stands)
