@@ -34,9 +34,7 @@ failed, or memory ran out.";
 fn command<'a>(alloc: Global) -> Result<Command<'a>, AllocError>
     ensures { IfOk result (λ c. app_of c ≡ phase_app) }
 {
-    let replay = Command::new(alloc, "replay")
-        .about(ABOUT_REPLAY)
-        .after_help(EXAMPLE);
+    let replay = Command::new(alloc, "replay").about(ABOUT_REPLAY);
     Command::new(alloc, "phase")
         .no_binary_name(true)
         .about(ABOUT)

@@ -40,7 +40,7 @@ pub enum Refusal {
     NotYet,
     /// The parent does not hold what the child asks for.
     NotAllowed,
-    /// The number of the child was used before.
+    /// The number of the child is not above every number ever used.
     NotNew,
     /// There are as many tasks as there may be.
     TooManyTasks,

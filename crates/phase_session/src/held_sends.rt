@@ -7,7 +7,7 @@ use std::alloc::{AllocError, Global};
 use std::collections::HashMap;
 use std::marker::Model;
 
-/// The pending sends of each task that holds some or has held some since it joined.
+/// The pending sends of each task that holds some.
 #[derive(Drop)]
 pub struct HeldSends<A: Accumulate> {
     pending: HashMap<u64, Pending<A>>,

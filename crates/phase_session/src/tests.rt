@@ -18,67 +18,8 @@ fn follow(rt: &impl Abort, session: &mut Session, name: &str, rows: Rows<'_>) ->
 }
 
 #[test]
-fn sessions_answer_line_by_line(rt: HostRuntime) -> Result<(), Fail> {
-    let scripts: [(&str, Rows<'_>); 25] = [
-        (
-            "first_run",
-            &[
-                ("make sum 2 100", "ok"),
-                ("send 0 5", "ok"),
-                ("signal 0", "ok 0"),
-                ("wait 0", "value 0 5"),
-            ],
-        ),
-        (
-            "sum_of_no_send",
-            &[
-                ("make sum 2 100", "ok"),
-                ("signal 0", "ok 0"),
-                ("wait 0", "value 0 0"),
-            ],
-        ),
-        (
-            "product_of_no_send",
-            &[
-                ("make product 2 100", "ok"),
-                ("signal 0", "ok 0"),
-                ("wait 0", "value 0 1"),
-            ],
-        ),
-        (
-            "least_of_no_send",
-            &[
-                ("make least 2 100", "ok"),
-                ("signal 0", "ok 0"),
-                ("wait 0", "empty 0"),
-            ],
-        ),
-        (
-            "greatest_of_no_send",
-            &[
-                ("make greatest 2 100", "ok"),
-                ("signal 0", "ok 0"),
-                ("wait 0", "empty 0"),
-            ],
-        ),
-        (
-            "any_of_no_send",
-            &[
-                ("make any 2 100", "ok"),
-                ("signal 0", "ok 0"),
-                ("wait 0", "empty 0"),
-            ],
-        ),
-        (
-            "turns",
-            &[
-                ("make sum 2 100", "ok"),
-                ("wait 0", "no signal-first"),
-                ("signal 0", "ok 0"),
-                ("signal 0", "no signal-twice"),
-                ("wait 0", "value 0 0"),
-            ],
-        ),
+fn members_come_and_go(rt: HostRuntime) -> Result<(), Fail> {
+    let scripts: [(&str, Rows<'_>); 6] = [
         (
             "modes",
             &[
@@ -105,82 +46,6 @@ fn sessions_answer_line_by_line(rt: HostRuntime) -> Result<(), Fail> {
             ],
         ),
         (
-            "members_hold_back",
-            &[
-                ("make sum 2 100", "ok"),
-                ("add 0 1 sig", "ok"),
-                ("add 0 2 wait", "ok"),
-                ("add 0 3 wait", "ok"),
-                ("drop 0", "ok"),
-                ("signal 1", "ok 0"),
-                ("signal 1", "ok 1"),
-                ("add 1 4 sig", "ok"),
-                ("wait 2", "value 0 0"),
-                ("wait 2", "value 1 0"),
-                ("wait 2", "no not-yet"),
-                ("signal 1", "no ahead"),
-                ("wait 3", "value 0 0"),
-                ("send 1 5", "ok"),
-                ("signal 1", "ok 2"),
-                ("wait 2", "no not-yet"),
-                ("send 4 6", "ok"),
-                ("signal 4", "ok 2"),
-                ("wait 2", "value 2 11"),
-                ("wait 3", "value 1 0"),
-                ("wait 3", "value 2 11"),
-            ],
-        ),
-        (
-            "late_waiter",
-            &[
-                ("make sum 4 100", "ok"),
-                ("add 0 1 sig", "ok"),
-                ("add 0 2 wait", "ok"),
-                ("drop 0", "ok"),
-                ("send 1 10", "ok"),
-                ("signal 1", "ok 0"),
-                ("send 1 20", "ok"),
-                ("signal 1", "ok 1"),
-                ("send 1 30", "ok"),
-                ("signal 1", "ok 2"),
-                ("send 1 40", "ok"),
-                ("signal 1", "ok 3"),
-                ("wait 2", "value 0 10"),
-                ("wait 2", "value 1 20"),
-                ("add 2 3 wait", "ok"),
-                ("wait 3", "value 2 30"),
-                ("wait 2", "value 2 30"),
-                ("wait 3", "value 3 40"),
-                ("wait 3", "no not-yet"),
-            ],
-        ),
-        (
-            "last_signaller_drops",
-            &[
-                ("make sum 4 100", "ok"),
-                ("add 0 1 sig", "ok"),
-                ("add 0 2 sig", "ok"),
-                ("add 0 3 wait", "ok"),
-                ("drop 0", "ok"),
-                ("send 1 1", "ok"),
-                ("signal 1", "ok 0"),
-                ("send 2 10", "ok"),
-                ("signal 2", "ok 0"),
-                ("send 2 20", "ok"),
-                ("signal 2", "ok 1"),
-                ("send 2 30", "ok"),
-                ("signal 2", "ok 2"),
-                ("drop 2", "ok"),
-                ("wait 3", "value 0 11"),
-                ("wait 3", "no not-yet"),
-                ("drop 1", "ok"),
-                ("wait 3", "value 1 20"),
-                ("wait 3", "value 2 30"),
-                ("wait 3", "ended"),
-                ("wait 3", "ended"),
-            ],
-        ),
-        (
             "drop_gives_up_sends",
             &[
                 ("make sum 4 100", "ok"),
@@ -190,6 +55,73 @@ fn sessions_answer_line_by_line(rt: HostRuntime) -> Result<(), Fail> {
                 ("send 0 4", "ok"),
                 ("signal 0", "ok 0"),
                 ("wait 0", "value 0 4"),
+            ],
+        ),
+        (
+            "child_between_signal_and_wait",
+            &[
+                ("make sum 2 100", "ok"),
+                ("signal 0", "ok 0"),
+                ("add 0 1 sigwait", "ok"),
+                ("signal 1", "no signal-twice"),
+                ("wait 1", "value 0 0"),
+                ("wait 0", "value 0 0"),
+            ],
+        ),
+        (
+            "without_waiters",
+            &[
+                ("make sum 1 100", "ok"),
+                ("add 0 1 sig", "ok"),
+                ("signal 0 neg", "ok 0"),
+                ("signal 1", "no single-differs"),
+                ("drop 0", "ok"),
+                ("signal 1", "ok 0"),
+                ("signal 1", "ok 1"),
+                ("signal 1", "ok 2"),
+            ],
+        ),
+        (
+            "any_is_not_the_greatest",
+            &[
+                ("make any 2 100", "ok"),
+                ("add 0 1 sig", "ok"),
+                ("send 0 9", "ok"),
+                ("send 1 4", "ok"),
+                ("signal 1", "ok 0"),
+                ("signal 0", "ok 0"),
+                ("wait 0", "value 0 4"),
+            ],
+        ),
+    ];
+    for (name, rows) in scripts {
+        follow(&rt, &mut Session::new(rt.alloc()), name, rows)?;
+    }
+    Ok(())
+}
+
+#[test]
+fn refusals_and_singles(rt: HostRuntime) -> Result<(), Fail> {
+    let scripts: [(&str, Rows<'_>); 6] = [
+        (
+            "turns",
+            &[
+                ("make sum 2 100", "ok"),
+                ("wait 0", "no signal-first"),
+                ("signal 0", "ok 0"),
+                ("signal 0", "no signal-twice"),
+                ("wait 0", "value 0 0"),
+            ],
+        ),
+        (
+            "limits",
+            &[
+                ("make sum 4 2", "ok"),
+                ("signal 0", "ok 0"),
+                ("wait 0", "value 0 0"),
+                ("signal 0", "ok 1"),
+                ("wait 0", "value 1 0"),
+                ("signal 0", "no spent"),
             ],
         ),
         (
@@ -208,77 +140,19 @@ fn sessions_answer_line_by_line(rt: HostRuntime) -> Result<(), Fail> {
             ],
         ),
         (
-            "limits",
-            &[
-                ("make sum 4 2", "ok"),
-                ("signal 0", "ok 0"),
-                ("wait 0", "value 0 0"),
-                ("signal 0", "ok 1"),
-                ("wait 0", "value 1 0"),
-                ("signal 0", "no spent"),
-            ],
-        ),
-        (
-            "singles_in_turn",
+            "least_of_no_send",
             &[
                 ("make least 2 100", "ok"),
-                ("signal 0 abs", "ok 0"),
+                ("signal 0", "ok 0"),
                 ("wait 0", "empty 0"),
-                ("send 0 -5", "ok"),
-                ("signal 0 halve", "ok 1"),
-                ("wait 0", "value 1 -3"),
-                ("send 0 15", "ok"),
-                ("signal 0 clamp 0 10", "ok 2"),
-                ("wait 0", "value 2 10"),
-                ("signal 0 clamp 10 0", "bad line"),
             ],
         ),
         (
-            "any_takes_first",
+            "product_of_no_send",
             &[
-                ("make any 2 100", "ok"),
-                ("add 0 1 sig", "ok"),
-                ("send 0 4", "ok"),
-                ("send 1 9", "ok"),
-                ("signal 1", "ok 0"),
+                ("make product 2 100", "ok"),
                 ("signal 0", "ok 0"),
-                ("wait 0", "value 0 9"),
-            ],
-        ),
-        (
-            "any_is_not_the_greatest",
-            &[
-                ("make any 2 100", "ok"),
-                ("add 0 1 sig", "ok"),
-                ("send 0 9", "ok"),
-                ("send 1 4", "ok"),
-                ("signal 1", "ok 0"),
-                ("signal 0", "ok 0"),
-                ("wait 0", "value 0 4"),
-            ],
-        ),
-        (
-            "least_takes_least",
-            &[
-                ("make least 2 100", "ok"),
-                ("add 0 1 sig", "ok"),
-                ("send 0 4", "ok"),
-                ("send 1 9", "ok"),
-                ("signal 1", "ok 0"),
-                ("signal 0", "ok 0"),
-                ("wait 0", "value 0 4"),
-            ],
-        ),
-        (
-            "greatest_takes_greatest",
-            &[
-                ("make greatest 2 100", "ok"),
-                ("add 0 1 sig", "ok"),
-                ("send 0 9", "ok"),
-                ("send 1 4", "ok"),
-                ("signal 1", "ok 0"),
-                ("signal 0", "ok 0"),
-                ("wait 0", "value 0 9"),
+                ("wait 0", "value 0 1"),
             ],
         ),
         (
@@ -299,62 +173,6 @@ fn sessions_answer_line_by_line(rt: HostRuntime) -> Result<(), Fail> {
                 ("add 0 2 sig", "ok"),
                 ("wait 2", "no no-wait"),
                 ("drop 5", "no no-task"),
-            ],
-        ),
-        (
-            "without_waiters",
-            &[
-                ("make sum 1 100", "ok"),
-                ("add 0 1 sig", "ok"),
-                ("signal 0 neg", "ok 0"),
-                ("signal 1", "no single-differs"),
-                ("drop 0", "ok"),
-                ("signal 1", "ok 0"),
-                ("signal 1", "ok 1"),
-                ("signal 1", "ok 2"),
-            ],
-        ),
-        (
-            "line_grammar",
-            &[
-                ("make sum 2 100", "ok"),
-                (" wait 0", "bad line"),
-                ("wait  0", "bad line"),
-                ("wait 05", "bad line"),
-                ("send 0 -0", "bad line"),
-                ("Wait 0", "bad line"),
-                ("", "bad line"),
-                ("signal 0", "ok 0"),
-            ],
-        ),
-        (
-            "child_between_signal_and_wait",
-            &[
-                ("make sum 2 100", "ok"),
-                ("signal 0", "ok 0"),
-                ("add 0 1 sigwait", "ok"),
-                ("signal 1", "no signal-twice"),
-                ("wait 1", "value 0 0"),
-                ("wait 0", "value 0 0"),
-            ],
-        ),
-        (
-            "product_range",
-            &[
-                ("make product 2 100", "ok"),
-                ("send 0 4611686018427387904", "ok"),
-                ("send 0 4", "ok"),
-                ("send 0 0", "ok"),
-                ("signal 0", "ok 0"),
-                ("wait 0", "value 0 0"),
-                ("send 0 4611686018427387904", "ok"),
-                ("send 0 4", "ok"),
-                ("signal 0", "ok 1"),
-                ("wait 0", "toobig 1"),
-                ("send 0 -7", "ok"),
-                ("send 0 1317624576693539401", "ok"),
-                ("signal 0", "ok 2"),
-                ("wait 0", "value 2 -9223372036854775807"),
             ],
         ),
     ];
