@@ -162,9 +162,9 @@ fn the_example_in_help_is_answered_so(rt: HostRuntime) -> Result<(), Fail> {
     }
     assert_eq!(rt;
         script.as_str(),
-        "make sum 2 100\nsend 0 5\nsignal 0\nwait 0\n"
+        "make sum 2 100\nadd 0 1 sig\nsend 0 3\nsend 1 4\nsignal 1\nsignal 0\nwait 0\n"
     );
-    assert_eq!(rt; replies.as_str(), "ok\nok\nok 0\nvalue 0 5\n");
+    assert_eq!(rt; replies.as_str(), "ok\nok\nok\nok\nok 0\nok 0\nvalue 0 7\n");
     assert!(rt; is_answered(rt.alloc(), script.as_str(), replies.as_str())?);
     Ok(())
 }
