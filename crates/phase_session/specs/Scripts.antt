@@ -229,10 +229,9 @@ abbrev pub reply_by : ScriptState → Option Command → Reply
 reply_by state (Some command) = command_reply state command
 reply_by state None = BadLine
 
--- the reply is `ok`, alone or with a phase: the line was done
+-- the reply is `ok` alone: the line was done
 abbrev pub IsOkReply : Reply → Type 0
 IsOkReply Accepted = Unit {0}
-IsOkReply (Signalled phase) = Unit {0}
 IsOkReply reply = ⊥
 
 -- what a line leaves that gives this command, or none

@@ -50,7 +50,7 @@ impl Session {
         ensures after { OnOk result ((state : ScriptState) → Stands self.old state
             → Stands self.new (after_line state line.now)) }
         ensures err { OnErr result (self.new ≡ self.old) }
-        // Memory is wanted only where the line would be answered `ok` or `ok N`.
+        // Memory is wanted only where the line would be answered `ok`.
         ensures memory { OnErr result ((state : ScriptState) → Stands self.old state
             → IsOkReply (reply_by state (command_of line.now))) }
         // No reply line has more than 47 bytes.
