@@ -1,0 +1,48 @@
+// Refuses the request for memory whose number the variable REFUSED tells, counted from 1. Load it
+// before the C library. Where REFUSED is 0 it refuses none, and at the end it writes to file
+// descriptor 9 how many there were.
+#define _GNU_SOURCE
+#include <dlfcn.h>
+#include <errno.h>
+#include <stddef.h>
+#include <stdio.h>
+#include <stdlib.h>
+
+static unsigned long requests, refused;
+
+__attribute__((constructor)) static void begin(void) {
+    const char *number = getenv("REFUSED");
+    refused = number ? strtoul(number, NULL, 10) : 0;
+    requests = 0;
+}
+
+__attribute__((destructor)) static void end(void) {
+    if (refused == 0) {
+        dprintf(9, "%lu\n", requests);
+    }
+}
+
+static int is_refused(void) {
+    requests++;
+    if (refused == 0 || requests != refused) {
+        return 0;
+    }
+    errno = ENOMEM;
+    return 1;
+}
+
+void *malloc(size_t size) {
+    static void *(*next)(size_t);
+    if (!next) {
+        next = (void *(*)(size_t))dlsym(RTLD_NEXT, "malloc");
+    }
+    return is_refused() ? NULL : next(size);
+}
+
+void *realloc(void *block, size_t size) {
+    static void *(*next)(void *, size_t);
+    if (!next) {
+        next = (void *(*)(void *, size_t))dlsym(RTLD_NEXT, "realloc");
+    }
+    return is_refused() ? NULL : next(block, size);
+}
