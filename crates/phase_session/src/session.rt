@@ -41,7 +41,7 @@ impl Session {
 
     /// Answers one line, given with neither its LF nor the CR before it.
     ///
-    /// Want of memory comes only from a `make`, `add` or `send` that would be answered `ok`, and
+    /// Want of memory comes only where the line would be answered `ok`, alone or with a phase, and
     /// leaves the session unchanged.
     #[tactic(auto, using(crate::proofs::Scripted::state_after_push), unfolding(crate::specs::Session::Stands, crate::specs::Scripts::reply_to, crate::specs::Scripts::after_line))]
     pub fn line(&mut self, line: &[u8]) -> Result<ReplyLine, AllocError>

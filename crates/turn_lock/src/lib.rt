@@ -1,5 +1,5 @@
 //! A lock on one value, at which one seat at a time has the turn, under a rule of the caller's. It
-//! is one word and one slot, with no mutex. What threads share stands on it.
+//! is one word and one slot, with no mutex.
 //!
 //! ```text
 //! a lock on 6 with three seats    seat 1 has the turn              seat 1 gave 7 back
