@@ -1,4 +1,5 @@
-//! The lines of a graph's text.
+//! The lines of a graph's text, by their words: what each declares, and which words are names,
+//! files and numbers. The first calls are `lines_of`, `words_of` and `line_at`.
 #![tactic(auto)]
 
 pub mod laws;

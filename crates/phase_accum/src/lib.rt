@@ -1,5 +1,5 @@
-//! Values of a phase: what a task sends, how sends are added up, and the sends that a task holds
-//! until its next signal. The first calls are `Pending::new` and `Pending::send`.
+//! Values of a phase: how sends become a value, the single that is applied to it, and the sends
+//! that a task holds until its next signal. The first calls are `Pending::new` and `Pending::send`.
 #![tactic(auto)]
 
 mod accumulate;

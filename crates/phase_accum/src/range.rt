@@ -32,7 +32,7 @@ impl Model for Range {
 }
 
 impl Range {
-    /// Makes the range of a clamp.
+    /// Makes the range of a clamp. `BadClamp` where `low` is above `high`, or an end is `NO_VALUE`.
     pub fn new(low: i64, high: i64) -> Result<Range, BadClamp>
         ensures ok { IsOk result ↔ IsRange (low, high) }
         ensures ends { IfOk result (λ range. range ≡ (low, high)) }

@@ -1,11 +1,11 @@
-//! The operation that is applied once to the value of a phase.
+//! The function that is applied once to the value of a phase.
 ghost use Rattle.std.specs.Prelude.{◌≡◌, ◌↔◌, ◌⊎◌, ◌<ℤ◌, IsErr};
 ghost use Rattle.phase_accum.specs.Ranges.{IsRange};
 ghost use Rattle.phase_accum.specs.declared.outcome.TheConstants.{NO_VALUE};
 
 use crate::range::{BadClamp, Range};
 
-/// An operation on the value of a phase. It leaves `Empty` and `TooBig`.
+/// A function of the value of a phase. It leaves `Empty` and `TooBig`.
 #[derive(Clone, Copy, Debug, PartialEq, Eq)]
 pub enum Single {
     /// Changes the sign.

@@ -68,8 +68,8 @@ impl<A: Accumulate> PhaserCore<A> {
 
     /// Ends a task's registration. What it held and never signalled is in no phase.
     ///
-    /// The phases for which the others waited for the task alone are complete then, and the phases
-    /// that no waiter has still to get are given up.
+    /// Phases below the top that the task alone had still to signal are complete then. It takes no
+    /// memory.
     pub fn drop_task(&mut self, task: u64) -> Result<(), NoTask>
         ensures ok { IsOk result ↔ IsSome (entry_of self.old.members task) }
         ensures after { OnOk result ((h : History) → StandsFor A.operation self.old h

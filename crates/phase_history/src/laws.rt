@@ -68,7 +68,8 @@ pub fn prefix()
         → IsPrefix (stream_of value h) (stream_of value longer) }
 {}
 
-/// Where no task signals, no longer history has a longer stream, and in none does a task signal.
+/// Where no registered task signals, no longer history has a longer stream, and in none is one
+/// registered that signals.
 pub fn closed()
     ensures stream { (value : List ℤ → Outcome) (limits : Limits) (h longer : History)
         → HasNoSignaller h → IsLegal limits h → IsLegal limits longer → IsBeginning h longer
@@ -141,7 +142,8 @@ pub fn alive()
 
 /// While a task is registered, some task could go on: its signal is neither ahead nor a second one,
 /// or its wait is neither too early nor before its signal. That it will is not promised. Where no
-/// single is named and phases are left, some signal with no send is accepted, or some wait.
+/// single is named and phases are left, some signal with no send is accepted, or some such wait is
+/// there.
 pub fn no_standstill()
     ensures goes { (limits : Limits) (h : History) (task : ℕ) → IsLegal limits h
         → IsAlive h task → GoesOn limits h }

@@ -51,7 +51,8 @@ pub enum SignalRefusal {
     /// A waiter is registered, and the phase is the bound or more ahead of the slowest.
     #[error("the slowest waiter is as many phases behind as the bound allows")]
     Ahead,
-    /// A waiter is registered, and the signals of the phase named another single, or none.
+    /// A waiter is registered, and the first signal of the phase named otherwise: another single,
+    /// one where this signal names none, or none where it names one.
     #[error("the signals of this phase named another single, or none")]
     SingleDiffers,
     /// A waiter is registered, and the phase would hold more than `SENDS_MAX` sends.

@@ -1,4 +1,5 @@
-//! A replay on its way: the session, the prefix of the line that is read, and the replies that wait.
+//! A replay on its way: the session, the prefix of the line that is read, and the replies that
+//! wait.
 ghost use Rattle.std.specs.Prelude.{◌≡◌, ◌<◌, true, length, List, [], ℕ, ◌∷◌, ◌++◌, OnOk, OnErr};
 ghost use Rattle.std.specs.Io.KnownBytes.{Appends};
 ghost use Rattle.phase_script.specs.Cuts.{HasNoLf};

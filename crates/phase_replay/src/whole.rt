@@ -96,9 +96,9 @@ fn replay_pieces<R: Read, W: Write>(
 /// line, in order, written before the next read.
 ///
 /// A user at a terminal thus sees each reply at once. Bytes are read and written `PIECE_MAX` at a
-/// time, and a line of any length takes no memory beyond the longest line of the grammar. A fault
-/// stops the replay, and no call that failed is tried again; where memory runs out, the replies
-/// that wait are written first.
+/// time, and of a line of any length no more than 76 bytes are kept. A fault stops the replay, and
+/// no call that failed is tried again; where memory runs out, the replies that wait are written
+/// first.
 pub fn replay<R: Read, W: Write>(
     alloc: Global,
     reader: &mut Watched<R>,

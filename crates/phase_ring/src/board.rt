@@ -19,7 +19,7 @@ use std::alloc::{AllocError, Global};
 ///
 /// At the end of each call `done` is the first phase at which a signaller stands, or the top where
 /// none stands anywhere, and a waiter stands at the ring's base. All phases below `done` are
-/// sealed. No call takes memory.
+/// sealed. `new` alone takes memory.
 #[derive(Drop)]
 pub struct Board<A: Accumulate> {
     /// The limits of the phaser.

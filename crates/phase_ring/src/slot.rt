@@ -9,7 +9,7 @@ use phase_base::SENDS_MAX;
 /// Why sends were not joined to those of a phase.
 #[derive(Clone, Copy, Debug, PartialEq, Eq, Hash)]
 pub enum MergeRefusal {
-    /// A signal of the phase named another single, or none.
+    /// The first signal of the phase named otherwise.
     SingleDiffers,
     /// The phase would have more than `SENDS_MAX` sends.
     PhaseFull,

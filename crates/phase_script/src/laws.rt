@@ -23,12 +23,12 @@ pub fn lines_are_short()
     ensures { (line : List ℕ) → 75 ≤ length line → command_of line ≡ None }
 {}
 
-/// A reply line has one line end, which is its last byte.
+/// A reply line whose numbers are within those of a script has one line end, its last byte.
 pub fn replies_are_single_lines()
     ensures { (reply : Reply) → IsReply reply → IsOneLine (reply_text reply) }
 {}
 
-/// No reply line has more than 47 bytes.
+/// No reply line whose numbers are within those of a script has more than 47 bytes.
 pub fn replies_are_short()
     ensures { (reply : Reply) → IsReply reply → length (reply_text reply) ≤ 47 }
 {}

@@ -1,5 +1,5 @@
-//! The text of scripts: how a script is cut into lines, the command that a line gives, and the reply
-//! lines. A line is read by `read`, and a reply is written by `line`.
+//! The text of scripts: how a script is cut into lines, the command that a line gives, and the
+//! reply lines. A line is read by `read`, and a reply is written by `line`.
 #![tactic(auto)]
 
 mod command;

@@ -20,15 +20,15 @@ pub enum Refusal {
     NoSignal,
     /// The task holds as many sends as it may.
     TooManySends,
-    /// A single is given, and the task's mode has none.
+    /// A single is named, and the task's mode is not `Single`.
     NotSingle,
     /// The task has to wait before it signals again.
     SignalTwice,
-    /// The task has signalled all phases.
+    /// No phase is left for the task to signal.
     Spent,
-    /// The signal would be further ahead of a waiter than the bound.
+    /// The phase is the bound or more ahead of the slowest waiter's.
     Ahead,
-    /// The phase has another single.
+    /// The first signal of the phase named otherwise.
     SingleDiffers,
     /// The phase has no room for the sends.
     PhaseFull,

@@ -23,7 +23,7 @@ use Rattle.phase_script.specs.declared.command.Command.{Command}
 use Rattle.std.specs.Prelude.{IfOk, OnOk, OnErr, IsSome, is_some}
 use Rattle.phase_session.specs.declared.script_phaser.ScriptPhaser.{ScriptPhaser}
 use Rattle.phase_session.specs.HeldSends.{Parcels, held_at, nothing}
-use Rattle.phase_session.specs.Scripts.{Held, held_by, held_by_others, send_rows, send_reply, held_after_send, held_after_signal, held_after_drop, done_unless, phaser_reply, history_after, held_after, IsOkReply}
+use Rattle.phase_session.specs.Scripts.{Held, held_by, held_by_others, send_rows, send_reply, held_after_send, held_after_signal, held_after_drop, done_unless, phaser_reply, history_after, held_after, IsOkReply, MayWantMemory}
 use Rattle.phase_session.specs.Session.{PhaserStandsFor}
 
 -- ---- the sends of a task among those of all
@@ -220,6 +220,12 @@ pub ok_on_err : {A E : Type 0} (op : Operation A) (old : ScriptPhaser A) (r : Re
     → command ≡ given → OnErr r (IsOkAfter op old given) → OnErr r (IsOkAfter op old command)
 ok_on_err op old r command given is ok =
     let P : Command → Type 0 = λ c. OnErr r (IsOkAfter op old c) in subst P (sym is) ok
+
+pub asks_as : {R E : Type 0} (r : Result R E) (command given : Command)
+    → command ≡ given → MayWantMemory (Some given) → OnErr r (MayWantMemory (Some command))
+asks_as (Ok x) command given is may = tt
+asks_as (Err e) command given is may =
+    let P : Command → Type 0 = λ c. MayWantMemory (Some c) in subst P (sym is) may
 
 pub replies : {A : Type 0} (op : Operation A) (old : ScriptPhaser A) (reply : Reply) (command given : Command)
     → command ≡ given → RepliesTo op old given reply → RepliesTo op old command reply

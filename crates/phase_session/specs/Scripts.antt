@@ -234,6 +234,13 @@ abbrev pub IsOkReply : Reply → Type 0
 IsOkReply Accepted = Unit {0}
 IsOkReply reply = ⊥
 
+-- a line may want memory where it gives a `make`, an `add` or a `send`
+abbrev pub MayWantMemory : Option Command → Type 0
+MayWantMemory (Some (Make operator bound phases)) = Unit {0}
+MayWantMemory (Some (Add parent child mode)) = Unit {0}
+MayWantMemory (Some (Send task value)) = Unit {0}
+MayWantMemory command = ⊥
+
 -- what a line leaves that gives this command, or none
 abbrev pub after_by : ScriptState → Option Command → ScriptState
 after_by state (Some command) = after_command state command

@@ -3,7 +3,7 @@ ghost use Rattle.std.specs.Prelude.{◌≡◌, [], ◌∷◌, IfOk, OnOk, OnErr}
 ghost use Rattle.phase_base.specs.Limits.{Limits};
 ghost use Rattle.phase_history.specs.Histories.{History};
 ghost use Rattle.phase_script.specs.Commands.{IsCommand};
-ghost use Rattle.phase_session.specs.Scripts.{Held, value_of, IsOkReply};
+ghost use Rattle.phase_session.specs.Scripts.{Held, value_of, IsOkReply, MayWantMemory};
 ghost use Rattle.phase_session.specs.Scripts.{phaser_reply, history_after, held_after};
 
 use crate::script_phaser::ScriptPhaser;
@@ -55,6 +55,7 @@ impl AnyPhaser {
         ensures memory { OnErr result ((operator : Operator) (limits : Limits) (h : History)
             (held : Held) → AnyStandsFor self.old operator limits h held
             → IsOkReply (phaser_reply (value_of operator) limits h held command)) }
+        ensures asks { OnErr result (MayWantMemory (Some command)) }
     {
         match self {
             AnyPhaser::Sum(phaser) => phaser.obey(command),

@@ -11,7 +11,7 @@ ghost use Rattle.phase_session.specs.Scripts.{Held, held_by, send_reply, held_af
 ghost use Rattle.phase_session.specs.Scripts.{register_reason, registered_reply, dropped_reply};
 ghost use Rattle.phase_session.specs.Scripts.{signal_reason, signalled_reply, held_after_signal};
 ghost use Rattle.phase_session.specs.Scripts.{wait_reason, value_reply, received_reply};
-ghost use Rattle.phase_session.specs.Scripts.{held_after_drop, IsOkReply};
+ghost use Rattle.phase_session.specs.Scripts.{held_after_drop, IsOkReply, MayWantMemory};
 ghost use Rattle.phase_session.specs.Scripts.{phaser_reply, history_after, held_after};
 
 use crate::held_sends::HeldSends;
@@ -118,6 +118,7 @@ impl<A: Accumulate> ScriptPhaser<A> {
         ensures memory { OnErr result ((limits : Limits) (h : History) (held : Held)
             → PhaserStandsFor A.operation self.old limits h held
             → IsOkReply (phaser_reply A.operation.value limits h held command)) }
+        ensures asks { OnErr result (MayWantMemory (Some command)) }
     {
         match command {
             Command::Make { .. } => Ok(Reply::Refused(Refusal::Made)),

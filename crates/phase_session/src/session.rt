@@ -1,9 +1,10 @@
 //! A session: the lines of a script, one at a time.
-ghost use Rattle.std.specs.Prelude.{◌≡◌, ◌≤◌, ℕ, List, length, [], ◌∷◌, ◌++◌, OnOk, OnErr, IfOk, None};
+ghost use Rattle.std.specs.Prelude.{◌≡◌, ◌≤◌, ℕ, List, length, [], ◌∷◌, ◌++◌, OnOk, OnErr, IfOk, Some, None};
+ghost use Rattle.phase_script.specs.ReplyLines.{IsOneLine};
 ghost use Rattle.phase_script.specs.Commands.{command_of, IsCommand};
 ghost use Rattle.phase_session.specs.Scripts.{ScriptState, start, reply_to, after_line};
 ghost use Rattle.phase_session.specs.Scripts.{command_reply, after_command, state_after};
-ghost use Rattle.phase_session.specs.Scripts.{reply_by, IsOkReply};
+ghost use Rattle.phase_session.specs.Scripts.{reply_by, IsOkReply, MayWantMemory};
 
 use crate::any_phaser::AnyPhaser;
 use phase_base::{Spec, SpecFault};
@@ -53,7 +54,11 @@ impl Session {
         // Memory is wanted only where the line would be answered `ok`.
         ensures memory { OnErr result ((state : ScriptState) → Stands self.old state
             → IsOkReply (reply_by state (command_of line.now))) }
-        // No reply line has more than 47 bytes.
+        // Only a `make`, an `add` or a `send` wants it.
+        ensures asks { OnErr result (MayWantMemory (command_of line.now)) }
+        // A reply is one line, of at most 47 bytes.
+        ensures one_line { IfOk result (λ reply. (state : ScriptState) → Stands self.old state
+            → IsOneLine reply) }
         ensures short { IfOk result (λ reply. (state : ScriptState) → Stands self.old state
             → length reply ≤ 47) }
         // The same over the lines so far: the session then stands for them with this one.
@@ -78,6 +83,7 @@ impl Session {
         ensures err { OnErr result (self.new ≡ self.old) }
         ensures memory { OnErr result ((state : ScriptState) → Stands self.old state
             → IsOkReply (command_reply state command)) }
+        ensures asks { OnErr result (MayWantMemory (Some command)) }
     {
         let Some(phaser) = &mut self.phaser else {
             return self.begin(command);
@@ -95,6 +101,7 @@ impl Session {
         ensures err { OnErr result (self.new ≡ self.old) }
         ensures memory { OnErr result ((state : ScriptState) → Stands self.old state
             → IsOkReply (command_reply state command)) }
+        ensures asks { OnErr result (MayWantMemory (Some command)) }
     {
         let Command::Make {
             operator,

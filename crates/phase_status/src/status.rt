@@ -13,7 +13,7 @@ pub const DONE: u8 = 0;
 /// The words were not understood.
 pub const REFUSED: u8 = 2;
 
-/// A read or a write failed, or memory ran out.
+/// A read or a write failed, the script is too long, or memory ran out.
 pub const FAILED: u8 = 5;
 
 /// Writes a fault's line, and answers the status after a fault.

@@ -17,7 +17,7 @@ pub fn own_words<R: Env + Alloc>(rt: &R) -> io::Result<Vec<String<R::A>, R::A>> 
 }
 
 /// Reports that the process's own words could not be read, and answers the status: 5 where memory
-/// ran out, and 2 where a word is not UTF-8.
+/// ran out, and 2 elsewhere, with the text that a word is not UTF-8.
 pub fn refuse_words<E: Write>(error: &io::Error, faults: &mut Watched<E>) -> u8
     ensures memory { error_kind error.now ≡ ErrorKind.OutOfMemory → result ≡ 5 }
     ensures refused { error_kind error.now ≢ ErrorKind.OutOfMemory → result ≡ 2 }

@@ -48,8 +48,9 @@ impl Job {
     /// of their lines. A list has at most 67,108,864 values, none of which is `NO_VALUE`.
     ///
     /// Where two tasks signal in one phase of a phaser with `any`, the answer is `AnyMeets` with
-    /// the least line of a task that meets a task of an earlier line. Where a list would have more
-    /// than `LENGTH_MAX` values, it is `OutOfMemory`. A refusal drops the graph and the samples.
+    /// the least line of a task that meets a task of an earlier line, or `OutOfMemory`. That comes
+    /// where memory ran out, and where a list would have more than `LENGTH_MAX` values. A refusal
+    /// drops the graph and the samples.
     pub fn new(alloc: Global, graph: Graph, samples: Vec<Vec<i64>>) -> Result<Job, JobRefusal>
         requires each { length samples.items ≡ sources_of graph }
         requires sends { All (λ list. AreSends list.items) samples.items }

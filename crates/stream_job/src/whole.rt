@@ -191,8 +191,8 @@ fn all_lines(alloc: Global, job: &Job, lists: &[Vec<i64>]) -> Result<Vec<Lines>,
 /// or the first value out of range.
 ///
 /// The phasers are gone through in the order of their lines. For each one the outputs of the
-/// filters and peers that signal it are checked first, then each phase that some task takes.
-/// `OutOfMemory` comes only where memory was refused.
+/// filters and peers that signal it are checked first, then each phase that some task takes. It
+/// takes memory.
 pub fn eval(alloc: Global, job: &Job) -> Result<Vec<Lines>, EvalFault>
     ensures ok { IfOk result (λ lines. map told lines.items ≡ lines_of job.now) }
     ensures fits { IfOk result (λ lines. Fits job.now) }

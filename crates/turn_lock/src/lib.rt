@@ -1,5 +1,5 @@
 //! A lock on one value, at which one seat at a time has the turn, under a rule of the caller's. It
-//! is one word and one slot, with no mutex. What threads share stands on it.
+//! is one word and one slot, with no mutex.
 //!
 //! ```text
 //! a lock on 6 with three seats    seat 1 has the turn              seat 1 gave 7 back
@@ -21,12 +21,10 @@
 //! Make a lock by `TurnLock::new`, cut its seat in two by `split`, and `take` and `give` in
 //! threads.
 //!
-//! Proved for every value and rule: what the clauses say, so that the rule holds between any two
-//! steps, that a turn's value is one that the rule allows beside its view, and that a refused take
-//! comes only where it allows another seat beside it while the value is out. Only `new` takes
-//! memory, and only `take` may wait. Only tested: that `new` succeeds, that a try wins where the
-//! turn is free, and that a waiter gets its turn. Not promised: that a refusal could not have been
-//! avoided, that turns come in any order, or that each seat gets one.
+//! The rule holds between any two steps, a turn's value is one that the rule allows beside its
+//! view, and a refused take comes only where the rule allows another seat beside it while the value
+//! is out. Of the lock's calls only `new` takes memory, and only `take` may wait. `TurnLock` tells
+//! what is not promised.
 #![tactic(auto)]
 
 pub mod counting;

@@ -48,7 +48,8 @@ impl<T, R: TurnRule<T>> TableRule<Option<T>, Doing<R::Name, R::View>, R::Name> f
 /// **Example.** The test `turn_lock`: a lock on 5 with the seats a and b. While a has the turn and
 /// writes 6, b is refused. Once a gave, b takes the turn and reads 6.
 ///
-/// **Not promised.** That a seat gets the turn, in what order seats get it, and that a turn ends.
+/// **Not promised.** That a refused take could not have had the turn, that a seat gets it, in what
+/// order seats get it, and that a turn ends.
 #[derive(Drop)]
 pub struct TurnLock<T, R: TurnRule<T>> {
     pub(crate) table: Table<Option<T>, Doing<R::Name, R::View>, R::Name, Ruled<R>, Global>,

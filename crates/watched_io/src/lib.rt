@@ -1,5 +1,5 @@
-//! Readers and writers that are watched: beside each stands whether one of its calls failed, and how
-//! many bytes its reads gave.
+//! Readers and writers that are watched: beside each stands whether one of its calls failed, and
+//! how many bytes its reads gave.
 //!
 //! Wrap a reader or a writer by `Watched::new`, and call `Watched::read` or `Watched::send`.
 #![tactic(auto)]

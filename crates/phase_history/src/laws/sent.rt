@@ -44,7 +44,7 @@ pub fn sent_in_turn()
         → length (sent_by h task) ≡ phases_signalled h task }
 {}
 
-/// Each phase below the top has a signal, and its single is the one that all signals name.
+/// Each phase below the top has a signal. Where all signals name the same, that is its single.
 pub fn each_phase_is_named()
     ensures named { (limits : Limits) (h : History) (p : ℕ)
         → IsLegal limits h → p < top_of h → IsSome (named_in_phase h p) }
@@ -67,8 +67,8 @@ pub fn holds_open()
         → has_dropped h task ≡ false → done_of h ≤ start.signal_phase + phases_signalled h task }
 {}
 
-/// Where no task signals, each that began in a mode that signals has dropped, and every phase that
-/// was ever signalled is complete.
+/// Where no registered task signals, each that began in a mode that signals has dropped, and every
+/// phase that was ever signalled is complete.
 pub fn all_dropped()
     ensures dropped { (limits : Limits) (h : History) (task : ℕ) (start : Entry)
         → IsLegal limits h → HasNoSignaller h → start_of h task ≡ Some start

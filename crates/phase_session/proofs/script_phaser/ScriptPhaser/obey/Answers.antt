@@ -4,7 +4,7 @@ use Rattle.std.proofs.lemmas.Int.{ints}
 use Rattle.phase_script.specs.declared.command.Command.{Command}
 use Rattle.phase_script.specs.Commands.{IsCommand}
 use Rattle.phase_script.specs.Numbers.{most}
-use Rattle.phase_session.proofs.Obeying.{replies_if_ok, stands_on_ok, ok_on_err, replies, stands_then}
+use Rattle.phase_session.proofs.Obeying.{asks_as, replies_if_ok, stands_on_ok, ok_on_err, replies, stands_then}
 use Rattle.phase_session.proofs.script_phaser.ScriptPhaser.obey.Goals as goal
 
 pub returns-in-Add-clause-reply : goal.returns-in-Add-clause-reply
@@ -46,3 +46,9 @@ returns-in-Drop-clause-reply g c =
 pub returns-in-Drop-clause-after : goal.returns-in-Drop-clause-after
 returns-in-Drop-clause-after g c =
     stands_then g.A.Accumulate.operation c.args.self.now c.drop_task.new.self c.args.command _ c.in-Drop.is c.drop_task.ensures.after
+
+pub returns-in-Add-clause-asks : goal.returns-in-Add-clause-asks
+returns-in-Add-clause-asks g c = asks_as c.add.result c.args.command _ c.in-Add.is tt
+
+pub returns-in-Send-clause-asks : goal.returns-in-Send-clause-asks
+returns-in-Send-clause-asks g c = asks_as c.send.result c.args.command _ c.in-Send.is tt
