@@ -1,6 +1,6 @@
 //! Files by their names.
 ghost use Rattle.std.specs.Prelude.{◌≡◌, ◌≤◌, ℕ, List, Option, None, length, IfOk, IsErrOf};
-ghost use Rattle.phase_files.specs.Files.{HasBytes, MayBeRefused};
+ghost use Rattle.phase_files.specs.Files.{HasBytes, MayBeRefused, MayNeedMemory};
 
 use std::alloc::Global;
 use thiserror::Error;
@@ -30,5 +30,7 @@ pub trait Files {
         ensures short { IfOk result (λ text. length text.items ≤ limit) }
         ensures read { IsErrOf result FileFault.ReadFault
             → MayBeRefused limit (file self.old name.now) }
+        ensures memory { IsErrOf result FileFault.OutOfMemory
+            → MayNeedMemory limit (file self.old name.now) }
         ensures kept { (other : List ℕ) → file self.new other ≡ file self.old other };
 }

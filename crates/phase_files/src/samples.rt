@@ -1,7 +1,7 @@
 //! Samples in files.
 ghost use Rattle.std.specs.Prelude.{◌≡◌, ◌≤◌, ℕ, List, length, IfOk, IfSome, IsErrOf};
 ghost use Rattle.phase_accum.specs.Sends.{AreSends};
-ghost use Rattle.phase_files.specs.Files.{MayBeRefused};
+ghost use Rattle.phase_files.specs.Files.{MayBeRefused, MayNeedMemory};
 ghost use Rattle.sample_text.specs.Samples.{AreShortSamples, IsBadShortSample};
 
 use crate::{FileFault, Files};
@@ -27,6 +27,9 @@ pub fn read_sample_file<F: Files>(
 
     ensures read { IsErrOf result SampleFault.ReadFault
         → MayBeRefused TEXT_MAX (F.file files.old name.now) }
+
+    ensures memory { IsErrOf result SampleFault.OutOfMemory
+        → MayNeedMemory TEXT_MAX (F.file files.old name.now) }
 
     ensures kept { (other : List ℕ) → F.file files.new other ≡ F.file files.old other }
 {
