@@ -1,7 +1,11 @@
 mod Alls
 mod Ends
 mod Examples
+mod Grown
 mod Known
+mod NamesKept
+mod NewTask
 mod Readers
 mod Single
 mod Sound
+mod Wellformed
