@@ -5,6 +5,7 @@ mod Grown
 mod Known
 mod NamesKept
 mod NewTask
+mod ReadLines
 mod Readers
 mod Single
 mod Sound
