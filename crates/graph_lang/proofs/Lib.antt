@@ -1,6 +1,7 @@
 mod Alls
 mod Ends
 mod Examples
+mod Files
 mod Grown
 mod Known
 mod NamesKept
