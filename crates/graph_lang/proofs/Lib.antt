@@ -11,3 +11,4 @@ mod Readers
 mod Single
 mod Sound
 mod Wellformed
+mod WorkedText
