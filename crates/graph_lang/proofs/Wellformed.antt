@@ -59,7 +59,8 @@ no_graph-is = record {
 -- ---- a phaser
 
 -- what the rows of the table say of a phaser where none of them applies
-record IsSoundPhaser (before : Graph) (name bound : Word) (function : Option FunctionWords) : Type 0 where
+record IsSoundPhaser (before : Graph) (name bound : Word) (function : Option FunctionWords)
+    : Type 0 where
   within : is_bound_within bound ≡ true
   fits : option_map_or is_function_within function true ≡ true
   few : length before.phasers < PHASERS_MAX

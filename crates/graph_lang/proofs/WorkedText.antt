@@ -1,4 +1,4 @@
--- A worked text: its lines declare the graph that is written out here, so that graph is well formed.
+-- A worked text: its lines declare the graph that is written out here, which so is well formed.
 use Rattle.std.proofs.Common.{ℕ, ◌≡◌, true, false, inl, sym, ap, List, [], ◌∷◌, Some, None, Ok, codes, inr, refl, pos, negsuc}
 use Rattle.phase_accum.specs.declared.single.Single.TheVariants.{Clamp}
 use Rattle.graph_text.specs.Texts.{is_ignored}
