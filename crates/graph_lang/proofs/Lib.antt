@@ -1,6 +1,7 @@
 mod Alls
 mod Ends
 mod Examples
+mod Files
 mod Grown
 mod Known
 mod NamesKept
@@ -10,3 +11,4 @@ mod Readers
 mod Single
 mod Sound
 mod Wellformed
+mod WorkedText

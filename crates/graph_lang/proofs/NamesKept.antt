@@ -113,7 +113,8 @@ new_name : (before : Graph) (name : Word) (to : Place) → AreNames before
 new_name before name to are new =
     let Other : Named → Type 0 = λ named. is_same_place named.1 to ≡ false in
     name_among-new before.names name to
-    (All-weaker (λ named. IsPlace before named.1) Other (λ named. new.new named.1) before.names are.places)
+    (All-weaker (λ named. IsPlace before named.1) Other (λ named. new.new named.1) before.names
+    are.places)
 
 old_name : (before : Graph) (more : List Named) (at : Place) → AreNames before
     → IsPlace before at → name_among (before.names ++ more) at ≡ name_among before.names at
@@ -157,7 +158,8 @@ pub names-more : (before : Graph) (name : Word) (to : Place) → AreNames before
 names-more before name to are new at (inl old) =
     ap is_name (old_name before ((name, to) ∷ []) at are old) ∙ are.names at old
 names-more before name to are new at (inr same) =
-    let Is : Place → Type 0 = λ at. is_name (name_among (before.names ++ (name, to) ∷ []) at) ≡ true in
+    let Is : Place → Type 0 = λ at.
+    is_name (name_among (before.names ++ (name, to) ∷ []) at) ≡ true in
     subst Is same (ap is_name (new_name before name to are new) ∙ new.is)
 
 -- a graph with one more phaser or task, of a new name

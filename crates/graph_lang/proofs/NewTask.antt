@@ -30,7 +30,8 @@ use Rattle.graph_lang.proofs.Grown.{weaken_some}
 -- ---- a line without fault
 
 -- what each row of the table says where none of them applies
-pub record IsSound (before : Graph) (name : Word) (body : BodyWords) (ends : EndWords) : Type 0 where
+pub record IsSound (before : Graph) (name : Word) (body : BodyWords) (ends : EndWords)
+    : Type 0 where
   pub within : is_body_within body ≡ true
   pub at : option_map_or (λ by. is_count_within by.at) ends.by true ≡ true
   pub until : option_map_or is_count_within ends.until true ≡ true
@@ -69,7 +70,8 @@ task-sound before name body ends e =
     let numbers = both (is_body_within body) (are_ends_within ends) room.0 in
     let steps = both (option_map_or (λ by. is_count_within by.at) ends.by true)
     (option_map_or is_count_within ends.until true) numbers.1 in
-    let new = or_parts (is_some (place_of names name)) (not (are_distinct (phasers_of body))) twice.0 in
+    let new = or_parts (is_some (place_of names name)) (not (are_distinct (phasers_of body)))
+    twice.0 in
     let known = both (list_all (is_phaser names) (phasers_of body)) (is_parent_known names ends.by)
     (not-false _ unknown.0) in
     let ordered = both (list_all (λ x. list_all (nat_lt x) line.outputs) line.inputs)

@@ -1,23 +1,23 @@
 -- A graph that lines declare is well formed: each line without fault keeps it so.
-use Rattle.std.proofs.Common.{ℕ, ◌≡◌, ◌<◌, ◌≤◌, ◌+◌, ◌&&◌, ◌⊎◌, inl, inr, List, [], ◌∷◌, ◌++◌, length, Bool, true, false, not, cond, if◌then◌else◌, Option, Some, None, Ok, Err, is_some, option_map, nat_lt, nat_le, unsigned_abs, codes, bytes_eq, refl, sym, ap, ◌∙◌, subst, arith, ne_eqb, ltb-true, leb-true}
+use Rattle.std.proofs.Common.{ℕ, ◌≡◌, All, get_or, lt_trans, ◌<◌, ◌≤◌, ◌+◌, ◌&&◌, ◌⊎◌, inl, inr, List, [], ◌∷◌, ◌++◌, length, Bool, true, false, not, cond, if◌then◌else◌, Option, Some, None, Ok, Err, is_some, option_map, nat_lt, nat_le, unsigned_abs, codes, bytes_eq, refl, sym, ap, ◌∙◌, subst, arith, ne_eqb, ltb-true, leb-true}
 use Rattle.std.specs.Option.{option_map_or}
 use Rattle.std.specs.Int.Signed.{le_z, le_z_yes}
 use Rattle.std.proofs.lemmas.Bool.{cases_lt}
 use Rattle.std.proofs.lemmas.List.{get_or_append_left, length_push, length-append}
-use Rattle.std.proofs.lemmas.List.Elements.{All-nil}
+use Rattle.std.proofs.lemmas.List.Elements.{All-nil, All-cons, All-append}
 use Rattle.std.proofs.lemmas.List.Sums.{sum_by_push}
 use Rattle.phase_base.specs.declared.limits.TheConstants.{BOUND_MAX}
 use Rattle.phase_accum.specs.Sends.{value_max}
 use Rattle.phase_accum.specs.Singles.{CanBeNamed}
 use Rattle.phase_accum.specs.declared.single.Single.TheVariants as single
 use Rattle.graph_text.specs.Texts.{Word}
-use Rattle.graph_text.specs.Words.{is_name}
+use Rattle.graph_text.specs.Words.{is_name, is_file}
 use Rattle.graph_text.specs.Numbers.{nat_value, int_value}
-use Rattle.graph_text.specs.Decls.{Decl, phaser, task, FunctionWords, plain, clamp, BodyWords, source, fir, split, join, peer, sink, EndWords, IsWellFormed}
+use Rattle.graph_text.specs.Decls.{Decl, phaser, task, FunctionWords, plain, clamp, BodyWords, source, fir, split, join, peer, sink, EndWords, IsBody, IsWellFormed}
 use Rattle.graph_lang.specs.Graphs.{Graph, no_graph, no_task, no_phaser, Task, IsPlace, is_same_place, task_at, sources_among, is_source}
 use Rattle.graph_lang.specs.LineTasks.{place_of, phaser_line, plain_single, single_of, task_line, kind_of_body, files_in}
 use Rattle.graph_lang.specs.Faults.{kind_of, is_bound_within, is_function_within}
-use Rattle.graph_lang.specs.TaskLines.{IsGraph, IsPhaserLine, IsTaskLine}
+use Rattle.graph_lang.specs.TaskLines.{IsGraph, IsPhaserLine, IsTaskLine, AreRising}
 use Rattle.graph_lang.specs.Reads.{Reads, Steps, with_line, told, fault_at}
 use Rattle.graph_lang.specs.declared.limits.TheConstants.{PHASERS_MAX}
 use Rattle.graph_lang.specs.declared.fault.FaultKind.{FaultKind}
@@ -38,7 +38,12 @@ no_graph-is = record {
   few_tasks = omega arith;
   phasers = λ p below. absurd (omega (arith, below));
   tasks = λ t below. absurd (omega (arith, below));
+  lines = record {
+    counted = λ t below. absurd (omega (arith, below));
+    rising = λ t u less below. absurd (omega (arith, below));
+  };
   files = refl;
+  are_files = All-nil (λ file. is_file file ≡ true);
   names = record {
     places = All-nil (λ named. IsPlace no_graph named.1);
     found = λ name at e. (let clash : None ≡ Some at = e in absurd (cc));
@@ -54,7 +59,8 @@ no_graph-is = record {
 -- ---- a phaser
 
 -- what the rows of the table say of a phaser where none of them applies
-record IsSoundPhaser (before : Graph) (name bound : Word) (function : Option FunctionWords) : Type 0 where
+record IsSoundPhaser (before : Graph) (name bound : Word) (function : Option FunctionWords)
+    : Type 0 where
   within : is_bound_within bound ≡ true
   fits : option_map_or is_function_within function true ≡ true
   few : length before.phasers < PHASERS_MAX
@@ -208,7 +214,9 @@ phaser-keeps before n name operation bound function named sound is =
           (IsPhaserLine-new operation bound function sound.within sound.fits);
       tasks = λ t below. IsTaskLine-stays before after t (task_at before t) grows
           (omega (arith, below)) (is.tasks t below);
+      lines = record { counted = is.lines.counted; rising = is.lines.rising };
       files = is.files;
+      are_files = is.are_files;
       names = AreNames-more before after name (place.Phaser (length before.phasers)) is.names
           (record { is = named; absent = sound.absent; new = new-phaser before })
           (adds-phaser before after name refl long refl);
@@ -227,10 +235,49 @@ files-more (join inputs output) = refl
 files-more (peer input exchange output factor) = refl
 files-more (sink input) = refl
 
+-- the file of a source is one of the grammar
+files-are : (body : BodyWords) → IsBody body → All (λ file. is_file file ≡ true) (files_in body)
+files-are (source file output) is =
+    All-cons (λ file. is_file file ≡ true) file [] is.0 (All-nil (λ file. is_file file ≡ true))
+files-are (fir input output shift taps) is = All-nil (λ file. is_file file ≡ true)
+files-are (split input outputs) is = All-nil (λ file. is_file file ≡ true)
+files-are (join inputs output) is = All-nil (λ file. is_file file ≡ true)
+files-are (peer input exchange output factor) is = All-nil (λ file. is_file file ≡ true)
+files-are (sink input) is = All-nil (λ file. is_file file ≡ true)
+
+-- the lines of tasks are all above line n, which comes next
+abbrev pub AreAbove : ℕ → Graph → Type 0
+AreAbove n graph = (t : ℕ) → t < length graph.tasks → (task_at graph t).line < n
+
+above-next : (n : ℕ) (graph : Graph) → AreAbove n graph → AreAbove (n + 1) graph
+above-next n graph above t below = let old = above t below in omega (arith, old)
+
+lines-more : (before after : Graph) (line : Task) → after.tasks ≡ before.tasks ++ line ∷ []
+    → 1 ≤ line.line → AreAbove line.line before → AreRising before → AreRising after
+lines-more before after line more counted above lines =
+    let Counted : List Task → Type 0 = λ lines.
+    (t : ℕ) → t < length lines → 1 ≤ (get_or lines t no_task).line in
+    let Rising : List Task → Type 0 = λ lines.
+    (t u : ℕ) → t < u → u < length lines
+    → (get_or lines t no_task).line < (get_or lines u no_task).line in
+    let Below : ℕ → Task → Type 0 = λ u other.
+    (t : ℕ) → t < u → (get_or (before.tasks ++ line ∷ []) t no_task).line < other.line in
+    let old : (t : ℕ) → t < length before.tasks
+    → get_or (before.tasks ++ line ∷ []) t no_task ≡ get_or before.tasks t no_task =
+    λ t below. get_or_append_left before.tasks (line ∷ []) no_task t below in
+    record {
+      counted = subst Counted (sym more)
+          (each-push before.tasks line no_task (λ t other. 1 ≤ other.line) lines.counted counted);
+      rising = subst Rising (sym more) (λ t u less below.
+          each-push before.tasks line no_task Below
+          (λ u below t less. rw (old t (lt_trans less below)) (lines.rising t u less below))
+          (λ t less. rw (old t less) (above t less)) u below t less);
+    }
+
 task-keeps : (before : Graph) (n : ℕ) (name : Word) (body : BodyWords) (ends : EndWords)
-    → IsWellFormed (task name body ends) → IsSound before name body ends → IsGraph before
-    → IsGraph (with_line before n (task name body ends))
-task-keeps before n name body ends formed sound is =
+    → IsWellFormed (task name body ends) → IsSound before name body ends → 1 ≤ n
+    → AreAbove n before → IsGraph before → IsGraph (with_line before n (task name body ends))
+task-keeps before n name body ends formed sound counted above is =
     let line = task_line before.names n body ends in
     let after = with_line before n (task name body ends) in
     let long = length_push before.tasks line in
@@ -249,10 +296,13 @@ task-keeps before n name body ends formed sound is =
           (λ t below. IsTaskLine-stays before after t (task_at before t) grows (omega (arith, below))
           (is.tasks t below))
           (IsTaskLine-stays before after (length before.tasks) line grows (omega arith) new);
+      lines = lines-more before after line refl counted above is.lines;
       files = length-append before.files (files_in body)
           ∙ ap (λ n. n + length (files_in body)) is.files
           ∙ ap (λ n. sources_among before.tasks + n) (files-more body)
           ∙ sym (sources-more before.tasks line);
+      are_files = All-append (λ file. is_file file ≡ true) before.files (files_in body)
+          is.are_files (files-are body formed.1);
       names = AreNames-more before after name (place.Task (length before.tasks)) is.names
           (record { is = formed.0; absent = sound.absent; new = new-task before })
           (adds-task before after name refl refl long);
@@ -260,42 +310,63 @@ task-keeps before n name body ends formed sound is =
 
 -- a line without fault keeps it
 pub line-keeps : (before : Graph) (n : ℕ) (d : Decl) → IsWellFormed d → kind_of before d ≡ None
-    → IsGraph before → IsGraph (with_line before n d)
-line-keeps before n (phaser name operation bound function) formed e is =
+    → 1 ≤ n → AreAbove n before → IsGraph before → IsGraph (with_line before n d)
+line-keeps before n (phaser name operation bound function) formed e counted above is =
     phaser-keeps before n name operation bound function formed.0
     (phaser-sound before name operation bound function e) is
-line-keeps before n (task name body ends) formed e is =
-    task-keeps before n name body ends formed (task-sound before name body ends e) is
+line-keeps before n (task name body ends) formed e counted above is =
+    task-keeps before n name body ends formed (task-sound before name body ends e) counted above is
+
+line-above : (before : Graph) (n : ℕ) (d : Decl) → AreAbove n before
+    → AreAbove (n + 1) (with_line before n d)
+line-above before n (phaser name operation bound function) above = above-next n before above
+line-above before n (task name body ends) above =
+    each-push before.tasks (task_line before.names n body ends) no_task (λ t line. line.line < n + 1)
+    (above-next n before above) (omega arith)
 
 -- ---- lines
 
+-- what holds before line n
+pub record IsBefore (n : ℕ) (graph : Graph) : Type 0 where
+  pub counted : 1 ≤ n
+  pub above : AreAbove n graph
+  pub is : IsGraph graph
+
 told-keeps : (before after : Graph) (n : ℕ) (d : Decl) (fault : Option FaultKind)
-    → kind_of before d ≡ fault → IsWellFormed d → IsGraph before
-    → Ok after ≡ told n before d fault → IsGraph after
+    → kind_of before d ≡ fault → IsWellFormed d → IsBefore n before
+    → Ok after ≡ told n before d fault → IsBefore (n + 1) after
 told-keeps before after n d (Some kind) e formed is told =
     let clash : Ok after ≡ fault_at n kind = told in absurd (cc)
 told-keeps before after n d None e formed is told =
     let same : Ok after ≡ Ok (with_line before n d) = told in
     let one : after ≡ with_line before n d = cc in
-    subst IsGraph (sym one) (line-keeps before n d formed e is)
+    subst (IsBefore (n + 1)) (sym one) (record {
+      counted = omega arith;
+      above = line-above before n d is.above;
+      is = line-keeps before n d formed e is.counted is.above is.is;
+    })
 
 step-keeps : (n : ℕ) (before : Graph) (line : List ℕ) (after : Graph)
-    → Steps n before line (Ok after) → IsGraph before → IsGraph after
+    → Steps n before line (Ok after) → IsBefore n before → IsBefore (n + 1) after
 step-keeps n before line after (inl (ignored, e)) is =
     let same : Ok after ≡ Ok before = e in
     let one : after ≡ before = cc in
-    subst IsGraph (sym one) is
+    subst (IsBefore (n + 1)) (sym one) (record {
+      counted = omega arith;
+      above = above-next n before is.above;
+      is = is.is;
+    })
 step-keeps n before line after (inr (inl (words, none, e))) is =
     let clash : Ok after ≡ fault_at n Syntax = e in absurd (cc)
 step-keeps n before line after (inr (inr (words, d, declares, e))) is =
     told-keeps before after n d (kind_of before d) refl declares.spells.well_formed is e
 
 pub reads-keep : (n : ℕ) (before : Graph) (lines : List (List ℕ)) (graph : Graph)
-    → Reads n before lines (Ok graph) → IsGraph before → IsGraph graph
+    → Reads n before lines (Ok graph) → IsBefore n before → IsGraph graph
 reads-keep n before [] graph reads is =
     let same : Ok graph ≡ Ok before = reads in
     let one : graph ≡ before = cc in
-    subst IsGraph (sym one) is
+    subst IsGraph (sym one) is.is
 reads-keep n before (line ∷ lines) graph (inl (f, stops, e)) is =
     let clash : Ok graph ≡ Err f = e in absurd (cc)
 reads-keep n before (line ∷ lines) graph (inr (after, steps, reads)) is =
@@ -304,4 +375,9 @@ reads-keep n before (line ∷ lines) graph (inr (after, steps, reads)) is =
 -- the graph that lines declare
 pub reads_give_graph : (lines : List (List ℕ)) (graph : Graph)
     → Reads 1 no_graph lines (Ok graph) → IsGraph graph
-reads_give_graph lines graph reads = reads-keep 1 no_graph lines graph reads no_graph-is
+reads_give_graph lines graph reads =
+    reads-keep 1 no_graph lines graph reads (record {
+      counted = omega arith;
+      above = λ t below. absurd (omega (arith, below));
+      is = no_graph-is;
+    })

@@ -5,7 +5,7 @@ use Rattle.phase_base.specs.Limits.{IsBound}
 use Rattle.phase_accum.specs.Singles.{CanBeNamed}
 use Rattle.stream_filters.specs.Filter.{AreTaps}
 use Rattle.graph_text.specs.Texts.{Word}
-use Rattle.graph_text.specs.Words.{is_name}
+use Rattle.graph_text.specs.Words.{is_name, is_file}
 use Rattle.graph_lang.specs.Graphs.{Task, Graph, IsPlace}
 use Rattle.graph_lang.specs.Graphs.{task_at, phaser_at, name_at, sources_of}
 use Rattle.graph_lang.specs.LineTasks.{place_of}
@@ -104,11 +104,20 @@ pub record AreNames (graph : Graph) : Type 0 where
   pub known : (at : Place) → IsPlace graph at → place_of graph.names (name_at graph at) ≡ Some at
   pub names : (at : Place) → IsPlace graph at → IsTrue (is_name (name_at graph at))
 
+-- the numbers of the lines of tasks, from 1 on: in the order of the tasks
+pub record AreRising (graph : Graph) : Type 0 where
+  pub counted : (t : ℕ) → t < length graph.tasks → 1 ≤ (task_at graph t).line
+  pub rising : (t u : ℕ) → t < u → u < length graph.tasks
+      → (task_at graph t).line < (task_at graph u).line
+
 -- what holds of a graph that was read
 pub record IsGraph (graph : Graph) : Type 0 where
   pub few_phasers : length graph.phasers ≤ PHASERS_MAX
   pub few_tasks : length graph.tasks ≤ TASKS_MAX
   pub phasers : (p : ℕ) → p < length graph.phasers → IsPhaserLine (phaser_at graph p)
   pub tasks : (t : ℕ) → t < length graph.tasks → IsTaskLine graph t (task_at graph t)
+  pub lines : AreRising graph
+  -- a file for each source
   pub files : length graph.files ≡ sources_of graph
+  pub are_files : All (λ file. IsTrue (is_file file)) graph.files
   pub names : AreNames graph

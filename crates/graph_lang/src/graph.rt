@@ -1,6 +1,6 @@
 //! Graphs.
 ghost use Rattle.std.specs.Prelude.{◌≡◌, ◌<◌, ◌≤◌, length, IsTrue, Some};
-ghost use Rattle.graph_text.specs.Words.{is_name};
+ghost use Rattle.graph_text.specs.Words.{is_name, is_file};
 ghost use Rattle.graph_lang.specs.Graphs.{Graph as GraphValue, no_graph, IsPlace, sources_of};
 ghost use Rattle.graph_lang.specs.Graphs.{task_at, phaser_at, file_at, name_at, name_among};
 ghost use Rattle.graph_lang.specs.TaskLines.{IsGraph, IsPhaserLine, IsTaskLine};
@@ -11,7 +11,7 @@ use crate::draft::Draft;
 use crate::limits::{PHASERS_MAX, TASKS_MAX};
 use crate::line::{PhaserLine, TaskLine};
 use crate::place::Place;
-use graph_text::NAME_MAX;
+use graph_text::{FILE_MAX, NAME_MAX};
 use indexmap::IndexMap;
 use std::alloc::Global;
 use std::marker::Model;
@@ -101,10 +101,13 @@ impl Graph {
         &self.tasks[t]
     }
 
-    /// Lends the file of source number `source`, as it is written. It takes no memory.
+    /// Lends the file of source number `source`, as it is written, of 1 to `FILE_MAX` bytes. It
+    /// takes no memory.
     pub fn file(&self, source: usize) -> &str
         requires { source < sources_of self.now }
-        ensures { result.now ≡ file_at self.now source }
+        ensures file { result.now ≡ file_at self.now source }
+        ensures word { IsTrue (is_file result.now) }
+        ensures few { length result.now ≤ FILE_MAX }
     {
         self.files[source].as_str()
     }
