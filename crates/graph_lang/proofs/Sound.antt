@@ -88,8 +88,8 @@ told-later before name body ends n phasers t kind past same line e =
     ∙ sym (kind-later before name body ends n past))
 
 -- the graph with the task of a line
-pub with-task : (before : Graph) (name : Word) (body : BodyWords) (ends : EndWords) (n : ℕ) (t : Task)
-    → t ≡ task_line before.names n body ends
+pub with-task : (before : Graph) (name : Word) (body : BodyWords) (ends : EndWords) (n : ℕ)
+    (t : Task) → t ≡ task_line before.names n body ends
     → record before {
       names = before.names ++ (name, place.Task (length before.tasks)) ∷ [];
       tasks = before.tasks ++ t ∷ [];

@@ -38,7 +38,8 @@ returns-in-Some-clause-fault c =
     let past : is_past_limit before (task name body ends) ≡ false =
     sym c.is_past_limit.ensures ∙ c.if-is_past_limit.false in
     let words = ap plain c.deref.ensures.value ∙ c.in_ok-phasers.ensures in
-    rw c.fault-in-Some.ensures (ap (told c.args.number before (task name body ends)) (sym c.in-Some.is)
+    rw c.fault-in-Some.ensures
+    (ap (told c.args.number before (task name body ends)) (sym c.in-Some.is)
     ∙ told-later before name body ends c.args.number (plain c.deref.result.now)
     (task_of c.in_ok-task.task) c.later_kind.result past words c.in_ok-task.ensures
     c.later_kind.ensures)
@@ -53,8 +54,8 @@ returns-clause-ok c =
     let past : is_past_limit before (task name body ends) ≡ false =
     sym c.is_past_limit.ensures ∙ c.if-is_past_limit.false in
     let words = ap plain c.deref.ensures.value ∙ c.in_ok-phasers.ensures in
-    ap Ok (c.in_ok-add_task.ensures
-    ∙ with-task before name body ends c.args.number (task_of c.in_ok-task.task) c.in_ok-task.ensures)
+    ap Ok (c.in_ok-add_task.ensures ∙ with-task before name body ends c.args.number
+    (task_of c.in_ok-task.task) c.in_ok-task.ensures)
     ∙ ap (told c.args.number before (task name body ends)) (sym c.in_default.is)
     ∙ told-later before name body ends c.args.number (plain c.deref.result.now)
     (task_of c.in_ok-task.task) c.later_kind.result past words c.in_ok-task.ensures
