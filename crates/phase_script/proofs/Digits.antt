@@ -9,24 +9,24 @@ use Rattle.std.specs.Fmt.{signed_decimal}
 use Rattle.std.specs.List.{list_all}
 use Rattle.std.specs.Str.{all_ascii_digits}
 use Rattle.std.specs.Str.Parse.{digits_value}
-use Rattle.phase_script.specs.Numbers.{most, is_plain_front, nat_of, negated, int_of}
+use Rattle.phase_script.specs.Numbers.{most, begins_plainly, nat_of, negated, int_of}
 
 own : IsNumeralModel (λ ds. all_ascii_digits ds ≡ true) (digits_value 10)
 own = numerals_by_value _ tells_all_ascii_digits
 
-plain_parts : (word : List ℕ) → is_plain_front word ≡ true
+plain_parts : (word : List ℕ) → begins_plainly word ≡ true
     → (0 < length word) × (get_or word 0 0 ≡ 48 → length word ≡ 1)
 plain_parts [] e = cc
 plain_parts (b ∷ []) e = (omega arith, λ _. refl)
 plain_parts (b ∷ c ∷ bs) e = (omega arith, λ z. absurd (let q = eq-eqb b 48 z in cc (rw q at e)))
 
 plain_from : (word : List ℕ) → 0 < length word → (get_or word 0 0 ≡ 48 → length word ≡ 1)
-    → is_plain_front word ≡ true
+    → begins_plainly word ≡ true
 plain_from [] some one = absurd (omega arith)
 plain_from (b ∷ []) some one = refl
 plain_from (b ∷ c ∷ bs) some one = rw (ne_eqb b 48 (λ z. absurd (omega (arith, one z)))) refl
 
-plain_decimal : (n : ℕ) → n < 2 ^ 64 → is_plain_front (decimal n) ≡ true
+plain_decimal : (n : ℕ) → n < 2 ^ 64 → begins_plainly (decimal n) ≡ true
 plain_decimal zero small = rw (decimal_digit 0 (omega arith)) refl
 plain_decimal (suc n) small =
     plain_from (decimal (suc n)) (decimal_nonempty (suc n) small)

@@ -8,14 +8,14 @@ abbrev pub most : ℕ
 most = 9223372036854775807
 
 -- whether there is a first byte, and it is no `0` with further bytes behind it
-abbrev pub is_plain_front : List ℕ → Bool
-is_plain_front [] = false
-is_plain_front (b ∷ []) = true
-is_plain_front (b ∷ c ∷ bs) = not (b == 48)
+abbrev pub begins_plainly : List ℕ → Bool
+begins_plainly [] = false
+begins_plainly (b ∷ []) = true
+begins_plainly (b ∷ c ∷ bs) = not (b == 48)
 
 -- whether the bytes are `0`, or digits of which the first is not 0
 abbrev pub is_numeral : List ℕ → Bool
-is_numeral bs = is_plain_front bs && all_ascii_digits bs
+is_numeral bs = begins_plainly bs && all_ascii_digits bs
 
 -- the number that the bytes write, if all of them are digits
 abbrev pub digits_of : List ℕ → Option ℕ

@@ -154,7 +154,7 @@ fn a_failed_read_comes_behind_the_replies_to_all_lines_read(rt: HostRuntime) -> 
 }
 
 #[test]
-fn a_failed_write_comes_behind_a_front_of_the_replies(rt: HostRuntime) -> Result<(), Fail> {
+fn a_failed_write_comes_behind_a_prefix_of_the_replies(rt: HostRuntime) -> Result<(), Fail> {
     for stop in [Stop::Fails, Stop::TakesNothing, Stop::FailsToFlush] {
         for stops_at in 0..18usize {
             let mut reader = Watched::new(pieces_of(b"x\ny", 1));

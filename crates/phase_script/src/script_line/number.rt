@@ -1,7 +1,7 @@
 //! The numbers of a line.
 
 ghost use Rattle.std.specs.Prelude.{◌≡◌, ◌≤◌, length, nat_abs, IfSome};
-ghost use Rattle.phase_script.specs.Numbers.{most, is_plain_front, digits_of, nat_of, int_of};
+ghost use Rattle.phase_script.specs.Numbers.{most, begins_plainly, digits_of, nat_of, int_of};
 
 // The greatest number.
 const MOST: u64 = 9223372036854775807;
@@ -30,7 +30,7 @@ pub fn nat(word: &[u8]) -> Option<u64>
 
 // Whether the word is not empty and has no needless zero in front.
 fn is_plain(word: &[u8]) -> bool
-    ensures { result ≡ is_plain_front word.now }
+    ensures { result ≡ begins_plainly word.now }
 {
     match word {
         [] => false,
