@@ -1,7 +1,7 @@
-//! Members that come and go, as calls on a phaser under sum.
+//! A founder alone, and members that come and go, as calls on a phaser under sum.
 use crate::{Got, PhaserCore, RegisterRefusal, SignalRefusal, WaitRefusal};
 use phase_accum::{Outcome, Pending, SendFault, Sum};
-use phase_base::{Mode, Spec};
+use phase_base::{Entry, Mode, Spec};
 use std::alloc::Global;
 use std::test::Fail;
 
@@ -65,6 +65,26 @@ fn value(phase: u64, value: i64) -> Answer {
         phase,
         outcome: Outcome::Value(value),
     })
+}
+
+#[test]
+fn a_founder_gets_what_it_sent(rt: HostRuntime) -> Result<(), Fail> {
+    let mut core = core_of(rt.alloc(), 2)?;
+    assert_eq!(rt;
+        reply_to(&mut core, Call::Signal(0, Some(5)))?,
+        Answer::Joined(0)
+    );
+    assert_eq!(rt; reply_to(&mut core, Call::Wait(0))?, value(0, 5));
+    assert_eq!(rt; core.done(), 1);
+    assert_eq!(rt; core.top(), 1);
+    let entry = Entry {
+        mode: Mode::Single,
+        signal_phase: 1,
+        wait_phase: 1,
+    };
+    assert_eq!(rt; core.view(0), Some(entry));
+    assert_eq!(rt; core.view(1), None);
+    Ok(())
 }
 
 #[test]
