@@ -4,7 +4,11 @@ mod Examples
 pub mod Firsts
 pub mod FirSteps
 pub mod Given
+pub mod Growing
+pub mod ListsAbove
 pub mod Made
 pub mod Mixing
+pub mod Ordered
 pub mod Sendable
 pub mod Sends
+pub mod SpansAbove

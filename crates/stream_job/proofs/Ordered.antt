@@ -1,0 +1,152 @@
+-- The phasers that a task's steps and outputs look at stand above those that it signals.
+use Rattle.std.proofs.Common.{◌≡◌, ℕ, zero, suc, ◌+◌, ◌<◌, ◌≤◌, Bool, true, false, cond, eqb, List, [], ◌∷◌, length, get_or, Some, None, refl, sym, ap, subst, ◌∙◌, arith, eqb-true, eq-eqb, ◌⊎◌, inl, inr, Contains}
+use Rattle.std.specs.Prelude.{Option}
+use Rattle.std.specs.List.{position_from}
+use Rattle.std.proofs.lemmas.Option.{same_Some}
+use Rattle.graph_lang.specs.Graphs.{Graph, Task, task_at}
+use Rattle.graph_lang.specs.TaskLines.{IsGraph, IsTaskLine, IsParent, HasEnds, IsExchangeBelow, has_children}
+use Rattle.graph_lang.specs.declared.line.Kind.{Kind}
+use Rattle.graph_lang.specs.declared.line.Kind.TheVariants.{Source, Fir, Split, Join, Peer, Sink}
+use Rattle.graph_lang.specs.declared.line.Parent.{Parent}
+use Rattle.stream_job.specs.Jobs.{place_in}
+use Rattle.stream_job.specs.Spans.{signalled_by}
+
+-- ---- the place of a phaser on a line
+
+-- what stands at the place that was found
+pub found-at : (n : ℕ) (qs : List ℕ) (p j : ℕ) → position_from (λ q. eqb q p) n qs ≡ Some j
+    → (k : ℕ) × (k < length qs) × (get_or qs k 0 ≡ p) × (j ≡ n + k)
+found-at n [] p j e = absurd (cc)
+found-at n (q ∷ qs) p j e = by (eqb q p) refl e (found-at (n + 1) qs p j)
+  where
+    by : (b : Bool) → eqb q p ≡ b → cond b (Some n) (position_from (λ q. eqb q p) (n + 1) qs) ≡ Some j
+        → (position_from (λ q. eqb q p) (n + 1) qs ≡ Some j
+          → (k : ℕ) × (k < length qs) × (get_or qs k 0 ≡ p) × (j ≡ n + 1 + k))
+        → (k : ℕ) × (k < suc (length qs)) × (get_or (q ∷ qs) k 0 ≡ p) × (j ≡ n + k)
+    by true same found later =
+        let at : n ≡ j = same_Some n j found in
+        (0, omega arith, eqb-true q p same, omega arith)
+    by false other found later =
+        let f = later found in
+        let at : j ≡ n + 1 + f.0 = f.3 in
+        (suc f.0, omega arith, f.2, omega arith)
+
+pub place-at : (qs : List ℕ) (p j : ℕ) → place_in qs p ≡ Some j
+    → (j < length qs) × (get_or qs j 0 ≡ p)
+place-at qs p j e =
+    let f = found-at 0 qs p j e in
+    let at : f.0 ≡ j = omega arith in
+    let At : ℕ → Type 0 = λ k. (k < length qs) × (get_or qs k 0 ≡ p) in
+    subst At at (f.1, f.2)
+
+-- a phaser of the line has a place
+pub has-place : (n : ℕ) (qs : List ℕ) (k : ℕ) → k < length qs
+    → (j : ℕ) × (position_from (λ q. eqb q (get_or qs k 0)) n qs ≡ Some j)
+has-place n [] k lt = absurd (omega arith)
+has-place n (q ∷ qs) zero lt = (n, rw (eq-eqb q q refl) refl)
+has-place n (q ∷ qs) (suc k) lt =
+    by (eqb q (get_or qs k 0)) (has-place (n + 1) qs k (omega arith))
+  where
+    by : (b : Bool) → (j : ℕ) × (position_from (λ q. eqb q (get_or qs k 0)) (n + 1) qs ≡ Some j)
+        → (j : ℕ) × (cond b (Some n) (position_from (λ q. eqb q (get_or qs k 0)) (n + 1) qs) ≡ Some j)
+    by true later = (n, refl)
+    by false later = later
+
+-- ---- the order
+
+-- output number j looks at input number k: a peer's E at X alone, each other output at all inputs
+abbrev pub LooksAt : Kind → ℕ → ℕ → Type 0
+LooksAt Peer zero k = k ≡ 0
+LooksAt Peer (suc j) k = Unit {0}
+LooksAt kind j k = Unit {0}
+
+-- the first output looks at what the steps look at, and so does each other
+pub looks-first : (kind : Kind) (j k : ℕ) → LooksAt kind 0 k → LooksAt kind j k
+looks-first Source j k e = tt
+looks-first Fir j k e = tt
+looks-first Split j k e = tt
+looks-first Join j k e = tt
+looks-first Peer zero k e = e
+looks-first Peer (suc j) k e = tt
+looks-first Sink j k e = tt
+
+input_above : (graph : Graph) (t : ℕ) (task : Task) (j k p : ℕ) → IsTaskLine graph t task
+    → place_in task.outputs p ≡ Some j → k < length task.inputs → get_or task.inputs k 0 < p
+input_above graph t task j k p line place lt =
+    let at = place-at task.outputs p j place in
+    let Above : ℕ → Type 0 = λ y. get_or task.inputs k 0 < y in
+    subst Above at.1 (line.in_order k 0 lt j 0 at.0)
+
+-- an input that an output looks at stands above it
+pub looked_above : (graph : Graph) (t : ℕ) (task : Task) (j k p : ℕ) → IsTaskLine graph t task
+    → place_in (signalled_by task) p ≡ Some j → k < length task.inputs → LooksAt task.kind j k
+    → get_or task.inputs k 0 < p
+looked_above graph t task j k p line place lt looks = by task.kind refl
+  where
+    plain : (kind : Kind) → task.kind ≡ kind → signalled_by (record task { kind = kind }) ≡ task.outputs
+        → get_or task.inputs k 0 < p
+    plain kind e same =
+        let P : Kind → Type 0 = λ kind. place_in (signalled_by (record task { kind = kind })) p ≡ Some j in
+        let here : place_in (signalled_by (record task { kind = kind })) p ≡ Some j = subst P e place in
+        input_above graph t task j k p line (ap (λ l. place_in l p) (sym same) ∙ here) lt
+    by : (kind : Kind) → task.kind ≡ kind → get_or task.inputs k 0 < p
+    by Source e = plain Source e refl
+    by Fir e = plain Fir e refl
+    by Split e = plain Split e refl
+    by Join e = plain Join e refl
+    by Sink e = plain Sink e refl
+    by Peer e =
+        let P : Kind → Type 0 = λ kind. place_in (signalled_by (record task { kind = kind })) p ≡ Some j in
+        let L : Kind → Type 0 = λ kind. LooksAt kind j k in
+        let H : Kind → Type 0 = λ kind. HasEnds kind (length task.inputs) (length task.outputs) in
+        let E : Kind → Type 0 = λ kind. IsExchangeBelow kind task.inputs in
+        let here : place_in (get_or task.inputs 1 0 ∷ get_or task.outputs 0 0 ∷ []) p ≡ Some j = subst P e place in
+        let ends : (length task.inputs ≡ 2) × (length task.outputs ≡ 1) = subst H e line.ends in
+        let below : get_or task.inputs 0 0 < get_or task.inputs 1 0 = subst E e line.exchange in
+        let at = place-at (get_or task.inputs 1 0 ∷ get_or task.outputs 0 0 ∷ []) p j here in
+        peer j at.0 at.1 (subst L e looks) below ends.1
+      where
+        peer : (j : ℕ) → j < 2 → get_or (get_or task.inputs 1 0 ∷ get_or task.outputs 0 0 ∷ []) j 0 ≡ p
+            → LooksAt Peer j k → get_or task.inputs 0 0 < get_or task.inputs 1 0
+            → length task.outputs ≡ 1 → get_or task.inputs k 0 < p
+        peer zero few at looks below one =
+            let first : get_or task.inputs k 0 ≡ get_or task.inputs 0 0 = ap (λ i. get_or task.inputs i 0) looks in
+            omega arith
+        peer (suc zero) few at looks below one =
+            let above : get_or task.inputs k 0 < get_or task.outputs 0 0 = line.in_order k 0 lt 0 0 (omega arith) in
+            omega arith
+        peer (suc (suc j)) few at looks below one = absurd (omega arith)
+
+-- ---- parents
+
+plain_ends : (task : Task) → has_children task.kind ≡ true → signalled_by task ≡ task.outputs
+plain_ends task e = by task.kind refl
+  where
+    by : (kind : Kind) → task.kind ≡ kind → signalled_by task ≡ task.outputs
+    by Source k = rw k refl
+    by Fir k = rw k refl
+    by Sink k = rw k refl
+    by Split k = rw k refl
+    by Join k = rw k refl
+    by Peer k = absurd (let b : true ≡ false = sym e ∙ ap has_children k in cc)
+
+-- a parent signals what its child signals
+pub parent_signals : (graph : Graph) (t : ℕ) (task : Task) (u : Parent) (p j : ℕ)
+    → IsParent graph t task u → place_in (signalled_by task) p ≡ Some j
+    → (i : ℕ) × (place_in (signalled_by (task_at graph u.task)) p ≡ Some i)
+parent_signals graph t task u p j is place =
+    let above = task_at graph u.task in
+    let here : place_in task.outputs p ≡ Some j =
+        ap (λ l. place_in l p) (sym (plain_ends task is.child_kind)) ∙ place in
+    let at = place-at task.outputs p j here in
+    let In : ℕ → Type 0 = λ y. Contains above.outputs y in
+    let among : Contains above.outputs p = subst In at.1 (is.signals j 0 at.0) in
+    let Place : ℕ → Type 0 = λ y. (i : ℕ) × (place_in above.outputs y ≡ Some i) in
+    let same : get_or above.outputs among.0 0 ≡ p = within among.0 above.outputs p among.1 among.2 in
+    let found : (i : ℕ) × (place_in above.outputs p ≡ Some i) = subst Place same (has-place 0 above.outputs among.0 among.1) in
+    (found.0, ap (λ l. place_in l p) (plain_ends above is.kind) ∙ found.1)
+  where
+    within : (k : ℕ) (qs : List ℕ) (p : ℕ) → k < length qs → get_or qs k p ≡ p → get_or qs k 0 ≡ p
+    within k [] p lt e = absurd (omega arith)
+    within zero (q ∷ qs) p lt e = e
+    within (suc k) (q ∷ qs) p lt e = within k qs p (omega arith) e
