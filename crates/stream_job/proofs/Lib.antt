@@ -5,6 +5,8 @@ pub mod Firsts
 pub mod FirSteps
 pub mod Given
 pub mod Growing
+pub mod LengthsAbove
+pub mod ListLengths
 pub mod ListsAbove
 pub mod Made
 pub mod Mixing

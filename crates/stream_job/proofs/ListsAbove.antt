@@ -13,15 +13,10 @@ use Rattle.stream_job.specs.Spans.{nowhere, signalled_by, takes_from, spans_of, 
 use Rattle.stream_job.specs.Lists.{Member, member_at, member_by, members_of, output_list, output_on, taken_by, taken_from, mixed, phase_in, value_by, number, list_over, list_of_phaser, numbers_above, numbers_of}
 use Rattle.stream_job.specs.declared.span.Span.{Span}
 use Rattle.stream_job.proofs.Growing.{AreSameBelow, grown-same, grown-whole, map-same, filter_map-same}
-use Rattle.stream_job.proofs.Ordered.{LooksAt, looked_above}
-
--- two lists of lists have the same at these inputs
-abbrev AreSameAt : Task → List (List ℤ) → List (List ℤ) → (ℕ → Type 0) → Type 0
-AreSameAt task xs ys At = (k : ℕ) → k < length task.inputs → At k
-    → get_or xs (get_or task.inputs k 0) [] ≡ get_or ys (get_or task.inputs k 0) []
+use Rattle.stream_job.proofs.Ordered.{LooksAt, AreSameAt, looked_above}
 
 same_taken : (task : Task) (span : Span) (xs ys : List (List ℤ))
-    → AreSameAt task xs ys (λ k. Unit {0}) → taken_by xs task span ≡ taken_by ys task span
+    → AreSameAt [] task xs ys (λ k. Unit {0}) → taken_by xs task span ≡ taken_by ys task span
 same_taken task span xs ys same =
     map-same (taken_from xs task span) (taken_from ys task span) 0 (length task.inputs)
     (λ k less. ap (λ l. take (takes_from task span.steps k) (drop span.offset l))
@@ -40,7 +35,7 @@ peer_first samples taken task steps e = rw e refl
 -- an output is the same over lists that are the same where it looks
 pub same_output : (samples : List ℤ) (task : Task) (span : Span) (xs ys : List (List ℤ)) (j : ℕ)
     → HasEnds task.kind (length task.inputs) (length task.outputs)
-    → AreSameAt task xs ys (LooksAt task.kind j)
+    → AreSameAt [] task xs ys (LooksAt task.kind j)
     → output_list samples (taken_by xs task span) task span.steps j
     ≡ output_list samples (taken_by ys task span) task span.steps j
 same_output samples task span xs ys j ends same = by task.kind j refl refl

@@ -60,6 +60,11 @@ LooksAt Peer zero k = k ≡ 0
 LooksAt Peer (suc j) k = Unit {0}
 LooksAt kind j k = Unit {0}
 
+-- two lists by phasers have the same entries at these inputs of a task
+abbrev pub AreSameAt : {X : Type 0} → X → Task → List X → List X → (ℕ → Type 0) → Type 0
+AreSameAt d task xs ys At = (k : ℕ) → k < length task.inputs → At k
+    → get_or xs (get_or task.inputs k 0) d ≡ get_or ys (get_or task.inputs k 0) d
+
 -- the first output looks at what the steps look at, and so does each other
 pub looks-first : (kind : Kind) (j k : ℕ) → LooksAt kind 0 k → LooksAt kind j k
 looks-first Source j k e = tt
