@@ -1,13 +1,11 @@
 -- The length of a phaser's list, over the lengths of the lists of all phasers.
-use Rattle.std.proofs.Common.{◌≡◌, ℕ, zero, suc, ◌+◌, ◌-◌, ◌<◌, ◌≤◌, List, [], ◌∷◌, length, map, get_or, Some, None, true, refl, sym, ap, subst, ◌∙◌, arith}
+use Rattle.std.proofs.Common.{◌≡◌, ℕ, zero, suc, ◌-◌, ◌<◌, List, length, get_or, Some, None, true, refl, sym, ap, subst, ◌∙◌, arith}
 use Rattle.std.specs.Prelude.{Option}
-use Rattle.std.specs.List.{range_with_len}
 use Rattle.std.proofs.lemmas.List.{get_or-map}
-use Rattle.graph_lang.specs.Graphs.{Graph, Task, task_at}
+use Rattle.graph_lang.specs.Graphs.{Task, task_at}
 use Rattle.graph_lang.specs.TaskLines.{IsGraph, IsTaskLine, IsParent, HasEnds}
 use Rattle.graph_lang.specs.declared.line.Kind.{Kind}
 use Rattle.graph_lang.specs.declared.line.Kind.TheVariants.{Source, Fir, Split, Join, Peer, Sink}
-use Rattle.graph_lang.specs.declared.line.Parent.{Parent}
 use Rattle.stream_job.specs.Jobs.{Job, samples_at, place_in}
 use Rattle.stream_job.specs.Spans.{nowhere, signalled_by, offset_of, cut_at, span_at, spans_over, spans_of, lengths_of, enough_for, values_from, greatest, length_on, end_on, end_of}
 use Rattle.stream_job.specs.declared.span.Span.{Span}
@@ -40,6 +38,7 @@ same_enough task samples offset xs ys ends same = by task.kind refl
     whole looks = ap (enough_for task samples)
         (map-each (λ p. get_or xs p 0 - offset) (λ p. get_or ys p 0 - offset) task.inputs
         (λ k lt. ap (λ n. n - offset) (same k lt (looks k))))
+
     by : (kind : Kind) → task.kind ≡ kind
         → enough_for task samples (values_from task xs offset)
         ≡ enough_for task samples (values_from task ys offset)

@@ -5,6 +5,7 @@ pub mod Firsts
 pub mod FirSteps
 pub mod Given
 pub mod Growing
+mod LawExamples
 pub mod LengthsAbove
 pub mod ListLengths
 pub mod ListsAbove

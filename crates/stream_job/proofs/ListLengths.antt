@@ -1,17 +1,15 @@
 -- How many values a task takes and puts out, over the lists of all phasers.
-use Rattle.std.proofs.Common.{◌≡◌, ℕ, zero, suc, ◌+◌, ◌-◌, ◌<◌, ◌≤◌, Bool, true, false, List, [], ◌∷◌, length, map, get_or, take, drop, min, ℤ, Some, None, refl, sym, ap, subst, ◌∙◌, arith}
+use Rattle.std.proofs.Common.{◌≡◌, ℕ, ◌+◌, ◌-◌, ◌<◌, ◌≤◌, Bool, true, false, List, [], length, get_or, take, drop, ℤ, Some, None, refl, sym, ap, subst, ◌∙◌, arith}
 use Rattle.std.specs.Prelude.{Option, nat_lt, if◌then◌else◌}
-use Rattle.std.specs.List.{range_with_len}
 use Rattle.std.proofs.lemmas.List.{length-map, length-take-le, length-drop}
 use Rattle.std.proofs.lemmas.List.FromFn.{length-map-range_with_len}
-use Rattle.stream_filters.specs.Filter.{output_at}
-use Rattle.graph_lang.specs.Graphs.{Graph, Task, task_at}
+use Rattle.graph_lang.specs.Graphs.{Task, task_at}
 use Rattle.graph_lang.specs.TaskLines.{IsGraph, IsTaskLine, HasEnds}
 use Rattle.graph_lang.specs.declared.line.Kind.{Kind}
 use Rattle.graph_lang.specs.declared.line.Kind.TheVariants.{Source, Fir, Split, Join, Peer, Sink}
 use Rattle.stream_job.specs.Jobs.{Job, samples_at, place_in}
-use Rattle.stream_job.specs.Spans.{nowhere, signalled_by, puts_on, takes_from, turns_below, offset_of, cut_at, span_at, spans_of, lengths_of, span_in, enough_for, values_from, greatest, end_on, end_of}
-use Rattle.stream_job.specs.Lists.{Member, entry, turn_at, mixed, mixed_at, every, taken_from, taken_by, output_list, output_on, member_at, member_by, list_over, number, numbers_of, end_of_member, ends_on}
+use Rattle.stream_job.specs.Spans.{signalled_by, puts_on, takes_from, turns_below, offset_of, cut_at, span_at, spans_of, lengths_of, span_in, enough_for, values_from, greatest, end_on, end_of}
+use Rattle.stream_job.specs.Lists.{turn_at, mixed, taken_by, output_list, output_on, member_at, member_by, list_over, number, numbers_of, end_of_member, ends_on}
 use Rattle.stream_job.specs.declared.span.Span.{Span}
 use Rattle.stream_job.proofs.Growing.{map-same}
 use Rattle.stream_job.proofs.Ordered.{place-at}
@@ -34,7 +32,7 @@ steps_within job t is there =
     let task = task_at job.graph t in
     let samples = length (samples_at job t) in
     let Within : Span → Type 0 = λ span. span.steps
-        ≤ enough_for task samples (values_from task (lengths_of job) span.offset) in
+    ≤ enough_for task samples (values_from task (lengths_of job) span.offset) in
     subst Within (sym (spans_all job t is there)) (by task samples (offset_of (spans_of job) task.parent))
   where
     by : (task : Task) (samples : ℕ) (o : Option ℕ)
@@ -109,11 +107,11 @@ length-first job t is there one =
     let long : length list ≡ get_or (lengths_of job) x 0 = length-numbers job x is below in
     let rest : length (drop span.offset list) ≡ length list - span.offset = length-drop span.offset list in
     let within : span.steps ≤ enough_for task (length (samples_at job t)) (values_from task (lengths_of job) span.offset)
-        = steps_within job t is there in
+    = steps_within job t is there in
     let enough : enough_for task (length (samples_at job t)) (values_from task (lengths_of job) span.offset)
-        ≡ get_or (lengths_of job) x 0 - span.offset =
-        one_enough task (length (samples_at job t)) (values_from task (lengths_of job) span.offset) one
-        ∙ first_value task (lengths_of job) span.offset some in
+    ≡ get_or (lengths_of job) x 0 - span.offset =
+    one_enough task (length (samples_at job t)) (values_from task (lengths_of job) span.offset) one
+    ∙ first_value task (lengths_of job) span.offset some in
     let fits : span.steps ≤ length (drop span.offset list) = omega arith in
     ap length (first_taken (numbers_of job) task span some)
     ∙ (ap (λ n. length (take n (drop span.offset list))) (one_each task span.steps 0 one)
@@ -132,9 +130,10 @@ length-output samples taken task steps j ends lt enough one = by task.kind refl
   where
     peer : (b : Bool) → length (get_or taken 0 []) ≡ steps
         → length (if b then mixed task.mul (get_or taken 0 []) (get_or taken 1 [])
-          else get_or taken 0 []) ≡ steps
+        else get_or taken 0 []) ≡ steps
     peer false all = all
     peer true all = length-mixed task.mul (get_or taken 0 []) (get_or taken 1 []) ∙ all
+
     by : (kind : Kind) → task.kind ≡ kind
         → length (output_list samples taken task steps j) ≡ puts_on task steps j
     by Source e = rw e (length-take-le steps samples (enough e))

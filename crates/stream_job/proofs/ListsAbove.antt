@@ -1,16 +1,15 @@
 -- The list of a phaser, over the lists of the phasers above it, or of all phasers.
-use Rattle.std.proofs.Common.{◌≡◌, ℕ, zero, suc, ◌+◌, ◌<◌, ◌≤◌, Bool, true, false, cond, List, [], ◌∷◌, length, map, get_or, take, drop, ℤ, Some, None, refl, sym, ap, subst, ◌∙◌, arith, zero-add}
-use Rattle.std.specs.Prelude.{Option, nat_lt, if◌then◌else◌}
-use Rattle.std.specs.List.{range_with_len, filter_map}
+use Rattle.std.proofs.Common.{◌≡◌, ℕ, zero, suc, ◌<◌, List, [], length, map, get_or, take, drop, ℤ, Some, None, refl, sym, ap, subst, ◌∙◌, arith}
+use Rattle.std.specs.Prelude.{Option, if◌then◌else◌}
+use Rattle.std.specs.List.{range_with_len}
 use Rattle.std.proofs.lemmas.List.FromFn.{get_or-map-range_with_len}
-use Rattle.phase_accum.specs.declared.outcome.Outcome.{Outcome}
-use Rattle.graph_lang.specs.Graphs.{Graph, Task, task_at, phaser_at}
+use Rattle.graph_lang.specs.Graphs.{Task, task_at, phaser_at}
 use Rattle.graph_lang.specs.TaskLines.{IsGraph, IsTaskLine, HasEnds}
 use Rattle.graph_lang.specs.declared.line.Kind.{Kind}
 use Rattle.graph_lang.specs.declared.line.Kind.TheVariants.{Source, Fir, Split, Join, Peer, Sink}
 use Rattle.stream_job.specs.Jobs.{Job, samples_at, place_in}
 use Rattle.stream_job.specs.Spans.{nowhere, signalled_by, takes_from, spans_of, lengths_of}
-use Rattle.stream_job.specs.Lists.{Member, member_at, member_by, members_of, output_list, output_on, taken_by, taken_from, mixed, phase_in, value_by, number, list_over, list_of_phaser, numbers_above, numbers_of}
+use Rattle.stream_job.specs.Lists.{member_at, member_by, members_of, output_list, taken_by, taken_from, phase_in, value_by, number, list_over, list_of_phaser, numbers_above, numbers_of}
 use Rattle.stream_job.specs.declared.span.Span.{Span}
 use Rattle.stream_job.proofs.Growing.{AreSameBelow, grown-same, grown-whole, map-same, filter_map-same}
 use Rattle.stream_job.proofs.Ordered.{LooksAt, AreSameAt, looked_above}
@@ -45,6 +44,7 @@ same_output samples task span xs ys j ends same = by task.kind j refl refl
         ≡ output_list samples (taken_by ys task span) task span.steps j
     whole looks = ap (λ taken. output_list samples taken task span.steps j)
         (same_taken task span xs ys (λ k lt u. same k lt (looks k)))
+
     first : task.kind ≡ Peer → j ≡ 0
         → output_list samples (taken_by xs task span) task span.steps j
         ≡ output_list samples (taken_by ys task span) task span.steps j
@@ -62,6 +62,7 @@ same_output samples task span xs ys j ends same = by task.kind j refl refl
         ∙ (sym (first_taken ys task span some)
         ∙ (sym (peer_first samples (taken_by ys task span) task span.steps e)
         ∙ ap (λ j. output_list samples (taken_by ys task span) task span.steps j) (sym none))))))
+
     by : (kind : Kind) (i : ℕ) → task.kind ≡ kind → j ≡ i
         → output_list samples (taken_by xs task span) task span.steps j
         ≡ output_list samples (taken_by ys task span) task span.steps j

@@ -1,10 +1,9 @@
 -- The phasers that a task's steps and outputs look at stand above those that it signals.
-use Rattle.std.proofs.Common.{◌≡◌, ℕ, zero, suc, ◌+◌, ◌<◌, ◌≤◌, Bool, true, false, cond, eqb, List, [], ◌∷◌, length, get_or, Some, None, refl, sym, ap, subst, ◌∙◌, arith, eqb-true, eq-eqb, ◌⊎◌, inl, inr, Contains}
-use Rattle.std.specs.Prelude.{Option}
+use Rattle.std.proofs.Common.{◌≡◌, ℕ, zero, suc, ◌+◌, ◌<◌, Bool, true, false, cond, eqb, List, [], ◌∷◌, length, get_or, Some, refl, sym, ap, subst, ◌∙◌, arith, eqb-true, eq-eqb, Contains}
 use Rattle.std.specs.List.{position_from}
 use Rattle.std.proofs.lemmas.Option.{same_Some}
 use Rattle.graph_lang.specs.Graphs.{Graph, Task, task_at}
-use Rattle.graph_lang.specs.TaskLines.{IsGraph, IsTaskLine, IsParent, HasEnds, IsExchangeBelow, has_children}
+use Rattle.graph_lang.specs.TaskLines.{IsTaskLine, IsParent, HasEnds, IsExchangeBelow, has_children}
 use Rattle.graph_lang.specs.declared.line.Kind.{Kind}
 use Rattle.graph_lang.specs.declared.line.Kind.TheVariants.{Source, Fir, Split, Join, Peer, Sink}
 use Rattle.graph_lang.specs.declared.line.Parent.{Parent}
@@ -21,7 +20,7 @@ found-at n (q ∷ qs) p j e = by (eqb q p) refl e (found-at (n + 1) qs p j)
   where
     by : (b : Bool) → eqb q p ≡ b → cond b (Some n) (position_from (λ q. eqb q p) (n + 1) qs) ≡ Some j
         → (position_from (λ q. eqb q p) (n + 1) qs ≡ Some j
-          → (k : ℕ) × (k < length qs) × (get_or qs k 0 ≡ p) × (j ≡ n + 1 + k))
+        → (k : ℕ) × (k < length qs) × (get_or qs k 0 ≡ p) × (j ≡ n + 1 + k))
         → (k : ℕ) × (k < suc (length qs)) × (get_or (q ∷ qs) k 0 ≡ p) × (j ≡ n + k)
     by true same found later =
         let at : n ≡ j = same_Some n j found in
@@ -94,6 +93,7 @@ looked_above graph t task j k p line place lt looks = by task.kind refl
         let P : Kind → Type 0 = λ kind. place_in (signalled_by (record task { kind = kind })) p ≡ Some j in
         let here : place_in (signalled_by (record task { kind = kind })) p ≡ Some j = subst P e place in
         input_above graph t task j k p line (ap (λ l. place_in l p) (sym same) ∙ here) lt
+
     by : (kind : Kind) → task.kind ≡ kind → get_or task.inputs k 0 < p
     by Source e = plain Source e refl
     by Fir e = plain Fir e refl
@@ -135,23 +135,28 @@ plain_ends task e = by task.kind refl
     by Join k = rw k refl
     by Peer k = absurd (let b : true ≡ false = sym e ∙ ap has_children k in cc)
 
+-- what is among these phasers has a place there
+among_place : (qs : List ℕ) (p : ℕ) → Contains qs p → (i : ℕ) × (place_in qs p ≡ Some i)
+among_place qs p among =
+    let Place : ℕ → Type 0 = λ y. (i : ℕ) × (place_in qs y ≡ Some i) in
+    subst Place (within among.0 qs p among.1 among.2) (has-place 0 qs among.0 among.1)
+  where
+    within : (k : ℕ) (qs : List ℕ) (p : ℕ) → k < length qs → get_or qs k p ≡ p → get_or qs k 0 ≡ p
+    within k [] p lt e = absurd (omega arith)
+    within zero (q ∷ qs) p lt e = e
+    within (suc k) (q ∷ qs) p lt e = within k qs p (omega arith) e
+
 -- a parent signals what its child signals
 pub parent_signals : (graph : Graph) (t : ℕ) (task : Task) (u : Parent) (p j : ℕ)
     → IsParent graph t task u → place_in (signalled_by task) p ≡ Some j
     → (i : ℕ) × (place_in (signalled_by (task_at graph u.task)) p ≡ Some i)
 parent_signals graph t task u p j is place =
     let above = task_at graph u.task in
+    let Here : List ℕ → Type 0 = λ qs. place_in qs p ≡ Some j in
+    let There : List ℕ → Type 0 = λ qs. (i : ℕ) × (place_in qs p ≡ Some i) in
     let here : place_in task.outputs p ≡ Some j =
-        ap (λ l. place_in l p) (sym (plain_ends task is.child_kind)) ∙ place in
+    subst Here (plain_ends task is.child_kind) place in
     let at = place-at task.outputs p j here in
     let In : ℕ → Type 0 = λ y. Contains above.outputs y in
     let among : Contains above.outputs p = subst In at.1 (is.signals j 0 at.0) in
-    let Place : ℕ → Type 0 = λ y. (i : ℕ) × (place_in above.outputs y ≡ Some i) in
-    let same : get_or above.outputs among.0 0 ≡ p = within among.0 above.outputs p among.1 among.2 in
-    let found : (i : ℕ) × (place_in above.outputs p ≡ Some i) = subst Place same (has-place 0 above.outputs among.0 among.1) in
-    (found.0, ap (λ l. place_in l p) (plain_ends above is.kind) ∙ found.1)
-  where
-    within : (k : ℕ) (qs : List ℕ) (p : ℕ) → k < length qs → get_or qs k p ≡ p → get_or qs k 0 ≡ p
-    within k [] p lt e = absurd (omega arith)
-    within zero (q ∷ qs) p lt e = e
-    within (suc k) (q ∷ qs) p lt e = within k qs p (omega arith) e
+    subst There (sym (plain_ends above is.kind)) (among_place above.outputs p among)

@@ -1,5 +1,5 @@
 -- The span of a task, over the spans of the tasks above it, or of all tasks.
-use Rattle.std.proofs.Common.{◌≡◌, ℕ, ◌+◌, ◌<◌, List, length, get_or, Some, None, refl, ap, subst, arith}
+use Rattle.std.proofs.Common.{◌≡◌, ℕ, ◌+◌, ◌<◌, List, length, get_or, Some, None, refl, ap, subst}
 use Rattle.std.specs.Prelude.{Option, IfSome, nat_le, ◌&&◌, if◌then◌else◌}
 use Rattle.graph_lang.specs.Graphs.{Graph, Task, task_at}
 use Rattle.graph_lang.specs.TaskLines.{IsGraph, IsTaskLine, IsParent}
