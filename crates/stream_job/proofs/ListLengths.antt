@@ -33,7 +33,8 @@ steps_within job t is there =
     let samples = length (samples_at job t) in
     let Within : Span → Type 0 = λ span. span.steps
     ≤ enough_for task samples (values_from task (lengths_of job) span.offset) in
-    subst Within (sym (spans_all job t is there)) (by task samples (offset_of (spans_of job) task.parent))
+    let above = offset_of (spans_of job) task.parent in
+    subst Within (sym (spans_all job t is there)) (by task samples above)
   where
     by : (task : Task) (samples : ℕ) (o : Option ℕ)
         → (span_at task samples (lengths_of job) o).steps ≤ enough_for task samples
@@ -105,13 +106,13 @@ length-first job t is there one =
     let list = get_or (numbers_of job) x [] in
     let below : x < length job.graph.phasers = line.inputs 0 0 some in
     let long : length list ≡ get_or (lengths_of job) x 0 = length-numbers job x is below in
-    let rest : length (drop span.offset list) ≡ length list - span.offset = length-drop span.offset list in
-    let within : span.steps ≤ enough_for task (length (samples_at job t)) (values_from task (lengths_of job) span.offset)
-    = steps_within job t is there in
-    let enough : enough_for task (length (samples_at job t)) (values_from task (lengths_of job) span.offset)
-    ≡ get_or (lengths_of job) x 0 - span.offset =
-    one_enough task (length (samples_at job t)) (values_from task (lengths_of job) span.offset) one
-    ∙ first_value task (lengths_of job) span.offset some in
+    let rest : length (drop span.offset list) ≡ length list - span.offset =
+    length-drop span.offset list in
+    let samples = length (samples_at job t) in
+    let values = values_from task (lengths_of job) span.offset in
+    let within : span.steps ≤ enough_for task samples values = steps_within job t is there in
+    let enough : enough_for task samples values ≡ get_or (lengths_of job) x 0 - span.offset =
+    one_enough task samples values one ∙ first_value task (lengths_of job) span.offset some in
     let fits : span.steps ≤ length (drop span.offset list) = omega arith in
     ap length (first_taken (numbers_of job) task span some)
     ∙ (ap (λ n. length (take n (drop span.offset list))) (one_each task span.steps 0 one)
@@ -137,9 +138,12 @@ length-output samples taken task steps j ends lt enough one = by task.kind refl
     by : (kind : Kind) → task.kind ≡ kind
         → length (output_list samples taken task steps j) ≡ puts_on task steps j
     by Source e = rw e (length-take-le steps samples (enough e))
-    by Fir e = rw e (length-map-range_with_len _ 0 (length (get_or taken 0 [])) ∙ one (ap takes_one e))
+    by Fir e =
+        rw e (length-map-range_with_len _ 0 (length (get_or taken 0 []))
+        ∙ one (ap takes_one e))
     by Split e =
-        rw e (length-map-range_with_len _ 0 (turns_below (length task.outputs) j (length (get_or taken 0 [])))
+        rw e (length-map-range_with_len _ 0
+        (turns_below (length task.outputs) j (length (get_or taken 0 [])))
         ∙ ap (turns_below (length task.outputs) j) (one (ap takes_one e)))
     by Join e = rw e (length-map-range_with_len (turn_at taken) 0 steps)
     by Peer e = rw e (peer (nat_lt 0 j) (one (ap takes_one e)))

@@ -1,5 +1,6 @@
 -- The phasers that a task's steps and outputs look at stand above those that it signals.
 use Rattle.std.proofs.Common.{◌≡◌, ℕ, zero, suc, ◌+◌, ◌<◌, Bool, true, false, cond, eqb, List, [], ◌∷◌, length, get_or, Some, refl, sym, ap, subst, ◌∙◌, arith, eqb-true, eq-eqb, Contains}
+use Rattle.std.specs.Prelude.{Option}
 use Rattle.std.specs.List.{position_from}
 use Rattle.std.proofs.lemmas.Option.{same_Some}
 use Rattle.graph_lang.specs.Graphs.{Graph, Task, task_at}
@@ -12,14 +13,18 @@ use Rattle.stream_job.specs.Spans.{signalled_by}
 
 -- ---- the place of a phaser on a line
 
+-- the place of a phaser, in a list that begins at place n
+abbrev place_from : ℕ → List ℕ → ℕ → Option ℕ
+place_from n qs p = position_from (λ q. eqb q p) n qs
+
 -- what stands at the place that was found
-pub found-at : (n : ℕ) (qs : List ℕ) (p j : ℕ) → position_from (λ q. eqb q p) n qs ≡ Some j
+found-at : (n : ℕ) (qs : List ℕ) (p j : ℕ) → place_from n qs p ≡ Some j
     → (k : ℕ) × (k < length qs) × (get_or qs k 0 ≡ p) × (j ≡ n + k)
 found-at n [] p j e = absurd (cc)
 found-at n (q ∷ qs) p j e = by (eqb q p) refl e (found-at (n + 1) qs p j)
   where
-    by : (b : Bool) → eqb q p ≡ b → cond b (Some n) (position_from (λ q. eqb q p) (n + 1) qs) ≡ Some j
-        → (position_from (λ q. eqb q p) (n + 1) qs ≡ Some j
+    by : (b : Bool) → eqb q p ≡ b → cond b (Some n) (place_from (n + 1) qs p) ≡ Some j
+        → (place_from (n + 1) qs p ≡ Some j
         → (k : ℕ) × (k < length qs) × (get_or qs k 0 ≡ p) × (j ≡ n + 1 + k))
         → (k : ℕ) × (k < suc (length qs)) × (get_or (q ∷ qs) k 0 ≡ p) × (j ≡ n + k)
     by true same found later =
@@ -39,15 +44,15 @@ place-at qs p j e =
     subst At at (f.1, f.2)
 
 -- a phaser of the line has a place
-pub has-place : (n : ℕ) (qs : List ℕ) (k : ℕ) → k < length qs
-    → (j : ℕ) × (position_from (λ q. eqb q (get_or qs k 0)) n qs ≡ Some j)
+has-place : (n : ℕ) (qs : List ℕ) (k : ℕ) → k < length qs
+    → (j : ℕ) × (place_from n qs (get_or qs k 0) ≡ Some j)
 has-place n [] k lt = absurd (omega arith)
 has-place n (q ∷ qs) zero lt = (n, rw (eq-eqb q q refl) refl)
 has-place n (q ∷ qs) (suc k) lt =
     by (eqb q (get_or qs k 0)) (has-place (n + 1) qs k (omega arith))
   where
-    by : (b : Bool) → (j : ℕ) × (position_from (λ q. eqb q (get_or qs k 0)) (n + 1) qs ≡ Some j)
-        → (j : ℕ) × (cond b (Some n) (position_from (λ q. eqb q (get_or qs k 0)) (n + 1) qs) ≡ Some j)
+    by : (b : Bool) → (j : ℕ) × (place_from (n + 1) qs (get_or qs k 0) ≡ Some j)
+        → (j : ℕ) × (cond b (Some n) (place_from (n + 1) qs (get_or qs k 0)) ≡ Some j)
     by true later = (n, refl)
     by false later = later
 
@@ -81,46 +86,50 @@ input_above graph t task j k p line place lt =
     let Above : ℕ → Type 0 = λ y. get_or task.inputs k 0 < y in
     subst Above at.1 (line.in_order k 0 lt j 0 at.0)
 
+-- E and Y of a peer
+abbrev of_peer : Task → List ℕ
+of_peer task = get_or task.inputs 1 0 ∷ get_or task.outputs 0 0 ∷ []
+
 -- an input that an output looks at stands above it
 pub looked_above : (graph : Graph) (t : ℕ) (task : Task) (j k p : ℕ) → IsTaskLine graph t task
     → place_in (signalled_by task) p ≡ Some j → k < length task.inputs → LooksAt task.kind j k
     → get_or task.inputs k 0 < p
 looked_above graph t task j k p line place lt looks = by task.kind refl
   where
-    plain : (kind : Kind) → task.kind ≡ kind → signalled_by (record task { kind = kind }) ≡ task.outputs
+    plain : signalled_by task ≡ task.outputs → get_or task.inputs k 0 < p
+    plain same =
+        input_above graph t task j k p line (ap (λ qs. place_in qs p) (sym same) ∙ place) lt
+
+    -- X stands above E and above Y, and E above Y
+    peer : (j : ℕ) → j < 2 → get_or (of_peer task) j 0 ≡ p → LooksAt Peer j k
+        → get_or task.inputs 0 0 < get_or task.inputs 1 0 → length task.outputs ≡ 1
         → get_or task.inputs k 0 < p
-    plain kind e same =
-        let P : Kind → Type 0 = λ kind. place_in (signalled_by (record task { kind = kind })) p ≡ Some j in
-        let here : place_in (signalled_by (record task { kind = kind })) p ≡ Some j = subst P e place in
-        input_above graph t task j k p line (ap (λ l. place_in l p) (sym same) ∙ here) lt
+    peer zero few at looks below one =
+        let first : get_or task.inputs k 0 ≡ get_or task.inputs 0 0 =
+        ap (λ i. get_or task.inputs i 0) looks in
+        omega arith
+    peer (suc zero) few at looks below one =
+        let above : get_or task.inputs k 0 < get_or task.outputs 0 0 =
+        line.in_order k 0 lt 0 0 (omega arith) in
+        omega arith
+    peer (suc (suc j)) few at looks below one = absurd (omega arith)
 
     by : (kind : Kind) → task.kind ≡ kind → get_or task.inputs k 0 < p
-    by Source e = plain Source e refl
-    by Fir e = plain Fir e refl
-    by Split e = plain Split e refl
-    by Join e = plain Join e refl
-    by Sink e = plain Sink e refl
+    by Source e = plain (rw e refl)
+    by Fir e = plain (rw e refl)
+    by Split e = plain (rw e refl)
+    by Join e = plain (rw e refl)
+    by Sink e = plain (rw e refl)
     by Peer e =
-        let P : Kind → Type 0 = λ kind. place_in (signalled_by (record task { kind = kind })) p ≡ Some j in
-        let L : Kind → Type 0 = λ kind. LooksAt kind j k in
-        let H : Kind → Type 0 = λ kind. HasEnds kind (length task.inputs) (length task.outputs) in
-        let E : Kind → Type 0 = λ kind. IsExchangeBelow kind task.inputs in
-        let here : place_in (get_or task.inputs 1 0 ∷ get_or task.outputs 0 0 ∷ []) p ≡ Some j = subst P e place in
-        let ends : (length task.inputs ≡ 2) × (length task.outputs ≡ 1) = subst H e line.ends in
-        let below : get_or task.inputs 0 0 < get_or task.inputs 1 0 = subst E e line.exchange in
-        let at = place-at (get_or task.inputs 1 0 ∷ get_or task.outputs 0 0 ∷ []) p j here in
-        peer j at.0 at.1 (subst L e looks) below ends.1
-      where
-        peer : (j : ℕ) → j < 2 → get_or (get_or task.inputs 1 0 ∷ get_or task.outputs 0 0 ∷ []) j 0 ≡ p
-            → LooksAt Peer j k → get_or task.inputs 0 0 < get_or task.inputs 1 0
-            → length task.outputs ≡ 1 → get_or task.inputs k 0 < p
-        peer zero few at looks below one =
-            let first : get_or task.inputs k 0 ≡ get_or task.inputs 0 0 = ap (λ i. get_or task.inputs i 0) looks in
-            omega arith
-        peer (suc zero) few at looks below one =
-            let above : get_or task.inputs k 0 < get_or task.outputs 0 0 = line.in_order k 0 lt 0 0 (omega arith) in
-            omega arith
-        peer (suc (suc j)) few at looks below one = absurd (omega arith)
+        let Looks : Kind → Type 0 = λ kind. LooksAt kind j k in
+        let Ends : Kind → Type 0 = λ kind.
+        HasEnds kind (length task.inputs) (length task.outputs) in
+        let Below : Kind → Type 0 = λ kind. IsExchangeBelow kind task.inputs in
+        let ends : (length task.inputs ≡ 2) × (length task.outputs ≡ 1) =
+        subst Ends e line.ends in
+        let signals : signalled_by task ≡ of_peer task = rw e refl in
+        let at = place-at (of_peer task) p j (ap (λ qs. place_in qs p) (sym signals) ∙ place) in
+        peer j at.0 at.1 (subst Looks e looks) (subst Below e line.exchange) ends.1
 
 -- ---- parents
 
