@@ -18,19 +18,19 @@ use Rattle.std.specs.Fmt.{digits}
 -- ---- how the examples are written
 
 -- a negative number
-abbrev minus : ℕ → ℤ
+abbrev pub minus : ℕ → ℤ
 minus n = neg_ℤ (pos n)
 
-abbrev plain : Op → PhaserLine
+abbrev pub plain : Op → PhaserLine
 plain op = record { op = op; bound = 2; single = None }
 
 abbrev with_single : Op → Single → PhaserLine
 with_single op single = record { op = op; bound = 2; single = Some single }
 
-abbrev source : ℕ → ℕ → Task
+abbrev pub source : ℕ → ℕ → Task
 source line y = record no_task { line = line; kind = Source; outputs = y ∷ [] }
 
-abbrev fir : ℕ → ℕ → ℕ → ℕ → List ℤ → Task
+abbrev pub fir : ℕ → ℕ → ℕ → ℕ → List ℤ → Task
 fir line x y shift taps = record no_task {
   line = line;
   kind = Fir;
@@ -40,13 +40,13 @@ fir line x y shift taps = record no_task {
   shift = shift;
 }
 
-abbrev splitter : ℕ → ℕ → List ℕ → Task
+abbrev pub splitter : ℕ → ℕ → List ℕ → Task
 splitter line x ys = record no_task { line = line; kind = Split; inputs = x ∷ []; outputs = ys }
 
 abbrev joiner : ℕ → List ℕ → ℕ → Task
 joiner line xs y = record no_task { line = line; kind = Join; inputs = xs; outputs = y ∷ [] }
 
-abbrev peer : ℕ → ℕ → ℕ → ℕ → ℤ → Task
+abbrev pub peer : ℕ → ℕ → ℕ → ℕ → ℤ → Task
 peer line x e y mul = record no_task {
   line = line;
   kind = Peer;
@@ -55,28 +55,28 @@ peer line x e y mul = record no_task {
   mul = mul;
 }
 
-abbrev sink : ℕ → ℕ → Task
+abbrev pub sink : ℕ → ℕ → Task
 sink line x = record no_task { line = line; inputs = x ∷ [] }
 
 -- the task, by number p at n
-abbrev added_by : ℕ → ℕ → Task → Task
+abbrev pub added_by : ℕ → ℕ → Task → Task
 added_by p n task = record task { parent = Some (record { task = p; at = n }) }
 
 abbrev stops_at : ℕ → Task → Task
 stops_at n task = record task { until = Some n }
 
-abbrev job_of : List PhaserLine → List Task → List (List ℤ) → Job
+abbrev pub job_of : List PhaserLine → List Task → List (List ℤ) → Job
 job_of phasers tasks samples = record {
   graph = record no_graph { phasers = phasers; tasks = tasks };
   samples = samples;
 }
 
 -- whole numbers from 0 on as samples
-abbrev these : List ℕ → List ℤ
+abbrev pub these : List ℕ → List ℤ
 these ns = map pos ns
 
 -- 2^63 - 1
-abbrev largest : ℤ
+abbrev pub largest : ℤ
 largest = pos 9223372036854775807
 
 -- a graph whose one task is a sink of this name
@@ -86,7 +86,7 @@ with_sink name = record no_graph { names = (name, place.Task 0) ∷ []; tasks = 
 -- ---- the worked graphs
 
 -- no line
-abbrev nothing : Job
+abbrev pub nothing : Job
 nothing =
     job_of
     []
@@ -157,7 +157,7 @@ split_to_one_bus_6-answer : answer_of split_to_one_bus_6
 split_to_one_bus_6-answer = refl
 
 -- the same on one sample more
-abbrev split_to_one_bus_7 : Job
+abbrev pub split_to_one_bus_7 : Job
 split_to_one_bus_7 =
     job_of
     (plain Sum ∷ plain Sum ∷ plain Sum ∷ plain Sum ∷ [])
@@ -178,7 +178,7 @@ split_to_one_bus_7-answer : answer_of split_to_one_bus_7
 split_to_one_bus_7-answer = refl
 
 -- phaser X any / source A a.csv -> X / source B b.csv -> X by A at 2 / sink out X
-abbrev any_hands_over_2 : Job
+abbrev pub any_hands_over_2 : Job
 any_hands_over_2 =
     job_of
     (plain Any ∷ [])
@@ -192,7 +192,7 @@ any_hands_over_2-line : meeting_line any_hands_over_2 ≡ Some 3
 any_hands_over_2-line = refl
 
 -- the same at 3
-abbrev any_hands_over_3 : Job
+abbrev pub any_hands_over_3 : Job
 any_hands_over_3 =
     job_of
     (plain Any ∷ [])
@@ -211,7 +211,7 @@ any_hands_over_3-answer : answer_of any_hands_over_3
 any_hands_over_3-answer = refl
 
 -- the same at 4
-abbrev any_hands_over_4 : Job
+abbrev pub any_hands_over_4 : Job
 any_hands_over_4 =
     job_of
     (plain Any ∷ [])
@@ -229,7 +229,7 @@ any_hands_over_4-answer = refl
 
 -- phasers X, Z, E, P, Q sum / source a a.csv -> X / source b b.csv -> Z
 -- / peer p X <-> E -> P mul 2 / peer q Z <-> E -> Q mul 2 / sink outp P / sink outq Q
-abbrev peers : Job
+abbrev pub peers : Job
 peers =
     job_of
     (plain Sum ∷ plain Sum ∷ plain Sum ∷ plain Sum ∷ plain Sum ∷ [])
@@ -344,7 +344,7 @@ shifted_back-answer : answer_of shifted_back ≡ Ok ((2, these (9223372036854775
 shifted_back-answer = refl
 
 -- the two sources on the largest sample and 1
-abbrev too_big_phase : Job
+abbrev pub too_big_phase : Job
 too_big_phase =
     job_of
     (plain Sum ∷ [])

@@ -4,7 +4,14 @@ mod Examples
 pub mod Firsts
 pub mod FirSteps
 pub mod Given
+pub mod Growing
+mod LawExamples
+pub mod LengthsAbove
+pub mod ListLengths
+pub mod ListsAbove
 pub mod Made
 pub mod Mixing
+pub mod Ordered
 pub mod Sendable
 pub mod Sends
+pub mod SpansAbove

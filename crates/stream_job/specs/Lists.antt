@@ -173,3 +173,16 @@ sink_over job spans lists t =
 -- each sink with its values, in the order of the lines
 abbrev pub lines_of : Job → List (ℕ × List ℤ)
 lines_of job = map (sink_over job (spans_of job) (numbers_of job)) (sinks_of job)
+
+-- ---- where the lists end
+
+-- where a member ends: one past the phase of its last value, or 0 where there is no member
+abbrev pub end_of_member : Option Member → ℕ
+end_of_member None = 0
+end_of_member (Some member) = member.0 + length member.1
+
+-- where each task ends on phaser p, by its values
+abbrev pub ends_on : Job → ℕ → List ℕ
+ends_on job p =
+    map (λ t. end_of_member (member_at job (spans_of job) (numbers_of job) p t))
+    (range_with_len 0 (length job.graph.tasks))

@@ -141,3 +141,7 @@ lengths_of job = lengths_up_to job (length job.graph.phasers)
 -- the span of each task
 abbrev pub spans_of : Job → List Span
 spans_of job = spans_over job (lengths_of job)
+
+-- the span of task number t
+abbrev pub span_in : Job → ℕ → Span
+span_in job t = get_or (spans_of job) t nowhere
