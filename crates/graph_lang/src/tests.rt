@@ -169,6 +169,32 @@ fn each_kind_of_fault_has_its_line(rt: HostRuntime) {
     }
 }
 
+#[test]
+fn other_bytes_are_let_through_in_a_comment_alone(rt: HostRuntime) {
+    for (text, line, kind) in [
+        (
+            "\r\n\t \r\n# \x01\x7f by at\r\nsink s X",
+            4,
+            FaultKind::Unknown,
+        ),
+        ("\r\r", 1, FaultKind::Syntax),
+        ("\x01# none", 1, FaultKind::Syntax),
+        ("phaser X sum 2\r\r\n", 1, FaultKind::Syntax),
+        ("phaser X sum 2\x0c", 1, FaultKind::Syntax),
+        (
+            "phaser now sum 2\nphaser graph sum 2\nsplit block Q -> A A",
+            3,
+            FaultKind::Twice,
+        ),
+    ] {
+        assert_eq!(rt;
+            fault_of(rt.alloc(), text),
+            Some((line, kind)),
+            "at '{text}'"
+        );
+    }
+}
+
 /// The fault of the line `line`, behind the phasers A to I, X and Y.
 fn fault_behind(alloc: Global, line: &str) -> Result<Option<(u64, FaultKind)>, Fail> {
     let mut text = String::new(alloc);

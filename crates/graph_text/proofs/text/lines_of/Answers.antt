@@ -4,5 +4,8 @@ use Rattle.std.proofs.lemmas.Iterator.Splits.{YieldsList-from_slice_split}
 use Rattle.graph_text.specs.Texts.{is_line_feed}
 use Rattle.graph_text.proofs.text.lines_of.Goals as goal
 
+-- the pieces are those of a split
 pub returns : goal.returns
-returns c = map_from_collect _ c.collect.ensures.ran (YieldsList-from_slice_split _ is_line_feed c.args.text.now c.split.ensures.rest c.split.ensures.done c.split.ensures.closure (λ x b q k. search (rules, tests)))
+returns c = map_from_collect _ c.collect.ensures.ran
+    (YieldsList-from_slice_split _ is_line_feed c.args.text.now c.split.ensures.rest
+    c.split.ensures.done c.split.ensures.closure (λ x b q k. search (rules, tests)))
