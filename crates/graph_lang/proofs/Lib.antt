@@ -1,7 +1,12 @@
 mod Alls
 mod Ends
 mod Examples
+mod Grown
 mod Known
+mod NamesKept
+mod NewTask
+mod ReadLines
 mod Readers
 mod Single
 mod Sound
+mod Wellformed

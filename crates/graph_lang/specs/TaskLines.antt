@@ -1,14 +1,20 @@
 -- What holds of each line of a graph that was read.
-use Rattle.std.specs.Prelude.{ℕ, ◌≡◌, ◌<◌, ◌≤◌, List, [], ◌∷◌, ◌++◌, ◌==◌, ◌&&◌, not, length, get_or, ℤ, pos, unsigned_abs, None, IfSome, Bool, true, false}
+use Rattle.std.specs.Prelude.{ℕ, ◌≡◌, ◌<◌, ◌≤◌, List, [], ◌∷◌, ◌++◌, ◌==◌, ◌&&◌, not, length, get_or, ℤ, pos, unsigned_abs, Some, None, IfSome, IsTrue, Bool, true, false}
 use Rattle.std.specs.List.{All, Contains, list_any}
 use Rattle.phase_base.specs.Limits.{IsBound}
+use Rattle.phase_accum.specs.Singles.{CanBeNamed}
 use Rattle.stream_filters.specs.Filter.{AreTaps}
-use Rattle.graph_lang.specs.Graphs.{Task, Graph, task_at, phaser_at, sources_of}
+use Rattle.graph_text.specs.Texts.{Word}
+use Rattle.graph_text.specs.Words.{is_name}
+use Rattle.graph_lang.specs.Graphs.{Task, Graph, IsPlace}
+use Rattle.graph_lang.specs.Graphs.{task_at, phaser_at, name_at, sources_of}
+use Rattle.graph_lang.specs.LineTasks.{place_of}
 use Rattle.graph_lang.specs.declared.limits.TheConstants.{PHASERS_MAX, TASKS_MAX, ENDS_MAX, COUNT_MAX, FACTOR_MAX}
 use Rattle.graph_lang.specs.declared.line.Kind.{Kind}
 use Rattle.graph_lang.specs.declared.line.Kind.TheVariants.{Source, Fir, Split, Join, Peer, Sink}
 use Rattle.graph_lang.specs.declared.line.Parent.{Parent}
 use Rattle.graph_lang.specs.declared.line.PhaserLine.{PhaserLine}
+use Rattle.graph_lang.specs.declared.place.Place.{Place}
 
 -- how many inputs and how many outputs a line of the kind has
 abbrev pub HasEnds : Kind → ℕ → ℕ → Type 0
@@ -84,6 +90,19 @@ pub record IsTaskLine (graph : Graph) (t : ℕ) (task : Task) : Type 0 where
 -- the line of a phaser
 pub record IsPhaserLine (phaser : PhaserLine) : Type 0 where
   pub bound : IsBound phaser.bound
+  -- the ends of a clamp are a range
+  pub single : CanBeNamed phaser.single
+
+-- the names of a graph that was read
+pub record AreNames (graph : Graph) : Type 0 where
+  -- each stands for a phaser or a task
+  pub places : All (λ named. IsPlace graph named.1) graph.names
+  -- what a name stands for has that name, and no other
+  pub found : (name : Word) (at : Place) → place_of graph.names name ≡ Some at
+      → name_at graph at ≡ name
+  -- each phaser and each task has a name of the grammar, which stands for it
+  pub known : (at : Place) → IsPlace graph at → place_of graph.names (name_at graph at) ≡ Some at
+  pub names : (at : Place) → IsPlace graph at → IsTrue (is_name (name_at graph at))
 
 -- what holds of a graph that was read
 pub record IsGraph (graph : Graph) : Type 0 where
@@ -92,3 +111,4 @@ pub record IsGraph (graph : Graph) : Type 0 where
   pub phasers : (p : ℕ) → p < length graph.phasers → IsPhaserLine (phaser_at graph p)
   pub tasks : (t : ℕ) → t < length graph.tasks → IsTaskLine graph t (task_at graph t)
   pub files : length graph.files ≡ sources_of graph
+  pub names : AreNames graph

@@ -1,20 +1,18 @@
-//! What a line adds to the graph.
+//! What words of a line stand for, and the refusal of a line.
 ghost use Rattle.std.specs.Prelude.{◌≡◌, IsTrue, IfOk, IfSome, option_map, true};
 ghost use Rattle.std.specs.Option.{option_map_or};
 ghost use Rattle.graph_text.specs.Plain.{plain};
-ghost use Rattle.graph_text.specs.Decls.{IsWellFormed, IsFunction};
+ghost use Rattle.graph_text.specs.Decls.{IsFunction};
 ghost use Rattle.graph_text.specs.Numbers.{is_nat, nat_value};
-ghost use Rattle.graph_text.specs.Lines.{decl_of, body_of, single_of as function_words, word_of};
-ghost use Rattle.graph_text.specs.declared.line.Line.TheVariants as line;
-ghost use Rattle.graph_lang.specs.LineTasks.{phaser_line, single_of as single_value};
+ghost use Rattle.graph_text.specs.Lines.{body_of, single_of as function_words, word_of};
+ghost use Rattle.graph_lang.specs.LineTasks.{single_of as single_value};
 ghost use Rattle.graph_lang.specs.Faults.{phasers_of};
 ghost use Rattle.graph_lang.specs.Faults.{is_bound_within, is_function_within, is_count_within};
 
 use crate::fault::{FaultKind, GraphFault, GraphRefusal};
-use crate::line::PhaserLine;
 use crate::phasers::{input_words, output_words};
-use crate::within::{count_in, operation_of, single_of};
-use graph_text::{Body, Function, PhaserWords, nat_within};
+use crate::within::{count_in, single_of};
+use graph_text::{Body, Function, nat_within};
 use phase_accum::Single;
 use phase_base::BOUND_MAX;
 use std::alloc::{AllocError, AllocFailed, Global};
@@ -78,21 +76,6 @@ pub(crate) fn bound_in(word: &[u8]) -> u64
     ensures { result ≡ nat_value word.now }
 {
     nat_within(word, BOUND_MAX).unwrap_or(0)
-}
-
-/// The line of a phaser whose numbers are within their limits.
-pub(crate) fn phaser_line(words: PhaserWords<'_>) -> PhaserLine
-    requires line { IsWellFormed (decl_of (line.Phaser words)) }
-    requires bound { IsTrue (is_bound_within words.bound.now) }
-    requires single { IsTrue (option_map_or is_function_within (function_words words.single) true) }
-    ensures { result ≡ phaser_line words.entry.operation.now words.entry.bound.now
-        (function_words words.entry.single) }
-{
-    PhaserLine {
-        op: operation_of(words.operation),
-        bound: bound_in(words.bound),
-        single: single_in(words.single),
-    }
 }
 
 /// The words of all phasers of a task's line.

@@ -1,13 +1,17 @@
 //! Graphs.
-ghost use Rattle.std.specs.Prelude.{◌≡◌, ◌<◌, ◌≤◌, length};
+ghost use Rattle.std.specs.Prelude.{◌≡◌, ◌<◌, ◌≤◌, length, IsTrue, Some};
+ghost use Rattle.graph_text.specs.Words.{is_name};
 ghost use Rattle.graph_lang.specs.Graphs.{Graph as GraphValue, no_graph, IsPlace, sources_of};
 ghost use Rattle.graph_lang.specs.Graphs.{task_at, phaser_at, file_at, name_at, name_among};
 ghost use Rattle.graph_lang.specs.TaskLines.{IsGraph, IsPhaserLine, IsTaskLine};
+ghost use Rattle.graph_lang.specs.LineTasks.{place_of};
 ghost use Rattle.graph_lang.specs.Names.{names_of};
 
+use crate::draft::Draft;
 use crate::limits::{PHASERS_MAX, TASKS_MAX};
 use crate::line::{PhaserLine, TaskLine};
 use crate::place::Place;
+use graph_text::NAME_MAX;
 use indexmap::IndexMap;
 use std::alloc::Global;
 use std::marker::Model;
@@ -40,6 +44,19 @@ impl Model for Graph {
 
 impl Graph {
     ghost use Rattle.graph_lang.specs.Kept.{task_of};
+
+    /// The graph of lines that were read to the last.
+    pub(crate) fn of(draft: Draft) -> Graph
+        requires { IsGraph draft }
+        ensures { result ≡ draft }
+    {
+        Graph {
+            names: draft.names,
+            phasers: draft.phasers,
+            tasks: draft.tasks,
+            files: draft.files,
+        }
+    }
 
     /// Tells how many phasers the graph has, at most `PHASERS_MAX`. It takes no memory.
     pub fn phasers(&self) -> usize
@@ -92,10 +109,13 @@ impl Graph {
         self.files[source].as_str()
     }
 
-    /// Lends the name of a phaser or a task. It takes no memory.
+    /// Lends the name of a phaser or a task, of 1 to `NAME_MAX` bytes. It takes no memory.
     pub fn name(&self, place: Place) -> &str
         requires { IsPlace self.now place }
-        ensures { result.now ≡ name_at self.now place }
+        ensures name { result.now ≡ name_at self.now place }
+        ensures word { IsTrue (is_name result.now) }
+        ensures few { length result.now ≤ NAME_MAX }
+        ensures stands { place_of self.now.names result.now ≡ Some place }
     {
         name_among(&self.names, place)
     }

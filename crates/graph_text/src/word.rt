@@ -91,7 +91,7 @@ pub fn name_text(word: &[u8]) -> &str
     ensures { result.now ≡ word.now }
 {
     match str::from_utf8(word) {
-        Ok(text) => text,
+        Ok(name) => name,
         Err(_) => unreachable!(),
     }
 }
@@ -102,7 +102,7 @@ pub fn file_text(word: &[u8]) -> &str
     ensures { result.now ≡ word.now }
 {
     match str::from_utf8(word) {
-        Ok(text) => text,
+        Ok(file) => file,
         Err(_) => unreachable!(),
     }
 }

@@ -1,0 +1,361 @@
+-- The line of a task that has no fault is a line of the graph.
+use Rattle.std.proofs.Common.{ℕ, suc, ◌≡◌, ◌<◌, ◌≤◌, ◌==◌, ◌&&◌, ◌||◌, not, List, [], ◌∷◌, ◌++◌, length, get_or, Bool, true, false, Option, Some, None, is_some, option_map, IfSome, nat_lt, nat_le, unsigned_abs, refl, sym, ap, ◌∙◌, subst, arith, bytes_eq, ne_eqb, eqb-true, ltb-true, leb-true, All, Contains, inl, inr, ◌⊎◌}
+use Rattle.std.specs.List.{list_all, list_any}
+use Rattle.std.specs.Option.{option_map_or}
+use Rattle.std.proofs.lemmas.Bool.{or_parts, or_from, or_cases, not-true}
+use Rattle.std.proofs.lemmas.List.{length-map, map-append}
+use Rattle.std.proofs.lemmas.List.Elements.{All-weaker, All-map}
+use Rattle.std.proofs.lemmas.List.Sums.{AllPass-from_list_all}
+use Rattle.std.proofs.lemmas.List.Folds.{list_all-append}
+use Rattle.std.proofs.lemmas.Slice.Eq.{bytes_eq-Decides}
+use Rattle.graph_text.specs.Texts.{Word}
+use Rattle.graph_text.specs.Numbers.{nat_value, int_value}
+use Rattle.graph_text.specs.Decls.{task, BodyWords, source, fir, split, join, peer, sink, ByWords, EndWords, IsBody, AreEnds, may_have_parent}
+use Rattle.stream_filters.specs.declared.fir.TheConstants.{TAPS_MAX, TAP_MAX, SHIFT_MAX}
+use Rattle.graph_lang.specs.Graphs.{Graph, Task, Named, IsPlace, task_at, phaser_at}
+use Rattle.graph_lang.specs.LineTasks.{place_of, phaser_number, task_number, phaser_named, task_named, or_zero, numbers_of, parent_of, task_line, kind_of_body, inputs_of, outputs_of, taps_of, shift_of, factor_of}
+use Rattle.graph_lang.specs.Faults.{kind_of, is_body_within, are_ends_within, is_count_within, is_tap_within, phasers_of, are_distinct, is_phaser, is_parent_known, is_in_order, is_exchange_below, may_be_parent, is_among, holds_for, is_plain, is_held}
+use Rattle.graph_lang.specs.TaskLines.{IsTaskLine, IsParent, AreNames, HasEnds, HasTaps, HasFactor, IsExchangeBelow, is_distinct, has_children, AreAmong}
+use Rattle.graph_lang.specs.declared.limits.TheConstants.{TASKS_MAX, ENDS_MAX, COUNT_MAX, FACTOR_MAX}
+use Rattle.graph_lang.specs.declared.line.Kind.{Kind}
+use Rattle.graph_lang.specs.declared.line.Kind.TheVariants as kind
+use Rattle.graph_lang.specs.declared.fault.FaultKind.TheVariants.{Limit, Twice, Unknown, OutBeforeIn, BadParent, NotHeld}
+use Rattle.graph_lang.specs.declared.place.Place.{Place}
+use Rattle.graph_lang.specs.declared.place.Place.TheVariants as place
+use Rattle.graph_lang.proofs.Alls.{both}
+use Rattle.graph_lang.proofs.Sound.{row-passed, not-false, nothing-there}
+use Rattle.graph_lang.proofs.NamesKept.{place_of-All}
+use Rattle.graph_lang.proofs.Grown.{weaken_some}
+
+-- ---- a line without fault
+
+-- what each row of the table says where none of them applies
+pub record IsSound (before : Graph) (name : Word) (body : BodyWords) (ends : EndWords) : Type 0 where
+  pub within : is_body_within body ≡ true
+  pub at : option_map_or (λ by. is_count_within by.at) ends.by true ≡ true
+  pub until : option_map_or is_count_within ends.until true ≡ true
+  pub few : length before.tasks < TASKS_MAX
+  pub absent : place_of before.names name ≡ None
+  pub distinct : are_distinct (phasers_of body) ≡ true
+  pub phasers : list_all (is_phaser before.names) (phasers_of body) ≡ true
+  pub known : is_parent_known before.names ends.by ≡ true
+  pub order : list_all (λ x. list_all (nat_lt x) (numbers_of before.names (outputs_of body)))
+      (numbers_of before.names (inputs_of body)) ≡ true
+  pub exchange : is_exchange_below (kind_of_body body) (numbers_of before.names (inputs_of body))
+      ≡ true
+  pub may : may_be_parent before (option_map (parent_of before.names) ends.by) ≡ true
+  pub plain : list_all (is_plain before) (numbers_of before.names (outputs_of body)) ≡ true
+  pub holds : holds_for before (task_line before.names 0 body ends)
+      (option_map (parent_of before.names) ends.by) ≡ true
+
+pub task-sound : (before : Graph) (name : Word) (body : BodyWords) (ends : EndWords)
+    → kind_of before (task name body ends) ≡ None → IsSound before name body ends
+task-sound before name body ends e =
+    let names = before.names in
+    let line = task_line names 0 body ends in
+    let limit = row-passed
+    (not (is_body_within body && are_ends_within ends && nat_lt (length before.tasks) TASKS_MAX))
+    Limit _ e in
+    let twice = row-passed (is_some (place_of names name) || not (are_distinct (phasers_of body)))
+    Twice _ limit.1 in
+    let unknown = row-passed
+    (not (list_all (is_phaser names) (phasers_of body) && is_parent_known names ends.by))
+    Unknown _ twice.1 in
+    let order = row-passed (not (is_in_order line)) OutBeforeIn _ unknown.1 in
+    let bad = row-passed (not (may_be_parent before line.parent)) BadParent _ order.1 in
+    let held = row-passed (not (is_held before line)) NotHeld _ bad.1 in
+    let room = both (is_body_within body && are_ends_within ends)
+    (nat_lt (length before.tasks) TASKS_MAX) (not-false _ limit.0) in
+    let numbers = both (is_body_within body) (are_ends_within ends) room.0 in
+    let steps = both (option_map_or (λ by. is_count_within by.at) ends.by true)
+    (option_map_or is_count_within ends.until true) numbers.1 in
+    let new = or_parts (is_some (place_of names name)) (not (are_distinct (phasers_of body))) twice.0 in
+    let known = both (list_all (is_phaser names) (phasers_of body)) (is_parent_known names ends.by)
+    (not-false _ unknown.0) in
+    let ordered = both (list_all (λ x. list_all (nat_lt x) line.outputs) line.inputs)
+    (is_exchange_below line.kind line.inputs) (not-false _ order.0) in
+    let holds = both (list_all (is_plain before) line.outputs) (holds_for before line line.parent)
+    (not-false _ held.0) in
+    record {
+      within = numbers.0;
+      at = steps.0;
+      until = steps.1;
+      few = ltb-true (length before.tasks) TASKS_MAX room.1;
+      absent = nothing-there (place_of names name) new.0;
+      distinct = not-false _ new.1;
+      phasers = known.0;
+      known = known.1;
+      order = ordered.0;
+      exchange = ordered.1;
+      may = not-false _ bad.0;
+      plain = holds.0;
+      holds = holds.1;
+    }
+
+-- ---- tests of each item
+
+pub each-passed : {A : Type 0} (test : A → Bool) (Q : A → Type 0) → ((x : A) → test x ≡ true → Q x)
+    → (xs : List A) → list_all test xs ≡ true → All Q xs
+each-passed test Q f xs e =
+    All-weaker (λ x. test x ≡ true) Q f xs (AllPass-from_list_all test xs e)
+
+contains-found : (qs : List ℕ) (p : ℕ) → list_any (λ q. q == p) qs ≡ true → Contains qs p
+contains-found [] p e = let clash : false ≡ true = e in absurd (cc)
+contains-found (q ∷ qs) p e =
+    by (contains-found qs p) (or_cases (q == p) (list_any (λ q. q == p) qs) e)
+  where
+    by : (list_any (λ q. q == p) qs ≡ true → Contains qs p)
+        → ((q == p) ≡ true) ⊎ (list_any (λ q. q == p) qs ≡ true) → Contains (q ∷ qs) p
+    by rest (inl here) = (0, omega arith, eqb-true q p here)
+    by rest (inr later) =
+        let found = rest later in
+        let below = found.1 in
+        (suc found.0, omega (arith, below), found.2)
+
+all-among : (ps qs : List ℕ) → list_all (is_among qs) ps ≡ true → AreAmong ps qs
+all-among ps qs e = each-passed (is_among qs) (Contains qs) (contains-found qs) ps e
+
+-- ---- phasers
+
+-- the number of a phaser's name
+abbrev number_in : List Named → Word → ℕ
+number_in names word = or_zero (phaser_named names word)
+
+phaser-found : (o : Option Place) → is_some (phaser_number o) ≡ true
+    → o ≡ Some (place.Phaser (or_zero (phaser_number o)))
+phaser-found None e = let clash : false ≡ true = e in absurd (cc)
+phaser-found (Some (place.Phaser p)) e = refl
+phaser-found (Some (place.Task t)) e = let clash : false ≡ true = e in absurd (cc)
+
+task-found : (o : Option Place) → is_some (task_number o) ≡ true
+    → o ≡ Some (place.Task (or_zero (task_number o)))
+task-found None e = let clash : false ≡ true = e in absurd (cc)
+task-found (Some (place.Phaser p)) e = let clash : false ≡ true = e in absurd (cc)
+task-found (Some (place.Task t)) e = refl
+
+phaser-below : (before : Graph) → AreNames before → (word : Word)
+    → is_phaser before.names word ≡ true → number_in before.names word < length before.phasers
+phaser-below before are word is =
+    place_of-All (IsPlace before) before.names word (place.Phaser (number_in before.names word))
+    are.places (phaser-found (place_of before.names word) is)
+
+task-below : (before : Graph) → AreNames before → (word : Word)
+    → is_some (task_named before.names word) ≡ true
+    → or_zero (task_named before.names word) < length before.tasks
+task-below before are word is =
+    place_of-All (IsPlace before) before.names word
+    (place.Task (or_zero (task_named before.names word)))
+    are.places (task-found (place_of before.names word) is)
+
+-- two names of one phaser are one name
+same-phaser : (before : Graph) → AreNames before → (word other : Word)
+    → is_phaser before.names word ≡ true → is_phaser before.names other ≡ true
+    → number_in before.names other ≡ number_in before.names word → word ≡ other
+same-phaser before are word other is also same =
+    let Found : ℕ → Type 0 = λ p. place_of before.names other ≡ Some (place.Phaser p) in
+    let there = subst Found same (phaser-found (place_of before.names other) also) in
+    sym (are.found word (place.Phaser (number_in before.names word))
+    (phaser-found (place_of before.names word) is))
+    ∙ are.found other (place.Phaser (number_in before.names word)) there
+
+number-new : (before : Graph) → AreNames before → (word : Word) (words : List Word)
+    → is_phaser before.names word ≡ true → list_all (is_phaser before.names) words ≡ true
+    → list_any (bytes_eq word) words ≡ false
+    → list_any (λ q. q == number_in before.names word) (numbers_of before.names words) ≡ false
+number-new before are word [] is all none = refl
+number-new before are word (other ∷ words) is all none =
+    let first = both (is_phaser before.names other) (list_all (is_phaser before.names) words) all in
+    let apart = or_parts (bytes_eq word other) (list_any (bytes_eq word) words) none in
+    let differ : number_in before.names other ≡ number_in before.names word → ⊥ = λ same.
+    let one : bytes_eq word other ≡ true =
+    (bytes_eq-Decides word other).1 (same-phaser before are word other is first.0 same) in
+    let clash : false ≡ true = sym apart.0 ∙ one in absurd (cc) in
+    or_from (number_in before.names other == number_in before.names word)
+    (list_any (λ q. q == number_in before.names word) (numbers_of before.names words))
+    (ne_eqb (number_in before.names other) (number_in before.names word) differ)
+    (number-new before are word words is first.1 apart.1)
+
+numbers-distinct : (before : Graph) → AreNames before → (words : List Word)
+    → list_all (is_phaser before.names) words ≡ true → are_distinct words ≡ true
+    → is_distinct (numbers_of before.names words) ≡ true
+numbers-distinct before are [] all distinct = refl
+numbers-distinct before are (word ∷ words) all distinct =
+    let first = both (is_phaser before.names word) (list_all (is_phaser before.names) words) all in
+    let apart = both (not (list_any (bytes_eq word) words)) (are_distinct words) distinct in
+    let new = number-new before are word words first.0 first.1 (not-true _ apart.0) in
+    rw new (numbers-distinct before are words first.1 apart.1)
+
+numbers-below : (before : Graph) → AreNames before → (words : List Word)
+    → list_all (is_phaser before.names) words ≡ true
+    → All (λ p. p < length before.phasers) (numbers_of before.names words)
+numbers-below before are words all =
+    All-map (λ p. p < length before.phasers) (number_in before.names) words
+    (each-passed (is_phaser before.names)
+    (λ word. number_in before.names word < length before.phasers) (phaser-below before are) words all)
+
+-- ---- what a kind has
+
+count-ends : (before : List Named) (body : BodyWords) → is_body_within body ≡ true
+    → HasEnds (kind_of_body body) (length (numbers_of before (inputs_of body)))
+    (length (numbers_of before (outputs_of body)))
+count-ends names (source file output) e = (refl, refl)
+count-ends names (fir input output shift taps) e = (refl, refl)
+count-ends names (split input outputs) e =
+    let within = both (nat_le 2 (length outputs)) (nat_le (length outputs) ENDS_MAX) e in
+    let same = length-map outputs (number_in names) in (
+      refl,
+      rw same (leb-true 2 (length outputs) within.0),
+      rw same (leb-true (length outputs) ENDS_MAX within.1),
+    )
+count-ends names (join inputs output) e =
+    let within = both (nat_le 2 (length inputs)) (nat_le (length inputs) ENDS_MAX) e in
+    let same = length-map inputs (number_in names) in (
+      rw same (leb-true 2 (length inputs) within.0),
+      rw same (leb-true (length inputs) ENDS_MAX within.1),
+      refl,
+    )
+count-ends names (peer input exchange output factor) e = (refl, refl)
+count-ends names (sink input) e = (refl, refl)
+
+exchange-below : (k : Kind) (inputs : List ℕ) → is_exchange_below k inputs ≡ true
+    → IsExchangeBelow k inputs
+exchange-below kind.Source inputs e = tt
+exchange-below kind.Fir inputs e = tt
+exchange-below kind.Split inputs e = tt
+exchange-below kind.Join inputs e = tt
+exchange-below kind.Peer inputs e = ltb-true (get_or inputs 0 0) (get_or inputs 1 0) e
+exchange-below kind.Sink inputs e = tt
+
+has-taps : (body : BodyWords) → IsBody body → is_body_within body ≡ true
+    → HasTaps (kind_of_body body) (taps_of body) (shift_of body)
+has-taps (source file output) is e = (refl, refl)
+has-taps (fir input output shift taps) is e =
+    let counts = both (nat_le (nat_value shift) SHIFT_MAX && nat_le (length taps) TAPS_MAX)
+    (list_all is_tap_within taps) e in
+    let limits = both (nat_le (nat_value shift) SHIFT_MAX) (nat_le (length taps) TAPS_MAX)
+    counts.0 in
+    let same = length-map taps int_value in
+    let some = is.3.0 in
+    let few = leb-true (length taps) TAPS_MAX limits.1 in
+    record {
+      some = omega (arith, same, some);
+      few = omega (arith, same, few);
+      small = All-map (λ tap. unsigned_abs tap ≤ 2147483647) int_value taps
+          (each-passed is_tap_within (λ tap. unsigned_abs (int_value tap) ≤ 2147483647)
+          (λ tap. leb-true (unsigned_abs (int_value tap)) TAP_MAX) taps counts.1);
+      shift_small = leb-true (nat_value shift) SHIFT_MAX limits.0;
+    }
+has-taps (split input outputs) is e = (refl, refl)
+has-taps (join inputs output) is e = (refl, refl)
+has-taps (peer input exchange output factor) is e = (refl, refl)
+has-taps (sink input) is e = (refl, refl)
+
+has-factor : (body : BodyWords) → is_body_within body ≡ true
+    → HasFactor (kind_of_body body) (factor_of body)
+has-factor (source file output) e = refl
+has-factor (fir input output shift taps) e = refl
+has-factor (split input outputs) e = refl
+has-factor (join inputs output) e = refl
+has-factor (peer input exchange output factor) e =
+    leb-true (unsigned_abs (int_value factor)) FACTOR_MAX e
+has-factor (sink input) e = refl
+
+has-until : (until : Option Word) → option_map_or is_count_within until true ≡ true
+    → IfSome (option_map nat_value until) (λ steps. steps ≤ COUNT_MAX)
+has-until None e = tt
+has-until (Some steps) e = leb-true (nat_value steps) COUNT_MAX e
+
+-- ---- the parent
+
+parents-are : (body : BodyWords) → may_have_parent body ≡ has_children (kind_of_body body)
+parents-are (source file output) = refl
+parents-are (fir input output shift taps) = refl
+parents-are (split input outputs) = refl
+parents-are (join inputs output) = refl
+parents-are (peer input exchange output factor) = refl
+parents-are (sink input) = refl
+
+pub child-allowed : (allowed : Bool) (by : Option ByWords) (until : Option Word)
+    → AreEnds allowed (record { by = by; until = until }) → IfSome by (λ _. allowed ≡ true)
+child-allowed allowed None until are = tt
+child-allowed true (Some by) until are = refl
+child-allowed false (Some by) until are = let clash : Some by ≡ None = are.0 in absurd (cc)
+
+new-parent : (before : Graph) → AreNames before → (child : Task) (by : Option ByWords)
+    → is_parent_known before.names by ≡ true
+    → option_map_or (λ by. is_count_within by.at) by true ≡ true
+    → may_be_parent before (option_map (parent_of before.names) by) ≡ true
+    → holds_for before child (option_map (parent_of before.names) by) ≡ true
+    → IfSome by (λ _. has_children child.kind ≡ true)
+    → IfSome (option_map (parent_of before.names) by) (IsParent before (length before.tasks) child)
+new-parent before are child None known at may holds allowed = tt
+new-parent before are child (Some by) known at may holds allowed =
+    let above = task_at before (or_zero (task_named before.names by.parent)) in
+    let held = both (list_all (is_among above.inputs) child.inputs)
+    (list_all (is_among above.outputs) child.outputs) holds in
+    record {
+      above = task-below before are by.parent known;
+      steps = leb-true (nat_value by.at) COUNT_MAX at;
+      kind = may;
+      child_kind = allowed;
+      waits = all-among child.inputs above.inputs held.0;
+      signals = all-among child.outputs above.outputs held.1;
+    }
+
+-- ---- the line
+
+-- the number of the line is in no test
+numbered : (before : Graph) (n : ℕ) (body : BodyWords) (ends : EndWords)
+    → IfSome (option_map (parent_of before.names) ends.by)
+    (IsParent before (length before.tasks) (task_line before.names 0 body ends))
+    → IfSome (option_map (parent_of before.names) ends.by)
+    (IsParent before (length before.tasks) (task_line before.names n body ends))
+numbered before n body ends =
+    weaken_some (option_map (parent_of before.names) ends.by)
+    (IsParent before (length before.tasks) (task_line before.names 0 body ends))
+    (IsParent before (length before.tasks) (task_line before.names n body ends))
+    (λ parent is. record {
+      above = is.above;
+      steps = is.steps;
+      kind = is.kind;
+      child_kind = is.child_kind;
+      waits = is.waits;
+      signals = is.signals;
+    })
+
+pub IsTaskLine-new : (before : Graph) (n : ℕ) (name : Word) (body : BodyWords) (ends : EndWords)
+    → AreNames before → IsBody body → AreEnds (may_have_parent body) ends
+    → IsSound before name body ends
+    → IsTaskLine before (length before.tasks) (task_line before.names n body ends)
+IsTaskLine-new before n name body ends are is_body are_ends sound =
+    let names = before.names in
+    let known = both (list_all (is_phaser names) (inputs_of body))
+    (list_all (is_phaser names) (outputs_of body))
+    (sym (list_all-append (is_phaser names) (inputs_of body) (outputs_of body)) ∙ sound.phasers) in
+    let together : numbers_of names (phasers_of body)
+    ≡ numbers_of names (inputs_of body) ++ numbers_of names (outputs_of body) =
+    map-append (number_in names) (inputs_of body) (outputs_of body) in
+    let allowed = weaken_some ends.by (λ _. may_have_parent body ≡ true)
+    (λ _. has_children (kind_of_body body) ≡ true) (λ _ e. sym (parents-are body) ∙ e)
+    (child-allowed (may_have_parent body) ends.by ends.until are_ends) in
+    record {
+      ends = count-ends names body sound.within;
+      inputs = numbers-below before are (inputs_of body) known.0;
+      outputs = numbers-below before are (outputs_of body) known.1;
+      distinct = ap is_distinct (sym together)
+          ∙ numbers-distinct before are (phasers_of body) sound.phasers sound.distinct;
+      in_order = each-passed (λ x. list_all (nat_lt x) (numbers_of names (outputs_of body)))
+          (λ x. All (λ y. x < y) (numbers_of names (outputs_of body)))
+          (λ x. each-passed (nat_lt x) (λ y. x < y) (ltb-true x) (numbers_of names (outputs_of body)))
+          (numbers_of names (inputs_of body)) sound.order;
+      exchange = exchange-below (kind_of_body body) (numbers_of names (inputs_of body)) sound.exchange;
+      plain = each-passed (is_plain before) (λ y. (phaser_at before y).single ≡ None)
+          (λ y e. nothing-there (phaser_at before y).single (not-true _ e))
+          (numbers_of names (outputs_of body)) sound.plain;
+      taps = has-taps body is_body sound.within;
+      factor = has-factor body sound.within;
+      until = has-until ends.until sound.until;
+      parent = numbered before n body ends
+          (new-parent before are (task_line names 0 body ends) ends.by sound.known sound.at sound.may
+          sound.holds allowed);
+    }

@@ -1,0 +1,307 @@
+-- A graph that lines declare is well formed: each line without fault keeps it so.
+use Rattle.std.proofs.Common.{ℕ, ◌≡◌, ◌<◌, ◌≤◌, ◌+◌, ◌&&◌, ◌⊎◌, inl, inr, List, [], ◌∷◌, ◌++◌, length, Bool, true, false, not, cond, if◌then◌else◌, Option, Some, None, Ok, Err, is_some, option_map, nat_lt, nat_le, unsigned_abs, codes, bytes_eq, refl, sym, ap, ◌∙◌, subst, arith, ne_eqb, ltb-true, leb-true}
+use Rattle.std.specs.Option.{option_map_or}
+use Rattle.std.specs.Int.Signed.{le_z, le_z_yes}
+use Rattle.std.proofs.lemmas.Bool.{cases_lt}
+use Rattle.std.proofs.lemmas.List.{get_or_append_left, length_push, length-append}
+use Rattle.std.proofs.lemmas.List.Elements.{All-nil}
+use Rattle.std.proofs.lemmas.List.Sums.{sum_by_push}
+use Rattle.phase_base.specs.declared.limits.TheConstants.{BOUND_MAX}
+use Rattle.phase_accum.specs.Sends.{value_max}
+use Rattle.phase_accum.specs.Singles.{CanBeNamed}
+use Rattle.phase_accum.specs.declared.single.Single.TheVariants as single
+use Rattle.graph_text.specs.Texts.{Word}
+use Rattle.graph_text.specs.Words.{is_name}
+use Rattle.graph_text.specs.Numbers.{nat_value, int_value}
+use Rattle.graph_text.specs.Decls.{Decl, phaser, task, FunctionWords, plain, clamp, BodyWords, source, fir, split, join, peer, sink, EndWords, IsWellFormed}
+use Rattle.graph_lang.specs.Graphs.{Graph, no_graph, no_task, no_phaser, Task, IsPlace, is_same_place, task_at, sources_among, is_source}
+use Rattle.graph_lang.specs.LineTasks.{place_of, phaser_line, plain_single, single_of, task_line, kind_of_body, files_in}
+use Rattle.graph_lang.specs.Faults.{kind_of, is_bound_within, is_function_within}
+use Rattle.graph_lang.specs.TaskLines.{IsGraph, IsPhaserLine, IsTaskLine}
+use Rattle.graph_lang.specs.Reads.{Reads, Steps, with_line, told, fault_at}
+use Rattle.graph_lang.specs.declared.limits.TheConstants.{PHASERS_MAX}
+use Rattle.graph_lang.specs.declared.fault.FaultKind.{FaultKind}
+use Rattle.graph_lang.specs.declared.fault.FaultKind.TheVariants.{Limit, Twice, Syntax}
+use Rattle.graph_lang.specs.declared.place.Place.{Place}
+use Rattle.graph_lang.specs.declared.place.Place.TheVariants as place
+use Rattle.graph_lang.proofs.Alls.{both}
+use Rattle.graph_lang.proofs.Sound.{row-passed, not-false, nothing-there}
+use Rattle.graph_lang.proofs.NamesKept.{AreNames-more, AddsName}
+use Rattle.graph_lang.proofs.Grown.{Grows, IsTaskLine-stays, each-push}
+use Rattle.graph_lang.proofs.NewTask.{IsSound, task-sound, IsTaskLine-new}
+
+-- ---- no line
+
+pub no_graph-is : IsGraph no_graph
+no_graph-is = record {
+  few_phasers = omega arith;
+  few_tasks = omega arith;
+  phasers = λ p below. absurd (omega (arith, below));
+  tasks = λ t below. absurd (omega (arith, below));
+  files = refl;
+  names = record {
+    places = All-nil (λ named. IsPlace no_graph named.1);
+    found = λ name at e. (let clash : None ≡ Some at = e in absurd (cc));
+    known = λ at is. absurd (no_place at is);
+    names = λ at is. absurd (no_place at is);
+  };
+}
+  where
+    no_place : (at : Place) → IsPlace no_graph at → ⊥
+    no_place (place.Phaser p) is = omega (arith, is)
+    no_place (place.Task t) is = omega (arith, is)
+
+-- ---- a phaser
+
+-- what the rows of the table say of a phaser where none of them applies
+record IsSoundPhaser (before : Graph) (name bound : Word) (function : Option FunctionWords) : Type 0 where
+  within : is_bound_within bound ≡ true
+  fits : option_map_or is_function_within function true ≡ true
+  few : length before.phasers < PHASERS_MAX
+  absent : place_of before.names name ≡ None
+
+phaser-sound : (before : Graph) (name operation bound : Word) (function : Option FunctionWords)
+    → kind_of before (phaser name operation bound function) ≡ None
+    → IsSoundPhaser before name bound function
+phaser-sound before name operation bound function e =
+    let fits = is_bound_within bound && option_map_or is_function_within function true in
+    let limit = row-passed (not (fits && nat_lt (length before.phasers) PHASERS_MAX)) Limit _ e in
+    let twice = row-passed (is_some (place_of before.names name)) Twice _ limit.1 in
+    let room = both fits (nat_lt (length before.phasers) PHASERS_MAX) (not-false _ limit.0) in
+    let numbers = both (is_bound_within bound) (option_map_or is_function_within function true)
+    room.0 in
+    record {
+      within = numbers.0;
+      fits = numbers.1;
+      few = ltb-true (length before.phasers) PHASERS_MAX room.1;
+      absent = nothing-there (place_of before.names name) twice.0;
+    }
+
+can-name_plain : (word : Word) → CanBeNamed (Some (plain_single word))
+can-name_plain word = by (bytes_eq word (codes "neg")) (bytes_eq word (codes "abs"))
+  where
+    by : (neg abs : Bool)
+        → CanBeNamed (Some (if neg then single.Neg else if abs then single.Abs else single.Halve))
+    by true abs = tt
+    by false true = tt
+    by false false = tt
+
+can-name : (function : Option FunctionWords)
+    → option_map_or is_function_within function true ≡ true
+    → CanBeNamed (option_map single_of function)
+can-name None e = tt
+can-name (Some (plain word)) e = can-name_plain word
+can-name (Some (clamp low high)) e =
+    let small = nat_le (unsigned_abs (int_value low)) value_max
+    && nat_le (unsigned_abs (int_value high)) value_max in
+    let ordered = both small (le_z (int_value low) (int_value high)) e in
+    let ends = both (nat_le (unsigned_abs (int_value low)) value_max)
+    (nat_le (unsigned_abs (int_value high)) value_max) ordered.0 in
+    record {
+      ordered = le_z_yes (rw ordered.1 tt);
+      low_small = leb-true (unsigned_abs (int_value low)) value_max ends.0;
+      high_small = leb-true (unsigned_abs (int_value high)) value_max ends.1;
+    }
+
+IsPhaserLine-new : (operation bound : Word) (function : Option FunctionWords)
+    → is_bound_within bound ≡ true → option_map_or is_function_within function true ≡ true
+    → IsPhaserLine (phaser_line operation bound function)
+IsPhaserLine-new operation bound function within fits =
+    let limits = both (nat_le 1 (nat_value bound)) (nat_le (nat_value bound) BOUND_MAX) within in
+    record {
+      bound = (leb-true 1 (nat_value bound) limits.0, leb-true (nat_value bound) BOUND_MAX limits.1);
+      single = can-name function fits;
+    }
+
+-- ---- the place of a new phaser or task
+
+-- a number below one more is below, or is the last
+below-or-last : (n m p : ℕ) → m ≡ n + 1 → p < m → (p < n) ⊎ (n ≡ p)
+below-or-last n m p more below = by (cases_lt p n)
+  where
+    by : (p < n) ⊎ (n ≤ p) → (p < n) ⊎ (n ≡ p)
+    by (inl lt) = inl lt
+    by (inr above) = inr (omega (arith, above, below, more))
+
+same_count : (before after : Graph) (at : Place) → length before.phasers ≤ length after.phasers
+    → length before.tasks ≤ length after.tasks → IsPlace before at → IsPlace after at
+same_count before after (place.Phaser p) phasers tasks is = omega (arith, is, phasers)
+same_count before after (place.Task t) phasers tasks is = omega (arith, is, tasks)
+
+among-phasers : (before after : Graph) (at : Place)
+    → length after.phasers ≡ length before.phasers + 1 → length after.tasks ≡ length before.tasks
+    → IsPlace after at → IsPlace before at ⊎ (place.Phaser (length before.phasers) ≡ at)
+among-phasers before after (place.Phaser p) more same is =
+    by (below-or-last (length before.phasers) (length after.phasers) p more is)
+  where
+    by : (p < length before.phasers) ⊎ (length before.phasers ≡ p)
+        → (p < length before.phasers) ⊎ (place.Phaser (length before.phasers) ≡ place.Phaser p)
+    by (inl lt) = inl lt
+    by (inr e) = inr (ap place.Phaser e)
+among-phasers before after (place.Task t) more same is = inl (omega (arith, is, same))
+
+among-tasks : (before after : Graph) (at : Place)
+    → length after.phasers ≡ length before.phasers → length after.tasks ≡ length before.tasks + 1
+    → IsPlace after at → IsPlace before at ⊎ (place.Task (length before.tasks) ≡ at)
+among-tasks before after (place.Phaser p) same more is = inl (omega (arith, is, same))
+among-tasks before after (place.Task t) same more is =
+    by (below-or-last (length before.tasks) (length after.tasks) t more is)
+  where
+    by : (t < length before.tasks) ⊎ (length before.tasks ≡ t)
+        → (t < length before.tasks) ⊎ (place.Task (length before.tasks) ≡ place.Task t)
+    by (inl lt) = inl lt
+    by (inr e) = inr (ap place.Task e)
+
+new-phaser : (before : Graph) (at : Place) → IsPlace before at
+    → is_same_place at (place.Phaser (length before.phasers)) ≡ false
+new-phaser before (place.Phaser p) is =
+    ne_eqb p (length before.phasers) (λ e. omega (arith, is, e))
+new-phaser before (place.Task t) is = refl
+
+new-task : (before : Graph) (at : Place) → IsPlace before at
+    → is_same_place at (place.Task (length before.tasks)) ≡ false
+new-task before (place.Phaser p) is = refl
+new-task before (place.Task t) is = ne_eqb t (length before.tasks) (λ e. omega (arith, is, e))
+
+adds-phaser : (before after : Graph) (name : Word)
+    → after.names ≡ before.names ++ (name, place.Phaser (length before.phasers)) ∷ []
+    → length after.phasers ≡ length before.phasers + 1 → length after.tasks ≡ length before.tasks
+    → AddsName before after name (place.Phaser (length before.phasers))
+adds-phaser before after name names more same = record {
+  names = names;
+  here = omega (arith, more);
+  stays = λ at. same_count before after at (omega (arith, more)) (omega (arith, same));
+  among = λ at. among-phasers before after at more same;
+}
+
+adds-task : (before after : Graph) (name : Word)
+    → after.names ≡ before.names ++ (name, place.Task (length before.tasks)) ∷ []
+    → length after.phasers ≡ length before.phasers → length after.tasks ≡ length before.tasks + 1
+    → AddsName before after name (place.Task (length before.tasks))
+adds-task before after name names same more = record {
+  names = names;
+  here = omega (arith, more);
+  stays = λ at. same_count before after at (omega (arith, same)) (omega (arith, more));
+  among = λ at. among-tasks before after at same more;
+}
+
+-- ---- a line
+
+phaser-keeps : (before : Graph) (n : ℕ) (name operation bound : Word)
+    (function : Option FunctionWords) → is_name name ≡ true
+    → IsSoundPhaser before name bound function → IsGraph before
+    → IsGraph (with_line before n (phaser name operation bound function))
+phaser-keeps before n name operation bound function named sound is =
+    let line = phaser_line operation bound function in
+    let after = with_line before n (phaser name operation bound function) in
+    let long = length_push before.phasers line in
+    let few = sound.few in
+    let grows : Grows before after = record {
+      phasers = omega (arith, long);
+      phaser = λ p below. get_or_append_left before.phasers (line ∷ []) no_phaser p below;
+      task = λ t below. refl;
+    } in
+    record {
+      few_phasers = omega (arith, long, few);
+      few_tasks = is.few_tasks;
+      phasers = each-push before.phasers line no_phaser (λ p line. IsPhaserLine line) is.phasers
+          (IsPhaserLine-new operation bound function sound.within sound.fits);
+      tasks = λ t below. IsTaskLine-stays before after t (task_at before t) grows
+          (omega (arith, below)) (is.tasks t below);
+      files = is.files;
+      names = AreNames-more before after name (place.Phaser (length before.phasers)) is.names
+          (record { is = named; absent = sound.absent; new = new-phaser before })
+          (adds-phaser before after name refl long refl);
+    }
+
+sources-more : (lines : List Task) (line : Task)
+    → sources_among (lines ++ line ∷ []) ≡ sources_among lines + cond (is_source line.kind) 1 0
+sources-more lines line = sum_by_push (λ line. cond (is_source line.kind) 1 0) lines line
+
+files-more : (body : BodyWords)
+    → length (files_in body) ≡ cond (is_source (kind_of_body body)) 1 0
+files-more (source file output) = refl
+files-more (fir input output shift taps) = refl
+files-more (split input outputs) = refl
+files-more (join inputs output) = refl
+files-more (peer input exchange output factor) = refl
+files-more (sink input) = refl
+
+task-keeps : (before : Graph) (n : ℕ) (name : Word) (body : BodyWords) (ends : EndWords)
+    → IsWellFormed (task name body ends) → IsSound before name body ends → IsGraph before
+    → IsGraph (with_line before n (task name body ends))
+task-keeps before n name body ends formed sound is =
+    let line = task_line before.names n body ends in
+    let after = with_line before n (task name body ends) in
+    let long = length_push before.tasks line in
+    let few = sound.few in
+    let grows : Grows before after = record {
+      phasers = omega arith;
+      phaser = λ p below. refl;
+      task = λ t below. get_or_append_left before.tasks (line ∷ []) no_task t below;
+    } in
+    let new = IsTaskLine-new before n name body ends is.names formed.1 formed.2 sound in
+    record {
+      few_phasers = is.few_phasers;
+      few_tasks = omega (arith, long, few);
+      phasers = is.phasers;
+      tasks = each-push before.tasks line no_task (IsTaskLine after)
+          (λ t below. IsTaskLine-stays before after t (task_at before t) grows (omega (arith, below))
+          (is.tasks t below))
+          (IsTaskLine-stays before after (length before.tasks) line grows (omega arith) new);
+      files = length-append before.files (files_in body)
+          ∙ ap (λ n. n + length (files_in body)) is.files
+          ∙ ap (λ n. sources_among before.tasks + n) (files-more body)
+          ∙ sym (sources-more before.tasks line);
+      names = AreNames-more before after name (place.Task (length before.tasks)) is.names
+          (record { is = formed.0; absent = sound.absent; new = new-task before })
+          (adds-task before after name refl refl long);
+    }
+
+-- a line without fault keeps it
+pub line-keeps : (before : Graph) (n : ℕ) (d : Decl) → IsWellFormed d → kind_of before d ≡ None
+    → IsGraph before → IsGraph (with_line before n d)
+line-keeps before n (phaser name operation bound function) formed e is =
+    phaser-keeps before n name operation bound function formed.0
+    (phaser-sound before name operation bound function e) is
+line-keeps before n (task name body ends) formed e is =
+    task-keeps before n name body ends formed (task-sound before name body ends e) is
+
+-- ---- lines
+
+told-keeps : (before after : Graph) (n : ℕ) (d : Decl) (fault : Option FaultKind)
+    → kind_of before d ≡ fault → IsWellFormed d → IsGraph before
+    → Ok after ≡ told n before d fault → IsGraph after
+told-keeps before after n d (Some kind) e formed is told =
+    let clash : Ok after ≡ fault_at n kind = told in absurd (cc)
+told-keeps before after n d None e formed is told =
+    let same : Ok after ≡ Ok (with_line before n d) = told in
+    let one : after ≡ with_line before n d = cc in
+    subst IsGraph (sym one) (line-keeps before n d formed e is)
+
+step-keeps : (n : ℕ) (before : Graph) (line : List ℕ) (after : Graph)
+    → Steps n before line (Ok after) → IsGraph before → IsGraph after
+step-keeps n before line after (inl (ignored, e)) is =
+    let same : Ok after ≡ Ok before = e in
+    let one : after ≡ before = cc in
+    subst IsGraph (sym one) is
+step-keeps n before line after (inr (inl (words, none, e))) is =
+    let clash : Ok after ≡ fault_at n Syntax = e in absurd (cc)
+step-keeps n before line after (inr (inr (words, d, declares, e))) is =
+    told-keeps before after n d (kind_of before d) refl declares.spells.well_formed is e
+
+pub reads-keep : (n : ℕ) (before : Graph) (lines : List (List ℕ)) (graph : Graph)
+    → Reads n before lines (Ok graph) → IsGraph before → IsGraph graph
+reads-keep n before [] graph reads is =
+    let same : Ok graph ≡ Ok before = reads in
+    let one : graph ≡ before = cc in
+    subst IsGraph (sym one) is
+reads-keep n before (line ∷ lines) graph (inl (f, stops, e)) is =
+    let clash : Ok graph ≡ Err f = e in absurd (cc)
+reads-keep n before (line ∷ lines) graph (inr (after, steps, reads)) is =
+    reads-keep (n + 1) after lines graph reads (step-keeps n before line after steps is)
+
+-- the graph that lines declare
+pub reads_give_graph : (lines : List (List ℕ)) (graph : Graph)
+    → Reads 1 no_graph lines (Ok graph) → IsGraph graph
+reads_give_graph lines graph reads = reads-keep 1 no_graph lines graph reads no_graph-is
