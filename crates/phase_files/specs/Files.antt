@@ -1,6 +1,7 @@
 -- What is known of a file beforehand: its bytes, or nothing.
-use Rattle.std.specs.Prelude.{ℕ, ◌≡◌, ◌<◌, ◌≤◌, List, length, ⊤, None, Some}
+use Rattle.std.specs.Prelude.{ℕ, ℤ, ◌≡◌, ◌<◌, ◌≤◌, List, length, ⊤, None, Some}
 use Rattle.std.specs.declared.option.Option.{Option}
+use Rattle.sample_text.specs.Samples.{AreShortSamples, IsBadShortSample}
 
 -- the text is that of the file, where that is known
 abbrev pub HasBytes : Option (List ℕ) → List ℕ → Type 0
@@ -16,3 +17,15 @@ MayBeRefused limit (Some bytes) = limit < length bytes
 abbrev pub MayNeedMemory : ℕ → Option (List ℕ) → Type 0
 MayNeedMemory limit None = ⊤
 MayNeedMemory limit (Some bytes) = length bytes ≤ limit
+
+-- the values are the samples of the file's text, or of some text where nothing is known of the file
+pub record AreSamplesOf (known : Option (List ℕ)) (values : List ℤ) : Type 0 where
+  pub text : List ℕ
+  pub bytes : HasBytes known text
+  pub samples : AreShortSamples values text
+
+-- record number n is the first of such a text that is not of a value
+pub record HasBadSample (known : Option (List ℕ)) (n : ℕ) : Type 0 where
+  pub text : List ℕ
+  pub bytes : HasBytes known text
+  pub bad : IsBadShortSample n text

@@ -1,7 +1,7 @@
 //! Samples in files.
 ghost use Rattle.std.specs.Prelude.{◌≡◌, ◌≤◌, ℕ, List, length, IfOk, IfSome, IsErrOf};
 ghost use Rattle.phase_accum.specs.Sends.{AreSends};
-ghost use Rattle.phase_files.specs.Files.{MayBeRefused, MayNeedMemory};
+ghost use Rattle.phase_files.specs.Files.{AreSamplesOf, HasBadSample, MayBeRefused, MayNeedMemory};
 ghost use Rattle.sample_text.specs.Samples.{AreShortSamples, IsBadShortSample};
 
 use crate::{FileFault, Files};
@@ -24,6 +24,12 @@ pub fn read_sample_file<F: Files>(
 
     ensures bad { (n : ℕ) → IsErrOf result (SampleFault.BadSample n)
         → IfSome (F.file files.old name.now) (IsBadShortSample n) }
+
+    // The same where the file's bytes are not known beforehand: some text was read.
+    ensures all { IfOk result (λ values. AreSamplesOf (F.file files.old name.now) values.items) }
+
+    ensures all_bad { (n : ℕ) → IsErrOf result (SampleFault.BadSample n)
+        → HasBadSample (F.file files.old name.now) n }
 
     ensures read { IsErrOf result SampleFault.ReadFault
         → MayBeRefused TEXT_MAX (F.file files.old name.now) }

@@ -1,1 +1,2 @@
+pub mod GraphRuns
 pub mod Statuses

@@ -36,7 +36,11 @@ HasCause WriteFault unread rest before after read_old read_new write_old write_n
 HasCause OutOfMemory unread rest before after read_old read_new write_old write_new =
     ReadsWithin unread rest before after × (read_new ≡ read_old) × (write_new ≡ write_old)
 
--- the fault stream grew by the fault's line, or, where a write to it failed, by a prefix of that
-pub record Reports (fault : ReplayFault) (failed : Bool) (old new : Option (List ℕ)) : Type 0 where
-  pub whole : (failed ≡ true) ⊎ Appends old new (fault_line fault)
-  pub prefix : AppendsPrefix old new (fault_line fault)
+-- a stream grew by the line, or, where a write to it failed, by a prefix of that
+pub record Says (line : List ℕ) (failed : Bool) (old new : Option (List ℕ)) : Type 0 where
+  pub whole : (failed ≡ true) ⊎ Appends old new line
+  pub prefix : AppendsPrefix old new line
+
+-- the same of the fault stream and the fault's line
+abbrev pub Reports : ReplayFault → Bool → Option (List ℕ) → Option (List ℕ) → Type 0
+Reports fault failed old new = Says (fault_line fault) failed old new

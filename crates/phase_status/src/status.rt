@@ -7,13 +7,19 @@ use phase_replay::ReplayFault;
 use std::io::Write;
 use watched_io::Watched;
 
-/// The script was replayed, or help was shown.
+/// What was asked for is done, or help was shown.
 pub const DONE: u8 = 0;
+
+/// A graph or its samples are refused.
+pub const GRAPH_REFUSED: u8 = 1;
 
 /// The words were not understood.
 pub const REFUSED: u8 = 2;
 
-/// A read or a write failed, the script is too long, or memory ran out.
+/// A value of a graph is out of range.
+pub const TOO_BIG: u8 = 3;
+
+/// A read or a write failed, a script or a file is too long, or memory ran out.
 pub const FAILED: u8 = 5;
 
 /// Writes a fault's line, and answers the status after a fault.

@@ -1,0 +1,98 @@
+//! A check and an evaluation of a graph, and the reports of their faults.
+ghost use Rattle.std.specs.Prelude.{◌≡◌, ◌≢◌, ◌⊎◌, true, OnOk, OnErr};
+ghost use Rattle.std.specs.Io.KnownBytes.{Appends};
+ghost use Rattle.phase_status.specs.GraphRuns.{Checks, Evaluates, Stops, check_line};
+ghost use Rattle.watched_io.specs.Watched.{has_failed_of, inner_of};
+
+use crate::graph_faults::{report_job_fault, report_too_big};
+use crate::parts::write_parts;
+use crate::status::{DONE, report};
+use graph_files::{JobFault, read_job};
+use graph_lang::Graph;
+use itoa::Buffer;
+use phase_files::Files;
+use phase_replay::ReplayFault;
+use std::alloc::Global;
+use std::io::Write;
+use stream_job::{EvalFault, eval};
+use stream_lines::write_lines;
+use watched_io::{Watched, WriteFailed};
+
+/// Reads a graph and the samples of its sources, and answers the exit status: 0, with how many
+/// phasers and tasks there are on the output; 1 where the graph or the samples are refused; or 5
+/// after a fault. The line of a refusal or a fault goes to the fault stream.
+pub fn check_and_report<W: Write, E: Write, F: Files>(
+    alloc: Global,
+    name: &str,
+    output: &mut Watched<W>,
+    faults: &mut Watched<E>,
+    files: &mut F,
+) -> u8
+    ensures status { (result ≡ 0) ⊎ ((result ≡ 1) ⊎ (result ≡ 5)) }
+    ensures done { result ≡ 0 → Checks (F.file files.old) name.now
+        (W.contents (inner_of output.old)) (W.contents (inner_of output.new)) }
+    ensures silent { result ≡ 1 → output.new ≡ output.old }
+    ensures quiet { result ≡ 0 → faults.new ≡ faults.old }
+    ensures fault { result ≢ 0 → Stops (F.file files.old) name.now (has_failed_of output.new)
+        result (has_failed_of faults.new)
+        (E.contents (inner_of faults.old)) (E.contents (inner_of faults.new)) }
+{
+    let job = match read_job(alloc, files, name) {
+        Ok(job) => job,
+        Err(fault) => return report_job_fault(&fault, faults),
+    };
+    match write_counts(job.graph(), output) {
+        Ok(()) => DONE,
+        Err(_) => report(ReplayFault::WriteFault, faults),
+    }
+}
+
+/// Writes how many phasers and tasks there are.
+fn write_counts<W: Write>(graph: &Graph, output: &mut Watched<W>) -> Result<(), WriteFailed>
+    ensures ok { OnOk result (Appends (W.contents (inner_of output.old))
+        (W.contents (inner_of output.new)) (check_line graph.now)) }
+    ensures failed { OnErr result (has_failed_of output.new ≡ true) }
+{
+    let mut phasers = Buffer::new();
+    let mut tasks = Buffer::new();
+    let phasers = phasers.format(graph.phasers());
+    let tasks = tasks.format(graph.tasks());
+    let parts = ["ok phasers ", phasers, " tasks ", tasks, "\n"];
+    write_parts(parts.as_slice(), output)
+}
+
+/// Evaluates a graph on the samples of its sources, and answers the exit status: 0, with the lists
+/// of its sinks on the output; 1 where the graph or the samples are refused; 3 where a value is out
+/// of range; or 5 after a fault. The line of a refusal or a fault goes to the fault stream.
+pub fn eval_and_report<W: Write, E: Write, F: Files>(
+    alloc: Global,
+    name: &str,
+    output: &mut Watched<W>,
+    faults: &mut Watched<E>,
+    files: &mut F,
+) -> u8
+    ensures status { (result ≡ 0) ⊎ ((result ≡ 1) ⊎ ((result ≡ 3) ⊎ (result ≡ 5))) }
+    ensures done { result ≡ 0 → Evaluates (F.file files.old) name.now
+        (W.contents (inner_of output.old)) (W.contents (inner_of output.new)) }
+    ensures silent { (result ≡ 1) ⊎ (result ≡ 3) → output.new ≡ output.old }
+    ensures quiet { result ≡ 0 → faults.new ≡ faults.old }
+    ensures fault { result ≢ 0 → Stops (F.file files.old) name.now (has_failed_of output.new)
+        result (has_failed_of faults.new)
+        (E.contents (inner_of faults.old)) (E.contents (inner_of faults.new)) }
+{
+    let job = match read_job(alloc, files, name) {
+        Ok(job) => job,
+        Err(fault) => return report_job_fault(&fault, faults),
+    };
+    let lines = match eval(alloc, &job) {
+        Ok(lines) => lines,
+        Err(EvalFault::TooBig { place, phase }) => {
+            return report_too_big(job.graph(), place, phase, faults);
+        }
+        Err(EvalFault::OutOfMemory) => return report_job_fault(&JobFault::OutOfMemory, faults),
+    };
+    match write_lines(output, job.graph(), &lines) {
+        Ok(()) => DONE,
+        Err(_) => report(ReplayFault::WriteFault, faults),
+    }
+}

@@ -1,0 +1,36 @@
+//! Lines that are written part by part.
+ghost use Rattle.std.specs.Prelude.{◌≡◌, true, OnOk, OnErr};
+ghost use Rattle.std.specs.Io.KnownBytes.{Appends};
+ghost use Rattle.std.specs.List.{flat_map};
+ghost use Rattle.phase_status.specs.Statuses.{Says};
+ghost use Rattle.watched_io.specs.Prefix.{AppendsPrefix};
+ghost use Rattle.watched_io.specs.Watched.{has_failed_of, inner_of};
+
+use std::io::Write;
+use watched_io::{Watched, WriteFailed};
+
+/// Writes the parts, one behind the other.
+pub(crate) fn write_parts<W: Write>(
+    parts: &[&str],
+    writer: &mut Watched<W>,
+) -> Result<(), WriteFailed>
+    ensures ok { OnOk result (Appends (W.contents (inner_of writer.old))
+        (W.contents (inner_of writer.new)) (flat_map (λ part. part.now) parts.now)) }
+    ensures err { OnErr result (AppendsPrefix (W.contents (inner_of writer.old))
+        (W.contents (inner_of writer.new)) (flat_map (λ part. part.now) parts.now)) }
+    ensures failed { OnErr result (has_failed_of writer.new ≡ true) }
+    ensures kept { OnOk result (has_failed_of writer.new ≡ has_failed_of writer.old) }
+{
+    for part in parts {
+        writer.send(part.as_bytes())?;
+    }
+    Ok(())
+}
+
+/// Tells a line, by its parts. Where a write fails there is nobody to be told.
+pub(crate) fn say<E: Write>(parts: &[&str], faults: &mut Watched<E>)
+    ensures { Says (flat_map (λ part. part.now) parts.now) (has_failed_of faults.new)
+        (E.contents (inner_of faults.old)) (E.contents (inner_of faults.new)) }
+{
+    let _ = write_parts(parts, faults);
+}
