@@ -1,0 +1,6 @@
+pub mod Keeping
+pub mod Giving
+pub mod Opening
+pub mod Signalling
+pub mod Waiting
+pub mod Registering

@@ -1,0 +1,184 @@
+use Rattle.std.proofs.Common.{◌≡◌, ℤ, List, [], ◌∷◌, Some, None, Ok, Err, true, false, not, sym, subst, ap, refl, ◌∙◌}
+use Rattle.std.specs.Prelude.{is_some}
+use Rattle.std.proofs.lemmas.Bool.{not-true, not_from_false}
+use Rattle.turn_lock.specs.Seats.{lock_name, seat_view, seat_number, turn_view, turn_value, turn_number}
+use Rattle.phase_history.specs.Histories.{History, members_of}
+use Rattle.phase_base.specs.Members.{entry_of}
+use Rattle.phase_history.specs.declared.event.Event.TheVariants.{Dropped, Waited}
+use Rattle.phase_core.specs.Cores.{CoreState, StandsFor}
+use Rattle.phase_history.specs.Replies.{wait_reply, after_wait}
+use Rattle.phase_shared.specs.Views.{resting, front_of, speaks_of}
+use Rattle.phase_shared.specs.Rule.{IsGoodAt, StandsWithin}
+use Rattle.phase_shared.specs.Calls.{gets_value}
+use Rattle.phase_shared.specs.declared.rule.View.{View}
+use Rattle.phase_shared.proofs.Giving.{gives_event, gives_same, station, lent, plain_event, PlainEvent}
+use Rattle.phase_shared.proofs.Waiting.{after_value, after_ended, member_after_wait}
+use Rattle.phase_shared.proofs.steps.wait.Goals as goal
+
+pub unreachable-requires : goal.unreachable-requires
+unreachable-requires g c =
+    let op = g.A.Accumulate.operation in
+    let allows = g.K.SignalRule.allows in
+    let terms = lock_name c.args.lock.now in
+    let turn = c.in-Ok.turn in
+    let e = c.in-Ok.ensures.took in
+    let old = c.value-core.result.now in
+    let before : StandsWithin op terms.limits old e.now = lent op allows terms c.args.me (turn_value turn) old e.now c.value-core.ensures.value e.stands in
+    let some : is_some c.view.result ≡ true = ap (λ o. is_some o) c.view.ensures ∙ member_after_wait op c.wait-answer.new.self c.wait-answer.result c.args.me e.now
+    (c.wait-answer.ensures.after e.now before.stands) (ap (λ o. is_some o) e.member) in
+    absurd (let z : false ≡ true = sym (ap (λ o. is_some o) c.in_default.is) ∙ some in cc)
+
+pub put_back-requires-clause-rule : goal.put_back-requires-clause-rule
+put_back-requires-clause-rule g c =
+    let op = g.A.Accumulate.operation in
+    let allows = g.K.SignalRule.allows in
+    let terms = lock_name c.args.lock.now in
+    let turn = c.in-Ok.turn in
+    let e = c.in-Ok.ensures.took in
+    let old = c.value-core.result.now in
+    let before : StandsWithin op terms.limits old e.now = lent op allows terms c.args.me (turn_value turn) old e.now c.value-core.ensures.value e.stands in
+    let valued : gets_value c.in-Ok-answer.got ≡ true = sym c.is_value.ensures ∙ c.if-not-is_value.false in
+    let after : StandsFor op c.wait-answer.new.self (Waited c.args.me 1 ∷ e.now) =
+    subst (λ (h : History). StandsFor op c.wait-answer.new.self h) (after_value c.in-Ok-answer.got c.args.me e.now valued) (c.in-Ok-answer.ensures.after e.now before.stands) in
+    let s : PlainEvent op allows terms c.args.me e.now c.wait-answer.new.self (Waited c.args.me 1) =
+    plain_event op allows terms c.args.me e.now old c.wait-answer.new.self (Waited c.args.me 1) e.good before c.in-Ok-answer.ensures.limits after e.good.keeps in
+    gives_event op allows terms c.args.me (λ v w. w ≡ resting (Waited c.args.me 1 ∷ (front_of v).seen) (speaks_of v))
+    (turn_number turn) c.wait-answer.new.self (turn_view turn) e.now (Waited c.args.me 1) e.is e.used (λ t. refl) (λ t. refl) s.good s.stands refl
+
+pub give-requires-clause-rule : goal.give-requires-clause-rule
+give-requires-clause-rule g c =
+    let op = g.A.Accumulate.operation in
+    let allows = g.K.SignalRule.allows in
+    let terms = lock_name c.args.lock.now in
+    let turn = c.in-Ok.turn in
+    let e = c.in-Ok.ensures.took in
+    let old = c.value-core.result.now in
+    let before : StandsWithin op terms.limits old e.now = lent op allows terms c.args.me (turn_value turn) old e.now c.value-core.ensures.value e.stands in
+    let valued : gets_value c.in-Ok-answer.got ≡ false = sym c.is_value.ensures ∙ c.if-not-is_value.true in
+    let after : StandsWithin op terms.limits c.wait-answer.new.self e.now = record {
+      stands = subst (λ (h : History). StandsFor op c.wait-answer.new.self h) (after_ended c.in-Ok-answer.got c.args.me e.now valued) (c.in-Ok-answer.ensures.after e.now before.stands);
+      limits_are = c.in-Ok-answer.ensures.limits ∙ before.limits_are;
+    } in
+    gives_same op allows terms c.args.me (turn_number turn) c.wait-answer.new.self (turn_view turn) e.now e.is e.used e.good after
+
+pub give-requires-in-Err-answer-clause-rule : goal.give-requires-in-Err-answer-clause-rule
+give-requires-in-Err-answer-clause-rule g c =
+    let op = g.A.Accumulate.operation in
+    let allows = g.K.SignalRule.allows in
+    let terms = lock_name c.args.lock.now in
+    let turn = c.in-Ok.turn in
+    let e = c.in-Ok.ensures.took in
+    let old = c.value-core.result.now in
+    let before : StandsWithin op terms.limits old e.now = lent op allows terms c.args.me (turn_value turn) old e.now c.value-core.ensures.value e.stands in
+    let after : StandsWithin op terms.limits c.wait-answer.new.self e.now = subst (λ (z : CoreState g.row.A.Denot). StandsWithin op terms.limits z e.now) (sym c.in-Err-answer.ensures.err) before in
+    gives_same op allows terms c.args.me (turn_number turn) c.wait-answer.new.self (turn_view turn) e.now e.is e.used e.good after
+
+pub returns-in-Err-answer-clause-at : goal.returns-in-Err-answer-clause-at
+returns-in-Err-answer-clause-at g c =
+    let op = g.A.Accumulate.operation in
+    let allows = g.K.SignalRule.allows in
+    let terms = lock_name c.args.lock.now in
+    let turn = c.in-Ok.turn in
+    let e = c.in-Ok.ensures.took in
+    let old = c.value-core.result.now in
+    let before : StandsWithin op terms.limits old e.now = lent op allows terms c.args.me (turn_value turn) old e.now c.value-core.ensures.value e.stands in
+    let after : StandsWithin op terms.limits c.wait-answer.new.self e.now = subst (λ (z : CoreState g.row.A.Denot). StandsWithin op terms.limits z e.now) (sym c.in-Err-answer.ensures.err) before in
+    station op allows terms c.args.me c.in-Some.entry (seat_view c.give-in-Err-answer.result) e.now c.wait-answer.new.self c.view.result
+    (c.give-in-Err-answer.ensures.rule ∙ ap (λ (v : View). resting (front_of v).seen (speaks_of v)) e.is)
+    e.good after c.view.ensures c.in-Some.is
+
+pub returns-in-Err-answer-clause-call : goal.returns-in-Err-answer-clause-call
+returns-in-Err-answer-clause-call g c =
+    let op = g.A.Accumulate.operation in
+    let allows = g.K.SignalRule.allows in
+    let terms = lock_name c.args.lock.now in
+    let turn = c.in-Ok.turn in
+    let e = c.in-Ok.ensures.took in
+    let old = c.value-core.result.now in
+    let before : StandsWithin op terms.limits old e.now = lent op allows terms c.args.me (turn_value turn) old e.now c.value-core.ensures.value e.stands in
+    record {
+      before = e.now;
+      others = e.others;
+      seen = ap (λ (v : View). (front_of v).seen) c.give-in-Err-answer.ensures.rule ∙ ap (λ (v : View). (front_of v).seen) e.is;
+      reply = ap (λ l. wait_reply op.value l e.now c.args.me) (sym before.limits_are) ∙ c.in-Err-answer.ensures.reply e.now before.stands;
+    }
+
+pub returns-else-not-is_value-clause-at : goal.returns-else-not-is_value-clause-at
+returns-else-not-is_value-clause-at g c =
+    let op = g.A.Accumulate.operation in
+    let allows = g.K.SignalRule.allows in
+    let terms = lock_name c.args.lock.now in
+    let turn = c.in-Ok.turn in
+    let e = c.in-Ok.ensures.took in
+    let old = c.value-core.result.now in
+    let before : StandsWithin op terms.limits old e.now = lent op allows terms c.args.me (turn_value turn) old e.now c.value-core.ensures.value e.stands in
+    let valued : gets_value c.in-Ok-answer.got ≡ true = sym c.is_value.ensures ∙ c.if-not-is_value.false in
+    let after : StandsFor op c.wait-answer.new.self (Waited c.args.me 1 ∷ e.now) =
+    subst (λ (h : History). StandsFor op c.wait-answer.new.self h) (after_value c.in-Ok-answer.got c.args.me e.now valued) (c.in-Ok-answer.ensures.after e.now before.stands) in
+    let s : PlainEvent op allows terms c.args.me e.now c.wait-answer.new.self (Waited c.args.me 1) =
+    plain_event op allows terms c.args.me e.now old c.wait-answer.new.self (Waited c.args.me 1) e.good before c.in-Ok-answer.ensures.limits after e.good.keeps in
+    station op allows terms c.args.me c.in-Some.entry (seat_view c.put_back.result) (Waited c.args.me 1 ∷ e.now) c.wait-answer.new.self c.view.result
+    (c.put_back.ensures.rule ∙ ap (λ (v : View). resting (Waited c.args.me 1 ∷ (front_of v).seen) (speaks_of v)) e.is)
+    s.good s.stands c.view.ensures c.in-Some.is
+
+pub returns-else-not-is_value-clause-call : goal.returns-else-not-is_value-clause-call
+returns-else-not-is_value-clause-call g c =
+    let op = g.A.Accumulate.operation in
+    let allows = g.K.SignalRule.allows in
+    let terms = lock_name c.args.lock.now in
+    let turn = c.in-Ok.turn in
+    let e = c.in-Ok.ensures.took in
+    let old = c.value-core.result.now in
+    let before : StandsWithin op terms.limits old e.now = lent op allows terms c.args.me (turn_value turn) old e.now c.value-core.ensures.value e.stands in
+    let valued : gets_value c.in-Ok-answer.got ≡ true = sym c.is_value.ensures ∙ c.if-not-is_value.false in
+    let after : StandsFor op c.wait-answer.new.self (Waited c.args.me 1 ∷ e.now) =
+    subst (λ (h : History). StandsFor op c.wait-answer.new.self h) (after_value c.in-Ok-answer.got c.args.me e.now valued) (c.in-Ok-answer.ensures.after e.now before.stands) in
+    let s : PlainEvent op allows terms c.args.me e.now c.wait-answer.new.self (Waited c.args.me 1) =
+    plain_event op allows terms c.args.me e.now old c.wait-answer.new.self (Waited c.args.me 1) e.good before c.in-Ok-answer.ensures.limits after e.good.keeps in
+    record {
+      before = e.now;
+      others = e.others;
+      seen = ap (λ (v : View). (front_of v).seen) c.put_back.ensures.rule ∙ ap (λ (v : View). Waited c.args.me 1 ∷ (front_of v).seen) e.is
+          ∙ sym (after_value c.in-Ok-answer.got c.args.me e.now valued);
+      reply = ap (λ l. wait_reply op.value l e.now c.args.me) (sym before.limits_are) ∙ c.in-Ok-answer.ensures.reply e.now before.stands;
+    }
+
+pub returns-then-not-is_value-clause-at : goal.returns-then-not-is_value-clause-at
+returns-then-not-is_value-clause-at g c =
+    let op = g.A.Accumulate.operation in
+    let allows = g.K.SignalRule.allows in
+    let terms = lock_name c.args.lock.now in
+    let turn = c.in-Ok.turn in
+    let e = c.in-Ok.ensures.took in
+    let old = c.value-core.result.now in
+    let before : StandsWithin op terms.limits old e.now = lent op allows terms c.args.me (turn_value turn) old e.now c.value-core.ensures.value e.stands in
+    let valued : gets_value c.in-Ok-answer.got ≡ false = sym c.is_value.ensures ∙ c.if-not-is_value.true in
+    let after : StandsWithin op terms.limits c.wait-answer.new.self e.now = record {
+      stands = subst (λ (h : History). StandsFor op c.wait-answer.new.self h) (after_ended c.in-Ok-answer.got c.args.me e.now valued) (c.in-Ok-answer.ensures.after e.now before.stands);
+      limits_are = c.in-Ok-answer.ensures.limits ∙ before.limits_are;
+    } in
+    station op allows terms c.args.me c.in-Some.entry (seat_view c.give.result) e.now c.wait-answer.new.self c.view.result
+    (c.give.ensures.rule ∙ ap (λ (v : View). resting (front_of v).seen (speaks_of v)) e.is)
+    e.good after c.view.ensures c.in-Some.is
+
+pub returns-then-not-is_value-clause-call : goal.returns-then-not-is_value-clause-call
+returns-then-not-is_value-clause-call g c =
+    let op = g.A.Accumulate.operation in
+    let allows = g.K.SignalRule.allows in
+    let terms = lock_name c.args.lock.now in
+    let turn = c.in-Ok.turn in
+    let e = c.in-Ok.ensures.took in
+    let old = c.value-core.result.now in
+    let before : StandsWithin op terms.limits old e.now = lent op allows terms c.args.me (turn_value turn) old e.now c.value-core.ensures.value e.stands in
+    let valued : gets_value c.in-Ok-answer.got ≡ false = sym c.is_value.ensures ∙ c.if-not-is_value.true in
+    let after : StandsWithin op terms.limits c.wait-answer.new.self e.now = record {
+      stands = subst (λ (h : History). StandsFor op c.wait-answer.new.self h) (after_ended c.in-Ok-answer.got c.args.me e.now valued) (c.in-Ok-answer.ensures.after e.now before.stands);
+      limits_are = c.in-Ok-answer.ensures.limits ∙ before.limits_are;
+    } in
+    record {
+      before = e.now;
+      others = e.others;
+      seen = ap (λ (v : View). (front_of v).seen) c.give.ensures.rule ∙ ap (λ (v : View). (front_of v).seen) e.is
+          ∙ sym (after_ended c.in-Ok-answer.got c.args.me e.now valued);
+      reply = ap (λ l. wait_reply op.value l e.now c.args.me) (sym before.limits_are) ∙ c.in-Ok-answer.ensures.reply e.now before.stands;
+    }
