@@ -1,23 +1,20 @@
 -- Each step of a phaser's lock keeps its rule.
-use Rattle.std.proofs.Common.{◌≡◌, ◌≢◌, ℕ, zero, suc, ◌<◌, ◌≤◌, Bool, true, false, not, ◌&&◌, cond, eqb, List, [], ◌∷◌, ◌++◌, ◌⊎◌, Option, Some, None, length, set, refl, sym, ap, subst, ◌∙◌, inl, inr, ⊎_elim, arith}
+use Rattle.std.proofs.Common.{◌≡◌, ◌≢◌, ℕ, zero, suc, Bool, true, false, not, cond, eqb, List, [], ◌∷◌, ◌++◌, ◌⊎◌, Option, Some, None, length, set, refl, sym, ap, subst, ◌∙◌, inl, inr, ⊎_elim}
 use Rattle.std.specs.Prelude.{◌||◌}
-use Rattle.std.proofs.lemmas.List.{append-nil}
-use Rattle.std.proofs.lemmas.Bool.{eq-eqb, eqb-true, eqb-false, ne_eqb, and_parts, and_from, not-true, not_from_false}
-use mathlib.Core.Logic.{dite}
+use Rattle.std.proofs.lemmas.Bool.{eq-eqb, eqb-true, ne_eqb, and_parts, and_from, not-true, not_from_false}
 use mathlib.Core.Option.{some, some-injective, some-ne-none}
-use native.Mathlib.Decide.{ℕ_discrete}
 use lib.ListN.{get_elem?}
-use Rattle.atomic_table.proofs.Lists.{at_set, at_snoc, at_longer, set_here, set_else, set_again, at_last}
-use Rattle.turn_lock.specs.Steps.{Takes, Gives, Looks, Forks, Merges, Busy}
+use Rattle.atomic_table.proofs.Lists.{at_set, at_longer, set_here, set_else}
+use Rattle.turn_lock.specs.Steps.{Busy}
 use Rattle.turn_lock.proofs.Keeping.{within}
 use Rattle.phase_base.specs.Limits.{Limits}
 use Rattle.phase_history.specs.Histories.{History}
 use Rattle.phase_history.specs.Legal.{IsLegal}
-use Rattle.phase_shared.specs.declared.rule.Front.{Front}
-use Rattle.phase_shared.specs.declared.rule.View.{View}
-use Rattle.phase_shared.specs.declared.rule.View.TheVariants.{Resting, Turning, Joining, Spent}
-use Rattle.phase_history.specs.Others.{IsUsed, is_in, is_distinct, events_of, OthersCame}
-use Rattle.phase_shared.specs.Views.{front, resting, turning, speaks_of, is_turning, Fits, joining, first_part, other_part}
+use Rattle.phase_shared.specs.declared.view.Front.{Front}
+use Rattle.phase_shared.specs.declared.view.View.{View}
+use Rattle.phase_shared.specs.declared.view.View.TheVariants.{Resting, Turning, Joining, Spent}
+use Rattle.phase_history.specs.Others.{IsUsed, is_in, is_distinct, events_of, OnlyUsed, OthersCame}
+use Rattle.phase_shared.specs.Views.{front, resting, turning, speaks_of, is_turning}
 use Rattle.phase_shared.specs.Rule.{Allows, IsGood, IsSound, Kept, Took, Learned, HasOneHistory, StandsWithin, founding}
 use Rattle.phase_accum.specs.Operations.{Operation}
 use Rattle.phase_core.specs.Cores.{CoreState, StandsFor}
@@ -361,7 +358,7 @@ module _ {T : Type 0} (limits : Limits) (allows : Allows) (Stands : T → Histor
   pub never_busy : {N : Type 0} (holds : N → Option T → List View → Type 0) (name : N)
       → ((views : List View) → holds name None views → Kept limits allows Stands None views)
       → (f : Front) → (task : ℕ) × (is_in task f.speaks ≡ true) × IsUsed f.seen task
-      → ((t : ℕ) → IsUsed f.seen t → is_in t f.speaks ≡ true) → Busy holds name (Resting f) → ⊥
+      → OnlyUsed f.speaks f.seen → Busy holds name (Resting f) → ⊥
   never_busy holds name opens f one only b =
       let k = opens b.views b.kept in
       let s = k.sound b.number (Resting f) b.here in
@@ -375,9 +372,6 @@ module _ {T : Type 0} (limits : Limits) (allows : Allows) (Stands : T → Histor
       (subst (λ (h : History). IsUsed h other.0) came.is theirs.1) in
       not_the_holder {T = T} None k.holder k.log b.views b.number (Resting f) refl o b.here refl
       (sym theirs.0 ∙ (k.owns b.number (Resting f) other.0 b.here mine).0)
-
-pub only_one : (me : ℕ) (P : ℕ → Type 0) → ((t : ℕ) → P t → t ≡ me) → (t : ℕ) → P t → is_in t (me ∷ []) ≡ true
-only_one me P only t p = subst (λ (n : ℕ). is_in t (n ∷ []) ≡ true) (only t p) (is_in_self t [])
 
 -- the rule holds of a phaser that was just made
 pub founds : {A K : Type 0} (op : Operation A) (allows : K → Allows) (terms : Terms K) (x : CoreState A)

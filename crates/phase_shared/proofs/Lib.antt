@@ -1,5 +1,6 @@
 pub mod Keeping
 pub mod Giving
+pub mod Answering
 pub mod Opening
 pub mod Signalling
 pub mod Waiting

@@ -1,8 +1,8 @@
 -- A registration under the turn.
-use Rattle.std.proofs.Common.{◌≡◌, ◌≢◌, ℕ, ◌+◌, ◌-◌, ◌<◌, ◌≤◌, ◌^◌, ℤ, Bool, true, false, not, ◌&&◌, cond, eqb, List, [], ◌∷◌, ◌++◌, ◌⊎◌, inl, inr, ⊎_elim, Option, Some, None, refl, sym, ap, subst, ◌∙◌, arith}
+use Rattle.std.proofs.Common.{◌≡◌, ◌≢◌, ℕ, ◌+◌, ◌<◌, true, false, cond, eqb, [], ◌∷◌, ◌⊎◌, inl, inr, ⊎_elim, Option, Some, None, refl, sym, ap, subst, ◌∙◌, arith}
 use Rattle.std.specs.Prelude.{◌||◌, is_some}
 use Rattle.std.proofs.lemmas.Bool.Decides.{nat_tests}
-use Rattle.std.proofs.lemmas.Bool.{eqb-true, eqb-false, ne_eqb, eq-eqb}
+use Rattle.std.proofs.lemmas.Bool.{eqb-true, ne_eqb}
 use Rattle.turn_lock.specs.Steps.{Gives, Forks}
 use Rattle.phase_base.specs.Limits.{Limits}
 use Rattle.phase_base.specs.declared.mode.Mode.{Mode}
@@ -11,22 +11,17 @@ use Rattle.phase_accum.specs.Operations.{Operation}
 use Rattle.phase_history.specs.declared.event.Event.TheVariants.{Registered}
 use Rattle.phase_history.specs.declared.refusal.RegisterRefusal.{RegisterRefusal}
 use Rattle.phase_history.specs.declared.refusal.RegisterRefusal.TheVariants as register
-use Rattle.phase_base.specs.Members.{entry_of}
-use Rattle.phase_history.specs.Histories.{History, members_of, start_of, greatest_used, entry_at, signal_phase, wait_phase}
+use Rattle.phase_history.specs.Histories.{History, start_of, greatest_used}
 use Rattle.phase_history.specs.Refusals.{register_refusal}
 use Rattle.phase_history.specs.Legal.{IsLegal}
-use Rattle.phase_core.specs.Cores.{CoreState, StandsFor}
+use Rattle.phase_core.specs.Cores.{CoreState}
 use Rattle.phase_history.proofs.Refused.{registers_from}
-use Rattle.phase_history.proofs.MemberLemmas.{entry_of-push_old, entry_of-push_new}
-use Rattle.phase_history.proofs.Received.{fresh}
-use Rattle.phase_history.proofs.Steps.{sound_of}
-use Rattle.phase_shared.specs.declared.rule.View.{View}
+use Rattle.phase_shared.specs.declared.view.View.{View}
 use Rattle.phase_shared.specs.declared.rule.Terms.{Terms}
-use Rattle.phase_history.specs.Others.{IsUsed, is_in, is_by}
+use Rattle.phase_history.specs.Others.{IsUsed, is_in}
 use Rattle.phase_shared.specs.Views.{front, resting, turning, first_part, other_part}
-use Rattle.phase_shared.specs.Rule.{Allows, IsGoodAt, HasOneHistory, StandsWithin, Entered, IsStation}
+use Rattle.phase_shared.specs.Rule.{Allows, IsGoodAt, HasOneHistory, StandsWithin}
 use Rattle.phase_shared.specs.Calls.{number_after, next_child, RefusesRegister}
-use Rattle.phase_shared.specs.declared.tried.Tried.TheVariants.{Refused}
 use Rattle.phase_history.specs.Others.{OthersCame}
 use Rattle.phase_history.proofs.Used.{IsUsed-longer}
 use Rattle.phase_history.proofs.Received.{start_of-above}
@@ -99,7 +94,7 @@ module _ {A K : Type 0} (op : Operation A) (allows : K → Allows) (terms : Term
 -- a refusal in the words of the definition
 pub refuses : (refusal : RegisterRefusal) (me : ℕ) (mode : Mode) (old new : History) → OthersCame (me ∷ []) old new
     → (refusal ≢ register.OutOfMemory → register_refusal new me (next_child new) mode ≡ Some refusal)
-    → (refusal ≡ register.OutOfMemory → register_refusal new me (next_child new) mode ≡ None) → RefusesRegister me mode old new (Refused refusal)
+    → (refusal ≡ register.OutOfMemory → register_refusal new me (next_child new) mode ≡ None) → RefusesRegister me mode old new refusal
 refuses register.NoTask me mode old new others told memory = (others, told (λ e. cc))
 refuses register.NotAllowed me mode old new others told memory = (others, told (λ e. cc))
 refuses register.NotNew me mode old new others told memory = (others, told (λ e. cc))

@@ -1,21 +1,16 @@
 -- A signal under the turn.
-use Rattle.std.proofs.Common.{◌≡◌, ◌≢◌, ℕ, ℤ, Bool, true, false, List, [], ◌∷◌, Option, Some, None, refl, sym, ap, subst, ◌∙◌}
-use Rattle.std.specs.Prelude.{Ok, Err, Result, is_some, IsOk}
-use Rattle.phase_base.specs.Limits.{Limits}
+use Rattle.std.proofs.Common.{◌≡◌, ℕ, ℤ, true, List, [], ◌∷◌, Option, ap, ◌∙◌}
+use Rattle.std.specs.Prelude.{Ok, Err, Result, is_some}
 use Rattle.phase_accum.specs.Operations.{Operation}
-use Rattle.phase_accum.specs.Parcels.{Parcel, StandsForSends}
 use Rattle.phase_accum.specs.declared.single.Single.{Single}
 use Rattle.phase_history.specs.declared.event.Event.TheVariants.{Signalled}
-use Rattle.phase_history.specs.declared.refusal.SignalRefusal.{SignalRefusal}
 use Rattle.phase_base.specs.Members.{entry_of, signalled}
 use Rattle.phase_history.specs.Histories.{History, members_of}
-use Rattle.phase_history.specs.Replies.{signal_reply, after_signal}
+use Rattle.phase_history.specs.Replies.{after_signal}
 use Rattle.phase_core.specs.Cores.{CoreState, StandsFor}
 use Rattle.phase_history.proofs.MemberLemmas.{is_some-entry_of-changed}
 use Rattle.phase_shared.specs.declared.rule.Terms.{Terms}
-use Rattle.phase_history.specs.Others.{OthersCame}
 use Rattle.phase_shared.specs.Rule.{Allows, IsGoodAt, StandsWithin}
-use Rattle.phase_shared.specs.Calls.{Signals}
 use Rattle.phase_shared.proofs.Giving.{legal_at}
 
 module _ {A K : Type 0} (op : Operation A) (allows : K → Allows) (terms : Terms K) (me : ℕ) where

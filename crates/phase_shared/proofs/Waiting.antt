@@ -1,5 +1,5 @@
 -- A wait under the turn.
-use Rattle.std.proofs.Common.{◌≡◌, ℕ, ℤ, Bool, true, false, List, [], ◌∷◌, Option, Some, None, refl, sym, ap, subst, ◌∙◌}
+use Rattle.std.proofs.Common.{◌≡◌, ℕ, ℤ, true, false, List, [], ◌∷◌, refl, ap, subst, ◌∙◌}
 use Rattle.std.specs.Prelude.{Ok, Err, Result, is_some}
 use Rattle.phase_accum.specs.Operations.{Operation}
 use Rattle.phase_history.specs.declared.event.Event.TheVariants.{Waited}
@@ -14,7 +14,7 @@ use Rattle.phase_history.proofs.MemberLemmas.{is_some-entry_of-changed}
 use Rattle.phase_base.specs.Limits.{Limits}
 use Rattle.phase_accum.specs.declared.outcome.Outcome.{Outcome}
 use Rattle.phase_history.specs.Others.{OthersCame}
-use Rattle.phase_shared.specs.Calls.{gets_value, WaitsAt}
+use Rattle.phase_shared.specs.Calls.{gets_value, Waits}
 use Rattle.phase_history.proofs.OthersEvents.{OthersCame-trans}
 
 pub after_value : (got : Got) (me : ℕ) (h : History) → gets_value got ≡ true → after_wait (Ok got) me h ≡ Waited me 1 ∷ h
@@ -36,7 +36,7 @@ member_after_wait op x (Err refusal) me now stands some = ap (λ ms. is_some (en
 
 -- a wait after others' events is a wait from the start
 pub waits_later : (value : List ℤ → Outcome) (limits : Limits) (me number : ℕ) (old now new : History) (answer : Result Got WaitRefusal)
-    → number ≡ me → OthersCame (me ∷ []) old now → WaitsAt value limits number now new answer → WaitsAt value limits me old new answer
+    → number ≡ me → OthersCame (me ∷ []) old now → Waits value limits number now new answer → Waits value limits me old new answer
 waits_later value limits me number old now new answer same came w =
-    let v : WaitsAt value limits me now new answer = subst (λ (n : ℕ). WaitsAt value limits n now new answer) same w in
+    let v : Waits value limits me now new answer = subst (λ (n : ℕ). Waits value limits n now new answer) same w in
     record { before = v.before; others = OthersCame-trans (me ∷ []) old now v.before came v.others; seen = v.seen; reply = v.reply }

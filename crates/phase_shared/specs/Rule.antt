@@ -1,5 +1,5 @@
 -- The rule of a shared phaser: there is one legal history, which keeps the phaser's rule.
-use Rattle.std.specs.Prelude.{◌≡◌, ℕ, ℤ, List, [], ◌∷◌, ◌++◌, Option, Some, None, true, false}
+use Rattle.std.specs.Prelude.{◌≡◌, ℕ, ℤ, List, [], ◌∷◌, Option, Some, None, true}
 use mathlib.Core.Option.{some}
 use lib.ListN.{get_elem?}
 use Rattle.phase_base.specs.Limits.{Limits}
@@ -11,9 +11,9 @@ use Rattle.phase_base.specs.Members.{entry_of}
 use Rattle.phase_history.specs.Histories.{History, members_of}
 use Rattle.phase_history.specs.Legal.{IsLegal}
 use Rattle.phase_core.specs.Cores.{CoreState, StandsFor}
-use Rattle.phase_shared.specs.declared.rule.Front.{Front}
-use Rattle.phase_shared.specs.declared.rule.View.{View}
-use Rattle.phase_shared.specs.declared.rule.View.TheVariants.{Resting, Turning, Joining, Spent}
+use Rattle.phase_shared.specs.declared.view.Front.{Front}
+use Rattle.phase_shared.specs.declared.view.View.{View}
+use Rattle.phase_shared.specs.declared.view.View.TheVariants.{Resting, Turning, Joining, Spent}
 use Rattle.phase_shared.specs.declared.rule.Terms.{Terms}
 use Rattle.phase_history.specs.Others.{OthersCame, IsUsed, is_in, is_distinct}
 use Rattle.phase_shared.specs.Views.{resting, turning, speaks_of, front_of, second_of, Fits}

@@ -2,9 +2,9 @@
 use Rattle.std.specs.Prelude.{ℕ, List, [], ◌++◌, Bool, true, false, take, drop}
 use Rattle.phase_history.specs.Histories.{History}
 use Rattle.phase_history.specs.Others.{OthersCame}
-use Rattle.phase_shared.specs.declared.rule.Front.{Front}
-use Rattle.phase_shared.specs.declared.rule.View.{View}
-use Rattle.phase_shared.specs.declared.rule.View.TheVariants.{Resting, Turning, Joining, Spent}
+use Rattle.phase_shared.specs.declared.view.Front.{Front}
+use Rattle.phase_shared.specs.declared.view.View.{View}
+use Rattle.phase_shared.specs.declared.view.View.TheVariants.{Resting, Turning, Joining, Spent}
 
 -- this history was seen, and these numbers are spoken for
 abbrev pub front : History → List ℕ → Front

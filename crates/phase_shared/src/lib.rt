@@ -1,17 +1,21 @@
 //! A phaser between threads.
 #![tactic(auto)]
 
+mod hints;
 mod past;
 mod phaser;
+mod plays;
+mod refusal;
 mod reg;
 mod rule;
 mod steps;
 #[cfg(test)]
 mod tests;
-mod tried;
+mod trying;
+mod view;
 
 pub use past::Past;
 pub use phaser::Phaser;
+pub use refusal::{SendRefusal, Tried};
 pub use reg::Reg;
 pub use rule::{NoRule, SignalRule, Terms};
-pub use tried::Tried;

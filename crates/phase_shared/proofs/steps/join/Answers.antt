@@ -1,10 +1,11 @@
-use Rattle.std.proofs.Common.{sym, subst, ap, refl}
-use Rattle.turn_lock.specs.Seats.{lock_name, seat_view, seat_number}
-use Rattle.turn_lock.specs.Steps.{Merges, Looks}
-use Rattle.phase_shared.specs.Views.{front_of, joining}
-use Rattle.phase_shared.specs.Rule.{StandsWithin, HasOneHistory, LearnedAt}
-use Rattle.phase_shared.specs.declared.rule.View.{View}
-use Rattle.phase_shared.specs.declared.rule.View.TheVariants.{Resting, Joining, Spent}
+use Rattle.std.proofs.Common.{sym, subst}
+use Rattle.phase_shared.specs.Regs.{phaser_terms}
+use Rattle.turn_lock.specs.Seats.{seat_view, seat_number}
+use Rattle.turn_lock.specs.Steps.{Merges}
+use Rattle.phase_shared.specs.Views.{front_of}
+use Rattle.phase_shared.specs.Rule.{StandsWithin, HasOneHistory}
+use Rattle.phase_shared.specs.declared.view.View.{View}
+use Rattle.phase_shared.specs.declared.view.View.TheVariants.{Resting, Joining, Spent}
 use Rattle.phase_shared.proofs.Keeping.{merges, looks}
 use Rattle.phase_shared.proofs.steps.join.Goals as goal
 
@@ -12,7 +13,7 @@ pub join-requires-clause-merges : goal.join-requires-clause-merges
 join-requires-clause-merges g c =
     let op = g.A.Accumulate.operation in
     let allows = g.K.SignalRule.allows in
-    let terms = lock_name c.args.lock.now in
+    let terms = phaser_terms c.args.phaser.now in
     let f = front_of (seat_view c.args.seat) in
     let h = front_of (seat_view c.args.other) in
     let number = seat_number c.args.seat in
@@ -26,5 +27,5 @@ pub join-requires-clause-looks : goal.join-requires-clause-looks
 join-requires-clause-looks g c =
     let op = g.A.Accumulate.operation in
     let allows = g.K.SignalRule.allows in
-    let terms = lock_name c.args.lock.now in
+    let terms = phaser_terms c.args.phaser.now in
     looks terms.limits (allows terms.rule) (StandsWithin op terms.limits) (seat_number c.args.seat) (front_of (seat_view c.args.seat)) (front_of (seat_view c.args.other))

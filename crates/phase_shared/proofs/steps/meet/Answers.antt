@@ -1,12 +1,13 @@
 use Rattle.std.proofs.Common.{◌≡◌, ℕ, List, [], ◌∷◌, ◌++◌, Some, sym, subst, ap, refl, ◌∙◌}
-use Rattle.turn_lock.specs.Seats.{lock_name, seat_view, seat_number}
+use Rattle.phase_shared.specs.Regs.{phaser_terms}
+use Rattle.turn_lock.specs.Seats.{seat_view, seat_number}
 use Rattle.phase_history.specs.Histories.{History, members_of}
 use Rattle.phase_base.specs.Members.{entry_of}
 use Rattle.phase_history.specs.Others.{OthersCame}
 use Rattle.phase_shared.specs.Views.{front_of, resting, first_part, other_part}
 use Rattle.phase_shared.specs.Rule.{IsStation}
-use Rattle.phase_shared.specs.declared.rule.View.{View}
-use Rattle.phase_shared.specs.declared.rule.View.TheVariants.{Resting}
+use Rattle.phase_shared.specs.declared.view.View.{View}
+use Rattle.phase_shared.specs.declared.view.View.TheVariants.{Resting}
 use Rattle.phase_shared.proofs.Giving.{still_member}
 use Rattle.phase_shared.proofs.Registering.{forks_child}
 use Rattle.phase_shared.proofs.steps.meet.Goals as goal
@@ -24,7 +25,7 @@ pub split-requires-clause-rule : goal.split-requires-clause-rule
 split-requires-clause-rule g c =
     let op = g.A.Accumulate.operation in
     let allows = g.K.SignalRule.allows in
-    let terms = lock_name c.args.lock.now in
+    let terms = phaser_terms c.args.phaser.now in
     let me = c.args.me in
     let you = c.args.you in
     let rule = c.join-both.ensures.rule in
@@ -41,7 +42,7 @@ pub returns-clause-first : goal.returns-clause-first
 returns-clause-first g c =
     let op = g.A.Accumulate.operation in
     let allows = g.K.SignalRule.allows in
-    let terms = lock_name c.args.lock.now in
+    let terms = phaser_terms c.args.phaser.now in
     let me = c.args.me in
     let you = c.args.you in
     let rule = c.join-both.ensures.rule in
@@ -61,7 +62,7 @@ pub returns-clause-second : goal.returns-clause-second
 returns-clause-second g c =
     let op = g.A.Accumulate.operation in
     let allows = g.K.SignalRule.allows in
-    let terms = lock_name c.args.lock.now in
+    let terms = phaser_terms c.args.phaser.now in
     let me = c.args.me in
     let you = c.args.you in
     let rule = c.join-both.ensures.rule in
@@ -81,7 +82,7 @@ pub returns-clause-one : goal.returns-clause-one
 returns-clause-one g c =
     let op = g.A.Accumulate.operation in
     let allows = g.K.SignalRule.allows in
-    let terms = lock_name c.args.lock.now in
+    let terms = phaser_terms c.args.phaser.now in
     let me = c.args.me in
     let you = c.args.you in
     let rule = c.join-both.ensures.rule in
@@ -100,7 +101,7 @@ pub returns-clause-begins : goal.returns-clause-begins
 returns-clause-begins g c =
     let op = g.A.Accumulate.operation in
     let allows = g.K.SignalRule.allows in
-    let terms = lock_name c.args.lock.now in
+    let terms = phaser_terms c.args.phaser.now in
     let me = c.args.me in
     let you = c.args.you in
     let rule = c.join-both.ensures.rule in

@@ -1,6 +1,7 @@
-use Rattle.std.proofs.Common.{◌≡◌, ℕ, List, [], ◌∷◌, Some, None, true, false, sym, subst, ap, refl, ◌∙◌}
+use Rattle.std.proofs.Common.{◌≡◌, [], ◌∷◌, Some, None, sym, subst, ap, refl, ◌∙◌}
 use Rattle.std.specs.Prelude.{is_some}
-use Rattle.turn_lock.specs.Seats.{lock_name, seat_view, seat_number, turn_view, turn_value, turn_number}
+use Rattle.phase_shared.specs.Regs.{phaser_terms}
+use Rattle.turn_lock.specs.Seats.{seat_view, seat_number, turn_view, turn_value, turn_number}
 use Rattle.phase_history.specs.Histories.{History, members_of, entry_at, signal_phase, wait_phase, greatest_used}
 use Rattle.phase_base.specs.Members.{entry_of}
 use Rattle.phase_history.specs.Refusals.{register_refusal}
@@ -10,10 +11,12 @@ use Rattle.phase_history.proofs.MemberLemmas.{entry_of-push_old, entry_of-push_n
 use Rattle.phase_history.proofs.Received.{fresh}
 use Rattle.phase_history.proofs.Steps.{sound_of}
 use Rattle.phase_shared.specs.Views.{resting, front_of, speaks_of, first_part, other_part}
-use Rattle.phase_shared.specs.Rule.{IsGoodAt, IsStation, StandsWithin}
+use Rattle.phase_shared.specs.Rule.{IsStation, StandsWithin}
 use Rattle.phase_shared.specs.Calls.{RefusesRegister, number_after}
-use Rattle.phase_shared.specs.declared.tried.Tried.TheVariants.{Refused}
-use Rattle.phase_shared.specs.declared.rule.View.{View}
+use Rattle.phase_history.specs.declared.refusal.RegisterRefusal.{RegisterRefusal}
+use Rattle.phase_history.specs.declared.refusal.RegisterRefusal.TheVariants as register
+use Rattle.phase_history.proofs.Answered.{register_refusal-never}
+use Rattle.phase_shared.specs.declared.view.View.{View}
 use Rattle.phase_shared.proofs.Giving.{gives_same, station, lent, plain_event, PlainEvent}
 use Rattle.phase_shared.proofs.Registering.{NewChild, new_child, gives_child, forks_child, refuses, child_is_next}
 use Rattle.phase_shared.proofs.steps.register.Goals as goal
@@ -23,7 +26,7 @@ pub unreachable-requires : goal.unreachable-requires
 unreachable-requires g c =
     let op = g.A.Accumulate.operation in
     let allows = g.K.SignalRule.allows in
-    let terms = lock_name c.args.lock.now in
+    let terms = phaser_terms c.args.phaser.now in
     let turn = c.in-Ok.turn in
     let me = c.args.me in
     let mode = c.args.mode in
@@ -46,7 +49,7 @@ pub put_back_with-both-requires-clause-rule : goal.put_back_with-both-requires-c
 put_back_with-both-requires-clause-rule g c =
     let op = g.A.Accumulate.operation in
     let allows = g.K.SignalRule.allows in
-    let terms = lock_name c.args.lock.now in
+    let terms = phaser_terms c.args.phaser.now in
     let turn = c.in-Ok.turn in
     let me = c.args.me in
     let mode = c.args.mode in
@@ -67,7 +70,7 @@ pub give-requires-clause-rule : goal.give-requires-clause-rule
 give-requires-clause-rule g c =
     let op = g.A.Accumulate.operation in
     let allows = g.K.SignalRule.allows in
-    let terms = lock_name c.args.lock.now in
+    let terms = phaser_terms c.args.phaser.now in
     let turn = c.in-Ok.turn in
     let me = c.args.me in
     let mode = c.args.mode in
@@ -82,7 +85,7 @@ pub split-seat-requires-clause-rule : goal.split-seat-requires-clause-rule
 split-seat-requires-clause-rule g c =
     let op = g.A.Accumulate.operation in
     let allows = g.K.SignalRule.allows in
-    let terms = lock_name c.args.lock.now in
+    let terms = phaser_terms c.args.phaser.now in
     let turn = c.in-Ok.turn in
     let me = c.args.me in
     let mode = c.args.mode in
@@ -100,7 +103,7 @@ pub returns-clause-at : goal.returns-clause-at
 returns-clause-at g c =
     let op = g.A.Accumulate.operation in
     let allows = g.K.SignalRule.allows in
-    let terms = lock_name c.args.lock.now in
+    let terms = phaser_terms c.args.phaser.now in
     let turn = c.in-Ok.turn in
     let me = c.args.me in
     let mode = c.args.mode in
@@ -126,7 +129,7 @@ pub returns-clause-child : goal.returns-clause-child
 returns-clause-child g c =
     let op = g.A.Accumulate.operation in
     let allows = g.K.SignalRule.allows in
-    let terms = lock_name c.args.lock.now in
+    let terms = phaser_terms c.args.phaser.now in
     let turn = c.in-Ok.turn in
     let me = c.args.me in
     let mode = c.args.mode in
@@ -155,7 +158,7 @@ pub returns-clause-ok : goal.returns-clause-ok
 returns-clause-ok g c =
     let op = g.A.Accumulate.operation in
     let allows = g.K.SignalRule.allows in
-    let terms = lock_name c.args.lock.now in
+    let terms = phaser_terms c.args.phaser.now in
     let turn = c.in-Ok.turn in
     let me = c.args.me in
     let mode = c.args.mode in
@@ -185,7 +188,7 @@ pub returns-in-Err-answer-clause-at : goal.returns-in-Err-answer-clause-at
 returns-in-Err-answer-clause-at g c =
     let op = g.A.Accumulate.operation in
     let allows = g.K.SignalRule.allows in
-    let terms = lock_name c.args.lock.now in
+    let terms = phaser_terms c.args.phaser.now in
     let turn = c.in-Ok.turn in
     let me = c.args.me in
     let mode = c.args.mode in
@@ -201,7 +204,7 @@ pub returns-in-Err-answer-clause-err : goal.returns-in-Err-answer-clause-err
 returns-in-Err-answer-clause-err g c =
     let op = g.A.Accumulate.operation in
     let allows = g.K.SignalRule.allows in
-    let terms = lock_name c.args.lock.now in
+    let terms = phaser_terms c.args.phaser.now in
     let turn = c.in-Ok.turn in
     let me = c.args.me in
     let mode = c.args.mode in
@@ -211,7 +214,23 @@ returns-in-Err-answer-clause-err g c =
     let before : StandsWithin op terms.limits old e.now = lent op allows terms me (turn_value turn) old e.now c.value-core.ensures.value e.stands in
     let seen : (front_of (seat_view c.give.result)).seen ≡ e.now = ap (λ (v : View). (front_of v).seen) c.give.ensures.rule ∙ ap (λ (v : View). (front_of v).seen) e.is in
     let next : child ≡ number_after (greatest_used e.now) = c.child_of-child.ensures ∙ ap number_after before.stands.greatest_is in
-    subst (λ (h : History). RefusesRegister me mode (front_of (seat_view c.args.seat)).seen h (Refused c.in-Err-answer.refusal)) (sym seen)
+    subst (λ (h : History). RefusesRegister me mode (front_of (seat_view c.args.seat)).seen h c.in-Err-answer.refusal) (sym seen)
     (refuses c.in-Err-answer.refusal me mode (front_of (seat_view c.args.seat)).seen e.now e.others
     (λ other. ap (λ n. register_refusal e.now me n mode) (sym next) ∙ c.in-Err-answer.ensures.refused other e.now before.stands)
     (λ none. ap (λ n. register_refusal e.now me n mode) (sym next) ∙ c.in-Err-answer.ensures.out_of_memory none e.now before.stands))
+
+not_memory : ◌≡◌ {A = RegisterRefusal} register.NoTask register.OutOfMemory → ⊥
+not_memory e = cc
+
+pub returns-in-Err-answer-clause-known : goal.returns-in-Err-answer-clause-known
+returns-in-Err-answer-clause-known g c none =
+    let op = g.A.Accumulate.operation in
+    let allows = g.K.SignalRule.allows in
+    let terms = phaser_terms c.args.phaser.now in
+    let turn = c.in-Ok.turn in
+    let e = c.in-Ok.ensures.took in
+    let old = c.value-core.result.now in
+    let before : StandsWithin op terms.limits old e.now = lent op allows terms c.args.me (turn_value turn) old e.now c.value-core.ensures.value e.stands in
+    let is : c.in-Err-answer.refusal ≡ register.NoTask = cc in
+    register_refusal-never e.now c.args.me c.child_of-child.result c.args.mode (ap is_some e.member)
+    (c.in-Err-answer.ensures.refused (λ memory. not_memory (sym is ∙ memory)) e.now before.stands ∙ ap Some is)

@@ -1,16 +1,19 @@
-use Rattle.std.proofs.Common.{◌≡◌, ◌≢◌, ℤ, List, [], ◌∷◌, Some, Err, true, false, sym, subst, ap, refl, ◌∙◌}
+use Rattle.std.proofs.Common.{◌≡◌, ℤ, List, [], ◌∷◌, Err, true, false, sym, subst, ap, refl, ◌∙◌}
 use Rattle.std.specs.Prelude.{is_some}
-use Rattle.turn_lock.specs.Seats.{lock_name, seat_view, seat_number, turn_view, turn_value, turn_number}
-use Rattle.phase_history.specs.Histories.{History, members_of}
-use Rattle.phase_base.specs.Members.{entry_of}
+use Rattle.phase_shared.specs.Regs.{phaser_terms}
+use Rattle.turn_lock.specs.Seats.{seat_view, turn_view, turn_value, turn_number}
 use Rattle.phase_history.specs.declared.event.Event.TheVariants.{Signalled}
 use Rattle.phase_core.specs.Cores.{CoreState}
 use Rattle.phase_history.specs.Replies.{signal_reply}
 use Rattle.phase_accum.specs.Parcels.{StandsForSends}
-use Rattle.phase_history.specs.Others.{OthersCame}
 use Rattle.phase_shared.specs.Views.{resting, front_of, speaks_of}
 use Rattle.phase_shared.specs.Rule.{StandsWithin}
-use Rattle.phase_shared.specs.declared.rule.View.{View}
+use Rattle.phase_shared.specs.declared.view.View.{View}
+use Rattle.phase_history.specs.declared.refusal.SignalRefusal.TheVariants as signal
+use Rattle.phase_history.specs.Histories.{signal_phase}
+use Rattle.phase_history.specs.Refusals.{signal_refusal}
+use Rattle.phase_history.proofs.Answered.{signal_refusal-never}
+use Rattle.phase_shared.proofs.Answering.{refused_is}
 use Rattle.phase_shared.proofs.Giving.{gives_event, gives_same, station, lent}
 use Rattle.phase_shared.proofs.Signalling.{SignalledAt, signalled_at, member_after_signal}
 use Rattle.phase_shared.proofs.steps.signal.Goals as goal
@@ -19,7 +22,7 @@ pub put_back-requires-clause-rule : goal.put_back-requires-clause-rule
 put_back-requires-clause-rule g c =
     let op = g.A.Accumulate.operation in
     let allows = g.K.SignalRule.allows in
-    let terms = lock_name c.args.lock.now in
+    let terms = phaser_terms c.args.phaser.now in
     let turn = c.in-Ok.turn in
     let e = c.in-Ok.ensures.took in
     let old = c.value-core.result.now in
@@ -37,7 +40,7 @@ pub give-requires-clause-rule : goal.give-requires-clause-rule
 give-requires-clause-rule g c =
     let op = g.A.Accumulate.operation in
     let allows = g.K.SignalRule.allows in
-    let terms = lock_name c.args.lock.now in
+    let terms = phaser_terms c.args.phaser.now in
     let turn = c.in-Ok.turn in
     let e = c.in-Ok.ensures.took in
     let old = c.value-core.result.now in
@@ -49,7 +52,7 @@ pub returns-in-Ok-answer-clause-at : goal.returns-in-Ok-answer-clause-at
 returns-in-Ok-answer-clause-at g c =
     let op = g.A.Accumulate.operation in
     let allows = g.K.SignalRule.allows in
-    let terms = lock_name c.args.lock.now in
+    let terms = phaser_terms c.args.phaser.now in
     let turn = c.in-Ok.turn in
     let e = c.in-Ok.ensures.took in
     let old = c.value-core.result.now in
@@ -62,11 +65,11 @@ returns-in-Ok-answer-clause-at g c =
     (told.2 ∙ ap (λ (v : View). resting (Signalled c.args.me (told.0 ∷ []) c.args.single ∷ (front_of v).seen) (speaks_of v)) e.is)
     s.good s.stands c.view.ensures c.in-Some.is
 
-pub returns-in-Ok-answer-clause-ok : goal.returns-in-Ok-answer-clause-ok
-returns-in-Ok-answer-clause-ok g c =
+pub returns-in-Ok-answer-clause-call : goal.returns-in-Ok-answer-clause-call
+returns-in-Ok-answer-clause-call g c =
     let op = g.A.Accumulate.operation in
     let allows = g.K.SignalRule.allows in
-    let terms = lock_name c.args.lock.now in
+    let terms = phaser_terms c.args.phaser.now in
     let turn = c.in-Ok.turn in
     let e = c.in-Ok.ensures.took in
     let old = c.value-core.result.now in
@@ -78,34 +81,51 @@ returns-in-Ok-answer-clause-ok g c =
       others = e.others;
       stands = told.1;
       seen = ap (λ (v : View). (front_of v).seen) told.2 ∙ ap (λ (v : View). Signalled c.args.me (told.0 ∷ []) c.args.single ∷ (front_of v).seen) e.is;
-      reply = ap (λ l. signal_reply l e.now c.args.me (told.0 ∷ []) c.args.single) (sym before.limits_are)
-          ∙ c.in-Ok-answer.ensures.ok e.now told.0 before.stands told.1;
+      reply = λ sends held. ap (λ l. signal_reply l e.now c.args.me (sends ∷ []) c.args.single) (sym before.limits_are)
+          ∙ c.in-Ok-answer.ensures.ok e.now sends before.stands held;
     }
 
-pub returns-in-Err-answer-clause-err : goal.returns-in-Err-answer-clause-err
-returns-in-Err-answer-clause-err g c =
+pub returns-in-Err-answer-clause-call : goal.returns-in-Err-answer-clause-call
+returns-in-Err-answer-clause-call g c =
     let op = g.A.Accumulate.operation in
     let allows = g.K.SignalRule.allows in
-    let terms = lock_name c.args.lock.now in
+    let terms = phaser_terms c.args.phaser.now in
     let turn = c.in-Ok.turn in
     let e = c.in-Ok.ensures.took in
     let old = c.value-core.result.now in
     let before : StandsWithin op terms.limits old e.now = lent op allows terms c.args.me (turn_value turn) old e.now c.value-core.ensures.value e.stands in
-    let seen : (front_of (seat_view c.give.result)).seen ≡ e.now = ap (λ (v : View). (front_of v).seen) c.give.ensures.rule ∙ ap (λ (v : View). (front_of v).seen) e.is in
-    let P : History → Type 0 = λ h. OthersCame (c.args.me ∷ []) (front_of (seat_view c.args.seat)).seen h
-    × ((sends : List ℤ) → StandsForSends op c.args.pending sends → signal_reply terms.limits h c.args.me (sends ∷ []) c.args.single ≡ Err c.in-Err-answer.refused.0) in
-    subst P (sym seen) (
-      e.others,
-      λ sends held.
-          ap (λ l. signal_reply l e.now c.args.me (sends ∷ []) c.args.single) (sym before.limits_are)
-          ∙ c.in-Err-answer.ensures.refused e.now sends before.stands held,
-    )
+    let held = c.part-part.ensures.held in
+    record {
+      before = e.now;
+      sends = held.0;
+      others = e.others;
+      stands = held.1;
+      seen = ap (λ (v : View). (front_of v).seen) c.give.ensures.rule ∙ ap (λ (v : View). (front_of v).seen) e.is;
+      reply = λ sends stands. ap (λ l. signal_reply l e.now c.args.me (sends ∷ []) c.args.single) (sym before.limits_are)
+          ∙ c.in-Err-answer.ensures.refused e.now sends before.stands stands;
+    }
+
+-- the task is registered
+pub returns-in-Err-answer-clause-known : goal.returns-in-Err-answer-clause-known
+returns-in-Err-answer-clause-known g c none =
+    let op = g.A.Accumulate.operation in
+    let allows = g.K.SignalRule.allows in
+    let terms = phaser_terms c.args.phaser.now in
+    let turn = c.in-Ok.turn in
+    let e = c.in-Ok.ensures.took in
+    let old = c.value-core.result.now in
+    let before : StandsWithin op terms.limits old e.now = lent op allows terms c.args.me (turn_value turn) old e.now c.value-core.ensures.value e.stands in
+    let held = c.part-part.ensures.held in
+    let is : c.in-Err-answer.refused.0 ≡ signal.NoTask = cc in
+    signal_refusal-never old.limits e.now c.args.me (held.0 ∷ []) c.args.single (ap is_some e.member)
+    (refused_is (signal_refusal old.limits e.now c.args.me (held.0 ∷ []) c.args.single) (signal_phase e.now c.args.me) signal.NoTask
+    (c.in-Err-answer.ensures.refused e.now held.0 before.stands held.1 ∙ ap Err is))
 
 pub returns-in-Err-answer-clause-at : goal.returns-in-Err-answer-clause-at
 returns-in-Err-answer-clause-at g c =
     let op = g.A.Accumulate.operation in
     let allows = g.K.SignalRule.allows in
-    let terms = lock_name c.args.lock.now in
+    let terms = phaser_terms c.args.phaser.now in
     let turn = c.in-Ok.turn in
     let e = c.in-Ok.ensures.took in
     let old = c.value-core.result.now in
@@ -119,7 +139,7 @@ pub unreachable-requires : goal.unreachable-requires
 unreachable-requires g c =
     let op = g.A.Accumulate.operation in
     let allows = g.K.SignalRule.allows in
-    let terms = lock_name c.args.lock.now in
+    let terms = phaser_terms c.args.phaser.now in
     let turn = c.in-Ok.turn in
     let e = c.in-Ok.ensures.took in
     let old = c.value-core.result.now in

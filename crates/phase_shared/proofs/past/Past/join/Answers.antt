@@ -1,10 +1,10 @@
-use Rattle.std.proofs.Common.{◌≡◌, ℕ, List, [], ◌∷◌, ◌++◌, Some, None, true, false, sym, subst, ap, refl, ◌∙◌}
-use Rattle.turn_lock.specs.Seats.{lock_name, seat_view, seat_place}
+use Rattle.std.proofs.Common.{◌≡◌, ◌++◌, sym, subst, ap, ◌∙◌}
+use Rattle.turn_lock.specs.Seats.{seat_view}
 use Rattle.phase_history.specs.Histories.{History}
 use Rattle.phase_history.specs.Others.{OthersCame, is_distinct}
-use Rattle.phase_shared.specs.Views.{front_of, speaks_of, resting}
-use Rattle.phase_shared.specs.declared.rule.View.{View}
-use Rattle.phase_shared.specs.Regs.{place_in, view_in, phaser_place, phaser_terms}
+use Rattle.phase_shared.specs.Views.{front_of, resting}
+use Rattle.phase_shared.specs.declared.view.View.{View}
+use Rattle.phase_shared.specs.Regs.{phaser_terms}
 use Rattle.phase_shared.specs.Rule.{IsGoodAt}
 use Rattle.phase_shared.proofs.past.Past.join.Goals as goal
 
@@ -28,10 +28,11 @@ invariant_of-result g c =
 
 pub returns-clause-numbers : goal.returns-clause-numbers
 returns-clause-numbers g c =
-    let is = c.join.ensures.rule.is in (
-      ap (λ (v : View). (front_of v).speaks) is ∙ (λ i. (c.self.view_is i).numbers ++ (c.other.view_is i).numbers),
-      ap (λ (v : View). is_distinct (front_of v).speaks) is ∙ c.join.ensures.rule.distinct,
-    )
+    ap (λ (v : View). (front_of v).speaks) c.join.ensures.rule.is ∙ (λ i. (c.self.view_is i).numbers ++ (c.other.view_is i).numbers)
+
+pub returns-clause-distinct : goal.returns-clause-distinct
+returns-clause-distinct g c =
+    ap (λ (v : View). is_distinct (front_of v).speaks) c.join.ensures.rule.is ∙ c.join.ensures.rule.distinct
 
 pub returns-clause-first : goal.returns-clause-first
 returns-clause-first g c =

@@ -1,11 +1,10 @@
-use Rattle.std.proofs.Common.{◌≡◌, [], ◌∷◌, Some, sym, subst, ap, refl, ◌∙◌}
-use Rattle.turn_lock.specs.Seats.{lock_name, seat_view, seat_place}
+use Rattle.std.proofs.Common.{[], ◌∷◌, Some, sym, subst, ap, refl, ◌∙◌}
 use Rattle.phase_base.specs.Limits.{Limits}
 use Rattle.phase_history.specs.declared.event.Event.TheVariants.{Made}
 use Rattle.phase_history.specs.Histories.{founder}
 use Rattle.phase_history.specs.Legal.{IsLegal}
-use Rattle.phase_shared.specs.Rule.{IsStation, founding}
-use Rattle.phase_shared.specs.declared.rule.View.{View}
+use Rattle.phase_shared.specs.Rule.{IsStation}
+use Rattle.phase_shared.specs.declared.view.View.{View}
 use Rattle.phase_shared.proofs.Keeping.{founds}
 use Rattle.phase_shared.proofs.phaser.Phaser.make.Goals as goal
 
@@ -16,8 +15,8 @@ new-requires-2 g c = record {
 }
 
 -- the founder is a member
-pub invariant_of-result : goal.invariant_of-result
-invariant_of-result g c = record {
+pub invariant_of-founder : goal.invariant_of-founder
+invariant_of-founder g c = record {
   terms = record { limits = c.args.limits; rule = c.args.rule };
   named = ap (λ p. p.1) c.in_ok-lock.ensures.seat.0 ∙ ap (λ t. Some t) c.in_ok-lock.ensures.name;
   there = refl;

@@ -1,12 +1,11 @@
-use Rattle.std.proofs.Common.{◌≡◌, [], ◌∷◌, Some, None, true, false, sym, subst, ap, refl, ◌∙◌}
+use Rattle.std.proofs.Common.{◌≡◌, [], ◌∷◌, true, false, sym, subst, ap, ◌∙◌}
 use Rattle.std.specs.Prelude.{is_some}
-use Rattle.turn_lock.specs.Seats.{lock_name, seat_view, seat_place}
+use Rattle.turn_lock.specs.Seats.{seat_view}
 use Rattle.phase_history.specs.Histories.{History}
-use Rattle.phase_history.specs.Others.{IsUsed}
 use Rattle.phase_shared.specs.Views.{front_of}
-use Rattle.phase_shared.specs.Regs.{place_in, view_in, phaser_place, phaser_terms}
+use Rattle.phase_shared.specs.Regs.{view_in, phaser_place, phaser_terms}
 use Rattle.phase_history.specs.Others.{OthersCame}
-use Rattle.phase_shared.proofs.Opening.{Opened, opened, closed}
+use Rattle.phase_shared.proofs.Opening.{opened, closed}
 use Rattle.phase_shared.proofs.reg.Reg.meet.Goals as goal
 
 pub unreachable-requires : goal.unreachable-requires

@@ -1,15 +1,13 @@
-use Rattle.std.proofs.Common.{◌≡◌, Some, None, true, false, sym, subst, ap, refl, ◌∙◌}
+use Rattle.std.proofs.Common.{◌≡◌, [], ◌∷◌, Some, true, false, sym, subst, ap, ◌∙◌}
 use Rattle.std.specs.Prelude.{is_some}
-use Rattle.turn_lock.specs.Seats.{lock_name, seat_view, seat_place}
 use Rattle.phase_history.specs.Histories.{History}
-use Rattle.phase_history.specs.Others.{IsUsed, is_distinct}
+use Rattle.phase_history.specs.Others.{OnlyUsed, is_distinct}
 use Rattle.phase_shared.specs.Views.{front_of}
 use Rattle.phase_shared.specs.Views.{resting}
 use Rattle.phase_shared.specs.Rule.{IsGoodAt, IsStation}
-use Rattle.phase_shared.specs.declared.rule.View.{View}
-use Rattle.phase_shared.specs.Regs.{place_in, view_in, phaser_place, phaser_terms}
-use Rattle.phase_shared.specs.Calls.{Leaves, HasLeft}
-use Rattle.phase_shared.proofs.Opening.{Opened, opened, closed}
+use Rattle.phase_shared.specs.declared.view.View.{View}
+use Rattle.phase_shared.specs.Regs.{RegState, reg_state, phaser_place, phaser_terms}
+use Rattle.phase_shared.proofs.Opening.{opened, closed}
 use Rattle.phase_shared.proofs.reg.Reg.try_leave.Goals as goal
 
 pub unreachable-requires : goal.unreachable-requires
@@ -47,7 +45,7 @@ invariant_of-result-in-Err g c =
 
 pub returns-in-Err-clause-alone : goal.returns-in-Err-clause-alone
 returns-in-Err-clause-alone g c only =
-    let seen : (front_of (seat_view c.in-Some.seat)).seen ≡ c.args.self.seen =
-    ap (λ o. (front_of (view_in o)).seen) (sym c.in-Some.is) ∙ ap (λ r. r.seen) c.self.view_is in
-    let number = ap (λ r. r.number) c.self.view_is in
-    c.in-Err.ensures.alone (λ t used. only t (subst (λ (h : History). IsUsed h t) seen used) ∙ sym number)
+    let is : reg_state (Some c.in-Some.seat) c.self.inside.number c.self.inside.entry c.self.inside.pending ≡ c.args.self =
+    ap (λ o. reg_state o c.self.inside.number c.self.inside.entry c.self.inside.pending) (sym c.in-Some.is) ∙ c.self.view_is in
+    let Q : RegState g.row.A.Denot g.row.K.Denot → Type 0 = λ r. OnlyUsed (r.number ∷ []) r.seen in
+    c.in-Err.ensures.alone (subst Q (sym is) only)

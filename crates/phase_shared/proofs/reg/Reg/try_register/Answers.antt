@@ -1,18 +1,14 @@
-use Rattle.std.proofs.Common.{◌≡◌, Some, None, true, false, sym, subst, ap, refl, ◌∙◌}
-use Rattle.std.specs.Prelude.{is_some, IfOk, Result}
-use Rattle.turn_lock.specs.Seats.{IsSeatOf}
-use Rattle.phase_shared.specs.Rule.{IsStation}
-use Rattle.turn_lock.specs.Seats.{lock_name, seat_view, seat_place}
-use Rattle.phase_history.specs.Histories.{History}
-use Rattle.phase_history.specs.Others.{IsUsed}
+use Rattle.std.proofs.Common.{◌≡◌, [], ◌∷◌, Some, Err, true, false, sym, subst, ap, ◌∙◌}
+use Rattle.std.specs.Prelude.{is_some, Result, IfOk}
+use Rattle.turn_lock.specs.Seats.{seat_view, IsSeatOf}
+use Rattle.phase_history.specs.Others.{OnlyUsed}
 use Rattle.phase_shared.specs.Views.{front_of}
-use Rattle.phase_shared.specs.Regs.{place_in, view_in, phaser_place, phaser_terms}
-use Rattle.phase_shared.specs.Calls.{HasRegistered, RefusesRegister}
-use Rattle.phase_shared.proofs.Opening.{Opened, opened, closed}
+use Rattle.phase_shared.specs.Rule.{IsStation}
+use Rattle.phase_shared.specs.Regs.{RegState, reg_state, phaser_place, phaser_terms}
+use Rattle.phase_shared.proofs.Opening.{opened, closed, reg_is}
+use Rattle.phase_shared.specs.declared.refusal.Tried.TheVariants.{Busy}
 use Rattle.phase_shared.proofs.reg.Reg.try_register.Goals as goal
 use Rattle.phase_shared.proofs.reg.Reg.try_register.Goals.{in-Ok, in-Err}
-use Rattle.phase_shared.specs.declared.tried.Tried.TheVariants.{Busy}
-use Rattle.std.proofs.Common.{Err}
 
 pub unreachable-requires : goal.unreachable-requires
 unreachable-requires g c =
@@ -21,20 +17,19 @@ unreachable-requires g c =
 
 pub register-seat-requires : goal.register-seat-requires
 register-seat-requires g c =
-    let terms = phaser_terms c.args.phaser.now in
     let p = phaser_place c.args.phaser.now in
-    let number = ap (λ r. r.number) c.self.view_is in
-    let held = ap (λ r. r.held) c.self.view_is in
-    let o = opened g.K.SignalRule.allows p.0 terms c.self.inside.number c.self.inside.entry c.self.inside.seat c.in-Some.seat
+    let terms = phaser_terms c.args.phaser.now in
+    let inside = c.self.inside in
+    let o = opened g.K.SignalRule.allows p.0 terms inside.number inside.entry inside.seat c.in-Some.seat
     (sym c.take.ensures.value ∙ c.in-Some.is) c.self.invariant (ap (λ r. r.at) c.self.view_is ∙ c.requires.at) in
-    let seen : (front_of (seat_view c.in-Some.seat)).seen ≡ c.args.self.now.seen =
-    ap (λ o. (front_of (view_in o)).seen) (sym c.in-Some.is ∙ c.take.ensures.value) ∙ ap (λ r. r.seen) c.self.view_is in
     record { seat = o.at; at = o.station }
 
 pub invariant_of-self : goal.invariant_of-self
 invariant_of-self g c =
     let p = phaser_place c.args.phaser.now in
-    closed g.K.SignalRule.allows p.0 (phaser_terms c.args.phaser.now) c.self.inside.number c.self.inside.entry c.register-seat.result.0 c.register-seat.ensures.seat c.register-seat.ensures.at
+    let terms = phaser_terms c.args.phaser.now in
+    let inside = c.self.inside in
+    closed g.K.SignalRule.allows p.0 terms inside.number inside.entry c.register-seat.result.0 c.register-seat.ensures.seat c.register-seat.ensures.at
 
 pub invariant_of-result : goal.invariant_of-result
 invariant_of-result g c =
@@ -51,11 +46,15 @@ same_err x y e = cc
 
 pub returns-clause-alone : goal.returns-clause-alone
 returns-clause-alone g c only busy =
-    let seen : (front_of (seat_view c.in-Some.seat)).seen ≡ c.args.self.now.seen =
-    ap (λ o. (front_of (view_in o)).seen) (sym c.in-Some.is ∙ c.take.ensures.value) ∙ ap (λ r. r.seen) c.self.view_is in
-    let number = ap (λ r. r.number) c.self.view_is in
+    let p = phaser_place c.args.phaser.now in
+    let terms = phaser_terms c.args.phaser.now in
+    let inside = c.self.inside in
+    let is : reg_state (Some c.in-Some.seat) inside.number inside.entry inside.pending ≡ c.args.self.now =
+    reg_is g.K.SignalRule.allows p.0 terms inside.number inside.entry inside.pending inside.seat c.in-Some.seat c.args.self.now
+    (sym c.take.ensures.value ∙ c.in-Some.is) c.self.view_is in
+    let Q : RegState g.row.A.Denot g.row.K.Denot → Type 0 = λ r. OnlyUsed (r.number ∷ []) r.seen in
     elim c.match-answer.branch [
       | in-Ok w ↦ absurd (let z = sym w.result-is ∙ busy in cc)
-      | in-Err w ↦ c.register-seat.ensures.alone (λ t used. only t (subst (λ (h : History). IsUsed h t) seen used) ∙ sym number)
-          (w.in-Err.is ∙ ap Err (same_err w.in-Err.e Busy (sym w.result-is ∙ busy)))
+      | in-Err w ↦ c.register-seat.ensures.alone (subst Q (sym is) only)
+          (w.in-Err.is ∙ ap Err (same_err w.in-Err.tried Busy (sym w.result-is ∙ busy)))
     ]

@@ -1,15 +1,12 @@
-use Rattle.std.proofs.Common.{◌≡◌, ℤ, List, [], ◌∷◌, Some, None, true, false, sym, subst, ap, refl, ◌∙◌}
-use Rattle.std.specs.Prelude.{is_some}
-use Rattle.turn_lock.specs.Seats.{lock_name, seat_view, seat_place}
-use Rattle.phase_history.specs.Histories.{History}
-use Rattle.phase_history.specs.Others.{IsUsed}
+use Rattle.std.proofs.Common.{◌≡◌, ℕ, Some, Ok, Err, true, false, sym, subst, ap, ◌∙◌}
+use Rattle.std.specs.Prelude.{is_some, Result}
+use Rattle.turn_lock.specs.Seats.{seat_view, IsSameSeat}
 use Rattle.phase_shared.specs.Views.{front_of}
-use Rattle.phase_accum.specs.Parcels.{Parcel, StandsForSends}
-use Rattle.phase_shared.specs.Rule.{IsGoodAt}
-use Rattle.phase_history.specs.Others.{OthersCame}
-use Rattle.phase_shared.specs.Regs.{RegState, reg_state, place_in, view_in, phaser_place, phaser_terms}
-use Rattle.phase_shared.specs.Calls.{Signals, RefusesSignal, MaySignal}
-use Rattle.phase_shared.proofs.Opening.{Opened, opened, closed}
+use Rattle.phase_shared.specs.Regs.{RegState, reg_state, phaser_place, phaser_terms, phaser_limits}
+use Rattle.phase_shared.specs.Calls.{Tries, Signals, MaySignal}
+use Rattle.phase_history.specs.declared.refusal.SignalRefusal.{SignalRefusal}
+use Rattle.phase_shared.proofs.Answering.{Tries-map}
+use Rattle.phase_shared.proofs.Opening.{opened, closed, same_reg, reg_is}
 use Rattle.phase_shared.proofs.reg.Reg.try_signal.Goals as goal
 
 pub unreachable-requires : goal.unreachable-requires
@@ -19,26 +16,66 @@ unreachable-requires g c =
 
 pub signal-seat-requires : goal.signal-seat-requires
 signal-seat-requires g c =
-    let terms = phaser_terms c.args.phaser.now in
     let p = phaser_place c.args.phaser.now in
-    let number = ap (λ r. r.number) c.self.view_is in
-    let held = ap (λ r. r.held) c.self.view_is in
-    let o = opened g.K.SignalRule.allows p.0 terms c.self.inside.number c.self.inside.entry c.self.inside.seat c.in-Some.seat
+    let terms = phaser_terms c.args.phaser.now in
+    let inside = c.self.inside in
+    let o = opened g.K.SignalRule.allows p.0 terms inside.number inside.entry inside.seat c.in-Some.seat
     (sym c.take.ensures.value ∙ c.in-Some.is) c.self.invariant (ap (λ r. r.at) c.self.view_is ∙ c.requires.at) in
-    let seen : (front_of (seat_view c.in-Some.seat)).seen ≡ c.args.self.now.seen =
-    ap (λ o. (front_of (view_in o)).seen) (sym c.in-Some.is ∙ c.take.ensures.value) ∙ ap (λ r. r.seen) c.self.view_is in
     let P : RegState g.row.A.Denot g.row.K.Denot → Type 0 = λ r. MaySignal g.A.Accumulate.operation g.K.SignalRule.allows terms r c.args.single in
-    let may : P (reg_state c.self.inside.seat c.self.inside.number c.self.inside.entry c.self.inside.pending) = subst P (sym c.self.view_is) c.requires.rule in
-    let Q : History → Type 0 = λ h. (k : History) (sends : List ℤ) → IsGoodAt g.K.SignalRule.allows terms k → OthersCame (c.self.inside.number ∷ []) h k
-    → StandsForSends g.A.Accumulate.operation c.self.inside.pending sends → g.K.SignalRule.allows terms.rule k c.self.inside.number (sends ∷ []) c.args.single in
-    record { seat = o.at; at = o.station; rule = subst Q (ap (λ o. (front_of (view_in o)).seen) (sym c.take.ensures.value ∙ c.in-Some.is)) may }
+    let is : reg_state (Some c.in-Some.seat) inside.number inside.entry inside.pending ≡ c.args.self.now =
+    reg_is g.K.SignalRule.allows p.0 terms inside.number inside.entry inside.pending inside.seat c.in-Some.seat c.args.self.now
+    (sym c.take.ensures.value ∙ c.in-Some.is) c.self.view_is in
+    record { seat = o.at; at = o.station; rule = subst P (sym is) c.requires.rule }
 
 pub invariant_of-self : goal.invariant_of-self
 invariant_of-self g c =
     let p = phaser_place c.args.phaser.now in
-    closed g.K.SignalRule.allows p.0 (phaser_terms c.args.phaser.now) c.self.inside.number c.signal-seat.result.1 c.signal-seat.result.0 c.signal-seat.ensures.seat c.signal-seat.ensures.at
+    let terms = phaser_terms c.args.phaser.now in
+    let inside = c.self.inside in
+    closed g.K.SignalRule.allows p.0 terms inside.number c.signal-seat.result.1 c.signal-seat.result.0 c.signal-seat.ensures.seat c.signal-seat.ensures.at
 
 pub invariant_of-self-in-Err : goal.invariant_of-self-in-Err
 invariant_of-self-in-Err g c =
     let p = phaser_place c.args.phaser.now in
-    closed g.K.SignalRule.allows p.0 (phaser_terms c.args.phaser.now) c.self.inside.number c.signal-seat.result.1 c.signal-seat.result.0 c.signal-seat.ensures.seat c.signal-seat.ensures.at
+    let terms = phaser_terms c.args.phaser.now in
+    let inside = c.self.inside in
+    closed g.K.SignalRule.allows p.0 terms inside.number c.signal-seat.result.1 c.signal-seat.result.0 c.signal-seat.ensures.seat c.signal-seat.ensures.at
+
+pub returns-in-Ok-clause-call : goal.returns-in-Ok-clause-call
+returns-in-Ok-clause-call g c =
+    let p = phaser_place c.args.phaser.now in
+    let terms = phaser_terms c.args.phaser.now in
+    let inside = c.self.inside in
+    let is : reg_state (Some c.in-Some.seat) inside.number inside.entry inside.pending ≡ c.args.self.now =
+    reg_is g.K.SignalRule.allows p.0 terms inside.number inside.entry inside.pending inside.seat c.in-Some.seat c.args.self.now
+    (sym c.take.ensures.value ∙ c.in-Some.is) c.self.view_is in
+    let limits = phaser_limits c.args.phaser.now in
+    let op = g.A.Accumulate.operation in
+    let s = c.in-Some.seat in
+    let s' = c.signal-seat.result.0 in
+    let P : RegState g.row.A.Denot g.row.K.Denot → Type 0 = λ old.
+    Signals op limits old.number old.held c.args.single old.seen (front_of (seat_view s')).seen (Ok c.in-Ok.phase) in
+    subst P is (subst (λ r. Tries (IsSameSeat s s' × (c.signal-seat.result.1 ≡ inside.entry))
+    (Signals op limits inside.number inside.pending c.args.single (front_of (seat_view s)).seen (front_of (seat_view s')).seen) r)
+    c.in-Ok.is c.signal-seat.ensures.call)
+
+pub returns-in-Err-clause-call : goal.returns-in-Err-clause-call
+returns-in-Err-clause-call g c =
+    let p = phaser_place c.args.phaser.now in
+    let terms = phaser_terms c.args.phaser.now in
+    let inside = c.self.inside in
+    let is : reg_state (Some c.in-Some.seat) inside.number inside.entry inside.pending ≡ c.args.self.now =
+    reg_is g.K.SignalRule.allows p.0 terms inside.number inside.entry inside.pending inside.seat c.in-Some.seat c.args.self.now
+    (sym c.take.ensures.value ∙ c.in-Some.is) c.self.view_is in
+    let limits = phaser_limits c.args.phaser.now in
+    let op = g.A.Accumulate.operation in
+    let s = c.in-Some.seat in
+    let s' = c.signal-seat.result.0 in
+    let entry' = c.signal-seat.result.1 in
+    let call : Result ℕ SignalRefusal → Type 0 = λ answer. Signals op limits inside.number inside.pending c.args.single (front_of (seat_view s)).seen (front_of (seat_view s')).seen answer in
+    let P : RegState g.row.A.Denot g.row.K.Denot → Type 0 = λ old. Tries (reg_state (Some s') inside.number entry' inside.pending ≡ old)
+    (Signals op limits old.number old.held c.args.single old.seen (front_of (seat_view s')).seen) (Err c.in-Err.tried) in
+    subst P is (Tries-map (IsSameSeat s s' × (entry' ≡ inside.entry))
+    (reg_state (Some s') inside.number entry' inside.pending ≡ reg_state (Some s) inside.number inside.entry inside.pending) call call
+    (λ same. same_reg g.K.SignalRule.allows p.0 terms inside.number inside.entry entry' inside.pending s s' same.0 same.1) (λ answer w. w)
+    (Err c.in-Err.tried) (subst (λ r. Tries (IsSameSeat s s' × (entry' ≡ inside.entry)) call r) c.in-Err.is c.signal-seat.ensures.call))

@@ -1,12 +1,14 @@
-use Rattle.std.proofs.Common.{◌≡◌, Some, None, true, false, sym, subst, ap, refl, ◌∙◌}
-use Rattle.std.specs.Prelude.{is_some}
-use Rattle.turn_lock.specs.Seats.{lock_name, seat_view, seat_place}
-use Rattle.phase_history.specs.Histories.{History}
-use Rattle.phase_history.specs.Others.{IsUsed}
+use Rattle.std.proofs.Common.{◌≡◌, [], ◌∷◌, Some, true, false, sym, subst, ap, ◌∙◌}
+use Rattle.std.specs.Prelude.{is_some, Result}
+use Rattle.turn_lock.specs.Seats.{seat_view, IsSameSeat}
+use Rattle.phase_history.specs.Others.{OnlyUsed}
 use Rattle.phase_shared.specs.Views.{front_of}
-use Rattle.phase_shared.specs.Regs.{place_in, view_in, phaser_place, phaser_terms}
-use Rattle.phase_shared.specs.Calls.{Waits}
-use Rattle.phase_shared.proofs.Opening.{Opened, opened, closed}
+use Rattle.phase_shared.specs.Regs.{RegState, reg_state, phaser_place, phaser_terms, phaser_limits}
+use Rattle.phase_shared.specs.Calls.{Tries, Waits}
+use Rattle.phase_history.specs.declared.got.Got.{Got}
+use Rattle.phase_history.specs.declared.refusal.WaitRefusal.{WaitRefusal}
+use Rattle.phase_shared.proofs.Answering.{Tries-map}
+use Rattle.phase_shared.proofs.Opening.{opened, closed, same_reg, reg_is}
 use Rattle.phase_shared.proofs.reg.Reg.try_wait.Goals as goal
 
 pub unreachable-requires : goal.unreachable-requires
@@ -17,35 +19,53 @@ unreachable-requires g c =
 pub wait-seat-requires : goal.wait-seat-requires
 wait-seat-requires g c =
     let p = phaser_place c.args.phaser.now in
-    let o = opened g.K.SignalRule.allows p.0 (phaser_terms c.args.phaser.now) c.self.inside.number c.self.inside.entry c.self.inside.seat c.in-Some.seat
+    let terms = phaser_terms c.args.phaser.now in
+    let inside = c.self.inside in
+    let o = opened g.K.SignalRule.allows p.0 terms inside.number inside.entry inside.seat c.in-Some.seat
     (sym c.take.ensures.value ∙ c.in-Some.is) c.self.invariant (ap (λ r. r.at) c.self.view_is ∙ c.requires.at) in
     record { seat = o.at; at = o.station }
 
 pub invariant_of-self : goal.invariant_of-self
 invariant_of-self g c =
     let p = phaser_place c.args.phaser.now in
-    closed g.K.SignalRule.allows p.0 (phaser_terms c.args.phaser.now) c.self.inside.number c.wait-seat.result.1 c.wait-seat.result.0 c.wait-seat.ensures.seat c.wait-seat.ensures.at
+    let terms = phaser_terms c.args.phaser.now in
+    let inside = c.self.inside in
+    closed g.K.SignalRule.allows p.0 terms inside.number c.wait-seat.result.1 c.wait-seat.result.0 c.wait-seat.ensures.seat c.wait-seat.ensures.at
 
 pub returns-clause-at : goal.returns-clause-at
-returns-clause-at g c = (c.wait-seat.ensures.seat ∙ sym c.requires.at, ap (λ r. r.number) c.self.view_is, ap (λ r. r.held) c.self.view_is)
+returns-clause-at g c = (c.wait-seat.ensures.seat ∙ sym c.requires.at, ap (λ r. r.number) c.self.view_is)
 
 pub returns-clause-good : goal.returns-clause-good
 returns-clause-good g c = c.wait-seat.ensures.at.good
 
 pub returns-clause-call : goal.returns-clause-call
 returns-clause-call g c =
+    let p = phaser_place c.args.phaser.now in
     let terms = phaser_terms c.args.phaser.now in
+    let inside = c.self.inside in
+    let is : reg_state (Some c.in-Some.seat) inside.number inside.entry inside.pending ≡ c.args.self.now =
+    reg_is g.K.SignalRule.allows p.0 terms inside.number inside.entry inside.pending inside.seat c.in-Some.seat c.args.self.now
+    (sym c.take.ensures.value ∙ c.in-Some.is) c.self.view_is in
+    let limits = phaser_limits c.args.phaser.now in
     let value = g.A.Accumulate.operation.value in
-    let new = (front_of (seat_view c.wait-seat.result.0)).seen in
-    let seen : (front_of (seat_view c.in-Some.seat)).seen ≡ c.args.self.now.seen =
-    ap (λ o. (front_of (view_in o)).seen) (sym c.in-Some.is ∙ c.take.ensures.value) ∙ ap (λ r. r.seen) c.self.view_is in
-    let number = ap (λ r. r.number) c.self.view_is in
-    subst (λ (h : History). Waits value terms.limits c.args.self.now.number h new c.wait-seat.result.2) seen
-    (subst (λ n. Waits value terms.limits n (front_of (seat_view c.in-Some.seat)).seen new c.wait-seat.result.2) number c.wait-seat.ensures.call)
+    let s = c.in-Some.seat in
+    let s' = c.wait-seat.result.0 in
+    let entry' = c.wait-seat.result.1 in
+    let call : Result Got WaitRefusal → Type 0 = λ answer. Waits value limits inside.number (front_of (seat_view s)).seen (front_of (seat_view s')).seen answer in
+    let P : RegState g.row.A.Denot g.row.K.Denot → Type 0 = λ old. Tries (reg_state (Some s') inside.number entry' inside.pending ≡ old)
+    (Waits value limits old.number old.seen (front_of (seat_view s')).seen) c.wait-seat.result.2 in
+    subst P is (Tries-map (IsSameSeat s s' × (entry' ≡ inside.entry))
+    (reg_state (Some s') inside.number entry' inside.pending ≡ reg_state (Some s) inside.number inside.entry inside.pending) call call
+    (λ same. same_reg g.K.SignalRule.allows p.0 terms inside.number inside.entry entry' inside.pending s s' same.0 same.1) (λ answer w. w)
+    c.wait-seat.result.2 c.wait-seat.ensures.call)
 
 pub returns-clause-alone : goal.returns-clause-alone
 returns-clause-alone g c only =
-    let seen : (front_of (seat_view c.in-Some.seat)).seen ≡ c.args.self.now.seen =
-    ap (λ o. (front_of (view_in o)).seen) (sym c.in-Some.is ∙ c.take.ensures.value) ∙ ap (λ r. r.seen) c.self.view_is in
-    let number = ap (λ r. r.number) c.self.view_is in
-    c.wait-seat.ensures.alone (λ t used. only t (subst (λ (h : History). IsUsed h t) seen used) ∙ sym number)
+    let p = phaser_place c.args.phaser.now in
+    let terms = phaser_terms c.args.phaser.now in
+    let inside = c.self.inside in
+    let is : reg_state (Some c.in-Some.seat) inside.number inside.entry inside.pending ≡ c.args.self.now =
+    reg_is g.K.SignalRule.allows p.0 terms inside.number inside.entry inside.pending inside.seat c.in-Some.seat c.args.self.now
+    (sym c.take.ensures.value ∙ c.in-Some.is) c.self.view_is in
+    let Q : RegState g.row.A.Denot g.row.K.Denot → Type 0 = λ r. OnlyUsed (r.number ∷ []) r.seen in
+    c.wait-seat.ensures.alone (subst Q (sym is) only)
