@@ -2,6 +2,6 @@ pub mod Keeping
 pub mod Giving
 pub mod Answering
 pub mod Opening
-pub mod Signalling
-pub mod Waiting
-pub mod Registering
+pub mod SignalSteps
+pub mod WaitSteps
+pub mod RegisterSteps

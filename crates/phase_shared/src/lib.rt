@@ -13,6 +13,7 @@ mod steps;
 mod tests;
 mod trying;
 mod view;
+mod waiting;
 
 pub use past::Past;
 pub use phaser::Phaser;

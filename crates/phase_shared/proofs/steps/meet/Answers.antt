@@ -9,7 +9,7 @@ use Rattle.phase_shared.specs.Rule.{IsStation}
 use Rattle.phase_shared.specs.declared.view.View.{View}
 use Rattle.phase_shared.specs.declared.view.View.TheVariants.{Resting}
 use Rattle.phase_shared.proofs.Giving.{still_member}
-use Rattle.phase_shared.proofs.Registering.{forks_child}
+use Rattle.phase_shared.proofs.RegisterSteps.{forks_child}
 use Rattle.phase_shared.proofs.steps.meet.Goals as goal
 
 pub join-both-requires : goal.join-both-requires

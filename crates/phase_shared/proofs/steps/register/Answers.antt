@@ -18,7 +18,7 @@ use Rattle.phase_history.specs.declared.refusal.RegisterRefusal.TheVariants as r
 use Rattle.phase_history.proofs.Answered.{register_refusal-never}
 use Rattle.phase_shared.specs.declared.view.View.{View}
 use Rattle.phase_shared.proofs.Giving.{gives_same, station, lent, plain_event, PlainEvent}
-use Rattle.phase_shared.proofs.Registering.{NewChild, new_child, gives_child, forks_child, refuses, child_is_next}
+use Rattle.phase_shared.proofs.RegisterSteps.{NewChild, new_child, gives_child, forks_child, refuses, child_is_next}
 use Rattle.phase_shared.proofs.steps.register.Goals as goal
 
 -- the child is a member now

@@ -15,7 +15,7 @@ use Rattle.phase_history.specs.Refusals.{signal_refusal}
 use Rattle.phase_history.proofs.Answered.{signal_refusal-never}
 use Rattle.phase_shared.proofs.Answering.{refused_is}
 use Rattle.phase_shared.proofs.Giving.{gives_event, gives_same, station, lent}
-use Rattle.phase_shared.proofs.Signalling.{SignalledAt, signalled_at, member_after_signal}
+use Rattle.phase_shared.proofs.SignalSteps.{SignalledAt, signalled_at, member_after_signal}
 use Rattle.phase_shared.proofs.steps.signal.Goals as goal
 
 pub put_back-requires-clause-rule : goal.put_back-requires-clause-rule

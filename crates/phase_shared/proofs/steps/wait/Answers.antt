@@ -17,7 +17,7 @@ use Rattle.phase_history.specs.Replies.{got_at}
 use Rattle.phase_history.proofs.Answered.{wait_refusal-never}
 use Rattle.phase_shared.proofs.Answering.{refused_is}
 use Rattle.phase_shared.proofs.Giving.{gives_event, gives_same, station, lent, plain_event, PlainEvent}
-use Rattle.phase_shared.proofs.Waiting.{after_value, after_ended, member_after_wait}
+use Rattle.phase_shared.proofs.WaitSteps.{after_value, after_ended, member_after_wait}
 use Rattle.phase_shared.proofs.steps.wait.Goals as goal
 
 pub unreachable-requires : goal.unreachable-requires
