@@ -2,3 +2,4 @@ pub mod Views
 pub mod Rule
 pub mod Calls
 pub mod Regs
+pub mod OneSends

@@ -2,6 +2,7 @@
 #![tactic(auto)]
 
 mod hints;
+pub mod one_send;
 mod past;
 mod phaser;
 mod plays;

@@ -65,7 +65,7 @@ impl<A: Accumulate, K: SignalRule> Reg<A, K> {
             × (self.old.held.count ≡ SENDS_MAX)) }
         ensures err { OnErr result (self.new ≡ self.old) }
     {
-        if !self.entry.mode.signals() {
+        if !self.mode().signals() {
             return Err(SendRefusal::NoSignal);
         }
         match self.pending.send(value) {

@@ -1,6 +1,7 @@
 ghost use Rattle.std.specs.Prelude.{◌≡◌};
 ghost use Rattle.phase_shared.specs.Regs.{phaser_place};
 
+use crate::one_send::{OneSend, try_signal_value};
 use crate::{NoRule, Past, Phaser, Reg, SendRefusal, Tried};
 use phase_accum::{Outcome, Sum};
 use phase_base::{Mode, Spec};
@@ -153,5 +154,26 @@ fn a_waiter_sends_nothing_and_has_no_signaller(rt: HostRuntime) -> Result<(), Fa
     let _past = founder.leave(&rt, &phaser);
     assert_eq!(rt; waiter.try_wait(&phaser), Ok(Got::Ended));
     let _past = waiter.leave(&rt, &phaser);
+    Ok(())
+}
+
+#[test]
+fn one_send_rule(rt: HostRuntime) -> Result<(), Fail> {
+    let (phaser, mut founder) = Phaser::<Sum, OneSend>::make(
+        rt.alloc(),
+        Spec::new(1, 1000)?,
+        OneSend,
+    )?;
+    let mode = founder.mode();
+    let answer = if mode.signals() {
+        Some(try_signal_value(&phaser, &mut founder, 3))
+    } else {
+        None
+    };
+    let got = founder.try_wait(&phaser);
+    let _past = founder.leave(&rt, &phaser);
+    assert_eq!(rt; answer, Some(Ok(0)));
+    let outcome = Outcome::Value(3);
+    assert_eq!(rt; got, Ok(Got::Value { phase: 0, outcome }));
     Ok(())
 }
