@@ -5,3 +5,4 @@ pub mod Opening
 pub mod SignalSteps
 pub mod WaitSteps
 pub mod RegisterSteps
+pub mod NextSteps

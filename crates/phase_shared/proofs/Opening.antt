@@ -10,7 +10,7 @@ use Rattle.atomic_table.specs.Seated.{TableId}
 use Rattle.phase_base.specs.declared.entry.Entry.{Entry}
 use Rattle.phase_shared.specs.declared.view.View.{View}
 use Rattle.phase_shared.specs.declared.rule.Terms.{Terms}
-use Rattle.phase_shared.specs.Rule.{Allows, IsStation}
+use Rattle.phase_shared.specs.Rule.{Allows, IsGoodAt, IsStation}
 use Rattle.phase_shared.specs.Regs.{IsReg, place_in, view_in}
 
 same_some : {A : Type 0} (x y : A) → Some x ≡ Some y → x ≡ y
@@ -48,3 +48,10 @@ module _ {T K : Type 0} (allows : K → Allows) (table : TableId) (terms : Terms
   pub reg_is : {A : Type 0} (entry : Entry) (held : Parcel A) (o : Option (Seat T (Terms K) View)) (s : Seat T (Terms K) View) (reg : RegState A K)
       → o ≡ Some s → reg_state o me entry held ≡ reg → reg_state (Some s) me entry held ≡ reg
   reg_is entry held o s reg is seen = ap (λ p. reg_state p me entry held) (sym is) ∙ seen
+
+  -- what a registration has seen is good
+  pub good_of : (entry : Entry) (o : Option (Seat T (Terms K) View)) → IsReg allows o me entry → place_in o ≡ (table, Some terms)
+      → IsGoodAt allows terms (front_of (view_in o)).seen
+  good_of entry o r at =
+      let same : r.terms ≡ terms = same_some r.terms terms (sym r.named ∙ ap (λ p. p.1) at) in
+      subst (λ (t : Terms K). IsGoodAt allows t (front_of (view_in o)).seen) same r.station.good

@@ -2,4 +2,5 @@ pub mod Views
 pub mod Rule
 pub mod Calls
 pub mod Regs
+pub mod Nexts
 pub mod OneSends

@@ -2,6 +2,7 @@
 #![tactic(auto)]
 
 mod hints;
+mod next;
 pub mod one_send;
 mod past;
 mod phaser;
@@ -16,6 +17,7 @@ mod trying;
 mod view;
 mod waiting;
 
+pub use next::Next;
 pub use past::Past;
 pub use phaser::Phaser;
 pub use refusal::{SendRefusal, Tried};

@@ -2,8 +2,8 @@ ghost use Rattle.std.specs.Prelude.{◌≡◌};
 ghost use Rattle.phase_shared.specs.Regs.{phaser_place};
 
 use crate::one_send::{OneSend, try_signal_value};
-use crate::{NoRule, Past, Phaser, Reg, SendRefusal, Tried};
-use phase_accum::{Outcome, Sum};
+use crate::{Next, NoRule, Past, Phaser, Reg, SendRefusal, Tried};
+use phase_accum::{Outcome, Single, Sum};
 use phase_base::{Mode, Spec};
 use phase_core::{Got, RegisterRefusal, SignalRefusal, WaitRefusal};
 use std::sync::Wait;
@@ -175,5 +175,59 @@ fn one_send_rule(rt: HostRuntime) -> Result<(), Fail> {
     assert_eq!(rt; answer, Some(Ok(0)));
     let outcome = Outcome::Value(3);
     assert_eq!(rt; got, Ok(Got::Value { phase: 0, outcome }));
+    Ok(())
+}
+
+fn turned(phase: u64, value: i64) -> Result<Next, SignalRefusal> {
+    let outcome = Outcome::Value(value);
+    Ok(Next {
+        signalled: Some(phase),
+        got: Some(Got::Value { phase, outcome }),
+    })
+}
+
+#[test]
+fn a_founder_alone_goes_on_by_itself(rt: HostRuntime) -> Result<(), Fail> {
+    let (phaser, mut founder) = Phaser::<Sum, NoRule>::make(
+        rt.alloc(),
+        Spec::new(1, 1000)?,
+        NoRule,
+    )?;
+    let is_held = founder.send(5).is_ok();
+    let first = founder.next(&rt, &phaser, None);
+    let second = founder.next(&rt, &phaser, None);
+    let Ok(mut waiter) = founder.register(&rt, &phaser, Mode::Wait) else {
+        panic!(rt; "the founder holds a waiter")
+    };
+    let Ok(mut signaller) = founder.register(&rt, &phaser, Mode::Sig) else {
+        panic!(rt; "the founder holds a signaller")
+    };
+    let _past = founder.leave(&rt, &phaser);
+    let alone = signaller.next(&rt, &phaser, None);
+    let refused = waiter.next(&rt, &phaser, Some(Single::Abs));
+    let got = waiter.next(&rt, &phaser, None);
+    let _past = signaller.leave(&rt, &phaser);
+    let _past = waiter.leave(&rt, &phaser);
+    assert!(rt; is_held);
+    assert_eq!(rt; first, turned(0, 5));
+    assert_eq!(rt; second, turned(1, 0));
+    let signalled = Some(2);
+    assert_eq!(rt;
+        alone,
+        Ok(Next {
+            signalled,
+            got: None
+        })
+    );
+    assert_eq!(rt; refused, Err(SignalRefusal::NotSingle));
+    let outcome = Outcome::Value(0);
+    let value = Some(Got::Value { phase: 2, outcome });
+    assert_eq!(rt;
+        got,
+        Ok(Next {
+            signalled: None,
+            got: value
+        })
+    );
     Ok(())
 }
