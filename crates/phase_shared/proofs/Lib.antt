@@ -1,0 +1,8 @@
+pub mod Keeping
+pub mod Giving
+pub mod Answering
+pub mod Opening
+pub mod SignalSteps
+pub mod WaitSteps
+pub mod RegisterSteps
+pub mod NextSteps

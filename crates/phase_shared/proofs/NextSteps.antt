@@ -1,0 +1,122 @@
+-- A wait after a signal.
+use Rattle.std.proofs.Common.{◌≡◌, ◌≢◌, ℕ, ◌+◌, ◌≤◌, ℤ, Bool, true, false, not, ◌&&◌, cond, eqb, leb, ltb, List, [], ◌∷◌, Option, Some, None, refl, sym, ap, subst, ◌∙◌, arith}
+use Rattle.std.proofs.lemmas.Bool.{ne_eqb}
+use Rattle.std.proofs.lemmas.Bool.Decides.{nat_tests}
+use Rattle.phase_base.specs.Limits.{Limits, AreLimits}
+use Rattle.phase_base.specs.Modes.{mode_signals, mode_waits}
+use Rattle.phase_base.specs.declared.mode.Mode.{Mode}
+use Rattle.phase_base.specs.declared.mode.Mode.TheVariants.{Sig, Wait, SigWait, Single as Singles}
+use Rattle.phase_base.specs.declared.entry.Entry.{Entry}
+use Rattle.std.specs.Prelude.{is_some}
+use Rattle.phase_base.specs.Members.{entry_of, signalled, signal_phases}
+use Rattle.phase_base.specs.Members.{least as least_of}
+use Rattle.phase_accum.specs.declared.single.Single.{Single}
+use Rattle.phase_history.specs.declared.event.Event.{Event}
+use Rattle.phase_history.specs.declared.event.Event.TheVariants.{Made, Registered, RegisteredNow, Signalled, Waited, Dropped}
+use Rattle.phase_history.specs.declared.refusal.WaitRefusal.{WaitRefusal}
+use Rattle.phase_history.specs.declared.refusal.WaitRefusal.TheVariants as wait
+use Rattle.phase_history.specs.Histories.{History, members_of, positions_of, done_at}
+use Rattle.phase_history.specs.Legal.{IsLegal}
+use Rattle.phase_history.specs.Refusals.{first_row, refusal_at, wait_rows, wait_refusal, is_bad_block}
+use Rattle.phase_history.specs.Others.{OthersCame}
+use Rattle.phase_history.proofs.LawProofs.{turns_law}
+use Rattle.phase_history.proofs.MemberLemmas.{entry_of-changed_same}
+use Rattle.phase_history.proofs.Used.{entry_of-others}
+use Rattle.phase_shared.specs.Nexts.{MadeWhere}
+use Rattle.phase_shared.proofs.Keeping.{is_in_self}
+
+same_some : {A : Type 0} (x y : A) → Some x ≡ Some y → x ≡ y
+same_some x y e = cc
+
+-- a mode that does not signal waits
+pub waits_else : (mode : Mode) → mode_signals mode ≡ false → mode_waits mode ≡ true
+waits_else Sig none = absurd (cc)
+waits_else Wait none = refl
+waits_else SigWait none = absurd (cc)
+waits_else Singles none = absurd (cc)
+
+-- a legal history has limits that are within theirs
+pub limits_of : (limits : Limits) (h : History) → IsLegal limits h → AreLimits limits
+limits_of limits [] legal = absurd legal
+limits_of limits (Made task ∷ before) legal = legal.0
+limits_of limits (Registered parent child mode ∷ before) legal = limits_of limits before legal.0
+limits_of limits (RegisteredNow parent child ∷ before) legal = limits_of limits before legal.0
+limits_of limits (Signalled task lists single ∷ before) legal = limits_of limits before legal.0
+limits_of limits (Waited task n ∷ before) legal = limits_of limits before legal.0
+limits_of limits (Dropped task ∷ before) legal = limits_of limits before legal.0
+
+-- a task stands where it stood while others' events came
+pub member_after : (limits : Limits) (me : ℕ) (entry : Entry) (old now : History) → OthersCame (me ∷ []) old now → IsLegal limits now
+    → entry_of (members_of old) me ≡ Some entry → entry_of (members_of now) me ≡ Some entry
+member_after limits me entry old now came legal member =
+    ap (λ h. entry_of (members_of h) me) came.is
+    ∙ entry_of-others limits came.later old me entry (subst (λ (h : History). IsLegal limits h) came.is legal) (came.others me (is_in_self me [])) member
+
+-- where it stands after its signal
+pub signalled_member : (limits : Limits) (me : ℕ) (entry entry' : Entry) (old before new : History) (single : Option Single) (sends : List ℤ)
+    → OthersCame (me ∷ []) old before → new ≡ Signalled me (sends ∷ []) single ∷ before → IsLegal limits new
+    → entry_of (members_of old) me ≡ Some entry → entry_of (members_of new) me ≡ Some entry' → entry' ≡ signalled 1 entry
+signalled_member limits me entry entry' old before new single sends came seen legal member member' =
+    let all : IsLegal limits (Signalled me (sends ∷ []) single ∷ before) = subst (λ (h : History). IsLegal limits h) seen legal in
+    let there = member_after limits me entry old before came all.0 member in
+    same_some entry' (signalled 1 entry)
+    (sym member' ∙ ap (λ h. entry_of (members_of h) me) seen ∙ entry_of-changed_same me (signalled 1) entry (members_of before) there)
+
+-- after its signal a task that waits too is ahead of its waits
+pub signalled_apart : (limits : Limits) (me : ℕ) (entry entry' : Entry) (old before new : History) (single : Option Single) (sends : List ℤ)
+    → OthersCame (me ∷ []) old before → new ≡ Signalled me (sends ∷ []) single ∷ before → IsLegal limits new
+    → entry_of (members_of old) me ≡ Some entry → entry' ≡ signalled 1 entry → mode_signals entry.mode ≡ true → mode_waits entry.mode ≡ true
+    → entry'.signal_phase ≢ entry'.wait_phase
+signalled_apart limits me entry entry' old before new single sends came seen legal member is signals waits same =
+    let all : IsLegal limits (Signalled me (sends ∷ []) single ∷ before) = subst (λ (h : History). IsLegal limits h) seen legal in
+    let there = member_after limits me entry old before came all.0 member in
+    let turn = turns_law limits before me entry all.0 there signals waits in
+    let low : entry.wait_phase ≤ entry.signal_phase = turn.low in
+    let equal : entry.signal_phase + 1 ≡ entry.wait_phase = ap (λ (e : Entry). e.signal_phase) (sym is) ∙ same ∙ ap (λ (e : Entry). e.wait_phase) is in
+    absurd (omega arith)
+
+-- a wait whose task has signalled is refused for want of time alone
+pub only_early : (limits : Limits) (h : History) (me : ℕ) (entry : Entry) (refusal : WaitRefusal) → IsLegal limits h
+    → entry_of (members_of h) me ≡ Some entry → mode_waits entry.mode ≡ true
+    → (mode_signals entry.mode ≡ true → entry.signal_phase ≢ entry.wait_phase)
+    → wait_refusal limits h me 1 ≡ Some refusal → refusal ≡ wait.NotYet
+only_early limits h me entry refusal legal member waits apart refused =
+    let at : first_row (wait_rows limits (positions_of h) 1 entry) ≡ Some refusal =
+    sym (ap (λ o. refusal_at o wait.NoTask (wait_rows limits (positions_of h) 1)) member) ∙ refused in
+    let least : 1 ≤ limits.bound = (limits_of limits h legal).bound_least in
+    last_row (not (mode_waits entry.mode)) (is_bad_block limits 1) (mode_signals entry.mode && eqb entry.signal_phase entry.wait_phase)
+    (leb (done_at (positions_of h)) entry.wait_phase && is_some (least_of (signal_phases (members_of h)))) refusal
+    (ap not waits) (long_enough limits.bound least)
+    (not_both (mode_signals entry.mode) (eqb entry.signal_phase entry.wait_phase) (λ signals. ne_eqb entry.signal_phase entry.wait_phase (apart signals)))
+    at
+  where
+    last_row : (a b c d : Bool) (refusal : WaitRefusal) → a ≡ false → b ≡ false → c ≡ false
+        → cond a (Some wait.NoWait) (cond b (Some wait.BadBlock) (cond c (Some wait.SignalFirst) (cond d (Some wait.NotYet) None))) ≡ Some refusal
+        → refusal ≡ wait.NotYet
+    last_row true b c d refusal no_a no_b no_c is = absurd (cc)
+    last_row false true c d refusal no_a no_b no_c is = absurd (cc)
+    last_row false false true d refusal no_a no_b no_c is = absurd (cc)
+    last_row false false false true refusal no_a no_b no_c is = sym (same_some wait.NotYet refusal is)
+    last_row false false false false refusal no_a no_b no_c is = absurd (cc)
+
+    not_both : (a b : Bool) → (a ≡ true → b ≡ false) → (a && b) ≡ false
+    not_both true b none = none refl
+    not_both false b none = refl
+
+    long_enough : (bound : ℕ) → 1 ≤ bound → ltb bound 1 ≡ false
+    long_enough bound least = grind (arith, nat_tests)
+
+-- a call that is made where it can be
+pub made : {X : Type 0} (can : Bool) (call : X → Type 0) (nothing : Type 0) (answer : X) → can ≡ true → call answer → MadeWhere can call nothing (Some answer)
+made true call nothing answer yes' answered = answered
+made false call nothing answer yes' answered = absurd (cc)
+
+-- and one that is not made
+pub not_made : {X : Type 0} (can : Bool) (call : X → Type 0) (nothing : Type 0) → can ≡ false → nothing → MadeWhere can call nothing None
+not_made true call nothing no' none = absurd (cc)
+not_made false call nothing no' none = none
+
+-- no single was named
+pub is_none : (single : Option Single) → is_some single ≡ false → single ≡ None
+is_none None none = refl
+is_none (Some single) none = absurd (cc)

@@ -1,0 +1,27 @@
+use Rattle.std.proofs.Common.{◌≡◌, Err, Option, Some, sym, subst, ap, refl, ◌∙◌}
+use Rattle.phase_base.specs.Members.{entry_of}
+use Rattle.phase_history.specs.Histories.{History, members_of, wait_phase}
+use Rattle.phase_history.specs.Legal.{IsLegal}
+use Rattle.phase_history.specs.Refusals.{wait_refusal}
+use Rattle.phase_history.specs.Replies.{got_at}
+use Rattle.phase_shared.specs.Regs.{phaser_limits}
+use Rattle.phase_shared.specs.Calls.{Waits}
+use Rattle.phase_shared.proofs.Answering.{refused_is}
+use Rattle.phase_shared.proofs.NextSteps.{member_after, only_early}
+use Rattle.phase_shared.proofs.reg.Reg.wait_in_turn.Goals as goal
+
+-- it could be refused as too early alone, and waits until it is not
+pub unreachable-requires : goal.unreachable-requires
+unreachable-requires g c =
+    let old = c.args.self.now in
+    let new = c.wait.new.self.seen in
+    let limits = phaser_limits c.args.phaser.now in
+    let value = g.A.Accumulate.operation.value in
+    let refusal = c.in-Err.field-0 in
+    let waits : Waits value limits old.number old.seen new (Err refusal) =
+    subst (λ r. Waits value limits old.number old.seen new r) c.in-Err.is c.wait.ensures.call in
+    let legal : IsLegal limits waits.before = subst (λ (h : History). IsLegal limits h) waits.seen c.wait.ensures.good.legal in
+    let member = member_after limits old.number old.entry old.seen waits.before waits.others legal c.mode-mode.ensures.entry in
+    let refused = refused_is (wait_refusal limits waits.before old.number 1) (got_at value waits.before (wait_phase waits.before old.number)) refusal waits.reply in
+    let early = only_early limits waits.before old.number old.entry refusal legal member c.requires.waits c.requires.signalled refused in
+    c.wait.ensures.waited (c.in-Err.is ∙ ap Err early)

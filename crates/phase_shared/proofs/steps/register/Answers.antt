@@ -1,0 +1,236 @@
+use Rattle.std.proofs.Common.{◌≡◌, [], ◌∷◌, Some, None, sym, subst, ap, refl, ◌∙◌}
+use Rattle.std.specs.Prelude.{is_some}
+use Rattle.phase_shared.specs.Regs.{phaser_terms}
+use Rattle.turn_lock.specs.Seats.{seat_view, seat_number, turn_view, turn_value, turn_number}
+use Rattle.phase_history.specs.Histories.{History, members_of, entry_at, signal_phase, wait_phase, greatest_used}
+use Rattle.phase_base.specs.Members.{entry_of}
+use Rattle.phase_history.specs.Refusals.{register_refusal}
+use Rattle.phase_history.specs.declared.event.Event.TheVariants.{Registered}
+use Rattle.phase_core.specs.Cores.{CoreState}
+use Rattle.phase_history.proofs.MemberLemmas.{entry_of-push_old, entry_of-push_new}
+use Rattle.phase_history.proofs.Received.{fresh}
+use Rattle.phase_history.proofs.Steps.{sound_of}
+use Rattle.phase_shared.specs.Views.{resting, front_of, speaks_of, first_part, other_part}
+use Rattle.phase_shared.specs.Rule.{IsStation, StandsWithin}
+use Rattle.phase_shared.specs.Calls.{RefusesRegister, number_after}
+use Rattle.phase_history.specs.declared.refusal.RegisterRefusal.{RegisterRefusal}
+use Rattle.phase_history.specs.declared.refusal.RegisterRefusal.TheVariants as register
+use Rattle.phase_history.proofs.Answered.{register_refusal-never}
+use Rattle.phase_shared.specs.declared.view.View.{View}
+use Rattle.phase_shared.proofs.Giving.{gives_same, station, lent, plain_event, PlainEvent}
+use Rattle.phase_shared.proofs.RegisterSteps.{NewChild, new_child, gives_child, forks_child, refuses, child_is_next}
+use Rattle.phase_shared.proofs.steps.register.Goals as goal
+
+-- the child is a member now
+pub unreachable-requires : goal.unreachable-requires
+unreachable-requires g c =
+    let op = g.A.Accumulate.operation in
+    let allows = g.K.SignalRule.allows in
+    let terms = phaser_terms c.args.phaser.now in
+    let turn = c.in-Ok.turn in
+    let me = c.args.me in
+    let mode = c.args.mode in
+    let child = c.child_of-child.result in
+    let e = c.in-Ok.ensures.took in
+    let old = c.value-core.result.now in
+    let before : StandsWithin op terms.limits old e.now = lent op allows terms me (turn_value turn) old e.now c.value-core.ensures.value e.stands in
+    let accepted : register_refusal e.now me child mode ≡ None = c.in_default.ensures.ok e.now before.stands in
+    let new : NewChild e.now me child = new_child terms.limits e.now me child mode c.args.entry e.good.legal e.used accepted in
+    let event = Registered me child mode in
+    let s : PlainEvent op allows terms me e.now c.register-answer.new.self event =
+    plain_event op allows terms me e.now old c.register-answer.new.self event e.good before c.in_default.ensures.limits
+    (c.in_default.ensures.after e.now before.stands) e.good.keeps in
+    let found : entry_of (members_of (event ∷ e.now)) child ≡ Some (entry_at mode (signal_phase e.now me) (wait_phase e.now me)) =
+    entry_of-push_new (members_of e.now) child (entry_at mode (signal_phase e.now me) (wait_phase e.now me)) (fresh e.now child (sound_of terms.limits e.now e.good.legal) new.above) in
+    c.in_default-found.not-Some (entry_at mode (signal_phase e.now me) (wait_phase e.now me))
+    (c.view-found.ensures ∙ ap (λ ms. entry_of ms child) s.stands.stands.members_are ∙ found)
+
+pub put_back_with-both-requires-clause-rule : goal.put_back_with-both-requires-clause-rule
+put_back_with-both-requires-clause-rule g c =
+    let op = g.A.Accumulate.operation in
+    let allows = g.K.SignalRule.allows in
+    let terms = phaser_terms c.args.phaser.now in
+    let turn = c.in-Ok.turn in
+    let me = c.args.me in
+    let mode = c.args.mode in
+    let child = c.child_of-child.result in
+    let e = c.in-Ok.ensures.took in
+    let old = c.value-core.result.now in
+    let before : StandsWithin op terms.limits old e.now = lent op allows terms me (turn_value turn) old e.now c.value-core.ensures.value e.stands in
+    let accepted : register_refusal e.now me child mode ≡ None = c.in_default.ensures.ok e.now before.stands in
+    let new : NewChild e.now me child = new_child terms.limits e.now me child mode c.args.entry e.good.legal e.used accepted in
+    let event = Registered me child mode in
+    let s : PlainEvent op allows terms me e.now c.register-answer.new.self event =
+    plain_event op allows terms me e.now old c.register-answer.new.self event e.good before c.in_default.ensures.limits
+    (c.in_default.ensures.after e.now before.stands) e.good.keeps in
+    gives_child op allows terms me (turn_number turn) c.register-answer.new.self (turn_view turn) e.now child mode e.is e.used new s.good s.stands
+    (λ v w. w ≡ resting (event ∷ (front_of v).seen) (me ∷ child ∷ [])) refl
+
+pub give-requires-clause-rule : goal.give-requires-clause-rule
+give-requires-clause-rule g c =
+    let op = g.A.Accumulate.operation in
+    let allows = g.K.SignalRule.allows in
+    let terms = phaser_terms c.args.phaser.now in
+    let turn = c.in-Ok.turn in
+    let me = c.args.me in
+    let mode = c.args.mode in
+    let child = c.child_of-child.result in
+    let e = c.in-Ok.ensures.took in
+    let old = c.value-core.result.now in
+    let before : StandsWithin op terms.limits old e.now = lent op allows terms me (turn_value turn) old e.now c.value-core.ensures.value e.stands in
+    let after : StandsWithin op terms.limits c.register-answer.new.self e.now = subst (λ (z : CoreState g.row.A.Denot). StandsWithin op terms.limits z e.now) (sym c.in-Err-answer.ensures.err) before in
+    gives_same op allows terms me (turn_number turn) c.register-answer.new.self (turn_view turn) e.now e.is e.used e.good after
+
+pub split-seat-requires-clause-rule : goal.split-seat-requires-clause-rule
+split-seat-requires-clause-rule g c =
+    let op = g.A.Accumulate.operation in
+    let allows = g.K.SignalRule.allows in
+    let terms = phaser_terms c.args.phaser.now in
+    let turn = c.in-Ok.turn in
+    let me = c.args.me in
+    let mode = c.args.mode in
+    let child = c.child_of-child.result in
+    let e = c.in-Ok.ensures.took in
+    let old = c.value-core.result.now in
+    let before : StandsWithin op terms.limits old e.now = lent op allows terms me (turn_value turn) old e.now c.value-core.ensures.value e.stands in
+    let event = Registered me child mode in
+    let h : History = event ∷ e.now in
+    let both : seat_view c.put_back_with-both.result ≡ resting h (me ∷ child ∷ []) =
+    c.put_back_with-both.ensures.rule ∙ ap (λ (v : View). resting (event ∷ (front_of v).seen) (me ∷ child ∷ [])) e.is in
+    forks_child op allows terms me (seat_number c.put_back_with-both.result) (seat_view c.put_back_with-both.result) h child both
+
+pub returns-clause-at : goal.returns-clause-at
+returns-clause-at g c =
+    let op = g.A.Accumulate.operation in
+    let allows = g.K.SignalRule.allows in
+    let terms = phaser_terms c.args.phaser.now in
+    let turn = c.in-Ok.turn in
+    let me = c.args.me in
+    let mode = c.args.mode in
+    let child = c.child_of-child.result in
+    let e = c.in-Ok.ensures.took in
+    let old = c.value-core.result.now in
+    let before : StandsWithin op terms.limits old e.now = lent op allows terms me (turn_value turn) old e.now c.value-core.ensures.value e.stands in
+    let accepted : register_refusal e.now me child mode ≡ None = c.in_default.ensures.ok e.now before.stands in
+    let new : NewChild e.now me child = new_child terms.limits e.now me child mode c.args.entry e.good.legal e.used accepted in
+    let event = Registered me child mode in
+    let s : PlainEvent op allows terms me e.now c.register-answer.new.self event =
+    plain_event op allows terms me e.now old c.register-answer.new.self event e.good before c.in_default.ensures.limits
+    (c.in_default.ensures.after e.now before.stands) e.good.keeps in
+    let h : History = event ∷ e.now in
+    let both : seat_view c.put_back_with-both.result ≡ resting h (me ∷ child ∷ []) =
+    c.put_back_with-both.ensures.rule ∙ ap (λ (v : View). resting (event ∷ (front_of v).seen) (me ∷ child ∷ [])) e.is in
+    let member : entry_of (members_of h) me ≡ Some c.args.entry =
+    entry_of-push_old (members_of e.now) child me (entry_at mode (signal_phase e.now me) (wait_phase e.now me)) c.args.entry e.member in
+    subst (λ (v : View). IsStation allows terms me c.args.entry v) (sym (c.split-seat.ensures.left ∙ ap first_part both))
+    (record { rests = refl; member = member; good = s.good })
+
+pub returns-clause-child : goal.returns-clause-child
+returns-clause-child g c =
+    let op = g.A.Accumulate.operation in
+    let allows = g.K.SignalRule.allows in
+    let terms = phaser_terms c.args.phaser.now in
+    let turn = c.in-Ok.turn in
+    let me = c.args.me in
+    let mode = c.args.mode in
+    let child = c.child_of-child.result in
+    let e = c.in-Ok.ensures.took in
+    let old = c.value-core.result.now in
+    let before : StandsWithin op terms.limits old e.now = lent op allows terms me (turn_value turn) old e.now c.value-core.ensures.value e.stands in
+    let accepted : register_refusal e.now me child mode ≡ None = c.in_default.ensures.ok e.now before.stands in
+    let new : NewChild e.now me child = new_child terms.limits e.now me child mode c.args.entry e.good.legal e.used accepted in
+    let event = Registered me child mode in
+    let s : PlainEvent op allows terms me e.now c.register-answer.new.self event =
+    plain_event op allows terms me e.now old c.register-answer.new.self event e.good before c.in_default.ensures.limits
+    (c.in_default.ensures.after e.now before.stands) e.good.keeps in
+    let h : History = event ∷ e.now in
+    let both : seat_view c.put_back_with-both.result ≡ resting h (me ∷ child ∷ []) =
+    c.put_back_with-both.ensures.rule ∙ ap (λ (v : View). resting (event ∷ (front_of v).seen) (me ∷ child ∷ [])) e.is in
+    let right = c.split-seat.ensures.right ∙ ap other_part both in
+    let left = c.split-seat.ensures.left ∙ ap first_part both in (
+      c.split-seat.ensures.seats.1,
+      station op allows terms child c.in-Some.start (seat_view c.split-seat.result.1) h c.register-answer.new.self c.view-found.result
+          right s.good s.stands c.view-found.ensures c.in-Some.is,
+      ap (λ (v : View). (front_of v).seen) right ∙ sym (ap (λ (v : View). (front_of v).seen) left),
+    )
+
+pub returns-clause-ok : goal.returns-clause-ok
+returns-clause-ok g c =
+    let op = g.A.Accumulate.operation in
+    let allows = g.K.SignalRule.allows in
+    let terms = phaser_terms c.args.phaser.now in
+    let turn = c.in-Ok.turn in
+    let me = c.args.me in
+    let mode = c.args.mode in
+    let child = c.child_of-child.result in
+    let e = c.in-Ok.ensures.took in
+    let old = c.value-core.result.now in
+    let before : StandsWithin op terms.limits old e.now = lent op allows terms me (turn_value turn) old e.now c.value-core.ensures.value e.stands in
+    let accepted : register_refusal e.now me child mode ≡ None = c.in_default.ensures.ok e.now before.stands in
+    let new : NewChild e.now me child = new_child terms.limits e.now me child mode c.args.entry e.good.legal e.used accepted in
+    let event = Registered me child mode in
+    let s : PlainEvent op allows terms me e.now c.register-answer.new.self event =
+    plain_event op allows terms me e.now old c.register-answer.new.self event e.good before c.in_default.ensures.limits
+    (c.in_default.ensures.after e.now before.stands) e.good.keeps in
+    let h : History = event ∷ e.now in
+    let both : seat_view c.put_back_with-both.result ≡ resting h (me ∷ child ∷ []) =
+    c.put_back_with-both.ensures.rule ∙ ap (λ (v : View). resting (event ∷ (front_of v).seen) (me ∷ child ∷ [])) e.is in
+    let left = c.split-seat.ensures.left ∙ ap first_part both in
+    record {
+      before = e.now;
+      others = e.others;
+      seen = ap (λ (v : View). (front_of v).seen) left;
+      reply = accepted;
+      next = child_is_next e.now child old.greatest before.stands.greatest_is c.child_of-child.ensures new.above;
+    }
+
+pub returns-in-Err-answer-clause-at : goal.returns-in-Err-answer-clause-at
+returns-in-Err-answer-clause-at g c =
+    let op = g.A.Accumulate.operation in
+    let allows = g.K.SignalRule.allows in
+    let terms = phaser_terms c.args.phaser.now in
+    let turn = c.in-Ok.turn in
+    let me = c.args.me in
+    let mode = c.args.mode in
+    let child = c.child_of-child.result in
+    let e = c.in-Ok.ensures.took in
+    let old = c.value-core.result.now in
+    let before : StandsWithin op terms.limits old e.now = lent op allows terms me (turn_value turn) old e.now c.value-core.ensures.value e.stands in
+    subst (λ (v : View). IsStation allows terms me c.args.entry v)
+    (sym (c.give.ensures.rule ∙ ap (λ (v : View). resting (front_of v).seen (speaks_of v)) e.is))
+    (record { rests = refl; member = e.member; good = e.good })
+
+pub returns-in-Err-answer-clause-err : goal.returns-in-Err-answer-clause-err
+returns-in-Err-answer-clause-err g c =
+    let op = g.A.Accumulate.operation in
+    let allows = g.K.SignalRule.allows in
+    let terms = phaser_terms c.args.phaser.now in
+    let turn = c.in-Ok.turn in
+    let me = c.args.me in
+    let mode = c.args.mode in
+    let child = c.child_of-child.result in
+    let e = c.in-Ok.ensures.took in
+    let old = c.value-core.result.now in
+    let before : StandsWithin op terms.limits old e.now = lent op allows terms me (turn_value turn) old e.now c.value-core.ensures.value e.stands in
+    let seen : (front_of (seat_view c.give.result)).seen ≡ e.now = ap (λ (v : View). (front_of v).seen) c.give.ensures.rule ∙ ap (λ (v : View). (front_of v).seen) e.is in
+    let next : child ≡ number_after (greatest_used e.now) = c.child_of-child.ensures ∙ ap number_after before.stands.greatest_is in
+    subst (λ (h : History). RefusesRegister me mode (front_of (seat_view c.args.seat)).seen h c.in-Err-answer.refusal) (sym seen)
+    (refuses c.in-Err-answer.refusal me mode (front_of (seat_view c.args.seat)).seen e.now e.others
+    (λ other. ap (λ n. register_refusal e.now me n mode) (sym next) ∙ c.in-Err-answer.ensures.refused other e.now before.stands)
+    (λ none. ap (λ n. register_refusal e.now me n mode) (sym next) ∙ c.in-Err-answer.ensures.out_of_memory none e.now before.stands))
+
+not_memory : ◌≡◌ {A = RegisterRefusal} register.NoTask register.OutOfMemory → ⊥
+not_memory e = cc
+
+pub returns-in-Err-answer-clause-known : goal.returns-in-Err-answer-clause-known
+returns-in-Err-answer-clause-known g c none =
+    let op = g.A.Accumulate.operation in
+    let allows = g.K.SignalRule.allows in
+    let terms = phaser_terms c.args.phaser.now in
+    let turn = c.in-Ok.turn in
+    let e = c.in-Ok.ensures.took in
+    let old = c.value-core.result.now in
+    let before : StandsWithin op terms.limits old e.now = lent op allows terms c.args.me (turn_value turn) old e.now c.value-core.ensures.value e.stands in
+    let is : c.in-Err-answer.refusal ≡ register.NoTask = cc in
+    register_refusal-never e.now c.args.me c.child_of-child.result c.args.mode (ap is_some e.member)
+    (c.in-Err-answer.ensures.refused (λ memory. not_memory (sym is ∙ memory)) e.now before.stands ∙ ap Some is)

@@ -1,0 +1,5 @@
+use Rattle.std.specs.Prelude.{◌≡◌}
+use Rattle.phase_shared.proofs.tests.tries.are_answered.Given as goal
+
+abbrev pub invariant-loop-call : goal.invariant-loop-call
+invariant-loop-call l = l.reg.at ≡ l.fn.reg.at

@@ -1,0 +1,6 @@
+pub mod Views
+pub mod Rule
+pub mod Calls
+pub mod Regs
+pub mod Nexts
+pub mod OneSends

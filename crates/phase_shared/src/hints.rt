@@ -1,0 +1,149 @@
+//! When a waiting call tries again. No contract speaks of it: a wrong number costs time alone.
+use crossbeam_utils::CachePadded;
+use phase_accum::Accumulate;
+use phase_core::PhaserCore;
+use std::sync::Wait;
+use std::sync::atomic::AtomicU64;
+use std::sync::atomic::Ordering::SeqCst;
+use std::time::Duration;
+use std::{hint, thread};
+
+// Above every number that a task waits for.
+const ENDED: u64 = u64::MAX;
+
+// How often a pause doubles its spins, and how often it then yields.
+const SPIN_ROUNDS: u32 = 3;
+
+const YIELDS: u32 = 10;
+
+// How many milliseconds a pause sleeps, at most. So a wake that is lost costs these, and no more.
+const SLEEP: u64 = 10;
+
+// A number that others wait for, and how many sleep on it.
+#[derive(Drop)]
+struct Hint {
+    number: AtomicU64,
+    sleepers: AtomicU64,
+}
+
+impl Hint {
+    fn new() -> Hint {
+        Hint {
+            number: AtomicU64::new(0),
+            sleepers: AtomicU64::new(0),
+        }
+    }
+
+    // Tells whether the number is a new one. Only the task that has the turn publishes.
+    fn publish(&self, number: u64) -> bool {
+        if self.number.load(SeqCst) == number {
+            return false;
+        }
+        self.number.store(number, SeqCst);
+        true
+    }
+
+    fn wake(&self) {
+        if self.sleepers.load(SeqCst) != 0 {
+            self.number.wake_all();
+        }
+    }
+
+    fn is_at(&self, least: u64) -> bool {
+        self.number.load(SeqCst) >= least
+    }
+
+    // Returns when the number is at least `least`, or some time later.
+    fn pause<R: Wait>(&self, rt: &R, least: u64) {
+        for round in 0..SPIN_ROUNDS {
+            if self.is_at(least) {
+                return;
+            }
+            for _ in 0..1u32 << round {
+                hint::spin_loop();
+            }
+        }
+        for _ in 0..YIELDS {
+            if self.is_at(least) {
+                return;
+            }
+            thread::yield_now();
+        }
+        // Who publishes looks for sleepers afterwards, so it sees this one, or this one its number.
+        self.sleepers.fetch_add(1, SeqCst);
+        let found = self.number.load(SeqCst);
+        if found < least {
+            let word = (found & 0xffff_ffff) as u32;
+            self.number
+                .park_timeout(rt, word, Duration::from_millis(SLEEP));
+        }
+        self.sleepers.fetch_sub(1, SeqCst);
+    }
+}
+
+// Which of the hints an event moved.
+#[derive(Clone, Copy)]
+pub struct Moved {
+    done: bool,
+    base: bool,
+}
+
+// How far the phaser was when a turn last ended.
+#[derive(Drop)]
+pub struct Hints {
+    // The phases below it are complete.
+    done: CachePadded<Hint>,
+    // Every waiter got the phases below it.
+    base: CachePadded<Hint>,
+    bound: u64,
+}
+
+impl Hints {
+    pub fn new(bound: u64) -> Hints {
+        Hints {
+            done: CachePadded::new(Hint::new()),
+            base: CachePadded::new(Hint::new()),
+            bound,
+        }
+    }
+
+    // Tells how far the phaser is, under the turn, for the others to see.
+    pub fn publish<A: Accumulate>(&self, core: &PhaserCore<A>) -> Moved {
+        let Some(base) = core.least_wait() else {
+            return Moved {
+                done: false,
+                base: self.base.publish(ENDED),
+            };
+        };
+        let done = if core.has_signaller() {
+            core.done()
+        } else {
+            ENDED
+        };
+        Moved {
+            done: self.done.publish(done),
+            base: self.base.publish(base),
+        }
+    }
+
+    // Wakes those that wait for what moved, after the turn.
+    pub fn wake(&self, moved: Moved) {
+        if moved.done {
+            self.done.wake();
+        }
+        if moved.base {
+            self.base.wake();
+        }
+    }
+
+    // Pauses while the phase is not complete.
+    pub fn pause_for_phase<R: Wait>(&self, rt: &R, phase: u64) {
+        self.done.pause(rt, phase.saturating_add(1));
+    }
+
+    // Pauses while a signal of the phase is ahead.
+    pub fn pause_for_room<R: Wait>(&self, rt: &R, phase: u64) {
+        self.base
+            .pause(rt, phase.saturating_add(1).saturating_sub(self.bound));
+    }
+}

@@ -1,0 +1,109 @@
+//! A registration's next phase, by one call.
+ghost use Rattle.std.specs.Prelude.{◌≡◌, ◌≢◌, true, Ok, Err, IfOk, IfErr, OnOk, OnErr, [], ◌∷◌};
+ghost use Rattle.phase_base.specs.Modes.{mode_signals, mode_waits};
+ghost use Rattle.phase_accum.specs.Parcels.{StandsForSends};
+ghost use Rattle.phase_history.specs.Others.{OthersCame};
+ghost use Rattle.phase_shared.specs.Rule.{IsGoodAt};
+ghost use Rattle.phase_shared.specs.Regs.{phaser_place, phaser_terms, phaser_limits};
+ghost use Rattle.phase_shared.specs.Calls.{Waits, MaySignal};
+ghost use Rattle.phase_shared.specs.Nexts.{GoesNext, RefusesNext};
+
+use crate::phaser::Phaser;
+use crate::reg::Reg;
+use crate::rule::SignalRule;
+use phase_accum::{Accumulate, Single};
+use phase_core::{Got, SignalRefusal};
+use std::sync::Wait;
+
+/// What a registration did in a phase.
+#[derive(Clone, Copy, Debug, PartialEq, Eq)]
+pub struct Next {
+    /// The phase that it signalled, where its mode signals.
+    pub signalled: Option<u64>,
+    /// What it got, where its mode waits.
+    pub got: Option<Got>,
+}
+
+impl<A: Accumulate, K: SignalRule> Reg<A, K> {
+    /// Signals where its mode signals, as `signal` does, and then waits where its mode waits, as
+    /// `wait` does. It takes no memory.
+    ///
+    /// It is refused as `signal` is, and then signalled nothing. In the mode `Wait` it is refused
+    /// where a single is named, as `NotSingle`.
+    pub fn next<W: Wait>(
+        &mut self,
+        rt: &W,
+        phaser: &Phaser<A, K>,
+        single: Option<Single>,
+    ) -> Result<Next, SignalRefusal>
+        requires at { self.old.at ≡ phaser_place phaser.now }
+        requires rule { mode_signals self.old.entry.mode ≡ true
+            → MaySignal A.operation K.allows (phaser_terms phaser.now) self.old single }
+
+        ensures ok { IfOk result (GoesNext A.operation (phaser_limits phaser.now) single self.old
+            self.new.seen) }
+        ensures at { (self.new.at ≡ self.old.at) × (self.new.number ≡ self.old.number) }
+        ensures good { IsGoodAt K.allows (phaser_terms phaser.now) self.new.seen }
+        ensures none_held { OnOk result (mode_signals self.old.entry.mode ≡ true
+            → StandsForSends A.operation self.new.held [] × (self.new.held.count ≡ 0)) }
+
+        ensures err { IfErr result (RefusesNext A.operation (phaser_limits phaser.now) single
+            self.old self.new.seen (mode_signals self.old.entry.mode)) }
+        ensures held { OnErr result (self.new.held ≡ self.old.held) }
+    {
+        if !self.mode().signals() {
+            if single.is_some() {
+                self.look(phaser);
+                return Err(SignalRefusal::NotSingle);
+            }
+            let got = self.wait_in_turn(rt, phaser);
+            return Ok(Next {
+                signalled: None,
+                got: Some(got),
+            });
+        }
+        let phase = match self.signal(rt, phaser, single) {
+            Ok(phase) => phase,
+            Err(refusal) => return Err(refusal),
+        };
+        if !self.mode().waits() {
+            return Ok(Next {
+                signalled: Some(phase),
+                got: None,
+            });
+        }
+        let got = self.wait_in_turn(rt, phaser);
+        Ok(Next {
+            signalled: Some(phase),
+            got: Some(got),
+        })
+    }
+
+    // Says that what it has seen is good. It does nothing.
+    fn look(&self, phaser: &Phaser<A, K>)
+        requires { self.now.at ≡ phaser_place phaser.now }
+        ensures { IsGoodAt K.allows (phaser_terms phaser.now) self.now.seen }
+    {
+        let _number = self.number;
+    }
+
+    // Waits where nothing but time can be in the way.
+    fn wait_in_turn<W: Wait>(&mut self, rt: &W, phaser: &Phaser<A, K>) -> Got
+        requires at { self.old.at ≡ phaser_place phaser.now }
+        requires waits { mode_waits self.old.entry.mode ≡ true }
+        requires signalled { mode_signals self.old.entry.mode ≡ true
+            → self.old.entry.signal_phase ≢ self.old.entry.wait_phase }
+        ensures call { let old = self.old in
+            Waits A.operation.value (phaser_limits phaser.now) old.number old.seen self.new.seen
+            (Ok result) }
+        ensures at { (self.new.at ≡ self.old.at) × (self.new.number ≡ self.old.number) }
+        ensures held { self.new.held ≡ self.old.held }
+        ensures good { IsGoodAt K.allows (phaser_terms phaser.now) self.new.seen }
+    {
+        let _mode = self.mode();
+        match self.wait(rt, phaser) {
+            Ok(got) => got,
+            Err(_) => unreachable!(),
+        }
+    }
+}

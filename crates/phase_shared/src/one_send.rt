@@ -1,0 +1,44 @@
+//! A rule as an example: every signal has exactly one send.
+ghost use Rattle.std.specs.Prelude.{◌≡◌, ◌≢◌, true, IfOk, OnOk, OnErr};
+ghost use Rattle.phase_base.specs.Modes.{mode_signals};
+ghost use Rattle.phase_accum.specs.declared.outcome.TheConstants.{NO_VALUE};
+ghost use Rattle.phase_shared.specs.OneSends.{allows_one_send};
+ghost use Rattle.phase_shared.specs.Rule.{IsGoodAt};
+ghost use Rattle.phase_shared.specs.Regs.{phaser_place, phaser_terms};
+
+use crate::phaser::Phaser;
+use crate::refusal::Tried;
+use crate::reg::Reg;
+use crate::rule::SignalRule;
+use phase_accum::Accumulate;
+use phase_core::SignalRefusal;
+
+/// The rule that allows the signals of one send.
+#[derive(Clone, Copy, Debug, PartialEq, Eq)]
+pub struct OneSend;
+
+impl SignalRule for OneSend {
+    ghost allows = { allows_one_send };
+}
+
+/// Sends a value and signals with it. A refused signal leaves the value held.
+pub fn try_signal_value<A: Accumulate>(
+    phaser: &Phaser<A, OneSend>,
+    reg: &mut Reg<A, OneSend>,
+    value: i64,
+) -> Result<u64, Tried<SignalRefusal>>
+    requires at { reg.old.at ≡ phaser_place phaser.now }
+    requires signals { mode_signals reg.old.entry.mode ≡ true }
+    requires value { value ≢ NO_VALUE }
+    requires none_held { reg.old.held.count ≡ 0 }
+    ensures at { reg.new.at ≡ reg.old.at }
+    ensures none_held { OnOk result (reg.new.held.count ≡ 0) }
+    ensures held { OnErr result (reg.new.held.count ≡ 1) }
+    // Every signal that it has seen, of whichever task, had one send.
+    ensures good { IsGoodAt allows_one_send (phaser_terms phaser.now) reg.new.seen }
+{
+    let Ok(()) = reg.send(value) else {
+        unreachable!()
+    };
+    reg.try_signal(phaser, None)
+}

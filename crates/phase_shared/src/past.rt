@@ -1,0 +1,53 @@
+//! What registrations that left have seen.
+ghost use Rattle.std.specs.Prelude.{◌≡◌, ◌++◌, true};
+ghost use Rattle.phase_history.specs.Others.{OthersCame, is_distinct};
+ghost use Rattle.phase_shared.specs.Rule.{IsGoodAt};
+ghost use Rattle.phase_shared.specs.Regs.{phaser_place, phaser_terms};
+
+use crate::phaser::Phaser;
+use crate::rule::SignalRule;
+use crate::steps;
+use crate::view::PhaserSeat;
+use phase_accum::Accumulate;
+use std::marker::Model;
+
+/// What registrations that left have seen: one history, and the numbers of those whose calls it
+/// holds. It has no bytes, and may be thrown away.
+///
+/// Whoever has the pasts of several threads joins them, and then knows in one history what each of
+/// them did and received.
+#[derive(Drop)]
+pub struct Past<A: Accumulate, K: SignalRule> {
+    pub(crate) seat: PhaserSeat<A, K>,
+}
+
+impl<A: Accumulate, K: SignalRule> Model for Past<A, K> {
+    ghost use Rattle.phase_shared.specs.Regs.{PastState, past_state, IsPast};
+
+    ghost Value = { PastState K };
+
+    ghost view = { λ p. past_state p.seat };
+
+    ghost invariant = { λ p. IsPast K.allows p.seat };
+}
+
+impl<A: Accumulate, K: SignalRule> Past<A, K> {
+    /// Makes one past of two. Its history begins with what each had seen, and has no later event of
+    /// a registration that went into it. It waits for nobody and takes no memory.
+    pub fn join(self, phaser: &Phaser<A, K>, other: Past<A, K>) -> Past<A, K>
+        requires at { (self.at ≡ phaser_place phaser.now) × (other.at ≡ phaser_place phaser.now) }
+
+        ensures first { OthersCame self.numbers self.seen result.seen }
+        ensures second { OthersCame other.numbers other.seen result.seen }
+        ensures numbers { result.numbers ≡ self.numbers ++ other.numbers }
+        ensures distinct { is_distinct result.numbers ≡ true }
+        ensures at { result.at ≡ self.at }
+        ensures good { IsGoodAt K.allows (phaser_terms phaser.now) result.seen }
+    {
+        let Past { seat } = self;
+        let Past { seat: second } = other;
+        Past {
+            seat: steps::join(phaser, seat, second),
+        }
+    }
+}

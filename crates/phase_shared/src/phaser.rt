@@ -1,0 +1,65 @@
+//! A phaser that many threads use.
+ghost use Rattle.std.specs.Prelude.{◌≡◌, [], ◌∷◌, IfOk};
+ghost use Rattle.phase_accum.specs.Parcels.{StandsForSends};
+ghost use Rattle.phase_history.specs.declared.event.Event.TheVariants.{Made};
+ghost use Rattle.phase_history.specs.Others.{OnlyUsed};
+ghost use Rattle.phase_shared.specs.Rule.{IsGoodAt};
+ghost use Rattle.phase_shared.specs.Regs.{phaser_place, phaser_terms, phaser_limits};
+
+use crate::hints::Hints;
+use crate::reg::Reg;
+use crate::rule::{SignalRule, Terms};
+use crate::view::PhaserLock;
+use phase_accum::{Accumulate, Pending};
+use phase_base::{Entry, Mode, Spec};
+use phase_core::PhaserCore;
+use std::alloc::{AllocError, Global};
+use turn_lock::TurnLock;
+
+/// A phaser between threads, which use it by shared reference. Each has registrations of its own.
+///
+/// Sends become values by the operation `A`, and each signal abides by the rule `K`.
+#[derive(Drop)]
+pub struct Phaser<A: Accumulate, K: SignalRule> {
+    pub(crate) lock: PhaserLock<A, K>,
+    pub(crate) hints: Hints,
+}
+
+impl<A: Accumulate, K: SignalRule> Phaser<A, K> {
+    /// Makes a phaser and the registration of its founder, which has the number 0, in `Single` and
+    /// at phase 0. It takes all the memory that signals and waits will ever need.
+    pub fn make(
+        alloc: Global,
+        limits: Spec,
+        rule: K,
+    ) -> Result<(Phaser<A, K>, Reg<A, K>), AllocError>
+        ensures limits { IfOk result (λ made. phaser_limits made.0 ≡ limits) }
+        ensures rule { IfOk result (λ made. (phaser_terms made.0).rule ≡ rule) }
+        ensures at { IfOk result (λ made. made.1.at ≡ phaser_place made.0) }
+        ensures founder { IfOk result (λ made.
+            (made.1.number ≡ 0) × (made.1.seen ≡ Made 0 ∷ [])) }
+        ensures none_held { IfOk result (λ made.
+            StandsForSends A.operation made.1.held [] × (made.1.held.count ≡ 0)) }
+        ensures alone { IfOk result (λ made. OnlyUsed (made.1.number ∷ []) made.1.seen) }
+        ensures good { IfOk result (λ made.
+            IsGoodAt K.allows (phaser_terms made.0) made.1.seen) }
+    {
+        let bound = limits.bound();
+        let core = PhaserCore::new(alloc, limits, 0)?;
+        let terms = Terms { limits, rule };
+        let (lock, seat) = TurnLock::new(alloc, &terms, core)?;
+        let entry = Entry {
+            mode: Mode::Single,
+            signal_phase: 0,
+            wait_phase: 0,
+        };
+        let founder = Reg {
+            seat: Some(seat),
+            number: 0,
+            entry,
+            pending: Pending::new(),
+        };
+        let hints = Hints::new(bound);
+        Ok((Phaser { lock, hints }, founder))
+    }
+}

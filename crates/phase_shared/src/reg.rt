@@ -1,0 +1,103 @@
+//! A registration, and what it reads and holds without a turn.
+ghost use Rattle.std.specs.Prelude.{◌≡◌, ◌≢◌, ◌↔◌, ◌+◌, ℤ, List, [], ◌∷◌, ◌++◌, Some, Err, OnOk, OnErr, true, false};
+ghost use Rattle.phase_base.specs.declared.limits.TheConstants.{SENDS_MAX};
+ghost use Rattle.phase_base.specs.Members.{entry_of};
+ghost use Rattle.phase_base.specs.Modes.{mode_signals};
+ghost use Rattle.phase_accum.specs.declared.outcome.TheConstants.{NO_VALUE};
+ghost use Rattle.phase_accum.specs.Parcels.{StandsForSends};
+ghost use Rattle.phase_history.specs.Histories.{members_of};
+
+use crate::refusal::SendRefusal;
+use crate::rule::SignalRule;
+use crate::view::PhaserSeat;
+use phase_accum::{Accumulate, Pending, SendFault};
+use phase_base::{Entry, Mode};
+use std::marker::Model;
+
+/// One registration on a phaser, which any one thread has at a time.
+///
+/// **What it has.** A number, which nobody else has on its phaser; a mode and two phases; the sends
+/// that it holds until its next signal; and, in proofs alone, the history that it has seen. Each
+/// call makes that history longer, by what the others did meanwhile and by its own event.
+///
+/// **Calls.** Each call names the phaser that the registration is on. The calls that begin with
+/// `try_` answer at once, `Busy` where another registration is in the middle of a call. The others
+/// wait until they have an answer that more waiting would not change.
+///
+/// **End.** It cannot be thrown away. `leave` and `try_leave` end it, and give a `Past`.
+///
+/// **Not promised.** That a `Busy` could not have been avoided, in what order threads get on, and
+/// that a waiting call ever returns.
+pub struct Reg<A: Accumulate, K: SignalRule> {
+    pub(crate) seat: Option<PhaserSeat<A, K>>,
+    pub(crate) number: u64,
+    pub(crate) entry: Entry,
+    pub(crate) pending: Pending<A>,
+}
+
+impl<A: Accumulate, K: SignalRule> Model for Reg<A, K> {
+    ghost use Rattle.phase_shared.specs.Regs.{RegState, reg_state, IsReg};
+
+    ghost Value = { RegState A K };
+
+    ghost view = { λ r. reg_state r.seat r.number r.entry r.pending };
+
+    ghost invariant = { λ r. IsReg K.allows r.seat r.number r.entry };
+}
+
+impl<A: Accumulate, K: SignalRule> Reg<A, K> {
+    /// Holds one more send, behind the others, until the next signal. It takes no turn and no
+    /// memory.
+    pub fn send(&mut self, value: i64) -> Result<(), SendRefusal>
+        ensures stands { OnOk result ((sends : List ℤ)
+            → StandsForSends A.operation self.old.held sends
+            → StandsForSends A.operation self.new.held (sends ++ value ∷ [])) }
+        ensures count { OnOk result (self.new.held.count ≡ self.old.held.count + 1) }
+        ensures same { (self.new.at ≡ self.old.at) × (self.new.number ≡ self.old.number)
+            × (self.new.entry ≡ self.old.entry) × (self.new.seen ≡ self.old.seen) }
+
+        ensures no_signal { (result ≡ Err SendRefusal.NoSignal)
+            ↔ (mode_signals self.old.entry.mode ≡ false) }
+        ensures bad_value { (result ≡ Err SendRefusal.BadValue)
+            ↔ ((mode_signals self.old.entry.mode ≡ true) × (value ≡ NO_VALUE)) }
+        ensures too_many { (result ≡ Err SendRefusal.TooManySends)
+            ↔ ((mode_signals self.old.entry.mode ≡ true) × (value ≢ NO_VALUE)
+            × (self.old.held.count ≡ SENDS_MAX)) }
+        ensures err { OnErr result (self.new ≡ self.old) }
+    {
+        if !self.mode().signals() {
+            return Err(SendRefusal::NoSignal);
+        }
+        match self.pending.send(value) {
+            Ok(()) => Ok(()),
+            Err(SendFault::BadValue) => Err(SendRefusal::BadValue),
+            Err(SendFault::TooManySends) => Err(SendRefusal::TooManySends),
+        }
+    }
+
+    /// Tells how many sends it holds.
+    pub fn pending(&self) -> u64
+        ensures { result ≡ self.now.held.count }
+    {
+        self.pending.count()
+    }
+
+    /// Tells its mode.
+    pub fn mode(&self) -> Mode
+        ensures value { result ≡ self.now.entry.mode }
+        // It is registered in the history that it has seen, in this mode and at these phases.
+        ensures entry { entry_of (members_of self.now.seen) self.now.number
+            ≡ Some self.now.entry }
+    {
+        self.entry.mode
+    }
+
+    /// Tells its signal phase and its wait phase.
+    pub fn phase(&self) -> (u64, u64)
+        ensures value { result ≡ (self.now.entry.signal_phase, self.now.entry.wait_phase) }
+        ensures entry { entry_of (members_of self.now.seen) self.now.number
+            ≡ Some self.now.entry }
+    {
+        (self.entry.signal_phase, self.entry.wait_phase)
+    }
+}

@@ -1,0 +1,330 @@
+//! The steps of a seat at rest that speaks for one task. Each call of a registration is one.
+ghost use Rattle.std.specs.Prelude.{◌≡◌, ◌≢◌, ℕ, ℤ, List, [], ◌∷◌, Ok, Err, IfOk, IfErr, IsOk};
+ghost use Rattle.turn_lock.specs.Seats.{lock_name, IsSeatOf, IsTurnOf, IsSameSeat};
+ghost use Rattle.turn_lock.specs.Seats.{seat_view, turn_number, turn_view, turn_value};
+ghost use Rattle.turn_lock.specs.Steps.{Gives};
+ghost use Rattle.phase_accum.specs.Parcels.{StandsForSends};
+ghost use Rattle.phase_history.specs.Histories.{History};
+ghost use Rattle.phase_history.specs.Others.{OnlyUsed, OthersCame};
+ghost use Rattle.phase_shared.specs.declared.view.View.TheVariants.{Resting};
+ghost use Rattle.phase_shared.specs.Views.{front_of, joining};
+ghost use Rattle.phase_shared.specs.Rule.{HasOneHistory, Entered, IsGoodAt, IsStation, LearnedAt};
+ghost use Rattle.phase_shared.specs.Calls.{Tries, Signals, Waits, HasRegistered, RefusesRegister};
+ghost use Rattle.phase_shared.specs.Calls.{Refuses, HasLeft, gets_value, number_after};
+ghost use Rattle.phase_shared.specs.Regs.{phaser_limits, phaser_terms};
+
+use crate::hints::Moved;
+use crate::phaser::Phaser;
+use crate::plays::{Apart, Both, Give, Plan, Same, Sees, Together};
+use crate::refusal::Tried;
+use crate::rule::SignalRule;
+use crate::view::{PhaserSeat, PhaserTurn};
+use phase_accum::{Accumulate, Pending, Single};
+use phase_base::{Entry, Mode};
+use phase_core::{Got, PhaserCore, RegisterRefusal, SignalRefusal, WaitRefusal};
+use std::marker::Brand;
+
+// Takes the turn, and learns what the others did.
+fn enter<A: Accumulate, K: SignalRule>(
+    phaser: &Phaser<A, K>,
+    seat: PhaserSeat<A, K>,
+    me: u64,
+    entry: Entry,
+) -> Result<PhaserTurn<A, K>, PhaserSeat<A, K>>
+    requires seat { IsSeatOf phaser.now.lock seat }
+    requires at { IsStation K.allows (phaser_terms phaser.now) me entry (seat_view seat) }
+    ensures turn { IfOk result (λ turn. IsTurnOf phaser.now.lock turn) }
+    ensures took { IfOk result (λ turn. Entered A.operation K.allows (phaser_terms phaser.now) me
+        entry (seat_view seat) (turn_value turn) (turn_view turn)) }
+
+    ensures err { IfErr result (λ back. IsSameSeat seat back) }
+    ensures still { IfErr result (λ back.
+        IsStation K.allows (phaser_terms phaser.now) me entry (seat_view back)) }
+    ensures alone { OnlyUsed (me ∷ []) (front_of (seat_view seat)).seen → IsOk result }
+{
+    match phaser.lock.try_take::<Sees<A, K>>(seat) {
+        Ok(turn) => Ok(turn),
+        Err(back) => Err(back),
+    }
+}
+
+// Gives the turn back after an event. What it tells is picked by its caller, and may name the
+// number, the sends and the single.
+fn put_back<A: Accumulate, K: SignalRule, E: Plan>(
+    phaser: &Phaser<A, K>,
+    turn: PhaserTurn<A, K>,
+    moved: Moved,
+    me: u64,
+    pending: &Pending<A>,
+    single: &Option<Single>,
+) -> PhaserSeat<A, K>
+    requires turn { IsTurnOf phaser.now.lock turn }
+    requires rule { Gives (HasOneHistory A.operation K.allows) (phaser_terms phaser.now)
+        (turn_number turn) (turn_view turn) (turn_value turn) (λ v y w. E.goes v w) }
+    ensures seat { IsSeatOf phaser.now.lock result }
+    ensures rule { E.goes (turn_view turn) (seat_view result) }
+{
+    let _ = me;
+    let _ = pending;
+    let _ = single;
+    let seat = phaser.lock.give::<Give<E>>(turn);
+    phaser.hints.wake(moved);
+    seat
+}
+
+// Signals.
+pub fn signal<A: Accumulate, K: SignalRule>(
+    phaser: &Phaser<A, K>,
+    seat: PhaserSeat<A, K>,
+    me: u64,
+    entry: Entry,
+    pending: Pending<A>,
+    single: Option<Single>,
+) -> (PhaserSeat<A, K>, Entry, Result<u64, Tried<SignalRefusal>>)
+    requires seat { IsSeatOf phaser.now.lock seat }
+    requires at { IsStation K.allows (phaser_terms phaser.now) me entry (seat_view seat) }
+    requires rule { (h : History) (sends : List ℤ) → IsGoodAt K.allows (phaser_terms phaser.now) h
+        → OthersCame (me ∷ []) (front_of (seat_view seat)).seen h
+        → StandsForSends A.operation pending sends
+        → K.allows (phaser_terms phaser.now).rule h me (sends ∷ []) single }
+    ensures seat { IsSeatOf phaser.now.lock result.0 }
+    ensures at { IsStation K.allows (phaser_terms phaser.now) me result.1 (seat_view result.0) }
+    ensures call { Tries (IsSameSeat seat result.0 × (result.1 ≡ entry))
+        (Signals A.operation (phaser_limits phaser.now) me pending single
+        (front_of (seat_view seat)).seen (front_of (seat_view result.0)).seen) result.2 }
+    ensures known { result.2 ≢ Err (Tried.Refused SignalRefusal.NoTask) }
+    ensures alone { OnlyUsed (me ∷ []) (front_of (seat_view seat)).seen
+        → result.2 ≢ Err Tried.Busy }
+{
+    let mut turn = match enter(phaser, seat, me, entry) {
+        Ok(turn) => turn,
+        Err(seat) => return (seat, entry, Err(Tried::Busy)),
+    };
+    let _part = pending.part();
+    let core = turn.value();
+    let answer = core.signal(me, pending, single);
+    let Some(entry) = core.view(me) else {
+        unreachable!()
+    };
+    let moved = phaser.hints.publish(core);
+    match answer {
+        Ok(phase) => (
+            put_back::<A, K, Brand>(phaser, turn, moved, me, &pending, &single),
+            entry,
+            Ok(phase),
+        ),
+        Err(refused) => (
+            phaser.lock.give::<Same>(turn),
+            entry,
+            Err(Tried::Refused(refused.0)),
+        ),
+    }
+}
+
+// Leaves.
+pub fn leave<A: Accumulate, K: SignalRule>(
+    phaser: &Phaser<A, K>,
+    seat: PhaserSeat<A, K>,
+    me: u64,
+    entry: Entry,
+) -> Result<PhaserSeat<A, K>, PhaserSeat<A, K>>
+    requires seat { IsSeatOf phaser.now.lock seat }
+    requires at { IsStation K.allows (phaser_terms phaser.now) me entry (seat_view seat) }
+    ensures seat { IfOk result (λ s. IsSeatOf phaser.now.lock s) }
+    ensures ok { IfOk result (λ s. HasLeft K.allows (phaser_terms phaser.now) me
+        (front_of (seat_view seat)).seen (seat_view s)) }
+    ensures err { IfErr result (λ s. IsSameSeat seat s) }
+    ensures alone { OnlyUsed (me ∷ []) (front_of (seat_view seat)).seen → IsOk result }
+{
+    let mut turn = match enter(phaser, seat, me, entry) {
+        Ok(turn) => turn,
+        Err(seat) => return Err(seat),
+    };
+    let core = turn.value();
+    let answer = core.drop_task(me);
+    let Ok(()) = answer else { unreachable!() };
+    let moved = phaser.hints.publish(core);
+    let pending = Pending::<A>::new();
+    let single: Option<Single> = None;
+    Ok(put_back::<A, K, Brand>(phaser, turn, moved, me, &pending, &single))
+}
+
+// Whether a wait got a value.
+fn is_value(got: &Got) -> bool
+    ensures { result ≡ gets_value got.now }
+{
+    match got {
+        Got::Value {
+            phase: _,
+            outcome: _,
+        } => true,
+        Got::Ended => false,
+    }
+}
+
+// Waits.
+pub fn wait<A: Accumulate, K: SignalRule>(
+    phaser: &Phaser<A, K>,
+    seat: PhaserSeat<A, K>,
+    me: u64,
+    entry: Entry,
+) -> (PhaserSeat<A, K>, Entry, Result<Got, Tried<WaitRefusal>>)
+    requires seat { IsSeatOf phaser.now.lock seat }
+    requires at { IsStation K.allows (phaser_terms phaser.now) me entry (seat_view seat) }
+    ensures seat { IsSeatOf phaser.now.lock result.0 }
+    ensures at { IsStation K.allows (phaser_terms phaser.now) me result.1 (seat_view result.0) }
+    ensures call { Tries (IsSameSeat seat result.0 × (result.1 ≡ entry))
+        (Waits A.operation.value (phaser_limits phaser.now) me
+        (front_of (seat_view seat)).seen (front_of (seat_view result.0)).seen) result.2 }
+    ensures known { result.2 ≢ Err (Tried.Refused WaitRefusal.NoTask) }
+    ensures alone { OnlyUsed (me ∷ []) (front_of (seat_view seat)).seen
+        → result.2 ≢ Err Tried.Busy }
+{
+    let mut turn = match enter(phaser, seat, me, entry) {
+        Ok(turn) => turn,
+        Err(seat) => return (seat, entry, Err(Tried::Busy)),
+    };
+    let core = turn.value();
+    let answer = core.wait(me);
+    let Some(entry) = core.view(me) else {
+        unreachable!()
+    };
+    let moved = phaser.hints.publish(core);
+    match answer {
+        Ok(got) => {
+            if !is_value(&got) {
+                return (phaser.lock.give::<Same>(turn), entry, Ok(got));
+            }
+            let pending = Pending::<A>::new();
+            let single: Option<Single> = None;
+            let seat = put_back::<A, K, Brand>(phaser, turn, moved, me, &pending, &single);
+            (seat, entry, Ok(got))
+        }
+        Err(refusal) => (
+            phaser.lock.give::<Same>(turn),
+            entry,
+            Err(Tried::Refused(refusal)),
+        ),
+    }
+}
+
+// Gives the turn back after a registration: the seat speaks for the child too. What it tells is
+// picked by its caller, and may name the numbers and the mode.
+fn put_back_with<A: Accumulate, K: SignalRule, E: Plan>(
+    phaser: &Phaser<A, K>,
+    turn: PhaserTurn<A, K>,
+    moved: Moved,
+    me: u64,
+    child: u64,
+    mode: Mode,
+) -> PhaserSeat<A, K>
+    requires turn { IsTurnOf phaser.now.lock turn }
+    requires rule { Gives (HasOneHistory A.operation K.allows) (phaser_terms phaser.now)
+        (turn_number turn) (turn_view turn) (turn_value turn) (λ v y w. E.goes v w) }
+    ensures seat { IsSeatOf phaser.now.lock result }
+    ensures rule { E.goes (turn_view turn) (seat_view result) }
+{
+    let _ = me;
+    let _ = child;
+    let _ = mode;
+    let seat = phaser.lock.give::<Give<E>>(turn);
+    phaser.hints.wake(moved);
+    seat
+}
+
+// The number of the next child. Where none is left it is the last one, which is refused.
+fn child_of<A: Accumulate>(core: &PhaserCore<A>) -> u64
+    ensures { result ≡ number_after core.now.greatest }
+{
+    core.next_number().unwrap_or(u64::MAX)
+}
+
+// Registers a child. The answer is the child's number, seat and entry.
+pub fn register<A: Accumulate, K: SignalRule>(
+    phaser: &Phaser<A, K>,
+    seat: PhaserSeat<A, K>,
+    me: u64,
+    entry: Entry,
+    mode: Mode,
+) -> (
+    PhaserSeat<A, K>,
+    Result<(u64, PhaserSeat<A, K>, Entry), Tried<RegisterRefusal>>,
+)
+    requires seat { IsSeatOf phaser.now.lock seat }
+    requires at { IsStation K.allows (phaser_terms phaser.now) me entry (seat_view seat) }
+    ensures seat { IsSeatOf phaser.now.lock result.0 }
+    ensures at { IsStation K.allows (phaser_terms phaser.now) me entry (seat_view result.0) }
+    ensures child { IfOk result.1 (λ made. IsSeatOf phaser.now.lock made.1
+        × IsStation K.allows (phaser_terms phaser.now) made.0 made.2 (seat_view made.1)
+        × ((front_of (seat_view made.1)).seen ≡ (front_of (seat_view result.0)).seen)) }
+    ensures ok { IfOk result.1 (λ made. HasRegistered me made.0 mode
+        (front_of (seat_view seat)).seen (front_of (seat_view result.0)).seen) }
+    ensures err { IfErr result.1 (Refuses (IsSameSeat seat result.0) (RefusesRegister me mode
+        (front_of (seat_view seat)).seen (front_of (seat_view result.0)).seen)) }
+    ensures known { result.1 ≢ Err (Tried.Refused RegisterRefusal.NoTask) }
+    ensures alone { OnlyUsed (me ∷ []) (front_of (seat_view seat)).seen
+        → result.1 ≢ Err Tried.Busy }
+{
+    let mut turn = match enter(phaser, seat, me, entry) {
+        Ok(turn) => turn,
+        Err(seat) => return (seat, Err(Tried::Busy)),
+    };
+    let core = turn.value();
+    let child = child_of(core);
+    let answer = core.register(me, child, mode);
+    let found = core.view(child);
+    let moved = phaser.hints.publish(core);
+    if let Err(refusal) = answer {
+        return (phaser.lock.give::<Same>(turn), Err(Tried::Refused(refusal)));
+    }
+    let Some(start) = found else { unreachable!() };
+    let both = put_back_with::<A, K, Brand>(phaser, turn, moved, me, child, mode);
+    let (seat, other) = phaser.lock.split::<Apart>(both);
+    (seat, Ok((child, other, start)))
+}
+
+// Joins two seats at rest.
+pub fn join<A: Accumulate, K: SignalRule>(
+    phaser: &Phaser<A, K>,
+    seat: PhaserSeat<A, K>,
+    other: PhaserSeat<A, K>,
+) -> PhaserSeat<A, K>
+    requires seats { IsSeatOf phaser.now.lock seat × IsSeatOf phaser.now.lock other }
+    requires rests { (seat_view seat ≡ Resting (front_of (seat_view seat)))
+        × (seat_view other ≡ Resting (front_of (seat_view other))) }
+    ensures seat { IsSeatOf phaser.now.lock result }
+    ensures rule { LearnedAt K.allows (phaser_terms phaser.now)
+        (joining (seat_view seat) (seat_view other)) (seat_view result) }
+{
+    phaser.lock.join::<Together, Both<K>>(seat, other)
+}
+
+// Two seats, each of one task, see one history.
+pub fn meet<A: Accumulate, K: SignalRule>(
+    phaser: &Phaser<A, K>,
+    seat: PhaserSeat<A, K>,
+    me: u64,
+    entry: Entry,
+    other: PhaserSeat<A, K>,
+    you: u64,
+    start: Entry,
+) -> (PhaserSeat<A, K>, PhaserSeat<A, K>)
+    requires seats { IsSeatOf phaser.now.lock seat × IsSeatOf phaser.now.lock other }
+    requires first { IsStation K.allows (phaser_terms phaser.now) me entry (seat_view seat) }
+    requires second { IsStation K.allows (phaser_terms phaser.now) you start (seat_view other) }
+    ensures seats { IsSeatOf phaser.now.lock result.0 × IsSeatOf phaser.now.lock result.1 }
+    ensures first { IsStation K.allows (phaser_terms phaser.now) me entry (seat_view result.0) }
+    ensures second { IsStation K.allows (phaser_terms phaser.now) you start (seat_view result.1) }
+    ensures one { (front_of (seat_view result.0)).seen ≡ (front_of (seat_view result.1)).seen }
+    ensures begins { OthersCame (me ∷ []) (front_of (seat_view seat)).seen
+        (front_of (seat_view result.0)).seen
+        × OthersCame (you ∷ []) (front_of (seat_view other)).seen
+        (front_of (seat_view result.0)).seen }
+{
+    let _ = me;
+    let _ = you;
+    let _ = entry;
+    let _ = start;
+    let both = join(phaser, seat, other);
+    phaser.lock.split::<Apart>(both)
+}

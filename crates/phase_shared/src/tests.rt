@@ -1,0 +1,2 @@
+mod threads;
+mod tries;

@@ -1,0 +1,221 @@
+//! The calls of a registration that wait for nobody.
+ghost use Rattle.std.specs.Prelude.{◌≡◌, ◌≢◌, [], ◌∷◌, Err, IfOk, IfErr, IsOk, OnOk, OnErr};
+ghost use Rattle.phase_accum.specs.Parcels.{StandsForSends};
+ghost use Rattle.phase_history.specs.Others.{OnlyUsed, OthersCame};
+ghost use Rattle.phase_shared.specs.Rule.{IsGoodAt};
+ghost use Rattle.phase_shared.specs.Regs.{phaser_place, phaser_terms, phaser_limits};
+ghost use Rattle.phase_shared.specs.Calls.{Tries, Refuses, Signals, Waits, MaySignal, Leaves};
+ghost use Rattle.phase_shared.specs.Calls.{HasRegistered, RefusesRegister};
+
+use crate::past::Past;
+use crate::phaser::Phaser;
+use crate::refusal::Tried;
+use crate::reg::Reg;
+use crate::rule::SignalRule;
+use crate::steps;
+use phase_accum::{Accumulate, Pending, Single};
+use phase_base::Mode;
+use phase_core::{Got, RegisterRefusal, SignalRefusal, WaitRefusal};
+
+impl<A: Accumulate, K: SignalRule> Reg<A, K> {
+    /// Signals its phase, with the sends that it holds and a single or none, and answers that
+    /// phase. A refused signal leaves the sends held. It takes no memory.
+    pub fn try_signal(
+        &mut self,
+        phaser: &Phaser<A, K>,
+        single: Option<Single>,
+    ) -> Result<u64, Tried<SignalRefusal>>
+        requires at { self.old.at ≡ phaser_place phaser.now }
+        requires rule { MaySignal A.operation K.allows (phaser_terms phaser.now) self.old single }
+
+        ensures call { let old = self.old in Tries (self.new ≡ old)
+            (Signals A.operation (phaser_limits phaser.now) old.number old.held single old.seen
+            self.new.seen) result }
+        ensures at { (self.new.at ≡ self.old.at) × (self.new.number ≡ self.old.number) }
+        ensures good { IsGoodAt K.allows (phaser_terms phaser.now) self.new.seen }
+        ensures none_held { OnOk result
+            (StandsForSends A.operation self.new.held [] × (self.new.held.count ≡ 0)) }
+
+        ensures held { OnErr result (self.new.held ≡ self.old.held) }
+        ensures known { result ≢ Err (Tried.Refused SignalRefusal.NoTask) }
+        // Where it is the only one that it has seen, nobody is in its way.
+        ensures alone { OnlyUsed (self.old.number ∷ []) self.old.seen → result ≢ Err Tried.Busy }
+    {
+        let Some(seat) = self.seat.take() else {
+            unreachable!()
+        };
+        let (seat, entry, answer) = steps::signal(
+            phaser,
+            seat,
+            self.number,
+            self.entry,
+            self.pending,
+            single,
+        );
+        self.seat = Some(seat);
+        self.entry = entry;
+        match answer {
+            Ok(phase) => {
+                self.pending = Pending::new();
+                Ok(phase)
+            }
+            Err(tried) => Err(tried),
+        }
+    }
+
+    /// Waits for its phase, and answers it with its value, or that no more will come. It takes no
+    /// memory.
+    pub fn try_wait(&mut self, phaser: &Phaser<A, K>) -> Result<Got, Tried<WaitRefusal>>
+        requires at { self.old.at ≡ phaser_place phaser.now }
+
+        ensures call { let old = self.old in Tries (self.new ≡ old)
+            (Waits A.operation.value (phaser_limits phaser.now) old.number old.seen self.new.seen)
+            result }
+        ensures at { (self.new.at ≡ self.old.at) × (self.new.number ≡ self.old.number) }
+        ensures held { self.new.held ≡ self.old.held }
+        ensures good { IsGoodAt K.allows (phaser_terms phaser.now) self.new.seen }
+
+        ensures known { result ≢ Err (Tried.Refused WaitRefusal.NoTask) }
+        // Where it is the only one that it has seen, nobody is in its way.
+        ensures alone { OnlyUsed (self.old.number ∷ []) self.old.seen → result ≢ Err Tried.Busy }
+    {
+        let Some(seat) = self.seat.take() else {
+            unreachable!()
+        };
+        let (seat, entry, answer) = steps::wait(phaser, seat, self.number, self.entry);
+        self.seat = Some(seat);
+        self.entry = entry;
+        answer
+    }
+
+    /// Registers a child in a mode that its own mode holds, at both of its phases. The child has
+    /// seen what its parent has, and holds no sends. It may take memory.
+    ///
+    /// A registration that was refused as `OutOfMemory` can be made again.
+    pub fn try_register(
+        &mut self,
+        phaser: &Phaser<A, K>,
+        mode: Mode,
+    ) -> Result<Reg<A, K>, Tried<RegisterRefusal>>
+        requires at { self.old.at ≡ phaser_place phaser.now }
+
+        ensures ok { IfOk result (λ child.
+            HasRegistered self.old.number child.number mode self.old.seen self.new.seen) }
+        ensures child { IfOk result (λ child.
+            (child.at ≡ self.old.at) × (child.seen ≡ self.new.seen)) }
+        ensures none_held { IfOk result (λ child.
+            StandsForSends A.operation child.held [] × (child.held.count ≡ 0)) }
+        ensures at { (self.new.at ≡ self.old.at) × (self.new.number ≡ self.old.number) }
+        ensures same { (self.new.entry ≡ self.old.entry) × (self.new.held ≡ self.old.held) }
+        ensures good { IsGoodAt K.allows (phaser_terms phaser.now) self.new.seen }
+
+        ensures err { IfErr result (Refuses (self.new ≡ self.old)
+            (RefusesRegister self.old.number mode self.old.seen self.new.seen)) }
+        ensures known { result ≢ Err (Tried.Refused RegisterRefusal.NoTask) }
+        // Where it is the only one that it has seen, nobody is in its way.
+        ensures alone { OnlyUsed (self.old.number ∷ []) self.old.seen → result ≢ Err Tried.Busy }
+    {
+        let Some(seat) = self.seat.take() else {
+            unreachable!()
+        };
+        let (seat, answer) = steps::register(phaser, seat, self.number, self.entry, mode);
+        self.seat = Some(seat);
+        match answer {
+            Ok((number, seat, entry)) => Ok(Reg {
+                seat: Some(seat),
+                number,
+                entry,
+                pending: Pending::new(),
+            }),
+            Err(tried) => Err(tried),
+        }
+    }
+
+    /// Ends the registration: the sends that it holds are in no phase. Where another is in the
+    /// middle of a call it comes back as it was. It takes no memory.
+    pub fn try_leave(self, phaser: &Phaser<A, K>) -> Result<Past<A, K>, Reg<A, K>>
+        requires at { self.at ≡ phaser_place phaser.now }
+
+        ensures ok { IfOk result (λ past. Leaves self.number self.seen past.seen) }
+        ensures numbers { IfOk result (λ past. past.numbers ≡ self.number ∷ []) }
+        ensures at { IfOk result (λ past. past.at ≡ self.at) }
+        ensures good { IfOk result (λ past.
+            IsGoodAt K.allows (phaser_terms phaser.now) past.seen) }
+
+        ensures err { IfErr result (λ back. back ≡ self) }
+        // Where it is the only one that it has seen, nobody is in its way.
+        ensures alone { OnlyUsed (self.number ∷ []) self.seen → IsOk result }
+    {
+        let Reg {
+            seat,
+            number,
+            entry,
+            pending,
+        } = self;
+        let Some(seat) = seat else { unreachable!() };
+        match steps::leave(phaser, seat, number, entry) {
+            Ok(seat) => Ok(Past { seat }),
+            Err(seat) => Err(Reg {
+                seat: Some(seat),
+                number,
+                entry,
+                pending,
+            }),
+        }
+    }
+
+    /// The same two registrations, which now have seen one history: it begins with what each had
+    /// seen. It waits for nobody and takes no memory.
+    pub fn meet(self, phaser: &Phaser<A, K>, other: Reg<A, K>) -> (Reg<A, K>, Reg<A, K>)
+        requires at { (self.at ≡ phaser_place phaser.now) × (other.at ≡ phaser_place phaser.now) }
+
+        ensures one { result.0.seen ≡ result.1.seen }
+        ensures begins { OthersCame (self.number ∷ []) self.seen result.0.seen
+            × OthersCame (other.number ∷ []) other.seen result.0.seen }
+        ensures good { IsGoodAt K.allows (phaser_terms phaser.now) result.0.seen }
+        ensures first { (result.0.at ≡ self.at) × (result.0.number ≡ self.number)
+            × (result.0.entry ≡ self.entry) × (result.0.held ≡ self.held) }
+        ensures second { (result.1.at ≡ other.at) × (result.1.number ≡ other.number)
+            × (result.1.entry ≡ other.entry) × (result.1.held ≡ other.held) }
+    {
+        let Reg {
+            seat,
+            number,
+            entry,
+            pending,
+        } = self;
+        let Reg {
+            seat: other_seat,
+            number: other_number,
+            entry: other_entry,
+            pending: other_pending,
+        } = other;
+        let Some(seat) = seat else { unreachable!() };
+        let Some(other_seat) = other_seat else {
+            unreachable!()
+        };
+        let (seat, other_seat) = steps::meet(
+            phaser,
+            seat,
+            number,
+            entry,
+            other_seat,
+            other_number,
+            other_entry,
+        );
+        (
+            Reg {
+                seat: Some(seat),
+                number,
+                entry,
+                pending,
+            },
+            Reg {
+                seat: Some(other_seat),
+                number: other_number,
+                entry: other_entry,
+                pending: other_pending,
+            },
+        )
+    }
+}
