@@ -20,6 +20,8 @@ pub fn show_help<W: Write, E: Write>(
     ensures status { (result ≡ 0) ⊎ (result ≡ 5) }
     ensures text { result ≡ 0 → Appends (W.contents (inner_of output.old))
         (W.contents (inner_of output.new)) text.now }
+    ensures prefix { AppendsPrefix (W.contents (inner_of output.old))
+        (W.contents (inner_of output.new)) text.now }
     ensures quiet { result ≡ 0 → faults.new ≡ faults.old }
     ensures failed { result ≡ 5 → has_failed_of output.new ≡ true }
     ensures fault { result ≡ 5 → Reports WriteFault (has_failed_of faults.new)
