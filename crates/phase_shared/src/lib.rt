@@ -1,4 +1,43 @@
-//! A phaser between threads.
+//! A phaser between threads: a stream of phases that threads complete together, in which what they
+//! send in a phase becomes one value for all that wait.
+//!
+//! ```text
+//! thread 1 (Sig)           thread 2 (Sig)           thread 3 (Wait)
+//!
+//! send 4, signal: 0                                 wait ..
+//! send 5, signal: 1        send 3, signal: 0        .. gets phase 0: 7
+//! leave                    leave                    gets phase 1: 5, and then: ended
+//! ```
+//!
+//! A **registration**, `Reg`, is what a thread acts by: it has a mode, two phases and the sends
+//! that it holds. The first one comes with the phaser, by `Phaser::make`, and each registers
+//! others. **Sends** become a value by an operation of `phase_accum`, as `Sum`. A **past** is what a
+//! registration that left has seen.
+//!
+//! **What a call tells.** Each registration has seen a history: a list of the events on its phaser.
+//! Each call makes it longer, by what the others did up to the moment of the call and then by the
+//! call's own event, and its answer is the one that the definitions give at that point. So all
+//! answers on a phaser belong to one legal history, of which each registration has seen a
+//! beginning, and the laws of `phase_core` hold of it. `Reg::meet` gives two registrations one
+//! history, and `Past::join` the pasts of any threads.
+//!
+//! **Waiting.** The calls that begin with `try_` answer at once. The others spin briefly, then
+//! yield, and then sleep for some milliseconds at a time, until the phase that they wait for is
+//! complete or there is room for theirs.
+//!
+//! ```text
+//! let (phaser, mut founder) = Phaser::<Sum, NoRule>::make(alloc, Spec::new(1, 1000)?, NoRule)?;
+//! founder.send(5)?;
+//! founder.next(rt, &phaser, None)     // signalled phase 0, and got its value, 5
+//! ```
+//!
+//! **A registration in a thread.** No closure can hold one, as it cannot be thrown away. Lend it to
+//! the thread, or lend an `Option` that the thread takes it from.
+//!
+//! Proved: what the clauses say, for any number of threads. Only tested: that a call succeeds where
+//! it can, and that a waiting call comes back. Not promised: that a phase is ever complete, that a
+//! `Busy` could not have been avoided, and any order of the events of threads that never told each
+//! other anything.
 #![tactic(auto)]
 
 mod hints;

@@ -19,6 +19,15 @@ use turn_lock::TurnLock;
 /// A phaser between threads, which use it by shared reference. Each has registrations of its own.
 ///
 /// Sends become values by the operation `A`, and each signal abides by the rule `K`.
+///
+/// **Cost.** A call is one exchange that takes the turn, the call on the phaser of one thread, and
+/// two exchanges that give the turn back. There is no mutex. `make` and registrations take memory,
+/// and nothing else does.
+///
+/// **Limits.** Those of its `Spec`, and as many registrations at a time as a phaser of one thread
+/// can have.
+///
+/// **Not promised.** That a thread gets its turn, and in what order threads do.
 #[derive(Drop)]
 pub struct Phaser<A: Accumulate, K: SignalRule> {
     pub(crate) lock: PhaserLock<A, K>,

@@ -1,2 +1,3 @@
+mod churn;
 mod threads;
 mod tries;

@@ -1,4 +1,4 @@
-ghost use Rattle.std.specs.Prelude.{◌≡◌};
+ghost use Rattle.std.specs.Prelude.{◌≡◌, IfSome};
 ghost use Rattle.phase_shared.specs.Regs.{phaser_place};
 
 use crate::one_send::{OneSend, try_signal_value};
@@ -229,5 +229,60 @@ fn a_founder_alone_goes_on_by_itself(rt: HostRuntime) -> Result<(), Fail> {
             got: value
         })
     );
+    Ok(())
+}
+
+// Registers a child, by a second call where memory was wanting.
+fn child_of(phaser: &Phaser<Sum, NoRule>, reg: &mut Reg<Sum, NoRule>) -> Option<Reg<Sum, NoRule>>
+    requires { reg.old.at ≡ phaser_place phaser.now }
+    ensures at { reg.new.at ≡ reg.old.at }
+    ensures child { IfSome result (λ child. child.at ≡ phaser_place phaser.now) }
+{
+    match reg.try_register(phaser, Mode::Sig) {
+        Ok(child) => return Some(child),
+        Err(tried) => {
+            if tried != Tried::Refused(RegisterRefusal::OutOfMemory) {
+                return None;
+            }
+        }
+    }
+    match reg.try_register(phaser, Mode::Sig) {
+        Ok(child) => Some(child),
+        Err(_) => None,
+    }
+}
+
+// Whether so many can be registered, each by the one before.
+fn are_registered<R: Wait>(
+    rt: &R,
+    phaser: &Phaser<Sum, NoRule>,
+    reg: &mut Reg<Sum, NoRule>,
+    count: u64,
+) -> bool
+    requires { reg.old.at ≡ phaser_place phaser.now }
+    ensures { reg.new.at ≡ reg.old.at }
+{
+    if count == 0 {
+        return true;
+    }
+    let Some(mut child) = child_of(phaser, reg) else {
+        return false;
+    };
+    let others = are_registered(rt, phaser, &mut child, count - 1);
+    let _past = child.leave(rt, phaser);
+    others
+}
+
+// Where one allocation is refused, the same call can be made again.
+#[test]
+fn twenty_registrations(rt: HostRuntime) -> Result<(), Fail> {
+    let (phaser, mut founder) = Phaser::<Sum, NoRule>::make(
+        rt.alloc(),
+        Spec::new(2, 100)?,
+        NoRule,
+    )?;
+    let all = are_registered(&rt, &phaser, &mut founder, 20);
+    let _past = founder.leave(&rt, &phaser);
+    assert!(rt; all);
     Ok(())
 }

@@ -1,0 +1,5 @@
+use Rattle.phase_shared.proofs.tests.tries.+are_registered.Given as goal
+
+-- one fewer each time
+abbrev pub decreases-are_registered : goal.decreases-are_registered
+decreases-are_registered g l = l.count
