@@ -1,2 +1,4 @@
 pub mod Simple
 pub mod Refused
+pub mod Called
+pub mod Nothing

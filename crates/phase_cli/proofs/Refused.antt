@@ -3,11 +3,17 @@ use Rattle.std.proofs.Common.{◌≡◌, ◌≢◌, List, [], ◌∷◌, rules}
 use Rattle.std.proofs.Common.{inl, inr, sym, subst, ◌∙◌}
 use Rattle.clap.specs.Words.{IsAmong, Kinds, Text}
 use Rattle.clap.specs.declared.error.kind.ErrorKind.TheVariants.{DisplayHelp}
-use Rattle.clap.specs.declared.error.kind.ErrorKind.TheVariants.{InvalidSubcommand, UnknownArgument}
+use Rattle.clap.specs.declared.error.kind.ErrorKind.TheVariants.{InvalidSubcommand, MissingRequiredArgument, UnknownArgument}
 use Rattle.phase_cli.specs.CommandLine.{AreRefused, kinds_of}
 
 not_empty : (kinds : Kinds) → UnknownArgument ∷ kinds ≢ []
 not_empty kinds = λ e. search rules
+
+missing_not_empty : (kinds : Kinds) → MissingRequiredArgument ∷ kinds ≢ []
+missing_not_empty kinds = λ e. search rules
+
+help_not_missing : DisplayHelp ≢ MissingRequiredArgument
+help_not_missing = λ e. search rules
 
 help_not_unknown : DisplayHelp ≢ UnknownArgument
 help_not_unknown = λ e. search rules
@@ -36,5 +42,16 @@ stray_refused words e = (
           | inl h ↦ help_not_invalid h
           | inr h ↦ h
         ]
+      ],
+)
+
+pub missing_refused : (words : List Text) → kinds_of words ≡ MissingRequiredArgument ∷ []
+    → AreRefused words
+missing_refused words e = (
+  λ empty. missing_not_empty [] (sym e ∙ empty),
+  λ among.
+      elim (subst (λ (kinds : Kinds). IsAmong DisplayHelp kinds) e among) [
+        | inl h ↦ help_not_missing h
+        | inr h ↦ h
       ],
 )

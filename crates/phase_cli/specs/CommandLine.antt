@@ -1,20 +1,35 @@
 -- What the words of a command line ask for, by what clap makes of them. The program's own name is
 -- not among them.
-use Rattle.std.specs.Prelude.{◌≡◌, ◌≢◌, Bool, true, List, [], ◌∷◌, Option, Some, None}
-use Rattle.std.specs.Prelude.{String, codes, map, string_bytes}
+use Rattle.std.specs.Prelude.{◌≡◌, ◌≢◌, ◌⊎◌, true, List, [], ◌∷◌, Option, Some, None}
+use Rattle.std.specs.Prelude.{String, codes, if◌then◌else◌, map, string_bytes, unwrap_or}
 use Rattle.std.specs.Str.{bytes_eq}
-use Rattle.clap.specs.Words.{App, IsAmong, Kinds, Row, Text, fault_of, new_app, subcommand_of}
-use Rattle.clap.specs.Words.{with_subcommand}
+use Rattle.clap.specs.Words.{App, IsAmong, Kinds, Row, Rule, Shape, Text, fault_of, first_of}
+use Rattle.clap.specs.Words.{new_app, new_rule, subcommand_of, with_rule, with_subcommand}
 use Rattle.clap.specs.declared.error.kind.ErrorKind.TheVariants.{DisplayHelp}
+use Rattle.phase_cli.specs.declared.command_line.Call.{Call}
+use Rattle.phase_cli.specs.declared.command_line.Call.TheVariants as call
+
+-- ---- the command line
 
 -- the words of the command leave out the program's own name
 abbrev pub without_own_name : App → App
 without_own_name app = record app { top = record app.top { no_binary_name = true } }
 
--- the program, with its one command `replay`, which takes no word
+-- the name of a graph's file, which has to be given
+abbrev pub graph_rule : Rule
+graph_rule = record (new_rule (codes "graph")) { required = true; value_names = 1 }
+
+-- a command whose one word is the name of a graph's file
+abbrev pub graph_shape : Text → Shape
+graph_shape name = (with_rule (new_app name) graph_rule).top
+
+-- the program, with its commands: `replay`, which takes no word, and `check` and `eval`
 unfoldable pub phase_app : App
-phase_app = with_subcommand (without_own_name (new_app (codes "phase")))
-    (new_app (codes "replay")).top
+phase_app =
+    with_subcommand (with_subcommand (with_subcommand (without_own_name (new_app (codes "phase")))
+    (new_app (codes "replay")).top) (graph_shape (codes "check"))) (graph_shape (codes "eval"))
+
+-- ---- what the words ask for
 
 -- the kinds of answer that clap may give in place of taking the words; a call for help is one
 unfoldable pub kinds_of : List Text → Kinds
@@ -32,15 +47,52 @@ AskHelp words = kinds_of words ≡ DisplayHelp ∷ []
 abbrev pub AreRefused : List Text → Type 0
 AreRefused words = (kinds_of words ≢ []) × (IsAmong DisplayHelp (kinds_of words) → ⊥)
 
--- no command is named, or `replay`
-abbrev pub names_replay : Option (Text × List Row) → Bool
-names_replay None = true
-names_replay (Some command) = bytes_eq command.0 (codes "replay")
+-- what words that are taken ask for: a replay, or a check or an evaluation of a graph's file
+pub data Asked : Type 0 where
+  replay : Asked
+  check : Text → Asked
+  eval : Text → Asked
 
--- the words ask for a replay: clap takes them, and they name no command or `replay`
-pub record AskReplay (words : List Text) : Type 0 where
+-- by the command and the name that is given to it
+abbrev pub asked_as : Text → Option Text → Asked
+asked_as name graph =
+    if bytes_eq name (codes "check") then check (unwrap_or graph [])
+    else if bytes_eq name (codes "eval") then eval (unwrap_or graph [])
+    else replay
+
+-- with no command a replay is asked for
+abbrev pub asked_by : Option (Text × List Row) → Asked
+asked_by None = replay
+asked_by (Some command) = asked_as command.0 (first_of (codes "graph") command.1)
+
+unfoldable pub asked_in : List Text → Asked
+asked_in words = asked_by (subcommand_of phase_app words)
+
+-- clap takes the words, and they ask for this
+pub record Asks (words : List Text) (what : Asked) : Type 0 where
   pub taken : AreTaken words
-  pub command : names_replay (subcommand_of phase_app words) ≡ true
+  pub command : asked_in words ≡ what
+
+abbrev pub AskReplay : List Text → Type 0
+AskReplay words = Asks words replay
+
+-- the words ask for a check of the graph in the file of this name
+abbrev pub AskCheck : List Text → Text → Type 0
+AskCheck words name = Asks words (check name)
+
+-- the words ask for an evaluation of the graph in the file of this name
+abbrev pub AskEval : List Text → Text → Type 0
+AskEval words name = Asks words (eval name)
+
+-- the words ask for something of the graph in the file of this name
+abbrev pub AskGraph : List Text → Text → Type 0
+AskGraph words name = AskCheck words name ⊎ AskEval words name
+
+-- what a call asks for
+abbrev pub asked_of : Call → Asked
+asked_of call.Replay = replay
+asked_of (call.Check name) = check name.now
+asked_of (call.Eval name) = eval name.now
 
 -- the words as texts
 abbrev pub texts : {Z : Type 0} → List (String Z) → List Text

@@ -1,34 +1,43 @@
 //! A run of the program over any input and outputs.
 ghost use Rattle.std.specs.Prelude.{◌≡◌, ◌≢◌, ◌⊎◌, ℕ, Bool, List, Option};
 ghost use Rattle.clap.specs.Words.{HasKind, kind_of};
-ghost use Rattle.phase_cli.specs.CommandLine.{AreRefused, AreTaken, AskHelp, AskReplay, texts};
+ghost use Rattle.phase_cli.specs.CommandLine.{AreRefused, AreTaken, AskCheck, AskEval, AskGraph};
+ghost use Rattle.phase_cli.specs.CommandLine.{AskHelp, AskReplay, texts};
+ghost use Rattle.phase_status.specs.GraphRuns.{Checks, Evaluates, Stops};
 ghost use Rattle.phase_status.specs.Statuses.{HasCause, RepliesWhole, RepliesPrefix, Reports};
 ghost use Rattle.phase_replay.specs.declared.fault.ReplayFault.{ReplayFault};
+ghost use Rattle.phase_replay.specs.declared.fault.ReplayFault.TheVariants.{OutOfMemory};
 ghost use Rattle.phase_replay.specs.Replay.{ReplaysAll, ReplaysPrefix};
 ghost use Rattle.watched_io.specs.Watched.{has_failed_of, inner_of, count_of};
 
-use crate::command_line::read_words;
+use crate::command_line::{Call, read_words};
 use clap::Error;
 use clap::error::ErrorKind;
+use phase_files::Files;
 use phase_replay::ReplayFault;
-use phase_status::{refuse, replay_and_report, report, show_help};
+use phase_status::{
+    check_and_report, eval_and_report, refuse, replay_and_report, report, show_help,
+};
 use std::alloc::Global;
 use std::io::{Read, Write};
 use watched_io::Watched;
 
-/// Runs the program on its words, without its own name, and answers its exit status: 0 where the
-/// script was replayed or help was shown, 2 where the words are refused, and 5 after a fault.
+/// Runs the program on its words, without its own name, and answers its exit status: 0 where what
+/// was asked for is done or help was shown, 1 where a graph or its samples are refused, 2 where the
+/// words are refused, 3 where a value of a graph is out of range, and 5 after a fault.
 ///
 /// A refusal's text goes to the fault stream, and so does a fault's line. Where that stream fails
 /// too, the status stands alone.
-pub fn run_cli<R: Read, W: Write, E: Write>(
+pub fn run_cli<R: Read, W: Write, E: Write, F: Files>(
     alloc: Global,
     words: &[String],
     input: &mut Watched<R>,
     output: &mut Watched<W>,
     faults: &mut Watched<E>,
+    files: &mut F,
 ) -> u8
-    ensures status { (result ≡ 0) ⊎ ((result ≡ 2) ⊎ (result ≡ 5)) }
+    ensures status { (result ≡ 0) ⊎ ((result ≡ 1) ⊎ ((result ≡ 2) ⊎ ((result ≡ 3)
+        ⊎ (result ≡ 5)))) }
 
     // What a replay wrote, whole or up to the fault.
     ensures replay { result ≡ 0 → AskReplay (texts words.now) → RepliesWhole
@@ -46,6 +55,18 @@ pub fn run_cli<R: Read, W: Write, E: Write>(
         (count_of input.old) (count_of input.new)
         (W.contents (inner_of output.old)) (W.contents (inner_of output.new)) }
 
+    // What a check and an evaluation of a graph wrote, and why there is no other answer.
+    ensures check { (name : List ℕ) → result ≡ 0 → AskCheck (texts words.now) name
+        → Checks (F.file files.old) name
+        (W.contents (inner_of output.old)) (W.contents (inner_of output.new)) }
+    ensures eval { (name : List ℕ) → result ≡ 0 → AskEval (texts words.now) name
+        → Evaluates (F.file files.old) name
+        (W.contents (inner_of output.old)) (W.contents (inner_of output.new)) }
+    ensures stops { (name : List ℕ) → result ≢ 0 → AskGraph (texts words.now) name
+        → Stops (F.file files.old) name (has_failed_of output.new) result (has_failed_of faults.new)
+        (E.contents (inner_of faults.old)) (E.contents (inner_of faults.new)) }
+    ensures silent { (result ≡ 1) ⊎ (result ≡ 3) → output.new ≡ output.old }
+
     // When each status comes.
     ensures taken { AreTaken (texts words.now) → result ≢ 2 }
     ensures help { AskHelp (texts words.now) → (result ≢ 2) × (input.new ≡ input.old) }
@@ -55,7 +76,8 @@ pub fn run_cli<R: Read, W: Write, E: Write>(
     // What else stands on the streams.
     ensures kept { result ≡ 2 → (input.new ≡ input.old) × (output.new ≡ output.old) }
     ensures quiet { result ≡ 0 → faults.new ≡ faults.old }
-    ensures fault { result ≡ 5 → (fault : ReplayFault)
+    ensures fault { result ≡ 5 → ((name : List ℕ) → AskGraph (texts words.now) name → ⊥)
+        → (fault : ReplayFault)
         × HasCause fault (R.remaining (inner_of input.old)) (R.remaining (inner_of input.new))
         (count_of input.old) (count_of input.new)
         (has_failed_of input.old) (has_failed_of input.new)
@@ -64,7 +86,9 @@ pub fn run_cli<R: Read, W: Write, E: Write>(
         (E.contents (inner_of faults.old)) (E.contents (inner_of faults.new)) }
 {
     match read_words(alloc, words) {
-        Ok(()) => replay_and_report(alloc, input, output, faults),
+        Ok(Call::Replay) => replay_and_report(alloc, input, output, faults),
+        Ok(Call::Check(graph)) => check_and_report(alloc, graph, output, faults, files),
+        Ok(Call::Eval(graph)) => eval_and_report(alloc, graph, output, faults, files),
         Err(error) => answer(alloc, &error, output, faults),
     }
 }
@@ -81,6 +105,9 @@ fn answer<W: Write, E: Write>(
     ensures done { result ≡ 0 → kind_of error.now ≡ ErrorKind.DisplayHelp }
     ensures help { kind_of error.now ≡ ErrorKind.DisplayHelp → result ≢ 2 }
     ensures memory { kind_of error.now ≡ ErrorKind.OutOfMemory → result ≡ 5 }
+    ensures line { kind_of error.now ≡ ErrorKind.OutOfMemory
+        → Reports OutOfMemory (has_failed_of faults.new)
+        (E.contents (inner_of faults.old)) (E.contents (inner_of faults.new)) }
     ensures kept { kind_of error.now ≢ ErrorKind.DisplayHelp → output.new ≡ output.old }
     ensures quiet { result ≡ 0 → faults.new ≡ faults.old }
     ensures fault { result ≡ 5 → (fault : ReplayFault)

@@ -1,54 +1,88 @@
 //! The words of the program, as clap reads them.
-ghost use Rattle.std.specs.Prelude.{◌≡◌, IfOk};
-ghost use Rattle.clap.specs.Words.{FailsBy, app_of};
+ghost use Rattle.std.specs.Prelude.{◌≡◌, IfOk, Some, false};
+ghost use Rattle.clap.specs.Words.{FailsBy, app_of, rule_of, subcommand_rows_of};
+ghost use Rattle.phase_cli.specs.CommandLine.{asked_as, asked_by, asked_in, asked_of, graph_rule};
 ghost use Rattle.phase_cli.specs.CommandLine.{kinds_of, phase_app, texts};
 
-use clap::{Command, Error};
+use crate::help::{ABOUT, CHECK, CHECK_END, END, EVAL, EVAL_END, GRAPH, REPLAY};
+use clap::{Arg, ArgMatches, Command, Error};
 use std::alloc::{AllocError, Global};
 
-/// What the program is, in its help.
-const ABOUT: &str = "\
-Replays a script of calls on a phaser, a barrier on which the tasks of a phase
-also add up a value. The script is read from standard input, a call a line, and
-each line is answered by one line on standard output.";
+/// What the words ask for.
+#[derive(Clone, Copy, Debug, PartialEq, Eq)]
+pub enum Call<'a> {
+    /// A replay of the script on standard input.
+    Replay,
+    /// A check of the graph in the file of this name.
+    Check(&'a str),
+    /// An evaluation of the graph in the file of this name.
+    Eval(&'a str),
+}
 
-/// What `replay` does, in the list of commands.
-const ABOUT_REPLAY: &str = "Replays the script, as `phase` with no command does";
-
-/// The end of the program's help.
-const EXAMPLE: &str = "\
-Example, with the reply to each line and what it means:
-  make sum 2 100    ok           a phaser that adds up, for phases 0 to 99
-  add 0 1 sig       ok           task 0, which founded it, registers task 1
-  send 0 3          ok           task 0 sends 3
-  send 1 4          ok           task 1 sends 4
-  signal 1          ok 0         task 1 has done its part of phase 0
-  signal 0          ok 0         and so has task 0
-  wait 0            value 0 7    phase 0 is complete, and its value is 7
-A line that is no call is answered by `bad line`.
-
-Exit status: 0 done; 2 the words were not understood; 5 a read or a write
-failed, or memory ran out.";
+/// The word behind `check` and `eval`, which has to be given: the name of a graph's file.
+fn graph_word<'a>(alloc: Global) -> Arg<'a>
+    ensures rule { rule_of result ≡ graph_rule }
+    ensures local { result.global ≡ false }
+{
+    Arg::new(alloc, "graph")
+        .value_name("GRAPH")
+        .help(GRAPH)
+        .required(true)
+}
 
 /// The program's command line.
 fn command<'a>(alloc: Global) -> Result<Command<'a>, AllocError>
     ensures { IfOk result (λ c. app_of c ≡ phase_app) }
 {
-    let replay = Command::new(alloc, "replay").about(ABOUT_REPLAY);
+    let replay = Command::new(alloc, "replay").about(REPLAY).after_help(END);
+    let check = Command::new(alloc, "check")
+        .about(CHECK)
+        .after_help(CHECK_END)
+        .arg(graph_word(alloc))?;
+    let eval = Command::new(alloc, "eval")
+        .about(EVAL)
+        .after_help(EVAL_END)
+        .arg(graph_word(alloc))?;
     Command::new(alloc, "phase")
         .no_binary_name(true)
         .about(ABOUT)
-        .after_help(EXAMPLE)
+        .after_help(END)
         .bin_name("phase")?
-        .subcommand(replay)
+        .subcommand(replay)?
+        .subcommand(check)?
+        .subcommand(eval)
+}
+
+/// What the words ask for, by what clap found in them.
+fn call_of<'a>(matches: &ArgMatches<'a>) -> Call<'a>
+    ensures { asked_of result ≡ asked_by (subcommand_rows_of matches.now) }
+{
+    let Some((name, own)) = matches.subcommand() else {
+        return Call::Replay;
+    };
+    call_named(name, own.get_str("graph").unwrap_or(""))
+}
+
+/// What a command with the name of a file asks for.
+fn call_named<'a>(name: &str, graph: &'a str) -> Call<'a>
+    ensures { asked_of result ≡ asked_as name.now (Some graph.now) }
+{
+    if name == "check" {
+        return Call::Check(graph);
+    }
+    if name == "eval" {
+        return Call::Eval(graph);
+    }
+    Call::Replay
 }
 
 /// Reads the words after the program's own name. A call for help is an `Err` too, and its text is
 /// the error's.
-pub fn read_words(alloc: Global, words: &[String]) -> Result<(), Error>
-    ensures { FailsBy (kinds_of (texts words.now)) result }
+pub fn read_words<'a>(alloc: Global, words: &'a [String]) -> Result<Call<'a>, Error>
+    ensures fails { FailsBy (kinds_of (texts words.now)) result }
+    ensures call { IfOk result (λ call. asked_of call ≡ asked_in (texts words.now)) }
 {
     let command = command(alloc)?;
-    command.try_get_matches_from(words)?;
-    Ok(())
+    let matches = command.try_get_matches_from(words)?;
+    Ok(call_of(&matches))
 }

@@ -1,13 +1,18 @@
-//! The program `phase`: it replays scripts of calls on a phaser, from its input to its output.
+//! The program `phase`: it replays scripts of calls on a phaser, from its input to its output, and
+//! checks and evaluates graphs of filters over phasers.
 #![tactic(auto)]
 
 mod cli;
 mod command_line;
+#[cfg(test)]
+mod graph_tests;
+mod help;
 mod laws;
 #[cfg(test)]
 mod tests;
 
 use cli::run_cli;
+use phase_files::DiskFiles;
 use phase_status::{own_words, refuse_words};
 use std::process::ExitCode;
 use watched_io::Watched;
@@ -26,6 +31,7 @@ fn main(rt: HostRuntime) -> ExitCode {
         &mut input,
         &mut output,
         &mut faults,
+        &mut DiskFiles::new(&rt),
     );
     ExitCode::from(status)
 }

@@ -1,5 +1,6 @@
 //! Runs of the program whose text no clause says, and calls that have to succeed.
 use crate::cli::run_cli;
+use phase_files::{FileFault, Files};
 use phase_status::refuse_words;
 use std::alloc::Global;
 use std::io;
@@ -27,13 +28,49 @@ impl Write for Broken {
     }
 }
 
-/// The status of a run over these streams.
+/// A graph's text under the name `g`, and the samples of each source under a name of their own.
+#[derive(Clone, Copy, Drop)]
+pub(crate) struct Held<'a> {
+    pub(crate) graph: &'a str,
+    pub(crate) samples: &'a [(&'a str, &'a str)],
+}
+
+/// No file.
+fn none<'a>() -> Held<'a> {
+    Held {
+        graph: "",
+        samples: &[],
+    }
+}
+
+impl Files for Held<'_> {
+    fn read(&mut self, alloc: Global, name: &str, limit: usize) -> Result<Vec<u8>, FileFault> {
+        let mut text = None;
+        if name == "g" {
+            text = Some(self.graph);
+        }
+        for (own, samples) in self.samples {
+            if *own == name {
+                text = Some(*samples);
+            }
+        }
+        match text {
+            Some(text) if text.len() <= limit => {
+                Vec::from_slice(alloc, text.as_bytes()).map_err(|_| FileFault::OutOfMemory)
+            }
+            _ => Err(FileFault::ReadFault),
+        }
+    }
+}
+
+/// The status of a run over these streams and files.
 fn status_of<R: Read + Drop, W: Write + Drop, E: Write + Drop>(
     alloc: Global,
     words: &[&str],
     input: R,
     output: W,
     faults: E,
+    files: Held<'_>,
 ) -> Result<u8, Fail> {
     let mut texts = Vec::new(alloc);
     for word in words {
@@ -42,29 +79,51 @@ fn status_of<R: Read + Drop, W: Write + Drop, E: Write + Drop>(
     let mut input = Watched::new(input);
     let mut output = Watched::new(output);
     let mut faults = Watched::new(faults);
+    let mut files = files;
     let status = run_cli(
         alloc,
         texts.as_slice(),
         &mut input,
         &mut output,
         &mut faults,
+        &mut files,
     );
     Ok(status)
 }
 
 /// What a run left.
 #[derive(Drop)]
-struct Outcome {
-    status: u8,
-    output: Vec<u8>,
-    faults: Vec<u8>,
+pub(crate) struct Outcome {
+    pub(crate) status: u8,
+    pub(crate) output: Vec<u8>,
+    pub(crate) faults: Vec<u8>,
 }
 
 /// A run over streams that never fail.
 fn run(alloc: Global, words: &[&str], script: &[u8]) -> Result<Outcome, Fail> {
     let mut output = Vec::new(alloc);
     let mut faults = Vec::new(alloc);
-    let status = status_of(alloc, words, script, &mut output, &mut faults)?;
+    let status = status_of(alloc, words, script, &mut output, &mut faults, none())?;
+    Ok(Outcome {
+        status,
+        output,
+        faults,
+    })
+}
+
+/// A run of a command on the graph `g`.
+pub(crate) fn run_graph(alloc: Global, command: &str, files: Held<'_>) -> Result<Outcome, Fail> {
+    let mut output = Vec::new(alloc);
+    let mut faults = Vec::new(alloc);
+    let words = [command, "g"];
+    let status = status_of(
+        alloc,
+        words.as_slice(),
+        Broken,
+        &mut output,
+        &mut faults,
+        files,
+    )?;
     Ok(Outcome {
         status,
         output,
@@ -98,13 +157,16 @@ fn other_words_are_refused_by_claps_text(rt: HostRuntime) -> Result<(), Fail> {
 /// The whole help of the program.
 const HELP: &str = "\
 Replays a script of calls on a phaser, a barrier on which the tasks of a phase
-also add up a value. The script is read from standard input, a call a line, and
-each line is answered by one line on standard output.
+also add up a value, or evaluates a graph of filters over phasers. A script is
+read from standard input, a call a line, and each line is answered by one line
+on standard output.
 
 Usage: phase [COMMAND]
 
 Commands:
   replay  Replays the script, as `phase` with no command does
+  check   Reads a graph and the samples of its sources
+  eval    Writes the values of each sink of a graph
   help    Print this message or the help of the given subcommand(s)
 
 Options:
@@ -120,8 +182,9 @@ Example, with the reply to each line and what it means:
   wait 0            value 0 7    phase 0 is complete, and its value is 7
 A line that is no call is answered by `bad line`.
 
-Exit status: 0 done; 2 the words were not understood; 5 a read or a write
-failed, or memory ran out.
+Exit status: 0 done; 1 a graph or its samples are refused; 2 the words were not
+understood; 3 a value of a graph is out of range; 5 a read or a write failed, or
+memory ran out.
 ";
 
 #[test]
@@ -136,8 +199,27 @@ fn help_goes_to_the_output(rt: HostRuntime) -> Result<(), Fail> {
         let help = run(rt.alloc(), words.as_slice(), b"")?;
         assert_eq!(rt; help.status, 0);
         assert!(rt; has(&help.output, "Usage: phase replay"));
+        assert!(rt;
+            has(
+                &help.output,
+                "  wait 0            value 0 7    phase 0 is complete"
+            )
+        );
         assert!(rt; help.faults.is_empty());
     }
+    Ok(())
+}
+
+#[test]
+fn help_of_graphs_has_an_example(rt: HostRuntime) -> Result<(), Fail> {
+    let check = run(rt.alloc(), ["check", "--help"].as_slice(), b"")?;
+    assert_eq!(rt; check.status, 0);
+    assert!(rt; has(&check.output, "Usage: phase check <GRAPH>"));
+    assert!(rt; has(&check.output, "  ok phasers 1 tasks 2\n"));
+    let eval = run(rt.alloc(), ["help", "eval"].as_slice(), b"")?;
+    assert_eq!(rt; eval.status, 0);
+    assert!(rt; has(&eval.output, "Usage: phase eval <GRAPH>"));
+    assert!(rt; has(&eval.output, "  out 3\n  1\n  3\n  5\n"));
     Ok(())
 }
 
@@ -234,7 +316,7 @@ fn an_empty_script_has_no_reply(rt: HostRuntime) -> Result<(), Fail> {
 fn a_reader_that_fails_is_a_read_fault(rt: HostRuntime) -> Result<(), Fail> {
     let mut output = Vec::new(rt.alloc());
     let mut faults = Vec::new(rt.alloc());
-    let status = status_of(rt.alloc(), &[], Broken, &mut output, &mut faults)?;
+    let status = status_of(rt.alloc(), &[], Broken, &mut output, &mut faults, none())?;
     assert_eq!(rt; status, 5);
     assert!(rt; output.is_empty());
     assert_eq!(rt; faults.as_slice(), b"phase: read fault\n".as_slice());
@@ -246,7 +328,7 @@ fn a_writer_that_fails_is_a_write_fault(rt: HostRuntime) -> Result<(), Fail> {
     for words in [&[], ["--help"].as_slice()] {
         let mut faults = Vec::new(rt.alloc());
         let script = b"make sum 2 100\n".as_slice();
-        let status = status_of(rt.alloc(), words, script, Broken, &mut faults)?;
+        let status = status_of(rt.alloc(), words, script, Broken, &mut faults, none())?;
         assert_eq!(rt; status, 5);
         assert_eq!(rt; faults.as_slice(), b"phase: write fault\n".as_slice());
     }
@@ -256,7 +338,7 @@ fn a_writer_that_fails_is_a_write_fault(rt: HostRuntime) -> Result<(), Fail> {
 #[test]
 fn the_status_stands_where_the_fault_stream_fails(rt: HostRuntime) -> Result<(), Fail> {
     let mut output = Vec::new(rt.alloc());
-    let status = status_of(rt.alloc(), &[], Broken, &mut output, Broken)?;
+    let status = status_of(rt.alloc(), &[], Broken, &mut output, Broken, none())?;
     assert_eq!(rt; status, 5);
     let status = status_of(
         rt.alloc(),
@@ -264,6 +346,7 @@ fn the_status_stands_where_the_fault_stream_fails(rt: HostRuntime) -> Result<(),
         Broken,
         &mut output,
         Broken,
+        none(),
     )?;
     assert_eq!(rt; status, 2);
     assert!(rt; output.is_empty());

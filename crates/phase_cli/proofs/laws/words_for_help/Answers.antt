@@ -19,3 +19,11 @@ returns-clause-replay_long c = refl
 pub returns-clause-replay_short : goal.returns-clause-replay_short
 unfolding kinds_of phase_app clap_on_literals
 returns-clause-replay_short c = refl
+
+pub returns-clause-check_long : goal.returns-clause-check_long
+unfolding kinds_of phase_app clap_on_literals
+returns-clause-check_long c = refl
+
+pub returns-clause-eval_short : goal.returns-clause-eval_short
+unfolding kinds_of phase_app clap_on_literals
+returns-clause-eval_short c = refl

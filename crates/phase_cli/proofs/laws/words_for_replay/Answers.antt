@@ -1,13 +1,13 @@
 -- clap's reading, computed.
 use Rattle.std.proofs.Common.{refl}
 use Rattle.clap.proofs.OnLiterals.{clap_on_literals}
-use Rattle.phase_cli.specs.CommandLine.{kinds_of, phase_app}
+use Rattle.phase_cli.specs.CommandLine.{asked_in, kinds_of, phase_app}
 use Rattle.phase_cli.proofs.laws.words_for_replay.Goals as goal
 
 pub returns-clause-none : goal.returns-clause-none
-unfolding kinds_of phase_app clap_on_literals
+unfolding asked_in kinds_of phase_app clap_on_literals
 returns-clause-none c = record { taken = refl; command = refl }
 
 pub returns-clause-replay : goal.returns-clause-replay
-unfolding kinds_of phase_app clap_on_literals
+unfolding asked_in kinds_of phase_app clap_on_literals
 returns-clause-replay c = record { taken = refl; command = refl }

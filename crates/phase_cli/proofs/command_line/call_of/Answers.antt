@@ -1,0 +1,21 @@
+-- The command that was found, by its name and by what was found for its word.
+use Rattle.std.proofs.Common.{◌≡◌, ◌∙◌, [], Some, codes, unwrap_or, sym, ap}
+use Rattle.clap.proofs.WalkLemmas.{first_value-rows}
+use Rattle.clap.specs.Words.{first_of, found_of, rows_of, subcommand_rows_of}
+use Rattle.phase_cli.specs.CommandLine.{asked_as, asked_by}
+use Rattle.phase_cli.proofs.Called.{found-both, found-name, now-unwrap_or}
+use Rattle.phase_cli.proofs.command_line.call_of.Goals as goal
+
+pub returns : goal.returns
+returns c =
+    let matches = c.args.matches.now in
+    let name = c.in-Some.name.now in
+    let rows = rows_of (found_of c.in-Some.own.now) in
+    let is : subcommand_rows_of matches ≡ Some (name, rows) =
+    found-both (subcommand_rows_of matches) name rows (found-name _ _ ∙ sym c.in-Some.ensures.name)
+    (sym c.in-Some.ensures.rows) in
+    let graph : c.unwrap_or.result.now ≡ unwrap_or (first_of (codes "graph") rows) [] =
+    ap (λ s. s.now) c.unwrap_or.ensures ∙ (now-unwrap_or c.get_str.result _
+    ∙ ap (λ o. unwrap_or o []) (c.get_str.ensures
+    ∙ first_value-rows (found_of c.in-Some.own.now) (codes "graph"))) in
+    c.call_named.ensures ∙ (ap (λ g. asked_as name (Some g)) graph ∙ sym (ap asked_by is))

@@ -1,0 +1,228 @@
+//! Checks and evaluations of graphs, on files that are held in memory.
+use crate::tests::{Held, run_graph};
+use std::alloc::Global;
+use std::test::Fail;
+
+/// Whether a graph on these samples has this output, and the run ends well.
+fn evaluates(
+    alloc: Global,
+    graph: &str,
+    samples: &[(&str, &str)],
+    wanted: &str,
+) -> Result<bool, Fail> {
+    let done = run_graph(alloc, "eval", Held { graph, samples })?;
+    Ok(done.status == 0 && done.faults.is_empty() && done.output.as_slice() == wanted.as_bytes())
+}
+
+/// Whether a graph on these samples ends with this status and this line, and no output.
+fn stops(
+    alloc: Global,
+    graph: &str,
+    samples: &[(&str, &str)],
+    status: u8,
+    line: &str,
+) -> Result<bool, Fail> {
+    let done = run_graph(alloc, "eval", Held { graph, samples })?;
+    let is_told = done.faults.as_slice() == line.as_bytes();
+    Ok(done.status == status && is_told && done.output.is_empty())
+}
+
+const FIR: &str = "phaser X sum 4\nphaser Y sum 4\nsource s s.csv -> X\n\
+    fir f X -> Y shift 2 taps 1 2 1\nsink out Y\n";
+
+#[test]
+fn a_filter(rt: HostRuntime) -> Result<(), Fail> {
+    let samples = [("s.csv", "-1\n-1\n0\n")];
+    assert!(rt; evaluates(rt.alloc(), FIR, samples.as_slice(), "out 3\n-1\n-1\n-1\n")?);
+    let empty = [("s.csv", "")];
+    assert!(rt; evaluates(rt.alloc(), FIR, empty.as_slice(), "out 0\n")?);
+    let held = Held {
+        graph: FIR,
+        samples: samples.as_slice(),
+    };
+    let check = run_graph(rt.alloc(), "check", held)?;
+    assert_eq!(rt; check.status, 0);
+    assert_eq!(rt;
+        check.output.as_slice(),
+        b"ok phasers 2 tasks 3\n".as_slice()
+    );
+    assert!(rt; check.faults.is_empty());
+    Ok(())
+}
+
+#[test]
+fn nothing_at_all(rt: HostRuntime) -> Result<(), Fail> {
+    assert!(rt; evaluates(rt.alloc(), "", &[], "")?);
+    let held = Held {
+        graph: "# no line\n\n",
+        samples: &[],
+    };
+    let check = run_graph(rt.alloc(), "check", held)?;
+    assert_eq!(rt;
+        check.output.as_slice(),
+        b"ok phasers 0 tasks 0\n".as_slice()
+    );
+    Ok(())
+}
+
+#[test]
+fn a_splitter_and_a_filter_on_one_bus(rt: HostRuntime) -> Result<(), Fail> {
+    let graph = "phaser X sum 1\nphaser A sum 1\nphaser B sum 1\nphaser S sum 1\n\
+        source s s.csv -> X\nsplit d X -> A B\nfir f A -> S shift 0 taps 1\n\
+        fir g X -> S shift 0 taps 1\nsink out S\n";
+    let six = [("s.csv", "1\n2\n3\n4\n5\n6\n")];
+    assert!(rt;
+        evaluates(
+            rt.alloc(),
+            graph,
+            six.as_slice(),
+            "out 6\n2\n5\n8\n4\n5\n6\n"
+        )?
+    );
+    let seven = [("s.csv", "1\n2\n3\n4\n5\n6\n7\n")];
+    assert!(rt;
+        evaluates(
+            rt.alloc(),
+            graph,
+            seven.as_slice(),
+            "out 7\n2\n5\n8\n11\n5\n6\n7\n"
+        )?
+    );
+    Ok(())
+}
+
+#[test]
+fn a_source_after_a_source(rt: HostRuntime) -> Result<(), Fail> {
+    let samples = [("a.csv", "1\n2\n3\n"), ("b.csv", "4\n5\n")];
+    let three = "phaser X any 2\nsource A a.csv -> X\nsource B b.csv -> X by A at 3\nsink out X\n";
+    assert!(rt;
+        evaluates(
+            rt.alloc(),
+            three,
+            samples.as_slice(),
+            "out 5\n1\n2\n3\n4\n5\n"
+        )?
+    );
+    let four = "phaser X any 2\nsource A a.csv -> X\nsource B b.csv -> X by A at 4\nsink out X\n";
+    assert!(rt; evaluates(rt.alloc(), four, samples.as_slice(), "out 3\n1\n2\n3\n")?);
+    let two = "phaser X any 2\nsource A a.csv -> X\nsource B b.csv -> X by A at 2\nsink out X\n";
+    let line = "phase: graph line 3: any-meets\n";
+    assert!(rt; stops(rt.alloc(), two, samples.as_slice(), 1, line)?);
+    Ok(())
+}
+
+#[test]
+fn two_peers(rt: HostRuntime) -> Result<(), Fail> {
+    let samples = [("a.csv", "1\n2\n"), ("b.csv", "10\n20\n30\n")];
+    let plain = "phaser X sum 2\nphaser Z sum 2\nphaser E sum 2\nphaser P sum 2\nphaser Q sum 2\n\
+        source a a.csv -> X\nsource b b.csv -> Z\npeer p X <-> E -> P mul 2\n\
+        peer q Z <-> E -> Q mul 2\nsink outp P\nsink outq Q\n";
+    let wanted = "outp 2\n-9\n-18\noutq 3\n9\n18\n30\n";
+    assert!(rt; evaluates(rt.alloc(), plain, samples.as_slice(), wanted)?);
+    let single = "phaser X sum 2\nphaser Z sum 2\nphaser E sum 2 single neg\nphaser P sum 2\n\
+        phaser Q sum 2\nsource a a.csv -> X\nsource b b.csv -> Z\npeer p X <-> E -> P mul 2\n\
+        peer q Z <-> E -> Q mul 2\nsink outp P\nsink outq Q\n";
+    let wanted = "outp 2\n13\n26\noutq 3\n31\n62\n90\n";
+    assert!(rt; evaluates(rt.alloc(), single, samples.as_slice(), wanted)?);
+    Ok(())
+}
+
+#[test]
+fn a_splitter_and_a_joiner(rt: HostRuntime) -> Result<(), Fail> {
+    let graph = "phaser X sum 1\nphaser A sum 1\nphaser B sum 1\nphaser Y sum 1\n\
+        source s s.csv -> X\nsplit d X -> A B\njoin j A B -> Y\nsink out Y\n";
+    let samples = [("s.csv", "1\n2\n3\n4\n5\n")];
+    assert!(rt;
+        evaluates(
+            rt.alloc(),
+            graph,
+            samples.as_slice(),
+            "out 5\n1\n2\n3\n4\n5\n"
+        )?
+    );
+    Ok(())
+}
+
+#[test]
+fn values_that_are_too_big(rt: HostRuntime) -> Result<(), Fail> {
+    let most = [("s.csv", "9223372036854775807\n")];
+    let twice = "phaser X sum 4\nphaser Y sum 4\nsource s s.csv -> X\n\
+        fir f X -> Y shift 0 taps 2\nsink out Y\n";
+    assert!(rt;
+        stops(
+            rt.alloc(),
+            twice,
+            most.as_slice(),
+            3,
+            "phase: too big at f 0\n"
+        )?
+    );
+    let halved = "phaser X sum 4\nphaser Y sum 4\nsource s s.csv -> X\n\
+        fir f X -> Y shift 1 taps 2\nsink out Y\n";
+    let wanted = "out 1\n9223372036854775807\n";
+    assert!(rt; evaluates(rt.alloc(), halved, most.as_slice(), wanted)?);
+    let two = "phaser X sum 2\nsource a s.csv -> X\nsource b b.csv -> X\nsink out X\n";
+    let both = [("s.csv", "9223372036854775807\n"), ("b.csv", "1\n")];
+    assert!(rt;
+        stops(
+            rt.alloc(),
+            two,
+            both.as_slice(),
+            3,
+            "phase: too big at X 0\n"
+        )?
+    );
+    Ok(())
+}
+
+#[test]
+fn late_and_early_sinks(rt: HostRuntime) -> Result<(), Fail> {
+    let samples = [("s.csv", "1\n2\n3\n4\n")];
+    let two = "phaser X sum 4\nsource s s.csv -> X\nsink out X\nsink late X by out at 2\n\
+        sink early X until 2\n";
+    let wanted = "out 4\n1\n2\n3\n4\nlate 2\n3\n4\nearly 2\n1\n2\n";
+    assert!(rt; evaluates(rt.alloc(), two, samples.as_slice(), wanted)?);
+    let four = "phaser X sum 4\nsource s s.csv -> X\nsink out X\nsink late X by out at 4\n\
+        sink early X until 2\n";
+    let wanted = "out 4\n1\n2\n3\n4\nlate 0\nearly 2\n1\n2\n";
+    assert!(rt; evaluates(rt.alloc(), four, samples.as_slice(), wanted)?);
+    let five = "phaser X sum 4\nsource s s.csv -> X\nsink out X\nsink late X by out at 5\n\
+        sink early X until 2\n";
+    assert!(rt; evaluates(rt.alloc(), five, samples.as_slice(), wanted)?);
+    Ok(())
+}
+
+#[test]
+fn a_child_that_is_a_filter(rt: HostRuntime) -> Result<(), Fail> {
+    let graph = "phaser X sum 4\nphaser Y sum 4\nsource s s.csv -> X\n\
+        fir f X -> Y shift 0 taps 1 1\nfir g X -> Y shift 0 taps 1 1 by f at 2 until 1\n\
+        sink out Y\n";
+    let samples = [("s.csv", "1\n2\n3\n4\n")];
+    assert!(rt; evaluates(rt.alloc(), graph, samples.as_slice(), "out 4\n1\n3\n8\n7\n")?);
+    Ok(())
+}
+
+#[test]
+fn graphs_and_samples_that_are_refused(rt: HostRuntime) -> Result<(), Fail> {
+    let limit = "phase: graph line 1: limit\n";
+    assert!(rt; stops(rt.alloc(), "phaser X sum 0\n", &[], 1, limit)?);
+    let plain = [("a.csv", "1\n"), ("b.csv", "2\n")];
+    let held =
+        "phaser X sum 2\nphaser Y sum 2\nsource a a.csv -> X\nsource b b.csv -> Y by a at 1\n";
+    let line = "phase: graph line 4: not-held\n";
+    assert!(rt; stops(rt.alloc(), held, plain.as_slice(), 1, line)?);
+    let bad = [("s.csv", "1\nx\n")];
+    let line = "phase: samples of s: record 2\n";
+    assert!(rt; stops(rt.alloc(), FIR, bad.as_slice(), 1, line)?);
+    assert!(rt; stops(rt.alloc(), FIR, &[], 5, "phase: read fault\n")?);
+    Ok(())
+}
+
+#[test]
+fn a_bad_record_is_told_before_tasks_that_meet(rt: HostRuntime) -> Result<(), Fail> {
+    let graph = "phaser X any 2\nsource A a.csv -> X\nsource B b.csv -> X\nsink out X\n";
+    let samples = [("a.csv", "1\n"), ("b.csv", "5\n6\n7 \n")];
+    let line = "phase: samples of B: record 3\n";
+    assert!(rt; stops(rt.alloc(), graph, samples.as_slice(), 1, line)?);
+    Ok(())
+}

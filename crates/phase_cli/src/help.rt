@@ -1,0 +1,66 @@
+//! The texts of help.
+
+/// What the program is.
+pub(crate) const ABOUT: &str = "\
+Replays a script of calls on a phaser, a barrier on which the tasks of a phase
+also add up a value, or evaluates a graph of filters over phasers. A script is
+read from standard input, a call a line, and each line is answered by one line
+on standard output.";
+
+/// What `replay` does, in the list of commands.
+pub(crate) const REPLAY: &str = "Replays the script, as `phase` with no command does";
+
+/// What `check` does.
+pub(crate) const CHECK: &str = "Reads a graph and the samples of its sources";
+
+/// What `eval` does.
+pub(crate) const EVAL: &str = "Writes the values of each sink of a graph";
+
+/// What the word behind `check` and `eval` is.
+pub(crate) const GRAPH: &str = "The file of the graph, of at most 1048576 bytes";
+
+/// The end of the program's help, and of that of `replay`.
+pub(crate) const END: &str = "\
+Example, with the reply to each line and what it means:
+  make sum 2 100    ok           a phaser that adds up, for phases 0 to 99
+  add 0 1 sig       ok           task 0, which founded it, registers task 1
+  send 0 3          ok           task 0 sends 3
+  send 1 4          ok           task 1 sends 4
+  signal 1          ok 0         task 1 has done its part of phase 0
+  signal 0          ok 0         and so has task 0
+  wait 0            value 0 7    phase 0 is complete, and its value is 7
+A line that is no call is answered by `bad line`.
+
+Exit status: 0 done; 1 a graph or its samples are refused; 2 the words were not
+understood; 3 a value of a graph is out of range; 5 a read or a write failed, or
+memory ran out.";
+
+/// The end of the help of `check`.
+pub(crate) const CHECK_END: &str = "\
+Example: where the file `sums` holds the three lines
+  phaser X sum 4
+  source s numbers -> X
+  sink out X
+and the file `numbers` the lines 1, 2 and 3, `phase check sums` writes
+  ok phasers 1 tasks 2
+
+Exit status: 0 done; 1 the graph or its samples are refused; 2 the words were
+not understood; 5 a read or a write failed, or memory ran out.";
+
+/// The end of the help of `eval`.
+pub(crate) const EVAL_END: &str = "\
+Example: where the file `sums` holds the five lines
+  phaser X sum 4
+  phaser Y sum 4
+  source s numbers -> X
+  fir f X -> Y shift 0 taps 1 1
+  sink out Y
+and the file `numbers` the lines 1, 2 and 3, `phase eval sums` writes
+  out 3
+  1
+  3
+  5
+
+Exit status: 0 done; 1 the graph or its samples are refused; 2 the words were
+not understood; 3 a value is out of range; 5 a read or a write failed, or memory
+ran out.";
