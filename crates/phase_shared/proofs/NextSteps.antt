@@ -11,7 +11,6 @@ use Rattle.std.specs.Prelude.{is_some}
 use Rattle.phase_base.specs.Members.{entry_of, signalled, signal_phases}
 use Rattle.phase_base.specs.Members.{least as least_of}
 use Rattle.phase_accum.specs.declared.single.Single.{Single}
-use Rattle.phase_history.specs.declared.event.Event.{Event}
 use Rattle.phase_history.specs.declared.event.Event.TheVariants.{Made, Registered, RegisteredNow, Signalled, Waited, Dropped}
 use Rattle.phase_history.specs.declared.refusal.WaitRefusal.{WaitRefusal}
 use Rattle.phase_history.specs.declared.refusal.WaitRefusal.TheVariants as wait

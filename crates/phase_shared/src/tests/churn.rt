@@ -1,4 +1,5 @@
-ghost use Rattle.std.specs.Prelude.{◌≡◌, None, IfSome};
+ghost use Rattle.std.specs.Prelude.{◌≡◌, ◌<◌, None, IfSome};
+ghost use denote.Param.Send.{IsSync};
 ghost use Rattle.phase_shared.specs.Regs.{phaser_place};
 
 use crate::{NoRule, Phaser, Reg};
@@ -13,7 +14,7 @@ use std::thread::{Threads, join_mut};
 fn is_count(got: &Option<Got>) -> bool {
     match got {
         Some(Got::Value { phase: _, outcome }) => match outcome {
-            Outcome::Value(value) => (1..=8).contains(value),
+            Outcome::Value(value) => (1..=32).contains(value),
             _ => false,
         },
         _ => false,
@@ -88,18 +89,24 @@ fn churn<R: Wait>(
     all
 }
 
-fn by_two<R: Threads + Wait + Sync>(
+// As many threads as there are parts, each with a registration of its own.
+fn by_parts<R: Threads + Wait + Sync>(
     rt: &R,
     phaser: &Phaser<Sum, NoRule>,
     slot: &mut Option<Reg<Sum, NoRule>>,
+    parts: u64,
     seed: u64,
 ) -> bool
     requires { IfSome slot.old (λ reg. reg.at ≡ phaser_place phaser.now) }
     ensures { slot.new ≡ None }
 {
+    if parts <= 1 {
+        return churn(rt, phaser, slot, seed);
+    }
     let Some(mut reg) = slot.take() else {
         return false;
     };
+    let half = parts / 2;
     let child = reg.register(rt, phaser, Mode::SigWait);
     let mut first = Some(reg);
     let mut second = match child {
@@ -109,47 +116,15 @@ fn by_two<R: Threads + Wait + Sync>(
     let (one, other) = join_mut(
         rt,
         &mut || -> bool
-            requires { IfSome first (λ reg. reg.at ≡ phaser_place phaser.now) }
+            requires { IsSync R.row × (half < parts)
+                × IfSome first (λ reg. reg.at ≡ phaser_place phaser.now) }
             ensures { first.exit ≡ None }
-        { churn(rt, phaser, &mut first, seed) },
+        { by_parts(rt, phaser, &mut first, parts - half, seed) },
         &mut || -> bool
-            requires { IfSome second (λ reg. reg.at ≡ phaser_place phaser.now) }
+            requires { IsSync R.row × (0 < half)
+                × IfSome second (λ reg. reg.at ≡ phaser_place phaser.now) }
             ensures { second.exit ≡ None }
-        { churn(rt, phaser, &mut second, seed.wrapping_add(17)) },
-    );
-    let None = first else { unreachable!() };
-    let None = second else { unreachable!() };
-    one && other
-}
-
-fn by_four<R: Threads + Wait + Sync>(
-    rt: &R,
-    phaser: &Phaser<Sum, NoRule>,
-    slot: &mut Option<Reg<Sum, NoRule>>,
-    seed: u64,
-) -> bool
-    requires { IfSome slot.old (λ reg. reg.at ≡ phaser_place phaser.now) }
-    ensures { slot.new ≡ None }
-{
-    let Some(mut reg) = slot.take() else {
-        return false;
-    };
-    let child = reg.register(rt, phaser, Mode::SigWait);
-    let mut first = Some(reg);
-    let mut second = match child {
-        Ok(child) => Some(child),
-        Err(_) => None,
-    };
-    let (one, other) = join_mut(
-        rt,
-        &mut || -> bool
-            requires { IfSome first (λ reg. reg.at ≡ phaser_place phaser.now) }
-            ensures { first.exit ≡ None }
-        { by_two(rt, phaser, &mut first, seed) },
-        &mut || -> bool
-            requires { IfSome second (λ reg. reg.at ≡ phaser_place phaser.now) }
-            ensures { second.exit ≡ None }
-        { by_two(rt, phaser, &mut second, seed.wrapping_add(31)) },
+        { by_parts(rt, phaser, &mut second, half, seed.wrapping_add(half)) },
     );
     let None = first else { unreachable!() };
     let None = second else { unreachable!() };
@@ -157,15 +132,15 @@ fn by_four<R: Threads + Wait + Sync>(
 }
 
 #[test]
-fn four_threads_come_and_go(rt: HostRuntime) -> Result<(), Fail> {
-    for seed in 0..4u64 {
+fn threads_come_and_go(rt: HostRuntime) -> Result<(), Fail> {
+    for parts in [2u64, 4, 16] {
         let (phaser, founder) = Phaser::<Sum, NoRule>::make(
             rt.alloc(),
             Spec::new(2, 1000)?,
             NoRule,
         )?;
         let mut slot = Some(founder);
-        let is_well = by_four(&rt, &phaser, &mut slot, seed);
+        let is_well = by_parts(&rt, &phaser, &mut slot, parts, parts);
         let None = slot else { unreachable!() };
         assert!(rt; is_well);
     }

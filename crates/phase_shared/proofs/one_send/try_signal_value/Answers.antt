@@ -1,4 +1,4 @@
-use Rattle.std.proofs.Common.{◌≡◌, ◌+◌, ap, sym, refl, ◌∙◌}
+use Rattle.std.proofs.Common.{◌+◌, ap, sym, refl, ◌∙◌}
 use Rattle.phase_shared.proofs.one_send.try_signal_value.Goals as goal
 
 -- as many sends as are held

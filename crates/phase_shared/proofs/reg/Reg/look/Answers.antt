@@ -1,4 +1,4 @@
-use Rattle.std.proofs.Common.{◌≡◌, subst, ap, sym, ◌∙◌}
+use Rattle.std.proofs.Common.{subst, ap, ◌∙◌}
 use Rattle.phase_history.specs.Histories.{History}
 use Rattle.phase_shared.specs.Rule.{IsGoodAt}
 use Rattle.phase_shared.specs.Regs.{phaser_place, phaser_terms}

@@ -1,6 +1,5 @@
-use Rattle.std.proofs.Common.{◌≡◌, Err, Option, Some, sym, subst, ap, refl, ◌∙◌}
-use Rattle.phase_base.specs.Members.{entry_of}
-use Rattle.phase_history.specs.Histories.{History, members_of, wait_phase}
+use Rattle.std.proofs.Common.{Err, subst, ap, ◌∙◌}
+use Rattle.phase_history.specs.Histories.{History, wait_phase}
 use Rattle.phase_history.specs.Legal.{IsLegal}
 use Rattle.phase_history.specs.Refusals.{wait_refusal}
 use Rattle.phase_history.specs.Replies.{got_at}
