@@ -1,11 +1,6 @@
-// Evaluates two kinds of graphs as a plain program would, for scripts/bench-graphs to compare with:
-//   plain-graph copy SAMPLES              a source and a sink
-//   plain-graph guarded|wide SAMPLES      a source, four filters of 64 taps in a row, and a sink
-// It reads the samples whole, checks each record as the program does where records are plain numbers,
-// and writes the values as `phase eval` does. `guarded` adds up in 64 bits and looks for overflow at
-// each tap; `wide` adds up in 128 bits.
-#include <charconv>
-#include <chrono>
+// A plain program that reads a file of numbers, one a line, passes them through so many filters of 64
+// taps, and writes a heading and the values: unproved. With `narrow` a filter sums in 64 bits and stops
+// where a product or a sum leaves them, and with `wide` it sums in 128 bits. With no filter it copies.
 #include <cstdint>
 #include <cstdio>
 #include <cstdlib>
@@ -13,89 +8,66 @@
 #include <string>
 #include <vector>
 
-using Values = std::vector<int64_t>;
-static constexpr int TAPS = 64;
-static constexpr int SHIFT = 12;
+using Wide = __int128;
+static const int64_t MOST = 9223372036854775807;
 
-[[noreturn]] static void fail(const char *why) {
-    std::fprintf(stderr, "plain-graph: %s\n", why);
-    std::exit(1);
-}
-
-static std::string read_whole(const char *name) {
-    std::FILE *file = std::fopen(name, "rb");
-    if (!file) fail("cannot open the samples");
+static std::vector<int64_t> numbers(const char *name) {
+    FILE *file = fopen(name, "rb");
+    if (!file) exit(5);
     std::string text;
-    static char piece[1 << 16];
-    while (size_t count = std::fread(piece, 1, sizeof piece, file)) text.append(piece, count);
-    std::fclose(file);
-    return text;
-}
-
-static Values samples_of(const std::string &text) {
-    Values values;
-    const char *at = text.data(), *end = at + text.size();
-    while (at < end) {
-        int64_t value;
-        auto [next, error] = std::from_chars(at, end, value);
-        if (error != std::errc() || value == INT64_MIN) fail("a bad record");
-        bool negative = *at == '-';
-        if (at[negative] == '0' && (negative || next != at + 1)) fail("a bad record");
-        if (next != end && *next != '\n') fail("a bad record");
-        values.push_back(value);
-        at = next == end ? end : next + 1;
+    static char piece[65536];
+    while (size_t count = fread(piece, 1, sizeof piece, file)) text.append(piece, count);
+    fclose(file);
+    std::vector<int64_t> values;
+    for (size_t at = 0; at < text.size(); at++) {
+        bool is_minus = text[at] == '-';
+        uint64_t n = 0;
+        size_t digits = 0;
+        for (at += is_minus; at < text.size() && text[at] != '\n'; at++, digits++) {
+            if (text[at] < '0' || text[at] > '9' || digits == 19) exit(1);
+            n = n * 10 + (uint64_t)(text[at] - '0');
+        }
+        if (digits == 0 || n > (uint64_t)MOST) exit(1);
+        values.push_back(is_minus ? -(int64_t)n : (int64_t)n);
     }
     return values;
 }
 
-static int64_t tap(int filter, int j) { return ((filter * 37 + j * 11) % 129) - 40; }
-
-static bool step_guarded(const int64_t *taps, const int64_t *newest, int64_t &out) {
+static int64_t narrow(const int64_t *taps, const int64_t *window, int shift) {
     int64_t sum = 0, product;
-    for (int j = 0; j < TAPS; j++) {
-        if (__builtin_mul_overflow(taps[j], newest[-j], &product)) return false;
-        if (__builtin_add_overflow(sum, product, &sum)) return false;
+    for (int j = 0; j < 64; j++)
+        if (__builtin_mul_overflow(taps[j], window[j], &product) || __builtin_add_overflow(sum, product, &sum)) exit(3);
+    return sum >> shift;
+}
+
+static int64_t wide(const int64_t *taps, const int64_t *window, int shift) {
+    Wide sum = 0;
+    for (int j = 0; j < 64; j++) sum += (Wide)taps[j] * window[j];
+    sum >>= shift;
+    if (sum > MOST || sum < -(Wide)MOST) exit(3);
+    return (int64_t)sum;
+}
+
+int main(int, char **words) {
+    bool is_wide = !strcmp(words[1], "wide");
+    int filters = atoi(words[2]);
+    std::vector<int64_t> values = numbers(words[3]);
+    int64_t taps[64];
+    for (int j = 0; j < 64; j++) taps[j] = j % 2 == 0 ? 1000 + j : j - 900;
+    for (int f = 0; f < filters; f++) {
+        // The window stands twice, so that its samples are one stretch.
+        int64_t window[128] = {0};
+        int at = 0;
+        for (int64_t &value : values) {
+            at = at == 0 ? 63 : at - 1;
+            window[at] = window[at + 64] = value;
+            value = is_wide ? wide(taps, window + at, 12) : narrow(taps, window + at, 12);
+        }
     }
-    out = sum >> SHIFT;
-    return true;
-}
-
-static bool step_wide(const int64_t *taps, const int64_t *newest, int64_t &out) {
-    __int128 sum = 0;
-    for (int j = 0; j < TAPS; j++) sum += static_cast<__int128>(taps[j]) * newest[-j];
-    __int128 shifted = sum >> SHIFT;
-    if (shifted > INT64_MAX || shifted < -INT64_MAX) return false;
-    out = static_cast<int64_t>(shifted);
-    return true;
-}
-
-template <bool (*step)(const int64_t *, const int64_t *, int64_t &)>
-static Values filtered(const Values &in, int filter) {
-    int64_t taps[TAPS];
-    for (int j = 0; j < TAPS; j++) taps[j] = tap(filter, j);
-    Values padded(TAPS - 1, 0), out(in.size());
-    padded.insert(padded.end(), in.begin(), in.end());
-    for (size_t n = 0; n < in.size(); n++)
-        if (!step(taps, padded.data() + n + TAPS - 1, out[n])) fail("too big");
-    return out;
-}
-
-int main(int count, char **words) {
-    if (count != 3) fail("usage: plain-graph copy|guarded|wide SAMPLES");
-    Values values = samples_of(read_whole(words[2]));
-    auto start = std::chrono::steady_clock::now();
-    for (int filter = 0; filter < 4; filter++) {
-        if (!std::strcmp(words[1], "guarded")) values = filtered<step_guarded>(values, filter);
-        if (!std::strcmp(words[1], "wide")) values = filtered<step_wide>(values, filter);
-    }
-    std::chrono::duration<double> took = std::chrono::steady_clock::now() - start;
-    std::fprintf(stderr, "filters alone %.3f s\n", took.count());
-    std::string text = "out " + std::to_string(values.size()) + "\n";
-    char digits[32];
+    std::string out = "out " + std::to_string(values.size()) + "\n";
     for (int64_t value : values) {
-        auto [end, error] = std::to_chars(digits, digits + sizeof digits, value);
-        text.append(digits, end);
-        text.push_back('\n');
+        out += std::to_string(value);
+        out += '\n';
     }
-    if (std::fwrite(text.data(), 1, text.size(), stdout) != text.size()) fail("cannot write");
+    return fwrite(out.data(), 1, out.size(), stdout) == out.size() ? 0 : 5;
 }

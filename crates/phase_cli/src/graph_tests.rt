@@ -1,5 +1,5 @@
 //! Checks and evaluations of graphs, on files that are held in memory.
-use crate::tests::{Held, run_graph};
+use crate::tests::{Broken, Held, run_graph, status_of};
 use std::alloc::Global;
 use std::test::Fail;
 
@@ -224,5 +224,41 @@ fn a_bad_record_is_told_before_tasks_that_meet(rt: HostRuntime) -> Result<(), Fa
     let samples = [("a.csv", "1\n"), ("b.csv", "5\n6\n7 \n")];
     let line = "phase: samples of B: record 3\n";
     assert!(rt; stops(rt.alloc(), graph, samples.as_slice(), 1, line)?);
+    Ok(())
+}
+
+#[test]
+fn a_list_of_several_pieces(rt: HostRuntime) -> Result<(), Fail> {
+    let mut samples = String::new(rt.alloc());
+    for _ in 0..9000 {
+        samples.push_str("-1234567890123456\n")?;
+    }
+    let mut wanted = String::from_str(rt.alloc(), "out 9000\n")?;
+    wanted.push_str(samples.as_str())?;
+    let graph = "phaser X sum 1\nsource s s.csv -> X\nsink out X\n";
+    let files = [("s.csv", samples.as_str())];
+    assert!(rt; evaluates(rt.alloc(), graph, files.as_slice(), wanted.as_str())?);
+    Ok(())
+}
+
+#[test]
+fn a_writer_of_lists_that_fails(rt: HostRuntime) -> Result<(), Fail> {
+    let samples = [("s.csv", "1\n2\n")];
+    for command in ["check", "eval"] {
+        let mut faults = Vec::new(rt.alloc());
+        let files = Held {
+            graph: FIR,
+            samples: samples.as_slice(),
+        };
+        let words = [command, "g"];
+        let words = words.as_slice();
+        let status = status_of(rt.alloc(), words, Broken, Broken, &mut faults, files)?;
+        assert_eq!(rt; status, 5, "at {command}");
+        assert_eq!(rt;
+            faults.as_slice(),
+            b"phase: write fault\n".as_slice(),
+            "at {command}"
+        );
+    }
     Ok(())
 }

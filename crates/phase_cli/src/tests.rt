@@ -10,7 +10,7 @@ use watched_io::Watched;
 
 /// A stream whose every call fails.
 #[derive(Clone, Copy)]
-struct Broken;
+pub(crate) struct Broken;
 
 impl Read for Broken {
     fn read(&mut self, _buf: &mut [u8]) -> io::Result<usize> {
@@ -64,7 +64,7 @@ impl Files for Held<'_> {
 }
 
 /// The status of a run over these streams and files.
-fn status_of<R: Read + Drop, W: Write + Drop, E: Write + Drop>(
+pub(crate) fn status_of<R: Read + Drop, W: Write + Drop, E: Write + Drop>(
     alloc: Global,
     words: &[&str],
     input: R,
