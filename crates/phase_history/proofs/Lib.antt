@@ -14,6 +14,7 @@ pub mod Alive
 pub mod Standstill
 pub mod OthersEvents
 pub mod Used
+pub mod Descent
 pub mod Answered
 pub mod Gathered
 pub mod Sendings

@@ -9,7 +9,7 @@ use Rattle.phase_history.specs.declared.event.Event.TheVariants.{Made, Registere
 use Rattle.phase_history.specs.declared.refusal.NoTask.{NoTask}
 use Rattle.phase_history.specs.Histories.{History, founder, entry_at, phases_signalled, phases_waited}
 use Rattle.phase_history.specs.Replies.{after_register, after_drop}
-use Rattle.phase_history.specs.Others.{is_by, events_of, phases_of_signal, phases_of_wait, IsUsed, OnlyUsed, is_in, is_distinct, OthersCame}
+use Rattle.phase_history.specs.Others.{is_by, events_of, children_in, phases_of_signal, phases_of_wait, IsUsed, OnlyUsed, is_in, is_distinct, OthersCame}
 
 -- a list of one send
 abbrev pub one : ℕ → List ℤ
@@ -82,6 +82,12 @@ only_two task used = within (eqb 1 task) (eqb 0 task) refl used
 
 not_only_one : OnlyUsed (0 ∷ []) (Registered 0 1 Sig ∷ Made 0 ∷ []) → ⊥
 not_only_one only = (let no : is_in 1 (0 ∷ []) ≡ true = only 1 refl in cc)
+
+-- task 1 has no child, though it is one; the founder has two, and the later one stands first
+children : children_in (events_of 0 (RegisteredNow 0 2 ∷ Signalled 0 (one 6 ∷ []) None ∷ Registered 1 4 Sig ∷ Registered 0 1 Sig ∷ Made 0 ∷ []))
+    ∷ children_in (events_of 1 (Registered 0 1 Sig ∷ Made 0 ∷ [])) ∷ []
+    ≡ (2 ∷ 1 ∷ []) ∷ [] ∷ []
+children = refl
 
 members_of_lists : is_in 3 (2 ∷ 3 ∷ []) ∷ is_in 1 (2 ∷ 3 ∷ []) ∷ is_in 1 [] ∷ []
     ≡ true ∷ false ∷ false ∷ []

@@ -19,6 +19,13 @@ is_by task (Dropped gone) = gone == task
 abbrev pub events_of : ℕ → History → History
 events_of task h = filter (is_by task) h
 
+-- the numbers that events give to children, the last one first
+abbrev pub children_in : History → List ℕ
+children_in [] = []
+children_in (Registered parent child mode ∷ before) = child ∷ children_in before
+children_in (RegisteredNow parent child ∷ before) = child ∷ children_in before
+children_in (event ∷ before) = children_in before
+
 -- how many phases an event signals
 abbrev pub phases_of_signal : Event → ℕ
 phases_of_signal (Signalled signaller lists single) = length lists

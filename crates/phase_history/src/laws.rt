@@ -26,8 +26,8 @@ mod sent;
 use crate::got::Got;
 pub use blocks::{accepted, after, block_answers, block_leaves, block_signals};
 pub use others::{
-    beginning_is_legal, ended, entry_stays, events_add_up, member_is_known, member_is_used,
-    no_stranger, only_used_stays, others_come, own_part_stays, use_stays,
+    all_descend, beginning_is_legal, ended, entry_stays, events_add_up, member_is_known,
+    member_is_used, no_stranger, only_used_stays, others_come, own_part_stays, use_stays,
 };
 use phase_accum::Accumulate;
 pub use sent::{

@@ -8,6 +8,7 @@ ghost use Rattle.phase_base.specs.declared.mode.Mode.{Mode};
 ghost use Rattle.phase_accum.specs.declared.outcome.Outcome.{Outcome};
 ghost use Rattle.phase_accum.specs.declared.single.Single.{Single};
 ghost use Rattle.phase_history.specs.declared.event.Event.{Event};
+ghost use Rattle.phase_history.specs.declared.event.Event.TheVariants.{Made};
 ghost use Rattle.phase_history.specs.Histories.{History, IsBeginning, members_of, done_of};
 ghost use Rattle.phase_history.specs.Histories.{wait_phase, start_of};
 ghost use Rattle.phase_history.specs.Histories.{IsAlive, HasNoSignaller, has_dropped};
@@ -18,7 +19,7 @@ ghost use Rattle.phase_history.specs.Refusals.{register_refusal, register_now_re
 ghost use Rattle.phase_history.specs.Refusals.{signal_refusal, wait_refusal, drop_refusal};
 ghost use Rattle.phase_history.specs.Replies.{wait_reply};
 ghost use Rattle.phase_history.specs.Others.{is_by, events_of, phases_of_signal, phases_of_wait};
-ghost use Rattle.phase_history.specs.Others.{IsUsed, OnlyUsed, is_in, OthersCame};
+ghost use Rattle.phase_history.specs.Others.{IsUsed, OnlyUsed, is_in, children_in, OthersCame};
 
 use crate::got::Got;
 use crate::refusal::{RegisterRefusal, SignalRefusal, WaitRefusal};
@@ -115,6 +116,16 @@ pub fn only_used_stays()
     ensures { (limits : Limits) (tasks : List ℕ) (old new : History)
         → old ≢ [] → OthersCame tasks old new → IsLegal limits new
         → OnlyUsed tasks old → OnlyUsed tasks new }
+{}
+
+/// Where the founder stands in a list, and with each number those of its children, every number
+/// that was used stands in it.
+pub fn all_descend()
+    ensures { (limits : Limits) (h : History) (founder : ℕ) (tasks : List ℕ)
+        → IsLegal limits h → IsBeginning (Made founder ∷ []) h → is_in founder tasks ≡ true
+        → ((task child : ℕ) → is_in task tasks ≡ true
+        → is_in child (children_in (events_of task h)) ≡ true → is_in child tasks ≡ true)
+        → OnlyUsed tasks h }
 {}
 
 /// Where a wait is answered that the stream has ended, no signaller is registered, and the phase
