@@ -12,7 +12,7 @@ use std::marker::Model;
 /// The registered tasks of a phaser, by their numbers, with their entries.
 ///
 /// A number is used once: each task that is added has a number above all before it. A look-up is a
-/// binary search.
+/// binary search, or where no smaller number is missing, one step.
 #[derive(Drop)]
 pub struct Registry {
     members: Vec<(u64, Entry)>,
@@ -64,11 +64,16 @@ impl Registry {
         }
     }
 
-    /// Where a task is, or where it would be.
+    /// Where a task is, or where it would be. Until a task leaves, each may stand at the place of
+    /// its number, so this is looked at first.
     fn search(&self, number: u64) -> Result<usize, usize>
         ensures found { IfOk result (IsAt self.now.members number) }
         ensures absent { IfErr result (IsGapFor self.now.members number) }
     {
+        let place = number as usize;
+        if place < self.members.len() && self.members[place].0 == number {
+            return Ok(place);
+        }
         self.members.binary_search_by_key(&number, |&(n, _)| n)
     }
 
