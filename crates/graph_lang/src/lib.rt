@@ -23,5 +23,3 @@ pub use line::{Kind, Op, Parent, PhaserLine, TaskLine};
 pub use place::Place;
 pub use read::read_graph;
 
-#[cfg(test)]
-mod tests;

@@ -14,8 +14,6 @@ mod product;
 mod range;
 mod single;
 mod sum;
-#[cfg(test)]
-mod tests;
 
 pub use accumulate::{Accumulate, Exact};
 pub use any::Any;

@@ -7,8 +7,6 @@ pub mod laws;
 mod limits;
 mod mode;
 mod spec;
-#[cfg(test)]
-mod tests;
 
 pub use entry::Entry;
 pub use limits::{BOUND_MAX, MEMBERS_MAX, PHASES_MAX, SENDS_MAX};

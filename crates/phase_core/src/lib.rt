@@ -3,8 +3,6 @@
 //! The first calls are `PhaserCore::new`, `PhaserCore::signal` and `PhaserCore::wait`.
 #![tactic(auto)]
 
-#[cfg(test)]
-mod member_tests;
 mod members;
 mod phaser_core;
 mod refusal_rows;

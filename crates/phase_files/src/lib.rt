@@ -7,8 +7,6 @@
 mod disk;
 mod files;
 mod samples;
-#[cfg(test)]
-mod tests;
 
 pub use disk::DiskFiles;
 pub use files::{FileFault, Files};

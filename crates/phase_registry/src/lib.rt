@@ -4,8 +4,6 @@
 
 mod refusal;
 mod registry;
-#[cfg(test)]
-mod tests;
 
 pub use refusal::AddRefusal;
 pub use registry::Registry;

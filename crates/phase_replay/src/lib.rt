@@ -8,8 +8,6 @@ mod fault;
 mod kept;
 pub mod laws;
 mod replayer;
-#[cfg(test)]
-mod tests;
 mod whole;
 
 pub use fault::ReplayFault;

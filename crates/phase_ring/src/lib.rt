@@ -7,8 +7,6 @@ mod board;
 mod role;
 mod slot;
 mod slot_ring;
-#[cfg(test)]
-mod tests;
 
 pub use board::Board;
 pub use role::Role;

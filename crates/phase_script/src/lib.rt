@@ -9,8 +9,6 @@ mod refusal;
 mod reply;
 mod reply_line;
 mod script_line;
-#[cfg(test)]
-mod tests;
 
 pub use command::{Command, Operator};
 pub use cuts::{lf_of, without_cr};

@@ -6,7 +6,5 @@ mod any_phaser;
 mod held_sends;
 mod script_phaser;
 mod session;
-#[cfg(test)]
-mod tests;
 
 pub use session::Session;

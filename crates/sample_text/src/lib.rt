@@ -8,8 +8,6 @@ mod fault;
 pub mod laws;
 mod number;
 mod sample;
-#[cfg(test)]
-mod tests;
 mod text;
 
 pub use fault::{SampleFault, TextFault};

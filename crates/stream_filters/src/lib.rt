@@ -10,8 +10,6 @@ pub mod laws;
 mod peer;
 mod range;
 mod sums;
-#[cfg(test)]
-mod tests;
 mod turns;
 
 pub use fault::{FirFault, TooBigValue};

@@ -6,8 +6,6 @@
 
 mod fault;
 pub mod laws;
-#[cfg(test)]
-mod tests;
 mod watched;
 
 pub use fault::{ReadFailed, WriteFailed};

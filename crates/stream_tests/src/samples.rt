@@ -1,6 +1,6 @@
 //! Texts with the samples that they hold, or with the number of their first bad record.
 
-use crate::{SampleFault, TextFault, read_samples, read_text, samples_of};
+use sample_text::{SampleFault, TextFault, read_samples, read_text, samples_of};
 use std::io;
 use std::io::Read;
 use std::test::Fail;

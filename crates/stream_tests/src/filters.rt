@@ -1,6 +1,6 @@
-use crate::{Fir, FirFault, Join, Peer, Split, TooBigValue, VALUE_MAX, VALUE_MIN};
 use std::alloc::AllocError;
 use std::test::*;
+use stream_filters::{Fir, FirFault, Join, Peer, Split, TooBigValue, VALUE_MAX, VALUE_MIN};
 
 /// The filter, or that memory ran out.
 fn made(fir: Result<Fir, FirFault>) -> Result<Fir, AllocError> {

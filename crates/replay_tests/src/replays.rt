@@ -1,5 +1,5 @@
 //! Replays with readers and writers that give, take and fail in every place.
-use crate::{ReplayFault, Watched, replay};
+use phase_replay::{ReplayFault, Watched, replay};
 use std::alloc::Global;
 use std::io;
 use std::io::{Read, Write};

@@ -1,6 +1,6 @@
 //! Samples in files that are held in memory.
 
-use crate::{DiskFiles, FileFault, Files, read_sample_file};
+use phase_files::{DiskFiles, FileFault, Files, read_sample_file};
 use sample_text::SampleFault;
 use std::alloc::Global;
 use std::fs;

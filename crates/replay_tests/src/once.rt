@@ -1,5 +1,5 @@
 //! Readers and writers that go wrong once and then work, and a reader that sees what was flushed.
-use crate::{ReplayFault, Watched, replay};
+use phase_replay::{ReplayFault, Watched, replay};
 use std::cell::Cell;
 use std::io;
 use std::io::{Read, Write};

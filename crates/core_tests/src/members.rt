@@ -1,7 +1,6 @@
 //! Numbers that are used once, and as many members as may be.
-use crate::refusal::AddRefusal;
-use crate::registry::Registry;
 use phase_base::{Entry, Mode};
+use phase_registry::{AddRefusal, Registry};
 
 fn entry(mode: Mode, signal_phase: u64, wait_phase: u64) -> Option<Entry> {
     Some(Entry {

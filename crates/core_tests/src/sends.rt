@@ -1,15 +1,8 @@
 //! The five operations through a task's pending sends, and each other public function once.
-use crate::accumulate::Accumulate;
-use crate::any::Any;
-use crate::applied::apply;
-use crate::greatest::Greatest;
-use crate::least::Least;
-use crate::outcome::{NO_VALUE, Outcome, VALUE_MAX};
-use crate::pending::{Pending, SendFault};
-use crate::product::Product;
-use crate::range::{BadClamp, Range};
-use crate::single::Single;
-use crate::sum::Sum;
+use phase_accum::{
+    Accumulate, Any, BadClamp, Greatest, Least, NO_VALUE, Outcome, Pending, Product, Range,
+    SendFault, Single, Sum, VALUE_MAX, apply,
+};
 use std::test::Fail;
 
 fn outcome_of<A: Accumulate>(values: &[i64]) -> Result<Outcome, SendFault> {

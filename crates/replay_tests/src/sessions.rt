@@ -1,5 +1,5 @@
 //! Sessions at chosen scripts, line by line.
-use crate::Session;
+use phase_session::Session;
 use std::alloc::Global;
 use std::process::Abort;
 use std::test::Fail;

@@ -1,7 +1,6 @@
 //! A ring of two slots.
-use crate::role::Role;
-use crate::slot_ring::SlotRing;
 use phase_accum::{Outcome, Pending, Sum};
+use phase_ring::{Role, SlotRing};
 use std::test::Fail;
 
 #[test]

@@ -1,6 +1,6 @@
 //! Worked texts of graphs, and the first fault of others.
 
-use crate::{FaultKind, Graph, GraphFault, GraphRefusal, Kind, Op, Parent, Place, read_graph};
+use graph_lang::{FaultKind, Graph, GraphFault, GraphRefusal, Kind, Op, Parent, Place, read_graph};
 use phase_accum::Single;
 use std::alloc::Global;
 use std::test::Fail;

@@ -1,7 +1,7 @@
 //! The grammar and the reply lines at chosen texts, which no clause names.
-use crate::{Command, Operator, Refusal, Reply, line, read};
 use phase_accum::{Range, Single};
 use phase_base::Mode;
+use phase_script::{Command, Operator, Refusal, Reply, line, read};
 use std::test::Fail;
 
 #[test]

@@ -3,7 +3,7 @@ use Rattle.std.proofs.Common.{◌≡◌, ℕ, ℤ, ◌+◌, ◌<◌, None, Some,
 use Rattle.phase_accum.specs.Sums.{sum_operation}
 use Rattle.phase_ring.specs.Slots.{empty_slot, joined, sealed}
 use Rattle.phase_ring.specs.Rings.{Ring, IsWithin, fresh_ring, slot_at, with_slot, is_sealed}
-use Rattle.phase_ring.proofs.tests.a_sealed_phase_has_the_value_of_its_sends.Goals as goal
+use Rattle.core_tests.proofs.slots.a_sealed_phase_has_the_value_of_its_sends.Goals as goal
 
 pub seal-requires-clause-within : goal.seal-requires-clause-within
 seal-requires-clause-within g c =

@@ -1,7 +1,7 @@
 //! A founder alone, and members that come and go, as calls on a phaser under sum.
-use crate::{Got, PhaserCore, RegisterRefusal, SignalRefusal, WaitRefusal};
 use phase_accum::{Outcome, Pending, SendFault, Sum};
 use phase_base::{Entry, Mode, Spec};
+use phase_core::{Got, PhaserCore, RegisterRefusal, SignalRefusal, WaitRefusal};
 use std::alloc::Global;
 use std::test::Fail;
 

@@ -4,7 +4,7 @@ use Rattle.phase_accum.specs.Sums.{sum_operation}
 use Rattle.phase_ring.specs.declared.role.Role.TheVariants.{Waiter}
 use Rattle.phase_ring.specs.Slots.{empty_slot, with_standing}
 use Rattle.phase_ring.specs.Rings.{Ring, IsWithin, fresh_ring, slot_at, with_slot, standing}
-use Rattle.phase_ring.proofs.tests.tasks_come_and_go.Goals as goal
+use Rattle.core_tests.proofs.slots.tasks_come_and_go.Goals as goal
 
 pub standing-requires : goal.standing-requires
 standing-requires g c =

@@ -1,6 +1,5 @@
 //! The mode table, and the edges of the limits.
-use crate::mode::Mode;
-use crate::spec::{Spec, SpecFault};
+use phase_base::{Mode, Spec, SpecFault};
 
 #[test]
 fn limits_are_refused_past_their_edges(rt: HostRuntime) {

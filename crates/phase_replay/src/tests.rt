@@ -1,4 +1,0 @@
-//! What no clause says, at chosen scripts.
-
-mod once;
-mod replays;

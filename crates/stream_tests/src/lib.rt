@@ -1,0 +1,15 @@
+//! Tests of filters, of graphs and samples as text, and of what reads and writes them, by public
+//! calls: of `watched_io`, `sample_text`, `stream_filters`, `phase_files` and `graph_lang`. They
+//! stand in a crate of their own, since a crate is proved anew with its tests.
+#![tactic(auto)]
+
+#[cfg(test)]
+mod files;
+#[cfg(test)]
+mod filters;
+#[cfg(test)]
+mod graphs;
+#[cfg(test)]
+mod samples;
+#[cfg(test)]
+mod streams;
