@@ -62,16 +62,19 @@ impl<A: Accumulate, K: SignalRule> Reg<A, K> {
                 got: Some(got),
             });
         }
-        let phase = match self.signal(rt, phaser, single) {
-            Ok(phase) => phase,
+        let waits = self.mode().waits();
+        let answer = match self.signal_first(rt, phaser, single, waits) {
+            Ok(answer) => answer,
             Err(refusal) => return Err(refusal),
         };
-        if !self.mode().waits() {
+        let (phase, got) = answer;
+        if !waits || got.is_some() {
             return Ok(Next {
                 signalled: Some(phase),
-                got: None,
+                got,
             });
         }
+        let _mode = self.mode();
         let got = self.wait_in_turn(rt, phaser);
         Ok(Next {
             signalled: Some(phase),

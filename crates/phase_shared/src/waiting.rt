@@ -6,6 +6,7 @@ ghost use Rattle.phase_shared.specs.Rule.{IsGoodAt};
 ghost use Rattle.phase_shared.specs.Regs.{phaser_place, phaser_terms, phaser_limits};
 ghost use Rattle.phase_shared.specs.Calls.{Signals, Waits, MaySignal, Leaves};
 ghost use Rattle.phase_shared.specs.Calls.{HasRegistered, RefusesRegister};
+ghost use Rattle.phase_shared.specs.Nexts.{SignalsFirst};
 
 use crate::past::Past;
 use crate::phaser::Phaser;
@@ -43,9 +44,39 @@ impl<A: Accumulate, K: SignalRule> Reg<A, K> {
         ensures known { result ≢ Err SignalRefusal.NoTask }
         ensures waited { result ≢ Err SignalRefusal.Ahead }
     {
+        match self.signal_first(rt, phaser, single, false) {
+            Ok(answer) => Ok(answer.0),
+            Err(refusal) => Err(refusal),
+        }
+    }
+
+    // Signals, as `signal` does, and then waits where that is asked for and answers at once: both
+    // under one turn.
+    pub(crate) fn signal_first<W: Wait>(
+        &mut self,
+        rt: &W,
+        phaser: &Phaser<A, K>,
+        single: Option<Single>,
+        waits: bool,
+    ) -> Result<(u64, Option<Got>), SignalRefusal>
+        requires at { self.old.at ≡ phaser_place phaser.now }
+        requires rule { MaySignal A.operation K.allows (phaser_terms phaser.now) self.old single }
+
+        ensures call { let old = self.old in
+            SignalsFirst waits A.operation (phaser_limits phaser.now) old.number old.held single
+            old.seen self.new.seen result }
+        ensures at { (self.new.at ≡ self.old.at) × (self.new.number ≡ self.old.number) }
+        ensures good { IsGoodAt K.allows (phaser_terms phaser.now) self.new.seen }
+        ensures none_held { OnOk result
+            (StandsForSends A.operation self.new.held [] × (self.new.held.count ≡ 0)) }
+
+        ensures held { OnErr result (self.new.held ≡ self.old.held) }
+        ensures known { result ≢ Err SignalRefusal.NoTask }
+        ensures waited { result ≢ Err SignalRefusal.Ahead }
+    {
         let backoff = Backoff::new();
         for _ in rt.forever() {
-            let answer = self.signal_once(phaser, &single);
+            let answer = self.signal_once(phaser, &single, waits);
             if let Some(answer) = answer {
                 return answer;
             }
@@ -55,18 +86,19 @@ impl<A: Accumulate, K: SignalRule> Reg<A, K> {
         unreachable!()
     }
 
-    // One try of a signal, which answers nothing where another is to be made.
+    // One try of such a signal, which answers nothing where another is to be made.
     fn signal_once(
         &mut self,
         phaser: &Phaser<A, K>,
         single: &Option<Single>,
-    ) -> Option<Result<u64, SignalRefusal>>
+        waits: bool,
+    ) -> Option<Result<(u64, Option<Got>), SignalRefusal>>
         requires at { self.old.at ≡ phaser_place phaser.now }
         requires rule { MaySignal A.operation K.allows (phaser_terms phaser.now) self.old single.now }
 
         ensures some { let old = self.old in IfSome result
-            (Signals A.operation (phaser_limits phaser.now) old.number old.held single.now old.seen
-            self.new.seen) }
+            (SignalsFirst waits A.operation (phaser_limits phaser.now) old.number old.held
+            single.now old.seen self.new.seen) }
         ensures at { (self.new.at ≡ self.old.at) × (self.new.number ≡ self.old.number) }
         ensures good { IfSome result (λ answer.
             IsGoodAt K.allows (phaser_terms phaser.now) self.new.seen) }
@@ -79,8 +111,8 @@ impl<A: Accumulate, K: SignalRule> Reg<A, K> {
         ensures none { IfNone result (OthersCame (self.old.number ∷ []) self.old.seen self.new.seen
             × (self.new.held ≡ self.old.held)) }
     {
-        let tried = match self.try_signal(phaser, *single) {
-            Ok(phase) => return Some(Ok(phase)),
+        let tried = match self.try_signal_first(phaser, *single, waits) {
+            Ok(answer) => return Some(Ok(answer)),
             Err(tried) => tried,
         };
         let refusal = match tried {
