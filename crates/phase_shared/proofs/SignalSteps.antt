@@ -17,7 +17,7 @@ use Rattle.phase_shared.specs.Regs.{RegState}
 use Rattle.phase_base.specs.Limits.{Limits}
 use Rattle.phase_history.specs.declared.got.Got.{Got}
 use Rattle.phase_shared.specs.Calls.{Signals, MaySignal}
-use Rattle.phase_shared.specs.Nexts.{MayWait, SignalsFirst}
+use Rattle.phase_shared.specs.Nexts.{MayWait, SignalsAndMayWait}
 
 -- a task that signals stays a member
 pub member_signals : (me : ℕ) (sends : List ℤ) (single : Option Single) (now : History)
@@ -26,7 +26,7 @@ member_signals me sends single now some = is_some-entry_of-changed me me (signal
 
 -- a signal with no wait after it
 pub signals_alone : {A : Type 0} (op : Operation A) (limits : Limits) (me : ℕ) (held : Parcel A) (single : Option Single) (old new : History) (answer : ℕ × Option Got)
-    → SignalsFirst false op limits me held single old new (Ok answer) → Signals op limits me held single old new (Ok answer.0)
+    → SignalsAndMayWait false op limits me held single old new (Ok answer) → Signals op limits me held single old new (Ok answer.0)
 signals_alone op limits me held single old new (phase, None) s =
     subst (λ (h : History). Signals op limits me held single old h (Ok phase)) (sym s.waits) s.signals
 signals_alone op limits me held single old new (phase, Some got) s = absurd s.waits
@@ -58,12 +58,12 @@ module _ {A K : Type 0} (op : Operation A) (terms : Terms K) (single : Option Si
       }
 
   -- the same, with a wait that was asked for
-  pub signals_first_later : (asked : Bool) (new : History) (answer : Result (ℕ × Option Got) SignalRefusal)
-      → SignalsFirst asked op terms.limits now.number now.held single now.seen new answer
-      → SignalsFirst asked op terms.limits old.number old.held single old.seen new answer
-  signals_first_later asked new (Ok answer) s = record {
+  pub signals_and_may_wait_later : (asked : Bool) (new : History) (answer : Result (ℕ × Option Got) SignalRefusal)
+      → SignalsAndMayWait asked op terms.limits now.number now.held single now.seen new answer
+      → SignalsAndMayWait asked op terms.limits old.number old.held single old.seen new answer
+  signals_and_may_wait_later asked new (Ok answer) s = record {
     middle = s.middle;
     signals = signals_later s.middle (Ok answer.0) s.signals;
     waits = subst (λ n. MayWait asked op.value terms.limits n s.middle new answer.1) number s.waits;
   }
-  signals_first_later asked new (Err refusal) s = signals_later new (Err refusal) s
+  signals_and_may_wait_later asked new (Err refusal) s = signals_later new (Err refusal) s

@@ -20,14 +20,15 @@ MadeWhere true call nothing (Some answer) = call answer
 MadeWhere false call nothing None = nothing
 MadeWhere can call nothing answer = ⊥
 
--- for the code: a wait right after, where one is asked for; where it has no answer yet, nothing came
-abbrev pub MayWait : Bool → (List ℤ → Outcome) → Limits → ℕ → History → History → Option Got → Type 0
+-- for the code: a wait right after, where one is asked for. Where it got nothing, nothing came
+abbrev pub MayWait : Bool → (List ℤ → Outcome) → Limits → ℕ → History → History → Option Got
+    → Type 0
 MayWait true value limits me old new (Some got) = Waits value limits me old new (Ok got)
 MayWait false value limits me old new (Some got) = ⊥
 MayWait asked value limits me old new None = new ≡ old
 
 -- for the code: an accepted signal, up to the middle, and then such a wait
-pub record SignalsAndMayWait {A : Type 0} (asked : Bool) (op : Operation A) (limits : Limits)
+pub record HasSignalledAndMayWait {A : Type 0} (asked : Bool) (op : Operation A) (limits : Limits)
     (me : ℕ) (held : Parcel A) (single : Option Single) (old new : History)
     (answer : ℕ × Option Got) : Type 0 where
   pub middle : History
@@ -35,11 +36,11 @@ pub record SignalsAndMayWait {A : Type 0} (asked : Bool) (op : Operation A) (lim
   pub waits : MayWait asked op.value limits me middle new answer.1
 
 -- for the code: the same, or the signal is refused, and then there is no wait
-abbrev pub SignalsFirst : {A : Type 0} → Bool → Operation A → Limits → ℕ → Parcel A → Option Single
-    → History → History → Result (ℕ × Option Got) SignalRefusal → Type 0
-SignalsFirst asked op limits me held single old new (Ok answer) =
-    SignalsAndMayWait asked op limits me held single old new answer
-SignalsFirst asked op limits me held single old new (Err refusal) =
+abbrev pub SignalsAndMayWait : {A : Type 0} → Bool → Operation A → Limits → ℕ → Parcel A
+    → Option Single → History → History → Result (ℕ × Option Got) SignalRefusal → Type 0
+SignalsAndMayWait asked op limits me held single old new (Ok answer) =
+    HasSignalledAndMayWait asked op limits me held single old new answer
+SignalsAndMayWait asked op limits me held single old new (Err refusal) =
     Signals op limits me held single old new (Err refusal)
 
 -- the signal came first, up to the middle, and then the wait

@@ -63,7 +63,7 @@ impl<A: Accumulate, K: SignalRule> Reg<A, K> {
             });
         }
         let waits = self.mode().waits();
-        let answer = match self.signal_first(rt, phaser, single, waits) {
+        let answer = match self.signal_and_wait(rt, phaser, single, waits) {
             Ok(answer) => answer,
             Err(refusal) => return Err(refusal),
         };

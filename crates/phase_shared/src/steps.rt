@@ -13,7 +13,7 @@ ghost use Rattle.phase_shared.specs.Rule.{HasOneHistory, Entered, IsGoodAt, IsSt
 ghost use Rattle.phase_core.specs.Cores.{StandsFor};
 ghost use Rattle.phase_shared.specs.Calls.{Tries, Waits, HasRegistered, RefusesRegister};
 ghost use Rattle.phase_shared.specs.Calls.{Refuses, HasLeft, number_after};
-ghost use Rattle.phase_shared.specs.Nexts.{SignalsFirst};
+ghost use Rattle.phase_shared.specs.Nexts.{SignalsAndMayWait};
 ghost use Rattle.phase_shared.specs.Regs.{phaser_limits, phaser_terms};
 
 use crate::hints::Moved;
@@ -113,7 +113,7 @@ pub fn signal<A: Accumulate, K: SignalRule>(
     ensures seat { IsSeatOf phaser.now.lock result.0 }
     ensures at { IsStation K.allows (phaser_terms phaser.now) me result.1 (seat_view result.0) }
     ensures call { Tries (IsSameSeat seat result.0 × (result.1 ≡ entry))
-        (SignalsFirst waits A.operation (phaser_limits phaser.now) me pending single
+        (SignalsAndMayWait waits A.operation (phaser_limits phaser.now) me pending single
         (front_of (seat_view seat)).seen (front_of (seat_view result.0)).seen) result.2 }
     ensures known { result.2 ≢ Err (Tried.Refused SignalRefusal.NoTask) }
     ensures alone { OnlyUsed (me ∷ []) (front_of (seat_view seat)).seen

@@ -8,7 +8,7 @@ use Rattle.phase_history.specs.Histories.{History, members_of}
 use Rattle.phase_history.specs.Legal.{IsLegal}
 use Rattle.phase_shared.specs.Regs.{phaser_limits}
 use Rattle.phase_shared.specs.Calls.{Signals, Waits}
-use Rattle.phase_shared.specs.Nexts.{SignalsFirst, SignalsAndMayWait}
+use Rattle.phase_shared.specs.Nexts.{SignalsAndMayWait, HasSignalledAndMayWait}
 use Rattle.phase_shared.proofs.NextSteps.{waits_else, signalled_member, signalled_apart, made, not_made, is_none, MadeWait, not_asked, answered, unanswered}
 use Rattle.phase_shared.proofs.reg.Reg.next.Goals as goal
 use Rattle.phase_shared.proofs.reg.Reg.next.Goals.{then-not-waits-via-then-not-waits, then-not-waits-via-else-not-waits+then-is_some-2}
@@ -34,14 +34,14 @@ returns-then-not-signals-clause-ok g c =
 pub returns-then-not-waits-clause-ok : goal.returns-then-not-waits-clause-ok
 returns-then-not-waits-clause-ok g c =
     let old = c.args.self.now in
-    let new = c.signal_first.new.self in
+    let new = c.signal_and_wait.new.self in
     let limits = phaser_limits c.args.phaser.now in
     let op = g.A.Accumulate.operation in
     let asked = c.waits-waits.result in
     let phase = c.in-Ok.answer.0 in
     let got = c.in-Ok.answer.1 in
-    let both : SignalsAndMayWait asked op limits old.number old.held c.args.single old.seen new.seen c.in-Ok.answer =
-    subst (λ r. SignalsFirst asked op limits old.number old.held c.args.single old.seen new.seen r) c.in-Ok.is c.signal_first.ensures.call in
+    let both : HasSignalledAndMayWait asked op limits old.number old.held c.args.single old.seen new.seen c.in-Ok.answer =
+    subst (λ r. SignalsAndMayWait asked op limits old.number old.held c.args.single old.seen new.seen r) c.in-Ok.is c.signal_and_wait.ensures.call in
     let signals : mode_signals old.entry.mode ≡ true = ap mode_signals (sym c.mode.ensures.value) ∙ sym c.signals.ensures ∙ c.if-not-signals.false in
     let waits : asked ≡ mode_waits old.entry.mode = c.waits-waits.ensures ∙ ap mode_waits c.mode-2.ensures.value in
     record {
@@ -61,23 +61,23 @@ returns-then-not-waits-clause-ok g c =
 pub wait_in_turn-got-requires-2-clause-waits : goal.wait_in_turn-got-requires-2-clause-waits
 wait_in_turn-got-requires-2-clause-waits g c =
     let old = c.args.self.now in
-    let new = c.signal_first.new.self in
+    let new = c.signal_and_wait.new.self in
     let limits = phaser_limits c.args.phaser.now in
     let op = g.A.Accumulate.operation in
     let asked = c.waits-waits.result in
     let phase = c.in-Ok.answer.0 in
     let got = c.in-Ok.answer.1 in
-    let both : SignalsAndMayWait asked op limits old.number old.held c.args.single old.seen new.seen c.in-Ok.answer =
-    subst (λ r. SignalsFirst asked op limits old.number old.held c.args.single old.seen new.seen r) c.in-Ok.is c.signal_first.ensures.call in
+    let both : HasSignalledAndMayWait asked op limits old.number old.held c.args.single old.seen new.seen c.in-Ok.answer =
+    subst (λ r. SignalsAndMayWait asked op limits old.number old.held c.args.single old.seen new.seen r) c.in-Ok.is c.signal_and_wait.ensures.call in
     let signals : mode_signals old.entry.mode ≡ true = ap mode_signals (sym c.mode.ensures.value) ∙ sym c.signals.ensures ∙ c.if-not-signals.false in
     let waits : asked ≡ mode_waits old.entry.mode = c.waits-waits.ensures ∙ ap mode_waits c.mode-2.ensures.value in
     let none : is_some got ≡ false = sym c.is_some-else-not-waits.ensures ∙ c.if-is_some-2.false in
     let last : new.seen ≡ both.middle = unanswered op.value limits old.number both.middle new.seen asked got none both.waits in
     let s : Signals op limits old.number old.held c.args.single old.seen new.seen (Ok phase) =
     subst (λ (h : History). Signals op limits old.number old.held c.args.single old.seen h (Ok phase)) (sym last) both.signals in
-    let legal : IsLegal limits new.seen = c.signal_first.ensures.good.legal in
+    let legal : IsLegal limits new.seen = c.signal_and_wait.ensures.good.legal in
     let there : entry_of (members_of new.seen) old.number ≡ Some new.entry =
-    subst (λ n. entry_of (members_of new.seen) n ≡ Some new.entry) c.signal_first.ensures.at.1 c.mode-mode.ensures.entry in
+    subst (λ n. entry_of (members_of new.seen) n ≡ Some new.entry) c.signal_and_wait.ensures.at.1 c.mode-mode.ensures.entry in
     let is : new.entry ≡ signalled 1 old.entry =
     signalled_member limits old.number old.entry new.entry old.seen s.before new.seen c.args.single s.sends s.others s.seen legal c.mode.ensures.entry there in
     ap (λ (e : Entry). mode_waits e.mode) is ∙ sym waits ∙ c.if-not-waits.false
@@ -86,23 +86,23 @@ wait_in_turn-got-requires-2-clause-waits g c =
 pub wait_in_turn-got-requires-2-clause-signalled : goal.wait_in_turn-got-requires-2-clause-signalled
 wait_in_turn-got-requires-2-clause-signalled g c signals' same =
     let old = c.args.self.now in
-    let new = c.signal_first.new.self in
+    let new = c.signal_and_wait.new.self in
     let limits = phaser_limits c.args.phaser.now in
     let op = g.A.Accumulate.operation in
     let asked = c.waits-waits.result in
     let phase = c.in-Ok.answer.0 in
     let got = c.in-Ok.answer.1 in
-    let both : SignalsAndMayWait asked op limits old.number old.held c.args.single old.seen new.seen c.in-Ok.answer =
-    subst (λ r. SignalsFirst asked op limits old.number old.held c.args.single old.seen new.seen r) c.in-Ok.is c.signal_first.ensures.call in
+    let both : HasSignalledAndMayWait asked op limits old.number old.held c.args.single old.seen new.seen c.in-Ok.answer =
+    subst (λ r. SignalsAndMayWait asked op limits old.number old.held c.args.single old.seen new.seen r) c.in-Ok.is c.signal_and_wait.ensures.call in
     let signals : mode_signals old.entry.mode ≡ true = ap mode_signals (sym c.mode.ensures.value) ∙ sym c.signals.ensures ∙ c.if-not-signals.false in
     let waits : asked ≡ mode_waits old.entry.mode = c.waits-waits.ensures ∙ ap mode_waits c.mode-2.ensures.value in
     let none : is_some got ≡ false = sym c.is_some-else-not-waits.ensures ∙ c.if-is_some-2.false in
     let last : new.seen ≡ both.middle = unanswered op.value limits old.number both.middle new.seen asked got none both.waits in
     let s : Signals op limits old.number old.held c.args.single old.seen new.seen (Ok phase) =
     subst (λ (h : History). Signals op limits old.number old.held c.args.single old.seen h (Ok phase)) (sym last) both.signals in
-    let legal : IsLegal limits new.seen = c.signal_first.ensures.good.legal in
+    let legal : IsLegal limits new.seen = c.signal_and_wait.ensures.good.legal in
     let there : entry_of (members_of new.seen) old.number ≡ Some new.entry =
-    subst (λ n. entry_of (members_of new.seen) n ≡ Some new.entry) c.signal_first.ensures.at.1 c.mode-mode.ensures.entry in
+    subst (λ n. entry_of (members_of new.seen) n ≡ Some new.entry) c.signal_and_wait.ensures.at.1 c.mode-mode.ensures.entry in
     let is : new.entry ≡ signalled 1 old.entry =
     signalled_member limits old.number old.entry new.entry old.seen s.before new.seen c.args.single s.sends s.others s.seen legal c.mode.ensures.entry there in
     signalled_apart limits old.number old.entry new.entry old.seen s.before new.seen c.args.single s.sends s.others s.seen legal c.mode.ensures.entry is
@@ -112,14 +112,14 @@ wait_in_turn-got-requires-2-clause-signalled g c signals' same =
 pub returns-clause-ok : goal.returns-clause-ok
 returns-clause-ok g c =
     let old = c.args.self.now in
-    let new = c.signal_first.new.self in
+    let new = c.signal_and_wait.new.self in
     let limits = phaser_limits c.args.phaser.now in
     let op = g.A.Accumulate.operation in
     let asked = c.waits-waits.result in
     let phase = c.in-Ok.answer.0 in
     let got = c.in-Ok.answer.1 in
-    let both : SignalsAndMayWait asked op limits old.number old.held c.args.single old.seen new.seen c.in-Ok.answer =
-    subst (λ r. SignalsFirst asked op limits old.number old.held c.args.single old.seen new.seen r) c.in-Ok.is c.signal_first.ensures.call in
+    let both : HasSignalledAndMayWait asked op limits old.number old.held c.args.single old.seen new.seen c.in-Ok.answer =
+    subst (λ r. SignalsAndMayWait asked op limits old.number old.held c.args.single old.seen new.seen r) c.in-Ok.is c.signal_and_wait.ensures.call in
     let signals : mode_signals old.entry.mode ≡ true = ap mode_signals (sym c.mode.ensures.value) ∙ sym c.signals.ensures ∙ c.if-not-signals.false in
     let waits : asked ≡ mode_waits old.entry.mode = c.waits-waits.ensures ∙ ap mode_waits c.mode-2.ensures.value in
     let none : is_some got ≡ false = sym c.is_some-else-not-waits.ensures ∙ c.if-is_some-2.false in
@@ -134,6 +134,6 @@ returns-clause-ok g c =
           (new.seen ≡ old.seen) phase signals s;
       waits = made (mode_waits old.entry.mode) (λ (got : Got). Waits op.value limits old.number new.seen last (Ok got)) (last ≡ new.seen) got
           (sym waits ∙ c.if-not-waits.false)
-          (subst (λ n. Waits op.value limits n new.seen last (Ok got)) c.signal_first.ensures.at.1 c.wait_in_turn-got-2.ensures.call);
+          (subst (λ n. Waits op.value limits n new.seen last (Ok got)) c.signal_and_wait.ensures.at.1 c.wait_in_turn-got-2.ensures.call);
       named = λ none. absurd (let z : true ≡ false = sym signals ∙ none in cc);
     }

@@ -1,6 +1,6 @@
 use Rattle.std.proofs.Common.{false, subst}
 use Rattle.phase_shared.specs.Regs.{phaser_limits}
-use Rattle.phase_shared.specs.Nexts.{SignalsFirst}
+use Rattle.phase_shared.specs.Nexts.{SignalsAndMayWait}
 use Rattle.phase_shared.proofs.SignalSteps.{signals_alone}
 use Rattle.phase_shared.proofs.reg.Reg.signal.Goals as goal
 
@@ -9,14 +9,14 @@ returns-in-Ok-clause-call g c =
     let op = g.A.Accumulate.operation in
     let limits = phaser_limits c.args.phaser.now in
     let old = c.args.self.now in
-    let new = c.signal_first.new.self in
+    let new = c.signal_and_wait.new.self in
     signals_alone op limits old.number old.held c.args.single old.seen new.seen c.in-Ok.answer
-    (subst (λ r. SignalsFirst false op limits old.number old.held c.args.single old.seen new.seen r) c.in-Ok.is c.signal_first.ensures.call)
+    (subst (λ r. SignalsAndMayWait false op limits old.number old.held c.args.single old.seen new.seen r) c.in-Ok.is c.signal_and_wait.ensures.call)
 
 pub returns-in-Err-clause-call : goal.returns-in-Err-clause-call
 returns-in-Err-clause-call g c =
     let op = g.A.Accumulate.operation in
     let limits = phaser_limits c.args.phaser.now in
     let old = c.args.self.now in
-    let new = c.signal_first.new.self in
-    subst (λ r. SignalsFirst false op limits old.number old.held c.args.single old.seen new.seen r) c.in-Err.is c.signal_first.ensures.call
+    let new = c.signal_and_wait.new.self in
+    subst (λ r. SignalsAndMayWait false op limits old.number old.held c.args.single old.seen new.seen r) c.in-Err.is c.signal_and_wait.ensures.call

@@ -1,7 +1,7 @@
 use Rattle.std.proofs.Common.{◌≡◌, false, subst}
 use Rattle.phase_shared.specs.Regs.{phaser_limits}
 use Rattle.phase_shared.specs.Calls.{Tries}
-use Rattle.phase_shared.specs.Nexts.{SignalsFirst}
+use Rattle.phase_shared.specs.Nexts.{SignalsAndMayWait}
 use Rattle.phase_shared.proofs.SignalSteps.{signals_alone}
 use Rattle.phase_shared.proofs.reg.Reg.try_signal.Goals as goal
 
@@ -10,16 +10,16 @@ returns-in-Ok-clause-call g c =
     let op = g.A.Accumulate.operation in
     let limits = phaser_limits c.args.phaser.now in
     let old = c.args.self.now in
-    let new = c.try_signal_first.new.self in
-    let call = SignalsFirst false op limits old.number old.held c.args.single old.seen new.seen in
+    let new = c.try_signal_and_wait.new.self in
+    let call = SignalsAndMayWait false op limits old.number old.held c.args.single old.seen new.seen in
     signals_alone op limits old.number old.held c.args.single old.seen new.seen c.in-Ok.answer
-    (subst (λ r. Tries (new ≡ old) call r) c.in-Ok.is c.try_signal_first.ensures.call)
+    (subst (λ r. Tries (new ≡ old) call r) c.in-Ok.is c.try_signal_and_wait.ensures.call)
 
 pub returns-in-Err-clause-call : goal.returns-in-Err-clause-call
 returns-in-Err-clause-call g c =
     let op = g.A.Accumulate.operation in
     let limits = phaser_limits c.args.phaser.now in
     let old = c.args.self.now in
-    let new = c.try_signal_first.new.self in
-    let call = SignalsFirst false op limits old.number old.held c.args.single old.seen new.seen in
-    subst (λ r. Tries (new ≡ old) call r) c.in-Err.is c.try_signal_first.ensures.call
+    let new = c.try_signal_and_wait.new.self in
+    let call = SignalsAndMayWait false op limits old.number old.held c.args.single old.seen new.seen in
+    subst (λ r. Tries (new ≡ old) call r) c.in-Err.is c.try_signal_and_wait.ensures.call

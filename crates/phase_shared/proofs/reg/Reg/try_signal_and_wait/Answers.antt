@@ -5,11 +5,11 @@ use Rattle.phase_shared.specs.Views.{front_of}
 use Rattle.phase_shared.specs.Regs.{RegState, reg_state, phaser_place, phaser_terms, phaser_limits}
 use Rattle.phase_history.specs.declared.got.Got.{Got}
 use Rattle.phase_shared.specs.Calls.{Tries, MaySignal}
-use Rattle.phase_shared.specs.Nexts.{SignalsFirst}
+use Rattle.phase_shared.specs.Nexts.{SignalsAndMayWait}
 use Rattle.phase_history.specs.declared.refusal.SignalRefusal.{SignalRefusal}
 use Rattle.phase_shared.proofs.Answering.{Tries-map}
 use Rattle.phase_shared.proofs.Opening.{opened, closed, same_reg, reg_is}
-use Rattle.phase_shared.proofs.reg.Reg.try_signal_first.Goals as goal
+use Rattle.phase_shared.proofs.reg.Reg.try_signal_and_wait.Goals as goal
 
 pub unreachable-requires : goal.unreachable-requires
 unreachable-requires g c =
@@ -56,9 +56,9 @@ returns-in-Ok-clause-call g c =
     let s = c.in-Some.seat in
     let s' = c.signal-seat.result.0 in
     let P : RegState g.row.A.Denot g.row.K.Denot → Type 0 = λ old.
-    SignalsFirst c.args.waits op limits old.number old.held c.args.single old.seen (front_of (seat_view s')).seen (Ok c.in-Ok.answer) in
+    SignalsAndMayWait c.args.waits op limits old.number old.held c.args.single old.seen (front_of (seat_view s')).seen (Ok c.in-Ok.answer) in
     subst P is (subst (λ r. Tries (IsSameSeat s s' × (c.signal-seat.result.1 ≡ inside.entry))
-    (SignalsFirst c.args.waits op limits inside.number inside.pending c.args.single (front_of (seat_view s)).seen (front_of (seat_view s')).seen) r)
+    (SignalsAndMayWait c.args.waits op limits inside.number inside.pending c.args.single (front_of (seat_view s)).seen (front_of (seat_view s')).seen) r)
     c.in-Ok.is c.signal-seat.ensures.call)
 
 pub returns-in-Err-clause-call : goal.returns-in-Err-clause-call
@@ -74,9 +74,9 @@ returns-in-Err-clause-call g c =
     let s = c.in-Some.seat in
     let s' = c.signal-seat.result.0 in
     let entry' = c.signal-seat.result.1 in
-    let call : Result (ℕ × Option Got) SignalRefusal → Type 0 = λ answer. SignalsFirst c.args.waits op limits inside.number inside.pending c.args.single (front_of (seat_view s)).seen (front_of (seat_view s')).seen answer in
+    let call : Result (ℕ × Option Got) SignalRefusal → Type 0 = λ answer. SignalsAndMayWait c.args.waits op limits inside.number inside.pending c.args.single (front_of (seat_view s)).seen (front_of (seat_view s')).seen answer in
     let P : RegState g.row.A.Denot g.row.K.Denot → Type 0 = λ old. Tries (reg_state (Some s') inside.number entry' inside.pending ≡ old)
-    (SignalsFirst c.args.waits op limits old.number old.held c.args.single old.seen (front_of (seat_view s')).seen) (Err c.in-Err.tried) in
+    (SignalsAndMayWait c.args.waits op limits old.number old.held c.args.single old.seen (front_of (seat_view s')).seen) (Err c.in-Err.tried) in
     subst P is (Tries-map (IsSameSeat s s' × (entry' ≡ inside.entry))
     (reg_state (Some s') inside.number entry' inside.pending ≡ reg_state (Some s) inside.number inside.entry inside.pending) call call
     (λ same. same_reg g.K.SignalRule.allows p.0 terms inside.number inside.entry entry' inside.pending s s' same.0 same.1) (λ answer w. w)
