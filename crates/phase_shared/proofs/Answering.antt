@@ -1,5 +1,5 @@
 -- What is known of an answer.
-use Rattle.std.proofs.Common.{◌≡◌, Option, Some, None}
+use Rattle.std.proofs.Common.{◌≡◌, ◌⊎◌, inl, inr, Option, Some, None, subst}
 use Rattle.std.specs.Prelude.{Result, Ok, Err}
 use Rattle.phase_history.specs.Replies.{refused_or}
 use Rattle.phase_shared.specs.declared.refusal.Tried.{Tried}
@@ -24,3 +24,9 @@ pub Tries-map : {X R : Type 0} (same same' : Type 0) (call call' : Result X R �
 Tries-map same same' call call' still answered (Ok x) r = answered (Ok x) r
 Tries-map same same' call call' still answered (Err tried) r =
     Refuses-map same same' (λ refusal. call (Err refusal)) (λ refusal. call' (Err refusal)) still (λ refusal. answered (Err refusal)) tried r
+
+-- a try after which another is made: nothing came, or the call met this refusal
+pub again : {X R : Type 0} (same : Type 0) (call : Result X R → Type 0) (early : R) (P : Type 0) (tried : Tried R)
+    → (tried ≡ Busy) ⊎ (tried ≡ Refused early) → Tries same call (Err tried) → (same → P) → (call (Err early) → P) → P
+again same call early P tried (inl is) r still answered = still (subst (Refuses same (λ refusal. call (Err refusal))) is r)
+again same call early P tried (inr is) r still answered = answered (subst (Refuses same (λ refusal. call (Err refusal))) is r)

@@ -7,7 +7,9 @@ use Rattle.phase_base.specs.Modes.{mode_signals, mode_waits}
 use Rattle.phase_base.specs.declared.mode.Mode.{Mode}
 use Rattle.phase_base.specs.declared.mode.Mode.TheVariants.{Sig, Wait, SigWait, Single as Singles}
 use Rattle.phase_base.specs.declared.entry.Entry.{Entry}
-use Rattle.std.specs.Prelude.{is_some}
+use Rattle.std.specs.Prelude.{is_some, Ok}
+use Rattle.phase_accum.specs.declared.outcome.Outcome.{Outcome}
+use Rattle.phase_history.specs.declared.got.Got.{Got}
 use Rattle.phase_base.specs.Members.{entry_of, signalled, signal_phases}
 use Rattle.phase_base.specs.Members.{least as least_of}
 use Rattle.phase_accum.specs.declared.single.Single.{Single}
@@ -21,7 +23,8 @@ use Rattle.phase_history.specs.Others.{OthersCame}
 use Rattle.phase_history.proofs.LawProofs.{turns_law}
 use Rattle.phase_history.proofs.MemberLemmas.{entry_of-changed_same}
 use Rattle.phase_history.proofs.Used.{entry_of-others}
-use Rattle.phase_shared.specs.Nexts.{MadeWhere}
+use Rattle.phase_shared.specs.Calls.{Waits}
+use Rattle.phase_shared.specs.Nexts.{MadeWhere, MayWait}
 use Rattle.phase_shared.proofs.Keeping.{is_in_self}
 
 same_some : {A : Type 0} (x y : A) → Some x ≡ Some y → x ≡ y
@@ -119,3 +122,26 @@ not_made false call nothing no' none = none
 pub is_none : (single : Option Single) → is_some single ≡ false → single ≡ None
 is_none None none = refl
 is_none (Some single) none = absurd (cc)
+
+-- what came of a wait under its signal's turn
+module _ (value : List ℤ → Outcome) (limits : Limits) (me : ℕ) (middle new : History) where
+  abbrev pub MadeWait : Bool → Option Got → Type 0
+  MadeWait can got = MadeWhere can (λ (got : Got). Waits value limits me middle new (Ok got)) (new ≡ middle) got
+
+  -- it was not asked for
+  pub not_asked : (asked : Bool) (got : Option Got) → asked ≡ false → MayWait asked value limits me middle new got → MadeWait asked got
+  not_asked true got no' w = absurd (cc)
+  not_asked false None no' w = w
+  not_asked false (Some got) no' w = absurd w
+
+  -- it has its answer
+  pub answered : (asked : Bool) (got : Option Got) → is_some got ≡ true → MayWait asked value limits me middle new got → MadeWait asked got
+  answered asked None some w = absurd (cc)
+  answered true (Some got) some w = w
+  answered false (Some got) some w = absurd w
+
+  -- it has no answer yet
+  pub unanswered : (asked : Bool) (got : Option Got) → is_some got ≡ false → MayWait asked value limits me middle new got → new ≡ middle
+  unanswered true None none w = w
+  unanswered false None none w = w
+  unanswered asked (Some got) none w = absurd (cc)

@@ -1,5 +1,5 @@
 -- A signal under the turn.
-use Rattle.std.proofs.Common.{◌≡◌, ℕ, ℤ, true, List, [], ◌∷◌, Option, ap, subst, sym, ◌∙◌}
+use Rattle.std.proofs.Common.{◌≡◌, ℕ, ℤ, Bool, true, false, List, [], ◌∷◌, Option, Some, None, subst, sym, ◌∙◌}
 use Rattle.phase_accum.specs.Parcels.{Parcel, StandsForSends}
 use Rattle.phase_history.specs.Others.{OthersCame}
 use Rattle.phase_history.specs.declared.refusal.SignalRefusal.{SignalRefusal}
@@ -9,36 +9,27 @@ use Rattle.phase_accum.specs.declared.single.Single.{Single}
 use Rattle.phase_history.specs.declared.event.Event.TheVariants.{Signalled}
 use Rattle.phase_base.specs.Members.{entry_of, signalled}
 use Rattle.phase_history.specs.Histories.{History, members_of}
-use Rattle.phase_history.specs.Replies.{after_signal}
-use Rattle.phase_core.specs.Cores.{CoreState, StandsFor}
 use Rattle.phase_history.proofs.MemberLemmas.{is_some-entry_of-changed}
 use Rattle.phase_shared.specs.declared.rule.Terms.{Terms}
-use Rattle.phase_shared.specs.Rule.{Allows, IsGoodAt, StandsWithin}
+use Rattle.phase_shared.specs.Rule.{Allows}
 use Rattle.phase_history.proofs.OthersEvents.{OthersCame-trans}
 use Rattle.phase_shared.specs.Regs.{RegState}
+use Rattle.phase_base.specs.Limits.{Limits}
+use Rattle.phase_history.specs.declared.got.Got.{Got}
 use Rattle.phase_shared.specs.Calls.{Signals, MaySignal}
-use Rattle.phase_shared.proofs.Giving.{legal_at}
+use Rattle.phase_shared.specs.Nexts.{MayWait, SignalsAndMayWait}
 
-module _ {A K : Type 0} (op : Operation A) (allows : K → Allows) (terms : Terms K) (me : ℕ) where
-  -- what an accepted signal with these sends leaves
-  pub record SignalledAt (single : Option Single) (now : History) (x : CoreState A) (sends : List ℤ) : Type 0 where
-    pub good : IsGoodAt allows terms (Signalled me (sends ∷ []) single ∷ now)
-    pub stands : StandsWithin op terms.limits x (Signalled me (sends ∷ []) single ∷ now)
+-- a task that signals stays a member
+pub member_signals : (me : ℕ) (sends : List ℤ) (single : Option Single) (now : History)
+    → is_some (entry_of (members_of now) me) ≡ true → is_some (entry_of (members_of (Signalled me (sends ∷ []) single ∷ now)) me) ≡ true
+member_signals me sends single now some = is_some-entry_of-changed me me (signalled 1) (members_of now) ∙ some
 
-  pub signalled_at : (single : Option Single) (now : History) (old x : CoreState A) (sends : List ℤ) → IsGoodAt allows terms now
-      → StandsWithin op terms.limits old now → x.limits ≡ old.limits → StandsFor op x (Signalled me (sends ∷ []) single ∷ now)
-      → allows terms.rule now me (sends ∷ []) single → SignalledAt single now x sends
-  signalled_at single now old x sends good before same after may =
-      let stands : StandsWithin op terms.limits x (Signalled me (sends ∷ []) single ∷ now) = record { stands = after; limits_are = same ∙ before.limits_are } in
-      record { good = record { legal = legal_at op allows terms me x (Signalled me (sends ∷ []) single ∷ now) stands; keeps = (may, good.keeps) }; stands = stands }
-
--- after a signal the task is a member, whatever was answered
-pub member_after_signal : {A R : Type 0} (op : Operation A) (x : CoreState A) (r : Result ℕ R) (me : ℕ) (sends : List ℤ) (single : Option Single) (now : History)
-    → StandsFor op x (after_signal r me (sends ∷ []) single now) → is_some (entry_of (members_of now) me) ≡ true → is_some (entry_of x.members me) ≡ true
-member_after_signal op x (Ok phase) me sends single now stands some =
-    ap (λ ms. is_some (entry_of ms me)) stands.members_are
-    ∙ is_some-entry_of-changed me me (signalled 1) (members_of now) ∙ some
-member_after_signal op x (Err refusal) me sends single now stands some = ap (λ ms. is_some (entry_of ms me)) stands.members_are ∙ some
+-- a signal with no wait after it
+pub signals_alone : {A : Type 0} (op : Operation A) (limits : Limits) (me : ℕ) (held : Parcel A) (single : Option Single) (old new : History) (answer : ℕ × Option Got)
+    → SignalsAndMayWait false op limits me held single old new (Ok answer) → Signals op limits me held single old new (Ok answer.0)
+signals_alone op limits me held single old new (phase, None) s =
+    subst (λ (h : History). Signals op limits me held single old h (Ok phase)) (sym s.waits) s.signals
+signals_alone op limits me held single old new (phase, Some got) s = absurd s.waits
 
 module _ {A K : Type 0} (op : Operation A) (terms : Terms K) (single : Option Single) (old now : RegState A K) (number : now.number ≡ old.number)
     (held : now.held ≡ old.held) (came : OthersCame (old.number ∷ []) old.seen now.seen) where
@@ -65,3 +56,14 @@ module _ {A K : Type 0} (op : Operation A) (terms : Terms K) (single : Option Si
         seen = s.seen;
         reply = s.reply;
       }
+
+  -- the same, with a wait that was asked for
+  pub signals_and_may_wait_later : (asked : Bool) (new : History) (answer : Result (ℕ × Option Got) SignalRefusal)
+      → SignalsAndMayWait asked op terms.limits now.number now.held single now.seen new answer
+      → SignalsAndMayWait asked op terms.limits old.number old.held single old.seen new answer
+  signals_and_may_wait_later asked new (Ok answer) s = record {
+    middle = s.middle;
+    signals = signals_later s.middle (Ok answer.0) s.signals;
+    waits = subst (λ n. MayWait asked op.value terms.limits n s.middle new answer.1) number s.waits;
+  }
+  signals_and_may_wait_later asked new (Err refusal) s = signals_later new (Err refusal) s

@@ -1,6 +1,6 @@
 -- What each call answers, and how the history that its task has seen goes on: by events of others,
 -- up to the moment of the call, and then by the call's own event, where it makes one.
-use Rattle.std.specs.Prelude.{◌≡◌, ℕ, ℤ, List, [], ◌∷◌, Option, Result, Ok, Err, Bool, true, false, None, Some, min, ◌+◌, ◌-◌, ◌^◌}
+use Rattle.std.specs.Prelude.{◌≡◌, ℕ, ℤ, List, [], ◌∷◌, Option, Result, Ok, Err, None, Some, min, ◌+◌, ◌-◌, ◌^◌}
 use Rattle.phase_base.specs.Limits.{Limits}
 use Rattle.phase_base.specs.declared.mode.Mode.{Mode}
 use Rattle.phase_accum.specs.Operations.{Operation}
@@ -9,7 +9,6 @@ use Rattle.phase_accum.specs.declared.outcome.Outcome.{Outcome}
 use Rattle.phase_accum.specs.declared.single.Single.{Single}
 use Rattle.phase_history.specs.declared.event.Event.TheVariants.{Registered, Dropped}
 use Rattle.phase_history.specs.declared.got.Got.{Got}
-use Rattle.phase_history.specs.declared.got.Got.TheVariants as got
 use Rattle.phase_history.specs.declared.refusal.RegisterRefusal.{RegisterRefusal}
 use Rattle.phase_history.specs.declared.refusal.RegisterRefusal.TheVariants as register
 use Rattle.phase_history.specs.declared.refusal.SignalRefusal.{SignalRefusal}
@@ -57,11 +56,6 @@ pub record Waits (value : List ℤ → Outcome) (limits : Limits) (me : ℕ) (ol
   pub others : OthersCame (me ∷ []) old before
   pub seen : new ≡ after_wait answer me before
   pub reply : wait_reply value limits before me ≡ answer
-
--- for the code: whether a wait got a value
-abbrev pub gets_value : Got → Bool
-gets_value (got.Value phase outcome) = true
-gets_value got.Ended = false
 
 -- the number above this one, or where there is none, the last number
 abbrev pub number_after : ℕ → ℕ

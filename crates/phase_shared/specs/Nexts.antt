@@ -1,9 +1,12 @@
 -- A task's next phase: its signal where its mode signals, and then its wait where its mode waits.
-use Rattle.std.specs.Prelude.{◌≡◌, Bool, true, false, Option, Some, None, IsSome, Ok, Err}
+use Rattle.std.specs.Prelude.{◌≡◌, ℕ, ℤ, List, Bool, true, false, Option, Some, None, IsSome, Result, Ok, Err}
 use Rattle.phase_base.specs.Limits.{Limits}
 use Rattle.phase_base.specs.Modes.{mode_signals, mode_waits}
 use Rattle.phase_accum.specs.Operations.{Operation}
+use Rattle.phase_accum.specs.Parcels.{Parcel}
+use Rattle.phase_accum.specs.declared.outcome.Outcome.{Outcome}
 use Rattle.phase_accum.specs.declared.single.Single.{Single}
+use Rattle.phase_history.specs.declared.got.Got.{Got}
 use Rattle.phase_history.specs.declared.refusal.SignalRefusal.{SignalRefusal}
 use Rattle.phase_history.specs.declared.refusal.SignalRefusal.TheVariants as signal
 use Rattle.phase_history.specs.Histories.{History}
@@ -16,6 +19,29 @@ abbrev pub MadeWhere : {X : Type 0} → Bool → (X → Type 0) → Type 0 → O
 MadeWhere true call nothing (Some answer) = call answer
 MadeWhere false call nothing None = nothing
 MadeWhere can call nothing answer = ⊥
+
+-- for the code: a wait right after, where one is asked for. Where it got nothing, nothing came
+abbrev pub MayWait : Bool → (List ℤ → Outcome) → Limits → ℕ → History → History → Option Got
+    → Type 0
+MayWait true value limits me old new (Some got) = Waits value limits me old new (Ok got)
+MayWait false value limits me old new (Some got) = ⊥
+MayWait asked value limits me old new None = new ≡ old
+
+-- for the code: an accepted signal, up to the middle, and then such a wait
+pub record HasSignalledAndMayWait {A : Type 0} (asked : Bool) (op : Operation A) (limits : Limits)
+    (me : ℕ) (held : Parcel A) (single : Option Single) (old new : History)
+    (answer : ℕ × Option Got) : Type 0 where
+  pub middle : History
+  pub signals : Signals op limits me held single old middle (Ok answer.0)
+  pub waits : MayWait asked op.value limits me middle new answer.1
+
+-- for the code: the same, or the signal is refused, and then there is no wait
+abbrev pub SignalsAndMayWait : {A : Type 0} → Bool → Operation A → Limits → ℕ → Parcel A
+    → Option Single → History → History → Result (ℕ × Option Got) SignalRefusal → Type 0
+SignalsAndMayWait asked op limits me held single old new (Ok answer) =
+    HasSignalledAndMayWait asked op limits me held single old new answer
+SignalsAndMayWait asked op limits me held single old new (Err refusal) =
+    Signals op limits me held single old new (Err refusal)
 
 -- the signal came first, up to the middle, and then the wait
 pub record GoesNext {A K : Type 0} (op : Operation A) (limits : Limits) (single : Option Single)

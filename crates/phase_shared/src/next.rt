@@ -26,7 +26,7 @@ pub struct Next {
 
 impl<A: Accumulate, K: SignalRule> Reg<A, K> {
     /// Signals where its mode signals, as `signal` does, and then waits where its mode waits, as
-    /// `wait` does. It takes no memory.
+    /// `wait` does. It takes no memory, and one turn for both where its signal completes the phase.
     ///
     /// It is refused as `signal` is, and then signalled nothing. In the mode `Wait` it is refused
     /// where a single is named, as `NotSingle`.
@@ -62,16 +62,19 @@ impl<A: Accumulate, K: SignalRule> Reg<A, K> {
                 got: Some(got),
             });
         }
-        let phase = match self.signal(rt, phaser, single) {
-            Ok(phase) => phase,
+        let waits = self.mode().waits();
+        let answer = match self.signal_and_wait(rt, phaser, single, waits) {
+            Ok(answer) => answer,
             Err(refusal) => return Err(refusal),
         };
-        if !self.mode().waits() {
+        let (phase, got) = answer;
+        if !waits || got.is_some() {
             return Ok(Next {
                 signalled: Some(phase),
-                got: None,
+                got,
             });
         }
+        let _mode = self.mode();
         let got = self.wait_in_turn(rt, phaser);
         Ok(Next {
             signalled: Some(phase),

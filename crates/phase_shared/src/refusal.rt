@@ -1,6 +1,9 @@
 //! Why a call of a registration was refused.
+ghost use Rattle.std.specs.Prelude.{◌≡◌, ◌≢◌, ◌⊎◌, IfSome, IfNone};
+
 use phase_accum::NO_VALUE;
 use phase_base::SENDS_MAX;
+use phase_core::{SignalRefusal, WaitRefusal};
 use thiserror::Error;
 
 /// Why a try was refused.
@@ -24,4 +27,30 @@ pub enum SendRefusal {
     /// `SENDS_MAX` sends are held already.
     #[error("the task holds {SENDS_MAX} sends already, and must signal first")]
     TooManySends,
+}
+
+// The refusal of a signal that more waiting would not change, or none.
+pub(crate) fn of_signal(tried: Tried<SignalRefusal>) -> Option<SignalRefusal>
+    ensures some { IfSome result (λ refusal. (tried ≡ Tried.Refused refusal)
+        × (refusal ≢ SignalRefusal.Ahead)) }
+    ensures none { IfNone result ((tried ≡ Tried.Busy)
+        ⊎ (tried ≡ Tried.Refused SignalRefusal.Ahead)) }
+{
+    match tried {
+        Tried::Busy => None,
+        Tried::Refused(refusal) => (refusal != SignalRefusal::Ahead).then_some(refusal),
+    }
+}
+
+// The refusal of a wait that more waiting would not change, or none.
+pub(crate) fn of_wait(tried: Tried<WaitRefusal>) -> Option<WaitRefusal>
+    ensures some { IfSome result (λ refusal. (tried ≡ Tried.Refused refusal)
+        × (refusal ≢ WaitRefusal.NotYet)) }
+    ensures none { IfNone result ((tried ≡ Tried.Busy)
+        ⊎ (tried ≡ Tried.Refused WaitRefusal.NotYet)) }
+{
+    match tried {
+        Tried::Busy => None,
+        Tried::Refused(refusal) => (refusal != WaitRefusal::NotYet).then_some(refusal),
+    }
 }

@@ -1,16 +1,19 @@
 //! The steps of a seat at rest that speaks for one task. Each call of a registration is one.
-ghost use Rattle.std.specs.Prelude.{◌≡◌, ◌≢◌, ℕ, ℤ, List, [], ◌∷◌, Ok, Err, IfOk, IfErr, IsOk};
+ghost use Rattle.std.specs.Prelude.{◌≡◌, ◌≢◌, ℕ, ℤ, List, [], ◌∷◌, true, false, Ok, Err, IfOk, IfErr, IsOk, IsErr};
 ghost use Rattle.turn_lock.specs.Seats.{lock_name, IsSeatOf, IsTurnOf, IsSameSeat};
 ghost use Rattle.turn_lock.specs.Seats.{seat_view, turn_number, turn_view, turn_value};
 ghost use Rattle.turn_lock.specs.Steps.{Gives};
 ghost use Rattle.phase_accum.specs.Parcels.{StandsForSends};
 ghost use Rattle.phase_history.specs.Histories.{History};
+ghost use Rattle.phase_history.specs.Replies.{wait_reply, after_wait};
 ghost use Rattle.phase_history.specs.Others.{OnlyUsed, OthersCame};
 ghost use Rattle.phase_shared.specs.declared.view.View.TheVariants.{Resting};
 ghost use Rattle.phase_shared.specs.Views.{front_of, joining};
 ghost use Rattle.phase_shared.specs.Rule.{HasOneHistory, Entered, IsGoodAt, IsStation, LearnedAt};
-ghost use Rattle.phase_shared.specs.Calls.{Tries, Signals, Waits, HasRegistered, RefusesRegister};
-ghost use Rattle.phase_shared.specs.Calls.{Refuses, HasLeft, gets_value, number_after};
+ghost use Rattle.phase_core.specs.Cores.{StandsFor};
+ghost use Rattle.phase_shared.specs.Calls.{Tries, Waits, HasRegistered, RefusesRegister};
+ghost use Rattle.phase_shared.specs.Calls.{Refuses, HasLeft, number_after};
+ghost use Rattle.phase_shared.specs.Nexts.{SignalsAndMayWait};
 ghost use Rattle.phase_shared.specs.Regs.{phaser_limits, phaser_terms};
 
 use crate::hints::Moved;
@@ -48,15 +51,12 @@ fn enter<A: Accumulate, K: SignalRule>(
     }
 }
 
-// Gives the turn back after an event. What it tells is picked by its caller, and may name the
-// number, the sends and the single.
-fn put_back<A: Accumulate, K: SignalRule, E: Plan>(
+// Gives the turn back. What the give tells is picked by its caller, and may speak of `told`.
+fn put_back<A: Accumulate, K: SignalRule, E: Plan, X: Copy>(
     phaser: &Phaser<A, K>,
     turn: PhaserTurn<A, K>,
     moved: Moved,
-    me: u64,
-    pending: &Pending<A>,
-    single: &Option<Single>,
+    told: X,
 ) -> PhaserSeat<A, K>
     requires turn { IsTurnOf phaser.now.lock turn }
     requires rule { Gives (HasOneHistory A.operation K.allows) (phaser_terms phaser.now)
@@ -64,15 +64,33 @@ fn put_back<A: Accumulate, K: SignalRule, E: Plan>(
     ensures seat { IsSeatOf phaser.now.lock result }
     ensures rule { E.goes (turn_view turn) (seat_view result) }
 {
-    let _ = me;
-    let _ = pending;
-    let _ = single;
+    let _ = told;
     let seat = phaser.lock.give::<Give<E>>(turn);
     phaser.hints.wake(moved);
     seat
 }
 
-// Signals.
+// Waits where that is asked for. Where it is not, the wait is refused.
+fn wait_where<A: Accumulate>(
+    core: &mut PhaserCore<A>,
+    me: u64,
+    asked: bool,
+) -> Result<Got, WaitRefusal>
+    ensures reply { (h : History) → StandsFor A.operation core.old h → asked ≡ true
+        → wait_reply A.operation.value core.old.limits h me ≡ result }
+    ensures none { asked ≡ false → IsErr result }
+    ensures after { (h : History) → StandsFor A.operation core.old h
+        → StandsFor A.operation core.new (after_wait result me h) }
+    ensures limits { core.new.limits ≡ core.old.limits }
+{
+    if asked {
+        core.wait(me)
+    } else {
+        Err(WaitRefusal::NoWait)
+    }
+}
+
+// Signals, and then waits where that is asked for and answers at once: both under one turn.
 pub fn signal<A: Accumulate, K: SignalRule>(
     phaser: &Phaser<A, K>,
     seat: PhaserSeat<A, K>,
@@ -80,7 +98,12 @@ pub fn signal<A: Accumulate, K: SignalRule>(
     entry: Entry,
     pending: Pending<A>,
     single: Option<Single>,
-) -> (PhaserSeat<A, K>, Entry, Result<u64, Tried<SignalRefusal>>)
+    waits: bool,
+) -> (
+    PhaserSeat<A, K>,
+    Entry,
+    Result<(u64, Option<Got>), Tried<SignalRefusal>>,
+)
     requires seat { IsSeatOf phaser.now.lock seat }
     requires at { IsStation K.allows (phaser_terms phaser.now) me entry (seat_view seat) }
     requires rule { (h : History) (sends : List ℤ) → IsGoodAt K.allows (phaser_terms phaser.now) h
@@ -90,7 +113,7 @@ pub fn signal<A: Accumulate, K: SignalRule>(
     ensures seat { IsSeatOf phaser.now.lock result.0 }
     ensures at { IsStation K.allows (phaser_terms phaser.now) me result.1 (seat_view result.0) }
     ensures call { Tries (IsSameSeat seat result.0 × (result.1 ≡ entry))
-        (Signals A.operation (phaser_limits phaser.now) me pending single
+        (SignalsAndMayWait waits A.operation (phaser_limits phaser.now) me pending single
         (front_of (seat_view seat)).seen (front_of (seat_view result.0)).seen) result.2 }
     ensures known { result.2 ≢ Err (Tried.Refused SignalRefusal.NoTask) }
     ensures alone { OnlyUsed (me ∷ []) (front_of (seat_view seat)).seen
@@ -103,22 +126,21 @@ pub fn signal<A: Accumulate, K: SignalRule>(
     let _part = pending.part();
     let core = turn.value();
     let answer = core.signal(me, pending, single);
+    let phase = match answer {
+        Ok(phase) => phase,
+        Err(refused) => {
+            let seat = phaser.lock.give::<Same>(turn);
+            return (seat, entry, Err(Tried::Refused(refused.0)));
+        }
+    };
+    let waited = wait_where(core, me, waits);
     let Some(entry) = core.view(me) else {
         unreachable!()
     };
     let moved = phaser.hints.publish(core);
-    match answer {
-        Ok(phase) => (
-            put_back::<A, K, Brand>(phaser, turn, moved, me, &pending, &single),
-            entry,
-            Ok(phase),
-        ),
-        Err(refused) => (
-            phaser.lock.give::<Same>(turn),
-            entry,
-            Err(Tried::Refused(refused.0)),
-        ),
-    }
+    let told = (me, &pending, &single, waited);
+    let seat = put_back::<A, K, Brand, _>(phaser, turn, moved, told);
+    (seat, entry, Ok((phase, waited.ok())))
 }
 
 // Leaves.
@@ -144,22 +166,7 @@ pub fn leave<A: Accumulate, K: SignalRule>(
     let answer = core.drop_task(me);
     let Ok(()) = answer else { unreachable!() };
     let moved = phaser.hints.publish(core);
-    let pending = Pending::<A>::new();
-    let single: Option<Single> = None;
-    Ok(put_back::<A, K, Brand>(phaser, turn, moved, me, &pending, &single))
-}
-
-// Whether a wait got a value.
-fn is_value(got: &Got) -> bool
-    ensures { result ≡ gets_value got.now }
-{
-    match got {
-        Got::Value {
-            phase: _,
-            outcome: _,
-        } => true,
-        Got::Ended => false,
-    }
+    Ok(put_back::<A, K, Brand, _>(phaser, turn, moved, me))
 }
 
 // Waits.
@@ -190,46 +197,11 @@ pub fn wait<A: Accumulate, K: SignalRule>(
         unreachable!()
     };
     let moved = phaser.hints.publish(core);
+    let seat = put_back::<A, K, Brand, _>(phaser, turn, moved, (me, answer));
     match answer {
-        Ok(got) => {
-            if !is_value(&got) {
-                return (phaser.lock.give::<Same>(turn), entry, Ok(got));
-            }
-            let pending = Pending::<A>::new();
-            let single: Option<Single> = None;
-            let seat = put_back::<A, K, Brand>(phaser, turn, moved, me, &pending, &single);
-            (seat, entry, Ok(got))
-        }
-        Err(refusal) => (
-            phaser.lock.give::<Same>(turn),
-            entry,
-            Err(Tried::Refused(refusal)),
-        ),
+        Ok(got) => (seat, entry, Ok(got)),
+        Err(refusal) => (seat, entry, Err(Tried::Refused(refusal))),
     }
-}
-
-// Gives the turn back after a registration: the seat speaks for the child too. What it tells is
-// picked by its caller, and may name the numbers and the mode.
-fn put_back_with<A: Accumulate, K: SignalRule, E: Plan>(
-    phaser: &Phaser<A, K>,
-    turn: PhaserTurn<A, K>,
-    moved: Moved,
-    me: u64,
-    child: u64,
-    mode: Mode,
-) -> PhaserSeat<A, K>
-    requires turn { IsTurnOf phaser.now.lock turn }
-    requires rule { Gives (HasOneHistory A.operation K.allows) (phaser_terms phaser.now)
-        (turn_number turn) (turn_view turn) (turn_value turn) (λ v y w. E.goes v w) }
-    ensures seat { IsSeatOf phaser.now.lock result }
-    ensures rule { E.goes (turn_view turn) (seat_view result) }
-{
-    let _ = me;
-    let _ = child;
-    let _ = mode;
-    let seat = phaser.lock.give::<Give<E>>(turn);
-    phaser.hints.wake(moved);
-    seat
 }
 
 // The number of the next child. Where none is left it is the last one, which is refused.
@@ -278,7 +250,7 @@ pub fn register<A: Accumulate, K: SignalRule>(
         return (phaser.lock.give::<Same>(turn), Err(Tried::Refused(refusal)));
     }
     let Some(start) = found else { unreachable!() };
-    let both = put_back_with::<A, K, Brand>(phaser, turn, moved, me, child, mode);
+    let both = put_back::<A, K, Brand, _>(phaser, turn, moved, (me, child, mode));
     let (seat, other) = phaser.lock.split::<Apart>(both);
     (seat, Ok((child, other, start)))
 }

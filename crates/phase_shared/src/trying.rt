@@ -6,6 +6,7 @@ ghost use Rattle.phase_shared.specs.Rule.{IsGoodAt};
 ghost use Rattle.phase_shared.specs.Regs.{phaser_place, phaser_terms, phaser_limits};
 ghost use Rattle.phase_shared.specs.Calls.{Tries, Refuses, Signals, Waits, MaySignal, Leaves};
 ghost use Rattle.phase_shared.specs.Calls.{HasRegistered, RefusesRegister};
+ghost use Rattle.phase_shared.specs.Nexts.{SignalsAndMayWait};
 
 use crate::past::Past;
 use crate::phaser::Phaser;
@@ -41,6 +42,35 @@ impl<A: Accumulate, K: SignalRule> Reg<A, K> {
         // Where it is the only one that it has seen, nobody is in its way.
         ensures alone { OnlyUsed (self.old.number ∷ []) self.old.seen → result ≢ Err Tried.Busy }
     {
+        match self.try_signal_and_wait(phaser, single, false) {
+            Ok(answer) => Ok(answer.0),
+            Err(tried) => Err(tried),
+        }
+    }
+
+    // Signals, as `try_signal` does, and then waits where that is asked for and answers at once:
+    // both under one turn.
+    pub(crate) fn try_signal_and_wait(
+        &mut self,
+        phaser: &Phaser<A, K>,
+        single: Option<Single>,
+        waits: bool,
+    ) -> Result<(u64, Option<Got>), Tried<SignalRefusal>>
+        requires at { self.old.at ≡ phaser_place phaser.now }
+        requires rule { MaySignal A.operation K.allows (phaser_terms phaser.now) self.old single }
+
+        ensures call { let old = self.old in Tries (self.new ≡ old)
+            (SignalsAndMayWait waits A.operation (phaser_limits phaser.now) old.number old.held
+            single old.seen self.new.seen) result }
+        ensures at { (self.new.at ≡ self.old.at) × (self.new.number ≡ self.old.number) }
+        ensures good { IsGoodAt K.allows (phaser_terms phaser.now) self.new.seen }
+        ensures none_held { OnOk result
+            (StandsForSends A.operation self.new.held [] × (self.new.held.count ≡ 0)) }
+
+        ensures held { OnErr result (self.new.held ≡ self.old.held) }
+        ensures known { result ≢ Err (Tried.Refused SignalRefusal.NoTask) }
+        ensures alone { OnlyUsed (self.old.number ∷ []) self.old.seen → result ≢ Err Tried.Busy }
+    {
         let Some(seat) = self.seat.take() else {
             unreachable!()
         };
@@ -51,13 +81,14 @@ impl<A: Accumulate, K: SignalRule> Reg<A, K> {
             self.entry,
             self.pending,
             single,
+            waits,
         );
         self.seat = Some(seat);
         self.entry = entry;
         match answer {
-            Ok(phase) => {
+            Ok(answer) => {
                 self.pending = Pending::new();
-                Ok(phase)
+                Ok(answer)
             }
             Err(tried) => Err(tried),
         }

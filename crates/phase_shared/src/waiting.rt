@@ -1,15 +1,16 @@
 //! The calls of a registration that may wait.
-ghost use Rattle.std.specs.Prelude.{◌≡◌, ◌≢◌, [], ◌∷◌, Err, IfOk, IfErr, IfSome, IfNone, OnOk, OnErr};
+ghost use Rattle.std.specs.Prelude.{◌≡◌, ◌≢◌, [], ◌∷◌, Err, IfOk, IfErr, OnOk, OnErr};
 ghost use Rattle.phase_accum.specs.Parcels.{StandsForSends};
 ghost use Rattle.phase_history.specs.Others.{OthersCame};
 ghost use Rattle.phase_shared.specs.Rule.{IsGoodAt};
 ghost use Rattle.phase_shared.specs.Regs.{phaser_place, phaser_terms, phaser_limits};
 ghost use Rattle.phase_shared.specs.Calls.{Signals, Waits, MaySignal, Leaves};
 ghost use Rattle.phase_shared.specs.Calls.{HasRegistered, RefusesRegister};
+ghost use Rattle.phase_shared.specs.Nexts.{SignalsAndMayWait};
 
 use crate::past::Past;
 use crate::phaser::Phaser;
-use crate::refusal::Tried;
+use crate::refusal::{self, Tried};
 use crate::reg::Reg;
 use crate::rule::SignalRule;
 use crossbeam_utils::Backoff;
@@ -43,54 +44,50 @@ impl<A: Accumulate, K: SignalRule> Reg<A, K> {
         ensures known { result ≢ Err SignalRefusal.NoTask }
         ensures waited { result ≢ Err SignalRefusal.Ahead }
     {
+        match self.signal_and_wait(rt, phaser, single, false) {
+            Ok(answer) => Ok(answer.0),
+            Err(refusal) => Err(refusal),
+        }
+    }
+
+    // Signals, as `signal` does, and then waits where that is asked for and answers at once: both
+    // under one turn.
+    pub(crate) fn signal_and_wait<W: Wait>(
+        &mut self,
+        rt: &W,
+        phaser: &Phaser<A, K>,
+        single: Option<Single>,
+        waits: bool,
+    ) -> Result<(u64, Option<Got>), SignalRefusal>
+        requires at { self.old.at ≡ phaser_place phaser.now }
+        requires rule { MaySignal A.operation K.allows (phaser_terms phaser.now) self.old single }
+
+        ensures call { let old = self.old in
+            SignalsAndMayWait waits A.operation (phaser_limits phaser.now) old.number old.held
+            single old.seen self.new.seen result }
+        ensures at { (self.new.at ≡ self.old.at) × (self.new.number ≡ self.old.number) }
+        ensures good { IsGoodAt K.allows (phaser_terms phaser.now) self.new.seen }
+        ensures none_held { OnOk result
+            (StandsForSends A.operation self.new.held [] × (self.new.held.count ≡ 0)) }
+
+        ensures held { OnErr result (self.new.held ≡ self.old.held) }
+        ensures known { result ≢ Err SignalRefusal.NoTask }
+        ensures waited { result ≢ Err SignalRefusal.Ahead }
+    {
         let backoff = Backoff::new();
+        let named = &single;
         for _ in rt.forever() {
-            let answer = self.signal_once(phaser, &single);
-            if let Some(answer) = answer {
-                return answer;
+            let tried = match self.try_signal_and_wait(phaser, *named, waits) {
+                Ok(answer) => return Ok(answer),
+                Err(tried) => tried,
+            };
+            if let Some(refusal) = refusal::of_signal(tried) {
+                return Err(refusal);
             }
             phaser.hints.pause_for_room(rt, self.entry.signal_phase);
             backoff.snooze();
         }
         unreachable!()
-    }
-
-    // One try of a signal, which answers nothing where another is to be made.
-    fn signal_once(
-        &mut self,
-        phaser: &Phaser<A, K>,
-        single: &Option<Single>,
-    ) -> Option<Result<u64, SignalRefusal>>
-        requires at { self.old.at ≡ phaser_place phaser.now }
-        requires rule { MaySignal A.operation K.allows (phaser_terms phaser.now) self.old single.now }
-
-        ensures some { let old = self.old in IfSome result
-            (Signals A.operation (phaser_limits phaser.now) old.number old.held single.now old.seen
-            self.new.seen) }
-        ensures at { (self.new.at ≡ self.old.at) × (self.new.number ≡ self.old.number) }
-        ensures good { IfSome result (λ answer.
-            IsGoodAt K.allows (phaser_terms phaser.now) self.new.seen) }
-        ensures none_held { IfSome result (λ answer. OnOk answer
-            (StandsForSends A.operation self.new.held [] × (self.new.held.count ≡ 0))) }
-
-        ensures held { IfSome result (λ answer. OnErr answer (self.new.held ≡ self.old.held)) }
-        ensures known { IfSome result (λ answer. answer ≢ Err SignalRefusal.NoTask) }
-        ensures waited { IfSome result (λ answer. answer ≢ Err SignalRefusal.Ahead) }
-        ensures none { IfNone result (OthersCame (self.old.number ∷ []) self.old.seen self.new.seen
-            × (self.new.held ≡ self.old.held)) }
-    {
-        let tried = match self.try_signal(phaser, *single) {
-            Ok(phase) => return Some(Ok(phase)),
-            Err(tried) => tried,
-        };
-        let refusal = match tried {
-            Tried::Busy => return None,
-            Tried::Refused(refusal) => refusal,
-        };
-        match refusal {
-            SignalRefusal::Ahead => None,
-            other => Some(Err(other)),
-        }
     }
 
     /// Waits for its phase, and answers it with its value, or that no more will come. It waits
@@ -111,9 +108,12 @@ impl<A: Accumulate, K: SignalRule> Reg<A, K> {
         let backoff = Backoff::new();
         for _ in rt.forever() {
             self.pause_for_phase(rt, phaser);
-            let answer = self.wait_once(phaser);
-            if let Some(answer) = answer {
-                return answer;
+            let tried = match self.try_wait(phaser) {
+                Ok(got) => return Ok(got),
+                Err(tried) => tried,
+            };
+            if let Some(refusal) = refusal::of_wait(tried) {
+                return Err(refusal);
             }
             backoff.snooze();
         }
@@ -126,37 +126,6 @@ impl<A: Accumulate, K: SignalRule> Reg<A, K> {
         let signals_first = entry.mode.signals() && entry.signal_phase == entry.wait_phase;
         if entry.mode.waits() && !signals_first {
             phaser.hints.pause_for_phase(rt, entry.wait_phase);
-        }
-    }
-
-    // One try of a wait, which answers nothing where another is to be made.
-    fn wait_once(&mut self, phaser: &Phaser<A, K>) -> Option<Result<Got, WaitRefusal>>
-        requires at { self.old.at ≡ phaser_place phaser.now }
-
-        ensures some { let old = self.old in IfSome result
-            (Waits A.operation.value (phaser_limits phaser.now) old.number old.seen
-            self.new.seen) }
-        ensures at { (self.new.at ≡ self.old.at) × (self.new.number ≡ self.old.number) }
-        ensures held { self.new.held ≡ self.old.held }
-        ensures good { IfSome result (λ answer.
-            IsGoodAt K.allows (phaser_terms phaser.now) self.new.seen) }
-
-        ensures known { IfSome result (λ answer. answer ≢ Err WaitRefusal.NoTask) }
-        ensures waited { IfSome result (λ answer. answer ≢ Err WaitRefusal.NotYet) }
-        ensures none { IfNone result
-            (OthersCame (self.old.number ∷ []) self.old.seen self.new.seen) }
-    {
-        let tried = match self.try_wait(phaser) {
-            Ok(got) => return Some(Ok(got)),
-            Err(tried) => tried,
-        };
-        let refusal = match tried {
-            Tried::Busy => return None,
-            Tried::Refused(refusal) => refusal,
-        };
-        match refusal {
-            WaitRefusal::NotYet => None,
-            other => Some(Err(other)),
         }
     }
 
@@ -188,46 +157,16 @@ impl<A: Accumulate, K: SignalRule> Reg<A, K> {
     {
         let backoff = Backoff::new();
         for _ in rt.forever() {
-            let answer = self.register_once(phaser, mode);
-            if let Some(answer) = answer {
-                return answer;
+            let tried = match self.try_register(phaser, mode) {
+                Ok(child) => return Ok(child),
+                Err(tried) => tried,
+            };
+            if let Tried::Refused(refusal) = tried {
+                return Err(refusal);
             }
             backoff.snooze();
         }
         unreachable!()
-    }
-
-    // One try of a registration, which answers nothing where another is to be made.
-    fn register_once(
-        &mut self,
-        phaser: &Phaser<A, K>,
-        mode: Mode,
-    ) -> Option<Result<Reg<A, K>, RegisterRefusal>>
-        requires at { self.old.at ≡ phaser_place phaser.now }
-
-        ensures ok { IfSome result (λ answer. IfOk answer (λ child.
-            HasRegistered self.old.number child.number mode self.old.seen self.new.seen)) }
-        ensures child { IfSome result (λ answer. IfOk answer (λ child.
-            (child.at ≡ self.old.at) × (child.seen ≡ self.new.seen))) }
-        ensures none_held { IfSome result (λ answer. IfOk answer (λ child.
-            StandsForSends A.operation child.held [] × (child.held.count ≡ 0))) }
-        ensures at { (self.new.at ≡ self.old.at) × (self.new.number ≡ self.old.number) }
-        ensures same { (self.new.entry ≡ self.old.entry) × (self.new.held ≡ self.old.held) }
-        ensures good { IsGoodAt K.allows (phaser_terms phaser.now) self.new.seen }
-
-        ensures err { IfSome result (λ answer. IfErr answer
-            (RefusesRegister self.old.number mode self.old.seen self.new.seen)) }
-        ensures known { IfSome result (λ answer. answer ≢ Err RegisterRefusal.NoTask) }
-        ensures none { IfNone result (self.new ≡ self.old) }
-    {
-        let tried = match self.try_register(phaser, mode) {
-            Ok(child) => return Some(Ok(child)),
-            Err(tried) => tried,
-        };
-        match tried {
-            Tried::Busy => None,
-            Tried::Refused(refusal) => Some(Err(refusal)),
-        }
     }
 
     /// Ends the registration: the sends that it holds are in no phase. It waits for its turn, and

@@ -50,13 +50,16 @@ fn round_with_child<R: Wait>(
     both_signalled && first == second && is_count(&first)
 }
 
+// One phase by one call.
 fn round_alone<R: Wait>(rt: &R, phaser: &Phaser<Sum, NoRule>, reg: &mut Reg<Sum, NoRule>) -> bool
     requires { reg.old.at ≡ phaser_place phaser.now }
     ensures { reg.new.at ≡ reg.old.at }
 {
-    let has_signalled = signals(rt, phaser, reg);
-    let got = reg.wait(rt, phaser).ok();
-    has_signalled && is_count(&got)
+    let is_held = reg.send(1).is_ok();
+    match reg.next(rt, phaser, None) {
+        Ok(next) => is_held && is_count(&next.got),
+        Err(_) => false,
+    }
 }
 
 // Goes through as many phases as a seed says, some of them with a child, and leaves.

@@ -7,7 +7,7 @@ use Rattle.phase_history.specs.declared.event.Event.TheVariants.{Dropped}
 use Rattle.phase_shared.specs.Views.{resting, front_of, speaks_of}
 use Rattle.phase_shared.specs.Rule.{StandsWithin}
 use Rattle.phase_shared.specs.declared.view.View.{View}
-use Rattle.phase_shared.proofs.Giving.{gives_event, lent, plain_event, PlainEvent}
+use Rattle.phase_shared.proofs.Giving.{gives_own, own_none, own_event, lent, after_call, AfterCall}
 use Rattle.phase_history.specs.declared.refusal.NoTask.{NoTask}
 use Rattle.phase_shared.proofs.steps.leave.Goals as goal
 
@@ -36,11 +36,12 @@ put_back-requires-clause-rule g c =
     let e = c.in-Ok.ensures.took in
     let old = c.value-core.result.now in
     let before : StandsWithin op terms.limits old e.now = lent op allows terms c.args.me (turn_value turn) old e.now c.value-core.ensures.value e.stands in
-    let s : PlainEvent op allows terms c.args.me e.now c.drop_task-answer.new.self (Dropped c.args.me) =
-    plain_event op allows terms c.args.me e.now old c.drop_task-answer.new.self (Dropped c.args.me) e.good before c.in-Ok-answer.ensures.limits
+    let s : AfterCall op allows terms c.args.me (Dropped c.args.me ∷ e.now) c.drop_task-answer.new.self =
+    after_call op allows terms c.args.me e.now (Dropped c.args.me ∷ e.now) old c.drop_task-answer.new.self before c.in-Ok-answer.ensures.limits
     (c.in-Ok-answer.ensures.after e.now before.stands) e.good.keeps in
-    gives_event op allows terms c.args.me (λ v w. w ≡ resting (Dropped c.args.me ∷ (front_of v).seen) (speaks_of v))
-    (turn_number turn) c.drop_task-answer.new.self (turn_view turn) e.now (Dropped c.args.me) e.is e.used (λ t. refl) (λ t. refl) s.good s.stands refl
+    gives_own op allows terms c.args.me (λ v w. w ≡ resting (Dropped c.args.me ∷ (front_of v).seen) (speaks_of v))
+    (turn_number turn) c.drop_task-answer.new.self (turn_view turn) e.now (Dropped c.args.me ∷ e.now) e.is e.used
+    (own_event c.args.me e.now e.now (Dropped c.args.me) (λ t. refl) (own_none c.args.me e.now)) s.good s.stands refl
 
 pub returns-clause-ok : goal.returns-clause-ok
 returns-clause-ok g c =
@@ -51,8 +52,8 @@ returns-clause-ok g c =
     let e = c.in-Ok.ensures.took in
     let old = c.value-core.result.now in
     let before : StandsWithin op terms.limits old e.now = lent op allows terms c.args.me (turn_value turn) old e.now c.value-core.ensures.value e.stands in
-    let s : PlainEvent op allows terms c.args.me e.now c.drop_task-answer.new.self (Dropped c.args.me) =
-    plain_event op allows terms c.args.me e.now old c.drop_task-answer.new.self (Dropped c.args.me) e.good before c.in-Ok-answer.ensures.limits
+    let s : AfterCall op allows terms c.args.me (Dropped c.args.me ∷ e.now) c.drop_task-answer.new.self =
+    after_call op allows terms c.args.me e.now (Dropped c.args.me ∷ e.now) old c.drop_task-answer.new.self before c.in-Ok-answer.ensures.limits
     (c.in-Ok-answer.ensures.after e.now before.stands) e.good.keeps in
     record {
       before = e.now;

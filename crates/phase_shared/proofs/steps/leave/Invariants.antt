@@ -4,4 +4,4 @@ use Rattle.phase_shared.specs.Views.{resting, front_of, speaks_of}
 use Rattle.phase_shared.proofs.steps.leave.Given as goal
 
 abbrev pub ghosts-put_back : goal.ghosts-put_back
-ghosts-put_back g a = record { goes = λ v w. w ≡ resting (Dropped a.me ∷ (front_of v).seen) (speaks_of v) }
+ghosts-put_back g a = record { goes = λ v w. w ≡ resting (Dropped a.told ∷ (front_of v).seen) (speaks_of v) }

@@ -17,7 +17,7 @@ use Rattle.phase_history.specs.declared.refusal.RegisterRefusal.{RegisterRefusal
 use Rattle.phase_history.specs.declared.refusal.RegisterRefusal.TheVariants as register
 use Rattle.phase_history.proofs.Answered.{register_refusal-never}
 use Rattle.phase_shared.specs.declared.view.View.{View}
-use Rattle.phase_shared.proofs.Giving.{gives_same, station, lent, plain_event, PlainEvent}
+use Rattle.phase_shared.proofs.Giving.{gives_same, station, lent, after_call, AfterCall}
 use Rattle.phase_shared.proofs.RegisterSteps.{NewChild, new_child, gives_child, forks_child, refuses, child_is_next}
 use Rattle.phase_shared.proofs.steps.register.Goals as goal
 
@@ -37,16 +37,16 @@ unreachable-requires g c =
     let accepted : register_refusal e.now me child mode ≡ None = c.in_default.ensures.ok e.now before.stands in
     let new : NewChild e.now me child = new_child terms.limits e.now me child mode c.args.entry e.good.legal e.used accepted in
     let event = Registered me child mode in
-    let s : PlainEvent op allows terms me e.now c.register-answer.new.self event =
-    plain_event op allows terms me e.now old c.register-answer.new.self event e.good before c.in_default.ensures.limits
+    let s : AfterCall op allows terms me (event ∷ e.now) c.register-answer.new.self =
+    after_call op allows terms me e.now (event ∷ e.now) old c.register-answer.new.self before c.in_default.ensures.limits
     (c.in_default.ensures.after e.now before.stands) e.good.keeps in
     let found : entry_of (members_of (event ∷ e.now)) child ≡ Some (entry_at mode (signal_phase e.now me) (wait_phase e.now me)) =
     entry_of-push_new (members_of e.now) child (entry_at mode (signal_phase e.now me) (wait_phase e.now me)) (fresh e.now child (sound_of terms.limits e.now e.good.legal) new.above) in
     c.in_default-found.not-Some (entry_at mode (signal_phase e.now me) (wait_phase e.now me))
     (c.view-found.ensures ∙ ap (λ ms. entry_of ms child) s.stands.stands.members_are ∙ found)
 
-pub put_back_with-both-requires-clause-rule : goal.put_back_with-both-requires-clause-rule
-put_back_with-both-requires-clause-rule g c =
+pub put_back-both-requires-clause-rule : goal.put_back-both-requires-clause-rule
+put_back-both-requires-clause-rule g c =
     let op = g.A.Accumulate.operation in
     let allows = g.K.SignalRule.allows in
     let terms = phaser_terms c.args.phaser.now in
@@ -60,8 +60,8 @@ put_back_with-both-requires-clause-rule g c =
     let accepted : register_refusal e.now me child mode ≡ None = c.in_default.ensures.ok e.now before.stands in
     let new : NewChild e.now me child = new_child terms.limits e.now me child mode c.args.entry e.good.legal e.used accepted in
     let event = Registered me child mode in
-    let s : PlainEvent op allows terms me e.now c.register-answer.new.self event =
-    plain_event op allows terms me e.now old c.register-answer.new.self event e.good before c.in_default.ensures.limits
+    let s : AfterCall op allows terms me (event ∷ e.now) c.register-answer.new.self =
+    after_call op allows terms me e.now (event ∷ e.now) old c.register-answer.new.self before c.in_default.ensures.limits
     (c.in_default.ensures.after e.now before.stands) e.good.keeps in
     gives_child op allows terms me (turn_number turn) c.register-answer.new.self (turn_view turn) e.now child mode e.is e.used new s.good s.stands
     (λ v w. w ≡ resting (event ∷ (front_of v).seen) (me ∷ child ∷ [])) refl
@@ -95,9 +95,9 @@ split-seat-requires-clause-rule g c =
     let before : StandsWithin op terms.limits old e.now = lent op allows terms me (turn_value turn) old e.now c.value-core.ensures.value e.stands in
     let event = Registered me child mode in
     let h : History = event ∷ e.now in
-    let both : seat_view c.put_back_with-both.result ≡ resting h (me ∷ child ∷ []) =
-    c.put_back_with-both.ensures.rule ∙ ap (λ (v : View). resting (event ∷ (front_of v).seen) (me ∷ child ∷ [])) e.is in
-    forks_child op allows terms me (seat_number c.put_back_with-both.result) (seat_view c.put_back_with-both.result) h child both
+    let both : seat_view c.put_back-both.result ≡ resting h (me ∷ child ∷ []) =
+    c.put_back-both.ensures.rule ∙ ap (λ (v : View). resting (event ∷ (front_of v).seen) (me ∷ child ∷ [])) e.is in
+    forks_child op allows terms me (seat_number c.put_back-both.result) (seat_view c.put_back-both.result) h child both
 
 pub returns-clause-at : goal.returns-clause-at
 returns-clause-at g c =
@@ -114,12 +114,12 @@ returns-clause-at g c =
     let accepted : register_refusal e.now me child mode ≡ None = c.in_default.ensures.ok e.now before.stands in
     let new : NewChild e.now me child = new_child terms.limits e.now me child mode c.args.entry e.good.legal e.used accepted in
     let event = Registered me child mode in
-    let s : PlainEvent op allows terms me e.now c.register-answer.new.self event =
-    plain_event op allows terms me e.now old c.register-answer.new.self event e.good before c.in_default.ensures.limits
+    let s : AfterCall op allows terms me (event ∷ e.now) c.register-answer.new.self =
+    after_call op allows terms me e.now (event ∷ e.now) old c.register-answer.new.self before c.in_default.ensures.limits
     (c.in_default.ensures.after e.now before.stands) e.good.keeps in
     let h : History = event ∷ e.now in
-    let both : seat_view c.put_back_with-both.result ≡ resting h (me ∷ child ∷ []) =
-    c.put_back_with-both.ensures.rule ∙ ap (λ (v : View). resting (event ∷ (front_of v).seen) (me ∷ child ∷ [])) e.is in
+    let both : seat_view c.put_back-both.result ≡ resting h (me ∷ child ∷ []) =
+    c.put_back-both.ensures.rule ∙ ap (λ (v : View). resting (event ∷ (front_of v).seen) (me ∷ child ∷ [])) e.is in
     let member : entry_of (members_of h) me ≡ Some c.args.entry =
     entry_of-push_old (members_of e.now) child me (entry_at mode (signal_phase e.now me) (wait_phase e.now me)) c.args.entry e.member in
     subst (λ (v : View). IsStation allows terms me c.args.entry v) (sym (c.split-seat.ensures.left ∙ ap first_part both))
@@ -140,12 +140,12 @@ returns-clause-child g c =
     let accepted : register_refusal e.now me child mode ≡ None = c.in_default.ensures.ok e.now before.stands in
     let new : NewChild e.now me child = new_child terms.limits e.now me child mode c.args.entry e.good.legal e.used accepted in
     let event = Registered me child mode in
-    let s : PlainEvent op allows terms me e.now c.register-answer.new.self event =
-    plain_event op allows terms me e.now old c.register-answer.new.self event e.good before c.in_default.ensures.limits
+    let s : AfterCall op allows terms me (event ∷ e.now) c.register-answer.new.self =
+    after_call op allows terms me e.now (event ∷ e.now) old c.register-answer.new.self before c.in_default.ensures.limits
     (c.in_default.ensures.after e.now before.stands) e.good.keeps in
     let h : History = event ∷ e.now in
-    let both : seat_view c.put_back_with-both.result ≡ resting h (me ∷ child ∷ []) =
-    c.put_back_with-both.ensures.rule ∙ ap (λ (v : View). resting (event ∷ (front_of v).seen) (me ∷ child ∷ [])) e.is in
+    let both : seat_view c.put_back-both.result ≡ resting h (me ∷ child ∷ []) =
+    c.put_back-both.ensures.rule ∙ ap (λ (v : View). resting (event ∷ (front_of v).seen) (me ∷ child ∷ [])) e.is in
     let right = c.split-seat.ensures.right ∙ ap other_part both in
     let left = c.split-seat.ensures.left ∙ ap first_part both in (
       c.split-seat.ensures.seats.1,
@@ -169,12 +169,12 @@ returns-clause-ok g c =
     let accepted : register_refusal e.now me child mode ≡ None = c.in_default.ensures.ok e.now before.stands in
     let new : NewChild e.now me child = new_child terms.limits e.now me child mode c.args.entry e.good.legal e.used accepted in
     let event = Registered me child mode in
-    let s : PlainEvent op allows terms me e.now c.register-answer.new.self event =
-    plain_event op allows terms me e.now old c.register-answer.new.self event e.good before c.in_default.ensures.limits
+    let s : AfterCall op allows terms me (event ∷ e.now) c.register-answer.new.self =
+    after_call op allows terms me e.now (event ∷ e.now) old c.register-answer.new.self before c.in_default.ensures.limits
     (c.in_default.ensures.after e.now before.stands) e.good.keeps in
     let h : History = event ∷ e.now in
-    let both : seat_view c.put_back_with-both.result ≡ resting h (me ∷ child ∷ []) =
-    c.put_back_with-both.ensures.rule ∙ ap (λ (v : View). resting (event ∷ (front_of v).seen) (me ∷ child ∷ [])) e.is in
+    let both : seat_view c.put_back-both.result ≡ resting h (me ∷ child ∷ []) =
+    c.put_back-both.ensures.rule ∙ ap (λ (v : View). resting (event ∷ (front_of v).seen) (me ∷ child ∷ [])) e.is in
     let left = c.split-seat.ensures.left ∙ ap first_part both in
     record {
       before = e.now;

@@ -1,31 +1,22 @@
-use Rattle.std.proofs.Common.{◌≡◌, [], ◌∷◌, subst, ◌∙◌}
-use Rattle.phase_history.specs.Others.{OthersCame}
-use Rattle.phase_history.proofs.OthersEvents.{OthersCame-trans}
-use Rattle.phase_shared.specs.Regs.{phaser_terms}
-use Rattle.phase_shared.proofs.SignalSteps.{may_later, signals_later}
+use Rattle.std.proofs.Common.{false, subst}
+use Rattle.phase_shared.specs.Regs.{phaser_limits}
+use Rattle.phase_shared.specs.Nexts.{SignalsAndMayWait}
+use Rattle.phase_shared.proofs.SignalSteps.{signals_alone}
 use Rattle.phase_shared.proofs.reg.Reg.signal.Goals as goal
 
-pub signal_once-answer-requires-clause-rule : goal.signal_once-answer-requires-clause-rule
-signal_once-answer-requires-clause-rule g c =
-    let i = c.loop.invariant in
-    may_later g.A.Accumulate.operation (phaser_terms c.args.phaser.now) c.args.single c.args.self.now c.loop.self i.number i.held i.others
-    g.K.SignalRule.allows c.requires.rule
+pub returns-in-Ok-clause-call : goal.returns-in-Ok-clause-call
+returns-in-Ok-clause-call g c =
+    let op = g.A.Accumulate.operation in
+    let limits = phaser_limits c.args.phaser.now in
+    let old = c.args.self.now in
+    let new = c.signal_and_wait.new.self in
+    signals_alone op limits old.number old.held c.args.single old.seen new.seen c.in-Ok.answer
+    (subst (λ r. SignalsAndMayWait false op limits old.number old.held c.args.single old.seen new.seen r) c.in-Ok.is c.signal_and_wait.ensures.call)
 
-pub returns-in-Some-answer-clause-call : goal.returns-in-Some-answer-clause-call
-returns-in-Some-answer-clause-call g c =
-    let i = c.loop.invariant in
-    signals_later g.A.Accumulate.operation (phaser_terms c.args.phaser.now) c.args.single c.args.self.now c.loop.self i.number i.held i.others
-    c.signal_once-answer.new.self.seen c.in-Some-answer.answer c.in-Some-answer.ensures.some
-
-pub loop-preserved : goal.loop-preserved
-loop-preserved g c =
-    let start = c.args.self.now in
-    let number : c.loop.self.number ≡ start.number = c.loop.invariant.number in
-    let came : OthersCame (start.number ∷ []) c.loop.self.seen c.signal_once-answer.new.self.seen =
-    subst (λ n. OthersCame (n ∷ []) c.loop.self.seen c.signal_once-answer.new.self.seen) number c.in_default.ensures.none.0 in
-    record {
-      at = c.signal_once-answer.ensures.at.0 ∙ c.loop.invariant.at;
-      number = c.signal_once-answer.ensures.at.1 ∙ number;
-      held = c.in_default.ensures.none.1 ∙ c.loop.invariant.held;
-      others = OthersCame-trans (start.number ∷ []) start.seen c.loop.self.seen c.signal_once-answer.new.self.seen c.loop.invariant.others came;
-    }
+pub returns-in-Err-clause-call : goal.returns-in-Err-clause-call
+returns-in-Err-clause-call g c =
+    let op = g.A.Accumulate.operation in
+    let limits = phaser_limits c.args.phaser.now in
+    let old = c.args.self.now in
+    let new = c.signal_and_wait.new.self in
+    subst (λ r. SignalsAndMayWait false op limits old.number old.held c.args.single old.seen new.seen r) c.in-Err.is c.signal_and_wait.ensures.call

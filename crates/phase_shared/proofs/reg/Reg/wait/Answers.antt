@@ -1,26 +1,53 @@
-use Rattle.std.proofs.Common.{◌≡◌, [], ◌∷◌, subst, ◌∙◌}
+use Rattle.std.proofs.Common.{◌≡◌, [], ◌∷◌, Ok, Err, sym, subst, ap, ◌∙◌}
+use Rattle.phase_history.specs.Histories.{History}
 use Rattle.phase_history.specs.Others.{OthersCame}
-use Rattle.phase_history.proofs.OthersEvents.{OthersCame-trans}
+use Rattle.phase_history.specs.declared.refusal.WaitRefusal.TheVariants.{NotYet}
+use Rattle.phase_history.proofs.OthersEvents.{OthersCame-refl, OthersCame-trans}
 use Rattle.phase_shared.specs.Regs.{phaser_terms}
+use Rattle.phase_shared.specs.Calls.{Tries, Waits}
+use Rattle.phase_shared.proofs.Answering.{again}
 use Rattle.phase_shared.proofs.WaitSteps.{waits_later}
 use Rattle.phase_shared.proofs.reg.Reg.wait.Goals as goal
 
-pub returns-in-Some-answer-clause-call : goal.returns-in-Some-answer-clause-call
-returns-in-Some-answer-clause-call g c =
+pub returns-in-Ok-clause-call : goal.returns-in-Ok-clause-call
+returns-in-Ok-clause-call g c =
+    let i = c.loop.invariant in
     let value = g.A.Accumulate.operation.value in
     let terms = phaser_terms c.args.phaser.now in
-    waits_later value terms.limits c.args.self.now.number c.loop.self.number c.args.self.now.seen c.loop.self.seen c.wait_once-answer.new.self.seen c.in-Some-answer.answer
-    c.loop.invariant.number c.loop.invariant.others c.in-Some-answer.ensures.some
+    let now = c.loop.self in
+    let new = c.try_wait.new.self in
+    let call = Waits value terms.limits now.number now.seen new.seen in
+    waits_later value terms.limits c.args.self.now.number now.number c.args.self.now.seen now.seen new.seen (Ok c.in-Ok.got) i.number i.others
+    (subst (λ r. Tries (new ≡ now) call r) c.in-Ok.is c.try_wait.ensures.call)
+
+pub returns-in-Some-of_wait-clause-call : goal.returns-in-Some-of_wait-clause-call
+returns-in-Some-of_wait-clause-call g c =
+    let i = c.loop.invariant in
+    let value = g.A.Accumulate.operation.value in
+    let terms = phaser_terms c.args.phaser.now in
+    let now = c.loop.self in
+    let new = c.try_wait.new.self in
+    let call = Waits value terms.limits now.number now.seen new.seen in
+    waits_later value terms.limits c.args.self.now.number now.number c.args.self.now.seen now.seen new.seen (Err c.in-Some-of_wait.refusal) i.number i.others
+    (subst (λ r. Tries (new ≡ now) call r) (c.in-Err.is ∙ ap Err c.in-Some-of_wait.ensures.some.0) c.try_wait.ensures.call)
 
 pub loop-preserved : goal.loop-preserved
 loop-preserved g c =
     let start = c.args.self.now in
-    let number : c.loop.self.number ≡ start.number = c.loop.invariant.number in
-    let came : OthersCame (start.number ∷ []) c.loop.self.seen c.wait_once-answer.new.self.seen =
-    subst (λ n. OthersCame (n ∷ []) c.loop.self.seen c.wait_once-answer.new.self.seen) number c.in_default.ensures.none in
+    let i = c.loop.invariant in
+    let value = g.A.Accumulate.operation.value in
+    let terms = phaser_terms c.args.phaser.now in
+    let now = c.loop.self in
+    let new = c.try_wait.new.self in
+    let call = Waits value terms.limits now.number now.seen new.seen in
+    let came : OthersCame (now.number ∷ []) now.seen new.seen =
+    again (new ≡ now) call NotYet (OthersCame (now.number ∷ []) now.seen new.seen) c.in-Err.tried c.in_default.ensures.none
+    (subst (λ r. Tries (new ≡ now) call r) c.in-Err.is c.try_wait.ensures.call)
+    (λ same. subst (λ (h : History). OthersCame (now.number ∷ []) now.seen h) (sym (ap (λ r. r.seen) same)) (OthersCame-refl (now.number ∷ []) now.seen))
+    (λ w. subst (λ (h : History). OthersCame (now.number ∷ []) now.seen h) (sym w.seen) w.others) in
     record {
-      at = c.wait_once-answer.ensures.at.0 ∙ c.loop.invariant.at;
-      number = c.wait_once-answer.ensures.at.1 ∙ number;
-      held = c.wait_once-answer.ensures.held ∙ c.loop.invariant.held;
-      others = OthersCame-trans (start.number ∷ []) start.seen c.loop.self.seen c.wait_once-answer.new.self.seen c.loop.invariant.others came;
+      at = c.try_wait.ensures.at.0 ∙ i.at;
+      number = c.try_wait.ensures.at.1 ∙ i.number;
+      held = c.try_wait.ensures.held ∙ i.held;
+      others = OthersCame-trans (start.number ∷ []) start.seen now.seen new.seen i.others (subst (λ n. OthersCame (n ∷ []) now.seen new.seen) i.number came);
     }

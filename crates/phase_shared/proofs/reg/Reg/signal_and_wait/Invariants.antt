@@ -1,6 +1,6 @@
 use Rattle.std.specs.Prelude.{◌≡◌, [], ◌∷◌}
 use Rattle.phase_history.specs.Others.{OthersCame}
-use Rattle.phase_shared.proofs.reg.Reg.signal.Given as goal
+use Rattle.phase_shared.proofs.reg.Reg.signal_and_wait.Given as goal
 
 -- others' events came
 abbrev pub invariant-loop : goal.invariant-loop
