@@ -50,8 +50,6 @@ mod refusal;
 mod reg;
 mod rule;
 mod steps;
-#[cfg(test)]
-mod tests;
 mod trying;
 mod view;
 mod waiting;

@@ -31,8 +31,6 @@ pub mod counting;
 mod lock;
 mod rule;
 mod seat;
-#[cfg(test)]
-mod tests;
 mod turn;
 
 pub use atomic_table::{Join, Split};

@@ -1,11 +1,11 @@
 ghost use Rattle.std.specs.Prelude.{◌≡◌, IfSome};
 ghost use Rattle.phase_shared.specs.Regs.{phaser_place};
 
-use crate::one_send::{OneSend, try_signal_value};
-use crate::{Next, NoRule, Past, Phaser, Reg, SendRefusal, Tried};
 use phase_accum::{Outcome, Single, Sum};
 use phase_base::{Mode, Spec};
 use phase_core::{Got, RegisterRefusal, SignalRefusal, WaitRefusal};
+use phase_shared::one_send::{OneSend, try_signal_value};
+use phase_shared::{Next, NoRule, Past, Phaser, Reg, SendRefusal, Tried};
 use std::sync::Wait;
 use std::test::Fail;
 

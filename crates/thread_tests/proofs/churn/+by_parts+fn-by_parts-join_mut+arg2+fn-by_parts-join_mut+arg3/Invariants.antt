@@ -1,5 +1,5 @@
 use Rattle.std.proofs.Common.{◌+◌, ◌-◌, ◌*◌}
-use Rattle.phase_shared.proofs.tests.churn.+by_parts+fn-by_parts-join_mut+arg2+fn-by_parts-join_mut+arg3.Given as goal
+use Rattle.thread_tests.proofs.churn.+by_parts+fn-by_parts-join_mut+arg2+fn-by_parts-join_mut+arg3.Given as goal
 
 -- a thread has fewer parts than all
 abbrev pub decreases-by_parts : goal.decreases-by_parts

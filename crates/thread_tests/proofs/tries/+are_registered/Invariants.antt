@@ -1,4 +1,4 @@
-use Rattle.phase_shared.proofs.tests.tries.+are_registered.Given as goal
+use Rattle.thread_tests.proofs.tries.+are_registered.Given as goal
 
 -- one fewer each time
 abbrev pub decreases-are_registered : goal.decreases-are_registered

@@ -2,10 +2,10 @@ ghost use Rattle.std.specs.Prelude.{◌≡◌, ◌<◌, None, IfSome};
 ghost use denote.Param.Send.{IsSync};
 ghost use Rattle.phase_shared.specs.Regs.{phaser_place};
 
-use crate::{NoRule, Phaser, Reg};
 use phase_accum::{Outcome, Sum};
 use phase_base::{Mode, Spec};
 use phase_core::Got;
+use phase_shared::{NoRule, Phaser, Reg};
 use std::sync::Wait;
 use std::test::Fail;
 use std::thread::{Threads, join_mut};

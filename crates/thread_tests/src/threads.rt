@@ -1,10 +1,10 @@
 ghost use Rattle.std.specs.Prelude.{◌≡◌, None, IfSome};
 ghost use Rattle.phase_shared.specs.Regs.{phaser_place};
 
-use crate::{NoRule, Past, Phaser, Reg};
 use phase_accum::{Outcome, Sum};
 use phase_base::{Mode, Spec};
 use phase_core::Got;
+use phase_shared::{NoRule, Past, Phaser, Reg};
 use std::sync::Wait;
 use std::test::Fail;
 use std::thread::{Threads, join_mut};

@@ -1,3 +1,0 @@
-mod churn;
-mod threads;
-mod tries;

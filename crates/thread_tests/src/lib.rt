@@ -1,0 +1,12 @@
+//! Tests of a lock and of a phaser between threads, by their public calls: of `turn_lock` and
+//! `phase_shared`. They stand in a crate of their own, since a crate is proved anew with its tests.
+#![tactic(auto)]
+
+#[cfg(test)]
+mod churn;
+#[cfg(test)]
+mod locks;
+#[cfg(test)]
+mod threads;
+#[cfg(test)]
+mod tries;
