@@ -12,9 +12,9 @@ use std::{hint, thread};
 const ENDED: u64 = u64::MAX;
 
 // How often a pause doubles its spins, and how often it then yields.
-const SPIN_ROUNDS: u32 = 3;
+const SPIN_ROUNDS: u32 = 4;
 
-const YIELDS: u32 = 10;
+const YIELDS: u32 = 60;
 
 // How many milliseconds a pause sleeps, at most. So a wake that is lost costs these, and no more.
 const SLEEP: u64 = 10;

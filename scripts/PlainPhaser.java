@@ -1,0 +1,51 @@
+// Phases a second of Java's Phaser with a sum: what scripts/bench-shared sync sum is measured beside.
+// usage: java scripts/PlainPhaser.java THREADS COUNT
+
+import java.util.concurrent.Phaser;
+import java.util.concurrent.atomic.AtomicLong;
+
+public class PlainPhaser {
+    // Of the phases with an even number, and of the others: nobody is two phases ahead of a reader.
+    static final AtomicLong[] sent = {new AtomicLong(), new AtomicLong()};
+    static final AtomicLong[] values = {new AtomicLong(), new AtomicLong()};
+
+    public static void main(String[] words) throws Exception {
+        int threads = Integer.parseInt(words[0]);
+        int count = Integer.parseInt(words[1]);
+        int warm = count / 10;
+        Phaser phaser = new Phaser(threads) {
+            protected boolean onAdvance(int phase, int registered) {
+                values[phase & 1].set(sent[phase & 1].getAndSet(0));
+                return false;
+            }
+        };
+        long[] sums = new long[threads];
+        long[] nanos = new long[1];
+        Thread[] all = new Thread[threads];
+        for (int thread = 0; thread < threads; thread++) {
+            int me = thread;
+            all[me] = new Thread(() -> {
+                long start = 0;
+                for (int phase = 0; phase < warm + count; phase++) {
+                    if (me == 0 && phase == warm) {
+                        start = System.nanoTime();
+                    }
+                    sent[phase & 1].addAndGet(phase + me);
+                    phaser.arriveAndAwaitAdvance();
+                    sums[me] += values[phase & 1].get();
+                }
+                if (me == 0) {
+                    nanos[0] = System.nanoTime() - start;
+                }
+            });
+            all[me].start();
+        }
+        long check = 0;
+        for (int thread = 0; thread < threads; thread++) {
+            all[thread].join();
+            check += sums[thread];
+        }
+        System.out.printf("{\"rows\": [{\"name\": \"java sync sum %d\", \"count\": %d, \"seconds\": %.6f, \"check\": %d}]}%n",
+            threads, count, nanos[0] / 1e9, check);
+    }
+}
