@@ -22,4 +22,3 @@ pub use limits::{COUNT_MAX, ENDS_MAX, FACTOR_MAX, PHASERS_MAX, TASKS_MAX};
 pub use line::{Kind, Op, Parent, PhaserLine, TaskLine};
 pub use place::Place;
 pub use read::read_graph;
-
