@@ -6,3 +6,4 @@ pub mod SignalSteps
 pub mod WaitSteps
 pub mod RegisterSteps
 pub mod NextSteps
+pub mod OneValue

@@ -77,8 +77,11 @@ impl<A: Accumulate, K: SignalRule> Reg<A, K> {
 
     /// Tells how many sends it holds.
     pub fn pending(&self) -> u64
-        ensures { result ≡ self.now.held.count }
+        ensures value { result ≡ self.now.held.count }
+        // There are sends that it holds, so many.
+        ensures held { (sends : List ℤ) × StandsForSends A.operation self.now.held sends }
     {
+        let _part = self.pending.part();
         self.pending.count()
     }
 

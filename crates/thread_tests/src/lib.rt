@@ -7,6 +7,8 @@ mod churn;
 #[cfg(test)]
 mod locks;
 #[cfg(test)]
+mod received;
+#[cfg(test)]
 mod threads;
 #[cfg(test)]
 mod tries;

@@ -1,10 +1,13 @@
 ghost use Rattle.std.specs.Prelude.{◌≡◌, None, IfSome};
 ghost use Rattle.phase_shared.specs.Regs.{phaser_place};
+ghost use Rattle.thread_tests.specs.Received.{received_of, IsFresh, Tells};
 
+use crate::received::{Told, joins, leaves, registers, signals, takes};
 use phase_accum::{Outcome, Sum};
 use phase_base::{Mode, Spec};
 use phase_core::Got;
-use phase_shared::{NoRule, Past, Phaser, Reg};
+use phase_shared::{NoRule, Phaser, Reg};
+use std::alloc::Global;
 use std::sync::Wait;
 use std::test::Fail;
 use std::thread::{Threads, join_mut};
@@ -107,9 +110,9 @@ enum Part {
     // Sends a value and signals.
     Signals(i64),
     // Sends a value, and does not signal.
-    Leaves(i64),
-    // Waits for a value in phase 0, and then for the end.
-    Takes(i64),
+    Sends(i64),
+    // Waits for a value, and then for the end.
+    Takes,
 }
 
 fn does<R: Wait>(
@@ -117,126 +120,153 @@ fn does<R: Wait>(
     phaser: &Phaser<Sum, NoRule>,
     reg: &mut Reg<Sum, NoRule>,
     part: Part,
+    taken: &mut Vec<Outcome>,
 ) -> bool
-    requires { reg.old.at ≡ phaser_place phaser.now }
-    ensures { reg.new.at ≡ reg.old.at }
+    requires at { reg.old.at ≡ phaser_place phaser.now }
+    requires taken { taken.old.items ≡ received_of reg.old }
+    ensures at { reg.new.at ≡ reg.old.at }
+    ensures taken { taken.new.items ≡ received_of reg.new }
 {
     match part {
-        Part::Signals(value) => {
-            let is_held = reg.send(value).is_ok();
-            is_held && reg.signal(rt, phaser, None) == Ok(0)
-        }
-        Part::Leaves(value) => reg.send(value).is_ok(),
-        Part::Takes(value) => {
-            let outcome = Outcome::Value(value);
-            let got = reg.wait(rt, phaser);
-            let ended = reg.wait(rt, phaser);
-            got == Ok(Got::Value { phase: 0, outcome }) && ended == Ok(Got::Ended)
+        Part::Signals(value) => signals(rt, phaser, reg, value) == Some(0),
+        Part::Sends(value) => reg.send(value).is_ok(),
+        Part::Takes => {
+            let got = takes(rt, phaser, reg, taken);
+            let ended = takes(rt, phaser, reg, taken);
+            got.is_some() && ended == Some(Got::Ended)
         }
     }
 }
 
-// What it has seen, where it did its part.
+// What it got and has seen, where it did its part.
 fn take_part<R: Wait>(
     rt: &R,
+    alloc: Global,
     phaser: &Phaser<Sum, NoRule>,
     slot: &mut Option<Reg<Sum, NoRule>>,
     part: Part,
-) -> Option<Past<Sum, NoRule>>
-    requires { IfSome slot.old (λ reg. reg.at ≡ phaser_place phaser.now) }
+) -> Option<Told>
+    requires { IfSome slot.old (IsFresh (phaser_place phaser.now)) }
     ensures slot { slot.new ≡ None }
-    ensures at { IfSome result (λ past. past.at ≡ phaser_place phaser.now) }
+    ensures told { IfSome result (λ told.
+        Tells (phaser_place phaser.now) told.past told.taken.items) }
 {
     let mut reg = slot.take()?;
-    let is_done = does(rt, phaser, &mut reg, part);
-    let past = reg.leave(rt, phaser);
-    is_done.then_some(past)
+    let mut taken = Vec::new(alloc);
+    let is_done = does(rt, phaser, &mut reg, part, &mut taken);
+    let told = leaves(rt, alloc, phaser, reg, taken)?;
+    is_done.then_some(told)
 }
 
 fn take_two<R: Threads + Wait + Sync>(
     rt: &R,
+    alloc: Global,
     phaser: &Phaser<Sum, NoRule>,
     first: &mut Option<Reg<Sum, NoRule>>,
     second: &mut Option<Reg<Sum, NoRule>>,
     parts: (Part, Part),
-) -> Option<Past<Sum, NoRule>>
-    requires first { IfSome first.old (λ reg. reg.at ≡ phaser_place phaser.now) }
-    requires second { IfSome second.old (λ reg. reg.at ≡ phaser_place phaser.now) }
+) -> Option<Told>
+    requires first { IfSome first.old (IsFresh (phaser_place phaser.now)) }
+    requires second { IfSome second.old (IsFresh (phaser_place phaser.now)) }
     ensures slots { (first.new ≡ None) × (second.new ≡ None) }
-    ensures at { IfSome result (λ past. past.at ≡ phaser_place phaser.now) }
+    ensures told { IfSome result (λ told.
+        Tells (phaser_place phaser.now) told.past told.taken.items) }
 {
-    let (past, other) = join_mut(
+    let (one, other) = join_mut(
         rt,
-        &mut || -> Option<Past<Sum, NoRule>>
-            requires { IfSome first.now (λ reg. reg.at ≡ phaser_place phaser.now) }
-            ensures { (first.exit.now ≡ None)
-                × IfSome result (λ past. past.at ≡ phaser_place phaser.entry.now) }
-        { take_part(rt, phaser, first, parts.0) },
-        &mut || -> Option<Past<Sum, NoRule>>
-            requires { IfSome second.now (λ reg. reg.at ≡ phaser_place phaser.now) }
-            ensures { (second.exit.now ≡ None)
-                × IfSome result (λ past. past.at ≡ phaser_place phaser.entry.now) }
-        { take_part(rt, phaser, second, parts.1) },
+        &mut || -> Option<Told>
+            requires { IfSome first.now (IsFresh (phaser_place phaser.now)) }
+            ensures { (first.exit.now ≡ None) × IfSome result (λ told.
+                Tells (phaser_place phaser.entry.now) told.past told.taken.items) }
+        { take_part(rt, alloc, phaser, first, parts.0) },
+        &mut || -> Option<Told>
+            requires { IfSome second.now (IsFresh (phaser_place phaser.now)) }
+            ensures { (second.exit.now ≡ None) × IfSome result (λ told.
+                Tells (phaser_place phaser.entry.now) told.past told.taken.items) }
+        { take_part(rt, alloc, phaser, second, parts.1) },
     );
-    Some(past?.join(phaser, other?))
+    joins(phaser, one?, other?)
 }
 
 fn take_three<R: Threads + Wait + Sync>(
     rt: &R,
+    alloc: Global,
     phaser: &Phaser<Sum, NoRule>,
     regs: (Reg<Sum, NoRule>, Reg<Sum, NoRule>, Reg<Sum, NoRule>),
     parts: (Part, Part, Part),
-) -> Option<Past<Sum, NoRule>>
-    requires first { regs.0.at ≡ phaser_place phaser.now }
-    requires second { regs.1.at ≡ phaser_place phaser.now }
-    requires third { regs.2.at ≡ phaser_place phaser.now }
-    ensures { IfSome result (λ past. past.at ≡ phaser_place phaser.now) }
+) -> Option<Told>
+    requires first { IsFresh (phaser_place phaser.now) regs.0 }
+    requires second { IsFresh (phaser_place phaser.now) regs.1 }
+    requires third { IsFresh (phaser_place phaser.now) regs.2 }
+    ensures { IfSome result (λ told.
+        Tells (phaser_place phaser.now) told.past told.taken.items) }
 {
     let mut first = Some(regs.0);
     let mut second = Some(regs.1);
     let mut third = Some(regs.2);
-    let (past, others) = join_mut(
+    let (one, others) = join_mut(
         rt,
-        &mut || -> Option<Past<Sum, NoRule>>
-            requires { IfSome first (λ reg. reg.at ≡ phaser_place phaser.now) }
-            ensures { (first.exit ≡ None)
-                × IfSome result (λ past. past.at ≡ phaser_place phaser.entry.now) }
-        { take_part(rt, phaser, &mut first, parts.0) },
-        &mut || -> Option<Past<Sum, NoRule>>
-            requires { IfSome second (λ reg. reg.at ≡ phaser_place phaser.now)
-                × IfSome third (λ reg. reg.at ≡ phaser_place phaser.now) }
-            ensures { (second.exit ≡ None) × (third.exit ≡ None)
-                × IfSome result (λ past. past.at ≡ phaser_place phaser.entry.now) }
-        { take_two(rt, phaser, &mut second, &mut third, (parts.1, parts.2)) },
+        &mut || -> Option<Told>
+            requires { IfSome first (IsFresh (phaser_place phaser.now)) }
+            ensures { (first.exit ≡ None) × IfSome result (λ told.
+                Tells (phaser_place phaser.entry.now) told.past told.taken.items) }
+        { take_part(rt, alloc, phaser, &mut first, parts.0) },
+        &mut || -> Option<Told>
+            requires { IfSome second (IsFresh (phaser_place phaser.now))
+                × IfSome third (IsFresh (phaser_place phaser.now)) }
+            ensures { (second.exit ≡ None) × (third.exit ≡ None) × IfSome result (λ told.
+                Tells (phaser_place phaser.entry.now) told.past told.taken.items) }
+        {
+            take_two(
+                rt,
+                alloc,
+                phaser,
+                &mut second,
+                &mut third,
+                (parts.1, parts.2),
+            )
+        },
     );
     let None = first else { unreachable!() };
     let None = second else { unreachable!() };
     let None = third else { unreachable!() };
-    Some(past?.join(phaser, others?))
+    joins(phaser, one?, others?)
 }
 
+// Whether these are the lists.
+fn are_lists(taken: &[Vec<Outcome>], expected: &[&[Outcome]]) -> bool {
+    let mut all = taken.len() == expected.len();
+    for (list, wanted) in taken.iter().zip(expected) {
+        all = all && list.as_slice() == *wanted;
+    }
+    all
+}
+
+// The lists are what the joined past says of the founder, the signaller, the waiter and the leaver.
 #[test]
 fn leave_mid_phase(rt: HostRuntime) -> Result<(), Fail> {
-    let (phaser, mut founder) = Phaser::<Sum, NoRule>::make(
-        rt.alloc(),
-        Spec::new(2, 1000)?,
-        NoRule,
-    )?;
-    let Ok(signaller) = founder.register(&rt, &phaser, Mode::Sig) else {
+    let alloc = rt.alloc();
+    let (phaser, mut founder) = Phaser::<Sum, NoRule>::make(alloc, Spec::new(2, 1000)?, NoRule)?;
+    let Some(signaller) = registers(&rt, &phaser, &mut founder, Mode::Sig) else {
         panic!(rt; "the founder holds a signaller")
     };
-    let Ok(waiter) = founder.register(&rt, &phaser, Mode::Wait) else {
+    let Some(waiter) = registers(&rt, &phaser, &mut founder, Mode::Wait) else {
         panic!(rt; "the founder holds a waiter")
     };
-    let Ok(leaver) = founder.register(&rt, &phaser, Mode::Sig) else {
+    let Some(leaver) = registers(&rt, &phaser, &mut founder, Mode::Sig) else {
         panic!(rt; "the founder holds a signaller")
     };
-    let past = founder.leave(&rt, &phaser);
+    let told = leaves(&rt, alloc, &phaser, founder, Vec::new(alloc));
     let regs = (signaller, waiter, leaver);
-    let parts = (Part::Signals(4), Part::Takes(4), Part::Leaves(9));
-    let Some(others) = take_three(&rt, &phaser, regs, parts) else {
-        panic!(rt; "each does its part")
+    let parts = (Part::Signals(4), Part::Takes, Part::Sends(9));
+    let others = take_three(&rt, alloc, &phaser, regs, parts);
+    let (Some(told), Some(others)) = (told, others) else {
+        panic!(rt; "each does its part, and has memory")
     };
-    let _all = past.join(&phaser, others);
+    let Some(all) = joins(&phaser, told, others) else {
+        panic!(rt; "there is memory")
+    };
+    let expected: [&[Outcome]; 4] = [&[], &[], &[Outcome::Value(4)], &[]];
+    assert!(rt; are_lists(all.taken.as_slice(), expected.as_slice()));
     Ok(())
 }
