@@ -1,6 +1,7 @@
 -- What a call adds to what its task has received.
 use Rattle.std.proofs.Common.{◌≡◌, ℕ, ◌<◌, ℤ, Bool, true, false, List, [], ◌∷◌, ◌++◌, map, Option, Some, None, Ok, Err, eqb, refl, ap, ap₂, subst, ◌∙◌, arith}
 use Rattle.std.specs.Prelude.{Result, ◌||◌}
+use Rattle.std.proofs.lemmas.Bool.{eq-eqb}
 use Rattle.phase_base.specs.Limits.{Limits}
 use Rattle.phase_base.specs.Modes.{mode_signals, mode_waits}
 use Rattle.phase_base.specs.declared.mode.Mode.{Mode}
@@ -25,11 +26,10 @@ use Rattle.phase_shared.specs.Calls.{Signals, Waits, HasRegistered, RefusesRegis
 use Rattle.phase_shared.specs.Regs.{RegState}
 use Rattle.phase_shared.specs.declared.next.Next.{Next}
 use Rattle.phase_shared.specs.Nexts.{MadeWhere, GoesNext, RefusesNext}
-use Rattle.phase_shared.proofs.Keeping.{is_in_self}
 use Rattle.phase_accum.specs.Values.{sum_value}
 use Rattle.thread_tests.specs.Received.{received_of, with_got}
 
--- the same, where it may have waited for nothing
+-- what a task has received after a wait got this, or where it did not wait
 abbrev pub with_any : List Outcome → Option Got → List Outcome
 with_any list (Some got) = with_got list got
 with_any list None = list
@@ -41,6 +41,10 @@ made_where true call nothing P made none (Some x) m = made x m
 made_where true call nothing P made none None m = absurd m
 made_where false call nothing P made none None m = none m
 made_where false call nothing P made none (Some x) m = absurd m
+
+-- a number is in a list that begins with it
+is_in_self : (a : ℕ) (xs : List ℕ) → is_in a (a ∷ xs) ≡ true
+is_in_self a xs = ap (λ b. b || is_in a xs) (eq-eqb a a refl)
 
 -- what was in a list is in a longer one
 in_rest : (a t : ℕ) (xs : List ℕ) → is_in t xs ≡ true → is_in t (a ∷ xs) ≡ true
@@ -66,12 +70,13 @@ module _ (value : List ℤ → Outcome)
   signal_adds_none op limits me held single old new (Err refusal) s =
       ap (λ h. received_by value h me) s.seen ∙ own_stays me old s.before s.others
 
-  -- nor does a registration, whether it is refused or not
+  -- nor does a registration
   pub registers_adds_none : (me child : ℕ) (mode : Mode) (old new : History)
       → HasRegistered me child mode old new → received_by value new me ≡ received_by value old me
   registers_adds_none me child mode old new r =
       ap (λ h. received_by value h me) r.seen ∙ own_stays me old r.before r.others
 
+  -- nor one that is refused
   pub refused_adds_none : (me : ℕ) (mode : Mode) (old new : History) (refusal : RegisterRefusal)
       → RefusesRegister me mode old new refusal → received_by value new me ≡ received_by value old me
   refused_adds_none me mode old new register.NoTask r = own_stays me old new r.0
