@@ -75,6 +75,12 @@ pub fn run_cli<R: Read, W: Write, E: Write, F: Files>(
         (E.contents (inner_of faults.old)) (E.contents (inner_of faults.new)) }
     ensures silent { (result ≡ 1) ⊎ (result ≡ 3) → output.new ≡ output.old }
 
+    // What is left alone: a check and an evaluation do not read the input, and other words open no
+    // file.
+    ensures unread { (name : List ℕ) → AskGraph (texts words.now) name → input.new ≡ input.old }
+    ensures unopened { ((name : List ℕ) → AskGraph (texts words.now) name → ⊥)
+        → files.new ≡ files.old }
+
     // When each status comes.
     ensures taken { AreTaken (texts words.now) → result ≢ 2 }
     ensures help { AskHelp (texts words.now) → (result ≢ 2) × (input.new ≡ input.old) }
