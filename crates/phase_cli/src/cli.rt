@@ -3,7 +3,8 @@ ghost use Rattle.std.specs.Prelude.{◌≡◌, ◌≢◌, ◌⊎◌, ℕ, Bool, 
 ghost use Rattle.clap.specs.Words.{HasKind, kind_of};
 ghost use Rattle.phase_cli.specs.CommandLine.{AreRefused, AreTaken, AskCheck, AskEval, AskGraph};
 ghost use Rattle.phase_cli.specs.CommandLine.{AskHelp, AskReplay, texts};
-ghost use Rattle.phase_status.specs.GraphRuns.{Checks, Evaluates, Stops};
+ghost use Rattle.phase_status.specs.GraphRuns.{Checks, ChecksPrefix, Evaluates, EvaluatesPrefix};
+ghost use Rattle.phase_status.specs.GraphRuns.{Stops};
 ghost use Rattle.phase_status.specs.Statuses.{HasCause, RepliesWhole, RepliesPrefix, Reports};
 ghost use Rattle.phase_replay.specs.declared.fault.ReplayFault.{ReplayFault};
 ghost use Rattle.phase_replay.specs.declared.fault.ReplayFault.TheVariants.{OutOfMemory};
@@ -55,17 +56,30 @@ pub fn run_cli<R: Read, W: Write, E: Write, F: Files>(
         (count_of input.old) (count_of input.new)
         (W.contents (inner_of output.old)) (W.contents (inner_of output.new)) }
 
-    // What a check and an evaluation of a graph wrote, and why there is no other answer.
+    // What a check and an evaluation of a graph wrote, whole or up to the fault, and why there is no
+    // other answer.
     ensures check { (name : List ℕ) → result ≡ 0 → AskCheck (texts words.now) name
         → Checks (F.file files.old) name
         (W.contents (inner_of output.old)) (W.contents (inner_of output.new)) }
+    ensures check_prefix { (name : List ℕ) → result ≡ 5 → AskCheck (texts words.now) name
+        → (output.new ≡ output.old) ⊎ ChecksPrefix (F.file files.old) name
+        (W.contents (inner_of output.old)) (W.contents (inner_of output.new)) }
     ensures eval { (name : List ℕ) → result ≡ 0 → AskEval (texts words.now) name
         → Evaluates (F.file files.old) name
+        (W.contents (inner_of output.old)) (W.contents (inner_of output.new)) }
+    ensures eval_prefix { (name : List ℕ) → result ≡ 5 → AskEval (texts words.now) name
+        → (output.new ≡ output.old) ⊎ EvaluatesPrefix (F.file files.old) name
         (W.contents (inner_of output.old)) (W.contents (inner_of output.new)) }
     ensures stops { (name : List ℕ) → result ≢ 0 → AskGraph (texts words.now) name
         → Stops (F.file files.old) name (has_failed_of output.new) result (has_failed_of faults.new)
         (E.contents (inner_of faults.old)) (E.contents (inner_of faults.new)) }
     ensures silent { (result ≡ 1) ⊎ (result ≡ 3) → output.new ≡ output.old }
+
+    // What is left alone: a check and an evaluation do not read the input, and other words open no
+    // file.
+    ensures unread { (name : List ℕ) → AskGraph (texts words.now) name → input.new ≡ input.old }
+    ensures unopened { ((name : List ℕ) → AskGraph (texts words.now) name → ⊥)
+        → files.new ≡ files.old }
 
     // When each status comes.
     ensures taken { AreTaken (texts words.now) → result ≢ 2 }

@@ -15,6 +15,7 @@ use Rattle.graph_files.specs.FileJobs.{Explains, IsJobOf, Known}
 use Rattle.graph_files.specs.declared.fault.JobFault.{JobFault}
 use Rattle.graph_files.specs.declared.fault.JobFault.TheVariants as fault
 use Rattle.phase_replay.specs.declared.fault.ReplayFault.TheVariants.{OutOfMemory, ReadFault, WriteFault}
+use Rattle.watched_io.specs.Prefix.{AppendsPrefix}
 use Rattle.phase_status.specs.Statuses.{Says, fault_line}
 
 -- the parts, one behind the other
@@ -35,12 +36,25 @@ pub record Checks (known : Known) (name : List ℕ) (old new : Option (List ℕ)
   pub job_of : IsJobOf known name job
   pub written : Appends old new (check_line job.graph)
 
+-- the files tell a job, and a prefix of its line was written
+pub record ChecksPrefix (known : Known) (name : List ℕ) (old new : Option (List ℕ)) : Type 0 where
+  pub job : Job
+  pub job_of : IsJobOf known name job
+  pub written : AppendsPrefix old new (check_line job.graph)
+
 -- the files tell a job whose values fit, and the lists of its sinks were written
 pub record Evaluates (known : Known) (name : List ℕ) (old new : Option (List ℕ)) : Type 0 where
   pub job : Job
   pub job_of : IsJobOf known name job
   pub fits : Fits job
   pub written : Appends old new (text_of job.graph (lines_of job))
+
+-- the files tell a job whose values fit, and a prefix of the lists of its sinks was written
+pub record EvaluatesPrefix (known : Known) (name : List ℕ) (old new : Option (List ℕ)) : Type 0 where
+  pub job : Job
+  pub job_of : IsJobOf known name job
+  pub fits : Fits job
+  pub written : AppendsPrefix old new (text_of job.graph (lines_of job))
 
 -- ---- the lines of faults
 

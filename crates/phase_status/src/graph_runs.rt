@@ -1,7 +1,9 @@
 //! A check and an evaluation of a graph, and the reports of their faults.
 ghost use Rattle.std.specs.Prelude.{◌≡◌, ◌≢◌, ◌⊎◌, true, OnOk, OnErr};
 ghost use Rattle.std.specs.Io.KnownBytes.{Appends};
-ghost use Rattle.phase_status.specs.GraphRuns.{Checks, Evaluates, Stops, check_line};
+ghost use Rattle.phase_status.specs.GraphRuns.{Checks, ChecksPrefix, Evaluates, EvaluatesPrefix};
+ghost use Rattle.phase_status.specs.GraphRuns.{Stops, check_line};
+ghost use Rattle.watched_io.specs.Prefix.{AppendsPrefix};
 ghost use Rattle.watched_io.specs.Watched.{has_failed_of, inner_of};
 
 use crate::graph_faults::{report_job_fault, report_too_big};
@@ -31,6 +33,9 @@ pub fn check_and_report<W: Write, E: Write, F: Files>(
     ensures status { (result ≡ 0) ⊎ ((result ≡ 1) ⊎ (result ≡ 5)) }
     ensures done { result ≡ 0 → Checks (F.file files.old) name.now
         (W.contents (inner_of output.old)) (W.contents (inner_of output.new)) }
+    ensures prefix { result ≡ 5 → (output.new ≡ output.old)
+        ⊎ ChecksPrefix (F.file files.old) name.now
+        (W.contents (inner_of output.old)) (W.contents (inner_of output.new)) }
     ensures silent { result ≡ 1 → output.new ≡ output.old }
     ensures quiet { result ≡ 0 → faults.new ≡ faults.old }
     ensures fault { result ≢ 0 → Stops (F.file files.old) name.now (has_failed_of output.new)
@@ -50,6 +55,8 @@ pub fn check_and_report<W: Write, E: Write, F: Files>(
 /// Writes how many phasers and tasks there are.
 fn write_counts<W: Write>(graph: &Graph, output: &mut Watched<W>) -> Result<(), WriteFailed>
     ensures ok { OnOk result (Appends (W.contents (inner_of output.old))
+        (W.contents (inner_of output.new)) (check_line graph.now)) }
+    ensures err { OnErr result (AppendsPrefix (W.contents (inner_of output.old))
         (W.contents (inner_of output.new)) (check_line graph.now)) }
     ensures failed { OnErr result (has_failed_of output.new ≡ true) }
 {
@@ -73,6 +80,9 @@ pub fn eval_and_report<W: Write, E: Write, F: Files>(
 ) -> u8
     ensures status { (result ≡ 0) ⊎ ((result ≡ 1) ⊎ ((result ≡ 3) ⊎ (result ≡ 5))) }
     ensures done { result ≡ 0 → Evaluates (F.file files.old) name.now
+        (W.contents (inner_of output.old)) (W.contents (inner_of output.new)) }
+    ensures prefix { result ≡ 5 → (output.new ≡ output.old)
+        ⊎ EvaluatesPrefix (F.file files.old) name.now
         (W.contents (inner_of output.old)) (W.contents (inner_of output.new)) }
     ensures silent { (result ≡ 1) ⊎ (result ≡ 3) → output.new ≡ output.old }
     ensures quiet { result ≡ 0 → faults.new ≡ faults.old }

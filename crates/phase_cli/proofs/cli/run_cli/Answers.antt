@@ -20,6 +20,20 @@ returns-in-Ok-Eval-clause-fault g c = λ failed none.
       command = sym c.in-Ok-Eval.ensures.call ∙ ap asked_of c.in-Ok-Eval.field-0-is;
     })))
 
+pub returns-in-Ok-Check-clause-unopened : goal.returns-in-Ok-Check-clause-unopened
+returns-in-Ok-Check-clause-unopened g c = λ none.
+    absurd (none c.in-Ok-Check.graph.now (inl (record {
+      taken = c.in-Ok-Check.ensures.fails;
+      command = sym c.in-Ok-Check.ensures.call ∙ ap asked_of c.in-Ok-Check.field-0-is;
+    })))
+
+pub returns-in-Ok-Eval-clause-unopened : goal.returns-in-Ok-Eval-clause-unopened
+returns-in-Ok-Eval-clause-unopened g c = λ none.
+    absurd (none c.in-Ok-Eval.graph.now (inr (record {
+      taken = c.in-Ok-Eval.ensures.fails;
+      command = sym c.in-Ok-Eval.ensures.call ∙ ap asked_of c.in-Ok-Eval.field-0-is;
+    })))
+
 -- Words that are taken fail for memory alone, so no help was written.
 pub returns-in-Err-clause-stopped : goal.returns-in-Err-clause-stopped
 returns-in-Err-clause-stopped g c = λ failed asks.
