@@ -111,8 +111,8 @@ enum Part {
     Signals(i64),
     // Sends a value, and does not signal.
     Sends(i64),
-    // Waits for a value, and then for the end.
-    Takes,
+    // Waits for a value in phase 0, and then for the end.
+    Takes(i64),
 }
 
 fn does<R: Wait>(
@@ -130,10 +130,11 @@ fn does<R: Wait>(
     match part {
         Part::Signals(value) => signals(rt, phaser, reg, value) == Some(0),
         Part::Sends(value) => reg.send(value).is_ok(),
-        Part::Takes => {
+        Part::Takes(value) => {
+            let outcome = Outcome::Value(value);
             let got = takes(rt, phaser, reg, taken);
             let ended = takes(rt, phaser, reg, taken);
-            got.is_some() && ended == Some(Got::Ended)
+            got == Some(Got::Value { phase: 0, outcome }) && ended == Some(Got::Ended)
         }
     }
 }
@@ -258,7 +259,7 @@ fn leave_mid_phase(rt: HostRuntime) -> Result<(), Fail> {
     };
     let told = leaves(&rt, alloc, &phaser, founder, Vec::new(alloc));
     let regs = (signaller, waiter, leaver);
-    let parts = (Part::Signals(4), Part::Takes, Part::Sends(9));
+    let parts = (Part::Signals(4), Part::Takes(4), Part::Sends(9));
     let others = take_three(&rt, alloc, &phaser, regs, parts);
     let (Some(told), Some(others)) = (told, others) else {
         panic!(rt; "each does its part, and has memory")
