@@ -1,4 +1,1 @@
-pub mod Simple
-pub mod Refused
-pub mod Called
 pub mod Nothing

@@ -1,8 +1,8 @@
 //! A run of the program over any input and outputs.
 ghost use Rattle.std.specs.Prelude.{◌≡◌, ◌≢◌, ◌⊎◌, ℕ, Bool, List, Option};
 ghost use Rattle.clap.specs.Words.{HasKind, kind_of};
-ghost use Rattle.phase_cli.specs.CommandLine.{AreRefused, AreTaken, AskCheck, AskEval, AskGraph};
-ghost use Rattle.phase_cli.specs.CommandLine.{AskHelp, AskReplay, texts};
+ghost use Rattle.phase_words.specs.CommandLine.{AreRefused, AreTaken, AskCheck, AskEval, AskGraph};
+ghost use Rattle.phase_words.specs.CommandLine.{AskHelp, AskReplay, texts};
 ghost use Rattle.phase_status.specs.GraphRuns.{Checks, ChecksPrefix, Evaluates, EvaluatesPrefix};
 ghost use Rattle.phase_status.specs.GraphRuns.{Stops};
 ghost use Rattle.phase_status.specs.Statuses.{HasCause, RepliesWhole, RepliesPrefix, Reports};
@@ -11,7 +11,6 @@ ghost use Rattle.phase_replay.specs.declared.fault.ReplayFault.TheVariants.{OutO
 ghost use Rattle.phase_replay.specs.Replay.{ReplaysAll, ReplaysPrefix};
 ghost use Rattle.watched_io.specs.Watched.{has_failed_of, inner_of, count_of};
 
-use crate::command_line::{Call, read_words};
 use clap::Error;
 use clap::error::ErrorKind;
 use phase_files::Files;
@@ -19,6 +18,7 @@ use phase_replay::ReplayFault;
 use phase_status::{
     check_and_report, eval_and_report, refuse, replay_and_report, report, show_help,
 };
+use phase_words::{Call, read_words};
 use std::alloc::Global;
 use std::io::{Read, Write};
 use watched_io::Watched;

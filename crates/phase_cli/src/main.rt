@@ -3,11 +3,8 @@
 #![tactic(auto)]
 
 mod cli;
-mod command_line;
 #[cfg(test)]
 mod graph_tests;
-mod help;
-mod laws;
 #[cfg(test)]
 mod tests;
 

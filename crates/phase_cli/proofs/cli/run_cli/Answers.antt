@@ -1,7 +1,7 @@
 use Rattle.std.proofs.Common.{◌∙◌, inl, inr, ap, sym, rules}
 use Rattle.watched_io.specs.Watched.{inner_of}
 use Rattle.phase_replay.proofs.Reading.{replays_nothing}
-use Rattle.phase_cli.specs.CommandLine.{asked_of}
+use Rattle.phase_words.specs.CommandLine.{asked_of}
 use Rattle.phase_cli.proofs.Nothing.{replies_none}
 use Rattle.phase_cli.proofs.cli.run_cli.Goals as goal
 

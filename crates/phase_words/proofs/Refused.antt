@@ -4,7 +4,7 @@ use Rattle.std.proofs.Common.{inl, inr, sym, subst, ◌∙◌}
 use Rattle.clap.specs.Words.{IsAmong, Kinds, Text}
 use Rattle.clap.specs.declared.error.kind.ErrorKind.TheVariants.{DisplayHelp}
 use Rattle.clap.specs.declared.error.kind.ErrorKind.TheVariants.{InvalidSubcommand, MissingRequiredArgument, UnknownArgument}
-use Rattle.phase_cli.specs.CommandLine.{AreRefused, kinds_of}
+use Rattle.phase_words.specs.CommandLine.{AreRefused, kinds_of}
 
 not_empty : (kinds : Kinds) → UnknownArgument ∷ kinds ≢ []
 not_empty kinds = λ e. search rules

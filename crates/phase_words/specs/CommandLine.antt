@@ -6,8 +6,8 @@ use Rattle.std.specs.Str.{bytes_eq}
 use Rattle.clap.specs.Words.{App, IsAmong, Kinds, Row, Rule, Shape, Text, fault_of, first_of}
 use Rattle.clap.specs.Words.{new_app, new_rule, subcommand_of, with_rule, with_subcommand}
 use Rattle.clap.specs.declared.error.kind.ErrorKind.TheVariants.{DisplayHelp}
-use Rattle.phase_cli.specs.declared.command_line.Call.{Call}
-use Rattle.phase_cli.specs.declared.command_line.Call.TheVariants as call
+use Rattle.phase_words.specs.declared.command_line.Call.{Call}
+use Rattle.phase_words.specs.declared.command_line.Call.TheVariants as call
 
 -- ---- the command line
 

@@ -1,8 +1,8 @@
 //! The words of the program, as clap reads them.
 ghost use Rattle.std.specs.Prelude.{◌≡◌, IfOk, Some, false};
 ghost use Rattle.clap.specs.Words.{FailsBy, app_of, rule_of, subcommand_rows_of};
-ghost use Rattle.phase_cli.specs.CommandLine.{asked_as, asked_by, asked_in, asked_of, graph_rule};
-ghost use Rattle.phase_cli.specs.CommandLine.{kinds_of, phase_app, texts};
+ghost use Rattle.phase_words.specs.CommandLine.{asked_as, asked_by, asked_in, asked_of, graph_rule};
+ghost use Rattle.phase_words.specs.CommandLine.{kinds_of, phase_app, texts};
 
 use crate::help::{ABOUT, CHECK, CHECK_END, END, EVAL, EVAL_END, GRAPH, REPLAY};
 use clap::{Arg, ArgMatches, Command, Error};

@@ -3,8 +3,8 @@ use Rattle.std.proofs.Common.{◌≡◌, ◌||◌, ◌∙◌, ap, ap₂, codes}
 use Rattle.std.proofs.lemmas.Result.{IfOk-weaker}
 use Rattle.clap.specs.Words.{App, app_of, new_app, shape_of, with_rule, with_subcommand}
 use Rattle.clap.specs.Simple.{app_of_fields, shape_of_fields}
-use Rattle.phase_cli.specs.CommandLine.{graph_shape, phase_app, without_own_name}
-use Rattle.phase_cli.proofs.command_line.command.Goals as goal
+use Rattle.phase_words.specs.CommandLine.{graph_shape, phase_app, without_own_name}
+use Rattle.phase_words.proofs.command_line.command.Goals as goal
 
 pub returns : goal.returns
 unfolding phase_app

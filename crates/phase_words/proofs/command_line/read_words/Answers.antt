@@ -2,10 +2,10 @@
 use Rattle.std.proofs.Common.{◌≡◌, ◌∙◌, []}
 use Rattle.std.proofs.lemmas.Result.{err_from_is_err_and}
 use Rattle.clap.specs.Words.{HasKind, Kinds, app_of, subcommand_rows_of}
-use Rattle.phase_cli.specs.CommandLine.{texts}
-use Rattle.phase_cli.proofs.Called.{asked_by-found}
-use Rattle.phase_cli.proofs.Simple.{at_kinds_of}
-use Rattle.phase_cli.proofs.command_line.read_words.Goals as goal
+use Rattle.phase_words.specs.CommandLine.{texts}
+use Rattle.phase_words.proofs.Called.{asked_by-found}
+use Rattle.phase_words.proofs.Simple.{at_kinds_of}
+use Rattle.phase_words.proofs.command_line.read_words.Goals as goal
 
 pub returns-in_err-matches-clause-fails : goal.returns-in_err-matches-clause-fails
 returns-in_err-matches-clause-fails c =

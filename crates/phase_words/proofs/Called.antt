@@ -2,7 +2,7 @@
 use Rattle.std.proofs.Common.{◌≡◌, ◌∙◌, List, Bor, Option, Some, None, option_map, unwrap_or, ℕ, true, refl, ap, ap₂, rules}
 use Rattle.clap.proofs.OnLiterals.{clap_on_literals}
 use Rattle.clap.specs.Words.{App, Row, Text, is_simple, subcommand_of}
-use Rattle.phase_cli.specs.CommandLine.{asked_by, asked_in, phase_app}
+use Rattle.phase_words.specs.CommandLine.{asked_by, asked_in, phase_app}
 
 abbrev Found : Type 0
 Found = Text × List Row

@@ -1,8 +1,8 @@
 -- clap's reading, computed.
 use Rattle.std.proofs.Common.{refl}
 use Rattle.clap.proofs.OnLiterals.{clap_on_literals}
-use Rattle.phase_cli.specs.CommandLine.{asked_in, kinds_of, phase_app}
-use Rattle.phase_cli.proofs.laws.words_for_replay.Goals as goal
+use Rattle.phase_words.specs.CommandLine.{asked_in, kinds_of, phase_app}
+use Rattle.phase_words.proofs.laws.words_for_replay.Goals as goal
 
 pub returns-clause-none : goal.returns-clause-none
 unfolding asked_in kinds_of phase_app clap_on_literals

@@ -2,9 +2,9 @@
 use Rattle.std.proofs.Common.{◌≡◌, [], ◌∷◌, codes, refl}
 use Rattle.clap.proofs.OnLiterals.{clap_on_literals}
 use Rattle.clap.specs.declared.error.kind.ErrorKind.TheVariants.{InvalidSubcommand, MissingRequiredArgument, UnknownArgument}
-use Rattle.phase_cli.specs.CommandLine.{kinds_of, phase_app}
-use Rattle.phase_cli.proofs.Refused.{missing_refused, stray_refused, unknown_refused}
-use Rattle.phase_cli.proofs.laws.words_refused.Goals as goal
+use Rattle.phase_words.specs.CommandLine.{kinds_of, phase_app}
+use Rattle.phase_words.proofs.Refused.{missing_refused, stray_refused, unknown_refused}
+use Rattle.phase_words.proofs.laws.words_refused.Goals as goal
 
 kinds-command : kinds_of (codes "bogus" ∷ []) ≡ UnknownArgument ∷ InvalidSubcommand ∷ []
 unfolding kinds_of phase_app clap_on_literals

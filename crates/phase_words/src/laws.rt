@@ -1,6 +1,6 @@
 //! What clap makes of the words that the program's pages name.
 ghost use Rattle.std.specs.Prelude.{[], ◌∷◌, codes};
-ghost use Rattle.phase_cli.specs.CommandLine.{AreRefused, AskCheck, AskEval, AskHelp, AskReplay};
+ghost use Rattle.phase_words.specs.CommandLine.{AreRefused, AskCheck, AskEval, AskHelp, AskReplay};
 
 /// `phase` and `phase replay` ask for a replay.
 pub fn words_for_replay()

@@ -2,7 +2,7 @@
 use Rattle.std.proofs.Common.{◌≡◌, ◌∙◌, List, true, refl, ap, subst}
 use Rattle.clap.specs.Words.{App, Kinds, Text, fault_of, is_simple_and_free}
 use Rattle.clap.proofs.OnLiterals.{clap_on_literals}
-use Rattle.phase_cli.specs.CommandLine.{kinds_of, phase_app}
+use Rattle.phase_words.specs.CommandLine.{kinds_of, phase_app}
 
 pub phase_app_is_simple : is_simple_and_free phase_app ≡ true
 unfolding phase_app clap_on_literals

@@ -2,9 +2,9 @@
 use Rattle.std.proofs.Common.{◌≡◌, ◌∙◌, [], Some, codes, unwrap_or, sym, ap}
 use Rattle.clap.proofs.WalkLemmas.{first_value-rows}
 use Rattle.clap.specs.Words.{first_of, found_of, rows_of, subcommand_rows_of}
-use Rattle.phase_cli.specs.CommandLine.{asked_as, asked_by}
-use Rattle.phase_cli.proofs.Called.{found-both, found-name, now-unwrap_or}
-use Rattle.phase_cli.proofs.command_line.call_of.Goals as goal
+use Rattle.phase_words.specs.CommandLine.{asked_as, asked_by}
+use Rattle.phase_words.proofs.Called.{found-both, found-name, now-unwrap_or}
+use Rattle.phase_words.proofs.command_line.call_of.Goals as goal
 
 pub returns : goal.returns
 returns c =

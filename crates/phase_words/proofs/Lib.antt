@@ -1,0 +1,3 @@
+mod Called
+mod Refused
+mod Simple
