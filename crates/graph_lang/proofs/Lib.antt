@@ -1,13 +1,10 @@
 mod Alls
 mod Ends
-mod Examples
-mod Files
 mod Grown
 mod Known
 mod NamesKept
 mod NewTask
 mod ReadLines
-mod Readers
 mod Single
 mod Sound
 mod Wellformed
