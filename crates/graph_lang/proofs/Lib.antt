@@ -1,6 +1,7 @@
 mod Alls
 mod Ends
 mod Grown
+mod KindExamples
 mod Known
 mod NamesKept
 mod NewTask
