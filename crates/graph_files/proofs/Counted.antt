@@ -6,7 +6,7 @@ use Rattle.std.specs.Global.{Global}
 use Rattle.std.proofs.lemmas.List.{get_or_push, get_or_append_left, length_push, length-map, map_push}
 use Rattle.std.proofs.lemmas.List.Elements.{filter-append}
 use Rattle.std.proofs.lemmas.List.Sums.{count_by_more_yes, length-filter}
-use Rattle.graph_lang.specs.Graphs.{Graph, Task, no_task, task_at, file_at, is_source, source_number, sources_of}
+use Rattle.graph_base.specs.Graphs.{Graph, Task, no_task, task_at, file_at, is_source, source_number, sources_of}
 use Rattle.phase_files.specs.Files.{AreSamplesOf}
 use Rattle.stream_job.specs.Kept.{items_of}
 use Rattle.graph_files.specs.FileJobs.{AreFirstSamples, Known}

@@ -3,11 +3,11 @@
 use Rattle.std.specs.Prelude.{ℕ, ◌≡◌, ◌<◌, ◌≤◌, ◌⊎◌, List, [], length, get_or, ℤ, true, Ok, Err, Some, None, string_bytes}
 use Rattle.std.specs.declared.option.Option.{Option}
 use Rattle.graph_text.specs.Texts.{lines_of}
-use Rattle.graph_lang.specs.Graphs.{Graph, no_graph, task_at, file_at, name_at, is_source, source_number, sources_of}
+use Rattle.graph_base.specs.Graphs.{Graph, no_graph, task_at, file_at, name_at, is_source, source_number, sources_of}
 use Rattle.graph_lang.specs.Reads.{Reads}
 use Rattle.graph_lang.specs.declared.fault.FaultKind.TheVariants.{AnyMeets}
 use Rattle.graph_lang.specs.declared.fault.GraphFault.{GraphFault}
-use Rattle.graph_lang.specs.declared.place.Place.TheVariants as place
+use Rattle.graph_base.specs.declared.place.Place.TheVariants as place
 use Rattle.phase_files.specs.Files.{AreSamplesOf, HasBadSample, HasBytes, MayBeRefused}
 use Rattle.sample_text.specs.declared.sample.TheConstants.{TEXT_MAX}
 use Rattle.stream_job.specs.Jobs.{Job}

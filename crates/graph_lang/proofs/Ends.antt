@@ -2,7 +2,7 @@
 use Rattle.std.proofs.Common.{◌≡◌, ◌&&◌, Bool, true, false, Some, None, Option, IfSome, IsTrue, refl, ap, ◌∙◌}
 use Rattle.std.specs.List.{list_all}
 use Rattle.std.proofs.lemmas.List.Folds.{list_all-append}
-use Rattle.graph_text.specs.Words.{is_name}
+use Rattle.graph_words.specs.Words.{is_name}
 use Rattle.graph_text.specs.Numbers.{is_nat}
 use Rattle.graph_text.specs.Decls.{EndWords, ByWords, BodyWords, source, fir, split, join, peer, sink, IsBody, IsBy, AreEnds}
 use Rattle.graph_lang.specs.LineTasks.{inputs_of, outputs_of}

@@ -4,9 +4,8 @@ use Rattle.std.specs.Map.{lookup}
 use Rattle.std.specs.Str.{bytes_eq}
 use Rattle.std.specs.String.{string_eq}
 use Rattle.indexmap.specs.IndexMap.{insert_entry}
-use Rattle.graph_lang.specs.LineTasks.{place_of}
-use Rattle.graph_lang.specs.Names.{names_of}
-use Rattle.graph_lang.specs.declared.place.Place.{Place}
+use Rattle.graph_base.specs.Names.{place_of, names_of}
+use Rattle.graph_base.specs.declared.place.Place.{Place}
 
 -- names with their places, as the map keeps them
 abbrev Entries : Type 0

@@ -1,13 +1,11 @@
 mod Alls
 mod Ends
-mod Examples
-mod Files
 mod Grown
+mod KindExamples
 mod Known
 mod NamesKept
 mod NewTask
 mod ReadLines
-mod Readers
 mod Single
 mod Sound
 mod Wellformed

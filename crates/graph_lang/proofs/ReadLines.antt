@@ -1,10 +1,11 @@
 -- Lines that are read, one after another.
 use Rattle.std.proofs.Common.{ℕ, ◌≡◌, ◌<◌, ◌≤◌, ◌+◌, List, ◌∷◌, Bor, length, map, drop, get_or, refl, ap, sym, ◌∙◌, Result, Ok, Err, true, false, inl, inr, subst}
 use Rattle.std.proofs.lemmas.List.{drop_all}
-use Rattle.graph_text.specs.Texts.{Word, without_cr, words_of, are_printable, is_ignored}
+use Rattle.graph_words.specs.Words.{Word}
+use Rattle.graph_text.specs.Texts.{without_cr, words_of, are_printable, is_ignored}
 use Rattle.graph_text.specs.Plain.{plain}
 use Rattle.graph_text.specs.Decls.{Decl, Declares, Spells}
-use Rattle.graph_lang.specs.Graphs.{Graph, no_graph}
+use Rattle.graph_base.specs.Graphs.{Graph, no_graph}
 use Rattle.graph_lang.specs.Reads.{TellsDecl, Steps, Reads, TellsFault, Tells, fault_at, told}
 use Rattle.graph_lang.specs.Faults.{kind_of}
 use Rattle.graph_lang.specs.declared.fault.FaultKind.TheVariants.{Syntax}

@@ -1,6 +1,6 @@
 -- Lines have one reading.
 use Rattle.std.proofs.Common.{ℕ, ◌≡◌, ◌+◌, List, [], ◌∷◌, ap, sym, ◌∙◌, Result, Ok, Err, true, false, inl, inr, subst}
-use Rattle.graph_lang.specs.Graphs.{Graph}
+use Rattle.graph_base.specs.Graphs.{Graph}
 use Rattle.graph_lang.specs.Faults.{kind_of}
 use Rattle.graph_lang.specs.Reads.{Steps, Reads, told}
 use Rattle.graph_lang.specs.declared.fault.GraphFault.{GraphFault}

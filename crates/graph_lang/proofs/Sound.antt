@@ -1,17 +1,18 @@
 -- What holds of a line that has no fault.
 use Rattle.std.proofs.Common.{ℕ, List, [], ◌∷◌, ◌++◌, ap, sym, ◌∙◌, ◌≡◌, ◌&&◌, Bool, true, false, not, Option, Some, None, is_some, if◌then◌else◌, refl, nat_lt, length}
 use Rattle.std.specs.Option.{option_map_or}
-use Rattle.graph_text.specs.Texts.{Word}
+use Rattle.graph_words.specs.Words.{Word}
 use Rattle.graph_text.specs.Decls.{phaser, task, FunctionWords, BodyWords, EndWords}
-use Rattle.graph_lang.specs.Graphs.{Graph, Task}
-use Rattle.graph_lang.specs.LineTasks.{place_of, task_line, files_in}
+use Rattle.graph_base.specs.Graphs.{Graph, Task}
+use Rattle.graph_base.specs.Names.{place_of}
+use Rattle.graph_lang.specs.LineTasks.{task_line, files_in}
 use Rattle.graph_lang.specs.Faults.{kind_of, later_kind, phasers_of, is_past_limit}
 use Rattle.graph_lang.specs.Faults.{is_bound_within, is_function_within, is_body_within, are_ends_within, is_count_within}
 use Rattle.graph_lang.specs.Reads.{told, with_line}
-use Rattle.graph_lang.specs.declared.limits.TheConstants.{PHASERS_MAX, TASKS_MAX}
+use Rattle.graph_base.specs.declared.limits.TheConstants.{PHASERS_MAX, TASKS_MAX}
 use Rattle.graph_lang.specs.declared.fault.FaultKind.TheVariants.{Limit, Twice}
 use Rattle.graph_lang.specs.declared.fault.FaultKind.{FaultKind}
-use Rattle.graph_lang.specs.declared.place.Place.TheVariants as place
+use Rattle.graph_base.specs.declared.place.Place.TheVariants as place
 use Rattle.graph_lang.proofs.Alls.{both}
 
 -- the first row does not apply, and neither does any after it

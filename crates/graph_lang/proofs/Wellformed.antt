@@ -10,20 +10,20 @@ use Rattle.phase_base.specs.declared.limits.TheConstants.{BOUND_MAX}
 use Rattle.phase_accum.specs.Sends.{value_max}
 use Rattle.phase_accum.specs.Singles.{CanBeNamed}
 use Rattle.phase_accum.specs.declared.single.Single.TheVariants as single
-use Rattle.graph_text.specs.Texts.{Word}
-use Rattle.graph_text.specs.Words.{is_name, is_file}
+use Rattle.graph_words.specs.Words.{Word, is_name, is_file}
 use Rattle.graph_text.specs.Numbers.{nat_value, int_value}
 use Rattle.graph_text.specs.Decls.{Decl, phaser, task, FunctionWords, plain, clamp, BodyWords, source, fir, split, join, peer, sink, EndWords, IsBody, IsWellFormed}
-use Rattle.graph_lang.specs.Graphs.{Graph, no_graph, no_task, no_phaser, Task, IsPlace, is_same_place, task_at, sources_among, is_source}
-use Rattle.graph_lang.specs.LineTasks.{place_of, phaser_line, plain_single, single_of, task_line, kind_of_body, files_in}
+use Rattle.graph_base.specs.Graphs.{Graph, no_graph, no_task, no_phaser, Task, IsPlace, is_same_place, task_at, sources_among, is_source}
+use Rattle.graph_base.specs.Names.{place_of}
+use Rattle.graph_lang.specs.LineTasks.{phaser_line, plain_single, single_of, task_line, kind_of_body, files_in}
 use Rattle.graph_lang.specs.Faults.{kind_of, is_bound_within, is_function_within}
-use Rattle.graph_lang.specs.TaskLines.{IsGraph, IsPhaserLine, IsTaskLine, AreRising}
+use Rattle.graph_base.specs.TaskLines.{IsGraph, IsPhaserLine, IsTaskLine, AreRising}
 use Rattle.graph_lang.specs.Reads.{Reads, Steps, with_line, told, fault_at}
-use Rattle.graph_lang.specs.declared.limits.TheConstants.{PHASERS_MAX}
+use Rattle.graph_base.specs.declared.limits.TheConstants.{PHASERS_MAX}
 use Rattle.graph_lang.specs.declared.fault.FaultKind.{FaultKind}
 use Rattle.graph_lang.specs.declared.fault.FaultKind.TheVariants.{Limit, Twice, Syntax}
-use Rattle.graph_lang.specs.declared.place.Place.{Place}
-use Rattle.graph_lang.specs.declared.place.Place.TheVariants as place
+use Rattle.graph_base.specs.declared.place.Place.{Place}
+use Rattle.graph_base.specs.declared.place.Place.TheVariants as place
 use Rattle.graph_lang.proofs.Alls.{both}
 use Rattle.graph_lang.proofs.Sound.{row-passed, not-false, nothing-there}
 use Rattle.graph_lang.proofs.NamesKept.{AreNames-more, AddsName}

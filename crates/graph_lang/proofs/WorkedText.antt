@@ -3,11 +3,11 @@ use Rattle.std.proofs.Common.{ℕ, ◌≡◌, true, false, inl, sym, ap, List, [
 use Rattle.phase_accum.specs.declared.single.Single.TheVariants.{Clamp}
 use Rattle.graph_text.specs.Texts.{is_ignored}
 use Rattle.graph_text.specs.Decls.{Decl, phaser, task, clamp, source, sink, Declares}
-use Rattle.graph_lang.specs.declared.line.Op.TheVariants.{Sum, Least}
-use Rattle.graph_lang.specs.declared.line.Kind.TheVariants.{Source, Sink}
-use Rattle.graph_lang.specs.declared.place.Place.TheVariants as place
-use Rattle.graph_lang.specs.Graphs.{Graph, no_graph, no_task}
-use Rattle.graph_lang.specs.TaskLines.{IsGraph}
+use Rattle.graph_base.specs.declared.line.Op.TheVariants.{Sum, Least}
+use Rattle.graph_base.specs.declared.line.Kind.TheVariants.{Source, Sink}
+use Rattle.graph_base.specs.declared.place.Place.TheVariants as place
+use Rattle.graph_base.specs.Graphs.{Graph, no_graph, no_task}
+use Rattle.graph_base.specs.TaskLines.{IsGraph}
 use Rattle.graph_lang.specs.Reads.{Reads, Steps, with_line, told}
 use Rattle.graph_lang.specs.Faults.{kind_of}
 use Rattle.graph_lang.proofs.Wellformed.{reads_give_graph}

@@ -6,17 +6,18 @@ use Rattle.std.specs.Int.Signed.{le_z}
 use Rattle.std.specs.Str.{bytes_eq}
 use Rattle.phase_base.specs.declared.limits.TheConstants.{BOUND_MAX}
 use Rattle.phase_accum.specs.Sends.{value_max}
-use Rattle.graph_text.specs.Texts.{Word}
+use Rattle.graph_words.specs.Words.{Word}
 use Rattle.graph_text.specs.Numbers.{nat_value, int_value}
 use Rattle.graph_text.specs.Decls.{Decl, phaser, task, FunctionWords, plain, clamp, ByWords, EndWords}
 use Rattle.graph_text.specs.Decls.{BodyWords, source, fir, split, join, peer, sink}
-use Rattle.graph_lang.specs.Graphs.{Graph, Task, Named, task_at, phaser_at}
-use Rattle.graph_lang.specs.LineTasks.{place_of, phaser_named, task_named, inputs_of, outputs_of, task_line}
-use Rattle.graph_lang.specs.TaskLines.{has_children}
-use Rattle.graph_lang.specs.declared.limits.TheConstants.{PHASERS_MAX, TASKS_MAX, ENDS_MAX, COUNT_MAX, FACTOR_MAX}
-use Rattle.graph_lang.specs.declared.line.Kind.{Kind}
-use Rattle.graph_lang.specs.declared.line.Kind.TheVariants as kind
-use Rattle.graph_lang.specs.declared.line.Parent.{Parent}
+use Rattle.graph_base.specs.Graphs.{Graph, Task, Named, task_at, phaser_at}
+use Rattle.graph_base.specs.Names.{place_of, phaser_named, task_named}
+use Rattle.graph_lang.specs.LineTasks.{inputs_of, outputs_of, task_line}
+use Rattle.graph_base.specs.TaskLines.{has_children}
+use Rattle.graph_base.specs.declared.limits.TheConstants.{PHASERS_MAX, TASKS_MAX, ENDS_MAX, COUNT_MAX, FACTOR_MAX}
+use Rattle.graph_base.specs.declared.line.Kind.{Kind}
+use Rattle.graph_base.specs.declared.line.Kind.TheVariants as kind
+use Rattle.graph_base.specs.declared.line.Parent.{Parent}
 use Rattle.graph_lang.specs.declared.fault.FaultKind.{FaultKind}
 use Rattle.graph_lang.specs.declared.fault.FaultKind.TheVariants.{Limit, Twice, Unknown, OutBeforeIn, BadParent, NotHeld}
 use Rattle.stream_filters.specs.declared.fir.TheConstants.{TAPS_MAX, TAP_MAX, SHIFT_MAX}

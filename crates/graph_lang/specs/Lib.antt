@@ -1,7 +1,4 @@
+pub mod Drafts
 pub mod Faults
-pub mod Graphs
-pub mod Kept
 pub mod LineTasks
-pub mod Names
 pub mod Reads
-pub mod TaskLines

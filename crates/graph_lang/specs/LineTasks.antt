@@ -3,45 +3,18 @@ use Rattle.std.specs.Prelude.{ℕ, List, [], ◌∷◌, map, Option, Some, None,
 use Rattle.std.specs.Str.{bytes_eq}
 use Rattle.phase_accum.specs.declared.single.Single.{Single}
 use Rattle.phase_accum.specs.declared.single.Single.TheVariants.{Neg, Abs, Halve, Clamp}
-use Rattle.graph_text.specs.Texts.{Word}
+use Rattle.graph_words.specs.Words.{Word}
 use Rattle.graph_text.specs.Numbers.{nat_value, int_value}
 use Rattle.graph_text.specs.Decls.{FunctionWords, plain, clamp, ByWords, EndWords}
 use Rattle.graph_text.specs.Decls.{BodyWords, source, fir, split, join, peer, sink}
-use Rattle.graph_lang.specs.Graphs.{Task, Named}
-use Rattle.graph_lang.specs.declared.line.Op.{Op}
-use Rattle.graph_lang.specs.declared.line.Op.TheVariants.{Sum, Product, Least, Greatest, Any}
-use Rattle.graph_lang.specs.declared.line.Kind.{Kind}
-use Rattle.graph_lang.specs.declared.line.Kind.TheVariants as kind
-use Rattle.graph_lang.specs.declared.line.Parent.{Parent}
-use Rattle.graph_lang.specs.declared.line.PhaserLine.{PhaserLine}
-use Rattle.graph_lang.specs.declared.place.Place.{Place}
-use Rattle.graph_lang.specs.declared.place.Place.TheVariants as place
-
--- ---- names
-
--- what a name stands for, where it was declared
-abbrev pub place_of : List Named → Word → Option Place
-place_of [] name = None
-place_of (named ∷ others) name =
-    if bytes_eq name named.0 then Some named.1 else place_of others name
-
-abbrev pub phaser_number : Option Place → Option ℕ
-phaser_number None = None
-phaser_number (Some (place.Phaser p)) = Some p
-phaser_number (Some (place.Task t)) = None
-
-abbrev pub task_number : Option Place → Option ℕ
-task_number None = None
-task_number (Some (place.Phaser p)) = None
-task_number (Some (place.Task t)) = Some t
-
--- the phaser of that name
-abbrev pub phaser_named : List Named → Word → Option ℕ
-phaser_named names name = phaser_number (place_of names name)
-
--- the task of that name
-abbrev pub task_named : List Named → Word → Option ℕ
-task_named names name = task_number (place_of names name)
+use Rattle.graph_base.specs.Graphs.{Task, Named}
+use Rattle.graph_base.specs.Names.{phaser_named, task_named}
+use Rattle.graph_base.specs.declared.line.Op.{Op}
+use Rattle.graph_base.specs.declared.line.Op.TheVariants.{Sum, Product, Least, Greatest, Any}
+use Rattle.graph_base.specs.declared.line.Kind.{Kind}
+use Rattle.graph_base.specs.declared.line.Kind.TheVariants as kind
+use Rattle.graph_base.specs.declared.line.Parent.{Parent}
+use Rattle.graph_base.specs.declared.line.PhaserLine.{PhaserLine}
 
 abbrev pub or_zero : Option ℕ → ℕ
 or_zero None = 0

@@ -3,21 +3,20 @@ ghost use Rattle.std.specs.Prelude.{◌≡◌, ◌++◌, ◌∷◌, [], IsTrue, 
 ghost use Rattle.std.specs.Option.{option_map_or};
 ghost use Rattle.std.specs.List.{list_all};
 ghost use Rattle.graph_text.specs.Numbers.{is_nat};
-ghost use Rattle.graph_text.specs.Words.{is_name, is_file};
+ghost use Rattle.graph_words.specs.Words.{is_name, is_file};
 ghost use Rattle.graph_text.specs.Decls.{IsBody, IsBy};
 ghost use Rattle.graph_text.specs.Lines.{body_of, ends_of, by_of, word_of};
-ghost use Rattle.graph_lang.specs.Kept.{task_of};
-ghost use Rattle.graph_lang.specs.Names.{files_of};
-ghost use Rattle.graph_lang.specs.LineTasks.{place_of, files_in, task_line, inputs_of, outputs_of};
+ghost use Rattle.graph_base.specs.Kept.{task_of};
+ghost use Rattle.graph_base.specs.Names.{files_of, place_of};
+ghost use Rattle.graph_lang.specs.LineTasks.{files_in, task_line, inputs_of, outputs_of};
 ghost use Rattle.graph_lang.specs.Faults.{is_body_within, is_count_within};
 
 use crate::declare::until_in;
 use crate::draft::{Draft, add_name};
-use crate::line::{Op, PhaserLine, TaskLine};
 use crate::parents::parent_of;
 use crate::phasers::{input_words, kind_of, numbers_of, output_words};
-use crate::place::Place;
 use crate::within::{factor_of, shift_of, taps_of};
+use graph_base::{Op, PhaserLine, Place, TaskLine};
 use graph_text::{Body, TaskWords, file_text, name_text};
 use phase_accum::Single;
 use std::alloc::{AllocError, Global};

@@ -1,11 +1,10 @@
 //! The graph that the lines so far declare.
 ghost use Rattle.std.specs.Prelude.{◌≡◌, ◌++◌, ◌∷◌, [], OnOk};
-ghost use Rattle.graph_lang.specs.Graphs.{no_graph};
-ghost use Rattle.graph_lang.specs.Names.{names_of};
-ghost use Rattle.graph_lang.specs.LineTasks.{place_of, phaser_named, task_named};
+ghost use Rattle.graph_base.specs.Graphs.{no_graph};
+ghost use Rattle.graph_base.specs.TaskLines.{IsGraph};
+ghost use Rattle.graph_base.specs.Names.{names_of, place_of, phaser_named, task_named};
 
-use crate::line::{PhaserLine, TaskLine};
-use crate::place::Place;
+use graph_base::{Graph, PhaserLine, Place, TaskLine};
 use indexmap::IndexMap;
 use std::alloc::{AllocError, Global};
 use std::marker::Model;
@@ -20,11 +19,11 @@ pub(crate) struct Draft {
 }
 
 impl Model for Draft {
-    ghost use Rattle.graph_lang.specs.Graphs.{Graph as GraphValue};
+    ghost use Rattle.graph_base.specs.Graphs.{Graph as GraphValue};
 
     ghost Value = { GraphValue };
 
-    ghost use Rattle.graph_lang.specs.Kept.{draft_view};
+    ghost use Rattle.graph_lang.specs.Drafts.{draft_view};
 
     ghost view = { draft_view };
 }
@@ -40,6 +39,14 @@ impl Draft {
             tasks: Vec::new(alloc),
             files: Vec::new(alloc),
         }
+    }
+
+    /// The graph of lines that were read to the last.
+    pub(crate) fn into_graph(self) -> Graph
+        requires { IsGraph self }
+        ensures { result ≡ self }
+    {
+        Graph::of(self.names, self.phasers, self.tasks, self.files)
     }
 }
 

@@ -2,22 +2,21 @@
 ghost use Rattle.std.specs.Prelude.{◌≡◌, ◌||◌, ◌&&◌, ◌∷◌, [], not, is_some, option_map, IsTrue, IfSome};
 ghost use Rattle.std.specs.List.{list_all};
 ghost use Rattle.graph_text.specs.Plain.{plain};
-ghost use Rattle.graph_text.specs.Words.{is_name};
+ghost use Rattle.graph_words.specs.Words.{is_name};
 ghost use Rattle.graph_text.specs.Decls.{IsBy};
 ghost use Rattle.graph_text.specs.Lines.{by_of};
-ghost use Rattle.graph_lang.specs.Names.{names_of};
-ghost use Rattle.graph_lang.specs.Kept.{task_of};
-ghost use Rattle.graph_lang.specs.LineTasks.{place_of, parent_of};
-ghost use Rattle.graph_lang.specs.TaskLines.{has_children};
+ghost use Rattle.graph_base.specs.Names.{names_of, place_of};
+ghost use Rattle.graph_base.specs.Kept.{task_of};
+ghost use Rattle.graph_lang.specs.LineTasks.{parent_of};
+ghost use Rattle.graph_base.specs.TaskLines.{has_children};
 ghost use Rattle.graph_lang.specs.Faults.{is_parent_known, is_phaser, is_in_order, may_be_parent};
 ghost use Rattle.graph_lang.specs.Faults.{is_held, holds_for, is_plain, is_count_within, later_kind};
 
 use crate::draft::{Draft, place_of, task_named};
 use crate::fault::FaultKind;
-use crate::line::{Kind, Parent, TaskLine};
 use crate::phasers::{are_among, are_distinct, are_in_order, are_phasers, is_exchange_below};
-use crate::place::Place;
 use crate::within::count_in;
+use graph_base::{Kind, Parent, Place, TaskLine};
 use graph_text::{By, name_text};
 use indexmap::IndexMap;
 

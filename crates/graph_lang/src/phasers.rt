@@ -3,16 +3,15 @@ ghost use Rattle.std.specs.Prelude.{◌≡◌, ◌++◌, ◌==◌, nat_lt, IsTru
 ghost use Rattle.std.specs.Str.{bytes_eq};
 ghost use Rattle.std.specs.List.{list_all, list_any};
 ghost use Rattle.graph_text.specs.Plain.{plain};
-ghost use Rattle.graph_text.specs.Words.{is_name};
+ghost use Rattle.graph_words.specs.Words.{is_name};
 ghost use Rattle.graph_text.specs.Lines.{body_of};
-ghost use Rattle.graph_lang.specs.Names.{names_of};
-ghost use Rattle.graph_lang.specs.LineTasks.{inputs_of, outputs_of, numbers_of, kind_of_body, or_zero, phaser_named};
+ghost use Rattle.graph_base.specs.Names.{names_of, phaser_named};
+ghost use Rattle.graph_lang.specs.LineTasks.{inputs_of, outputs_of, numbers_of, kind_of_body, or_zero};
 ghost use Rattle.graph_lang.specs.Faults.{are_distinct, is_phaser, is_among, phasers_of};
 ghost use Rattle.graph_lang.specs.Faults.{is_exchange_below};
 
 use crate::draft::phaser_named;
-use crate::line::Kind;
-use crate::place::Place;
+use graph_base::{Kind, Place};
 use graph_text::{Body, name_text};
 use indexmap::IndexMap;
 use std::alloc::{AllocError, Global};

@@ -10,9 +10,8 @@ ghost use Rattle.graph_lang.specs.Reads.{TellsDecl, Steps, TellsFault, Tells};
 use crate::declare::{bound_in, fault, is_single_within, phaser_words, single_in};
 use crate::draft::{Draft, place_of};
 use crate::fault::{FaultKind, GraphRefusal};
-use crate::graph::Graph;
-use crate::limits::{PHASERS_MAX, TASKS_MAX};
 use crate::within::{are_ends_within, is_body_within, is_bound_within, operation_of};
+use graph_base::{Graph, PHASERS_MAX, TASKS_MAX};
 use graph_text::{
     Line, PhaserWords, TaskWords, are_printable, begins_comment, line_at, lines_of, name_text,
     without_cr, words_of,
@@ -152,5 +151,5 @@ pub fn read_graph(alloc: Global, text: &[u8]) -> Result<Graph, GraphRefusal>
         draft.read_line(alloc, number, without_cr(line))?;
         number += 1;
     }
-    Ok(Graph::of(draft))
+    Ok(draft.into_graph())
 }

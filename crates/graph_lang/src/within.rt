@@ -13,8 +13,7 @@ ghost use Rattle.graph_lang.specs.Faults.{is_function_within, is_bound_within, i
 ghost use Rattle.graph_lang.specs.Faults.{is_tap_within, is_number_of_ends, is_count_within};
 ghost use Rattle.graph_lang.specs.Faults.{are_ends_within};
 
-use crate::limits::{COUNT_MAX, ENDS_MAX, FACTOR_MAX};
-use crate::line::Op;
+use graph_base::{COUNT_MAX, ENDS_MAX, FACTOR_MAX, Op};
 use graph_text::{Body, Ends, Function, int_within, nat_within};
 use phase_accum::Single;
 use phase_base::BOUND_MAX;

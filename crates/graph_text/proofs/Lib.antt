@@ -1,5 +1,6 @@
 mod Answered
 mod Digits
+mod Examples
 mod Fronts
 mod Kept
 pub mod Spelled

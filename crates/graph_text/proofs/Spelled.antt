@@ -2,11 +2,11 @@
 use Rattle.std.proofs.Common.{◌≡◌, ◌==◌, Bool, true, false, List, [], ◌∷◌, ◌++◌, length, refl, ap, sym, ◌∙◌, arith, Option, Some, None, codes, IfSome, IsTrue, rules, ne_eqb, append-nil, append_assoc}
 use Rattle.std.specs.List.{list_all}
 use Rattle.std.specs.Str.{bytes_eq}
-use Rattle.graph_text.specs.Texts.{Word}
+use Rattle.graph_words.specs.Words.{Word, is_name}
 use Rattle.std.proofs.lemmas.Option.{same_Some}
 use Rattle.std.proofs.lemmas.Slice.Eq.{bytes_eq-Decides}
 use Rattle.graph_text.proofs.Digits.{both}
-use Rattle.graph_text.specs.Words.{is_name, is_function}
+use Rattle.graph_text.specs.Words.{is_function}
 use Rattle.graph_text.specs.Numbers.{is_nat, is_int}
 use Rattle.graph_text.specs.Decls.{Decl, phaser, task, FunctionWords, plain, clamp, ByWords, EndWords, BodyWords, source, fir, split, join, peer, sink}
 use Rattle.graph_text.specs.Decls.{spelling, function_words, single_words, by_words, until_words, end_words, kind_word, body_words, IsFunction, IsBody, AreEnds, AreSome, IsWellFormed, may_have_parent, Spells}

@@ -6,8 +6,8 @@ use Rattle.std.proofs.lemmas.Bool.Decides.{nat_tests}
 use Rattle.std.proofs.lemmas.List.{append_assoc}
 use Rattle.std.proofs.lemmas.Option.{cond_some, same_Some}
 use Rattle.std.proofs.lemmas.Slice.Eq.{bytes_eq-Decides}
-use Rattle.graph_text.specs.Texts.{Word}
-use Rattle.graph_text.specs.Words.{is_name, is_file, is_operation, is_function}
+use Rattle.graph_words.specs.Words.{Word, is_name, is_file}
+use Rattle.graph_text.specs.Words.{is_operation, is_function}
 use Rattle.graph_text.specs.Numbers.{is_nat, is_int}
 use Rattle.graph_text.specs.Decls.{Decl, phaser, task, FunctionWords, plain, clamp, ByWords, EndWords, BodyWords}
 use Rattle.graph_text.specs.Decls.{function_words, single_words, by_words, until_words, end_words, kind_word, body_words, IsFunction, IsBody, IsBy, AreEnds, AreSome, may_have_parent, Spells}

@@ -2,8 +2,9 @@
 -- numbers stand as they are written.
 use Rattle.std.specs.Prelude.{ℕ, ◌≡◌, ◌≤◌, Bool, true, false, List, [], ◌∷◌, ◌++◌, length, Option, Some, None, IsTrue, IfSome, codes}
 use Rattle.std.specs.List.{list_all}
-use Rattle.graph_text.specs.Texts.{Word, words_of, are_printable}
-use Rattle.graph_text.specs.Words.{is_name, is_file, is_operation, is_function}
+use Rattle.graph_words.specs.Words.{Word, is_name, is_file}
+use Rattle.graph_text.specs.Texts.{words_of, are_printable}
+use Rattle.graph_text.specs.Words.{is_operation, is_function}
 use Rattle.graph_text.specs.Numbers.{is_nat, is_int}
 
 -- ---- what a line declares

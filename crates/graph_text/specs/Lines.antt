@@ -1,7 +1,7 @@
 -- The lines of the program, without where their words lie in memory.
 use Rattle.std.specs.Prelude.{ℕ, List, Option, Some, None}
 use Rattle.std.specs.Borrow.{Bor}
-use Rattle.graph_text.specs.Texts.{Word}
+use Rattle.graph_words.specs.Words.{Word}
 use Rattle.graph_text.specs.Plain.{plain as words_in}
 use Rattle.graph_text.specs.Decls.{Decl, phaser, task, FunctionWords, plain, clamp, ByWords, EndWords}
 use Rattle.graph_text.specs.Decls.{BodyWords, source, fir, split, join, peer, sink}

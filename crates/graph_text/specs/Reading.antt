@@ -2,8 +2,8 @@
 -- laws of reading say that the two agree.
 use Rattle.std.specs.Prelude.{◌==◌, ◌&&◌, Bool, false, List, [], ◌∷◌, length, Option, Some, None, option_and_then, if◌then◌else◌, codes}
 use Rattle.std.specs.Str.{bytes_eq}
-use Rattle.graph_text.specs.Texts.{Word}
-use Rattle.graph_text.specs.Words.{is_name, is_file, is_operation, is_function}
+use Rattle.graph_words.specs.Words.{Word, is_name, is_file}
+use Rattle.graph_text.specs.Words.{is_operation, is_function}
 use Rattle.graph_text.specs.Numbers.{is_nat, is_int}
 use Rattle.graph_text.specs.Decls.{Decl, phaser, task, FunctionWords, plain, clamp, ByWords, EndWords}
 use Rattle.graph_text.specs.Decls.{BodyWords, source, fir, split, join, peer, sink, may_have_parent}

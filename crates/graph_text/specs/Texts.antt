@@ -1,10 +1,7 @@
 -- The lines of a text, and the words of a line.
 use Rattle.std.specs.Prelude.{ℕ, ◌-◌, ◌==◌, ◌&&◌, ◌||◌, nat_le, Bool, true, not, if◌then◌else◌, List, [], ◌∷◌, length, map, take, filter, slice_index}
 use Rattle.std.specs.List.{slice_split, list_all}
-
--- the bytes of a word
-abbrev pub Word : Type 0
-Word = List ℕ
+use Rattle.graph_words.specs.Words.{Word, is_word_byte}
 
 abbrev pub is_line_feed : ℕ → Bool
 is_line_feed b = b == 10
@@ -29,10 +26,6 @@ is_empty bytes = length bytes == 0
 -- what stands between blanks
 abbrev pub words_of : List ℕ → List Word
 words_of line = filter (λ word. not (is_empty word)) (slice_split is_blank line)
-
--- a byte of a word
-abbrev pub is_word_byte : ℕ → Bool
-is_word_byte b = nat_le 33 b && nat_le b 126
 
 -- a blank, or a byte of a word
 abbrev pub is_printable : ℕ → Bool

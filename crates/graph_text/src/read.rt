@@ -1,7 +1,7 @@
 //! Reading the words of a line, one after another.
 ghost use Rattle.std.specs.Prelude.{◌≡◌, ◌≤◌, map, length, option_map, codes, IfSome, IfNone};
 ghost use Rattle.graph_text.specs.Plain.{plain};
-ghost use Rattle.graph_text.specs.Words.{is_name as is_name_word, is_file as is_file_word};
+ghost use Rattle.graph_words.specs.Words.{is_name as is_name_word, is_file as is_file_word};
 ghost use Rattle.graph_text.specs.Words.{is_operation as is_operation_word};
 ghost use Rattle.graph_text.specs.Words.{is_function as is_function_word};
 ghost use Rattle.graph_text.specs.Numbers.{is_nat as is_nat_word, is_int as is_int_word};
@@ -16,7 +16,8 @@ ghost use Rattle.graph_text.specs.Reading.{phaser_at, task_at, line_at};
 
 use crate::line::{Body, By, Ends, Function, Line, PhaserWords, TaskWords};
 use crate::number::{is_int, is_nat};
-use crate::word::{is_file, is_function, is_name, is_operation};
+use crate::word::{is_function, is_operation};
+use graph_words::{is_file, is_name};
 
 // ---- words
 

@@ -5,9 +5,9 @@ use Rattle.std.proofs.lemmas.Bool.{cases_lt}
 use Rattle.std.proofs.lemmas.List.{get_or-map, get_or_push, get_or_append_left, length_push, length-map}
 use Rattle.std.proofs.lemmas.List.Elements.{All-filter, All-map}
 use Rattle.std.proofs.lemmas.List.FromFn.{get_or-map-range_with_len, get_or-range_with_len, length-map-range_with_len, length-range_with_len}
-use Rattle.graph_lang.specs.Graphs.{IsPlace}
-use Rattle.graph_lang.specs.declared.place.Place.{Place}
-use Rattle.graph_lang.specs.declared.place.Place.TheVariants as place
+use Rattle.graph_base.specs.Graphs.{IsPlace}
+use Rattle.graph_base.specs.declared.place.Place.{Place}
+use Rattle.graph_base.specs.declared.place.Place.TheVariants as place
 use Rattle.stream_job.specs.Jobs.{Job}
 use Rattle.stream_job.specs.Kept.{told}
 use Rattle.stream_job.specs.Lists.{is_sink_at, lines_of, numbers_above, numbers_of, sink_over, sinks_of}

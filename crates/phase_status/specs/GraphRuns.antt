@@ -3,10 +3,10 @@ use Rattle.std.specs.Prelude.{◌≡◌, ◌⊎◌, ℕ, Bool, true, List, [], �
 use Rattle.std.specs.List.{flat_map}
 use Rattle.std.specs.Io.KnownBytes.{Appends}
 use Rattle.std.specs.declared.option.Option.{Option}
-use Rattle.graph_lang.specs.Graphs.{Graph, name_at}
+use Rattle.graph_base.specs.Graphs.{Graph, name_at}
 use Rattle.graph_lang.specs.declared.fault.FaultKind.{FaultKind}
 use Rattle.graph_lang.specs.declared.fault.FaultKind.TheVariants.{Syntax, Limit, Twice, Unknown, OutBeforeIn, BadParent, NotHeld, AnyMeets}
-use Rattle.graph_lang.specs.declared.place.Place.{Place}
+use Rattle.graph_base.specs.declared.place.Place.{Place}
 use Rattle.stream_job.specs.Jobs.{Job}
 use Rattle.stream_job.specs.Lists.{lines_of}
 use Rattle.stream_job.specs.Ranges.{Fits, first_too_big}

@@ -1,6 +1,6 @@
 //! The lines of a graph's faults.
 ghost use Rattle.std.specs.Prelude.{◌≡◌};
-ghost use Rattle.graph_lang.specs.Graphs.{IsPlace, name_at};
+ghost use Rattle.graph_base.specs.Graphs.{IsPlace, name_at};
 ghost use Rattle.phase_status.specs.GraphRuns.{graph_line, job_line, job_status, kind_text};
 ghost use Rattle.phase_status.specs.GraphRuns.{samples_line, too_big_line};
 ghost use Rattle.phase_status.specs.Statuses.{Says};

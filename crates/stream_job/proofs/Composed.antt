@@ -6,13 +6,13 @@ use Rattle.std.specs.Global.{Global}
 use Rattle.std.specs.List.{range_with_len, find}
 use Rattle.std.proofs.lemmas.List.{map_push}
 use Rattle.std.proofs.lemmas.List.FromFn.{map-range_with_len_more}
-use Rattle.graph_lang.specs.Graphs.{phaser_at}
+use Rattle.graph_base.specs.Graphs.{phaser_at}
 use Rattle.stream_job.specs.Jobs.{Job}
 use Rattle.stream_job.specs.Spans.{spans_of, lengths_of}
 use Rattle.stream_job.specs.Lists.{Member, members_of, value_by, list_over, number, number_in, phase_in, numbers_up_to}
 use Rattle.stream_job.specs.Ranges.{Where, output_fault_of, phase_fault_of, is_fault, first_some, fault_over, fault_on}
 use Rattle.phase_accum.specs.declared.outcome.Outcome.{Outcome}
-use Rattle.graph_lang.specs.declared.place.Place.TheVariants as place
+use Rattle.graph_base.specs.declared.place.Place.TheVariants as place
 use Rattle.stream_job.specs.Kept.{items_of}
 use Rattle.stream_job.proofs.Firsts.{fold-range_more, first-append_some, first-append_none}
 

@@ -2,12 +2,12 @@
 use Rattle.std.proofs.Common.{◌≡◌, [], ◌∷◌, List, ℕ, ℤ, pos, neg_ℤ, Some, None, Ok, Err, map, refl}
 use Rattle.phase_accum.specs.declared.single.Single.{Single}
 use Rattle.phase_accum.specs.declared.single.Single.TheVariants.{Neg, Halve, Clamp}
-use Rattle.graph_lang.specs.declared.line.Op.{Op}
-use Rattle.graph_lang.specs.declared.line.Op.TheVariants.{Sum, Product, Least, Greatest, Any}
-use Rattle.graph_lang.specs.declared.line.Kind.TheVariants.{Source, Fir, Split, Join, Peer}
-use Rattle.graph_lang.specs.declared.place.Place.TheVariants as place
-use Rattle.graph_lang.specs.declared.line.PhaserLine.{PhaserLine}
-use Rattle.graph_lang.specs.Graphs.{Graph, Task, no_graph, no_task}
+use Rattle.graph_base.specs.declared.line.Op.{Op}
+use Rattle.graph_base.specs.declared.line.Op.TheVariants.{Sum, Product, Least, Greatest, Any}
+use Rattle.graph_base.specs.declared.line.Kind.TheVariants.{Source, Fir, Split, Join, Peer}
+use Rattle.graph_base.specs.declared.place.Place.TheVariants as place
+use Rattle.graph_base.specs.declared.line.PhaserLine.{PhaserLine}
+use Rattle.graph_base.specs.Graphs.{Graph, Task, no_graph, no_task}
 use Rattle.stream_job.specs.Jobs.{Job}
 use Rattle.stream_job.specs.Ranges.{answer_of}
 use Rattle.stream_job.specs.Meetings.{meeting_line}

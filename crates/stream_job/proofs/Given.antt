@@ -2,7 +2,7 @@
 use Rattle.std.proofs.Common.{◌≡◌, ℕ, ℤ, List, sym, ap, ◌∙◌}
 use Rattle.std.specs.Prelude.{Vec, Option}
 use Rattle.std.specs.Global.{Global}
-use Rattle.graph_lang.specs.Graphs.{Graph}
+use Rattle.graph_base.specs.Graphs.{Graph}
 use Rattle.stream_job.specs.Kept.{given}
 use Rattle.stream_job.specs.Meetings.{meeting_at, meeting_line}
 use Rattle.stream_job.specs.Spans.{lengths_of, spans_of, spans_over}

@@ -2,10 +2,10 @@
 use Rattle.std.proofs.Common.{◌≡◌, ℕ, zero, suc, ◌-◌, ◌<◌, List, length, get_or, Some, None, true, refl, sym, ap, subst, ◌∙◌, arith}
 use Rattle.std.specs.Prelude.{Option}
 use Rattle.std.proofs.lemmas.List.{get_or-map}
-use Rattle.graph_lang.specs.Graphs.{Task, task_at}
-use Rattle.graph_lang.specs.TaskLines.{IsGraph, IsTaskLine, IsParent, HasEnds}
-use Rattle.graph_lang.specs.declared.line.Kind.{Kind}
-use Rattle.graph_lang.specs.declared.line.Kind.TheVariants.{Source, Fir, Split, Join, Peer, Sink}
+use Rattle.graph_base.specs.Graphs.{Task, task_at}
+use Rattle.graph_base.specs.TaskLines.{IsGraph, IsTaskLine, IsParent, HasEnds}
+use Rattle.graph_base.specs.declared.line.Kind.{Kind}
+use Rattle.graph_base.specs.declared.line.Kind.TheVariants.{Source, Fir, Split, Join, Peer, Sink}
 use Rattle.stream_job.specs.Jobs.{Job, samples_at, place_in}
 use Rattle.stream_job.specs.Spans.{nowhere, signalled_by, offset_of, cut_at, span_at, spans_over, spans_of, lengths_of, enough_for, values_from, greatest, length_on, end_on, end_of}
 use Rattle.stream_job.specs.declared.span.Span.{Span}

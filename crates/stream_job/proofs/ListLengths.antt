@@ -3,10 +3,10 @@ use Rattle.std.proofs.Common.{◌≡◌, ℕ, ◌+◌, ◌-◌, ◌<◌, ◌≤�
 use Rattle.std.specs.Prelude.{Option, nat_lt, if◌then◌else◌}
 use Rattle.std.proofs.lemmas.List.{length-map, length-take-le, length-drop}
 use Rattle.std.proofs.lemmas.List.FromFn.{length-map-range_with_len}
-use Rattle.graph_lang.specs.Graphs.{Task, task_at}
-use Rattle.graph_lang.specs.TaskLines.{IsGraph, IsTaskLine, HasEnds}
-use Rattle.graph_lang.specs.declared.line.Kind.{Kind}
-use Rattle.graph_lang.specs.declared.line.Kind.TheVariants.{Source, Fir, Split, Join, Peer, Sink}
+use Rattle.graph_base.specs.Graphs.{Task, task_at}
+use Rattle.graph_base.specs.TaskLines.{IsGraph, IsTaskLine, HasEnds}
+use Rattle.graph_base.specs.declared.line.Kind.{Kind}
+use Rattle.graph_base.specs.declared.line.Kind.TheVariants.{Source, Fir, Split, Join, Peer, Sink}
 use Rattle.stream_job.specs.Jobs.{Job, samples_at, place_in}
 use Rattle.stream_job.specs.Spans.{signalled_by, puts_on, takes_from, turns_below, offset_of, cut_at, span_at, spans_of, lengths_of, span_in, enough_for, values_from, greatest, end_on, end_of}
 use Rattle.stream_job.specs.Lists.{turn_at, mixed, taken_by, output_list, output_on, member_at, member_by, list_over, number, numbers_of, end_of_member, ends_on}

@@ -3,11 +3,11 @@ use Rattle.std.proofs.Common.{◌≡◌, ℕ, zero, suc, ◌+◌, ◌<◌, Bool,
 use Rattle.std.specs.Prelude.{Option}
 use Rattle.std.specs.List.{position_from}
 use Rattle.std.proofs.lemmas.Option.{same_Some}
-use Rattle.graph_lang.specs.Graphs.{Graph, Task, task_at}
-use Rattle.graph_lang.specs.TaskLines.{IsTaskLine, IsParent, HasEnds, IsExchangeBelow, has_children}
-use Rattle.graph_lang.specs.declared.line.Kind.{Kind}
-use Rattle.graph_lang.specs.declared.line.Kind.TheVariants.{Source, Fir, Split, Join, Peer, Sink}
-use Rattle.graph_lang.specs.declared.line.Parent.{Parent}
+use Rattle.graph_base.specs.Graphs.{Graph, Task, task_at}
+use Rattle.graph_base.specs.TaskLines.{IsTaskLine, IsParent, HasEnds, IsExchangeBelow, has_children}
+use Rattle.graph_base.specs.declared.line.Kind.{Kind}
+use Rattle.graph_base.specs.declared.line.Kind.TheVariants.{Source, Fir, Split, Join, Peer, Sink}
+use Rattle.graph_base.specs.declared.line.Parent.{Parent}
 use Rattle.stream_job.specs.Jobs.{place_in}
 use Rattle.stream_job.specs.Spans.{signalled_by}
 

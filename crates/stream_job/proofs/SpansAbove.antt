@@ -1,9 +1,9 @@
 -- The span of a task, over the spans of the tasks above it, or of all tasks.
 use Rattle.std.proofs.Common.{◌≡◌, ℕ, ◌+◌, ◌<◌, List, length, get_or, Some, None, refl, ap, subst}
 use Rattle.std.specs.Prelude.{Option, IfSome, nat_le, ◌&&◌, if◌then◌else◌}
-use Rattle.graph_lang.specs.Graphs.{Graph, Task, task_at}
-use Rattle.graph_lang.specs.TaskLines.{IsGraph, IsTaskLine, IsParent}
-use Rattle.graph_lang.specs.declared.line.Parent.{Parent}
+use Rattle.graph_base.specs.Graphs.{Graph, Task, task_at}
+use Rattle.graph_base.specs.TaskLines.{IsGraph, IsTaskLine, IsParent}
+use Rattle.graph_base.specs.declared.line.Parent.{Parent}
 use Rattle.stream_job.specs.Jobs.{Job, samples_at}
 use Rattle.stream_job.specs.Spans.{nowhere, offset_of, span_at, span_of, spans_up_to, spans_over, lengths_of, spans_of, span_in}
 use Rattle.stream_job.specs.declared.span.Span.{Span}

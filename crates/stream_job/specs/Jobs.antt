@@ -1,7 +1,7 @@
 -- A graph with the samples of its sources.
 use Rattle.std.specs.Prelude.{ℕ, ℤ, List, [], ◌==◌, Option, get_or}
 use Rattle.std.specs.List.{position_from}
-use Rattle.graph_lang.specs.Graphs.{Graph, source_number}
+use Rattle.graph_base.specs.Graphs.{Graph, source_number}
 
 -- a graph, and the samples of each source, in the order of the lines
 pub record Job : Type 0 where

@@ -3,7 +3,7 @@ use Rattle.std.specs.Prelude.{◌≡◌, ◌≤◌, ◌+◌, ℕ, ℤ, List, len
 use Rattle.std.specs.Global.{Global}
 use Rattle.std.specs.List.{All}
 use Rattle.phase_accum.specs.Sends.{AreSends}
-use Rattle.graph_lang.specs.Graphs.{Graph, sources_of}
+use Rattle.graph_base.specs.Graphs.{Graph, sources_of}
 use Rattle.stream_job.specs.Jobs.{Job}
 use Rattle.stream_job.specs.Spans.{spans_of, lengths_of}
 use Rattle.stream_job.specs.Meetings.{meeting_line}

@@ -6,14 +6,14 @@ use Rattle.phase_accum.specs.declared.outcome.Outcome.{Outcome}
 use Rattle.phase_accum.specs.declared.outcome.Outcome.TheVariants.{Value, Empty, TooBig}
 use Rattle.phase_accum.specs.Values.{sum_value, product_value, least_value, greatest_value, any_value, applied}
 use Rattle.stream_filters.specs.Filter.{outputs}
-use Rattle.graph_lang.specs.Graphs.{Task, task_at, phaser_at, is_sink}
+use Rattle.graph_base.specs.Graphs.{Task, task_at, phaser_at, is_sink}
 use Rattle.stream_job.specs.Jobs.{Job, samples_at, place_in}
 use Rattle.stream_job.specs.Spans.{nowhere, turns_below, signalled_by, takes_from, spans_of, lengths_of}
 use Rattle.stream_job.specs.declared.span.Span.{Span}
-use Rattle.graph_lang.specs.declared.line.Op.{Op}
-use Rattle.graph_lang.specs.declared.line.Op.TheVariants.{Sum, Product, Least, Greatest, Any}
-use Rattle.graph_lang.specs.declared.line.Kind.{Kind}
-use Rattle.graph_lang.specs.declared.line.Kind.TheVariants.{Source, Fir, Split, Join, Peer, Sink}
+use Rattle.graph_base.specs.declared.line.Op.{Op}
+use Rattle.graph_base.specs.declared.line.Op.TheVariants.{Sum, Product, Least, Greatest, Any}
+use Rattle.graph_base.specs.declared.line.Kind.{Kind}
+use Rattle.graph_base.specs.declared.line.Kind.TheVariants.{Source, Fir, Split, Join, Peer, Sink}
 
 -- ---- what a task puts out
 

@@ -2,12 +2,12 @@
 use Rattle.std.specs.Prelude.{ℕ, ◌&&◌, Bool, true, false, List, length, Option, get_or, nat_lt}
 use Rattle.std.specs.Option.{option_map}
 use Rattle.std.specs.List.{range_with_len, list_any, find}
-use Rattle.graph_lang.specs.Graphs.{Graph, task_at, phaser_at}
+use Rattle.graph_base.specs.Graphs.{Graph, task_at, phaser_at}
 use Rattle.stream_job.specs.Jobs.{Job}
 use Rattle.stream_job.specs.Spans.{nowhere, end_of, spans_of}
 use Rattle.stream_job.specs.declared.span.Span.{Span}
-use Rattle.graph_lang.specs.declared.line.Op.{Op}
-use Rattle.graph_lang.specs.declared.line.Op.TheVariants.{Sum, Product, Least, Greatest, Any}
+use Rattle.graph_base.specs.declared.line.Op.{Op}
+use Rattle.graph_base.specs.declared.line.Op.TheVariants.{Sum, Product, Least, Greatest, Any}
 
 abbrev pub is_any : Op → Bool
 is_any Any = true

@@ -5,15 +5,15 @@ use Rattle.std.specs.List.{range_with_len, list_any, find, position_from}
 use Rattle.phase_accum.specs.declared.outcome.Outcome.{Outcome}
 use Rattle.phase_accum.specs.declared.outcome.Outcome.TheVariants.{Value, Empty, TooBig}
 use Rattle.phase_accum.specs.Sends.{value_max}
-use Rattle.graph_lang.specs.Graphs.{Task, task_at, phaser_at}
+use Rattle.graph_base.specs.Graphs.{Task, task_at, phaser_at}
 use Rattle.stream_job.specs.Jobs.{Job, place_in}
 use Rattle.stream_job.specs.Spans.{nowhere, signalled_by, takes_from, spans_of, lengths_of}
 use Rattle.stream_job.specs.Lists.{Member, members_of, output_on, sends_in, value_by, numbers_above, lines_of}
 use Rattle.stream_job.specs.declared.span.Span.{Span}
-use Rattle.graph_lang.specs.declared.line.Kind.{Kind}
-use Rattle.graph_lang.specs.declared.line.Kind.TheVariants.{Source, Fir, Split, Join, Peer, Sink}
-use Rattle.graph_lang.specs.declared.place.Place.{Place}
-use Rattle.graph_lang.specs.declared.place.Place.TheVariants as place
+use Rattle.graph_base.specs.declared.line.Kind.{Kind}
+use Rattle.graph_base.specs.declared.line.Kind.TheVariants.{Source, Fir, Split, Join, Peer, Sink}
+use Rattle.graph_base.specs.declared.place.Place.{Place}
+use Rattle.graph_base.specs.declared.place.Place.TheVariants as place
 
 -- a value out of range: the phaser with the phase, or the task with the step
 abbrev pub Where : Type 0

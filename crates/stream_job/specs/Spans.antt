@@ -2,12 +2,12 @@
 -- from the numbers of the samples alone.
 use Rattle.std.specs.Prelude.{ℕ, ◌+◌, ◌-◌, ◌*◌, ◌/◌, true, false, ◌&&◌, List, [], ◌∷◌, ◌++◌, length, map, Option, Some, None, get_or, nat_le, if◌then◌else◌, min, max}
 use Rattle.std.specs.List.{range_with_len, fold}
-use Rattle.graph_lang.specs.Graphs.{Graph, Task, task_at}
+use Rattle.graph_base.specs.Graphs.{Graph, Task, task_at}
 use Rattle.stream_job.specs.Jobs.{Job, samples_at, place_in}
 use Rattle.stream_job.specs.declared.span.Span.{Span}
-use Rattle.graph_lang.specs.declared.line.Parent.{Parent}
-use Rattle.graph_lang.specs.declared.line.Kind.{Kind}
-use Rattle.graph_lang.specs.declared.line.Kind.TheVariants.{Source, Split, Join, Peer}
+use Rattle.graph_base.specs.declared.line.Parent.{Parent}
+use Rattle.graph_base.specs.declared.line.Kind.{Kind}
+use Rattle.graph_base.specs.declared.line.Kind.TheVariants.{Source, Split, Join, Peer}
 
 -- of a task that is not live
 abbrev pub nowhere : Span

@@ -1,5 +1,5 @@
 //! Why there is no answer.
-use graph_lang::Place;
+use graph_base::Place;
 use thiserror::Error;
 
 /// Why no job was made.

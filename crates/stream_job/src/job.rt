@@ -2,9 +2,9 @@
 ghost use Rattle.std.specs.Prelude.{◌≡◌, ◌<◌, ◌≤◌, ℕ, [], length, get_or, Some, None, IfOk, Err};
 ghost use Rattle.std.specs.List.{All};
 ghost use Rattle.phase_accum.specs.Sends.{AreSends};
-ghost use Rattle.graph_lang.specs.Graphs.{is_source, phaser_at, task_at, source_number, sources_of};
-ghost use Rattle.graph_lang.specs.Kept.{task_of};
-ghost use Rattle.graph_lang.specs.TaskLines.{IsTaskLine};
+ghost use Rattle.graph_base.specs.Graphs.{is_source, phaser_at, task_at, source_number, sources_of};
+ghost use Rattle.graph_base.specs.Kept.{task_of};
+ghost use Rattle.graph_base.specs.TaskLines.{IsTaskLine};
 ghost use Rattle.stream_job.specs.Jobs.{samples_at};
 ghost use Rattle.stream_job.specs.Kept.{given, items_of, IsShort};
 ghost use Rattle.stream_job.specs.Meetings.{meeting_line};
@@ -15,7 +15,7 @@ use crate::lengths::all_lengths;
 use crate::meetings::first_meeting;
 use crate::span::Span;
 use crate::spans::all_spans;
-use graph_lang::{Graph, Kind, PhaserLine, TaskLine};
+use graph_base::{Graph, Kind, PhaserLine, TaskLine};
 use std::alloc::Global;
 use std::marker::Model;
 

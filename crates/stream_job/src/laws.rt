@@ -1,7 +1,7 @@
 //! Laws of the definitions. The contract of each function is the law.
 ghost use Rattle.std.specs.Prelude.{◌≡◌, ◌^◌, ◌<◌, ℕ, [], length, map, get_or};
-ghost use Rattle.graph_lang.specs.Graphs.{task_at};
-ghost use Rattle.graph_lang.specs.TaskLines.{IsGraph};
+ghost use Rattle.graph_base.specs.Graphs.{task_at};
+ghost use Rattle.graph_base.specs.TaskLines.{IsGraph};
 ghost use Rattle.stream_job.specs.Jobs.{Job};
 ghost use Rattle.stream_job.specs.Lists.{ends_on, list_of_phaser, list_over, number, numbers_of, output_on};
 ghost use Rattle.stream_job.specs.Spans.{greatest, lengths_of, puts_on, signalled_by};

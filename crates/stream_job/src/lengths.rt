@@ -1,8 +1,8 @@
 //! How long the list of each phaser is.
 ghost use Rattle.std.specs.Prelude.{◌≡◌, ◌≤◌, ◌<◌, length, IfOk};
 ghost use Rattle.std.specs.List.{All};
-ghost use Rattle.graph_lang.specs.Kept.{task_of};
-ghost use Rattle.graph_lang.specs.TaskLines.{HasEnds};
+ghost use Rattle.graph_base.specs.Kept.{task_of};
+ghost use Rattle.graph_base.specs.TaskLines.{HasEnds};
 ghost use Rattle.stream_job.specs.Kept.{given, IsShort};
 ghost use Rattle.stream_job.specs.Spans.{end_of, length_on, lengths_of, puts_on};
 
@@ -10,7 +10,7 @@ use crate::members::output_number;
 use crate::span::{LENGTH_MAX, Span};
 use crate::spans::all_spans;
 use crate::takes::turns;
-use graph_lang::{Graph, Kind, TaskLine};
+use graph_base::{Graph, Kind, TaskLine};
 use std::alloc::{AllocError, Global};
 
 /// How many values so many steps put on output number `j`.

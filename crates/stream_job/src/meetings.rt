@@ -1,14 +1,14 @@
 //! Which tasks signal in one phase of a phaser with `any`.
 ghost use Rattle.std.specs.Prelude.{◌≡◌, ◌<◌, length, get_or};
 ghost use Rattle.std.specs.List.{All, list_any, range_with_len};
-ghost use Rattle.graph_lang.specs.Graphs.{phaser_at};
+ghost use Rattle.graph_base.specs.Graphs.{phaser_at};
 ghost use Rattle.stream_job.specs.Kept.{IsShort};
 ghost use Rattle.stream_job.specs.Meetings.{is_any, meet_on, meeting_at, meets_above, meets_on};
 ghost use Rattle.stream_job.specs.Spans.{nowhere};
 
 use crate::lengths::end_on;
 use crate::span::Span;
-use graph_lang::{Graph, Op};
+use graph_base::{Graph, Op};
 
 /// The offset of task number `t`.
 fn offset_at(spans: &[Span], t: usize) -> usize

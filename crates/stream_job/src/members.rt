@@ -2,11 +2,11 @@
 ghost use Rattle.std.specs.Prelude.{◌≡◌, ◌<◌, ◌≤◌, ℕ, length, map, get_or, IfOk, IfSome, Some, None, Err};
 ghost use Rattle.std.specs.List.{All};
 ghost use Rattle.phase_accum.specs.Sends.{AreSends};
-ghost use Rattle.graph_lang.specs.Graphs.{task_at};
-ghost use Rattle.graph_lang.specs.Kept.{task_of};
-ghost use Rattle.graph_lang.specs.declared.line.Kind.TheVariants.{Split};
-ghost use Rattle.graph_lang.specs.declared.place.Place.{Place as PlaceValue};
-ghost use Rattle.graph_lang.specs.TaskLines.{HasEnds};
+ghost use Rattle.graph_base.specs.Graphs.{task_at};
+ghost use Rattle.graph_base.specs.Kept.{task_of};
+ghost use Rattle.graph_base.specs.declared.line.Kind.TheVariants.{Split};
+ghost use Rattle.graph_base.specs.declared.place.Place.{Place as PlaceValue};
+ghost use Rattle.graph_base.specs.TaskLines.{HasEnds};
 ghost use Rattle.stream_job.specs.Jobs.{place_in};
 ghost use Rattle.stream_job.specs.Kept.{items_of};
 ghost use Rattle.stream_job.specs.Lists.{member_at, members_of, output_on};
@@ -20,7 +20,7 @@ use crate::list::ListFault;
 use crate::outputs::list_put;
 use crate::phases::MemberList;
 use crate::takes::{place_of, taken_lists};
-use graph_lang::{Kind, Place, TaskLine};
+use graph_base::{Kind, Place, TaskLine};
 use std::alloc::Global;
 
 /// Which output of a task a phaser is.

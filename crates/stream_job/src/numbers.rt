@@ -3,8 +3,8 @@ ghost use Rattle.std.specs.Prelude.{◌≡◌, ◌<◌, ◌≤◌, ℕ, List, le
 ghost use Rattle.std.specs.List.{All, range_with_len};
 ghost use Rattle.phase_accum.specs.Sends.{AreSends, IsSend};
 ghost use Rattle.phase_accum.specs.Values.{applied, IsInRange};
-ghost use Rattle.graph_lang.specs.Graphs.{phaser_at};
-ghost use Rattle.graph_lang.specs.declared.place.Place.{Place as PlaceValue};
+ghost use Rattle.graph_base.specs.Graphs.{phaser_at};
+ghost use Rattle.graph_base.specs.declared.place.Place.{Place as PlaceValue};
 ghost use Rattle.stream_job.specs.Lists.{Member, number, number_in};
 ghost use Rattle.stream_job.specs.Parts.{HasParts, member_of};
 ghost use Rattle.stream_job.specs.Ranges.{first_fault};
@@ -14,7 +14,7 @@ use crate::fault::EvalFault;
 use crate::job::Job;
 use crate::phases::{MemberList, parts_of};
 use crate::taken::is_faulty;
-use graph_lang::Place;
+use graph_base::Place;
 use phase_accum::{Accumulate, Outcome, apply};
 use std::alloc::Global;
 

@@ -2,16 +2,16 @@
 ghost use Rattle.std.specs.Prelude.{◌≡◌, ◌≤◌, ◌<◌, ℕ, nat_lt, if◌then◌else◌, [], take, length, map, get_or, IfOk, None, Some, Err};
 ghost use Rattle.std.specs.List.{All, position_from};
 ghost use Rattle.phase_accum.specs.Sends.{AreSends};
-ghost use Rattle.graph_lang.specs.Kept.{task_of};
-ghost use Rattle.graph_lang.specs.TaskLines.{HasEnds, HasTaps};
+ghost use Rattle.graph_base.specs.Kept.{task_of};
+ghost use Rattle.graph_base.specs.TaskLines.{HasEnds, HasTaps};
 ghost use Rattle.stream_job.specs.Lists.{mixed, output_list};
 ghost use Rattle.stream_job.specs.Ranges.{is_out_of_range, list_fault};
-ghost use Rattle.graph_lang.specs.declared.line.Kind.TheVariants.{Split};
+ghost use Rattle.graph_base.specs.declared.line.Kind.TheVariants.{Split};
 
 use crate::list::{ListFault, every_list, fir_list, in_turn_list, mixed_list};
 use crate::span::LENGTH_MAX;
 use crate::takes::part_of;
-use graph_lang::{Kind, TaskLine};
+use graph_base::{Kind, TaskLine};
 use std::alloc::Global;
 
 /// A copy of all values.

@@ -1,15 +1,15 @@
 //! How far each task comes, over the lengths of the phasers' lists.
 ghost use Rattle.std.specs.Prelude.{◌≡◌, ◌≤◌, ◌<◌, ◌-◌, length, get_or, IfOk, IfSome};
 ghost use Rattle.std.specs.List.{All};
-ghost use Rattle.graph_lang.specs.Kept.{task_of};
-ghost use Rattle.graph_lang.specs.TaskLines.{HasEnds};
+ghost use Rattle.graph_base.specs.Kept.{task_of};
+ghost use Rattle.graph_base.specs.TaskLines.{HasEnds};
 ghost use Rattle.stream_job.specs.Jobs.{samples_at};
 ghost use Rattle.stream_job.specs.Kept.{given, IsShort};
 ghost use Rattle.stream_job.specs.Spans.{cut_at, enough_for, first_run_out, offset_of, run_out, span_of, spans_over, values_from};
 
 use crate::job::number_of_source;
 use crate::span::{LENGTH_MAX, Span};
-use graph_lang::{Graph, Kind, Parent, TaskLine};
+use graph_base::{Graph, Kind, Parent, TaskLine};
 use std::alloc::{AllocError, Global};
 
 /// How many samples task number `t` has.

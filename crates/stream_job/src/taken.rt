@@ -1,6 +1,6 @@
 //! The phases that some task takes.
 ghost use Rattle.std.specs.Prelude.{◌≡◌, ◌&&◌, ◌<◌, length};
-ghost use Rattle.graph_lang.specs.Kept.{task_of};
+ghost use Rattle.graph_base.specs.Kept.{task_of};
 ghost use Rattle.stream_job.specs.Jobs.{place_in};
 ghost use Rattle.stream_job.specs.Ranges.{is_taken, is_too_big, task_takes};
 ghost use Rattle.stream_job.specs.Spans.{spans_of};

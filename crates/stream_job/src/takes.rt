@@ -2,15 +2,15 @@
 ghost use Rattle.std.specs.Prelude.{◌≡◌, ◌≤◌, ◌<◌, ◌^◌, List, ℤ, [], take, drop, length, map, get_or, IfOk};
 ghost use Rattle.std.specs.List.{All};
 ghost use Rattle.phase_accum.specs.Sends.{AreSends};
-ghost use Rattle.graph_lang.specs.Kept.{task_of};
-ghost use Rattle.graph_lang.specs.TaskLines.{HasEnds};
+ghost use Rattle.graph_base.specs.Kept.{task_of};
+ghost use Rattle.graph_base.specs.TaskLines.{HasEnds};
 ghost use Rattle.stream_job.specs.Jobs.{place_in};
 ghost use Rattle.stream_job.specs.Kept.{IsShort, items_of};
 ghost use Rattle.stream_job.specs.Lists.{taken_from, taken_by};
 ghost use Rattle.stream_job.specs.Spans.{takes_from, turns_below};
 
 use crate::span::{LENGTH_MAX, Span};
-use graph_lang::{Kind, TaskLine};
+use graph_base::{Kind, TaskLine};
 use std::alloc::{AllocError, Global};
 
 /// So many values of a list, from a place on, as far as there are.

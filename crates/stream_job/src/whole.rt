@@ -2,8 +2,8 @@
 ghost use Rattle.std.specs.Prelude.{◌≡◌, ◌<◌, ◌∷◌, [], ℕ, length, map, get_or, IfOk, IfErr, None, Some, Err};
 ghost use Rattle.std.specs.List.{All};
 ghost use Rattle.phase_accum.specs.Sends.{AreSends};
-ghost use Rattle.graph_lang.specs.Graphs.{phaser_at};
-ghost use Rattle.graph_lang.specs.declared.place.Place.{Place as PlaceValue};
+ghost use Rattle.graph_base.specs.Graphs.{phaser_at};
+ghost use Rattle.graph_base.specs.declared.place.Place.{Place as PlaceValue};
 ghost use Rattle.stream_job.specs.Kept.{items_of, told};
 ghost use Rattle.stream_job.specs.Lists.{is_sink_at, lines_of, list_over, number, numbers_of, sink_over, sinks_of, value_by};
 ghost use Rattle.stream_job.specs.Parts.{member_of};
@@ -16,7 +16,7 @@ use crate::members::members_on;
 use crate::numbers::reduced;
 use crate::phases::MemberList;
 use crate::takes::taken_at;
-use graph_lang::{Kind, Op};
+use graph_base::{Kind, Op};
 use phase_accum::{Accumulate, Any, Greatest, Least, Product, Sum};
 use std::alloc::Global;
 

@@ -9,7 +9,7 @@ ghost use Rattle.watched_io.specs.Prefix.{AppendsPrefix};
 ghost use Rattle.watched_io.specs.Watched.{has_failed_of, inner_of};
 
 use crate::pieces::Piece;
-use graph_lang::{Graph, Place};
+use graph_base::{Graph, Place};
 use itoa::Buffer;
 use std::io::Write;
 use stream_job::Lines;

@@ -11,7 +11,7 @@ fn graph_of(alloc: Global, text: &str) -> Result<Graph, Fail> {
 }
 
 /// The first faulty line of a text, and its kind. A graph, and want of memory, is `None`.
-fn fault_of(alloc: Global, text: &str) -> Option<(u64, FaultKind)> {
+pub(crate) fn fault_of(alloc: Global, text: &str) -> Option<(u64, FaultKind)> {
     match read_graph(alloc, text.as_bytes()) {
         Err(GraphRefusal::Fault(GraphFault { line, kind })) => Some((line, kind)),
         _ => None,

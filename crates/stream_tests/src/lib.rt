@@ -8,6 +8,8 @@ mod files;
 #[cfg(test)]
 mod filters;
 #[cfg(test)]
+mod graph_faults;
+#[cfg(test)]
 mod graphs;
 #[cfg(test)]
 mod samples;

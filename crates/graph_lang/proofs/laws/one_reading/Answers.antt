@@ -1,4 +1,4 @@
-use Rattle.graph_lang.specs.Graphs.{no_graph}
+use Rattle.graph_base.specs.Graphs.{no_graph}
 use Rattle.graph_lang.proofs.Single.{one_reading_from}
 use Rattle.graph_lang.proofs.laws.one_reading.Goals as goal
 

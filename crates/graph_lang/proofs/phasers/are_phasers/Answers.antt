@@ -1,7 +1,6 @@
 use Rattle.std.proofs.Common.{◌∙◌, sym, refl, Bor, []}
-use Rattle.graph_text.specs.Texts.{Word}
-use Rattle.graph_text.specs.Words.{is_name}
-use Rattle.graph_lang.specs.Names.{names_of}
+use Rattle.graph_words.specs.Words.{Word, is_name}
+use Rattle.graph_base.specs.Names.{names_of}
 use Rattle.graph_lang.specs.Faults.{is_phaser}
 use Rattle.graph_lang.proofs.Alls.{words-first, words-stop, words-pass}
 use Rattle.graph_lang.proofs.phasers.are_phasers.Goals as goal

@@ -1,8 +1,8 @@
 use Rattle.std.proofs.Common.{◌≡◌, drop, true}
 use Rattle.std.specs.List.{list_all}
 use Rattle.graph_text.specs.Plain.{plain}
-use Rattle.graph_text.specs.Words.{is_name}
-use Rattle.graph_lang.specs.Names.{names_of}
+use Rattle.graph_words.specs.Words.{is_name}
+use Rattle.graph_base.specs.Names.{names_of}
 use Rattle.graph_lang.specs.Faults.{is_phaser}
 use Rattle.graph_lang.proofs.phasers.are_phasers.Given as goal
 

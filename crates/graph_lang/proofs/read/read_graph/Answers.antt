@@ -36,8 +36,8 @@ loop-line-preserved c =
     }
 
 -- all lines were read
-pub of-requires : goal.of-requires
-of-requires c =
+pub into_graph-requires : goal.into_graph-requires
+into_graph-requires c =
     let read = c.loop-line in
     reads_give_graph (lines_in c.deref-line-items.result.now) read.draft
     (continues-all c.deref-line-items.result.now read.line-index read.number read.draft

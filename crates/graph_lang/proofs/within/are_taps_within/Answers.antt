@@ -1,6 +1,6 @@
 use Rattle.std.proofs.Common.{◌∙◌, sym, arith, refl, Bor, [], drop, get_or, ◌+◌}
 use Rattle.std.specs.List.{list_all}
-use Rattle.graph_text.specs.Texts.{Word}
+use Rattle.graph_words.specs.Words.{Word}
 use Rattle.graph_text.specs.Plain.{plain}
 use Rattle.graph_text.specs.Numbers.{is_int}
 use Rattle.graph_lang.specs.Faults.{is_tap_within}

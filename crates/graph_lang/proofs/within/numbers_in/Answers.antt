@@ -1,5 +1,5 @@
 use Rattle.std.proofs.Common.{rules, ◌∙◌, sym, ap, Bor, [], ◌++◌, ◌∷◌, take, map, FitsSigned, w64, to_z-of_z}
-use Rattle.graph_text.specs.Texts.{Word}
+use Rattle.graph_words.specs.Words.{Word}
 use Rattle.graph_text.specs.Plain.{plain}
 use Rattle.graph_text.specs.Numbers.{is_int, int_value}
 use Rattle.graph_lang.specs.Faults.{is_tap_within}

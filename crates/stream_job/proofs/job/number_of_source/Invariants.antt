@@ -1,5 +1,5 @@
 use Rattle.std.proofs.Common.{◌≡◌, ◌≤◌}
-use Rattle.graph_lang.specs.Graphs.{source_number}
+use Rattle.graph_base.specs.Graphs.{source_number}
 use Rattle.stream_job.proofs.job.number_of_source.Given as goal
 
 -- the sources above this task

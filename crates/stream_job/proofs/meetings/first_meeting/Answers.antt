@@ -1,6 +1,6 @@
 use Rattle.std.proofs.Common.{arith, Some, ◌<◌, length, ap, sym, ◌∙◌}
 use Rattle.std.specs.Option.{option_map}
-use Rattle.graph_lang.specs.Graphs.{task_at}
+use Rattle.graph_base.specs.Graphs.{task_at}
 use Rattle.stream_job.specs.Meetings.{meets_above}
 use Rattle.stream_job.proofs.Firsts.{find-pass, find-here}
 use Rattle.stream_job.proofs.meetings.first_meeting.Goals as goal

@@ -1,5 +1,5 @@
 use Rattle.std.proofs.Common.{◌≡◌, length, ap, sym, subst, ◌∙◌}
-use Rattle.graph_lang.specs.TaskLines.{HasEnds}
+use Rattle.graph_base.specs.TaskLines.{HasEnds}
 use Rattle.stream_job.proofs.members.output_of.Goals as goal
 
 -- there is a list for each input

@@ -3,11 +3,11 @@ use Rattle.std.specs.Prelude.{◌&&◌}
 use Rattle.std.proofs.lemmas.Int.{to_z-of_z}
 use Rattle.phase_accum.specs.Values.{applied}
 use Rattle.phase_accum.proofs.Parts.{AreSends-append}
-use Rattle.graph_lang.specs.Graphs.{phaser_at}
+use Rattle.graph_base.specs.Graphs.{phaser_at}
 use Rattle.stream_job.specs.Spans.{spans_of}
 use Rattle.stream_job.specs.Lists.{number, number_in}
 use Rattle.stream_job.specs.Ranges.{is_fault, is_too_big, is_taken}
-use Rattle.graph_lang.specs.declared.place.Place.TheVariants as place
+use Rattle.graph_base.specs.declared.place.Place.TheVariants as place
 use Rattle.stream_job.proofs.Firsts.{find-pass, find-here}
 use Rattle.stream_job.proofs.Sends.{value_of_part}
 use Rattle.stream_job.proofs.Composed.{numbers-more}

@@ -4,7 +4,7 @@ use Rattle.std.proofs.lemmas.List.{map_push, length_push}
 use Rattle.std.proofs.lemmas.List.Elements.{All-push}
 use Rattle.std.proofs.lemmas.List.FromFn.{map-range_with_len_more}
 use Rattle.phase_accum.specs.Sends.{AreSends}
-use Rattle.graph_lang.specs.Kept.{task_of}
+use Rattle.graph_base.specs.Kept.{task_of}
 use Rattle.stream_job.specs.Kept.{items_of}
 use Rattle.stream_job.specs.Lists.{taken_from}
 use Rattle.stream_job.specs.declared.span.TheConstants.{LENGTH_MAX}

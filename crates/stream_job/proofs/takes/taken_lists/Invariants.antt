@@ -1,7 +1,7 @@
 use Rattle.std.proofs.Common.{◌≡◌, ◌≤◌, length, map}
 use Rattle.std.specs.List.{All, range_with_len}
 use Rattle.phase_accum.specs.Sends.{AreSends}
-use Rattle.graph_lang.specs.Kept.{task_of}
+use Rattle.graph_base.specs.Kept.{task_of}
 use Rattle.stream_job.specs.Kept.{items_of}
 use Rattle.stream_job.specs.Lists.{taken_from}
 use Rattle.stream_job.specs.declared.span.TheConstants.{LENGTH_MAX}

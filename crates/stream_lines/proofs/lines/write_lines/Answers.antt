@@ -4,8 +4,8 @@ use Rattle.std.proofs.lemmas.List.{take_more, take_all}
 use Rattle.std.proofs.lemmas.Result.{err_from_is_err_and, on_err_weaker}
 use Rattle.stream_job.specs.Kept.{told}
 use Rattle.stream_job.specs.Texts.{sink_text, text_of}
-use Rattle.graph_lang.specs.Graphs.{name_at}
-use Rattle.graph_lang.specs.declared.place.Place.TheVariants as place
+use Rattle.graph_base.specs.Graphs.{name_at}
+use Rattle.graph_base.specs.declared.place.Place.TheVariants as place
 use Rattle.stream_lines.proofs.Items.{flat_map-map-push, flat_map-map-rest}
 use Rattle.stream_lines.proofs.Putting.{Puts-append, prefix_behind, prefix_of_put, prefix_within}
 use Rattle.stream_lines.proofs.lines.write_lines.Goals as goal

@@ -1,10 +1,10 @@
 use Rattle.std.proofs.Common.{◌≡◌, ◌∙◌, sym, ap, Ok, false}
 use Rattle.std.specs.List.{list_all}
 use Rattle.graph_text.specs.Plain.{plain}
-use Rattle.graph_text.specs.Words.{is_name}
+use Rattle.graph_words.specs.Words.{is_name}
 use Rattle.graph_text.specs.Decls.{task}
 use Rattle.graph_text.specs.Lines.{body_of, ends_of}
-use Rattle.graph_lang.specs.Kept.{task_of}
+use Rattle.graph_base.specs.Kept.{task_of}
 use Rattle.graph_lang.specs.Faults.{is_past_limit}
 use Rattle.graph_lang.specs.Reads.{told}
 use Rattle.graph_lang.proofs.Ends.{phasers-names}

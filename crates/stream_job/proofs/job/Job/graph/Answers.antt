@@ -1,6 +1,6 @@
 use Rattle.std.proofs.Common.{◌≡◌, None, length, subst, ◌∙◌}
 use Rattle.std.proofs.lemmas.List.{length-map}
-use Rattle.graph_lang.specs.Graphs.{sources_of}
+use Rattle.graph_base.specs.Graphs.{sources_of}
 use Rattle.stream_job.specs.Meetings.{meeting_line}
 use Rattle.stream_job.proofs.job.Job.graph.Goals as goal
 

@@ -1,0 +1,82 @@
+-- Worked graphs, and that their lines are lines of a graph.
+use Rattle.std.proofs.Common.{ℕ, ◌≡◌, ◌<◌, [], ◌∷◌, Some, None, refl, arith}
+use Rattle.std.specs.List.{All, Contains}
+use Rattle.std.proofs.lemmas.List.Elements.{All-cons, All-nil}
+use Rattle.graph_base.specs.declared.line.Op.TheVariants.{Sum}
+use Rattle.graph_base.specs.declared.line.Kind.TheVariants.{Source, Sink}
+use Rattle.graph_base.specs.declared.place.Place.TheVariants as place
+use Rattle.graph_base.specs.Graphs.{Graph, no_task, name_at, sources_of, source_number, task_at, phaser_at}
+use Rattle.graph_base.specs.TaskLines.{IsTaskLine}
+
+one : (P : ℕ → Type 0) (p : ℕ) → P p → All P (p ∷ [])
+one P p holds = All-cons P p [] holds (All-nil P)
+
+-- phaser X sum 4 / source s s.csv -> X / sink out X / sink late X by out at 2
+abbrev late_sink : Graph
+late_sink = record {
+  names = (88 ∷ [], place.Phaser 0) ∷ (115 ∷ [], place.Task 0)
+      ∷ (111 ∷ 117 ∷ 116 ∷ [], place.Task 1) ∷ (108 ∷ 97 ∷ 116 ∷ 101 ∷ [], place.Task 2) ∷ [];
+  phasers = record { op = Sum; bound = 4; single = None } ∷ [];
+  tasks = record no_task { line = 2; kind = Source; outputs = 0 ∷ [] }
+      ∷ record no_task { line = 3; kind = Sink; inputs = 0 ∷ [] }
+      ∷ record no_task {
+        line = 4;
+        kind = Sink;
+        inputs = 0 ∷ [];
+        parent = Some (record { task = 1; at = 2 });
+      }
+      ∷ [];
+  files = (115 ∷ 46 ∷ 99 ∷ 115 ∷ 118 ∷ []) ∷ [];
+}
+
+late_sink-names : name_at late_sink (place.Task 1) ≡ 111 ∷ 117 ∷ 116 ∷ []
+late_sink-names = refl
+
+late_sink-sources : sources_of late_sink ≡ 1
+late_sink-sources = refl
+
+-- its source is number 0, and one source stands above each of its sinks
+late_sink-source : source_number late_sink.tasks 0 ≡ 0
+late_sink-source = refl
+
+late_sink-above : source_number late_sink.tasks 2 ≡ 1
+late_sink-above = refl
+
+-- the source signals X, which has no single
+late_sink-first : IsTaskLine late_sink 0 (task_at late_sink 0)
+late_sink-first = record {
+  ends = (refl, refl);
+  inputs = All-nil (λ p. p < 1);
+  outputs = one (λ p. p < 1) 0 (omega arith);
+  distinct = refl;
+  in_order = All-nil (λ x. All (λ y. x < y) (0 ∷ []));
+  exchange = tt;
+  plain = one (λ y. (phaser_at late_sink y).single ≡ None) 0 refl;
+  taps = (refl, refl);
+  factor = refl;
+  until = tt;
+  parent = tt;
+}
+
+-- the late sink waits for X, as its parent does
+late_sink-child : IsTaskLine late_sink 2 (task_at late_sink 2)
+late_sink-child = record {
+  ends = (refl, refl);
+  inputs = one (λ p. p < 1) 0 (omega arith);
+  outputs = All-nil (λ p. p < 1);
+  distinct = refl;
+  in_order = one (λ x. All (λ y. x < y) []) 0 (All-nil (λ y. 0 < y));
+  exchange = tt;
+  plain = All-nil (λ y. (phaser_at late_sink y).single ≡ None);
+  taps = (refl, refl);
+  factor = refl;
+  until = tt;
+  parent = record {
+    above = omega arith;
+    steps = omega arith;
+    kind = refl;
+    child_kind = refl;
+    waits = one (Contains (0 ∷ [])) 0 (0, omega arith, refl);
+    signals = All-nil (Contains []);
+  };
+}

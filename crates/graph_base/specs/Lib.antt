@@ -1,0 +1,4 @@
+pub mod Graphs
+pub mod Kept
+pub mod Names
+pub mod TaskLines

@@ -1,0 +1,14 @@
+//! Graphs: phasers and tasks with their names, and what holds of each line and of the whole. The
+//! first calls are `Graph::tasks` and `Graph::task`. A text is read by `graph_lang`.
+#![tactic(auto)]
+
+mod graph;
+pub mod laws;
+mod limits;
+mod line;
+mod place;
+
+pub use graph::Graph;
+pub use limits::{COUNT_MAX, ENDS_MAX, FACTOR_MAX, PHASERS_MAX, TASKS_MAX};
+pub use line::{Kind, Op, Parent, PhaserLine, TaskLine};
+pub use place::Place;

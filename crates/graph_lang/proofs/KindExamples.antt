@@ -1,0 +1,79 @@
+-- Lines with two faults, computed in the definitions: the earlier kind is the one that is told.
+use Rattle.std.proofs.Common.{ℕ, ◌≡◌, [], ◌∷◌, Some, None, refl, codes}
+use Rattle.graph_text.specs.Decls.{phaser, task, fir, join, peer, sink, plain, clamp, ByWords, EndWords}
+use Rattle.graph_base.specs.Graphs.{Graph, no_phaser, no_task}
+use Rattle.graph_base.specs.declared.line.Kind.TheVariants.{Split}
+use Rattle.graph_base.specs.declared.place.Place.TheVariants as place
+use Rattle.graph_lang.specs.Faults.{kind_of}
+use Rattle.graph_lang.specs.declared.fault.FaultKind.TheVariants.{Limit, Twice, Unknown, OutBeforeIn, BadParent, NotHeld}
+
+-- phaser A sum 1 / phaser B sum 1 / phaser C sum 1 / split d A -> B C
+abbrev before : Graph
+before = record {
+  names = (codes "A", place.Phaser 0) ∷ (codes "B", place.Phaser 1) ∷ (codes "C", place.Phaser 2)
+      ∷ (codes "d", place.Task 0) ∷ [];
+  phasers = no_phaser ∷ no_phaser ∷ no_phaser ∷ [];
+  tasks = record no_task { line = 4; kind = Split; inputs = 0 ∷ []; outputs = 1 ∷ 2 ∷ [] } ∷ [];
+  files = [];
+}
+
+abbrev no_ends : EndWords
+no_ends = record { by = None; until = None }
+
+-- by d at 0
+abbrev by_splitter : EndWords
+by_splitter = record { by = Some (record { parent = codes "d"; at = codes "0" }); until = None }
+
+-- by none at 0
+abbrev by_none : EndWords
+by_none = record { by = Some (record { parent = codes "none"; at = codes "0" }); until = None }
+
+-- ---- one fault
+
+none : kind_of before (task (codes "s") (sink (codes "B")) no_ends) ≡ None
+none = refl
+
+not_held : kind_of (record before { tasks = record no_task { inputs = 0 ∷ [] } ∷ [] })
+    (task (codes "s") (sink (codes "B")) by_splitter) ≡ Some NotHeld
+not_held = refl
+
+-- ---- two
+
+limit_twice : kind_of before (phaser (codes "A") (codes "sum") (codes "0") None) ≡ Some Limit
+limit_twice = refl
+
+limit_twice_task : kind_of before
+    (task (codes "f") (fir (codes "A") (codes "A") (codes "63") (codes "1" ∷ [])) no_ends)
+    ≡ Some Limit
+limit_twice_task = refl
+
+twice_unknown : kind_of before (task (codes "A") (sink (codes "D")) no_ends) ≡ Some Twice
+twice_unknown = refl
+
+unknown_order : kind_of before (task (codes "j") (join (codes "D" ∷ codes "C" ∷ []) (codes "B")) no_ends)
+    ≡ Some Unknown
+unknown_order = refl
+
+unknown_parent : kind_of before
+    (task (codes "f") (fir (codes "C") (codes "B") (codes "0") (codes "1" ∷ [])) by_none)
+    ≡ Some Unknown
+unknown_parent = refl
+
+order_parent : kind_of before
+    (task (codes "f") (fir (codes "C") (codes "B") (codes "0") (codes "1" ∷ [])) by_splitter)
+    ≡ Some OutBeforeIn
+order_parent = refl
+
+exchange_above : kind_of before
+    (task (codes "p") (peer (codes "B") (codes "A") (codes "C") (codes "1")) no_ends)
+    ≡ Some OutBeforeIn
+exchange_above = refl
+
+parent_held : kind_of before (task (codes "s") (sink (codes "B")) by_splitter) ≡ Some BadParent
+parent_held = refl
+
+-- a clamp's ends are turned round, and the name is declared
+clamp_twice : kind_of before
+    (phaser (codes "A") (codes "sum") (codes "1") (Some (clamp (codes "1") (codes "0"))))
+    ≡ Some Limit
+clamp_twice = refl

@@ -1,0 +1,10 @@
+//! Laws of words. The contract of each function is the law.
+ghost use Rattle.std.specs.Prelude.{◌≡◌};
+
+use crate::word::{FILE_MAX, NAME_MAX};
+
+/// The limits of words, as numbers of bytes.
+pub fn limits_are()
+    ensures name { NAME_MAX ≡ 32 }
+    ensures file { FILE_MAX ≡ 255 }
+{}
