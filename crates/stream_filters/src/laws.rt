@@ -1,6 +1,19 @@
 //! Laws of the definitions.
-ghost use Rattle.std.specs.Prelude.{◌≡◌, ℕ, ◌+◌, ◌-◌, ◌^◌, ◌<◌, ◌≤◌, List, [], ◌∷◌, ◌++◌, length, take, get_or, ℤ, pos, ◌+ℤ◌, ◌*ℤ◌, ◌≤ℤ◌, ◌<ℤ◌};
+ghost use Rattle.std.specs.Prelude.{◌≡◌, ℕ, ◌+◌, ◌-◌, ◌^◌, ◌<◌, ◌≤◌, List, [], ◌∷◌, ◌++◌, length, take, get_or, ℤ, pos, neg_ℤ, ◌+ℤ◌, ◌*ℤ◌, ◌≤ℤ◌, ◌<ℤ◌};
+ghost use Rattle.stream_filters.specs.declared.range.TheConstants.{VALUE_MAX, VALUE_MIN};
 ghost use Rattle.stream_filters.specs.Filter.{back, output_after, outputs, shifted_down};
+
+use crate::fir::{SHIFT_MAX, TAP_MAX, TAPS_MAX};
+
+/// The limits of filters and of values, as numbers: taps, a tap's magnitude, a shift in bits, and
+/// the least and the greatest value.
+pub fn limits_are()
+    ensures taps { TAPS_MAX ≡ 64 }
+    ensures tap { TAP_MAX ≡ 2147483647 }
+    ensures shift { SHIFT_MAX ≡ 62 }
+    ensures greatest { VALUE_MAX ≡ pos 9223372036854775807 }
+    ensures least { VALUE_MIN ≡ neg_ℤ (pos 9223372036854775807) }
+{}
 
 /// One more sample leaves the outputs as they were and adds one, the output after it. So a run of
 /// steps from a new filter answers the outputs of all its samples.

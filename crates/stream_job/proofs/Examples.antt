@@ -1,5 +1,5 @@
 -- Worked graphs, computed in the definitions. Lines of a graph are separated by a slash.
-use Rattle.std.proofs.Common.{◌≡◌, [], ◌∷◌, List, ℕ, ℤ, pos, neg_ℤ, Some, None, Ok, Err, map, refl}
+use Rattle.std.proofs.Common.{◌≡◌, [], ◌∷◌, List, ℕ, ℤ, pos, neg_ℤ, Some, None, Ok, Err, false, map, refl}
 use Rattle.phase_accum.specs.declared.single.Single.{Single}
 use Rattle.phase_accum.specs.declared.single.Single.TheVariants.{Neg, Halve, Clamp}
 use Rattle.graph_base.specs.declared.line.Op.{Op}
@@ -10,7 +10,8 @@ use Rattle.graph_base.specs.declared.line.PhaserLine.{PhaserLine}
 use Rattle.graph_base.specs.Graphs.{Graph, Task, no_graph, no_task}
 use Rattle.stream_job.specs.Jobs.{Job}
 use Rattle.stream_job.specs.Ranges.{answer_of}
-use Rattle.stream_job.specs.Meetings.{meeting_line}
+use Rattle.stream_job.specs.Meetings.{meet_on, meeting_line}
+use Rattle.stream_job.specs.Spans.{spans_of}
 use Rattle.stream_job.specs.Texts.{text_of}
 use Rattle.std.specs.Prelude.{codes}
 use Rattle.std.specs.Fmt.{digits}
@@ -62,7 +63,7 @@ sink line x = record no_task { line = line; inputs = x ∷ [] }
 abbrev pub added_by : ℕ → ℕ → Task → Task
 added_by p n task = record task { parent = Some (record { task = p; at = n }) }
 
-abbrev stops_at : ℕ → Task → Task
+abbrev pub stops_at : ℕ → Task → Task
 stops_at n task = record task { until = Some n }
 
 abbrev pub job_of : List PhaserLine → List Task → List (List ℤ) → Job
@@ -252,7 +253,7 @@ peers-answer : answer_of peers
 peers-answer = refl
 
 -- the same with phaser E sum single neg
-abbrev peers_with_single : Job
+abbrev pub peers_with_single : Job
 peers_with_single =
     job_of
     (plain Sum ∷ plain Sum ∷ with_single Sum Neg ∷ plain Sum ∷ plain Sum ∷ [])
@@ -623,3 +624,88 @@ greatest_then_any-answer : answer_of greatest_then_any
     ∷ (10, [])
     ∷ [])
 greatest_then_any-answer = refl
+
+-- ---- the first of several values out of range
+
+-- phasers X, Z, Y sum / source a a.csv -> X / source b b.csv -> Z
+-- / fir f X -> Y shift 0 taps 2 / fir g Z -> Y shift 0 taps 2 / sink out Y: f is too big at its
+-- step 1 and g at its step 0, and the line of f is the first
+abbrev pub two_filters_too_big : Job
+two_filters_too_big =
+    job_of
+    (plain Sum ∷ plain Sum ∷ plain Sum ∷ [])
+    (source 4 0
+    ∷ source 5 1
+    ∷ fir 6 0 2 0 (these (2 ∷ []))
+    ∷ fir 7 1 2 0 (these (2 ∷ []))
+    ∷ sink 8 2
+    ∷ [])
+    ((pos 1 ∷ largest ∷ []) ∷ (largest ∷ pos 1 ∷ []) ∷ [])
+
+two_filters_too_big-line : meeting_line two_filters_too_big ≡ None
+two_filters_too_big-line = refl
+
+two_filters_too_big-answer : answer_of two_filters_too_big ≡ Err (place.Task 2, 1)
+two_filters_too_big-answer = refl
+
+-- phasers X, Y sum / source a a.csv -> X / source b b.csv -> Y / fir f X -> Y shift 0 taps 2
+-- / sink out Y: phase 0 of Y is too big, and so is the output of f at its step 1, which is told
+abbrev pub output_before_phases : Job
+output_before_phases =
+    job_of
+    (plain Sum ∷ plain Sum ∷ [])
+    (source 3 0
+    ∷ source 4 1
+    ∷ fir 5 0 1 0 (these (2 ∷ []))
+    ∷ sink 6 1
+    ∷ [])
+    ((pos 1 ∷ largest ∷ []) ∷ (largest ∷ []) ∷ [])
+
+output_before_phases-line : meeting_line output_before_phases ≡ None
+output_before_phases-line = refl
+
+output_before_phases-answer : answer_of output_before_phases ≡ Err (place.Task 2, 1)
+output_before_phases-answer = refl
+
+-- the same with 1 in place of the largest as the second sample of a: phase 0 alone is too big
+abbrev pub phase_alone_too_big : Job
+phase_alone_too_big = record output_before_phases {
+  samples = these (1 ∷ 1 ∷ []) ∷ (largest ∷ []) ∷ [];
+}
+
+phase_alone_too_big-answer : answer_of phase_alone_too_big ≡ Err (place.Phaser 1, 0)
+phase_alone_too_big-answer = refl
+
+-- ---- a task that puts nothing
+
+-- phaser X any / source A a.csv -> X / source B b.csv -> X by A at 1 / sink out X: B begins within
+-- A's phases and has no value, so it meets nobody
+abbrev pub empty_child : Job
+empty_child =
+    job_of
+    (plain Any ∷ [])
+    (source 2 0
+    ∷ added_by 0 1 (source 3 0)
+    ∷ sink 4 0
+    ∷ [])
+    (these (1 ∷ 2 ∷ 3 ∷ []) ∷ [] ∷ [])
+
+empty_child-line : meeting_line empty_child ≡ None
+empty_child-line = refl
+
+empty_child-answer : answer_of empty_child ≡ Ok ((2, these (1 ∷ 2 ∷ 3 ∷ [])) ∷ [])
+empty_child-answer = refl
+
+-- neither with the child first nor with it second
+empty_child-first : meet_on empty_child.graph (spans_of empty_child) 1 0 0 ≡ false
+empty_child-first = refl
+
+empty_child-second : meet_on empty_child.graph (spans_of empty_child) 0 0 1 ≡ false
+empty_child-second = refl
+
+-- with one value it meets A
+abbrev pub child_within : Job
+child_within = record empty_child { samples = these (1 ∷ 2 ∷ 3 ∷ []) ∷ these (4 ∷ []) ∷ [] }
+
+child_within-line : meeting_line child_within ≡ Some 3
+child_within-line = refl

@@ -1,13 +1,15 @@
 -- The laws at worked graphs, each beside what is near it and does not hold.
-use Rattle.std.proofs.Common.{◌≡◌, [], ◌∷◌, pos, Some, true, length, map, get_or, refl}
+use Rattle.std.proofs.Common.{◌≡◌, [], ◌∷◌, pos, Some, Ok, true, length, map, get_or, refl}
 use Rattle.phase_accum.specs.declared.outcome.Outcome.TheVariants.{Value, TooBig}
 use Rattle.graph_base.specs.declared.line.Op.TheVariants.{Sum}
 use Rattle.graph_base.specs.Graphs.{task_at}
 use Rattle.stream_job.specs.Jobs.{Job, samples_at}
+use Rattle.stream_job.specs.Exact.{exact_lines, exact_lists}
+use Rattle.stream_job.specs.Ranges.{answer_of}
 use Rattle.stream_job.specs.Spans.{nowhere, puts_on, lengths_of, spans_of, span_at, span_in, span_of}
 use Rattle.stream_job.specs.Lists.{list_of_phaser, list_over, numbers_of, numbers_above, output_on, ends_on}
-use Rattle.stream_job.proofs.Examples.{plain, source, fir, added_by, job_of, these}
-use Rattle.stream_job.proofs.Examples.{nothing, split_to_one_bus_7, any_hands_over_2, any_hands_over_3, any_hands_over_4, peers, too_big_phase}
+use Rattle.stream_job.proofs.Examples.{minus, plain, source, fir, sink, added_by, stops_at, job_of, these}
+use Rattle.stream_job.proofs.Examples.{nothing, split_to_one_bus_7, any_hands_over_2, any_hands_over_3, any_hands_over_4, peers, peers_with_single, too_big_phase}
 
 -- ---- a task's span, over the spans of all tasks
 
@@ -146,3 +148,42 @@ sink-output = refl
 -- on a peer's E both peers end where their own X does
 peers-ends : ends_on peers 2 ≡ 0 ∷ 0 ∷ 2 ∷ 3 ∷ 0 ∷ 0 ∷ []
 peers-ends = refl
+
+-- ---- lists over whole numbers of any size
+
+-- where a job does not fit, the exact lists have the number that is out of range
+too_big-exact : exact_lists too_big_phase ≡ (pos 9223372036854775808 ∷ []) ∷ []
+too_big-exact = refl
+
+-- phaser X sum / source a a.csv -> X / source b b.csv -> X / sink out X until 1: phase 1 is too big
+-- and nobody takes it, so the job fits, and its list alone shows the range
+abbrev too_big_unseen : Job
+too_big_unseen =
+    job_of
+    (plain Sum ∷ [])
+    (source 2 0
+    ∷ source 3 0
+    ∷ stops_at 1 (sink 4 0)
+    ∷ [])
+    (these (1 ∷ 9223372036854775807 ∷ []) ∷ these (2 ∷ 1 ∷ []) ∷ [])
+
+too_big_unseen-answer : answer_of too_big_unseen ≡ Ok ((2, these (3 ∷ [])) ∷ [])
+too_big_unseen-answer = refl
+
+too_big_unseen-list : list_of_phaser too_big_unseen 0 ≡ Value (pos 3) ∷ TooBig ∷ []
+too_big_unseen-list = refl
+
+too_big_unseen-exact : exact_lists too_big_unseen
+    ≡ (pos 3 ∷ pos 9223372036854775808 ∷ []) ∷ []
+too_big_unseen-exact = refl
+
+too_big_unseen-lines : exact_lines too_big_unseen ≡ (2, these (3 ∷ [])) ∷ []
+too_big_unseen-lines = refl
+
+-- a peer, a single and an exchange, without a range
+peers-exact : exact_lines peers ≡ (4, minus 9 ∷ minus 18 ∷ []) ∷ (5, these (9 ∷ 18 ∷ 30 ∷ [])) ∷ []
+peers-exact = refl
+
+peers_with_single-exact : exact_lines peers_with_single
+    ≡ (4, these (13 ∷ 26 ∷ [])) ∷ (5, these (31 ∷ 62 ∷ 90 ∷ [])) ∷ []
+peers_with_single-exact = refl

@@ -1,8 +1,10 @@
 pub mod Alone
 pub mod Composed
 mod Examples
+pub mod Exacts
 pub mod Firsts
 pub mod FirSteps
+pub mod Fitting
 pub mod Given
 pub mod Growing
 mod LawExamples
@@ -15,3 +17,4 @@ pub mod Ordered
 pub mod Sendable
 pub mod Sends
 pub mod SpansAbove
+pub mod EachPhase

@@ -14,12 +14,16 @@ use Rattle.stream_job.specs.declared.span.Span.{Span}
 use Rattle.stream_job.proofs.Growing.{AreSameBelow, grown-same, grown-whole, map-same, filter_map-same}
 use Rattle.stream_job.proofs.Ordered.{LooksAt, AreSameAt, looked_above}
 
+-- what a task takes is the same of each of these inputs
+abbrev pub TakesSame : Task → Span → List (List ℤ) → List (List ℤ) → (ℕ → Type 0) → Type 0
+TakesSame task span xs ys At = (k : ℕ) → k < length task.inputs → At k
+    → taken_from xs task span k ≡ taken_from ys task span k
+
 same_taken : (task : Task) (span : Span) (xs ys : List (List ℤ))
-    → AreSameAt [] task xs ys (λ k. Unit {0}) → taken_by xs task span ≡ taken_by ys task span
+    → TakesSame task span xs ys (λ k. Unit {0}) → taken_by xs task span ≡ taken_by ys task span
 same_taken task span xs ys same =
     map-same (taken_from xs task span) (taken_from ys task span) 0 (length task.inputs)
-    (λ k less. ap (λ l. take (takes_from task span.steps k) (drop span.offset l))
-    (same k (omega arith) tt))
+    (λ k less. same k (omega arith) tt)
 
 -- what is taken from the first input
 pub first_taken : (lists : List (List ℤ)) (task : Task) (span : Span) → 0 < length task.inputs
@@ -31,13 +35,13 @@ pub peer_first : (samples : List ℤ) (taken : List (List ℤ)) (task : Task) (s
     → task.kind ≡ Peer → output_list samples taken task steps 0 ≡ get_or taken 0 []
 peer_first samples taken task steps e = rw e refl
 
--- an output is the same over lists that are the same where it looks
-pub same_output : (samples : List ℤ) (task : Task) (span : Span) (xs ys : List (List ℤ)) (j : ℕ)
+-- an output is the same where what is taken is, from the inputs at which it looks
+pub output_by_taken : (samples : List ℤ) (task : Task) (span : Span) (xs ys : List (List ℤ)) (j : ℕ)
     → HasEnds task.kind (length task.inputs) (length task.outputs)
-    → AreSameAt [] task xs ys (LooksAt task.kind j)
+    → TakesSame task span xs ys (LooksAt task.kind j)
     → output_list samples (taken_by xs task span) task span.steps j
     ≡ output_list samples (taken_by ys task span) task span.steps j
-same_output samples task span xs ys j ends same = by task.kind j refl refl
+output_by_taken samples task span xs ys j ends same = by task.kind j refl refl
   where
     whole : ((k : ℕ) → LooksAt task.kind j k)
         → output_list samples (taken_by xs task span) task span.steps j
@@ -58,7 +62,7 @@ same_output samples task span xs ys j ends same = by task.kind j refl refl
         ap (λ j. output_list samples (taken_by xs task span) task span.steps j) none
         ∙ (peer_first samples (taken_by xs task span) task span.steps e
         ∙ (first_taken xs task span some
-        ∙ (ap (λ l. take (takes_from task span.steps 0) (drop span.offset l)) (same 0 some looks)
+        ∙ (same 0 some looks
         ∙ (sym (first_taken ys task span some)
         ∙ (sym (peer_first samples (taken_by ys task span) task span.steps e)
         ∙ ap (λ j. output_list samples (taken_by ys task span) task span.steps j) (sym none))))))
@@ -73,6 +77,17 @@ same_output samples task span xs ys j ends same = by task.kind j refl refl
     by Sink i e at = whole (λ k. rw e tt)
     by Peer zero e at = first e at
     by Peer (suc i) e at = whole (λ k. rw (e, at) tt)
+
+-- and so over lists that are the same where it looks
+pub same_output : (samples : List ℤ) (task : Task) (span : Span) (xs ys : List (List ℤ)) (j : ℕ)
+    → HasEnds task.kind (length task.inputs) (length task.outputs)
+    → AreSameAt [] task xs ys (LooksAt task.kind j)
+    → output_list samples (taken_by xs task span) task span.steps j
+    ≡ output_list samples (taken_by ys task span) task span.steps j
+same_output samples task span xs ys j ends same =
+    output_by_taken samples task span xs ys j ends
+    (λ k lt looks. ap (λ l. take (takes_from task span.steps k) (drop span.offset l))
+    (same k lt looks))
 
 -- the members of phaser p are the same over lists that are the same below p
 pub same_members : (job : Job) (spans : List Span) (p : ℕ) (xs ys : List (List ℤ))

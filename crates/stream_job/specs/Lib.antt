@@ -1,3 +1,5 @@
+pub mod Entries
+pub mod Exact
 pub mod Jobs
 pub mod Kept
 pub mod Lists

@@ -1,0 +1,8 @@
+use Rattle.stream_job.proofs.EachPhase.{phase_entry, entry_alone}
+use Rattle.stream_job.proofs.laws.phases_have_entries.Goals as goal
+
+pub returns-clause-some : goal.returns-clause-some
+returns-clause-some c = phase_entry
+
+pub returns-clause-alone : goal.returns-clause-alone
+returns-clause-alone c = entry_alone
