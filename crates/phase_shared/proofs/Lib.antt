@@ -7,3 +7,4 @@ pub mod WaitSteps
 pub mod RegisterSteps
 pub mod NextSteps
 pub mod OneValue
+pub mod PartSteps

@@ -4,3 +4,4 @@ pub mod Calls
 pub mod Regs
 pub mod Nexts
 pub mod OneSends
+pub mod Parts

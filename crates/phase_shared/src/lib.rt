@@ -41,6 +41,7 @@
 #![tactic(auto)]
 
 mod hints;
+pub mod laws;
 mod next;
 pub mod one_send;
 mod past;
