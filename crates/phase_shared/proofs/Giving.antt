@@ -1,6 +1,7 @@
 -- What a seat that speaks for one task owes at a give.
-use Rattle.std.proofs.Common.{◌≡◌, ℕ, false, cond, eqb, List, [], ◌∷◌, ◌++◌, Option, Some, refl, sym, ap, subst, ◌∙◌, inl}
-use Rattle.std.specs.Prelude.{is_some}
+use Rattle.std.proofs.Common.{◌≡◌, ◌≢◌, ℕ, true, false, not, cond, eqb, List, [], ◌∷◌, ◌++◌, Option, Some, refl, sym, ap, subst, ◌∙◌, inl}
+use Rattle.std.specs.Prelude.{is_some, ◌||◌, ◌&&◌}
+use Rattle.std.proofs.lemmas.Bool.{eq-eqb}
 use Rattle.turn_lock.specs.Steps.{Gives}
 use Rattle.phase_base.specs.Limits.{Limits}
 use Rattle.phase_base.specs.declared.entry.Entry.{Entry}
@@ -12,11 +13,20 @@ use Rattle.phase_history.specs.Legal.{IsLegal}
 use Rattle.phase_core.specs.Cores.{CoreState, StandsFor}
 use Rattle.phase_shared.specs.declared.view.View.{View}
 use Rattle.phase_shared.specs.declared.rule.Terms.{Terms}
-use Rattle.phase_history.specs.Others.{IsUsed, is_by, events_of, OthersCame}
+use Rattle.phase_history.specs.Others.{IsUsed, is_by, is_distinct, events_of, OthersCame}
 use Rattle.phase_shared.specs.Views.{front, resting, turning, front_of, speaks_of}
 use Rattle.phase_shared.specs.Rule.{Allows, IsGoodAt, HasOneHistory, StandsWithin, TookAt, IsStation, Entered, Keeps}
 use Rattle.phase_history.proofs.Used.{IsUsed-member, IsUsed-longer, entry_of-others}
 use Rattle.phase_shared.proofs.Keeping.{gives, one_of, or_false, is_in_self}
+
+same_some : {A : Type 0} (x y : A) → Some x ≡ Some y → x ≡ y
+same_some x y e = cc
+
+-- two numbers that stand in a list without repetition differ
+pub numbers_apart : (a b : ℕ) → is_distinct (a ∷ b ∷ []) ≡ true → a ≢ b
+numbers_apart a b distinct same =
+    let found : eqb b a ≡ true = eq-eqb b a (sym same) in
+    absurd (let z : false ≡ true = subst (λ c. (not (c || false) && is_distinct (b ∷ [])) ≡ true) found distinct in cc)
 
 -- a longer history has come about by events of this task alone
 pub record OwnCame (me : ℕ) (old new : History) : Type 0 where
@@ -92,6 +102,12 @@ module _ {A K : Type 0} (op : Operation A) (allows : K → Allows) (terms : Term
       → StandsWithin op terms.limits x h → o ≡ entry_of x.members me → o ≡ Some entry → IsStation allows terms me entry v
   station entry v h x o is good stands viewed some =
       stays entry v h is good (ap (λ ms. entry_of ms me) (sym stands.stands.members_are) ∙ sym viewed ∙ some)
+
+  -- the entry that the core told is the one that the history says
+  pub told_entry : (entry expected : Entry) (h : History) (x : CoreState A) (o : Option Entry) → StandsWithin op terms.limits x h
+      → o ≡ entry_of x.members me → o ≡ Some entry → entry_of (members_of h) me ≡ Some expected → entry ≡ expected
+  told_entry entry expected h x o stands viewed some there =
+      same_some entry expected (sym some ∙ viewed ∙ ap (λ ms. entry_of ms me) stands.stands.members_are ∙ there)
 
   -- the core's own history is legal at the phaser's limits
   pub legal_at : (x : CoreState A) (h : History) → StandsWithin op terms.limits x h → IsLegal terms.limits h

@@ -11,7 +11,10 @@ use Rattle.phase_accum.specs.Operations.{Operation}
 use Rattle.phase_history.specs.declared.event.Event.TheVariants.{Registered}
 use Rattle.phase_history.specs.declared.refusal.RegisterRefusal.{RegisterRefusal}
 use Rattle.phase_history.specs.declared.refusal.RegisterRefusal.TheVariants as register
-use Rattle.phase_history.specs.Histories.{History, start_of, greatest_used}
+use Rattle.phase_history.specs.Histories.{History, start_of, greatest_used, members_of, entry_at, signal_phase, wait_phase}
+use Rattle.phase_base.specs.Members.{entry_of}
+use Rattle.phase_history.proofs.MemberLemmas.{entry_of-push_new}
+use Rattle.phase_history.proofs.Steps.{sound_of, member_entry_is}
 use Rattle.phase_history.specs.Refusals.{register_refusal}
 use Rattle.phase_history.specs.Legal.{IsLegal}
 use Rattle.phase_core.specs.Cores.{CoreState}
@@ -24,7 +27,7 @@ use Rattle.phase_shared.specs.Rule.{Allows, IsGoodAt, HasOneHistory, StandsWithi
 use Rattle.phase_shared.specs.Calls.{number_after, next_child, RefusesRegister}
 use Rattle.phase_history.specs.Others.{OthersCame}
 use Rattle.phase_history.proofs.Used.{IsUsed-longer}
-use Rattle.phase_history.proofs.Received.{start_of-above}
+use Rattle.phase_history.proofs.Received.{start_of-above, fresh}
 use Rattle.phase_shared.proofs.Keeping.{gives, forks, or_false, is_in_self, eqb_refl}
 
 in_two : (a b t : ℕ) → is_in t (a ∷ b ∷ []) ≡ true → (a ≡ t) ⊎ (b ≡ t)
@@ -58,6 +61,14 @@ new_child limits now me child mode entry legal used accepted =
       unused = λ some. none_some (start_of now child) none some;
       apart = λ same. none_some (start_of now child) none (subst (λ (n : ℕ). IsUsed now n) (sym same) used);
     }
+
+-- where a child stands: in its mode, at its parent's phases
+pub member_child : (limits : Limits) (now : History) (me child : ℕ) (mode : Mode) (entry : Entry) → IsLegal limits now → NewChild now me child
+    → entry_of (members_of now) me ≡ Some entry
+    → entry_of (members_of (Registered me child mode ∷ now)) child ≡ Some (entry_at mode entry.signal_phase entry.wait_phase)
+member_child limits now me child mode entry legal new there =
+    entry_of-push_new (members_of now) child (entry_at mode (signal_phase now me) (wait_phase now me)) (fresh now child (sound_of limits now legal) new.above)
+    ∙ ap (λ (e : Entry). Some (entry_at mode e.signal_phase e.wait_phase)) (member_entry_is (members_of now) me entry there)
 
 -- an accepted child has the number after the greatest one
 pub child_is_next : (now : History) (child greatest : ℕ) → greatest ≡ greatest_used now → child ≡ number_after greatest → greatest_used now < child → child ≡ greatest_used now + 1

@@ -1,5 +1,5 @@
 -- A signal under the turn.
-use Rattle.std.proofs.Common.{◌≡◌, ℕ, ℤ, Bool, true, false, List, [], ◌∷◌, Option, Some, None, subst, sym, ◌∙◌}
+use Rattle.std.proofs.Common.{◌≡◌, ℕ, ℤ, Bool, true, false, List, [], ◌∷◌, Option, Some, None, refl, subst, sym, ◌∙◌}
 use Rattle.phase_accum.specs.Parcels.{Parcel, StandsForSends}
 use Rattle.phase_history.specs.Others.{OthersCame}
 use Rattle.phase_history.specs.declared.refusal.SignalRefusal.{SignalRefusal}
@@ -9,7 +9,14 @@ use Rattle.phase_accum.specs.declared.single.Single.{Single}
 use Rattle.phase_history.specs.declared.event.Event.TheVariants.{Signalled}
 use Rattle.phase_base.specs.Members.{entry_of, signalled}
 use Rattle.phase_history.specs.Histories.{History, members_of}
-use Rattle.phase_history.proofs.MemberLemmas.{is_some-entry_of-changed}
+use Rattle.std.specs.Result.{result_ok}
+use Rattle.phase_base.specs.declared.entry.Entry.{Entry}
+use Rattle.phase_accum.specs.declared.outcome.Outcome.{Outcome}
+use Rattle.phase_history.specs.declared.refusal.WaitRefusal.{WaitRefusal}
+use Rattle.phase_history.specs.Replies.{after_wait}
+use Rattle.phase_history.proofs.MemberLemmas.{is_some-entry_of-changed, entry_of-changed_same}
+use Rattle.phase_shared.specs.Entries.{entry_after_wait}
+use Rattle.phase_shared.proofs.WaitSteps.{member_waits}
 use Rattle.phase_shared.specs.declared.rule.Terms.{Terms}
 use Rattle.phase_shared.specs.Rule.{Allows}
 use Rattle.phase_history.proofs.OthersEvents.{OthersCame-trans}
@@ -23,6 +30,19 @@ use Rattle.phase_shared.specs.Nexts.{MayWait, SignalsAndMayWait}
 pub member_signals : (me : ℕ) (sends : List ℤ) (single : Option Single) (now : History)
     → is_some (entry_of (members_of now) me) ≡ true → is_some (entry_of (members_of (Signalled me (sends ∷ []) single ∷ now)) me) ≡ true
 member_signals me sends single now some = is_some-entry_of-changed me me (signalled 1) (members_of now) ∙ some
+
+-- where it stands after its signal, and a wait under its turn
+pub member_signals_and_waits : (me : ℕ) (sends : List ℤ) (single : Option Single) (now : History) (entry : Entry) (waited : Result Got WaitRefusal)
+    → entry_of (members_of now) me ≡ Some entry
+    → entry_of (members_of (after_wait waited me (Signalled me (sends ∷ []) single ∷ now))) me ≡ Some (entry_after_wait (result_ok waited) (signalled 1 entry))
+member_signals_and_waits me sends single now entry waited there =
+    member_waits me (Signalled me (sends ∷ []) single ∷ now) (signalled 1 entry) waited (entry_of-changed_same me (signalled 1) entry (members_of now) there)
+
+-- where no wait was asked for it stands where its signal left it
+pub entry_alone : (value : List ℤ → Outcome) (limits : Limits) (me : ℕ) (middle new : History) (got : Option Got) (entry : Entry)
+    → MayWait false value limits me middle new got → entry_after_wait got entry ≡ entry
+entry_alone value limits me middle new None entry w = refl
+entry_alone value limits me middle new (Some got) entry w = absurd w
 
 -- a signal with no wait after it
 pub signals_alone : {A : Type 0} (op : Operation A) (limits : Limits) (me : ℕ) (held : Parcel A) (single : Option Single) (old new : History) (answer : ℕ × Option Got)

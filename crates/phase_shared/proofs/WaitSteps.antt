@@ -1,5 +1,5 @@
 -- A wait under the turn.
-use Rattle.std.proofs.Common.{◌≡◌, ℕ, ℤ, Bool, true, false, List, [], ◌∷◌, refl, ap, subst, ◌∙◌}
+use Rattle.std.proofs.Common.{◌≡◌, ℕ, ℤ, Bool, true, false, List, [], ◌∷◌, Some, refl, ap, subst, ◌∙◌}
 use Rattle.std.specs.Prelude.{Ok, Err, Result, is_some, IsErr}
 use Rattle.std.specs.Result.{result_ok}
 use Rattle.phase_accum.specs.Operations.{Operation}
@@ -11,7 +11,9 @@ use Rattle.phase_base.specs.Members.{entry_of, waited}
 use Rattle.phase_history.specs.Histories.{History, members_of}
 use Rattle.phase_history.specs.Replies.{wait_reply, after_wait}
 use Rattle.phase_core.specs.Cores.{CoreState, StandsFor}
-use Rattle.phase_history.proofs.MemberLemmas.{is_some-entry_of-changed}
+use Rattle.phase_history.proofs.MemberLemmas.{is_some-entry_of-changed, entry_of-changed_same}
+use Rattle.phase_base.specs.declared.entry.Entry.{Entry}
+use Rattle.phase_shared.specs.Entries.{entry_after_wait}
 use Rattle.phase_base.specs.Limits.{Limits}
 use Rattle.phase_accum.specs.declared.outcome.Outcome.{Outcome}
 use Rattle.phase_history.specs.Others.{OthersCame}
@@ -50,6 +52,13 @@ member_after_wait op x (Ok (got.Value phase outcome)) me now stands some =
     ∙ is_some-entry_of-changed me me (waited 1) (members_of now) ∙ some
 member_after_wait op x (Ok got.Ended) me now stands some = ap (λ ms. is_some (entry_of ms me)) stands.members_are ∙ some
 member_after_wait op x (Err refusal) me now stands some = ap (λ ms. is_some (entry_of ms me)) stands.members_are ∙ some
+
+-- where a task stands after a wait
+pub member_waits : (me : ℕ) (h : History) (entry : Entry) (answer : Result Got WaitRefusal) → entry_of (members_of h) me ≡ Some entry
+    → entry_of (members_of (after_wait answer me h)) me ≡ Some (entry_after_wait (result_ok answer) entry)
+member_waits me h entry (Ok (got.Value phase outcome)) there = entry_of-changed_same me (waited 1) entry (members_of h) there
+member_waits me h entry (Ok got.Ended) there = there
+member_waits me h entry (Err refusal) there = there
 
 -- a wait after others' events is a wait from the start
 pub waits_later : (value : List ℤ → Outcome) (limits : Limits) (me number : ℕ) (old now new : History) (answer : Result Got WaitRefusal)

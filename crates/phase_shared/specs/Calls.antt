@@ -1,6 +1,6 @@
 -- What each call answers, and how the history that its task has seen goes on: by events of others,
 -- up to the moment of the call, and then by the call's own event, where it makes one.
-use Rattle.std.specs.Prelude.{◌≡◌, ℕ, ℤ, List, [], ◌∷◌, Option, Result, Ok, Err, None, Some, min, ◌+◌, ◌-◌, ◌^◌}
+use Rattle.std.specs.Prelude.{◌≡◌, ℕ, ℤ, Bool, true, false, List, [], ◌∷◌, Option, Result, Ok, Err, None, Some, min, ◌+◌, ◌-◌, ◌^◌}
 use Rattle.phase_base.specs.Limits.{Limits}
 use Rattle.phase_base.specs.declared.mode.Mode.{Mode}
 use Rattle.phase_accum.specs.Operations.{Operation}
@@ -47,6 +47,11 @@ pub record Signals {A : Type 0} (op : Operation A) (limits : Limits) (me : ℕ) 
   -- the same, whichever sends those are that the task holds
   pub reply : (xs : List ℤ) → StandsForSends op held xs
       → signal_reply limits before me (xs ∷ []) single ≡ answer
+
+-- what is held after a call: no sends where it signalled, else what was held before
+abbrev pub HeldAfter : {A : Type 0} → Operation A → Bool → Parcel A → Parcel A → Type 0
+HeldAfter op true old new = StandsForSends op new [] × (new.count ≡ 0)
+HeldAfter op false old new = new ≡ old
 
 -- a wait: events of others, and there the definition's answer; then the wait's event, where it got
 -- a value

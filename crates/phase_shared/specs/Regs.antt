@@ -30,6 +30,10 @@ pub record PastState (K : Type 0) : Type 0 where
   pub numbers : List ℕ
   pub seen : History
 
+-- what was seen is legal and keeps the rule, by the terms of the phaser at this place
+abbrev pub IsGoodOn : {K : Type 0} → (K → Allows) → Place (Terms K) → History → Type 0
+IsGoodOn {K} allows at seen = (terms : Terms K) → at.1 ≡ Some terms → IsGoodAt allows terms seen
+
 module _ {A K : Type 0} where
   -- which phaser it is
   abbrev pub phaser_place : Phaser A K → Place (Terms K)

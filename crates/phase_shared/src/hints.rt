@@ -11,8 +11,8 @@ use std::{hint, thread};
 // Above every number that a task waits for.
 const ENDED: u64 = u64::MAX;
 
-// How often a pause doubles its spins, and how often it then yields.
-const SPIN_ROUNDS: u32 = 4;
+// How often a pause looks at its number while it spins, and how often it then yields.
+const LOOKS: u32 = 40;
 
 const YIELDS: u32 = 60;
 
@@ -55,13 +55,11 @@ impl Hint {
 
     // Returns when the number is at least `least`, or some time later.
     fn pause<R: Wait>(&self, rt: &R, least: u64) {
-        for round in 0..SPIN_ROUNDS {
+        for _ in 0..LOOKS {
             if self.is_at(least) {
                 return;
             }
-            for _ in 0..1u32 << round {
-                hint::spin_loop();
-            }
+            hint::spin_loop();
         }
         for _ in 0..YIELDS {
             if self.is_at(least) {

@@ -1,11 +1,11 @@
 //! A registration's next phase, by one call.
-ghost use Rattle.std.specs.Prelude.{◌≡◌, ◌≢◌, true, Ok, Err, IfOk, IfErr, OnOk, OnErr, [], ◌∷◌};
+ghost use Rattle.std.specs.Prelude.{◌≡◌, ◌≢◌, true, Some, Ok, Err, IfOk, IfErr, is_ok, ◌&&◌};
+ghost use Rattle.std.specs.Result.{result_ok};
 ghost use Rattle.phase_base.specs.Modes.{mode_signals, mode_waits};
-ghost use Rattle.phase_accum.specs.Parcels.{StandsForSends};
-ghost use Rattle.phase_history.specs.Others.{OthersCame};
 ghost use Rattle.phase_shared.specs.Rule.{IsGoodAt};
 ghost use Rattle.phase_shared.specs.Regs.{phaser_place, phaser_terms, phaser_limits};
-ghost use Rattle.phase_shared.specs.Calls.{Waits, MaySignal};
+ghost use Rattle.phase_shared.specs.Calls.{Waits, MaySignal, HeldAfter};
+ghost use Rattle.phase_shared.specs.Entries.{entry_after_wait, entry_after_next};
 ghost use Rattle.phase_shared.specs.Nexts.{GoesNext, RefusesNext};
 
 use crate::phaser::Phaser;
@@ -42,18 +42,21 @@ impl<A: Accumulate, K: SignalRule> Reg<A, K> {
 
         ensures ok { IfOk result (GoesNext A.operation (phaser_limits phaser.now) single self.old
             self.new.seen) }
+        ensures entry { self.new.entry ≡ entry_after_next (result_ok result) self.old.entry }
+        // A registration that does not signal keeps what it holds.
+        ensures held { HeldAfter A.operation (is_ok result && mode_signals self.old.entry.mode)
+            self.old.held self.new.held }
         ensures at { (self.new.at ≡ self.old.at) × (self.new.number ≡ self.old.number) }
         ensures good { IsGoodAt K.allows (phaser_terms phaser.now) self.new.seen }
-        ensures none_held { OnOk result (mode_signals self.old.entry.mode ≡ true
-            → StandsForSends A.operation self.new.held [] × (self.new.held.count ≡ 0)) }
 
         ensures err { IfErr result (RefusesNext A.operation (phaser_limits phaser.now) single
             self.old self.new.seen (mode_signals self.old.entry.mode)) }
-        ensures held { OnErr result (self.new.held ≡ self.old.held) }
+        ensures known { result ≢ Err SignalRefusal.NoTask }
+        ensures waited { result ≢ Err SignalRefusal.Ahead }
     {
         if !self.mode().signals() {
             if single.is_some() {
-                self.look(phaser);
+                self.look();
                 return Err(SignalRefusal::NotSingle);
             }
             let got = self.wait_in_turn(rt, phaser);
@@ -82,14 +85,6 @@ impl<A: Accumulate, K: SignalRule> Reg<A, K> {
         })
     }
 
-    // Says that what it has seen is good. It does nothing.
-    fn look(&self, phaser: &Phaser<A, K>)
-        requires { self.now.at ≡ phaser_place phaser.now }
-        ensures { IsGoodAt K.allows (phaser_terms phaser.now) self.now.seen }
-    {
-        let _number = self.number;
-    }
-
     // Waits where nothing but time can be in the way.
     fn wait_in_turn<W: Wait>(&mut self, rt: &W, phaser: &Phaser<A, K>) -> Got
         requires at { self.old.at ≡ phaser_place phaser.now }
@@ -99,6 +94,7 @@ impl<A: Accumulate, K: SignalRule> Reg<A, K> {
         ensures call { let old = self.old in
             Waits A.operation.value (phaser_limits phaser.now) old.number old.seen self.new.seen
             (Ok result) }
+        ensures entry { self.new.entry ≡ entry_after_wait (Some result) self.old.entry }
         ensures at { (self.new.at ≡ self.old.at) × (self.new.number ≡ self.old.number) }
         ensures held { self.new.held ≡ self.old.held }
         ensures good { IsGoodAt K.allows (phaser_terms phaser.now) self.new.seen }

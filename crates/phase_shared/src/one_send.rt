@@ -1,10 +1,12 @@
 //! A rule as an example: every signal has exactly one send.
 ghost use Rattle.std.specs.Prelude.{◌≡◌, ◌≢◌, [], ◌∷◌, true, Err, OnOk, OnErr};
+ghost use Rattle.std.specs.Result.{result_ok};
 ghost use Rattle.phase_base.specs.Modes.{mode_signals};
 ghost use Rattle.phase_accum.specs.declared.outcome.TheConstants.{NO_VALUE};
 ghost use Rattle.phase_accum.specs.Parcels.{StandsForSends};
 ghost use Rattle.phase_history.specs.Others.{OnlyUsed};
 ghost use Rattle.phase_shared.specs.Calls.{Tries};
+ghost use Rattle.phase_shared.specs.Entries.{entry_after_signal};
 ghost use Rattle.phase_shared.specs.OneSends.{allows_one_send, SignalsValue};
 ghost use Rattle.phase_shared.specs.Rule.{IsGoodAt};
 ghost use Rattle.phase_shared.specs.Regs.{phaser_place, phaser_terms, phaser_limits};
@@ -37,6 +39,7 @@ pub fn try_signal_value<A: Accumulate>(
 
     ensures call { let old = reg.old in Tries (reg.new.seen ≡ old.seen)
         (SignalsValue (phaser_limits phaser.now) old.number value old.seen reg.new.seen) result }
+    ensures entry { reg.new.entry ≡ entry_after_signal (result_ok result) reg.old.entry }
     ensures at { (reg.new.at ≡ reg.old.at) × (reg.new.number ≡ reg.old.number) }
     // Every signal that it has seen, of whichever task, had one send.
     ensures good { IsGoodAt allows_one_send (phaser_terms phaser.now) reg.new.seen }

@@ -2,7 +2,7 @@
 ghost use Rattle.std.specs.Prelude.{◌≡◌, ◌++◌, true};
 ghost use Rattle.phase_history.specs.Others.{OthersCame, is_distinct};
 ghost use Rattle.phase_shared.specs.Rule.{IsGoodAt};
-ghost use Rattle.phase_shared.specs.Regs.{phaser_place, phaser_terms};
+ghost use Rattle.phase_shared.specs.Regs.{phaser_place, phaser_terms, IsGoodOn};
 
 use crate::phaser::Phaser;
 use crate::rule::SignalRule;
@@ -32,6 +32,15 @@ impl<A: Accumulate, K: SignalRule> Model for Past<A, K> {
 }
 
 impl<A: Accumulate, K: SignalRule> Past<A, K> {
+    /// Says what holds of a past wherever it was kept meanwhile, as in a list or under a lock: its
+    /// history is legal and keeps the rule, and no number went into it twice. It does nothing.
+    pub fn look(&self)
+        ensures good { IsGoodOn K.allows self.now.at self.now.seen }
+        ensures distinct { is_distinct self.now.numbers ≡ true }
+    {
+        let _seat = &self.seat;
+    }
+
     /// Makes one past of two. Its history begins with what each had seen, and has no later event of
     /// a registration that went into it. It waits for nobody and takes no memory.
     pub fn join(self, phaser: &Phaser<A, K>, other: Past<A, K>) -> Past<A, K>

@@ -2,6 +2,7 @@
 ghost use Rattle.std.specs.Prelude.{◌≡◌, [], ◌∷◌, IfOk};
 ghost use Rattle.phase_accum.specs.Parcels.{StandsForSends};
 ghost use Rattle.phase_history.specs.declared.event.Event.TheVariants.{Made};
+ghost use Rattle.phase_history.specs.Histories.{founder};
 ghost use Rattle.phase_history.specs.Others.{OnlyUsed};
 ghost use Rattle.phase_shared.specs.Rule.{IsGoodAt};
 ghost use Rattle.phase_shared.specs.Regs.{phaser_place, phaser_terms, phaser_limits};
@@ -46,7 +47,7 @@ impl<A: Accumulate, K: SignalRule> Phaser<A, K> {
         ensures rule { IfOk result (λ made. (phaser_terms made.0).rule ≡ rule) }
         ensures at { IfOk result (λ made. made.1.at ≡ phaser_place made.0) }
         ensures founder { IfOk result (λ made.
-            (made.1.number ≡ 0) × (made.1.seen ≡ Made 0 ∷ [])) }
+            (made.1.number ≡ 0) × (made.1.seen ≡ Made 0 ∷ []) × (made.1.entry ≡ founder)) }
         ensures none_held { IfOk result (λ made.
             StandsForSends A.operation made.1.held [] × (made.1.held.count ≡ 0)) }
         ensures alone { IfOk result (λ made. OnlyUsed (made.1.number ∷ []) made.1.seen) }

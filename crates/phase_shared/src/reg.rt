@@ -6,6 +6,7 @@ ghost use Rattle.phase_base.specs.Modes.{mode_signals};
 ghost use Rattle.phase_accum.specs.declared.outcome.TheConstants.{NO_VALUE};
 ghost use Rattle.phase_accum.specs.Parcels.{StandsForSends};
 ghost use Rattle.phase_history.specs.Histories.{members_of};
+ghost use Rattle.phase_shared.specs.Regs.{IsGoodOn};
 
 use crate::refusal::SendRefusal;
 use crate::rule::SignalRule;
@@ -83,6 +84,17 @@ impl<A: Accumulate, K: SignalRule> Reg<A, K> {
     {
         let _part = self.pending.part();
         self.pending.count()
+    }
+
+    /// Says what holds of a registration wherever it was kept meanwhile, as in a list or under a
+    /// lock: its history is legal and keeps the rule, and it is registered there. It takes no turn
+    /// and does nothing.
+    pub fn look(&self)
+        ensures good { IsGoodOn K.allows self.now.at self.now.seen }
+        ensures entry { entry_of (members_of self.now.seen) self.now.number
+            ≡ Some self.now.entry }
+    {
+        let _number = self.number;
     }
 
     /// Tells its mode.

@@ -1,10 +1,11 @@
 //! The steps of a seat at rest that speaks for one task. Each call of a registration is one.
 ghost use Rattle.std.specs.Prelude.{◌≡◌, ◌≢◌, ℕ, ℤ, List, [], ◌∷◌, true, false, Ok, Err, IfOk, IfErr, IsOk, IsErr};
+ghost use Rattle.std.specs.Result.{result_ok};
 ghost use Rattle.turn_lock.specs.Seats.{lock_name, IsSeatOf, IsTurnOf, IsSameSeat};
 ghost use Rattle.turn_lock.specs.Seats.{seat_view, turn_number, turn_view, turn_value};
 ghost use Rattle.turn_lock.specs.Steps.{Gives};
 ghost use Rattle.phase_accum.specs.Parcels.{StandsForSends};
-ghost use Rattle.phase_history.specs.Histories.{History};
+ghost use Rattle.phase_history.specs.Histories.{History, entry_at};
 ghost use Rattle.phase_history.specs.Replies.{wait_reply, after_wait};
 ghost use Rattle.phase_history.specs.Others.{OnlyUsed, OthersCame};
 ghost use Rattle.phase_shared.specs.declared.view.View.TheVariants.{Resting};
@@ -13,6 +14,7 @@ ghost use Rattle.phase_shared.specs.Rule.{HasOneHistory, Entered, IsGoodAt, IsSt
 ghost use Rattle.phase_core.specs.Cores.{StandsFor};
 ghost use Rattle.phase_shared.specs.Calls.{Tries, Waits, HasRegistered, RefusesRegister};
 ghost use Rattle.phase_shared.specs.Calls.{Refuses, HasLeft, number_after};
+ghost use Rattle.phase_shared.specs.Entries.{entry_after_wait, entry_after_both};
 ghost use Rattle.phase_shared.specs.Nexts.{SignalsAndMayWait};
 ghost use Rattle.phase_shared.specs.Regs.{phaser_limits, phaser_terms};
 
@@ -115,6 +117,7 @@ pub fn signal<A: Accumulate, K: SignalRule>(
     ensures call { Tries (IsSameSeat seat result.0 × (result.1 ≡ entry))
         (SignalsAndMayWait waits A.operation (phaser_limits phaser.now) me pending single
         (front_of (seat_view seat)).seen (front_of (seat_view result.0)).seen) result.2 }
+    ensures entry { result.1 ≡ entry_after_both (result_ok result.2) entry }
     ensures known { result.2 ≢ Err (Tried.Refused SignalRefusal.NoTask) }
     ensures alone { OnlyUsed (me ∷ []) (front_of (seat_view seat)).seen
         → result.2 ≢ Err Tried.Busy }
@@ -183,6 +186,7 @@ pub fn wait<A: Accumulate, K: SignalRule>(
     ensures call { Tries (IsSameSeat seat result.0 × (result.1 ≡ entry))
         (Waits A.operation.value (phaser_limits phaser.now) me
         (front_of (seat_view seat)).seen (front_of (seat_view result.0)).seen) result.2 }
+    ensures entry { result.1 ≡ entry_after_wait (result_ok result.2) entry }
     ensures known { result.2 ≢ Err (Tried.Refused WaitRefusal.NoTask) }
     ensures alone { OnlyUsed (me ∷ []) (front_of (seat_view seat)).seen
         → result.2 ≢ Err Tried.Busy }
@@ -228,7 +232,8 @@ pub fn register<A: Accumulate, K: SignalRule>(
     ensures at { IsStation K.allows (phaser_terms phaser.now) me entry (seat_view result.0) }
     ensures child { IfOk result.1 (λ made. IsSeatOf phaser.now.lock made.1
         × IsStation K.allows (phaser_terms phaser.now) made.0 made.2 (seat_view made.1)
-        × ((front_of (seat_view made.1)).seen ≡ (front_of (seat_view result.0)).seen)) }
+        × ((front_of (seat_view made.1)).seen ≡ (front_of (seat_view result.0)).seen)
+        × (made.2 ≡ entry_at mode entry.signal_phase entry.wait_phase)) }
     ensures ok { IfOk result.1 (λ made. HasRegistered me made.0 mode
         (front_of (seat_view seat)).seen (front_of (seat_view result.0)).seen) }
     ensures err { IfErr result.1 (Refuses (IsSameSeat seat result.0) (RefusesRegister me mode
@@ -288,6 +293,7 @@ pub fn meet<A: Accumulate, K: SignalRule>(
     ensures first { IsStation K.allows (phaser_terms phaser.now) me entry (seat_view result.0) }
     ensures second { IsStation K.allows (phaser_terms phaser.now) you start (seat_view result.1) }
     ensures one { (front_of (seat_view result.0)).seen ≡ (front_of (seat_view result.1)).seen }
+    ensures apart { me ≢ you }
     ensures begins { OthersCame (me ∷ []) (front_of (seat_view seat)).seen
         (front_of (seat_view result.0)).seen
         × OthersCame (you ∷ []) (front_of (seat_view other)).seen

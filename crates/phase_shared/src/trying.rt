@@ -1,11 +1,14 @@
 //! The calls of a registration that wait for nobody.
 ghost use Rattle.std.specs.Prelude.{◌≡◌, ◌≢◌, [], ◌∷◌, Err, IfOk, IfErr, IsOk, OnOk, OnErr};
+ghost use Rattle.std.specs.Result.{result_ok};
 ghost use Rattle.phase_accum.specs.Parcels.{StandsForSends};
+ghost use Rattle.phase_history.specs.Histories.{entry_at};
 ghost use Rattle.phase_history.specs.Others.{OnlyUsed, OthersCame};
 ghost use Rattle.phase_shared.specs.Rule.{IsGoodAt};
 ghost use Rattle.phase_shared.specs.Regs.{phaser_place, phaser_terms, phaser_limits};
 ghost use Rattle.phase_shared.specs.Calls.{Tries, Refuses, Signals, Waits, MaySignal, Leaves};
 ghost use Rattle.phase_shared.specs.Calls.{HasRegistered, RefusesRegister};
+ghost use Rattle.phase_shared.specs.Entries.{entry_after_signal, entry_after_wait, entry_after_both};
 ghost use Rattle.phase_shared.specs.Nexts.{SignalsAndMayWait};
 
 use crate::past::Past;
@@ -32,6 +35,7 @@ impl<A: Accumulate, K: SignalRule> Reg<A, K> {
         ensures call { let old = self.old in Tries (self.new ≡ old)
             (Signals A.operation (phaser_limits phaser.now) old.number old.held single old.seen
             self.new.seen) result }
+        ensures entry { self.new.entry ≡ entry_after_signal (result_ok result) self.old.entry }
         ensures at { (self.new.at ≡ self.old.at) × (self.new.number ≡ self.old.number) }
         ensures good { IsGoodAt K.allows (phaser_terms phaser.now) self.new.seen }
         ensures none_held { OnOk result
@@ -62,6 +66,7 @@ impl<A: Accumulate, K: SignalRule> Reg<A, K> {
         ensures call { let old = self.old in Tries (self.new ≡ old)
             (SignalsAndMayWait waits A.operation (phaser_limits phaser.now) old.number old.held
             single old.seen self.new.seen) result }
+        ensures entry { self.new.entry ≡ entry_after_both (result_ok result) self.old.entry }
         ensures at { (self.new.at ≡ self.old.at) × (self.new.number ≡ self.old.number) }
         ensures good { IsGoodAt K.allows (phaser_terms phaser.now) self.new.seen }
         ensures none_held { OnOk result
@@ -102,6 +107,7 @@ impl<A: Accumulate, K: SignalRule> Reg<A, K> {
         ensures call { let old = self.old in Tries (self.new ≡ old)
             (Waits A.operation.value (phaser_limits phaser.now) old.number old.seen self.new.seen)
             result }
+        ensures entry { self.new.entry ≡ entry_after_wait (result_ok result) self.old.entry }
         ensures at { (self.new.at ≡ self.old.at) × (self.new.number ≡ self.old.number) }
         ensures held { self.new.held ≡ self.old.held }
         ensures good { IsGoodAt K.allows (phaser_terms phaser.now) self.new.seen }
@@ -133,11 +139,13 @@ impl<A: Accumulate, K: SignalRule> Reg<A, K> {
         ensures ok { IfOk result (λ child.
             HasRegistered self.old.number child.number mode self.old.seen self.new.seen) }
         ensures child { IfOk result (λ child.
-            (child.at ≡ self.old.at) × (child.seen ≡ self.new.seen)) }
+            (child.at ≡ self.old.at) × (child.seen ≡ self.new.seen)
+            × (child.entry
+            ≡ entry_at mode self.old.entry.signal_phase self.old.entry.wait_phase)) }
         ensures none_held { IfOk result (λ child.
             StandsForSends A.operation child.held [] × (child.held.count ≡ 0)) }
-        ensures at { (self.new.at ≡ self.old.at) × (self.new.number ≡ self.old.number) }
-        ensures same { (self.new.entry ≡ self.old.entry) × (self.new.held ≡ self.old.held) }
+        ensures at { (self.new.at ≡ self.old.at) × (self.new.number ≡ self.old.number)
+            × (self.new.entry ≡ self.old.entry) × (self.new.held ≡ self.old.held) }
         ensures good { IsGoodAt K.allows (phaser_terms phaser.now) self.new.seen }
 
         ensures err { IfErr result (Refuses (self.new ≡ self.old)
@@ -201,6 +209,7 @@ impl<A: Accumulate, K: SignalRule> Reg<A, K> {
         requires at { (self.at ≡ phaser_place phaser.now) × (other.at ≡ phaser_place phaser.now) }
 
         ensures one { result.0.seen ≡ result.1.seen }
+        ensures apart { result.0.number ≢ result.1.number }
         ensures begins { OthersCame (self.number ∷ []) self.seen result.0.seen
             × OthersCame (other.number ∷ []) other.seen result.0.seen }
         ensures good { IsGoodAt K.allows (phaser_terms phaser.now) result.0.seen }

@@ -1,11 +1,14 @@
 //! The calls of a registration that may wait.
 ghost use Rattle.std.specs.Prelude.{◌≡◌, ◌≢◌, [], ◌∷◌, Err, IfOk, IfErr, OnOk, OnErr};
+ghost use Rattle.std.specs.Result.{result_ok};
 ghost use Rattle.phase_accum.specs.Parcels.{StandsForSends};
+ghost use Rattle.phase_history.specs.Histories.{entry_at};
 ghost use Rattle.phase_history.specs.Others.{OthersCame};
 ghost use Rattle.phase_shared.specs.Rule.{IsGoodAt};
 ghost use Rattle.phase_shared.specs.Regs.{phaser_place, phaser_terms, phaser_limits};
 ghost use Rattle.phase_shared.specs.Calls.{Signals, Waits, MaySignal, Leaves};
 ghost use Rattle.phase_shared.specs.Calls.{HasRegistered, RefusesRegister};
+ghost use Rattle.phase_shared.specs.Entries.{entry_after_signal, entry_after_wait, entry_after_both};
 ghost use Rattle.phase_shared.specs.Nexts.{SignalsAndMayWait};
 
 use crate::past::Past;
@@ -35,6 +38,7 @@ impl<A: Accumulate, K: SignalRule> Reg<A, K> {
         ensures call { let old = self.old in
             Signals A.operation (phaser_limits phaser.now) old.number old.held single old.seen
             self.new.seen result }
+        ensures entry { self.new.entry ≡ entry_after_signal (result_ok result) self.old.entry }
         ensures at { (self.new.at ≡ self.old.at) × (self.new.number ≡ self.old.number) }
         ensures good { IsGoodAt K.allows (phaser_terms phaser.now) self.new.seen }
         ensures none_held { OnOk result
@@ -65,6 +69,7 @@ impl<A: Accumulate, K: SignalRule> Reg<A, K> {
         ensures call { let old = self.old in
             SignalsAndMayWait waits A.operation (phaser_limits phaser.now) old.number old.held
             single old.seen self.new.seen result }
+        ensures entry { self.new.entry ≡ entry_after_both (result_ok result) self.old.entry }
         ensures at { (self.new.at ≡ self.old.at) × (self.new.number ≡ self.old.number) }
         ensures good { IsGoodAt K.allows (phaser_terms phaser.now) self.new.seen }
         ensures none_held { OnOk result
@@ -84,10 +89,23 @@ impl<A: Accumulate, K: SignalRule> Reg<A, K> {
             if let Some(refusal) = refusal::of_signal(tried) {
                 return Err(refusal);
             }
-            phaser.hints.pause_for_room(rt, self.entry.signal_phase);
-            backoff.snooze();
+            self.pause_for_room(rt, phaser, &backoff, tried);
         }
         unreachable!()
+    }
+
+    // Pauses after a signal whose turn was another's, or which was ahead.
+    fn pause_for_room<W: Wait>(
+        &self,
+        rt: &W,
+        phaser: &Phaser<A, K>,
+        backoff: &Backoff,
+        tried: Tried<SignalRefusal>,
+    ) {
+        if let Tried::Refused(_) = tried {
+            phaser.hints.pause_for_room(rt, self.entry.signal_phase);
+        }
+        refusal::snooze_if_busy(backoff, &tried);
     }
 
     /// Waits for its phase, and answers it with its value, or that no more will come. It waits
@@ -98,6 +116,7 @@ impl<A: Accumulate, K: SignalRule> Reg<A, K> {
         ensures call { let old = self.old in
             Waits A.operation.value (phaser_limits phaser.now) old.number old.seen self.new.seen
             result }
+        ensures entry { self.new.entry ≡ entry_after_wait (result_ok result) self.old.entry }
         ensures at { (self.new.at ≡ self.old.at) × (self.new.number ≡ self.old.number) }
         ensures held { self.new.held ≡ self.old.held }
         ensures good { IsGoodAt K.allows (phaser_terms phaser.now) self.new.seen }
@@ -115,7 +134,7 @@ impl<A: Accumulate, K: SignalRule> Reg<A, K> {
             if let Some(refusal) = refusal::of_wait(tried) {
                 return Err(refusal);
             }
-            backoff.snooze();
+            refusal::snooze_if_busy(&backoff, &tried);
         }
         unreachable!()
     }
@@ -144,11 +163,13 @@ impl<A: Accumulate, K: SignalRule> Reg<A, K> {
         ensures ok { IfOk result (λ child.
             HasRegistered self.old.number child.number mode self.old.seen self.new.seen) }
         ensures child { IfOk result (λ child.
-            (child.at ≡ self.old.at) × (child.seen ≡ self.new.seen)) }
+            (child.at ≡ self.old.at) × (child.seen ≡ self.new.seen)
+            × (child.entry
+            ≡ entry_at mode self.old.entry.signal_phase self.old.entry.wait_phase)) }
         ensures none_held { IfOk result (λ child.
             StandsForSends A.operation child.held [] × (child.held.count ≡ 0)) }
-        ensures at { (self.new.at ≡ self.old.at) × (self.new.number ≡ self.old.number) }
-        ensures same { (self.new.entry ≡ self.old.entry) × (self.new.held ≡ self.old.held) }
+        ensures at { (self.new.at ≡ self.old.at) × (self.new.number ≡ self.old.number)
+            × (self.new.entry ≡ self.old.entry) × (self.new.held ≡ self.old.held) }
         ensures good { IsGoodAt K.allows (phaser_terms phaser.now) self.new.seen }
 
         ensures err { IfErr result

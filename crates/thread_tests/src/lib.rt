@@ -5,6 +5,8 @@
 #[cfg(test)]
 mod churn;
 #[cfg(test)]
+mod kept;
+#[cfg(test)]
 mod locks;
 #[cfg(test)]
 mod received;

@@ -8,7 +8,8 @@ use Rattle.phase_shared.specs.Views.{front_of, resting, first_part, other_part}
 use Rattle.phase_shared.specs.Rule.{IsStation}
 use Rattle.phase_shared.specs.declared.view.View.{View}
 use Rattle.phase_shared.specs.declared.view.View.TheVariants.{Resting}
-use Rattle.phase_shared.proofs.Giving.{still_member}
+use Rattle.phase_history.specs.Others.{is_distinct}
+use Rattle.phase_shared.proofs.Giving.{still_member, numbers_apart}
 use Rattle.phase_shared.proofs.RegisterSteps.{forks_child}
 use Rattle.phase_shared.proofs.steps.meet.Goals as goal
 
@@ -118,3 +119,10 @@ returns-clause-begins g c =
       subst (λ (h : History). OthersCame (me ∷ []) (front_of v).seen h) (sym seen) came,
       subst (λ (h : History). OthersCame (you ∷ []) (front_of w).seen h) (sym seen) came',
     )
+
+-- no number is spoken for twice
+pub returns-clause-apart : goal.returns-clause-apart
+returns-clause-apart g c =
+    let first : (front_of (seat_view c.args.seat)).speaks ≡ c.args.me ∷ [] = ap (λ (z : View). (front_of z).speaks) c.requires.first.rests in
+    let second : (front_of (seat_view c.args.other)).speaks ≡ c.args.you ∷ [] = ap (λ (z : View). (front_of z).speaks) c.requires.second.rests in
+    numbers_apart c.args.me c.args.you (sym (λ i. is_distinct (first i ++ second i)) ∙ c.join-both.ensures.rule.distinct)

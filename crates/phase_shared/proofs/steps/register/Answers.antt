@@ -7,9 +7,7 @@ use Rattle.phase_base.specs.Members.{entry_of}
 use Rattle.phase_history.specs.Refusals.{register_refusal}
 use Rattle.phase_history.specs.declared.event.Event.TheVariants.{Registered}
 use Rattle.phase_core.specs.Cores.{CoreState}
-use Rattle.phase_history.proofs.MemberLemmas.{entry_of-push_old, entry_of-push_new}
-use Rattle.phase_history.proofs.Received.{fresh}
-use Rattle.phase_history.proofs.Steps.{sound_of}
+use Rattle.phase_history.proofs.MemberLemmas.{entry_of-push_old}
 use Rattle.phase_shared.specs.Views.{resting, front_of, speaks_of, first_part, other_part}
 use Rattle.phase_shared.specs.Rule.{IsStation, StandsWithin}
 use Rattle.phase_shared.specs.Calls.{RefusesRegister, number_after}
@@ -17,8 +15,8 @@ use Rattle.phase_history.specs.declared.refusal.RegisterRefusal.{RegisterRefusal
 use Rattle.phase_history.specs.declared.refusal.RegisterRefusal.TheVariants as register
 use Rattle.phase_history.proofs.Answered.{register_refusal-never}
 use Rattle.phase_shared.specs.declared.view.View.{View}
-use Rattle.phase_shared.proofs.Giving.{gives_same, station, lent, after_call, AfterCall}
-use Rattle.phase_shared.proofs.RegisterSteps.{NewChild, new_child, gives_child, forks_child, refuses, child_is_next}
+use Rattle.phase_shared.proofs.Giving.{gives_same, station, lent, after_call, AfterCall, told_entry}
+use Rattle.phase_shared.proofs.RegisterSteps.{NewChild, new_child, member_child, gives_child, forks_child, refuses, child_is_next}
 use Rattle.phase_shared.proofs.steps.register.Goals as goal
 
 -- the child is a member now
@@ -40,10 +38,9 @@ unreachable-requires g c =
     let s : AfterCall op allows terms me (event ∷ e.now) c.register-answer.new.self =
     after_call op allows terms me e.now (event ∷ e.now) old c.register-answer.new.self before c.in_default.ensures.limits
     (c.in_default.ensures.after e.now before.stands) e.good.keeps in
-    let found : entry_of (members_of (event ∷ e.now)) child ≡ Some (entry_at mode (signal_phase e.now me) (wait_phase e.now me)) =
-    entry_of-push_new (members_of e.now) child (entry_at mode (signal_phase e.now me) (wait_phase e.now me)) (fresh e.now child (sound_of terms.limits e.now e.good.legal) new.above) in
-    c.in_default-found.not-Some (entry_at mode (signal_phase e.now me) (wait_phase e.now me))
-    (c.view-found.ensures ∙ ap (λ ms. entry_of ms child) s.stands.stands.members_are ∙ found)
+    c.in_default-found.not-Some (entry_at mode c.args.entry.signal_phase c.args.entry.wait_phase)
+    (c.view-found.ensures ∙ ap (λ ms. entry_of ms child) s.stands.stands.members_are
+    ∙ member_child terms.limits e.now me child mode c.args.entry e.good.legal new e.member)
 
 pub put_back-both-requires-clause-rule : goal.put_back-both-requires-clause-rule
 put_back-both-requires-clause-rule g c =
@@ -152,6 +149,8 @@ returns-clause-child g c =
       station op allows terms child c.in-Some.start (seat_view c.split-seat.result.1) h c.register-answer.new.self c.view-found.result
           right s.good s.stands c.view-found.ensures c.in-Some.is,
       ap (λ (v : View). (front_of v).seen) right ∙ sym (ap (λ (v : View). (front_of v).seen) left),
+      told_entry op allows terms child c.in-Some.start (entry_at mode c.args.entry.signal_phase c.args.entry.wait_phase) h c.register-answer.new.self c.view-found.result
+          s.stands c.view-found.ensures c.in-Some.is (member_child terms.limits e.now me child mode c.args.entry e.good.legal new e.member),
     )
 
 pub returns-clause-ok : goal.returns-clause-ok

@@ -16,8 +16,11 @@ use Rattle.phase_history.specs.declared.refusal.SignalRefusal.TheVariants as sig
 use Rattle.phase_history.specs.Refusals.{signal_refusal}
 use Rattle.phase_history.proofs.Answered.{signal_refusal-never}
 use Rattle.phase_shared.proofs.Answering.{refused_is}
-use Rattle.phase_shared.proofs.Giving.{AfterCall, after_call, gives_own, gives_same, own_none, own_event, station, stays, lent}
-use Rattle.phase_shared.proofs.SignalSteps.{member_signals}
+use Rattle.phase_shared.proofs.Giving.{AfterCall, after_call, gives_own, gives_same, own_none, own_event, station, stays, lent, told_entry}
+use Rattle.std.specs.Result.{result_ok}
+use Rattle.phase_base.specs.Members.{signalled}
+use Rattle.phase_shared.specs.Entries.{entry_after_wait}
+use Rattle.phase_shared.proofs.SignalSteps.{member_signals, member_signals_and_waits}
 use Rattle.phase_shared.proofs.WaitSteps.{own_wait, keeps_wait, member_after_wait, may_wait}
 use Rattle.phase_shared.proofs.steps.signal.Goals as goal
 
@@ -99,6 +102,27 @@ returns-clause-at g c =
     station op allows terms c.args.me c.in-Some.entry (seat_view c.put_back-seat.result) (after_wait waited c.args.me middle) new c.view.result
     (told.2 ∙ ap (λ (v : View). resting (after_wait waited c.args.me (Signalled c.args.me (told.0 ∷ []) c.args.single ∷ (front_of v).seen)) (speaks_of v)) e.is)
     s.good s.stands c.view.ensures c.in-Some.is
+
+pub returns-clause-entry : goal.returns-clause-entry
+returns-clause-entry g c =
+    let op = g.A.Accumulate.operation in
+    let allows = g.K.SignalRule.allows in
+    let terms = phaser_terms c.args.phaser.now in
+    let turn = c.in-Ok.turn in
+    let e = c.in-Ok.ensures.took in
+    let old = c.value-core.result.now in
+    let before : StandsWithin op terms.limits old e.now = lent op allows terms c.args.me (turn_value turn) old e.now c.value-core.ensures.value e.stands in
+    let held = c.part-part.ensures.held in
+    let waited = c.wait_where-waited.result in
+    let new = c.wait_where-waited.new.core in
+    let middle : History = Signalled c.args.me (held.0 ∷ []) c.args.single ∷ e.now in
+    let s : AfterCall op allows terms c.args.me (after_wait waited c.args.me middle) new =
+    after_call op allows terms c.args.me e.now (after_wait waited c.args.me middle) old new before (c.wait_where-waited.ensures.limits ∙ c.in-Ok-answer.ensures.limits)
+    (c.wait_where-waited.ensures.after middle (c.in-Ok-answer.ensures.after e.now held.0 before.stands held.1))
+    (keeps_wait (allows terms.rule) c.args.me middle waited (c.requires.rule e.now held.0 e.good e.others held.1, e.good.keeps)) in
+    told_entry op allows terms c.args.me c.in-Some.entry (entry_after_wait (result_ok waited) (signalled 1 c.args.entry)) (after_wait waited c.args.me middle) new c.view.result
+    s.stands c.view.ensures c.in-Some.is (member_signals_and_waits c.args.me held.0 c.args.single e.now c.args.entry waited e.member)
+    ∙ ap (λ got. entry_after_wait got (signalled 1 c.args.entry)) (sym c.ok.ensures.value)
 
 pub returns-clause-call : goal.returns-clause-call
 returns-clause-call g c =

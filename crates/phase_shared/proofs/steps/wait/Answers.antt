@@ -14,8 +14,10 @@ use Rattle.phase_shared.specs.Rule.{StandsWithin}
 use Rattle.phase_shared.specs.Calls.{Waits}
 use Rattle.phase_shared.specs.declared.view.View.{View}
 use Rattle.phase_shared.proofs.Answering.{refused_is}
-use Rattle.phase_shared.proofs.Giving.{AfterCall, after_call, gives_own, own_none, station, lent}
-use Rattle.phase_shared.proofs.WaitSteps.{own_wait, keeps_wait, member_after_wait}
+use Rattle.phase_shared.proofs.Giving.{AfterCall, after_call, gives_own, own_none, station, lent, told_entry}
+use Rattle.std.specs.Result.{result_ok}
+use Rattle.phase_shared.specs.Entries.{entry_after_wait}
+use Rattle.phase_shared.proofs.WaitSteps.{own_wait, keeps_wait, member_after_wait, member_waits}
 use Rattle.phase_shared.proofs.steps.wait.Goals as goal
 
 pub unreachable-requires : goal.unreachable-requires
@@ -120,6 +122,42 @@ returns-in-Err-answer-clause-call g c =
       seen = ap (λ (v : View). (front_of v).seen) c.put_back-seat.ensures.rule ∙ ap (λ (v : View). after_wait answer c.args.me (front_of v).seen) e.is;
       reply = ap (λ l. wait_reply op.value l e.now c.args.me) (sym before.limits_are) ∙ c.wait-answer.ensures.reply e.now before.stands;
     })
+
+pub returns-in-Ok-answer-clause-entry : goal.returns-in-Ok-answer-clause-entry
+returns-in-Ok-answer-clause-entry g c =
+    let op = g.A.Accumulate.operation in
+    let allows = g.K.SignalRule.allows in
+    let terms = phaser_terms c.args.phaser.now in
+    let turn = c.in-Ok.turn in
+    let e = c.in-Ok.ensures.took in
+    let old = c.value-core.result.now in
+    let before : StandsWithin op terms.limits old e.now = lent op allows terms c.args.me (turn_value turn) old e.now c.value-core.ensures.value e.stands in
+    let answer = c.wait-answer.result in
+    let new = c.wait-answer.new.self in
+    let s : AfterCall op allows terms c.args.me (after_wait answer c.args.me e.now) new =
+    after_call op allows terms c.args.me e.now (after_wait answer c.args.me e.now) old new before c.wait-answer.ensures.limits
+    (c.wait-answer.ensures.after e.now before.stands) (keeps_wait (allows terms.rule) c.args.me e.now answer e.good.keeps) in
+    told_entry op allows terms c.args.me c.in-Some.entry (entry_after_wait (result_ok answer) c.args.entry) (after_wait answer c.args.me e.now) new c.view.result
+    s.stands c.view.ensures c.in-Some.is (member_waits c.args.me e.now c.args.entry answer e.member)
+    ∙ ap (λ r. entry_after_wait (result_ok r) c.args.entry) c.in-Ok-answer.is
+
+pub returns-in-Err-answer-clause-entry : goal.returns-in-Err-answer-clause-entry
+returns-in-Err-answer-clause-entry g c =
+    let op = g.A.Accumulate.operation in
+    let allows = g.K.SignalRule.allows in
+    let terms = phaser_terms c.args.phaser.now in
+    let turn = c.in-Ok.turn in
+    let e = c.in-Ok.ensures.took in
+    let old = c.value-core.result.now in
+    let before : StandsWithin op terms.limits old e.now = lent op allows terms c.args.me (turn_value turn) old e.now c.value-core.ensures.value e.stands in
+    let answer = c.wait-answer.result in
+    let new = c.wait-answer.new.self in
+    let s : AfterCall op allows terms c.args.me (after_wait answer c.args.me e.now) new =
+    after_call op allows terms c.args.me e.now (after_wait answer c.args.me e.now) old new before c.wait-answer.ensures.limits
+    (c.wait-answer.ensures.after e.now before.stands) (keeps_wait (allows terms.rule) c.args.me e.now answer e.good.keeps) in
+    told_entry op allows terms c.args.me c.in-Some.entry (entry_after_wait (result_ok answer) c.args.entry) (after_wait answer c.args.me e.now) new c.view.result
+    s.stands c.view.ensures c.in-Some.is (member_waits c.args.me e.now c.args.entry answer e.member)
+    ∙ ap (λ r. entry_after_wait (result_ok r) c.args.entry) c.in-Err-answer.is
 
 -- the task is registered
 pub returns-in-Err-answer-clause-known : goal.returns-in-Err-answer-clause-known

@@ -55,6 +55,7 @@ loop-preserved g c =
     record {
       at = c.try_signal_and_wait.ensures.at.0 ∙ i.at;
       number = c.try_signal_and_wait.ensures.at.1 ∙ i.number;
+      entry = c.in-Err.ensures.entry ∙ i.entry;
       held = c.in-Err.ensures.held ∙ i.held;
       others = OthersCame-trans (start.number ∷ []) start.seen now.seen new.seen i.others (subst (λ n. OthersCame (n ∷ []) now.seen new.seen) i.number came);
     }

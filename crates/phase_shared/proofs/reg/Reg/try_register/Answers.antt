@@ -1,6 +1,7 @@
 use Rattle.std.proofs.Common.{◌≡◌, [], ◌∷◌, Some, Err, true, false, sym, subst, ap, ◌∙◌}
 use Rattle.std.specs.Prelude.{is_some, Result, IfOk}
 use Rattle.turn_lock.specs.Seats.{seat_view, IsSeatOf}
+use Rattle.phase_history.specs.Histories.{entry_at}
 use Rattle.phase_history.specs.Others.{OnlyUsed}
 use Rattle.phase_shared.specs.Views.{front_of}
 use Rattle.phase_shared.specs.Rule.{IsStation}
@@ -35,10 +36,13 @@ pub invariant_of-result : goal.invariant_of-result
 invariant_of-result g c =
     let p = phaser_place c.args.phaser.now in
     let terms = phaser_terms c.args.phaser.now in
+    let inside = c.self.inside in
     let made : IsSeatOf c.args.phaser.now.lock c.in-Ok.seat × IsStation g.K.SignalRule.allows terms c.in-Ok.number c.in-Ok.entry (seat_view c.in-Ok.seat)
-    × ((front_of (seat_view c.in-Ok.seat)).seen ≡ (front_of (seat_view c.register-seat.result.0)).seen) =
+    × ((front_of (seat_view c.in-Ok.seat)).seen ≡ (front_of (seat_view c.register-seat.result.0)).seen)
+    × (c.in-Ok.entry ≡ entry_at c.args.mode inside.entry.signal_phase inside.entry.wait_phase) =
     subst (λ r. IfOk r (λ m. IsSeatOf c.args.phaser.now.lock m.1 × IsStation g.K.SignalRule.allows terms m.0 m.2 (seat_view m.1)
-    × ((front_of (seat_view m.1)).seen ≡ (front_of (seat_view c.register-seat.result.0)).seen))) c.in-Ok.is c.register-seat.ensures.child in
+    × ((front_of (seat_view m.1)).seen ≡ (front_of (seat_view c.register-seat.result.0)).seen)
+    × (m.2 ≡ entry_at c.args.mode inside.entry.signal_phase inside.entry.wait_phase))) c.in-Ok.is c.register-seat.ensures.child in
     closed g.K.SignalRule.allows p.0 terms c.in-Ok.number c.in-Ok.entry c.in-Ok.seat made.0 made.1
 
 same_err : {A E : Type 0} (x y : E) → ◌≡◌ {A = Result A E} (Err x) (Err y) → x ≡ y

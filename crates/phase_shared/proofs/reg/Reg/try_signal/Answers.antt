@@ -1,8 +1,9 @@
-use Rattle.std.proofs.Common.{◌≡◌, false, subst}
+use Rattle.std.proofs.Common.{◌≡◌, false, subst, ◌∙◌}
 use Rattle.phase_shared.specs.Regs.{phaser_limits}
 use Rattle.phase_shared.specs.Calls.{Tries}
-use Rattle.phase_shared.specs.Nexts.{SignalsAndMayWait}
-use Rattle.phase_shared.proofs.SignalSteps.{signals_alone}
+use Rattle.phase_shared.specs.Nexts.{SignalsAndMayWait, HasSignalledAndMayWait}
+use Rattle.phase_base.specs.Members.{signalled}
+use Rattle.phase_shared.proofs.SignalSteps.{signals_alone, entry_alone}
 use Rattle.phase_shared.proofs.reg.Reg.try_signal.Goals as goal
 
 pub returns-in-Ok-clause-call : goal.returns-in-Ok-clause-call
@@ -23,3 +24,15 @@ returns-in-Err-clause-call g c =
     let new = c.try_signal_and_wait.new.self in
     let call = SignalsAndMayWait false op limits old.number old.held c.args.single old.seen new.seen in
     subst (λ r. Tries (new ≡ old) call r) c.in-Err.is c.try_signal_and_wait.ensures.call
+
+-- a signal alone leaves its task one signal phase further
+pub returns-in-Ok-clause-entry : goal.returns-in-Ok-clause-entry
+returns-in-Ok-clause-entry g c =
+    let op = g.A.Accumulate.operation in
+    let limits = phaser_limits c.args.phaser.now in
+    let old = c.args.self.now in
+    let new = c.try_signal_and_wait.new.self in
+    let call = SignalsAndMayWait false op limits old.number old.held c.args.single old.seen new.seen in
+    let s : HasSignalledAndMayWait false op limits old.number old.held c.args.single old.seen new.seen c.in-Ok.answer =
+    subst (λ r. Tries (new ≡ old) call r) c.in-Ok.is c.try_signal_and_wait.ensures.call in
+    c.in-Ok.ensures.entry ∙ entry_alone op.value limits old.number s.middle new.seen c.in-Ok.answer.1 (signalled 1 old.entry) s.waits
