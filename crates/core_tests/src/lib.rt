@@ -12,4 +12,8 @@ mod phaser;
 #[cfg(test)]
 mod sends;
 #[cfg(test)]
+mod sizes;
+#[cfg(test)]
 mod slots;
+#[cfg(test)]
+mod worked_laws;

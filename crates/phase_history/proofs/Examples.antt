@@ -78,6 +78,16 @@ replies value lims h held (line ∷ lines) =
     let reply = reply_to value lims h call in
     reply ∷ replies value lims (after_reply call reply h) (held_after held line reply) lines
 
+-- the history that the lines leave
+abbrev leaves : (List ℤ → Outcome) → Limits → History → List (ℕ × ℤ) → List Line → History
+leaves value lims h held [] = h
+leaves value lims h held (send task v ∷ lines) =
+    leaves value lims h (held ++ (task, v) ∷ []) lines
+leaves value lims h held (line ∷ lines) =
+    let call = call_of held line in
+    let reply = reply_to value lims h call in
+    leaves value lims (after_reply call reply h) (held_after held line reply) lines
+
 -- the replies of a script on a phaser with this bound and this many phases, made by task 0
 abbrev run : (List ℤ → Outcome) → ℕ → ℕ → List Line → List Reply
 run value bound phases lines = replies value (limits bound phases) (Made 0 ∷ []) [] lines
@@ -247,6 +257,29 @@ values_taken : received_by sum_value
     ∷ Dropped 0 ∷ Registered 0 2 Wait ∷ Registered 0 1 Sig ∷ Made 0 ∷ []) 2
     ≡ Value (pos 5) ∷ Value (pos 6) ∷ Value (pos 7) ∷ Value (pos 8) ∷ Value (pos 9) ∷ []
 values_taken = refl
+
+-- a wait for more phases than are complete goes on only as far as these, and the next wait from there
+abbrev short_blocks : List Line
+short_blocks =
+    add 0 1 Sig ∷ add 0 2 Wait ∷ leave 0 ∷ block 1 (one 5 ∷ one 6 ∷ []) ∷ take 2 4
+    ∷ block 1 (one 7 ∷ one 8 ∷ one 9 ∷ []) ∷ take 2 2 ∷ take 2 4 ∷ take 2 1 ∷ []
+
+abbrev short_history : History
+short_history =
+    Waited 2 1 ∷ Waited 2 2 ∷ Signalled 1 (one 7 ∷ one 8 ∷ one 9 ∷ []) None ∷ Waited 2 2
+    ∷ Signalled 1 (one 5 ∷ one 6 ∷ []) None ∷ Dropped 0 ∷ Registered 0 2 Wait ∷ Registered 0 1 Sig ∷ Made 0 ∷ []
+
+short_blocks_taken : run sum_value 4 100 short_blocks
+    ≡ Accepted ∷ Accepted ∷ Accepted ∷ SignalledIn 0 ∷ values 0 2 ∷ SignalledIn 2 ∷ values 2 2
+    ∷ values 4 1 ∷ NotReceived waits.NotYet ∷ []
+short_blocks_taken = refl
+
+short_blocks_leave : leaves sum_value (limits 4 100) (Made 0 ∷ []) [] short_blocks ≡ short_history
+short_blocks_leave = refl
+
+short_blocks_received : received_by sum_value short_history 2
+    ≡ Value (pos 5) ∷ Value (pos 6) ∷ Value (pos 7) ∷ Value (pos 8) ∷ Value (pos 9) ∷ []
+short_blocks_received = refl
 
 -- the second block is refused for the last of its signals
 ahead_one_by_one : one_by_one_refusal (limits 4 100)

@@ -1,5 +1,5 @@
 -- The replies of a session are replies of scripts: their phases and values are within the limits.
-use Rattle.std.proofs.Common.{◌≡◌, ℕ, ◌<◌, ◌≤◌, Bool, true, false, List, [], ◌∷◌, Option, Some, None, Result, Ok, Err, ℤ, leb, length, refl, sym, ap, subst, ◌∙◌, arith}
+use Rattle.std.proofs.Common.{◌≡◌, ℕ, ◌<◌, ◌≤◌, false, List, [], ◌∷◌, Option, Some, None, Result, Ok, Err, ℤ, leb, length, refl, ap, subst, arith}
 use Rattle.std.proofs.lemmas.Bool.{leb-false}
 use Rattle.phase_base.specs.Limits.{Limits, AreLimits}
 use Rattle.phase_base.specs.declared.entry.Entry.{Entry}
@@ -38,15 +38,14 @@ use Rattle.phase_script.specs.declared.command.Command.TheVariants.{Make, Add, S
 use Rattle.phase_script.specs.declared.command.Operator.{Operator}
 use Rattle.phase_script.specs.declared.command.Operator.TheVariants.{Sum, Product, Least, Greatest, Any}
 use Rattle.phase_script.specs.declared.refusal.Refusal.{Refusal}
-use Rattle.phase_script.specs.declared.reply.Reply.{Reply}
 use Rattle.phase_script.specs.Commands.{command_of}
 use Rattle.phase_script.specs.Numbers.{most}
-use Rattle.phase_script.specs.ReplyLines.{IsReply, reply_text}
+use Rattle.phase_script.specs.ReplyLines.{IsReply}
 use Rattle.phase_script.proofs.ReplyLines.{reply_short}
 use Rattle.phase_session.specs.declared.script_phaser.ScriptPhaser.{ScriptPhaser}
 use Rattle.phase_session.specs.declared.any_phaser.AnyPhaser.{AnyPhaser}
 use Rattle.phase_session.specs.declared.any_phaser.AnyPhaser.TheVariants as phaser
-use Rattle.phase_session.specs.Scripts.{ScriptState, NoPhaser, OnePhaser, Held, held_by, value_of, done_unless, make_reply, registered_reply, dropped_reply, signalled_reply, received_reply, value_reply, phaser_reply, command_reply, reply_by, reply_to}
+use Rattle.phase_session.specs.Scripts.{ScriptState, NoPhaser, OnePhaser, Held, held_by, value_of, done_unless, registered_reply, dropped_reply, signalled_reply, received_reply, value_reply, phaser_reply, command_reply, reply_by, reply_to}
 use Rattle.phase_session.specs.Session.{PhaserStandsFor, AnyStandsFor, MaybeStandsFor}
 
 -- ---- replies without a phase

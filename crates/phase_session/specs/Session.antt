@@ -1,5 +1,6 @@
 -- The scripts that a session stands for.
 use Rattle.std.specs.Prelude.{◌≡◌, ℕ, List, Option, Some, None}
+use Rattle.std.specs.Global.{Global}
 use Rattle.phase_base.specs.Limits.{Limits}
 use Rattle.phase_accum.specs.Operations.{Operation}
 use Rattle.phase_accum.specs.Parcels.{StandsForSends}
@@ -15,7 +16,6 @@ use Rattle.phase_script.specs.declared.command.Operator.TheVariants.{Sum, Produc
 use Rattle.phase_session.specs.declared.script_phaser.ScriptPhaser.{ScriptPhaser}
 use Rattle.phase_session.specs.declared.any_phaser.AnyPhaser.{AnyPhaser}
 use Rattle.phase_session.specs.declared.any_phaser.AnyPhaser.TheVariants as phaser
-use Rattle.phase_session.specs.declared.session.Session.{Session}
 use Rattle.phase_session.specs.HeldSends.{held_at}
 use Rattle.phase_session.specs.Scripts.{ScriptState, NoPhaser, OnePhaser, Held, held_by, state_after}
 
@@ -43,10 +43,23 @@ MaybeStandsFor None NoPhaser = Unit {0}
 MaybeStandsFor (Some p) (OnePhaser operator limits h held) = AnyStandsFor p operator limits h held
 MaybeStandsFor p state = ⊥
 
+-- a session: where its memory comes from, and the phaser that its lines have made, where they did
+pub record SessionState : Type 0 where
+  pub alloc : Global
+  pub phaser : Option AnyPhaser
+
+-- the session with these
+abbrev pub session_of : Global → Option AnyPhaser → SessionState
+session_of alloc phaser = record { alloc = alloc; phaser = phaser }
+
 -- the session has come as far as the state
-unfoldable pub Stands : Session → ScriptState → Type 0
+unfoldable pub Stands : SessionState → ScriptState → Type 0
 Stands session state = MaybeStandsFor session.phaser state
 
+-- for the code: a phaser or none that some state has
+abbrev pub IsSession : Option AnyPhaser → Type 0
+IsSession phaser = (state : ScriptState) × MaybeStandsFor phaser state
+
 -- the session has answered these lines of a script
-abbrev pub StandsForLines : Session → List (List ℕ) → Type 0
+abbrev pub StandsForLines : SessionState → List (List ℕ) → Type 0
 StandsForLines session lines = Stands session (state_after lines)

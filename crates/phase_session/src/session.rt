@@ -10,6 +10,7 @@ use crate::any_phaser::AnyPhaser;
 use phase_base::{Spec, SpecFault};
 use phase_script::{Command, Refusal, Reply, ReplyLine};
 use std::alloc::{AllocError, Global};
+use std::marker::Model;
 
 /// A script that is answered line by line. It holds at most one phaser, and the sends that the
 /// phaser's tasks hold.
@@ -24,6 +25,16 @@ use std::alloc::{AllocError, Global};
 pub struct Session {
     alloc: Global,
     phaser: Option<AnyPhaser>,
+}
+
+impl Model for Session {
+    ghost use Rattle.phase_session.specs.Session.{SessionState, session_of, IsSession};
+
+    ghost Value = { SessionState };
+
+    ghost view = { λ s. session_of s.alloc s.phaser };
+
+    ghost invariant = { λ s. IsSession s.phaser };
 }
 
 #[tactic(auto, unfolding(crate::specs::Session::Stands, crate::specs::Session::MaybeStandsFor, crate::specs::Scripts::start, crate::specs::Scripts::reply_to, crate::specs::Scripts::after_line, crate::specs::Scripts::command_reply, crate::specs::Scripts::after_command))]
@@ -57,15 +68,15 @@ impl Session {
         // Only a `make`, an `add` or a `send` wants it.
         ensures asks { OnErr result (MayWantMemory (command_of line.now)) }
         // A reply is one line, of at most 47 bytes.
-        ensures one_line { IfOk result (λ reply. (state : ScriptState) → Stands self.old state
-            → IsOneLine reply) }
-        ensures short { IfOk result (λ reply. (state : ScriptState) → Stands self.old state
-            → length reply ≤ 47) }
+        ensures one_line { IfOk result (λ reply. IsOneLine reply × (length reply ≤ 47)) }
+        // A session stands for some state, whatever was done with it before.
+        ensures stands { (state : ScriptState) × Stands self.old state }
         // The same over the lines so far: the session then stands for them with this one.
         ensures script { IfOk result (λ reply. (lines : List (List ℕ))
             → StandsForLines self.old lines → (reply ≡ reply_to (state_after lines) line.now)
             × StandsForLines self.new (lines ++ line.now ∷ [])) }
     {
+        let _ = &self.alloc;
         let Some(command) = phase_script::read(line) else {
             return Ok(phase_script::line(Reply::BadLine));
         };

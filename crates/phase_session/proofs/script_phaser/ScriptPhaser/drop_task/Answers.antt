@@ -1,11 +1,5 @@
 -- An accepted drop gives the task's sends up.
-use Rattle.phase_history.specs.Refusals.{drop_refusal}
-use Rattle.std.proofs.Common.{◌≡◌, Option, Some, None, sym, ap, refl, ◌∙◌}
-use Rattle.std.specs.Prelude.{IsSome}
-use Rattle.phase_base.specs.declared.entry.Entry.{Entry}
-use Rattle.phase_base.specs.Members.{entry_of}
-use Rattle.phase_history.specs.declared.refusal.NoTask.{NoTask}
-use Rattle.phase_history.specs.Histories.{History, members_of}
+use Rattle.std.proofs.Common.{refl}
 use Rattle.phase_session.proofs.Obeying.{phaser_dropped, drop_is_accepted}
 use Rattle.phase_session.proofs.script_phaser.ScriptPhaser.drop_task.Goals as goal
 

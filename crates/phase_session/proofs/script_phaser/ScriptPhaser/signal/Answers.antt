@@ -1,5 +1,5 @@
 -- The core is handed the sends of the task.
-use Rattle.std.proofs.Common.{◌≡◌, sym, subst}
+use Rattle.std.proofs.Common.{sym, subst}
 use Rattle.phase_accum.specs.Parcels.{Parcel, StandsForSends}
 use Rattle.phase_session.specs.Scripts.{held_by}
 use Rattle.phase_session.proofs.Obeying.{phaser_signalled}
