@@ -13,7 +13,6 @@ use phase_script::{Command, Operator, Reply};
 use std::alloc::{AllocError, Global};
 
 /// A phaser that a script made, by its operator.
-#[derive(Drop)]
 pub enum AnyPhaser {
     Sum(ScriptPhaser<Sum>),
     Product(ScriptPhaser<Product>),
@@ -63,6 +62,19 @@ impl AnyPhaser {
             AnyPhaser::Least(phaser) => phaser.obey(command),
             AnyPhaser::Greatest(phaser) => phaser.obey(command),
             AnyPhaser::Any(phaser) => phaser.obey(command),
+        }
+    }
+}
+
+// By hand: the walk of a derived drop is written out, and proved, wherever a value is let go.
+impl Drop for AnyPhaser {
+    fn drop(self) {
+        match self {
+            AnyPhaser::Sum(phaser) => drop(phaser),
+            AnyPhaser::Product(phaser) => drop(phaser),
+            AnyPhaser::Least(phaser) => drop(phaser),
+            AnyPhaser::Greatest(phaser) => drop(phaser),
+            AnyPhaser::Any(phaser) => drop(phaser),
         }
     }
 }
