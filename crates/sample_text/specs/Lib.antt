@@ -1,3 +1,2 @@
 pub mod Forms
 pub mod Samples
-pub mod Texts

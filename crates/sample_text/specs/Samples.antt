@@ -1,12 +1,11 @@
 -- Which texts are samples.
 use Rattle.std.specs.Prelude.{ℕ, ◌≡◌, ◌+◌, ◌≤◌, List, [], ◌∷◌, ◌++◌, length, map, ℤ}
 use Rattle.std.specs.Fmt.{signed_decimal}
-use Rattle.std.specs.declared.option.Option.{Option}
 use Rattle.csv.specs.Reading.{default_config, strip_bom, AreRecords, Reached}
 use Rattle.csv.specs.declared.parser.State.{State}
 use Rattle.csv.specs.declared.parser.State.TheVariants as st
 use Rattle.phase_accum.specs.Sends.{IsSend, AreSends}
-use Rattle.sample_text.specs.Texts.{ReadsAll}
+use Rattle.watched_io.specs.States.{ReaderState, ReadsAll}
 use Rattle.sample_text.specs.declared.sample.TheConstants.{TEXT_MAX}
 
 -- the record of a value: one field, with the value in decimal
@@ -43,15 +42,13 @@ pub record IsBadShortSample (n : ℕ) (text : List ℕ) : Type 0 where
   pub short : length text ≤ TEXT_MAX
 
 -- the reader gave a whole text, of these values
-pub record ReadsSamples (unread rest : Option (List ℕ)) (before after : ℕ)
-    (values : List ℤ) : Type 0 where
+pub record ReadsSamples (old new : ReaderState) (values : List ℤ) : Type 0 where
   pub text : List ℕ
-  pub reads : ReadsAll TEXT_MAX unread rest before after text
+  pub reads : ReadsAll TEXT_MAX old new text
   pub samples : AreSamples text values
 
 -- the reader gave a whole text, whose record number n is the first that is not of a value
-pub record ReadsBadSample (unread rest : Option (List ℕ)) (before after : ℕ)
-    (n : ℕ) : Type 0 where
+pub record ReadsBadSample (old new : ReaderState) (n : ℕ) : Type 0 where
   pub text : List ℕ
-  pub reads : ReadsAll TEXT_MAX unread rest before after text
+  pub reads : ReadsAll TEXT_MAX old new text
   pub bad : IsBadSample text n

@@ -7,8 +7,9 @@ ghost use Rattle.phase_accum.specs.Sends.{IsSend, AreSends};
 ghost use Rattle.sample_text.specs.Samples.{AreSamples, IsBadSample};
 ghost use Rattle.sample_text.specs.Samples.{AreShortSamples, IsBadShortSample};
 ghost use Rattle.sample_text.specs.Samples.{ReadsSamples, ReadsBadSample};
-ghost use Rattle.sample_text.specs.Texts.{ReadsTooMuch, ReadsWithin};
-ghost use Rattle.watched_io.specs.Watched.{inner_of, has_failed_of, count_of};
+ghost use Rattle.sample_text.specs.declared.text.TheConstants.{PIECE_MAX};
+ghost use Rattle.watched_io.specs.States.{ReadsTooMuch, ReadsWithin, reader_state};
+ghost use Rattle.watched_io.specs.Watched.{has_failed_of, inner_of};
 
 use crate::number::value_of;
 use crate::text::read_text;
@@ -90,28 +91,21 @@ pub fn read_samples<R: Read>(
     ensures bad { (n : ℕ) → IsErrOf result (SampleFault.BadSample n)
         → IfSome (R.remaining (inner_of reader.old)) (IsBadShortSample n) }
 
-    ensures read { IsErrOf result SampleFault.ReadFault → (has_failed_of reader.new ≡ true)
-        ⊎ IfSome (R.remaining (inner_of reader.old)) (λ text. TEXT_MAX < length text) }
-
     // The same where the reader's bytes are not known beforehand: some text was read, and its
     // length is the count's.
     ensures all { IfOk result (λ values. ReadsSamples
-        (R.remaining (inner_of reader.old)) (R.remaining (inner_of reader.new))
-        (count_of reader.old) (count_of reader.new) values.items) }
+        (reader_state R.remaining reader.old) (reader_state R.remaining reader.new) values.items) }
 
     ensures all_bad { (n : ℕ) → IsErrOf result (SampleFault.BadSample n) → ReadsBadSample
-        (R.remaining (inner_of reader.old)) (R.remaining (inner_of reader.new))
-        (count_of reader.old) (count_of reader.new) n }
+        (reader_state R.remaining reader.old) (reader_state R.remaining reader.new) n }
 
-    ensures too_long { IsErrOf result SampleFault.ReadFault → (has_failed_of reader.new ≡ true)
-        ⊎ ReadsTooMuch TEXT_MAX
-        (R.remaining (inner_of reader.old)) (R.remaining (inner_of reader.new))
-        (count_of reader.old) (count_of reader.new) }
+    ensures read { IsErrOf result SampleFault.ReadFault → (has_failed_of reader.new ≡ true)
+        ⊎ ReadsTooMuch TEXT_MAX PIECE_MAX
+        (reader_state R.remaining reader.old) (reader_state R.remaining reader.new) }
 
     // A text that is too long is no want of memory.
     ensures memory { IsErrOf result SampleFault.OutOfMemory → ReadsWithin TEXT_MAX
-        (R.remaining (inner_of reader.old)) (R.remaining (inner_of reader.new))
-        (count_of reader.old) (count_of reader.new) }
+        (reader_state R.remaining reader.old) (reader_state R.remaining reader.new) }
 
     // Where a read fails, that is the answer.
     ensures kept { (result ≢ Err SampleFault.ReadFault)

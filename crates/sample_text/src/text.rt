@@ -1,7 +1,8 @@
 //! Texts that are read whole, up to a limit.
 ghost use Rattle.std.specs.Prelude.{◌≡◌, ◌⊎◌, true, IfOk, OnOk, IsErrOf};
-ghost use Rattle.sample_text.specs.Texts.{ReadsAll, ReadsTooMuch, ReadsWithin};
-ghost use Rattle.watched_io.specs.Watched.{inner_of, has_failed_of, count_of};
+ghost use Rattle.sample_text.specs.declared.text.TheConstants.{PIECE_MAX};
+ghost use Rattle.watched_io.specs.States.{ReadsAll, ReadsTooMuch, ReadsWithin, reader_state};
+ghost use Rattle.watched_io.specs.Watched.{has_failed_of};
 
 use crate::TextFault;
 use std::alloc::Global;
@@ -20,17 +21,14 @@ pub fn read_text<R: Read>(
     limit: usize,
 ) -> Result<Vec<u8>, TextFault>
     ensures ok { IfOk result (λ text. ReadsAll limit
-        (R.remaining (inner_of reader.old)) (R.remaining (inner_of reader.new))
-        (count_of reader.old) (count_of reader.new) text.items) }
+        (reader_state R.remaining reader.old) (reader_state R.remaining reader.new) text.items) }
 
     ensures read { IsErrOf result TextFault.ReadFault → (has_failed_of reader.new ≡ true)
-        ⊎ ReadsTooMuch limit
-        (R.remaining (inner_of reader.old)) (R.remaining (inner_of reader.new))
-        (count_of reader.old) (count_of reader.new) }
+        ⊎ ReadsTooMuch limit PIECE_MAX
+        (reader_state R.remaining reader.old) (reader_state R.remaining reader.new) }
 
     ensures memory { IsErrOf result TextFault.OutOfMemory → ReadsWithin limit
-        (R.remaining (inner_of reader.old)) (R.remaining (inner_of reader.new))
-        (count_of reader.old) (count_of reader.new)
+        (reader_state R.remaining reader.old) (reader_state R.remaining reader.new)
         × (has_failed_of reader.new ≡ has_failed_of reader.old) }
 
     ensures kept { OnOk result (has_failed_of reader.new ≡ has_failed_of reader.old) }
