@@ -1,15 +1,17 @@
 -- How far the lists of a graph can reach: the list of phaser number p has at most 2^(33 + p) phases.
 -- A joiner of m inputs is m times as long as the shortest of them, of which one stands m phasers
 -- above its output or further; sources that follow each other add 2^26 phases each.
-use Rattle.std.proofs.Common.{◌≡◌, ℕ, zero, suc, ◌+◌, ◌-◌, ◌*◌, ◌/◌, ◌%◌, ◌<◌, ◌≤◌, Bool, true, false, ◌&&◌, List, [], ◌∷◌, ◌++◌, length, map, get_or, Some, None, refl, sym, ap, subst, ◌∙◌, arith, ◌⊎◌, inl, inr}
+use Rattle.std.proofs.Common.{◌≡◌, ℕ, zero, suc, ◌+◌, ◌-◌, ◌*◌, ◌/◌, ◌%◌, ◌<◌, ◌≤◌, Bool, true, false, ◌&&◌, List, [], ◌∷◌, ◌++◌, length, map, get_or, Some, None, ℤ, refl, sym, ap, subst, ◌∙◌, arith, ◌⊎◌, inl, inr}
 use Rattle.std.specs.Prelude.{Option, IfSome, min, max, nat_le, if◌then◌else◌}
-use Rattle.std.specs.List.{range_with_len, fold}
+use Rattle.std.specs.Prelude.{Vec}
+use Rattle.std.specs.Global.{Global}
+use Rattle.std.specs.List.{All, range_with_len, fold}
 use Rattle.std.proofs.lemmas.Bool.{cases_lt, and_parts}
 use Rattle.std.proofs.lemmas.Bool.Decides.{nat_tests}
-use Rattle.std.proofs.lemmas.List.{length-map, get_or-map}
+use Rattle.std.proofs.lemmas.List.{length-map, get_or-map, get_or_default}
 use Rattle.std.proofs.lemmas.Nat.{div-add-mod', mul-le}
 use Rattle.std.proofs.Math.Nat.{add-mul}
-use Rattle.graph_lang.specs.Graphs.{Task, task_at}
+use Rattle.graph_lang.specs.Graphs.{Graph, Task, task_at, source_number}
 use Rattle.graph_lang.specs.TaskLines.{IsGraph, IsTaskLine, IsParent, HasEnds, has_children, is_distinct}
 use Rattle.graph_lang.specs.declared.line.Kind.{Kind}
 use Rattle.graph_lang.specs.declared.line.Kind.TheVariants.{Source, Fir, Split, Join, Peer, Sink}
@@ -17,6 +19,9 @@ use Rattle.graph_lang.specs.declared.line.Parent.{Parent}
 use Rattle.stream_job.specs.Jobs.{Job, samples_at, place_in}
 use Rattle.stream_job.specs.Spans.{nowhere, turns_below, signalled_by, puts_on, run_out, first_run_out, enough_for, cut_at, offset_of, values_from, span_at, span_of, spans_up_to, spans_over, end_on, end_of, greatest, length_on, lengths_up_to}
 use Rattle.stream_job.specs.declared.span.Span.{Span}
+use Rattle.stream_job.specs.declared.span.TheConstants.{LENGTH_MAX}
+use Rattle.stream_job.specs.Kept.{given, IsShort, IsStage}
+use Rattle.stream_job.proofs.Sendable.{short-one}
 use Rattle.stream_job.proofs.Distances.{far_one, distinct_front}
 use Rattle.stream_job.proofs.Growing.{grown-at, length-grown}
 use Rattle.stream_job.proofs.SpansAbove.{parent-is}
@@ -436,3 +441,59 @@ span_bounded job n t is there =
     let span = span_reach job (lengths_up_to job n) n is are (suc t) t (omega arith) there in
     let many : length job.graph.tasks ≤ 64 = is.graph.few_tasks in
     let most = reach-bound n (suc t) (omega arith) in omega arith
+
+-- ---- as the code has it
+
+-- the samples of each task are few where each list of samples is
+given_few : (graph : Graph) (samples : List (Vec ℤ Global))
+    → All (λ list. length list.items ≤ 67108864) samples
+    → (t : ℕ) → length (samples_at (given graph samples) t) ≤ 67108864
+given_few graph samples few t =
+    short-one (λ list. list.items) samples (source_number graph.tasks t) 67108864 few
+
+pub stage_given : (graph : Graph) (samples : List (Vec ℤ Global)) (lengths : List ℕ)
+    → IsStage graph samples lengths → IsGiven (given graph samples)
+stage_given graph samples lengths stage =
+    record { graph = stage.read; few = given_few graph samples stage.few }
+
+-- the lengths at each stage are short
+pub stage_lengths : (graph : Graph) (samples : List (Vec ℤ Global)) (lengths : List ℕ)
+    → IsStage graph samples lengths → All (λ n. n ≤ LENGTH_MAX) lengths
+stage_lengths graph samples lengths stage =
+    subst (λ ns. All (λ n. n ≤ LENGTH_MAX) ns) (sym stage.are)
+    (λ p d lt. short p d lt)
+  where
+    are : AreBounded (lengths_up_to (given graph samples) stage.count) stage.count
+    are = lengths_bounded (given graph samples) stage.count
+        (stage_given graph samples lengths stage)
+
+    short : (p d : ℕ) → p < length (lengths_up_to (given graph samples) stage.count)
+        → get_or (lengths_up_to (given graph samples) stage.count) p d ≤ LENGTH_MAX
+    short p d lt =
+        let below : p < stage.count = omega (arith, are.count) in
+        let few : stage.count ≤ 64 = stage.count_few in
+        let here = are.each p below in
+        let same : get_or (lengths_up_to (given graph samples) stage.count) p d
+        ≡ get_or (lengths_up_to (given graph samples) stage.count) p 0 =
+        get_or_default (lengths_up_to (given graph samples) stage.count) p d 0 lt in
+        let most : bound p ≤ bound 64 = bound-mono p 64 (omega arith) in
+        let limit : bound 64 ≡ LENGTH_MAX = refl in
+        omega arith
+
+-- the next span is
+pub stage_span : (graph : Graph) (samples : List (Vec ℤ Global)) (lengths : List ℕ)
+    (above : List Span) (t : ℕ)
+    → IsStage graph samples lengths → t < length graph.tasks
+    → above ≡ spans_up_to (given graph samples) lengths t
+    → IsShort (span_of (given graph samples) lengths above t)
+stage_span graph samples lengths above t stage there above_is =
+    let job = given graph samples in
+    let few : stage.count ≤ 64 = stage.count_few in
+    let most : bound stage.count ≤ bound 64 = bound-mono stage.count 64 (omega arith) in
+    let limit : bound 64 ≡ LENGTH_MAX = refl in
+    let reaches = span_bounded job stage.count t (stage_given graph samples lengths stage) there in
+    let here : IsShort (span_of job (lengths_up_to job stage.count)
+    (spans_up_to job (lengths_up_to job stage.count) t) t) = omega arith in
+    subst (λ (a : List Span). IsShort (span_of job lengths a t)) (sym above_is)
+    (subst (λ (ns : List ℕ). IsShort (span_of job ns (spans_up_to job ns t) t)) (sym stage.are)
+    here)

@@ -13,7 +13,7 @@ ghost use Rattle.stream_job.specs.Spans.{spans_of, lengths_of, nowhere};
 use crate::fault::JobRefusal;
 use crate::lengths::all_lengths;
 use crate::meetings::first_meeting;
-use crate::span::Span;
+use crate::span::{LENGTH_MAX, Span};
 use crate::spans::all_spans;
 use graph_lang::{Graph, Kind, PhaserLine, TaskLine};
 use std::alloc::Global;
@@ -30,7 +30,7 @@ pub struct Job {
     graph: Graph,
     samples: Vec<Vec<i64>>,
     spans: Vec<Span>,
-    lengths: Vec<usize>,
+    lengths: Vec<u128>,
 }
 
 impl Model for Job {
@@ -109,9 +109,10 @@ impl Job {
     }
 
     /// Tells how long the list of phaser number `p` is, in phases. It takes no memory.
-    pub fn length(&self, p: usize) -> usize
+    pub fn length(&self, p: usize) -> u128
         requires { p < length self.now.graph.phasers }
-        ensures { result ≡ get_or (lengths_of self.now) p 0 }
+        ensures length { result ≡ get_or (lengths_of self.now) p 0 }
+        ensures short { result ≤ LENGTH_MAX }
     {
         self.lengths[p]
     }

@@ -25,7 +25,7 @@ fn whole_copy(alloc: Global, list: &[i64]) -> Result<Vec<i64>, ListFault>
 }
 
 /// A copy of the first values.
-fn copy_of(alloc: Global, list: &[i64], count: usize) -> Result<Vec<i64>, ListFault>
+fn copy_of(alloc: Global, list: &[i64], count: u128) -> Result<Vec<i64>, ListFault>
     requires { AreSends list.now }
     ensures ok { IfOk result (λ copy. copy.items ≡ take count list.now) }
     ensures sends { IfOk result (λ copy. AreSends copy.items) }
@@ -76,7 +76,7 @@ pub(crate) fn list_put(
     samples: &[i64],
     taken: &[&[i64]],
     task: &TaskLine,
-    steps: usize,
+    steps: u128,
     j: usize,
 ) -> Result<Vec<i64>, ListFault>
     requires ends { HasEnds task.now.kind (length taken.now) (length task.now.outputs.items) }

@@ -46,7 +46,7 @@ fn only_values(job: &Job, p: usize, members: Vec<MemberList>) -> Result<Vec<i64>
     if members.len() != 1 || job.phaser(p).single.is_some() {
         return Err(members);
     }
-    if members[0].offset != 0 || members[0].values.len() != job.length(p) {
+    if members[0].offset != 0 || members[0].values.len() as u128 != job.length(p) {
         return Err(members);
     }
     match members.pop() {
