@@ -6,7 +6,6 @@ ghost use Rattle.stream_filters.specs.Filter.{AreTaps, outputs};
 ghost use Rattle.stream_job.specs.Lists.{entry, every, in_turn, mixed};
 ghost use Rattle.stream_job.specs.Ranges.{is_out_of_range};
 
-use crate::span::LENGTH_MAX;
 use std::alloc::{AllocError, Global};
 use stream_filters::{Fir, Peer};
 
@@ -57,7 +56,6 @@ pub fn fir_list(
 pub fn every_list(alloc: Global, m: usize, j: usize, values: &[i64]) -> Result<Vec<i64>, AllocError>
     requires turn { j < m }
     requires few { m ≤ 64 }
-    requires short { length values.now ≤ LENGTH_MAX }
     requires sends { AreSends values.now }
     ensures ok { IfOk result (λ list. list.items ≡ every m j values.now) }
     ensures sends { IfOk result (λ list. AreSends list.items) }

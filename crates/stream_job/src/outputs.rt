@@ -9,7 +9,6 @@ ghost use Rattle.stream_job.specs.Ranges.{is_out_of_range, list_fault};
 ghost use Rattle.graph_lang.specs.declared.line.Kind.TheVariants.{Split};
 
 use crate::list::{ListFault, every_list, fir_list, in_turn_list, mixed_list};
-use crate::span::LENGTH_MAX;
 use crate::takes::part_of;
 use graph_lang::{Kind, TaskLine};
 use std::alloc::Global;
@@ -37,10 +36,8 @@ fn copy_of(alloc: Global, list: &[i64], count: u128) -> Result<Vec<i64>, ListFau
 /// What a task took from its input number `k`.
 fn list_of<'a>(taken: &[&'a [i64]], k: usize) -> &'a [i64]
     requires sends { All (λ list. AreSends list.now) taken.now }
-    requires short { All (λ list. length list.now ≤ LENGTH_MAX) taken.now }
     ensures value { result.now ≡ get_or (map (λ list. list.now) taken.now) k [] }
     ensures sends { AreSends result.now }
-    ensures short { length result.now ≤ LENGTH_MAX }
 {
     taken.get(k).copied().unwrap_or(&[])
 }
@@ -84,7 +81,6 @@ pub(crate) fn list_put(
     requires taps { HasTaps task.now.kind task.now.taps.items task.now.shift }
     requires samples { AreSends samples.now }
     requires sends { All (λ list. AreSends list.now) taken.now }
-    requires short { All (λ list. length list.now ≤ LENGTH_MAX) taken.now }
     ensures ok { IfOk result (λ list. list.items ≡ output_list samples.now
         (map (λ list. list.now) taken.now) (task_of task.now) steps j) }
     ensures sends { IfOk result (λ list. AreSends list.items) }

@@ -12,7 +12,8 @@ use crate::span::{LENGTH_MAX, Span};
 use graph_lang::{Graph, Kind, Parent, TaskLine};
 use std::alloc::{AllocError, Global};
 
-/// How many samples task number `t` has.
+/// How many samples task number `t` has, where it is a source. Of another task it is the number of
+/// the next source below it, or 0, and is not used.
 fn samples_count(graph: &Graph, samples: &[Vec<i64>], t: usize) -> usize
     requires { t < length graph.now.tasks }
     ensures { result ≡ length (samples_at (given graph.now samples.now) t) }

@@ -76,7 +76,6 @@ pub(crate) fn taken_at<'a>(
     requires span { IsShort span }
     ensures value { result.now ≡ taken_from (items_of above.now) (task_of task.now) span k }
     ensures sends { AreSends result.now }
-    ensures short { length result.now ≤ LENGTH_MAX }
 {
     let p = task.inputs.get(k).copied().unwrap_or(0);
     part_of(
@@ -102,7 +101,6 @@ pub(crate) fn taken_lists<'a>(
     ensures count { IfOk result (λ lists.
         length lists.items ≡ length task.now.inputs.items) }
     ensures sends { IfOk result (λ lists. All (λ list. AreSends list.now) lists.items) }
-    ensures short { IfOk result (λ lists. All (λ list. length list.now ≤ LENGTH_MAX) lists.items) }
 {
     let mut lists = Vec::with_capacity(alloc, task.inputs.len())?;
     for k in 0..task.inputs.len() {

@@ -192,7 +192,8 @@ fn all_lines(alloc: Global, job: &Job, lists: &[Vec<i64>]) -> Result<Vec<Lines>,
 ///
 /// The phasers are gone through in the order of their lines. For each one the outputs of the
 /// filters and peers that signal it are checked first, then each phase that some task takes. It
-/// takes memory.
+/// takes memory for all lists; where one has more values than any memory holds, `OutOfMemory` comes
+/// when its turn comes.
 pub fn eval(alloc: Global, job: &Job) -> Result<Vec<Lines>, EvalFault>
     ensures ok { IfOk result (λ lines. map told lines.items ≡ lines_of job.now) }
     ensures fits { IfOk result (λ lines. Fits job.now) }
