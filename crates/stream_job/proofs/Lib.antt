@@ -1,4 +1,5 @@
 pub mod Alone
+pub mod Bounds
 pub mod Composed
 mod Examples
 pub mod Exacts
@@ -17,4 +18,5 @@ pub mod Ordered
 pub mod Sendable
 pub mod Sends
 pub mod SpansAbove
+pub mod Distances
 pub mod EachPhase

@@ -8,7 +8,8 @@ pub record Job : Type 0 where
   pub graph : Graph
   pub samples : List (List ℤ)
 
--- the samples of task number t
+-- the samples of task number t, where it is a source; of another task those of the next source
+-- below it, if there is one, and no definition looks at them
 abbrev pub samples_at : Job → ℕ → List ℤ
 samples_at job t = get_or job.samples (source_number job.graph.tasks t) []
 

@@ -4,8 +4,9 @@ use Rattle.std.specs.Global.{Global}
 use Rattle.std.specs.List.{All}
 use Rattle.phase_accum.specs.Sends.{AreSends}
 use Rattle.graph_base.specs.Graphs.{Graph, sources_of}
+use Rattle.graph_base.specs.TaskLines.{IsGraph}
 use Rattle.stream_job.specs.Jobs.{Job}
-use Rattle.stream_job.specs.Spans.{spans_of, lengths_of}
+use Rattle.stream_job.specs.Spans.{spans_of, lengths_of, lengths_up_to}
 use Rattle.stream_job.specs.Meetings.{meeting_line}
 use Rattle.stream_job.specs.declared.span.Span.{Span}
 use Rattle.stream_job.specs.declared.span.TheConstants.{LENGTH_MAX}
@@ -26,9 +27,18 @@ given graph samples = record { graph = graph; samples = items_of samples }
 abbrev pub job_view : Inside → JobValue
 job_view job = given job.graph job.samples.items
 
--- no list that the task takes or makes has more values than a list may have
+-- the task ends within the phases that a list may have
 abbrev pub IsShort : Span → Type 0
 IsShort span = span.offset + span.steps ≤ LENGTH_MAX
+
+-- a graph that was read and no more samples than a job may have, with the lengths of the lists of
+-- its first phasers
+pub record IsStage (graph : Graph) (samples : List (Vec ℤ Global)) (lengths : List ℕ) : Type 0 where
+  pub read : IsGraph graph
+  pub few : All (λ list. length list.items ≤ 67108864) samples
+  pub count : ℕ
+  pub count_few : count ≤ 64
+  pub are : lengths ≡ lengths_up_to (given graph samples) count
 
 -- what holds of every job
 pub record IsJob (job : Inside) : Type 0 where
@@ -38,6 +48,7 @@ pub record IsJob (job : Inside) : Type 0 where
   pub span_each : length job.spans.items ≡ length job.graph.tasks
   pub length_each : length job.lengths.items ≡ length job.graph.phasers
   pub short : All IsShort job.spans.items
+  pub length_short : All (λ n. n ≤ LENGTH_MAX) job.lengths.items
   pub sends : All (λ list. AreSends list.items) job.samples.items
   pub apart : meeting_line (job_view job) ≡ None
 

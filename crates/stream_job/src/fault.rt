@@ -12,7 +12,7 @@ pub enum JobRefusal {
         /// The number of the line in the text, from 1 on.
         line: u64,
     },
-    /// There was no memory, or a list would have more than `LENGTH_MAX` values.
+    /// There was no memory.
     #[error("out of memory")]
     OutOfMemory,
 }
@@ -29,7 +29,7 @@ pub enum EvalFault {
         /// The phase on the phaser, or the step of the task.
         phase: usize,
     },
-    /// There was no memory.
+    /// There was no memory, or a list has more values than any memory holds.
     #[error("out of memory")]
     OutOfMemory,
 }

@@ -13,7 +13,7 @@ ghost use Rattle.stream_job.specs.Spans.{spans_of, lengths_of, nowhere};
 use crate::fault::JobRefusal;
 use crate::lengths::all_lengths;
 use crate::meetings::first_meeting;
-use crate::span::Span;
+use crate::span::{LENGTH_MAX, Span};
 use crate::spans::all_spans;
 use graph_base::{Graph, Kind, PhaserLine, TaskLine};
 use std::alloc::Global;
@@ -30,7 +30,7 @@ pub struct Job {
     graph: Graph,
     samples: Vec<Vec<i64>>,
     spans: Vec<Span>,
-    lengths: Vec<usize>,
+    lengths: Vec<u128>,
 }
 
 impl Model for Job {
@@ -48,9 +48,9 @@ impl Job {
     /// of their lines. A list has at most 67,108,864 values, none of which is `NO_VALUE`.
     ///
     /// Where two tasks signal in one phase of a phaser with `any`, the answer is `AnyMeets` with
-    /// the least line of a task that meets a task of an earlier line, or `OutOfMemory`. That comes
-    /// where memory ran out, and where a list would have more than `LENGTH_MAX` values. A refusal
-    /// drops the graph and the samples.
+    /// the least line of a task that meets a task of an earlier line, or `OutOfMemory`. It takes
+    /// memory for a span of each task and a length of each phaser, and no list is composed, so it
+    /// makes no difference how long the lists are. A refusal drops the graph and the samples.
     pub fn new(alloc: Global, graph: Graph, samples: Vec<Vec<i64>>) -> Result<Job, JobRefusal>
         requires each { length samples.items ≡ sources_of graph }
         requires sends { All (λ list. AreSends list.items) samples.items }
@@ -87,8 +87,8 @@ impl Job {
         &self.graph
     }
 
-    /// Lends the samples of a source. Sources are numbered among themselves, in the order of their
-    /// lines. It takes no memory.
+    /// Lends the samples of a source, none where there is no such source. Sources are numbered among
+    /// themselves, in the order of their lines. It takes no memory.
     pub fn samples(&self, source: usize) -> &[i64]
         ensures value { result.now ≡ get_or self.now.samples source [] }
         ensures sends { AreSends result.now }
@@ -109,9 +109,10 @@ impl Job {
     }
 
     /// Tells how long the list of phaser number `p` is, in phases. It takes no memory.
-    pub fn length(&self, p: usize) -> usize
+    pub fn length(&self, p: usize) -> u128
         requires { p < length self.now.graph.phasers }
-        ensures { result ≡ get_or (lengths_of self.now) p 0 }
+        ensures length { result ≡ get_or (lengths_of self.now) p 0 }
+        ensures short { result ≤ LENGTH_MAX }
     {
         self.lengths[p]
     }
@@ -148,7 +149,8 @@ impl Job {
         self.graph.task(t)
     }
 
-    /// The samples of task number `t`, none where it is no source.
+    /// The samples of task number `t`, where it is a source. Of another task they are those of the
+    /// next source below it, or none, and are not used.
     pub(crate) fn samples_of(&self, t: usize) -> &[i64]
         requires { t < length self.now.graph.tasks }
         ensures value { result.now ≡ samples_at self.now t }

@@ -15,9 +15,9 @@ ghost use Rattle.stream_job.specs.Spans.{span_in, span_of, spans_of, spans_up_to
 
 use crate::span::LENGTH_MAX;
 
-/// The limit of a list, as a number of values.
+/// The limit of a list, as a number of phases.
 pub fn limits_are()
-    ensures { LENGTH_MAX ≡ 2 ^ 40 }
+    ensures { LENGTH_MAX ≡ 2 ^ 97 }
 {}
 
 /// The spans of the tasks above it decide the span of each task, and in a graph that was read it is

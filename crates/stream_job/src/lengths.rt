@@ -3,7 +3,7 @@ ghost use Rattle.std.specs.Prelude.{◌≡◌, ◌≤◌, ◌<◌, length, IfOk}
 ghost use Rattle.std.specs.List.{All};
 ghost use Rattle.graph_base.specs.Kept.{task_of};
 ghost use Rattle.graph_base.specs.TaskLines.{HasEnds};
-ghost use Rattle.stream_job.specs.Kept.{given, IsShort};
+ghost use Rattle.stream_job.specs.Kept.{given, IsShort, IsStage};
 ghost use Rattle.stream_job.specs.Spans.{end_of, length_on, lengths_of, puts_on};
 
 use crate::members::output_number;
@@ -14,7 +14,7 @@ use graph_base::{Graph, Kind, TaskLine};
 use std::alloc::{AllocError, Global};
 
 /// How many values so many steps put on output number `j`.
-fn put_count(task: &TaskLine, steps: usize, j: usize) -> usize
+fn put_count(task: &TaskLine, steps: u128, j: usize) -> u128
     requires ends { HasEnds task.now.kind (length task.now.inputs.items)
         (length task.now.outputs.items) }
     requires short { steps ≤ LENGTH_MAX }
@@ -28,7 +28,7 @@ fn put_count(task: &TaskLine, steps: usize, j: usize) -> usize
 }
 
 /// Where task number `t` ends on phaser number `p`.
-pub(crate) fn end_on(graph: &Graph, spans: &[Span], p: usize, t: usize) -> usize
+pub(crate) fn end_on(graph: &Graph, spans: &[Span], p: usize, t: usize) -> u128
     requires task { t < length graph.now.tasks }
     requires short { All IsShort spans.now }
     ensures end { result ≡ end_of graph.now spans.now p t }
@@ -47,12 +47,12 @@ pub(crate) fn end_on(graph: &Graph, spans: &[Span], p: usize, t: usize) -> usize
 }
 
 /// The length of the list of phaser number `p`.
-fn longest(graph: &Graph, spans: &[Span], p: usize) -> usize
+fn longest(graph: &Graph, spans: &[Span], p: usize) -> u128
     requires { All IsShort spans.now }
     ensures length { result ≡ length_on graph.now spans.now p }
     ensures short { result ≤ LENGTH_MAX }
 {
-    let mut end: usize = 0;
+    let mut end: u128 = 0;
     for t in 0..graph.tasks() {
         end = end.max(end_on(graph, spans, p, t));
     }
@@ -64,11 +64,13 @@ pub(crate) fn all_lengths(
     alloc: Global,
     graph: &Graph,
     samples: &[Vec<i64>],
-) -> Result<Vec<usize>, AllocError>
+) -> Result<Vec<u128>, AllocError>
+    requires few { All (λ list. length list.items ≤ 67108864) samples.now }
     ensures lengths { IfOk result (λ lengths.
         lengths.items ≡ lengths_of (given graph.now samples.now)) }
     ensures short { IfOk result (λ lengths. All (λ n. n ≤ LENGTH_MAX) lengths.items) }
     ensures each { IfOk result (λ lengths. length lengths.items ≡ length graph.now.phasers) }
+    ensures stage { IfOk result (λ lengths. IsStage graph.now samples.now lengths.items) }
 {
     let mut lengths = Vec::with_capacity(alloc, graph.phasers())?;
     for p in 0..graph.phasers() {

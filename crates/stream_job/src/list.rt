@@ -1,12 +1,11 @@
 //! The lists that tasks make of what they took.
-ghost use Rattle.std.specs.Prelude.{◌≡◌, ◌<◌, ◌≤◌, ℕ, [], length, map, get_or, pos, IfOk, None, Some, Err};
+ghost use Rattle.std.specs.Prelude.{◌≡◌, ◌<◌, ◌≤◌, ℕ, [], length, map, get_or, pos, IfOk, IfSome, None, Some, Err};
 ghost use Rattle.std.specs.List.{All, position_from};
 ghost use Rattle.phase_accum.specs.Sends.{AreSends};
 ghost use Rattle.stream_filters.specs.Filter.{AreTaps, outputs};
 ghost use Rattle.stream_job.specs.Lists.{entry, every, in_turn, mixed};
 ghost use Rattle.stream_job.specs.Ranges.{is_out_of_range};
 
-use crate::span::LENGTH_MAX;
 use std::alloc::{AllocError, Global};
 use stream_filters::{Fir, Peer};
 
@@ -57,7 +56,6 @@ pub fn fir_list(
 pub fn every_list(alloc: Global, m: usize, j: usize, values: &[i64]) -> Result<Vec<i64>, AllocError>
     requires turn { j < m }
     requires few { m ≤ 64 }
-    requires short { length values.now ≤ LENGTH_MAX }
     requires sends { AreSends values.now }
     ensures ok { IfOk result (λ list. list.items ≡ every m j values.now) }
     ensures sends { IfOk result (λ list. AreSends list.items) }
@@ -68,6 +66,16 @@ pub fn every_list(alloc: Global, m: usize, j: usize, values: &[i64]) -> Result<V
         list.push(values.get(j + k * m).copied().unwrap_or(0))?;
     }
     Ok(list)
+}
+
+/// So many values as memory may hold, or none where there are more.
+pub(crate) fn held_count(count: u128) -> Option<usize>
+    ensures { IfSome result (λ held. held ≡ count) }
+{
+    if count > usize::MAX as u128 {
+        return None;
+    }
+    Some(count as usize)
 }
 
 /// Entry number `n` of a list, 0 past its end.
@@ -88,12 +96,15 @@ fn entry_at(lists: &[&[i64]], k: usize, n: usize) -> i64
 }
 
 /// Takes entry 0 of each list in turn, then entry 1, and so on, `count` in all.
-pub fn in_turn_list(alloc: Global, lists: &[&[i64]], count: usize) -> Result<Vec<i64>, AllocError>
+pub fn in_turn_list(alloc: Global, lists: &[&[i64]], count: u128) -> Result<Vec<i64>, AllocError>
     requires some { 1 ≤ length lists.now }
     requires sends { All (λ l. AreSends l.now) lists.now }
     ensures ok { IfOk result (λ list. list.items ≡ in_turn (map (λ l. l.now) lists.now) count) }
     ensures sends { IfOk result (λ list. AreSends list.items) }
 {
+    let Some(count) = held_count(count) else {
+        return Err(AllocError);
+    };
     let mut list = Vec::with_capacity(alloc, count)?;
     for i in 0..count {
         list.push(entry_at(lists, i % lists.len(), i / lists.len()))?;

@@ -11,7 +11,7 @@ use crate::span::Span;
 use graph_base::{Graph, Op};
 
 /// The offset of task number `t`.
-fn offset_at(spans: &[Span], t: usize) -> usize
+fn offset_at(spans: &[Span], t: usize) -> u128
     ensures { result ≡ (get_or spans.now t nowhere).offset }
 {
     match spans.get(t) {

@@ -12,6 +12,7 @@ ghost use Rattle.stream_job.specs.Spans.{lengths_of, spans_of};
 
 use crate::fault::EvalFault;
 use crate::job::Job;
+use crate::list::held_count;
 use crate::phases::{MemberList, parts_of};
 use crate::taken::is_faulty;
 use graph_base::Place;
@@ -98,7 +99,10 @@ pub(crate) fn reduced<A: Accumulate>(
         × (first_fault A.operation.value job.now (spans_of job.now)
         (map member_of members.now) p (get_or (lengths_of job.now) p 0) ≡ Some n) }
 {
-    let Ok(parts) = parts_of::<A>(alloc, members, job.length(p)) else {
+    let Some(phases) = held_count(job.length(p)) else {
+        return Err(EvalFault::OutOfMemory);
+    };
+    let Ok(parts) = parts_of::<A>(alloc, members, phases) else {
         return Err(EvalFault::OutOfMemory);
     };
     numbers(alloc, job, p, &parts)

@@ -9,7 +9,6 @@ ghost use Rattle.stream_job.specs.Ranges.{is_out_of_range, list_fault};
 ghost use Rattle.graph_base.specs.declared.line.Kind.TheVariants.{Split};
 
 use crate::list::{ListFault, every_list, fir_list, in_turn_list, mixed_list};
-use crate::span::LENGTH_MAX;
 use crate::takes::part_of;
 use graph_base::{Kind, TaskLine};
 use std::alloc::Global;
@@ -25,7 +24,7 @@ fn whole_copy(alloc: Global, list: &[i64]) -> Result<Vec<i64>, ListFault>
 }
 
 /// A copy of the first values.
-fn copy_of(alloc: Global, list: &[i64], count: usize) -> Result<Vec<i64>, ListFault>
+fn copy_of(alloc: Global, list: &[i64], count: u128) -> Result<Vec<i64>, ListFault>
     requires { AreSends list.now }
     ensures ok { IfOk result (λ copy. copy.items ≡ take count list.now) }
     ensures sends { IfOk result (λ copy. AreSends copy.items) }
@@ -37,10 +36,8 @@ fn copy_of(alloc: Global, list: &[i64], count: usize) -> Result<Vec<i64>, ListFa
 /// What a task took from its input number `k`.
 fn list_of<'a>(taken: &[&'a [i64]], k: usize) -> &'a [i64]
     requires sends { All (λ list. AreSends list.now) taken.now }
-    requires short { All (λ list. length list.now ≤ LENGTH_MAX) taken.now }
     ensures value { result.now ≡ get_or (map (λ list. list.now) taken.now) k [] }
     ensures sends { AreSends result.now }
-    ensures short { length result.now ≤ LENGTH_MAX }
 {
     taken.get(k).copied().unwrap_or(&[])
 }
@@ -76,7 +73,7 @@ pub(crate) fn list_put(
     samples: &[i64],
     taken: &[&[i64]],
     task: &TaskLine,
-    steps: usize,
+    steps: u128,
     j: usize,
 ) -> Result<Vec<i64>, ListFault>
     requires ends { HasEnds task.now.kind (length taken.now) (length task.now.outputs.items) }
@@ -84,7 +81,6 @@ pub(crate) fn list_put(
     requires taps { HasTaps task.now.kind task.now.taps.items task.now.shift }
     requires samples { AreSends samples.now }
     requires sends { All (λ list. AreSends list.now) taken.now }
-    requires short { All (λ list. length list.now ≤ LENGTH_MAX) taken.now }
     ensures ok { IfOk result (λ list. list.items ≡ output_list samples.now
         (map (λ list. list.now) taken.now) (task_of task.now) steps j) }
     ensures sends { IfOk result (λ list. AreSends list.items) }

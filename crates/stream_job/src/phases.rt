@@ -13,7 +13,7 @@ use std::alloc::{AllocError, Global};
 #[derive(Drop)]
 pub struct MemberList {
     /// The phase of the first value.
-    pub offset: usize,
+    pub offset: u128,
     /// The values.
     pub values: Vec<i64>,
 }
@@ -28,12 +28,10 @@ fn add_member<A: Accumulate>(parts: &mut [A], member: &MemberList)
         → HasParts A.operation parts.new (members ++ member_of member.now ∷ []) }
     ensures length { length parts.new ≡ length parts.old }
 {
-    let count = member
-        .values
-        .len()
-        .min(parts.len().saturating_sub(member.offset));
+    let room = (parts.len() as u128).saturating_sub(member.offset) as usize;
+    let count = member.values.len().min(room);
     for i in 0..count {
-        let phase = member.offset + i;
+        let phase = member.offset as usize + i;
         parts[phase] = A::join(parts[phase], A::of(member.values[i]));
     }
 }

@@ -1,7 +1,7 @@
 //! How far a task comes.
 
-/// The most values of a list that can be composed. It is 2^40, and would take 8 TiB.
-pub const LENGTH_MAX: usize = 1099511627776;
+/// No list of a graph has more phases, whatever its lines are. It is 2^97.
+pub const LENGTH_MAX: u128 = 158456325028528675187087900672;
 
 /// How far a task comes: from which phase on it is a member, and how many steps it makes.
 #[derive(Clone, Copy, Debug, PartialEq, Eq)]
@@ -9,7 +9,7 @@ pub struct Span {
     /// Whether the task is live. Where it is not, the numbers are 0.
     pub live: bool,
     /// The phase of its first step.
-    pub offset: usize,
+    pub offset: u128,
     /// How many steps it makes.
-    pub steps: usize,
+    pub steps: u128,
 }

@@ -4,15 +4,16 @@ ghost use Rattle.std.specs.List.{All};
 ghost use Rattle.graph_base.specs.Kept.{task_of};
 ghost use Rattle.graph_base.specs.TaskLines.{HasEnds};
 ghost use Rattle.stream_job.specs.Jobs.{samples_at};
-ghost use Rattle.stream_job.specs.Kept.{given, IsShort};
-ghost use Rattle.stream_job.specs.Spans.{cut_at, enough_for, first_run_out, offset_of, run_out, span_of, spans_over, values_from};
+ghost use Rattle.stream_job.specs.Kept.{given, IsShort, IsStage};
+ghost use Rattle.stream_job.specs.Spans.{cut_at, enough_for, first_run_out, offset_of, run_out, span_of, spans_over, spans_up_to, values_from};
 
 use crate::job::number_of_source;
 use crate::span::{LENGTH_MAX, Span};
 use graph_base::{Graph, Kind, Parent, TaskLine};
 use std::alloc::{AllocError, Global};
 
-/// How many samples task number `t` has.
+/// How many samples task number `t` has, where it is a source. Of another task it is the number of
+/// the next source below it, or 0, and is not used.
 fn samples_count(graph: &Graph, samples: &[Vec<i64>], t: usize) -> usize
     requires { t < length graph.now.tasks }
     ensures { result ≡ length (samples_at (given graph.now samples.now) t) }
@@ -24,7 +25,7 @@ fn samples_count(graph: &Graph, samples: &[Vec<i64>], t: usize) -> usize
 }
 
 /// How many values of the list of phaser number `p` there are from an offset on.
-fn length_from(lengths: &[usize], p: usize, offset: usize) -> usize
+fn length_from(lengths: &[u128], p: usize, offset: u128) -> u128
     requires { All (λ n. n ≤ LENGTH_MAX) lengths.now }
     ensures length { result ≡ get_or lengths.now p 0 - offset }
     ensures short { result ≤ LENGTH_MAX }
@@ -33,7 +34,7 @@ fn length_from(lengths: &[usize], p: usize, offset: usize) -> usize
 }
 
 /// How many values input number `k` of a task has from an offset on.
-fn values_at(task: &TaskLine, lengths: &[usize], offset: usize, k: usize) -> usize
+fn values_at(task: &TaskLine, lengths: &[u128], offset: u128, k: usize) -> u128
     requires { All (λ n. n ≤ LENGTH_MAX) lengths.now }
     ensures count { result
         ≡ get_or (values_from (task_of task.now) lengths.now offset) k 0 }
@@ -46,17 +47,17 @@ fn values_at(task: &TaskLine, lengths: &[usize], offset: usize, k: usize) -> usi
 }
 
 /// The step at which input number `k` of a task runs out, where the inputs have their turns.
-fn run_out_of(task: &TaskLine, lengths: &[usize], offset: usize, k: usize) -> usize
+fn run_out_of(task: &TaskLine, lengths: &[u128], offset: u128, k: usize) -> u128
     requires few { length task.now.inputs.items ≤ 8 }
     requires input { k ≤ 8 }
     requires short { All (λ n. n ≤ LENGTH_MAX) lengths.now }
     ensures { result ≡ run_out (values_from (task_of task.now) lengths.now offset) k }
 {
-    k + task.inputs.len() * values_at(task, lengths, offset, k)
+    k as u128 + task.inputs.len() as u128 * values_at(task, lengths, offset, k)
 }
 
 /// The step at which the first input of a joiner runs out.
-fn first_end(task: &TaskLine, lengths: &[usize], offset: usize) -> usize
+fn first_end(task: &TaskLine, lengths: &[u128], offset: u128) -> u128
     requires few { length task.now.inputs.items ≤ 8 }
     requires short { All (λ n. n ≤ LENGTH_MAX) lengths.now }
     ensures { result ≡ first_run_out (values_from (task_of task.now) lengths.now offset) }
@@ -69,7 +70,7 @@ fn first_end(task: &TaskLine, lengths: &[usize], offset: usize) -> usize
 }
 
 /// How many steps a task's samples, or its inputs from an offset on, are enough for.
-fn steps_for(task: &TaskLine, samples: usize, lengths: &[usize], offset: usize) -> usize
+fn steps_for(task: &TaskLine, samples: usize, lengths: &[u128], offset: u128) -> u128
     requires ends { HasEnds task.now.kind (length task.now.inputs.items)
         (length task.now.outputs.items) }
     requires short { All (λ n. n ≤ LENGTH_MAX) lengths.now }
@@ -77,7 +78,7 @@ fn steps_for(task: &TaskLine, samples: usize, lengths: &[usize], offset: usize) 
         (values_from (task_of task.now) lengths.now offset) }
 {
     if task.kind == Kind::Source {
-        return samples;
+        return samples as u128;
     }
     if task.kind == Kind::Join {
         return first_end(task, lengths, offset);
@@ -86,17 +87,17 @@ fn steps_for(task: &TaskLine, samples: usize, lengths: &[usize], offset: usize) 
 }
 
 /// At most `until` steps.
-fn cut(until: Option<u64>, steps: usize) -> usize
+fn cut(until: Option<u64>, steps: u128) -> u128
     ensures { result ≡ cut_at until steps }
 {
     match until {
-        Some(most) if most < steps as u64 => most as usize,
+        Some(most) if u128::from(most) < steps => u128::from(most),
         _ => steps,
     }
 }
 
 /// The offset of a task with this parent, or none, where it is live.
-fn offset_from(above: &[Span], parent: Option<Parent>) -> Option<usize>
+fn offset_from(above: &[Span], parent: Option<Parent>) -> Option<u128>
     requires { All IsShort above.now }
     ensures offset { result ≡ offset_of above.now parent }
     ensures short { IfSome result (λ offset. offset ≤ LENGTH_MAX) }
@@ -105,45 +106,43 @@ fn offset_from(above: &[Span], parent: Option<Parent>) -> Option<usize>
         return Some(0);
     };
     let span = *above.get(parent.task)?;
-    if !span.live || parent.at > span.steps as u64 {
+    let at = u128::from(parent.at);
+    if !span.live || at > span.steps {
         return None;
     }
-    Some(span.offset + parent.at as usize)
+    Some(span.offset + at)
 }
 
-/// The span of task number `t`, below those of the tasks above it, where it is short enough.
+/// The span of task number `t`, below those of the tasks above it.
 fn next_span(
     graph: &Graph,
     samples: &[Vec<i64>],
-    lengths: &[usize],
+    lengths: &[u128],
     above: &[Span],
     t: usize,
-) -> Result<Span, AllocError>
+) -> Span
     requires task { t < length graph.now.tasks }
-    requires lengths { All (λ n. n ≤ LENGTH_MAX) lengths.now }
+    requires stage { IsStage graph.now samples.now lengths.now }
+    requires above { above.now
+        ≡ spans_up_to (given graph.now samples.now) lengths.now t }
     requires short { All IsShort above.now }
-    ensures span { IfOk result (λ span.
-        span ≡ span_of (given graph.now samples.now) lengths.now above.now t) }
-    ensures short { IfOk result (λ span. IsShort span) }
+    ensures span { result ≡ span_of (given graph.now samples.now) lengths.now above.now t }
+    ensures short { IsShort result }
 {
     let task = graph.task(t);
     let Some(offset) = offset_from(above, task.parent) else {
-        return Ok(Span {
+        return Span {
             live: false,
             offset: 0,
             steps: 0,
-        });
+        };
     };
     let most = steps_for(task, samples_count(graph, samples, t), lengths, offset);
-    let steps = cut(task.until, most);
-    if steps > LENGTH_MAX - offset {
-        return Err(AllocError);
-    }
-    Ok(Span {
+    Span {
         live: true,
         offset,
-        steps,
-    })
+        steps: cut(task.until, most),
+    }
 }
 
 /// The spans of all tasks, over phasers' lists of these lengths.
@@ -151,9 +150,9 @@ pub(crate) fn all_spans(
     alloc: Global,
     graph: &Graph,
     samples: &[Vec<i64>],
-    lengths: &[usize],
+    lengths: &[u128],
 ) -> Result<Vec<Span>, AllocError>
-    requires lengths { All (λ n. n ≤ LENGTH_MAX) lengths.now }
+    requires stage { IsStage graph.now samples.now lengths.now }
     ensures spans { IfOk result (λ spans.
         spans.items ≡ spans_over (given graph.now samples.now) lengths.now) }
     ensures short { IfOk result (λ spans. All IsShort spans.items) }
@@ -161,7 +160,7 @@ pub(crate) fn all_spans(
 {
     let mut spans = Vec::with_capacity(alloc, graph.tasks())?;
     for t in 0..graph.tasks() {
-        spans.push(next_span(graph, samples, lengths, spans.as_slice(), t)?)?;
+        spans.push(next_span(graph, samples, lengths, spans.as_slice(), t))?;
     }
     Ok(spans)
 }

@@ -22,6 +22,7 @@ fn takes(job: &Job, p: usize, n: usize, t: usize) -> bool
     let Some(k) = place_of(&task.inputs, p) else {
         return false;
     };
+    let n = n as u128;
     span.offset <= n && n - span.offset < taken_count(task, span.steps, k)
 }
 

@@ -14,11 +14,11 @@ use graph_base::{Kind, TaskLine};
 use std::alloc::{AllocError, Global};
 
 /// So many values of a list, from a place on, as far as there are.
-pub(crate) fn part_of(list: &[i64], from: usize, count: usize) -> &[i64]
+pub(crate) fn part_of(list: &[i64], from: u128, count: u128) -> &[i64]
     ensures { result.now ≡ take count (drop from list.now) }
 {
-    let rest = &list[from.min(list.len())..];
-    &rest[..count.min(rest.len())]
+    let rest = &list[from.min(list.len() as u128) as usize..];
+    &rest[..count.min(rest.len() as u128) as usize]
 }
 
 /// The list of phaser number `p`, where it is there.
@@ -39,18 +39,18 @@ pub(crate) fn place_of(phasers: &[usize], p: usize) -> Option<usize>
 }
 
 /// How many of the steps below `n` are step `k`, `k + m`, `k + 2 * m`, ..
-pub(crate) fn turns(m: usize, k: usize, n: usize) -> usize
+pub(crate) fn turns(m: usize, k: usize, n: u128) -> u128
     requires some { 1 ≤ m }
     requires few { m ≤ 64 }
     requires short { n ≤ LENGTH_MAX }
     ensures turns { result ≡ turns_below m k n }
     ensures short { result ≤ n }
 {
-    (n + (m - 1).saturating_sub(k)) / m
+    (n + (m - 1).saturating_sub(k) as u128) / m as u128
 }
 
 /// How many values so many steps take from input number `k`.
-pub(crate) fn taken_count(task: &TaskLine, steps: usize, k: usize) -> usize
+pub(crate) fn taken_count(task: &TaskLine, steps: u128, k: usize) -> u128
     requires ends { HasEnds task.now.kind (length task.now.inputs.items)
         (length task.now.outputs.items) }
     requires short { steps ≤ LENGTH_MAX }
@@ -76,7 +76,6 @@ pub(crate) fn taken_at<'a>(
     requires span { IsShort span }
     ensures value { result.now ≡ taken_from (items_of above.now) (task_of task.now) span k }
     ensures sends { AreSends result.now }
-    ensures short { length result.now ≤ LENGTH_MAX }
 {
     let p = task.inputs.get(k).copied().unwrap_or(0);
     part_of(
@@ -102,7 +101,6 @@ pub(crate) fn taken_lists<'a>(
     ensures count { IfOk result (λ lists.
         length lists.items ≡ length task.now.inputs.items) }
     ensures sends { IfOk result (λ lists. All (λ list. AreSends list.now) lists.items) }
-    ensures short { IfOk result (λ lists. All (λ list. length list.now ≤ LENGTH_MAX) lists.items) }
 {
     let mut lists = Vec::with_capacity(alloc, task.inputs.len())?;
     for k in 0..task.inputs.len() {

@@ -46,7 +46,7 @@ fn only_values(job: &Job, p: usize, members: Vec<MemberList>) -> Result<Vec<i64>
     if members.len() != 1 || job.phaser(p).single.is_some() {
         return Err(members);
     }
-    if members[0].offset != 0 || members[0].values.len() != job.length(p) {
+    if members[0].offset != 0 || members[0].values.len() as u128 != job.length(p) {
         return Err(members);
     }
     match members.pop() {
@@ -192,7 +192,8 @@ fn all_lines(alloc: Global, job: &Job, lists: &[Vec<i64>]) -> Result<Vec<Lines>,
 ///
 /// The phasers are gone through in the order of their lines. For each one the outputs of the
 /// filters and peers that signal it are checked first, then each phase that some task takes. It
-/// takes memory.
+/// takes memory for all lists; where one has more values than any memory holds, `OutOfMemory` comes
+/// when its turn comes.
 pub fn eval(alloc: Global, job: &Job) -> Result<Vec<Lines>, EvalFault>
     ensures ok { IfOk result (λ lines. map told lines.items ≡ lines_of job.now) }
     ensures fits { IfOk result (λ lines. Fits job.now) }

@@ -14,7 +14,8 @@ returns-clause-ok g c =
     let members = map member_of c.args.members.now in
     let has = subst (λ ps. HasParts op ps members) (sym c.deref.ensures.value)
     c.in-Ok.ensures.parts in
-    let as_many = ap length c.deref.ensures.value ∙ (c.in-Ok.ensures.length ∙ c.length.ensures) in
+    let as_many = ap length c.deref.ensures.value ∙ (c.in-Ok.ensures.length
+    ∙ (c.in-Some.ensures ∙ c.length.ensures.length)) in
     subst (λ m. IfOk c.numbers.result (λ list. list.items
     ≡ map (number_in op.value c.args.job.now c.args.p members) (range_with_len 0 m)))
     as_many (c.numbers.ensures.ok members has)
@@ -25,7 +26,8 @@ returns-clause-fits g c =
     let members = map member_of c.args.members.now in
     let has = subst (λ ps. HasParts op ps members) (sym c.deref.ensures.value)
     c.in-Ok.ensures.parts in
-    let as_many = ap length c.deref.ensures.value ∙ (c.in-Ok.ensures.length ∙ c.length.ensures) in
+    let as_many = ap length c.deref.ensures.value ∙ (c.in-Ok.ensures.length
+    ∙ (c.in-Some.ensures ∙ c.length.ensures.length)) in
     subst (λ m. IfOk c.numbers.result (λ list.
     first_fault op.value c.args.job.now (spans_of c.args.job.now) members c.args.p m ≡ None))
     as_many (c.numbers.ensures.fits members has)
@@ -36,7 +38,8 @@ returns-clause-too_big g c place n e =
     let members = map member_of c.args.members.now in
     let has = subst (λ ps. HasParts op ps members) (sym c.deref.ensures.value)
     c.in-Ok.ensures.parts in
-    let as_many = ap length c.deref.ensures.value ∙ (c.in-Ok.ensures.length ∙ c.length.ensures) in
+    let as_many = ap length c.deref.ensures.value ∙ (c.in-Ok.ensures.length
+    ∙ (c.in-Some.ensures ∙ c.length.ensures.length)) in
     let found = c.numbers.ensures.too_big place n e members has in (
       found.0,
       subst (λ m. first_fault op.value c.args.job.now (spans_of c.args.job.now) members c.args.p m

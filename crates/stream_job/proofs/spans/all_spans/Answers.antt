@@ -12,15 +12,15 @@ loop-t-preserved c =
     let job = given c.args.graph.now c.args.samples.now in
     let lengths = c.args.lengths.now in
     let before = spans_up_to job lengths c.loop-t.t in
-    let span_is = c.in_ok-next_span.ensures.span
+    let span_is = c.next_span.ensures.span
     ∙ ap (λ a. span_of job lengths a c.loop-t.t)
     (c.as_slice.ensures.value ∙ c.loop-t.invariant.0) in
     rw c.in_ok-push.ensures.items (
-      ap (λ xs. xs ++ c.in_ok-next_span.field-0 ∷ []) c.loop-t.invariant.0
+      ap (λ xs. xs ++ c.next_span.result ∷ []) c.loop-t.invariant.0
           ∙ (ap (λ s. before ++ s ∷ []) span_is
           ∙ sym (fold-range_more (λ a t. a ++ span_of job lengths a t ∷ []) [] c.loop-t.t)),
-      All-push IsShort c.loop-t.spans.items c.in_ok-next_span.field-0
-          c.loop-t.invariant.1 c.in_ok-next_span.ensures.short,
-      length_push c.loop-t.spans.items c.in_ok-next_span.field-0
+      All-push IsShort c.loop-t.spans.items c.next_span.result
+          c.loop-t.invariant.1 c.next_span.ensures.short,
+      length_push c.loop-t.spans.items c.next_span.result
           ∙ ap (λ n. n + 1) c.loop-t.invariant.2,
     )

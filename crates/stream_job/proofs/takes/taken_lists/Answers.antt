@@ -1,4 +1,4 @@
-use Rattle.std.proofs.Common.{◌≤◌, ◌+◌, ◌++◌, ◌∷◌, [], length, map, ap, sym, ◌∙◌, zero-add}
+use Rattle.std.proofs.Common.{◌+◌, ◌++◌, ◌∷◌, [], map, ap, sym, ◌∙◌, zero-add}
 use Rattle.std.specs.List.{range_with_len}
 use Rattle.std.proofs.lemmas.List.{map_push, length_push}
 use Rattle.std.proofs.lemmas.List.Elements.{All-push}
@@ -7,7 +7,6 @@ use Rattle.phase_accum.specs.Sends.{AreSends}
 use Rattle.graph_base.specs.Kept.{task_of}
 use Rattle.stream_job.specs.Kept.{items_of}
 use Rattle.stream_job.specs.Lists.{taken_from}
-use Rattle.stream_job.specs.declared.span.TheConstants.{LENGTH_MAX}
 use Rattle.stream_job.proofs.takes.taken_lists.Goals as goal
 
 -- one more input
@@ -21,7 +20,5 @@ loop-k-preserved c =
           ∙ sym (map-range_with_len_more taken 0 c.loop-k.k c.loop-k.k (zero-add c.loop-k.k)))),
       All-push (λ x. AreSends x.now) c.loop-k.lists.items c.taken_at.result
           c.loop-k.invariant.1 c.taken_at.ensures.sends,
-      All-push (λ x. length x.now ≤ LENGTH_MAX) c.loop-k.lists.items c.taken_at.result
-          c.loop-k.invariant.2 c.taken_at.ensures.short,
-      length_push c.loop-k.lists.items c.taken_at.result ∙ ap (λ n. n + 1) c.loop-k.invariant.3,
+      length_push c.loop-k.lists.items c.taken_at.result ∙ ap (λ n. n + 1) c.loop-k.invariant.2,
     )

@@ -1,10 +1,9 @@
-use Rattle.std.proofs.Common.{◌≡◌, ◌≤◌, length, map}
+use Rattle.std.proofs.Common.{◌≡◌, length, map}
 use Rattle.std.specs.List.{All, range_with_len}
 use Rattle.phase_accum.specs.Sends.{AreSends}
 use Rattle.graph_base.specs.Kept.{task_of}
 use Rattle.stream_job.specs.Kept.{items_of}
 use Rattle.stream_job.specs.Lists.{taken_from}
-use Rattle.stream_job.specs.declared.span.TheConstants.{LENGTH_MAX}
 use Rattle.stream_job.proofs.takes.taken_lists.Given as goal
 
 -- what is taken from the inputs before this one
@@ -13,5 +12,4 @@ invariant-loop-k l =
     (map (λ x. x.now) l.lists.items
     ≡ map (taken_from (items_of l.above) (task_of l.task) l.span) (range_with_len 0 l.k))
     × All (λ x. AreSends x.now) l.lists.items
-    × All (λ x. length x.now ≤ LENGTH_MAX) l.lists.items
     × (length l.lists.items ≡ l.k)

@@ -4,8 +4,8 @@ use Rattle.stream_job.specs.Spans.{lengths_of}
 use Rattle.stream_job.proofs.job.Job.length.Goals as goal
 
 -- it is the length of the number
-pub returns : goal.returns
-returns c =
+pub returns-clause-length : goal.returns-clause-length
+returns-clause-length c =
     let lt = rw (← c.self.view_is) at c.requires in
     let within : c.args.p < length c.self.inside.lengths.items =
     omega (arith, c.self.invariant.length_each) in

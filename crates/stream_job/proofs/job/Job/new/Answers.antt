@@ -30,6 +30,7 @@ invariant_of-result c =
       span_each = c.in-Ok-all_spans.ensures.each;
       length_each = c.in-Ok.ensures.each;
       short = c.in-Ok-all_spans.ensures.short;
+      length_short = c.in-Ok.ensures.short;
       sends = c.requires.sends;
       apart = meeting-given c.args.graph samples _ _ _ spans c.deref-4.ensures.value
           c.first_meeting.ensures ∙ none;
