@@ -6,4 +6,5 @@ pub mod SignalSteps
 pub mod WaitSteps
 pub mod RegisterSteps
 pub mod NextSteps
+pub mod Meeting
 pub mod OneValue
