@@ -1,7 +1,6 @@
 -- What a seat that speaks for one task owes at a give.
-use Rattle.std.proofs.Common.{◌≡◌, ◌≢◌, ℕ, true, false, not, cond, eqb, List, [], ◌∷◌, ◌++◌, Option, Some, refl, sym, ap, subst, ◌∙◌, inl}
-use Rattle.std.specs.Prelude.{is_some, ◌||◌, ◌&&◌}
-use Rattle.std.proofs.lemmas.Bool.{eq-eqb}
+use Rattle.std.proofs.Common.{◌≡◌, ℕ, false, cond, eqb, List, [], ◌∷◌, ◌++◌, Option, Some, refl, sym, ap, subst, ◌∙◌, inl}
+use Rattle.std.specs.Prelude.{is_some}
 use Rattle.turn_lock.specs.Steps.{Gives}
 use Rattle.phase_base.specs.Limits.{Limits}
 use Rattle.phase_base.specs.declared.entry.Entry.{Entry}
@@ -13,7 +12,7 @@ use Rattle.phase_history.specs.Legal.{IsLegal}
 use Rattle.phase_core.specs.Cores.{CoreState, StandsFor}
 use Rattle.phase_shared.specs.declared.view.View.{View}
 use Rattle.phase_shared.specs.declared.rule.Terms.{Terms}
-use Rattle.phase_history.specs.Others.{IsUsed, is_by, is_distinct, events_of, OthersCame}
+use Rattle.phase_history.specs.Others.{IsUsed, is_by, events_of, OthersCame}
 use Rattle.phase_shared.specs.Views.{front, resting, turning, front_of, speaks_of}
 use Rattle.phase_shared.specs.Rule.{Allows, IsGoodAt, HasOneHistory, StandsWithin, TookAt, IsStation, Entered, Keeps}
 use Rattle.phase_history.proofs.Used.{IsUsed-member, IsUsed-longer, entry_of-others}
@@ -21,12 +20,6 @@ use Rattle.phase_shared.proofs.Keeping.{gives, one_of, or_false, is_in_self}
 
 same_some : {A : Type 0} (x y : A) → Some x ≡ Some y → x ≡ y
 same_some x y e = cc
-
--- two numbers that stand in a list without repetition differ
-pub numbers_apart : (a b : ℕ) → is_distinct (a ∷ b ∷ []) ≡ true → a ≢ b
-numbers_apart a b distinct same =
-    let found : eqb b a ≡ true = eq-eqb b a (sym same) in
-    absurd (let z : false ≡ true = subst (λ c. (not (c || false) && is_distinct (b ∷ [])) ≡ true) found distinct in cc)
 
 -- a longer history has come about by events of this task alone
 pub record OwnCame (me : ℕ) (old new : History) : Type 0 where
@@ -127,11 +120,3 @@ module _ {A K : Type 0} (op : Operation A) (allows : K → Allows) (terms : Term
   after_call now new old x before same after keeps =
       let stands : StandsWithin op terms.limits x new = record { stands = after; limits_are = same ∙ before.limits_are } in
       record { good = record { legal = legal_at x new stands; keeps = keeps }; stands = stands }
-
-  -- a task stands where it stood while others' events came
-  pub still_member : (entry : Entry) (v : View) (now : History) → IsStation allows terms me entry v → IsGoodAt allows terms now
-      → OthersCame (me ∷ []) (front_of v).seen now → entry_of (members_of now) me ≡ Some entry
-  still_member entry v now s good came =
-      ap (λ h. entry_of (members_of h) me) came.is
-      ∙ entry_of-others terms.limits came.later (front_of v).seen me entry
-      (subst (λ (h : History). IsLegal terms.limits h) came.is good.legal) (came.others me (is_in_self me [])) s.member

@@ -6,5 +6,6 @@ pub mod SignalSteps
 pub mod WaitSteps
 pub mod RegisterSteps
 pub mod NextSteps
+pub mod Meeting
 pub mod OneValue
 pub mod PartSteps

@@ -275,34 +275,3 @@ pub fn join<A: Accumulate, K: SignalRule>(
 {
     phaser.lock.join::<Together, Both<K>>(seat, other)
 }
-
-// Two seats, each of one task, see one history.
-pub fn meet<A: Accumulate, K: SignalRule>(
-    phaser: &Phaser<A, K>,
-    seat: PhaserSeat<A, K>,
-    me: u64,
-    entry: Entry,
-    other: PhaserSeat<A, K>,
-    you: u64,
-    start: Entry,
-) -> (PhaserSeat<A, K>, PhaserSeat<A, K>)
-    requires seats { IsSeatOf phaser.now.lock seat × IsSeatOf phaser.now.lock other }
-    requires first { IsStation K.allows (phaser_terms phaser.now) me entry (seat_view seat) }
-    requires second { IsStation K.allows (phaser_terms phaser.now) you start (seat_view other) }
-    ensures seats { IsSeatOf phaser.now.lock result.0 × IsSeatOf phaser.now.lock result.1 }
-    ensures first { IsStation K.allows (phaser_terms phaser.now) me entry (seat_view result.0) }
-    ensures second { IsStation K.allows (phaser_terms phaser.now) you start (seat_view result.1) }
-    ensures one { (front_of (seat_view result.0)).seen ≡ (front_of (seat_view result.1)).seen }
-    ensures apart { me ≢ you }
-    ensures begins { OthersCame (me ∷ []) (front_of (seat_view seat)).seen
-        (front_of (seat_view result.0)).seen
-        × OthersCame (you ∷ []) (front_of (seat_view other)).seen
-        (front_of (seat_view result.0)).seen }
-{
-    let _ = me;
-    let _ = you;
-    let _ = entry;
-    let _ = start;
-    let both = join(phaser, seat, other);
-    phaser.lock.split::<Apart>(both)
-}

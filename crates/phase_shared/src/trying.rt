@@ -13,6 +13,7 @@ ghost use Rattle.phase_shared.specs.Nexts.{SignalsAndMayWait};
 
 use crate::past::Past;
 use crate::phaser::Phaser;
+use crate::plays::Apart;
 use crate::refusal::Tried;
 use crate::reg::Reg;
 use crate::rule::SignalRule;
@@ -218,44 +219,17 @@ impl<A: Accumulate, K: SignalRule> Reg<A, K> {
         ensures second { (result.1.at ≡ other.at) × (result.1.number ≡ other.number)
             × (result.1.entry ≡ other.entry) × (result.1.held ≡ other.held) }
     {
-        let Reg {
-            seat,
-            number,
-            entry,
-            pending,
-        } = self;
-        let Reg {
-            seat: other_seat,
-            number: other_number,
-            entry: other_entry,
-            pending: other_pending,
-        } = other;
-        let Some(seat) = seat else { unreachable!() };
-        let Some(other_seat) = other_seat else {
+        let (mut first, mut second) = (self, other);
+        let Some(seat) = first.seat.take() else {
             unreachable!()
         };
-        let (seat, other_seat) = steps::meet(
-            phaser,
-            seat,
-            number,
-            entry,
-            other_seat,
-            other_number,
-            other_entry,
-        );
-        (
-            Reg {
-                seat: Some(seat),
-                number,
-                entry,
-                pending,
-            },
-            Reg {
-                seat: Some(other_seat),
-                number: other_number,
-                entry: other_entry,
-                pending: other_pending,
-            },
-        )
+        let Some(other_seat) = second.seat.take() else {
+            unreachable!()
+        };
+        let both = steps::join(phaser, seat, other_seat);
+        let (seat, other_seat) = phaser.lock.split::<Apart>(both);
+        first.seat = Some(seat);
+        second.seat = Some(other_seat);
+        (first, second)
     }
 }

@@ -1,55 +1,164 @@
 use Rattle.std.proofs.Common.{◌≡◌, [], ◌∷◌, true, false, sym, subst, ap, ◌∙◌}
 use Rattle.std.specs.Prelude.{is_some}
-use Rattle.turn_lock.specs.Seats.{seat_view}
+use Rattle.turn_lock.specs.Seats.{seat_view, seat_number}
 use Rattle.phase_history.specs.Histories.{History}
-use Rattle.phase_shared.specs.Views.{front_of}
-use Rattle.phase_shared.specs.Regs.{view_in, phaser_place, phaser_terms}
 use Rattle.phase_history.specs.Others.{OthersCame}
+use Rattle.phase_shared.specs.declared.view.View.{View}
+use Rattle.phase_shared.specs.declared.view.View.TheVariants.{Resting}
+use Rattle.phase_shared.specs.Views.{front_of, first_part, other_part}
+use Rattle.phase_shared.specs.Regs.{view_in, phaser_place, phaser_terms}
+use Rattle.phase_shared.specs.Rule.{IsStation, IsGoodAt}
 use Rattle.phase_shared.proofs.Opening.{opened, closed}
+use Rattle.phase_shared.proofs.Meeting.{met}
+use Rattle.phase_shared.proofs.RegisterSteps.{forks_child}
 use Rattle.phase_shared.proofs.reg.Reg.meet.Goals as goal
 
 pub unreachable-requires : goal.unreachable-requires
 unreachable-requires g c =
-    absurd (let z : false ≡ true = sym (ap (λ o. is_some o) c.in_default.is) ∙ c.self.invariant.there in cc)
+    let none : is_some c.first.inside.seat ≡ false = ap (λ o. is_some o) (sym c.take.ensures.value ∙ c.in_default.is) in
+    absurd (let z : false ≡ true = sym none ∙ c.first.invariant.there in cc)
 
-pub unreachable-requires-in_default-other_seat : goal.unreachable-requires-in_default-other_seat
-unreachable-requires-in_default-other_seat g c =
-    absurd (let z : false ≡ true = sym (ap (λ o. is_some o) c.in_default-other_seat.is) ∙ c.other.invariant.there in cc)
+pub unreachable-requires-in_default-take : goal.unreachable-requires-in_default-take
+unreachable-requires-in_default-take g c =
+    let none : is_some c.second.inside.seat ≡ false = ap (λ o. is_some o) (sym c.take-2.ensures.value ∙ c.in_default-take.is) in
+    absurd (let z : false ≡ true = sym none ∙ c.second.invariant.there in cc)
 
-pub meet-seat-requires : goal.meet-seat-requires
-meet-seat-requires g c =
+pub join-both-requires-clause-seats : goal.join-both-requires-clause-seats
+join-both-requires-clause-seats g c =
     let p = phaser_place c.args.phaser.now in
     let terms = phaser_terms c.args.phaser.now in
     let allows = g.K.SignalRule.allows in
-    let o = opened allows p.0 terms c.self.inside.number c.self.inside.entry c.self.inside.seat c.in-Some.seat
-    c.in-Some.is c.self.invariant (ap (λ r. r.at) c.self.view_is ∙ c.requires.at.0) in
-    let q = opened allows p.0 terms c.other.inside.number c.other.inside.entry c.other.inside.seat c.in-Some-other_seat.other_seat
-    c.in-Some-other_seat.is c.other.invariant (ap (λ r. r.at) c.other.view_is ∙ c.requires.at.1) in
-    record { seats = (o.at, q.at); first = o.station; second = q.station }
+    let o = opened allows p.0 terms c.first.inside.number c.first.inside.entry c.first.inside.seat c.in-Some.seat
+    (sym c.take.ensures.value ∙ c.in-Some.is) c.first.invariant (ap (λ r. r.at) c.first.view_is ∙ c.requires.at.0) in
+    let q = opened allows p.0 terms c.second.inside.number c.second.inside.entry c.second.inside.seat c.in-Some-take.other_seat
+    (sym c.take-2.ensures.value ∙ c.in-Some-take.is) c.second.invariant (ap (λ r. r.at) c.second.view_is ∙ c.requires.at.1) in
+    (o.at, q.at)
 
-pub invariant_of-result : goal.invariant_of-result
-invariant_of-result g c =
+pub join-both-requires-clause-rests : goal.join-both-requires-clause-rests
+join-both-requires-clause-rests g c =
     let p = phaser_place c.args.phaser.now in
     let terms = phaser_terms c.args.phaser.now in
     let allows = g.K.SignalRule.allows in
-    closed allows p.0 terms c.self.inside.number c.self.inside.entry c.meet-seat.result.0 c.meet-seat.ensures.seats.0 c.meet-seat.ensures.first
+    let o = opened allows p.0 terms c.first.inside.number c.first.inside.entry c.first.inside.seat c.in-Some.seat
+    (sym c.take.ensures.value ∙ c.in-Some.is) c.first.invariant (ap (λ r. r.at) c.first.view_is ∙ c.requires.at.0) in
+    let q = opened allows p.0 terms c.second.inside.number c.second.inside.entry c.second.inside.seat c.in-Some-take.other_seat
+    (sym c.take-2.ensures.value ∙ c.in-Some-take.is) c.second.invariant (ap (λ r. r.at) c.second.view_is ∙ c.requires.at.1) in (
+      o.station.rests ∙ sym (ap (λ (z : View). Resting (front_of z)) o.station.rests),
+      q.station.rests ∙ sym (ap (λ (z : View). Resting (front_of z)) q.station.rests),
+    )
 
-pub invariant_of-result-2 : goal.invariant_of-result-2
-invariant_of-result-2 g c =
+-- the joined seat speaks for both
+pub split-seat-requires-clause-rule : goal.split-seat-requires-clause-rule
+split-seat-requires-clause-rule g c =
     let p = phaser_place c.args.phaser.now in
     let terms = phaser_terms c.args.phaser.now in
     let allows = g.K.SignalRule.allows in
-    closed allows p.0 terms c.other.inside.number c.other.inside.entry c.meet-seat.result.1 c.meet-seat.ensures.seats.1 c.meet-seat.ensures.second
+    let o = opened allows p.0 terms c.first.inside.number c.first.inside.entry c.first.inside.seat c.in-Some.seat
+    (sym c.take.ensures.value ∙ c.in-Some.is) c.first.invariant (ap (λ r. r.at) c.first.view_is ∙ c.requires.at.0) in
+    let q = opened allows p.0 terms c.second.inside.number c.second.inside.entry c.second.inside.seat c.in-Some-take.other_seat
+    (sym c.take-2.ensures.value ∙ c.in-Some-take.is) c.second.invariant (ap (λ r. r.at) c.second.view_is ∙ c.requires.at.1) in
+    let m = met allows terms c.first.inside.number c.second.inside.number c.first.inside.entry c.second.inside.entry
+    (seat_view c.in-Some.seat) (seat_view c.in-Some-take.other_seat) (seat_view c.join-both.result) o.station q.station c.join-both.ensures.rule in
+    forks_child g.A.Accumulate.operation allows terms c.first.inside.number (seat_number c.join-both.result) (seat_view c.join-both.result) m.now
+    c.second.inside.number m.is
+
+pub invariant_of-first : goal.invariant_of-first
+invariant_of-first g c =
+    let p = phaser_place c.args.phaser.now in
+    let terms = phaser_terms c.args.phaser.now in
+    let allows = g.K.SignalRule.allows in
+    let o = opened allows p.0 terms c.first.inside.number c.first.inside.entry c.first.inside.seat c.in-Some.seat
+    (sym c.take.ensures.value ∙ c.in-Some.is) c.first.invariant (ap (λ r. r.at) c.first.view_is ∙ c.requires.at.0) in
+    let q = opened allows p.0 terms c.second.inside.number c.second.inside.entry c.second.inside.seat c.in-Some-take.other_seat
+    (sym c.take-2.ensures.value ∙ c.in-Some-take.is) c.second.invariant (ap (λ r. r.at) c.second.view_is ∙ c.requires.at.1) in
+    let m = met allows terms c.first.inside.number c.second.inside.number c.first.inside.entry c.second.inside.entry
+    (seat_view c.in-Some.seat) (seat_view c.in-Some-take.other_seat) (seat_view c.join-both.result) o.station q.station c.join-both.ensures.rule in
+    let left = c.split-seat.ensures.left ∙ ap first_part m.is in
+    closed allows p.0 terms c.first.inside.number c.first.inside.entry c.split-seat.result.0 c.split-seat.ensures.seats.0
+    (subst (λ (z : View). IsStation allows terms c.first.inside.number c.first.inside.entry z) (sym left) m.left)
+
+pub invariant_of-second : goal.invariant_of-second
+invariant_of-second g c =
+    let p = phaser_place c.args.phaser.now in
+    let terms = phaser_terms c.args.phaser.now in
+    let allows = g.K.SignalRule.allows in
+    let o = opened allows p.0 terms c.first.inside.number c.first.inside.entry c.first.inside.seat c.in-Some.seat
+    (sym c.take.ensures.value ∙ c.in-Some.is) c.first.invariant (ap (λ r. r.at) c.first.view_is ∙ c.requires.at.0) in
+    let q = opened allows p.0 terms c.second.inside.number c.second.inside.entry c.second.inside.seat c.in-Some-take.other_seat
+    (sym c.take-2.ensures.value ∙ c.in-Some-take.is) c.second.invariant (ap (λ r. r.at) c.second.view_is ∙ c.requires.at.1) in
+    let m = met allows terms c.first.inside.number c.second.inside.number c.first.inside.entry c.second.inside.entry
+    (seat_view c.in-Some.seat) (seat_view c.in-Some-take.other_seat) (seat_view c.join-both.result) o.station q.station c.join-both.ensures.rule in
+    let right = c.split-seat.ensures.right ∙ ap other_part m.is in
+    closed allows p.0 terms c.second.inside.number c.second.inside.entry c.split-seat.result.1 c.split-seat.ensures.seats.1
+    (subst (λ (z : View). IsStation allows terms c.second.inside.number c.second.inside.entry z) (sym right) m.right)
+
+-- both have seen what the joined seat had
+pub returns-clause-one : goal.returns-clause-one
+returns-clause-one g c =
+    let p = phaser_place c.args.phaser.now in
+    let terms = phaser_terms c.args.phaser.now in
+    let allows = g.K.SignalRule.allows in
+    let o = opened allows p.0 terms c.first.inside.number c.first.inside.entry c.first.inside.seat c.in-Some.seat
+    (sym c.take.ensures.value ∙ c.in-Some.is) c.first.invariant (ap (λ r. r.at) c.first.view_is ∙ c.requires.at.0) in
+    let q = opened allows p.0 terms c.second.inside.number c.second.inside.entry c.second.inside.seat c.in-Some-take.other_seat
+    (sym c.take-2.ensures.value ∙ c.in-Some-take.is) c.second.invariant (ap (λ r. r.at) c.second.view_is ∙ c.requires.at.1) in
+    let m = met allows terms c.first.inside.number c.second.inside.number c.first.inside.entry c.second.inside.entry
+    (seat_view c.in-Some.seat) (seat_view c.in-Some-take.other_seat) (seat_view c.join-both.result) o.station q.station c.join-both.ensures.rule in
+    let left = c.split-seat.ensures.left ∙ ap first_part m.is in
+    let right = c.split-seat.ensures.right ∙ ap other_part m.is in
+    ap (λ (z : View). (front_of z).seen) left ∙ sym (ap (λ (z : View). (front_of z).seen) right)
+
+pub returns-clause-apart : goal.returns-clause-apart
+returns-clause-apart g c =
+    let p = phaser_place c.args.phaser.now in
+    let terms = phaser_terms c.args.phaser.now in
+    let allows = g.K.SignalRule.allows in
+    let o = opened allows p.0 terms c.first.inside.number c.first.inside.entry c.first.inside.seat c.in-Some.seat
+    (sym c.take.ensures.value ∙ c.in-Some.is) c.first.invariant (ap (λ r. r.at) c.first.view_is ∙ c.requires.at.0) in
+    let q = opened allows p.0 terms c.second.inside.number c.second.inside.entry c.second.inside.seat c.in-Some-take.other_seat
+    (sym c.take-2.ensures.value ∙ c.in-Some-take.is) c.second.invariant (ap (λ r. r.at) c.second.view_is ∙ c.requires.at.1) in
+    let m = met allows terms c.first.inside.number c.second.inside.number c.first.inside.entry c.second.inside.entry
+    (seat_view c.in-Some.seat) (seat_view c.in-Some-take.other_seat) (seat_view c.join-both.result) o.station q.station c.join-both.ensures.rule in
+    m.apart
+
+pub returns-clause-good : goal.returns-clause-good
+returns-clause-good g c =
+    let p = phaser_place c.args.phaser.now in
+    let terms = phaser_terms c.args.phaser.now in
+    let allows = g.K.SignalRule.allows in
+    let o = opened allows p.0 terms c.first.inside.number c.first.inside.entry c.first.inside.seat c.in-Some.seat
+    (sym c.take.ensures.value ∙ c.in-Some.is) c.first.invariant (ap (λ r. r.at) c.first.view_is ∙ c.requires.at.0) in
+    let q = opened allows p.0 terms c.second.inside.number c.second.inside.entry c.second.inside.seat c.in-Some-take.other_seat
+    (sym c.take-2.ensures.value ∙ c.in-Some-take.is) c.second.invariant (ap (λ r. r.at) c.second.view_is ∙ c.requires.at.1) in
+    let m = met allows terms c.first.inside.number c.second.inside.number c.first.inside.entry c.second.inside.entry
+    (seat_view c.in-Some.seat) (seat_view c.in-Some-take.other_seat) (seat_view c.join-both.result) o.station q.station c.join-both.ensures.rule in
+    let left = c.split-seat.ensures.left ∙ ap first_part m.is in
+    subst (λ (h : History). IsGoodAt allows terms h) (sym (ap (λ (z : View). (front_of z).seen) left)) m.good
 
 pub returns-clause-begins : goal.returns-clause-begins
 returns-clause-begins g c =
-    let seen : (front_of (seat_view c.in-Some.seat)).seen ≡ c.args.self.seen =
-    ap (λ o. (front_of (view_in o)).seen) (sym c.in-Some.is) ∙ ap (λ r. r.seen) c.self.view_is in
-    let seen' : (front_of (seat_view c.in-Some-other_seat.other_seat)).seen ≡ c.args.other.seen =
-    ap (λ o. (front_of (view_in o)).seen) (sym c.in-Some-other_seat.is) ∙ ap (λ r. r.seen) c.other.view_is in
-    let new = (front_of (seat_view c.meet-seat.result.0)).seen in
-    let number = ap (λ r. r.number) c.self.view_is in
-    let number' = ap (λ r. r.number) c.other.view_is in (
-      subst (λ (h : History). OthersCame (c.args.self.number ∷ []) h new) seen (subst (λ n. OthersCame (n ∷ []) (front_of (seat_view c.in-Some.seat)).seen new) number c.meet-seat.ensures.begins.0),
-      subst (λ (h : History). OthersCame (c.args.other.number ∷ []) h new) seen' (subst (λ n. OthersCame (n ∷ []) (front_of (seat_view c.in-Some-other_seat.other_seat)).seen new) number' c.meet-seat.ensures.begins.1),
+    let p = phaser_place c.args.phaser.now in
+    let terms = phaser_terms c.args.phaser.now in
+    let allows = g.K.SignalRule.allows in
+    let o = opened allows p.0 terms c.first.inside.number c.first.inside.entry c.first.inside.seat c.in-Some.seat
+    (sym c.take.ensures.value ∙ c.in-Some.is) c.first.invariant (ap (λ r. r.at) c.first.view_is ∙ c.requires.at.0) in
+    let q = opened allows p.0 terms c.second.inside.number c.second.inside.entry c.second.inside.seat c.in-Some-take.other_seat
+    (sym c.take-2.ensures.value ∙ c.in-Some-take.is) c.second.invariant (ap (λ r. r.at) c.second.view_is ∙ c.requires.at.1) in
+    let m = met allows terms c.first.inside.number c.second.inside.number c.first.inside.entry c.second.inside.entry
+    (seat_view c.in-Some.seat) (seat_view c.in-Some-take.other_seat) (seat_view c.join-both.result) o.station q.station c.join-both.ensures.rule in
+    let left = c.split-seat.ensures.left ∙ ap first_part m.is in
+    let seen = ap (λ (z : View). (front_of z).seen) left in
+    let mine = ap (λ o. (front_of (view_in o)).seen) (sym (sym c.take.ensures.value ∙ c.in-Some.is)) ∙ ap (λ r. r.seen) c.first.view_is in
+    let yours = ap (λ o. (front_of (view_in o)).seen) (sym (sym c.take-2.ensures.value ∙ c.in-Some-take.is)) ∙ ap (λ r. r.seen) c.second.view_is in
+    let number = ap (λ r. r.number) c.first.view_is in
+    let number' = ap (λ r. r.number) c.second.view_is in
+    let new = (front_of (seat_view c.split-seat.result.0)).seen in
+    let first : OthersCame (c.first.inside.number ∷ []) (front_of (seat_view c.in-Some.seat)).seen new =
+    subst (λ (h : History). OthersCame (c.first.inside.number ∷ []) (front_of (seat_view c.in-Some.seat)).seen h) (sym seen) m.first in
+    let second : OthersCame (c.second.inside.number ∷ []) (front_of (seat_view c.in-Some-take.other_seat)).seen new =
+    subst (λ (h : History). OthersCame (c.second.inside.number ∷ []) (front_of (seat_view c.in-Some-take.other_seat)).seen h) (sym seen) m.second in (
+      subst (λ (h : History). OthersCame (c.args.self.number ∷ []) h new) mine
+          (subst (λ n. OthersCame (n ∷ []) (front_of (seat_view c.in-Some.seat)).seen new) number first),
+      subst (λ (h : History). OthersCame (c.args.other.number ∷ []) h new) yours
+          (subst (λ n. OthersCame (n ∷ []) (front_of (seat_view c.in-Some-take.other_seat)).seen new) number' second),
     )
