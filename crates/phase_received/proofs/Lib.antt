@@ -1,0 +1,3 @@
+pub mod Wholes
+pub mod Lists
+pub mod Kept

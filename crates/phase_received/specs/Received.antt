@@ -1,0 +1,27 @@
+-- What registrations have received, by the history that was seen.
+use Rattle.std.specs.Prelude.{List, map, Result, Ok, Err}
+use Rattle.phase_accum.specs.Operations.{Operation}
+use Rattle.phase_accum.specs.declared.outcome.Outcome.{Outcome}
+use Rattle.phase_history.specs.Phases.{received_by}
+use Rattle.phase_shared.specs.Regs.{RegState, PastState}
+use Rattle.phase_received.specs.declared.fault.ReceiveFault.{ReceiveFault}
+use Rattle.phase_received.specs.declared.fault.ReceiveFault.TheVariants.{OutOfMemory, Refused}
+
+-- what a registration has received, the first value first
+abbrev pub received_of : {A K : Type 0} → Operation A → RegState A K → List Outcome
+received_of op reg = received_by op.value reg.seen reg.number
+
+-- what each registration that went into a past has received, in the order of their numbers
+abbrev pub all_received : {A K : Type 0} → Operation A → PastState K → List (List Outcome)
+all_received op past = map (received_by op.value past.seen) past.numbers
+
+-- there was no memory and all stayed as it was, or the call is refused
+abbrev pub Declines : {R : Type 0} → Type 0 → (R → Type 0) → ReceiveFault R → Type 0
+Declines same call OutOfMemory = same
+Declines same call (Refused refusal) = call refusal
+
+-- there was no memory and all stayed as it was, or the call has its answer
+abbrev pub Receives : {X R : Type 0} → Type 0 → (Result X R → Type 0)
+    → Result X (ReceiveFault R) → Type 0
+Receives same call (Ok answer) = call (Ok answer)
+Receives same call (Err fault) = Declines same (λ refusal. call (Err refusal)) fault

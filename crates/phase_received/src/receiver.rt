@@ -1,0 +1,289 @@
+//! A registration with all that it got.
+ghost use Rattle.std.specs.Prelude.{◌≡◌, ◌≢◌, ◌↔◌, ◌<◌, ◌+◌, ℤ, List, [], ◌∷◌, ◌++◌, Some, Err, IfOk, IfErr, OnOk, OnErr, true, false};
+ghost use Rattle.std.specs.Vec.{vec_len, vec_capacity};
+ghost use Rattle.phase_base.specs.Modes.{mode_signals};
+ghost use Rattle.phase_base.specs.declared.limits.TheConstants.{SENDS_MAX};
+ghost use Rattle.phase_accum.specs.declared.outcome.TheConstants.{NO_VALUE};
+ghost use Rattle.phase_accum.specs.Parcels.{StandsForSends};
+ghost use Rattle.phase_history.specs.Phases.{received_by};
+ghost use Rattle.phase_shared.specs.Rule.{IsGoodAt};
+ghost use Rattle.phase_shared.specs.Regs.{phaser_place, phaser_terms, phaser_limits};
+ghost use Rattle.phase_shared.specs.Calls.{Signals, Waits, MaySignal, Leaves};
+ghost use Rattle.phase_shared.specs.Calls.{HasRegistered, RefusesRegister};
+ghost use Rattle.phase_shared.specs.Nexts.{GoesNext, RefusesNext};
+ghost use Rattle.phase_shared.specs.Parts.{with_got, with_any};
+ghost use Rattle.phase_received.specs.Received.{received_of, Receives, Declines};
+ghost use Rattle.phase_received.specs.Whole.{HasSeenEnd, HasWhole};
+
+use crate::fault::ReceiveFault;
+use crate::laws;
+use crate::receipts::Receipts;
+use phase_accum::{Accumulate, Outcome, Single};
+use phase_base::Mode;
+use phase_core::{Got, RegisterRefusal, SignalRefusal, WaitRefusal};
+use phase_shared::{Next, Phaser, Reg, SendRefusal, SignalRule};
+use std::alloc::Global;
+use std::marker::Model;
+use std::sync::Wait;
+
+/// A registration with all that it got, the first value first.
+///
+/// In contracts it is its registration: `received_of` says what a registration has received, by the
+/// history that it has seen, and `values` that this is what is kept here. Each call is the one of
+/// `Reg` of the same name.
+///
+/// **End.** It cannot be thrown away. `leave` ends its registration, and gives `Receipts`.
+pub struct Receiver<A: Accumulate, K: SignalRule> {
+    reg: Reg<A, K>,
+    values: Vec<Outcome>,
+}
+
+impl<A: Accumulate, K: SignalRule> Model for Receiver<A, K> {
+    ghost use Rattle.std.specs.Prelude.{◌≡◌};
+    ghost use Rattle.phase_shared.specs.Regs.{RegState};
+
+    ghost Value = { RegState A K };
+
+    ghost use Rattle.phase_received.specs.Received.{received_of};
+
+    ghost view = { λ r. r.reg };
+
+    ghost invariant = { λ r. r.values.items ≡ received_of A.operation r.reg };
+}
+
+// Puts the value that was got, where it is one, behind the others.
+fn put(values: &mut Vec<Outcome>, got: Got)
+    requires { vec_len values.old < vec_capacity values.old }
+    ensures { values.new.items ≡ with_got values.old.items got }
+{
+    if let Got::Value { phase: _, outcome } = got {
+        values.push_reserved(outcome);
+    }
+}
+
+impl<A: Accumulate, K: SignalRule> Receiver<A, K> {
+    /// Makes one of a registration and what it got so far, which is nothing for a new one.
+    pub fn new(reg: Reg<A, K>, values: Vec<Outcome>) -> Receiver<A, K>
+        requires { values.items ≡ received_of A.operation reg }
+        ensures { result ≡ reg }
+    {
+        Receiver { reg, values }
+    }
+
+    /// Gives back the registration and what it got.
+    pub fn into_parts(self) -> (Reg<A, K>, Vec<Outcome>)
+        ensures reg { result.0 ≡ self }
+        ensures values { result.1.items ≡ received_of A.operation self }
+    {
+        let Receiver { reg, values } = self;
+        (reg, values)
+    }
+
+    /// Shows what it got.
+    pub fn values(&self) -> &[Outcome]
+        ensures { result.now ≡ received_of A.operation self.now }
+    {
+        self.values.as_slice()
+    }
+
+    /// Shows its registration, to be read alone.
+    pub fn reg(&self) -> &Reg<A, K>
+        ensures { result.now ≡ self.now }
+    {
+        &self.reg
+    }
+
+    /// Holds one more send, behind the others, until the next signal. It takes no turn and no
+    /// memory.
+    pub fn send(&mut self, value: i64) -> Result<(), SendRefusal>
+        ensures stands { OnOk result ((sends : List ℤ)
+            → StandsForSends A.operation self.old.held sends
+            → StandsForSends A.operation self.new.held (sends ++ value ∷ [])) }
+        ensures count { OnOk result (self.new.held.count ≡ self.old.held.count + 1) }
+        ensures same { (self.new.at ≡ self.old.at) × (self.new.number ≡ self.old.number)
+            × (self.new.entry ≡ self.old.entry) × (self.new.seen ≡ self.old.seen) }
+
+        ensures no_signal { (result ≡ Err SendRefusal.NoSignal)
+            ↔ (mode_signals self.old.entry.mode ≡ false) }
+        ensures bad_value { (result ≡ Err SendRefusal.BadValue)
+            ↔ ((mode_signals self.old.entry.mode ≡ true) × (value ≡ NO_VALUE)) }
+        ensures too_many { (result ≡ Err SendRefusal.TooManySends)
+            ↔ ((mode_signals self.old.entry.mode ≡ true) × (value ≢ NO_VALUE)
+            × (self.old.held.count ≡ SENDS_MAX)) }
+        ensures err { OnErr result (self.new ≡ self.old) }
+    {
+        self.reg.send(value)
+    }
+
+    /// Signals its phase, with the sends that it holds and a single or none, and answers that
+    /// phase. It waits while it is ahead of the slowest waiter. A refused signal leaves the sends
+    /// held. It takes no memory.
+    pub fn signal<W: Wait>(
+        &mut self,
+        rt: &W,
+        phaser: &Phaser<A, K>,
+        single: Option<Single>,
+    ) -> Result<u64, SignalRefusal>
+        requires at { self.old.at ≡ phaser_place phaser.now }
+        requires rule { MaySignal A.operation K.allows (phaser_terms phaser.now) self.old single }
+
+        ensures call { let old = self.old in
+            Signals A.operation (phaser_limits phaser.now) old.number old.held single old.seen
+            self.new.seen result }
+        ensures received { received_of A.operation self.new ≡ received_of A.operation self.old }
+        ensures at { (self.new.at ≡ self.old.at) × (self.new.number ≡ self.old.number) }
+        ensures good { IsGoodAt K.allows (phaser_terms phaser.now) self.new.seen }
+
+        ensures none_held { OnOk result
+            (StandsForSends A.operation self.new.held [] × (self.new.held.count ≡ 0)) }
+        ensures held { OnErr result (self.new.held ≡ self.old.held) }
+        ensures known { result ≢ Err SignalRefusal.NoTask }
+        ensures waited { result ≢ Err SignalRefusal.Ahead }
+    {
+        phase_shared::laws::signals::<A>();
+        self.reg.signal(rt, phaser, single)
+    }
+
+    /// Waits for its phase, and keeps the value that it got, or learns that no more will come. It
+    /// waits until the phase is complete, or no signaller is registered. It may take memory.
+    pub fn wait<W: Wait>(
+        &mut self,
+        rt: &W,
+        phaser: &Phaser<A, K>,
+    ) -> Result<Got, ReceiveFault<WaitRefusal>>
+        requires at { self.old.at ≡ phaser_place phaser.now }
+
+        ensures call { let old = self.old in Receives (self.new ≡ old)
+            (Waits A.operation.value (phaser_limits phaser.now) old.number old.seen self.new.seen)
+            result }
+        ensures got { IfOk result (λ got. received_of A.operation self.new
+            ≡ with_got (received_of A.operation self.old) got) }
+        ensures ended { IfOk result (λ got. got ≡ Got.Ended
+            → HasSeenEnd self.new.seen self.new.number) }
+        ensures at { (self.new.at ≡ self.old.at) × (self.new.number ≡ self.old.number) }
+
+        ensures held { self.new.held ≡ self.old.held }
+        ensures good { IfOk result (λ got.
+            IsGoodAt K.allows (phaser_terms phaser.now) self.new.seen) }
+        ensures known { result ≢ Err (ReceiveFault.Refused WaitRefusal.NoTask) }
+        ensures waited { result ≢ Err (ReceiveFault.Refused WaitRefusal.NotYet) }
+    {
+        phase_shared::laws::waits();
+        if self.values.reserve(1).is_err() {
+            return Err(ReceiveFault::OutOfMemory);
+        }
+        let got = match self.reg.wait(rt, phaser) {
+            Ok(got) => got,
+            Err(refusal) => return Err(ReceiveFault::Refused(refusal)),
+        };
+        put(&mut self.values, got);
+        Ok(got)
+    }
+
+    /// Signals where its mode signals, as `signal` does, and then waits where its mode waits, as
+    /// `wait` does. It may take memory.
+    ///
+    /// It is refused as `signal` is, and then signalled nothing. In the mode `Wait` it is refused
+    /// where a single is named, as `NotSingle`.
+    pub fn next<W: Wait>(
+        &mut self,
+        rt: &W,
+        phaser: &Phaser<A, K>,
+        single: Option<Single>,
+    ) -> Result<Next, ReceiveFault<SignalRefusal>>
+        requires at { self.old.at ≡ phaser_place phaser.now }
+        requires rule { mode_signals self.old.entry.mode ≡ true
+            → MaySignal A.operation K.allows (phaser_terms phaser.now) self.old single }
+
+        ensures ok { IfOk result (GoesNext A.operation (phaser_limits phaser.now) single self.old
+            self.new.seen) }
+        ensures got { IfOk result (λ next. received_of A.operation self.new
+            ≡ with_any (received_of A.operation self.old) next.got) }
+        ensures at { (self.new.at ≡ self.old.at) × (self.new.number ≡ self.old.number) }
+        ensures good { IfOk result (λ next.
+            IsGoodAt K.allows (phaser_terms phaser.now) self.new.seen) }
+
+        ensures none_held { OnOk result (mode_signals self.old.entry.mode ≡ true
+            → StandsForSends A.operation self.new.held [] × (self.new.held.count ≡ 0)) }
+        ensures held { OnErr result (self.new.held ≡ self.old.held) }
+        ensures err { IfErr result (Declines (self.new ≡ self.old)
+            (RefusesNext A.operation (phaser_limits phaser.now) single self.old self.new.seen
+            (mode_signals self.old.entry.mode))) }
+    {
+        phase_shared::laws::goes_next::<A, K>();
+        if self.values.reserve(1).is_err() {
+            return Err(ReceiveFault::OutOfMemory);
+        }
+        let next = match self.reg.next(rt, phaser, single) {
+            Ok(next) => next,
+            Err(refusal) => return Err(ReceiveFault::Refused(refusal)),
+        };
+        if let Some(got) = next.got {
+            put(&mut self.values, got);
+        }
+        Ok(next)
+    }
+
+    /// Registers a child in a mode that its own mode holds, at both of its phases. The child has
+    /// seen what its parent has, holds no sends, and has received nothing. It may take memory, and
+    /// waits for its turn.
+    pub fn register<W: Wait>(
+        &mut self,
+        rt: &W,
+        alloc: Global,
+        phaser: &Phaser<A, K>,
+        mode: Mode,
+    ) -> Result<Receiver<A, K>, RegisterRefusal>
+        requires at { self.old.at ≡ phaser_place phaser.now }
+
+        ensures ok { IfOk result (λ child.
+            HasRegistered self.old.number child.number mode self.old.seen self.new.seen) }
+        ensures child { IfOk result (λ child.
+            (child.at ≡ self.old.at) × (child.seen ≡ self.new.seen)
+            × (received_of A.operation child ≡ [])) }
+        ensures none_held { IfOk result (λ child.
+            StandsForSends A.operation child.held [] × (child.held.count ≡ 0)) }
+        ensures received { received_of A.operation self.new ≡ received_of A.operation self.old }
+
+        ensures at { (self.new.at ≡ self.old.at) × (self.new.number ≡ self.old.number)
+            × (self.new.entry ≡ self.old.entry) × (self.new.held ≡ self.old.held) }
+        ensures good { IsGoodAt K.allows (phaser_terms phaser.now) self.new.seen }
+        ensures err { IfErr result
+            (RefusesRegister self.old.number mode self.old.seen self.new.seen) }
+        ensures known { result ≢ Err RegisterRefusal.NoTask }
+    {
+        phase_shared::laws::registers();
+        let reg = match self.reg.register(rt, phaser, mode) {
+            Ok(reg) => reg,
+            Err(refusal) => return Err(refusal),
+        };
+        Ok(Receiver {
+            reg,
+            values: Vec::new(alloc),
+        })
+    }
+
+    /// Ends the registration: the sends that it holds are in no phase. It waits for its turn, and
+    /// takes no memory.
+    ///
+    /// Who has seen the end of the stream has received exactly the stream from its start on.
+    pub fn leave<W: Wait>(self, rt: &W, alloc: Global, phaser: &Phaser<A, K>) -> Receipts<A, K>
+        requires at { self.at ≡ phaser_place phaser.now }
+
+        ensures call { Leaves self.number self.seen result.seen }
+        ensures received { received_of A.operation self
+            ≡ received_by A.operation.value result.seen self.number }
+        ensures numbers { result.numbers ≡ self.number ∷ [] }
+        ensures at { result.at ≡ self.at }
+        ensures good { IsGoodAt K.allows (phaser_terms phaser.now) result.seen }
+        ensures whole { HasSeenEnd self.seen self.number
+            → HasWhole A.operation.value result.seen self.number }
+    {
+        laws::whole();
+        phase_shared::laws::leaves();
+        let Receiver { reg, values } = self;
+        let _mode = reg.mode();
+        let past = reg.leave(rt, phaser);
+        Receipts::of(alloc, past, values)
+    }
+}
