@@ -10,3 +10,5 @@ mod once;
 mod replays;
 #[cfg(test)]
 mod sessions;
+#[cfg(test)]
+mod sizes;
