@@ -1,6 +1,8 @@
-//! What clap makes of the words that the program's pages name.
-ghost use Rattle.std.specs.Prelude.{[], ◌∷◌, codes};
+//! What clap makes of the words that the program's pages name, and which statuses come.
+ghost use Rattle.std.specs.Prelude.{◌≢◌, [], ◌∷◌, ℕ, List, codes};
+ghost use Rattle.clap.specs.Words.{Text};
 ghost use Rattle.phase_cli.specs.CommandLine.{AreRefused, AskCheck, AskEval, AskHelp, AskReplay};
+ghost use Rattle.phase_cli.specs.CommandLine.{AreTaken, IsStatus, MayEnd};
 
 /// `phase` and `phase replay` ask for a replay.
 pub fn words_for_replay()
@@ -35,4 +37,12 @@ pub fn words_refused()
     ensures empty { AreRefused ([] ∷ []) }
     ensures no_file { AreRefused (codes "eval" ∷ []) }
     ensures two_files { AreRefused (codes "check" ∷ codes "g" ∷ codes "h" ∷ []) }
+{}
+
+/// Whatever the words ask for, no status comes but 0, 1, 2, 3 and 5, and 2 never for words that are
+/// taken.
+pub fn statuses()
+    ensures any { (words : List Text) (status : ℕ) → MayEnd words status → IsStatus status }
+    ensures taken { (words : List Text) (status : ℕ) → MayEnd words status
+        → AreTaken words → status ≢ 2 }
 {}
