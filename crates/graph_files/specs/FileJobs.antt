@@ -8,7 +8,7 @@ use Rattle.graph_lang.specs.Reads.{Reads}
 use Rattle.graph_lang.specs.declared.fault.FaultKind.TheVariants.{AnyMeets}
 use Rattle.graph_lang.specs.declared.fault.GraphFault.{GraphFault}
 use Rattle.graph_base.specs.declared.place.Place.TheVariants as place
-use Rattle.phase_files.specs.Files.{AreSamplesOf, HasBadSample, HasBytes, MayBeRefused}
+use Rattle.phase_files.specs.Files.{AreSamplesOf, HasBadSample, HasBytes, MayBeRefused, MayNeedMemory}
 use Rattle.sample_text.specs.declared.sample.TheConstants.{TEXT_MAX}
 use Rattle.stream_job.specs.Jobs.{Job}
 use Rattle.stream_job.specs.Meetings.{meeting_line}
@@ -91,11 +91,11 @@ pub record IsSourceRefused (known : Known) (name : List ℕ) : Type 0 where
   pub reached : IsReached known name graph task
   pub refused : MayBeRefused TEXT_MAX (known (file_of graph task))
 
--- why the files of this name tell no job, unless memory ran out
+-- why the files of this name tell no job; memory may run out only over a graph that is not too long
 abbrev pub Explains : Known → List ℕ → JobFault → Type 0
 Explains known name (fault.Graph found) =
     IsFaultOf known name found ⊎ ((found.kind ≡ AnyMeets) × MeetsAt known name found.line)
 Explains known name (fault.BadSample source n) = HasBadRecord known name (string_bytes source) n
 Explains known name fault.ReadFault =
     MayBeRefused GRAPH_MAX (known name) ⊎ IsSourceRefused known name
-Explains known name fault.OutOfMemory = Unit {0}
+Explains known name fault.OutOfMemory = MayNeedMemory GRAPH_MAX (known name)

@@ -6,6 +6,7 @@
 mod fault;
 mod graph_file;
 mod job_file;
+pub mod laws;
 mod sources;
 
 pub use fault::JobFault;

@@ -1,15 +1,13 @@
 //! A run of the program over any input and outputs.
-ghost use Rattle.std.specs.Prelude.{◌≡◌, ◌≢◌, ◌⊎◌, ℕ, Bool, List, Option};
-ghost use Rattle.clap.specs.Words.{HasKind, kind_of};
-ghost use Rattle.phase_words.specs.CommandLine.{AreRefused, AreTaken, AskCheck, AskEval, AskGraph};
-ghost use Rattle.phase_words.specs.CommandLine.{AskHelp, AskReplay, texts};
-ghost use Rattle.phase_status.specs.GraphRuns.{Checks, ChecksPrefix, Evaluates, EvaluatesPrefix};
-ghost use Rattle.phase_status.specs.GraphRuns.{Stops};
-ghost use Rattle.phase_status.specs.Statuses.{HasCause, RepliesWhole, RepliesPrefix, Reports};
-ghost use Rattle.phase_replay.specs.declared.fault.ReplayFault.{ReplayFault};
+ghost use Rattle.std.specs.Prelude.{◌≡◌, ◌≢◌, ◌⊎◌, ℕ, List};
+ghost use Rattle.clap.specs.Words.{kind_of};
+ghost use Rattle.phase_cli.specs.Ends.{AnswerEnds, AnswerStops, IsUnbegun, MayEnd};
+ghost use Rattle.phase_words.specs.CommandLine.{AreTaken, AskCheck, AskEval, AskGraph, AskReplay};
+ghost use Rattle.phase_words.specs.CommandLine.{texts};
+ghost use Rattle.phase_status.specs.GraphRuns.{CheckEnds, EvalEnds};
+ghost use Rattle.phase_status.specs.Statuses.{ReplayEnds, Reports};
 ghost use Rattle.phase_replay.specs.declared.fault.ReplayFault.TheVariants.{OutOfMemory};
-ghost use Rattle.phase_replay.specs.Replay.{ReplaysAll, ReplaysPrefix};
-ghost use Rattle.watched_io.specs.Watched.{has_failed_of, inner_of, count_of};
+ghost use Rattle.watched_io.specs.States.{reader_state, writer_state};
 
 use clap::Error;
 use clap::error::ErrorKind;
@@ -37,67 +35,39 @@ pub fn run_cli<R: Read, W: Write, E: Write, F: Files>(
     faults: &mut Watched<E>,
     files: &mut F,
 ) -> u8
-    ensures status { (result ≡ 0) ⊎ ((result ≡ 1) ⊎ ((result ≡ 2) ⊎ ((result ≡ 3)
-        ⊎ (result ≡ 5)))) }
+    // Which statuses may come, by what the words ask for.
+    ensures status { MayEnd (texts words.now) result }
 
-    // What a replay wrote, whole or up to the fault.
-    ensures replay { result ≡ 0 → AskReplay (texts words.now) → RepliesWhole
-        (R.remaining (inner_of input.old))
-        (W.contents (inner_of output.old)) (W.contents (inner_of output.new)) }
-    ensures prefix { result ≡ 5 → AskReplay (texts words.now) → RepliesPrefix
-        (R.remaining (inner_of input.old))
-        (W.contents (inner_of output.old)) (W.contents (inner_of output.new)) }
-    ensures all { result ≡ 0 → AskReplay (texts words.now) → ReplaysAll
-        (R.remaining (inner_of input.old)) (R.remaining (inner_of input.new))
-        (count_of input.old) (count_of input.new)
-        (W.contents (inner_of output.old)) (W.contents (inner_of output.new)) }
-    ensures stopped { result ≡ 5 → AskReplay (texts words.now) → ReplaysPrefix
-        (R.remaining (inner_of input.old)) (R.remaining (inner_of input.new))
-        (count_of input.old) (count_of input.new)
-        (W.contents (inner_of output.old)) (W.contents (inner_of output.new)) }
+    // What a replay wrote, whole or up to a fault, which has its cause and was told.
+    ensures replay { AskReplay (texts words.now) → ReplayEnds result
+        (reader_state R.remaining input.old) (reader_state R.remaining input.new)
+        (writer_state W.contents output.old) (writer_state W.contents output.new)
+        (writer_state E.contents faults.old) (writer_state E.contents faults.new) }
 
-    // What a check and an evaluation of a graph wrote, whole or up to the fault, and why there is no
+    // What a check and an evaluation of a graph wrote, whole or up to a fault, and why there is no
     // other answer.
-    ensures check { (name : List ℕ) → result ≡ 0 → AskCheck (texts words.now) name
-        → Checks (F.file files.old) name
-        (W.contents (inner_of output.old)) (W.contents (inner_of output.new)) }
-    ensures check_prefix { (name : List ℕ) → result ≡ 5 → AskCheck (texts words.now) name
-        → (output.new ≡ output.old) ⊎ ChecksPrefix (F.file files.old) name
-        (W.contents (inner_of output.old)) (W.contents (inner_of output.new)) }
-    ensures eval { (name : List ℕ) → result ≡ 0 → AskEval (texts words.now) name
-        → Evaluates (F.file files.old) name
-        (W.contents (inner_of output.old)) (W.contents (inner_of output.new)) }
-    ensures eval_prefix { (name : List ℕ) → result ≡ 5 → AskEval (texts words.now) name
-        → (output.new ≡ output.old) ⊎ EvaluatesPrefix (F.file files.old) name
-        (W.contents (inner_of output.old)) (W.contents (inner_of output.new)) }
-    ensures stops { (name : List ℕ) → result ≢ 0 → AskGraph (texts words.now) name
-        → Stops (F.file files.old) name (has_failed_of output.new) result (has_failed_of faults.new)
-        (E.contents (inner_of faults.old)) (E.contents (inner_of faults.new)) }
-    ensures silent { (result ≡ 1) ⊎ (result ≡ 3) → output.new ≡ output.old }
+    ensures check { (name : List ℕ) → AskCheck (texts words.now) name
+        → IsUnbegun result files.old files.new output.old output.new
+        (writer_state E.contents faults.old) (writer_state E.contents faults.new)
+        ⊎ CheckEnds (F.file files.old) name result W.contents output.old output.new
+        (writer_state E.contents faults.old) (writer_state E.contents faults.new) }
+    ensures eval { (name : List ℕ) → AskEval (texts words.now) name
+        → IsUnbegun result files.old files.new output.old output.new
+        (writer_state E.contents faults.old) (writer_state E.contents faults.new)
+        ⊎ EvalEnds (F.file files.old) name result W.contents output.old output.new
+        (writer_state E.contents faults.old) (writer_state E.contents faults.new) }
 
-    // What is left alone: a check and an evaluation do not read the input, and other words open no
-    // file.
-    ensures unread { (name : List ℕ) → AskGraph (texts words.now) name → input.new ≡ input.old }
+    // How other words are answered.
+    ensures answered { (AreTaken (texts words.now) → ⊥)
+        → AnswerEnds (texts words.now) result W.contents output.old output.new
+        (writer_state E.contents faults.old) (writer_state E.contents faults.new) }
+
+    // What is left alone: a replay alone reads the input, and a check and an evaluation alone open
+    // files.
+    ensures unread { (AskReplay (texts words.now) → ⊥) → input.new ≡ input.old }
     ensures unopened { ((name : List ℕ) → AskGraph (texts words.now) name → ⊥)
         → files.new ≡ files.old }
-
-    // When each status comes.
-    ensures taken { AreTaken (texts words.now) → result ≢ 2 }
-    ensures help { AskHelp (texts words.now) → (result ≢ 2) × (input.new ≡ input.old) }
-    ensures refused { AreRefused (texts words.now)
-        → (result ≢ 0) × (input.new ≡ input.old) × (output.new ≡ output.old) }
-
-    // What else stands on the streams.
-    ensures kept { result ≡ 2 → (input.new ≡ input.old) × (output.new ≡ output.old) }
     ensures quiet { result ≡ 0 → faults.new ≡ faults.old }
-    ensures fault { result ≡ 5 → ((name : List ℕ) → AskGraph (texts words.now) name → ⊥)
-        → (fault : ReplayFault)
-        × HasCause fault (R.remaining (inner_of input.old)) (R.remaining (inner_of input.new))
-        (count_of input.old) (count_of input.new)
-        (has_failed_of input.old) (has_failed_of input.new)
-        (has_failed_of output.old) (has_failed_of output.new)
-        × Reports fault (has_failed_of faults.new)
-        (E.contents (inner_of faults.old)) (E.contents (inner_of faults.new)) }
 {
     match read_words(alloc, words) {
         Ok(Call::Replay) => replay_and_report(alloc, input, output, faults),
@@ -117,19 +87,15 @@ fn answer<W: Write, E: Write>(
 ) -> u8
     ensures status { (result ≡ 0) ⊎ ((result ≡ 2) ⊎ (result ≡ 5)) }
     ensures done { result ≡ 0 → kind_of error.now ≡ ErrorKind.DisplayHelp }
-    ensures help { kind_of error.now ≡ ErrorKind.DisplayHelp → result ≢ 2 }
-    ensures memory { kind_of error.now ≡ ErrorKind.OutOfMemory → result ≡ 5 }
-    ensures line { kind_of error.now ≡ ErrorKind.OutOfMemory
-        → Reports OutOfMemory (has_failed_of faults.new)
-        (E.contents (inner_of faults.old)) (E.contents (inner_of faults.new)) }
-    ensures kept { kind_of error.now ≢ ErrorKind.DisplayHelp → output.new ≡ output.old }
+    ensures refused { result ≡ 2 → kind_of error.now ≢ ErrorKind.DisplayHelp }
+    ensures memory { kind_of error.now ≡ ErrorKind.OutOfMemory → (result ≡ 5)
+        × Reports OutOfMemory
+        (writer_state E.contents faults.old) (writer_state E.contents faults.new) }
+    ensures silent { kind_of error.now ≢ ErrorKind.DisplayHelp → output.new ≡ output.old }
     ensures quiet { result ≡ 0 → faults.new ≡ faults.old }
-    ensures fault { result ≡ 5 → (fault : ReplayFault)
-        × ((unread : Option (List ℕ)) (count : ℕ) (failed : Bool)
-        → HasCause fault unread unread count count failed failed
-        (has_failed_of output.old) (has_failed_of output.new))
-        × Reports fault (has_failed_of faults.new)
-        (E.contents (inner_of faults.old)) (E.contents (inner_of faults.new)) }
+    ensures stops { result ≡ 5 → AnswerStops
+        (writer_state W.contents output.old) (writer_state W.contents output.new)
+        (writer_state E.contents faults.old) (writer_state E.contents faults.new) }
 {
     let kind = error.kind();
     if kind == ErrorKind::OutOfMemory {

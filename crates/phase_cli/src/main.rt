@@ -5,6 +5,7 @@
 mod cli;
 #[cfg(test)]
 mod graph_tests;
+mod laws;
 #[cfg(test)]
 mod tests;
 

@@ -1,10 +1,9 @@
 -- What a replay did to its reader and its writer: what it read, and what it wrote.
-use Rattle.std.specs.Prelude.{◌≡◌, ℕ, ◌+◌, ◌<◌, ◌≤◌, Bool, List, [], ◌++◌, length, None, Some, Ok, Err}
-use Rattle.std.specs.Io.KnownBytes.{Appends, Consumes, IsAtEnd}
+use Rattle.std.specs.Prelude.{◌≡◌, ◌⊎◌, ℕ, ◌+◌, ◌≤◌, true, List, [], ◌++◌, length, None, Some, IfSome}
+use Rattle.std.specs.Io.KnownBytes.{Appends, IsAtEnd}
 use Rattle.std.specs.declared.option.Option.{Option}
-use Rattle.std.specs.declared.result.Result.{Result}
 use Rattle.watched_io.specs.Prefix.{AppendsPrefix}
-use Rattle.watched_io.specs.Watched.{CountsUp}
+use Rattle.watched_io.specs.States.{Gives, ReaderState, ReadsTooMuch, ReadsWithin, WriterState}
 use Rattle.phase_replay.specs.Replies.{replies_of}
 use Rattle.phase_replay.specs.declared.fault.ReplayFault.{ReplayFault}
 use Rattle.phase_replay.specs.declared.fault.ReplayFault.TheVariants.{ReadFault, WriteFault, OutOfMemory}
@@ -15,47 +14,46 @@ abbrev pub known_bytes : Option (List ℕ) → List ℕ
 known_bytes None = []
 known_bytes (Some bs) = bs
 
--- the reader gave these bytes, and they were counted
-pub record Gives (unread rest : Option (List ℕ)) (before after : ℕ) (bytes : List ℕ) : Type 0 where
-  pub read : Consumes unread rest bytes
-  pub counted : CountsUp before after (length bytes)
+-- ---- where the script is known
 
--- the reader gave a whole script, and the writer got the replies to it
-pub record ReplaysAll (unread rest : Option (List ℕ)) (before after : ℕ)
-    (old new : Option (List ℕ)) : Type 0 where
+-- the writer got the replies to it, whole
+abbrev pub RepliesWhole : ReaderState → WriterState → WriterState → Type 0
+RepliesWhole reader old new = IfSome reader.unread (λ script.
+    (length script ≤ SCRIPT_MAX) × Appends old.written new.written (replies_of script))
+
+-- the writer got a prefix of them
+abbrev pub RepliesPrefix : ReaderState → WriterState → WriterState → Type 0
+RepliesPrefix reader old new = IfSome reader.unread (λ script.
+    AppendsPrefix old.written new.written (replies_of script))
+
+-- ---- where it is not known beforehand
+
+-- the reader gave a whole script, the writer got the replies to it, and no call failed
+pub record ReplaysAll (old new : ReaderState) (before after : WriterState) : Type 0 where
   pub script : List ℕ
-  pub gives : Gives unread rest before after script
-  pub ends : IsAtEnd rest
+  pub gives : Gives old new script
+  pub ends : IsAtEnd new.unread
   pub short : length script ≤ SCRIPT_MAX
-  pub replied : Appends old new (replies_of script)
+  pub replied : Appends before.written after.written (replies_of script)
+  pub read : new.failed ≡ old.failed
+  pub wrote : after.failed ≡ before.failed
 
 -- the reader gave a prefix of a script, and the writer got a prefix of the replies; no more was
 -- read than one piece past the limit
-pub record ReplaysPrefix (unread rest : Option (List ℕ)) (before after : ℕ)
-    (old new : Option (List ℕ)) : Type 0 where
+pub record ReplaysPrefix (old new : ReaderState) (before after : WriterState) : Type 0 where
   pub script : List ℕ
-  pub gives : Gives unread rest before after script
+  pub gives : Gives old new script
   pub short : length script ≤ SCRIPT_MAX + PIECE_MAX
-  pub replied : AppendsPrefix old new (replies_of (script ++ known_bytes rest))
+  pub replied : AppendsPrefix before.written after.written
+      (replies_of (script ++ known_bytes new.unread))
 
--- the reader gave more than a script may have, by one piece at most
-pub record ReadsTooMuch (unread rest : Option (List ℕ)) (before after : ℕ) : Type 0 where
-  pub script : List ℕ
-  pub gives : Gives unread rest before after script
-  pub long : SCRIPT_MAX < length script
-  pub short : length script ≤ SCRIPT_MAX + PIECE_MAX
-
--- the reader gave no more than a script may have
-pub record ReadsWithin (unread rest : Option (List ℕ)) (before after : ℕ) : Type 0 where
-  pub script : List ℕ
-  pub gives : Gives unread rest before after script
-  pub short : length script ≤ SCRIPT_MAX
-
--- the notes of a failed read and of a failed write, before and after: one that changes is the answer
-abbrev pub NotesStay : {A : Type 0} → Result A ReplayFault → Bool → Bool → Bool → Bool → Type 0
-NotesStay (Ok _) read_old read_new write_old write_new =
-    (read_new ≡ read_old) × (write_new ≡ write_old)
-NotesStay (Err ReadFault) read_old read_new write_old write_new = write_new ≡ write_old
-NotesStay (Err WriteFault) read_old read_new write_old write_new = read_new ≡ read_old
-NotesStay (Err OutOfMemory) read_old read_new write_old write_new =
-    (read_new ≡ read_old) × (write_new ≡ write_old)
+-- the fault has its cause: a read failed or the script is too long; a write failed; memory ran out,
+-- with no more read than a script may have; and nothing else failed
+abbrev pub HasCause : ReplayFault → ReaderState → ReaderState → WriterState → WriterState → Type 0
+HasCause ReadFault old new before after =
+    ((new.failed ≡ true) ⊎ ReadsTooMuch SCRIPT_MAX PIECE_MAX old new)
+    × (after.failed ≡ before.failed)
+HasCause WriteFault old new before after =
+    (after.failed ≡ true) × (new.failed ≡ old.failed)
+HasCause OutOfMemory old new before after =
+    ReadsWithin SCRIPT_MAX old new × (new.failed ≡ old.failed) × (after.failed ≡ before.failed)

@@ -1,14 +1,13 @@
 //! Replay of a script from a reader to a writer.
-ghost use Rattle.std.specs.Prelude.{◌≡◌, ◌⊎◌, ◌<◌, ◌≤◌, true, length, take};
-ghost use Rattle.std.specs.Prelude.{OnOk, OnErr, IfOk, IfErr, IfSome, IsErrOf};
+ghost use Rattle.std.specs.Prelude.{◌≡◌, ◌<◌, ◌≤◌, length, take};
+ghost use Rattle.std.specs.Prelude.{OnOk, OnErr, IfOk, IfErr};
 ghost use Rattle.std.specs.Io.{ReadsAtMost};
-ghost use Rattle.std.specs.Io.KnownBytes.{Appends, IsAtEnd};
-ghost use Rattle.watched_io.specs.Prefix.{AppendsPrefix};
-ghost use Rattle.watched_io.specs.Watched.{inner_of, has_failed_of, count_of};
+ghost use Rattle.std.specs.Io.KnownBytes.{IsAtEnd};
+ghost use Rattle.watched_io.specs.States.{Gives, reader_state, writer_state};
+ghost use Rattle.watched_io.specs.Watched.{inner_of, has_failed_of};
 ghost use Rattle.phase_replay.specs.Reading.{StopsReading};
-ghost use Rattle.phase_replay.specs.Replay.{Gives, ReplaysAll, ReplaysPrefix};
-ghost use Rattle.phase_replay.specs.Replay.{ReadsTooMuch, ReadsWithin, NotesStay};
-ghost use Rattle.phase_replay.specs.Replies.{replies_of};
+ghost use Rattle.phase_replay.specs.Replay.{HasCause, RepliesPrefix, RepliesWhole};
+ghost use Rattle.phase_replay.specs.Replay.{ReplaysAll, ReplaysPrefix};
 
 use crate::ReplayFault;
 use crate::replayer::Replayer;
@@ -30,16 +29,14 @@ fn read_piece<R: Read>(
 ) -> Result<usize, ReplayFault>
     ensures bound { ReadsAtMost result piece.new }
     ensures fits { IfOk result (λ n. n ≤ left) }
-    ensures gives { IfOk result (λ n. Gives (R.remaining (inner_of reader.old))
-        (R.remaining (inner_of reader.new)) (count_of reader.old) (count_of reader.new)
-        (take n piece.new)) }
+    ensures gives { IfOk result (λ n. Gives (reader_state R.remaining reader.old)
+        (reader_state R.remaining reader.new) (take n piece.new)) }
     ensures end { IfOk result (λ n. n ≡ 0 → 0 < length piece.new
         → IsAtEnd (R.remaining (inner_of reader.new))) }
     ensures kept { OnOk result (has_failed_of reader.new ≡ has_failed_of reader.old) }
     ensures err { IfErr result (λ fault. (fault ≡ ReplayFault.ReadFault)
-        × StopsReading (R.remaining (inner_of reader.old)) (R.remaining (inner_of reader.new))
-        (count_of reader.old) (count_of reader.new) (has_failed_of reader.new) left
-        (length piece.new)) }
+        × StopsReading (reader_state R.remaining reader.old)
+        (reader_state R.remaining reader.new) left (length piece.new)) }
 {
     let count = reader.read(piece)?;
     if count > left {
@@ -54,28 +51,17 @@ fn replay_pieces<R: Read, W: Write>(
     reader: &mut Watched<R>,
     writer: &mut Watched<W>,
 ) -> Result<(), ReplayFault>
-    ensures ok { OnOk result (ReplaysAll
-        (R.remaining (inner_of reader.old)) (R.remaining (inner_of reader.new))
-        (count_of reader.old) (count_of reader.new)
-        (W.contents (inner_of writer.old)) (W.contents (inner_of writer.new))) }
+    ensures all { OnOk result (ReplaysAll
+        (reader_state R.remaining reader.old) (reader_state R.remaining reader.new)
+        (writer_state W.contents writer.old) (writer_state W.contents writer.new)) }
 
-    ensures err { OnErr result (ReplaysPrefix
-        (R.remaining (inner_of reader.old)) (R.remaining (inner_of reader.new))
-        (count_of reader.old) (count_of reader.new)
-        (W.contents (inner_of writer.old)) (W.contents (inner_of writer.new))) }
+    ensures prefix { OnErr result (ReplaysPrefix
+        (reader_state R.remaining reader.old) (reader_state R.remaining reader.new)
+        (writer_state W.contents writer.old) (writer_state W.contents writer.new)) }
 
-    ensures read { IsErrOf result ReplayFault.ReadFault → (has_failed_of reader.new ≡ true)
-        ⊎ ReadsTooMuch (R.remaining (inner_of reader.old)) (R.remaining (inner_of reader.new))
-        (count_of reader.old) (count_of reader.new) }
-
-    ensures write { IsErrOf result ReplayFault.WriteFault → has_failed_of writer.new ≡ true }
-
-    ensures memory { IsErrOf result ReplayFault.OutOfMemory → ReadsWithin
-        (R.remaining (inner_of reader.old)) (R.remaining (inner_of reader.new))
-        (count_of reader.old) (count_of reader.new) }
-
-    ensures notes { NotesStay result (has_failed_of reader.old) (has_failed_of reader.new)
-        (has_failed_of writer.old) (has_failed_of writer.new) }
+    ensures cause { IfErr result (λ fault. HasCause fault
+        (reader_state R.remaining reader.old) (reader_state R.remaining reader.new)
+        (writer_state W.contents writer.old) (writer_state W.contents writer.new)) }
 {
     let mut piece = vec![in alloc; 0u8; PIECE_MAX]?;
     let mut replayer = Replayer::new(alloc);
@@ -104,43 +90,26 @@ pub fn replay<R: Read, W: Write>(
     reader: &mut Watched<R>,
     writer: &mut Watched<W>,
 ) -> Result<(), ReplayFault>
-    ensures ok { OnOk result (IfSome (R.remaining (inner_of reader.old)) (λ script.
-        (length script ≤ SCRIPT_MAX) × Appends (W.contents (inner_of writer.old))
-        (W.contents (inner_of writer.new)) (replies_of script))) }
+    ensures ok { OnOk result (RepliesWhole (reader_state R.remaining reader.old)
+        (writer_state W.contents writer.old) (writer_state W.contents writer.new)) }
 
-    ensures err { OnErr result (IfSome (R.remaining (inner_of reader.old)) (λ script.
-        AppendsPrefix (W.contents (inner_of writer.old)) (W.contents (inner_of writer.new))
-        (replies_of script))) }
-
-    ensures read { IsErrOf result ReplayFault.ReadFault → (has_failed_of reader.new ≡ true)
-        ⊎ IfSome (R.remaining (inner_of reader.old)) (λ script. SCRIPT_MAX < length script) }
-
-    ensures write { IsErrOf result ReplayFault.WriteFault → has_failed_of writer.new ≡ true }
+    ensures err { OnErr result (RepliesPrefix (reader_state R.remaining reader.old)
+        (writer_state W.contents writer.old) (writer_state W.contents writer.new)) }
 
     // The same where the reader's bytes are not known beforehand: some script was read, and its
     // length is the count's.
     ensures all { OnOk result (ReplaysAll
-        (R.remaining (inner_of reader.old)) (R.remaining (inner_of reader.new))
-        (count_of reader.old) (count_of reader.new)
-        (W.contents (inner_of writer.old)) (W.contents (inner_of writer.new))) }
+        (reader_state R.remaining reader.old) (reader_state R.remaining reader.new)
+        (writer_state W.contents writer.old) (writer_state W.contents writer.new)) }
 
     ensures prefix { OnErr result (ReplaysPrefix
-        (R.remaining (inner_of reader.old)) (R.remaining (inner_of reader.new))
-        (count_of reader.old) (count_of reader.new)
-        (W.contents (inner_of writer.old)) (W.contents (inner_of writer.new))) }
-
-    ensures too_long { IsErrOf result ReplayFault.ReadFault → (has_failed_of reader.new ≡ true)
-        ⊎ ReadsTooMuch (R.remaining (inner_of reader.old)) (R.remaining (inner_of reader.new))
-        (count_of reader.old) (count_of reader.new) }
-
-    // A script that is too long is no want of memory.
-    ensures memory { IsErrOf result ReplayFault.OutOfMemory → ReadsWithin
-        (R.remaining (inner_of reader.old)) (R.remaining (inner_of reader.new))
-        (count_of reader.old) (count_of reader.new) }
+        (reader_state R.remaining reader.old) (reader_state R.remaining reader.new)
+        (writer_state W.contents writer.old) (writer_state W.contents writer.new)) }
 
     // Where a read or a write fails, that is the answer.
-    ensures notes { NotesStay result (has_failed_of reader.old) (has_failed_of reader.new)
-        (has_failed_of writer.old) (has_failed_of writer.new) }
+    ensures cause { IfErr result (λ fault. HasCause fault
+        (reader_state R.remaining reader.old) (reader_state R.remaining reader.new)
+        (writer_state W.contents writer.old) (writer_state W.contents writer.new)) }
 {
     replay_pieces(alloc, reader, writer)
 }

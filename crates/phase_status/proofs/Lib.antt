@@ -1,2 +1,2 @@
-pub mod Causes
+pub mod Ends
 pub mod Places

@@ -1,5 +1,5 @@
 -- How a check or an evaluation of a graph ends: its status, and what stands on its streams then.
-use Rattle.std.specs.Prelude.{◌≡◌, ◌⊎◌, ℕ, Bool, true, List, [], ◌∷◌, length, codes, decimal, Some, string_bytes}
+use Rattle.std.specs.Prelude.{◌≡◌, ◌≢◌, ◌⊎◌, ℕ, true, List, [], ◌∷◌, length, codes, decimal, Some, string_bytes}
 use Rattle.std.specs.List.{flat_map}
 use Rattle.std.specs.Io.KnownBytes.{Appends}
 use Rattle.std.specs.declared.option.Option.{Option}
@@ -16,6 +16,8 @@ use Rattle.graph_files.specs.declared.fault.JobFault.{JobFault}
 use Rattle.graph_files.specs.declared.fault.JobFault.TheVariants as fault
 use Rattle.phase_replay.specs.declared.fault.ReplayFault.TheVariants.{OutOfMemory, ReadFault, WriteFault}
 use Rattle.watched_io.specs.Prefix.{AppendsPrefix}
+use Rattle.watched_io.specs.States.{WriterState, writer_state}
+use Rattle.watched_io.specs.declared.watched.Watched.{Watched}
 use Rattle.phase_status.specs.Statuses.{Says, fault_line}
 
 -- the parts, one behind the other
@@ -31,30 +33,30 @@ check_line graph = joined (
     ∷ codes " tasks " ∷ decimal (length graph.tasks) ∷ codes "\n" ∷ [])
 
 -- the files tell a job, and its line was written
-pub record Checks (known : Known) (name : List ℕ) (old new : Option (List ℕ)) : Type 0 where
+pub record Checks (known : Known) (name : List ℕ) (old new : WriterState) : Type 0 where
   pub job : Job
   pub job_of : IsJobOf known name job
-  pub written : Appends old new (check_line job.graph)
+  pub written : Appends old.written new.written (check_line job.graph)
 
 -- the files tell a job, and a prefix of its line was written
-pub record ChecksPrefix (known : Known) (name : List ℕ) (old new : Option (List ℕ)) : Type 0 where
+pub record ChecksPrefix (known : Known) (name : List ℕ) (old new : WriterState) : Type 0 where
   pub job : Job
   pub job_of : IsJobOf known name job
-  pub written : AppendsPrefix old new (check_line job.graph)
+  pub written : AppendsPrefix old.written new.written (check_line job.graph)
 
 -- the files tell a job whose values fit, and the lists of its sinks were written
-pub record Evaluates (known : Known) (name : List ℕ) (old new : Option (List ℕ)) : Type 0 where
+pub record Evaluates (known : Known) (name : List ℕ) (old new : WriterState) : Type 0 where
   pub job : Job
   pub job_of : IsJobOf known name job
   pub fits : Fits job
-  pub written : Appends old new (text_of job.graph (lines_of job))
+  pub written : Appends old.written new.written (text_of job.graph (lines_of job))
 
 -- the files tell a job whose values fit, and a prefix of the lists of its sinks was written
-pub record EvaluatesPrefix (known : Known) (name : List ℕ) (old new : Option (List ℕ)) : Type 0 where
+pub record EvaluatesPrefix (known : Known) (name : List ℕ) (old new : WriterState) : Type 0 where
   pub job : Job
   pub job_of : IsJobOf known name job
   pub fits : Fits job
-  pub written : AppendsPrefix old new (text_of job.graph (lines_of job))
+  pub written : AppendsPrefix old.written new.written (text_of job.graph (lines_of job))
 
 -- ---- the lines of faults
 
@@ -95,15 +97,18 @@ job_status fault.OutOfMemory = 5
 
 -- ---- why there is no other answer
 
--- the files tell no job, or memory ran out
-pub record IsNoJob (known : Known) (name : List ℕ) (status : ℕ) (line : List ℕ) : Type 0 where
+-- the files tell no job, or memory ran out: nothing was written, and no write failed
+pub record IsNoJob {W : Type 0} (known : Known) (name : List ℕ) (status : ℕ) (line : List ℕ)
+    (old new : Watched W) : Type 0 where
   pub found : JobFault
   pub explains : Explains known name found
   pub status_is : status ≡ job_status found
   pub line_is : line ≡ job_line found
+  pub silent : new ≡ old
 
--- the files tell a job, and the first of its values that is out of range
-pub record IsTooBig (known : Known) (name : List ℕ) (status : ℕ) (line : List ℕ) : Type 0 where
+-- the files tell a job, and the first of its values that is out of range: nothing was written
+pub record IsTooBig {W : Type 0} (known : Known) (name : List ℕ) (status : ℕ) (line : List ℕ)
+    (old new : Watched W) : Type 0 where
   pub job : Job
   pub place : Place
   pub number : ℕ
@@ -111,17 +116,50 @@ pub record IsTooBig (known : Known) (name : List ℕ) (status : ℕ) (line : Lis
   pub first : first_too_big job ≡ Some (place, number)
   pub status_is : status ≡ 3
   pub line_is : line ≡ too_big_line (name_at job.graph place) number
+  pub silent : new ≡ old
 
--- a write to the output failed
-pub record IsUnwritten (failed : Bool) (status : ℕ) (line : List ℕ) : Type 0 where
-  pub write : failed ≡ true
+-- a write to the output failed, after what was written before it
+pub record IsUnwritten (Written : Type 0) (status : ℕ) (line : List ℕ)
+    (new : WriterState) : Type 0 where
+  pub written : Written
+  pub noted : new.failed ≡ true
   pub status_is : status ≡ 5
   pub line_is : line ≡ fault_line WriteFault
 
--- the status has its cause, whose line was told
-pub record Stops (known : Known) (name : List ℕ) (output_failed : Bool) (status : ℕ)
-    (failed : Bool) (old new : Option (List ℕ)) : Type 0 where
+-- ---- how a check and an evaluation end
+
+-- a check has a status other than 0: it has its cause, whose line was told
+pub record CheckStops {W : Type 0} (known : Known) (name : List ℕ) (status : ℕ)
+    (contents : W → Option (List ℕ)) (old new : Watched W)
+    (before after : WriterState) : Type 0 where
   pub line : List ℕ
-  pub cause : IsNoJob known name status line ⊎ (IsTooBig known name status line
-      ⊎ IsUnwritten output_failed status line)
-  pub says : Says line failed old new
+  pub cause : IsNoJob known name status line old new
+      ⊎ IsUnwritten (ChecksPrefix known name (writer_state contents old) (writer_state contents new))
+      status line (writer_state contents new)
+  pub says : Says line before after
+
+-- an evaluation has a status other than 0: it has its cause, whose line was told
+pub record EvalStops {W : Type 0} (known : Known) (name : List ℕ) (status : ℕ)
+    (contents : W → Option (List ℕ)) (old new : Watched W)
+    (before after : WriterState) : Type 0 where
+  pub line : List ℕ
+  pub cause : IsNoJob known name status line old new ⊎ (IsTooBig known name status line old new
+      ⊎ IsUnwritten (EvaluatesPrefix known name (writer_state contents old)
+      (writer_state contents new)) status line (writer_state contents new))
+  pub says : Says line before after
+
+-- how a check ends, by its status
+pub record CheckEnds {W : Type 0} (known : Known) (name : List ℕ) (status : ℕ)
+    (contents : W → Option (List ℕ)) (old new : Watched W)
+    (before after : WriterState) : Type 0 where
+  pub done : status ≡ 0
+      → Checks known name (writer_state contents old) (writer_state contents new)
+  pub stops : status ≢ 0 → CheckStops known name status contents old new before after
+
+-- how an evaluation ends, by its status
+pub record EvalEnds {W : Type 0} (known : Known) (name : List ℕ) (status : ℕ)
+    (contents : W → Option (List ℕ)) (old new : Watched W)
+    (before after : WriterState) : Type 0 where
+  pub done : status ≡ 0
+      → Evaluates known name (writer_state contents old) (writer_state contents new)
+  pub stops : status ≢ 0 → EvalStops known name status contents old new before after

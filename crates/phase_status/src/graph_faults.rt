@@ -4,7 +4,7 @@ ghost use Rattle.graph_base.specs.Graphs.{IsPlace, name_at};
 ghost use Rattle.phase_status.specs.GraphRuns.{graph_line, job_line, job_status, kind_text};
 ghost use Rattle.phase_status.specs.GraphRuns.{samples_line, too_big_line};
 ghost use Rattle.phase_status.specs.Statuses.{Says};
-ghost use Rattle.watched_io.specs.Watched.{has_failed_of, inner_of};
+ghost use Rattle.watched_io.specs.States.{writer_state};
 
 use crate::parts::say;
 use crate::status::{GRAPH_REFUSED, TOO_BIG, report};
@@ -33,8 +33,8 @@ fn word_of(kind: FaultKind) -> &'static str
 
 /// Tells a faulty line of a graph.
 fn tell_graph_fault<E: Write>(fault: GraphFault, faults: &mut Watched<E>)
-    ensures { Says (graph_line fault.line fault.kind) (has_failed_of faults.new)
-        (E.contents (inner_of faults.old)) (E.contents (inner_of faults.new)) }
+    ensures { Says (graph_line fault.line fault.kind)
+        (writer_state E.contents faults.old) (writer_state E.contents faults.new) }
 {
     let mut buffer = Buffer::new();
     let line = buffer.format(fault.line);
@@ -44,8 +44,8 @@ fn tell_graph_fault<E: Write>(fault: GraphFault, faults: &mut Watched<E>)
 
 /// Tells a record of a source that is none.
 fn tell_bad_sample<E: Write>(name: &str, number: usize, faults: &mut Watched<E>)
-    ensures { Says (samples_line name.now number) (has_failed_of faults.new)
-        (E.contents (inner_of faults.old)) (E.contents (inner_of faults.new)) }
+    ensures { Says (samples_line name.now number)
+        (writer_state E.contents faults.old) (writer_state E.contents faults.new) }
 {
     let mut buffer = Buffer::new();
     let number = buffer.format(number);
@@ -57,8 +57,8 @@ fn tell_bad_sample<E: Write>(name: &str, number: usize, faults: &mut Watched<E>)
 /// refused, and else 5.
 pub(crate) fn report_job_fault<E: Write>(fault: &JobFault, faults: &mut Watched<E>) -> u8
     ensures status { result ≡ job_status fault.now }
-    ensures line { Says (job_line fault.now) (has_failed_of faults.new)
-        (E.contents (inner_of faults.old)) (E.contents (inner_of faults.new)) }
+    ensures line { Says (job_line fault.now)
+        (writer_state E.contents faults.old) (writer_state E.contents faults.new) }
 {
     match fault {
         JobFault::Graph(found) => {
@@ -83,8 +83,8 @@ pub(crate) fn report_too_big<E: Write>(
 ) -> u8
     requires { IsPlace graph.now place }
     ensures status { result ≡ 3 }
-    ensures line { Says (too_big_line (name_at graph.now place) number) (has_failed_of faults.new)
-        (E.contents (inner_of faults.old)) (E.contents (inner_of faults.new)) }
+    ensures line { Says (too_big_line (name_at graph.now place) number)
+        (writer_state E.contents faults.old) (writer_state E.contents faults.new) }
 {
     let mut buffer = Buffer::new();
     let number = buffer.format(number);

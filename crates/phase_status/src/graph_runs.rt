@@ -1,9 +1,9 @@
 //! A check and an evaluation of a graph, and the reports of their faults.
-ghost use Rattle.std.specs.Prelude.{◌≡◌, ◌≢◌, ◌⊎◌, true, OnOk, OnErr};
+ghost use Rattle.std.specs.Prelude.{◌≡◌, ◌⊎◌, true, OnOk, OnErr};
 ghost use Rattle.std.specs.Io.KnownBytes.{Appends};
-ghost use Rattle.phase_status.specs.GraphRuns.{Checks, ChecksPrefix, Evaluates, EvaluatesPrefix};
-ghost use Rattle.phase_status.specs.GraphRuns.{Stops, check_line};
+ghost use Rattle.phase_status.specs.GraphRuns.{CheckEnds, EvalEnds, check_line};
 ghost use Rattle.watched_io.specs.Prefix.{AppendsPrefix};
+ghost use Rattle.watched_io.specs.States.{writer_state};
 ghost use Rattle.watched_io.specs.Watched.{has_failed_of, inner_of};
 
 use crate::graph_faults::{report_job_fault, report_too_big};
@@ -31,16 +31,9 @@ pub fn check_and_report<W: Write, E: Write, F: Files>(
     files: &mut F,
 ) -> u8
     ensures status { (result ≡ 0) ⊎ ((result ≡ 1) ⊎ (result ≡ 5)) }
-    ensures done { result ≡ 0 → Checks (F.file files.old) name.now
-        (W.contents (inner_of output.old)) (W.contents (inner_of output.new)) }
-    ensures prefix { result ≡ 5 → (output.new ≡ output.old)
-        ⊎ ChecksPrefix (F.file files.old) name.now
-        (W.contents (inner_of output.old)) (W.contents (inner_of output.new)) }
-    ensures silent { result ≡ 1 → output.new ≡ output.old }
+    ensures ends { CheckEnds (F.file files.old) name.now result W.contents output.old output.new
+        (writer_state E.contents faults.old) (writer_state E.contents faults.new) }
     ensures quiet { result ≡ 0 → faults.new ≡ faults.old }
-    ensures fault { result ≢ 0 → Stops (F.file files.old) name.now (has_failed_of output.new)
-        result (has_failed_of faults.new)
-        (E.contents (inner_of faults.old)) (E.contents (inner_of faults.new)) }
 {
     let job = match read_job(alloc, files, name) {
         Ok(job) => job,
@@ -79,16 +72,9 @@ pub fn eval_and_report<W: Write, E: Write, F: Files>(
     files: &mut F,
 ) -> u8
     ensures status { (result ≡ 0) ⊎ ((result ≡ 1) ⊎ ((result ≡ 3) ⊎ (result ≡ 5))) }
-    ensures done { result ≡ 0 → Evaluates (F.file files.old) name.now
-        (W.contents (inner_of output.old)) (W.contents (inner_of output.new)) }
-    ensures prefix { result ≡ 5 → (output.new ≡ output.old)
-        ⊎ EvaluatesPrefix (F.file files.old) name.now
-        (W.contents (inner_of output.old)) (W.contents (inner_of output.new)) }
-    ensures silent { (result ≡ 1) ⊎ (result ≡ 3) → output.new ≡ output.old }
+    ensures ends { EvalEnds (F.file files.old) name.now result W.contents output.old output.new
+        (writer_state E.contents faults.old) (writer_state E.contents faults.new) }
     ensures quiet { result ≡ 0 → faults.new ≡ faults.old }
-    ensures fault { result ≢ 0 → Stops (F.file files.old) name.now (has_failed_of output.new)
-        result (has_failed_of faults.new)
-        (E.contents (inner_of faults.old)) (E.contents (inner_of faults.new)) }
 {
     let job = match read_job(alloc, files, name) {
         Ok(job) => job,

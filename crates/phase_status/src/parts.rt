@@ -4,6 +4,7 @@ ghost use Rattle.std.specs.Io.KnownBytes.{Appends};
 ghost use Rattle.std.specs.List.{flat_map};
 ghost use Rattle.phase_status.specs.Statuses.{Says};
 ghost use Rattle.watched_io.specs.Prefix.{AppendsPrefix};
+ghost use Rattle.watched_io.specs.States.{writer_state};
 ghost use Rattle.watched_io.specs.Watched.{has_failed_of, inner_of};
 
 use std::io::Write;
@@ -29,8 +30,8 @@ pub(crate) fn write_parts<W: Write>(
 
 /// Tells a line, by its parts. Where a write fails there is nobody to be told.
 pub(crate) fn say<E: Write>(parts: &[&str], faults: &mut Watched<E>)
-    ensures { Says (flat_map (λ part. part.now) parts.now) (has_failed_of faults.new)
-        (E.contents (inner_of faults.old)) (E.contents (inner_of faults.new)) }
+    ensures { Says (flat_map (λ part. part.now) parts.now)
+        (writer_state E.contents faults.old) (writer_state E.contents faults.new) }
 {
     let _ = write_parts(parts, faults);
 }

@@ -4,6 +4,7 @@ ghost use Rattle.std.specs.Io.KnownBytes.{Appends};
 ghost use Rattle.phase_replay.specs.declared.fault.ReplayFault.TheVariants.{WriteFault};
 ghost use Rattle.phase_status.specs.Statuses.{Reports};
 ghost use Rattle.watched_io.specs.Prefix.{AppendsPrefix};
+ghost use Rattle.watched_io.specs.States.{writer_state};
 ghost use Rattle.watched_io.specs.Watched.{has_failed_of, inner_of};
 
 use crate::status::{DONE, REFUSED, report};
@@ -24,8 +25,8 @@ pub fn show_help<W: Write, E: Write>(
         (W.contents (inner_of output.new)) text.now }
     ensures quiet { result ≡ 0 → faults.new ≡ faults.old }
     ensures failed { result ≡ 5 → has_failed_of output.new ≡ true }
-    ensures fault { result ≡ 5 → Reports WriteFault (has_failed_of faults.new)
-        (E.contents (inner_of faults.old)) (E.contents (inner_of faults.new)) }
+    ensures fault { result ≡ 5 → Reports WriteFault
+        (writer_state E.contents faults.old) (writer_state E.contents faults.new) }
 {
     match output.send(text.as_bytes()) {
         Ok(()) => DONE,

@@ -1,7 +1,7 @@
 //! The exit statuses of the program, and the lines that go with a fault.
 ghost use Rattle.std.specs.Prelude.{◌≡◌};
 ghost use Rattle.phase_status.specs.Statuses.{Reports, fault_line};
-ghost use Rattle.watched_io.specs.Watched.{has_failed_of, inner_of};
+ghost use Rattle.watched_io.specs.States.{writer_state};
 
 use phase_replay::ReplayFault;
 use std::io::Write;
@@ -25,8 +25,8 @@ pub const FAILED: u8 = 5;
 /// Writes a fault's line, and answers the status after a fault.
 pub fn report<E: Write>(fault: ReplayFault, faults: &mut Watched<E>) -> u8
     ensures status { result ≡ 5 }
-    ensures line { Reports fault (has_failed_of faults.new)
-        (E.contents (inner_of faults.old)) (E.contents (inner_of faults.new)) }
+    ensures line { Reports fault
+        (writer_state E.contents faults.old) (writer_state E.contents faults.new) }
 {
     let _ = faults.send(line_of(fault).as_bytes());
     FAILED

@@ -3,7 +3,7 @@ ghost use Rattle.std.specs.Prelude.{◌≡◌, ◌≢◌, codes};
 ghost use Rattle.std.specs.IoError.{error_kind};
 ghost use Rattle.phase_replay.specs.declared.fault.ReplayFault.TheVariants as fault;
 ghost use Rattle.phase_status.specs.Statuses.{Reports, Says};
-ghost use Rattle.watched_io.specs.Watched.{has_failed_of, inner_of};
+ghost use Rattle.watched_io.specs.States.{writer_state};
 
 use crate::status::{REFUSED, report};
 use phase_replay::ReplayFault;
@@ -24,11 +24,11 @@ pub fn own_words<R: Env + Alloc>(rt: &R) -> io::Result<Vec<String<R::A>, R::A>> 
 pub fn refuse_words<E: Write>(error: &io::Error, faults: &mut Watched<E>) -> u8
     ensures memory { error_kind error.now ≡ ErrorKind.OutOfMemory → result ≡ 5 }
     ensures refused { error_kind error.now ≢ ErrorKind.OutOfMemory → result ≡ 2 }
-    ensures fault { result ≡ 5 → Reports fault.OutOfMemory (has_failed_of faults.new)
-        (E.contents (inner_of faults.old)) (E.contents (inner_of faults.new)) }
+    ensures fault { result ≡ 5 → Reports fault.OutOfMemory
+        (writer_state E.contents faults.old) (writer_state E.contents faults.new) }
     ensures text { result ≡ 2
-        → Says (codes "error: a word of the command line is not UTF-8\n") (has_failed_of faults.new)
-        (E.contents (inner_of faults.old)) (E.contents (inner_of faults.new)) }
+        → Says (codes "error: a word of the command line is not UTF-8\n")
+        (writer_state E.contents faults.old) (writer_state E.contents faults.new) }
 {
     if error.kind() == ErrorKind::OutOfMemory {
         return report(ReplayFault::OutOfMemory, faults);

@@ -1,4 +1,5 @@
 use Rattle.std.proofs.Common.{◌≡◌, vec_len}
+use Rattle.watched_io.specs.States.{reader_state}
 use Rattle.phase_replay.proofs.Reading.{Reads}
 use Rattle.phase_replay.proofs.whole.replay_pieces.Given as goal
 
@@ -6,8 +7,7 @@ use Rattle.phase_replay.proofs.whole.replay_pieces.Given as goal
 -- not written. No read or write has failed.
 abbrev pub invariant-replaying : goal.invariant-replaying
 invariant-replaying g l = (vec_len l.piece ≡ 65536)
-    × Reads (g.R.Read.remaining l.fn.reader.inner) (g.R.Read.remaining l.reader.inner)
-    l.fn.reader.count l.reader.count
+    × Reads (reader_state g.R.Read.remaining l.fn.reader) (reader_state g.R.Read.remaining l.reader)
     (g.W.Write.contents l.fn.writer.inner) (g.W.Write.contents l.writer.inner) l.replayer l.left
     × (l.reader.has_failed ≡ l.fn.reader.has_failed)
     × (l.writer.has_failed ≡ l.fn.writer.has_failed)

@@ -1,10 +1,15 @@
-use Rattle.phase_status.proofs.Causes.{has_cause}
+use Rattle.std.proofs.Common.{rules}
 use Rattle.phase_status.proofs.replayed.replay_and_report.Goals as goal
 
 -- The fault is the one that is reported.
-pub returns-in-Err-clause-fault : goal.returns-in-Err-clause-fault
-returns-in-Err-clause-fault g c = λ _. (
-  c.in-Err.fault,
-  has_cause _ c.in-Err.fault _ _ _ _ _ _ _ _ c.in-Err.ensures.too_long c.in-Err.ensures.write c.in-Err.ensures.memory c.in-Err.ensures.notes,
-  c.report.ensures.line,
-)
+pub returns-in-Err-clause-ends : goal.returns-in-Err-clause-ends
+returns-in-Err-clause-ends g c = record {
+  done = λ zero. search rules;
+  stops = λ _. record {
+    fault = c.in-Err.fault;
+    cause = c.in-Err.ensures.cause;
+    known = c.in-Err.ensures.err;
+    prefix = c.in-Err.ensures.prefix;
+    says = c.report.ensures.line;
+  };
+}

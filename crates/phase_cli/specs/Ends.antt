@@ -1,0 +1,49 @@
+-- How a run of the program may end, by what its words ask for.
+use Rattle.std.specs.Prelude.{◌≡◌, ◌⊎◌, ℕ, List, Option}
+use Rattle.clap.specs.Words.{Text}
+use Rattle.phase_replay.specs.Replay.{HasCause}
+use Rattle.phase_replay.specs.declared.fault.ReplayFault.{ReplayFault}
+use Rattle.phase_replay.specs.declared.fault.ReplayFault.TheVariants.{OutOfMemory}
+use Rattle.phase_status.specs.Statuses.{Reports}
+use Rattle.phase_words.specs.CommandLine.{AreRefused, AreTaken, Asked, Asks, AskHelp, check, eval, replay}
+use Rattle.watched_io.specs.States.{ReaderState, WriterState, writer_state}
+use Rattle.watched_io.specs.declared.watched.Watched.{Watched}
+
+-- the statuses of the program
+abbrev pub IsStatus : ℕ → Type 0
+IsStatus status = (status ≡ 0) ⊎ ((status ≡ 1) ⊎ ((status ≡ 2) ⊎ ((status ≡ 3) ⊎ (status ≡ 5))))
+
+-- the statuses of what words that are taken ask for
+abbrev pub MayEndAs : Asked → ℕ → Type 0
+MayEndAs replay status = (status ≡ 0) ⊎ (status ≡ 5)
+MayEndAs (check _) status = (status ≡ 0) ⊎ ((status ≡ 1) ⊎ (status ≡ 5))
+MayEndAs (eval _) status = (status ≡ 0) ⊎ ((status ≡ 1) ⊎ ((status ≡ 3) ⊎ (status ≡ 5)))
+
+-- the statuses that may come, by what the words ask for
+pub record MayEnd (words : List Text) (status : ℕ) : Type 0 where
+  pub asked : (what : Asked) → Asks words what → MayEndAs what status
+  pub help : AskHelp words → (status ≡ 0) ⊎ (status ≡ 5)
+  pub refused : AreRefused words → (status ≡ 2) ⊎ (status ≡ 5)
+  pub untaken : (AreTaken words → ⊥) → (status ≡ 0) ⊎ ((status ≡ 2) ⊎ (status ≡ 5))
+
+-- memory ran out over the words: no file was opened, and nothing was written but the fault's line
+pub record IsUnbegun {F W : Type 0} (status : ℕ) (closed files : F) (old new : Watched W)
+    (before after : WriterState) : Type 0 where
+  pub status_is : status ≡ 5
+  pub unopened : files ≡ closed
+  pub silent : new ≡ old
+  pub says : Reports OutOfMemory before after
+
+-- the answer to words that are not taken stopped: memory ran out, or help could not be written
+pub record AnswerStops (old new before after : WriterState) : Type 0 where
+  pub fault : ReplayFault
+  pub cause : (input : ReaderState) → HasCause fault input input old new
+  pub says : Reports fault before after
+
+-- how words that are not taken are answered: a refusal leaves the output as it was
+pub record AnswerEnds {W : Type 0} (words : List Text) (status : ℕ)
+    (contents : W → Option (List ℕ)) (old new : Watched W)
+    (before after : WriterState) : Type 0 where
+  pub silent : AreRefused words ⊎ (status ≡ 2) → new ≡ old
+  pub stops : status ≡ 5
+      → AnswerStops (writer_state contents old) (writer_state contents new) before after
