@@ -1,21 +1,7 @@
 //! What a line of a graph's text declares.
 
+use graph_words::Op;
 use phase_accum::Single;
-
-/// The operation of a phaser on the sends of a phase.
-#[derive(Clone, Copy, Debug, PartialEq, Eq)]
-pub enum Op {
-    /// Adds them up.
-    Sum,
-    /// Multiplies them.
-    Product,
-    /// Takes the least.
-    Least,
-    /// Takes the greatest.
-    Greatest,
-    /// Takes the only one.
-    Any,
-}
 
 /// What a task does.
 #[derive(Clone, Copy, Debug, PartialEq, Eq)]

@@ -1,6 +1,7 @@
 -- Lines with two faults, computed in the definitions: the earlier kind is the one that is told.
 use Rattle.std.proofs.Common.{ℕ, ◌≡◌, [], ◌∷◌, Some, None, refl, codes}
-use Rattle.graph_text.specs.Decls.{phaser, task, fir, join, peer, sink, plain, clamp, ByWords, EndWords}
+use Rattle.graph_words.specs.declared.operation.Op.TheVariants.{Sum}
+use Rattle.graph_text.specs.Decls.{phaser, task, fir, join, peer, sink, clamp, ByWords, EndWords}
 use Rattle.graph_base.specs.Graphs.{Graph, no_phaser, no_task}
 use Rattle.graph_base.specs.declared.line.Kind.TheVariants.{Split}
 use Rattle.graph_base.specs.declared.place.Place.TheVariants as place
@@ -39,7 +40,7 @@ not_held = refl
 
 -- ---- two
 
-limit_twice : kind_of before (phaser (codes "A") (codes "sum") (codes "0") None) ≡ Some Limit
+limit_twice : kind_of before (phaser (codes "A") Sum (codes "0") None) ≡ Some Limit
 limit_twice = refl
 
 limit_twice_task : kind_of before
@@ -74,6 +75,6 @@ parent_held = refl
 
 -- a clamp's ends are turned round, and the name is declared
 clamp_twice : kind_of before
-    (phaser (codes "A") (codes "sum") (codes "1") (Some (clamp (codes "1") (codes "0"))))
+    (phaser (codes "A") Sum (codes "1") (Some (clamp (codes "1") (codes "0"))))
     ≡ Some Limit
 clamp_twice = refl

@@ -2,6 +2,7 @@
 use Rattle.std.proofs.Common.{ℕ, List, [], ◌∷◌, ◌++◌, ap, sym, ◌∙◌, ◌≡◌, ◌&&◌, Bool, true, false, not, Option, Some, None, is_some, if◌then◌else◌, refl, nat_lt, length}
 use Rattle.std.specs.Option.{option_map_or}
 use Rattle.graph_words.specs.Words.{Word}
+use Rattle.graph_words.specs.declared.operation.Op.{Op}
 use Rattle.graph_text.specs.Decls.{phaser, task, FunctionWords, BodyWords, EndWords}
 use Rattle.graph_base.specs.Graphs.{Graph, Task}
 use Rattle.graph_base.specs.Names.{place_of}
@@ -30,7 +31,8 @@ nothing-there None e = refl
 nothing-there (Some x) e = absurd (cc)
 
 -- the single of a phaser without fault is within its limits
-pub phaser-within : (before : Graph) (name operation bound : Word) (single : Option FunctionWords)
+pub phaser-within : (before : Graph) (name : Word) (operation : Op) (bound : Word)
+    (single : Option FunctionWords)
     → kind_of before (phaser name operation bound single) ≡ None
     → option_map_or is_function_within single true ≡ true
 phaser-within before name operation bound single e =
@@ -40,7 +42,8 @@ phaser-within before name operation bound single e =
     (both (is_bound_within bound) (option_map_or is_function_within single true) all.0).1
 
 -- the name of a phaser without fault is new
-pub phaser-new : (before : Graph) (name operation bound : Word) (single : Option FunctionWords)
+pub phaser-new : (before : Graph) (name : Word) (operation : Op) (bound : Word)
+    (single : Option FunctionWords)
     → kind_of before (phaser name operation bound single) ≡ None
     → place_of before.names name ≡ None
 phaser-new before name operation bound single e =

@@ -12,10 +12,11 @@ use Rattle.phase_accum.specs.Singles.{CanBeNamed}
 use Rattle.phase_accum.specs.declared.single.Single.TheVariants as single
 use Rattle.graph_words.specs.Words.{Word, is_name, is_file}
 use Rattle.graph_text.specs.Numbers.{nat_value, int_value}
-use Rattle.graph_text.specs.Decls.{Decl, phaser, task, FunctionWords, plain, clamp, BodyWords, source, fir, split, join, peer, sink, EndWords, IsBody, IsWellFormed}
+use Rattle.graph_words.specs.declared.operation.Op.{Op}
+use Rattle.graph_text.specs.Decls.{Decl, phaser, task, FunctionWords, neg, abs, halve, clamp, BodyWords, source, fir, split, join, peer, sink, EndWords, IsBody, IsWellFormed}
 use Rattle.graph_base.specs.Graphs.{Graph, no_graph, no_task, no_phaser, Task, IsPlace, is_same_place, task_at, sources_among, is_source}
 use Rattle.graph_base.specs.Names.{place_of}
-use Rattle.graph_lang.specs.LineTasks.{phaser_line, plain_single, single_of, task_line, kind_of_body, files_in}
+use Rattle.graph_lang.specs.LineTasks.{phaser_line, single_of, task_line, kind_of_body, files_in}
 use Rattle.graph_lang.specs.Faults.{kind_of, is_bound_within, is_function_within}
 use Rattle.graph_base.specs.TaskLines.{IsGraph, IsPhaserLine, IsTaskLine, AreRising}
 use Rattle.graph_lang.specs.Reads.{Reads, Steps, with_line, told, fault_at}
@@ -66,7 +67,8 @@ record IsSoundPhaser (before : Graph) (name bound : Word) (function : Option Fun
   few : length before.phasers < PHASERS_MAX
   absent : place_of before.names name ≡ None
 
-phaser-sound : (before : Graph) (name operation bound : Word) (function : Option FunctionWords)
+phaser-sound : (before : Graph) (name : Word) (operation : Op) (bound : Word)
+    (function : Option FunctionWords)
     → kind_of before (phaser name operation bound function) ≡ None
     → IsSoundPhaser before name bound function
 phaser-sound before name operation bound function e =
@@ -83,20 +85,13 @@ phaser-sound before name operation bound function e =
       absent = nothing-there (place_of before.names name) twice.0;
     }
 
-can-name_plain : (word : Word) → CanBeNamed (Some (plain_single word))
-can-name_plain word = by (bytes_eq word (codes "neg")) (bytes_eq word (codes "abs"))
-  where
-    by : (neg abs : Bool)
-        → CanBeNamed (Some (if neg then single.Neg else if abs then single.Abs else single.Halve))
-    by true abs = tt
-    by false true = tt
-    by false false = tt
-
 can-name : (function : Option FunctionWords)
     → option_map_or is_function_within function true ≡ true
     → CanBeNamed (option_map single_of function)
 can-name None e = tt
-can-name (Some (plain word)) e = can-name_plain word
+can-name (Some neg) e = tt
+can-name (Some abs) e = tt
+can-name (Some halve) e = tt
 can-name (Some (clamp low high)) e =
     let small = nat_le (unsigned_abs (int_value low)) value_max
     && nat_le (unsigned_abs (int_value high)) value_max in
@@ -109,7 +104,7 @@ can-name (Some (clamp low high)) e =
       high_small = leb-true (unsigned_abs (int_value high)) value_max ends.1;
     }
 
-IsPhaserLine-new : (operation bound : Word) (function : Option FunctionWords)
+IsPhaserLine-new : (operation : Op) (bound : Word) (function : Option FunctionWords)
     → is_bound_within bound ≡ true → option_map_or is_function_within function true ≡ true
     → IsPhaserLine (phaser_line operation bound function)
 IsPhaserLine-new operation bound function within fits =
@@ -193,7 +188,7 @@ adds-task before after name names same more = record {
 
 -- ---- a line
 
-phaser-keeps : (before : Graph) (n : ℕ) (name operation bound : Word)
+phaser-keeps : (before : Graph) (n : ℕ) (name : Word) (operation : Op) (bound : Word)
     (function : Option FunctionWords) → is_name name ≡ true
     → IsSoundPhaser before name bound function → IsGraph before
     → IsGraph (with_line before n (phaser name operation bound function))

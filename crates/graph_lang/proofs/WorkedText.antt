@@ -3,7 +3,7 @@ use Rattle.std.proofs.Common.{ℕ, ◌≡◌, true, false, inl, sym, ap, List, [
 use Rattle.phase_accum.specs.declared.single.Single.TheVariants.{Clamp}
 use Rattle.graph_text.specs.Texts.{is_ignored}
 use Rattle.graph_text.specs.Decls.{Decl, phaser, task, clamp, source, sink, Declares}
-use Rattle.graph_base.specs.declared.line.Op.TheVariants.{Sum, Least}
+use Rattle.graph_words.specs.declared.operation.Op.TheVariants.{Sum, Least}
 use Rattle.graph_base.specs.declared.line.Kind.TheVariants.{Source, Sink}
 use Rattle.graph_base.specs.declared.place.Place.TheVariants as place
 use Rattle.graph_base.specs.Graphs.{Graph, no_graph, no_task}
@@ -43,10 +43,10 @@ late_sink = record {
 
 -- what each line declares
 abbrev x : Decl
-x = phaser (codes "X") (codes "sum") (codes "4") None
+x = phaser (codes "X") Sum (codes "4") None
 
 abbrev y : Decl
-y = phaser (codes "Y") (codes "least") (codes "2") (Some (clamp (codes "-1") (codes "5")))
+y = phaser (codes "Y") Least (codes "2") (Some (clamp (codes "-1") (codes "5")))
 
 abbrev s : Decl
 s = task (codes "s") (source (codes "s.csv") (codes "X"))
@@ -120,13 +120,13 @@ reads =
     x_is : Declares (codes "phaser X sum 4") x
     x_is = record {
       printable = refl;
-      spells = record { well_formed = (refl, refl, refl, tt); spelled = refl };
+      spells = record { well_formed = (refl, refl, tt); spelled = refl };
     }
 
     y_is : Declares (codes "phaser Y least 2 single clamp -1 5") y
     y_is = record {
       printable = refl;
-      spells = record { well_formed = (refl, refl, refl, (refl, refl)); spelled = refl };
+      spells = record { well_formed = (refl, refl, (refl, refl)); spelled = refl };
     }
 
     s_is : Declares (codes "  source s s.csv -> X until 9") s

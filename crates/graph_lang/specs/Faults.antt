@@ -8,7 +8,7 @@ use Rattle.phase_base.specs.declared.limits.TheConstants.{BOUND_MAX}
 use Rattle.phase_accum.specs.Sends.{value_max}
 use Rattle.graph_words.specs.Words.{Word}
 use Rattle.graph_text.specs.Numbers.{nat_value, int_value}
-use Rattle.graph_text.specs.Decls.{Decl, phaser, task, FunctionWords, plain, clamp, ByWords, EndWords}
+use Rattle.graph_text.specs.Decls.{Decl, phaser, task, FunctionWords, neg, abs, halve, clamp, ByWords, EndWords}
 use Rattle.graph_text.specs.Decls.{BodyWords, source, fir, split, join, peer, sink}
 use Rattle.graph_base.specs.Graphs.{Graph, Task, Named, task_at, phaser_at}
 use Rattle.graph_base.specs.Names.{place_of, phaser_named, task_named}
@@ -26,7 +26,9 @@ use Rattle.stream_filters.specs.declared.fir.TheConstants.{TAPS_MAX, TAP_MAX, SH
 
 -- whether the numbers of a function are within their limits
 abbrev pub is_function_within : FunctionWords → Bool
-is_function_within (plain function) = true
+is_function_within neg = true
+is_function_within abs = true
+is_function_within halve = true
 is_function_within (clamp low high) = nat_le (unsigned_abs (int_value low)) value_max
     && nat_le (unsigned_abs (int_value high)) value_max && le_z (int_value low) (int_value high)
 

@@ -1,16 +1,14 @@
 -- What the words of a line stand for, after the lines above it.
-use Rattle.std.specs.Prelude.{ℕ, List, [], ◌∷◌, map, Option, Some, None, option_map, if◌then◌else◌, codes, ℤ, pos}
-use Rattle.std.specs.Str.{bytes_eq}
+use Rattle.std.specs.Prelude.{ℕ, List, [], ◌∷◌, map, Option, Some, None, option_map, ℤ, pos}
 use Rattle.phase_accum.specs.declared.single.Single.{Single}
 use Rattle.phase_accum.specs.declared.single.Single.TheVariants.{Neg, Abs, Halve, Clamp}
 use Rattle.graph_words.specs.Words.{Word}
 use Rattle.graph_text.specs.Numbers.{nat_value, int_value}
-use Rattle.graph_text.specs.Decls.{FunctionWords, plain, clamp, ByWords, EndWords}
+use Rattle.graph_text.specs.Decls.{FunctionWords, neg, abs, halve, clamp, ByWords, EndWords}
 use Rattle.graph_text.specs.Decls.{BodyWords, source, fir, split, join, peer, sink}
 use Rattle.graph_base.specs.Graphs.{Task, Named}
 use Rattle.graph_base.specs.Names.{phaser_named, task_named}
-use Rattle.graph_base.specs.declared.line.Op.{Op}
-use Rattle.graph_base.specs.declared.line.Op.TheVariants.{Sum, Product, Least, Greatest, Any}
+use Rattle.graph_words.specs.declared.operation.Op.{Op}
 use Rattle.graph_base.specs.declared.line.Kind.{Kind}
 use Rattle.graph_base.specs.declared.line.Kind.TheVariants as kind
 use Rattle.graph_base.specs.declared.line.Parent.{Parent}
@@ -22,27 +20,15 @@ or_zero (Some n) = n
 
 -- ---- a phaser
 
-abbrev pub operation_of : Word → Op
-operation_of word =
-    if bytes_eq word (codes "sum") then Sum
-    else if bytes_eq word (codes "product") then Product
-    else if bytes_eq word (codes "least") then Least
-    else if bytes_eq word (codes "greatest") then Greatest
-    else Any
-
-abbrev pub plain_single : Word → Single
-plain_single word =
-    if bytes_eq word (codes "neg") then Neg
-    else if bytes_eq word (codes "abs") then Abs
-    else Halve
-
 abbrev pub single_of : FunctionWords → Single
-single_of (plain function) = plain_single function
+single_of neg = Neg
+single_of abs = Abs
+single_of halve = Halve
 single_of (clamp low high) = Clamp (int_value low, int_value high)
 
-abbrev pub phaser_line : Word → Word → Option FunctionWords → PhaserLine
+abbrev pub phaser_line : Op → Word → Option FunctionWords → PhaserLine
 phaser_line operation bound single = record {
-  op = operation_of operation;
+  op = operation;
   bound = nat_value bound;
   single = option_map single_of single;
 }

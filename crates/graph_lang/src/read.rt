@@ -10,7 +10,7 @@ ghost use Rattle.graph_lang.specs.Reads.{TellsDecl, Steps, TellsFault, Tells};
 use crate::declare::{bound_in, fault, is_single_within, phaser_words, single_in};
 use crate::draft::{Draft, place_of};
 use crate::fault::{FaultKind, GraphRefusal};
-use crate::within::{are_ends_within, is_body_within, is_bound_within, operation_of};
+use crate::within::{are_ends_within, is_body_within, is_bound_within};
 use graph_base::{Graph, PHASERS_MAX, TASKS_MAX};
 use graph_text::{
     Line, PhaserWords, TaskWords, are_printable, begins_comment, line_at, lines_of, name_text,
@@ -60,10 +60,9 @@ impl Draft {
         if let Some(kind) = self.phaser_kind(words) {
             return Err(fault(number, kind));
         }
-        let operation = operation_of(words.operation);
         let bound = bound_in(words.bound);
         let single = single_in(words.single);
-        self.add_phaser(alloc, words.name, operation, bound, single)?;
+        self.add_phaser(alloc, words.name, words.operation, bound, single)?;
         Ok(())
     }
 

@@ -7,13 +7,13 @@ ghost use Rattle.graph_text.specs.Plain.{plain};
 ghost use Rattle.graph_text.specs.Numbers.{is_nat, is_int, nat_value, int_value};
 ghost use Rattle.graph_text.specs.Decls.{IsFunction, IsBody, AreEnds, IsBy, may_have_parent};
 ghost use Rattle.graph_text.specs.Lines.{function_of, body_of, ends_of, by_of, word_of};
-ghost use Rattle.graph_lang.specs.LineTasks.{operation_of, plain_single, single_of, phaser_line};
+ghost use Rattle.graph_lang.specs.LineTasks.{single_of};
 ghost use Rattle.graph_lang.specs.LineTasks.{taps_of, shift_of, factor_of};
 ghost use Rattle.graph_lang.specs.Faults.{is_function_within, is_bound_within, is_body_within};
 ghost use Rattle.graph_lang.specs.Faults.{is_tap_within, is_number_of_ends, is_count_within};
 ghost use Rattle.graph_lang.specs.Faults.{are_ends_within};
 
-use graph_base::{COUNT_MAX, ENDS_MAX, FACTOR_MAX, Op};
+use graph_base::{COUNT_MAX, ENDS_MAX, FACTOR_MAX};
 use graph_text::{Body, Ends, Function, int_within, nat_within};
 use phase_accum::Single;
 use phase_base::BOUND_MAX;
@@ -21,36 +21,6 @@ use std::alloc::{AllocError, Global};
 use stream_filters::{SHIFT_MAX, TAP_MAX, TAPS_MAX};
 
 // ---- phasers
-
-/// The operation of that name.
-pub(crate) fn operation_of(word: &[u8]) -> Op
-    ensures { result ≡ operation_of word.now }
-{
-    if word == b"sum".as_slice() {
-        Op::Sum
-    } else if word == b"product".as_slice() {
-        Op::Product
-    } else if word == b"least".as_slice() {
-        Op::Least
-    } else if word == b"greatest".as_slice() {
-        Op::Greatest
-    } else {
-        Op::Any
-    }
-}
-
-/// The single of that name, which has no numbers.
-fn plain_single(word: &[u8]) -> Single
-    ensures { result ≡ plain_single word.now }
-{
-    if word == b"neg".as_slice() {
-        Single::neg()
-    } else if word == b"abs".as_slice() {
-        Single::abs()
-    } else {
-        Single::halve()
-    }
-}
 
 /// The greatest magnitude of an end of a clamp.
 const CLAMP_MAX: u64 = 9_223_372_036_854_775_807;
@@ -62,7 +32,9 @@ pub(crate) fn single_of(function: Function<'_>) -> Option<Single>
         then Some (single_of (function_of function.entry)) else None) }
 {
     match function {
-        Function::Plain(word) => Some(plain_single(word)),
+        Function::Neg => Some(Single::neg()),
+        Function::Abs => Some(Single::abs()),
+        Function::Halve => Some(Single::halve()),
         Function::Clamp(low, high) => {
             let low = int_within(low, CLAMP_MAX)?;
             let high = int_within(high, CLAMP_MAX)?;

@@ -2,26 +2,12 @@
 use Rattle.std.proofs.Common.{ℕ, ◌≡◌, [], ◌∷◌, true, false, refl, codes, Some, None}
 use Rattle.std.specs.List.{list_all, list_any}
 use Rattle.graph_text.specs.Texts.{words_of, are_printable, is_ignored}
-use Rattle.graph_text.specs.Words.{is_operation, is_function}
+use Rattle.graph_words.specs.declared.operation.Op.TheVariants.{Sum}
 use Rattle.graph_text.specs.Numbers.{is_nat, is_int}
-use Rattle.graph_text.specs.Decls.{phaser, task, source, sink, plain}
-use Rattle.graph_text.specs.Reading.{line_at, phaser_at, task_at, body_at, source_at, sink_at, word_at, after, begins, single_at, function_at, by_at, until_at, ends_at}
+use Rattle.graph_text.specs.Decls.{phaser, task, source, neg, abs, halve, clamp}
+use Rattle.graph_text.specs.Reading.{line_at, phaser_at, task_at, body_at, source_at, sink_at, word_at, after, begins, single_at, operation_at, function_at, function_named, clamp_at, by_at, until_at, ends_at}
 
 -- ---- words
-
-operations : list_all is_operation
-    (codes "sum" ∷ codes "product" ∷ codes "least" ∷ codes "greatest" ∷ codes "any" ∷ []) ≡ true
-operations = refl
-
-no_operations : list_any is_operation (codes "mean" ∷ codes "Sum" ∷ codes "sums" ∷ codes "neg" ∷ [])
-    ≡ false
-no_operations = refl
-
-functions : list_all is_function (codes "neg" ∷ codes "abs" ∷ codes "halve" ∷ []) ≡ true
-functions = refl
-
-no_functions : list_any is_function (codes "clamp" ∷ codes "half" ∷ codes "sum" ∷ []) ≡ false
-no_functions = refl
 
 nats : list_all is_nat (codes "0" ∷ codes "10" ∷ codes "99999999999999999999999" ∷ []) ≡ true
 nats = refl
@@ -53,17 +39,30 @@ unfolding line_at task_at body_at source_at word_at after ends_at by_at until_at
 arrow_file = refl
 
 halved : line_at (words_of (codes "phaser X sum 2 single halve"))
-    ≡ Some (phaser (codes "X") (codes "sum") (codes "2") (Some (plain (codes "halve"))))
-unfolding line_at phaser_at word_at single_at begins after function_at
+    ≡ Some (phaser (codes "X") Sum (codes "2") (Some halve))
+unfolding line_at phaser_at word_at operation_at single_at begins after function_at function_named
 halved = refl
+
+negated : function_at (codes "neg" ∷ []) ≡ Some (neg, [])
+unfolding function_at function_named
+negated = refl
+
+magnitude : function_at (codes "abs" ∷ []) ≡ Some (abs, [])
+unfolding function_at function_named
+magnitude = refl
+
+clamped : function_at (codes "clamp" ∷ codes "-1" ∷ codes "5" ∷ [])
+    ≡ Some (clamp (codes "-1") (codes "5"), [])
+unfolding function_at function_named clamp_at word_at
+clamped = refl
 
 -- no such operation, and no such function
 mean : line_at (words_of (codes "phaser X mean 2")) ≡ None
-unfolding line_at phaser_at word_at
+unfolding line_at phaser_at word_at operation_at
 mean = refl
 
 doubled : line_at (words_of (codes "phaser X sum 2 single double")) ≡ None
-unfolding line_at phaser_at word_at single_at begins after function_at
+unfolding line_at phaser_at word_at operation_at single_at begins after function_at function_named
 doubled = refl
 
 -- a word of the grammar is no name

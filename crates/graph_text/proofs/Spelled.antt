@@ -6,11 +6,13 @@ use Rattle.graph_words.specs.Words.{Word, is_name}
 use Rattle.std.proofs.lemmas.Option.{same_Some}
 use Rattle.std.proofs.lemmas.Slice.Eq.{bytes_eq-Decides}
 use Rattle.graph_text.proofs.Digits.{both}
-use Rattle.graph_text.specs.Words.{is_function}
+use Rattle.graph_words.specs.Operations.{operation_word}
+use Rattle.graph_words.specs.declared.operation.Op.{Op}
+use Rattle.graph_words.specs.declared.operation.Op.TheVariants.{Sum, Product, Least, Greatest, Any}
 use Rattle.graph_text.specs.Numbers.{is_nat, is_int}
-use Rattle.graph_text.specs.Decls.{Decl, phaser, task, FunctionWords, plain, clamp, ByWords, EndWords, BodyWords, source, fir, split, join, peer, sink}
+use Rattle.graph_text.specs.Decls.{Decl, phaser, task, FunctionWords, neg, abs, halve, clamp, ByWords, EndWords, BodyWords, source, fir, split, join, peer, sink}
 use Rattle.graph_text.specs.Decls.{spelling, function_words, single_words, by_words, until_words, end_words, kind_word, body_words, IsFunction, IsBody, AreEnds, AreSome, IsWellFormed, may_have_parent, Spells}
-use Rattle.graph_text.specs.Reading.{word_at, after, begins, front, rest, some_at, function_at, single_at, by_at, until_at, ends_at, source_at, fir_at, split_at, join_at, peer_at, sink_at, body_at, phaser_at, task_at, line_at}
+use Rattle.graph_text.specs.Reading.{word_at, after, begins, front, rest, some_at, operation_at, clamp_at, function_named, function_at, single_at, by_at, until_at, ends_at, source_at, fir_at, split_at, join_at, peer_at, sink_at, body_at, phaser_at, task_at, line_at}
 
 -- ---- words
 
@@ -49,25 +51,22 @@ some_again test ws after are stops =
     let some : (length ws == 0) ≡ false = ne_eqb (length ws) 0 (λ e. omega (arith, e, are.0)) in
     rw (front-again test ws after are.1 stops, rest-again test ws after are.1 stops, some) refl
 
--- a word that passes a test which a sign does not pass is not that sign
-is_no_sign : (test : Word → Bool) (w sign : Word) → test w ≡ true → test sign ≡ false
-    → bytes_eq w sign ≡ false
-is_no_sign test w sign pass stop = at (bytes_eq w sign) refl
-  where
-    at : (same : Bool) → bytes_eq w sign ≡ same → same ≡ false
-    at false e = refl
-    at true e =
-        let is : w ≡ sign = search (rules, bytes_eq-Decides w sign) in
-        let clash : true ≡ false = sym pass ∙ ap test is ∙ stop in
-        absurd (cc)
-
 -- ---- parts of a line
+
+operation_again : (op : Op) (ws : List Word) → operation_at (operation_word op ∷ ws) ≡ Some (op, ws)
+unfolding operation_at
+operation_again Sum ws = refl
+operation_again Product ws = refl
+operation_again Least ws = refl
+operation_again Greatest ws = refl
+operation_again Any ws = refl
 
 function_again : (f : FunctionWords) (ws : List Word) → IsFunction f
     → function_at (function_words f ++ ws) ≡ Some (f, ws)
-unfolding function_at after begins word_at
-function_again (plain f) ws is =
-    rw (is_no_sign is_function f (codes "clamp") is refl, is) refl
+unfolding function_at function_named clamp_at word_at
+function_again neg ws is = refl
+function_again abs ws is = refl
+function_again halve ws is = refl
 function_again (clamp low high) ws is = rw (is.0, is.1) refl
 
 single_again : (single : Option FunctionWords) → IfSome single IsFunction
@@ -147,7 +146,12 @@ is_no_phaser (sink input) = refl
 pub line_again : (d : Decl) → IsWellFormed d → line_at (spelling d) ≡ Some d
 unfolding line_at phaser_at task_at word_at
 line_again (phaser name operation bound single) is =
-    rw (is.0, is.1, is.2, single_again single is.3) refl
+    rw (
+      is.0,
+      operation_again operation (bound ∷ single_words single),
+      is.1,
+      single_again single is.2,
+    ) refl
 line_again (task name body ends) is =
     let ints = ends_stop is_int refl refl ends.by ends.until in
     let names = ends_stop is_name refl refl ends.by ends.until in

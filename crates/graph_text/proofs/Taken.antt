@@ -7,11 +7,13 @@ use Rattle.std.proofs.lemmas.List.{append_assoc}
 use Rattle.std.proofs.lemmas.Option.{cond_some, same_Some}
 use Rattle.std.proofs.lemmas.Slice.Eq.{bytes_eq-Decides}
 use Rattle.graph_words.specs.Words.{Word, is_name, is_file}
-use Rattle.graph_text.specs.Words.{is_operation, is_function}
+use Rattle.graph_words.specs.Operations.{operation_of, operation_word}
+use Rattle.graph_words.specs.declared.operation.Op.{Op}
+use Rattle.graph_words.proofs.Operations.{operation-read}
 use Rattle.graph_text.specs.Numbers.{is_nat, is_int}
-use Rattle.graph_text.specs.Decls.{Decl, phaser, task, FunctionWords, plain, clamp, ByWords, EndWords, BodyWords}
+use Rattle.graph_text.specs.Decls.{Decl, phaser, task, FunctionWords, neg, abs, halve, clamp, ByWords, EndWords, BodyWords}
 use Rattle.graph_text.specs.Decls.{function_words, single_words, by_words, until_words, end_words, kind_word, body_words, IsFunction, IsBody, IsBy, AreEnds, AreSome, may_have_parent, Spells}
-use Rattle.graph_text.specs.Reading.{Found, ◌>>=◌, word_at, after, begins, front, rest, some_at, function_at, single_at, by_at, until_at, ends_at, source_at, fir_at, split_at, join_at, peer_at, sink_at, body_at, phaser_at, task_at, line_at}
+use Rattle.graph_text.specs.Reading.{Found, ◌>>=◌, word_at, after, begins, front, rest, some_at, operation_at, clamp_at, function_named, function_at, single_at, by_at, until_at, ends_at, source_at, fir_at, split_at, join_at, peer_at, sink_at, body_at, phaser_at, task_at, line_at}
 
 -- ---- words
 
@@ -85,37 +87,64 @@ some_takes test ws x e = at (length (front test ws) == 0) refl e
 
 -- ---- parts of a line
 
-function_takes : (ws : List Word) (x : Found FunctionWords) → function_at ws ≡ Some x
-    → IsFunction x.0 × (ws ≡ function_words x.0 ++ x.1)
-unfolding function_at
-function_takes ws x e = at (begins (codes "clamp") ws) e
-  where
-    P : Option (Found FunctionWords) → Type 0
-    P o = IfSome o (λ x. IsFunction x.0 × (ws ≡ function_words x.0 ++ x.1))
+operation_takes : (ws : List Word) (x : Found Op) → operation_at ws ≡ Some x
+    → ws ≡ operation_word x.0 ∷ x.1
+unfolding operation_at
+operation_takes [] x e = absurd (cc)
+operation_takes (word ∷ ws) x e =
+    let o = steps _ (operation_of word) x e in
+    let P : Found Op → Type 0 = λ x. word ∷ ws ≡ operation_word x.0 ∷ x.1 in
+    subst P (same_Some (o.0, ws) x o.2) (ap (λ w. w ∷ ws) (operation-read word o.0 o.1))
 
-    at : (is_clamp : Bool) → cond is_clamp
-        (after (codes "clamp") ws >>= (λ bounds. word_at is_int bounds >>= (λ low.
-        word_at is_int low.1 >>= (λ high. Some (clamp low.0 high.0, high.1)))))
-        (word_at is_function ws >>= (λ f. Some (plain f.0, f.1))) ≡ Some x
-        → IsFunction x.0 × (ws ≡ function_words x.0 ++ x.1)
-    at true found =
-        let b = steps _ (after (codes "clamp") ws) x found in
-        let l = steps _ (word_at is_int b.0) x b.2 in
-        let h = steps _ (word_at is_int l.0.1) x l.2 in
-        let low = word_takes is_int b.0 l.0 l.1 in
-        let high = word_takes is_int l.0.1 h.0 h.1 in
-        subst P h.2 (
-          (low.0, high.0),
-          followed (codes "clamp") (after_takes (codes "clamp") ws b.0 b.1)
-              (followed l.0.0 low.1 high.1),
-        )
-    at false found =
-        let f = steps _ (word_at is_function ws) x found in
-        subst P f.2 (word_takes is_function ws f.0 f.1)
+-- the words spell the function that was read, before the words that are left
+TakesFunction : List Word → Option (Found FunctionWords) → Type 0
+TakesFunction ws o = IfSome o (λ x. IsFunction x.0 × (ws ≡ function_words x.0 ++ x.1))
+
+clamp_takes : (ws : List Word) (x : Found FunctionWords) → clamp_at ws ≡ Some x
+    → TakesFunction (codes "clamp" ∷ ws) (Some x)
+unfolding clamp_at TakesFunction
+clamp_takes ws x e =
+    let l = steps _ (word_at is_int ws) x e in
+    let h = steps _ (word_at is_int l.0.1) x l.2 in
+    let low = word_takes is_int ws l.0 l.1 in
+    let high = word_takes is_int l.0.1 h.0 h.1 in
+    subst (TakesFunction (codes "clamp" ∷ ws)) h.2 (
+      (low.0, high.0),
+      followed (codes "clamp") refl (followed l.0.0 low.1 high.1),
+    )
+
+-- a choice by the first word
+by_word : (word sign : Word) (ws : List Word) (x : Found FunctionWords)
+    (one other : Option (Found FunctionWords))
+    → (one ≡ Some x → TakesFunction (sign ∷ ws) (Some x))
+    → (other ≡ Some x → TakesFunction (word ∷ ws) (Some x))
+    → (if bytes_eq word sign then one else other) ≡ Some x → TakesFunction (word ∷ ws) (Some x)
+by_word word sign ws x one other takes others e = at (bytes_eq word sign) refl e
+  where
+    at : (is : Bool) → bytes_eq word sign ≡ is → (if is then one else other) ≡ Some x
+        → TakesFunction (word ∷ ws) (Some x)
+    at true is found =
+        let P : Word → Type 0 = λ w. TakesFunction (w ∷ ws) (Some x) in
+        subst P (sym (same word sign is)) (takes found)
+    at false is found = others found
+
+function_takes : (ws : List Word) (x : Found FunctionWords) → function_at ws ≡ Some x
+    → TakesFunction ws (Some x)
+unfolding function_at function_named TakesFunction
+function_takes [] x e = absurd (cc)
+function_takes (word ∷ ws) x e =
+    by_word word (codes "neg") ws x _ _ (plain neg (tt, refl))
+    (by_word word (codes "abs") ws x _ _ (plain abs (tt, refl))
+    (by_word word (codes "halve") ws x _ _ (plain halve (tt, refl))
+    (by_word word (codes "clamp") ws x _ _ (clamp_takes ws x) (λ none. absurd (cc))))) e
+  where
+    plain : (f : FunctionWords) → TakesFunction (function_words f ++ ws) (Some (f, ws))
+        → Some (f, ws) ≡ Some x → TakesFunction (function_words f ++ ws) (Some x)
+    plain f is found = subst (TakesFunction (function_words f ++ ws)) found is
 
 single_takes : (ws : List Word) (x : Found (Option FunctionWords)) → single_at ws ≡ Some x
     → IfSome x.0 IsFunction × (ws ≡ single_words x.0 ++ x.1)
-unfolding single_at
+unfolding single_at TakesFunction
 single_takes ws x e = at (begins (codes "single") ws) e
   where
     P : Option (Found (Option FunctionWords)) → Type 0
@@ -357,20 +386,21 @@ phaser_takes : (ws : List Word) (d : Decl) → phaser_at ws ≡ Some d → Spell
 unfolding phaser_at
 phaser_takes ws d e =
     let n = steps _ (word_at is_name ws) d e in
-    let o = steps _ (word_at is_operation n.0.1) d n.2 in
+    let o = steps _ (operation_at n.0.1) d n.2 in
     let b = steps _ (word_at is_nat o.0.1) d o.2 in
     let s = steps _ (single_at b.0.1) d b.2 in
     let c = cond_some (length s.0.1 == 0) (phaser n.0.0 o.0.0 b.0.0 s.0.0) d s.2 in
     let name = word_takes is_name ws n.0 n.1 in
-    let operation = word_takes is_operation n.0.1 o.0 o.1 in
+    let operation = operation_takes n.0.1 o.0 o.1 in
     let bound = word_takes is_nat o.0.1 b.0 b.1 in
     let single = single_takes b.0.1 s.0 s.1 in
     let left : s.0.1 ≡ [] = none_left s.0.1 c.0 in
     let ends = single.1 ∙ ap (λ ws. single_words s.0.0 ++ ws) left ∙ append-nil (single_words s.0.0) in
     subst (Spells (codes "phaser" ∷ ws)) c.1 (record {
-      well_formed = (name.0, operation.0, bound.0, single.0);
+      well_formed = (name.0, bound.0, single.0);
       spelled = ap (λ ws. codes "phaser" ∷ ws)
-          (followed n.0.0 name.1 (followed o.0.0 operation.1 (followed b.0.0 bound.1 ends)));
+          (followed n.0.0 name.1
+          (followed (operation_word o.0.0) operation (followed b.0.0 bound.1 ends)));
     })
 
 task_takes : (kind : Word) (ws : List Word) (d : Decl) → task_at kind ws ≡ Some d

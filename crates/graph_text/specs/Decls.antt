@@ -1,17 +1,20 @@
--- What a line declares, by its words, and the one way in which it is spelled. Names, files and
--- numbers stand as they are written.
+-- What a line declares, and the one way in which its words spell it. Names, files and numbers stand
+-- as they are written.
 use Rattle.std.specs.Prelude.{ℕ, ◌≡◌, ◌≤◌, Bool, true, false, List, [], ◌∷◌, ◌++◌, length, Option, Some, None, IsTrue, IfSome, codes}
 use Rattle.std.specs.List.{list_all}
 use Rattle.graph_words.specs.Words.{Word, is_name, is_file}
 use Rattle.graph_text.specs.Texts.{words_of, are_printable}
-use Rattle.graph_text.specs.Words.{is_operation, is_function}
+use Rattle.graph_words.specs.Operations.{operation_word}
+use Rattle.graph_words.specs.declared.operation.Op.{Op}
 use Rattle.graph_text.specs.Numbers.{is_nat, is_int}
 
 -- ---- what a line declares
 
 -- the function of a single
 pub data FunctionWords : Type 0 where
-  plain : (function : Word) → FunctionWords
+  neg : FunctionWords
+  abs : FunctionWords
+  halve : FunctionWords
   clamp : (low high : Word) → FunctionWords
 
 -- the parent of a task, and after how many of its steps it registers the task
@@ -34,13 +37,15 @@ pub data BodyWords : Type 0 where
   sink : (input : Word) → BodyWords
 
 pub data Decl : Type 0 where
-  phaser : (name operation bound : Word) (single : Option FunctionWords) → Decl
+  phaser : (name : Word) (operation : Op) (bound : Word) (single : Option FunctionWords) → Decl
   task : (name : Word) (body : BodyWords) (ends : EndWords) → Decl
 
 -- ---- how it is spelled
 
 abbrev pub function_words : FunctionWords → List Word
-function_words (plain function) = function ∷ []
+function_words neg = codes "neg" ∷ []
+function_words abs = codes "abs" ∷ []
+function_words halve = codes "halve" ∷ []
 function_words (clamp low high) = codes "clamp" ∷ low ∷ high ∷ []
 
 abbrev pub single_words : Option FunctionWords → List Word
@@ -81,13 +86,15 @@ body_words (sink input) = input ∷ []
 -- the words of the line
 abbrev pub spelling : Decl → List Word
 spelling (phaser name operation bound single) =
-    codes "phaser" ∷ name ∷ operation ∷ bound ∷ single_words single
+    codes "phaser" ∷ name ∷ operation_word operation ∷ bound ∷ single_words single
 spelling (task name body ends) = kind_word body ∷ name ∷ (body_words body ++ end_words ends)
 
 -- ---- which words may stand where
 
 abbrev pub IsFunction : FunctionWords → Type 0
-IsFunction (plain function) = IsTrue (is_function function)
+IsFunction neg = Unit {0}
+IsFunction abs = Unit {0}
+IsFunction halve = Unit {0}
 IsFunction (clamp low high) = IsTrue (is_int low) × IsTrue (is_int high)
 
 -- whether a line of the kind may name a parent
@@ -123,8 +130,8 @@ AreEnds false ends = (ends.by ≡ None) × IfSome ends.until (λ steps. IsTrue (
 
 -- names are names, numbers are numbers, and so on
 abbrev pub IsWellFormed : Decl → Type 0
-IsWellFormed (phaser name operation bound single) = IsTrue (is_name name)
-    × IsTrue (is_operation operation) × IsTrue (is_nat bound) × IfSome single IsFunction
+IsWellFormed (phaser name operation bound single) =
+    IsTrue (is_name name) × IsTrue (is_nat bound) × IfSome single IsFunction
 IsWellFormed (task name body ends) =
     IsTrue (is_name name) × IsBody body × AreEnds (may_have_parent body) ends
 

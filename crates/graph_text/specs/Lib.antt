@@ -4,4 +4,3 @@ pub mod Numbers
 pub mod Plain
 pub mod Reading
 pub mod Texts
-pub mod Words

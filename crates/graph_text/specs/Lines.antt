@@ -3,7 +3,8 @@ use Rattle.std.specs.Prelude.{ℕ, List, Option, Some, None}
 use Rattle.std.specs.Borrow.{Bor}
 use Rattle.graph_words.specs.Words.{Word}
 use Rattle.graph_text.specs.Plain.{plain as words_in}
-use Rattle.graph_text.specs.Decls.{Decl, phaser, task, FunctionWords, plain, clamp, ByWords, EndWords}
+use Rattle.graph_words.specs.declared.operation.Op.{Op}
+use Rattle.graph_text.specs.Decls.{Decl, phaser, task, FunctionWords, neg, abs, halve, clamp, ByWords, EndWords}
 use Rattle.graph_text.specs.Decls.{BodyWords, source, fir, split, join, peer, sink}
 use Rattle.graph_text.specs.Reading.{Found}
 use Rattle.graph_text.specs.declared.line.By.{By}
@@ -16,7 +17,9 @@ use Rattle.graph_text.specs.declared.line.Line.{Line}
 use Rattle.graph_text.specs.declared.line.Line.TheVariants as line
 
 abbrev pub function_of : Function → FunctionWords
-function_of (function.Plain word) = plain word.now
+function_of function.Neg = neg
+function_of function.Abs = abs
+function_of function.Halve = halve
 function_of (function.Clamp low high) = clamp low.now high.now
 
 abbrev pub single_of : Option Function → Option FunctionWords
@@ -46,7 +49,7 @@ body_of (body.Sink input) = sink input.now
 
 -- what a line of the program declares
 abbrev pub decl_of : Line → Decl
-decl_of (line.Phaser phaser_line) = phaser phaser_line.name.now phaser_line.operation.now
+decl_of (line.Phaser phaser_line) = phaser phaser_line.name.now phaser_line.operation
     phaser_line.bound.now (single_of phaser_line.single)
 decl_of (line.Task task_line) =
     task task_line.name.now (body_of task_line.body) (ends_of task_line.ends)
@@ -59,6 +62,9 @@ found_word found = (found.0.now, words_in found.1.now)
 abbrev pub found_words :
     Bor (List (Bor (List ℕ))) × Bor (List (Bor (List ℕ))) → Found (List Word)
 found_words found = (words_in found.0.now, words_in found.1.now)
+
+abbrev pub found_operation : Op × Bor (List (Bor (List ℕ))) → Found Op
+found_operation found = (found.0, words_in found.1.now)
 
 abbrev pub found_function : Function × Bor (List (Bor (List ℕ))) → Found FunctionWords
 found_function found = (function_of found.0, words_in found.1.now)

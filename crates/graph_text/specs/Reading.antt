@@ -3,9 +3,10 @@
 use Rattle.std.specs.Prelude.{◌==◌, ◌&&◌, Bool, false, List, [], ◌∷◌, length, Option, Some, None, option_and_then, if◌then◌else◌, codes}
 use Rattle.std.specs.Str.{bytes_eq}
 use Rattle.graph_words.specs.Words.{Word, is_name, is_file}
-use Rattle.graph_text.specs.Words.{is_operation, is_function}
+use Rattle.graph_words.specs.Operations.{operation_of}
+use Rattle.graph_words.specs.declared.operation.Op.{Op}
 use Rattle.graph_text.specs.Numbers.{is_nat, is_int}
-use Rattle.graph_text.specs.Decls.{Decl, phaser, task, FunctionWords, plain, clamp, ByWords, EndWords}
+use Rattle.graph_text.specs.Decls.{Decl, phaser, task, FunctionWords, neg, abs, halve, clamp, ByWords, EndWords}
 use Rattle.graph_text.specs.Decls.{BodyWords, source, fir, split, join, peer, sink, may_have_parent}
 
 infixl 10 ◌>>=◌
@@ -50,17 +51,31 @@ some_at test words =
 
 -- ---- parts of a line
 
+-- a word that stands for an operation
+unfoldable pub operation_at : List Word → Option (Found Op)
+operation_at [] = None
+operation_at (word ∷ words) = do
+  operation ← operation_of word
+  Some (operation, words)
+
+unfoldable pub clamp_at : List Word → Option (Found FunctionWords)
+clamp_at words = do
+  low ← word_at is_int words
+  high ← word_at is_int low.1
+  Some (clamp low.0 high.0, high.1)
+
+-- the function of a single, by its first word
+unfoldable pub function_named : Word → List Word → Option (Found FunctionWords)
+function_named word words =
+    if bytes_eq word (codes "neg") then Some (neg, words)
+    else if bytes_eq word (codes "abs") then Some (abs, words)
+    else if bytes_eq word (codes "halve") then Some (halve, words)
+    else if bytes_eq word (codes "clamp") then clamp_at words
+    else None
+
 unfoldable pub function_at : List Word → Option (Found FunctionWords)
-function_at words =
-    if begins (codes "clamp") words
-    then (do
-      bounds ← after (codes "clamp") words
-      low ← word_at is_int bounds
-      high ← word_at is_int low.1
-      Some (clamp low.0 high.0, high.1))
-    else (do
-      function ← word_at is_function words
-      Some (plain function.0, function.1))
+function_at [] = None
+function_at (word ∷ words) = function_named word words
 
 unfoldable pub single_at : List Word → Option (Found (Option FunctionWords))
 single_at words =
@@ -162,7 +177,7 @@ body_at kind words =
 unfoldable pub phaser_at : List Word → Option Decl
 phaser_at words = do
   name ← word_at is_name words
-  operation ← word_at is_operation name.1
+  operation ← operation_at name.1
   bound ← word_at is_nat operation.1
   single ← single_at bound.1
   if length single.1 == 0 then Some (phaser name.0 operation.0 bound.0 single.0) else None

@@ -8,9 +8,8 @@ mod line;
 mod number;
 mod read;
 mod text;
-mod word;
 
-pub use graph_words::{FILE_MAX, NAME_MAX, file_text, name_text};
+pub use graph_words::{FILE_MAX, NAME_MAX, Op, file_text, name_text};
 pub use line::{Body, By, Ends, Function, Line, PhaserWords, TaskWords};
 pub use number::{int_within, nat_within};
 pub use read::line_at;

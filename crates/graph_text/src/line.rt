@@ -1,5 +1,7 @@
 //! What a line declares, by its words.
 
+use graph_words::Op;
+
 /// What a line declares, by its words. Names, files and numbers stand as they are written.
 #[derive(Clone, Copy)]
 pub enum Line<'w, 'a> {
@@ -15,7 +17,7 @@ pub struct PhaserWords<'a> {
     /// The name that it declares.
     pub name: &'a [u8],
     /// The operation on the sends of a phase.
-    pub operation: &'a [u8],
+    pub operation: Op,
     /// The bound, in phases.
     pub bound: &'a [u8],
     /// What is applied to the value of each phase.
@@ -25,8 +27,12 @@ pub struct PhaserWords<'a> {
 /// The function of a single.
 #[derive(Clone, Copy)]
 pub enum Function<'a> {
-    /// A function without numbers.
-    Plain(&'a [u8]),
+    /// Each value times -1.
+    Neg,
+    /// The magnitude.
+    Abs,
+    /// The half.
+    Halve,
     /// The clamp, with its low end and its high end.
     Clamp(&'a [u8], &'a [u8]),
 }

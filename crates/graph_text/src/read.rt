@@ -2,22 +2,21 @@
 ghost use Rattle.std.specs.Prelude.{◌≡◌, ◌≤◌, map, length, option_map, codes, IfSome, IfNone};
 ghost use Rattle.graph_text.specs.Plain.{plain};
 ghost use Rattle.graph_words.specs.Words.{is_name as is_name_word, is_file as is_file_word};
-ghost use Rattle.graph_text.specs.Words.{is_operation as is_operation_word};
-ghost use Rattle.graph_text.specs.Words.{is_function as is_function_word};
 ghost use Rattle.graph_text.specs.Numbers.{is_nat as is_nat_word, is_int as is_int_word};
 ghost use Rattle.graph_text.specs.Decls.{Decl, Spells, may_have_parent};
-ghost use Rattle.graph_text.specs.Lines.{found_word, found_words, found_function, found_single};
+ghost use Rattle.graph_text.specs.Lines.{found_word, found_words, found_operation, found_function};
+ghost use Rattle.graph_text.specs.Lines.{found_single};
 ghost use Rattle.graph_text.specs.Lines.{found_by, found_until, found_body, body_of, ends_of};
 ghost use Rattle.graph_text.specs.Lines.{decl_of};
-ghost use Rattle.graph_text.specs.Reading.{word_at, after, begins, front, some_at, function_at};
+ghost use Rattle.graph_text.specs.Reading.{word_at, after, begins, front, some_at, operation_at};
+ghost use Rattle.graph_text.specs.Reading.{clamp_at, function_named, function_at};
 ghost use Rattle.graph_text.specs.Reading.{single_at, by_at, until_at, ends_at, source_at, fir_at};
 ghost use Rattle.graph_text.specs.Reading.{split_at, join_at, peer_at, sink_at, body_at};
 ghost use Rattle.graph_text.specs.Reading.{phaser_at, task_at, line_at};
 
 use crate::line::{Body, By, Ends, Function, Line, PhaserWords, TaskWords};
 use crate::number::{is_int, is_nat};
-use crate::word::{is_function, is_operation};
-use graph_words::{is_file, is_name};
+use graph_words::{Op, is_file, is_name};
 
 // ---- words
 
@@ -65,25 +64,14 @@ fn int_at<'w, 'a>(words: &'w [&'a [u8]]) -> Option<(&'a [u8], &'w [&'a [u8]])>
     }
 }
 
-/// The first word, where it is the operation of a phaser, and the words after it.
-#[tactic(auto, unfolding(crate::specs::Reading::word_at))]
-fn operation_at<'w, 'a>(words: &'w [&'a [u8]]) -> Option<(&'a [u8], &'w [&'a [u8]])>
-    ensures { option_map found_word result ≡ word_at is_operation_word (plain words.now) }
+/// The operation that the first word stands for, and the words after it.
+#[tactic(auto, unfolding(crate::specs::Reading::operation_at))]
+fn operation_at<'w, 'a>(words: &'w [&'a [u8]]) -> Option<(Op, &'w [&'a [u8]])>
+    ensures { option_map found_operation result ≡ operation_at (plain words.now) }
 {
     match words {
-        [word, rest @ ..] if is_operation(word) => Some((*word, rest)),
-        _ => None,
-    }
-}
-
-/// The first word, where it is a function without numbers, and the words after it.
-#[tactic(auto, unfolding(crate::specs::Reading::word_at))]
-fn plain_function_at<'w, 'a>(words: &'w [&'a [u8]]) -> Option<(&'a [u8], &'w [&'a [u8]])>
-    ensures { option_map found_word result ≡ word_at is_function_word (plain words.now) }
-{
-    match words {
-        [word, rest @ ..] if is_function(word) => Some((*word, rest)),
-        _ => None,
+        [] => None,
+        [word, rest @ ..] => Some((Op::read(word)?, rest)),
     }
 }
 
@@ -165,19 +153,45 @@ fn ints_at<'w, 'a>(words: &'w [&'a [u8]]) -> Option<(&'w [&'a [u8]], &'w [&'a [u
 
 // ---- parts of a line
 
+/// A clamp with its ends, and the words after them.
+#[tactic(auto, unfolding(crate::specs::Reading::clamp_at))]
+fn clamp_at<'w, 'a>(words: &'w [&'a [u8]]) -> Option<(Function<'a>, &'w [&'a [u8]])>
+    ensures { option_map found_function result ≡ clamp_at (plain words.now) }
+{
+    let (low, rest) = int_at(words)?;
+    let (high, rest) = int_at(rest)?;
+    Some((Function::Clamp(low, high), rest))
+}
+
+/// The function of a single, by its first word, and the words after it.
+#[tactic(auto, unfolding(crate::specs::Reading::function_named))]
+fn function_named<'w, 'a>(
+    word: &[u8],
+    words: &'w [&'a [u8]],
+) -> Option<(Function<'a>, &'w [&'a [u8]])>
+    ensures { option_map found_function result ≡ function_named word.now (plain words.now) }
+{
+    if word == b"neg".as_slice() {
+        Some((Function::Neg, words))
+    } else if word == b"abs".as_slice() {
+        Some((Function::Abs, words))
+    } else if word == b"halve".as_slice() {
+        Some((Function::Halve, words))
+    } else if word == b"clamp".as_slice() {
+        clamp_at(words)
+    } else {
+        None
+    }
+}
+
 /// The function of a single, and the words after it.
 #[tactic(auto, unfolding(crate::specs::Reading::function_at))]
 fn function_at<'w, 'a>(words: &'w [&'a [u8]]) -> Option<(Function<'a>, &'w [&'a [u8]])>
     ensures { option_map found_function result ≡ function_at (plain words.now) }
 {
-    if begins(b"clamp", words) {
-        let rest = after(b"clamp", words)?;
-        let (low, rest) = int_at(rest)?;
-        let (high, rest) = int_at(rest)?;
-        Some((Function::Clamp(low, high), rest))
-    } else {
-        let (function, rest) = plain_function_at(words)?;
-        Some((Function::Plain(function), rest))
+    match words {
+        [] => None,
+        [word, rest @ ..] => function_named(word, rest),
     }
 }
 

@@ -1,2 +1,3 @@
 mod Ascii
 mod Examples
+pub mod Operations

@@ -10,8 +10,8 @@ use Rattle.graph_base.specs.Graphs.{Task, task_at, phaser_at, is_sink}
 use Rattle.stream_job.specs.Jobs.{Job, samples_at, place_in}
 use Rattle.stream_job.specs.Spans.{nowhere, turns_below, signalled_by, takes_from, spans_of, lengths_of}
 use Rattle.stream_job.specs.declared.span.Span.{Span}
-use Rattle.graph_base.specs.declared.line.Op.{Op}
-use Rattle.graph_base.specs.declared.line.Op.TheVariants.{Sum, Product, Least, Greatest, Any}
+use Rattle.graph_words.specs.declared.operation.Op.{Op}
+use Rattle.graph_words.specs.declared.operation.Op.TheVariants.{Sum, Product, Least, Greatest, Any}
 use Rattle.graph_base.specs.declared.line.Kind.{Kind}
 use Rattle.graph_base.specs.declared.line.Kind.TheVariants.{Source, Fir, Split, Join, Peer, Sink}
 
