@@ -1,11 +1,11 @@
 //! How far each task comes, over the lengths of the phasers' lists.
-ghost use Rattle.std.specs.Prelude.{◌≡◌, ◌≤◌, ◌<◌, ◌-◌, length, get_or, IfOk, IfSome};
+ghost use Rattle.std.specs.Prelude.{◌≡◌, ◌≤◌, ◌<◌, ◌-◌, ◌+◌, ◌&&◌, if◌then◌else◌, nat_le, length, get_or, Some, None, IfOk, IfSome};
 ghost use Rattle.std.specs.List.{All};
 ghost use Rattle.graph_base.specs.Kept.{task_of};
 ghost use Rattle.graph_base.specs.TaskLines.{HasEnds};
 ghost use Rattle.stream_job.specs.Jobs.{samples_at};
 ghost use Rattle.stream_job.specs.Kept.{given, IsShort, IsStage};
-ghost use Rattle.stream_job.specs.Spans.{cut_at, enough_for, first_run_out, offset_of, run_out, span_of, spans_over, spans_up_to, values_from};
+ghost use Rattle.stream_job.specs.Spans.{cut_at, enough_for, first_run_out, nowhere, offset_of, run_out, span_of, spans_over, spans_up_to, values_from};
 
 use crate::job::number_of_source;
 use crate::span::{LENGTH_MAX, Span};
@@ -96,21 +96,46 @@ fn cut(until: Option<u64>, steps: u128) -> u128
     }
 }
 
+/// The phase in which a task of this span has made so many steps, if it makes as many.
+fn phase_after(span: Span, at: u64) -> Option<u128>
+    requires { IsShort span }
+    ensures phase { result ≡ (if span.live && nat_le at span.steps
+        then Some (span.offset + at) else None) }
+    ensures short { IfSome result (λ phase. phase ≤ LENGTH_MAX) }
+{
+    let at = u128::from(at);
+    if !span.live || at > span.steps {
+        return None;
+    }
+    Some(span.offset + at)
+}
+
+/// The span of a task, of which there may be none.
+fn known_span(spans: &[Span], t: usize) -> Span
+    requires { All IsShort spans.now }
+    ensures span { result ≡ get_or spans.now t nowhere }
+    ensures short { IsShort result }
+{
+    match spans.get(t) {
+        Some(span) => *span,
+        None => Span {
+            live: false,
+            offset: 0,
+            steps: 0,
+        },
+    }
+}
+
 /// The offset of a task with this parent, or none, where it is live.
 fn offset_from(above: &[Span], parent: Option<Parent>) -> Option<u128>
     requires { All IsShort above.now }
     ensures offset { result ≡ offset_of above.now parent }
     ensures short { IfSome result (λ offset. offset ≤ LENGTH_MAX) }
 {
-    let Some(parent) = parent else {
-        return Some(0);
-    };
-    let span = *above.get(parent.task)?;
-    let at = u128::from(parent.at);
-    if !span.live || at > span.steps {
-        return None;
+    match parent {
+        None => Some(0),
+        Some(parent) => phase_after(known_span(above, parent.task), parent.at),
     }
-    Some(span.offset + at)
 }
 
 /// The span of task number `t`, below those of the tasks above it.

@@ -1,6 +1,7 @@
-//! Tests of filters, of graphs and samples as text, and of what reads and writes them, by public
-//! calls: of `watched_io`, `sample_text`, `stream_filters`, `phase_files` and `graph_lang`. They
-//! stand in a crate of their own, since a crate is proved anew with its tests.
+//! Tests of filters, of graphs and samples as text, of the lists of graphs, and of what reads and
+//! writes them, by public calls: of `watched_io`, `sample_text`, `stream_filters`, `phase_files`,
+//! `graph_lang` and `stream_job`. They stand in a crate of their own, since a crate is proved anew
+//! with its tests.
 #![tactic(auto)]
 
 #[cfg(test)]
@@ -11,6 +12,8 @@ mod filters;
 mod graph_faults;
 #[cfg(test)]
 mod graphs;
+#[cfg(test)]
+mod jobs;
 #[cfg(test)]
 mod samples;
 #[cfg(test)]
