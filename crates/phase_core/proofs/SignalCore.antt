@@ -167,6 +167,21 @@ alone_after {A} op laws reg new_reg limits r top new_top h task e held sends sin
     none_least : (n : ℕ) → least [] ≡ Some n → ⊥
     none_least n e = absurd (cc)
 
+-- the same on a board of which the top alone was raised
+pub alone_after_on : {A : Type 0} (op : Operation A) (laws : AccumulateLaws op) (reg new_reg : Roster) (b new : Board A) (h : History)
+    (task : ℕ) (e : Entry) (held : Parcel A) (sends : List ℤ) (single : Option Single)
+    → StandsFor op (core_of reg b) h → wait_phases reg.members ≡ [] → entry_of reg.members task ≡ Some e
+    → signal_refusal b.limits h task (sends ∷ []) single ≡ None → StandsForSends op held sends → CanBeNamed single
+    → new_reg ≡ roster (changed_at task (signalled 1) reg.members) reg.greatest
+    → new.limits ≡ b.limits → new.ring ≡ b.ring → new.top ≡ max b.top (e.signal_phase + 1)
+    → StandsFor op (core_of new_reg new) (Signalled task (sends ∷ []) single ∷ h)
+alone_after_on {A} op laws reg new_reg b new h task e held sends single stands alone found none holds can reg_is limits_is ring_is top_is =
+    let core_is : core_of new_reg new ≡ core_with new_reg b.limits b.ring new.top =
+    ap (λ l. core_with new_reg l new.ring new.top) limits_is ∙ ap (λ r. core_with new_reg b.limits r new.top) ring_is in
+    let S : CoreState A → Type 0 = λ k. StandsFor op k (Signalled task (sends ∷ []) single ∷ h) in
+    subst S (sym core_is) (alone_after op laws reg new_reg b.limits b.ring b.top new.top h task e held sends single
+    stands alone found none holds can reg_is top_is)
+
 pub waits_none_after : (reg new_reg : Roster) (task : ℕ) → wait_phases reg.members ≡ []
     → new_reg ≡ roster (changed_at task (signalled 1) reg.members) reg.greatest → wait_phases new_reg.members ≡ []
 waits_none_after reg new_reg task alone reg_is =

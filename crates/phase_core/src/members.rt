@@ -87,7 +87,7 @@ impl<A: Accumulate> PhaserCore<A> {
             return Ok(());
         }
         if self.registry.waiters() == 0 {
-            self.board.ring.clear();
+            self.board.clear();
             return Ok(());
         }
         self.board.leave(entry);

@@ -55,7 +55,7 @@ impl<A: Accumulate> PhaserCore<A> {
         let _part = pending.part();
         let phase = entry.signal_phase;
         if self.registry.waiters() == 0 {
-            self.board.top = self.board.top.max(phase + 1);
+            self.board.raise_top(phase);
             self.registry.signalled(task);
             return Ok(phase);
         }

@@ -2,6 +2,7 @@
 use Rattle.std.specs.Prelude.{◌≡◌, ℕ, ◌+◌, ◌<◌, ◌≤◌, Some, length, nat_lt}
 use Rattle.phase_base.specs.declared.limits.TheConstants.{PHASES_MAX}
 use Rattle.phase_accum.specs.Operations.{Operation}
+use Rattle.phase_ring.specs.declared.board.Board.{Board}
 use Rattle.phase_ring.specs.declared.slot.Slot.{Slot}
 use Rattle.phase_ring.specs.declared.role.Role.TheVariants.{Signaller, Waiter}
 use Rattle.phase_ring.specs.Slots.{IsUnused}
@@ -30,3 +31,7 @@ pub record IsKept {A : Type 0} (op : Operation A) (r : Ring A) (bound done top :
   pub waits_high : (p : ℕ) → done < p → standing r Waiter p ≡ 0
   pub sealed_below : SealedBelow r done
   pub unused : UnusedFrom op r top
+
+-- the same of a board's own ring, bound, done and top
+abbrev pub IsBoard : {A : Type 0} → Operation A → Board A → Type 0
+IsBoard op board = IsKept op board.ring board.limits.bound board.done board.top

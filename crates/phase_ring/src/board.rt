@@ -4,9 +4,9 @@ ghost use Rattle.phase_ring.specs.declared.slot.Slot.{Slot};
 ghost use Rattle.phase_ring.specs.declared.role.Role.{Role};
 ghost use Rattle.phase_ring.specs.declared.role.Role.TheVariants.{Signaller, Waiter};
 ghost use Rattle.phase_ring.specs.Slots.{joined, slot_value, merge_refusal};
-ghost use Rattle.phase_ring.specs.Rings.{standing, sents, slot_at, with_slot, KeepsSlots};
+ghost use Rattle.phase_ring.specs.Rings.{standing, sents, slot_at, with_slot, cleared, KeepsSlots};
 ghost use Rattle.phase_ring.specs.Standings.{is, other, takes_part, phase_for, counted};
-ghost use Rattle.phase_ring.specs.Boards.{IsKept};
+ghost use Rattle.phase_ring.specs.Boards.{IsBoard};
 
 use crate::role::Role;
 use crate::slot::MergeRefusal;
@@ -36,8 +36,7 @@ impl<A: Accumulate> Board<A> {
     /// Makes the board of a phaser whose one task stands at phase 0 in both roles, with all the
     /// memory that the board will ever need.
     pub fn new(alloc: Global, limits: Spec) -> Result<Board<A>, AllocError>
-        ensures kept { IfOk result (λ now.
-            IsKept A.operation now.ring now.limits.bound now.done now.top) }
+        ensures kept { IfOk result (λ now. IsBoard A.operation now) }
         ensures limits { IfOk result (λ now. now.limits ≡ limits) }
         ensures done { IfOk result (λ now. now.done ≡ 0) }
         ensures top { IfOk result (λ now. now.top ≡ 0) }
@@ -58,10 +57,8 @@ impl<A: Accumulate> Board<A> {
 
     /// Seals the phases at which no signaller stands any more, up to the top.
     fn settle(&mut self)
-        requires { let now = self.old in
-            IsKept A.operation now.ring now.limits.bound now.done now.top }
-        ensures kept { let now = self.new in
-            IsKept A.operation now.ring now.limits.bound now.done now.top }
+        requires { IsBoard A.operation self.old }
+        ensures kept { IsBoard A.operation self.new }
         ensures limits { self.new.limits ≡ self.old.limits }
         ensures top { self.new.top ≡ self.old.top }
         ensures same { sents self.new.ring ≡ sents self.old.ring }
@@ -78,11 +75,9 @@ impl<A: Accumulate> Board<A> {
 
     /// Gives up the phases that no waiter has still to get. Some waiter is left.
     fn give_up(&mut self)
-        requires kept { let now = self.old in
-            IsKept A.operation now.ring now.limits.bound now.done now.top }
+        requires kept { IsBoard A.operation self.old }
         requires waiter { (p : ℕ) × (0 < standing self.old.ring Waiter p) }
-        ensures kept { let now = self.new in
-            IsKept A.operation now.ring now.limits.bound now.done now.top }
+        ensures kept { IsBoard A.operation self.new }
         ensures limits { self.new.limits ≡ self.old.limits }
         ensures done { self.new.done ≡ self.old.done }
         ensures top { self.new.top ≡ self.old.top }
@@ -104,15 +99,13 @@ impl<A: Accumulate> Board<A> {
         pending: Pending<A>,
         single: Option<Single>,
     ) -> Result<(), (MergeRefusal, Pending<A>)>
-        requires kept { let now = self.old in
-            IsKept A.operation now.ring now.limits.bound now.done now.top }
+        requires kept { IsBoard A.operation self.old }
         requires low { self.old.done ≤ phase }
         requires ahead { phase < self.old.ring.base + self.old.limits.bound }
         requires stands { 0 < standing self.old.ring Signaller phase }
         requires few { standing self.old.ring Signaller (phase + 1) < MEMBERS_MAX }
         requires far { phase < PHASES_MAX }
-        ensures kept { let now = self.new in
-            OnOk result (IsKept A.operation now.ring now.limits.bound now.done now.top) }
+        ensures kept { OnOk result (IsBoard A.operation self.new) }
         ensures limits { self.new.limits ≡ self.old.limits }
         ensures top { OnOk result (self.new.top ≡ max self.old.top (phase + 1)) }
         ensures slots { OnOk result ((slot : Slot A) → slot_at self.old.ring phase ≡ Some slot
@@ -143,15 +136,13 @@ impl<A: Accumulate> Board<A> {
     /// Tells the value of a waiter's phase, which is complete, and moves the waiter on to the next
     /// one.
     pub fn wait(&mut self, phase: u64) -> Outcome
-        requires kept { let now = self.old in
-            IsKept A.operation now.ring now.limits.bound now.done now.top }
+        requires kept { IsBoard A.operation self.old }
         requires complete { phase < self.old.done }
         requires stands { 0 < standing self.old.ring Waiter phase }
         requires few { standing self.old.ring Waiter (phase + 1) < MEMBERS_MAX }
         ensures value { (slot : Slot A) → slot_at self.old.ring phase ≡ Some slot
             → result ≡ slot_value A.operation slot }
-        ensures kept { let now = self.new in
-            IsKept A.operation now.ring now.limits.bound now.done now.top }
+        ensures kept { IsBoard A.operation self.new }
         ensures limits { self.new.limits ≡ self.old.limits }
         ensures done { self.new.done ≡ self.old.done }
         ensures top { self.new.top ≡ self.old.top }
@@ -169,15 +160,36 @@ impl<A: Accumulate> Board<A> {
         outcome
     }
 
+    /// Raises the top past this phase, where no waiter is registered and nobody looks at the slots.
+    pub fn raise_top(&mut self, phase: u64)
+        requires { phase < PHASES_MAX }
+        ensures limits { self.new.limits ≡ self.old.limits }
+        ensures ring { self.new.ring ≡ self.old.ring }
+        ensures done { self.new.done ≡ self.old.done }
+        ensures top { self.new.top ≡ max self.old.top (phase + 1) }
+    {
+        if self.top <= phase {
+            self.top = phase + 1;
+        }
+    }
+
+    /// Empties each slot, where the last waiter has left.
+    pub fn clear(&mut self)
+        ensures limits { self.new.limits ≡ self.old.limits }
+        ensures ring { self.new.ring ≡ cleared A.operation self.old.ring }
+        ensures done { self.new.done ≡ self.old.done }
+        ensures top { self.new.top ≡ self.old.top }
+    {
+        self.ring.clear();
+    }
+
     /// Lets a task with this entry stand at its phase of the role, where it has one.
     fn enter_as(&mut self, role: Role, entry: Entry)
-        requires kept { let now = self.old in
-            IsKept A.operation now.ring now.limits.bound now.done now.top }
+        requires kept { IsBoard A.operation self.old }
         requires stands { takes_part role entry ≡ true
             → 0 < standing self.old.ring role (phase_for role entry) }
         requires few { standing self.old.ring role (phase_for role entry) < MEMBERS_MAX }
-        ensures kept { let now = self.new in
-            IsKept A.operation now.ring now.limits.bound now.done now.top }
+        ensures kept { IsBoard A.operation self.new }
         ensures limits { self.new.limits ≡ self.old.limits }
         ensures done { self.new.done ≡ self.old.done }
         ensures top { self.new.top ≡ self.old.top }
@@ -194,12 +206,10 @@ impl<A: Accumulate> Board<A> {
 
     /// Lets a task with this entry stand at its phase of the role no more, where it has one.
     fn leave_as(&mut self, role: Role, entry: Entry)
-        requires kept { let now = self.old in
-            IsKept A.operation now.ring now.limits.bound now.done now.top }
+        requires kept { IsBoard A.operation self.old }
         requires stands { takes_part role entry ≡ true
             → 0 < standing self.old.ring role (phase_for role entry) }
-        ensures kept { let now = self.new in
-            IsKept A.operation now.ring now.limits.bound now.done now.top }
+        ensures kept { IsBoard A.operation self.new }
         ensures limits { self.new.limits ≡ self.old.limits }
         ensures done { self.new.done ≡ self.old.done }
         ensures top { self.new.top ≡ self.old.top }
@@ -216,13 +226,11 @@ impl<A: Accumulate> Board<A> {
 
     /// Lets a task with this entry stand at its phases, at which others stand already.
     pub fn register(&mut self, entry: Entry)
-        requires kept { let now = self.old in
-            IsKept A.operation now.ring now.limits.bound now.done now.top }
+        requires kept { IsBoard A.operation self.old }
         requires stands { (role : Role) → takes_part role entry ≡ true
             → 0 < standing self.old.ring role (phase_for role entry) }
         requires few { (role : Role) (p : ℕ) → standing self.old.ring role p < MEMBERS_MAX }
-        ensures kept { let now = self.new in
-            IsKept A.operation now.ring now.limits.bound now.done now.top }
+        ensures kept { IsBoard A.operation self.new }
         ensures limits { self.new.limits ≡ self.old.limits }
         ensures done { self.new.done ≡ self.old.done }
         ensures top { self.new.top ≡ self.old.top }
@@ -236,13 +244,11 @@ impl<A: Accumulate> Board<A> {
 
     /// Lets a task with this entry stand at its phases no more. Some waiter is left.
     pub fn leave(&mut self, entry: Entry)
-        requires kept { let now = self.old in
-            IsKept A.operation now.ring now.limits.bound now.done now.top }
+        requires kept { IsBoard A.operation self.old }
         requires stands { (role : Role) → takes_part role entry ≡ true
             → 0 < standing self.old.ring role (phase_for role entry) }
         requires waiter { (p : ℕ) × (counted Waiter entry p < standing self.old.ring Waiter p) }
-        ensures kept { let now = self.new in
-            IsKept A.operation now.ring now.limits.bound now.done now.top }
+        ensures kept { IsBoard A.operation self.new }
         ensures limits { self.new.limits ≡ self.old.limits }
         ensures top { self.new.top ≡ self.old.top }
         ensures slots { KeepsSlots (sents self.old.ring) (sents self.new.ring) }

@@ -44,11 +44,10 @@ invariant_of-self-then-waiters-eq0-2 g c =
     let found : entry_of reg.members c.args.task ≡ Some e = sym c.in-Some.ensures.entry in
     let h = c.self.invariant.history in
     let stands = c.self.invariant.stands in
-    let cleared : Board g.row.A.Denot = record b { ring = c.clear.new.self } in
     let none : length (wait_phases (without c.args.task reg.members)) ≡ 0 =
     sym (ap (λ (r : Roster). length (wait_phases r.members)) c.remove.ensures.members) ∙ sym c.waiters.ensures ∙ c.if-waiters-eq0-2.true in
-    let all = drops_alone op reg c.remove.new.self b cleared h c.args.task e stands c.self.invariant.used found c.remove.ensures.members
-    none refl refl in
+    let all = drops_alone op reg c.remove.new.self b c.clear.new.self h c.args.task e stands c.self.invariant.used found c.remove.ensures.members
+    none c.clear.ensures.limits c.clear.ensures.top in
     all.holds
 
 pub leave-requires-clause-stands : goal.leave-requires-clause-stands
