@@ -1,5 +1,5 @@
 -- Which tasks have a value in a phase of a phaser's list.
-use Rattle.std.proofs.Common.{◌≡◌, ℕ, zero, suc, ◌+◌, ◌<◌, ◌≤◌, ◌⊎◌, inl, inr, Bool, true, false, ◌&&◌, length, map, get_or, Some, None, refl, sym, ap, ◌∙◌, arith}
+use Rattle.std.proofs.Common.{◌≡◌, ℕ, zero, suc, ◌+◌, ◌<◌, ◌≤◌, ◌⊎◌, inl, inr, Bool, true, false, ◌&&◌, length, map, get_or, ℤ, Some, None, refl, sym, ap, ◌∙◌, arith, List}
 use Rattle.std.specs.Prelude.{Option, max, nat_lt, nat_le, if◌then◌else◌, ◌↔◌}
 use Rattle.std.specs.List.{range_with_len, fold, list_any, find}
 use Rattle.std.specs.Option.{option_map}
@@ -14,7 +14,7 @@ use Rattle.graph_words.specs.declared.operation.Op.TheVariants.{Any}
 use Rattle.graph_base.specs.declared.line.Parent.{Parent}
 use Rattle.stream_job.specs.Jobs.{Job, samples_at, place_in}
 use Rattle.stream_job.specs.Spans.{signalled_by, puts_on, offset_of, span_at, spans_of, lengths_of, span_in, end_on, end_of}
-use Rattle.stream_job.specs.Lists.{list_of_phaser}
+use Rattle.stream_job.specs.Lists.{Member, list_of_phaser}
 use Rattle.stream_job.specs.Meetings.{is_any, overlap, meet_on, meets_on, meets_above, meeting_line}
 use Rattle.stream_job.specs.Entries.{output_values, HasEntry}
 use Rattle.stream_job.specs.declared.span.Span.{Span}
@@ -22,6 +22,10 @@ use Rattle.stream_job.proofs.Ordered.{place-at, parent_signals}
 use Rattle.stream_job.proofs.SpansAbove.{parent-is, spans_all}
 use Rattle.stream_job.proofs.LengthsAbove.{lengths_all}
 use Rattle.stream_job.proofs.ListLengths.{outputs_long}
+
+-- a member where the task is live
+abbrev pub member_where : Bool → ℕ → List ℤ → Option Member
+member_where live offset list = if live then Some (offset, list) else None
 
 -- ---- where a task ends
 

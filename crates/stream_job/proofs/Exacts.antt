@@ -1,6 +1,6 @@
 -- Where a job fits, its lists are those over whole numbers of any size, as far as they are taken.
 use Rattle.std.proofs.Common.{◌≡◌, ◌≢◌, ℕ, zero, suc, ◌+◌, ◌<◌, ◌≤◌, Bool, true, false, List, [], ◌∷◌, ◌++◌, Some, None, ℤ, pos, length, map, get_or, take, drop, refl, sym, ap, subst, ◌∙◌, arith, not, cond, eqb}
-use Rattle.std.specs.Prelude.{Option, nat_le, if◌then◌else◌, unsigned_abs}
+use Rattle.std.specs.Prelude.{Option, nat_le, unsigned_abs}
 use Rattle.std.specs.List.{range_with_len, filter, list_any, position_from}
 use Rattle.std.proofs.lemmas.Bool.{eq-eqb, eqb-true, and_parts, or_left, or_right}
 use Rattle.std.proofs.lemmas.List.{get_or-map}
@@ -16,7 +16,7 @@ use Rattle.graph_base.specs.declared.line.Kind.{Kind}
 use Rattle.graph_base.specs.declared.line.Kind.TheVariants.{Source, Fir, Split, Join, Peer, Sink}
 use Rattle.stream_job.specs.Jobs.{Job, samples_at, place_in}
 use Rattle.stream_job.specs.Spans.{signalled_by, takes_from, offset_of, span_at, spans_of, lengths_of, span_in}
-use Rattle.stream_job.specs.Lists.{Member, entry, taken_from, output_on, member_at, member_by, members_of, sends_in, value_by, number, phase_in, list_over, list_of_phaser, numbers_of, is_sink_at, sink_over, lines_of}
+use Rattle.stream_job.specs.Lists.{entry, taken_from, output_on, member_at, member_by, members_of, sends_in, value_by, number, phase_in, list_over, list_of_phaser, numbers_of, is_sink_at, sink_over, lines_of}
 use Rattle.stream_job.specs.Ranges.{Fits}
 use Rattle.stream_job.specs.Entries.{Takes, AreInRange}
 use Rattle.stream_job.specs.Exact.{exact_by, exact_single, exact_in, exact_over, exact_lists, exact_lines}
@@ -26,7 +26,7 @@ use Rattle.stream_job.proofs.Ordered.{looked_above}
 use Rattle.stream_job.proofs.SpansAbove.{spans_all}
 use Rattle.stream_job.proofs.ListsAbove.{output_by_taken, same_members, lists_above, numbers_all}
 use Rattle.stream_job.proofs.ListLengths.{length-numbers}
-use Rattle.stream_job.proofs.EachPhase.{length-list}
+use Rattle.stream_job.proofs.EachPhase.{member_where, length-list}
 use Rattle.stream_job.proofs.Fitting.{in_range}
 
 -- ---- one phase
@@ -195,10 +195,6 @@ puts_same job p t j is there live at above =
     (is.tasks t there).ends
     (λ k lt looks. takes_same job t k is there live lt (above (get_or task.inputs k 0)
     (looked_above job.graph t task j k p (is.tasks t there) at lt looks)))
-
--- a member where the task is live
-abbrev member_where : Bool → ℕ → List ℤ → Option Member
-member_where live offset list = if live then Some (offset, list) else None
 
 where_live : (live : Bool) (offset : ℕ) (xs ys : List ℤ) → (live ≡ true → xs ≡ ys)
     → member_where live offset xs ≡ member_where live offset ys

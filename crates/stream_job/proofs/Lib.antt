@@ -14,6 +14,7 @@ pub mod ListLengths
 pub mod ListsAbove
 pub mod Made
 pub mod Mixing
+pub mod OneSend
 pub mod Ordered
 pub mod Sendable
 pub mod Sends

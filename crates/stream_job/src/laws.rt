@@ -1,10 +1,10 @@
 //! Laws of the definitions. The contract of each function is the law.
-ghost use Rattle.std.specs.Prelude.{◌≡◌, ◌^◌, ◌<◌, ◌↔◌, ℕ, [], length, map, get_or, None, true};
+ghost use Rattle.std.specs.Prelude.{◌≡◌, ◌-◌, ◌^◌, ◌<◌, ◌↔◌, ℕ, [], ◌∷◌, length, map, get_or, None, true};
 ghost use Rattle.phase_accum.specs.declared.outcome.Outcome.TheVariants.{Empty};
 ghost use Rattle.graph_base.specs.Graphs.{phaser_at, task_at};
 ghost use Rattle.graph_words.specs.declared.operation.Op.TheVariants.{Any};
 ghost use Rattle.graph_base.specs.TaskLines.{IsGraph};
-ghost use Rattle.stream_job.specs.Entries.{AreInRange, HasEntry, Takes};
+ghost use Rattle.stream_job.specs.Entries.{AreInRange, HasEntry, output_values, sends_at, Takes};
 ghost use Rattle.stream_job.specs.Exact.{exact_lines, exact_lists};
 ghost use Rattle.stream_job.specs.Jobs.{Job};
 ghost use Rattle.stream_job.specs.Lists.{ends_on, entry, lines_of, list_of_phaser, list_over, number, numbers_of, output_on};
@@ -51,13 +51,17 @@ pub fn lengths_are_ends()
 {}
 
 /// Each phase of a phaser's list has a value of some task. Where no two tasks meet, each phase of a
-/// phaser with `any` has that of one task alone.
+/// phaser with `any` has that of one task alone, and it is all that is sent there.
 pub fn phases_have_entries()
     ensures some { (job : Job) (p n : ℕ) → IsGraph job.graph → p < length job.graph.phasers
         → n < length (list_of_phaser job p) → (t : ℕ) × HasEntry job p n t }
     ensures alone { (job : Job) (p n t u : ℕ) → IsGraph job.graph → meeting_line job ≡ None
         → p < length job.graph.phasers → (phaser_at job.graph p).op ≡ Any
         → HasEntry job p n t → HasEntry job p n u → t ≡ u }
+    ensures sends { (job : Job) (p n t : ℕ) → IsGraph job.graph → meeting_line job ≡ None
+        → p < length job.graph.phasers → (phaser_at job.graph p).op ≡ Any
+        → (has : HasEntry job p n t) → sends_at job p n
+        ≡ entry (output_values job t has.output) (n - (span_in job t).offset) ∷ [] }
 {}
 
 /// Two tasks meet on a phaser exactly where both have a value in one of its phases.
