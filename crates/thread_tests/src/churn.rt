@@ -1,13 +1,12 @@
 ghost use Rattle.std.specs.Prelude.{◌≡◌, ◌<◌, [], None, IfSome};
 ghost use denote.Param.Send.{IsSync};
 ghost use Rattle.phase_shared.specs.Regs.{phaser_place};
-ghost use Rattle.thread_tests.specs.Received.{received_of, Tells, IsFresh};
 
-use crate::received::{Told, goes_on, joins, leaves, registers, signals, takes};
+use crate::received::{SumReceipts, SumReceiver, joins, signals};
 use phase_accum::{Outcome, Sum};
 use phase_base::{Mode, Spec};
 use phase_core::Got;
-use phase_shared::{NoRule, Phaser, Reg};
+use phase_shared::{NoRule, Phaser};
 use std::alloc::Global;
 use std::sync::Wait;
 use std::test::Fail;
@@ -24,16 +23,18 @@ fn is_count(got: &Option<Got>) -> bool {
     }
 }
 
-// What was told before with more, where there was some.
-fn told_with(phaser: &Phaser<Sum, NoRule>, told: Option<Told>, more: Told) -> Option<Told>
-    requires told { IfSome told (λ told.
-        Tells (phaser_place phaser.now) told.past told.taken.items) }
-    requires more { Tells (phaser_place phaser.now) more.past more.taken.items }
-    ensures { IfSome result (λ told.
-        Tells (phaser_place phaser.now) told.past told.taken.items) }
+// What was kept before with more, where there was some.
+fn with_more(
+    phaser: &Phaser<Sum, NoRule>,
+    kept: Option<SumReceipts>,
+    more: SumReceipts,
+) -> Option<SumReceipts>
+    requires kept { IfSome kept (λ receipts. receipts.at ≡ phaser_place phaser.now) }
+    requires more { more.at ≡ phaser_place phaser.now }
+    ensures { IfSome result (λ receipts. receipts.at ≡ phaser_place phaser.now) }
 {
-    match told {
-        Some(told) => joins(phaser, told, more),
+    match kept {
+        Some(kept) => joins(phaser, kept, more),
         None => Some(more),
     }
 }
@@ -43,25 +44,42 @@ fn round_with_child<R: Wait>(
     rt: &R,
     alloc: Global,
     phaser: &Phaser<Sum, NoRule>,
-    reg: &mut Reg<Sum, NoRule>,
-    taken: &mut Vec<Outcome>,
-) -> Option<Told>
-    requires at { reg.old.at ≡ phaser_place phaser.now }
-    requires taken { taken.old.items ≡ received_of reg.old }
-    ensures at { reg.new.at ≡ reg.old.at }
-    ensures taken { taken.new.items ≡ received_of reg.new }
-    ensures told { IfSome result (λ told.
-        Tells (phaser_place phaser.now) told.past told.taken.items) }
+    receiver: &mut SumReceiver,
+) -> Option<SumReceipts>
+    requires { receiver.old.at ≡ phaser_place phaser.now }
+    ensures at { receiver.new.at ≡ receiver.old.at }
+    ensures kept { IfSome result (λ receipts. receipts.at ≡ phaser_place phaser.now) }
 {
-    let mut child = registers(rt, phaser, reg, Mode::SigWait)?;
-    let mut child_taken = Vec::new(alloc);
+    let mut child = match receiver.register(rt, alloc, phaser, Mode::SigWait) {
+        Ok(child) => child,
+        Err(_) => return None,
+    };
     let both_signalled = signals(rt, phaser, &mut child, 1).is_some()
-        && signals(rt, phaser, reg, 1).is_some();
-    let first = takes(rt, phaser, &mut child, &mut child_taken);
-    let told = leaves(rt, alloc, phaser, child, child_taken);
-    let second = takes(rt, phaser, reg, taken);
+        && signals(rt, phaser, receiver, 1).is_some();
+    let first = child.wait(rt, phaser).ok();
+    let receipts = child.leave(rt, alloc, phaser);
+    let second = receiver.wait(rt, phaser).ok();
     let is_well = both_signalled && first == second && is_count(&first);
-    if is_well { told } else { None }
+    is_well.then_some(receipts)
+}
+
+// Sends a value, signals and waits, by one call.
+fn goes_on<R: Wait>(
+    rt: &R,
+    phaser: &Phaser<Sum, NoRule>,
+    receiver: &mut SumReceiver,
+    value: i64,
+) -> Option<Got>
+    requires { receiver.old.at ≡ phaser_place phaser.now }
+    ensures { receiver.new.at ≡ receiver.old.at }
+{
+    if receiver.send(value).is_err() {
+        return None;
+    }
+    match receiver.next(rt, phaser, None) {
+        Ok(next) => next.got,
+        Err(_) => None,
+    }
 }
 
 // Goes through as many phases as a seed says, some of them with a child, and leaves.
@@ -69,16 +87,14 @@ fn churn<R: Wait>(
     rt: &R,
     alloc: Global,
     phaser: &Phaser<Sum, NoRule>,
-    slot: &mut Option<Reg<Sum, NoRule>>,
+    slot: &mut Option<SumReceiver>,
     seed: u64,
-) -> Option<Told>
-    requires { IfSome slot.old (IsFresh (phaser_place phaser.now)) }
+) -> Option<SumReceipts>
+    requires { IfSome slot.old (λ receiver. receiver.at ≡ phaser_place phaser.now) }
     ensures slot { slot.new ≡ None }
-    ensures told { IfSome result (λ told.
-        Tells (phaser_place phaser.now) told.past told.taken.items) }
+    ensures kept { IfSome result (λ receipts. receipts.at ≡ phaser_place phaser.now) }
 {
-    let mut reg = slot.take()?;
-    let mut taken = Vec::new(alloc);
+    let mut receiver = slot.take()?;
     let mut children = None;
     let mut random = seed;
     let mut all = true;
@@ -87,19 +103,19 @@ fn churn<R: Wait>(
             .wrapping_mul(6364136223846793005)
             .wrapping_add(1442695040888963407);
         if random >> 62 == 0 {
-            match round_with_child(rt, alloc, phaser, &mut reg, &mut taken) {
-                Some(child) => children = told_with(phaser, children, child),
+            match round_with_child(rt, alloc, phaser, &mut receiver) {
+                Some(child) => children = with_more(phaser, children, child),
                 None => all = false,
             }
             all = all && children.is_some();
         } else {
-            let got = goes_on(rt, phaser, &mut reg, 1, &mut taken);
+            let got = goes_on(rt, phaser, &mut receiver, 1);
             all = all && is_count(&got);
         }
     }
-    let own = leaves(rt, alloc, phaser, reg, taken)?;
+    let own = receiver.leave(rt, alloc, phaser);
     if all {
-        told_with(phaser, children, own)
+        with_more(phaser, children, own)
     } else {
         None
     }
@@ -110,35 +126,37 @@ fn by_parts<R: Threads + Wait + Sync>(
     rt: &R,
     alloc: Global,
     phaser: &Phaser<Sum, NoRule>,
-    slot: &mut Option<Reg<Sum, NoRule>>,
+    slot: &mut Option<SumReceiver>,
     parts: u64,
     seed: u64,
-) -> Option<Told>
-    requires { IfSome slot.old (IsFresh (phaser_place phaser.now)) }
+) -> Option<SumReceipts>
+    requires { IfSome slot.old (λ receiver. receiver.at ≡ phaser_place phaser.now) }
     ensures slot { slot.new ≡ None }
-    ensures told { IfSome result (λ told.
-        Tells (phaser_place phaser.now) told.past told.taken.items) }
+    ensures kept { IfSome result (λ receipts. receipts.at ≡ phaser_place phaser.now) }
 {
     if parts <= 1 {
         return churn(rt, alloc, phaser, slot, seed);
     }
-    let mut reg = slot.take()?;
+    let mut receiver = slot.take()?;
     let half = parts / 2;
-    let mut second = registers(rt, phaser, &mut reg, Mode::SigWait);
-    let mut first = Some(reg);
+    let mut second = match receiver.register(rt, alloc, phaser, Mode::SigWait) {
+        Ok(child) => Some(child),
+        Err(_) => None,
+    };
+    let mut first = Some(receiver);
     let (one, other) = join_mut(
         rt,
-        &mut || -> Option<Told>
+        &mut || -> Option<SumReceipts>
             requires { IsSync R.row × (half < parts)
-                × IfSome first (IsFresh (phaser_place phaser.now)) }
-            ensures { (first.exit ≡ None) × IfSome result (λ told.
-                Tells (phaser_place phaser.entry.now) told.past told.taken.items) }
+                × IfSome first (λ receiver. receiver.at ≡ phaser_place phaser.now) }
+            ensures { (first.exit ≡ None) × IfSome result (λ receipts.
+                receipts.at ≡ phaser_place phaser.entry.now) }
         { by_parts(rt, alloc, phaser, &mut first, parts - half, seed) },
-        &mut || -> Option<Told>
+        &mut || -> Option<SumReceipts>
             requires { IsSync R.row × (0 < half)
-                × IfSome second (IsFresh (phaser_place phaser.now)) }
-            ensures { (second.exit ≡ None) × IfSome result (λ told.
-                Tells (phaser_place phaser.entry.now) told.past told.taken.items) }
+                × IfSome second (λ receiver. receiver.at ≡ phaser_place phaser.now) }
+            ensures { (second.exit ≡ None) × IfSome result (λ receipts.
+                receipts.at ≡ phaser_place phaser.entry.now) }
         {
             by_parts(
                 rt,
@@ -156,9 +174,9 @@ fn by_parts<R: Threads + Wait + Sync>(
 }
 
 // The longest of the lists.
-fn longest(taken: &[Vec<Outcome>]) -> &[Outcome] {
-    let mut stream: &[Outcome] = &[];
-    for list in taken {
+fn longest<'a>(first: &'a [Outcome], others: &'a [Vec<Outcome>]) -> &'a [Outcome] {
+    let mut stream = first;
+    for list in others {
         if list.len() > stream.len() {
             stream = list.as_slice();
         }
@@ -177,15 +195,20 @@ fn sends_in(stream: &[Outcome]) -> i64 {
     sends
 }
 
+// Whether a list begins the stream in phase 0, or has one value.
+fn is_of_stream(stream: &[Outcome], list: &[Outcome]) -> bool {
+    list.len() == 1 || stream.starts_with(list)
+}
+
 // Whether the lists are of one stream: a thread's begins in phase 0, and a child's has one value.
 // Each send of 1 comes before a wait for its phase, so there are as many as values in all lists.
-fn are_of_one_stream(taken: &[Vec<Outcome>]) -> bool {
-    let stream = longest(taken);
-    let mut received = 0i64;
-    let mut agree = true;
-    for list in taken {
+fn are_of_one_stream(first: &[Outcome], others: &[Vec<Outcome>]) -> bool {
+    let stream = longest(first, others);
+    let mut received = first.len() as i64;
+    let mut agree = is_of_stream(stream, first);
+    for list in others {
         received = received.wrapping_add(list.len() as i64);
-        agree = agree && (list.len() == 1 || stream.starts_with(list.as_slice()));
+        agree = agree && is_of_stream(stream, list.as_slice());
     }
     agree && received == sends_in(stream)
 }
@@ -195,13 +218,14 @@ fn threads_come_and_go(rt: HostRuntime) -> Result<(), Fail> {
     for parts in [2u64, 4, 16] {
         let alloc = rt.alloc();
         let (phaser, founder) = Phaser::<Sum, NoRule>::make(alloc, Spec::new(2, 1000)?, NoRule)?;
-        let mut slot = Some(founder);
-        let told = by_parts(&rt, alloc, &phaser, &mut slot, parts, parts);
+        let mut slot = Some(SumReceiver::new(founder, Vec::new(alloc)));
+        let kept = by_parts(&rt, alloc, &phaser, &mut slot, parts, parts);
         let None = slot else { unreachable!() };
-        let Some(told) = told else {
+        let Some(kept) = kept else {
             panic!(rt; "each goes on, and has memory")
         };
-        assert!(rt; are_of_one_stream(told.taken.as_slice()));
+        let (first, others) = kept.lists();
+        assert!(rt; are_of_one_stream(first, others));
     }
     Ok(())
 }

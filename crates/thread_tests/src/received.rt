@@ -1,167 +1,133 @@
-//! What registrations got, beside the pasts that they left.
-ghost use Rattle.std.specs.Prelude.{◌≡◌, ◌<◌, IfSome};
-ghost use Rattle.std.specs.Vec.{vec_len, vec_capacity};
+//! What registrations got, kept beside them: `phase_received`.
+ghost use Rattle.std.specs.Prelude.{◌≡◌, IfSome};
 ghost use Rattle.phase_shared.specs.Regs.{phaser_place};
-ghost use Rattle.thread_tests.specs.Received.{received_of, with_got, IsFresh, Tells};
 
 use phase_accum::{Outcome, Sum};
-use phase_base::Mode;
-use phase_core::{Got, laws};
-use phase_shared::{NoRule, Past, Phaser, Reg};
-use std::alloc::Global;
+use phase_base::{Mode, Spec};
+use phase_core::Got;
+use phase_received::{Receipts, ReceiveFault, Receiver};
+use phase_shared::{NoRule, Phaser};
 use std::sync::Wait;
+use std::test::Fail;
 
-// A past, and what each registration that went into it got, the first value first.
-#[derive(Drop)]
-pub(crate) struct Told {
-    pub(crate) past: Past<Sum, NoRule>,
-    pub(crate) taken: Vec<Vec<Outcome>>,
-}
+pub(crate) type SumReceiver = Receiver<Sum, NoRule>;
+
+pub(crate) type SumReceipts = Receipts<Sum, NoRule>;
 
 // Sends a value and signals, and tells the phase.
 pub(crate) fn signals<R: Wait>(
     rt: &R,
     phaser: &Phaser<Sum, NoRule>,
-    reg: &mut Reg<Sum, NoRule>,
+    receiver: &mut SumReceiver,
     value: i64,
 ) -> Option<u64>
-    requires { reg.old.at ≡ phaser_place phaser.now }
-    ensures at { reg.new.at ≡ reg.old.at }
-    ensures received { received_of reg.new ≡ received_of reg.old }
+    requires { receiver.old.at ≡ phaser_place phaser.now }
+    ensures { receiver.new.at ≡ receiver.old.at }
 {
-    laws::own_part_stays();
-    let is_held = reg.send(value).is_ok();
-    match reg.signal(rt, phaser, None) {
+    let is_held = receiver.send(value).is_ok();
+    match receiver.signal(rt, phaser, None) {
         Ok(phase) => is_held.then_some(phase),
         Err(_) => None,
     }
 }
 
-// Puts the value that was got, where it is one, behind the others.
-fn puts(taken: &mut Vec<Outcome>, got: Got)
-    requires { vec_len taken.old < vec_capacity taken.old }
-    ensures { taken.new.items ≡ with_got taken.old.items got }
+// Both together, where there is memory for it.
+pub(crate) fn joins(
+    phaser: &Phaser<Sum, NoRule>,
+    one: SumReceipts,
+    other: SumReceipts,
+) -> Option<SumReceipts>
+    requires { (one.at ≡ phaser_place phaser.now) × (other.at ≡ phaser_place phaser.now) }
+    ensures { IfSome result (λ receipts. receipts.at ≡ phaser_place phaser.now) }
 {
-    if let Got::Value { phase: _, outcome } = got {
-        taken.push_reserved(outcome);
+    match one.join(phaser, other) {
+        Ok(both) => Some(both),
+        Err(_) => None,
     }
 }
 
-// Waits, and puts the value that it got behind the others.
-pub(crate) fn takes<R: Wait>(
+// Whether one signals with a value and waits, and the other waits for the same phase.
+fn go_on<R: Wait>(
     rt: &R,
     phaser: &Phaser<Sum, NoRule>,
-    reg: &mut Reg<Sum, NoRule>,
-    taken: &mut Vec<Outcome>,
-) -> Option<Got>
-    requires at { reg.old.at ≡ phaser_place phaser.now }
-    requires taken { taken.old.items ≡ received_of reg.old }
-    ensures at { reg.new.at ≡ reg.old.at }
-    ensures taken { taken.new.items ≡ received_of reg.new }
-{
-    laws::answers();
-    laws::own_part_stays();
-    if taken.reserve(1).is_err() {
-        return None;
-    }
-    let got = match reg.wait(rt, phaser) {
-        Ok(got) => got,
-        Err(_) => return None,
-    };
-    puts(taken, got);
-    Some(got)
-}
-
-// Signals with a value and waits, by one call, and puts the value that it got behind the others.
-pub(crate) fn goes_on<R: Wait>(
-    rt: &R,
-    phaser: &Phaser<Sum, NoRule>,
-    reg: &mut Reg<Sum, NoRule>,
+    one: &mut SumReceiver,
+    other: &mut SumReceiver,
     value: i64,
-    taken: &mut Vec<Outcome>,
-) -> Option<Got>
-    requires at { reg.old.at ≡ phaser_place phaser.now }
-    requires taken { taken.old.items ≡ received_of reg.old }
-    ensures at { reg.new.at ≡ reg.old.at }
-    ensures taken { taken.new.items ≡ received_of reg.new }
+) -> bool
+    requires { (one.old.at ≡ phaser_place phaser.now) × (other.old.at ≡ phaser_place phaser.now) }
+    ensures { (one.new.at ≡ one.old.at) × (other.new.at ≡ other.old.at) }
 {
-    laws::answers();
-    laws::own_part_stays();
-    if taken.reserve(1).is_err() || reg.send(value).is_err() {
-        return None;
-    }
-    let next = match reg.next(rt, phaser, None) {
-        Ok(next) => next,
-        Err(_) => return None,
+    let is_held = one.send(value).is_ok();
+    let next = one.next(rt, phaser, None);
+    let got = other.wait(rt, phaser);
+    is_held && matches!(next, Ok(next) if next.got == got.ok())
+}
+
+// A founder that signals and waits, a child that waits alone, and one that comes after a phase: each
+// keeps what it got, in order, and their receipts stand in the order in which they are joined.
+#[test]
+fn each_keeps_what_it_got(rt: HostRuntime) -> Result<(), Fail> {
+    let alloc = rt.alloc();
+    let (phaser, founder) = Phaser::<Sum, NoRule>::make(alloc, Spec::new(2, 1000)?, NoRule)?;
+    let mut founder = SumReceiver::new(founder, Vec::new(alloc));
+    let Ok(mut waiter) = founder.register(&rt, alloc, &phaser, Mode::Wait) else {
+        panic!(rt; "the founder holds a waiter")
     };
-    let got = next.got;
-    if let Some(got) = got {
-        puts(taken, got);
-    }
-    got
+    assert!(rt; go_on(&rt, &phaser, &mut founder, &mut waiter, 3));
+    assert!(rt; go_on(&rt, &phaser, &mut founder, &mut waiter, 4));
+    let Ok(mut late) = founder.register(&rt, alloc, &phaser, Mode::Wait) else {
+        panic!(rt; "the founder holds a waiter")
+    };
+    assert_eq!(rt;
+        founder.values(),
+        [Outcome::Value(3), Outcome::Value(4)].as_slice()
+    );
+    assert_eq!(rt; late.values().len(), 0);
+    assert_eq!(rt; founder.send(5), Ok(()));
+    assert_eq!(rt; founder.signal(&rt, &phaser, None), Ok(2));
+    assert_eq!(rt; founder.reg().phase(), (3, 2));
+    let one = founder.leave(&rt, alloc, &phaser);
+    let value = Got::Value {
+        phase: 2,
+        outcome: Outcome::Value(5),
+    };
+    assert_eq!(rt; late.wait(&rt, &phaser), Ok(value));
+    assert_eq!(rt; late.wait(&rt, &phaser), Ok(Got::Ended));
+    assert_eq!(rt; waiter.wait(&rt, &phaser), Ok(value));
+    let (reg, values) = waiter.into_parts();
+    let waiter = SumReceiver::new(reg, values);
+    let (two, three) = (
+        waiter.leave(&rt, alloc, &phaser),
+        late.leave(&rt, alloc, &phaser),
+    );
+    let both = joins(&phaser, one, two);
+    let Some(both) = both else {
+        panic!(rt; "there is memory")
+    };
+    let all = joins(&phaser, both, three);
+    let Some(all) = all else {
+        panic!(rt; "there is memory")
+    };
+    let (first, others) = all.lists();
+    assert_eq!(rt; first, [Outcome::Value(3), Outcome::Value(4)].as_slice());
+    assert_eq!(rt; others.len(), 2);
+    let seen = [Outcome::Value(3), Outcome::Value(4), Outcome::Value(5)];
+    assert_eq!(rt; others[0].as_slice(), seen.as_slice());
+    assert_eq!(rt; others[1].as_slice(), [Outcome::Value(5)].as_slice());
+    Ok(())
 }
 
-// Registers a child, which has received nothing.
-pub(crate) fn registers<R: Wait>(
-    rt: &R,
-    phaser: &Phaser<Sum, NoRule>,
-    reg: &mut Reg<Sum, NoRule>,
-    mode: Mode,
-) -> Option<Reg<Sum, NoRule>>
-    requires { reg.old.at ≡ phaser_place phaser.now }
-    ensures at { reg.new.at ≡ reg.old.at }
-    ensures received { received_of reg.new ≡ received_of reg.old }
-    ensures child { IfSome result (IsFresh (phaser_place phaser.now)) }
-{
-    laws::own_part_stays();
-    laws::unused();
-    match reg.register(rt, phaser, mode) {
-        Ok(child) => Some(child),
-        Err(_) => None,
-    }
-}
-
-// Leaves, and tells what it got. That it tells nothing comes of want of memory alone.
-pub(crate) fn leaves<R: Wait>(
-    rt: &R,
-    alloc: Global,
-    phaser: &Phaser<Sum, NoRule>,
-    reg: Reg<Sum, NoRule>,
-    taken: Vec<Outcome>,
-) -> Option<Told>
-    requires at { reg.at ≡ phaser_place phaser.now }
-    requires taken { taken.items ≡ received_of reg }
-    ensures { IfSome result (λ told.
-        Tells (phaser_place phaser.now) told.past told.taken.items) }
-{
-    laws::own_part_stays();
-    let past = reg.leave(rt, phaser);
-    let mut all = Vec::new(alloc);
-    match all.push(taken) {
-        Ok(()) => Some(Told { past, taken: all }),
-        Err(_) => None,
-    }
-}
-
-// Joins two pasts, and puts what their registrations got one behind the other.
-pub(crate) fn joins(phaser: &Phaser<Sum, NoRule>, one: Told, other: Told) -> Option<Told>
-    requires one { Tells (phaser_place phaser.now) one.past one.taken.items }
-    requires other { Tells (phaser_place phaser.now) other.past other.taken.items }
-    ensures { IfSome result (λ told.
-        Tells (phaser_place phaser.now) told.past told.taken.items) }
-{
-    laws::own_part_stays();
-    let Told {
-        past,
-        taken: mut all,
-    } = one;
-    let Told {
-        past: second,
-        taken: mut others,
-    } = other;
-    let past = past.join(phaser, second);
-    match all.append(&mut others) {
-        Ok(()) => Some(Told { past, taken: all }),
-        Err(_) => None,
-    }
+// A refused wait is told as such, and keeps what was got.
+#[test]
+fn a_refused_wait_keeps_nothing(rt: HostRuntime) -> Result<(), Fail> {
+    let alloc = rt.alloc();
+    let (phaser, founder) = Phaser::<Sum, NoRule>::make(alloc, Spec::new(2, 1000)?, NoRule)?;
+    let mut founder = SumReceiver::new(founder, Vec::new(alloc));
+    let early = founder.wait(&rt, &phaser);
+    assert!(rt; matches!(early, Err(ReceiveFault::Refused(_))));
+    assert_eq!(rt; founder.values().len(), 0);
+    let (past, first, others) = founder.leave(&rt, alloc, &phaser).into_parts();
+    drop(past);
+    assert_eq!(rt; (first.len(), others.len()), (0, 0));
+    Ok(())
 }

@@ -1,8 +1,7 @@
 ghost use Rattle.std.specs.Prelude.{◌≡◌, None, IfSome};
 ghost use Rattle.phase_shared.specs.Regs.{phaser_place};
-ghost use Rattle.thread_tests.specs.Received.{received_of, IsFresh, Tells};
 
-use crate::received::{Told, joins, leaves, registers, signals, takes};
+use crate::received::{SumReceipts, SumReceiver, joins, signals};
 use phase_accum::{Outcome, Sum};
 use phase_base::{Mode, Spec};
 use phase_core::Got;
@@ -118,23 +117,20 @@ enum Part {
 fn does<R: Wait>(
     rt: &R,
     phaser: &Phaser<Sum, NoRule>,
-    reg: &mut Reg<Sum, NoRule>,
+    receiver: &mut SumReceiver,
     part: Part,
-    taken: &mut Vec<Outcome>,
 ) -> bool
-    requires at { reg.old.at ≡ phaser_place phaser.now }
-    requires taken { taken.old.items ≡ received_of reg.old }
-    ensures at { reg.new.at ≡ reg.old.at }
-    ensures taken { taken.new.items ≡ received_of reg.new }
+    requires { receiver.old.at ≡ phaser_place phaser.now }
+    ensures { receiver.new.at ≡ receiver.old.at }
 {
     match part {
-        Part::Signals(value) => signals(rt, phaser, reg, value) == Some(0),
-        Part::Sends(value) => reg.send(value).is_ok(),
+        Part::Signals(value) => signals(rt, phaser, receiver, value) == Some(0),
+        Part::Sends(value) => receiver.send(value).is_ok(),
         Part::Takes(value) => {
             let outcome = Outcome::Value(value);
-            let got = takes(rt, phaser, reg, taken);
-            let ended = takes(rt, phaser, reg, taken);
-            got == Some(Got::Value { phase: 0, outcome }) && ended == Some(Got::Ended)
+            let got = receiver.wait(rt, phaser);
+            let ended = receiver.wait(rt, phaser);
+            got == Ok(Got::Value { phase: 0, outcome }) && ended == Ok(Got::Ended)
         }
     }
 }
@@ -144,46 +140,43 @@ fn take_part<R: Wait>(
     rt: &R,
     alloc: Global,
     phaser: &Phaser<Sum, NoRule>,
-    slot: &mut Option<Reg<Sum, NoRule>>,
+    slot: &mut Option<SumReceiver>,
     part: Part,
-) -> Option<Told>
-    requires { IfSome slot.old (IsFresh (phaser_place phaser.now)) }
+) -> Option<SumReceipts>
+    requires { IfSome slot.old (λ receiver. receiver.at ≡ phaser_place phaser.now) }
     ensures slot { slot.new ≡ None }
-    ensures told { IfSome result (λ told.
-        Tells (phaser_place phaser.now) told.past told.taken.items) }
+    ensures kept { IfSome result (λ receipts. receipts.at ≡ phaser_place phaser.now) }
 {
-    let mut reg = slot.take()?;
-    let mut taken = Vec::new(alloc);
-    let is_done = does(rt, phaser, &mut reg, part, &mut taken);
-    let told = leaves(rt, alloc, phaser, reg, taken)?;
-    is_done.then_some(told)
+    let mut receiver = slot.take()?;
+    let is_done = does(rt, phaser, &mut receiver, part);
+    let receipts = receiver.leave(rt, alloc, phaser);
+    is_done.then_some(receipts)
 }
 
 fn take_two<R: Threads + Wait + Sync>(
     rt: &R,
     alloc: Global,
     phaser: &Phaser<Sum, NoRule>,
-    first: &mut Option<Reg<Sum, NoRule>>,
-    second: &mut Option<Reg<Sum, NoRule>>,
+    first: &mut Option<SumReceiver>,
+    second: &mut Option<SumReceiver>,
     parts: (Part, Part),
-) -> Option<Told>
-    requires first { IfSome first.old (IsFresh (phaser_place phaser.now)) }
-    requires second { IfSome second.old (IsFresh (phaser_place phaser.now)) }
+) -> Option<SumReceipts>
+    requires first { IfSome first.old (λ receiver. receiver.at ≡ phaser_place phaser.now) }
+    requires second { IfSome second.old (λ receiver. receiver.at ≡ phaser_place phaser.now) }
     ensures slots { (first.new ≡ None) × (second.new ≡ None) }
-    ensures told { IfSome result (λ told.
-        Tells (phaser_place phaser.now) told.past told.taken.items) }
+    ensures kept { IfSome result (λ receipts. receipts.at ≡ phaser_place phaser.now) }
 {
     let (one, other) = join_mut(
         rt,
-        &mut || -> Option<Told>
-            requires { IfSome first.now (IsFresh (phaser_place phaser.now)) }
-            ensures { (first.exit.now ≡ None) × IfSome result (λ told.
-                Tells (phaser_place phaser.entry.now) told.past told.taken.items) }
+        &mut || -> Option<SumReceipts>
+            requires { IfSome first.now (λ receiver. receiver.at ≡ phaser_place phaser.now) }
+            ensures { (first.exit.now ≡ None) × IfSome result (λ receipts.
+                receipts.at ≡ phaser_place phaser.entry.now) }
         { take_part(rt, alloc, phaser, first, parts.0) },
-        &mut || -> Option<Told>
-            requires { IfSome second.now (IsFresh (phaser_place phaser.now)) }
-            ensures { (second.exit.now ≡ None) × IfSome result (λ told.
-                Tells (phaser_place phaser.entry.now) told.past told.taken.items) }
+        &mut || -> Option<SumReceipts>
+            requires { IfSome second.now (λ receiver. receiver.at ≡ phaser_place phaser.now) }
+            ensures { (second.exit.now ≡ None) × IfSome result (λ receipts.
+                receipts.at ≡ phaser_place phaser.entry.now) }
         { take_part(rt, alloc, phaser, second, parts.1) },
     );
     joins(phaser, one?, other?)
@@ -193,30 +186,29 @@ fn take_three<R: Threads + Wait + Sync>(
     rt: &R,
     alloc: Global,
     phaser: &Phaser<Sum, NoRule>,
-    regs: (Reg<Sum, NoRule>, Reg<Sum, NoRule>, Reg<Sum, NoRule>),
+    receivers: (SumReceiver, SumReceiver, SumReceiver),
     parts: (Part, Part, Part),
-) -> Option<Told>
-    requires first { IsFresh (phaser_place phaser.now) regs.0 }
-    requires second { IsFresh (phaser_place phaser.now) regs.1 }
-    requires third { IsFresh (phaser_place phaser.now) regs.2 }
-    ensures { IfSome result (λ told.
-        Tells (phaser_place phaser.now) told.past told.taken.items) }
+) -> Option<SumReceipts>
+    requires first { receivers.0.at ≡ phaser_place phaser.now }
+    requires second { receivers.1.at ≡ phaser_place phaser.now }
+    requires third { receivers.2.at ≡ phaser_place phaser.now }
+    ensures { IfSome result (λ receipts. receipts.at ≡ phaser_place phaser.now) }
 {
-    let mut first = Some(regs.0);
-    let mut second = Some(regs.1);
-    let mut third = Some(regs.2);
+    let mut first = Some(receivers.0);
+    let mut second = Some(receivers.1);
+    let mut third = Some(receivers.2);
     let (one, others) = join_mut(
         rt,
-        &mut || -> Option<Told>
-            requires { IfSome first (IsFresh (phaser_place phaser.now)) }
-            ensures { (first.exit ≡ None) × IfSome result (λ told.
-                Tells (phaser_place phaser.entry.now) told.past told.taken.items) }
+        &mut || -> Option<SumReceipts>
+            requires { IfSome first (λ receiver. receiver.at ≡ phaser_place phaser.now) }
+            ensures { (first.exit ≡ None) × IfSome result (λ receipts.
+                receipts.at ≡ phaser_place phaser.entry.now) }
         { take_part(rt, alloc, phaser, &mut first, parts.0) },
-        &mut || -> Option<Told>
-            requires { IfSome second (IsFresh (phaser_place phaser.now))
-                × IfSome third (IsFresh (phaser_place phaser.now)) }
-            ensures { (second.exit ≡ None) × (third.exit ≡ None) × IfSome result (λ told.
-                Tells (phaser_place phaser.entry.now) told.past told.taken.items) }
+        &mut || -> Option<SumReceipts>
+            requires { IfSome second (λ receiver. receiver.at ≡ phaser_place phaser.now)
+                × IfSome third (λ receiver. receiver.at ≡ phaser_place phaser.now) }
+            ensures { (second.exit ≡ None) × (third.exit ≡ None) × IfSome result (λ receipts.
+                receipts.at ≡ phaser_place phaser.entry.now) }
         {
             take_two(
                 rt,
@@ -235,9 +227,10 @@ fn take_three<R: Threads + Wait + Sync>(
 }
 
 // Whether these are the lists.
-fn are_lists(taken: &[Vec<Outcome>], expected: &[&[Outcome]]) -> bool {
-    let mut all = taken.len() == expected.len();
-    for (list, wanted) in taken.iter().zip(expected) {
+fn are_lists(first: &[Outcome], others: &[Vec<Outcome>], expected: &[&[Outcome]]) -> bool {
+    let mut wanted = expected.iter();
+    let mut all = others.len() + 1 == expected.len() && wanted.next() == Some(&first);
+    for (list, wanted) in others.iter().zip(wanted) {
         all = all && list.as_slice() == *wanted;
     }
     all
@@ -247,27 +240,30 @@ fn are_lists(taken: &[Vec<Outcome>], expected: &[&[Outcome]]) -> bool {
 #[test]
 fn leave_mid_phase(rt: HostRuntime) -> Result<(), Fail> {
     let alloc = rt.alloc();
-    let (phaser, mut founder) = Phaser::<Sum, NoRule>::make(alloc, Spec::new(2, 1000)?, NoRule)?;
-    let Some(signaller) = registers(&rt, &phaser, &mut founder, Mode::Sig) else {
+    let (phaser, founder) = Phaser::<Sum, NoRule>::make(alloc, Spec::new(2, 1000)?, NoRule)?;
+    let mut founder = SumReceiver::new(founder, Vec::new(alloc));
+    let Ok(signaller) = founder.register(&rt, alloc, &phaser, Mode::Sig) else {
         panic!(rt; "the founder holds a signaller")
     };
-    let Some(waiter) = registers(&rt, &phaser, &mut founder, Mode::Wait) else {
+    let Ok(waiter) = founder.register(&rt, alloc, &phaser, Mode::Wait) else {
         panic!(rt; "the founder holds a waiter")
     };
-    let Some(leaver) = registers(&rt, &phaser, &mut founder, Mode::Sig) else {
+    let Ok(leaver) = founder.register(&rt, alloc, &phaser, Mode::Sig) else {
         panic!(rt; "the founder holds a signaller")
     };
-    let told = leaves(&rt, alloc, &phaser, founder, Vec::new(alloc));
-    let regs = (signaller, waiter, leaver);
+    let own = founder.leave(&rt, alloc, &phaser);
+    let receivers = (signaller, waiter, leaver);
     let parts = (Part::Signals(4), Part::Takes(4), Part::Sends(9));
-    let others = take_three(&rt, alloc, &phaser, regs, parts);
-    let (Some(told), Some(others)) = (told, others) else {
+    let others = take_three(&rt, alloc, &phaser, receivers, parts);
+    let Some(others) = others else {
         panic!(rt; "each does its part, and has memory")
     };
-    let Some(all) = joins(&phaser, told, others) else {
+    let all = joins(&phaser, own, others);
+    let Some(all) = all else {
         panic!(rt; "there is memory")
     };
+    let (first, others) = all.lists();
     let expected: [&[Outcome]; 4] = [&[], &[], &[Outcome::Value(4)], &[]];
-    assert!(rt; are_lists(all.taken.as_slice(), expected.as_slice()));
+    assert!(rt; are_lists(first, others, expected.as_slice()));
     Ok(())
 }
