@@ -1,5 +1,5 @@
-//! Each law of histories, used at the histories of one phaser. These functions make no call and have
-//! no effect: what a law says of a history is the contract here.
+//! Each law of histories, used at the histories of one phaser. These functions make no call and
+//! have no effect: what a law says of a history is the contract here.
 ghost use Rattle.std.specs.Prelude.{◌≡◌, ◌≢◌, ◌+◌, ◌≤◌, ℕ, [], ◌∷◌, length, Some, None, pos, IsSome, true, false, ◌↔◌, get_or};
 ghost use Rattle.std.specs.List.{All, sum_by};
 ghost use mathlib.Core.List.{IsPrefix};

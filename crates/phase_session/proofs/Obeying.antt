@@ -14,7 +14,9 @@ use Rattle.phase_history.specs.declared.refusal.NoTask.{NoTask}
 use Rattle.phase_history.specs.declared.refusal.SignalRefusal.{SignalRefusal}
 use Rattle.phase_history.specs.Histories.{History, members_of}
 use Rattle.phase_history.specs.Refusals.{refusal_at, drop_refusal}
-use Rattle.phase_history.specs.Replies.{signal_reply, after_signal, after_drop, refused_or}
+use Rattle.phase_history.specs.declared.call.Call.TheVariants.{Drop}
+use Rattle.phase_history.specs.declared.reply.Reply.TheVariants.{Accepted as CallAccepted, SignalledIn, NotSignalled, NotDropped}
+use Rattle.phase_history.specs.Replies.{reply_by, after_reply, signal_reply, refused_or}
 use Rattle.phase_core.specs.Cores.{CoreState, StandsFor}
 use Rattle.phase_script.specs.declared.refusal.Refusal.TheVariants as no
 use Rattle.phase_script.specs.declared.reply.Reply.{Reply}
@@ -23,7 +25,7 @@ use Rattle.phase_script.specs.declared.command.Command.{Command}
 use Rattle.std.specs.Prelude.{IfOk, OnOk, OnErr, IsSome, is_some}
 use Rattle.phase_session.specs.declared.script_phaser.ScriptPhaser.{ScriptPhaser}
 use Rattle.phase_session.specs.HeldSends.{Parcels, held_at, nothing}
-use Rattle.phase_session.specs.Scripts.{Held, held_by, held_by_others, send_rows, send_reply, held_after_send, held_after_signal, held_after_drop, done_unless, phaser_reply, history_after, held_after, IsOkReply, MayWantMemory}
+use Rattle.phase_session.specs.Scripts.{Held, held_by, held_signal, after_call, held_by_others, send_rows, send_reply, held_after_send, held_after_signal, held_after_drop, done_unless, phaser_reply, history_after, held_after, IsOkReply, MayWantMemory}
 use Rattle.phase_session.specs.Session.{PhaserStandsFor}
 
 -- ---- the sends of a task among those of all
@@ -161,13 +163,13 @@ pub phaser_signalled : {A : Type 0} (op : Operation A) (old : ScriptPhaser A) (c
     → StandsFor op core (Signalled task (held_by held task ∷ []) single ∷ h)
     → ((other : ℕ) → held_at op new other ≡ cond (eqb task other) (nothing op) (held_at op old.held other))
     → PhaserStandsFor op (record { core = core; held = new }) limits
-    (after_signal (signal_reply limits h task (held_by held task ∷ []) single) task (held_by held task ∷ []) single h)
+    (after_call op.value limits h (held_signal held task single))
     (held_after_signal (signal_reply limits h task (held_by held task ∷ []) single) held task)
 phaser_signalled op old core new limits h held task phase single stands same ok after clears =
     let L : Limits → Type 0 = λ l. signal_reply l h task (held_by held task ∷ []) single ≡ Ok phase in
     let accepted : signal_reply limits h task (held_by held task ∷ []) single ≡ Ok phase = subst L stands.limits_are ok in
     let R : Result ℕ SignalRefusal → Type 0 = λ r. PhaserStandsFor op (record { core = core; held = new }) limits
-    (after_signal r task (held_by held task ∷ []) single h) (held_after_signal r held task) in
+    (after_reply (held_signal held task single) (reply_by SignalledIn NotSignalled r) h) (held_after_signal r held task) in
     subst R (sym accepted) (record {
       limits_are = same ∙ stands.limits_are;
       core = after;
@@ -181,10 +183,10 @@ pub phaser_dropped : {A : Type 0} (op : Operation A) (old : ScriptPhaser A) (cor
     → drop_refusal h task ≡ None → StandsFor op core (Dropped task ∷ h)
     → ((other : ℕ) → held_at op new other ≡ cond (eqb task other) (nothing op) (held_at op old.held other))
     → PhaserStandsFor op (record { core = core; held = new }) limits
-    (after_drop (refused_or (drop_refusal h task) task) task h) (held_after_drop (drop_refusal h task) held task)
+    (after_call op.value limits h (Drop task)) (held_after_drop (drop_refusal h task) held task)
 phaser_dropped op old core new limits h held task stands same accepted after clears =
     let R : Option NoTask → Type 0 = λ r. PhaserStandsFor op (record { core = core; held = new }) limits
-    (after_drop (refused_or r task) task h) (held_after_drop r held task) in
+    (after_reply (Drop task) (reply_by (λ answer. CallAccepted) NotDropped (refused_or r task)) h) (held_after_drop r held task) in
     subst R (sym accepted) (record {
       limits_are = same ∙ stands.limits_are;
       core = after;

@@ -26,7 +26,8 @@ use Rattle.phase_history.specs.declared.refusal.WaitRefusal.TheVariants as wait
 use Rattle.phase_history.specs.Histories.{History, members_of, signal_phase, done_of, top_of}
 use Rattle.phase_history.specs.Legal.{IsLegal}
 use Rattle.phase_history.specs.Refusals.{signal_refusal, signal_rows, register_refusal, drop_refusal}
-use Rattle.phase_history.specs.Replies.{signal_reply, wait_reply, refused_or}
+use Rattle.phase_history.specs.declared.reply.Reply.TheVariants.{Accepted as CallAccepted, SignalledIn, Received, NotRegistered, NotSignalled, NotReceived, NotDropped}
+use Rattle.phase_history.specs.Replies.{signal_reply, wait_reply, refused_or, reply_by as by_result}
 use Rattle.phase_history.proofs.InRange.{wait_reply-in_range}
 use Rattle.phase_history.proofs.LawProofs.{answers_law}
 use Rattle.phase_history.proofs.Refused.{Passes, passes_from}
@@ -45,7 +46,7 @@ use Rattle.phase_script.proofs.ReplyLines.{reply_short}
 use Rattle.phase_session.specs.declared.script_phaser.ScriptPhaser.{ScriptPhaser}
 use Rattle.phase_session.specs.declared.any_phaser.AnyPhaser.{AnyPhaser}
 use Rattle.phase_session.specs.declared.any_phaser.AnyPhaser.TheVariants as phaser
-use Rattle.phase_session.specs.Scripts.{ScriptState, NoPhaser, OnePhaser, Held, held_by, value_of, done_unless, registered_reply, dropped_reply, signalled_reply, received_reply, value_reply, phaser_reply, command_reply, reply_by, reply_to}
+use Rattle.phase_session.specs.Scripts.{ScriptState, NoPhaser, OnePhaser, Held, held_by, value_of, done_unless, script_reply, value_reply, phaser_reply, command_reply, reply_by, reply_to}
 use Rattle.phase_session.specs.Session.{PhaserStandsFor, AnyStandsFor, MaybeStandsFor}
 
 -- ---- replies without a phase
@@ -54,19 +55,19 @@ done_is_reply : (o : Option Refusal) → IsReply (done_unless o)
 done_is_reply None = tt
 done_is_reply (Some refusal) = tt
 
-registered_is_reply : (o : Option RegisterRefusal) → IsReply (registered_reply o)
-registered_is_reply None = tt
-registered_is_reply (Some register.NoTask) = tt
-registered_is_reply (Some register.NotAllowed) = tt
-registered_is_reply (Some register.NotNew) = tt
-registered_is_reply (Some register.TooManyTasks) = tt
-registered_is_reply (Some register.OutOfMemory) = tt
+registered_is_reply : (o : Option RegisterRefusal) (child : ℕ) → IsReply (script_reply (by_result (λ answer. CallAccepted) NotRegistered (refused_or o child)))
+registered_is_reply None child = tt
+registered_is_reply (Some register.NoTask) child = tt
+registered_is_reply (Some register.NotAllowed) child = tt
+registered_is_reply (Some register.NotNew) child = tt
+registered_is_reply (Some register.TooManyTasks) child = tt
+registered_is_reply (Some register.OutOfMemory) child = tt
 
-dropped_is_reply : (o : Option NoTask) → IsReply (dropped_reply o)
-dropped_is_reply None = tt
-dropped_is_reply (Some refusal) = tt
+dropped_is_reply : (o : Option NoTask) (task : ℕ) → IsReply (script_reply (by_result (λ answer. CallAccepted) NotDropped (refused_or o task)))
+dropped_is_reply None task = tt
+dropped_is_reply (Some refusal) task = tt
 
-signalled_is_reply : (r : Result ℕ SignalRefusal) → ((phase : ℕ) → r ≡ Ok phase → phase ≤ most) → IsReply (signalled_reply r)
+signalled_is_reply : (r : Result ℕ SignalRefusal) → ((phase : ℕ) → r ≡ Ok phase → phase ≤ most) → IsReply (script_reply (by_result SignalledIn NotSignalled r))
 signalled_is_reply (Ok phase) low = low phase refl
 signalled_is_reply (Err signal.NoTask) low = tt
 signalled_is_reply (Err signal.NoSignal) low = tt
@@ -84,7 +85,7 @@ value_is_reply phase outcome.Empty low range = low
 value_is_reply phase outcome.TooBig low range = low
 
 received_is_reply : (r : Result Got WaitRefusal)
-    → ((phase : ℕ) (o : Outcome) → r ≡ Ok (got.Value phase o) → (phase ≤ most) × IsInRange o) → IsReply (received_reply r)
+    → ((phase : ℕ) (o : Outcome) → r ≡ Ok (got.Value phase o) → (phase ≤ most) × IsInRange o) → IsReply (script_reply (by_result Received NotReceived r))
 received_is_reply (Ok (got.Value phase o)) within = let w = within phase o refl in value_is_reply phase o w.0 w.1
 received_is_reply (Ok got.Ended) within = tt
 received_is_reply (Err wait.NoTask) within = tt
@@ -130,13 +131,13 @@ received_low value limits h task phase o legal reply =
 phaser_is_reply : {A : Type 0} (op : Operation A) (laws : AccumulateLaws op) (limits : Limits) (h : History) (held : Held)
     → IsLegal limits h → (command : Command) → IsReply (phaser_reply op.value limits h held command)
 phaser_is_reply op laws limits h held legal (Make operator bound phases) = tt
-phaser_is_reply op laws limits h held legal (Add parent child mode) = registered_is_reply (register_refusal h parent child mode)
+phaser_is_reply op laws limits h held legal (Add parent child mode) = registered_is_reply (register_refusal h parent child mode) child
 phaser_is_reply op laws limits h held legal (Send task number) = done_is_reply _
 phaser_is_reply op laws limits h held legal (Signal task single) =
     signalled_is_reply _ (λ phase ok. signalled_low limits h task (held_by held task) single phase (limits_of limits h legal) ok)
 phaser_is_reply op laws limits h held legal (Wait task) =
     received_is_reply _ (λ phase o ok. (received_low op.value limits h task phase o legal ok, wait_reply-in_range op laws limits h task phase o legal ok))
-phaser_is_reply op laws limits h held legal (Drop task) = dropped_is_reply (drop_refusal h task)
+phaser_is_reply op laws limits h held legal (Drop task) = dropped_is_reply (drop_refusal h task) task
 
 legal_at : {A : Type 0} (op : Operation A) (p : ScriptPhaser A) (limits : Limits) (h : History) (held : Held)
     → PhaserStandsFor op p limits h held → IsLegal limits h

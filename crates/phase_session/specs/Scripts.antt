@@ -9,7 +9,9 @@ use Rattle.phase_accum.specs.Values.{sum_value, product_value, least_value, grea
 use Rattle.phase_accum.specs.declared.outcome.Outcome.{Outcome}
 use Rattle.phase_accum.specs.declared.outcome.Outcome.TheVariants as outcome
 use Rattle.phase_history.specs.declared.event.Event.TheVariants.{Made}
-use Rattle.phase_history.specs.declared.got.Got.{Got}
+use Rattle.phase_accum.specs.declared.single.Single.{Single}
+use Rattle.phase_history.specs.declared.call.Call.{Call}
+use Rattle.phase_history.specs.declared.call.Call.TheVariants as call
 use Rattle.phase_history.specs.declared.got.Got.TheVariants as got
 use Rattle.phase_history.specs.declared.refusal.NoTask.{NoTask}
 use Rattle.phase_history.specs.declared.refusal.RegisterRefusal.{RegisterRefusal}
@@ -19,8 +21,10 @@ use Rattle.phase_history.specs.declared.refusal.SignalRefusal.TheVariants as sig
 use Rattle.phase_history.specs.declared.refusal.WaitRefusal.{WaitRefusal}
 use Rattle.phase_history.specs.declared.refusal.WaitRefusal.TheVariants as wait
 use Rattle.phase_history.specs.Histories.{History, members_of}
-use Rattle.phase_history.specs.Refusals.{first_row, refusal_at, register_refusal, drop_refusal}
-use Rattle.phase_history.specs.Replies.{refused_or, signal_reply, wait_reply, after_register, after_signal, after_wait, after_drop}
+use Rattle.phase_history.specs.declared.reply.Reply.{Reply as CallReply}
+use Rattle.phase_history.specs.declared.reply.Reply.TheVariants as call_reply
+use Rattle.phase_history.specs.Refusals.{first_row, refusal_at, drop_refusal}
+use Rattle.phase_history.specs.Replies.{reply_to as reply_to_call, after_reply, signal_reply}
 use Rattle.phase_script.specs.declared.command.Operator.{Operator}
 use Rattle.phase_script.specs.declared.command.Operator.TheVariants.{Sum, Product, Least, Greatest, Any}
 use Rattle.phase_script.specs.declared.command.Command.{Command}
@@ -126,43 +130,41 @@ wait_reason wait.SignalFirst = Refused no.SignalFirst
 wait_reason wait.NotYet = Refused no.NotYet
 wait_reason wait.BadBlock = BadLine
 
--- what a phaser answers to a signal, as a reply
-abbrev pub signalled_reply : Result ℕ SignalRefusal → Reply
-signalled_reply (Ok phase) = Signalled phase
-signalled_reply (Err refusal) = signal_reason refusal
-
 -- the value of a phase, as a reply
 abbrev pub value_reply : ℕ → Outcome → Reply
 value_reply phase (outcome.Value value) = Value phase value
 value_reply phase outcome.Empty = Empty phase
 value_reply phase outcome.TooBig = TooBig phase
 
--- what a phaser answers to a wait, as a reply
-abbrev pub received_reply : Result Got WaitRefusal → Reply
-received_reply (Ok (got.Value phase outcome)) = value_reply phase outcome
-received_reply (Ok got.Ended) = Ended
-received_reply (Err refusal) = wait_reason refusal
+-- what a phaser answers to a call, as a reply. No line asks for a block, nor for a waiter that
+-- joins now: what stands for their answers is never seen
+abbrev pub script_reply : CallReply → Reply
+script_reply call_reply.Accepted = Accepted
+script_reply (call_reply.SignalledIn phase) = Signalled phase
+script_reply (call_reply.Received (got.Value phase outcome)) = value_reply phase outcome
+script_reply (call_reply.Received got.Ended) = Ended
+script_reply (call_reply.NotRegistered refusal) = register_reason refusal
+script_reply (call_reply.NotSignalled refusal) = signal_reason refusal
+script_reply (call_reply.NotReceived refusal) = wait_reason refusal
+script_reply (call_reply.NotDropped refusal) = Refused no.NoTask
+script_reply reply = BadLine
 
--- what a phaser answers to a registration, as a reply
-abbrev pub registered_reply : Option RegisterRefusal → Reply
-registered_reply (Some refusal) = register_reason refusal
-registered_reply None = Accepted
-
--- what a phaser answers to a drop, as a reply
-abbrev pub dropped_reply : Option NoTask → Reply
-dropped_reply (Some refusal) = Refused no.NoTask
-dropped_reply None = Accepted
+-- the signal of a task, with the sends that it holds
+abbrev pub held_signal : Held → ℕ → Option Single → Call
+held_signal held task single = call.Signal task (held_by held task ∷ []) single
 
 -- the reply to a command where there is a phaser
 abbrev pub phaser_reply : (List ℤ → Outcome) → Limits → History → Held → Command → Reply
 phaser_reply value limits h held (Make operator bound phases) = Refused no.Made
 phaser_reply value limits h held (Add parent child mode) =
-    registered_reply (register_refusal h parent child mode)
+    script_reply (reply_to_call value limits h (call.Register parent child mode))
 phaser_reply value limits h held (Send task number) = send_reply h held task
 phaser_reply value limits h held (Signal task single) =
-    signalled_reply (signal_reply limits h task (held_by held task ∷ []) single)
-phaser_reply value limits h held (Wait task) = received_reply (wait_reply value limits h task)
-phaser_reply value limits h held (Drop task) = dropped_reply (drop_refusal h task)
+    script_reply (reply_to_call value limits h (held_signal held task single))
+phaser_reply value limits h held (Wait task) =
+    script_reply (reply_to_call value limits h (call.Wait task))
+phaser_reply value limits h held (Drop task) =
+    script_reply (reply_to_call value limits h (call.Drop task))
 
 -- the reply to a command
 unfoldable pub command_reply : ScriptState → Command → Reply
@@ -191,18 +193,20 @@ abbrev pub held_after_drop : Option NoTask → Held → ℕ → Held
 held_after_drop (Some refusal) held task = held
 held_after_drop None held task = held_by_others held task
 
+-- the history that a call leaves
+abbrev pub after_call : (List ℤ → Outcome) → Limits → History → Call → History
+after_call value limits h call = after_reply call (reply_to_call value limits h call) h
+
 -- the history that a command leaves where there is a phaser
 abbrev pub history_after : (List ℤ → Outcome) → Limits → History → Held → Command → History
 history_after value limits h held (Make operator bound phases) = h
 history_after value limits h held (Add parent child mode) =
-    after_register (refused_or (register_refusal h parent child mode) child) parent child mode h
+    after_call value limits h (call.Register parent child mode)
 history_after value limits h held (Send task number) = h
 history_after value limits h held (Signal task single) =
-    after_signal (signal_reply limits h task (held_by held task ∷ []) single)
-    task (held_by held task ∷ []) single h
-history_after value limits h held (Wait task) = after_wait (wait_reply value limits h task) task h
-history_after value limits h held (Drop task) =
-    after_drop (refused_or (drop_refusal h task) task) task h
+    after_call value limits h (held_signal held task single)
+history_after value limits h held (Wait task) = after_call value limits h (call.Wait task)
+history_after value limits h held (Drop task) = after_call value limits h (call.Drop task)
 
 -- the sends that tasks hold after a command where there is a phaser
 abbrev pub held_after : Limits → History → Held → Command → Held

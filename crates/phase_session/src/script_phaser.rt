@@ -2,16 +2,16 @@
 ghost use Rattle.std.specs.Prelude.{◌≡◌, ◌≢◌, List, [], ◌∷◌, IfOk, OnOk, OnErr, Some, None};
 ghost use Rattle.phase_base.specs.Limits.{Limits};
 ghost use Rattle.phase_accum.specs.Sends.{IsSend};
+ghost use Rattle.phase_history.specs.declared.call.Call.TheVariants as call;
 ghost use Rattle.phase_history.specs.Histories.{History};
-ghost use Rattle.phase_history.specs.Refusals.{register_refusal, drop_refusal};
-ghost use Rattle.phase_history.specs.Replies.{refused_or, signal_reply, wait_reply};
-ghost use Rattle.phase_history.specs.Replies.{after_register, after_signal, after_wait, after_drop};
+ghost use Rattle.phase_history.specs.Refusals.{drop_refusal};
+ghost use Rattle.phase_history.specs.Replies.{reply_to, signal_reply};
 ghost use Rattle.phase_script.specs.Commands.{IsCommand};
 ghost use Rattle.phase_session.specs.Scripts.{Held, held_by, send_reply, held_after_send};
-ghost use Rattle.phase_session.specs.Scripts.{register_reason, registered_reply, dropped_reply};
-ghost use Rattle.phase_session.specs.Scripts.{signal_reason, signalled_reply, held_after_signal};
-ghost use Rattle.phase_session.specs.Scripts.{wait_reason, value_reply, received_reply};
-ghost use Rattle.phase_session.specs.Scripts.{held_after_drop, IsOkReply, MayWantMemory};
+ghost use Rattle.phase_session.specs.Scripts.{script_reply, held_signal, after_call};
+ghost use Rattle.phase_session.specs.Scripts.{register_reason, signal_reason, wait_reason};
+ghost use Rattle.phase_session.specs.Scripts.{value_reply, held_after_signal, held_after_drop};
+ghost use Rattle.phase_session.specs.Scripts.{IsOkReply, MayWantMemory};
 ghost use Rattle.phase_session.specs.Scripts.{phaser_reply, history_after, held_after};
 
 use crate::held_sends::HeldSends;
@@ -138,16 +138,17 @@ impl<A: Accumulate> ScriptPhaser<A> {
     fn add(&mut self, parent: u64, child: u64, mode: Mode) -> Result<Reply, AllocError>
         ensures reply { IfOk result (λ reply. (limits : Limits) (h : History) (held : Held)
             → PhaserStandsFor A.operation self.old limits h held
-            → reply ≡ registered_reply (register_refusal h parent child mode)) }
+            → reply ≡ script_reply
+            (reply_to A.operation.value limits h (call.Register parent child mode))) }
         ensures after { OnOk result ((limits : Limits) (h : History) (held : Held)
             → PhaserStandsFor A.operation self.old limits h held
             → PhaserStandsFor A.operation self.new limits
-            (after_register (refused_or (register_refusal h parent child mode) child)
-            parent child mode h) held) }
+            (after_call A.operation.value limits h (call.Register parent child mode)) held) }
         ensures err { OnErr result (self.new ≡ self.old) }
         ensures memory { OnErr result ((limits : Limits) (h : History) (held : Held)
             → PhaserStandsFor A.operation self.old limits h held
-            → IsOkReply (registered_reply (register_refusal h parent child mode))) }
+            → IsOkReply (script_reply
+            (reply_to A.operation.value limits h (call.Register parent child mode)))) }
     {
         match self.core.register(parent, child, mode) {
             Ok(()) => Ok(Reply::Accepted),
@@ -190,12 +191,12 @@ impl<A: Accumulate> ScriptPhaser<A> {
     fn signal(&mut self, task: u64, single: Option<Single>) -> Reply
         ensures reply { (limits : Limits) (h : History) (held : Held)
             → PhaserStandsFor A.operation self.old limits h held
-            → result ≡ signalled_reply (signal_reply limits h task (held_by held task ∷ []) single) }
+            → result ≡ script_reply
+            (reply_to A.operation.value limits h (held_signal held task single)) }
         ensures after { (limits : Limits) (h : History) (held : Held)
             → PhaserStandsFor A.operation self.old limits h held
             → PhaserStandsFor A.operation self.new limits
-            (after_signal (signal_reply limits h task (held_by held task ∷ []) single)
-            task (held_by held task ∷ []) single h)
+            (after_call A.operation.value limits h (held_signal held task single))
             (held_after_signal (signal_reply limits h task (held_by held task ∷ []) single)
             held task) }
     {
@@ -213,11 +214,11 @@ impl<A: Accumulate> ScriptPhaser<A> {
     fn wait(&mut self, task: u64) -> Reply
         ensures reply { (limits : Limits) (h : History) (held : Held)
             → PhaserStandsFor A.operation self.old limits h held
-            → result ≡ received_reply (wait_reply A.operation.value limits h task) }
+            → result ≡ script_reply (reply_to A.operation.value limits h (call.Wait task)) }
         ensures after { (limits : Limits) (h : History) (held : Held)
             → PhaserStandsFor A.operation self.old limits h held
             → PhaserStandsFor A.operation self.new limits
-            (after_wait (wait_reply A.operation.value limits h task) task h) held }
+            (after_call A.operation.value limits h (call.Wait task)) held }
     {
         match self.core.wait(task) {
             Ok(Got::Value { phase, outcome }) => value_reply(phase, outcome),
@@ -230,11 +231,11 @@ impl<A: Accumulate> ScriptPhaser<A> {
     fn drop_task(&mut self, task: u64) -> Reply
         ensures reply { (limits : Limits) (h : History) (held : Held)
             → PhaserStandsFor A.operation self.old limits h held
-            → result ≡ dropped_reply (drop_refusal h task) }
+            → result ≡ script_reply (reply_to A.operation.value limits h (call.Drop task)) }
         ensures after { (limits : Limits) (h : History) (held : Held)
             → PhaserStandsFor A.operation self.old limits h held
             → PhaserStandsFor A.operation self.new limits
-            (after_drop (refused_or (drop_refusal h task) task) task h)
+            (after_call A.operation.value limits h (call.Drop task))
             (held_after_drop (drop_refusal h task) held task) }
     {
         let Ok(()) = self.core.drop_task(task) else {
