@@ -13,8 +13,7 @@ use stream_job::{Job, JobRefusal};
 /// Makes the job of a graph's file: reads the graph, then the samples of each source in the order
 /// of the lines, live or not, each read and checked before the next.
 ///
-/// `AnyMeets` is told once all samples were read. `OutOfMemory` comes where memory was refused, or
-/// where a list would have more than `stream_job::LENGTH_MAX` values.
+/// `AnyMeets` is told once all samples were read. `OutOfMemory` comes where memory was refused.
 pub fn read_job<F: Files>(alloc: Global, files: &mut F, name: &str) -> Result<Job, JobFault>
     ensures ok { IfOk result (λ job. IsJobOf (F.file files.old) name.now job) }
     ensures fault { IfErr result (λ fault. Explains (F.file files.old) name.now fault) }
