@@ -1,5 +1,6 @@
 //! Checks and evaluations of graphs, on files that are held in memory.
 use crate::tests::{Broken, Held, run_graph, status_of};
+use phase_files::{FileFault, Files};
 use std::alloc::Global;
 use std::test::Fail;
 
@@ -246,13 +247,13 @@ fn a_writer_of_lists_that_fails(rt: HostRuntime) -> Result<(), Fail> {
     let samples = [("s.csv", "1\n2\n")];
     for command in ["check", "eval"] {
         let mut faults = Vec::new(rt.alloc());
-        let files = Held {
+        let mut files = Held {
             graph: FIR,
             samples: samples.as_slice(),
         };
         let words = [command, "g"];
         let words = words.as_slice();
-        let status = status_of(rt.alloc(), words, Broken, Broken, &mut faults, files)?;
+        let status = status_of(rt.alloc(), words, Broken, Broken, &mut faults, &mut files)?;
         assert_eq!(rt; status, 5, "at {command}");
         assert_eq!(rt;
             faults.as_slice(),
@@ -260,5 +261,103 @@ fn a_writer_of_lists_that_fails(rt: HostRuntime) -> Result<(), Fail> {
             "at {command}"
         );
     }
+    Ok(())
+}
+
+/// Files that are held in memory, and the names that were asked for, a line each.
+#[derive(Drop)]
+struct Noted<'a> {
+    files: Held<'a>,
+    asked: String,
+}
+
+impl Files for Noted<'_> {
+    fn read(&mut self, alloc: Global, name: &str, limit: usize) -> Result<Vec<u8>, FileFault> {
+        if self.asked.push_str(name).is_err() || self.asked.push_str("\n").is_err() {
+            return Err(FileFault::OutOfMemory);
+        }
+        self.files.read(alloc, name, limit)
+    }
+}
+
+/// Whether a command on a graph asks for these files, in this order, and for no other.
+fn asks(
+    alloc: Global,
+    words: &[&str],
+    graph: &str,
+    samples: &[(&str, &str)],
+    wanted: &str,
+) -> Result<bool, Fail> {
+    let mut files = Noted {
+        files: Held { graph, samples },
+        asked: String::new(alloc),
+    };
+    let mut output = Vec::new(alloc);
+    let mut faults = Vec::new(alloc);
+    let input = b"".as_slice();
+    status_of(alloc, words, input, &mut output, &mut faults, &mut files)?;
+    Ok(files.asked.as_str() == wanted)
+}
+
+const TWO_FILES: &str = "phaser X any 2\nsource A a.csv -> X\nsource B b.csv -> X by A at 3\n\
+    sink out X\n";
+
+#[test]
+fn each_file_is_asked_for_once_in_the_order_of_the_lines(rt: HostRuntime) -> Result<(), Fail> {
+    let samples = [("a.csv", "1\n2\n3\n"), ("b.csv", "4\n5\n")];
+    let samples = samples.as_slice();
+    let last = "phaser X sum 2\nsource B b.csv -> X\nsource A a.csv -> X\nsink out X\n";
+    // With two samples the task A ends before it adds B, whose file is read all the same.
+    let short = [("a.csv", "1\n2\n"), ("b.csv", "4\n5\n")];
+    let short = short.as_slice();
+    let twice = "phaser X sum 2\nsource A a.csv -> X\nsource B a.csv -> X\nsink out X\n";
+    for command in ["check", "eval"] {
+        let words = [command, "g"];
+        let words = words.as_slice();
+        let both = "g\na.csv\nb.csv\n";
+        assert!(rt;
+            asks(rt.alloc(), words, TWO_FILES, samples, both)?,
+            "at {command}"
+        );
+        assert!(rt;
+            asks(rt.alloc(), words, TWO_FILES, short, both)?,
+            "at {command}"
+        );
+        assert!(rt;
+            asks(rt.alloc(), words, last, samples, "g\nb.csv\na.csv\n")?,
+            "at {command}"
+        );
+        assert!(rt;
+            asks(rt.alloc(), words, twice, samples, "g\na.csv\na.csv\n")?,
+            "at {command}"
+        );
+        assert!(rt;
+            asks(rt.alloc(), words, "", samples, "g\n")?,
+            "at {command}"
+        );
+    }
+    Ok(())
+}
+
+#[test]
+fn no_file_is_asked_for_behind_the_first_fault(rt: HostRuntime) -> Result<(), Fail> {
+    let bad = [("a.csv", "1\nx\n"), ("b.csv", "4\n5\n")];
+    let lost = [("b.csv", "4\n5\n")];
+    let words = ["eval", "g"];
+    let words = words.as_slice();
+    let limit = "phaser X any 0\nsource A a.csv -> X\n";
+    assert!(rt; asks(rt.alloc(), words, limit, bad.as_slice(), "g\n")?);
+    assert!(rt; asks(rt.alloc(), words, TWO_FILES, bad.as_slice(), "g\na.csv\n")?);
+    assert!(rt; asks(rt.alloc(), words, TWO_FILES, lost.as_slice(), "g\na.csv\n")?);
+    let other = ["eval", "h"];
+    assert!(rt;
+        asks(
+            rt.alloc(),
+            other.as_slice(),
+            TWO_FILES,
+            bad.as_slice(),
+            "h\n"
+        )?
+    );
     Ok(())
 }

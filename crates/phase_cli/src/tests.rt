@@ -64,13 +64,13 @@ impl Files for Held<'_> {
 }
 
 /// The status of a run over these streams and files.
-pub(crate) fn status_of<R: Read + Drop, W: Write + Drop, E: Write + Drop>(
+pub(crate) fn status_of<R: Read + Drop, W: Write + Drop, E: Write + Drop, F: Files>(
     alloc: Global,
     words: &[&str],
     input: R,
     output: W,
     faults: E,
-    files: Held<'_>,
+    files: &mut F,
 ) -> Result<u8, Fail> {
     let mut texts = Vec::new(alloc);
     for word in words {
@@ -79,14 +79,13 @@ pub(crate) fn status_of<R: Read + Drop, W: Write + Drop, E: Write + Drop>(
     let mut input = Watched::new(input);
     let mut output = Watched::new(output);
     let mut faults = Watched::new(faults);
-    let mut files = files;
     let status = run_cli(
         alloc,
         texts.as_slice(),
         &mut input,
         &mut output,
         &mut faults,
-        &mut files,
+        files,
     );
     Ok(status)
 }
@@ -103,7 +102,7 @@ pub(crate) struct Outcome {
 fn run(alloc: Global, words: &[&str], script: &[u8]) -> Result<Outcome, Fail> {
     let mut output = Vec::new(alloc);
     let mut faults = Vec::new(alloc);
-    let status = status_of(alloc, words, script, &mut output, &mut faults, none())?;
+    let status = status_of(alloc, words, script, &mut output, &mut faults, &mut none())?;
     Ok(Outcome {
         status,
         output,
@@ -116,13 +115,14 @@ pub(crate) fn run_graph(alloc: Global, command: &str, files: Held<'_>) -> Result
     let mut output = Vec::new(alloc);
     let mut faults = Vec::new(alloc);
     let words = [command, "g"];
+    let mut files = files;
     let status = status_of(
         alloc,
         words.as_slice(),
         Broken,
         &mut output,
         &mut faults,
-        files,
+        &mut files,
     )?;
     Ok(Outcome {
         status,
@@ -316,7 +316,14 @@ fn an_empty_script_has_no_reply(rt: HostRuntime) -> Result<(), Fail> {
 fn a_reader_that_fails_is_a_read_fault(rt: HostRuntime) -> Result<(), Fail> {
     let mut output = Vec::new(rt.alloc());
     let mut faults = Vec::new(rt.alloc());
-    let status = status_of(rt.alloc(), &[], Broken, &mut output, &mut faults, none())?;
+    let status = status_of(
+        rt.alloc(),
+        &[],
+        Broken,
+        &mut output,
+        &mut faults,
+        &mut none(),
+    )?;
     assert_eq!(rt; status, 5);
     assert!(rt; output.is_empty());
     assert_eq!(rt; faults.as_slice(), b"phase: read fault\n".as_slice());
@@ -328,7 +335,7 @@ fn a_writer_that_fails_is_a_write_fault(rt: HostRuntime) -> Result<(), Fail> {
     for words in [&[], ["--help"].as_slice()] {
         let mut faults = Vec::new(rt.alloc());
         let script = b"make sum 2 100\n".as_slice();
-        let status = status_of(rt.alloc(), words, script, Broken, &mut faults, none())?;
+        let status = status_of(rt.alloc(), words, script, Broken, &mut faults, &mut none())?;
         assert_eq!(rt; status, 5);
         assert_eq!(rt; faults.as_slice(), b"phase: write fault\n".as_slice());
     }
@@ -338,7 +345,7 @@ fn a_writer_that_fails_is_a_write_fault(rt: HostRuntime) -> Result<(), Fail> {
 #[test]
 fn the_status_stands_where_the_fault_stream_fails(rt: HostRuntime) -> Result<(), Fail> {
     let mut output = Vec::new(rt.alloc());
-    let status = status_of(rt.alloc(), &[], Broken, &mut output, Broken, none())?;
+    let status = status_of(rt.alloc(), &[], Broken, &mut output, Broken, &mut none())?;
     assert_eq!(rt; status, 5);
     let status = status_of(
         rt.alloc(),
@@ -346,7 +353,7 @@ fn the_status_stands_where_the_fault_stream_fails(rt: HostRuntime) -> Result<(),
         Broken,
         &mut output,
         Broken,
-        none(),
+        &mut none(),
     )?;
     assert_eq!(rt; status, 2);
     assert!(rt; output.is_empty());

@@ -8,7 +8,8 @@ use std::fs::File;
 use std::io::ErrorKind;
 use watched_io::Watched;
 
-/// The files of the disk, opened as their names are written.
+/// The files of the disk, opened as their names are written. Neither an opening nor a read that
+/// failed is tried again.
 #[derive(Drop)]
 pub struct DiskFiles<'a, R> {
     rt: &'a R,

@@ -17,8 +17,6 @@ pub enum FileFault {
 }
 
 /// Files that are read whole.
-///
-/// No call that failed is tried again.
 pub trait Files {
     /// The bytes of the file of a name, where it is known beforehand that it can be read, and what
     /// it holds.
