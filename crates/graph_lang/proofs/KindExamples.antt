@@ -1,7 +1,7 @@
 -- Lines with two faults, computed in the definitions: the earlier kind is the one that is told.
-use Rattle.std.proofs.Common.{ℕ, ◌≡◌, [], ◌∷◌, Some, None, refl, codes}
+use Rattle.std.proofs.Common.{◌≡◌, [], ◌∷◌, Some, None, refl, codes}
 use Rattle.graph_words.specs.declared.operation.Op.TheVariants.{Sum}
-use Rattle.graph_text.specs.Decls.{phaser, task, fir, join, peer, sink, clamp, ByWords, EndWords}
+use Rattle.graph_text.specs.Decls.{phaser, task, fir, join, peer, sink, clamp, EndWords}
 use Rattle.graph_base.specs.Graphs.{Graph, no_phaser, no_task}
 use Rattle.graph_base.specs.declared.line.Kind.TheVariants.{Split}
 use Rattle.graph_base.specs.declared.place.Place.TheVariants as place

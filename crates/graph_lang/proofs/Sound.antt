@@ -8,7 +8,7 @@ use Rattle.graph_base.specs.Graphs.{Graph, Task}
 use Rattle.graph_base.specs.Names.{place_of}
 use Rattle.graph_lang.specs.LineTasks.{task_line, files_in}
 use Rattle.graph_lang.specs.Faults.{kind_of, later_kind, phasers_of, is_past_limit}
-use Rattle.graph_lang.specs.Faults.{is_bound_within, is_function_within, is_body_within, are_ends_within, is_count_within}
+use Rattle.graph_lang.specs.Faults.{is_phaser_within, is_body_within, are_ends_within, is_count_within}
 use Rattle.graph_lang.specs.Reads.{told, with_line}
 use Rattle.graph_base.specs.declared.limits.TheConstants.{PHASERS_MAX, TASKS_MAX}
 use Rattle.graph_lang.specs.declared.fault.FaultKind.TheVariants.{Limit, Twice}
@@ -30,16 +30,24 @@ pub nothing-there : {A : Type 0} (o : Option A) → is_some o ≡ false → o �
 nothing-there None e = refl
 nothing-there (Some x) e = absurd (cc)
 
--- the single of a phaser without fault is within its limits
-pub phaser-within : (before : Graph) (name : Word) (operation : Op) (bound : Word)
+pub none-if : {A : Type 0} (b : Bool) (x : A) → (if b then Some x else None) ≡ None → b ≡ false
+none-if true x e = absurd (cc)
+none-if false x e = refl
+
+-- a phaser's line with a number outside its limit, or after too many
+pub phaser-limit : (before : Graph) (name : Word) (operation : Op) (bound : Word)
     (single : Option FunctionWords)
-    → kind_of before (phaser name operation bound single) ≡ None
-    → option_map_or is_function_within single true ≡ true
-phaser-within before name operation bound single e =
-    let fits = is_bound_within bound && option_map_or is_function_within single true in
-    let limit = row-passed (not (fits && nat_lt (length before.phasers) PHASERS_MAX)) Limit _ e in
-    let all = both fits (nat_lt (length before.phasers) PHASERS_MAX) (not-false _ limit.0) in
-    (both (is_bound_within bound) (option_map_or is_function_within single true) all.0).1
+    → (is_phaser_within bound single && nat_lt (length before.phasers) PHASERS_MAX) ≡ false
+    → Some Limit ≡ kind_of before (phaser name operation bound single)
+phaser-limit before name operation bound single e = rw e refl
+
+-- a phaser's line that passes no limit, by whether its name is there
+pub phaser-named : (before : Graph) (name : Word) (operation : Op) (bound : Word)
+    (single : Option FunctionWords)
+    → (is_phaser_within bound single && nat_lt (length before.phasers) PHASERS_MAX) ≡ true
+    → kind_of before (phaser name operation bound single)
+    ≡ (if is_some (place_of before.names name) then Some Twice else None)
+phaser-named before name operation bound single e = rw e refl
 
 -- the name of a phaser without fault is new
 pub phaser-new : (before : Graph) (name : Word) (operation : Op) (bound : Word)
@@ -47,7 +55,7 @@ pub phaser-new : (before : Graph) (name : Word) (operation : Op) (bound : Word)
     → kind_of before (phaser name operation bound single) ≡ None
     → place_of before.names name ≡ None
 phaser-new before name operation bound single e =
-    let fits = is_bound_within bound && option_map_or is_function_within single true in
+    let fits = is_phaser_within bound single in
     let limit = row-passed (not (fits && nat_lt (length before.phasers) PHASERS_MAX)) Limit _ e in
     let twice = row-passed (is_some (place_of before.names name)) Twice _ limit.1 in
     nothing-there (place_of before.names name) twice.0

@@ -1,5 +1,5 @@
 -- A graph that lines declare is well formed: each line without fault keeps it so.
-use Rattle.std.proofs.Common.{ℕ, ◌≡◌, All, get_or, lt_trans, ◌<◌, ◌≤◌, ◌+◌, ◌&&◌, ◌⊎◌, inl, inr, List, [], ◌∷◌, ◌++◌, length, Bool, true, false, not, cond, if◌then◌else◌, Option, Some, None, Ok, Err, is_some, option_map, nat_lt, nat_le, unsigned_abs, codes, bytes_eq, refl, sym, ap, ◌∙◌, subst, arith, ne_eqb, ltb-true, leb-true}
+use Rattle.std.proofs.Common.{ℕ, ◌≡◌, All, get_or, lt_trans, ◌<◌, ◌≤◌, ◌+◌, ◌&&◌, ◌⊎◌, inl, inr, List, [], ◌∷◌, ◌++◌, length, true, false, not, cond, Option, Some, None, Ok, Err, is_some, option_map, nat_lt, nat_le, unsigned_abs, refl, sym, ap, ◌∙◌, subst, arith, ne_eqb, ltb-true, leb-true}
 use Rattle.std.specs.Option.{option_map_or}
 use Rattle.std.specs.Int.Signed.{le_z, le_z_yes}
 use Rattle.std.proofs.lemmas.Bool.{cases_lt}
@@ -9,7 +9,6 @@ use Rattle.std.proofs.lemmas.List.Sums.{sum_by_push}
 use Rattle.phase_base.specs.declared.limits.TheConstants.{BOUND_MAX}
 use Rattle.phase_accum.specs.Sends.{value_max}
 use Rattle.phase_accum.specs.Singles.{CanBeNamed}
-use Rattle.phase_accum.specs.declared.single.Single.TheVariants as single
 use Rattle.graph_words.specs.Words.{Word, is_name, is_file}
 use Rattle.graph_text.specs.Numbers.{nat_value, int_value}
 use Rattle.graph_words.specs.declared.operation.Op.{Op}

@@ -35,6 +35,11 @@ is_function_within (clamp low high) = nat_le (unsigned_abs (int_value low)) valu
 abbrev pub is_bound_within : Word → Bool
 is_bound_within bound = nat_le 1 (nat_value bound) && nat_le (nat_value bound) BOUND_MAX
 
+-- whether the numbers of a phaser's words are within their limits
+abbrev pub is_phaser_within : Word → Option FunctionWords → Bool
+is_phaser_within bound single =
+    is_bound_within bound && option_map_or is_function_within single true
+
 abbrev pub is_tap_within : Word → Bool
 is_tap_within tap = nat_le (unsigned_abs (int_value tap)) TAP_MAX
 
@@ -63,8 +68,7 @@ are_ends_within ends = option_map_or (λ by. is_count_within by.at) ends.by true
 
 abbrev pub is_past_limit : Graph → Decl → Bool
 is_past_limit before (phaser name operation bound single) =
-    not (is_bound_within bound && option_map_or is_function_within single true
-    && nat_lt (length before.phasers) PHASERS_MAX)
+    not (is_phaser_within bound single && nat_lt (length before.phasers) PHASERS_MAX)
 is_past_limit before (task name body ends) =
     not (is_body_within body && are_ends_within ends && nat_lt (length before.tasks) TASKS_MAX)
 

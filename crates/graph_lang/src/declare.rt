@@ -2,19 +2,14 @@
 ghost use Rattle.std.specs.Prelude.{◌≡◌, IsTrue, IfOk, IfSome, option_map, true};
 ghost use Rattle.std.specs.Option.{option_map_or};
 ghost use Rattle.graph_text.specs.Plain.{plain};
-ghost use Rattle.graph_text.specs.Decls.{IsFunction};
 ghost use Rattle.graph_text.specs.Numbers.{is_nat, nat_value};
-ghost use Rattle.graph_text.specs.Lines.{body_of, single_of as function_words, word_of};
-ghost use Rattle.graph_lang.specs.LineTasks.{single_of as single_value};
-ghost use Rattle.graph_lang.specs.Faults.{phasers_of};
-ghost use Rattle.graph_lang.specs.Faults.{is_bound_within, is_function_within, is_count_within};
+ghost use Rattle.graph_text.specs.Lines.{body_of, word_of};
+ghost use Rattle.graph_lang.specs.Faults.{phasers_of, is_count_within};
 
 use crate::fault::{FaultKind, GraphFault, GraphRefusal};
 use crate::phasers::{input_words, output_words};
-use crate::within::{count_in, single_of};
-use graph_text::{Body, Function, nat_within};
-use phase_accum::Single;
-use phase_base::BOUND_MAX;
+use crate::within::count_in;
+use graph_text::Body;
 use std::alloc::{AllocError, AllocFailed, Global};
 
 impl From<AllocError> for GraphRefusal {
@@ -44,38 +39,6 @@ pub(crate) fn fault(line: u64, kind: FaultKind) -> GraphRefusal
     ensures { result ≡ GraphRefusal.Fault (record { line = line; kind = kind }) }
 {
     GraphRefusal::Fault(GraphFault { line, kind })
-}
-
-/// Whether the numbers of a single, where there is one, are within their limits.
-pub(crate) fn is_single_within(single: Option<Function<'_>>) -> bool
-    requires { IfSome (function_words single) IsFunction }
-    ensures { result ≡ option_map_or is_function_within (function_words single.entry) true }
-{
-    match single {
-        None => true,
-        Some(function) => single_of(function).is_some(),
-    }
-}
-
-/// The single of a phaser, where it has one.
-pub(crate) fn single_in(single: Option<Function<'_>>) -> Option<Single>
-    requires function { IfSome (function_words single) IsFunction }
-    requires within { IsTrue (option_map_or is_function_within (function_words single) true) }
-    ensures { result ≡ option_map single_value (function_words single.entry) }
-{
-    match single {
-        None => None,
-        Some(function) => single_of(function),
-    }
-}
-
-/// The bound that a word within its limits writes.
-pub(crate) fn bound_in(word: &[u8]) -> u64
-    requires nat { IsTrue (is_nat word.now) }
-    requires within { IsTrue (is_bound_within word.now) }
-    ensures { result ≡ nat_value word.now }
-{
-    nat_within(word, BOUND_MAX).unwrap_or(0)
 }
 
 /// The words of all phasers of a task's line.

@@ -1,17 +1,18 @@
 //! Reading the lines of a graph's text.
-ghost use Rattle.std.specs.Prelude.{◌≡◌, IfErr, OnOk, Ok, Err};
+ghost use Rattle.std.specs.Prelude.{◌≡◌, IfOk, IfErr, OnOk, Ok, Err, Some, None};
 ghost use Rattle.graph_text.specs.Decls.{IsWellFormed};
-ghost use Rattle.graph_text.specs.Lines.{decl_of};
+ghost use Rattle.graph_text.specs.Lines.{decl_of, single_of};
 ghost use Rattle.graph_text.specs.Texts.{lines_of};
 ghost use Rattle.graph_text.specs.declared.line.Line.TheVariants as line;
+ghost use Rattle.graph_lang.specs.LineTasks.{phaser_line};
 ghost use Rattle.graph_lang.specs.Faults.{kind_of, is_past_limit};
 ghost use Rattle.graph_lang.specs.Reads.{TellsDecl, Steps, TellsFault, Tells};
 
-use crate::declare::{bound_in, fault, is_single_within, phaser_words, single_in};
+use crate::declare::{fault, phaser_words};
 use crate::draft::{Draft, place_of};
 use crate::fault::{FaultKind, GraphRefusal};
-use crate::within::{are_ends_within, is_body_within, is_bound_within};
-use graph_base::{Graph, PHASERS_MAX, TASKS_MAX};
+use crate::within::{are_ends_within, is_body_within, phaser_line};
+use graph_base::{Graph, PHASERS_MAX, PhaserLine, TASKS_MAX};
 use graph_text::{
     Line, PhaserWords, TaskWords, are_printable, begins_comment, line_at, lines_of, name_text,
     without_cr, words_of,
@@ -19,21 +20,26 @@ use graph_text::{
 use std::alloc::Global;
 
 impl Draft {
-    /// The first kind of fault of a phaser's line.
-    fn phaser_kind(&self, words: PhaserWords<'_>) -> Option<FaultKind>
+    /// The line of a phaser, or the first kind of fault of its words.
+    fn phaser_line(&self, words: PhaserWords<'_>) -> Result<PhaserLine, FaultKind>
         requires { IsWellFormed (decl_of (line.Phaser words)) }
-        ensures { result ≡ kind_of self.now (decl_of (line.Phaser words.entry)) }
+        ensures ok { IfOk result (λ found. found ≡ phaser_line words.entry.operation
+            words.entry.bound.now (single_of words.entry.single)) }
+        ensures none { IfOk result (λ found.
+            kind_of self.now (decl_of (line.Phaser words.entry)) ≡ None) }
+        ensures err { IfErr result (λ kind.
+            Some kind ≡ kind_of self.now (decl_of (line.Phaser words.entry))) }
     {
-        if !(is_bound_within(words.bound)
-            && is_single_within(words.single)
-            && self.phasers.len() < PHASERS_MAX)
-        {
-            return Some(FaultKind::Limit);
+        let Some(line) = phaser_line(words) else {
+            return Err(FaultKind::Limit);
+        };
+        if self.phasers.len() >= PHASERS_MAX {
+            return Err(FaultKind::Limit);
         }
         if place_of(&self.names, name_text(words.name)).is_some() {
-            return Some(FaultKind::Twice);
+            return Err(FaultKind::Twice);
         }
-        None
+        Ok(line)
     }
 
     /// Whether a number of a task's line is outside its limit.
@@ -57,13 +63,13 @@ impl Draft {
         ensures fault { IfErr result (λ e.
             TellsDecl number self.old (decl_of (line.Phaser words.entry)) (Err e)) }
     {
-        if let Some(kind) = self.phaser_kind(words) {
-            return Err(fault(number, kind));
+        match self.phaser_line(words) {
+            Err(kind) => Err(fault(number, kind)),
+            Ok(line) => {
+                self.add_phaser(alloc, words.name, line.op, line.bound, line.single)?;
+                Ok(())
+            }
         }
-        let bound = bound_in(words.bound);
-        let single = single_in(words.single);
-        self.add_phaser(alloc, words.name, words.operation, bound, single)?;
-        Ok(())
     }
 
     /// Declares a task as line `number`.

@@ -1,20 +1,21 @@
 //! Whether the numbers of a line are within their limits, and what they are.
-ghost use Rattle.std.specs.Prelude.{◌≡◌, ◌≤◌, ◌↔◌, ◌&&◌, IsTrue, IfSome, IfOk, length, map, if◌then◌else◌, Some, None, true};
+ghost use Rattle.std.specs.Prelude.{◌≡◌, ◌≤◌, ◌↔◌, ◌&&◌, IsTrue, IfSome, IfOk, length, map, if◌then◌else◌, Some, None, option_map, true};
 ghost use Rattle.std.specs.Option.{option_map_or};
 ghost use Rattle.std.specs.Int.Signed.{le_z};
 ghost use Rattle.std.specs.List.{list_all};
 ghost use Rattle.graph_text.specs.Plain.{plain};
 ghost use Rattle.graph_text.specs.Numbers.{is_nat, is_int, nat_value, int_value};
 ghost use Rattle.graph_text.specs.Decls.{IsFunction, IsBody, AreEnds, IsBy, may_have_parent};
-ghost use Rattle.graph_text.specs.Lines.{function_of, body_of, ends_of, by_of, word_of};
-ghost use Rattle.graph_lang.specs.LineTasks.{single_of};
+ghost use Rattle.graph_text.specs.Lines.{single_of as function_words, function_of, body_of};
+ghost use Rattle.graph_text.specs.Lines.{ends_of, by_of, word_of};
+ghost use Rattle.graph_lang.specs.LineTasks.{single_of, phaser_line};
 ghost use Rattle.graph_lang.specs.LineTasks.{taps_of, shift_of, factor_of};
 ghost use Rattle.graph_lang.specs.Faults.{is_function_within, is_bound_within, is_body_within};
 ghost use Rattle.graph_lang.specs.Faults.{is_tap_within, is_number_of_ends, is_count_within};
-ghost use Rattle.graph_lang.specs.Faults.{are_ends_within};
+ghost use Rattle.graph_lang.specs.Faults.{are_ends_within, is_phaser_within};
 
-use graph_base::{COUNT_MAX, ENDS_MAX, FACTOR_MAX};
-use graph_text::{Body, Ends, Function, int_within, nat_within};
+use graph_base::{COUNT_MAX, ENDS_MAX, FACTOR_MAX, PhaserLine};
+use graph_text::{Body, Ends, Function, PhaserWords, int_within, nat_within};
 use phase_accum::Single;
 use phase_base::BOUND_MAX;
 use std::alloc::{AllocError, Global};
@@ -43,15 +44,43 @@ pub(crate) fn single_of(function: Function<'_>) -> Option<Single>
     }
 }
 
-/// Whether the word is a bound within its limits.
-pub(crate) fn is_bound_within(word: &[u8]) -> bool
-    requires { IsTrue (is_nat word.now) }
-    ensures { result ≡ is_bound_within word.now }
+/// The single of a phaser, where it has one whose numbers are within their limits, or none.
+fn single_in(single: Option<Function<'_>>) -> Option<Option<Single>>
+    requires { IfSome (function_words single) IsFunction }
+    ensures { result ≡ (if option_map_or is_function_within (function_words single.entry) true
+        then Some (option_map single_of (function_words single.entry)) else None) }
 {
-    match nat_within(word, BOUND_MAX) {
-        None => false,
-        Some(bound) => bound >= 1,
+    match single {
+        None => Some(None),
+        Some(function) => Some(Some(single_of(function)?)),
     }
+}
+
+/// The bound that a word writes, where it is within its limits.
+fn bound_of(word: &[u8]) -> Option<u64>
+    requires { IsTrue (is_nat word.now) }
+    ensures { result ≡ (if is_bound_within word.now then Some (nat_value word.now) else None) }
+{
+    let bound = nat_within(word, BOUND_MAX)?;
+    if bound >= 1 { Some(bound) } else { None }
+}
+
+/// The line of a phaser, where its numbers are within their limits.
+pub(crate) fn phaser_line(words: PhaserWords<'_>) -> Option<PhaserLine>
+    requires bound { IsTrue (is_nat words.bound.now) }
+    requires single { IfSome (function_words words.single) IsFunction }
+    ensures { result ≡ (if is_phaser_within words.entry.bound.now (function_words words.entry.single)
+        then Some (phaser_line words.entry.operation words.entry.bound.now
+        (function_words words.entry.single))
+        else None) }
+{
+    let bound = bound_of(words.bound)?;
+    let single = single_in(words.single)?;
+    Some(PhaserLine {
+        op: words.operation,
+        bound,
+        single,
+    })
 }
 
 // ---- tasks

@@ -1,5 +1,5 @@
 -- Worked words and lines, computed in the definitions.
-use Rattle.std.proofs.Common.{ℕ, ◌≡◌, [], ◌∷◌, true, false, refl, codes, Some, None}
+use Rattle.std.proofs.Common.{◌≡◌, [], ◌∷◌, true, false, refl, codes, Some, None}
 use Rattle.std.specs.List.{list_all, list_any}
 use Rattle.graph_text.specs.Texts.{words_of, are_printable, is_ignored}
 use Rattle.graph_words.specs.declared.operation.Op.TheVariants.{Sum}

@@ -1,10 +1,9 @@
 -- Reading a line and spelling it agree: what is spelled is read so.
-use Rattle.std.proofs.Common.{◌≡◌, ◌==◌, Bool, true, false, List, [], ◌∷◌, ◌++◌, length, refl, ap, sym, ◌∙◌, arith, Option, Some, None, codes, IfSome, IsTrue, rules, ne_eqb, append-nil, append_assoc}
+use Rattle.std.proofs.Common.{◌≡◌, ◌==◌, Bool, true, false, List, [], ◌∷◌, ◌++◌, length, refl, ap, sym, ◌∙◌, arith, Option, Some, None, codes, IfSome, IsTrue, ne_eqb, append-nil, append_assoc}
 use Rattle.std.specs.List.{list_all}
 use Rattle.std.specs.Str.{bytes_eq}
 use Rattle.graph_words.specs.Words.{Word, is_name}
 use Rattle.std.proofs.lemmas.Option.{same_Some}
-use Rattle.std.proofs.lemmas.Slice.Eq.{bytes_eq-Decides}
 use Rattle.graph_text.proofs.Digits.{both}
 use Rattle.graph_words.specs.Operations.{operation_word}
 use Rattle.graph_words.specs.declared.operation.Op.{Op}

@@ -1,5 +1,5 @@
 -- The lines of a text, and the words of a line.
-use Rattle.std.specs.Prelude.{ℕ, ◌-◌, ◌==◌, ◌&&◌, ◌||◌, nat_le, Bool, true, not, if◌then◌else◌, List, [], ◌∷◌, length, map, take, filter, slice_index}
+use Rattle.std.specs.Prelude.{ℕ, ◌-◌, ◌==◌, ◌||◌, Bool, true, not, if◌then◌else◌, List, [], ◌∷◌, length, map, take, filter, slice_index}
 use Rattle.std.specs.List.{slice_split, list_all}
 use Rattle.graph_words.specs.Words.{Word, is_word_byte}
 

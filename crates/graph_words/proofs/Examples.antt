@@ -1,5 +1,5 @@
 -- Worked words, computed in the definitions.
-use Rattle.std.proofs.Common.{ℕ, ◌≡◌, [], ◌∷◌, true, false, refl, codes, List, map, Some, None}
+use Rattle.std.proofs.Common.{◌≡◌, [], ◌∷◌, true, false, refl, codes, List, map, Some, None}
 use Rattle.std.specs.List.{list_all, list_any}
 use Rattle.graph_words.specs.Words.{Word, is_name, is_file, is_word_byte}
 use Rattle.graph_words.specs.Operations.{operation_of}

@@ -1,5 +1,5 @@
 -- A word stands for an operation exactly where it is the word of that operation.
-use Rattle.std.proofs.Common.{◌≡◌, Bool, true, false, Option, Some, None, codes, refl, sym, ap, ◌∙◌, subst, rules, if◌then◌else◌, bytes_eq}
+use Rattle.std.proofs.Common.{◌≡◌, Bool, true, false, Option, Some, refl, ap, ◌∙◌, rules, if◌then◌else◌, bytes_eq}
 use Rattle.std.proofs.lemmas.Slice.Eq.{bytes_eq-Decides}
 use Rattle.std.proofs.lemmas.Option.{same_Some}
 use Rattle.graph_words.specs.Words.{Word}
