@@ -26,7 +26,8 @@ use turn_lock::TurnLock;
 /// and nothing else does.
 ///
 /// **Limits.** Those of its `Spec`, and as many registrations at a time as a phaser of one thread
-/// can have.
+/// can have. Where threads meet at a barrier, each of which signals a phase and waits for it, the
+/// bound should be 2: at 1 whoever completes a phase is ahead until the slowest has waited for it.
 ///
 /// **Not promised.** That a thread gets its turn, and in what order threads do.
 #[derive(Drop)]

@@ -17,7 +17,31 @@ use Rattle.phase_history.proofs.Answered.{register_refusal-never}
 use Rattle.phase_shared.specs.declared.view.View.{View}
 use Rattle.phase_shared.proofs.Giving.{gives_same, station, lent, after_call, AfterCall, told_entry}
 use Rattle.phase_shared.proofs.RegisterSteps.{NewChild, new_child, member_child, gives_child, forks_child, refuses, child_is_next}
+use Rattle.phase_shared.proofs.steps.register.Given.{Over}
+use Rattle.phase_shared.proofs.steps.register.Goals.{In-Some}
 use Rattle.phase_shared.proofs.steps.register.Goals as goal
+
+-- the phaser under the turn stood for what was seen
+stood : (g : Over) (c : In-Some g) → StandsWithin g.A.Accumulate.operation (phaser_terms c.args.phaser.now).limits c.value-core.result.now c.in-Ok.ensures.took.now
+stood g c =
+    lent g.A.Accumulate.operation g.K.SignalRule.allows (phaser_terms c.args.phaser.now) c.args.me (turn_value c.in-Ok.turn) c.value-core.result.now
+    c.in-Ok.ensures.took.now c.value-core.ensures.value c.in-Ok.ensures.took.stands
+
+-- the child's number is a new one
+born : (g : Over) (c : In-Some g) → NewChild c.in-Ok.ensures.took.now c.args.me c.child_of-child.result
+born g c =
+    let e = c.in-Ok.ensures.took in
+    new_child (phaser_terms c.args.phaser.now).limits e.now c.args.me c.child_of-child.result c.args.mode c.args.entry e.good.legal e.used
+    (c.in_default.ensures.ok e.now (stood g c).stands)
+
+-- what the registration leaves there
+left : (g : Over) (c : In-Some g) → AfterCall g.A.Accumulate.operation g.K.SignalRule.allows (phaser_terms c.args.phaser.now) c.args.me
+    (Registered c.args.me c.child_of-child.result c.args.mode ∷ c.in-Ok.ensures.took.now) c.register-answer.new.self
+left g c =
+    let e = c.in-Ok.ensures.took in
+    after_call g.A.Accumulate.operation g.K.SignalRule.allows (phaser_terms c.args.phaser.now) c.args.me e.now
+    (Registered c.args.me c.child_of-child.result c.args.mode ∷ e.now) c.value-core.result.now c.register-answer.new.self (stood g c)
+    c.in_default.ensures.limits (c.in_default.ensures.after e.now (stood g c).stands) e.good.keeps
 
 -- the child is a member now
 pub unreachable-requires : goal.unreachable-requires
@@ -52,14 +76,9 @@ put_back-both-requires-clause-rule g c =
     let mode = c.args.mode in
     let child = c.child_of-child.result in
     let e = c.in-Ok.ensures.took in
-    let old = c.value-core.result.now in
-    let before : StandsWithin op terms.limits old e.now = lent op allows terms me (turn_value turn) old e.now c.value-core.ensures.value e.stands in
-    let accepted : register_refusal e.now me child mode ≡ None = c.in_default.ensures.ok e.now before.stands in
-    let new : NewChild e.now me child = new_child terms.limits e.now me child mode c.args.entry e.good.legal e.used accepted in
+    let new = born g (goal.at.put_back-both-requires-clause-rule g c).In-Some in
     let event = Registered me child mode in
-    let s : AfterCall op allows terms me (event ∷ e.now) c.register-answer.new.self =
-    after_call op allows terms me e.now (event ∷ e.now) old c.register-answer.new.self before c.in_default.ensures.limits
-    (c.in_default.ensures.after e.now before.stands) e.good.keeps in
+    let s = left g (goal.at.put_back-both-requires-clause-rule g c).In-Some in
     gives_child op allows terms me (turn_number turn) c.register-answer.new.self (turn_view turn) e.now child mode e.is e.used new s.good s.stands
     (λ v w. w ≡ resting (event ∷ (front_of v).seen) (me ∷ child ∷ [])) refl
 
@@ -70,8 +89,6 @@ give-requires-clause-rule g c =
     let terms = phaser_terms c.args.phaser.now in
     let turn = c.in-Ok.turn in
     let me = c.args.me in
-    let mode = c.args.mode in
-    let child = c.child_of-child.result in
     let e = c.in-Ok.ensures.took in
     let old = c.value-core.result.now in
     let before : StandsWithin op terms.limits old e.now = lent op allows terms me (turn_value turn) old e.now c.value-core.ensures.value e.stands in
@@ -83,13 +100,10 @@ split-seat-requires-clause-rule g c =
     let op = g.A.Accumulate.operation in
     let allows = g.K.SignalRule.allows in
     let terms = phaser_terms c.args.phaser.now in
-    let turn = c.in-Ok.turn in
     let me = c.args.me in
     let mode = c.args.mode in
     let child = c.child_of-child.result in
     let e = c.in-Ok.ensures.took in
-    let old = c.value-core.result.now in
-    let before : StandsWithin op terms.limits old e.now = lent op allows terms me (turn_value turn) old e.now c.value-core.ensures.value e.stands in
     let event = Registered me child mode in
     let h : History = event ∷ e.now in
     let both : seat_view c.put_back-both.result ≡ resting h (me ∷ child ∷ []) =
@@ -98,22 +112,14 @@ split-seat-requires-clause-rule g c =
 
 pub returns-clause-at : goal.returns-clause-at
 returns-clause-at g c =
-    let op = g.A.Accumulate.operation in
     let allows = g.K.SignalRule.allows in
     let terms = phaser_terms c.args.phaser.now in
-    let turn = c.in-Ok.turn in
     let me = c.args.me in
     let mode = c.args.mode in
     let child = c.child_of-child.result in
     let e = c.in-Ok.ensures.took in
-    let old = c.value-core.result.now in
-    let before : StandsWithin op terms.limits old e.now = lent op allows terms me (turn_value turn) old e.now c.value-core.ensures.value e.stands in
-    let accepted : register_refusal e.now me child mode ≡ None = c.in_default.ensures.ok e.now before.stands in
-    let new : NewChild e.now me child = new_child terms.limits e.now me child mode c.args.entry e.good.legal e.used accepted in
     let event = Registered me child mode in
-    let s : AfterCall op allows terms me (event ∷ e.now) c.register-answer.new.self =
-    after_call op allows terms me e.now (event ∷ e.now) old c.register-answer.new.self before c.in_default.ensures.limits
-    (c.in_default.ensures.after e.now before.stands) e.good.keeps in
+    let s = left g (goal.at.returns-clause-at g c).In-Some in
     let h : History = event ∷ e.now in
     let both : seat_view c.put_back-both.result ≡ resting h (me ∷ child ∷ []) =
     c.put_back-both.ensures.rule ∙ ap (λ (v : View). resting (event ∷ (front_of v).seen) (me ∷ child ∷ [])) e.is in
@@ -127,19 +133,13 @@ returns-clause-child g c =
     let op = g.A.Accumulate.operation in
     let allows = g.K.SignalRule.allows in
     let terms = phaser_terms c.args.phaser.now in
-    let turn = c.in-Ok.turn in
     let me = c.args.me in
     let mode = c.args.mode in
     let child = c.child_of-child.result in
     let e = c.in-Ok.ensures.took in
-    let old = c.value-core.result.now in
-    let before : StandsWithin op terms.limits old e.now = lent op allows terms me (turn_value turn) old e.now c.value-core.ensures.value e.stands in
-    let accepted : register_refusal e.now me child mode ≡ None = c.in_default.ensures.ok e.now before.stands in
-    let new : NewChild e.now me child = new_child terms.limits e.now me child mode c.args.entry e.good.legal e.used accepted in
+    let new = born g (goal.at.returns-clause-child g c).In-Some in
     let event = Registered me child mode in
-    let s : AfterCall op allows terms me (event ∷ e.now) c.register-answer.new.self =
-    after_call op allows terms me e.now (event ∷ e.now) old c.register-answer.new.self before c.in_default.ensures.limits
-    (c.in_default.ensures.after e.now before.stands) e.good.keeps in
+    let s = left g (goal.at.returns-clause-child g c).In-Some in
     let h : History = event ∷ e.now in
     let both : seat_view c.put_back-both.result ≡ resting h (me ∷ child ∷ []) =
     c.put_back-both.ensures.rule ∙ ap (λ (v : View). resting (event ∷ (front_of v).seen) (me ∷ child ∷ [])) e.is in
@@ -155,22 +155,15 @@ returns-clause-child g c =
 
 pub returns-clause-ok : goal.returns-clause-ok
 returns-clause-ok g c =
-    let op = g.A.Accumulate.operation in
-    let allows = g.K.SignalRule.allows in
-    let terms = phaser_terms c.args.phaser.now in
-    let turn = c.in-Ok.turn in
     let me = c.args.me in
     let mode = c.args.mode in
     let child = c.child_of-child.result in
     let e = c.in-Ok.ensures.took in
     let old = c.value-core.result.now in
-    let before : StandsWithin op terms.limits old e.now = lent op allows terms me (turn_value turn) old e.now c.value-core.ensures.value e.stands in
+    let before = stood g (goal.at.returns-clause-ok g c).In-Some in
     let accepted : register_refusal e.now me child mode ≡ None = c.in_default.ensures.ok e.now before.stands in
-    let new : NewChild e.now me child = new_child terms.limits e.now me child mode c.args.entry e.good.legal e.used accepted in
+    let new = born g (goal.at.returns-clause-ok g c).In-Some in
     let event = Registered me child mode in
-    let s : AfterCall op allows terms me (event ∷ e.now) c.register-answer.new.self =
-    after_call op allows terms me e.now (event ∷ e.now) old c.register-answer.new.self before c.in_default.ensures.limits
-    (c.in_default.ensures.after e.now before.stands) e.good.keeps in
     let h : History = event ∷ e.now in
     let both : seat_view c.put_back-both.result ≡ resting h (me ∷ child ∷ []) =
     c.put_back-both.ensures.rule ∙ ap (λ (v : View). resting (event ∷ (front_of v).seen) (me ∷ child ∷ [])) e.is in
@@ -185,16 +178,10 @@ returns-clause-ok g c =
 
 pub returns-in-Err-answer-clause-at : goal.returns-in-Err-answer-clause-at
 returns-in-Err-answer-clause-at g c =
-    let op = g.A.Accumulate.operation in
     let allows = g.K.SignalRule.allows in
     let terms = phaser_terms c.args.phaser.now in
-    let turn = c.in-Ok.turn in
     let me = c.args.me in
-    let mode = c.args.mode in
-    let child = c.child_of-child.result in
     let e = c.in-Ok.ensures.took in
-    let old = c.value-core.result.now in
-    let before : StandsWithin op terms.limits old e.now = lent op allows terms me (turn_value turn) old e.now c.value-core.ensures.value e.stands in
     subst (λ (v : View). IsStation allows terms me c.args.entry v)
     (sym (c.give.ensures.rule ∙ ap (λ (v : View). resting (front_of v).seen (speaks_of v)) e.is))
     (record { rests = refl; member = e.member; good = e.good })

@@ -22,25 +22,40 @@ use Rattle.phase_base.specs.Members.{signalled}
 use Rattle.phase_shared.specs.Entries.{entry_after_wait}
 use Rattle.phase_shared.proofs.SignalSteps.{member_signals, member_signals_and_waits}
 use Rattle.phase_shared.proofs.WaitSteps.{own_wait, keeps_wait, member_after_wait, may_wait}
+use Rattle.phase_shared.proofs.steps.signal.Given.{Over}
+use Rattle.phase_shared.proofs.steps.signal.Goals.{After-wait_where-waited}
 use Rattle.phase_shared.proofs.steps.signal.Goals as goal
+
+-- the phaser under the turn stood for what was seen
+stood : (g : Over) (c : After-wait_where-waited g)
+    → StandsWithin g.A.Accumulate.operation (phaser_terms c.args.phaser.now).limits c.value-core.result.now c.in-Ok.ensures.took.now
+stood g c =
+    lent g.A.Accumulate.operation g.K.SignalRule.allows (phaser_terms c.args.phaser.now) c.args.me (turn_value c.in-Ok.turn) c.value-core.result.now
+    c.in-Ok.ensures.took.now c.value-core.ensures.value c.in-Ok.ensures.took.stands
+
+-- what the signal of these sends, and the wait, leave there
+left : (g : Over) (c : After-wait_where-waited g) (sends : List ℤ) → StandsForSends g.A.Accumulate.operation c.args.pending sends
+    → AfterCall g.A.Accumulate.operation g.K.SignalRule.allows (phaser_terms c.args.phaser.now) c.args.me
+    (after_wait c.wait_where-waited.result c.args.me (Signalled c.args.me (sends ∷ []) c.args.single ∷ c.in-Ok.ensures.took.now)) c.wait_where-waited.new.core
+left g c sends held =
+    let terms = phaser_terms c.args.phaser.now in
+    let e = c.in-Ok.ensures.took in
+    let waited = c.wait_where-waited.result in
+    let middle : History = Signalled c.args.me (sends ∷ []) c.args.single ∷ e.now in
+    after_call g.A.Accumulate.operation g.K.SignalRule.allows terms c.args.me e.now (after_wait waited c.args.me middle) c.value-core.result.now
+    c.wait_where-waited.new.core (stood g c) (c.wait_where-waited.ensures.limits ∙ c.in-Ok-answer.ensures.limits)
+    (c.wait_where-waited.ensures.after middle (c.in-Ok-answer.ensures.after e.now sends (stood g c).stands held))
+    (keeps_wait (g.K.SignalRule.allows terms.rule) c.args.me middle waited (c.requires.rule e.now sends e.good e.others held, e.good.keeps))
 
 pub unreachable-requires : goal.unreachable-requires
 unreachable-requires g c =
     let op = g.A.Accumulate.operation in
-    let allows = g.K.SignalRule.allows in
-    let terms = phaser_terms c.args.phaser.now in
-    let turn = c.in-Ok.turn in
     let e = c.in-Ok.ensures.took in
-    let old = c.value-core.result.now in
-    let before : StandsWithin op terms.limits old e.now = lent op allows terms c.args.me (turn_value turn) old e.now c.value-core.ensures.value e.stands in
     let held = c.part-part.ensures.held in
     let waited = c.wait_where-waited.result in
     let new = c.wait_where-waited.new.core in
     let middle : History = Signalled c.args.me (held.0 ∷ []) c.args.single ∷ e.now in
-    let s : AfterCall op allows terms c.args.me (after_wait waited c.args.me middle) new =
-    after_call op allows terms c.args.me e.now (after_wait waited c.args.me middle) old new before (c.wait_where-waited.ensures.limits ∙ c.in-Ok-answer.ensures.limits)
-    (c.wait_where-waited.ensures.after middle (c.in-Ok-answer.ensures.after e.now held.0 before.stands held.1))
-    (keeps_wait (allows terms.rule) c.args.me middle waited (c.requires.rule e.now held.0 e.good e.others held.1, e.good.keeps)) in
+    let s = left g (goal.at.unreachable-requires g c).After-wait_where-waited held.0 held.1 in
     let some : is_some c.view.result ≡ true = ap (λ o. is_some o) c.view.ensures ∙ member_after_wait op new waited c.args.me middle
     s.stands.stands (member_signals c.args.me held.0 c.args.single e.now (ap (λ o. is_some o) e.member)) in
     absurd (let z : false ≡ true = sym (ap (λ o. is_some o) c.in_default.is) ∙ some in cc)
@@ -52,16 +67,11 @@ put_back-seat-requires-clause-rule g c =
     let terms = phaser_terms c.args.phaser.now in
     let turn = c.in-Ok.turn in
     let e = c.in-Ok.ensures.took in
-    let old = c.value-core.result.now in
-    let before : StandsWithin op terms.limits old e.now = lent op allows terms c.args.me (turn_value turn) old e.now c.value-core.ensures.value e.stands in
     let held = c.part-part.ensures.held in
     let waited = c.wait_where-waited.result in
     let new = c.wait_where-waited.new.core in
     let middle : History = Signalled c.args.me (held.0 ∷ []) c.args.single ∷ e.now in
-    let s : AfterCall op allows terms c.args.me (after_wait waited c.args.me middle) new =
-    after_call op allows terms c.args.me e.now (after_wait waited c.args.me middle) old new before (c.wait_where-waited.ensures.limits ∙ c.in-Ok-answer.ensures.limits)
-    (c.wait_where-waited.ensures.after middle (c.in-Ok-answer.ensures.after e.now held.0 before.stands held.1))
-    (keeps_wait (allows terms.rule) c.args.me middle waited (c.requires.rule e.now held.0 e.good e.others held.1, e.good.keeps)) in
+    let s = left g (goal.at.put_back-seat-requires-clause-rule g c).After-wait_where-waited held.0 held.1 in
     gives_own op allows terms c.args.me
     (λ v w. (sends : List ℤ) × StandsForSends op c.args.pending sends
     × (w ≡ resting (after_wait waited c.args.me (Signalled c.args.me (sends ∷ []) c.args.single ∷ (front_of v).seen)) (speaks_of v)))
@@ -87,18 +97,12 @@ returns-clause-at g c =
     let op = g.A.Accumulate.operation in
     let allows = g.K.SignalRule.allows in
     let terms = phaser_terms c.args.phaser.now in
-    let turn = c.in-Ok.turn in
     let e = c.in-Ok.ensures.took in
-    let old = c.value-core.result.now in
-    let before : StandsWithin op terms.limits old e.now = lent op allows terms c.args.me (turn_value turn) old e.now c.value-core.ensures.value e.stands in
     let told = c.put_back-seat.ensures.rule in
     let waited = c.wait_where-waited.result in
     let new = c.wait_where-waited.new.core in
     let middle : History = Signalled c.args.me (told.0 ∷ []) c.args.single ∷ e.now in
-    let s : AfterCall op allows terms c.args.me (after_wait waited c.args.me middle) new =
-    after_call op allows terms c.args.me e.now (after_wait waited c.args.me middle) old new before (c.wait_where-waited.ensures.limits ∙ c.in-Ok-answer.ensures.limits)
-    (c.wait_where-waited.ensures.after middle (c.in-Ok-answer.ensures.after e.now told.0 before.stands told.1))
-    (keeps_wait (allows terms.rule) c.args.me middle waited (c.requires.rule e.now told.0 e.good e.others told.1, e.good.keeps)) in
+    let s = left g (goal.at.returns-clause-at g c).After-wait_where-waited told.0 told.1 in
     station op allows terms c.args.me c.in-Some.entry (seat_view c.put_back-seat.result) (after_wait waited c.args.me middle) new c.view.result
     (told.2 ∙ ap (λ (v : View). resting (after_wait waited c.args.me (Signalled c.args.me (told.0 ∷ []) c.args.single ∷ (front_of v).seen)) (speaks_of v)) e.is)
     s.good s.stands c.view.ensures c.in-Some.is
@@ -108,18 +112,12 @@ returns-clause-entry g c =
     let op = g.A.Accumulate.operation in
     let allows = g.K.SignalRule.allows in
     let terms = phaser_terms c.args.phaser.now in
-    let turn = c.in-Ok.turn in
     let e = c.in-Ok.ensures.took in
-    let old = c.value-core.result.now in
-    let before : StandsWithin op terms.limits old e.now = lent op allows terms c.args.me (turn_value turn) old e.now c.value-core.ensures.value e.stands in
     let held = c.part-part.ensures.held in
     let waited = c.wait_where-waited.result in
     let new = c.wait_where-waited.new.core in
     let middle : History = Signalled c.args.me (held.0 ∷ []) c.args.single ∷ e.now in
-    let s : AfterCall op allows terms c.args.me (after_wait waited c.args.me middle) new =
-    after_call op allows terms c.args.me e.now (after_wait waited c.args.me middle) old new before (c.wait_where-waited.ensures.limits ∙ c.in-Ok-answer.ensures.limits)
-    (c.wait_where-waited.ensures.after middle (c.in-Ok-answer.ensures.after e.now held.0 before.stands held.1))
-    (keeps_wait (allows terms.rule) c.args.me middle waited (c.requires.rule e.now held.0 e.good e.others held.1, e.good.keeps)) in
+    let s = left g (goal.at.returns-clause-entry g c).After-wait_where-waited held.0 held.1 in
     told_entry op allows terms c.args.me c.in-Some.entry (entry_after_wait (result_ok waited) (signalled 1 c.args.entry)) (after_wait waited c.args.me middle) new c.view.result
     s.stands c.view.ensures c.in-Some.is (member_signals_and_waits c.args.me held.0 c.args.single e.now c.args.entry waited e.member)
     ∙ ap (λ got. entry_after_wait got (signalled 1 c.args.entry)) (sym c.ok.ensures.value)
@@ -127,12 +125,9 @@ returns-clause-entry g c =
 pub returns-clause-call : goal.returns-clause-call
 returns-clause-call g c =
     let op = g.A.Accumulate.operation in
-    let allows = g.K.SignalRule.allows in
     let terms = phaser_terms c.args.phaser.now in
-    let turn = c.in-Ok.turn in
     let e = c.in-Ok.ensures.took in
-    let old = c.value-core.result.now in
-    let before : StandsWithin op terms.limits old e.now = lent op allows terms c.args.me (turn_value turn) old e.now c.value-core.ensures.value e.stands in
+    let before = stood g (goal.at.returns-clause-call g c).After-wait_where-waited in
     let told = c.put_back-seat.ensures.rule in
     let waited = c.wait_where-waited.result in
     let middle : History = Signalled c.args.me (told.0 ∷ []) c.args.single ∷ e.now in
@@ -164,10 +159,7 @@ returns-in-Err-answer-clause-at g c =
     let op = g.A.Accumulate.operation in
     let allows = g.K.SignalRule.allows in
     let terms = phaser_terms c.args.phaser.now in
-    let turn = c.in-Ok.turn in
     let e = c.in-Ok.ensures.took in
-    let old = c.value-core.result.now in
-    let before : StandsWithin op terms.limits old e.now = lent op allows terms c.args.me (turn_value turn) old e.now c.value-core.ensures.value e.stands in
     stays op allows terms c.args.me c.args.entry (seat_view c.give-seat.result) e.now
     (c.give-seat.ensures.rule ∙ ap (λ (v : View). resting (front_of v).seen (speaks_of v)) e.is) e.good e.member
 

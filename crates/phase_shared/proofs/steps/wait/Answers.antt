@@ -18,17 +18,32 @@ use Rattle.phase_shared.proofs.Giving.{AfterCall, after_call, gives_own, own_non
 use Rattle.std.specs.Result.{result_ok}
 use Rattle.phase_shared.specs.Entries.{entry_after_wait}
 use Rattle.phase_shared.proofs.WaitSteps.{own_wait, keeps_wait, member_after_wait, member_waits}
+use Rattle.phase_shared.proofs.steps.wait.Given.{Over}
+use Rattle.phase_shared.proofs.steps.wait.Goals.{After-wait-answer}
 use Rattle.phase_shared.proofs.steps.wait.Goals as goal
+
+-- the phaser under the turn stood for what was seen
+stood : (g : Over) (c : After-wait-answer g)
+    → StandsWithin g.A.Accumulate.operation (phaser_terms c.args.phaser.now).limits c.value-core.result.now c.in-Ok.ensures.took.now
+stood g c =
+    lent g.A.Accumulate.operation g.K.SignalRule.allows (phaser_terms c.args.phaser.now) c.args.me (turn_value c.in-Ok.turn) c.value-core.result.now
+    c.in-Ok.ensures.took.now c.value-core.ensures.value c.in-Ok.ensures.took.stands
+
+-- what the wait leaves there
+left : (g : Over) (c : After-wait-answer g) → AfterCall g.A.Accumulate.operation g.K.SignalRule.allows (phaser_terms c.args.phaser.now) c.args.me
+    (after_wait c.wait-answer.result c.args.me c.in-Ok.ensures.took.now) c.wait-answer.new.self
+left g c =
+    let terms = phaser_terms c.args.phaser.now in
+    let e = c.in-Ok.ensures.took in
+    after_call g.A.Accumulate.operation g.K.SignalRule.allows terms c.args.me e.now (after_wait c.wait-answer.result c.args.me e.now) c.value-core.result.now
+    c.wait-answer.new.self (stood g c) c.wait-answer.ensures.limits (c.wait-answer.ensures.after e.now (stood g c).stands)
+    (keeps_wait (g.K.SignalRule.allows terms.rule) c.args.me e.now c.wait-answer.result e.good.keeps)
 
 pub unreachable-requires : goal.unreachable-requires
 unreachable-requires g c =
     let op = g.A.Accumulate.operation in
-    let allows = g.K.SignalRule.allows in
-    let terms = phaser_terms c.args.phaser.now in
-    let turn = c.in-Ok.turn in
     let e = c.in-Ok.ensures.took in
-    let old = c.value-core.result.now in
-    let before : StandsWithin op terms.limits old e.now = lent op allows terms c.args.me (turn_value turn) old e.now c.value-core.ensures.value e.stands in
+    let before = stood g (goal.at.unreachable-requires g c).After-wait-answer in
     let some : is_some c.view.result ≡ true = ap (λ o. is_some o) c.view.ensures ∙ member_after_wait op c.wait-answer.new.self c.wait-answer.result c.args.me e.now
     (c.wait-answer.ensures.after e.now before.stands) (ap (λ o. is_some o) e.member) in
     absurd (let z : false ≡ true = sym (ap (λ o. is_some o) c.in_default.is) ∙ some in cc)
@@ -40,13 +55,9 @@ put_back-seat-requires-clause-rule g c =
     let terms = phaser_terms c.args.phaser.now in
     let turn = c.in-Ok.turn in
     let e = c.in-Ok.ensures.took in
-    let old = c.value-core.result.now in
-    let before : StandsWithin op terms.limits old e.now = lent op allows terms c.args.me (turn_value turn) old e.now c.value-core.ensures.value e.stands in
     let answer = c.wait-answer.result in
     let new = c.wait-answer.new.self in
-    let s : AfterCall op allows terms c.args.me (after_wait answer c.args.me e.now) new =
-    after_call op allows terms c.args.me e.now (after_wait answer c.args.me e.now) old new before c.wait-answer.ensures.limits
-    (c.wait-answer.ensures.after e.now before.stands) (keeps_wait (allows terms.rule) c.args.me e.now answer e.good.keeps) in
+    let s = left g (goal.at.put_back-seat-requires-clause-rule g c).After-wait-answer in
     gives_own op allows terms c.args.me (λ v w. w ≡ resting (after_wait answer c.args.me (front_of v).seen) (speaks_of v))
     (turn_number turn) new (turn_view turn) e.now (after_wait answer c.args.me e.now) e.is e.used
     (own_wait c.args.me e.now e.now answer (own_none c.args.me e.now)) s.good s.stands refl
@@ -56,15 +67,10 @@ returns-in-Ok-answer-clause-at g c =
     let op = g.A.Accumulate.operation in
     let allows = g.K.SignalRule.allows in
     let terms = phaser_terms c.args.phaser.now in
-    let turn = c.in-Ok.turn in
     let e = c.in-Ok.ensures.took in
-    let old = c.value-core.result.now in
-    let before : StandsWithin op terms.limits old e.now = lent op allows terms c.args.me (turn_value turn) old e.now c.value-core.ensures.value e.stands in
     let answer = c.wait-answer.result in
     let new = c.wait-answer.new.self in
-    let s : AfterCall op allows terms c.args.me (after_wait answer c.args.me e.now) new =
-    after_call op allows terms c.args.me e.now (after_wait answer c.args.me e.now) old new before c.wait-answer.ensures.limits
-    (c.wait-answer.ensures.after e.now before.stands) (keeps_wait (allows terms.rule) c.args.me e.now answer e.good.keeps) in
+    let s = left g (goal.at.returns-in-Ok-answer-clause-at g c).After-wait-answer in
     station op allows terms c.args.me c.in-Some.entry (seat_view c.put_back-seat.result) (after_wait answer c.args.me e.now) new c.view.result
     (c.put_back-seat.ensures.rule ∙ ap (λ (v : View). resting (after_wait answer c.args.me (front_of v).seen) (speaks_of v)) e.is)
     s.good s.stands c.view.ensures c.in-Some.is
@@ -74,15 +80,10 @@ returns-in-Err-answer-clause-at g c =
     let op = g.A.Accumulate.operation in
     let allows = g.K.SignalRule.allows in
     let terms = phaser_terms c.args.phaser.now in
-    let turn = c.in-Ok.turn in
     let e = c.in-Ok.ensures.took in
-    let old = c.value-core.result.now in
-    let before : StandsWithin op terms.limits old e.now = lent op allows terms c.args.me (turn_value turn) old e.now c.value-core.ensures.value e.stands in
     let answer = c.wait-answer.result in
     let new = c.wait-answer.new.self in
-    let s : AfterCall op allows terms c.args.me (after_wait answer c.args.me e.now) new =
-    after_call op allows terms c.args.me e.now (after_wait answer c.args.me e.now) old new before c.wait-answer.ensures.limits
-    (c.wait-answer.ensures.after e.now before.stands) (keeps_wait (allows terms.rule) c.args.me e.now answer e.good.keeps) in
+    let s = left g (goal.at.returns-in-Err-answer-clause-at g c).After-wait-answer in
     station op allows terms c.args.me c.in-Some.entry (seat_view c.put_back-seat.result) (after_wait answer c.args.me e.now) new c.view.result
     (c.put_back-seat.ensures.rule ∙ ap (λ (v : View). resting (after_wait answer c.args.me (front_of v).seen) (speaks_of v)) e.is)
     s.good s.stands c.view.ensures c.in-Some.is
@@ -90,12 +91,9 @@ returns-in-Err-answer-clause-at g c =
 pub returns-in-Ok-answer-clause-call : goal.returns-in-Ok-answer-clause-call
 returns-in-Ok-answer-clause-call g c =
     let op = g.A.Accumulate.operation in
-    let allows = g.K.SignalRule.allows in
     let terms = phaser_terms c.args.phaser.now in
-    let turn = c.in-Ok.turn in
     let e = c.in-Ok.ensures.took in
-    let old = c.value-core.result.now in
-    let before : StandsWithin op terms.limits old e.now = lent op allows terms c.args.me (turn_value turn) old e.now c.value-core.ensures.value e.stands in
+    let before = stood g (goal.at.returns-in-Ok-answer-clause-call g c).After-wait-answer in
     let answer = c.wait-answer.result in
     let P : Result Got WaitRefusal → Type 0 = λ r. Waits op.value terms.limits c.args.me (front_of (seat_view c.args.seat)).seen (front_of (seat_view c.put_back-seat.result)).seen r in
     subst P c.in-Ok-answer.is (record {
@@ -108,12 +106,9 @@ returns-in-Ok-answer-clause-call g c =
 pub returns-in-Err-answer-clause-call : goal.returns-in-Err-answer-clause-call
 returns-in-Err-answer-clause-call g c =
     let op = g.A.Accumulate.operation in
-    let allows = g.K.SignalRule.allows in
     let terms = phaser_terms c.args.phaser.now in
-    let turn = c.in-Ok.turn in
     let e = c.in-Ok.ensures.took in
-    let old = c.value-core.result.now in
-    let before : StandsWithin op terms.limits old e.now = lent op allows terms c.args.me (turn_value turn) old e.now c.value-core.ensures.value e.stands in
+    let before = stood g (goal.at.returns-in-Err-answer-clause-call g c).After-wait-answer in
     let answer = c.wait-answer.result in
     let P : Result Got WaitRefusal → Type 0 = λ r. Waits op.value terms.limits c.args.me (front_of (seat_view c.args.seat)).seen (front_of (seat_view c.put_back-seat.result)).seen r in
     subst P c.in-Err-answer.is (record {
@@ -128,15 +123,10 @@ returns-in-Ok-answer-clause-entry g c =
     let op = g.A.Accumulate.operation in
     let allows = g.K.SignalRule.allows in
     let terms = phaser_terms c.args.phaser.now in
-    let turn = c.in-Ok.turn in
     let e = c.in-Ok.ensures.took in
-    let old = c.value-core.result.now in
-    let before : StandsWithin op terms.limits old e.now = lent op allows terms c.args.me (turn_value turn) old e.now c.value-core.ensures.value e.stands in
     let answer = c.wait-answer.result in
     let new = c.wait-answer.new.self in
-    let s : AfterCall op allows terms c.args.me (after_wait answer c.args.me e.now) new =
-    after_call op allows terms c.args.me e.now (after_wait answer c.args.me e.now) old new before c.wait-answer.ensures.limits
-    (c.wait-answer.ensures.after e.now before.stands) (keeps_wait (allows terms.rule) c.args.me e.now answer e.good.keeps) in
+    let s = left g (goal.at.returns-in-Ok-answer-clause-entry g c).After-wait-answer in
     told_entry op allows terms c.args.me c.in-Some.entry (entry_after_wait (result_ok answer) c.args.entry) (after_wait answer c.args.me e.now) new c.view.result
     s.stands c.view.ensures c.in-Some.is (member_waits c.args.me e.now c.args.entry answer e.member)
     ∙ ap (λ r. entry_after_wait (result_ok r) c.args.entry) c.in-Ok-answer.is
@@ -146,15 +136,10 @@ returns-in-Err-answer-clause-entry g c =
     let op = g.A.Accumulate.operation in
     let allows = g.K.SignalRule.allows in
     let terms = phaser_terms c.args.phaser.now in
-    let turn = c.in-Ok.turn in
     let e = c.in-Ok.ensures.took in
-    let old = c.value-core.result.now in
-    let before : StandsWithin op terms.limits old e.now = lent op allows terms c.args.me (turn_value turn) old e.now c.value-core.ensures.value e.stands in
     let answer = c.wait-answer.result in
     let new = c.wait-answer.new.self in
-    let s : AfterCall op allows terms c.args.me (after_wait answer c.args.me e.now) new =
-    after_call op allows terms c.args.me e.now (after_wait answer c.args.me e.now) old new before c.wait-answer.ensures.limits
-    (c.wait-answer.ensures.after e.now before.stands) (keeps_wait (allows terms.rule) c.args.me e.now answer e.good.keeps) in
+    let s = left g (goal.at.returns-in-Err-answer-clause-entry g c).After-wait-answer in
     told_entry op allows terms c.args.me c.in-Some.entry (entry_after_wait (result_ok answer) c.args.entry) (after_wait answer c.args.me e.now) new c.view.result
     s.stands c.view.ensures c.in-Some.is (member_waits c.args.me e.now c.args.entry answer e.member)
     ∙ ap (λ r. entry_after_wait (result_ok r) c.args.entry) c.in-Err-answer.is
@@ -163,12 +148,9 @@ returns-in-Err-answer-clause-entry g c =
 pub returns-in-Err-answer-clause-known : goal.returns-in-Err-answer-clause-known
 returns-in-Err-answer-clause-known g c none =
     let op = g.A.Accumulate.operation in
-    let allows = g.K.SignalRule.allows in
-    let terms = phaser_terms c.args.phaser.now in
-    let turn = c.in-Ok.turn in
     let e = c.in-Ok.ensures.took in
+    let before = stood g (goal.at.returns-in-Err-answer-clause-known g c).After-wait-answer in
     let old = c.value-core.result.now in
-    let before : StandsWithin op terms.limits old e.now = lent op allows terms c.args.me (turn_value turn) old e.now c.value-core.ensures.value e.stands in
     let is : c.in-Err-answer.refusal ≡ wait.NoTask = cc in
     wait_refusal-never old.limits e.now c.args.me 1 (ap is_some e.member)
     (refused_is (wait_refusal old.limits e.now c.args.me 1) (got_at op.value e.now (wait_phase e.now c.args.me)) wait.NoTask

@@ -9,8 +9,10 @@ use Rattle.phase_shared.specs.Views.{front_of, first_part, other_part}
 use Rattle.phase_shared.specs.Regs.{view_in, phaser_place, phaser_terms}
 use Rattle.phase_shared.specs.Rule.{IsStation, IsGoodAt}
 use Rattle.phase_shared.proofs.Opening.{opened, closed}
-use Rattle.phase_shared.proofs.Meeting.{met}
+use Rattle.phase_shared.proofs.Meeting.{Met, met}
 use Rattle.phase_shared.proofs.RegisterSteps.{forks_child}
+use Rattle.phase_shared.proofs.reg.Reg.meet.Given.{Over}
+use Rattle.phase_shared.proofs.reg.Reg.meet.Goals.{After-join-both}
 use Rattle.phase_shared.proofs.reg.Reg.meet.Goals as goal
 
 pub unreachable-requires : goal.unreachable-requires
@@ -22,6 +24,20 @@ pub unreachable-requires-in_default-take : goal.unreachable-requires-in_default-
 unreachable-requires-in_default-take g c =
     let none : is_some c.second.inside.seat ≡ false = ap (λ o. is_some o) (sym c.take-2.ensures.value ∙ c.in_default-take.is) in
     absurd (let z : false ≡ true = sym none ∙ c.second.invariant.there in cc)
+
+-- what both have seen
+both : (g : Over) (c : After-join-both g) → Met g.K.SignalRule.allows (phaser_terms c.args.phaser.now) c.first.inside.number c.second.inside.number
+    c.first.inside.entry c.second.inside.entry (seat_view c.in-Some.seat) (seat_view c.in-Some-take.other_seat) (seat_view c.join-both.result)
+both g c =
+    let p = phaser_place c.args.phaser.now in
+    let terms = phaser_terms c.args.phaser.now in
+    let allows = g.K.SignalRule.allows in
+    let o = opened allows p.0 terms c.first.inside.number c.first.inside.entry c.first.inside.seat c.in-Some.seat
+    (sym c.take.ensures.value ∙ c.in-Some.is) c.first.invariant (ap (λ r. r.at) c.first.view_is ∙ c.requires.at.0) in
+    let q = opened allows p.0 terms c.second.inside.number c.second.inside.entry c.second.inside.seat c.in-Some-take.other_seat
+    (sym c.take-2.ensures.value ∙ c.in-Some-take.is) c.second.invariant (ap (λ r. r.at) c.second.view_is ∙ c.requires.at.1) in
+    met allows terms c.first.inside.number c.second.inside.number c.first.inside.entry c.second.inside.entry
+    (seat_view c.in-Some.seat) (seat_view c.in-Some-take.other_seat) (seat_view c.join-both.result) o.station q.station c.join-both.ensures.rule
 
 pub join-both-requires-clause-seats : goal.join-both-requires-clause-seats
 join-both-requires-clause-seats g c =
@@ -50,15 +66,9 @@ join-both-requires-clause-rests g c =
 -- the joined seat speaks for both
 pub split-seat-requires-clause-rule : goal.split-seat-requires-clause-rule
 split-seat-requires-clause-rule g c =
-    let p = phaser_place c.args.phaser.now in
     let terms = phaser_terms c.args.phaser.now in
     let allows = g.K.SignalRule.allows in
-    let o = opened allows p.0 terms c.first.inside.number c.first.inside.entry c.first.inside.seat c.in-Some.seat
-    (sym c.take.ensures.value ∙ c.in-Some.is) c.first.invariant (ap (λ r. r.at) c.first.view_is ∙ c.requires.at.0) in
-    let q = opened allows p.0 terms c.second.inside.number c.second.inside.entry c.second.inside.seat c.in-Some-take.other_seat
-    (sym c.take-2.ensures.value ∙ c.in-Some-take.is) c.second.invariant (ap (λ r. r.at) c.second.view_is ∙ c.requires.at.1) in
-    let m = met allows terms c.first.inside.number c.second.inside.number c.first.inside.entry c.second.inside.entry
-    (seat_view c.in-Some.seat) (seat_view c.in-Some-take.other_seat) (seat_view c.join-both.result) o.station q.station c.join-both.ensures.rule in
+    let m = both g (goal.at.split-seat-requires-clause-rule g c).After-join-both in
     forks_child g.A.Accumulate.operation allows terms c.first.inside.number (seat_number c.join-both.result) (seat_view c.join-both.result) m.now
     c.second.inside.number m.is
 
@@ -67,12 +77,7 @@ invariant_of-first g c =
     let p = phaser_place c.args.phaser.now in
     let terms = phaser_terms c.args.phaser.now in
     let allows = g.K.SignalRule.allows in
-    let o = opened allows p.0 terms c.first.inside.number c.first.inside.entry c.first.inside.seat c.in-Some.seat
-    (sym c.take.ensures.value ∙ c.in-Some.is) c.first.invariant (ap (λ r. r.at) c.first.view_is ∙ c.requires.at.0) in
-    let q = opened allows p.0 terms c.second.inside.number c.second.inside.entry c.second.inside.seat c.in-Some-take.other_seat
-    (sym c.take-2.ensures.value ∙ c.in-Some-take.is) c.second.invariant (ap (λ r. r.at) c.second.view_is ∙ c.requires.at.1) in
-    let m = met allows terms c.first.inside.number c.second.inside.number c.first.inside.entry c.second.inside.entry
-    (seat_view c.in-Some.seat) (seat_view c.in-Some-take.other_seat) (seat_view c.join-both.result) o.station q.station c.join-both.ensures.rule in
+    let m = both g (goal.at.invariant_of-first g c).After-join-both in
     let left = c.split-seat.ensures.left ∙ ap first_part m.is in
     closed allows p.0 terms c.first.inside.number c.first.inside.entry c.split-seat.result.0 c.split-seat.ensures.seats.0
     (subst (λ (z : View). IsStation allows terms c.first.inside.number c.first.inside.entry z) (sym left) m.left)
@@ -82,12 +87,7 @@ invariant_of-second g c =
     let p = phaser_place c.args.phaser.now in
     let terms = phaser_terms c.args.phaser.now in
     let allows = g.K.SignalRule.allows in
-    let o = opened allows p.0 terms c.first.inside.number c.first.inside.entry c.first.inside.seat c.in-Some.seat
-    (sym c.take.ensures.value ∙ c.in-Some.is) c.first.invariant (ap (λ r. r.at) c.first.view_is ∙ c.requires.at.0) in
-    let q = opened allows p.0 terms c.second.inside.number c.second.inside.entry c.second.inside.seat c.in-Some-take.other_seat
-    (sym c.take-2.ensures.value ∙ c.in-Some-take.is) c.second.invariant (ap (λ r. r.at) c.second.view_is ∙ c.requires.at.1) in
-    let m = met allows terms c.first.inside.number c.second.inside.number c.first.inside.entry c.second.inside.entry
-    (seat_view c.in-Some.seat) (seat_view c.in-Some-take.other_seat) (seat_view c.join-both.result) o.station q.station c.join-both.ensures.rule in
+    let m = both g (goal.at.invariant_of-second g c).After-join-both in
     let right = c.split-seat.ensures.right ∙ ap other_part m.is in
     closed allows p.0 terms c.second.inside.number c.second.inside.entry c.split-seat.result.1 c.split-seat.ensures.seats.1
     (subst (λ (z : View). IsStation allows terms c.second.inside.number c.second.inside.entry z) (sym right) m.right)
@@ -95,57 +95,27 @@ invariant_of-second g c =
 -- both have seen what the joined seat had
 pub returns-clause-one : goal.returns-clause-one
 returns-clause-one g c =
-    let p = phaser_place c.args.phaser.now in
-    let terms = phaser_terms c.args.phaser.now in
-    let allows = g.K.SignalRule.allows in
-    let o = opened allows p.0 terms c.first.inside.number c.first.inside.entry c.first.inside.seat c.in-Some.seat
-    (sym c.take.ensures.value ∙ c.in-Some.is) c.first.invariant (ap (λ r. r.at) c.first.view_is ∙ c.requires.at.0) in
-    let q = opened allows p.0 terms c.second.inside.number c.second.inside.entry c.second.inside.seat c.in-Some-take.other_seat
-    (sym c.take-2.ensures.value ∙ c.in-Some-take.is) c.second.invariant (ap (λ r. r.at) c.second.view_is ∙ c.requires.at.1) in
-    let m = met allows terms c.first.inside.number c.second.inside.number c.first.inside.entry c.second.inside.entry
-    (seat_view c.in-Some.seat) (seat_view c.in-Some-take.other_seat) (seat_view c.join-both.result) o.station q.station c.join-both.ensures.rule in
+    let m = both g (goal.at.returns-clause-one g c).After-join-both in
     let left = c.split-seat.ensures.left ∙ ap first_part m.is in
     let right = c.split-seat.ensures.right ∙ ap other_part m.is in
     ap (λ (z : View). (front_of z).seen) left ∙ sym (ap (λ (z : View). (front_of z).seen) right)
 
 pub returns-clause-apart : goal.returns-clause-apart
 returns-clause-apart g c =
-    let p = phaser_place c.args.phaser.now in
-    let terms = phaser_terms c.args.phaser.now in
-    let allows = g.K.SignalRule.allows in
-    let o = opened allows p.0 terms c.first.inside.number c.first.inside.entry c.first.inside.seat c.in-Some.seat
-    (sym c.take.ensures.value ∙ c.in-Some.is) c.first.invariant (ap (λ r. r.at) c.first.view_is ∙ c.requires.at.0) in
-    let q = opened allows p.0 terms c.second.inside.number c.second.inside.entry c.second.inside.seat c.in-Some-take.other_seat
-    (sym c.take-2.ensures.value ∙ c.in-Some-take.is) c.second.invariant (ap (λ r. r.at) c.second.view_is ∙ c.requires.at.1) in
-    let m = met allows terms c.first.inside.number c.second.inside.number c.first.inside.entry c.second.inside.entry
-    (seat_view c.in-Some.seat) (seat_view c.in-Some-take.other_seat) (seat_view c.join-both.result) o.station q.station c.join-both.ensures.rule in
+    let m = both g (goal.at.returns-clause-apart g c).After-join-both in
     m.apart
 
 pub returns-clause-good : goal.returns-clause-good
 returns-clause-good g c =
-    let p = phaser_place c.args.phaser.now in
     let terms = phaser_terms c.args.phaser.now in
     let allows = g.K.SignalRule.allows in
-    let o = opened allows p.0 terms c.first.inside.number c.first.inside.entry c.first.inside.seat c.in-Some.seat
-    (sym c.take.ensures.value ∙ c.in-Some.is) c.first.invariant (ap (λ r. r.at) c.first.view_is ∙ c.requires.at.0) in
-    let q = opened allows p.0 terms c.second.inside.number c.second.inside.entry c.second.inside.seat c.in-Some-take.other_seat
-    (sym c.take-2.ensures.value ∙ c.in-Some-take.is) c.second.invariant (ap (λ r. r.at) c.second.view_is ∙ c.requires.at.1) in
-    let m = met allows terms c.first.inside.number c.second.inside.number c.first.inside.entry c.second.inside.entry
-    (seat_view c.in-Some.seat) (seat_view c.in-Some-take.other_seat) (seat_view c.join-both.result) o.station q.station c.join-both.ensures.rule in
+    let m = both g (goal.at.returns-clause-good g c).After-join-both in
     let left = c.split-seat.ensures.left ∙ ap first_part m.is in
     subst (λ (h : History). IsGoodAt allows terms h) (sym (ap (λ (z : View). (front_of z).seen) left)) m.good
 
 pub returns-clause-begins : goal.returns-clause-begins
 returns-clause-begins g c =
-    let p = phaser_place c.args.phaser.now in
-    let terms = phaser_terms c.args.phaser.now in
-    let allows = g.K.SignalRule.allows in
-    let o = opened allows p.0 terms c.first.inside.number c.first.inside.entry c.first.inside.seat c.in-Some.seat
-    (sym c.take.ensures.value ∙ c.in-Some.is) c.first.invariant (ap (λ r. r.at) c.first.view_is ∙ c.requires.at.0) in
-    let q = opened allows p.0 terms c.second.inside.number c.second.inside.entry c.second.inside.seat c.in-Some-take.other_seat
-    (sym c.take-2.ensures.value ∙ c.in-Some-take.is) c.second.invariant (ap (λ r. r.at) c.second.view_is ∙ c.requires.at.1) in
-    let m = met allows terms c.first.inside.number c.second.inside.number c.first.inside.entry c.second.inside.entry
-    (seat_view c.in-Some.seat) (seat_view c.in-Some-take.other_seat) (seat_view c.join-both.result) o.station q.station c.join-both.ensures.rule in
+    let m = both g (goal.at.returns-clause-begins g c).After-join-both in
     let left = c.split-seat.ensures.left ∙ ap first_part m.is in
     let seen = ap (λ (z : View). (front_of z).seen) left in
     let mine = ap (λ o. (front_of (view_in o)).seen) (sym (sym c.take.ensures.value ∙ c.in-Some.is)) ∙ ap (λ r. r.seen) c.first.view_is in
