@@ -25,14 +25,77 @@
 //! yield, and then sleep for some milliseconds at a time, until the phase that they wait for is
 //! complete or there is room for theirs.
 //!
+//! **A registration in a thread.** No closure can hold one, as it cannot be thrown away. Lend it to
+//! the thread, or lend an `Option` that the thread takes it from. Each call asks that the
+//! registration is on the phaser that it names, so a function that is passed both has a `requires`
+//! with `phaser_place`, and so has a closure. A whole program, whose founder and its child each
+//! send a value in a thread of its own, and leave:
+//!
 //! ```text
-//! let (phaser, mut founder) = Phaser::<Sum, NoRule>::make(alloc, Spec::new(1, 1000)?, NoRule)?;
-//! founder.send(5)?;
-//! founder.next(rt, &phaser, None)     // signalled phase 0, and got its value, 5
+//! ghost use Rattle.std.specs.Prelude.{◌≡◌, None, IfSome};
+//! ghost use Rattle.phase_shared.specs.Regs.{phaser_place};
+//!
+//! use phase_accum::Sum;
+//! use phase_base::{Mode, Spec};
+//! use phase_shared::{NoRule, Phaser, Reg};
+//! use std::io;
+//! use std::sync::Wait;
+//! use std::thread::{Threads, join_mut};
+//!
+//! // Sends a value, signals and waits, and leaves.
+//! fn take_part<R: Wait>(
+//!     rt: &R,
+//!     phaser: &Phaser<Sum, NoRule>,
+//!     slot: &mut Option<Reg<Sum, NoRule>>,
+//!     value: i64,
+//! )
+//!     requires { IfSome slot.old (λ reg. reg.at ≡ phaser_place phaser.now) }
+//!     ensures { slot.new ≡ None }
+//! {
+//!     let Some(mut reg) = slot.take() else { return };
+//!     let _held = reg.send(value);
+//!     let _next = reg.next(rt, phaser, None);
+//!     let _past = reg.leave(rt, phaser);
+//! }
+//!
+//! // Lends a registration to each of two threads.
+//! fn run<R: Threads + Wait + Sync>(
+//!     rt: &R,
+//!     phaser: &Phaser<Sum, NoRule>,
+//!     mut one: Option<Reg<Sum, NoRule>>,
+//!     mut other: Option<Reg<Sum, NoRule>>,
+//! )
+//!     requires one { IfSome one (λ reg. reg.at ≡ phaser_place phaser.now) }
+//!     requires other { IfSome other (λ reg. reg.at ≡ phaser_place phaser.now) }
+//! {
+//!     let _both = join_mut(
+//!         rt,
+//!         &mut ||
+//!             requires { IfSome one (λ reg. reg.at ≡ phaser_place phaser.now) }
+//!             ensures { one.exit ≡ None }
+//!         { take_part(rt, phaser, &mut one, 4) },
+//!         &mut ||
+//!             requires { IfSome other (λ reg. reg.at ≡ phaser_place phaser.now) }
+//!             ensures { other.exit ≡ None }
+//!         { take_part(rt, phaser, &mut other, 3) },
+//!     );
+//!     let None = one else { unreachable!() };
+//!     let None = other else { unreachable!() };
+//! }
+//!
+//! fn main(rt: HostRuntime) -> io::Result<()> {
+//!     let Ok(limits) = Spec::new(2, 1000) else { return Ok(()) };
+//!     let Ok((phaser, mut founder)) = Phaser::<Sum, NoRule>::make(rt.alloc(), limits, NoRule) else {
+//!         return Ok(());
+//!     };
+//!     let child = founder.register(&rt, &phaser, Mode::SigWait).ok();
+//!     run(&rt, &phaser, Some(founder), child);
+//!     println!(rt; "both left")
+//! }
 //! ```
 //!
-//! **A registration in a thread.** No closure can hold one, as it cannot be thrown away. Lend it to
-//! the thread, or lend an `Option` that the thread takes it from.
+//! **What a thread got** is said by the laws in `laws`, of each call's record. `phase_received` has
+//! registrations with the list of what they got, and pasts with such lists.
 //!
 //! Proved: what the clauses say, for any number of threads. Only tested: that a call succeeds where
 //! it can, and that a waiting call comes back. Not promised: that a phase is ever complete, that a

@@ -1,9 +1,12 @@
-//! Tests of a lock and of a phaser between threads, by their public calls: of `turn_lock` and
-//! `phase_shared`. They stand in a crate of their own, since a crate is proved anew with its tests.
+//! Tests of a lock and of a phaser between threads, by their public calls: of `turn_lock`,
+//! `phase_shared` and `phase_received`. They stand in a crate of their own, since a crate is proved
+//! anew with its tests.
 #![tactic(auto)]
 
 #[cfg(test)]
 mod churn;
+#[cfg(test)]
+mod head;
 #[cfg(test)]
 mod kept;
 #[cfg(test)]
