@@ -1,6 +1,8 @@
 //! Scripts with phasers of many bounds and many tasks: where there is memory none is wanted.
+ghost use Rattle.std.specs.Prelude.{◌≤◌, IfOk};
+
 use phase_session::Session;
-use std::alloc::Global;
+use std::alloc::{AllocError, Global};
 use std::process::Abort;
 use std::test::Fail;
 
@@ -16,6 +18,14 @@ fn answers(rt: &impl Abort, session: &mut Session, line: &str, reply: &str) -> R
     let text = got.bytes().strip_suffix(b"\n").unwrap_or(b"no line end");
     assert_eq!(rt; text, reply.as_bytes(), "at '{line}'");
     Ok(())
+}
+
+// How many bytes the reply to a line has, whatever was done with the session before.
+fn size_of_reply(session: &mut Session, line: &[u8]) -> Result<usize, AllocError>
+    ensures { IfOk result (λ size. size ≤ 47) }
+{
+    let reply = session.line(line)?;
+    Ok(reply.bytes().len())
 }
 
 // A phaser of this bound is made, and its founder sends, signals and waits.
@@ -88,6 +98,7 @@ fn children_of_a_late_phase_send_and_signal(rt: HostRuntime) -> Result<(), Fail>
         )?;
     }
     answers(&rt, &mut session, "wait 7", "no not-yet")?;
+    assert_eq!(rt; size_of_reply(&mut session, b"wait 7")?, 11);
     answers(&rt, &mut session, "signal 0", "ok 100")?;
     answers(&rt, &mut session, "wait 7", "value 100 500500")?;
     Ok(())
