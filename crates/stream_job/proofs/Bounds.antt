@@ -1,6 +1,6 @@
--- How far the lists of a graph can reach: the list of phaser number p has at most 2^(33 + p) phases.
--- A joiner of m inputs is m times as long as the shortest of them, of which one stands m phasers
--- above its output or further; sources that follow each other add 2^26 phases each.
+-- How far the lists of a graph can reach: the list of phaser number p has at most 2 ^ (33 + p)
+-- phases. A joiner of m inputs is m times as long as the shortest of them, of which one stands m
+-- phasers above its output or further; sources that follow each other add 2 ^ 26 phases each.
 use Rattle.std.proofs.Common.{◌≡◌, ℕ, zero, suc, ◌+◌, ◌-◌, ◌*◌, ◌%◌, ◌<◌, ◌≤◌, Bool, true, false, ◌&&◌, List, [], ◌∷◌, length, map, get_or, Some, None, ℤ, refl, sym, ap, subst, ◌∙◌, arith, ◌⊎◌, inl, inr}
 use Rattle.std.specs.Prelude.{Option, min, max, nat_le, if◌then◌else◌}
 use Rattle.std.specs.Prelude.{Vec}

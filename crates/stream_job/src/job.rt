@@ -87,8 +87,8 @@ impl Job {
         &self.graph
     }
 
-    /// Lends the samples of a source, none where there is no such source. Sources are numbered among
-    /// themselves, in the order of their lines. It takes no memory.
+    /// Lends the samples of a source, none where there is no such source. Sources are numbered
+    /// among themselves, in the order of their lines. It takes no memory.
     pub fn samples(&self, source: usize) -> &[i64]
         ensures value { result.now ≡ get_or self.now.samples source [] }
         ensures sends { AreSends result.now }
