@@ -224,6 +224,44 @@ impl<A: Accumulate, K: SignalRule> Receiver<A, K> {
         Ok(next)
     }
 
+    /// Registers a child of a plain registration, as `Reg::register` does: the child has received
+    /// nothing.
+    pub fn child_of<W: Wait>(
+        rt: &W,
+        alloc: Global,
+        phaser: &Phaser<A, K>,
+        parent: &mut Reg<A, K>,
+        mode: Mode,
+    ) -> Result<Receiver<A, K>, RegisterRefusal>
+        requires at { parent.old.at ≡ phaser_place phaser.now }
+
+        ensures ok { IfOk result (λ child.
+            HasRegistered parent.old.number child.number mode parent.old.seen parent.new.seen) }
+        ensures child { IfOk result (λ child.
+            (child.at ≡ parent.old.at) × (child.seen ≡ parent.new.seen)
+            × (received_of A.operation child ≡ [])) }
+        ensures none_held { IfOk result (λ child.
+            StandsForSends A.operation child.held [] × (child.held.count ≡ 0)) }
+        ensures at { (parent.new.at ≡ parent.old.at) × (parent.new.number ≡ parent.old.number) }
+
+        ensures same { (parent.new.entry ≡ parent.old.entry)
+            × (parent.new.held ≡ parent.old.held) }
+        ensures good { IsGoodAt K.allows (phaser_terms phaser.now) parent.new.seen }
+        ensures err { IfErr result
+            (RefusesRegister parent.old.number mode parent.old.seen parent.new.seen) }
+        ensures known { result ≢ Err RegisterRefusal.NoTask }
+    {
+        phase_shared::laws::registers();
+        let reg = match parent.register(rt, phaser, mode) {
+            Ok(reg) => reg,
+            Err(refusal) => return Err(refusal),
+        };
+        Ok(Receiver {
+            reg,
+            values: Vec::new(alloc),
+        })
+    }
+
     /// Registers a child in a mode that its own mode holds, at both of its phases. The child has
     /// seen what its parent has, holds no sends, and has received nothing. It may take memory, and
     /// waits for its turn.
@@ -253,14 +291,7 @@ impl<A: Accumulate, K: SignalRule> Receiver<A, K> {
         ensures known { result ≢ Err RegisterRefusal.NoTask }
     {
         phase_shared::laws::registers();
-        let reg = match self.reg.register(rt, phaser, mode) {
-            Ok(reg) => reg,
-            Err(refusal) => return Err(refusal),
-        };
-        Ok(Receiver {
-            reg,
-            values: Vec::new(alloc),
-        })
+        Receiver::child_of(rt, alloc, phaser, &mut self.reg, mode)
     }
 
     /// Ends the registration: the sends that it holds are in no phase. It waits for its turn, and

@@ -256,20 +256,6 @@ fn runs<R: Threads + Wait + Sync>(
     sunk
 }
 
-/// Registers a child that takes.
-fn registers_taker<R: Wait>(rt: &R, alloc: Global, bus: &Bus, founder: &mut Sender) -> Option<Taker>
-    requires { founder.old.at ≡ phaser_place bus.now }
-    ensures founder { founder.new.at ≡ founder.old.at }
-    ensures taker { IfSome result (λ taker. taker.at ≡ phaser_place bus.now) }
-{
-    phase_shared::laws::registers();
-    let child = match founder.register(rt, bus, Mode::Wait) {
-        Ok(child) => child,
-        Err(_) => return None,
-    };
-    Some(Receiver::new(child, Vec::new(alloc)))
-}
-
 // How many values there are, and their sum.
 fn summed(values: &[Outcome]) -> (u64, i64) {
     let (mut count, mut sum) = (0u64, 0i64);
@@ -295,9 +281,9 @@ fn main(rt: HostRuntime) -> io::Result<()> {
         return Ok(());
     };
     let feeder = source.register(&rt, &first, Mode::Sig).ok();
-    let from = registers_taker(&rt, alloc, &first, &mut source);
+    let from = Taker::child_of(&rt, alloc, &first, &mut source, Mode::Wait).ok();
     let to = founder.register(&rt, &second, Mode::Sig).ok();
-    let sink = registers_taker(&rt, alloc, &second, &mut founder);
+    let sink = Taker::child_of(&rt, alloc, &second, &mut founder, Mode::Wait).ok();
     let _past = source.leave(&rt, &first);
     let past = founder.leave(&rt, &second);
     let Some(sunk) = runs(&rt, alloc, &first, &second, feeder, from, to, sink) else {
