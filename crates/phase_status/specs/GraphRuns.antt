@@ -134,8 +134,8 @@ pub record CheckStops {W : Type 0} (known : Known) (name : List ℕ) (status : �
     (before after : WriterState) : Type 0 where
   pub line : List ℕ
   pub cause : IsNoJob known name status line old new
-      ⊎ IsUnwritten (ChecksPrefix known name (writer_state contents old) (writer_state contents new))
-      status line (writer_state contents new)
+      ⊎ IsUnwritten (ChecksPrefix known name (writer_state contents old)
+      (writer_state contents new)) status line (writer_state contents new)
   pub says : Says line before after
 
 -- an evaluation has a status other than 0: it has its cause, whose line was told

@@ -31,7 +31,8 @@ pub record Replays (input rest : ReaderState) (old new : WriterState) : Type 0 w
   pub all : ReplaysAll input rest old new
 
 -- the output grew by a prefix of them, and a fault that has its cause was told
-pub record ReplayStops (input rest : ReaderState) (old new before after : WriterState) : Type 0 where
+pub record ReplayStops (input rest : ReaderState)
+    (old new before after : WriterState) : Type 0 where
   pub fault : ReplayFault
   pub cause : HasCause fault input rest old new
   pub known : RepliesPrefix input old new

@@ -8,8 +8,8 @@ use Rattle.watched_io.specs.declared.watched.Watched.{Watched}
 
 -- ---- states
 
--- a watched reader: what it has still to give, where that is known; how many bytes its reads gave, as
--- far as they are counted; and whether a call failed
+-- a watched reader: what it has still to give, where that is known; how many bytes its reads gave,
+-- as far as they are counted; and whether a call failed
 pub record ReaderState : Type 0 where
   pub unread : Option (List ℕ)
   pub count : ℕ
