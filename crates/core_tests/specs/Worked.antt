@@ -46,6 +46,10 @@ half_turn = Signalled 0 ([] ∷ []) None ∷ founded
 abbrev pub late_child : History
 late_child = Registered 1 3 Sig ∷ one_signal
 
+-- a list without sends
+abbrev pub one_list : List (List ℤ)
+one_list = [] ∷ []
+
 -- two lists without sends
 abbrev pub two_lists : List (List ℤ)
 two_lists = [] ∷ [] ∷ []

@@ -35,7 +35,7 @@ ghost use Rattle.phase_history.specs.Replies.{after_register, after_register_now
 ghost use Rattle.phase_history.specs.Replies.{after_wait, after_wait_block, after_drop};
 ghost use Rattle.core_tests.specs.Worked.{worked_limits, founded, one_child, one_signal};
 ghost use Rattle.core_tests.specs.Worked.{two_signals, one_wait, all_left, all_got};
-ghost use Rattle.core_tests.specs.Worked.{half_turn, late_child, two_lists};
+ghost use Rattle.core_tests.specs.Worked.{half_turn, late_child, one_list, two_lists};
 
 use phase_accum::{Sum, laws as values};
 use phase_core::laws;
@@ -74,8 +74,8 @@ fn answered_calls()
     ensures block { IsAnsweredBlock sum_value two_signals 2 2 0 2 }
     ensures quiet { HasNoSignaller all_got }
     ensures got_all { done_of all_got ≤ wait_phase all_got 2 }
-    ensures legal { IsLegal worked_limits (after_reply (call.Signal 1 two_lists None)
-        (reply_to sum_value worked_limits one_wait (call.Signal 1 two_lists None)) one_wait) }
+    ensures legal { IsLegal worked_limits (after_reply (call.Signal 1 one_list None)
+        (reply_to sum_value worked_limits one_wait (call.Signal 1 one_list None)) one_wait) }
     ensures refused { signal_refusal worked_limits one_wait 1 two_lists None
         ≡ one_by_one_refusal worked_limits one_wait 1 two_lists None }
     ensures leaves { LeavesSame (Signalled 1 two_lists None ∷ one_wait)
@@ -100,10 +100,10 @@ fn calls_as_events()
         (refused_or (register_now_refusal one_wait 2 3) (done_of one_wait)) 2 3 one_wait
         ≡ after_reply (call.RegisterNow 2 3)
         (reply_to sum_value worked_limits one_wait (call.RegisterNow 2 3)) one_wait }
-    ensures signal { after_signal (signal_reply worked_limits one_wait 1 two_lists None)
-        1 two_lists None one_wait
-        ≡ after_reply (call.Signal 1 two_lists None)
-        (reply_to sum_value worked_limits one_wait (call.Signal 1 two_lists None)) one_wait }
+    ensures signal { after_signal (signal_reply worked_limits one_wait 1 one_list None)
+        1 one_list None one_wait
+        ≡ after_reply (call.Signal 1 one_list None)
+        (reply_to sum_value worked_limits one_wait (call.Signal 1 one_list None)) one_wait }
     ensures wait { after_wait (wait_reply sum_value worked_limits one_wait 2) 2 one_wait
         ≡ after_reply (call.Wait 2)
         (reply_to sum_value worked_limits one_wait (call.Wait 2)) one_wait }

@@ -3,7 +3,7 @@ use Rattle.std.proofs.Common.{refl, None, pos, [], ◌∷◌, arith}
 use Rattle.phase_accum.specs.Values.{sum_value}
 use Rattle.phase_accum.specs.declared.outcome.Outcome.TheVariants.{Value}
 use Rattle.phase_history.specs.declared.call.Call.TheVariants.{Signal}
-use Rattle.core_tests.specs.Worked.{worked_limits, two_signals, one_wait, all_got, two_lists}
+use Rattle.core_tests.specs.Worked.{worked_limits, two_signals, one_wait, all_got, one_list, two_lists}
 use Rattle.core_tests.proofs.Legal.{one_wait_is_legal}
 use Rattle.core_tests.proofs.worked_laws.answered_calls.Goals as goal
 
@@ -25,7 +25,7 @@ returns-clause-got_all c =
 
 pub returns-clause-legal : goal.returns-clause-legal
 returns-clause-legal c =
-    c.accepted.ensures sum_value worked_limits one_wait (Signal 1 two_lists None) one_wait_is_legal ((tt, omega arith, (tt, omega arith, tt)), tt)
+    c.accepted.ensures sum_value worked_limits one_wait (Signal 1 one_list None) one_wait_is_legal ((tt, omega arith, tt), tt)
 
 pub returns-clause-refused : goal.returns-clause-refused
 returns-clause-refused c =

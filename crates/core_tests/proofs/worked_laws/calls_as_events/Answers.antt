@@ -2,7 +2,7 @@
 use Rattle.std.proofs.Common.{None}
 use Rattle.phase_accum.specs.Values.{sum_value}
 use Rattle.phase_base.specs.declared.mode.Mode.TheVariants.{Sig}
-use Rattle.core_tests.specs.Worked.{worked_limits, one_wait, two_lists}
+use Rattle.core_tests.specs.Worked.{worked_limits, one_wait, one_list}
 use Rattle.core_tests.proofs.worked_laws.calls_as_events.Goals as goal
 
 pub returns-clause-register : goal.returns-clause-register
@@ -14,7 +14,7 @@ returns-clause-register_now c =
 
 pub returns-clause-signal : goal.returns-clause-signal
 returns-clause-signal c =
-    c.after.ensures.signal sum_value worked_limits one_wait 1 two_lists None
+    c.after.ensures.signal sum_value worked_limits one_wait 1 one_list None
 
 pub returns-clause-wait : goal.returns-clause-wait
 returns-clause-wait c =
