@@ -1,5 +1,3 @@
-pub mod Entries
-pub mod Exact
 pub mod Jobs
 pub mod Kept
 pub mod Lists

@@ -12,7 +12,7 @@ use Rattle.stream_job.specs.Spans.{nowhere, signalled_by, takes_from, spans_of, 
 use Rattle.stream_job.specs.Lists.{member_at, member_by, members_of, output_list, taken_by, taken_from, phase_in, value_by, number, list_over, list_of_phaser, numbers_above, numbers_of}
 use Rattle.stream_job.specs.declared.span.Span.{Span}
 use Rattle.stream_job.proofs.Growing.{AreSameBelow, grown-same, grown-whole, map-same, filter_map-same}
-use Rattle.stream_job.proofs.Ordered.{LooksAt, AreSameAt, looked_above}
+use Rattle.stream_laws.proofs.Ordered.{LooksAt, AreSameAt, looked_above}
 
 -- what a task takes is the same of each of these inputs
 abbrev pub TakesSame : Task → Span → List (List ℤ) → List (List ℤ) → (ℕ → Type 0) → Type 0

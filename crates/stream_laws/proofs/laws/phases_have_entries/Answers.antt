@@ -1,6 +1,6 @@
-use Rattle.stream_job.proofs.EachPhase.{phase_entry, entry_alone}
-use Rattle.stream_job.proofs.OneSend.{one_send}
-use Rattle.stream_job.proofs.laws.phases_have_entries.Goals as goal
+use Rattle.stream_laws.proofs.EachPhase.{phase_entry, entry_alone}
+use Rattle.stream_laws.proofs.OneSend.{one_send}
+use Rattle.stream_laws.proofs.laws.phases_have_entries.Goals as goal
 
 pub returns-clause-some : goal.returns-clause-some
 returns-clause-some c = phase_entry

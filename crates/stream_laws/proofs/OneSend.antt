@@ -12,8 +12,8 @@ use Rattle.stream_job.specs.Jobs.{Job, place_in}
 use Rattle.stream_job.specs.Spans.{signalled_by, spans_of, span_in}
 use Rattle.stream_job.specs.Lists.{Member, entry, member_at, member_by, send_in, sends_in, numbers_of}
 use Rattle.stream_job.specs.Meetings.{meeting_line}
-use Rattle.stream_job.specs.Entries.{output_values, sends_at, HasEntry}
-use Rattle.stream_job.proofs.EachPhase.{member_where, entry_alone}
+use Rattle.stream_laws.specs.Entries.{output_values, sends_at, HasEntry}
+use Rattle.stream_laws.proofs.EachPhase.{member_where, entry_alone}
 
 -- ---- what a list of tasks sends
 

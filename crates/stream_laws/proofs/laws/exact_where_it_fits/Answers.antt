@@ -1,5 +1,5 @@
-use Rattle.stream_job.proofs.Exacts.{exact_outputs, exact_members, exact_taken, exact_lines_are}
-use Rattle.stream_job.proofs.laws.exact_where_it_fits.Goals as goal
+use Rattle.stream_laws.proofs.Exacts.{exact_outputs, exact_members, exact_taken, exact_lines_are}
+use Rattle.stream_laws.proofs.laws.exact_where_it_fits.Goals as goal
 
 pub returns-clause-outputs : goal.returns-clause-outputs
 returns-clause-outputs c = exact_outputs

@@ -12,10 +12,10 @@ use Rattle.stream_job.specs.Spans.{signalled_by, puts_on, takes_from, turns_belo
 use Rattle.stream_job.specs.Lists.{turn_at, mixed, taken_by, output_list, output_on, member_at, member_by, list_over, number, numbers_of, end_of_member, ends_on}
 use Rattle.stream_job.specs.declared.span.Span.{Span}
 use Rattle.stream_job.proofs.Growing.{map-same}
-use Rattle.stream_job.proofs.Ordered.{place-at}
+use Rattle.stream_laws.proofs.Ordered.{place-at}
 use Rattle.stream_job.proofs.SpansAbove.{spans_all}
-use Rattle.stream_job.proofs.ListsAbove.{first_taken, numbers_all}
-use Rattle.stream_job.proofs.LengthsAbove.{first_value, lengths_all}
+use Rattle.stream_laws.proofs.ListsAbove.{first_taken, numbers_all}
+use Rattle.stream_laws.proofs.LengthsAbove.{first_value, lengths_all}
 use Rattle.stream_job.proofs.Mixing.{length-mixed}
 
 -- ---- steps

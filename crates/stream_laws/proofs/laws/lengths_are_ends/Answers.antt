@@ -1,6 +1,6 @@
 -- Lengths by steps alone, and then by values: what is taken is there.
-use Rattle.stream_job.proofs.ListLengths.{lengths_end, outputs_long}
-use Rattle.stream_job.proofs.laws.lengths_are_ends.Goals as goal
+use Rattle.stream_laws.proofs.ListLengths.{lengths_end, outputs_long}
+use Rattle.stream_laws.proofs.laws.lengths_are_ends.Goals as goal
 
 pub returns-clause-outputs : goal.returns-clause-outputs
 returns-clause-outputs c = outputs_long

@@ -18,16 +18,16 @@ use Rattle.stream_job.specs.Jobs.{Job, samples_at, place_in}
 use Rattle.stream_job.specs.Spans.{signalled_by, takes_from, offset_of, span_at, spans_of, lengths_of, span_in}
 use Rattle.stream_job.specs.Lists.{entry, taken_from, output_on, member_at, member_by, members_of, sends_in, value_by, number, phase_in, list_over, list_of_phaser, numbers_of, is_sink_at, sink_over, lines_of}
 use Rattle.stream_job.specs.Ranges.{Fits}
-use Rattle.stream_job.specs.Entries.{Takes, AreInRange}
-use Rattle.stream_job.specs.Exact.{exact_by, exact_single, exact_in, exact_over, exact_lists, exact_lines}
+use Rattle.stream_laws.specs.Entries.{Takes, AreInRange}
+use Rattle.stream_laws.specs.Exact.{exact_by, exact_single, exact_in, exact_over, exact_lists, exact_lines}
 use Rattle.stream_job.specs.declared.span.Span.{Span}
 use Rattle.stream_job.proofs.Growing.{grown-whole, filter_map-same}
-use Rattle.stream_job.proofs.Ordered.{looked_above}
+use Rattle.stream_laws.proofs.Ordered.{looked_above}
 use Rattle.stream_job.proofs.SpansAbove.{spans_all}
-use Rattle.stream_job.proofs.ListsAbove.{output_by_taken, same_members, lists_above, numbers_all}
-use Rattle.stream_job.proofs.ListLengths.{length-numbers}
-use Rattle.stream_job.proofs.EachPhase.{member_where, length-list}
-use Rattle.stream_job.proofs.Fitting.{in_range}
+use Rattle.stream_laws.proofs.ListsAbove.{output_by_taken, same_members, lists_above, numbers_all}
+use Rattle.stream_laws.proofs.ListLengths.{length-numbers}
+use Rattle.stream_laws.proofs.EachPhase.{member_where, length-list}
+use Rattle.stream_laws.proofs.Fitting.{in_range}
 
 -- ---- one phase
 

@@ -1,0 +1,10 @@
+pub mod EachPhase
+pub mod Exacts
+pub mod Examples
+pub mod Fitting
+pub mod LawExamples
+pub mod LengthsAbove
+pub mod ListLengths
+pub mod ListsAbove
+pub mod OneSend
+pub mod Ordered

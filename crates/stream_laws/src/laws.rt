@@ -1,0 +1,89 @@
+//! The laws. The contract of each function is the law.
+ghost use Rattle.std.specs.Prelude.{◌≡◌, ◌-◌, ◌<◌, ◌↔◌, ℕ, [], ◌∷◌, length, map, get_or, None, true};
+ghost use Rattle.phase_accum.specs.declared.outcome.Outcome.TheVariants.{Empty};
+ghost use Rattle.graph_base.specs.Graphs.{phaser_at, task_at};
+ghost use Rattle.graph_words.specs.declared.operation.Op.TheVariants.{Any};
+ghost use Rattle.graph_base.specs.TaskLines.{IsGraph};
+ghost use Rattle.stream_laws.specs.Entries.{AreInRange, HasEntry, output_values, sends_at, Takes};
+ghost use Rattle.stream_laws.specs.Exact.{exact_lines, exact_lists};
+ghost use Rattle.stream_job.specs.Jobs.{Job};
+ghost use Rattle.stream_job.specs.Lists.{ends_on, entry, lines_of, list_of_phaser, list_over, number, numbers_of, output_on};
+ghost use Rattle.stream_job.specs.Meetings.{meet_on, meeting_line};
+ghost use Rattle.stream_job.specs.Ranges.{Fits};
+ghost use Rattle.stream_job.specs.Spans.{greatest, lengths_of, puts_on, signalled_by};
+ghost use Rattle.stream_job.specs.Spans.{span_in, span_of, spans_of, spans_up_to};
+
+/// The spans of the tasks above it decide the span of each task, and in a graph that was read it is
+/// the same over the spans of all tasks.
+pub fn spans_above_decide()
+    ensures above { (job : Job) (t : ℕ) → t < length job.graph.tasks
+        → span_in job t ≡ span_of job (lengths_of job) (spans_up_to job (lengths_of job) t) t }
+    ensures all { (job : Job) (t : ℕ) → IsGraph job.graph → t < length job.graph.tasks
+        → span_in job t ≡ span_of job (lengths_of job) (spans_of job) t }
+{}
+
+/// The lists of the phasers above it decide the list of each phaser of a graph that was read, and
+/// over the lists of all phasers it is the same.
+pub fn lists_above_decide()
+    ensures lists { (job : Job) (p : ℕ) → IsGraph job.graph → p < length job.graph.phasers
+        → list_of_phaser job p ≡ list_over job (spans_of job) (lengths_of job) (numbers_of job) p }
+    ensures numbers { (job : Job) (p : ℕ) → IsGraph job.graph → p < length job.graph.phasers
+        → get_or (numbers_of job) p []
+        ≡ map number (list_over job (spans_of job) (lengths_of job) (numbers_of job) p) }
+{}
+
+/// In a graph that was read each task puts as many values on each of its outputs as its steps say,
+/// and the list of each phaser is as long as the greatest end of a task's values on it.
+pub fn lengths_are_ends()
+    ensures outputs { (job : Job) (t j : ℕ) → IsGraph job.graph → t < length job.graph.tasks
+        → j < length (signalled_by (task_at job.graph t))
+        → length (output_on job (spans_of job) (numbers_of job) t j)
+        ≡ puts_on (task_at job.graph t) (span_in job t).steps j }
+    ensures lengths { (job : Job) (p : ℕ) → IsGraph job.graph → p < length job.graph.phasers
+        → get_or (lengths_of job) p 0 ≡ greatest (ends_on job p) }
+{}
+
+/// Each phase of a phaser's list has a value of some task. Where no two tasks meet, each phase of a
+/// phaser with `any` has that of one task alone, and it is all that is sent there.
+pub fn phases_have_entries()
+    ensures some { (job : Job) (p n : ℕ) → IsGraph job.graph → p < length job.graph.phasers
+        → n < length (list_of_phaser job p) → (t : ℕ) × HasEntry job p n t }
+    ensures alone { (job : Job) (p n t u : ℕ) → IsGraph job.graph → meeting_line job ≡ None
+        → p < length job.graph.phasers → (phaser_at job.graph p).op ≡ Any
+        → HasEntry job p n t → HasEntry job p n u → t ≡ u }
+    ensures sends { (job : Job) (p n t : ℕ) → IsGraph job.graph → meeting_line job ≡ None
+        → p < length job.graph.phasers → (phaser_at job.graph p).op ≡ Any
+        → (has : HasEntry job p n t) → sends_at job p n
+        ≡ entry (output_values job t has.output) (n - (span_in job t).offset) ∷ [] }
+{}
+
+/// Two tasks meet on a phaser exactly where both have a value in one of its phases.
+pub fn tasks_meet_in_a_phase()
+    ensures { (job : Job) (t p u : ℕ) → IsGraph job.graph → t < length job.graph.tasks
+        → u < length job.graph.tasks → (meet_on job.graph (spans_of job) t p u ≡ true)
+        ↔ ((n : ℕ) × HasEntry job p n t × HasEntry job p n u) }
+{}
+
+/// A job fits exactly where each value that a filter or a peer makes is in range, at each of its
+/// steps, and so is the value of each phase that some task takes, before the phaser's single.
+pub fn fits_is_all_in_range()
+    ensures { (job : Job) → IsGraph job.graph → Fits job ↔ AreInRange job }
+{}
+
+/// Where a job fits, its lists are composed of whole numbers without any range: what live tasks put
+/// on their outputs, what is taken of each phaser's list, and what the sinks get are the exact
+/// numbers. The range shows in a phaser's list alone, in phases that no task takes.
+pub fn exact_where_it_fits()
+    ensures outputs { (job : Job) (t j : ℕ) → IsGraph job.graph → Fits job
+        → t < length job.graph.tasks → (span_in job t).live ≡ true
+        → output_on job (spans_of job) (numbers_of job) t j
+        ≡ output_on job (spans_of job) (exact_lists job) t j }
+    ensures lists { (job : Job) (p : ℕ) → IsGraph job.graph → Fits job
+        → p < length job.graph.phasers → list_of_phaser job p
+        ≡ list_over job (spans_of job) (lengths_of job) (exact_lists job) p }
+    ensures taken { (job : Job) (p n t : ℕ) → IsGraph job.graph → Fits job
+        → p < length job.graph.phasers → n < length (list_of_phaser job p) → Takes job p n t
+        → number (get_or (list_of_phaser job p) n Empty) ≡ entry (get_or (exact_lists job) p []) n }
+    ensures lines { (job : Job) → IsGraph job.graph → Fits job
+        → lines_of job ≡ exact_lines job }
+{}
