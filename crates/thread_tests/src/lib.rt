@@ -10,6 +10,8 @@ mod head;
 #[cfg(test)]
 mod locks;
 #[cfg(test)]
+mod parts;
+#[cfg(test)]
 mod received;
 #[cfg(test)]
 mod threads;
