@@ -12,6 +12,8 @@ mod kept;
 #[cfg(test)]
 mod locks;
 #[cfg(test)]
+mod parts;
+#[cfg(test)]
 mod received;
 #[cfg(test)]
 mod threads;
