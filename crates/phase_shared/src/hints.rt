@@ -12,7 +12,7 @@ use std::{hint, thread};
 const ENDED: u64 = u64::MAX;
 
 // How often a pause looks at its number while it spins, and how often it then yields.
-const LOOKS: u32 = 40;
+const LOOKS: u32 = 15;
 
 const YIELDS: u32 = 60;
 
