@@ -1,0 +1,9 @@
+-- Another task's event leaves a task's part of each history.
+use Rattle.graph_moves.proofs.Framed.{task_later, ended_later}
+use Rattle.graph_moves.proofs.laws.others_leave.Goals as goal
+
+pub returns-clause-task : goal.returns-clause-task
+returns-clause-task c = task_later
+
+pub returns-clause-ended : goal.returns-clause-ended
+returns-clause-ended c = ended_later

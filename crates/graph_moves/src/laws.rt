@@ -1,0 +1,91 @@
+//! What an event of a run leaves of a moment's facts.
+ghost use Rattle.std.specs.Prelude.{◌<◌, ℕ, ℤ, suc, length};
+ghost use Rattle.phase_base.specs.declared.mode.Mode.{Mode};
+ghost use Rattle.phase_accum.specs.declared.outcome.Outcome.{Outcome};
+ghost use Rattle.graph_base.specs.TaskLines.{IsGraph};
+ghost use Rattle.graph_base.specs.declared.line.Parent.{Parent};
+ghost use Rattle.stream_job.specs.Jobs.{Job};
+ghost use Rattle.phase_history.specs.Legal.{IsLegal};
+ghost use Rattle.graph_moments.specs.Moments.{Moment, HasRun, PhaserRan, TaskRan, HasEnded, limits_at};
+ghost use Rattle.graph_moves.specs.Moves.{HasGrown, OthersMoved, SameTask};
+ghost use Rattle.graph_moves.specs.Moves.{Signals, Waits, Leaves, Registers};
+ghost use Rattle.graph_moves.specs.Turned.{after_signal, after_wait, after_leave, after_register};
+ghost use Rattle.graph_moves.specs.Turned.{IsNextSample, IsNextSignal, IsFirstWait};
+ghost use Rattle.graph_moves.specs.Turned.{IsExchangeWait, IsNextLeave, IsNextChild};
+ghost use Rattle.graph_moves.specs.Openings.{HasOpened};
+
+/// At the opening nothing was sent or taken.
+pub fn opening()
+    ensures { (job : Job) (m : Moment) → IsGraph job.graph → HasOpened job m → HasRun job m }
+{}
+
+/// The moment after the next event of a task has the facts of every moment: a sample that a source
+/// signals, another signal, the first wait of a step, a peer's wait for the value on E, leaving a
+/// phaser, and the registration of a child on a phaser.
+pub fn turns_keep()
+    ensures sample { (job : Job) (m : Moment) (t j p n : ℕ) (v : ℤ)
+        → IsGraph job.graph → t < length job.graph.tasks → p < length job.graph.phasers
+        → IsNextSample job m t j p n v → HasRun job m
+        → HasRun job (after_signal job t j p n v (suc (m.begun t)) m) }
+    ensures signal { (job : Job) (m : Moment) (t j p n : ℕ) (v : ℤ)
+        → IsGraph job.graph → t < length job.graph.tasks → p < length job.graph.phasers
+        → IsNextSignal job m t j p n v → HasRun job m
+        → HasRun job (after_signal job t j p n v (m.begun t) m) }
+    ensures first_wait { (job : Job) (m : Moment) (t k p n : ℕ) (outcome : Outcome)
+        → IsGraph job.graph → t < length job.graph.tasks → p < length job.graph.phasers
+        → IsFirstWait job m t k p n outcome → HasRun job m
+        → HasRun job (after_wait t k p n outcome (suc (m.begun t)) m) }
+    ensures exchange_wait { (job : Job) (m : Moment) (t p n : ℕ) (outcome : Outcome)
+        → IsGraph job.graph → t < length job.graph.tasks → p < length job.graph.phasers
+        → IsExchangeWait job m t p n outcome → HasRun job m
+        → HasRun job (after_wait t 1 p n outcome (m.begun t) m) }
+    ensures leave { (job : Job) (m : Moment) (t p n : ℕ)
+        → IsGraph job.graph → t < length job.graph.tasks → p < length job.graph.phasers
+        → IsNextLeave job m t p n → HasRun job m → HasRun job (after_leave p n m) }
+    ensures child { (job : Job) (m : Moment) (t p n c a : ℕ) (mode : Mode) (u : Parent)
+        → IsGraph job.graph → t < length job.graph.tasks
+        → IsNextChild job m t p n c a mode u → HasRun job m
+        → HasRun job (after_register p n c a mode m) }
+{}
+
+/// A task's own event keeps what a moment has of the task.
+pub fn own_events_keep()
+    ensures signal { (job : Job) (before after : Moment) (t j p n : ℕ) (v : ℤ)
+        → IsGraph job.graph → t < length job.graph.tasks
+        → Signals job before after t j p n v → TaskRan job before t → TaskRan job after t }
+    ensures wait { (job : Job) (before after : Moment) (t k p n : ℕ) (outcome : Outcome)
+        → IsGraph job.graph → t < length job.graph.tasks
+        → Waits job before after t k p n outcome → TaskRan job before t → TaskRan job after t }
+    ensures leave { (job : Job) (before after : Moment) (t p n : ℕ)
+        → IsGraph job.graph → t < length job.graph.tasks → HasGrown job before after t
+        → Leaves job before after t p n → TaskRan job before t → TaskRan job after t }
+    ensures register { (job : Job) (before after : Moment) (t p n c a : ℕ) (mode : Mode)
+        (u : Parent) → IsGraph job.graph → t < length job.graph.tasks
+        → HasGrown job before after t → Registers job before after t p n c a mode u
+        → TaskRan job before t → TaskRan job after t }
+    ensures child { (job : Job) (before after : Moment) (t p n c a : ℕ) (mode : Mode)
+        (u : Parent) → IsGraph job.graph → t < length job.graph.tasks
+        → IsLegal (limits_at job p) (before.history p) → HasGrown job before after c
+        → Registers job before after t p n c a mode u
+        → TaskRan job before t → TaskRan job before c → TaskRan job after c }
+{}
+
+/// What a moment has of a task stays where others moved, and that it has ended.
+pub fn others_leave()
+    ensures task { (job : Job) (before after : Moment) (t : ℕ)
+        → IsGraph job.graph → t < length job.graph.tasks → HasGrown job before after t
+        → OthersMoved job before after t → TaskRan job before t → TaskRan job after t }
+    ensures ended { (job : Job) (before after : Moment) (t : ℕ)
+        → IsGraph job.graph → t < length job.graph.tasks → HasGrown job before after t
+        → SameTask before after t → HasEnded job before t → HasEnded job after t }
+{}
+
+/// A moment is put together of what each task had on its own.
+pub fn parts_join()
+    ensures { (job : Job) (m : Moment) (own : ℕ → Moment) → IsGraph job.graph
+        → ((p : ℕ) → p < length job.graph.phasers → PhaserRan job m p)
+        → ((t : ℕ) → t < length job.graph.tasks → TaskRan job (own t) t)
+        → ((t : ℕ) → t < length job.graph.tasks → HasGrown job (own t) m t)
+        → ((t : ℕ) → t < length job.graph.tasks → OthersMoved job (own t) m t)
+        → HasRun job m }
+{}
