@@ -1,5 +1,5 @@
 -- Where no wait was answered a value that is too big, no task has got one.
-use Rattle.std.proofs.Common.{◌≡◌, ℕ, ◌<◌, All, Bool, true, false, cond, eqb, List, [], ◌∷◌, ◌++◌, ℤ, length, take, drop, refl, subst}
+use Rattle.std.proofs.Common.{◌≡◌, ℕ, ◌<◌, All, true, false, eqb, List, [], ◌∷◌, ℤ, length, take, drop, refl, subst}
 use Rattle.std.proofs.lemmas.Bool.{eqb-true}
 use Rattle.std.proofs.lemmas.List.Elements.{All-nil, All-append}
 use Rattle.phase_accum.specs.declared.outcome.Outcome.{Outcome}

@@ -16,7 +16,7 @@ use Rattle.stream_job.specs.Spans.{spans_of, lengths_of, span_at, span_in, offse
 use Rattle.stream_job.specs.Lists.{numbers_of, list_over, phase_in, members_of, taken_from, sink_over, sinks_of, is_sink_at, lines_of}
 use Rattle.stream_laws.proofs.Ordered.{LooksAt}
 use Rattle.stream_job.proofs.SpansAbove.{spans_all}
-use Rattle.graph_moments.specs.Moments.{Moment, HasRun, IsRegistered, IsOver, Rooted, WaitsFor, TakenOn, input_at, value_at}
+use Rattle.graph_moments.specs.Moments.{Moment, HasRun, IsRegistered, IsOver, IsChild, HasNotPassed, TakenOn, input_at, value_at}
 use Rattle.graph_moments.specs.Settled.{Composes, Stands, IsReady}
 use Rattle.graph_moments.proofs.Entries.{prefix_whole, take_length}
 use Rattle.graph_moments.proofs.Steps.{taken_count}
@@ -99,7 +99,7 @@ pub came_in : (job : Job) (m : Moment) → IsReady job → HasRun job m → IsOv
 came_in job m ready ran over zero t k below there lt none live = absurd (omega arith)
 came_in job m ready ran over (suc fuel) t k below there lt none live =
     let T : Option ℕ → Type 0 = λ o. TakenOn job m t k (input_at (task_at job.graph t) k) o in
-    let gone : Rooted (task_at job.graph t).parent =
+    let gone : IsChild (task_at job.graph t).parent =
     (subst T none ((ran.tasks t there).inputs k lt)).1 in
     by ((task_at job.graph t).parent) refl gone (spans_all job t ready.graph there)
     (λ u i e lti n live_u.
@@ -108,7 +108,7 @@ came_in job m ready ran over (suc fuel) t k below there lt none live =
     let above : u.task < t = ip.above in
     came_in job m ready ran over fuel u.task i (omega arith) (omega arith) lti n live_u))
   where
-    by : (parent : Option Parent) → (task_at job.graph t).parent ≡ parent → Rooted parent
+    by : (parent : Option Parent) → (task_at job.graph t).parent ≡ parent → IsChild parent
         → span_in job t
         ≡ span_at (task_at job.graph t) (length (samples_at job t)) (lengths_of job)
         (offset_of (spans_of job) (task_at job.graph t).parent)
@@ -137,7 +137,7 @@ came_in job m ready ran over (suc fuel) t k below there lt none live =
         number_case None none_u fp there_u up = up none_u
         number_case (Some n) some fp there_u up =
             let x = input_at (task_at job.graph t) k in
-            let a : WaitsFor m x n u =
+            let a : HasNotPassed m x n u =
             (ran.tasks u.task there_u).children t x n u there e refl some none
             (inr (k, lt, refl)) in
             let registered : IsRegistered m u.task = (x, n, some) in

@@ -18,7 +18,7 @@ use Rattle.stream_job.specs.Lists.{numbers_of, output_on}
 use Rattle.stream_laws.proofs.Ordered.{LooksAt, looks-first, looked_above, place-at, parent_signals}
 use Rattle.stream_job.proofs.SpansAbove.{parent-is, spans_all}
 use Rattle.graph_moments.specs.Agreeing.{one, IsAwaited}
-use Rattle.graph_moments.specs.Moments.{Moment, input_at, made_now, taken_now, limits_at, TaskRan, HasEnded, OnOutput, PutOn, SilentOn, OnPhaser, Rooted, OnLine, WaitsFor, Joined, IsRegistered, HasRun, IsOver, OnInput, TakenOn}
+use Rattle.graph_moments.specs.Moments.{Moment, input_at, made_now, taken_now, limits_at, TaskRan, HasEnded, OnOutput, PutOn, SilentOn, OnPhaser, IsChild, OnLine, HasNotPassed, Joined, IsRegistered, HasRun, IsOver, OnInput, TakenOn}
 use Rattle.graph_moments.specs.Settled.{Composes, HasRead, Stands, PutsOut, IsReady}
 use Rattle.graph_moments.proofs.Entries.{prefix_length}
 use Rattle.graph_moments.proofs.OnLines.{on_phaser}
@@ -151,7 +151,7 @@ awaited job m ready ran p pp standing (suc fuel) t j below there place absent li
     let P : Option ℕ → Type 0 = λ o. OnPhaser job m t p o in
     let on : PutOn job m t j p (m.number p t) = subst P place (r.outputs p pp) in
     let A : Option ℕ → Type 0 = λ o. PutOn job m t j p o in
-    let gone : Rooted (task_at job.graph t).parent = subst A absent on in
+    let gone : IsChild (task_at job.graph t).parent = subst A absent on in
     by ((task_at job.graph t).parent) refl gone (spans_all job t ready.graph there)
     (λ u e n live_u.
     (let ip : IsParent job.graph t (task_at job.graph t) u =
@@ -161,7 +161,7 @@ awaited job m ready ran p pp standing (suc fuel) t j below there place absent li
     awaited job m ready ran p pp standing fuel u.task i.0 (omega arith) (omega arith) i.1 n live_u
     out))
   where
-    by : (parent : Option Parent) → (task_at job.graph t).parent ≡ parent → Rooted parent
+    by : (parent : Option Parent) → (task_at job.graph t).parent ≡ parent → IsChild parent
         → span_in job t
         ≡ span_at (task_at job.graph t) (length (samples_at job t)) (lengths_of job)
         (offset_of (spans_of job) (task_at job.graph t).parent)
@@ -207,7 +207,7 @@ awaited job m ready ran p pp standing (suc fuel) t j below there place absent li
             (ru.children t p n u there e refl some absent (inl (j, place))) fp i
             (short (place-at (signalled_by (task_at job.graph u.task)) p i at).0) st on
           where
-            drop_case : (b : Bool) → has_dropped (m.history p) n ≡ b → WaitsFor m p n u
+            drop_case : (b : Bool) → has_dropped (m.history p) n ≡ b → HasNotPassed m p n u
                 → FromParent job t u → (i : ℕ) → length (m.put u.task i) ≤ m.begun u.task
                 → Stands job m u.task → OnOutput job m u.task i p n
                 → IsAwaited (m.history p) ((span_in job t).offset, out)

@@ -1,4 +1,6 @@
--- A moment of a run of a graph: what has happened on each phaser, and how far each task is.
+-- A moment of a run of a graph: what has happened on each phaser, and how far each task has come. It
+-- knows no time, no turns and no threads: `HasRun` is what holds of it after any events that the
+-- tasks have made in the order of their own steps.
 use Rattle.std.specs.Prelude.{◌≡◌, ℕ, suc, ◌+◌, ◌<◌, ◌≤◌, ◌%◌, ℤ, List, [], ◌∷◌, length, map, take, drop, get_or, Option, Some, None, true, false, ◌⊎◌}
 use Rattle.std.specs.List.{range_with_len, filter_map, All}
 use mathlib.Core.List.{IsPrefix}
@@ -66,8 +68,8 @@ IsRegistered m t = (p : ℕ) × (n : ℕ) × (m.number p t ≡ Some n)
 
 -- ---- one phaser
 
--- its history is legal, each signal names its single, its tasks have numbers of their own that were
--- used there, and nobody else has signalled
+-- phaser p: its history is legal, each signal names its single, its tasks have numbers of their own
+-- that were used there, and nobody else has signalled
 pub record PhaserRan (job : Job) (m : Moment) (p : ℕ) : Type 0 where
   pub legal : IsLegal (limits_at job p) (m.history p)
   pub names : NamesAll (phaser_at job.graph p).single (m.history p)
@@ -100,7 +102,7 @@ pub data MayEnd (m : Moment) (task : Task) (t samples : ℕ) : Type 0 where
   no_input : (task.kind ≡ Source → ⊥) → RanOut m task t (first_input task (m.begun t))
       → MayEnd m task t samples
 
--- it stands at its last boundary: all that its steps put is put, and it makes no further step
+-- task t has come to the end of its last step: all that its steps put is put, and it makes no more
 pub record HasEnded (job : Job) (m : Moment) (t : ℕ) : Type 0 where
   pub all_put : (j : ℕ) → j < length (signalled_by (task_at job.graph t))
       → m.put t j ≡ made_now job m t j
@@ -115,7 +117,7 @@ pub record OnOutput (job : Job) (m : Moment) (t j p n : ℕ) : Type 0 where
   pub sent : sent_by (m.history p) n ≡ map one (m.put t j)
   pub left : has_dropped (m.history p) n ≡ true → HasEnded job m t
 
--- as number n on phaser p, which is its input number k
+-- task t as number n on phaser p, which is its input number k
 pub record OnInput (job : Job) (m : Moment) (t k p n : ℕ) : Type 0 where
   pub start : Entry
   pub start_is : start_of (m.history p) n ≡ Some start
@@ -124,38 +126,38 @@ pub record OnInput (job : Job) (m : Moment) (t k p n : ℕ) : Type 0 where
   pub taken : m.taken t k ≡ map number (received_by (value_at job p) (m.history p) n)
   pub left : has_dropped (m.history p) n ≡ true → HasEnded job m t
 
--- a task that its line alone brings in, or a child that is registered
+-- where a task begins: at phase 0, or as a child where its parent had begun `at` steps
 abbrev pub Joined : Moment → ℕ → Option Parent → Type 0
 Joined m t None = m.offset t ≡ 0
 Joined m t (Some parent) =
     (m.offset t ≡ m.offset parent.task + parent.at) × (parent.at ≤ m.begun parent.task)
     × IsRegistered m parent.task
 
--- a child that is not registered on phaser p, where its parent is, as number n: the parent has not
--- passed the child's boundary, nor left at or after it
-pub record WaitsFor (m : Moment) (p n : ℕ) (parent : Parent) : Type 0 where
+-- of a child that is not registered on phaser p, where its parent is as number n: the parent has begun
+-- at most the steps after which the child comes, and fewer where it has left
+pub record HasNotPassed (m : Moment) (p n : ℕ) (parent : Parent) : Type 0 where
   pub early : m.begun parent.task ≤ parent.at
   pub ended : has_dropped (m.history p) n ≡ true → m.begun parent.task < parent.at
 
--- whether phaser p stands on a task's line
+-- phaser p stands on a task's line
 abbrev pub OnLine : Task → ℕ → Type 0
 OnLine task p =
     ((j : ℕ) × (place_in (signalled_by task) p ≡ Some j))
     ⊎ ((k : ℕ) × (k < length task.inputs) × (input_at task k ≡ p))
 
--- only a child may be missing
-abbrev pub Rooted : Option Parent → Type 0
-Rooted None = ⊥
-Rooted (Some parent) = Unit {0}
+-- a task with a parent, which alone may be missing
+abbrev pub IsChild : Option Parent → Type 0
+IsChild None = ⊥
+IsChild (Some parent) = Unit {0}
 
 -- task t on phaser p, which is its output number j, where it is registered there and where not
 abbrev pub PutOn : Job → Moment → ℕ → ℕ → ℕ → Option ℕ → Type 0
-PutOn job m t j p None = Rooted (task_at job.graph t).parent
+PutOn job m t j p None = IsChild (task_at job.graph t).parent
 PutOn job m t j p (Some n) = OnOutput job m t j p n
 
 -- the same of its input number k
 abbrev pub TakenOn : Job → Moment → ℕ → ℕ → ℕ → Option ℕ → Type 0
-TakenOn job m t k p None = (m.taken t k ≡ []) × Rooted (task_at job.graph t).parent
+TakenOn job m t k p None = (m.taken t k ≡ []) × IsChild (task_at job.graph t).parent
 TakenOn job m t k p (Some n) = OnInput job m t k p n
 
 -- a task on a phaser that it does not signal
@@ -168,7 +170,7 @@ abbrev pub OnPhaser : Job → Moment → ℕ → ℕ → Option ℕ → Type 0
 OnPhaser job m t p None = SilentOn m p (m.number p t)
 OnPhaser job m t p (Some j) = PutOn job m t j p (m.number p t)
 
--- whether a number is at most a limit, where there is one
+-- a number is at most a limit, where there is one
 abbrev pub AtMost : ℕ → Option ℕ → Type 0
 AtMost n None = Unit {0}
 AtMost n (Some limit) = n ≤ limit
@@ -216,10 +218,11 @@ pub record TaskRan (job : Job) (m : Moment) (t : ℕ) : Type 0 where
   pub children : (c p n : ℕ) (u : Parent) → c < length job.graph.tasks
       → (task_at job.graph c).parent ≡ Some u → u.task ≡ t
       → m.number p t ≡ Some n → m.number p c ≡ None → OnLine (task_at job.graph c) p
-      → WaitsFor m p n u
+      → HasNotPassed m p n u
 
 -- ---- the whole
 
+-- a moment of a run: each phaser and each task is as the events so far have left it
 pub record HasRun (job : Job) (m : Moment) : Type 0 where
   pub phasers : (p : ℕ) → p < length job.graph.phasers → PhaserRan job m p
   pub tasks : (t : ℕ) → t < length job.graph.tasks → TaskRan job m t

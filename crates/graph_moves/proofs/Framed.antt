@@ -19,7 +19,7 @@ use Rattle.stream_job.specs.Spans.{signalled_by}
 use Rattle.stream_job.specs.Lists.{number, output_list}
 use Rattle.stream_job.proofs.Growing.{map-same}
 use Rattle.graph_moments.specs.Agreeing.{one}
-use Rattle.graph_moments.specs.Moments.{Moment, input_at, taken_now, made_now, limits_at, value_at, IsRegistered, TaskRan, HasEnded, RanOut, first_input, MayEnd, at_until, no_sample, no_input, OnOutput, OnInput, OnPhaser, PutOn, TakenOn, SilentOn, OnLine, WaitsFor, Joined, AtMost, HasTaken, HasSamples, HasExchanged}
+use Rattle.graph_moments.specs.Moments.{Moment, input_at, taken_now, made_now, limits_at, value_at, IsRegistered, TaskRan, HasEnded, RanOut, first_input, MayEnd, at_until, no_sample, no_input, OnOutput, OnInput, OnPhaser, PutOn, TakenOn, SilentOn, OnLine, HasNotPassed, Joined, AtMost, HasTaken, HasSamples, HasExchanged}
 use Rattle.graph_moves.specs.Moves.{SameTask, HasGrown, PartStays, OthersMoved}
 use Rattle.graph_moments.proofs.OnLines.{on_phaser}
 use Rattle.graph_moments.proofs.Tasks.{first_looks}
@@ -35,13 +35,13 @@ part_came n old new came = record {
   sent = ap (λ h. sent_by h n) came.is ∙ sent_by-others came.later old n (came.others n (in_one n));
   dropped =
       ap (λ h. has_dropped h n) came.is
-          ∙ has_dropped-others came.later old n (came.others n (in_one n));
+      ∙ has_dropped-others came.later old n (came.others n (in_one n));
   signalled =
       ap (λ h. phases_signalled h n) came.is
-          ∙ phases_signalled-others came.later old n (came.others n (in_one n));
+      ∙ phases_signalled-others came.later old n (came.others n (in_one n));
   received =
       λ value. ap (λ h. received_by value h n) came.is
-          ∙ received_by-others value came.later old n (came.others n (in_one n));
+      ∙ received_by-others value came.later old n (came.others n (in_one n));
 }
 
 pub silent_stays : (n : ℕ) (old new : History) (start : Entry) → PartStays n old new
@@ -58,7 +58,7 @@ pub made_same : (job : Job) (before after : Moment) (t j : ℕ) → SameTask bef
 made_same job before after t j same =
     let task = task_at job.graph t in
     let taken : taken_now after task t ≡ taken_now before task t =
-        map-same (after.taken t) (before.taken t) 0 (length task.inputs) (λ k lt. same.taken k) in
+    map-same (after.taken t) (before.taken t) 0 (length task.inputs) (λ k lt. same.taken k) in
     ap (λ l. output_list (samples_at job t) l task (after.begun t) j) taken
     ∙ ap (λ b. output_list (samples_at job t) (taken_now before task t) task b j) same.begun
 
@@ -74,18 +74,20 @@ ran_out_later job before after t k grown on same out =
     let new = after.history x in
     let value = value_at job x in
     let stream : stream_of value new ≡ stream_of value old =
-        stream_closed value (limits_at job x) old new out.0 (grown.was x on) (grown.legal x on)
-            (grown.beginning x on) in
+    stream_closed value (limits_at job x) old new out.0 (grown.was x on) (grown.legal x on)
+    (grown.beginning x on) in
     let a : length (stream_of value new) ≡ done_of new =
-        length-map-range_with_len (value_of_phase value new) 0 (done_of new) in
+    length-map-range_with_len (value_of_phase value new) 0 (done_of new) in
     let b : length (stream_of value old) ≡ done_of old =
-        length-map-range_with_len (value_of_phase value old) 0 (done_of old) in
+    length-map-range_with_len (value_of_phase value old) 0 (done_of old) in
     let c : length (stream_of value new) ≡ length (stream_of value old) = ap length stream in
     let past : done_of old ≤ before.offset t + length (before.taken t k) = out.1 in
     let offset : after.offset t ≡ before.offset t = same.offset in
-    let taken : length (after.taken t k) ≡ length (before.taken t k) = ap length (same.taken k) in
-    (signallers_closed (limits_at job x) old new out.0 (grown.was x on) (grown.legal x on)
-        (grown.beginning x on), omega arith)
+    let taken : length (after.taken t k) ≡ length (before.taken t k) = ap length (same.taken k) in (
+      signallers_closed (limits_at job x) old new out.0 (grown.was x on) (grown.legal x on)
+          (grown.beginning x on),
+      omega arith,
+    )
 
 pub may_end_later : (job : Job) (before after : Moment) (t : ℕ) → IsGraph job.graph
     → t < length job.graph.tasks → HasGrown job before after t
@@ -99,7 +101,7 @@ may_end_later job before after t is there grown same (no_input not out) =
     let task = task_at job.graph t in
     let k = first_input task (before.begun t) in
     let lt : k < length task.inputs =
-        (first_looks task (before.begun t) (is.tasks t there).ends not).0 in
+    (first_looks task (before.begun t) (is.tasks t there).ends not).0 in
     let on : OnLine task (input_at task k) = inr (k, lt, refl) in
     let B : ℕ → Type 0 = λ b. RanOut after task t (first_input task b) in
     no_input not (subst B (sym same.begun) (ran_out_later job before after t k grown on same out))
@@ -122,12 +124,12 @@ task_later job before after t is there grown o ran = record {
       (let A : List ℤ → Type 0 = λ l. IsPrefix l (made_now job after t j) in
       let B : List ℤ → Type 0 = λ l. IsPrefix (before.put t j) l in
       subst A (sym (o.same.put j))
-          (subst B (sym (made_same job before after t j o.same)) (ran.puts j lt)));
+      (subst B (sym (made_same job before after t j o.same)) (ran.puts j lt)));
   exchanged = λ j.
       (let A : List ℤ → Type 0 =
-          λ l. HasExchanged (task_at job.graph t).kind j (length l) (length (after.taken t 1)) in
+      λ l. HasExchanged (task_at job.graph t).kind j (length l) (length (after.taken t 1)) in
       let B : List ℤ → Type 0 =
-          λ l. HasExchanged (task_at job.graph t).kind j (length (before.put t j)) (length l) in
+      λ l. HasExchanged (task_at job.graph t).kind j (length (before.put t j)) (length l) in
       subst A (sym (o.same.put j)) (subst B (sym (o.same.taken 1)) (ran.exchanged j)));
   takes = λ k below.
       (let A : List ℤ → Type 0 = λ l. HasTaken (task_at job.graph t) (after.begun t) k (length l) in
@@ -135,13 +137,13 @@ task_later job before after t is there grown o ran = record {
       subst A (sym (o.same.taken k)) (subst D (sym o.same.begun) (ran.takes k below)));
   samples =
       (let D : ℕ → Type 0 =
-          λ b. HasSamples (task_at job.graph t).kind b (length (samples_at job t)) in
-          subst D (sym o.same.begun) ran.samples);
+      λ b. HasSamples (task_at job.graph t).kind b (length (samples_at job t)) in
+      subst D (sym o.same.begun) ran.samples);
   cut = (let D : ℕ → Type 0 = λ b. AtMost b (task_at job.graph t).until in
-  subst D (sym o.same.begun) ran.cut);
+      subst D (sym o.same.begun) ran.cut);
   outputs =
       λ p pp. outputs p pp (place_in (signalled_by (task_at job.graph t)) p) (before.number p t)
-          refl (ran.outputs p pp);
+      refl (ran.outputs p pp);
   inputs = λ k lt.
       inputs k lt (before.number (input_at (task_at job.graph t) k) t) refl (ran.inputs k lt);
   children = λ c p n u there_c e same at none on. children c p n u there_c e same at none on;
@@ -165,7 +167,7 @@ task_later job before after t is there grown o ran = record {
         let T : ℕ → Type 0 = λ q. TakenOn job before t into.0 q (before.number q t) in
         let N : Option ℕ → Type 0 = λ o. TakenOn job before t into.0 p o in
         let on : OnInput job before t into.0 p n =
-            subst N at (subst T into.2 (ran.inputs into.0 into.1)) in
+        subst N at (subst T into.2 (ran.inputs into.0 into.1)) in
         (on.start, on.start_is)
 
     outputs : (p : ℕ) → p < length job.graph.phasers → (place x : Option ℕ) → before.number p t ≡ x
@@ -177,10 +179,10 @@ task_later job before after t is there grown o ran = record {
         let B : Option ℕ → Type 0 = λ x. SilentOn before p x in
         let u = start_on p n at (ran.lines p n at) in
         subst S (sym (o.number p ∙ at))
-            (silent_stays n (before.history p) (after.history p) u.0 (o.part p n at) u.1
+        (silent_stays n (before.history p) (after.history p) u.0 (o.part p n at) u.1
         (start_of-longer (limits_at job p) (before.history p) (after.history p) n u.0
-            (grown.legal p (ran.lines p n at)) (grown.beginning p (ran.lines p n at)) u.1)
-                (subst B at on))
+        (grown.legal p (ran.lines p n at)) (grown.beginning p (ran.lines p n at)) u.1)
+        (subst B at on))
     outputs p pp (Some j) None at on =
         let S : Option ℕ → Type 0 = λ x. PutOn job after t j p x in
         let B : Option ℕ → Type 0 = λ x. PutOn job before t j p x in
@@ -195,7 +197,7 @@ task_later job before after t is there grown o ran = record {
           start = b.start;
           start_is =
               start_of-longer (limits_at job p) (before.history p) (after.history p) n b.start
-                  (grown.legal p on_line) (grown.beginning p on_line) b.start_is;
+              (grown.legal p on_line) (grown.beginning p on_line) b.start_is;
           signals = b.signals;
           at = b.at ∙ sym o.same.offset;
           sent = part.sent ∙ b.sent ∙ ap (λ l. map one l) (sym (o.same.put j));
@@ -205,9 +207,9 @@ task_later job before after t is there grown o ran = record {
     inputs : (k : ℕ) → k < length (task_at job.graph t).inputs → (x : Option ℕ)
         → before.number (input_at (task_at job.graph t) k) t ≡ x
         → TakenOn job before t k (input_at (task_at job.graph t) k)
-            (before.number (input_at (task_at job.graph t) k) t)
+        (before.number (input_at (task_at job.graph t) k) t)
         → TakenOn job after t k (input_at (task_at job.graph t) k)
-            (after.number (input_at (task_at job.graph t) k) t)
+        (after.number (input_at (task_at job.graph t) k) t)
     inputs k lt None at on =
         let p = input_at (task_at job.graph t) k in
         let S : Option ℕ → Type 0 = λ x. TakenOn job after t k p x in
@@ -225,7 +227,7 @@ task_later job before after t is there grown o ran = record {
           start = b.start;
           start_is =
               start_of-longer (limits_at job p) (before.history p) (after.history p) n b.start
-                  (grown.legal p on_line) (grown.beginning p on_line) b.start_is;
+              (grown.legal p on_line) (grown.beginning p on_line) b.start_is;
           waits = b.waits;
           at = b.at ∙ sym o.same.offset;
           taken = o.same.taken k ∙ b.taken
@@ -236,20 +238,23 @@ task_later job before after t is there grown o ran = record {
     children : (c p n : ℕ) (u : Parent) → c < length job.graph.tasks
         → (task_at job.graph c).parent ≡ Some u → u.task ≡ t
         → after.number p t ≡ Some n → after.number p c ≡ None → OnLine (task_at job.graph c) p
-        → WaitsFor after p n u
+        → HasNotPassed after p n u
     children c p n u there_c e same at none on =
-        let w : WaitsFor before p n u =
-            ran.children c p n u there_c e same (sym (o.number p) ∙ at)
-                (o.children c p u there_c e same none) on in
+        let w : HasNotPassed before p n u =
+        ran.children c p n u there_c e same (sym (o.number p) ∙ at)
+        (o.children c p u there_c e same none) on in
         let begun : after.begun u.task ≡ before.begun u.task =
-            ap (λ x. after.begun x) same ∙ o.same.begun ∙ ap (λ x. before.begun x) (sym same) in
+        ap (λ x. after.begun x) same ∙ o.same.begun ∙ ap (λ x. before.begun x) (sym same) in
         let dropped : has_dropped (after.history p) n ≡ has_dropped (before.history p) n =
-            (o.part p n (sym (o.number p) ∙ at)).dropped in
+        (o.part p n (sym (o.number p) ∙ at)).dropped in
         let early : before.begun u.task ≤ u.at = w.early in
-        record { early =
-            omega arith; ended =
-                λ gone. (let low : before.begun u.task < u.at = w.ended (sym dropped ∙ gone) in
-                omega arith) }
+        record {
+          early =
+              omega arith;
+          ended =
+              λ gone. (let low : before.begun u.task < u.at = w.ended (sym dropped ∙ gone) in
+              omega arith);
+        }
 
     joined : (parent : Option Parent) → (task_at job.graph t).parent ≡ parent
         → Joined before t (task_at job.graph t).parent → Joined after t (task_at job.graph t).parent
@@ -262,7 +267,7 @@ task_later job before after t is there grown o ran = record {
         let A : Option Parent → Type 0 = λ u. Joined after t u in
         let B : Option Parent → Type 0 = λ u. Joined before t u in
         let b : (before.offset t ≡ before.offset u.task + u.at) × (u.at ≤ before.begun u.task)
-            × IsRegistered before u.task = subst B e j in
+        × IsRegistered before u.task = subst B e j in
         let up = o.parent u e in
         let low : u.at ≤ before.begun u.task = b.1 in
         let on : before.begun u.task ≤ after.begun u.task = up.1 in

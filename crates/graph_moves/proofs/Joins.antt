@@ -38,6 +38,6 @@ quiet_from limits h legal gone = ap signal_phases (none (members_of h) refl)
         let found : entry_of (m ∷ ms) m.0 ≡ Some m.1 = rw here refl in
         let A : Members → Type 0 = λ l. IsSome (entry_of l m.0) in
         let alive =
-            (alive_law limits h m.0 legal).0
-                (subst A (sym e) (ap is_some found)) in
+        (alive_law limits h m.0 legal).0
+        (subst A (sym e) (ap is_some found)) in
         absurd (let f : true ≡ false = sym (gone m.0 alive.0) ∙ alive.1 in cc)

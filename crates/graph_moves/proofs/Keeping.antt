@@ -37,7 +37,7 @@ silent_event : (event : Event) (h : History) (x : ℕ) → is_by x event ≡ fal
 silent_event event h x other starts silent = record {
   nothing =
       phases_signalled-others (event ∷ []) h x (ap (λ b. cond b (event ∷ []) []) other)
-          ∙ silent.nothing;
+      ∙ silent.nothing;
   from_0 = λ start is. silent.from_0 start (sym starts ∙ is);
 }
 
@@ -59,22 +59,22 @@ phaser_keeps job before after t p n event there pp moved numbered leaves q qq ra
       moved names (λ apart. ran.names);
   distinct =
       λ u w a lu lw eu ew.
-          ran.distinct u w a lu lw (sym (moved.numbers q u) ∙ eu) (sym (moved.numbers q w) ∙ ew);
+      ran.distinct u w a lu lw (sym (moved.numbers q u) ∙ eu) (sym (moved.numbers q w) ∙ ew);
   used = λ u a e.
       (let was : IsUsed (before.history q) a = ran.used u a (sym (moved.numbers q u) ∙ e) in
       history_by job before after t p event (λ h. IsUsed h a) q moved
       (λ same. IsUsed-longer (limits_at job q) (before.history q) (event ∷ before.history q) a
-          (legal same) (record { later = event ∷ []; is = refl }) was)
+      (legal same) (record { later = event ∷ []; is = refl }) was)
       (λ apart. was));
   strangers =
       λ x none.
-          (let out : is_in x (numbers_on job before q) ≡ false =
-              ap (λ l. is_in x l) (sym (numbers_same job before after q (moved.numbers q)))
-                  ∙ none in
+      (let out : is_in x (numbers_on job before q) ≡ false =
+      ap (λ l. is_in x l) (sym (numbers_same job before after q (moved.numbers q)))
+      ∙ none in
       let silent : IsSilent (before.history q) x = ran.strangers x out in
       history_by job before after t p event (λ h. IsSilent h x) q moved
       (λ same. silent_event event (before.history q) x (leaves.by x (other x same out))
-          (starts x same) silent)
+      (starts x same) silent)
       (λ apart. silent));
 }
   where
@@ -86,23 +86,23 @@ phaser_keeps job before after t p n event there pp moved numbered leaves q qq ra
     names : q ≡ p → NamesAll (phaser_at job.graph q).single (event ∷ before.history q)
     names same =
         let P : ℕ → Type 0 =
-            λ x. NamesAll (phaser_at job.graph x).single (event ∷ before.history x) in
-            subst P (sym same) leaves.names
+        λ x. NamesAll (phaser_at job.graph x).single (event ∷ before.history x) in
+        subst P (sym same) leaves.names
 
     starts : (x : ℕ) → q ≡ p → start_of (event ∷ before.history q) x ≡ start_of (before.history q) x
     starts x same =
         let P : ℕ → Type 0 =
-            λ y. start_of (event ∷ before.history y) x ≡ start_of (before.history y) x in
-            subst P (sym same) (leaves.starts x)
+        λ y. start_of (event ∷ before.history y) x ≡ start_of (before.history y) x in
+        subst P (sym same) (leaves.starts x)
 
     other : (x : ℕ) → q ≡ p → is_in x (numbers_on job before q) ≡ false → x ≢ n
     other x same out me =
         let N : ℕ → Type 0 = λ y. before.number y t ≡ Some n in
         let inside : is_in n (numbers_on job before q) ≡ true =
-            in_numbers (before.number q) 0 (length job.graph.tasks) t n (omega arith) (omega arith)
-                (subst N (sym same) numbered) in
+        in_numbers (before.number q) 0 (length job.graph.tasks) t n (omega arith) (omega arith)
+        (subst N (sym same) numbered) in
         let here : is_in x (numbers_on job before q) ≡ true =
-            ap (λ y. is_in y (numbers_on job before q)) me ∙ inside in
+        ap (λ y. is_in y (numbers_on job before q)) me ∙ inside in
         let f : true ≡ false = sym here ∙ out in cc
 
 one_in : (x a : ℕ) → is_in x (a ∷ []) ≡ true → x ≡ a
@@ -125,7 +125,7 @@ run_keeps job before after t p n event is there pp moved numbered leaves ran own
     phasers : (q : ℕ) → q < length job.graph.phasers → PhaserRan job after q
     phasers q qq =
         phaser_keeps job before after t p n event there pp moved numbered leaves q qq
-            (ran.phasers q qq)
+        (ran.phasers q qq)
 
     grown : (u : ℕ) → u < length job.graph.tasks → HasGrown job before after u
     grown u there_u = record {
@@ -133,21 +133,21 @@ run_keeps job before after t p n event is there pp moved numbered leaves ran own
       legal = λ q on. (phasers q (on_phaser job u q is there_u on)).legal;
       beginning =
           λ q on. history_by job before after t p event (λ h. IsBeginning (before.history q) h) q
-              moved (λ same. record { later = event ∷ []; is = refl })
-                  (λ apart. record { later = []; is = refl });
+          moved (λ same. record { later = event ∷ []; is = refl })
+          (λ apart. record { later = []; is = refl });
     }
 
     came : (u q a : ℕ) → u < length job.graph.tasks → u ≢ t → q < length job.graph.phasers
         → before.number q u ≡ Some a → OthersCame (a ∷ []) (before.history q) (after.history q)
     came u q a there_u other qq at =
         history_by job before after t p event (λ h. OthersCame (a ∷ []) (before.history q) h) q
-            moved
+        moved
         (λ same. OthersCame-event (a ∷ []) (before.history q) event (λ x inside. leaves.by x (λ me.
         (let N : ℕ → Type 0 = λ y. before.number y t ≡ Some n in
         let mine : before.number q u ≡ Some n =
-            at ∙ ap (λ y. Some y) (sym (one_in x a inside) ∙ me) in
+        at ∙ ap (λ y. Some y) (sym (one_in x a inside) ∙ me) in
         other ((ran.phasers q qq).distinct u t n there_u there mine
-            (subst N (sym same) numbered))))))
+        (subst N (sym same) numbered))))))
         (λ apart. OthersCame-refl (a ∷ []) (before.history q))
 
     tasks : (u : ℕ) → u < length job.graph.tasks → (u ≡ t) ⊎ (u ≢ t) → TaskRan job after u
@@ -160,27 +160,27 @@ run_keeps job before after t p n event is there pp moved numbered leaves ran own
           number = λ q. moved.numbers q u;
           part = λ q a at.
               part_came a (before.history q) (after.history q)
-                  (came u q a there_u other
-                      (on_phaser job u q is there_u ((ran.tasks u there_u).lines q a at)) at);
+              (came u q a there_u other
+              (on_phaser job u q is there_u ((ran.tasks u there_u).lines q a at)) at);
           children = λ c q w there_c e same none. sym (moved.numbers q c) ∙ none;
           parent = λ w e. parent w (eq_case w.task t);
         }) (ran.tasks u there_u)
       where
         parent : (w : Parent) → (w.task ≡ t) ⊎ (w.task ≢ t)
             → (after.offset w.task ≡ before.offset w.task)
-                × (before.begun w.task ≤ after.begun w.task)
-                    × (IsRegistered before w.task → IsRegistered after w.task)
+            × (before.begun w.task ≤ after.begun w.task)
+            × (IsRegistered before w.task → IsRegistered after w.task)
         parent w (inr apart) =
             let s = moved.others w.task apart in
             let b : after.begun w.task ≡ before.begun w.task = s.begun in
             (s.offset, omega arith, λ r. (r.0, r.1, moved.numbers r.0 w.task ∙ r.2))
         parent w (inl same) =
             let o : after.offset w.task ≡ before.offset w.task =
-                ap (λ x. after.offset x) same ∙ moved.offset
-                    ∙ ap (λ x. before.offset x) (sym same) in
+            ap (λ x. after.offset x) same ∙ moved.offset
+            ∙ ap (λ x. before.offset x) (sym same) in
             let b : before.begun w.task ≤ after.begun w.task =
-                (let P : ℕ → Type 0 = λ x. before.begun x ≤ after.begun x in
-                subst P (sym same) moved.onward) in
+            (let P : ℕ → Type 0 = λ x. before.begun x ≤ after.begun x in
+            subst P (sym same) moved.onward) in
             (o, b, λ r. (r.0, r.1, moved.numbers r.0 w.task ∙ r.2))
 
 -- ---- the three events
@@ -191,7 +191,7 @@ pub signal_keeps : (job : Job) (before after : Moment) (t j p n : ℕ) (v : ℤ)
     → Signals job before after t j p n v → HasRun job before → HasRun job after
 signal_keeps job before after t j p n v is there pp s ran =
     run_keeps job before after t p n (Signalled n ((v ∷ []) ∷ []) (phaser_at job.graph p).single) is
-        there pp s.moved s.numbered
+    there pp s.moved s.numbered
     (record {
       legal = ((ran.phasers p pp).legal, s.moved.accepted);
       names = (refl, (ran.phasers p pp).names);

@@ -23,9 +23,9 @@ turns-next m b k lt is =
     let split : q * m + b % m ≡ b = div-add-mod' b m in
     let next : (q + 1) * m ≡ q * m + m = row q m in
     let one : (suc b + (m - 1 - k)) / m ≡ q + 1 =
-        div_is (suc b + (m - 1 - k)) (q + 1) 0 m (omega arith) some in
+    div_is (suc b + (m - 1 - k)) (q + 1) 0 m (omega arith) some in
     let two : (b + (m - 1 - k)) / m ≡ q =
-        div_is (b + (m - 1 - k)) q (m - 1) m (omega arith) (omega arith) in
+    div_is (b + (m - 1 - k)) q (m - 1) m (omega arith) (omega arith) in
     let more : q + 1 ≡ suc q = omega arith in
     one ∙ more ∙ ap suc (sym two)
 
@@ -80,8 +80,8 @@ has_taken-next task b k n ends lt first count = by task.kind refl
         let at : first_input task b ≡ b % length task.inputs = rw e refl in
         let c : takes_from task b k ≡ turns_below (length task.inputs) k b = rw e refl in
         let t : turns_below (length task.inputs) k (suc b)
-            ≡ suc (turns_below (length task.inputs) k b) =
-                turns-next (length task.inputs) b k lt (first ∙ at) in
+        ≡ suc (turns_below (length task.inputs) k b) =
+        turns-next (length task.inputs) b k lt (first ∙ at) in
         let r : suc n ≡ turns_below (length task.inputs) k (suc b) = omega arith in rw e r
     by Peer e =
         let at : first_input task b ≡ 0 = rw e refl in
@@ -116,7 +116,7 @@ has_taken-stay task b k n ends lt not count = by task.kind k refl refl
         let first : first_input task b ≡ b % length task.inputs = rw e refl in
         let c : takes_from task b k ≡ turns_below (length task.inputs) k b = rw e refl in
         let t : turns_below (length task.inputs) k (suc b) ≡ turns_below (length task.inputs) k b =
-            turns-stay (length task.inputs) b k lt (λ same. not (same ∙ sym first)) in
+        turns-stay (length task.inputs) b k lt (λ same. not (same ∙ sym first)) in
         let r : n ≡ turns_below (length task.inputs) k (suc b) = omega arith in rw e r
     by Peer zero e at =
         absurd (not (at ∙ sym (let first : first_input task b ≡ 0 = rw e refl in first)))

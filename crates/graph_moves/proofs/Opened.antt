@@ -28,7 +28,7 @@ use Rattle.stream_job.specs.Jobs.{Job, samples_at, place_in}
 use Rattle.stream_job.specs.Spans.{signalled_by, turns_below}
 use Rattle.stream_job.specs.Lists.{number}
 use Rattle.graph_moments.specs.Agreeing.{one}
-use Rattle.graph_moments.specs.Moments.{Moment, HasRun, PhaserRan, TaskRan, made_now, input_at, limits_at, value_at, OnPhaser, PutOn, TakenOn, SilentOn, OnLine, Rooted, Joined, AtMost, HasTaken, HasSamples, HasExchanged}
+use Rattle.graph_moments.specs.Moments.{Moment, HasRun, PhaserRan, TaskRan, made_now, input_at, limits_at, value_at, OnPhaser, PutOn, TakenOn, SilentOn, OnLine, IsChild, Joined, AtMost, HasTaken, HasSamples, HasExchanged}
 use Rattle.graph_moves.specs.Openings.{IsOpening, PhaserOpened, TaskOpened, HasOpened}
 use Rattle.graph_moments.proofs.OnLines.{on_phaser}
 
@@ -116,7 +116,7 @@ zero_starts limits f (Registered a b mode ∷ before) x e legal o is =
     let c : HasCounted before a r.entry = counted_of limits before a r.entry legal.0 r.is_member in
     let zero_start = zero_starts limits f before a c.start legal.0 o.1 c.start_is in
     let member : member_entry (members_of before) a ≡ r.entry =
-        member_entry_is (members_of before) a r.entry r.is_member in
+    member_entry_is (members_of before) a r.entry r.is_member in
     let s0 : c.start.signal_phase ≡ 0 = zero_start.0 in
     let w0 : c.start.wait_phase ≡ 0 = zero_start.1 in
     let sn : phases_signalled before a ≡ 0 = none_signalled f before a o.1 in
@@ -124,7 +124,7 @@ zero_starts limits f (Registered a b mode ∷ before) x e legal o is =
     let sc : c.start.signal_phase + phases_signalled before a ≡ r.entry.signal_phase = c.signals in
     let wc : c.start.wait_phase + phases_waited before a ≡ r.entry.wait_phase = c.waits in
     let s : signal_phase before a ≡ r.entry.signal_phase =
-        ap (λ (y : Entry). y.signal_phase) member in
+    ap (λ (y : Entry). y.signal_phase) member in
     let w : wait_phase before a ≡ r.entry.wait_phase = ap (λ (y : Entry). y.wait_phase) member in
     let sz : signal_phase before a ≡ 0 = omega arith in
     let wz : wait_phase before a ≡ 0 = omega arith in
@@ -132,15 +132,17 @@ zero_starts limits f (Registered a b mode ∷ before) x e legal o is =
   where
     by : (v : Bool)
         → cond v (Some (entry_at mode (signal_phase before a) (wait_phase before a)))
-            (start_of before x) ≡ Some e
+        (start_of before x) ≡ Some e
         → signal_phase before a ≡ 0 → wait_phase before a ≡ 0
         → (start_of before x ≡ Some e → (e.signal_phase ≡ 0) × (e.wait_phase ≡ 0))
         → (e.signal_phase ≡ 0) × (e.wait_phase ≡ 0)
     by true g sz wz rec =
         let same : entry_at mode (signal_phase before a) (wait_phase before a) ≡ e =
-            same_Some _ _ g in
-        (sym (ap (λ (y : Entry). y.signal_phase) same)
-            ∙ sz, sym (ap (λ (y : Entry). y.wait_phase) same) ∙ wz)
+        same_Some _ _ g in (
+          sym (ap (λ (y : Entry). y.signal_phase) same)
+              ∙ sz,
+          sym (ap (λ (y : Entry). y.wait_phase) same) ∙ wz,
+        )
     by false g sz wz rec = rec g
 zero_starts limits f (RegisteredNow a b ∷ before) x e legal o is = absurd o
 zero_starts limits f (Signalled t lists single ∷ before) x e legal o is = absurd o
@@ -223,26 +225,26 @@ opened_ran job m is o = record { phasers = phasers; tasks = tasks }
           subst P (sym (a.nothing_put j)) (made_now job m t j, refl));
       exchanged =
           λ j. (let P : ℕ → Type 0 =
-              λ n. HasExchanged (task_at job.graph t).kind j n (length (m.taken t 1)) in
-              subst P (sym (ap length (a.nothing_put j)))
-                  (exchanged_none (task_at job.graph t).kind j (length (m.taken t 1))));
+          λ n. HasExchanged (task_at job.graph t).kind j n (length (m.taken t 1)) in
+          subst P (sym (ap length (a.nothing_put j)))
+          (exchanged_none (task_at job.graph t).kind j (length (m.taken t 1))));
       takes = λ k lt.
           (let B : ℕ → Type 0 = λ b. HasTaken (task_at job.graph t) b k (length (m.taken t k)) in
           let N : ℕ → Type 0 = λ n. HasTaken (task_at job.graph t) 0 k n in
           subst B (sym a.nothing_begun)
-              (subst N (sym (ap length (a.nothing_taken k)))
-                  (taken_none (task_at job.graph t) k lt)));
+          (subst N (sym (ap length (a.nothing_taken k)))
+          (taken_none (task_at job.graph t) k lt)));
       samples =
           (let B : ℕ → Type 0 =
-              λ b. HasSamples (task_at job.graph t).kind b (length (samples_at job t)) in
-              subst B (sym a.nothing_begun)
-                  (samples_none (task_at job.graph t).kind (length (samples_at job t))));
+          λ b. HasSamples (task_at job.graph t).kind b (length (samples_at job t)) in
+          subst B (sym a.nothing_begun)
+          (samples_none (task_at job.graph t).kind (length (samples_at job t))));
       cut = (let B : ℕ → Type 0 = λ b. AtMost b (task_at job.graph t).until in
-      subst B (sym a.nothing_begun) (at_least_none (task_at job.graph t).until));
+          subst B (sym a.nothing_begun) (at_least_none (task_at job.graph t).until));
       lines = a.lines;
       outputs =
           λ p pp. outputs p pp (place_in (signalled_by (task_at job.graph t)) p) refl (m.number p t)
-              refl;
+          refl;
       inputs = λ k lt. inputs k lt (m.number (input_at (task_at job.graph t) k) t) refl;
       joined = λ p n at.
           (let P : Option Parent → Type 0 = λ u. Joined m t u in
@@ -266,12 +268,12 @@ opened_ran job m is o = record { phasers = phasers; tasks = tasks }
             none_dropped q.founder (m.history p) n q.opening (q.apart t n at)
 
         rooted : (p : ℕ) → OnLine (task_at job.graph t) p → m.number p t ≡ None
-            → Rooted (task_at job.graph t).parent
+            → IsChild (task_at job.graph t).parent
         rooted p on none = by ((task_at job.graph t).parent) refl
           where
             by : (u : Option Parent) → (task_at job.graph t).parent ≡ u
-                → Rooted (task_at job.graph t).parent
-            by (Some u) e = let P : Option Parent → Type 0 = λ u. Rooted u in subst P (sym e) tt
+                → IsChild (task_at job.graph t).parent
+            by (Some u) e = let P : Option Parent → Type 0 = λ u. IsChild u in subst P (sym e) tt
             by None e =
                 absurd (let s : is_some (m.number p t) ≡ true = a.present p e on in
                 let f : true ≡ false = sym s ∙ ap is_some none in cc)
@@ -310,7 +312,7 @@ opened_ran job m is o = record { phasers = phasers; tasks = tasks }
         inputs : (k : ℕ) → k < length (task_at job.graph t).inputs → (x : Option ℕ)
             → m.number (input_at (task_at job.graph t) k) t ≡ x
             → TakenOn job m t k (input_at (task_at job.graph t) k)
-                (m.number (input_at (task_at job.graph t) k) t)
+            (m.number (input_at (task_at job.graph t) k) t)
         inputs k lt None at =
             let p = input_at (task_at job.graph t) k in
             let N : Option ℕ → Type 0 = λ x. TakenOn job m t k p x in
@@ -329,6 +331,6 @@ opened_ran job m is o = record { phasers = phasers; tasks = tasks }
                   st.1).1 ∙ sym (a.offset (a.rooted p n at));
               taken = a.nothing_taken k
                   ∙ ap (λ l. map number l)
-                      (sym (none_received (value_at job p) q.founder (m.history p) n q.opening));
+                  (sym (none_received (value_at job p) q.founder (m.history p) n q.opening));
               left = λ gone. absurd (let f : true ≡ false = sym gone ∙ stays p n pp at in cc);
             })

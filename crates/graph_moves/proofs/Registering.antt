@@ -1,7 +1,7 @@
 -- A task's registration of its child keeps what a moment has.
 use Rattle.std.proofs.Common.{◌≡◌, ◌≢◌, ℕ, zero, suc, ◌+◌, ◌-◌, ◌<◌, ◌≤◌, Bool, true, false, not, ◌||◌, cond, eqb, List, [], ◌∷◌, ◌++◌, Option, Some, None, ℤ, length, map, get_or, take, drop, refl, sym, ap, subst, ◌∙◌, arith, ◌⊎◌, inl, inr}
-use Rattle.std.specs.Prelude.{slice_range, unwrap_or, is_some}
-use Rattle.std.specs.List.{range_with_len, list_any}
+use Rattle.std.specs.Prelude.{slice_range, is_some}
+use Rattle.std.specs.List.{list_any}
 use mathlib.Core.List.{IsPrefix}
 use Rattle.std.proofs.lemmas.Bool.{ne_eqb, eq-eqb, and_parts}
 use Rattle.std.proofs.lemmas.List.{length-map, length-drop}
@@ -32,7 +32,7 @@ use Rattle.stream_job.specs.Spans.{signalled_by}
 use Rattle.stream_job.specs.Lists.{number}
 use Rattle.stream_laws.proofs.Ordered.{place-at, parent_signals}
 use Rattle.graph_moments.specs.Agreeing.{one}
-use Rattle.graph_moments.specs.Moments.{Moment, HasRun, PhaserRan, TaskRan, input_at, made_now, limits_at, value_at, numbers_on, IsRegistered, OnOutput, OnInput, OnPhaser, PutOn, TakenOn, SilentOn, OnLine, WaitsFor, Joined, AtMost, HasTaken, HasSamples, HasExchanged}
+use Rattle.graph_moments.specs.Moments.{Moment, HasRun, PhaserRan, TaskRan, input_at, made_now, limits_at, value_at, numbers_on, IsRegistered, OnOutput, OnInput, OnPhaser, PutOn, TakenOn, SilentOn, OnLine, HasNotPassed, Joined, AtMost, HasTaken, HasSamples, HasExchanged}
 use Rattle.graph_moves.specs.Moves.{HasGrown, PartStays, Registers}
 use Rattle.graph_moments.proofs.Entries.{take_full}
 use Rattle.graph_moments.proofs.Numbers.{in_numbers, from_numbers}
@@ -69,12 +69,12 @@ distinct_apart (x ∷ xs) ys zero j d ltk ltj same =
     let parts = and_parts (not (list_any (λ q. eqb q x) (xs ++ ys))) (is_distinct (xs ++ ys)) d in
     let here : eqb (get_or ys j 0) x ≡ true = eq-eqb (get_or ys j 0) x (sym same) in
     let found : list_any (λ q. eqb q x) (xs ++ ys) ≡ true =
-        any_back (λ q. eqb q x) xs ys j ltj here in
+    any_back (λ q. eqb q x) xs ys j ltj here in
     let f : false ≡ true = sym (ap not found) ∙ parts.0 in cc
 distinct_apart (x ∷ xs) ys (suc k) j d ltk ltj same =
     distinct_apart xs ys k j
-        (and_parts (not (list_any (λ q. eqb q x) (xs ++ ys))) (is_distinct (xs ++ ys)) d).1
-            (omega arith) ltj same
+    (and_parts (not (list_any (λ q. eqb q x) (xs ++ ys))) (is_distinct (xs ++ ys)) d).1
+    (omega arith) ltj same
 
 pub read_not_signalled : (job : Job) (t k j : ℕ) → IsTaskLine job.graph t (task_at job.graph t)
     → has_children (task_at job.graph t).kind ≡ true
@@ -82,7 +82,7 @@ pub read_not_signalled : (job : Job) (t k j : ℕ) → IsTaskLine job.graph t (t
     → place_in (signalled_by (task_at job.graph t)) (input_at (task_at job.graph t) k) ≡ Some j → ⊥
 read_not_signalled job t k j line plain lt place =
     let at = place-at (signalled_by (task_at job.graph t)) (input_at (task_at job.graph t) k) j
-        place in
+    place in
     by (task_at job.graph t).kind refl at.0 at.1
   where
     outs : signalled_by (task_at job.graph t) ≡ (task_at job.graph t).outputs
@@ -90,9 +90,9 @@ read_not_signalled job t k j line plain lt place =
         → get_or (signalled_by (task_at job.graph t)) j 0 ≡ input_at (task_at job.graph t) k → ⊥
     outs is below at =
         let few : j < length (task_at job.graph t).outputs =
-            subst (λ (qs : List ℕ). j < length qs) is below in
+        subst (λ (qs : List ℕ). j < length qs) is below in
         distinct_apart (task_at job.graph t).inputs (task_at job.graph t).outputs k j line.distinct
-            lt few (sym at ∙ ap (λ qs. get_or qs j 0) is)
+        lt few (sym at ∙ ap (λ qs. get_or qs j 0) is)
 
     by : (kind : Kind) → (task_at job.graph t).kind ≡ kind
         → j < length (signalled_by (task_at job.graph t))
@@ -111,13 +111,16 @@ parent_entry : (job : Job) (m : Moment) (p n a : ℕ) (mode : Mode)
     → IsLegal (limits_at job p) (m.history p)
     → register_refusal (m.history p) n a mode ≡ None
     → (e : Entry) × HasCounted (m.history p) n e × (signal_phase (m.history p) n ≡ e.signal_phase)
-        × (wait_phase (m.history p) n ≡ e.wait_phase)
+    × (wait_phase (m.history p) n ≡ e.wait_phase)
 parent_entry job m p n a mode legal accepted =
     let r : MayRegister (m.history p) n a mode = registers_from (m.history p) n a mode accepted in
     let is : member_entry (members_of (m.history p)) n ≡ r.entry =
-        member_entry_is (members_of (m.history p)) n r.entry r.is_member in
-    (r.entry, counted_of (limits_at job p) (m.history p) n r.entry legal r.is_member,
-        ap (λ (e : Entry). e.signal_phase) is, ap (λ (e : Entry). e.wait_phase) is)
+    member_entry_is (members_of (m.history p)) n r.entry r.is_member in (
+      r.entry,
+      counted_of (limits_at job p) (m.history p) n r.entry legal r.is_member,
+      ap (λ (e : Entry). e.signal_phase) is,
+      ap (λ (e : Entry). e.wait_phase) is,
+    )
 
 -- as a signaller it stands past what it has put
 pub signals_from : (job : Job) (m : Moment) (t i p n a : ℕ) (mode : Mode)
@@ -131,11 +134,11 @@ signals_from job m t i p n a mode legal on accepted =
     let counts : c.start.signal_phase + phases_signalled h n ≡ r.0.signal_phase = c.signals in
     let same : c.start ≡ on.start = same_Some _ _ (sym c.start_is ∙ on.start_is) in
     let from : c.start.signal_phase ≡ on.start.signal_phase =
-        ap (λ (x : Entry). x.signal_phase) same in
+    ap (λ (x : Entry). x.signal_phase) same in
     let at : on.start.signal_phase ≡ m.offset t = on.at in
     let counted : length (sent_by h n) ≡ phases_signalled h n = length-sent_by h n in
     let put : length (sent_by h n) ≡ length (m.put t i) =
-        ap length on.sent ∙ length-map (m.put t i) one in
+    ap length on.sent ∙ length-map (m.put t i) one in
     let stands : signal_phase h n ≡ r.0.signal_phase = r.2 in
     omega arith
 
@@ -154,21 +157,21 @@ waits_from job m t k p n a mode legal on accepted =
     let from : c.start.wait_phase ≡ on.start.wait_phase = ap (λ (x : Entry). x.wait_phase) same in
     let at : on.start.wait_phase ≡ m.offset t = on.at in
     let got : HasReceivedFrom value h n on.start =
-        received_law value (limits_at job p) h n on.start legal on.start_is on.waits in
+    received_law value (limits_at job p) h n on.start legal on.start_is on.waits in
     let complete : on.start.wait_phase + phases_waited h n ≤ done_of h = got.complete in
     let w = on.start.wait_phase in
     let k_waited = phases_waited h n in
     let long : length (stream_of value h) ≡ done_of h =
-        length-map-range_with_len (value_of_phase value h) 0 (done_of h) in
+    length-map-range_with_len (value_of_phase value h) 0 (done_of h) in
     let rest : length (drop w (stream_of value h)) ≡ length (stream_of value h) - w =
-        length-drop w (stream_of value h) in
+    length-drop w (stream_of value h) in
     let many : w + k_waited - w ≡ k_waited = omega arith in
     let slice : length (slice_range (stream_of value h) w (w + k_waited)) ≡ k_waited =
     ap (λ c. length (take c (drop w (stream_of value h)))) many
-        ∙ take_full k_waited (drop w (stream_of value h)) (omega arith) in
+    ∙ take_full k_waited (drop w (stream_of value h)) (omega arith) in
     let taken : length (m.taken t k) ≡ k_waited =
-        ap length on.taken ∙ length-map (received_by value h n) number ∙ ap length got.received
-            ∙ slice in
+    ap length on.taken ∙ length-map (received_by value h n) number ∙ ap length got.received
+    ∙ slice in
     let stands : wait_phase h n ≡ r.0.wait_phase = r.3 in
     omega arith
 
@@ -223,9 +226,9 @@ register_keeps job before after t p n c a mode u is there s ran = record {
     new_number b used same =
         let st = start_from (start_of (before.history p) b) used in
         let low : b ≤ greatest_used (before.history p) =
-            start_used (before.history p) b st.0 st.1 in
+        start_used (before.history p) b st.0 st.1 in
         let high : greatest_used (before.history p) < a =
-            (registers_from (before.history p) n a mode s.accepted).new_number in
+        (registers_from (before.history p) n a mode s.accepted).new_number in
         omega arith
 
     by_phaser : (P : History → Type 0) (q : ℕ)
@@ -236,8 +239,8 @@ register_keeps job before after t p n c a mode u is there s ran = record {
         by : (q ≡ p) ⊎ (q ≢ p) → P (after.history q)
         by (inl same) =
             let e : after.history q ≡ Registered n a mode ∷ before.history q =
-                ap (λ x. after.history x) same ∙ s.here
-                    ∙ ap (λ x. Registered n a mode ∷ before.history x) (sym same) in
+            ap (λ x. after.history x) same ∙ s.here
+            ∙ ap (λ x. Registered n a mode ∷ before.history x) (sym same) in
             subst P (sym e) (mine same)
         by (inr apart) = subst P (sym (s.elsewhere q apart)) (other apart)
 
@@ -260,26 +263,26 @@ register_keeps job before after t p n c a mode u is there s ran = record {
         by (inr same) = same ∙ e
         by (inl at) =
             let none : Some b ≡ None =
-                sym e ∙ ap (λ y. before.number y x) at.0 ∙ ap (λ y. before.number p y) at.1
-                    ∙ s.absent in absurd (cc)
+            sym e ∙ ap (λ y. before.number y x) at.0 ∙ ap (λ y. before.number p y) at.1
+            ∙ s.absent in absurd (cc)
 
     start_now : (q b : ℕ) (start : Entry) → q < length job.graph.phasers
         → start_of (before.history q) b ≡ Some start → start_of (after.history q) b ≡ Some start
     start_now q b start qq e =
         by_phaser (λ g. start_of g b ≡ Some start) q
         (λ same. (let P : ℕ → Type 0 =
-            λ x. IsLegal (limits_at job x) (Registered n a mode ∷ before.history x) in
+        λ x. IsLegal (limits_at job x) (Registered n a mode ∷ before.history x) in
         start_of-longer (limits_at job q) (before.history q)
-            (Registered n a mode ∷ before.history q) b start (subst P (sym same) legal_now)
-                (record { later = Registered n a mode ∷ []; is = refl }) e))
+        (Registered n a mode ∷ before.history q) b start (subst P (sym same) legal_now)
+        (record { later = Registered n a mode ∷ []; is = refl }) e))
         (λ apart. e)
 
     phasers : (q : ℕ) → q < length job.graph.phasers → PhaserRan job after q
     phasers q qq = record {
       legal = by_phaser (λ g. IsLegal (limits_at job q) g) q
           (λ same. (let P : ℕ → Type 0 =
-              λ x. IsLegal (limits_at job x) (Registered n a mode ∷ before.history x) in
-              subst P (sym same) legal_now)) (λ apart. (ran.phasers q qq).legal);
+          λ x. IsLegal (limits_at job x) (Registered n a mode ∷ before.history x) in
+          subst P (sym same) legal_now)) (λ apart. (ran.phasers q qq).legal);
       names = by_phaser (λ g. NamesAll (phaser_at job.graph q).single g) q
           (λ same. (ran.phasers q qq).names) (λ apart. (ran.phasers q qq).names);
       distinct =
@@ -297,7 +300,7 @@ register_keeps job before after t p n c a mode u is there s ran = record {
         new_is : (x b : ℕ) → after.number q x ≡ Some b → q ≡ p → x ≡ c → b ≡ a
         new_is x b e at me =
             same_Some b a
-                (sym e ∙ ap (λ y. after.number y x) at ∙ ap (λ y. after.number p y) me ∙ s.number)
+            (sym e ∙ ap (λ y. after.number y x) at ∙ ap (λ y. after.number p y) me ∙ s.number)
 
         distinct : (x y b : ℕ) → x < length job.graph.tasks → y < length job.graph.tasks
             → after.number q x ≡ Some b → after.number q y ≡ Some b
@@ -316,7 +319,7 @@ register_keeps job before after t p n c a mode u is there s ran = record {
             → IsUsed (after.history q) b
         used x b e (inr same) =
             let st = start_from (start_of (before.history q) b)
-                ((ran.phasers q qq).used x b (sym same ∙ e)) in
+            ((ran.phasers q qq).used x b (sym same ∙ e)) in
             ap is_some (start_now q b st.0 qq st.1)
         used x b e (inl at) =
             let new : b ≡ a = new_is x b e at.0 at.1 in
@@ -327,7 +330,7 @@ register_keeps job before after t p n c a mode u is there s ran = record {
             → IsSilent (after.history q) b
         strangers b none =
             let old : is_in b (numbers_on job before q) ≡ false =
-                outside b none (is_in b (numbers_on job before q)) refl in
+            outside b none (is_in b (numbers_on job before q)) refl in
             let silent : IsSilent (before.history q) b = (ran.phasers q qq).strangers b old in
             by_phaser (λ g. IsSilent g b) q
             (λ same. (let other : eqb a b ≡ false = ne_eqb a b (λ e. not_new b none same (sym e)) in
@@ -335,11 +338,11 @@ register_keeps job before after t p n c a mode u is there s ran = record {
               nothing = silent.nothing;
               from_0 = λ start found.
                   silent.from_0 start
-                      (sym (ap (λ (t : Bool).
-                          cond t (Some
-                              (entry_at mode (signal_phase (before.history q) n)
-                                  (wait_phase (before.history q) n)))
-                                      (start_of (before.history q) b)) other) ∙ found);
+                  (sym (ap (λ (t : Bool).
+                  cond t (Some
+                  (entry_at mode (signal_phase (before.history q) n)
+                  (wait_phase (before.history q) n)))
+                  (start_of (before.history q) b)) other) ∙ found);
             }))
             (λ apart. silent)
           where
@@ -350,15 +353,15 @@ register_keeps job before after t p n c a mode u is there s ran = record {
                 let r = from_numbers (before.number q) 0 (length job.graph.tasks) b e in
                 let high : r.0 < 0 + length job.graph.tasks = r.2 in
                 let inside : is_in b (numbers_on job after q) ≡ true =
-                    in_numbers (after.number q) 0 (length job.graph.tasks) r.0 b (omega arith)
-                        (omega arith) (stays q r.0 b r.3) in
+                in_numbers (after.number q) 0 (length job.graph.tasks) r.0 b (omega arith)
+                (omega arith) (stays q r.0 b r.3) in
                 absurd (let f : true ≡ false = sym inside ∙ none in cc)
 
             not_new : (b : ℕ) → is_in b (numbers_on job after q) ≡ false → q ≡ p → b ≢ a
             not_new b none at new =
                 let inside : is_in b (numbers_on job after q) ≡ true =
-                    in_numbers (after.number q) 0 (length job.graph.tasks) c b (omega arith)
-                        (let l : c < length job.graph.tasks = s.child in omega arith)
+                in_numbers (after.number q) 0 (length job.graph.tasks) c b (omega arith)
+                (let l : c < length job.graph.tasks = s.child in omega arith)
                 (ap (λ y. after.number y c) at ∙ s.number ∙ ap (λ y. Some y) (sym new)) in
                 let f : true ≡ false = sym inside ∙ none in cc
 
@@ -368,8 +371,8 @@ register_keeps job before after t p n c a mode u is there s ran = record {
       legal = λ q on. (phasers q (on_phaser job x q is there_x on)).legal;
       beginning =
           λ q on. by_phaser (λ g. IsBeginning (before.history q) g) q
-              (λ same. record { later = Registered n a mode ∷ []; is = refl })
-                  (λ apart. record { later = []; is = refl });
+          (λ same. record { later = Registered n a mode ∷ []; is = refl })
+          (λ apart. record { later = []; is = refl });
     }
 
     registered_still : (x : ℕ) → IsRegistered before x → IsRegistered after x
@@ -380,10 +383,13 @@ register_keeps job before after t p n c a mode u is there s ran = record {
     joined_same x None j = (s.same x).offset ∙ j
     joined_same x (Some w) j =
         let low : w.at ≤ before.begun w.task = j.1 in
-        let begun : after.begun w.task ≡ before.begun w.task = (s.same w.task).begun in
-        ((s.same x).offset ∙ j.0
-            ∙ ap (λ y. y + w.at) (sym (s.same w.task).offset), omega arith, registered_still w.task
-                j.2)
+        let begun : after.begun w.task ≡ before.begun w.task = (s.same w.task).begun in (
+          (s.same x).offset ∙ j.0
+              ∙ ap (λ y. y + w.at) (sym (s.same w.task).offset),
+          omega arith,
+          registered_still w.task
+              j.2,
+        )
 
     output_still : (x j q b : ℕ) → x < length job.graph.tasks → q < length job.graph.phasers
         → OnOutput job before x j q b → OnOutput job after x j q b
@@ -394,11 +400,11 @@ register_keeps job before after t p n c a mode u is there s ran = record {
       at = on.at ∙ sym (s.same x).offset;
       sent = by_phaser (λ g. sent_by g b ≡ map one (after.put x j)) q
           (λ same. on.sent ∙ ap (λ l. map one l) (sym ((s.same x).put j)))
-              (λ apart. on.sent ∙ ap (λ l. map one l) (sym ((s.same x).put j)));
+          (λ apart. on.sent ∙ ap (λ l. map one l) (sym ((s.same x).put j)));
       left = λ gone. ended_later job before after x is there_x (grown x there_x) (s.same x)
           (on.left (by_phaser
-              (λ g. has_dropped g b ≡ true → has_dropped (before.history q) b ≡ true) q
-                  (λ same e. e) (λ apart e. e) gone));
+          (λ g. has_dropped g b ≡ true → has_dropped (before.history q) b ≡ true) q
+          (λ same e. e) (λ apart e. e) gone));
     }
 
     input_still : (x k q b : ℕ) → x < length job.graph.tasks → q < length job.graph.phasers
@@ -410,11 +416,11 @@ register_keeps job before after t p n c a mode u is there s ran = record {
       at = on.at ∙ sym (s.same x).offset;
       taken = (s.same x).taken k
           ∙ by_phaser (λ g. before.taken x k ≡ map number (received_by (value_at job q) g b)) q
-              (λ same. on.taken) (λ apart. on.taken);
+          (λ same. on.taken) (λ apart. on.taken);
       left = λ gone. ended_later job before after x is there_x (grown x there_x) (s.same x)
           (on.left (by_phaser
-              (λ g. has_dropped g b ≡ true → has_dropped (before.history q) b ≡ true) q
-                  (λ same e. e) (λ apart e. e) gone));
+          (λ g. has_dropped g b ≡ true → has_dropped (before.history q) b ≡ true) q
+          (λ same e. e) (λ apart e. e) gone));
     }
 
     silent_still : (x q b : ℕ) → q < length job.graph.phasers → before.number q x ≡ Some b
@@ -425,7 +431,7 @@ register_keeps job before after t p n c a mode u is there s ran = record {
         record {
           nothing =
               by_phaser (λ g. phases_signalled g b ≡ 0) q (λ same. silent.nothing)
-                  (λ apart. silent.nothing);
+              (λ apart. silent.nothing);
           from_0 = λ start found. silent.from_0 start (st.1 ∙ (sym still ∙ found));
         }
 
@@ -450,12 +456,12 @@ register_keeps job before after t p n c a mode u is there s ran = record {
 
     in_still : (x k : ℕ) → x < length job.graph.tasks → k < length (task_at job.graph x).inputs
         → after.number (input_at (task_at job.graph x) k) x
-            ≡ before.number (input_at (task_at job.graph x) k) x
+        ≡ before.number (input_at (task_at job.graph x) k) x
         → (y : Option ℕ) → before.number (input_at (task_at job.graph x) k) x ≡ y
         → TakenOn job before x k (input_at (task_at job.graph x) k)
-            (before.number (input_at (task_at job.graph x) k) x)
+        (before.number (input_at (task_at job.graph x) k) x)
         → TakenOn job after x k (input_at (task_at job.graph x) k)
-            (after.number (input_at (task_at job.graph x) k) x)
+        (after.number (input_at (task_at job.graph x) k) x)
     in_still x k there_x lt same None at on =
         let q = input_at (task_at job.graph x) k in
         let S : Option ℕ → Type 0 = λ y. TakenOn job after x k q y in
@@ -467,7 +473,7 @@ register_keeps job before after t p n c a mode u is there s ran = record {
         let S : Option ℕ → Type 0 = λ y. TakenOn job after x k q y in
         let T : Option ℕ → Type 0 = λ y. TakenOn job before x k q y in
         subst S (sym (same ∙ at))
-            (input_still x k q b there_x ((is.tasks x there_x).inputs k 0 lt) (subst T at on))
+        (input_still x k q b there_x ((is.tasks x there_x).inputs k 0 lt) (subst T at on))
 
     -- what does not speak of histories
     puts_still : (x j : ℕ) → x < length job.graph.tasks
@@ -477,35 +483,35 @@ register_keeps job before after t p n c a mode u is there s ran = record {
         let A : List ℤ → Type 0 = λ l. IsPrefix l (made_now job after x j) in
         let B : List ℤ → Type 0 = λ l. IsPrefix (before.put x j) l in
         subst A (sym ((s.same x).put j))
-            (subst B (sym (made_same job before after x j (s.same x)))
-                ((ran.tasks x there_x).puts j lt))
+        (subst B (sym (made_same job before after x j (s.same x)))
+        ((ran.tasks x there_x).puts j lt))
 
     exchanged_still : (x j : ℕ) → x < length job.graph.tasks
         → HasExchanged (task_at job.graph x).kind j (length (after.put x j))
-            (length (after.taken x 1))
+        (length (after.taken x 1))
     exchanged_still x j there_x =
         let A : List ℤ → Type 0 =
-            λ l. HasExchanged (task_at job.graph x).kind j (length l) (length (after.taken x 1)) in
+        λ l. HasExchanged (task_at job.graph x).kind j (length l) (length (after.taken x 1)) in
         let B : List ℤ → Type 0 =
-            λ l. HasExchanged (task_at job.graph x).kind j (length (before.put x j)) (length l) in
+        λ l. HasExchanged (task_at job.graph x).kind j (length (before.put x j)) (length l) in
         subst A (sym ((s.same x).put j))
-            (subst B (sym ((s.same x).taken 1)) ((ran.tasks x there_x).exchanged j))
+        (subst B (sym ((s.same x).taken 1)) ((ran.tasks x there_x).exchanged j))
 
     takes_still : (x k : ℕ) → x < length job.graph.tasks → k < length (task_at job.graph x).inputs
         → HasTaken (task_at job.graph x) (after.begun x) k (length (after.taken x k))
     takes_still x k there_x lt =
         let A : List ℤ → Type 0 =
-            λ l. HasTaken (task_at job.graph x) (after.begun x) k (length l) in
+        λ l. HasTaken (task_at job.graph x) (after.begun x) k (length l) in
         let D : ℕ → Type 0 = λ b. HasTaken (task_at job.graph x) b k (length (before.taken x k)) in
         subst A (sym ((s.same x).taken k))
-            (subst D (sym (s.same x).begun) ((ran.tasks x there_x).takes k lt))
+        (subst D (sym (s.same x).begun) ((ran.tasks x there_x).takes k lt))
 
     samples_still : (x : ℕ) → x < length job.graph.tasks
         → HasSamples (task_at job.graph x).kind (after.begun x) (length (samples_at job x))
     samples_still x there_x =
         let D : ℕ → Type 0 =
-            λ b. HasSamples (task_at job.graph x).kind b (length (samples_at job x)) in
-            subst D (sym (s.same x).begun) (ran.tasks x there_x).samples
+        λ b. HasSamples (task_at job.graph x).kind b (length (samples_at job x)) in
+        subst D (sym (s.same x).begun) (ran.tasks x there_x).samples
 
     cut_still : (x : ℕ) → x < length job.graph.tasks
         → AtMost (after.begun x) (task_at job.graph x).until
@@ -517,20 +523,20 @@ register_keeps job before after t p n c a mode u is there s ran = record {
     children_still : (x q b d : ℕ) (w : Parent) → x < length job.graph.tasks
         → before.number q x ≡ Some b → d < length job.graph.tasks
         → (task_at job.graph d).parent ≡ Some w → w.task ≡ x
-        → after.number q d ≡ None → OnLine (task_at job.graph d) q → WaitsFor after q b w
+        → after.number q d ≡ None → OnLine (task_at job.graph d) q → HasNotPassed after q b w
     children_still x q b d w there_x at there_d e same none on =
         let old : before.number q d ≡ None = was_none (before.number q d) refl in
-        let wf : WaitsFor before q b w =
-            (ran.tasks x there_x).children d q b w there_d e same at old on in
+        let wf : HasNotPassed before q b w =
+        (ran.tasks x there_x).children d q b w there_d e same at old on in
         let begun : after.begun w.task ≡ before.begun w.task = (s.same w.task).begun in
         let early : before.begun w.task ≤ w.at = wf.early in
         record {
           early = omega arith;
           ended = λ gone.
               (let low : before.begun w.task < w.at =
-                  wf.ended (by_phaser
-                      (λ g. has_dropped g b ≡ true → has_dropped (before.history q) b ≡ true) q
-                          (λ same e. e) (λ apart e. e) gone) in omega arith);
+              wf.ended (by_phaser
+              (λ g. has_dropped g b ≡ true → has_dropped (before.history q) b ≡ true) q
+              (λ same e. e) (λ apart e. e) gone) in omega arith);
         }
       where
         was_none : (o : Option ℕ) → before.number q d ≡ o → before.number q d ≡ None
@@ -547,21 +553,21 @@ register_keeps job before after t p n c a mode u is there s ran = record {
       cut = cut_still x there_x;
       outputs =
           λ q qq. on_still x q there_x qq (s.other_numbers q x (inr other))
-              (place_in (signalled_by (task_at job.graph x)) q) (before.number q x) refl
-                  ((ran.tasks x there_x).outputs q qq);
+          (place_in (signalled_by (task_at job.graph x)) q) (before.number q x) refl
+          ((ran.tasks x there_x).outputs q qq);
       inputs = λ k lt.
           in_still x k there_x lt (s.other_numbers (input_at (task_at job.graph x) k) x (inr other))
-              (before.number (input_at (task_at job.graph x) k) x) refl
-                  ((ran.tasks x there_x).inputs k lt);
+          (before.number (input_at (task_at job.graph x) k) x) refl
+          ((ran.tasks x there_x).inputs k lt);
       lines = λ q b at.
           (ran.tasks x there_x).lines q b (sym (s.other_numbers q x (inr other)) ∙ at);
       joined = λ q b at.
           joined_same x (task_at job.graph x).parent
-              ((ran.tasks x there_x).joined q b (sym (s.other_numbers q x (inr other)) ∙ at));
+          ((ran.tasks x there_x).joined q b (sym (s.other_numbers q x (inr other)) ∙ at));
       children =
           λ d q b w there_d e same at none on.
-              children_still x q b d w there_x (sym (s.other_numbers q x (inr other)) ∙ at) there_d
-                  e same none on;
+          children_still x q b d w there_x (sym (s.other_numbers q x (inr other)) ∙ at) there_d
+          e same none on;
     }
 
     -- ---- the child, on the phaser where it now is
@@ -589,10 +595,10 @@ register_keeps job before after t p n c a mode u is there s ran = record {
         let O : Option ℕ → Type 0 = λ o. OnPhaser job before t p o in
         let N : Option ℕ → Type 0 = λ o. PutOn job before t i.0 p o in
         let on : OnOutput job before t i.0 p n =
-            subst N s.numbered (subst O at ((ran.tasks t there).outputs p pp)) in
+        subst N s.numbered (subst O at ((ran.tasks t there).outputs p pp)) in
         let stands : signal_phase (before.history p) n
-            ≡ before.offset t + length (before.put t i.0) =
-                signals_from job before t i.0 p n a mode (ran.phasers p pp).legal on s.accepted in
+        ≡ before.offset t + length (before.put t i.0) =
+        signals_from job before t i.0 p n a mode (ran.phasers p pp).legal on s.accepted in
         let put : length (before.put t i.0) ≡ before.begun t = s.all_put i.0 at in
         let off : before.offset c ≡ before.offset t + u.at = s.offset in
         let b : before.begun t ≡ u.at = s.boundary in
@@ -602,9 +608,9 @@ register_keeps job before after t p n c a mode u is there s ran = record {
         → OnOutput job after c j p a
     out_here j place =
         let A : History → Type 0 =
-            λ g. start_of g a
-                ≡ Some (entry_at mode (signal_phase (before.history p) n)
-                    (wait_phase (before.history p) n)) in
+        λ g. start_of g a
+        ≡ Some (entry_at mode (signal_phase (before.history p) n)
+        (wait_phase (before.history p) n)) in
         record {
           start = entry_at mode (signal_phase (before.history p) n)
               (wait_phase (before.history p) n);
@@ -615,13 +621,13 @@ register_keeps job before after t p n c a mode u is there s ran = record {
               ∙ ap (λ l. map one l) (sym ((s.same c).put j ∙ s.nothing_put j));
           left = λ gone.
               absurd (let f : true ≡ false =
-                  sym gone ∙ ap (λ g. has_dropped g a) s.here ∙ unused.stays in cc);
+              sym gone ∙ ap (λ g. has_dropped g a) s.here ∙ unused.stays in cc);
         }
 
     parent_in : (k : ℕ) → k < length (task_at job.graph c).inputs
         → input_at (task_at job.graph c) k ≡ p
         → (wait_phase (before.history p) n ≡ before.offset c)
-            × (signal_phase (before.history p) n ≡ 0)
+        × (signal_phase (before.history p) n ≡ 0)
     parent_in k lt at =
         let i = parent_waits job c u k par lt in
         let I : ℕ → Type 0 = λ x. i.0 < length (task_at job.graph x).inputs in
@@ -633,18 +639,18 @@ register_keeps job before after t p n c a mode u is there s ran = record {
         let T : ℕ → Type 0 = λ q. TakenOn job before t i.0 q (before.number q t) in
         let N : Option ℕ → Type 0 = λ o. TakenOn job before t i.0 p o in
         let on : OnInput job before t i.0 p n =
-            subst N s.numbered (subst T is_p ((ran.tasks t there).inputs i.0 lti)) in
+        subst N s.numbered (subst T is_p ((ran.tasks t there).inputs i.0 lti)) in
         let stands : wait_phase (before.history p) n
-            ≡ before.offset t + length (before.taken t i.0) =
-                waits_from job before t i.0 p n a mode (ran.phasers p pp).legal on s.accepted in
+        ≡ before.offset t + length (before.taken t i.0) =
+        waits_from job before t i.0 p n a mode (ran.phasers p pp).legal on s.accepted in
         let taken : length (before.taken t i.0) ≡ before.begun t = s.all_taken i.0 lti is_p in
         let off : before.offset c ≡ before.offset t + u.at = s.offset in
         let b : before.begun t ≡ u.at = s.boundary in
         let P : ℕ → Type 0 =
-            λ q. OnPhaser job before t q (place_in (signalled_by (task_at job.graph t)) q) in
+        λ q. OnPhaser job before t q (place_in (signalled_by (task_at job.graph t)) q) in
         let silent : IsSilent (before.history p) n =
-            quiet (place_in (signalled_by (task_at job.graph t)) p) refl
-                ((ran.tasks t there).outputs p pp) i.0 lti is_p plain in
+        quiet (place_in (signalled_by (task_at job.graph t)) p) refl
+        ((ran.tasks t there).outputs p pp) i.0 lti is_p plain in
         (omega arith, silent_from job before p n a mode (ran.phasers p pp).legal silent s.accepted)
       where
         quiet : (place : Option ℕ) → place_in (signalled_by (task_at job.graph t)) p ≡ place
@@ -658,15 +664,15 @@ register_keeps job before after t p n c a mode u is there s ran = record {
             subst N s.numbered (subst O e on)
         quiet (Some j) e on i lti is_p plain =
             absurd (read_not_signalled job t i j (is.tasks t there) plain lti
-                (ap (λ q. place_in (signalled_by (task_at job.graph t)) q) is_p ∙ e))
+            (ap (λ q. place_in (signalled_by (task_at job.graph t)) q) is_p ∙ e))
 
     in_here : (k : ℕ) → k < length (task_at job.graph c).inputs
         → input_at (task_at job.graph c) k ≡ p → OnInput job after c k p a
     in_here k lt at =
         let A : History → Type 0 =
-            λ g. start_of g a
-                ≡ Some (entry_at mode (signal_phase (before.history p) n)
-                    (wait_phase (before.history p) n)) in
+        λ g. start_of g a
+        ≡ Some (entry_at mode (signal_phase (before.history p) n)
+        (wait_phase (before.history p) n)) in
         record {
           start = entry_at mode (signal_phase (before.history p) n)
               (wait_phase (before.history p) n);
@@ -675,21 +681,21 @@ register_keeps job before after t p n c a mode u is there s ran = record {
           at = (parent_in k lt at).0 ∙ sym (s.same c).offset;
           taken = (s.same c).taken k ∙ s.nothing_taken k
               ∙ ap (λ l. map number l)
-                  (sym (ap (λ g. received_by (value_at job p) g a) s.here ∙ unused.received));
+              (sym (ap (λ g. received_by (value_at job p) g a) s.here ∙ unused.received));
           left = λ gone.
               absurd (let f : true ≡ false =
-                  sym gone ∙ ap (λ g. has_dropped g a) s.here ∙ unused.stays in cc);
+              sym gone ∙ ap (λ g. has_dropped g a) s.here ∙ unused.stays in cc);
         }
 
     -- it does not signal a phaser that it is on only as a reader
     reads_here : place_in (signalled_by (task_at job.graph c)) p ≡ None
         → (k : ℕ) × (k < length (task_at job.graph c).inputs)
-            × (input_at (task_at job.graph c) k ≡ p)
+        × (input_at (task_at job.graph c) k ≡ p)
     reads_here none = by s.on_line
       where
         by : OnLine (task_at job.graph c) p
             → (k : ℕ) × (k < length (task_at job.graph c).inputs)
-                × (input_at (task_at job.graph c) k ≡ p)
+            × (input_at (task_at job.graph c) k ≡ p)
         by (inr into) = into
         by (inl out) = absurd (let f : Some out.0 ≡ None = sym out.1 ∙ none in cc)
 
@@ -698,43 +704,43 @@ register_keeps job before after t p n c a mode u is there s ran = record {
         → OnPhaser job after c q (place_in (signalled_by (task_at job.graph c)) q)
     child_outputs q qq place e (inr apart) =
         on_still c q s.child qq (s.other_numbers q c (inl apart))
-            (place_in (signalled_by (task_at job.graph c)) q) (before.number q c) refl
-                ((ran.tasks c s.child).outputs q qq)
+        (place_in (signalled_by (task_at job.graph c)) q) (before.number q c) refl
+        ((ran.tasks c s.child).outputs q qq)
     child_outputs q qq (Some j) e (inl same) =
         let Q : ℕ → Type 0 =
-            λ x. OnPhaser job after c x (place_in (signalled_by (task_at job.graph c)) x) in
+        λ x. OnPhaser job after c x (place_in (signalled_by (task_at job.graph c)) x) in
         let O : Option ℕ → Type 0 = λ o. OnPhaser job after c p o in
         let N : Option ℕ → Type 0 = λ o. PutOn job after c j p o in
         let place : place_in (signalled_by (task_at job.graph c)) p ≡ Some j =
-            ap (λ x. place_in (signalled_by (task_at job.graph c)) x) (sym same) ∙ e in
+        ap (λ x. place_in (signalled_by (task_at job.graph c)) x) (sym same) ∙ e in
         subst Q (sym same) (subst O (sym place) (subst N (sym s.number) (out_here j place)))
     child_outputs q qq None e (inl same) =
         let Q : ℕ → Type 0 =
-            λ x. OnPhaser job after c x (place_in (signalled_by (task_at job.graph c)) x) in
+        λ x. OnPhaser job after c x (place_in (signalled_by (task_at job.graph c)) x) in
         let O : Option ℕ → Type 0 = λ o. OnPhaser job after c p o in
         let N : Option ℕ → Type 0 = λ o. SilentOn after p o in
         let place : place_in (signalled_by (task_at job.graph c)) p ≡ None =
-            ap (λ x. place_in (signalled_by (task_at job.graph c)) x) (sym same) ∙ e in
+        ap (λ x. place_in (signalled_by (task_at job.graph c)) x) (sym same) ∙ e in
         let k = reads_here place in
         let S : History → Type 0 = λ g. IsSilent g a in
         subst Q (sym same)
-            (subst O (sym place) (subst N (sym s.number) (subst S (sym s.here) (record {
+        (subst O (sym place) (subst N (sym s.number) (subst S (sym s.here) (record {
           nothing = unused.signals;
           from_0 = λ start found.
               (let here : entry_at mode (signal_phase (before.history p) n)
-                  (wait_phase (before.history p) n) ≡ start =
-                      same_Some _ _ (sym start_here ∙ found) in
+              (wait_phase (before.history p) n) ≡ start =
+              same_Some _ _ (sym start_here ∙ found) in
               sym (ap (λ (x : Entry). x.signal_phase) here) ∙ (parent_in k.0 k.1 k.2).1);
         }))))
 
     child_inputs : (k : ℕ) → k < length (task_at job.graph c).inputs
         → (input_at (task_at job.graph c) k ≡ p) ⊎ (input_at (task_at job.graph c) k ≢ p)
         → TakenOn job after c k (input_at (task_at job.graph c) k)
-            (after.number (input_at (task_at job.graph c) k) c)
+        (after.number (input_at (task_at job.graph c) k) c)
     child_inputs k lt (inr apart) =
         in_still c k s.child lt (s.other_numbers (input_at (task_at job.graph c) k) c (inl apart))
-            (before.number (input_at (task_at job.graph c) k) c) refl
-                ((ran.tasks c s.child).inputs k lt)
+        (before.number (input_at (task_at job.graph c) k) c) refl
+        ((ran.tasks c s.child).inputs k lt)
     child_inputs k lt (inl same) =
         let Q : ℕ → Type 0 = λ x. TakenOn job after c k x (after.number x c) in
         let N : Option ℕ → Type 0 = λ o. TakenOn job after c k p o in
@@ -744,31 +750,34 @@ register_keeps job before after t p n c a mode u is there s ran = record {
     child_joined =
         let P : Option Parent → Type 0 = λ o. Joined after c o in
         let U : ℕ → Type 0 =
-            λ x. (after.offset c ≡ after.offset x + u.at) × (u.at ≤ after.begun x)
-                × IsRegistered after x in
+        λ x. (after.offset c ≡ after.offset x + u.at) × (u.at ≤ after.begun x)
+        × IsRegistered after x in
         let off : after.offset c ≡ after.offset t + u.at =
-            (s.same c).offset ∙ s.offset ∙ ap (λ y. y + u.at) (sym (s.same t).offset) in
+        (s.same c).offset ∙ s.offset ∙ ap (λ y. y + u.at) (sym (s.same t).offset) in
         let begun : after.begun t ≡ before.begun t = (s.same t).begun in
         let b : before.begun t ≡ u.at = s.boundary in
         subst P (sym s.parent)
-            (subst U (sym s.by) (off, omega arith, (p, n, stays p t n s.numbered)))
+        (subst U (sym s.by) (off, omega arith, (p, n, stays p t n s.numbered)))
 
     child_children : (d q b : ℕ) (w : Parent) → d < length job.graph.tasks
         → (task_at job.graph d).parent ≡ Some w → w.task ≡ c → after.number q c ≡ Some b
         → after.number q d ≡ None → OnLine (task_at job.graph d) q → (q ≡ p) ⊎ (q ≢ p)
-        → WaitsFor after q b w
+        → HasNotPassed after q b w
     child_children d q b w there_d e same at none on (inr apart) =
         children_still c q b d w s.child (sym (s.other_numbers q c (inl apart)) ∙ at) there_d e same
-            none on
+        none on
     child_children d q b w there_d e same at none on (inl here) =
         let me : b ≡ a = same_Some b a (sym at ∙ ap (λ y. after.number y c) here ∙ s.number) in
         let begun : after.begun w.task ≡ 0 =
-            ap (λ x. after.begun x) same ∙ (s.same c).begun ∙ s.nothing_begun in
+        ap (λ x. after.begun x) same ∙ (s.same c).begun ∙ s.nothing_begun in
         let kept : has_dropped (after.history q) b ≡ false =
-            ap (λ x. has_dropped (after.history x) b) here ∙ ap (λ g. has_dropped g b) s.here
-                ∙ ap (λ x. has_dropped (before.history p) x) me ∙ unused.stays in
-        record { early =
-            omega arith; ended = λ gone. absurd (let f : true ≡ false = sym gone ∙ kept in cc) }
+        ap (λ x. has_dropped (after.history x) b) here ∙ ap (λ g. has_dropped g b) s.here
+        ∙ ap (λ x. has_dropped (before.history p) x) me ∙ unused.stays in
+        record {
+          early =
+              omega arith;
+          ended = λ gone. absurd (let f : true ≡ false = sym gone ∙ kept in cc);
+        }
 
     child_lines : (q b : ℕ) → after.number q c ≡ Some b
         → ((q ≡ p) × (c ≡ c)) ⊎ (after.number q c ≡ before.number q c)
@@ -786,13 +795,13 @@ register_keeps job before after t p n c a mode u is there s ran = record {
       cut = cut_still c s.child;
       outputs =
           λ q qq. child_outputs q qq (place_in (signalled_by (task_at job.graph c)) q) refl
-              (eq_case q p);
+          (eq_case q p);
       inputs = λ k lt. child_inputs k lt (eq_case (input_at (task_at job.graph c) k) p);
       lines = λ q b at. child_lines q b at (number_case q c);
       joined = λ q b at. child_joined;
       children =
           λ d q b w there_d e same at none on.
-              child_children d q b w there_d e same at none on (eq_case q p);
+          child_children d q b w there_d e same at none on (eq_case q p);
     }
 
     tasks : (x : ℕ) → x < length job.graph.tasks → (x ≡ c) ⊎ (x ≢ c) → (x ≡ t) ⊎ (x ≢ t)
@@ -813,9 +822,9 @@ own_register job before after t p n c a mode u is there grown s ran =
       same = s.same t;
       number = λ q.
           s.other_numbers q t
-              (inr (λ same.
-                  (let above : u.task < c = (parent_of job c u is s.child s.parent).above in
-                  let by : u.task ≡ t = s.by in omega arith)));
+          (inr (λ same.
+          (let above : u.task < c = (parent_of job c u is s.child s.parent).above in
+          let by : u.task ≡ t = s.by in omega arith)));
       part = λ q b at. part q b (eq_case q p);
       children = λ d q w there_d e same none. was_none d q (before.number q d) refl none;
       parent = λ w e.
@@ -827,14 +836,14 @@ own_register job before after t p n c a mode u is there grown s ran =
     part q b (inl same) =
         let P : History → Type 0 = λ g. PartStays b (before.history q) g in
         let e : after.history q ≡ Registered n a mode ∷ before.history q =
-            ap (λ x. after.history x) same ∙ s.here
-                ∙ ap (λ x. Registered n a mode ∷ before.history x) (sym same) in
+        ap (λ x. after.history x) same ∙ s.here
+        ∙ ap (λ x. Registered n a mode ∷ before.history x) (sym same) in
         subst P (sym e)
-            (record { sent = refl; dropped = refl; signalled = refl; received = λ value. refl })
+        (record { sent = refl; dropped = refl; signalled = refl; received = λ value. refl })
     part q b (inr apart) =
         let P : History → Type 0 = λ g. PartStays b (before.history q) g in
         subst P (sym (s.elsewhere q apart))
-            (record { sent = refl; dropped = refl; signalled = refl; received = λ value. refl })
+        (record { sent = refl; dropped = refl; signalled = refl; received = λ value. refl })
 
     -- who was registered still is
     stays : (q x b : ℕ) → before.number q x ≡ Some b → after.number q x ≡ Some b
@@ -845,8 +854,8 @@ own_register job before after t p n c a mode u is there grown s ran =
         by (inl same) (inr apart) = s.other_numbers q x (inr apart) ∙ e
         by (inl same) (inl me) =
             let none : Some b ≡ None =
-                sym e ∙ ap (λ y. before.number y x) same ∙ ap (λ y. before.number p y) me
-                    ∙ s.absent in absurd (cc)
+            sym e ∙ ap (λ y. before.number y x) same ∙ ap (λ y. before.number p y) me
+            ∙ s.absent in absurd (cc)
 
     was_none : (d q : ℕ) (o : Option ℕ) → before.number q d ≡ o → after.number q d ≡ None
         → before.number q d ≡ None

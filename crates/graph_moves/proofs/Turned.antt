@@ -45,16 +45,18 @@ prefix_next xs ys v a lt e = by a.0 a.1
         absurd (let l : length xs + 0 ≡ length ys = sym (length-append xs []) ∙ ap length is in
         omega arith)
     by (r ∷ rs) is =
-        let here : r ≡ v = sym (seam xs r rs) ∙ ap (λ l. get_or l (length xs) (pos 0)) is ∙ e in
-        (rs, Rattle.std.proofs.lemmas.List.append_assoc xs (v ∷ []) rs
-            ∙ ap (λ w. xs ++ w ∷ rs) (sym here) ∙ is)
+        let here : r ≡ v = sym (seam xs r rs) ∙ ap (λ l. get_or l (length xs) (pos 0)) is ∙ e in (
+          rs,
+          Rattle.std.proofs.lemmas.List.append_assoc xs (v ∷ []) rs
+              ∙ ap (λ w. xs ++ w ∷ rs) (sym here) ∙ is,
+        )
 
 -- ---- signals
 
 moved_signal : (job : Job) (m : Moment) (t j p n : ℕ) (v : ℤ) (begun : ℕ)
     → IsAcceptedSignal job m t j p n v → m.begun t ≤ begun
     → HasMoved job m (after_signal job t j p n v begun m) t p
-        (Signalled n ((v ∷ []) ∷ []) (phaser_at job.graph p).single)
+    (Signalled n ((v ∷ []) ∷ []) (phaser_at job.graph p).single)
 moved_signal job m t j p n v begun s le =
     let event = Signalled n ((v ∷ []) ∷ []) (phaser_at job.graph p).single in
     record {
@@ -77,13 +79,13 @@ put_now : (job : Job) (m : Moment) (t j p n : ℕ) (v : ℤ) (begun : ℕ)
     → (after_signal job t j p n v begun m).put t j ≡ m.put t j ++ v ∷ []
 put_now job m t j p n v begun =
     ap (λ f. f j) (at_same t (with_at j (m.put t j ++ v ∷ []) (m.put t)) m.put)
-        ∙ at_same j (m.put t j ++ v ∷ []) (m.put t)
+    ∙ at_same j (m.put t j ++ v ∷ []) (m.put t)
 
 put_else : (job : Job) (m : Moment) (t j p n : ℕ) (v : ℤ) (begun i : ℕ) → i ≢ j
     → (after_signal job t j p n v begun m).put t i ≡ m.put t i
 put_else job m t j p n v begun i apart =
     ap (λ f. f i) (at_same t (with_at j (m.put t j ++ v ∷ []) (m.put t)) m.put)
-        ∙ at_other j (m.put t j ++ v ∷ []) (m.put t) i apart
+    ∙ at_other j (m.put t j ++ v ∷ []) (m.put t) i apart
 
 one_longer : (xs : List ℤ) (v : ℤ) → length (xs ++ v ∷ []) ≡ suc (length xs)
 one_longer xs v =
@@ -99,9 +101,9 @@ next_signal_keeps job m t j p n v is there pp s ran =
     let still : after.begun t ≡ m.begun t = at_same t (m.begun t) m.begun in
     let put = put_now job m t j p n v (m.begun t) in
     let made : made_now job after t j ≡ made_now job m t j =
-        made_still job m after t j (λ k. refl) still in
+    made_still job m after t j (λ k. refl) still in
     let lt : j < length (signalled_by (task_at job.graph t)) =
-        (place-at (signalled_by (task_at job.graph t)) p j s.signal.place).0 in
+    (place-at (signalled_by (task_at job.graph t)) p j s.signal.place).0 in
     let A : List ℤ → Type 0 = λ l. IsPrefix l (made_now job after t j) in
     let B : List ℤ → Type 0 = λ l. IsPrefix (m.put t j ++ v ∷ []) l in
     let X : ℕ → Type 0 = λ c. HasExchanged (task_at job.graph t).kind j c (length (m.taken t 1)) in
@@ -116,8 +118,8 @@ next_signal_keeps job m t j p n v is there pp s ran =
       begun = inr still;
       made = subst A (sym put)
           (subst B (sym made)
-              (prefix_next (m.put t j) (made_now job m t j) v ((ran.tasks t there).puts j lt) s.few
-                  s.entry));
+          (prefix_next (m.put t j) (made_now job m t j) v ((ran.tasks t there).puts j lt) s.few
+          s.entry));
       exchanged = subst X (sym (ap length put ∙ one_longer (m.put t j) v)) s.exchanged;
     }) ran
 
@@ -133,28 +135,28 @@ next_sample_keeps job m t j p n v is there pp s ran =
     let now : after.begun t ≡ suc b = at_same t (suc b) m.begun in
     let put = put_now job m t j p n v (suc b) in
     let lt : j < length (signalled_by (task_at job.graph t)) =
-        (place-at (signalled_by (task_at job.graph t)) p j s.signal.place).0 in
+    (place-at (signalled_by (task_at job.graph t)) p j s.signal.place).0 in
     let H : Kind → Type 0 = λ kind. HasSamples kind (suc b) (length samples) in
     let few : suc b ≤ length samples = subst H s.source s.may_begin.samples in
     let before_is : made_now job m t j ≡ take b samples =
-        source_makes (task_at job.graph t).kind s.source b (taken_now m (task_at job.graph t) t) in
+    source_makes (task_at job.graph t).kind s.source b (taken_now m (task_at job.graph t) t) in
     let after_is : made_now job after t j ≡ take (suc b) samples =
     source_makes (task_at job.graph t).kind s.source (after.begun t)
-        (taken_now after (task_at job.graph t) t) ∙ ap (λ n. take n samples) now in
+    (taken_now after (task_at job.graph t) t) ∙ ap (λ n. take n samples) now in
     let P : List ℤ → Type 0 = λ l. IsPrefix (m.put t j) l in
     let begins : IsPrefix (m.put t j) (take (suc b) samples) =
     IsPrefix-trans (m.put t j) (take b samples) (take (suc b) samples)
-        (subst P before_is ((ran.tasks t there).puts j lt))
-            (take_prefix b (suc b) samples (omega arith)) in
+    (subst P before_is ((ran.tasks t there).puts j lt))
+    (take_prefix b (suc b) samples (omega arith)) in
     let long : length (take (suc b) samples) ≡ suc b = take_full (suc b) samples few in
     let all : length (m.put t j) ≡ b = s.all_put in
     let entry : get_or (take (suc b) samples) (length (m.put t j)) (pos 0) ≡ v =
     ap (λ i. get_or (take (suc b) samples) i (pos 0)) all
-        ∙ get_or-take samples (suc b) b (pos 0) (omega arith) ∙ s.sample in
+    ∙ get_or-take samples (suc b) b (pos 0) (omega arith) ∙ s.sample in
     let A : List ℤ → Type 0 = λ l. IsPrefix l (made_now job after t j) in
     let B : List ℤ → Type 0 = λ l. IsPrefix (m.put t j ++ v ∷ []) l in
     let X : Kind → Type 0 =
-        λ kind. HasExchanged kind j (length (after.put t j)) (length (after.taken t 1)) in
+    λ kind. HasExchanged kind j (length (after.put t j)) (length (after.taken t 1)) in
     signal_keeps job m after t j p n v is there pp (record {
       moved = moved_signal job m t j p n v (suc b) s.signal (omega arith);
       numbered = s.signal.numbered;
@@ -166,7 +168,7 @@ next_sample_keeps job m t j p n v is there pp s ran =
       begun = inl (s.source, now, s.may_begin);
       made = subst A (sym put)
           (subst B (sym after_is)
-              (prefix_next (m.put t j) (take (suc b) samples) v begins (omega arith) entry));
+          (prefix_next (m.put t j) (take (suc b) samples) v begins (omega arith) entry));
       exchanged = subst X (sym s.source) tt;
     }) ran
   where
@@ -191,8 +193,8 @@ moved_wait job m t k p n outcome begun s le = record {
     begun = at_other t begun m.begun u apart;
     taken = λ i.
         ap (λ f. f i)
-            (at_other t (with_at k (m.taken t k ++ number outcome ∷ []) (m.taken t)) m.taken u
-                apart);
+        (at_other t (with_at k (m.taken t k ++ number outcome ∷ []) (m.taken t)) m.taken u
+        apart);
     put = λ j. refl;
   };
   numbers = λ q u. refl;
@@ -202,13 +204,13 @@ taken_here : (m : Moment) (t k p n : ℕ) (outcome : Outcome) (begun : ℕ)
     → (after_wait t k p n outcome begun m).taken t k ≡ m.taken t k ++ number outcome ∷ []
 taken_here m t k p n outcome begun =
     ap (λ f. f k) (at_same t (with_at k (m.taken t k ++ number outcome ∷ []) (m.taken t)) m.taken)
-        ∙ at_same k (m.taken t k ++ number outcome ∷ []) (m.taken t)
+    ∙ at_same k (m.taken t k ++ number outcome ∷ []) (m.taken t)
 
 taken_else : (m : Moment) (t k p n : ℕ) (outcome : Outcome) (begun i : ℕ) → i ≢ k
     → (after_wait t k p n outcome begun m).taken t i ≡ m.taken t i
 taken_else m t k p n outcome begun i apart =
     ap (λ f. f i) (at_same t (with_at k (m.taken t k ++ number outcome ∷ []) (m.taken t)) m.taken)
-        ∙ at_other k (m.taken t k ++ number outcome ∷ []) (m.taken t) i apart
+    ∙ at_other k (m.taken t k ++ number outcome ∷ []) (m.taken t) i apart
 
 -- the first wait of a step
 pub first_wait_keeps : (job : Job) (m : Moment) (t k p n : ℕ) (outcome : Outcome)
@@ -217,7 +219,7 @@ pub first_wait_keeps : (job : Job) (m : Moment) (t k p n : ℕ) (outcome : Outco
     → HasRun job (after_wait t k p n outcome (suc (m.begun t)) m)
 first_wait_keeps job m t k p n outcome is there pp s ran =
     wait_keeps job m (after_wait t k p n outcome (suc (m.begun t)) m) t k p n outcome is there pp
-        (record {
+    (record {
       moved = moved_wait job m t k p n outcome (suc (m.begun t)) s.wait (omega arith);
       numbered = s.wait.numbered;
       few = s.wait.few;
@@ -237,7 +239,7 @@ pub exchange_wait_keeps : (job : Job) (m : Moment) (t p n : ℕ) (outcome : Outc
     → HasRun job (after_wait t 1 p n outcome (m.begun t) m)
 exchange_wait_keeps job m t p n outcome is there pp s ran =
     wait_keeps job m (after_wait t 1 p n outcome (m.begun t) m) t 1 p n outcome is there pp
-        (record {
+    (record {
       moved = moved_wait job m t 1 p n outcome (m.begun t) s.wait (omega arith);
       numbered = s.wait.numbered;
       few = s.wait.few;
@@ -256,8 +258,13 @@ same_task : (before after : Moment) (t : ℕ) → after.offset t ≡ before.offs
     → after.begun t ≡ before.begun t
     → after.taken t ≡ before.taken t → after.put t ≡ before.put t → SameTask before after t
 same_task before after t offset begun taken put =
-    record { offset =
-        offset; begun = begun; taken = λ k. ap (λ f. f k) taken; put = λ j. ap (λ f. f j) put }
+    record {
+      offset =
+          offset;
+      begun = begun;
+      taken = λ k. ap (λ f. f k) taken;
+      put = λ j. ap (λ f. f j) put;
+    }
 
 -- leaving a phaser
 pub next_leave_keeps : (job : Job) (m : Moment) (t p n : ℕ) → IsGraph job.graph
@@ -318,7 +325,7 @@ next_child_keeps job m t p n c a mode u is there s ran =
     other q x (inl apart) (inl same) = absurd (apart same)
     other q x (inr apart) (inl same) =
         let N : ℕ → Type 0 =
-            λ y. with_at p (with_at c (Some a) (m.number p)) m.number y x ≡ m.number y x in
+        λ y. with_at p (with_at c (Some a) (m.number p)) m.number y x ≡ m.number y x in
         subst N (sym same)
-            (ap (λ f. f x) (at_same p (with_at c (Some a) (m.number p)) m.number)
-                ∙ at_other c (Some a) (m.number p) x apart)
+        (ap (λ f. f x) (at_same p (with_at c (Some a) (m.number p)) m.number)
+        ∙ at_other c (Some a) (m.number p) x apart)

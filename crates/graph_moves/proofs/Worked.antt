@@ -39,7 +39,7 @@ peers = record {
 abbrev peer_history : ℕ → History
 peer_history zero =
     Waited 2 1 ∷ Signalled 1 ((pos 7 ∷ []) ∷ []) None ∷ Waited 2 1 ∷ Signalled 1 ((pos 5 ∷ []) ∷ [])
-        None
+    None
     ∷ Dropped 0 ∷ Registered 0 2 Wait ∷ Registered 0 1 Sig ∷ Made 0 ∷ []
 peer_history (suc zero) =
     Signalled 1 ((pos 7 ∷ []) ∷ []) None ∷ Waited 1 1 ∷ Signalled 1 ((pos 5 ∷ []) ∷ []) None
@@ -75,22 +75,40 @@ peer_begun t = 1
 
 abbrev between : Moment
 between =
-    record { history =
-        peer_history; number =
-            peer_number; offset = λ t. 0; begun = peer_begun; taken = peer_taken; put = peer_put }
+    record {
+      history =
+          peer_history;
+      number =
+          peer_number;
+      offset = λ t. 0;
+      begun = peer_begun;
+      taken = peer_taken;
+      put = peer_put;
+    }
 
 -- both histories of the peer's waits are legal
 peer_limits : Rattle.phase_base.specs.Limits.AreLimits (limits_at peers 0)
 peer_limits =
-    record { bound_least =
-        omega arith; bound_most =
-            omega arith; phases_least = omega arith; phases_most = omega arith }
+    record {
+      bound_least =
+          omega arith;
+      bound_most =
+          omega arith;
+      phases_least = omega arith;
+      phases_most = omega arith;
+    }
 
 exchange_legal : IsLegal (limits_at peers 1) (peer_history 1)
-exchange_legal =
-    ((((((peer_limits, refl), refl), refl),
-        (refl, ((record { small = omega arith }, tt), omega arith, tt), tt)), (refl, omega arith)),
-            (refl, ((record { small = omega arith }, tt), omega arith, tt), tt))
+exchange_legal = (
+  (
+    (
+      (((peer_limits, refl), refl), refl),
+      (refl, ((record { small = omega arith }, tt), omega arith, tt), tt),
+    ),
+    (refl, omega arith),
+  ),
+  (refl, ((record { small = omega arith }, tt), omega arith, tt), tt),
+)
 
 peer_ran : TaskRan peers between 1
 peer_ran = record {
@@ -136,44 +154,75 @@ peer_ran = record {
 
     outputs : (p : ℕ) → p < 3 → OnPhaser peers between 1 p (place_in (1 ∷ 2 ∷ []) p)
     outputs zero lt =
-        record { nothing =
-            refl; from_0 =
-                λ start is.
-                    sym (ap (λ (x : Entry). x.signal_phase)
-                        (same_Some (entry_at Wait 0 0) start is)) }
+        record {
+          nothing =
+              refl;
+          from_0 =
+              λ start is.
+              sym (ap (λ (x : Entry). x.signal_phase)
+              (same_Some (entry_at Wait 0 0) start is));
+        }
     outputs (suc zero) lt =
-        record { start =
-            entry_at SigWait 0 0; start_is =
-                refl; signals =
-                    refl; at =
-                        refl; sent =
-                            refl; left = λ e. absurd (let no_drop : false ≡ true = e in cc) }
+        record {
+          start =
+              entry_at SigWait 0 0;
+          start_is =
+              refl;
+          signals =
+              refl;
+          at =
+              refl;
+          sent =
+              refl;
+          left = λ e. absurd (let no_drop : false ≡ true = e in cc);
+        }
     outputs (suc (suc zero)) lt =
-        record { start =
-            entry_at Sig 0 0; start_is =
-                refl; signals =
-                    refl; at =
-                        refl; sent =
-                            refl; left = λ e. absurd (let no_drop : false ≡ true = e in cc) }
+        record {
+          start =
+              entry_at Sig 0 0;
+          start_is =
+              refl;
+          signals =
+              refl;
+          at =
+              refl;
+          sent =
+              refl;
+          left = λ e. absurd (let no_drop : false ≡ true = e in cc);
+        }
     outputs (suc (suc (suc p))) lt = absurd (omega arith)
 
     inputs : (k : ℕ) → k < 2
         → TakenOn peers between 1 k (input_at (task_at peers.graph 1) k)
-            (peer_number (input_at (task_at peers.graph 1) k) 1)
+        (peer_number (input_at (task_at peers.graph 1) k) 1)
     inputs zero lt =
-        record { start =
-            entry_at Wait 0 0; start_is =
-                refl; waits =
-                    refl; at =
-                        refl; taken =
-                            refl; left = λ e. absurd (let no_drop : false ≡ true = e in cc) }
+        record {
+          start =
+              entry_at Wait 0 0;
+          start_is =
+              refl;
+          waits =
+              refl;
+          at =
+              refl;
+          taken =
+              refl;
+          left = λ e. absurd (let no_drop : false ≡ true = e in cc);
+        }
     inputs (suc zero) lt =
-        record { start =
-            entry_at SigWait 0 0; start_is =
-                refl; waits =
-                    refl; at =
-                        refl; taken =
-                            refl; left = λ e. absurd (let no_drop : false ≡ true = e in cc) }
+        record {
+          start =
+              entry_at SigWait 0 0;
+          start_is =
+              refl;
+          waits =
+              refl;
+          at =
+              refl;
+          taken =
+              refl;
+          left = λ e. absurd (let no_drop : false ≡ true = e in cc);
+        }
     inputs (suc (suc k)) lt = absurd (omega arith)
 
 -- ---- a splitter and a joiner
@@ -196,14 +245,14 @@ lanes = record {
 abbrev lane_history : ℕ → History
 lane_history zero =
     Waited 2 1 ∷ Signalled 1 ((pos 6 ∷ []) ∷ []) None ∷ Waited 2 1 ∷ Signalled 1 ((pos 5 ∷ []) ∷ [])
-        None ∷ Waited 2 1 ∷ Signalled 1 ((pos 4 ∷ []) ∷ []) None
+    None ∷ Waited 2 1 ∷ Signalled 1 ((pos 4 ∷ []) ∷ []) None
     ∷ Dropped 0 ∷ Registered 0 2 Wait ∷ Registered 0 1 Sig ∷ Made 0 ∷ []
 lane_history (suc zero) =
     Waited 2 1 ∷ Signalled 1 ((pos 4 ∷ []) ∷ []) None ∷ Dropped 0 ∷ Registered 0 2 Wait ∷ Registered
-        0 1 Sig ∷ Made 0 ∷ []
+    0 1 Sig ∷ Made 0 ∷ []
 lane_history (suc (suc zero)) =
     Waited 2 1 ∷ Signalled 1 ((pos 5 ∷ []) ∷ []) None ∷ Dropped 0 ∷ Registered 0 2 Wait ∷ Registered
-        0 1 Sig ∷ Made 0 ∷ []
+    0 1 Sig ∷ Made 0 ∷ []
 lane_history (suc (suc (suc p))) =
     Signalled 1 ((pos 4 ∷ []) ∷ []) None ∷ Dropped 0 ∷ Registered 0 1 Sig ∷ Made 0 ∷ []
 
@@ -237,9 +286,16 @@ lane_begun t = 2
 
 abbrev turning : Moment
 turning =
-    record { history =
-        lane_history; number =
-            lane_number; offset = λ t. 0; begun = lane_begun; taken = lane_taken; put = lane_put }
+    record {
+      history =
+          lane_history;
+      number =
+          lane_number;
+      offset = λ t. 0;
+      begun = lane_begun;
+      taken = lane_taken;
+      put = lane_put;
+    }
 
 lanes_no_child : (c : ℕ) (u : Parent) → c < 3 → (task_at lanes.graph c).parent ≡ Some u → ⊥
 lanes_no_child zero u there e = absurd (cc)
@@ -279,38 +335,62 @@ splitter_ran = record {
 
     outputs : (p : ℕ) → p < 4 → OnPhaser lanes turning 1 p (place_in (1 ∷ 2 ∷ []) p)
     outputs zero lt =
-        record { nothing =
-            refl; from_0 =
-                λ start is.
-                    sym (ap (λ (x : Entry). x.signal_phase)
-                        (same_Some (entry_at Wait 0 0) start is)) }
+        record {
+          nothing =
+              refl;
+          from_0 =
+              λ start is.
+              sym (ap (λ (x : Entry). x.signal_phase)
+              (same_Some (entry_at Wait 0 0) start is));
+        }
     outputs (suc zero) lt =
-        record { start =
-            entry_at Sig 0 0; start_is =
-                refl; signals =
-                    refl; at =
-                        refl; sent =
-                            refl; left = λ e. absurd (let no_drop : false ≡ true = e in cc) }
+        record {
+          start =
+              entry_at Sig 0 0;
+          start_is =
+              refl;
+          signals =
+              refl;
+          at =
+              refl;
+          sent =
+              refl;
+          left = λ e. absurd (let no_drop : false ≡ true = e in cc);
+        }
     outputs (suc (suc zero)) lt =
-        record { start =
-            entry_at Sig 0 0; start_is =
-                refl; signals =
-                    refl; at =
-                        refl; sent =
-                            refl; left = λ e. absurd (let no_drop : false ≡ true = e in cc) }
+        record {
+          start =
+              entry_at Sig 0 0;
+          start_is =
+              refl;
+          signals =
+              refl;
+          at =
+              refl;
+          sent =
+              refl;
+          left = λ e. absurd (let no_drop : false ≡ true = e in cc);
+        }
     outputs (suc (suc (suc zero))) lt = tt
     outputs (suc (suc (suc (suc p)))) lt = absurd (omega arith)
 
     inputs : (k : ℕ) → k < 1
         → TakenOn lanes turning 1 k (input_at (task_at lanes.graph 1) k)
-            (lane_number (input_at (task_at lanes.graph 1) k) 1)
+        (lane_number (input_at (task_at lanes.graph 1) k) 1)
     inputs zero lt =
-        record { start =
-            entry_at Wait 0 0; start_is =
-                refl; waits =
-                    refl; at =
-                        refl; taken =
-                            refl; left = λ e. absurd (let no_drop : false ≡ true = e in cc) }
+        record {
+          start =
+              entry_at Wait 0 0;
+          start_is =
+              refl;
+          waits =
+              refl;
+          at =
+              refl;
+          taken =
+              refl;
+          left = λ e. absurd (let no_drop : false ≡ true = e in cc);
+        }
     inputs (suc k) lt = absurd (omega arith)
 
 joiner_ran : TaskRan lanes turning 2
@@ -346,41 +426,68 @@ joiner_ran = record {
     outputs : (p : ℕ) → p < 4 → OnPhaser lanes turning 2 p (place_in (3 ∷ []) p)
     outputs zero lt = tt
     outputs (suc zero) lt =
-        record { nothing =
-            refl; from_0 =
-                λ start is.
-                    sym (ap (λ (x : Entry). x.signal_phase)
-                        (same_Some (entry_at Wait 0 0) start is)) }
+        record {
+          nothing =
+              refl;
+          from_0 =
+              λ start is.
+              sym (ap (λ (x : Entry). x.signal_phase)
+              (same_Some (entry_at Wait 0 0) start is));
+        }
     outputs (suc (suc zero)) lt =
-        record { nothing =
-            refl; from_0 =
-                λ start is.
-                    sym (ap (λ (x : Entry). x.signal_phase)
-                        (same_Some (entry_at Wait 0 0) start is)) }
+        record {
+          nothing =
+              refl;
+          from_0 =
+              λ start is.
+              sym (ap (λ (x : Entry). x.signal_phase)
+              (same_Some (entry_at Wait 0 0) start is));
+        }
     outputs (suc (suc (suc zero))) lt =
-        record { start =
-            entry_at Sig 0 0; start_is =
-                refl; signals =
-                    refl; at =
-                        refl; sent =
-                            refl; left = λ e. absurd (let no_drop : false ≡ true = e in cc) }
+        record {
+          start =
+              entry_at Sig 0 0;
+          start_is =
+              refl;
+          signals =
+              refl;
+          at =
+              refl;
+          sent =
+              refl;
+          left = λ e. absurd (let no_drop : false ≡ true = e in cc);
+        }
     outputs (suc (suc (suc (suc p)))) lt = absurd (omega arith)
 
     inputs : (k : ℕ) → k < 2
         → TakenOn lanes turning 2 k (input_at (task_at lanes.graph 2) k)
-            (lane_number (input_at (task_at lanes.graph 2) k) 2)
+        (lane_number (input_at (task_at lanes.graph 2) k) 2)
     inputs zero lt =
-        record { start =
-            entry_at Wait 0 0; start_is =
-                refl; waits =
-                    refl; at =
-                        refl; taken =
-                            refl; left = λ e. absurd (let no_drop : false ≡ true = e in cc) }
+        record {
+          start =
+              entry_at Wait 0 0;
+          start_is =
+              refl;
+          waits =
+              refl;
+          at =
+              refl;
+          taken =
+              refl;
+          left = λ e. absurd (let no_drop : false ≡ true = e in cc);
+        }
     inputs (suc zero) lt =
-        record { start =
-            entry_at Wait 0 0; start_is =
-                refl; waits =
-                    refl; at =
-                        refl; taken =
-                            refl; left = λ e. absurd (let no_drop : false ≡ true = e in cc) }
+        record {
+          start =
+              entry_at Wait 0 0;
+          start_is =
+              refl;
+          waits =
+              refl;
+          at =
+              refl;
+          taken =
+              refl;
+          left = λ e. absurd (let no_drop : false ≡ true = e in cc);
+        }
     inputs (suc (suc k)) lt = absurd (omega arith)
