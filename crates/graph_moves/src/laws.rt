@@ -1,4 +1,6 @@
-//! What an event of a run leaves of a moment's facts.
+//! How a run goes on: what it has at its opening, and that each next event keeps it. Each function
+//! here makes no call and has no effect: its contract is the law. So whoever makes events one by one,
+//! in any order of the tasks, has `HasRun` of every moment, and with it the laws of `graph_moments`.
 ghost use Rattle.std.specs.Prelude.{◌<◌, ℕ, ℤ, suc, length};
 ghost use Rattle.phase_base.specs.declared.mode.Mode.{Mode};
 ghost use Rattle.phase_accum.specs.declared.outcome.Outcome.{Outcome};
@@ -14,14 +16,17 @@ ghost use Rattle.graph_moves.specs.Turned.{IsNextSample, IsNextSignal, IsFirstWa
 ghost use Rattle.graph_moves.specs.Turned.{IsExchangeWait, IsNextLeave, IsNextChild};
 ghost use Rattle.graph_moves.specs.Openings.{HasOpened};
 
-/// At the opening nothing was sent or taken.
+/// At the opening a run has done what every moment has: each phaser's founder has registered the
+/// tasks without a parent and left, and nothing was sent or taken. Here a run begins.
 pub fn opening()
     ensures { (job : Job) (m : Moment) → IsGraph job.graph → HasOpened job m → HasRun job m }
 {}
 
-/// The moment after the next event of a task has the facts of every moment: a sample that a source
-/// signals, another signal, the first wait of a step, a peer's wait for the value on E, leaving a
-/// phaser, and the registration of a child on a phaser.
+/// After the next event of a task a run has what it had: a sample that a source signals, another
+/// signal, the first wait of a step, a peer's wait for the value on E, leaving a phaser, and a
+/// child's registration on a phaser. Each is an event that the phaser accepts and that the task's
+/// steps have next, and the moment after it is a function of the moment before. For who runs all
+/// tasks one event at a time, as one thread does.
 pub fn turns_keep()
     ensures sample { (job : Job) (m : Moment) (t j p n : ℕ) (v : ℤ)
         → IsGraph job.graph → t < length job.graph.tasks → p < length job.graph.phasers
@@ -48,7 +53,9 @@ pub fn turns_keep()
         → HasRun job (after_register p n c a mode m) }
 {}
 
-/// A task's own event keeps what a moment has of the task.
+/// A task's own event keeps what a moment has of the task, where the histories of the phasers on its
+/// line grew legally, and a child's registration gives what it has of the child. For who knows of a
+/// run only what one task has seen, as a thread that moves one task does.
 pub fn own_events_keep()
     ensures signal { (job : Job) (before after : Moment) (t j p n : ℕ) (v : ℤ)
         → IsGraph job.graph → t < length job.graph.tasks
@@ -70,7 +77,8 @@ pub fn own_events_keep()
         → TaskRan job before t → TaskRan job before c → TaskRan job after c }
 {}
 
-/// What a moment has of a task stays where others moved, and that it has ended.
+/// What a moment has of a task stays where others' events came, and so does that it has ended. So a
+/// task need not know what the others did since its own last event.
 pub fn others_leave()
     ensures task { (job : Job) (before after : Moment) (t : ℕ)
         → IsGraph job.graph → t < length job.graph.tasks → HasGrown job before after t
@@ -80,7 +88,8 @@ pub fn others_leave()
         → SameTask before after t → HasEnded job before t → HasEnded job after t }
 {}
 
-/// A moment is put together of what each task had on its own.
+/// A moment has run where each of its phasers has, and each task has by a moment of its own, since
+/// which others moved alone. So the parts that threads have seen are put together at the end.
 pub fn parts_join()
     ensures { (job : Job) (m : Moment) (own : ℕ → Moment) → IsGraph job.graph
         → ((p : ℕ) → p < length job.graph.phasers → PhaserRan job m p)
