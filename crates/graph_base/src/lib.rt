@@ -9,7 +9,7 @@ mod line;
 mod place;
 
 pub use graph::Graph;
-pub use graph_words::Op;
 pub use limits::{COUNT_MAX, ENDS_MAX, FACTOR_MAX, PHASERS_MAX, TASKS_MAX};
 pub use line::{Kind, Parent, PhaserLine, TaskLine};
+pub use phase_base::Op;
 pub use place::Place;

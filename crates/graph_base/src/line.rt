@@ -1,7 +1,7 @@
 //! What a line of a graph's text declares.
 
-use graph_words::Op;
 use phase_accum::Single;
+use phase_base::Op;
 
 /// What a task does.
 #[derive(Clone, Copy, Debug, PartialEq, Eq)]

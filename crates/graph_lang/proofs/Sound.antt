@@ -2,7 +2,7 @@
 use Rattle.std.proofs.Common.{ℕ, List, [], ◌∷◌, ◌++◌, ap, sym, ◌∙◌, ◌≡◌, ◌&&◌, Bool, true, false, not, Option, Some, None, is_some, if◌then◌else◌, refl, nat_lt, length}
 use Rattle.std.specs.Option.{option_map_or}
 use Rattle.graph_words.specs.Words.{Word}
-use Rattle.graph_words.specs.declared.operation.Op.{Op}
+use Rattle.phase_base.specs.declared.operation.Op.{Op}
 use Rattle.graph_text.specs.Decls.{phaser, task, FunctionWords, BodyWords, EndWords}
 use Rattle.graph_base.specs.Graphs.{Graph, Task}
 use Rattle.graph_base.specs.Names.{place_of}

@@ -15,8 +15,8 @@ use Rattle.phase_history.specs.Others.{is_in, is_distinct}
 use Rattle.phase_history.specs.Sent.{sent_in, gathered, OnlySignalled}
 use Rattle.phase_history.proofs.Gathered.{sends_are_gathered, sends_of_phase-alone}
 use Rattle.phase_history.proofs.Sendings.{sent_in-none}
-use Rattle.graph_words.specs.declared.operation.Op.{Op}
-use Rattle.graph_words.specs.declared.operation.Op.TheVariants.{Sum, Product, Least, Greatest, Any}
+use Rattle.phase_base.specs.declared.operation.Op.{Op}
+use Rattle.phase_base.specs.declared.operation.Op.TheVariants.{Sum, Product, Least, Greatest, Any}
 use Rattle.graph_base.specs.Graphs.{task_at, phaser_at}
 use Rattle.graph_base.specs.TaskLines.{IsGraph}
 use Rattle.stream_job.specs.Jobs.{Job, place_in}

@@ -8,7 +8,7 @@ use Rattle.phase_base.specs.declared.entry.Entry.{Entry}
 use Rattle.phase_history.specs.declared.event.Event.TheVariants.{Made, Registered, Signalled, Waited, Dropped}
 use Rattle.phase_history.specs.Histories.{History, entry_at}
 use Rattle.phase_history.specs.Legal.{IsLegal}
-use Rattle.graph_words.specs.declared.operation.Op.TheVariants.{Sum}
+use Rattle.phase_base.specs.declared.operation.Op.TheVariants.{Sum}
 use Rattle.graph_base.specs.declared.line.Kind.TheVariants.{Source, Split, Join, Peer}
 use Rattle.graph_base.specs.declared.line.Parent.{Parent}
 use Rattle.graph_base.specs.declared.line.PhaserLine.{PhaserLine}

@@ -11,7 +11,7 @@ mod replayer;
 mod whole;
 
 pub use fault::ReplayFault;
-pub use phase_script::{Command, Operator, Refusal, Reply, ReplyLine, line, read};
+pub use phase_script::{Command, Op, Refusal, Reply, ReplyLine, line, read};
 pub use phase_session::Session;
 pub use watched_io::{ReadFailed, Watched, WriteFailed};
 pub use whole::{PIECE_MAX, SCRIPT_MAX, replay};

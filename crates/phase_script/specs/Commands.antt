@@ -8,20 +8,12 @@ use Rattle.phase_accum.specs.declared.single.Single.{Single}
 use Rattle.phase_accum.specs.declared.single.Single.TheVariants.{Neg, Abs, Halve, Clamp}
 use Rattle.phase_script.specs.Numbers.{most, nat_of, int_of}
 use Rattle.phase_script.specs.Words.{word, rest}
-use Rattle.phase_script.specs.declared.command.Operator.{Operator}
-use Rattle.phase_script.specs.declared.command.Operator.TheVariants.{Sum, Product, Least, Greatest, Any}
+use Rattle.phase_base.specs.declared.operation.Op.{Op}
+use Rattle.phase_base.specs.OperationWords.{operation_word, operation_of}
 use Rattle.phase_script.specs.declared.command.Command.{Command}
 use Rattle.phase_script.specs.declared.command.Command.TheVariants.{Make, Add, Send, Signal, Wait, Drop}
 
 -- ---- the one line of a command
-
--- the word for an operator
-abbrev pub operator_text : Operator → List ℕ
-operator_text Sum = codes "sum"
-operator_text Product = codes "product"
-operator_text Least = codes "least"
-operator_text Greatest = codes "greatest"
-operator_text Any = codes "any"
 
 -- the word for a mode
 abbrev pub mode_text : Mode → List ℕ
@@ -45,8 +37,8 @@ maybe_single_text (Some single) = 32 ∷ single_text single
 
 -- the one line that gives the command, without its line end
 unfoldable pub spelling : Command → List ℕ
-spelling (Make operator bound phases) =
-    codes "make" ++ 32 ∷ (operator_text operator ++ 32 ∷ (decimal bound ++ 32 ∷ decimal phases))
+spelling (Make operation bound phases) =
+    codes "make" ++ 32 ∷ (operation_word operation ++ 32 ∷ (decimal bound ++ 32 ∷ decimal phases))
 spelling (Add parent child mode) =
     codes "add" ++ 32 ∷ (decimal parent ++ 32 ∷ (decimal child ++ 32 ∷ mode_text mode))
 spelling (Send task value) = codes "send" ++ 32 ∷ (decimal task ++ 32 ∷ signed_decimal value)
@@ -69,16 +61,6 @@ IsCommand (Drop task) = task ≤ most
 infixl 10 ◌>>=◌
 abbrev pub ◌>>=◌ : {A B : Type 0} → Option A → (A → Option B) → Option B
 o >>= f = option_and_then f o
-
--- the operator that a word names
-unfoldable pub operator_of : List ℕ → Option Operator
-operator_of name =
-    if bytes_eq name (codes "sum") then Some Sum
-    else if bytes_eq name (codes "product") then Some Product
-    else if bytes_eq name (codes "least") then Some Least
-    else if bytes_eq name (codes "greatest") then Some Greatest
-    else if bytes_eq name (codes "any") then Some Any
-    else None
 
 -- the mode that a word names
 unfoldable pub mode_of : List ℕ → Option Mode
@@ -116,12 +98,12 @@ single_of text =
 -- the command whose words after the first are in the text, for each first word
 unfoldable pub make_of : List ℕ → Option Command
 make_of text = do
-  operator ← operator_of (word text)
+  operation ← operation_of (word text)
   numbers ← rest text
   bound ← nat_of (word numbers)
   last ← rest numbers
   phases ← nat_of last
-  Some (Make operator bound phases)
+  Some (Make operation bound phases)
 
 unfoldable pub add_of : List ℕ → Option Command
 add_of text = do

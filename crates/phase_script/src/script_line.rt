@@ -6,14 +6,14 @@ mod words;
 ghost use Rattle.std.specs.Prelude.{◌≡◌, ◌≤◌, nat_abs, IfSome};
 ghost use Rattle.phase_script.specs.Numbers.{most};
 ghost use Rattle.phase_script.specs.Commands.{IsCommand, spelling, command_of, command_after};
-ghost use Rattle.phase_script.specs.Commands.{operator_of, mode_of, single_of, clamp_after, ends_of};
+ghost use Rattle.phase_script.specs.Commands.{mode_of, single_of, clamp_after, ends_of};
 ghost use Rattle.phase_script.specs.Commands.{clamp_of, make_of, add_of, send_of, signal_of};
 ghost use Rattle.phase_script.specs.Commands.{wait_of, drop_of};
 
-use crate::{Command, Operator};
+use crate::Command;
 use number::{int, nat};
 use phase_accum::Single;
-use phase_base::Mode;
+use phase_base::{Mode, Op};
 use words::cut;
 
 /// Reads a script line, without its LF and CR, as the one command that it gives.
@@ -62,34 +62,15 @@ fn make(text: &[u8]) -> Option<Command>
     ensures { result ≡ make_of text.now }
 {
     let (name, numbers) = cut(text);
-    let operator = operator(name)?;
+    let operation = Op::read(name)?;
     let (bound, last) = cut(numbers?);
     let bound = nat(bound)?;
     let phases = nat(last?)?;
     Some(Command::Make {
-        operator,
+        operation,
         bound,
         phases,
     })
-}
-
-#[tactic(auto, unfolding(crate::specs::Commands::operator_of))]
-fn operator(name: &[u8]) -> Option<Operator>
-    ensures { result ≡ operator_of name.now }
-{
-    if name == b"sum".as_slice() {
-        Some(Operator::Sum)
-    } else if name == b"product".as_slice() {
-        Some(Operator::Product)
-    } else if name == b"least".as_slice() {
-        Some(Operator::Least)
-    } else if name == b"greatest".as_slice() {
-        Some(Operator::Greatest)
-    } else if name == b"any".as_slice() {
-        Some(Operator::Any)
-    } else {
-        None
-    }
 }
 
 #[tactic(auto, unfolding(crate::specs::Commands::add_of))]

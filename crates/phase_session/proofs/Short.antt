@@ -36,8 +36,8 @@ use Rattle.phase_history.proofs.Tops.{top_within}
 use Rattle.phase_core.proofs.Replies.{limits_of}
 use Rattle.phase_script.specs.declared.command.Command.{Command}
 use Rattle.phase_script.specs.declared.command.Command.TheVariants.{Make, Add, Send, Signal, Wait, Drop}
-use Rattle.phase_script.specs.declared.command.Operator.{Operator}
-use Rattle.phase_script.specs.declared.command.Operator.TheVariants.{Sum, Product, Least, Greatest, Any}
+use Rattle.phase_base.specs.declared.operation.Op.{Op}
+use Rattle.phase_base.specs.declared.operation.Op.TheVariants.{Sum, Product, Least, Greatest, Any}
 use Rattle.phase_script.specs.declared.refusal.Refusal.{Refusal}
 use Rattle.phase_script.specs.Commands.{command_of}
 use Rattle.phase_script.specs.Numbers.{most}
@@ -46,7 +46,8 @@ use Rattle.phase_script.proofs.ReplyLines.{reply_short}
 use Rattle.phase_session.specs.declared.script_phaser.ScriptPhaser.{ScriptPhaser}
 use Rattle.phase_session.specs.declared.any_phaser.AnyPhaser.{AnyPhaser}
 use Rattle.phase_session.specs.declared.any_phaser.AnyPhaser.TheVariants as phaser
-use Rattle.phase_session.specs.Scripts.{ScriptState, NoPhaser, OnePhaser, Held, held_by, value_of, done_unless, script_reply, value_reply, phaser_reply, command_reply, reply_by, reply_to}
+use Rattle.phase_accum.specs.Values.{value_by}
+use Rattle.phase_session.specs.Scripts.{ScriptState, NoPhaser, OnePhaser, Held, held_by, done_unless, script_reply, value_reply, phaser_reply, command_reply, reply_by, reply_to}
 use Rattle.phase_session.specs.Session.{PhaserStandsFor, AnyStandsFor, MaybeStandsFor}
 
 -- ---- replies without a phase
@@ -130,7 +131,7 @@ received_low value limits h task phase o legal reply =
 
 phaser_is_reply : {A : Type 0} (op : Operation A) (laws : AccumulateLaws op) (limits : Limits) (h : History) (held : Held)
     → IsLegal limits h → (command : Command) → IsReply (phaser_reply op.value limits h held command)
-phaser_is_reply op laws limits h held legal (Make operator bound phases) = tt
+phaser_is_reply op laws limits h held legal (Make operation bound phases) = tt
 phaser_is_reply op laws limits h held legal (Add parent child mode) = registered_is_reply (register_refusal h parent child mode) child
 phaser_is_reply op laws limits h held legal (Send task number) = done_is_reply _
 phaser_is_reply op laws limits h held legal (Signal task single) =
@@ -144,8 +145,8 @@ legal_at : {A : Type 0} (op : Operation A) (p : ScriptPhaser A) (limits : Limits
 legal_at op p limits h held stands =
     let L : Limits → Type 0 = λ l. IsLegal l h in subst L stands.limits_are stands.core.legal
 
-any_is_reply : (p : AnyPhaser) (operator : Operator) (limits : Limits) (h : History) (held : Held) (command : Command)
-    → AnyStandsFor p operator limits h held → IsReply (phaser_reply (value_of operator) limits h held command)
+any_is_reply : (p : AnyPhaser) (operation : Op) (limits : Limits) (h : History) (held : Held) (command : Command)
+    → AnyStandsFor p operation limits h held → IsReply (phaser_reply (value_by operation) limits h held command)
 unfolding AnyStandsFor
 any_is_reply (phaser.Sum p) Sum limits h held command stands =
     phaser_is_reply sum_operation sum_laws limits h held (legal_at sum_operation p limits h held stands) command
@@ -181,15 +182,15 @@ any_is_reply (phaser.Any p) Any limits h held command stands =
 pub state_is_reply : (p : Option AnyPhaser) (state : ScriptState) (command : Command) → MaybeStandsFor p state
     → IsReply (command_reply state command)
 unfolding MaybeStandsFor command_reply
-state_is_reply None NoPhaser (Make operator bound phases) stands = done_is_reply _
+state_is_reply None NoPhaser (Make operation bound phases) stands = done_is_reply _
 state_is_reply None NoPhaser (Add parent child mode) stands = tt
 state_is_reply None NoPhaser (Send task number) stands = tt
 state_is_reply None NoPhaser (Signal task single) stands = tt
 state_is_reply None NoPhaser (Wait task) stands = tt
 state_is_reply None NoPhaser (Drop task) stands = tt
-state_is_reply None (OnePhaser operator limits h held) command stands = absurd stands
+state_is_reply None (OnePhaser operation limits h held) command stands = absurd stands
 state_is_reply (Some p) NoPhaser command stands = absurd stands
-state_is_reply (Some p) (OnePhaser operator limits h held) command stands = any_is_reply p operator limits h held command stands
+state_is_reply (Some p) (OnePhaser operation limits h held) command stands = any_is_reply p operation limits h held command stands
 
 line_is_reply : (p : Option AnyPhaser) (state : ScriptState) (o : Option Command) → MaybeStandsFor p state → IsReply (reply_by state o)
 line_is_reply p state None stands = tt

@@ -115,7 +115,7 @@ impl Session {
         ensures asks { OnErr result (MayWantMemory (Some command)) }
     {
         let Command::Make {
-            operator,
+            operation,
             bound,
             phases,
         } = command
@@ -127,7 +127,7 @@ impl Session {
             Err(SpecFault::BadBound) => return Ok(Reply::Refused(Refusal::BadBound)),
             Err(SpecFault::BadPhases) => return Ok(Reply::Refused(Refusal::BadPhases)),
         };
-        self.phaser = Some(AnyPhaser::new(self.alloc, operator, spec)?);
+        self.phaser = Some(AnyPhaser::new(self.alloc, operation, spec)?);
         Ok(Reply::Accepted)
     }
 }

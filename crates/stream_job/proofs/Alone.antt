@@ -10,8 +10,8 @@ use Rattle.phase_accum.specs.Values.{applied, ranged}
 use Rattle.phase_accum.specs.declared.outcome.Outcome.{Outcome}
 use Rattle.phase_accum.specs.declared.outcome.Outcome.TheVariants.{Value}
 use Rattle.graph_base.specs.Graphs.{phaser_at}
-use Rattle.graph_words.specs.declared.operation.Op.{Op}
-use Rattle.graph_words.specs.declared.operation.Op.TheVariants.{Sum, Product, Least, Greatest, Any}
+use Rattle.phase_base.specs.declared.operation.Op.{Op}
+use Rattle.phase_base.specs.declared.operation.Op.TheVariants.{Sum, Product, Least, Greatest, Any}
 use Rattle.stream_job.specs.Jobs.{Job}
 use Rattle.stream_job.specs.Lists.{Member, entry, number, number_in, sends_in, value_by}
 use Rattle.stream_job.specs.Ranges.{first_fault, is_fault}

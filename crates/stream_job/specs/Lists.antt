@@ -4,14 +4,13 @@ use Rattle.std.specs.Prelude.{ℕ, ◌+◌, ◌-◌, ◌*◌, ◌/◌, ◌%◌, 
 use Rattle.std.specs.List.{range_with_len, filter_map, filter, fold}
 use Rattle.phase_accum.specs.declared.outcome.Outcome.{Outcome}
 use Rattle.phase_accum.specs.declared.outcome.Outcome.TheVariants.{Value, Empty, TooBig}
-use Rattle.phase_accum.specs.Values.{sum_value, product_value, least_value, greatest_value, any_value, applied}
+use Rattle.phase_accum.specs.Values.{applied}
+pub use Rattle.phase_accum.specs.Values.{value_by}
 use Rattle.stream_filters.specs.Filter.{outputs}
 use Rattle.graph_base.specs.Graphs.{Task, task_at, phaser_at, is_sink}
 use Rattle.stream_job.specs.Jobs.{Job, samples_at, place_in}
 use Rattle.stream_job.specs.Spans.{nowhere, turns_below, signalled_by, takes_from, spans_of, lengths_of}
 use Rattle.stream_job.specs.declared.span.Span.{Span}
-use Rattle.graph_words.specs.declared.operation.Op.{Op}
-use Rattle.graph_words.specs.declared.operation.Op.TheVariants.{Sum, Product, Least, Greatest, Any}
 use Rattle.graph_base.specs.declared.line.Kind.{Kind}
 use Rattle.graph_base.specs.declared.line.Kind.TheVariants.{Source, Fir, Split, Join, Peer, Sink}
 
@@ -104,14 +103,6 @@ send_in n member = if nat_lt n member.0 then None else slice_get member.1 (n - m
 -- what the members send in phase n
 abbrev pub sends_in : List Member → ℕ → List ℤ
 sends_in members n = filter_map (send_in n) members
-
--- the value of a list of sends
-abbrev pub value_by : Op → List ℤ → Outcome
-value_by Sum = sum_value
-value_by Product = product_value
-value_by Least = least_value
-value_by Greatest = greatest_value
-value_by Any = any_value
 
 -- ---- all phasers
 

@@ -6,8 +6,8 @@ use Rattle.graph_base.specs.Graphs.{Graph, task_at, phaser_at}
 use Rattle.stream_job.specs.Jobs.{Job}
 use Rattle.stream_job.specs.Spans.{nowhere, end_of, spans_of}
 use Rattle.stream_job.specs.declared.span.Span.{Span}
-use Rattle.graph_words.specs.declared.operation.Op.{Op}
-use Rattle.graph_words.specs.declared.operation.Op.TheVariants.{Sum, Product, Least, Greatest, Any}
+use Rattle.phase_base.specs.declared.operation.Op.{Op}
+use Rattle.phase_base.specs.declared.operation.Op.TheVariants.{Sum, Product, Least, Greatest, Any}
 
 abbrev pub is_any : Op → Bool
 is_any Any = true

@@ -1,7 +1,7 @@
 -- The laws at worked graphs, each beside what is near it and does not hold.
 use Rattle.std.proofs.Common.{◌≡◌, [], ◌∷◌, pos, Some, Ok, true, length, map, get_or, refl}
 use Rattle.phase_accum.specs.declared.outcome.Outcome.TheVariants.{Value, TooBig}
-use Rattle.graph_words.specs.declared.operation.Op.TheVariants.{Sum}
+use Rattle.phase_base.specs.declared.operation.Op.TheVariants.{Sum}
 use Rattle.graph_base.specs.Graphs.{task_at}
 use Rattle.stream_job.specs.Jobs.{Job, samples_at}
 use Rattle.stream_laws.specs.Exact.{exact_lines, exact_lists}

@@ -7,7 +7,7 @@ use Rattle.std.proofs.lemmas.Bool.Decides.{nat_tests}
 use Rattle.std.proofs.lemmas.Option.{slice_get-get_or}
 use Rattle.graph_base.specs.Graphs.{task_at, phaser_at}
 use Rattle.graph_base.specs.TaskLines.{IsGraph}
-use Rattle.graph_words.specs.declared.operation.Op.TheVariants.{Any}
+use Rattle.phase_base.specs.declared.operation.Op.TheVariants.{Any}
 use Rattle.stream_job.specs.Jobs.{Job, place_in}
 use Rattle.stream_job.specs.Spans.{signalled_by, spans_of, span_in}
 use Rattle.stream_job.specs.Lists.{Member, entry, member_at, member_by, send_in, sends_in, numbers_of}

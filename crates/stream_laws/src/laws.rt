@@ -2,7 +2,7 @@
 ghost use Rattle.std.specs.Prelude.{◌≡◌, ◌-◌, ◌<◌, ◌↔◌, ℕ, [], ◌∷◌, length, map, get_or, None, true};
 ghost use Rattle.phase_accum.specs.declared.outcome.Outcome.TheVariants.{Empty};
 ghost use Rattle.graph_base.specs.Graphs.{phaser_at, task_at};
-ghost use Rattle.graph_words.specs.declared.operation.Op.TheVariants.{Any};
+ghost use Rattle.phase_base.specs.declared.operation.Op.TheVariants.{Any};
 ghost use Rattle.graph_base.specs.TaskLines.{IsGraph};
 ghost use Rattle.stream_laws.specs.Entries.{AreInRange, HasEntry, output_values, sends_at, Takes};
 ghost use Rattle.stream_laws.specs.Exact.{exact_lines, exact_lists};

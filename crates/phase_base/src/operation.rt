@@ -1,8 +1,9 @@
-//! The operations of a phaser, and their words.
+//! The operations on the sends of a phase, and their words.
 ghost use Rattle.std.specs.Prelude.{◌≡◌};
-ghost use Rattle.graph_words.specs.Operations.{operation_of};
+ghost use Rattle.phase_base.specs.OperationWords.{operation_of};
 
-/// The operation of a phaser on the sends of a phase.
+/// The operation of a phaser: how the sends of a phase make its value. In definitions that value is
+/// `value_by` of `phase_accum`.
 #[derive(Clone, Copy, Debug, PartialEq, Eq)]
 pub enum Op {
     /// Adds them up.
@@ -13,7 +14,7 @@ pub enum Op {
     Least,
     /// Takes the greatest.
     Greatest,
-    /// Takes the only one.
+    /// Takes the first.
     Any,
 }
 
