@@ -8,7 +8,7 @@ use Rattle.std.proofs.lemmas.List.Elements.{filter-append}
 use Rattle.std.proofs.lemmas.List.Sums.{count_by_more_yes, length-filter}
 use Rattle.graph_base.specs.Graphs.{Graph, Task, no_task, task_at, file_at, is_source, source_number, sources_of}
 use Rattle.phase_files.specs.Files.{AreSamplesOf}
-use Rattle.stream_job.specs.Kept.{items_of}
+use Rattle.stream_lists.specs.Inside.{items_of}
 use Rattle.graph_files.specs.FileJobs.{AreFirstSamples, Known}
 
 -- what is counted in front is no more than all

@@ -10,8 +10,8 @@ use Rattle.graph_lang.specs.declared.fault.GraphFault.{GraphFault}
 use Rattle.graph_base.specs.declared.place.Place.TheVariants as place
 use Rattle.phase_files.specs.Files.{AreSamplesOf, HasBadSample, HasBytes, MayBeRefused, MayNeedMemory}
 use Rattle.sample_text.specs.declared.sample.TheConstants.{TEXT_MAX}
-use Rattle.stream_job.specs.Jobs.{Job}
-use Rattle.stream_job.specs.Meetings.{meeting_line}
+use Rattle.stream_lists.specs.Jobs.{Job}
+use Rattle.stream_lists.specs.Meetings.{meeting_line}
 use Rattle.graph_files.specs.declared.fault.JobFault.{JobFault}
 use Rattle.graph_files.specs.declared.fault.JobFault.TheVariants as fault
 use Rattle.graph_files.specs.declared.graph_file.TheConstants.{GRAPH_MAX}

@@ -8,7 +8,7 @@ use crate::sources::read_sources;
 use graph_lang::{FaultKind, GraphFault};
 use phase_files::Files;
 use std::alloc::Global;
-use stream_job::{Job, JobRefusal};
+use stream_lists::{Job, JobRefusal};
 
 /// Makes the job of a graph's file: reads the graph, then the samples of each source in the order
 /// of the lines, live or not, each read and checked before the next.

@@ -4,7 +4,7 @@ ghost use Rattle.std.specs.List.{All};
 ghost use Rattle.phase_accum.specs.Sends.{AreSends};
 ghost use Rattle.phase_files.specs.Files.{AreSamplesOf};
 ghost use Rattle.graph_base.specs.Graphs.{is_source, source_number, sources_of, task_at};
-ghost use Rattle.stream_job.specs.Kept.{items_of};
+ghost use Rattle.stream_lists.specs.Inside.{items_of};
 ghost use Rattle.graph_files.specs.FileJobs.{AreFirstSamples, AreSamples, Explains, IsGraphOf};
 ghost use Rattle.graph_files.specs.FileJobs.{IsReached, file_of};
 

@@ -10,8 +10,8 @@ use Rattle.phase_base.specs.declared.entry.Entry.{Entry}
 use Rattle.phase_history.specs.Histories.{History, done_of, top_of, phases_signalled, has_dropped, HasNoSignaller}
 use Rattle.phase_history.specs.Legal.{IsLegal}
 use Rattle.phase_history.proofs.Steps.{done_below_top, sound_of}
-use Rattle.stream_job.specs.Lists.{Member, send_in, sends_in, end_of_member}
-use Rattle.stream_job.specs.Spans.{greatest}
+use Rattle.stream_lists.specs.Lists.{Member, send_in, sends_in, end_of_member}
+use Rattle.stream_lists.specs.Spans.{greatest}
 use Rattle.phase_history.specs.Others.{is_in}
 use Rattle.phase_history.specs.Sent.{sent_by, sent_in, gathered, IsSilent, ReachesTop}
 use Rattle.phase_history.proofs.Sendings.{length-sent_by, sent_in-none, SentInTurn, SentInTurn-of}

@@ -6,8 +6,8 @@ use Rattle.phase_accum.specs.declared.outcome.Outcome.{Outcome}
 use Rattle.phase_history.specs.declared.event.Event.TheVariants.{Made, Registered, RegisteredNow, Signalled, Waited, Dropped}
 use Rattle.phase_history.specs.Histories.{History, wait_phase}
 use Rattle.phase_history.specs.Phases.{stream_of, received_by}
-use Rattle.stream_job.specs.Jobs.{Job}
-use Rattle.stream_job.specs.Ranges.{is_too_big}
+use Rattle.stream_lists.specs.Jobs.{Job}
+use Rattle.stream_lists.specs.Ranges.{is_too_big}
 use Rattle.graph_moments.specs.Moments.{Moment, value_at, AnsweredNone, HasMetNone}
 
 -- what a task has received is what its waits were answered

@@ -19,10 +19,10 @@ use Rattle.phase_base.specs.declared.operation.Op.{Op}
 use Rattle.phase_base.specs.declared.operation.Op.TheVariants.{Sum, Product, Least, Greatest, Any}
 use Rattle.graph_base.specs.Graphs.{task_at, phaser_at}
 use Rattle.graph_base.specs.TaskLines.{IsGraph}
-use Rattle.stream_job.specs.Jobs.{Job, place_in}
-use Rattle.stream_job.specs.Spans.{signalled_by, puts_on, spans_of, end_of, span_in}
-use Rattle.stream_job.specs.Lists.{Member, send_in, member_at, member_by, value_by, numbers_of, output_on}
-use Rattle.stream_job.specs.Meetings.{is_any, overlap, meet_on, meets_on, meets_above, meeting_line}
+use Rattle.stream_lists.specs.Jobs.{Job, place_in}
+use Rattle.stream_lists.specs.Spans.{signalled_by, puts_on, spans_of, end_of, span_in}
+use Rattle.stream_lists.specs.Lists.{Member, send_in, member_at, member_by, value_by, numbers_of, output_on}
+use Rattle.stream_lists.specs.Meetings.{is_any, overlap, meet_on, meets_on, meets_above, meeting_line}
 use Rattle.stream_laws.proofs.Ordered.{place-at}
 use Rattle.stream_laws.proofs.ListLengths.{outputs_long}
 use Rattle.graph_moments.specs.Agreeing.{Agrees}

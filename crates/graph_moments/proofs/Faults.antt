@@ -7,11 +7,11 @@ use Rattle.std.proofs.lemmas.Bool.{cases_lt}
 use Rattle.graph_base.specs.Graphs.{task_at}
 use Rattle.graph_base.specs.TaskLines.{IsGraph}
 use Rattle.graph_base.specs.declared.place.Place.TheVariants as at_place
-use Rattle.stream_job.specs.Jobs.{Job, samples_at, place_in}
-use Rattle.stream_job.specs.Spans.{spans_of, lengths_of, span_in, signalled_by}
-use Rattle.stream_job.specs.Lists.{members_of, sends_in, numbers_of, numbers_above, output_on, list_over, number, Member}
-use Rattle.stream_job.specs.Ranges.{first_some, is_out_of_range, are_made, made_fault, output_fault, output_fault_of, output_faults, task_takes, is_taken, is_too_big, is_fault, phase_fault_of, fault_on, first_too_big, Fits}
-use Rattle.stream_job.proofs.Growing.{AreSameBelow, grown-same}
+use Rattle.stream_lists.specs.Jobs.{Job, samples_at, place_in}
+use Rattle.stream_lists.specs.Spans.{spans_of, lengths_of, span_in, signalled_by}
+use Rattle.stream_lists.specs.Lists.{members_of, sends_in, numbers_of, numbers_above, output_on, list_over, number, Member}
+use Rattle.stream_lists.specs.Ranges.{first_some, is_out_of_range, are_made, made_fault, output_fault, output_fault_of, output_faults, task_takes, is_taken, is_too_big, is_fault, phase_fault_of, fault_on, first_too_big, Fits}
+use Rattle.stream_lists.proofs.Growing.{AreSameBelow, grown-same}
 use Rattle.stream_laws.proofs.Ordered.{looked_above}
 use Rattle.stream_laws.proofs.ListsAbove.{same_members, same_output}
 use Rattle.graph_moments.specs.Moments.{value_at}

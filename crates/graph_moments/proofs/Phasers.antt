@@ -11,9 +11,9 @@ use Rattle.phase_history.proofs.Steps.{done_below_top, sound_of}
 use Rattle.phase_history.proofs.Sendings.{single_of_phase-all}
 use Rattle.graph_base.specs.Graphs.{task_at, phaser_at}
 use Rattle.graph_base.specs.TaskLines.{IsGraph}
-use Rattle.stream_job.specs.Jobs.{Job, place_in}
-use Rattle.stream_job.specs.Spans.{signalled_by, spans_of, lengths_of, greatest, span_in}
-use Rattle.stream_job.specs.Lists.{Member, members_of, member_at, member_by, phase_in, numbers_of, output_on, ends_on}
+use Rattle.stream_lists.specs.Jobs.{Job, place_in}
+use Rattle.stream_lists.specs.Spans.{signalled_by, spans_of, lengths_of, greatest, span_in}
+use Rattle.stream_lists.specs.Lists.{Member, members_of, member_at, member_by, phase_in, numbers_of, output_on, ends_on}
 use Rattle.stream_laws.proofs.ListLengths.{lengths_end}
 use Rattle.graph_moments.specs.Agreeing.{IsAwaited, Agrees}
 use Rattle.graph_moments.specs.Moments.{Moment, numbers_on, limits_at, value_at, PhaserRan, OnOutput}

@@ -3,7 +3,7 @@ use Rattle.std.proofs.Common.{◌≡◌, ℕ, ◌+◌, ◌-◌, ◌*◌, ◌/◌
 use Rattle.std.proofs.Math.Nat.{mul_comm, add-mul}
 use Rattle.std.proofs.lemmas.Bool.{cases_lt}
 use Rattle.std.proofs.lemmas.Nat.{le-div, mod_below, div-add-mod', mul-le}
-use Rattle.stream_job.specs.Spans.{turns_below}
+use Rattle.stream_lists.specs.Spans.{turns_below}
 
 -- what is more than a multiple is not less than a further one
 pub row : (a m : ℕ) → (a + 1) * m ≡ a * m + m

@@ -19,10 +19,10 @@ use Rattle.graph_base.specs.declared.line.Kind.{Kind}
 use Rattle.graph_base.specs.declared.line.Kind.TheVariants.{Source, Join, Peer}
 use Rattle.graph_base.specs.declared.line.Parent.{Parent}
 use Rattle.graph_base.specs.Graphs.{Task, task_at, phaser_at}
-use Rattle.stream_job.specs.Jobs.{Job, samples_at, place_in}
-use Rattle.stream_job.specs.Spans.{signalled_by, takes_from}
-use Rattle.stream_job.specs.Lists.{value_by, number, output_list}
-use Rattle.stream_job.specs.Ranges.{is_too_big}
+use Rattle.stream_lists.specs.Jobs.{Job, samples_at, place_in}
+use Rattle.stream_lists.specs.Spans.{signalled_by, takes_from}
+use Rattle.stream_lists.specs.Lists.{value_by, number, output_list}
+use Rattle.stream_lists.specs.Ranges.{is_too_big}
 use Rattle.graph_moments.specs.Agreeing.{one}
 
 -- the history of each phaser; the number of each task on each phaser where it is registered; and of

@@ -6,11 +6,11 @@ use Rattle.phase_history.specs.Phases.{value_of_phase}
 use Rattle.graph_base.specs.Graphs.{task_at}
 use Rattle.graph_base.specs.TaskLines.{IsGraph}
 use Rattle.graph_base.specs.declared.place.Place.TheVariants as place
-use Rattle.stream_job.specs.Jobs.{Job, samples_at, place_in}
-use Rattle.stream_job.specs.Spans.{spans_of, lengths_of, span_in, signalled_by}
-use Rattle.stream_job.specs.Lists.{members_of, phase_in, numbers_of, output_on}
-use Rattle.stream_job.specs.Meetings.{meeting_line}
-use Rattle.stream_job.specs.Ranges.{Where, is_fault, are_made, is_out_of_range}
+use Rattle.stream_lists.specs.Jobs.{Job, samples_at, place_in}
+use Rattle.stream_lists.specs.Spans.{spans_of, lengths_of, span_in, signalled_by}
+use Rattle.stream_lists.specs.Lists.{members_of, phase_in, numbers_of, output_on}
+use Rattle.stream_lists.specs.Meetings.{meeting_line}
+use Rattle.stream_lists.specs.Ranges.{Where, is_fault, are_made, is_out_of_range}
 use Rattle.graph_moments.specs.Moments.{Moment, MayEnd, HasEnded, input_at, value_at}
 
 -- the phases of phaser p that are complete have the values of the phaser's list, and where no task

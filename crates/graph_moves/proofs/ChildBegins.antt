@@ -17,9 +17,9 @@ use Rattle.phase_history.proofs.Sendings.{length-sent_by}
 use Rattle.graph_base.specs.declared.line.Parent.{Parent}
 use Rattle.graph_base.specs.Graphs.{task_at}
 use Rattle.graph_base.specs.TaskLines.{IsGraph, IsParent, has_children}
-use Rattle.stream_job.specs.Jobs.{Job, samples_at, place_in}
-use Rattle.stream_job.specs.Spans.{signalled_by}
-use Rattle.stream_job.specs.Lists.{number}
+use Rattle.stream_lists.specs.Jobs.{Job, samples_at, place_in}
+use Rattle.stream_lists.specs.Spans.{signalled_by}
+use Rattle.stream_lists.specs.Lists.{number}
 use Rattle.stream_laws.proofs.Ordered.{parent_signals}
 use Rattle.graph_moments.specs.Agreeing.{one}
 use Rattle.graph_moments.specs.Moments.{Moment, TaskRan, input_at, limits_at, value_at, IsRegistered, OnOutput, OnInput, OnPhaser, PutOn, TakenOn, SilentOn, OnLine, HasNotPassed, Joined, MayEnd, at_until, no_sample, no_input, HasEnded}

@@ -14,10 +14,10 @@ use Rattle.phase_history.proofs.Streams.{stream_closed, signallers_closed}
 use Rattle.graph_base.specs.declared.line.Parent.{Parent}
 use Rattle.graph_base.specs.Graphs.{task_at}
 use Rattle.graph_base.specs.TaskLines.{IsGraph}
-use Rattle.stream_job.specs.Jobs.{Job, samples_at, place_in}
-use Rattle.stream_job.specs.Spans.{signalled_by}
-use Rattle.stream_job.specs.Lists.{number, output_list}
-use Rattle.stream_job.proofs.Growing.{map-same}
+use Rattle.stream_lists.specs.Jobs.{Job, samples_at, place_in}
+use Rattle.stream_lists.specs.Spans.{signalled_by}
+use Rattle.stream_lists.specs.Lists.{number, output_list}
+use Rattle.stream_lists.proofs.Growing.{map-same}
 use Rattle.graph_moments.specs.Agreeing.{one}
 use Rattle.graph_moments.specs.Moments.{Moment, input_at, taken_now, made_now, limits_at, value_at, IsRegistered, TaskRan, HasEnded, RanOut, first_input, MayEnd, at_until, no_sample, no_input, OnOutput, OnInput, OnPhaser, PutOn, TakenOn, SilentOn, OnLine, HasNotPassed, Joined, AtMost, HasTaken, HasSamples, HasExchanged}
 use Rattle.graph_moves.specs.Moves.{SameTask, HasGrown, PartStays, OthersMoved}

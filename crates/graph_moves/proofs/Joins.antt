@@ -9,7 +9,7 @@ use Rattle.phase_history.specs.Legal.{IsLegal}
 use Rattle.phase_history.specs.Others.{IsUsed}
 use Rattle.phase_history.proofs.Alive.{alive_law}
 use Rattle.graph_base.specs.TaskLines.{IsGraph}
-use Rattle.stream_job.specs.Jobs.{Job}
+use Rattle.stream_lists.specs.Jobs.{Job}
 use Rattle.graph_moments.specs.Moments.{Moment, HasRun, PhaserRan, TaskRan}
 use Rattle.graph_moves.specs.Moves.{HasGrown, OthersMoved}
 use Rattle.graph_moves.proofs.Framed.{task_later}

@@ -13,8 +13,8 @@ use Rattle.phase_history.proofs.Used.{IsUsed-longer}
 use Rattle.graph_base.specs.declared.line.Parent.{Parent}
 use Rattle.graph_base.specs.Graphs.{phaser_at}
 use Rattle.graph_base.specs.TaskLines.{IsGraph}
-use Rattle.stream_job.specs.Jobs.{Job}
-use Rattle.stream_job.proofs.Growing.{filter_map-same}
+use Rattle.stream_lists.specs.Jobs.{Job}
+use Rattle.stream_lists.proofs.Growing.{filter_map-same}
 use Rattle.graph_moments.specs.Moments.{Moment, HasRun, PhaserRan, TaskRan, limits_at, numbers_on, IsRegistered}
 use Rattle.graph_moves.specs.Moves.{HasGrown, HasMoved, Signals, Waits, Leaves}
 use Rattle.graph_moments.proofs.Numbers.{in_numbers}

@@ -6,7 +6,7 @@ use Rattle.graph_base.specs.declared.line.Kind.{Kind}
 use Rattle.graph_base.specs.declared.line.Kind.TheVariants.{Source, Fir, Split, Join, Peer, Sink}
 use Rattle.graph_base.specs.Graphs.{Task}
 use Rattle.graph_base.specs.TaskLines.{HasEnds}
-use Rattle.stream_job.specs.Spans.{turns_below, takes_from}
+use Rattle.stream_lists.specs.Spans.{turns_below, takes_from}
 use Rattle.graph_moments.specs.Moments.{first_input, HasTaken}
 use Rattle.graph_moments.proofs.Turns.{row}
 

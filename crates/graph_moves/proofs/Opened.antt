@@ -24,9 +24,9 @@ use Rattle.graph_base.specs.declared.line.Kind.TheVariants.{Source, Fir, Split, 
 use Rattle.graph_base.specs.declared.line.Parent.{Parent}
 use Rattle.graph_base.specs.Graphs.{Task, task_at, phaser_at}
 use Rattle.graph_base.specs.TaskLines.{IsGraph}
-use Rattle.stream_job.specs.Jobs.{Job, samples_at, place_in}
-use Rattle.stream_job.specs.Spans.{signalled_by, turns_below}
-use Rattle.stream_job.specs.Lists.{number}
+use Rattle.stream_lists.specs.Jobs.{Job, samples_at, place_in}
+use Rattle.stream_lists.specs.Spans.{signalled_by, turns_below}
+use Rattle.stream_lists.specs.Lists.{number}
 use Rattle.graph_moments.specs.Agreeing.{one}
 use Rattle.graph_moments.specs.Moments.{Moment, HasRun, PhaserRan, TaskRan, made_now, input_at, limits_at, value_at, OnPhaser, PutOn, TakenOn, SilentOn, OnLine, IsChild, Joined, AtMost, HasTaken, HasSamples, HasExchanged}
 use Rattle.graph_moves.specs.Openings.{IsOpening, PhaserOpened, TaskOpened, HasOpened}

@@ -16,10 +16,10 @@ use Rattle.graph_base.specs.declared.line.Kind.TheVariants.{Source, Fir, Split, 
 use Rattle.graph_base.specs.declared.line.Parent.{Parent}
 use Rattle.graph_base.specs.Graphs.{Task, task_at, phaser_at}
 use Rattle.graph_base.specs.TaskLines.{IsGraph, IsTaskLine, HasEnds}
-use Rattle.stream_job.specs.Jobs.{Job, samples_at, place_in}
-use Rattle.stream_job.specs.Spans.{signalled_by}
-use Rattle.stream_job.specs.Lists.{number, output_list}
-use Rattle.stream_job.proofs.Growing.{map-same}
+use Rattle.stream_lists.specs.Jobs.{Job, samples_at, place_in}
+use Rattle.stream_lists.specs.Spans.{signalled_by}
+use Rattle.stream_lists.specs.Lists.{number, output_list}
+use Rattle.stream_lists.proofs.Growing.{map-same}
 use Rattle.stream_laws.proofs.Ordered.{place-at}
 use Rattle.graph_moments.specs.Agreeing.{one}
 use Rattle.graph_moments.specs.Moments.{Moment, input_at, taken_now, made_now, value_at, IsRegistered, TaskRan, HasEnded, first_input, OnOutput, OnInput, OnPhaser, PutOn, TakenOn, SilentOn, OnLine, HasNotPassed, Joined, AtMost, HasTaken, HasSamples, HasExchanged}
@@ -77,7 +77,7 @@ joined_later job before after t p event is there moved j = by ((task_at job.grap
         let b : (before.offset t ≡ before.offset u.task + u.at) × (u.at ≤ before.begun u.task)
         × IsRegistered before u.task = subst B e j in
         let above : u.task < t =
-        (Rattle.stream_job.proofs.SpansAbove.parent-is job.graph t (task_at job.graph t) u
+        (Rattle.stream_lists.proofs.SpansAbove.parent-is job.graph t (task_at job.graph t) u
         (is.tasks t there) e).above in
         let other : u.task ≢ t = λ same. omega arith in
         let s = moved.others u.task other in

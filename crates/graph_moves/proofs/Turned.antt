@@ -11,9 +11,9 @@ use Rattle.graph_base.specs.declared.line.Kind.{Kind}
 use Rattle.graph_base.specs.declared.line.Kind.TheVariants.{Source}
 use Rattle.graph_base.specs.Graphs.{task_at, phaser_at}
 use Rattle.graph_base.specs.TaskLines.{IsGraph}
-use Rattle.stream_job.specs.Jobs.{Job, samples_at}
-use Rattle.stream_job.specs.Spans.{signalled_by}
-use Rattle.stream_job.specs.Lists.{output_list, number}
+use Rattle.stream_lists.specs.Jobs.{Job, samples_at}
+use Rattle.stream_lists.specs.Spans.{signalled_by}
+use Rattle.stream_lists.specs.Lists.{output_list, number}
 use Rattle.stream_laws.proofs.Ordered.{place-at}
 use Rattle.graph_moments.specs.Moments.{Moment, HasRun, HasExchanged, HasSamples, made_now, taken_now}
 use Rattle.graph_moves.specs.Moves.{SameTask, HasMoved}

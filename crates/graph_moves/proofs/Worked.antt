@@ -13,7 +13,7 @@ use Rattle.graph_base.specs.declared.line.Kind.TheVariants.{Source, Split, Join,
 use Rattle.graph_base.specs.declared.line.Parent.{Parent}
 use Rattle.graph_base.specs.declared.line.PhaserLine.{PhaserLine}
 use Rattle.graph_base.specs.Graphs.{no_graph, no_task, task_at}
-use Rattle.stream_job.specs.Jobs.{Job, place_in}
+use Rattle.stream_lists.specs.Jobs.{Job, place_in}
 use Rattle.graph_moments.specs.Moments.{Moment, limits_at, TaskRan, OnPhaser, TakenOn, OnLine, HasTaken, HasExchanged, made_now, input_at}
 
 one : ℕ → List (List ℤ)

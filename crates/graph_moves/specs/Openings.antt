@@ -7,8 +7,8 @@ use Rattle.phase_history.specs.Histories.{History, start_of}
 use Rattle.phase_history.specs.Legal.{IsLegal}
 use Rattle.phase_history.specs.Others.{IsUsed}
 use Rattle.graph_base.specs.Graphs.{task_at}
-use Rattle.stream_job.specs.Jobs.{Job, place_in}
-use Rattle.stream_job.specs.Spans.{signalled_by}
+use Rattle.stream_lists.specs.Jobs.{Job, place_in}
+use Rattle.stream_lists.specs.Spans.{signalled_by}
 use Rattle.graph_moments.specs.Moments.{Moment, limits_at, input_at, OnLine}
 
 -- the founder made the phaser, registered tasks and left, and nothing else happened

@@ -10,9 +10,9 @@ use Rattle.phase_history.specs.Legal.{IsAccepted}
 use Rattle.graph_base.specs.Graphs.{task_at, phaser_at}
 use Rattle.graph_base.specs.declared.line.Parent.{Parent}
 use Rattle.graph_base.specs.declared.line.Kind.TheVariants.{Source, Peer}
-use Rattle.stream_job.specs.Jobs.{Job, samples_at, place_in}
-use Rattle.stream_job.specs.Spans.{signalled_by}
-use Rattle.stream_job.specs.Lists.{number}
+use Rattle.stream_lists.specs.Jobs.{Job, samples_at, place_in}
+use Rattle.stream_lists.specs.Spans.{signalled_by}
+use Rattle.stream_lists.specs.Lists.{number}
 use Rattle.graph_moments.specs.Moments.{Moment, limits_at, value_at, input_at, made_now, first_input, HasExchanged, HasEnded, OnLine}
 use Rattle.graph_moves.specs.Moves.{IsStaying, MayBegin, NoneDue}
 

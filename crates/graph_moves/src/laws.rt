@@ -6,7 +6,7 @@ ghost use Rattle.phase_base.specs.declared.mode.Mode.{Mode};
 ghost use Rattle.phase_accum.specs.declared.outcome.Outcome.{Outcome};
 ghost use Rattle.graph_base.specs.TaskLines.{IsGraph};
 ghost use Rattle.graph_base.specs.declared.line.Parent.{Parent};
-ghost use Rattle.stream_job.specs.Jobs.{Job};
+ghost use Rattle.stream_lists.specs.Jobs.{Job};
 ghost use Rattle.phase_history.specs.Legal.{IsLegal};
 ghost use Rattle.graph_moments.specs.Moments.{Moment, HasRun, PhaserRan, TaskRan, HasEnded, limits_at};
 ghost use Rattle.graph_moves.specs.Moves.{HasGrown, OthersMoved, SameTask};

@@ -14,10 +14,10 @@ use Rattle.graph_files.proofs.Needed.{needed-graph}
 use Rattle.phase_replay.specs.declared.fault.ReplayFault.TheVariants.{WriteFault}
 use Rattle.phase_status.specs.GraphRuns.{CheckEnds, EvalEnds, IsNoJob, check_line, job_line, job_status, too_big_line}
 use Rattle.phase_status.specs.Statuses.{Reports, Says, fault_line}
-use Rattle.stream_job.specs.Jobs.{Job}
-use Rattle.stream_job.specs.Lists.{lines_of}
-use Rattle.stream_job.specs.Ranges.{Fits, first_too_big}
-use Rattle.stream_job.specs.Texts.{text_of}
+use Rattle.stream_lists.specs.Jobs.{Job}
+use Rattle.stream_lists.specs.Lists.{lines_of}
+use Rattle.stream_lists.specs.Ranges.{Fits, first_too_big}
+use Rattle.stream_lists.specs.Texts.{text_of}
 
 -- no fault is told with the status 0
 not_zero : (status n : ℕ) → status ≡ n → 0 < n → status ≡ 0 → ⊥

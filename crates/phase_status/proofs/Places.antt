@@ -8,13 +8,13 @@ use Rattle.std.proofs.lemmas.List.FromFn.{get_or-map-range_with_len, get_or-rang
 use Rattle.graph_base.specs.Graphs.{IsPlace}
 use Rattle.graph_base.specs.declared.place.Place.{Place}
 use Rattle.graph_base.specs.declared.place.Place.TheVariants as place
-use Rattle.stream_job.specs.Jobs.{Job}
-use Rattle.stream_job.specs.Kept.{told}
-use Rattle.stream_job.specs.Lists.{is_sink_at, lines_of, numbers_above, numbers_of, sink_over, sinks_of}
-use Rattle.stream_job.specs.Ranges.{Where, fault_on, first_some, first_too_big, output_fault_of, output_faults, phase_fault_of}
-use Rattle.stream_job.specs.Spans.{lengths_of, spans_of}
-use Rattle.stream_job.specs.declared.span.Span.{Span}
-use Rattle.stream_job.specs.declared.whole.Lines.{Lines}
+use Rattle.stream_lists.specs.Jobs.{Job}
+use Rattle.stream_eval.specs.Results.{told}
+use Rattle.stream_lists.specs.Lists.{is_sink_at, lines_of, numbers_above, numbers_of, sink_over, sinks_of}
+use Rattle.stream_lists.specs.Ranges.{Where, fault_on, first_some, first_too_big, output_fault_of, output_faults, phase_fault_of}
+use Rattle.stream_lists.specs.Spans.{lengths_of, spans_of}
+use Rattle.stream_lists.specs.declared.span.Span.{Span}
+use Rattle.stream_eval.specs.declared.whole.Lines.{Lines}
 
 -- ---- the place of a value that is out of range
 

@@ -7,10 +7,10 @@ use Rattle.graph_base.specs.Graphs.{Graph, name_at}
 use Rattle.graph_lang.specs.declared.fault.FaultKind.{FaultKind}
 use Rattle.graph_lang.specs.declared.fault.FaultKind.TheVariants.{Syntax, Limit, Twice, Unknown, OutBeforeIn, BadParent, NotHeld, AnyMeets}
 use Rattle.graph_base.specs.declared.place.Place.{Place}
-use Rattle.stream_job.specs.Jobs.{Job}
-use Rattle.stream_job.specs.Lists.{lines_of}
-use Rattle.stream_job.specs.Ranges.{Fits, first_too_big}
-use Rattle.stream_job.specs.Texts.{text_of}
+use Rattle.stream_lists.specs.Jobs.{Job}
+use Rattle.stream_lists.specs.Lists.{lines_of}
+use Rattle.stream_lists.specs.Ranges.{Fits, first_too_big}
+use Rattle.stream_lists.specs.Texts.{text_of}
 use Rattle.graph_files.specs.FileJobs.{Explains, IsJobOf, Known}
 use Rattle.graph_files.specs.declared.fault.JobFault.{JobFault}
 use Rattle.graph_files.specs.declared.fault.JobFault.TheVariants as fault

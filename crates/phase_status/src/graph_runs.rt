@@ -16,7 +16,7 @@ use phase_files::Files;
 use phase_replay::ReplayFault;
 use std::alloc::Global;
 use std::io::Write;
-use stream_job::{EvalFault, eval};
+use stream_eval::{EvalFault, eval};
 use stream_lines::write_lines;
 use watched_io::{Watched, WriteFailed};
 

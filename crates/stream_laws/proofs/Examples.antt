@@ -8,11 +8,11 @@ use Rattle.graph_base.specs.declared.line.Kind.TheVariants.{Source, Fir, Split, 
 use Rattle.graph_base.specs.declared.place.Place.TheVariants as place
 use Rattle.graph_base.specs.declared.line.PhaserLine.{PhaserLine}
 use Rattle.graph_base.specs.Graphs.{Graph, Task, no_graph, no_task}
-use Rattle.stream_job.specs.Jobs.{Job}
-use Rattle.stream_job.specs.Ranges.{answer_of}
-use Rattle.stream_job.specs.Meetings.{meet_on, meeting_line}
-use Rattle.stream_job.specs.Spans.{spans_of}
-use Rattle.stream_job.specs.Texts.{text_of}
+use Rattle.stream_lists.specs.Jobs.{Job}
+use Rattle.stream_lists.specs.Ranges.{answer_of}
+use Rattle.stream_lists.specs.Meetings.{meet_on, meeting_line}
+use Rattle.stream_lists.specs.Spans.{spans_of}
+use Rattle.stream_lists.specs.Texts.{text_of}
 use Rattle.std.specs.Prelude.{codes}
 use Rattle.std.specs.Fmt.{digits}
 

@@ -3,11 +3,11 @@ use Rattle.std.proofs.Common.{◌≡◌, [], ◌∷◌, pos, Some, Ok, true, len
 use Rattle.phase_accum.specs.declared.outcome.Outcome.TheVariants.{Value, TooBig}
 use Rattle.phase_base.specs.declared.operation.Op.TheVariants.{Sum}
 use Rattle.graph_base.specs.Graphs.{task_at}
-use Rattle.stream_job.specs.Jobs.{Job, samples_at}
+use Rattle.stream_lists.specs.Jobs.{Job, samples_at}
 use Rattle.stream_laws.specs.Exact.{exact_lines, exact_lists}
-use Rattle.stream_job.specs.Ranges.{answer_of}
-use Rattle.stream_job.specs.Spans.{nowhere, puts_on, lengths_of, spans_of, span_at, span_in, span_of}
-use Rattle.stream_job.specs.Lists.{list_of_phaser, list_over, numbers_of, numbers_above, output_on, ends_on}
+use Rattle.stream_lists.specs.Ranges.{answer_of}
+use Rattle.stream_lists.specs.Spans.{nowhere, puts_on, lengths_of, spans_of, span_at, span_in, span_of}
+use Rattle.stream_lists.specs.Lists.{list_of_phaser, list_over, numbers_of, numbers_above, output_on, ends_on}
 use Rattle.stream_laws.proofs.Examples.{minus, plain, source, fir, sink, added_by, stops_at, job_of, these}
 use Rattle.stream_laws.proofs.Examples.{nothing, split_to_one_bus_7, any_hands_over_2, any_hands_over_3, any_hands_over_4, peers, peers_with_single, too_big_phase}
 

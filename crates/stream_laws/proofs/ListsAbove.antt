@@ -7,11 +7,11 @@ use Rattle.graph_base.specs.Graphs.{Task, task_at, phaser_at}
 use Rattle.graph_base.specs.TaskLines.{IsGraph, IsTaskLine, HasEnds}
 use Rattle.graph_base.specs.declared.line.Kind.{Kind}
 use Rattle.graph_base.specs.declared.line.Kind.TheVariants.{Source, Fir, Split, Join, Peer, Sink}
-use Rattle.stream_job.specs.Jobs.{Job, samples_at, place_in}
-use Rattle.stream_job.specs.Spans.{nowhere, signalled_by, takes_from, spans_of, lengths_of}
-use Rattle.stream_job.specs.Lists.{member_at, member_by, members_of, output_list, taken_by, taken_from, phase_in, value_by, number, list_over, list_of_phaser, numbers_above, numbers_of}
-use Rattle.stream_job.specs.declared.span.Span.{Span}
-use Rattle.stream_job.proofs.Growing.{AreSameBelow, grown-same, grown-whole, map-same, filter_map-same}
+use Rattle.stream_lists.specs.Jobs.{Job, samples_at, place_in}
+use Rattle.stream_lists.specs.Spans.{nowhere, signalled_by, takes_from, spans_of, lengths_of}
+use Rattle.stream_lists.specs.Lists.{member_at, member_by, members_of, output_list, taken_by, taken_from, phase_in, value_by, number, list_over, list_of_phaser, numbers_above, numbers_of}
+use Rattle.stream_lists.specs.declared.span.Span.{Span}
+use Rattle.stream_lists.proofs.Growing.{AreSameBelow, grown-same, grown-whole, map-same, filter_map-same}
 use Rattle.stream_laws.proofs.Ordered.{LooksAt, AreSameAt, looked_above}
 
 -- what a task takes is the same of each of these inputs

@@ -8,8 +8,8 @@ use Rattle.graph_base.specs.TaskLines.{IsTaskLine, IsParent, HasEnds, IsExchange
 use Rattle.graph_base.specs.declared.line.Kind.{Kind}
 use Rattle.graph_base.specs.declared.line.Kind.TheVariants.{Source, Fir, Split, Join, Peer, Sink}
 use Rattle.graph_base.specs.declared.line.Parent.{Parent}
-use Rattle.stream_job.specs.Jobs.{place_in}
-use Rattle.stream_job.specs.Spans.{signalled_by}
+use Rattle.stream_lists.specs.Jobs.{place_in}
+use Rattle.stream_lists.specs.Spans.{signalled_by}
 
 -- ---- the place of a phaser on a line
 

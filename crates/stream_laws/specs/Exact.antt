@@ -6,10 +6,10 @@ use Rattle.phase_accum.specs.declared.single.Single.{Single}
 use Rattle.graph_base.specs.Graphs.{phaser_at}
 use Rattle.phase_base.specs.declared.operation.Op.{Op}
 use Rattle.phase_base.specs.declared.operation.Op.TheVariants.{Sum, Product, Least, Greatest, Any}
-use Rattle.stream_job.specs.Jobs.{Job}
-use Rattle.stream_job.specs.Spans.{spans_of, lengths_of}
-use Rattle.stream_job.specs.Lists.{Member, members_of, sends_in, sink_over, sinks_of}
-use Rattle.stream_job.specs.declared.span.Span.{Span}
+use Rattle.stream_lists.specs.Jobs.{Job}
+use Rattle.stream_lists.specs.Spans.{spans_of, lengths_of}
+use Rattle.stream_lists.specs.Lists.{Member, members_of, sends_in, sink_over, sinks_of}
+use Rattle.stream_lists.specs.declared.span.Span.{Span}
 
 -- numbers reduced by an operation. Of no numbers the least, the greatest and the first are none
 abbrev pub exact_by : Op → List ℤ → Option ℤ

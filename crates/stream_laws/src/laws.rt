@@ -6,12 +6,12 @@ ghost use Rattle.phase_base.specs.declared.operation.Op.TheVariants.{Any};
 ghost use Rattle.graph_base.specs.TaskLines.{IsGraph};
 ghost use Rattle.stream_laws.specs.Entries.{AreInRange, HasEntry, output_values, sends_at, Takes};
 ghost use Rattle.stream_laws.specs.Exact.{exact_lines, exact_lists};
-ghost use Rattle.stream_job.specs.Jobs.{Job};
-ghost use Rattle.stream_job.specs.Lists.{ends_on, entry, lines_of, list_of_phaser, list_over, number, numbers_of, output_on};
-ghost use Rattle.stream_job.specs.Meetings.{meet_on, meeting_line};
-ghost use Rattle.stream_job.specs.Ranges.{Fits};
-ghost use Rattle.stream_job.specs.Spans.{greatest, lengths_of, puts_on, signalled_by};
-ghost use Rattle.stream_job.specs.Spans.{span_in, span_of, spans_of, spans_up_to};
+ghost use Rattle.stream_lists.specs.Jobs.{Job};
+ghost use Rattle.stream_lists.specs.Lists.{ends_on, entry, lines_of, list_of_phaser, list_over, number, numbers_of, output_on};
+ghost use Rattle.stream_lists.specs.Meetings.{meet_on, meeting_line};
+ghost use Rattle.stream_lists.specs.Ranges.{Fits};
+ghost use Rattle.stream_lists.specs.Spans.{greatest, lengths_of, puts_on, signalled_by};
+ghost use Rattle.stream_lists.specs.Spans.{span_in, span_of, spans_of, spans_up_to};
 
 /// The spans of the tasks above it decide the span of each task, and in a graph that was read it is
 /// the same over the spans of all tasks.

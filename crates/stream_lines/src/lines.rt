@@ -2,8 +2,8 @@
 ghost use Rattle.std.specs.Prelude.{◌≡◌, ◌<◌, ◌++◌, length, map, true, OnOk, OnErr};
 ghost use Rattle.std.specs.List.{All};
 ghost use Rattle.std.specs.Io.KnownBytes.{Appends};
-ghost use Rattle.stream_job.specs.Kept.{told};
-ghost use Rattle.stream_job.specs.Texts.{sink_text, text_of, value_text};
+ghost use Rattle.stream_eval.specs.Results.{told};
+ghost use Rattle.stream_lists.specs.Texts.{sink_text, text_of, value_text};
 ghost use Rattle.stream_lines.specs.Puts.{Puts, heading_text};
 ghost use Rattle.watched_io.specs.Prefix.{AppendsPrefix};
 ghost use Rattle.watched_io.specs.Watched.{has_failed_of, inner_of};
@@ -12,7 +12,7 @@ use crate::pieces::Piece;
 use graph_base::{Graph, Place};
 use itoa::Buffer;
 use std::io::Write;
-use stream_job::Lines;
+use stream_eval::Lines;
 use watched_io::{Watched, WriteFailed};
 
 /// Writes the values of each sink: its name, a space and the count of its values, and then each

@@ -1,5 +1,5 @@
 use Rattle.std.proofs.Common.{inr, refl, sym, subst, rules}
-use Rattle.stream_job.specs.Kept.{given, items_of}
+use Rattle.stream_lists.specs.Inside.{given, items_of}
 use Rattle.graph_files.specs.FileJobs.{AreSamples, Explains, IsGraphOf, Known}
 use Rattle.graph_files.proofs.Counted.{known-same}
 use Rattle.graph_files.proofs.job_file.read_job.Goals as goal

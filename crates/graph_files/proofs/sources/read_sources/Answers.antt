@@ -6,7 +6,7 @@ use Rattle.std.proofs.lemmas.List.Sums.{count_by_more_yes, count_by_more_no}
 use Rattle.phase_accum.specs.Sends.{AreSends}
 use Rattle.graph_base.specs.Graphs.{Task, no_task, is_source, source_number, task_at}
 use Rattle.phase_files.specs.Files.{AreSamplesOf}
-use Rattle.stream_job.specs.Kept.{items_of}
+use Rattle.stream_lists.specs.Inside.{items_of}
 use Rattle.graph_files.specs.FileJobs.{AreFirstSamples, Explains, IsReached, Known, file_of}
 use Rattle.graph_files.proofs.Counted.{items_of-push, known-same, length-items_of, samples-push, source-within}
 use Rattle.graph_files.proofs.sources.read_sources.Goals as goal

@@ -2,7 +2,7 @@ use Rattle.std.proofs.Common.{◌≡◌, ◌≤◌, ℕ, List, length}
 use Rattle.std.specs.List.{All}
 use Rattle.phase_accum.specs.Sends.{AreSends}
 use Rattle.graph_base.specs.Graphs.{source_number}
-use Rattle.stream_job.specs.Kept.{items_of}
+use Rattle.stream_lists.specs.Inside.{items_of}
 use Rattle.graph_files.specs.FileJobs.{AreFirstSamples}
 use Rattle.graph_files.proofs.sources.read_sources.Given as goal
 

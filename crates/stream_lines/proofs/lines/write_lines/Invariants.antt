@@ -1,7 +1,7 @@
 use Rattle.std.proofs.Common.{◌≡◌, [], map, take}
 use Rattle.watched_io.specs.Watched.{has_failed_of, inner_of}
-use Rattle.stream_job.specs.Kept.{told}
-use Rattle.stream_job.specs.Texts.{text_of}
+use Rattle.stream_eval.specs.Results.{told}
+use Rattle.stream_lists.specs.Texts.{text_of}
 use Rattle.stream_lines.specs.Puts.{Puts}
 use Rattle.stream_lines.proofs.lines.write_lines.Given as goal
 

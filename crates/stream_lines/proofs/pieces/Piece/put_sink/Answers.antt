@@ -3,7 +3,7 @@ use Rattle.std.proofs.lemmas.Int.{to_z-of_z}
 use Rattle.std.specs.List.{flat_map}
 use Rattle.std.proofs.lemmas.List.{take_more}
 use Rattle.std.proofs.lemmas.Result.{err_from_is_err_and}
-use Rattle.stream_job.specs.Texts.{value_text}
+use Rattle.stream_lists.specs.Texts.{value_text}
 use Rattle.stream_lines.specs.Puts.{heading_text}
 use Rattle.stream_lines.proofs.Items.{flat_map-push, flat_map-rest}
 use Rattle.stream_lines.proofs.Putting.{Puts-append, prefix_before, prefix_behind, prefix_within}

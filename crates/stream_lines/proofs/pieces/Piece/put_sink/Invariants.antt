@@ -1,7 +1,7 @@
 use Rattle.std.proofs.Common.{◌≡◌, ◌++◌, length, take}
 use Rattle.std.specs.List.{flat_map}
 use Rattle.watched_io.specs.Watched.{has_failed_of, inner_of}
-use Rattle.stream_job.specs.Texts.{value_text}
+use Rattle.stream_lists.specs.Texts.{value_text}
 use Rattle.stream_lines.specs.Puts.{Puts, heading_text}
 use Rattle.stream_lines.proofs.pieces.Piece.put_sink.Given as goal
 
