@@ -12,9 +12,8 @@ use Rattle.graph_base.specs.declared.line.Kind.{Kind}
 use Rattle.graph_base.specs.declared.line.Kind.TheVariants.{Source, Fir, Split, Join, Peer, Sink}
 use Rattle.graph_base.specs.Graphs.{Task}
 use Rattle.graph_base.specs.TaskLines.{HasEnds, has_children}
-use Rattle.stream_lists.specs.Spans.{turns_below, takes_from, puts_on, signalled_by}
+use Rattle.stream_lists.specs.Spans.{turns_below, takes_from, puts_on, signalled_by, LooksAt}
 use Rattle.stream_lists.specs.Lists.{entry, every, turn_at, in_turn, mixed_at, mixed, output_list}
-use Rattle.stream_laws.proofs.Ordered.{LooksAt}
 use Rattle.graph_moments.specs.Moments.{HasExchanged, HasSamples}
 use Rattle.graph_moments.proofs.Entries.{IsPrefix-trans, prefix_length, prefix_at, prefix_by, take_prefix, take_of_prefix}
 use Rattle.graph_moments.proofs.Turns.{turns-mono, turn-within, turn-taken}

@@ -12,9 +12,8 @@ use Rattle.graph_base.specs.Graphs.{Task, task_at, is_sink}
 use Rattle.graph_base.specs.TaskLines.{IsParent, HasEnds}
 use Rattle.stream_lists.specs.declared.span.Span.{Span}
 use Rattle.stream_lists.specs.Jobs.{Job, samples_at, place_in}
-use Rattle.stream_lists.specs.Spans.{spans_of, lengths_of, span_at, span_in, offset_of, takes_from, signalled_by}
+use Rattle.stream_lists.specs.Spans.{spans_of, lengths_of, span_at, span_in, offset_of, takes_from, signalled_by, LooksAt}
 use Rattle.stream_lists.specs.Lists.{numbers_of, list_over, phase_in, members_of, taken_from, sink_over, sinks_of, is_sink_at, lines_of}
-use Rattle.stream_laws.proofs.Ordered.{LooksAt}
 use Rattle.stream_lists.proofs.SpansAbove.{spans_all}
 use Rattle.graph_moments.specs.Moments.{Moment, HasRun, IsRegistered, IsOver, IsChild, HasNotPassed, TakenOn, input_at, value_at}
 use Rattle.graph_moments.specs.Settled.{Composes, Stands, IsReady}

@@ -8,8 +8,7 @@ use Rattle.graph_base.specs.declared.line.Kind.{Kind}
 use Rattle.graph_base.specs.declared.line.Kind.TheVariants.{Source, Fir, Split, Join, Peer, Sink}
 use Rattle.graph_base.specs.Graphs.{Task}
 use Rattle.graph_base.specs.TaskLines.{HasEnds}
-use Rattle.stream_lists.specs.Spans.{turns_below, takes_from, run_out, first_run_out, enough_for, cut_at}
-use Rattle.stream_laws.proofs.Ordered.{LooksAt}
+use Rattle.stream_lists.specs.Spans.{turns_below, takes_from, run_out, first_run_out, enough_for, cut_at, LooksAt}
 use Rattle.graph_moments.specs.Moments.{first_input, HasTaken, HasSamples, AtMost}
 use Rattle.graph_moments.proofs.Turns.{turns-mono, turns-before, turns-after}
 

@@ -19,9 +19,8 @@ use Rattle.graph_base.specs.Graphs.{Task, task_at}
 use Rattle.graph_base.specs.TaskLines.{IsGraph, IsTaskLine, HasEnds}
 use Rattle.stream_lists.specs.declared.span.Span.{Span}
 use Rattle.stream_lists.specs.Jobs.{Job, samples_at}
-use Rattle.stream_lists.specs.Spans.{spans_of, lengths_of, span_at, span_in, offset_of, cut_at, enough_for, values_from, takes_from, signalled_by, puts_on}
+use Rattle.stream_lists.specs.Spans.{spans_of, lengths_of, span_at, span_in, offset_of, cut_at, enough_for, values_from, takes_from, signalled_by, puts_on, LooksAt}
 use Rattle.stream_lists.specs.Lists.{members_of, number, numbers_of, list_over, phase_in, output_on, taken_by, taken_from}
-use Rattle.stream_laws.proofs.Ordered.{LooksAt}
 use Rattle.stream_laws.proofs.ListsAbove.{numbers_all}
 use Rattle.stream_laws.proofs.ListLengths.{length-numbers, outputs_long}
 use Rattle.graph_moments.specs.Moments.{Moment, input_at, taken_now, made_now, limits_at, value_at, PhaserRan, TaskRan, MayEnd, at_until, no_sample, no_input, OnInput, TakenOn, Joined, HasExchanged, first_input}

@@ -25,10 +25,10 @@ use Rattle.graph_base.specs.declared.line.Kind.TheVariants.{Source, Fir, Split, 
 use Rattle.graph_base.specs.Graphs.{task_at, phaser_at}
 use Rattle.graph_base.specs.TaskLines.{IsGraph, IsTaskLine, HasEnds, is_distinct}
 use Rattle.stream_lists.specs.Jobs.{Job, samples_at, place_in}
-use Rattle.stream_lists.specs.Spans.{spans_of, lengths_of, span_in, takes_from, signalled_by, puts_on}
+use Rattle.stream_lists.specs.Spans.{spans_of, lengths_of, span_in, takes_from, signalled_by, puts_on, LooksAt}
 use Rattle.stream_lists.specs.Lists.{members_of, sends_in, numbers_of, output_on, phase_in, sinks_of, number}
 use Rattle.stream_lists.specs.Ranges.{Where, is_out_of_range, are_made, takes_phase, task_takes, is_taken, is_too_big, first_too_big, Fits, answer_of}
-use Rattle.stream_laws.proofs.Ordered.{LooksAt, place-at}
+use Rattle.stream_laws.proofs.Ordered.{place-at}
 use Rattle.graph_moments.specs.Agreeing.{one}
 use Rattle.graph_moments.specs.Moments.{Moment, HasRun, TaskRan, HasEnded, IsRegistered, IsOver, OnOutput, OnInput, OnPhaser, PutOn, TakenOn, HasMetNone, input_at, taken_now, made_now, limits_at, value_at, HasExchanged}
 use Rattle.graph_base.specs.declared.place.Place.TheVariants as place

@@ -13,9 +13,9 @@ use Rattle.graph_base.specs.Graphs.{Task, task_at}
 use Rattle.graph_base.specs.TaskLines.{IsGraph, IsTaskLine, IsParent, has_children}
 use Rattle.stream_lists.specs.declared.span.Span.{Span}
 use Rattle.stream_lists.specs.Jobs.{Job, samples_at, place_in}
-use Rattle.stream_lists.specs.Spans.{signalled_by, spans_of, lengths_of, span_at, span_in, offset_of, puts_on}
+use Rattle.stream_lists.specs.Spans.{signalled_by, spans_of, lengths_of, span_at, span_in, offset_of, puts_on, LooksAt}
 use Rattle.stream_lists.specs.Lists.{numbers_of, output_on}
-use Rattle.stream_laws.proofs.Ordered.{LooksAt, looks-first, looked_above, place-at, parent_signals}
+use Rattle.stream_laws.proofs.Ordered.{looks-first, looked_above, place-at, parent_signals}
 use Rattle.stream_lists.proofs.SpansAbove.{parent-is, spans_all}
 use Rattle.graph_moments.specs.Agreeing.{one, IsAwaited}
 use Rattle.graph_moments.specs.Moments.{Moment, input_at, made_now, taken_now, limits_at, TaskRan, HasEnded, OnOutput, PutOn, SilentOn, OnPhaser, IsChild, OnLine, HasNotPassed, Joined, IsRegistered, HasRun, IsOver, OnInput, TakenOn}

@@ -1,6 +1,6 @@
 -- How far each task comes, and how long the list of each phaser is. Both follow from the lines and
 -- from the numbers of the samples alone.
-use Rattle.std.specs.Prelude.{ℕ, ◌+◌, ◌-◌, ◌*◌, ◌/◌, true, false, ◌&&◌, List, [], ◌∷◌, ◌++◌, length, map, Option, Some, None, get_or, nat_le, if◌then◌else◌, min, max}
+use Rattle.std.specs.Prelude.{◌≡◌, ℕ, zero, suc, ◌+◌, ◌-◌, ◌*◌, ◌/◌, true, false, ◌&&◌, List, [], ◌∷◌, ◌++◌, length, map, Option, Some, None, get_or, nat_le, if◌then◌else◌, min, max}
 use Rattle.std.specs.List.{range_with_len, fold}
 use Rattle.graph_base.specs.Graphs.{Graph, Task, task_at}
 use Rattle.stream_lists.specs.Jobs.{Job, samples_at, place_in}
@@ -26,6 +26,13 @@ signalled_by task = of task.kind
     of : Kind → List ℕ
     of Peer = get_or task.inputs 1 0 ∷ get_or task.outputs 0 0 ∷ []
     of kind = task.outputs
+
+-- output number j looks at input number k: a peer's E at X alone, each other output at all inputs.
+-- What the steps of a task look at is what output 0 does
+abbrev pub LooksAt : Kind → ℕ → ℕ → Type 0
+LooksAt Peer zero k = k ≡ 0
+LooksAt Peer (suc j) k = Unit {0}
+LooksAt kind j k = Unit {0}
 
 -- how many values so many steps put on output number j: of a splitter's outputs each has its turn
 abbrev pub puts_on : Task → ℕ → ℕ → ℕ
