@@ -15,6 +15,8 @@ mod graphs;
 #[cfg(test)]
 mod jobs;
 #[cfg(test)]
+mod registrations;
+#[cfg(test)]
 mod samples;
 #[cfg(test)]
 mod streams;
