@@ -16,6 +16,7 @@ mod graphs;
 mod jobs;
 #[cfg(test)]
 mod lists;
+mod registrations;
 #[cfg(test)]
 mod samples;
 #[cfg(test)]
