@@ -16,6 +16,7 @@ mod graphs;
 mod jobs;
 #[cfg(test)]
 mod lists;
+#[cfg(test)]
 mod registrations;
 #[cfg(test)]
 mod samples;
