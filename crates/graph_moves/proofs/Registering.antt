@@ -618,7 +618,7 @@ register_keeps job before after t p n c a mode u is there s ran = record {
           signals = s.signals j place;
           at = parent_out j place ∙ sym (s.same c).offset;
           sent = ap (λ g. sent_by g a) s.here ∙ none_sent
-              ∙ ap (λ l. map one l) (sym ((s.same c).put j ∙ s.nothing_put j));
+              ∙ ap (λ l. map one l) (sym ((s.same c).put j ∙ s.nothing_put j place));
           left = λ gone.
               absurd (let f : true ≡ false =
               sym gone ∙ ap (λ g. has_dropped g a) s.here ∙ unused.stays in cc);
@@ -679,7 +679,7 @@ register_keeps job before after t p n c a mode u is there s ran = record {
           start_is = subst A (sym s.here) start_here;
           waits = s.waits k lt at;
           at = (parent_in k lt at).0 ∙ sym (s.same c).offset;
-          taken = (s.same c).taken k ∙ s.nothing_taken k
+          taken = (s.same c).taken k ∙ s.nothing_taken k lt at
               ∙ ap (λ l. map number l)
               (sym (ap (λ g. received_by (value_at job p) g a) s.here ∙ unused.received));
           left = λ gone.
