@@ -16,8 +16,8 @@ use Rattle.graph_base.specs.declared.line.Kind.TheVariants.{Source, Fir, Split, 
 use Rattle.graph_base.specs.declared.line.Parent.{Parent}
 use Rattle.graph_base.specs.Graphs.{Task, task_at, phaser_at}
 use Rattle.graph_base.specs.TaskLines.{IsGraph}
-use Rattle.stream_job.specs.Jobs.{Job, samples_at, place_in}
-use Rattle.stream_job.specs.Spans.{signalled_by, takes_from}
+use Rattle.stream_lists.specs.Jobs.{Job, samples_at, place_in}
+use Rattle.stream_lists.specs.Spans.{signalled_by, takes_from}
 use Rattle.stream_laws.proofs.Ordered.{place-at}
 use Rattle.graph_moments.specs.Moments.{Moment, HasRun, limits_at, value_at, input_at, made_now, first_input, OnLine, AtMost, HasSamples, HasExchanged, HasEnded, MayEnd, at_until, no_sample, no_input, RanOut}
 use Rattle.graph_moments.proofs.OnLines.{on_phaser}

@@ -11,8 +11,8 @@ use Rattle.phase_history.specs.Legal.{IsLegal}
 use Rattle.phase_history.specs.Others.{IsUsed}
 use Rattle.graph_base.specs.Graphs.{task_at, phaser_at}
 use Rattle.graph_base.specs.TaskLines.{IsGraph, IsPhaserLine}
-use Rattle.stream_job.specs.Jobs.{Job, place_in}
-use Rattle.stream_job.specs.Spans.{signalled_by}
+use Rattle.stream_lists.specs.Jobs.{Job, place_in}
+use Rattle.stream_lists.specs.Spans.{signalled_by}
 use Rattle.graph_moments.specs.Moments.{Moment, limits_at, input_at, OnLine}
 use Rattle.graph_moments.proofs.OnLines.{on_phaser}
 use Rattle.graph_moves.specs.Openings.{IsOpening, PhaserOpened, TaskOpened, HasOpened}

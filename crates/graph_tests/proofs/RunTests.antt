@@ -2,7 +2,7 @@
 use Rattle.std.proofs.Common.{◌≡◌, ℕ, Bool, true, ◌&&◌, List, [], ◌∷◌}
 use Rattle.std.proofs.lemmas.Bool.{and_parts}
 use Rattle.graph_base.specs.TaskLines.{IsGraph}
-use Rattle.stream_job.specs.Jobs.{Job}
+use Rattle.stream_lists.specs.Jobs.{Job}
 use Rattle.graph_moments.specs.Moments.{Moment, HasRun}
 use Rattle.graph_moves.proofs.Turned.{next_sample_keeps, next_signal_keeps, first_wait_keeps, exchange_wait_keeps, next_leave_keeps, next_child_keeps}
 use Rattle.graph_tests.specs.Runs.{Turn, sample, signal, first_wait, exchange_wait, leave, child, after_turn, IsNext, HasRunThrough, after_all}

@@ -4,7 +4,7 @@ use Rattle.phase_base.specs.declared.mode.Mode.{Mode}
 use Rattle.phase_accum.specs.declared.outcome.Outcome.{Outcome}
 use Rattle.phase_history.specs.Histories.{History}
 use Rattle.graph_base.specs.declared.line.Parent.{Parent}
-use Rattle.stream_job.specs.Jobs.{Job}
+use Rattle.stream_lists.specs.Jobs.{Job}
 use Rattle.graph_moments.specs.Moments.{Moment, HasRun}
 use Rattle.graph_moves.specs.Turned.{after_signal, after_wait, after_leave, after_register}
 use Rattle.graph_moves.specs.Turned.{IsNextSample, IsNextSignal, IsFirstWait, IsExchangeWait, IsNextLeave, IsNextChild}
