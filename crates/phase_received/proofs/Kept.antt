@@ -1,11 +1,27 @@
 -- What a registration has received, where its number stayed.
 use Rattle.std.proofs.Common.{◌≡◌, List, ap, ◌∙◌}
+use Rattle.std.specs.Prelude.{Result, Ok, Err}
+use Rattle.phase_base.specs.declared.mode.Mode.{Mode}
 use Rattle.phase_accum.specs.Operations.{Operation}
 use Rattle.phase_accum.specs.declared.outcome.Outcome.{Outcome}
 use Rattle.phase_history.specs.Phases.{received_by}
+use Rattle.phase_history.specs.declared.refusal.RegisterRefusal.{RegisterRefusal}
 use Rattle.phase_shared.specs.Regs.{RegState}
+use Rattle.phase_shared.specs.Calls.{Registers}
+use Rattle.phase_shared.proofs.PartSteps.{parent_stays, refused_register}
 use Rattle.phase_received.specs.Received.{received_of}
 
 pub received_now : {A K : Type 0} (op : Operation A) (old new : RegState A K) (list : List Outcome) → new.number ≡ old.number
     → received_by op.value new.seen old.number ≡ list → received_of op new ≡ list
 received_now op old new list number is = ap (λ n. received_by op.value new.seen n) number ∙ is
+
+-- a registration adds nothing to what its parent has received
+pub received_by_parent : {A K : Type 0} (op : Operation A) (mode : Mode) (old new : RegState A K)
+    (answer : Result (RegState A K) RegisterRefusal) → Registers op mode old new answer
+    → new.number ≡ old.number → received_of op new ≡ received_of op old
+received_by_parent op mode old new (Ok child) is number =
+    received_now op old new (received_of op old) number
+    ((parent_stays old.number child.number mode old.seen new.seen is.registered).received op.value)
+received_by_parent op mode old new (Err refusal) is number =
+    received_now op old new (received_of op old) number
+    ((refused_register old.number mode old.seen new.seen refusal is).received op.value)

@@ -1,5 +1,5 @@
 //! A registration with all that it got.
-ghost use Rattle.std.specs.Prelude.{◌≡◌, ◌≢◌, ◌↔◌, ◌<◌, ◌+◌, ℤ, List, [], ◌∷◌, ◌++◌, Some, Err, IfOk, IfErr, OnOk, OnErr, true, false};
+ghost use Rattle.std.specs.Prelude.{◌≡◌, ◌≢◌, ◌↔◌, ◌<◌, ◌+◌, ℤ, List, [], ◌∷◌, ◌++◌, Some, Err, IfOk, OnOk, OnErr, true, false, is_ok, ◌&&◌};
 ghost use Rattle.std.specs.Vec.{vec_len, vec_capacity};
 ghost use Rattle.phase_base.specs.Modes.{mode_signals};
 ghost use Rattle.phase_base.specs.declared.limits.TheConstants.{SENDS_MAX};
@@ -8,11 +8,13 @@ ghost use Rattle.phase_accum.specs.Parcels.{StandsForSends};
 ghost use Rattle.phase_history.specs.Phases.{received_by};
 ghost use Rattle.phase_shared.specs.Rule.{IsGoodAt};
 ghost use Rattle.phase_shared.specs.Regs.{phaser_place, phaser_terms, phaser_limits};
-ghost use Rattle.phase_shared.specs.Calls.{Signals, Waits, MaySignal, Leaves};
-ghost use Rattle.phase_shared.specs.Calls.{HasRegistered, RefusesRegister};
-ghost use Rattle.phase_shared.specs.Nexts.{GoesNext, RefusesNext};
+ghost use Rattle.phase_shared.specs.Calls.{IsCall, Signals, Waits, Registers};
+ghost use Rattle.phase_shared.specs.Calls.{MaySignal, Leaves, HeldAfter};
+ghost use Rattle.phase_shared.specs.Entries.{entry_stays, entry_after_signal};
+ghost use Rattle.phase_shared.specs.Entries.{entry_after_wait, entry_after_next};
+ghost use Rattle.phase_shared.specs.Nexts.{GoesOrRefuses};
 ghost use Rattle.phase_shared.specs.Parts.{with_got, with_any};
-ghost use Rattle.phase_received.specs.Received.{received_of, Receives, Declines};
+ghost use Rattle.phase_received.specs.Received.{received_of, Receives};
 ghost use Rattle.phase_received.specs.Whole.{HasSeenEnd, HasWhole};
 
 use crate::fault::ReceiveFault;
@@ -128,17 +130,14 @@ impl<A: Accumulate, K: SignalRule> Receiver<A, K> {
         requires rule { MaySignal A.operation K.allows (phaser_terms phaser.now) self.old single }
 
         ensures call { let old = self.old in
-            Signals A.operation (phaser_limits phaser.now) old.number old.held single old.seen
-            self.new.seen result }
+            IsCall K.allows (phaser_terms phaser.now) SignalRefusal.NoTask entry_after_signal
+            (Signals A.operation (phaser_limits phaser.now) old.number old.held single old.seen
+            self.new.seen result) old self.new result }
+        ensures waited { result ≢ Err SignalRefusal.Ahead }
         ensures received { received_of A.operation self.new ≡ received_of A.operation self.old }
-        ensures at { (self.new.at ≡ self.old.at) × (self.new.number ≡ self.old.number) }
-        ensures good { IsGoodAt K.allows (phaser_terms phaser.now) self.new.seen }
-
         ensures none_held { OnOk result
             (StandsForSends A.operation self.new.held [] × (self.new.held.count ≡ 0)) }
         ensures held { OnErr result (self.new.held ≡ self.old.held) }
-        ensures known { result ≢ Err SignalRefusal.NoTask }
-        ensures waited { result ≢ Err SignalRefusal.Ahead }
     {
         phase_shared::laws::signals::<A>();
         self.reg.signal(rt, phaser, single)
@@ -153,23 +152,21 @@ impl<A: Accumulate, K: SignalRule> Receiver<A, K> {
     ) -> Result<Got, ReceiveFault<WaitRefusal>>
         requires at { self.old.at ≡ phaser_place phaser.now }
 
-        ensures call { let old = self.old in Receives (self.new ≡ old)
-            (Waits A.operation.value (phaser_limits phaser.now) old.number old.seen self.new.seen)
+        ensures call { let old = self.old in
+            IsCall K.allows (phaser_terms phaser.now) (ReceiveFault.Refused WaitRefusal.NoTask)
+            entry_after_wait (Receives (self.new ≡ old) (Waits A.operation.value
+            (phaser_limits phaser.now) old.number old.seen self.new.seen) result) old self.new
             result }
+        ensures waited { result ≢ Err (ReceiveFault.Refused WaitRefusal.NotYet) }
         ensures got { IfOk result (λ got. received_of A.operation self.new
             ≡ with_got (received_of A.operation self.old) got) }
         ensures ended { IfOk result (λ got. got ≡ Got.Ended
             → HasSeenEnd self.new.seen self.new.number) }
-        ensures at { (self.new.at ≡ self.old.at) × (self.new.number ≡ self.old.number) }
-
         ensures held { self.new.held ≡ self.old.held }
-        ensures good { IfOk result (λ got.
-            IsGoodAt K.allows (phaser_terms phaser.now) self.new.seen) }
-        ensures known { result ≢ Err (ReceiveFault.Refused WaitRefusal.NoTask) }
-        ensures waited { result ≢ Err (ReceiveFault.Refused WaitRefusal.NotYet) }
     {
         phase_shared::laws::waits();
         if self.values.reserve(1).is_err() {
+            self.reg.look();
             return Err(ReceiveFault::OutOfMemory);
         }
         let got = match self.reg.wait(rt, phaser) {
@@ -195,23 +192,20 @@ impl<A: Accumulate, K: SignalRule> Receiver<A, K> {
         requires rule { mode_signals self.old.entry.mode ≡ true
             → MaySignal A.operation K.allows (phaser_terms phaser.now) self.old single }
 
-        ensures ok { IfOk result (GoesNext A.operation (phaser_limits phaser.now) single self.old
-            self.new.seen) }
+        ensures call { let old = self.old in
+            IsCall K.allows (phaser_terms phaser.now) (ReceiveFault.Refused SignalRefusal.NoTask)
+            entry_after_next (Receives (self.new ≡ old) (GoesOrRefuses A.operation
+            (phaser_limits phaser.now) single old self.new.seen) result) old self.new result }
+        ensures waited { result ≢ Err (ReceiveFault.Refused SignalRefusal.Ahead) }
         ensures got { IfOk result (λ next. received_of A.operation self.new
             ≡ with_any (received_of A.operation self.old) next.got) }
-        ensures at { (self.new.at ≡ self.old.at) × (self.new.number ≡ self.old.number) }
-        ensures good { IfOk result (λ next.
-            IsGoodAt K.allows (phaser_terms phaser.now) self.new.seen) }
-
-        ensures none_held { OnOk result (mode_signals self.old.entry.mode ≡ true
-            → StandsForSends A.operation self.new.held [] × (self.new.held.count ≡ 0)) }
-        ensures held { OnErr result (self.new.held ≡ self.old.held) }
-        ensures err { IfErr result (Declines (self.new ≡ self.old)
-            (RefusesNext A.operation (phaser_limits phaser.now) single self.old self.new.seen
-            (mode_signals self.old.entry.mode))) }
+        // A registration that does not signal keeps what it holds.
+        ensures held { HeldAfter A.operation (is_ok result && mode_signals self.old.entry.mode)
+            self.old.held self.new.held }
     {
         phase_shared::laws::goes_next::<A, K>();
         if self.values.reserve(1).is_err() {
+            self.reg.look();
             return Err(ReceiveFault::OutOfMemory);
         }
         let next = match self.reg.next(rt, phaser, single) {
@@ -235,21 +229,11 @@ impl<A: Accumulate, K: SignalRule> Receiver<A, K> {
     ) -> Result<Receiver<A, K>, RegisterRefusal>
         requires at { parent.old.at ≡ phaser_place phaser.now }
 
-        ensures ok { IfOk result (λ child.
-            HasRegistered parent.old.number child.number mode parent.old.seen parent.new.seen) }
-        ensures child { IfOk result (λ child.
-            (child.at ≡ parent.old.at) × (child.seen ≡ parent.new.seen)
-            × (received_of A.operation child ≡ [])) }
-        ensures none_held { IfOk result (λ child.
-            StandsForSends A.operation child.held [] × (child.held.count ≡ 0)) }
-        ensures at { (parent.new.at ≡ parent.old.at) × (parent.new.number ≡ parent.old.number) }
-
-        ensures same { (parent.new.entry ≡ parent.old.entry)
-            × (parent.new.held ≡ parent.old.held) }
-        ensures good { IsGoodAt K.allows (phaser_terms phaser.now) parent.new.seen }
-        ensures err { IfErr result
-            (RefusesRegister parent.old.number mode parent.old.seen parent.new.seen) }
-        ensures known { result ≢ Err RegisterRefusal.NoTask }
+        ensures call { let old = parent.old in
+            IsCall K.allows (phaser_terms phaser.now) RegisterRefusal.NoTask entry_stays
+            (Registers A.operation mode old parent.new result) old parent.new result }
+        ensures child { IfOk result (λ child. received_of A.operation child ≡ []) }
+        ensures held { parent.new.held ≡ parent.old.held }
     {
         phase_shared::laws::registers();
         let reg = match parent.register(rt, phaser, mode) {
@@ -274,21 +258,12 @@ impl<A: Accumulate, K: SignalRule> Receiver<A, K> {
     ) -> Result<Receiver<A, K>, RegisterRefusal>
         requires at { self.old.at ≡ phaser_place phaser.now }
 
-        ensures ok { IfOk result (λ child.
-            HasRegistered self.old.number child.number mode self.old.seen self.new.seen) }
-        ensures child { IfOk result (λ child.
-            (child.at ≡ self.old.at) × (child.seen ≡ self.new.seen)
-            × (received_of A.operation child ≡ [])) }
-        ensures none_held { IfOk result (λ child.
-            StandsForSends A.operation child.held [] × (child.held.count ≡ 0)) }
+        ensures call { let old = self.old in
+            IsCall K.allows (phaser_terms phaser.now) RegisterRefusal.NoTask entry_stays
+            (Registers A.operation mode old self.new result) old self.new result }
+        ensures child { IfOk result (λ child. received_of A.operation child ≡ []) }
         ensures received { received_of A.operation self.new ≡ received_of A.operation self.old }
-
-        ensures at { (self.new.at ≡ self.old.at) × (self.new.number ≡ self.old.number)
-            × (self.new.entry ≡ self.old.entry) × (self.new.held ≡ self.old.held) }
-        ensures good { IsGoodAt K.allows (phaser_terms phaser.now) self.new.seen }
-        ensures err { IfErr result
-            (RefusesRegister self.old.number mode self.old.seen self.new.seen) }
-        ensures known { result ≢ Err RegisterRefusal.NoTask }
+        ensures held { self.new.held ≡ self.old.held }
     {
         phase_shared::laws::registers();
         Receiver::child_of(rt, alloc, phaser, &mut self.reg, mode)

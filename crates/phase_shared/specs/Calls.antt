@@ -1,7 +1,9 @@
 -- What each call answers, and how the history that its task has seen goes on: by events of others,
 -- up to the moment of the call, and then by the call's own event, where it makes one.
-use Rattle.std.specs.Prelude.{◌≡◌, ℕ, ℤ, Bool, true, false, List, [], ◌∷◌, Option, Result, Ok, Err, None, Some, min, ◌+◌, ◌-◌, ◌^◌}
+use Rattle.std.specs.Prelude.{◌≡◌, ◌≢◌, ℕ, ℤ, Bool, true, false, List, [], ◌∷◌, Option, Result, Ok, Err, None, Some, min, ◌+◌, ◌-◌, ◌^◌}
+use Rattle.std.specs.Result.{result_ok}
 use Rattle.phase_base.specs.Limits.{Limits}
+use Rattle.phase_base.specs.declared.entry.Entry.{Entry}
 use Rattle.phase_base.specs.declared.mode.Mode.{Mode}
 use Rattle.phase_accum.specs.Operations.{Operation}
 use Rattle.phase_accum.specs.Parcels.{Parcel, StandsForSends}
@@ -16,7 +18,8 @@ use Rattle.phase_history.specs.declared.refusal.WaitRefusal.{WaitRefusal}
 use Rattle.phase_history.specs.Histories.{History, greatest_used}
 use Rattle.phase_history.specs.Refusals.{register_refusal}
 use Rattle.phase_history.specs.Replies.{signal_reply, after_signal, wait_reply, after_wait}
-use Rattle.phase_history.specs.Others.{OthersCame}
+use Rattle.phase_history.specs.Histories.{entry_at}
+use Rattle.phase_history.specs.Others.{OnlyUsed, OthersCame}
 use Rattle.phase_shared.specs.declared.view.View.{View}
 use Rattle.phase_shared.specs.declared.rule.Terms.{Terms}
 use Rattle.phase_shared.specs.declared.refusal.Tried.{Tried}
@@ -34,6 +37,32 @@ Refuses same call (Refused refusal) = call refusal
 abbrev pub Tries : {X R : Type 0} → Type 0 → (Result X R → Type 0) → Result X (Tried R) → Type 0
 Tries same call (Ok answer) = call (Ok answer)
 Tries same call (Err tried) = Refuses same (λ refusal. call (Err refusal)) tried
+
+-- a try of a registration, of which `answered` says what it answered and what was seen by it. It
+-- stays on its phaser, under its number and in its mode, and has seen a good history; it stands
+-- where `after` says; it is never answered that it is no member, nor, where it is the only one that
+-- it has seen, that the turn was another's
+pub record IsTry {A K X R : Type 0} (allows : K → Allows) (terms : Terms K) (no_task : R)
+    (after : Option X → Entry → Entry) (answered : Type 0) (old new : RegState A K)
+    (result : Result X (Tried R)) : Type 0 where
+  pub call : answered
+  pub entry : new.entry ≡ after (result_ok result) old.entry
+  pub mode : new.entry.mode ≡ old.entry.mode
+  pub at : (new.at ≡ old.at) × (new.number ≡ old.number)
+  pub good : IsGoodAt allows terms new.seen
+  pub known : result ≢ Err (Refused no_task)
+  pub alone : OnlyUsed (old.number ∷ []) old.seen → result ≢ Err Busy
+
+-- a call of a registration that may wait, in the same way
+pub record IsCall {A K X E : Type 0} (allows : K → Allows) (terms : Terms K) (no_task : E)
+    (after : Option X → Entry → Entry) (answered : Type 0) (old new : RegState A K)
+    (result : Result X E) : Type 0 where
+  pub call : answered
+  pub entry : new.entry ≡ after (result_ok result) old.entry
+  pub mode : new.entry.mode ≡ old.entry.mode
+  pub at : (new.at ≡ old.at) × (new.number ≡ old.number)
+  pub good : IsGoodAt allows terms new.seen
+  pub known : result ≢ Err no_task
 
 -- a signal: events of others, and there the definition's answer, with sends that the task holds;
 -- then the signal's event, where it was accepted
@@ -79,6 +108,16 @@ pub record HasRegistered (me child : ℕ) (mode : Mode) (old new : History) : Ty
   pub reply : register_refusal before me child mode ≡ None
   pub next : child ≡ greatest_used before + 1
 
+-- the child of an accepted registration, whose parent has then seen this: it is on the parent's
+-- phaser and at the parent's phases, has seen what the parent has, and holds nothing
+pub record IsChild {A K : Type 0} (op : Operation A) (mode : Mode) (old new child : RegState A K)
+    : Type 0 where
+  pub registered : HasRegistered old.number child.number mode old.seen new.seen
+  pub at : child.at ≡ old.at
+  pub seen : child.seen ≡ new.seen
+  pub entry : child.entry ≡ entry_at mode old.entry.signal_phase old.entry.wait_phase
+  pub none_held : StandsForSends op child.held [] × (child.held.count ≡ 0)
+
 -- a refused registration: events of others, and there the definition's refusal, or want of memory
 -- where the definition accepts
 abbrev pub RefusesRegister : ℕ → Mode → History → History → RegisterRefusal → Type 0
@@ -86,6 +125,13 @@ RefusesRegister me mode old new register.OutOfMemory =
     OthersCame (me ∷ []) old new × (register_refusal new me (next_child new) mode ≡ None)
 RefusesRegister me mode old new refusal =
     OthersCame (me ∷ []) old new × (register_refusal new me (next_child new) mode ≡ Some refusal)
+
+-- a registration: a child, or the refusal
+abbrev pub Registers : {A K : Type 0} → Operation A → Mode → RegState A K → RegState A K
+    → Result (RegState A K) RegisterRefusal → Type 0
+Registers op mode old new (Ok child) = IsChild op mode old new child
+Registers op mode old new (Err refusal) =
+    RefusesRegister old.number mode old.seen new.seen refusal
 
 -- a drop: events of others, and then its event
 pub record Leaves (me : ℕ) (old new : History) : Type 0 where

@@ -16,6 +16,10 @@ phase_after_wait (Some (Value phase outcome)) w = w + 1
 phase_after_wait (Some Ended) w = w
 phase_after_wait None w = w
 
+-- where it stood, whatever was answered
+abbrev pub entry_stays : {X : Type 0} → Option X → Entry → Entry
+entry_stays answer entry = entry
+
 -- after a signal, where there was one
 abbrev pub entry_after_signal : Option ℕ → Entry → Entry
 entry_after_signal signalled entry =

@@ -4,5 +4,6 @@ pub mod Calls
 pub mod Regs
 pub mod Entries
 pub mod Nexts
+pub mod Puts
 pub mod OneSends
 pub mod Parts

@@ -62,3 +62,10 @@ RefusesNext op limits single old new true refusal =
     Signals op limits old.number old.held single old.seen new (Err refusal)
 RefusesNext op limits single old new false refusal =
     (refusal ≡ signal.NotSingle) × IsSome single × (new ≡ old.seen)
+
+-- a next phase, or its refusal
+abbrev pub GoesOrRefuses : {A K : Type 0} → Operation A → Limits → Option Single → RegState A K
+    → History → Result Next SignalRefusal → Type 0
+GoesOrRefuses op limits single old new (Ok next) = GoesNext op limits single old new next
+GoesOrRefuses op limits single old new (Err refusal) =
+    RefusesNext op limits single old new (mode_signals old.entry.mode) refusal

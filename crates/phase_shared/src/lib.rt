@@ -110,6 +110,7 @@ pub mod one_send;
 mod past;
 mod phaser;
 mod plays;
+mod putting;
 mod refusal;
 mod reg;
 mod rule;

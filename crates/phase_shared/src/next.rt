@@ -1,12 +1,11 @@
 //! A registration's next phase, by one call.
-ghost use Rattle.std.specs.Prelude.{◌≡◌, ◌≢◌, true, Some, Ok, Err, IfOk, IfErr, is_ok, ◌&&◌};
-ghost use Rattle.std.specs.Result.{result_ok};
+ghost use Rattle.std.specs.Prelude.{◌≡◌, ◌≢◌, true, Some, Ok, Err, is_ok, ◌&&◌};
 ghost use Rattle.phase_base.specs.Modes.{mode_signals, mode_waits};
 ghost use Rattle.phase_shared.specs.Rule.{IsGoodAt};
 ghost use Rattle.phase_shared.specs.Regs.{phaser_place, phaser_terms, phaser_limits};
-ghost use Rattle.phase_shared.specs.Calls.{Waits, MaySignal, HeldAfter};
+ghost use Rattle.phase_shared.specs.Calls.{IsCall, Waits, MaySignal, HeldAfter};
 ghost use Rattle.phase_shared.specs.Entries.{entry_after_wait, entry_after_next};
-ghost use Rattle.phase_shared.specs.Nexts.{GoesNext, RefusesNext};
+ghost use Rattle.phase_shared.specs.Nexts.{GoesOrRefuses};
 
 use crate::phaser::Phaser;
 use crate::reg::Reg;
@@ -40,19 +39,14 @@ impl<A: Accumulate, K: SignalRule> Reg<A, K> {
         requires rule { mode_signals self.old.entry.mode ≡ true
             → MaySignal A.operation K.allows (phaser_terms phaser.now) self.old single }
 
-        ensures ok { IfOk result (GoesNext A.operation (phaser_limits phaser.now) single self.old
-            self.new.seen) }
-        ensures entry { self.new.entry ≡ entry_after_next (result_ok result) self.old.entry }
+        ensures call { let old = self.old in
+            IsCall K.allows (phaser_terms phaser.now) SignalRefusal.NoTask entry_after_next
+            (GoesOrRefuses A.operation (phaser_limits phaser.now) single old self.new.seen result)
+            old self.new result }
+        ensures waited { result ≢ Err SignalRefusal.Ahead }
         // A registration that does not signal keeps what it holds.
         ensures held { HeldAfter A.operation (is_ok result && mode_signals self.old.entry.mode)
             self.old.held self.new.held }
-        ensures at { (self.new.at ≡ self.old.at) × (self.new.number ≡ self.old.number) }
-        ensures good { IsGoodAt K.allows (phaser_terms phaser.now) self.new.seen }
-
-        ensures err { IfErr result (RefusesNext A.operation (phaser_limits phaser.now) single
-            self.old self.new.seen (mode_signals self.old.entry.mode)) }
-        ensures known { result ≢ Err SignalRefusal.NoTask }
-        ensures waited { result ≢ Err SignalRefusal.Ahead }
     {
         if !self.mode().signals() {
             if single.is_some() {

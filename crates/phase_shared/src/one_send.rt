@@ -1,14 +1,12 @@
 //! A rule as an example: every signal has exactly one send.
-ghost use Rattle.std.specs.Prelude.{◌≡◌, ◌≢◌, [], ◌∷◌, true, Err, OnOk, OnErr};
-ghost use Rattle.std.specs.Result.{result_ok};
+ghost use Rattle.std.specs.Prelude.{◌≡◌, ◌≢◌, [], ◌∷◌, true, None, OnOk, OnErr};
 ghost use Rattle.phase_base.specs.Modes.{mode_signals};
 ghost use Rattle.phase_accum.specs.declared.outcome.TheConstants.{NO_VALUE};
 ghost use Rattle.phase_accum.specs.Parcels.{StandsForSends};
-ghost use Rattle.phase_history.specs.Others.{OnlyUsed};
-ghost use Rattle.phase_shared.specs.Calls.{Tries};
+ghost use Rattle.phase_shared.specs.Calls.{IsTry, Tries};
 ghost use Rattle.phase_shared.specs.Entries.{entry_after_signal};
-ghost use Rattle.phase_shared.specs.OneSends.{allows_one_send, SignalsValue};
-ghost use Rattle.phase_shared.specs.Rule.{IsGoodAt};
+ghost use Rattle.phase_shared.specs.OneSends.{allows_one_send};
+ghost use Rattle.phase_shared.specs.Puts.{SignalsValue};
 ghost use Rattle.phase_shared.specs.Regs.{phaser_place, phaser_terms, phaser_limits};
 
 use crate::phaser::Phaser;
@@ -37,23 +35,14 @@ pub fn try_signal_value<A: Accumulate>(
     requires value { value ≢ NO_VALUE }
     requires none_held { reg.old.held.count ≡ 0 }
 
-    ensures call { let old = reg.old in Tries (reg.new.seen ≡ old.seen)
-        (SignalsValue (phaser_limits phaser.now) old.number value old.seen reg.new.seen) result }
-    ensures entry { reg.new.entry ≡ entry_after_signal (result_ok result) reg.old.entry }
-    ensures at { (reg.new.at ≡ reg.old.at) × (reg.new.number ≡ reg.old.number) }
     // Every signal that it has seen, of whichever task, had one send.
-    ensures good { IsGoodAt allows_one_send (phaser_terms phaser.now) reg.new.seen }
+    ensures call { let old = reg.old in
+        IsTry allows_one_send (phaser_terms phaser.now) SignalRefusal.NoTask entry_after_signal
+        (Tries (reg.new.seen ≡ old.seen) (SignalsValue (phaser_limits phaser.now) old.number value
+        None old.seen reg.new.seen) result) old reg.new result }
     ensures none_held { OnOk result
         (StandsForSends A.operation reg.new.held [] × (reg.new.held.count ≡ 0)) }
-
     ensures held { OnErr result (StandsForSends A.operation reg.new.held (value ∷ [])) }
-    ensures known { result ≢ Err (Tried.Refused SignalRefusal.NoTask) }
-    // Where it is the only one that it has seen, nobody is in its way.
-    ensures alone { OnlyUsed (reg.old.number ∷ []) reg.old.seen → result ≢ Err Tried.Busy }
 {
-    let _none = reg.pending();
-    let Ok(()) = reg.send(value) else {
-        unreachable!()
-    };
-    reg.try_signal(phaser, None)
+    reg.try_put(phaser, value, None)
 }

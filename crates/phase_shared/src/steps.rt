@@ -1,7 +1,7 @@
 //! The steps of a seat at rest that speaks for one task. Each call of a registration is one.
-ghost use Rattle.std.specs.Prelude.{◌≡◌, ◌≢◌, ℕ, ℤ, List, [], ◌∷◌, true, false, Ok, Err, IfOk, IfErr, IsOk, IsErr};
+ghost use Rattle.std.specs.Prelude.{◌≡◌, ◌≢◌, ℤ, List, [], ◌∷◌, true, false, Ok, Err, IfOk, IfErr, IsOk, IsErr};
 ghost use Rattle.std.specs.Result.{result_ok};
-ghost use Rattle.turn_lock.specs.Seats.{lock_name, IsSeatOf, IsTurnOf, IsSameSeat};
+ghost use Rattle.turn_lock.specs.Seats.{IsSeatOf, IsTurnOf, IsSameSeat};
 ghost use Rattle.turn_lock.specs.Seats.{seat_view, turn_number, turn_view, turn_value};
 ghost use Rattle.turn_lock.specs.Steps.{Gives};
 ghost use Rattle.phase_accum.specs.Parcels.{StandsForSends};

@@ -2,13 +2,13 @@
 ghost use Rattle.std.specs.Prelude.{◌≡◌, ◌≢◌, [], ◌∷◌, Err, IfOk, IfErr, IsOk, OnOk, OnErr};
 ghost use Rattle.std.specs.Result.{result_ok};
 ghost use Rattle.phase_accum.specs.Parcels.{StandsForSends};
-ghost use Rattle.phase_history.specs.Histories.{entry_at};
 ghost use Rattle.phase_history.specs.Others.{OnlyUsed, OthersCame};
 ghost use Rattle.phase_shared.specs.Rule.{IsGoodAt};
 ghost use Rattle.phase_shared.specs.Regs.{phaser_place, phaser_terms, phaser_limits};
-ghost use Rattle.phase_shared.specs.Calls.{Tries, Refuses, Signals, Waits, MaySignal, Leaves};
-ghost use Rattle.phase_shared.specs.Calls.{HasRegistered, RefusesRegister};
-ghost use Rattle.phase_shared.specs.Entries.{entry_after_signal, entry_after_wait, entry_after_both};
+ghost use Rattle.phase_shared.specs.Calls.{IsTry, Tries, Signals, Waits, Registers};
+ghost use Rattle.phase_shared.specs.Calls.{MaySignal, Leaves};
+ghost use Rattle.phase_shared.specs.Entries.{entry_stays, entry_after_signal};
+ghost use Rattle.phase_shared.specs.Entries.{entry_after_wait, entry_after_both};
 ghost use Rattle.phase_shared.specs.Nexts.{SignalsAndMayWait};
 
 use crate::past::Past;
@@ -33,19 +33,13 @@ impl<A: Accumulate, K: SignalRule> Reg<A, K> {
         requires at { self.old.at ≡ phaser_place phaser.now }
         requires rule { MaySignal A.operation K.allows (phaser_terms phaser.now) self.old single }
 
-        ensures call { let old = self.old in Tries (self.new ≡ old)
-            (Signals A.operation (phaser_limits phaser.now) old.number old.held single old.seen
-            self.new.seen) result }
-        ensures entry { self.new.entry ≡ entry_after_signal (result_ok result) self.old.entry }
-        ensures at { (self.new.at ≡ self.old.at) × (self.new.number ≡ self.old.number) }
-        ensures good { IsGoodAt K.allows (phaser_terms phaser.now) self.new.seen }
+        ensures call { let old = self.old in
+            IsTry K.allows (phaser_terms phaser.now) SignalRefusal.NoTask entry_after_signal
+            (Tries (self.new ≡ old) (Signals A.operation (phaser_limits phaser.now) old.number
+            old.held single old.seen self.new.seen) result) old self.new result }
         ensures none_held { OnOk result
             (StandsForSends A.operation self.new.held [] × (self.new.held.count ≡ 0)) }
-
         ensures held { OnErr result (self.new.held ≡ self.old.held) }
-        ensures known { result ≢ Err (Tried.Refused SignalRefusal.NoTask) }
-        // Where it is the only one that it has seen, nobody is in its way.
-        ensures alone { OnlyUsed (self.old.number ∷ []) self.old.seen → result ≢ Err Tried.Busy }
     {
         match self.try_signal_and_wait(phaser, single, false) {
             Ok(answer) => Ok(answer.0),
@@ -105,17 +99,11 @@ impl<A: Accumulate, K: SignalRule> Reg<A, K> {
     pub fn try_wait(&mut self, phaser: &Phaser<A, K>) -> Result<Got, Tried<WaitRefusal>>
         requires at { self.old.at ≡ phaser_place phaser.now }
 
-        ensures call { let old = self.old in Tries (self.new ≡ old)
-            (Waits A.operation.value (phaser_limits phaser.now) old.number old.seen self.new.seen)
-            result }
-        ensures entry { self.new.entry ≡ entry_after_wait (result_ok result) self.old.entry }
-        ensures at { (self.new.at ≡ self.old.at) × (self.new.number ≡ self.old.number) }
+        ensures call { let old = self.old in
+            IsTry K.allows (phaser_terms phaser.now) WaitRefusal.NoTask entry_after_wait
+            (Tries (self.new ≡ old) (Waits A.operation.value (phaser_limits phaser.now) old.number
+            old.seen self.new.seen) result) old self.new result }
         ensures held { self.new.held ≡ self.old.held }
-        ensures good { IsGoodAt K.allows (phaser_terms phaser.now) self.new.seen }
-
-        ensures known { result ≢ Err (Tried.Refused WaitRefusal.NoTask) }
-        // Where it is the only one that it has seen, nobody is in its way.
-        ensures alone { OnlyUsed (self.old.number ∷ []) self.old.seen → result ≢ Err Tried.Busy }
     {
         let Some(seat) = self.seat.take() else {
             unreachable!()
@@ -137,38 +125,27 @@ impl<A: Accumulate, K: SignalRule> Reg<A, K> {
     ) -> Result<Reg<A, K>, Tried<RegisterRefusal>>
         requires at { self.old.at ≡ phaser_place phaser.now }
 
-        ensures ok { IfOk result (λ child.
-            HasRegistered self.old.number child.number mode self.old.seen self.new.seen) }
-        ensures child { IfOk result (λ child.
-            (child.at ≡ self.old.at) × (child.seen ≡ self.new.seen)
-            × (child.entry
-            ≡ entry_at mode self.old.entry.signal_phase self.old.entry.wait_phase)) }
-        ensures none_held { IfOk result (λ child.
-            StandsForSends A.operation child.held [] × (child.held.count ≡ 0)) }
-        ensures at { (self.new.at ≡ self.old.at) × (self.new.number ≡ self.old.number)
-            × (self.new.entry ≡ self.old.entry) × (self.new.held ≡ self.old.held) }
-        ensures good { IsGoodAt K.allows (phaser_terms phaser.now) self.new.seen }
-
-        ensures err { IfErr result (Refuses (self.new ≡ self.old)
-            (RefusesRegister self.old.number mode self.old.seen self.new.seen)) }
-        ensures known { result ≢ Err (Tried.Refused RegisterRefusal.NoTask) }
-        // Where it is the only one that it has seen, nobody is in its way.
-        ensures alone { OnlyUsed (self.old.number ∷ []) self.old.seen → result ≢ Err Tried.Busy }
+        ensures call { let old = self.old in
+            IsTry K.allows (phaser_terms phaser.now) RegisterRefusal.NoTask entry_stays
+            (Tries (self.new ≡ old) (Registers A.operation mode old self.new) result) old self.new
+            result }
+        ensures held { self.new.held ≡ self.old.held }
     {
         let Some(seat) = self.seat.take() else {
             unreachable!()
         };
         let (seat, answer) = steps::register(phaser, seat, self.number, self.entry, mode);
         self.seat = Some(seat);
-        match answer {
-            Ok((number, seat, entry)) => Ok(Reg {
-                seat: Some(seat),
-                number,
-                entry,
-                pending: Pending::new(),
-            }),
-            Err(tried) => Err(tried),
-        }
+        let made = match answer {
+            Ok(made) => made,
+            Err(tried) => return Err(tried),
+        };
+        Ok(Reg {
+            seat: Some(made.1),
+            number: made.0,
+            entry: made.2,
+            pending: Pending::new(),
+        })
     }
 
     /// Ends the registration: the sends that it holds are in no phase. Where another is in the

@@ -1,14 +1,13 @@
 //! The calls of a registration that may wait.
-ghost use Rattle.std.specs.Prelude.{◌≡◌, ◌≢◌, [], ◌∷◌, Err, IfOk, IfErr, OnOk, OnErr};
+ghost use Rattle.std.specs.Prelude.{◌≡◌, ◌≢◌, [], ◌∷◌, Err, OnOk, OnErr};
 ghost use Rattle.std.specs.Result.{result_ok};
 ghost use Rattle.phase_accum.specs.Parcels.{StandsForSends};
-ghost use Rattle.phase_history.specs.Histories.{entry_at};
-ghost use Rattle.phase_history.specs.Others.{OthersCame};
 ghost use Rattle.phase_shared.specs.Rule.{IsGoodAt};
 ghost use Rattle.phase_shared.specs.Regs.{phaser_place, phaser_terms, phaser_limits};
-ghost use Rattle.phase_shared.specs.Calls.{Signals, Waits, MaySignal, Leaves};
-ghost use Rattle.phase_shared.specs.Calls.{HasRegistered, RefusesRegister};
-ghost use Rattle.phase_shared.specs.Entries.{entry_after_signal, entry_after_wait, entry_after_both};
+ghost use Rattle.phase_shared.specs.Calls.{IsCall, Signals, Waits, Registers};
+ghost use Rattle.phase_shared.specs.Calls.{MaySignal, Leaves};
+ghost use Rattle.phase_shared.specs.Entries.{entry_stays, entry_after_signal};
+ghost use Rattle.phase_shared.specs.Entries.{entry_after_wait, entry_after_both};
 ghost use Rattle.phase_shared.specs.Nexts.{SignalsAndMayWait};
 
 use crate::past::Past;
@@ -36,17 +35,13 @@ impl<A: Accumulate, K: SignalRule> Reg<A, K> {
         requires rule { MaySignal A.operation K.allows (phaser_terms phaser.now) self.old single }
 
         ensures call { let old = self.old in
-            Signals A.operation (phaser_limits phaser.now) old.number old.held single old.seen
-            self.new.seen result }
-        ensures entry { self.new.entry ≡ entry_after_signal (result_ok result) self.old.entry }
-        ensures at { (self.new.at ≡ self.old.at) × (self.new.number ≡ self.old.number) }
-        ensures good { IsGoodAt K.allows (phaser_terms phaser.now) self.new.seen }
+            IsCall K.allows (phaser_terms phaser.now) SignalRefusal.NoTask entry_after_signal
+            (Signals A.operation (phaser_limits phaser.now) old.number old.held single old.seen
+            self.new.seen result) old self.new result }
+        ensures waited { result ≢ Err SignalRefusal.Ahead }
         ensures none_held { OnOk result
             (StandsForSends A.operation self.new.held [] × (self.new.held.count ≡ 0)) }
-
         ensures held { OnErr result (self.new.held ≡ self.old.held) }
-        ensures known { result ≢ Err SignalRefusal.NoTask }
-        ensures waited { result ≢ Err SignalRefusal.Ahead }
     {
         match self.signal_and_wait(rt, phaser, single, false) {
             Ok(answer) => Ok(answer.0),
@@ -114,15 +109,11 @@ impl<A: Accumulate, K: SignalRule> Reg<A, K> {
         requires at { self.old.at ≡ phaser_place phaser.now }
 
         ensures call { let old = self.old in
-            Waits A.operation.value (phaser_limits phaser.now) old.number old.seen self.new.seen
-            result }
-        ensures entry { self.new.entry ≡ entry_after_wait (result_ok result) self.old.entry }
-        ensures at { (self.new.at ≡ self.old.at) × (self.new.number ≡ self.old.number) }
-        ensures held { self.new.held ≡ self.old.held }
-        ensures good { IsGoodAt K.allows (phaser_terms phaser.now) self.new.seen }
-
-        ensures known { result ≢ Err WaitRefusal.NoTask }
+            IsCall K.allows (phaser_terms phaser.now) WaitRefusal.NoTask entry_after_wait
+            (Waits A.operation.value (phaser_limits phaser.now) old.number old.seen self.new.seen
+            result) old self.new result }
         ensures waited { result ≢ Err WaitRefusal.NotYet }
+        ensures held { self.new.held ≡ self.old.held }
     {
         let backoff = Backoff::new();
         for _ in rt.forever() {
@@ -160,21 +151,10 @@ impl<A: Accumulate, K: SignalRule> Reg<A, K> {
     ) -> Result<Reg<A, K>, RegisterRefusal>
         requires at { self.old.at ≡ phaser_place phaser.now }
 
-        ensures ok { IfOk result (λ child.
-            HasRegistered self.old.number child.number mode self.old.seen self.new.seen) }
-        ensures child { IfOk result (λ child.
-            (child.at ≡ self.old.at) × (child.seen ≡ self.new.seen)
-            × (child.entry
-            ≡ entry_at mode self.old.entry.signal_phase self.old.entry.wait_phase)) }
-        ensures none_held { IfOk result (λ child.
-            StandsForSends A.operation child.held [] × (child.held.count ≡ 0)) }
-        ensures at { (self.new.at ≡ self.old.at) × (self.new.number ≡ self.old.number)
-            × (self.new.entry ≡ self.old.entry) × (self.new.held ≡ self.old.held) }
-        ensures good { IsGoodAt K.allows (phaser_terms phaser.now) self.new.seen }
-
-        ensures err { IfErr result
-            (RefusesRegister self.old.number mode self.old.seen self.new.seen) }
-        ensures known { result ≢ Err RegisterRefusal.NoTask }
+        ensures call { let old = self.old in
+            IsCall K.allows (phaser_terms phaser.now) RegisterRefusal.NoTask entry_stays
+            (Registers A.operation mode old self.new result) old self.new result }
+        ensures held { self.new.held ≡ self.old.held }
     {
         let backoff = Backoff::new();
         for _ in rt.forever() {

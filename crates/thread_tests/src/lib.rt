@@ -14,6 +14,8 @@ mod locks;
 #[cfg(test)]
 mod parts;
 #[cfg(test)]
+mod puts;
+#[cfg(test)]
 mod received;
 #[cfg(test)]
 mod threads;

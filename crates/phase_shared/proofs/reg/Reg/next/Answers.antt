@@ -1,4 +1,4 @@
-use Rattle.std.proofs.Common.{◌≡◌, ℕ, Some, Ok, true, false, sym, subst, ap, refl, ◌∙◌}
+use Rattle.std.proofs.Common.{◌≡◌, ℕ, Some, Ok, true, false, sym, subst, ap, refl, ◌∙◌, rules}
 use Rattle.std.specs.Prelude.{is_some}
 use Rattle.phase_base.specs.declared.entry.Entry.{Entry}
 use Rattle.phase_base.specs.Modes.{mode_signals, mode_waits}
@@ -14,25 +14,32 @@ use Rattle.phase_shared.proofs.reg.Reg.next.Goals as goal
 use Rattle.phase_shared.proofs.reg.Reg.next.Goals.{then-not-waits-via-then-not-waits, then-not-waits-via-else-not-waits+then-is_some-2}
 
 -- a task that does not signal waits
-pub returns-then-not-signals-clause-ok : goal.returns-then-not-signals-clause-ok
-returns-then-not-signals-clause-ok g c =
+pub returns-then-not-signals-clause-call : goal.returns-then-not-signals-clause-call
+returns-then-not-signals-clause-call g c =
     let old = c.args.self.now in
     let new = c.wait_in_turn-got.new.self.seen in
     let limits = phaser_limits c.args.phaser.now in
     let op = g.A.Accumulate.operation in
     let silent : mode_signals old.entry.mode ≡ false = ap mode_signals (sym c.mode.ensures.value) ∙ sym c.signals.ensures ∙ c.if-not-signals.true in
     record {
-      middle = old.seen;
-      signals = not_made (mode_signals old.entry.mode) (λ (phase : ℕ). Signals op limits old.number old.held c.args.single old.seen old.seen (Ok phase))
-          (old.seen ≡ old.seen) silent refl;
-      waits = made (mode_waits old.entry.mode) (λ (got : Got). Waits op.value limits old.number old.seen new (Ok got)) (new ≡ old.seen)
-          c.wait_in_turn-got.result (waits_else old.entry.mode silent) c.wait_in_turn-got.ensures.call;
-      named = λ none. is_none c.args.single (sym c.is_some.ensures ∙ c.if-is_some.false);
+      call = record {
+        middle = old.seen;
+        signals = not_made (mode_signals old.entry.mode) (λ (phase : ℕ). Signals op limits old.number old.held c.args.single old.seen old.seen (Ok phase))
+            (old.seen ≡ old.seen) silent refl;
+        waits = made (mode_waits old.entry.mode) (λ (got : Got). Waits op.value limits old.number old.seen new (Ok got)) (new ≡ old.seen)
+            c.wait_in_turn-got.result (waits_else old.entry.mode silent) c.wait_in_turn-got.ensures.call;
+        named = λ none. is_none c.args.single (sym c.is_some.ensures ∙ c.if-is_some.false);
+      };
+      entry = search rules;
+      mode = search rules;
+      at = search rules;
+      good = search rules;
+      known = search rules;
     }
 
 -- a task that signals alone, or gets its value at once
-pub returns-then-not-waits-clause-ok : goal.returns-then-not-waits-clause-ok
-returns-then-not-waits-clause-ok g c =
+pub returns-then-not-waits-clause-call : goal.returns-then-not-waits-clause-call
+returns-then-not-waits-clause-call g c =
     let old = c.args.self.now in
     let new = c.signal_and_wait.new.self in
     let limits = phaser_limits c.args.phaser.now in
@@ -45,16 +52,23 @@ returns-then-not-waits-clause-ok g c =
     let signals : mode_signals old.entry.mode ≡ true = ap mode_signals (sym c.mode.ensures.value) ∙ sym c.signals.ensures ∙ c.if-not-signals.false in
     let waits : asked ≡ mode_waits old.entry.mode = c.waits-waits.ensures ∙ ap mode_waits c.mode-2.ensures.value in
     record {
-      middle = both.middle;
-      signals = made (mode_signals old.entry.mode) (λ (phase : ℕ). Signals op limits old.number old.held c.args.single old.seen both.middle (Ok phase))
-          (both.middle ≡ old.seen) phase signals both.signals;
-      waits = subst (λ b. MadeWait op.value limits old.number both.middle new.seen b got) waits
-          (elim c.then-not-waits.branch [
-            | then-not-waits-via-then-not-waits w ↦ not_asked op.value limits old.number both.middle new.seen asked got w.if-not-waits.true both.waits
-            | then-not-waits-via-else-not-waits+then-is_some-2 w ↦ answered op.value limits old.number both.middle new.seen asked got
-                (sym w.is_some-else-not-waits.ensures ∙ w.if-is_some-2.true) both.waits
-          ]);
-      named = λ none. absurd (let z : true ≡ false = sym signals ∙ none in cc);
+      call = record {
+        middle = both.middle;
+        signals = made (mode_signals old.entry.mode) (λ (phase : ℕ). Signals op limits old.number old.held c.args.single old.seen both.middle (Ok phase))
+            (both.middle ≡ old.seen) phase signals both.signals;
+        waits = subst (λ b. MadeWait op.value limits old.number both.middle new.seen b got) waits
+            (elim c.then-not-waits.branch [
+              | then-not-waits-via-then-not-waits w ↦ not_asked op.value limits old.number both.middle new.seen asked got w.if-not-waits.true both.waits
+              | then-not-waits-via-else-not-waits+then-is_some-2 w ↦ answered op.value limits old.number both.middle new.seen asked got
+                  (sym w.is_some-else-not-waits.ensures ∙ w.if-is_some-2.true) both.waits
+            ]);
+        named = λ none. absurd (let z : true ≡ false = sym signals ∙ none in cc);
+      };
+      entry = search rules;
+      mode = search rules;
+      at = search rules;
+      good = search rules;
+      known = search rules;
     }
 
 -- a task that waits is one after its signal
@@ -109,8 +123,8 @@ wait_in_turn-got-requires-2-clause-signalled g c signals' same =
     signals (sym waits ∙ c.if-not-waits.false) same
 
 -- a task that gets its value later
-pub returns-clause-ok : goal.returns-clause-ok
-returns-clause-ok g c =
+pub returns-clause-call : goal.returns-clause-call
+returns-clause-call g c =
     let old = c.args.self.now in
     let new = c.signal_and_wait.new.self in
     let limits = phaser_limits c.args.phaser.now in
@@ -129,11 +143,18 @@ returns-clause-ok g c =
     let last = c.wait_in_turn-got-2.new.self.seen in
     let got = c.wait_in_turn-got-2.result in
     record {
-      middle = new.seen;
-      signals = made (mode_signals old.entry.mode) (λ (phase : ℕ). Signals op limits old.number old.held c.args.single old.seen new.seen (Ok phase))
-          (new.seen ≡ old.seen) phase signals s;
-      waits = made (mode_waits old.entry.mode) (λ (got : Got). Waits op.value limits old.number new.seen last (Ok got)) (last ≡ new.seen) got
-          (sym waits ∙ c.if-not-waits.false)
-          (subst (λ n. Waits op.value limits n new.seen last (Ok got)) c.signal_and_wait.ensures.at.1 c.wait_in_turn-got-2.ensures.call);
-      named = λ none. absurd (let z : true ≡ false = sym signals ∙ none in cc);
+      call = record {
+        middle = new.seen;
+        signals = made (mode_signals old.entry.mode) (λ (phase : ℕ). Signals op limits old.number old.held c.args.single old.seen new.seen (Ok phase))
+            (new.seen ≡ old.seen) phase signals s;
+        waits = made (mode_waits old.entry.mode) (λ (got : Got). Waits op.value limits old.number new.seen last (Ok got)) (last ≡ new.seen) got
+            (sym waits ∙ c.if-not-waits.false)
+            (subst (λ n. Waits op.value limits n new.seen last (Ok got)) c.signal_and_wait.ensures.at.1 c.wait_in_turn-got-2.ensures.call);
+        named = λ none. absurd (let z : true ≡ false = sym signals ∙ none in cc);
+      };
+      entry = search rules;
+      mode = search rules;
+      at = search rules;
+      good = search rules;
+      known = search rules;
     }

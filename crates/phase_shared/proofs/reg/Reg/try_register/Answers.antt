@@ -1,15 +1,20 @@
-use Rattle.std.proofs.Common.{◌≡◌, [], ◌∷◌, Some, Err, true, false, sym, subst, ap, ◌∙◌}
-use Rattle.std.specs.Prelude.{is_some, Result, IfOk}
-use Rattle.turn_lock.specs.Seats.{seat_view, IsSeatOf}
+use Rattle.std.proofs.Common.{◌≡◌, [], ◌∷◌, Some, Err, true, false, refl, sym, subst, ap, ◌∙◌, rules}
+use Rattle.std.specs.Prelude.{is_some, Result, IfOk, IfErr}
+use Rattle.turn_lock.specs.Seats.{seat_view, IsSeatOf, IsSameSeat}
+use Rattle.phase_history.specs.declared.refusal.RegisterRefusal.{RegisterRefusal}
+use Rattle.phase_history.specs.declared.refusal.RegisterRefusal.TheVariants as register
 use Rattle.phase_history.specs.Histories.{entry_at}
 use Rattle.phase_history.specs.Others.{OnlyUsed}
 use Rattle.phase_shared.specs.Views.{front_of}
 use Rattle.phase_shared.specs.Rule.{IsStation}
+use Rattle.phase_shared.specs.Calls.{Refuses, HasRegistered, RefusesRegister}
 use Rattle.phase_shared.specs.Regs.{RegState, reg_state, phaser_place, phaser_terms}
-use Rattle.phase_shared.proofs.Opening.{opened, closed, reg_is}
-use Rattle.phase_shared.specs.declared.refusal.Tried.TheVariants.{Busy}
+use Rattle.phase_shared.proofs.Answering.{Refuses-map}
+use Rattle.phase_shared.proofs.Opening.{opened, closed, reg_is, same_reg}
+use Rattle.phase_shared.specs.declared.refusal.Tried.TheVariants.{Busy, Refused}
+use Rattle.phase_shared.proofs.reg.Reg.try_register.Given.{Over}
+use Rattle.phase_shared.proofs.reg.Reg.try_register.Goals.{In-Ok}
 use Rattle.phase_shared.proofs.reg.Reg.try_register.Goals as goal
-use Rattle.phase_shared.proofs.reg.Reg.try_register.Goals.{in-Ok, in-Err}
 
 pub unreachable-requires : goal.unreachable-requires
 unreachable-requires g c =
@@ -32,33 +37,87 @@ invariant_of-self g c =
     let inside = c.self.inside in
     closed g.K.SignalRule.allows p.0 terms inside.number inside.entry c.register-seat.result.0 c.register-seat.ensures.seat c.register-seat.ensures.at
 
+pub invariant_of-self-2 : goal.invariant_of-self-2
+invariant_of-self-2 g c =
+    let p = phaser_place c.args.phaser.now in
+    let terms = phaser_terms c.args.phaser.now in
+    let inside = c.self.inside in
+    closed g.K.SignalRule.allows p.0 terms inside.number inside.entry c.register-seat.result.0 c.register-seat.ensures.seat c.register-seat.ensures.at
+
+-- the child's seat, and where it stands
+new_child : (g : Over) (c : In-Ok g) → IsSeatOf c.args.phaser.now.lock c.in-Ok.made.1
+    × IsStation g.K.SignalRule.allows (phaser_terms c.args.phaser.now) c.in-Ok.made.0 c.in-Ok.made.2 (seat_view c.in-Ok.made.1)
+    × ((front_of (seat_view c.in-Ok.made.1)).seen ≡ (front_of (seat_view c.register-seat.result.0)).seen)
+    × (c.in-Ok.made.2 ≡ entry_at c.args.mode c.self.inside.entry.signal_phase c.self.inside.entry.wait_phase)
+new_child g c = subst (λ r. IfOk r (λ m. IsSeatOf c.args.phaser.now.lock m.1
+    × IsStation g.K.SignalRule.allows (phaser_terms c.args.phaser.now) m.0 m.2 (seat_view m.1)
+    × ((front_of (seat_view m.1)).seen ≡ (front_of (seat_view c.register-seat.result.0)).seen)
+    × (m.2 ≡ entry_at c.args.mode c.self.inside.entry.signal_phase c.self.inside.entry.wait_phase))) c.in-Ok.is c.register-seat.ensures.child
+
 pub invariant_of-result : goal.invariant_of-result
 invariant_of-result g c =
     let p = phaser_place c.args.phaser.now in
     let terms = phaser_terms c.args.phaser.now in
-    let inside = c.self.inside in
-    let made : IsSeatOf c.args.phaser.now.lock c.in-Ok.seat × IsStation g.K.SignalRule.allows terms c.in-Ok.number c.in-Ok.entry (seat_view c.in-Ok.seat)
-    × ((front_of (seat_view c.in-Ok.seat)).seen ≡ (front_of (seat_view c.register-seat.result.0)).seen)
-    × (c.in-Ok.entry ≡ entry_at c.args.mode inside.entry.signal_phase inside.entry.wait_phase) =
-    subst (λ r. IfOk r (λ m. IsSeatOf c.args.phaser.now.lock m.1 × IsStation g.K.SignalRule.allows terms m.0 m.2 (seat_view m.1)
-    × ((front_of (seat_view m.1)).seen ≡ (front_of (seat_view c.register-seat.result.0)).seen)
-    × (m.2 ≡ entry_at c.args.mode inside.entry.signal_phase inside.entry.wait_phase))) c.in-Ok.is c.register-seat.ensures.child in
-    closed g.K.SignalRule.allows p.0 terms c.in-Ok.number c.in-Ok.entry c.in-Ok.seat made.0 made.1
+    let made = c.in-Ok.made in
+    let child = new_child g (goal.at.invariant_of-result g c).In-Ok in
+    closed g.K.SignalRule.allows p.0 terms made.0 made.2 made.1 child.0 child.1
 
 same_err : {A E : Type 0} (x y : E) → ◌≡◌ {A = Result A E} (Err x) (Err y) → x ≡ y
 same_err x y e = cc
 
-pub returns-clause-alone : goal.returns-clause-alone
-returns-clause-alone g c only busy =
+pub returns-clause-call : goal.returns-clause-call
+returns-clause-call g c =
     let p = phaser_place c.args.phaser.now in
     let terms = phaser_terms c.args.phaser.now in
     let inside = c.self.inside in
+    let made = c.in-Ok.made in
+    let child = new_child g (goal.at.returns-clause-call g c).In-Ok in
     let is : reg_state (Some c.in-Some.seat) inside.number inside.entry inside.pending ≡ c.args.self.now =
     reg_is g.K.SignalRule.allows p.0 terms inside.number inside.entry inside.pending inside.seat c.in-Some.seat c.args.self.now
     (sym c.take.ensures.value ∙ c.in-Some.is) c.self.view_is in
+    let new = (front_of (seat_view c.register-seat.result.0)).seen in
+    let P : RegState g.row.A.Denot g.row.K.Denot → Type 0 = λ r. HasRegistered r.number made.0 c.args.mode r.seen new in
+    record {
+      call = record {
+        registered = subst P is (subst (λ r. IfOk r (λ m. HasRegistered inside.number m.0 c.args.mode (front_of (seat_view c.in-Some.seat)).seen new)) c.in-Ok.is c.register-seat.ensures.ok);
+        at = child.0 ∙ sym c.requires.at;
+        seen = child.2;
+        entry = child.3 ∙ ap (λ r. entry_at c.args.mode r.entry.signal_phase r.entry.wait_phase) is;
+        none_held = search rules;
+      };
+      entry = ap (λ r. r.entry) is;
+      mode = ap (λ r. r.entry.mode) is;
+      at = (c.register-seat.ensures.seat ∙ sym c.requires.at, ap (λ r. r.number) is);
+      good = c.register-seat.ensures.at.good;
+      known = search rules;
+      alone = search rules;
+    }
+
+pub returns-in-Err-clause-call : goal.returns-in-Err-clause-call
+returns-in-Err-clause-call g c =
+    let p = phaser_place c.args.phaser.now in
+    let terms = phaser_terms c.args.phaser.now in
+    let inside = c.self.inside in
+    let tried = c.in-Err.tried in
+    let is : reg_state (Some c.in-Some.seat) inside.number inside.entry inside.pending ≡ c.args.self.now =
+    reg_is g.K.SignalRule.allows p.0 terms inside.number inside.entry inside.pending inside.seat c.in-Some.seat c.args.self.now
+    (sym c.take.ensures.value ∙ c.in-Some.is) c.self.view_is in
+    let s = c.in-Some.seat in
+    let s' = c.register-seat.result.0 in
+    let new = (front_of (seat_view s')).seen in
+    let call : RegisterRefusal → Type 0 = RefusesRegister inside.number c.args.mode (front_of (seat_view s)).seen new in
+    let P : RegState g.row.A.Denot g.row.K.Denot → Type 0 = λ old. Refuses (reg_state (Some s') inside.number inside.entry inside.pending ≡ old)
+    (RefusesRegister old.number c.args.mode old.seen new) tried in
     let Q : RegState g.row.A.Denot g.row.K.Denot → Type 0 = λ r. OnlyUsed (r.number ∷ []) r.seen in
-    elim c.match-answer.branch [
-      | in-Ok w ↦ absurd (let z = sym w.result-is ∙ busy in cc)
-      | in-Err w ↦ c.register-seat.ensures.alone (subst Q (sym is) only)
-          (w.in-Err.is ∙ ap Err (same_err w.in-Err.tried Busy (sym w.result-is ∙ busy)))
-    ]
+    record {
+      call = subst P is (Refuses-map (IsSameSeat s s')
+          (reg_state (Some s') inside.number inside.entry inside.pending ≡ reg_state (Some s) inside.number inside.entry inside.pending) call call
+          (λ same. same_reg g.K.SignalRule.allows p.0 terms inside.number inside.entry inside.entry inside.pending s s' same refl) (λ refusal w. w)
+          tried (subst (λ r. IfErr r (Refuses (IsSameSeat s s') call)) c.in-Err.is c.register-seat.ensures.err));
+      entry = ap (λ r. r.entry) is;
+      mode = ap (λ r. r.entry.mode) is;
+      at = (c.register-seat.ensures.seat ∙ sym c.requires.at, ap (λ r. r.number) is);
+      good = c.register-seat.ensures.at.good;
+      known = λ e. c.register-seat.ensures.known (c.in-Err.is ∙ ap Err (same_err tried (Refused register.NoTask) e));
+      alone = λ only e. c.register-seat.ensures.alone (subst Q (sym is) only) (c.in-Err.is ∙ ap Err (same_err tried Busy e));
+    }

@@ -1,10 +1,12 @@
 use Rattle.std.proofs.Common.{◌≡◌, [], ◌∷◌, Some, true, false, sym, subst, ap, ◌∙◌}
 use Rattle.std.specs.Prelude.{is_some, Result}
+use Rattle.std.specs.Result.{result_ok}
 use Rattle.turn_lock.specs.Seats.{seat_view, IsSameSeat}
 use Rattle.phase_history.specs.Others.{OnlyUsed}
 use Rattle.phase_shared.specs.Views.{front_of}
 use Rattle.phase_shared.specs.Regs.{RegState, reg_state, phaser_place, phaser_terms, phaser_limits}
 use Rattle.phase_shared.specs.Calls.{Tries, Waits}
+use Rattle.phase_shared.specs.Entries.{entry_after_wait}
 use Rattle.phase_history.specs.declared.got.Got.{Got}
 use Rattle.phase_history.specs.declared.refusal.WaitRefusal.{WaitRefusal}
 use Rattle.phase_shared.proofs.Answering.{Tries-map}
@@ -32,12 +34,6 @@ invariant_of-self g c =
     let inside = c.self.inside in
     closed g.K.SignalRule.allows p.0 terms inside.number c.wait-seat.result.1 c.wait-seat.result.0 c.wait-seat.ensures.seat c.wait-seat.ensures.at
 
-pub returns-clause-at : goal.returns-clause-at
-returns-clause-at g c = (c.wait-seat.ensures.seat ∙ sym c.requires.at, ap (λ r. r.number) c.self.view_is)
-
-pub returns-clause-good : goal.returns-clause-good
-returns-clause-good g c = c.wait-seat.ensures.at.good
-
 pub returns-clause-call : goal.returns-clause-call
 returns-clause-call g c =
     let p = phaser_place c.args.phaser.now in
@@ -54,18 +50,17 @@ returns-clause-call g c =
     let call : Result Got WaitRefusal → Type 0 = λ answer. Waits value limits inside.number (front_of (seat_view s)).seen (front_of (seat_view s')).seen answer in
     let P : RegState g.row.A.Denot g.row.K.Denot → Type 0 = λ old. Tries (reg_state (Some s') inside.number entry' inside.pending ≡ old)
     (Waits value limits old.number old.seen (front_of (seat_view s')).seen) c.wait-seat.result.2 in
-    subst P is (Tries-map (IsSameSeat s s' × (entry' ≡ inside.entry))
-    (reg_state (Some s') inside.number entry' inside.pending ≡ reg_state (Some s) inside.number inside.entry inside.pending) call call
-    (λ same. same_reg g.K.SignalRule.allows p.0 terms inside.number inside.entry entry' inside.pending s s' same.0 same.1) (λ answer w. w)
-    c.wait-seat.result.2 c.wait-seat.ensures.call)
-
-pub returns-clause-alone : goal.returns-clause-alone
-returns-clause-alone g c only =
-    let p = phaser_place c.args.phaser.now in
-    let terms = phaser_terms c.args.phaser.now in
-    let inside = c.self.inside in
-    let is : reg_state (Some c.in-Some.seat) inside.number inside.entry inside.pending ≡ c.args.self.now =
-    reg_is g.K.SignalRule.allows p.0 terms inside.number inside.entry inside.pending inside.seat c.in-Some.seat c.args.self.now
-    (sym c.take.ensures.value ∙ c.in-Some.is) c.self.view_is in
     let Q : RegState g.row.A.Denot g.row.K.Denot → Type 0 = λ r. OnlyUsed (r.number ∷ []) r.seen in
-    c.wait-seat.ensures.alone (subst Q (sym is) only)
+    let entry = c.wait-seat.ensures.entry ∙ ap (λ r. entry_after_wait (result_ok c.wait-seat.result.2) r.entry) is in
+    record {
+      call = subst P is (Tries-map (IsSameSeat s s' × (entry' ≡ inside.entry))
+          (reg_state (Some s') inside.number entry' inside.pending ≡ reg_state (Some s) inside.number inside.entry inside.pending) call call
+          (λ same. same_reg g.K.SignalRule.allows p.0 terms inside.number inside.entry entry' inside.pending s s' same.0 same.1) (λ answer w. w)
+          c.wait-seat.result.2 c.wait-seat.ensures.call);
+      entry = entry;
+      mode = ap (λ e. e.mode) entry;
+      at = (c.wait-seat.ensures.seat ∙ sym c.requires.at, ap (λ r. r.number) c.self.view_is);
+      good = c.wait-seat.ensures.at.good;
+      known = c.wait-seat.ensures.known;
+      alone = λ only. c.wait-seat.ensures.alone (subst Q (sym is) only);
+    }

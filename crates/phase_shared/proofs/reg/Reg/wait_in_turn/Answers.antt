@@ -18,8 +18,8 @@ unreachable-requires g c =
     let value = g.A.Accumulate.operation.value in
     let refusal = c.in-Err.field-0 in
     let waits : Waits value limits old.number old.seen new (Err refusal) =
-    subst (λ r. Waits value limits old.number old.seen new r) c.in-Err.is c.wait.ensures.call in
-    let legal : IsLegal limits waits.before = subst (λ (h : History). IsLegal limits h) waits.seen c.wait.ensures.good.legal in
+    subst (λ r. Waits value limits old.number old.seen new r) c.in-Err.is c.wait.ensures.call.call in
+    let legal : IsLegal limits waits.before = subst (λ (h : History). IsLegal limits h) waits.seen c.wait.ensures.call.good.legal in
     let member = member_after limits old.number old.entry old.seen waits.before waits.others legal c.mode-mode.ensures.entry in
     let refused = refused_is (wait_refusal limits waits.before old.number 1) (got_at value waits.before (wait_phase waits.before old.number)) refusal waits.reply in
     let early = only_early limits waits.before old.number old.entry refusal legal member c.requires.waits c.requires.signalled refused in
