@@ -1,6 +1,6 @@
 //! A ring of two slots.
-use phase_accum::{Outcome, Pending, Sum};
-use phase_ring::{Role, SlotRing};
+use phase_accum::{Outcome, Pending, Single, Sum};
+use phase_ring::{MergeRefusal, Role, SlotRing};
 use std::test::Fail;
 
 #[test]
@@ -27,5 +27,27 @@ fn tasks_come_and_go(rt: HostRuntime) -> Result<(), Fail> {
     assert_eq!(rt; ring.base(), 1);
     ring.clear();
     assert_eq!(rt; ring.base(), 1);
+    Ok(())
+}
+
+#[test]
+fn what_cannot_merge_is_told_before(rt: HostRuntime) -> Result<(), Fail> {
+    let mut ring = SlotRing::<Sum>::with_bound(rt.alloc(), 1)?;
+    let mut pending = Pending::new();
+    pending.send(5)?;
+    assert_eq!(rt; ring.can_merge(0, 65536, None), Ok(()));
+    if let Err((refusal, _)) = ring.merge(0, pending, None) {
+        return Err(Fail::from(refusal));
+    }
+    assert_eq!(rt; ring.can_merge(0, 65535, None), Ok(()));
+    assert_eq!(rt;
+        ring.can_merge(0, 65536, None),
+        Err(MergeRefusal::PhaseFull)
+    );
+    let single = Some(Single::Abs);
+    assert_eq!(rt;
+        ring.can_merge(0, 65536, single),
+        Err(MergeRefusal::SingleDiffers)
+    );
     Ok(())
 }

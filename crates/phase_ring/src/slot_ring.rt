@@ -12,7 +12,7 @@ use crate::role::Role;
 use crate::slot::{MergeRefusal, Slot};
 use circular_buffer::HeapCircularBuffer;
 use phase_accum::{Accumulate, Outcome, Pending, Single};
-use phase_base::{BOUND_MAX, MEMBERS_MAX};
+use phase_base::{BOUND_MAX, MEMBERS_MAX, SENDS_MAX};
 use std::alloc::{AllocError, Global};
 use std::marker::Model;
 
@@ -120,6 +120,48 @@ impl<A: Accumulate> SlotRing<A> {
         }
         self.set(phase, slot.joined(&pending, single));
         Ok(())
+    }
+
+    /// Tells why so many more sends would not join a phase, as `merge` would. It merges nothing.
+    ///
+    /// The phase is not complete, and not the last of the ring.
+    pub fn can_merge(
+        &self,
+        phase: u64,
+        count: u64,
+        single: Option<Single>,
+    ) -> Result<(), MergeRefusal>
+        requires within { IsWithin self.now phase }
+        requires below { phase + 1 < self.now.base + length self.now.slots }
+        requires incomplete { is_sealed self.now phase ≡ false }
+        requires few { count ≤ SENDS_MAX }
+        ensures ok { OnOk result ((slot : Slot A) → slot_at self.now phase ≡ Some slot
+            → merge_refusal slot count single ≡ None) }
+        ensures refused { IfErr result (λ e.
+            (slot : Slot A) → slot_at self.now phase ≡ Some slot
+            → merge_refusal slot count single ≡ Some e) }
+    {
+        match self.slot(phase).refusal(count, &single) {
+            Some(refusal) => Err(refusal),
+            None => Ok(()),
+        }
+    }
+
+    /// Joins sends that the phase does not refuse. It takes no memory.
+    ///
+    /// The phase is not complete, and not the last of the ring.
+    pub(crate) fn join(&mut self, phase: u64, pending: &Pending<A>, single: &Option<Single>)
+        requires within { IsWithin self.old phase }
+        requires below { phase + 1 < self.old.base + length self.old.slots }
+        requires incomplete { is_sealed self.old phase ≡ false }
+        requires fits { (slot : Slot A) → slot_at self.old phase ≡ Some slot
+            → merge_refusal slot pending.now.count single.now ≡ None }
+        ensures { (slot : Slot A) → slot_at self.old phase ≡ Some slot
+            → let more = joined A.operation pending.now single.now slot in
+            self.new ≡ with_slot phase more self.old }
+    {
+        let slot = self.slot(phase);
+        self.set(phase, slot.joined(pending, *single));
     }
 
     /// Seals a phase, which is complete from now on. It was not before, and is not the last of the
