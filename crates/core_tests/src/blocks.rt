@@ -85,8 +85,16 @@ fn a_wait_takes_what_is_complete(rt: HostRuntime) -> Result<(), Fail> {
         [Outcome::Value(9), UNWRITTEN, UNWRITTEN]
     );
     assert_eq!(rt; core.wait_block(2, &mut out[..1]), Err(WaitRefusal::NotYet));
+    Ok(())
+}
+
+#[test]
+fn a_wait_behind_the_last_phase_has_ended(rt: HostRuntime) -> Result<(), Fail> {
+    let mut core = stream(rt.alloc())?;
+    let mut out = [UNWRITTEN];
     core.drop_task(1)?;
-    assert_eq!(rt; core.wait_block(2, &mut out[..1]), Ok(GotBlock::Ended));
+    assert_eq!(rt; core.wait_block(2, &mut out), Ok(GotBlock::Ended));
+    assert_eq!(rt; out, [UNWRITTEN]);
     Ok(())
 }
 

@@ -31,23 +31,23 @@ fn tasks_come_and_go(rt: HostRuntime) -> Result<(), Fail> {
 }
 
 #[test]
-fn what_cannot_merge_is_told_before(rt: HostRuntime) -> Result<(), Fail> {
-    let mut ring = SlotRing::<Sum>::with_bound(rt.alloc(), 1)?;
-    let mut pending = Pending::new();
-    pending.send(5)?;
+fn a_phase_takes_so_many_sends(rt: HostRuntime) -> Result<(), Fail> {
+    let ring = SlotRing::<Sum>::with_bound(rt.alloc(), 1)?;
     assert_eq!(rt; ring.can_merge(0, 65536, None), Ok(()));
-    if let Err((refusal, _)) = ring.merge(0, pending, None) {
-        return Err(Fail::from(refusal));
-    }
-    assert_eq!(rt; ring.can_merge(0, 65535, None), Ok(()));
     assert_eq!(rt;
-        ring.can_merge(0, 65536, None),
+        ring.can_merge(0, 65537, None),
         Err(MergeRefusal::PhaseFull)
     );
-    let single = Some(Single::Abs);
-    assert_eq!(rt;
-        ring.can_merge(0, 65536, single),
-        Err(MergeRefusal::SingleDiffers)
-    );
+    Ok(())
+}
+
+#[test]
+fn a_phase_whose_first_signal_named_a_single_takes_no_other(rt: HostRuntime) -> Result<(), Fail> {
+    let mut ring = SlotRing::<Sum>::with_bound(rt.alloc(), 1)?;
+    if let Err((refusal, _)) = ring.merge(0, Pending::new(), Some(Single::Abs)) {
+        return Err(Fail::from(refusal));
+    }
+    let told = ring.can_merge(0, 0, None);
+    assert_eq!(rt; told, Err(MergeRefusal::SingleDiffers));
     Ok(())
 }
