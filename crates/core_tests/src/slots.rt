@@ -1,5 +1,5 @@
 //! A ring of two slots.
-use phase_accum::{Outcome, Pending, Single, Sum};
+use phase_accum::{Outcome, Pending, Sum};
 use phase_ring::{MergeRefusal, Role, SlotRing};
 use std::test::Fail;
 
@@ -38,16 +38,5 @@ fn a_phase_takes_so_many_sends(rt: HostRuntime) -> Result<(), Fail> {
         ring.can_merge(0, 65537, None),
         Err(MergeRefusal::PhaseFull)
     );
-    Ok(())
-}
-
-#[test]
-fn a_phase_whose_first_signal_named_a_single_takes_no_other(rt: HostRuntime) -> Result<(), Fail> {
-    let mut ring = SlotRing::<Sum>::with_bound(rt.alloc(), 1)?;
-    if let Err((refusal, _)) = ring.merge(0, Pending::new(), Some(Single::Abs)) {
-        return Err(Fail::from(refusal));
-    }
-    let told = ring.can_merge(0, 0, None);
-    assert_eq!(rt; told, Err(MergeRefusal::SingleDiffers));
     Ok(())
 }
