@@ -18,11 +18,11 @@ use Rattle.phase_accum.specs.Singles.{CanBeNamed}
 use Rattle.phase_accum.specs.declared.single.Single.{Single}
 use Rattle.phase_accum.specs.declared.single.Single.TheVariants.{Neg, Abs, Halve, Clamp}
 use Rattle.phase_script.specs.Commands.{IsCommand, spelling, mode_text, single_text, maybe_single_text, mode_of, clamp_of, ends_of, clamp_after, single_of}
-use Rattle.phase_script.specs.Commands.{make_of, add_of, send_of, signal_of, signal_with, wait_of, drop_of, command_after, command_of}
+use Rattle.phase_script.specs.Commands.{make_of, add_of, now_of, send_of, signal_of, signal_with, wait_of, drop_of, command_after, command_of}
 use Rattle.phase_base.specs.declared.operation.Op.{Op}
 use Rattle.phase_base.specs.declared.operation.Op.TheVariants.{Sum, Product, Least, Greatest, Any}
 use Rattle.phase_script.specs.declared.command.Command.{Command}
-use Rattle.phase_script.specs.declared.command.Command.TheVariants.{Make, Add, Send, Signal, Wait, Drop}
+use Rattle.phase_script.specs.declared.command.Command.TheVariants.{Make, Add, Now, Send, Signal, Wait, Drop}
 
 -- words
 
@@ -210,6 +210,24 @@ add_found text c e =
           ∙ ap (λ t. decimal child ++ 32 ∷ t) third)),
     ))))))
 
+now_found : (text : List ℕ) (c : Command) → now_of text ≡ Some c
+    → Spells (codes "now" ++ 32 ∷ text) c
+unfolding now_of spelling
+now_found text c e =
+    option_and_then_some _ (nat_of (word text)) c e (λ parent is_parent e1.
+    option_and_then_some _ (rest text) c e1 (λ last is_last e2.
+    option_and_then_some _ (nat_of last) c e2 (λ child is_child e3.
+    let first = nat_found (word text) parent is_parent in
+    let second = nat_found last child is_child in
+    let text_is = rest_found text last is_last in
+    let P : Command → Type 0 = Spells (codes "now" ++ 32 ∷ text) in
+    subst P (same_Some _ c e3) (
+      (first.1, second.1),
+      ap (λ t. codes "now" ++ 32 ∷ t)
+          (text_is ∙ ap (λ w. w ++ 32 ∷ last) first.0
+          ∙ ap (λ t. decimal parent ++ 32 ∷ t) second.0),
+    ))))
+
 send_found : (text : List ℕ) (c : Command) → send_of text ≡ Some c
     → Spells (codes "send" ++ 32 ∷ text) c
 unfolding send_of spelling
@@ -280,11 +298,12 @@ after_found verb text c e =
     λ name same spells. (spells.0, ap (λ v. v ++ 32 ∷ text) same ∙ spells.1) in
     chosen verb (codes "make") _ _ c e (λ same is. named _ same (make_found text c is)) (λ e1.
     chosen verb (codes "add") _ _ c e1 (λ same is. named _ same (add_found text c is)) (λ e2.
-    chosen verb (codes "send") _ _ c e2 (λ same is. named _ same (send_found text c is)) (λ e3.
-    chosen verb (codes "signal") _ _ c e3 (λ same is. named _ same (signal_found text c is)) (λ e4.
-    chosen verb (codes "wait") _ _ c e4 (λ same is. named _ same (wait_found text c is)) (λ e5.
-    chosen verb (codes "drop") _ _ c e5 (λ same is. named _ same (drop_found text c is))
-    (λ other. absurd (cc)))))))
+    chosen verb (codes "now") _ _ c e2 (λ same is. named _ same (now_found text c is)) (λ e3.
+    chosen verb (codes "send") _ _ c e3 (λ same is. named _ same (send_found text c is)) (λ e4.
+    chosen verb (codes "signal") _ _ c e4 (λ same is. named _ same (signal_found text c is)) (λ e5.
+    chosen verb (codes "wait") _ _ c e5 (λ same is. named _ same (wait_found text c is)) (λ e6.
+    chosen verb (codes "drop") _ _ c e6 (λ same is. named _ same (drop_found text c is))
+    (λ other. absurd (cc))))))))
 
 -- a line that is read is the spelling of its command, whose numbers are within their limits
 pub command_found : (line : List ℕ) (c : Command) → command_of line ≡ Some c
@@ -384,6 +403,18 @@ signal_only task (Some single) small can =
       single_only single can,
     ) refl
 
+now_only : (parent child : ℕ) → parent ≤ most → child ≤ most
+    → now_of (decimal parent ++ 32 ∷ decimal child) ≡ Some (Now parent child)
+unfolding now_of
+now_only parent child small few =
+    let free = decimal_has_no_space parent small in
+    rw (
+      word_prefix (decimal child) (decimal parent) free,
+      nat_only parent small,
+      rest_prefix (decimal child) (decimal parent) free,
+      nat_only child few,
+    ) refl
+
 send_only : (task : ℕ) (value : ℤ) → task ≤ most → nat_abs value ≤ most
     → send_of (decimal task ++ 32 ∷ signed_decimal value) ≡ Some (Send task value)
 unfolding send_of
@@ -401,6 +432,7 @@ pub command_only : (c : Command) → IsCommand c → command_of (spelling c) ≡
 unfolding command_of command_after wait_of drop_of spelling
 command_only (Make operation bound phases) is = make_only operation bound phases is.0 is.1
 command_only (Add parent child m) is = add_only parent child m is.0 is.1
+command_only (Now parent child) is = now_only parent child is.0 is.1
 command_only (Send task value) is = send_only task value is.0 is.1
 command_only (Signal task single) is = signal_only task single is.0 is.1
 command_only (Wait task) is = rw (nat_only task is) refl
@@ -463,6 +495,8 @@ short_line (Add parent child m) is =
       decimal_short child is.1,
       mode_short m,
     ))
+short_line (Now parent child) is =
+    simp length-append (omega (arith, decimal_short parent is.0, decimal_short child is.1))
 short_line (Signal task single) is =
     simp length-append (omega (arith, decimal_short task is.0, single_short single is.1))
 short_line (Wait task) is = omega (arith, decimal_short task is)

@@ -11,7 +11,7 @@ use Rattle.phase_script.specs.Words.{word, rest}
 use Rattle.phase_base.specs.declared.operation.Op.{Op}
 use Rattle.phase_base.specs.OperationWords.{operation_word, operation_of}
 use Rattle.phase_script.specs.declared.command.Command.{Command}
-use Rattle.phase_script.specs.declared.command.Command.TheVariants.{Make, Add, Send, Signal, Wait, Drop}
+use Rattle.phase_script.specs.declared.command.Command.TheVariants.{Make, Add, Now, Send, Signal, Wait, Drop}
 
 -- ---- the one line of a command
 
@@ -41,6 +41,7 @@ spelling (Make operation bound phases) =
     codes "make" ++ 32 ∷ (operation_word operation ++ 32 ∷ (decimal bound ++ 32 ∷ decimal phases))
 spelling (Add parent child mode) =
     codes "add" ++ 32 ∷ (decimal parent ++ 32 ∷ (decimal child ++ 32 ∷ mode_text mode))
+spelling (Now parent child) = codes "now" ++ 32 ∷ (decimal parent ++ 32 ∷ decimal child)
 spelling (Send task value) = codes "send" ++ 32 ∷ (decimal task ++ 32 ∷ signed_decimal value)
 spelling (Signal task single) = codes "signal" ++ 32 ∷ (decimal task ++ maybe_single_text single)
 spelling (Wait task) = codes "wait" ++ 32 ∷ decimal task
@@ -50,6 +51,7 @@ spelling (Drop task) = codes "drop" ++ 32 ∷ decimal task
 abbrev pub IsCommand : Command → Type 0
 IsCommand (Make _ bound phases) = (bound ≤ most) × (phases ≤ most)
 IsCommand (Add parent child _) = (parent ≤ most) × (child ≤ most)
+IsCommand (Now parent child) = (parent ≤ most) × (child ≤ most)
 IsCommand (Send task value) = (task ≤ most) × (nat_abs value ≤ most)
 IsCommand (Signal task single) = (task ≤ most) × CanBeNamed single
 IsCommand (Wait task) = task ≤ most
@@ -114,6 +116,13 @@ add_of text = do
   mode ← mode_of last
   Some (Add parent child mode)
 
+unfoldable pub now_of : List ℕ → Option Command
+now_of text = do
+  parent ← nat_of (word text)
+  last ← rest text
+  child ← nat_of last
+  Some (Now parent child)
+
 unfoldable pub send_of : List ℕ → Option Command
 send_of text = do
   task ← nat_of (word text)
@@ -148,6 +157,7 @@ unfoldable pub command_after : List ℕ → List ℕ → Option Command
 command_after verb text =
     if bytes_eq verb (codes "make") then make_of text
     else if bytes_eq verb (codes "add") then add_of text
+    else if bytes_eq verb (codes "now") then now_of text
     else if bytes_eq verb (codes "send") then send_of text
     else if bytes_eq verb (codes "signal") then signal_of text
     else if bytes_eq verb (codes "wait") then wait_of text

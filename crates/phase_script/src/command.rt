@@ -18,6 +18,11 @@ pub enum Command {
         child: u64,
         mode: Mode,
     },
+    /// Registers the child as a waiter from the first phase that is not complete.
+    Now {
+        parent: u64,
+        child: u64,
+    },
     /// Holds one more send for the task.
     Send {
         task: u64,

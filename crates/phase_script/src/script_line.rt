@@ -7,7 +7,7 @@ ghost use Rattle.std.specs.Prelude.{◌≡◌, ◌≤◌, nat_abs, IfSome};
 ghost use Rattle.phase_script.specs.Numbers.{most};
 ghost use Rattle.phase_script.specs.Commands.{IsCommand, spelling, command_of, command_after};
 ghost use Rattle.phase_script.specs.Commands.{mode_of, single_of, clamp_after, ends_of};
-ghost use Rattle.phase_script.specs.Commands.{clamp_of, make_of, add_of, send_of, signal_of};
+ghost use Rattle.phase_script.specs.Commands.{clamp_of, make_of, add_of, now_of, send_of, signal_of};
 ghost use Rattle.phase_script.specs.Commands.{wait_of, drop_of};
 
 use crate::Command;
@@ -44,6 +44,8 @@ fn command_with(verb: &[u8], text: &[u8]) -> Option<Command>
         make(text)
     } else if verb == b"add".as_slice() {
         add(text)
+    } else if verb == b"now".as_slice() {
+        now(text)
     } else if verb == b"send".as_slice() {
         send(text)
     } else if verb == b"signal".as_slice() {
@@ -104,6 +106,16 @@ fn mode(name: &[u8]) -> Option<Mode>
     } else {
         None
     }
+}
+
+#[tactic(auto, unfolding(crate::specs::Commands::now_of))]
+fn now(text: &[u8]) -> Option<Command>
+    ensures { result ≡ now_of text.now }
+{
+    let (parent, last) = cut(text);
+    let parent = nat(parent)?;
+    let child = nat(last?)?;
+    Some(Command::Now { parent, child })
 }
 
 #[tactic(auto, unfolding(crate::specs::Commands::send_of))]

@@ -4,8 +4,8 @@
 use Rattle.std.proofs.Common.{◌≡◌, List, ℕ, [], ◌∷◌, pos, negsuc, codes, refl}
 use Rattle.phase_script.specs.declared.refusal.Refusal.TheVariants as no
 use Rattle.phase_script.specs.declared.reply.Reply.{Reply}
-use Rattle.phase_script.specs.declared.reply.Reply.TheVariants.{Accepted, Signalled, Value, Empty, TooBig, Ended, Refused, BadLine}
-use Rattle.phase_script.specs.Commands.{command_of, mode_of, ends_of, clamp_after, single_of, make_of, add_of, send_of, signal_of, signal_with, wait_of, drop_of, command_after}
+use Rattle.phase_script.specs.declared.reply.Reply.TheVariants.{Accepted, Signalled, Joined, Value, Empty, TooBig, Ended, Refused, BadLine}
+use Rattle.phase_script.specs.Commands.{command_of, mode_of, ends_of, clamp_after, single_of, make_of, add_of, now_of, send_of, signal_of, signal_with, wait_of, drop_of, command_after}
 use Rattle.phase_script.specs.Numbers.{nat_of, int_of}
 use Rattle.phase_script.specs.Lines.{lines_of}
 use Rattle.phase_session.specs.Scripts.{ScriptState, start, reply_by, after_line, command_reply, after_command}
@@ -157,3 +157,8 @@ product_range : answers (codes "make product 2 100\nsend 0 4611686018427387904\n
     ≡ Accepted ∷ Accepted ∷ Accepted ∷ Accepted ∷ Signalled 0 ∷ Value 0 (pos 0) ∷ Accepted ∷ Accepted ∷ Signalled 1 ∷ TooBig 1 ∷ Accepted ∷ Accepted ∷ Signalled 2 ∷ Value 2 (negsuc 9223372036854775806) ∷ []
 unfolding lines_of command_of mode_of ends_of clamp_after single_of make_of add_of send_of signal_of signal_with wait_of drop_of command_after nat_of int_of start after_line command_reply after_command
 product_range = refl
+
+joins_now : answers (codes "make sum 4 100\nadd 0 1 sig\nadd 0 2 wait\ndrop 0\nsend 1 10\nsignal 1\nsend 1 20\nsignal 1\nnow 2 3\nwait 3\nsignal 1\nwait 3\nwait 2\nnow 1 4\nnow 9 4\nnow 2 3\n")
+    ≡ Accepted ∷ Accepted ∷ Accepted ∷ Accepted ∷ Accepted ∷ Signalled 0 ∷ Accepted ∷ Signalled 1 ∷ Joined 2 ∷ Refused no.NotYet ∷ Signalled 2 ∷ Value 2 (pos 0) ∷ Value 0 (pos 10) ∷ Refused no.NotAllowed ∷ Refused no.NoTask ∷ Refused no.NotNew ∷ []
+unfolding lines_of command_of mode_of ends_of clamp_after single_of make_of add_of now_of send_of signal_of signal_with wait_of drop_of command_after nat_of int_of start after_line command_reply after_command
+joins_now = refl

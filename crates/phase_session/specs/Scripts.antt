@@ -27,11 +27,11 @@ use Rattle.phase_history.specs.Refusals.{first_row, refusal_at, drop_refusal}
 use Rattle.phase_history.specs.Replies.{reply_to as reply_to_call, after_reply, signal_reply}
 use Rattle.phase_base.specs.declared.operation.Op.{Op}
 use Rattle.phase_script.specs.declared.command.Command.{Command}
-use Rattle.phase_script.specs.declared.command.Command.TheVariants.{Make, Add, Send, Signal, Wait, Drop}
+use Rattle.phase_script.specs.declared.command.Command.TheVariants.{Make, Add, Now, Send, Signal, Wait, Drop}
 use Rattle.phase_script.specs.declared.refusal.Refusal.{Refusal}
 use Rattle.phase_script.specs.declared.refusal.Refusal.TheVariants as no
 use Rattle.phase_script.specs.declared.reply.Reply.{Reply}
-use Rattle.phase_script.specs.declared.reply.Reply.TheVariants.{Accepted, Signalled, Value, Empty, TooBig, Ended, Refused, BadLine}
+use Rattle.phase_script.specs.declared.reply.Reply.TheVariants.{Accepted, Signalled, Joined, Value, Empty, TooBig, Ended, Refused, BadLine}
 use Rattle.phase_script.specs.Commands.{command_of}
 use Rattle.phase_script.specs.ReplyLines.{reply_text}
 
@@ -127,10 +127,11 @@ value_reply phase (outcome.Value value) = Value phase value
 value_reply phase outcome.Empty = Empty phase
 value_reply phase outcome.TooBig = TooBig phase
 
--- what a phaser answers to a call, as a reply. No line asks for a block, nor for a waiter that
--- joins now: what stands for their answers is never seen
+-- what a phaser answers to a call, as a reply. No line asks for a block: what stands for its answers
+-- is never seen
 abbrev pub script_reply : CallReply → Reply
 script_reply call_reply.Accepted = Accepted
+script_reply (call_reply.JoinedAt phase) = Joined phase
 script_reply (call_reply.SignalledIn phase) = Signalled phase
 script_reply (call_reply.Received (got.Value phase outcome)) = value_reply phase outcome
 script_reply (call_reply.Received got.Ended) = Ended
@@ -149,6 +150,8 @@ abbrev pub phaser_reply : (List ℤ → Outcome) → Limits → History → Held
 phaser_reply value limits h held (Make operation bound phases) = Refused no.Made
 phaser_reply value limits h held (Add parent child mode) =
     script_reply (reply_to_call value limits h (call.Register parent child mode))
+phaser_reply value limits h held (Now parent child) =
+    script_reply (reply_to_call value limits h (call.RegisterNow parent child))
 phaser_reply value limits h held (Send task number) = send_reply h held task
 phaser_reply value limits h held (Signal task single) =
     script_reply (reply_to_call value limits h (held_signal held task single))
@@ -193,6 +196,8 @@ abbrev pub history_after : (List ℤ → Outcome) → Limits → History → Hel
 history_after value limits h held (Make operation bound phases) = h
 history_after value limits h held (Add parent child mode) =
     after_call value limits h (call.Register parent child mode)
+history_after value limits h held (Now parent child) =
+    after_call value limits h (call.RegisterNow parent child)
 history_after value limits h held (Send task number) = h
 history_after value limits h held (Signal task single) =
     after_call value limits h (held_signal held task single)
@@ -203,6 +208,7 @@ history_after value limits h held (Drop task) = after_call value limits h (call.
 abbrev pub held_after : Limits → History → Held → Command → Held
 held_after limits h held (Make operation bound phases) = held
 held_after limits h held (Add parent child mode) = held
+held_after limits h held (Now parent child) = held
 held_after limits h held (Send task number) =
     held_after_send (send_reply h held task) held task number
 held_after limits h held (Signal task single) =
@@ -224,15 +230,17 @@ abbrev pub reply_by : ScriptState → Option Command → Reply
 reply_by state (Some command) = command_reply state command
 reply_by state None = BadLine
 
--- the reply is `ok` alone: the line was done
+-- the reply is `ok` alone, or with the phase of a waiter that joins now: the line was done
 abbrev pub IsOkReply : Reply → Type 0
 IsOkReply Accepted = Unit {0}
+IsOkReply (Joined phase) = Unit {0}
 IsOkReply reply = ⊥
 
--- a line may want memory where it gives a `make`, an `add` or a `send`
+-- a line may want memory where it gives a `make`, an `add`, a `now` or a `send`
 abbrev pub MayWantMemory : Option Command → Type 0
 MayWantMemory (Some (Make operation bound phases)) = Unit {0}
 MayWantMemory (Some (Add parent child mode)) = Unit {0}
+MayWantMemory (Some (Now parent child)) = Unit {0}
 MayWantMemory (Some (Send task value)) = Unit {0}
 MayWantMemory command = ⊥
 
