@@ -17,23 +17,18 @@ use crate::taken_phases::is_faulty;
 use graph_base::Place;
 use phase_accum::{Accumulate, Outcome, apply};
 use std::alloc::Global;
-use stream_lists::Job;
+use stream_lists::{Job, number_of};
 
-/// The number that a phaser's list has for the value of a phase.
-fn number_of(job: &Job, p: usize, outcome: Outcome) -> i64
+/// The number that the list of phaser number `p` has for the value of a phase, before its single.
+fn number_at(job: &Job, p: usize, outcome: Outcome) -> i64
     requires phaser { p < length job.now.graph.phasers }
     requires range { IsInRange outcome }
     ensures value { result ≡ number (applied (phaser_at job.now.graph p).single outcome) }
     ensures send { IsSend result }
 {
-    let outcome = match job.graph().phaser(p).single {
-        Some(single) => apply(single, outcome),
-        None => outcome,
-    };
-    match outcome {
-        Outcome::Value(value) => value,
-        Outcome::Empty => 0,
-        Outcome::TooBig => 0,
+    match job.graph().phaser(p).single {
+        Some(single) => number_of(apply(single, outcome)),
+        None => number_of(outcome),
     }
 }
 
@@ -71,7 +66,7 @@ fn numbers<A: Accumulate>(
                 phase: n,
             });
         }
-        let Ok(()) = list.push(number_of(job, p, outcome)) else {
+        let Ok(()) = list.push(number_at(job, p, outcome)) else {
             return Err(EvalFault::OutOfMemory);
         };
     }

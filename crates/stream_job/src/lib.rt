@@ -4,5 +4,5 @@
 
 pub use stream_eval::{EvalFault, Lines, eval};
 pub use stream_lists::{
-    Job, JobRefusal, LENGTH_MAX, Span, input_number, laws, output_number, taken_count,
+    Job, JobRefusal, LENGTH_MAX, Span, input_number, laws, number_of, output_number, taken_count,
 };

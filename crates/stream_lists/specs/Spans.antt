@@ -3,6 +3,7 @@
 use Rattle.std.specs.Prelude.{◌≡◌, ℕ, zero, suc, ◌+◌, ◌-◌, ◌*◌, ◌/◌, true, false, ◌&&◌, List, [], ◌∷◌, ◌++◌, length, map, Option, Some, None, get_or, nat_le, if◌then◌else◌, min, max}
 use Rattle.std.specs.List.{range_with_len, fold}
 use Rattle.graph_base.specs.Graphs.{Graph, Task, task_at}
+pub use Rattle.graph_base.specs.Registrations.{signalled_by}
 use Rattle.stream_lists.specs.Jobs.{Job, samples_at, place_in}
 use Rattle.stream_lists.specs.declared.span.Span.{Span}
 use Rattle.graph_base.specs.declared.line.Parent.{Parent}
@@ -18,14 +19,6 @@ nowhere = record { live = false; offset = 0; steps = 0 }
 -- how many of the steps below n are step k, k + m, k + 2 * m, ..
 abbrev pub turns_below : ℕ → ℕ → ℕ → ℕ
 turns_below m k n = (n + (m - 1 - k)) / m
-
--- the phasers that a task signals, in the order in which a step does: a peer's are E and Y
-abbrev pub signalled_by : Task → List ℕ
-signalled_by task = of task.kind
-  where
-    of : Kind → List ℕ
-    of Peer = get_or task.inputs 1 0 ∷ get_or task.outputs 0 0 ∷ []
-    of kind = task.outputs
 
 -- output number j looks at input number k: a peer's E at X alone, each other output at all inputs.
 -- What the steps of a task look at is what output 0 does

@@ -9,6 +9,7 @@ mod job;
 pub mod laws;
 mod lengths;
 mod meetings;
+mod number;
 mod places;
 mod refusal;
 mod span;
@@ -16,6 +17,7 @@ mod task_spans;
 
 pub use counts::taken_count;
 pub use job::Job;
+pub use number::number_of;
 pub use places::{input_number, output_number};
 pub use refusal::JobRefusal;
 pub use span::{LENGTH_MAX, Span};

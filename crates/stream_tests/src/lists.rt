@@ -1,10 +1,11 @@
 //! What a job tells of its tasks: their inputs and outputs by phaser, what their steps take, and the
 //! samples of a source. What is expected was worked out by hand.
 use graph_lang::read_graph;
+use phase_accum::Outcome;
 use sample_text::samples_of;
 use std::alloc::{AllocError, Global};
 use std::test::Fail;
-use stream_job::{Job, input_number, output_number, taken_count};
+use stream_job::{Job, input_number, number_of, output_number, taken_count};
 
 /// A source of three samples and one of two, joined in turn, and a peer behind them. The phasers X,
 /// W, J, E and Y have the numbers 0 to 4.
@@ -82,5 +83,13 @@ fn a_source_has_its_samples_by_its_number_among_the_tasks(rt: HostRuntime) -> Re
         assert_eq!(rt; job.samples_of(SECOND_SOURCE), [10, 20].as_slice());
     }
     assert_eq!(rt; job.graph().tasks(), 6);
+    Ok(())
+}
+
+#[test]
+fn what_is_no_value_has_the_number_0(rt: HostRuntime) -> Result<(), Fail> {
+    assert_eq!(rt; number_of(Outcome::Value(-5)), -5);
+    assert_eq!(rt; number_of(Outcome::Empty), 0);
+    assert_eq!(rt; number_of(Outcome::TooBig), 0);
     Ok(())
 }

@@ -33,20 +33,20 @@ returns-then-is_faulty-clause-too_big g c where_it_is n e members has =
 pub loop-n-preserved : goal.loop-n-preserved
 loop-n-preserved g c =
     let within : c.loop-n.n < length c.args.parts.now = search rules in
-    let fits : FitsSigned w64 c.number_of.result = search rules in
+    let fits : FitsSigned w64 c.number_at.result = search rules in
     let pushed = c.in-Ok-push.ensures.items
-    ∙ ap (λ v. c.loop-n.list.items ++ v ∷ []) (to_z-of_z w64 c.number_of.result fits) in (
+    ∙ ap (λ v. c.loop-n.list.items ++ v ∷ []) (to_z-of_z w64 c.number_at.result fits) in (
       λ members has. pushed ∙ numbers-more
           (number_in g.A.Accumulate.operation.value c.args.job.now c.args.p members)
-          c.loop-n.list.items c.loop-n.n c.number_of.result
+          c.loop-n.list.items c.loop-n.n c.number_at.result
           (c.loop-n.invariant.0 members has)
-          (c.number_of.ensures.value
+          (c.number_at.ensures.value
           ∙ ap (λ o. number (applied (phaser_at c.args.job.now.graph c.args.p).single o))
           (value_of_part g.A.Accumulate.operation c.args.parts.now members c.loop-n.n
           c.index-parts-n.result c.finish-outcome.result g.met.A.Accumulate.laws has within
           c.index-parts-n.is c.finish-outcome.ensures)),
-      rw pushed (AreSends-append c.loop-n.list.items (c.number_of.result ∷ []) c.loop-n.invariant.1
-          (c.number_of.ensures.send, tt)),
+      rw pushed (AreSends-append c.loop-n.list.items (c.number_at.result ∷ []) c.loop-n.invariant.1
+          (c.number_at.ensures.send, tt)),
       λ members has. c.loop-n.invariant.2 members has
           ∙ find-pass (is_fault g.A.Accumulate.operation.value c.args.job.now
           (spans_of c.args.job.now) members c.args.p) _ c.loop-n.n within
