@@ -4,7 +4,7 @@ use Rattle.graph_text.specs.Numbers.{nat_value}
 use Rattle.graph_text.specs.Decls.{BodyWords, ByWords, EndWords}
 use Rattle.graph_lang.specs.LineTasks.{taps_of, shift_of, factor_of}
 use Rattle.graph_lang.specs.declared.within.Numbers.{Numbers}
-use Rattle.graph_lang.specs.declared.within.Steps.{Steps}
+use Rattle.graph_lang.specs.declared.within.EndNumbers.{EndNumbers}
 
 -- the numbers are those that the words of a task write
 pub record AreNumbersOf (numbers : Numbers) (body : BodyWords) : Type 0 where
@@ -13,7 +13,7 @@ pub record AreNumbersOf (numbers : Numbers) (body : BodyWords) : Type 0 where
   pub factor : numbers.factor ≡ factor_of body
 
 -- the numbers that the words behind a task's phasers write
-abbrev pub steps_in : EndWords → Steps
+abbrev pub steps_in : EndWords → EndNumbers
 steps_in ends = record {
   at = option_map (λ by. nat_value by.at) ends.by;
   until = option_map nat_value ends.until;

@@ -14,7 +14,7 @@ ghost use Rattle.graph_lang.specs.Numbers.{AreNumbersOf, steps_in};
 use crate::draft::{Draft, add_name};
 use crate::parents::parent_of;
 use crate::phasers::{input_words, kind_of, numbers_of, output_words};
-use crate::within::{Numbers, Steps};
+use crate::within::{EndNumbers, Numbers};
 use graph_base::{Op, PhaserLine, Place, TaskLine};
 use graph_text::{Body, TaskWords, file_text, name_text};
 use phase_accum::Single;
@@ -62,7 +62,7 @@ impl Draft {
         number: u64,
         words: TaskWords<'_, '_>,
         numbers: Numbers,
-        steps: Steps,
+        steps: EndNumbers,
     ) -> Result<TaskLine, AllocError>
         requires body { IsBody (body_of words.body) }
         requires inputs { IsTrue (list_all is_name (inputs_of (body_of words.body))) }

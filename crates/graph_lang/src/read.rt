@@ -12,7 +12,7 @@ ghost use Rattle.graph_lang.specs.Reads.{TellsDecl, Steps, TellsFault, Tells};
 use crate::declare::{fault, phaser_words};
 use crate::draft::{Draft, place_of};
 use crate::fault::{FaultKind, GraphRefusal};
-use crate::within::{Numbers, Steps, numbers_of, phaser_line, steps_of};
+use crate::within::{EndNumbers, Numbers, numbers_of, phaser_line, steps_of};
 use graph_base::{Graph, PHASERS_MAX, PhaserLine, TASKS_MAX};
 use graph_text::{
     Line, PhaserWords, TaskWords, are_printable, begins_comment, line_at, lines_of, name_text,
@@ -48,7 +48,7 @@ impl Draft {
         &self,
         alloc: Global,
         words: TaskWords<'_, '_>,
-    ) -> Result<Option<(Numbers, Steps)>, AllocError>
+    ) -> Result<Option<(Numbers, EndNumbers)>, AllocError>
         requires { IsWellFormed (decl_of (line.Task words)) }
         ensures within { IfOk result (λ found. is_some found
             ≡ not (is_past_limit self.now (decl_of (line.Task words.entry)))) }

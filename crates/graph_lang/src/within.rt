@@ -97,7 +97,7 @@ pub(crate) struct Numbers {
 /// The numbers of a task's ends: after how many steps of its parent it is registered, and after how
 /// many of its own it drops.
 #[derive(Clone, Copy, Debug)]
-pub(crate) struct Steps {
+pub(crate) struct EndNumbers {
     pub(crate) at: Option<u64>,
     pub(crate) until: Option<u64>,
 }
@@ -237,7 +237,7 @@ fn count_in(word: Option<&[u8]>) -> Option<Option<u64>>
 }
 
 /// The numbers of the ends of a task's line, where each is within its limit.
-pub(crate) fn steps_of(ends: Ends<'_>) -> Option<Steps>
+pub(crate) fn steps_of(ends: Ends<'_>) -> Option<EndNumbers>
     requires by { IfSome (by_of ends.by) IsBy }
     requires until { IfSome (word_of ends.until) (λ steps. IsTrue (is_nat steps)) }
     ensures { result ≡ (if are_ends_within (ends_of ends.entry)
@@ -248,5 +248,5 @@ pub(crate) fn steps_of(ends: Ends<'_>) -> Option<Steps>
         Some(by) => Some(count_of(by.at)?),
     };
     let until = count_in(ends.until)?;
-    Some(Steps { at, until })
+    Some(EndNumbers { at, until })
 }
