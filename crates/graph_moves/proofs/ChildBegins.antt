@@ -23,13 +23,13 @@ use Rattle.stream_lists.specs.Lists.{number}
 use Rattle.stream_laws.proofs.Ordered.{parent_signals}
 use Rattle.graph_moments.specs.Agreeing.{one}
 use Rattle.graph_moments.specs.Moments.{Moment, TaskRan, input_at, limits_at, value_at, IsRegistered, OnOutput, OnInput, OnPhaser, PutOn, TakenOn, SilentOn, OnLine, HasNotPassed, Joined, MayEnd, at_until, no_sample, no_input, HasEnded}
-use Rattle.graph_moves.specs.Moves.{HasGrown, PartStays, Registers}
+use Rattle.graph_moves.specs.Moves.{HasGrown, Registers}
 use Rattle.graph_moves.proofs.Framed.{task_later}
 use Rattle.graph_moves.proofs.OwnEvents.{eq_case}
 use Rattle.graph_moments.proofs.OnLines.{on_phaser}
 use Rattle.graph_moments.proofs.Whole.{parent_of}
 use Rattle.graph_moments.proofs.Results.{parent_waits}
-use Rattle.graph_moves.proofs.Registering.{read_not_signalled, signals_from, waits_from, silent_from}
+use Rattle.graph_moves.proofs.Registering.{part_stays, read_not_signalled, signals_from, waits_from, silent_from}
 
 -- the child's part, by its parent's
 pub child_begins : (job : Job) (before after : Moment) (t p n c a : ℕ) (mode : Mode) (u : Parent)
@@ -64,19 +64,6 @@ child_begins job before after t p n c a mode u is there legal grown s parent chi
     unused = above_law (value_at job p) (limits_at job p) (before.history p) a legal
         (registers_from (before.history p) n a mode s.accepted).new_number
 
-    part : (q b : ℕ) → (q ≡ p) ⊎ (q ≢ p) → PartStays b (before.history q) (after.history q)
-    part q b (inl same) =
-        let P : History → Type 0 = λ g. PartStays b (before.history q) g in
-        let e : after.history q ≡ Registered n a mode ∷ before.history q =
-        ap (λ x. after.history x) same ∙ s.here
-        ∙ ap (λ x. Registered n a mode ∷ before.history x) (sym same) in
-        subst P (sym e)
-        (record { sent = refl; dropped = refl; signalled = refl; received = λ value. refl })
-    part q b (inr apart) =
-        let P : History → Type 0 = λ g. PartStays b (before.history q) g in
-        subst P (sym (s.elsewhere q apart))
-        (record { sent = refl; dropped = refl; signalled = refl; received = λ value. refl })
-
     -- all but the new number
     mid_ran : TaskRan job (record after { number = before.number }) c
     mid_ran =
@@ -91,7 +78,7 @@ child_begins job before after t p n c a mode u is there legal grown s parent chi
             put = (s.same c).put;
           };
           number = λ q. refl;
-          part = λ q b at. part q b (eq_case q p);
+          part = λ q b at. part_stays job before after t p n c a mode u s q b;
           children = λ d q w there_d e same none. none;
           parent = λ w e.
               (let begun : after.begun w.task ≡ before.begun w.task = (s.same w.task).begun in
@@ -145,7 +132,7 @@ child_begins job before after t p n c a mode u is there legal grown s parent chi
           signals = s.signals j place;
           at = parent_out j place ∙ sym (s.same c).offset;
           sent = ap (λ g. sent_by g a) s.here ∙ none_sent
-              ∙ ap (λ l. map one l) (sym ((s.same c).put j ∙ s.nothing_put j));
+              ∙ ap (λ l. map one l) (sym ((s.same c).put j ∙ s.nothing_put j place));
           left = λ gone.
               absurd (let f : true ≡ false =
               sym gone ∙ ap (λ g. has_dropped g a) s.here ∙ unused.stays in cc);
@@ -206,7 +193,7 @@ child_begins job before after t p n c a mode u is there legal grown s parent chi
           start_is = subst A (sym s.here) start_here;
           waits = s.waits k lt at;
           at = (parent_in k lt at).0 ∙ sym (s.same c).offset;
-          taken = (s.same c).taken k ∙ s.nothing_taken k
+          taken = (s.same c).taken k ∙ s.nothing_taken k lt at
               ∙ ap (λ l. map number l)
               (sym (ap (λ g. received_by (value_at job p) g a) s.here ∙ unused.received));
           left = λ gone.

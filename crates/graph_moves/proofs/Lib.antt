@@ -1,4 +1,5 @@
 pub mod ChildBegins
+pub mod ChildJoins
 pub mod Framed
 pub mod Joins
 pub mod Keeping
@@ -7,4 +8,3 @@ pub mod Opened
 pub mod OwnEvents
 pub mod Registering
 pub mod Turned
-mod Worked

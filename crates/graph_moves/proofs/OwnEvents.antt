@@ -24,7 +24,8 @@ use Rattle.stream_laws.proofs.Ordered.{place-at}
 use Rattle.graph_moments.specs.Agreeing.{one}
 use Rattle.graph_moments.specs.Moments.{Moment, input_at, taken_now, made_now, value_at, IsRegistered, TaskRan, HasEnded, first_input, OnOutput, OnInput, OnPhaser, PutOn, TakenOn, SilentOn, OnLine, HasNotPassed, Joined, AtMost, HasTaken, HasSamples, HasExchanged}
 use Rattle.graph_moves.specs.Moves.{HasGrown, HasMoved, MayBegin, Signals, Waits, Leaves}
-use Rattle.graph_moments.proofs.Entries.{IsPrefix-refl}
+use Rattle.graph_moments.proofs.Entries.{IsPrefix-refl, prefix_length}
+use Rattle.stream_lists.proofs.SpansAbove.{parent-is}
 use Rattle.graph_moments.proofs.Steps.{no_inputs}
 use Rattle.graph_moves.proofs.Nexts.{has_taken-next, has_taken-stay, has_taken-peer}
 use Rattle.graph_moments.proofs.OutputLists.{outputs_begin}
@@ -44,19 +45,25 @@ eq_case a b = by (eqb a b) refl
         (let yes : eqb a b ≡ true = eq-eqb a b same in let f : true ≡ false = sym yes ∙ e in
         cc))
 
--- an event leaves some fact of each number's part of each history
-pub history_by : (job : Job) (before after : Moment) (t p : ℕ) (event : Event)
-    (P : History → Type 0) (q : ℕ) → HasMoved job before after t p event
+-- one event came on phaser p and on no other: some fact of each history
+pub history_where : (before after : Moment) (p : ℕ) (event : Event) (P : History → Type 0) (q : ℕ)
+    → after.history p ≡ event ∷ before.history p
+    → ((q : ℕ) → q ≢ p → after.history q ≡ before.history q)
     → (q ≡ p → P (event ∷ before.history q)) → (q ≢ p → P (before.history q)) → P (after.history q)
-history_by job before after t p event P q moved here there = by (eq_case q p)
+history_where before after p event P q came elsewhere here there = by (eq_case q p)
   where
     by : (q ≡ p) ⊎ (q ≢ p) → P (after.history q)
     by (inl same) =
         let is : after.history q ≡ event ∷ before.history q =
-        ap (λ x. after.history x) same ∙ moved.here
-        ∙ ap (λ x. event ∷ before.history x) (sym same) in
+        ap (λ x. after.history x) same ∙ came ∙ ap (λ x. event ∷ before.history x) (sym same) in
         subst P (sym is) (here same)
-    by (inr apart) = subst P (sym (moved.elsewhere q apart)) (there apart)
+    by (inr apart) = subst P (sym (elsewhere q apart)) (there apart)
+
+pub history_by : (job : Job) (before after : Moment) (t p : ℕ) (event : Event)
+    (P : History → Type 0) (q : ℕ) → HasMoved job before after t p event
+    → (q ≡ p → P (event ∷ before.history q)) → (q ≢ p → P (before.history q)) → P (after.history q)
+history_by job before after t p event P q moved =
+    history_where before after p event P q moved.here moved.elsewhere
 
 -- its parent's part, where it has one
 pub joined_later : (job : Job) (before after : Moment) (t p : ℕ) (event : Event) → IsGraph job.graph
@@ -77,7 +84,7 @@ joined_later job before after t p event is there moved j = by ((task_at job.grap
         let b : (before.offset t ≡ before.offset u.task + u.at) × (u.at ≤ before.begun u.task)
         × IsRegistered before u.task = subst B e j in
         let above : u.task < t =
-        (Rattle.stream_lists.proofs.SpansAbove.parent-is job.graph t (task_at job.graph t) u
+        (parent-is job.graph t (task_at job.graph t) u
         (is.tasks t there) e).above in
         let other : u.task ≢ t = λ same. omega arith in
         let s = moved.others u.task other in
@@ -410,7 +417,7 @@ own_wait job before after t k p n outcome is there s ran = record {
       (let A : List ℤ → Type 0 =
       λ l. HasExchanged (task_at job.graph t).kind j (length l) (length (after.taken t 1)) in
       let more : length (before.taken t 1) ≤ length (after.taken t 1) =
-      Rattle.graph_moments.proofs.Entries.prefix_length (before.taken t 1) (after.taken t 1)
+      prefix_length (before.taken t 1) (after.taken t 1)
       (takes_grow 1 (eq_case 1 k)) in
       subst A (sym (s.put j))
       (exchanged_more (task_at job.graph t).kind j (length (before.put t j))

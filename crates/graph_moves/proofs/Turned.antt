@@ -2,7 +2,7 @@
 use Rattle.std.proofs.Common.{◌≡◌, ◌≢◌, ℕ, suc, ◌+◌, ◌<◌, ◌≤◌, true, false, eqb, List, [], ◌∷◌, ◌++◌, Some, ℤ, pos, length, get_or, take, refl, sym, ap, subst, ◌∙◌, arith, ◌⊎◌, inl, inr}
 use mathlib.Core.List.{IsPrefix}
 use Rattle.std.proofs.lemmas.Bool.{ne_eqb, eq-eqb}
-use Rattle.std.proofs.lemmas.List.{length-append}
+use Rattle.std.proofs.lemmas.List.{length-append, append_assoc}
 use Rattle.phase_accum.specs.declared.outcome.Outcome.{Outcome}
 use Rattle.phase_history.specs.declared.event.Event.TheVariants.{Registered, Signalled, Waited, Dropped}
 use Rattle.phase_base.specs.declared.mode.Mode.{Mode}
@@ -15,13 +15,13 @@ use Rattle.stream_lists.specs.Jobs.{Job, samples_at}
 use Rattle.stream_lists.specs.Spans.{signalled_by}
 use Rattle.stream_lists.specs.Lists.{output_list, number}
 use Rattle.stream_laws.proofs.Ordered.{place-at}
-use Rattle.graph_moments.specs.Moments.{Moment, HasRun, HasExchanged, HasSamples, made_now, taken_now}
-use Rattle.graph_moves.specs.Moves.{SameTask, HasMoved}
+use Rattle.graph_moments.specs.Moments.{Moment, HasRun, TaskRan, HasExchanged, HasSamples, made_now, taken_now}
+use Rattle.graph_moves.specs.Moves.{Signals, Waits, Leaves, Registers, SameTask, HasMoved}
 use Rattle.graph_moves.specs.Turned.{with_at, after_signal, after_wait, after_leave, after_register, IsAcceptedSignal, IsNextSignal, IsNextSample, IsAnsweredWait, IsFirstWait, IsExchangeWait, IsNextLeave, IsNextChild}
 use Rattle.graph_moments.proofs.Entries.{IsPrefix-trans, take_prefix, take_full, get_or-take}
 use Rattle.graph_moves.proofs.OwnEvents.{made_still, eq_case}
 use Rattle.graph_moves.proofs.Keeping.{signal_keeps, wait_keeps, leave_keeps}
-use Rattle.graph_moves.proofs.Registering.{register_keeps}
+use Rattle.graph_moves.proofs.ChildJoins.{register_keeps}
 
 -- ---- a function with one place changed
 
@@ -47,7 +47,7 @@ prefix_next xs ys v a lt e = by a.0 a.1
     by (r ∷ rs) is =
         let here : r ≡ v = sym (seam xs r rs) ∙ ap (λ l. get_or l (length xs) (pos 0)) is ∙ e in (
           rs,
-          Rattle.std.proofs.lemmas.List.append_assoc xs (v ∷ []) rs
+          append_assoc xs (v ∷ []) rs
               ∙ ap (λ w. xs ++ w ∷ rs) (sym here) ∙ is,
         )
 
@@ -92,11 +92,10 @@ one_longer xs v =
     let l : length (xs ++ v ∷ []) ≡ length xs + 1 = length-append xs (v ∷ []) in omega arith
 
 -- the next signal of a step that was begun
-pub next_signal_keeps : (job : Job) (m : Moment) (t j p n : ℕ) (v : ℤ) → IsGraph job.graph
-    → t < length job.graph.tasks → p < length job.graph.phasers
-    → IsNextSignal job m t j p n v → HasRun job m
-    → HasRun job (after_signal job t j p n v (m.begun t) m)
-next_signal_keeps job m t j p n v is there pp s ran =
+pub next_signal_is : (job : Job) (m : Moment) (t j p n : ℕ) (v : ℤ)
+    → IsNextSignal job m t j p n v → TaskRan job m t
+    → Signals job m (after_signal job t j p n v (m.begun t) m) t j p n v
+next_signal_is job m t j p n v s ran =
     let after = after_signal job t j p n v (m.begun t) m in
     let still : after.begun t ≡ m.begun t = at_same t (m.begun t) m.begun in
     let put = put_now job m t j p n v (m.begun t) in
@@ -107,7 +106,7 @@ next_signal_keeps job m t j p n v is there pp s ran =
     let A : List ℤ → Type 0 = λ l. IsPrefix l (made_now job after t j) in
     let B : List ℤ → Type 0 = λ l. IsPrefix (m.put t j ++ v ∷ []) l in
     let X : ℕ → Type 0 = λ c. HasExchanged (task_at job.graph t).kind j c (length (m.taken t 1)) in
-    signal_keeps job m after t j p n v is there pp (record {
+    record {
       moved = moved_signal job m t j p n v (m.begun t) s.signal (omega arith);
       numbered = s.signal.numbered;
       place = s.signal.place;
@@ -118,17 +117,23 @@ next_signal_keeps job m t j p n v is there pp s ran =
       begun = inr still;
       made = subst A (sym put)
           (subst B (sym made)
-          (prefix_next (m.put t j) (made_now job m t j) v ((ran.tasks t there).puts j lt) s.few
-          s.entry));
+          (prefix_next (m.put t j) (made_now job m t j) v (ran.puts j lt) s.few s.entry));
       exchanged = subst X (sym (ap length put ∙ one_longer (m.put t j) v)) s.exchanged;
-    }) ran
+    }
+
+pub next_signal_keeps : (job : Job) (m : Moment) (t j p n : ℕ) (v : ℤ) → IsGraph job.graph
+    → t < length job.graph.tasks → p < length job.graph.phasers
+    → IsNextSignal job m t j p n v → HasRun job m
+    → HasRun job (after_signal job t j p n v (m.begun t) m)
+next_signal_keeps job m t j p n v is there pp s ran =
+    signal_keeps job m (after_signal job t j p n v (m.begun t) m) t j p n v is there pp
+    (next_signal_is job m t j p n v s (ran.tasks t there)) ran
 
 -- the next signal of a source
-pub next_sample_keeps : (job : Job) (m : Moment) (t j p n : ℕ) (v : ℤ) → IsGraph job.graph
-    → t < length job.graph.tasks → p < length job.graph.phasers
-    → IsNextSample job m t j p n v → HasRun job m
-    → HasRun job (after_signal job t j p n v (suc (m.begun t)) m)
-next_sample_keeps job m t j p n v is there pp s ran =
+pub next_sample_is : (job : Job) (m : Moment) (t j p n : ℕ) (v : ℤ)
+    → IsNextSample job m t j p n v → TaskRan job m t
+    → Signals job m (after_signal job t j p n v (suc (m.begun t)) m) t j p n v
+next_sample_is job m t j p n v s ran =
     let b = m.begun t in
     let samples = samples_at job t in
     let after = after_signal job t j p n v (suc b) m in
@@ -146,7 +151,7 @@ next_sample_keeps job m t j p n v is there pp s ran =
     let P : List ℤ → Type 0 = λ l. IsPrefix (m.put t j) l in
     let begins : IsPrefix (m.put t j) (take (suc b) samples) =
     IsPrefix-trans (m.put t j) (take b samples) (take (suc b) samples)
-    (subst P before_is ((ran.tasks t there).puts j lt))
+    (subst P before_is (ran.puts j lt))
     (take_prefix b (suc b) samples (omega arith)) in
     let long : length (take (suc b) samples) ≡ suc b = take_full (suc b) samples few in
     let all : length (m.put t j) ≡ b = s.all_put in
@@ -157,7 +162,7 @@ next_sample_keeps job m t j p n v is there pp s ran =
     let B : List ℤ → Type 0 = λ l. IsPrefix (m.put t j ++ v ∷ []) l in
     let X : Kind → Type 0 =
     λ kind. HasExchanged kind j (length (after.put t j)) (length (after.taken t 1)) in
-    signal_keeps job m after t j p n v is there pp (record {
+    record {
       moved = moved_signal job m t j p n v (suc b) s.signal (omega arith);
       numbered = s.signal.numbered;
       place = s.signal.place;
@@ -170,12 +175,20 @@ next_sample_keeps job m t j p n v is there pp s ran =
           (subst B (sym after_is)
           (prefix_next (m.put t j) (take (suc b) samples) v begins (omega arith) entry));
       exchanged = subst X (sym s.source) tt;
-    }) ran
+    }
   where
     source_makes : (kind : Kind) → (task_at job.graph t).kind ≡ Source
         → (b : ℕ) (taken : List (List ℤ))
         → output_list (samples_at job t) taken (task_at job.graph t) b j ≡ take b (samples_at job t)
     source_makes kind e b taken = rw e refl
+
+pub next_sample_keeps : (job : Job) (m : Moment) (t j p n : ℕ) (v : ℤ) → IsGraph job.graph
+    → t < length job.graph.tasks → p < length job.graph.phasers
+    → IsNextSample job m t j p n v → HasRun job m
+    → HasRun job (after_signal job t j p n v (suc (m.begun t)) m)
+next_sample_keeps job m t j p n v is there pp s ran =
+    signal_keeps job m (after_signal job t j p n v (suc (m.begun t)) m) t j p n v is there pp
+    (next_sample_is job m t j p n v s (ran.tasks t there)) ran
 
 -- ---- waits
 
@@ -213,13 +226,11 @@ taken_else m t k p n outcome begun i apart =
     ∙ at_other k (m.taken t k ++ number outcome ∷ []) (m.taken t) i apart
 
 -- the first wait of a step
-pub first_wait_keeps : (job : Job) (m : Moment) (t k p n : ℕ) (outcome : Outcome)
-    → IsGraph job.graph → t < length job.graph.tasks → p < length job.graph.phasers
-    → IsFirstWait job m t k p n outcome → HasRun job m
-    → HasRun job (after_wait t k p n outcome (suc (m.begun t)) m)
-first_wait_keeps job m t k p n outcome is there pp s ran =
-    wait_keeps job m (after_wait t k p n outcome (suc (m.begun t)) m) t k p n outcome is there pp
-    (record {
+pub first_wait_is : (job : Job) (m : Moment) (t k p n : ℕ) (outcome : Outcome)
+    → IsFirstWait job m t k p n outcome
+    → Waits job m (after_wait t k p n outcome (suc (m.begun t)) m) t k p n outcome
+first_wait_is job m t k p n outcome s =
+    record {
       moved = moved_wait job m t k p n outcome (suc (m.begun t)) s.wait (omega arith);
       numbered = s.wait.numbered;
       few = s.wait.few;
@@ -230,16 +241,22 @@ first_wait_keeps job m t k p n outcome is there pp s ran =
       other_takes = λ i apart. taken_else m t k p n outcome (suc (m.begun t)) i apart;
       put = λ j. refl;
       begun = inl (s.first, at_same t (suc (m.begun t)) m.begun, s.may_begin);
-    }) ran
+    }
+
+pub first_wait_keeps : (job : Job) (m : Moment) (t k p n : ℕ) (outcome : Outcome)
+    → IsGraph job.graph → t < length job.graph.tasks → p < length job.graph.phasers
+    → IsFirstWait job m t k p n outcome → HasRun job m
+    → HasRun job (after_wait t k p n outcome (suc (m.begun t)) m)
+first_wait_keeps job m t k p n outcome is there pp s ran =
+    wait_keeps job m (after_wait t k p n outcome (suc (m.begun t)) m) t k p n outcome is there pp
+    (first_wait_is job m t k p n outcome s) ran
 
 -- a peer's second
-pub exchange_wait_keeps : (job : Job) (m : Moment) (t p n : ℕ) (outcome : Outcome)
-    → IsGraph job.graph → t < length job.graph.tasks → p < length job.graph.phasers
-    → IsExchangeWait job m t p n outcome → HasRun job m
-    → HasRun job (after_wait t 1 p n outcome (m.begun t) m)
-exchange_wait_keeps job m t p n outcome is there pp s ran =
-    wait_keeps job m (after_wait t 1 p n outcome (m.begun t) m) t 1 p n outcome is there pp
-    (record {
+pub exchange_wait_is : (job : Job) (m : Moment) (t p n : ℕ) (outcome : Outcome)
+    → IsExchangeWait job m t p n outcome
+    → Waits job m (after_wait t 1 p n outcome (m.begun t) m) t 1 p n outcome
+exchange_wait_is job m t p n outcome s =
+    record {
       moved = moved_wait job m t 1 p n outcome (m.begun t) s.wait (omega arith);
       numbered = s.wait.numbered;
       few = s.wait.few;
@@ -250,7 +267,15 @@ exchange_wait_keeps job m t p n outcome is there pp s ran =
       other_takes = λ i apart. taken_else m t 1 p n outcome (m.begun t) i apart;
       put = λ j. refl;
       begun = inr (s.peer, refl, at_same t (m.begun t) m.begun, s.behind);
-    }) ran
+    }
+
+pub exchange_wait_keeps : (job : Job) (m : Moment) (t p n : ℕ) (outcome : Outcome)
+    → IsGraph job.graph → t < length job.graph.tasks → p < length job.graph.phasers
+    → IsExchangeWait job m t p n outcome → HasRun job m
+    → HasRun job (after_wait t 1 p n outcome (m.begun t) m)
+exchange_wait_keeps job m t p n outcome is there pp s ran =
+    wait_keeps job m (after_wait t 1 p n outcome (m.begun t) m) t 1 p n outcome is there pp
+    (exchange_wait_is job m t p n outcome s) ran
 
 -- ---- leaving, and a child
 
@@ -267,11 +292,10 @@ same_task before after t offset begun taken put =
     }
 
 -- leaving a phaser
-pub next_leave_keeps : (job : Job) (m : Moment) (t p n : ℕ) → IsGraph job.graph
-    → t < length job.graph.tasks → p < length job.graph.phasers
-    → IsNextLeave job m t p n → HasRun job m → HasRun job (after_leave p n m)
-next_leave_keeps job m t p n is there pp s ran =
-    leave_keeps job m (after_leave p n m) t p n is there pp (record {
+pub next_leave_is : (job : Job) (m : Moment) (t p n : ℕ) → IsNextLeave job m t p n
+    → Leaves job m (after_leave p n m) t p n
+next_leave_is job m t p n s =
+    record {
       moved = record {
         accepted = s.accepted;
         here = at_same p (Dropped n ∷ m.history p) m.history;
@@ -285,15 +309,21 @@ next_leave_keeps job m t p n is there pp s ran =
       same = same_task m (after_leave p n m) t refl refl refl refl;
       ended = s.ended;
       children = s.children;
-    }) ran
+    }
+
+pub next_leave_keeps : (job : Job) (m : Moment) (t p n : ℕ) → IsGraph job.graph
+    → t < length job.graph.tasks → p < length job.graph.phasers
+    → IsNextLeave job m t p n → HasRun job m → HasRun job (after_leave p n m)
+next_leave_keeps job m t p n is there pp s ran =
+    leave_keeps job m (after_leave p n m) t p n is there pp (next_leave_is job m t p n s) ran
 
 -- registering a child on a phaser
-pub next_child_keeps : (job : Job) (m : Moment) (t p n c a : ℕ) (mode : Mode) (u : Parent)
-    → IsGraph job.graph → t < length job.graph.tasks
-    → IsNextChild job m t p n c a mode u → HasRun job m → HasRun job (after_register p n c a mode m)
-next_child_keeps job m t p n c a mode u is there s ran =
+pub next_child_is : (job : Job) (m : Moment) (t p n c a : ℕ) (mode : Mode) (u : Parent)
+    → IsNextChild job m t p n c a mode u
+    → Registers job m (after_register p n c a mode m) t p n c a mode u
+next_child_is job m t p n c a mode u s =
     let after = after_register p n c a mode m in
-    register_keeps job m after t p n c a mode u is there (record {
+    record {
       child = s.child;
       parent = s.parent;
       by = s.by;
@@ -316,7 +346,7 @@ next_child_keeps job m t p n c a mode u is there s ran =
       nothing_begun = s.nothing_begun;
       all_put = s.all_put;
       all_taken = s.all_taken;
-    }) ran
+    }
   where
     other : (q x : ℕ) → (q ≢ p) ⊎ (x ≢ c) → (q ≡ p) ⊎ (q ≢ p)
         → with_at p (with_at c (Some a) (m.number p)) m.number q x ≡ m.number q x
@@ -329,3 +359,10 @@ next_child_keeps job m t p n c a mode u is there s ran =
         subst N (sym same)
         (ap (λ f. f x) (at_same p (with_at c (Some a) (m.number p)) m.number)
         ∙ at_other c (Some a) (m.number p) x apart)
+
+pub next_child_keeps : (job : Job) (m : Moment) (t p n c a : ℕ) (mode : Mode) (u : Parent)
+    → IsGraph job.graph → t < length job.graph.tasks
+    → IsNextChild job m t p n c a mode u → HasRun job m → HasRun job (after_register p n c a mode m)
+next_child_keeps job m t p n c a mode u is there s ran =
+    register_keeps job m (after_register p n c a mode m) t p n c a mode u is there
+    (next_child_is job m t p n c a mode u s) ran

@@ -154,8 +154,10 @@ pub record Registers (job : Job) (before after : Moment) (t p n c a : ℕ) (mode
       → input_at (task_at job.graph c) k ≡ p → mode_waits mode ≡ true
   pub boundary : before.begun t ≡ u.at
   pub offset : before.offset c ≡ before.offset t + u.at
-  pub nothing_put : (j : ℕ) → before.put c j ≡ []
-  pub nothing_taken : (k : ℕ) → before.taken c k ≡ []
+  pub nothing_put : (j : ℕ) → place_in (signalled_by (task_at job.graph c)) p ≡ Some j
+      → before.put c j ≡ []
+  pub nothing_taken : (k : ℕ) → k < length (task_at job.graph c).inputs
+      → input_at (task_at job.graph c) k ≡ p → before.taken c k ≡ []
   pub nothing_begun : before.begun c ≡ 0
   -- the parent has put and taken all that its steps do
   pub all_put : (i : ℕ) → place_in (signalled_by (task_at job.graph t)) p ≡ Some i

@@ -22,6 +22,7 @@ IsOpening founder (Signalled task lists single ∷ before) = ⊥
 IsOpening founder (Waited task phases ∷ before) = ⊥
 IsOpening founder (Dropped task ∷ before) = (task ≡ founder) × IsOpening founder before
 
+-- phaser p at the opening: its tasks have numbers of their own, which are not the founder's
 pub record PhaserOpened (job : Job) (m : Moment) (p : ℕ) : Type 0 where
   pub legal : IsLegal (limits_at job p) (m.history p)
   pub founder : ℕ
@@ -31,6 +32,8 @@ pub record PhaserOpened (job : Job) (m : Moment) (p : ℕ) : Type 0 where
   pub used : (t n : ℕ) → m.number p t ≡ Some n → IsUsed (m.history p) n
   pub apart : (t n : ℕ) → m.number p t ≡ Some n → n ≢ founder
 
+-- task t at the opening: it is registered on the phasers of its line where it has no parent, in a mode
+-- that may signal its outputs and wait for its inputs, and on none where it has one
 pub record TaskOpened (job : Job) (m : Moment) (t : ℕ) : Type 0 where
   pub rooted : (p n : ℕ) → m.number p t ≡ Some n → (task_at job.graph t).parent ≡ None
   pub lines : (p n : ℕ) → m.number p t ≡ Some n → OnLine (task_at job.graph t) p
@@ -48,6 +51,7 @@ pub record TaskOpened (job : Job) (m : Moment) (t : ℕ) : Type 0 where
   pub nothing_put : (j : ℕ) → m.put t j ≡ []
   pub nothing_taken : (k : ℕ) → m.taken t k ≡ []
 
+-- a run at its opening
 pub record HasOpened (job : Job) (m : Moment) : Type 0 where
   pub phasers : (p : ℕ) → p < length job.graph.phasers → PhaserOpened job m p
   pub tasks : (t : ℕ) → t < length job.graph.tasks → TaskOpened job m t

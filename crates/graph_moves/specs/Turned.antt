@@ -121,8 +121,10 @@ pub record IsNextChild (job : Job) (m : Moment) (t p n c a : ℕ) (mode : Mode) 
       → input_at (task_at job.graph c) k ≡ p → mode_waits mode ≡ true
   pub boundary : m.begun t ≡ u.at
   pub offset : m.offset c ≡ m.offset t + u.at
-  pub nothing_put : (j : ℕ) → m.put c j ≡ []
-  pub nothing_taken : (k : ℕ) → m.taken c k ≡ []
+  pub nothing_put : (j : ℕ) → place_in (signalled_by (task_at job.graph c)) p ≡ Some j
+      → m.put c j ≡ []
+  pub nothing_taken : (k : ℕ) → k < length (task_at job.graph c).inputs
+      → input_at (task_at job.graph c) k ≡ p → m.taken c k ≡ []
   pub nothing_begun : m.begun c ≡ 0
   pub all_put : (i : ℕ) → place_in (signalled_by (task_at job.graph t)) p ≡ Some i
       → length (m.put t i) ≡ m.begun t

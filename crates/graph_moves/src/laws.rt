@@ -1,15 +1,17 @@
 //! How a run goes on: what it has at its opening, and that each next event keeps it. Each function
 //! here makes no call and has no effect: its contract is the law. So whoever makes events one by one,
 //! in any order of the tasks, has `HasRun` of every moment, and with it the laws of `graph_moments`.
-ghost use Rattle.std.specs.Prelude.{◌<◌, ℕ, ℤ, suc, length};
+ghost use Rattle.std.specs.Prelude.{◌<◌, ℕ, ℤ, suc, [], ◌∷◌, length};
 ghost use Rattle.phase_base.specs.declared.mode.Mode.{Mode};
 ghost use Rattle.phase_accum.specs.declared.outcome.Outcome.{Outcome};
 ghost use Rattle.graph_base.specs.TaskLines.{IsGraph};
 ghost use Rattle.graph_base.specs.declared.line.Parent.{Parent};
 ghost use Rattle.stream_lists.specs.Jobs.{Job};
+ghost use Rattle.phase_history.specs.Histories.{History};
 ghost use Rattle.phase_history.specs.Legal.{IsLegal};
+ghost use Rattle.phase_history.specs.Others.{OthersCame};
 ghost use Rattle.graph_moments.specs.Moments.{Moment, HasRun, PhaserRan, TaskRan, HasEnded, limits_at};
-ghost use Rattle.graph_moves.specs.Moves.{HasGrown, OthersMoved, SameTask};
+ghost use Rattle.graph_moves.specs.Moves.{HasGrown, OthersMoved, PartStays, SameTask};
 ghost use Rattle.graph_moves.specs.Moves.{Signals, Waits, Leaves, Registers};
 ghost use Rattle.graph_moves.specs.Turned.{after_signal, after_wait, after_leave, after_register};
 ghost use Rattle.graph_moves.specs.Turned.{IsNextSample, IsNextSignal, IsFirstWait};
@@ -53,6 +55,29 @@ pub fn turns_keep()
         → HasRun job (after_register p n c a mode m) }
 {}
 
+/// The moment after a next event is what the event makes of the moment before, as the relations of
+/// `specs/Moves.antt` say it. So who has a moment of one task's own takes that task's next events for
+/// `own_events_keep`, and need not say what other tasks have done.
+pub fn next_events_are_moves()
+    ensures sample { (job : Job) (m : Moment) (t j p n : ℕ) (v : ℤ)
+        → IsNextSample job m t j p n v → TaskRan job m t
+        → Signals job m (after_signal job t j p n v (suc (m.begun t)) m) t j p n v }
+    ensures signal { (job : Job) (m : Moment) (t j p n : ℕ) (v : ℤ)
+        → IsNextSignal job m t j p n v → TaskRan job m t
+        → Signals job m (after_signal job t j p n v (m.begun t) m) t j p n v }
+    ensures first_wait { (job : Job) (m : Moment) (t k p n : ℕ) (outcome : Outcome)
+        → IsFirstWait job m t k p n outcome
+        → Waits job m (after_wait t k p n outcome (suc (m.begun t)) m) t k p n outcome }
+    ensures exchange_wait { (job : Job) (m : Moment) (t p n : ℕ) (outcome : Outcome)
+        → IsExchangeWait job m t p n outcome
+        → Waits job m (after_wait t 1 p n outcome (m.begun t) m) t 1 p n outcome }
+    ensures leave { (job : Job) (m : Moment) (t p n : ℕ) → IsNextLeave job m t p n
+        → Leaves job m (after_leave p n m) t p n }
+    ensures child { (job : Job) (m : Moment) (t p n c a : ℕ) (mode : Mode) (u : Parent)
+        → IsNextChild job m t p n c a mode u
+        → Registers job m (after_register p n c a mode m) t p n c a mode u }
+{}
+
 /// A task's own event keeps what a moment has of the task, where the histories of the phasers on its
 /// line grew legally, and a child's registration gives what it has of the child. For who knows of a
 /// run only what one task has seen, as a thread that moves one task does.
@@ -78,8 +103,11 @@ pub fn own_events_keep()
 {}
 
 /// What a moment has of a task stays where others' events came, and so does that it has ended. So a
-/// task need not know what the others did since its own last event.
+/// task need not know what the others did since its own last event. Of each history it asks that the
+/// task's part is the same, which it is where none of the later events is the task's: `part`.
 pub fn others_leave()
+    ensures part { (n : ℕ) (old new : History) → OthersCame (n ∷ []) old new
+        → PartStays n old new }
     ensures task { (job : Job) (before after : Moment) (t : ℕ)
         → IsGraph job.graph → t < length job.graph.tasks → HasGrown job before after t
         → OthersMoved job before after t → TaskRan job before t → TaskRan job after t }

@@ -1,0 +1,6 @@
+pub mod GraphTests
+pub mod NextTests
+pub mod OpeningTests
+pub mod RunTests
+pub mod Tests
+mod WorkedRun

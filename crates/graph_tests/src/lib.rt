@@ -1,0 +1,4 @@
+//! Tests of runs of graphs: whole runs, event by event, and each law of them used once.
+#![tactic(auto)]
+
+mod worked_run;

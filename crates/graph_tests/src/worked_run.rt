@@ -1,0 +1,4 @@
+//! A worked run.
+
+/// Nothing yet.
+fn nothing() {}
