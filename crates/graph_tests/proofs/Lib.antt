@@ -3,4 +3,4 @@ pub mod NextTests
 pub mod OpeningTests
 pub mod RunTests
 pub mod Tests
-mod WorkedRun
+pub mod WorkedRun
