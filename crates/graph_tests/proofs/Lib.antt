@@ -1,4 +1,5 @@
 pub mod GraphTests
+pub mod Histories
 pub mod NextTests
 pub mod OpeningTests
 pub mod RunTests

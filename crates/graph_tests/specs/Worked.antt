@@ -8,6 +8,7 @@ use Rattle.phase_history.specs.declared.event.Event.TheVariants.{Made, Registere
 use Rattle.phase_history.specs.Histories.{History}
 use Rattle.phase_base.specs.declared.operation.Op.TheVariants.{Sum}
 use Rattle.graph_base.specs.declared.line.Kind.TheVariants.{Source, Split, Join, Peer, Sink}
+use Rattle.graph_base.specs.declared.line.Parent.{Parent}
 use Rattle.graph_base.specs.declared.line.PhaserLine.{PhaserLine}
 use Rattle.graph_base.specs.declared.place.Place.TheVariants as place
 use Rattle.graph_base.specs.Graphs.{Graph, no_task}
@@ -147,3 +148,21 @@ before_end = after_all worked with_late (late_turns ++ last_turns)
 
 abbrev pub worked_end : Moment
 worked_end = after_turn worked late_leaves before_end
+
+-- the first four moments after the opening: the source has signalled 5, the peer has taken it, has put
+-- it on E, and has taken it there
+abbrev pub after_sample : Moment
+after_sample = after_turn worked (sample 0 0 0 1 (pos 5)) worked_opening
+
+abbrev pub after_first_wait : Moment
+after_first_wait = after_turn worked (first_wait 1 0 0 2 (Value (pos 5))) after_sample
+
+abbrev pub after_signal_on_e : Moment
+after_signal_on_e = after_turn worked (signal 1 0 1 1 (pos 5)) after_first_wait
+
+abbrev pub after_exchange : Moment
+after_exchange = after_turn worked (exchange_wait 1 1 1 (Value (pos 5))) after_signal_on_e
+
+-- late comes by out, after one step of it
+abbrev pub by_out : Parent
+by_out = record { task = 4; at = 1 }

@@ -27,7 +27,7 @@ fn turns_lead_on()
 }
 
 /// A source, a peer, a splitter, a joiner, a sink with `until` and its child run to their end.
-fn a_run_from_its_opening_to_its_end()
+pub(crate) fn a_run_from_its_opening_to_its_end()
     ensures graph { IsGraph worked.graph }
     ensures opening { HasRun worked worked_opening }
     ensures through { HasRunThrough worked worked_opening worked_turns }
