@@ -1,5 +1,5 @@
 -- A run is tested event by event.
-use Rattle.std.proofs.Common.{◌≡◌, ℕ, ◌<◌, All, true, false, List, [], ◌∷◌, ℤ, Some, length, take, drop}
+use Rattle.std.proofs.Common.{◌≡◌, ℕ, ◌<◌, true, false, List, [], ◌∷◌, ℤ, Some, length, take, drop}
 use Rattle.phase_base.specs.Members.{signal_phases}
 use Rattle.phase_accum.specs.declared.outcome.Outcome.{Outcome}
 use Rattle.phase_history.specs.declared.event.Event.TheVariants.{Made, Registered, RegisteredNow, Signalled, Waited, Dropped}
@@ -29,9 +29,11 @@ pub run_through : (job : Job) (m : Moment) (turns : List Turn)
     → HasRun job (after_turn job turn m))
     → AreNext job m turns → HasRun job m → HasRunThrough job m turns
 run_through job m [] keeps next ran = ran
-run_through job m (turn ∷ turns) keeps next ran =
-    (ran, run_through job (after_turn job turn m) turns keeps next.1
-    (keeps m turn (next.0 ran) ran))
+run_through job m (turn ∷ turns) keeps next ran = (
+  ran,
+  run_through job (after_turn job turn m) turns keeps next.1
+      (keeps m turn (next.0 ran) ran),
+)
 
 pub run_to_the_end : (job : Job) (m : Moment) (turns : List Turn) → HasRunThrough job m turns
     → HasRun job (after_all job m turns)

@@ -1,5 +1,5 @@
 -- Runs of a graph as lists of events, one event of one task at a time.
-use Rattle.std.specs.Prelude.{◌≡◌, ℕ, suc, ◌<◌, ℤ, List, [], ◌∷◌, Option, None, get_or, length}
+use Rattle.std.specs.Prelude.{ℕ, suc, ◌<◌, ℤ, List, [], ◌∷◌, Option, None, get_or, length}
 use Rattle.phase_base.specs.declared.mode.Mode.{Mode}
 use Rattle.phase_accum.specs.declared.outcome.Outcome.{Outcome}
 use Rattle.phase_history.specs.Histories.{History}

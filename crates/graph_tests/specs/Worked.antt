@@ -1,13 +1,12 @@
 -- A worked run: a source, a peer alone on its exchange, a splitter, a joiner, a sink with `until`, and
 -- its child, from the opening to the end.
-use Rattle.std.specs.Prelude.{ℕ, ℤ, List, [], ◌∷◌, ◌++◌, Option, Some, None, pos, codes}
-use Rattle.phase_base.specs.declared.mode.Mode.{Mode}
+use Rattle.std.specs.Prelude.{ℕ, List, [], ◌∷◌, ◌++◌, Option, Some, None, pos, codes}
 use Rattle.phase_base.specs.declared.mode.Mode.TheVariants.{Sig, Wait, SigWait}
 use Rattle.phase_accum.specs.declared.outcome.Outcome.TheVariants.{Value}
 use Rattle.phase_history.specs.declared.event.Event.TheVariants.{Made, Registered, Dropped}
 use Rattle.phase_history.specs.Histories.{History}
 use Rattle.phase_base.specs.declared.operation.Op.TheVariants.{Sum}
-use Rattle.graph_base.specs.declared.line.Kind.TheVariants.{Source, Split, Join, Peer, Sink}
+use Rattle.graph_base.specs.declared.line.Kind.TheVariants.{Source, Split, Join, Peer}
 use Rattle.graph_base.specs.declared.line.Parent.{Parent}
 use Rattle.graph_base.specs.declared.line.PhaserLine.{PhaserLine}
 use Rattle.graph_base.specs.declared.place.Place.TheVariants as place

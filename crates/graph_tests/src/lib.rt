@@ -2,4 +2,5 @@
 #![tactic(auto)]
 
 mod worked_events;
+mod worked_faults;
 mod worked_run;

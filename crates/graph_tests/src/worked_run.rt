@@ -19,7 +19,7 @@ use graph_moments::laws as moments;
 use graph_moves::laws as moves;
 
 /// Events that are each the next one of their task lead from one moment of a run to another.
-fn turns_lead_on()
+pub(crate) fn turns_lead_on()
     ensures { (job : Job) (m : Moment) (turns : List Turn) → IsGraph job.graph
         → AreNext job m turns → HasRun job m → HasRunThrough job m turns }
 {

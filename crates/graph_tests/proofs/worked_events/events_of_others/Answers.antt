@@ -3,8 +3,6 @@ use Rattle.std.proofs.Common.{◌≡◌, ℕ, [], ◌∷◌, refl, arith, subst}
 use Rattle.phase_base.specs.declared.mode.Mode.TheVariants.{Wait}
 use Rattle.phase_history.specs.declared.event.Event.TheVariants.{Registered}
 use Rattle.phase_history.specs.Others.{events_of}
-use Rattle.graph_moments.specs.Moments.{TaskRan, HasEnded}
-use Rattle.graph_moves.specs.Moves.{PartStays}
 use Rattle.graph_moves.proofs.Registering.{others_register}
 use Rattle.graph_tests.specs.Worked.{worked, after_peer, before_late, with_late, late_registers, lane_turns, by_out}
 use Rattle.graph_tests.proofs.Histories.{turn_begins, turns_begin, grown, only_one}

@@ -1,7 +1,7 @@
 -- Late has its moment, and each other task the one before.
-use Rattle.std.proofs.Common.{◌≡◌, ℕ, ◌<◌, cond, eqb, [], refl, arith}
+use Rattle.std.proofs.Common.{ℕ, cond, eqb, [], refl}
 use Rattle.phase_base.specs.declared.mode.Mode.TheVariants.{Wait}
-use Rattle.graph_moments.specs.Moments.{Moment, HasRun, TaskRan}
+use Rattle.graph_moments.specs.Moments.{Moment, TaskRan}
 use Rattle.graph_moves.specs.Moves.{HasGrown, OthersMoved}
 use Rattle.graph_moves.proofs.Registering.{others_register}
 use Rattle.graph_tests.specs.Worked.{worked, before_late, with_late, late_registers, by_out}

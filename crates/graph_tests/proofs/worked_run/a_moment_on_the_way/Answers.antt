@@ -1,6 +1,5 @@
 -- By the laws, at the moment after the peer's events.
 use Rattle.std.proofs.Common.{refl, arith}
-use Rattle.graph_moments.specs.Moments.{HasRun, IsRegistered}
 use Rattle.graph_tests.specs.Worked.{worked, after_peer}
 use Rattle.graph_tests.proofs.WorkedRun.{worked-ready}
 use Rattle.graph_tests.proofs.worked_run.a_moment_on_the_way.Goals as goal

@@ -1,6 +1,5 @@
 -- Each event is tested by computing.
 use Rattle.std.proofs.Common.{[], ◌∷◌, ◌++◌, refl}
-use Rattle.graph_moments.specs.Moments.{HasRun}
 use Rattle.graph_tests.specs.Worked.{worked, worked_histories, worked_numbers, worked_offsets, worked_opening, worked_turns, peer_turns, lane_turns, late_registers, late_turns, last_turns, late_leaves, after_peer, before_late, with_late, before_end}
 use Rattle.graph_tests.proofs.OpeningTests.{has_opened}
 use Rattle.graph_tests.proofs.RunTests.{are_next}

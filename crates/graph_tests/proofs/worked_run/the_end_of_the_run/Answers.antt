@@ -1,6 +1,5 @@
 -- By the laws, at the last moment.
 use Rattle.std.proofs.Common.{refl, arith}
-use Rattle.graph_moments.specs.Moments.{IsOver, HasMetNone}
 use Rattle.graph_tests.specs.Worked.{worked, worked_end}
 use Rattle.graph_tests.proofs.RunTests.{is_over, nowhere_answered}
 use Rattle.graph_tests.proofs.WorkedRun.{worked-is, worked-ready}
