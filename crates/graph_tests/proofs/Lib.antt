@@ -1,6 +1,7 @@
 pub mod GraphTests
+pub mod Histories
 pub mod NextTests
 pub mod OpeningTests
 pub mod RunTests
 pub mod Tests
-mod WorkedRun
+pub mod WorkedRun

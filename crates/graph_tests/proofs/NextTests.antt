@@ -1,16 +1,14 @@
 -- Tests of the next event of a task.
-use Rattle.std.proofs.Common.{◌≡◌, ◌≢◌, ℕ, zero, suc, ◌+◌, ◌<◌, ◌≤◌, Bool, true, false, not, ◌&&◌, ◌||◌, cond, eqb, eq-eqb, List, [], ◌∷◌, ◌++◌, Option, Some, None, is_some, is_none, ℤ, pos, length, get_or, take, drop, unsigned_abs, refl, sym, ap, subst, ◌∙◌, arith, ◌⊎◌, inl, inr}
+use Rattle.std.proofs.Common.{◌≡◌, ℕ, zero, suc, ◌+◌, ◌<◌, Bool, true, false, ◌||◌, cond, eqb, eq-eqb, List, [], ◌∷◌, ◌++◌, Option, Some, None, is_some, is_none, ℤ, pos, length, get_or, take, drop, unsigned_abs, refl, ap, arith, inl, inr}
 use Rattle.std.specs.List.{position_from}
 use Rattle.phase_base.specs.Modes.{mode_signals, mode_waits}
 use Rattle.phase_base.specs.Members.{signal_phases}
 use Rattle.phase_base.specs.declared.mode.Mode.{Mode}
 use Rattle.phase_accum.specs.declared.outcome.Outcome.{Outcome}
 use Rattle.phase_accum.specs.Sends.{value_max}
-use Rattle.phase_history.specs.declared.event.Event.TheVariants.{Registered, Signalled, Waited, Dropped}
-use Rattle.phase_history.specs.Histories.{History, members_of, done_of, wait_phase, has_dropped}
+use Rattle.phase_history.specs.Histories.{members_of, done_of, wait_phase, has_dropped}
 use Rattle.phase_history.specs.Phases.{stream_of, received_by}
 use Rattle.phase_history.specs.Refusals.{register_refusal, signal_refusal, wait_refusal, drop_refusal}
-use Rattle.phase_history.specs.Legal.{IsAccepted}
 use Rattle.graph_base.specs.declared.line.Kind.{Kind}
 use Rattle.graph_base.specs.declared.line.Kind.TheVariants.{Source, Fir, Split, Join, Peer, Sink}
 use Rattle.graph_base.specs.declared.line.Parent.{Parent}
@@ -318,24 +316,27 @@ is_child_of job m t p n c a mode None e = never
 is_child_of job m t p n c a mode (Some u) e =
     let of_t = task_at job.graph t in
     let of_c = task_at job.graph c in
-    giving (λ b. (u, record {
-      child = b.left;
-      parent = e;
-      by = b.right.left;
-      on_line = b.right.right.left;
-      numbered = b.right.right.right.left;
-      absent = b.right.right.right.right.left;
-      accepted = b.right.right.right.right.right.left;
-      signals = b.right.right.right.right.right.right.left.left;
-      waits = b.right.right.right.right.right.right.left.right;
-      boundary = b.right.right.right.right.right.right.right.left.left;
-      offset = b.right.right.right.right.right.right.right.left.right;
-      nothing_begun = b.right.right.right.right.right.right.right.right.left;
-      nothing_put = b.right.right.right.right.right.right.right.right.right.left.left;
-      nothing_taken = b.right.right.right.right.right.right.right.right.right.left.right;
-      all_put = b.right.right.right.right.right.right.right.right.right.right.left;
-      all_taken = b.right.right.right.right.right.right.right.right.right.right.right;
-    }))
+    giving (λ b. (
+      u,
+      record {
+        child = b.left;
+        parent = e;
+        by = b.right.left;
+        on_line = b.right.right.left;
+        numbered = b.right.right.right.left;
+        absent = b.right.right.right.right.left;
+        accepted = b.right.right.right.right.right.left;
+        signals = b.right.right.right.right.right.right.left.left;
+        waits = b.right.right.right.right.right.right.left.right;
+        boundary = b.right.right.right.right.right.right.right.left.left;
+        offset = b.right.right.right.right.right.right.right.left.right;
+        nothing_begun = b.right.right.right.right.right.right.right.right.left;
+        nothing_put = b.right.right.right.right.right.right.right.right.right.left.left;
+        nothing_taken = b.right.right.right.right.right.right.right.right.right.left.right;
+        all_put = b.right.right.right.right.right.right.right.right.right.right.left;
+        all_taken = b.right.right.right.right.right.right.right.right.right.right.right;
+      },
+    ))
     (both (test.is_below c (length job.graph.tasks))
     (both (test.is_equal u.task t)
     (both (is_on_line of_c p)

@@ -1,19 +1,18 @@
 -- Tests of an opening that is given by lists.
-use Rattle.std.proofs.Common.{◌≡◌, ◌≢◌, ℕ, zero, suc, ◌<◌, ◌≤◌, Bool, true, false, not, ◌||◌, eqb, eq-eqb, List, [], ◌∷◌, Option, Some, None, is_some, is_none, IsSome, length, get_or, refl, sym, ap, subst, ◌∙◌, arith}
+use Rattle.std.proofs.Common.{◌≡◌, ◌≢◌, ℕ, zero, suc, ◌<◌, Bool, true, false, eqb, eq-eqb, List, [], ◌∷◌, Option, Some, None, is_some, is_none, IsSome, length, get_or, refl, arith}
 use Rattle.phase_base.specs.Limits.{Limits, AreLimits}
 use Rattle.phase_base.specs.Modes.{mode_signals, mode_waits}
 use Rattle.phase_base.specs.declared.entry.Entry.{Entry}
-use Rattle.phase_history.specs.declared.event.Event.{Event}
 use Rattle.phase_history.specs.declared.event.Event.TheVariants.{Made, Registered, RegisteredNow, Signalled, Waited, Dropped}
 use Rattle.phase_history.specs.Histories.{History, start_of}
 use Rattle.phase_history.specs.Refusals.{register_refusal, drop_refusal}
 use Rattle.phase_history.specs.Legal.{IsLegal}
 use Rattle.phase_history.specs.Others.{IsUsed}
-use Rattle.graph_base.specs.Graphs.{task_at, phaser_at}
-use Rattle.graph_base.specs.TaskLines.{IsGraph, IsPhaserLine}
+use Rattle.graph_base.specs.Graphs.{task_at}
+use Rattle.graph_base.specs.TaskLines.{IsGraph}
 use Rattle.stream_lists.specs.Jobs.{Job, place_in}
 use Rattle.stream_lists.specs.Spans.{signalled_by}
-use Rattle.graph_moments.specs.Moments.{Moment, limits_at, input_at, OnLine}
+use Rattle.graph_moments.specs.Moments.{limits_at, input_at, OnLine}
 use Rattle.graph_moments.proofs.OnLines.{on_phaser}
 use Rattle.graph_moves.specs.Openings.{IsOpening, PhaserOpened, TaskOpened, HasOpened}
 use Rattle.graph_tests.specs.Runs.{opened}

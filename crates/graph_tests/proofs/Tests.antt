@@ -1,6 +1,6 @@
 -- Tests of facts by computing: where a test holds, its fact is so. A test of a whole is put together
 -- of tests of its parts, so that a worked run is checked by `refl`.
-use Rattle.std.proofs.Common.{◌≡◌, ◌≢◌, ℕ, zero, suc, ◌<◌, ◌≤◌, Bool, true, false, not, ◌&&◌, ◌||◌, eqb, leb, eqb-true, eq-eqb, leb-true, List, [], ◌∷◌, Option, Some, None, ℤ, pos, negsuc, refl, sym, ap, subst, ◌∙◌, arith, ◌⊎◌, inl, inr}
+use Rattle.std.proofs.Common.{◌≡◌, ◌≢◌, ℕ, zero, suc, ◌<◌, ◌≤◌, Bool, true, false, not, ◌&&◌, ◌||◌, eqb, leb, eqb-true, eq-eqb, leb-true, List, [], ◌∷◌, Option, Some, None, ℤ, pos, negsuc, refl, ap, subst, ◌∙◌, arith, ◌⊎◌, inl, inr}
 use Rattle.std.proofs.lemmas.Bool.{and_parts, cases_lt}
 use Rattle.std.proofs.lemmas.Option.{same_Some}
 use Rattle.phase_accum.specs.declared.outcome.Outcome.{Outcome}

@@ -1,2 +1,3 @@
 pub mod Runs
 pub mod Worked
+pub mod WorkedFaults

@@ -1,5 +1,5 @@
 -- Runs of a graph as lists of events, one event of one task at a time.
-use Rattle.std.specs.Prelude.{◌≡◌, ℕ, suc, ◌<◌, ℤ, List, [], ◌∷◌, Option, None, get_or, length}
+use Rattle.std.specs.Prelude.{ℕ, suc, ◌<◌, ℤ, List, [], ◌∷◌, Option, None, get_or, length}
 use Rattle.phase_base.specs.declared.mode.Mode.{Mode}
 use Rattle.phase_accum.specs.declared.outcome.Outcome.{Outcome}
 use Rattle.phase_history.specs.Histories.{History}
@@ -42,6 +42,12 @@ IsNext job m (exchange_wait t p n outcome) = IsThere job t p × IsExchangeWait j
 IsNext job m (leave t p n) = IsThere job t p × IsNextLeave job m t p n
 IsNext job m (child t p n c a mode) =
     IsThere job t p × ((u : Parent) × IsNextChild job m t p n c a mode u)
+
+-- each of these events is the next one, where the run came so far
+abbrev pub AreNext : Job → Moment → List Turn → Type 0
+AreNext job m [] = Unit {0}
+AreNext job m (turn ∷ turns) =
+    (HasRun job m → IsNext job m turn) × AreNext job (after_turn job turn m) turns
 
 -- each moment of these events, from the first to the last, is one of a run
 abbrev pub HasRunThrough : Job → Moment → List Turn → Type 0

@@ -1,19 +1,19 @@
 -- A worked run: a source, a peer alone on its exchange, a splitter, a joiner, a sink with `until`, and
 -- its child, from the opening to the end.
-use Rattle.std.specs.Prelude.{ℕ, ℤ, List, [], ◌∷◌, Option, Some, None, pos, codes}
-use Rattle.phase_base.specs.declared.mode.Mode.{Mode}
+use Rattle.std.specs.Prelude.{ℕ, List, [], ◌∷◌, ◌++◌, Option, Some, None, pos, codes}
 use Rattle.phase_base.specs.declared.mode.Mode.TheVariants.{Sig, Wait, SigWait}
 use Rattle.phase_accum.specs.declared.outcome.Outcome.TheVariants.{Value}
 use Rattle.phase_history.specs.declared.event.Event.TheVariants.{Made, Registered, Dropped}
 use Rattle.phase_history.specs.Histories.{History}
 use Rattle.phase_base.specs.declared.operation.Op.TheVariants.{Sum}
-use Rattle.graph_base.specs.declared.line.Kind.TheVariants.{Source, Split, Join, Peer, Sink}
+use Rattle.graph_base.specs.declared.line.Kind.TheVariants.{Source, Split, Join, Peer}
+use Rattle.graph_base.specs.declared.line.Parent.{Parent}
 use Rattle.graph_base.specs.declared.line.PhaserLine.{PhaserLine}
 use Rattle.graph_base.specs.declared.place.Place.TheVariants as place
 use Rattle.graph_base.specs.Graphs.{Graph, no_task}
 use Rattle.stream_lists.specs.Jobs.{Job}
 use Rattle.graph_moments.specs.Moments.{Moment}
-use Rattle.graph_tests.specs.Runs.{Turn, sample, signal, first_wait, exchange_wait, leave, child, opened, after_all}
+use Rattle.graph_tests.specs.Runs.{Turn, sample, signal, first_wait, exchange_wait, leave, child, opened, after_turn, after_all}
 
 -- phaser NAME sum 4
 abbrev pub bus : PhaserLine
@@ -90,8 +90,7 @@ peer_turns =
     ∷ signal 1 1 2 1 (pos 14)
     ∷ []
 
--- the splitter puts them on A and B, and the joiner 10 on Z, which out takes; it registers late and
--- leaves, and late takes 14
+-- the splitter puts 10 on A, and the joiner puts it on Z, where out takes it; the splitter puts 14 on B
 abbrev pub lane_turns : List Turn
 lane_turns =
     first_wait 2 0 2 2 (Value (pos 10))
@@ -101,18 +100,68 @@ lane_turns =
     ∷ signal 3 0 5 1 (pos 10)
     ∷ first_wait 4 0 5 2 (Value (pos 10))
     ∷ signal 2 1 4 1 (pos 14)
-    ∷ child 4 5 2 5 3 Wait
-    ∷ leave 4 5 2
+    ∷ []
+
+-- out registers late on Z
+abbrev pub late_registers : Turn
+late_registers = child 4 5 2 5 3 Wait
+
+-- out leaves, the joiner puts 14 on Z, and late takes it
+abbrev pub late_turns : List Turn
+late_turns =
+    leave 4 5 2
     ∷ first_wait 3 1 4 2 (Value (pos 14))
     ∷ signal 3 0 5 1 (pos 14)
     ∷ first_wait 5 0 5 3 (Value (pos 14))
     ∷ []
 
--- the peer, the splitter, the joiner and late leave, each when its input has ended
+-- the peer, the splitter and the joiner leave, each when its input has ended
 abbrev pub last_turns : List Turn
 last_turns =
     leave 1 0 2 ∷ leave 1 1 1 ∷ leave 1 2 1
     ∷ leave 2 2 2 ∷ leave 2 3 1 ∷ leave 2 4 1
     ∷ leave 3 3 2 ∷ leave 3 4 2 ∷ leave 3 5 1
-    ∷ leave 5 5 3
     ∷ []
+
+-- and so does late
+abbrev pub late_leaves : Turn
+late_leaves = leave 5 5 3
+
+-- all events of the run
+abbrev pub worked_turns : List Turn
+worked_turns =
+    peer_turns ++ lane_turns ++ late_registers ∷ late_turns ++ last_turns ++ late_leaves ∷ []
+
+-- after the peer's events; before and after late is registered; before it leaves, and at the end
+abbrev pub after_peer : Moment
+after_peer = after_all worked worked_opening peer_turns
+
+abbrev pub before_late : Moment
+before_late = after_all worked after_peer lane_turns
+
+abbrev pub with_late : Moment
+with_late = after_turn worked late_registers before_late
+
+abbrev pub before_end : Moment
+before_end = after_all worked with_late (late_turns ++ last_turns)
+
+abbrev pub worked_end : Moment
+worked_end = after_turn worked late_leaves before_end
+
+-- the first four moments after the opening: the source has signalled 5, the peer has taken it, has put
+-- it on E, and has taken it there
+abbrev pub after_sample : Moment
+after_sample = after_turn worked (sample 0 0 0 1 (pos 5)) worked_opening
+
+abbrev pub after_first_wait : Moment
+after_first_wait = after_turn worked (first_wait 1 0 0 2 (Value (pos 5))) after_sample
+
+abbrev pub after_signal_on_e : Moment
+after_signal_on_e = after_turn worked (signal 1 0 1 1 (pos 5)) after_first_wait
+
+abbrev pub after_exchange : Moment
+after_exchange = after_turn worked (exchange_wait 1 1 1 (Value (pos 5))) after_signal_on_e
+
+-- late comes by out, after one step of it
+abbrev pub by_out : Parent
+by_out = record { task = 4; at = 1 }
