@@ -4,8 +4,8 @@ ghost use Rattle.graph_commands.specs.FileJobs.{Explains, IsGraphOf};
 
 use crate::JobFault;
 use graph_lang::{Graph, GraphRefusal, read_graph};
-use watched_io::{FileFault, Files};
 use std::alloc::Global;
+use watched_io::{FileFault, Files};
 
 /// The longest text of a graph that is read, in bytes.
 pub const GRAPH_MAX: usize = 1_048_576;

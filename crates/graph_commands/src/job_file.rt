@@ -7,8 +7,8 @@ use crate::graph_file::read_graph_file;
 use crate::sources::read_sources;
 use graph_lang::{FaultKind, GraphFault};
 use std::alloc::Global;
-use watched_io::Files;
 use stream_lists::{Job, JobRefusal};
+use watched_io::Files;
 
 /// Makes the job of a graph's file: reads the graph, then the samples of each source in the order
 /// of the lines, live or not, each read and checked before the next.

@@ -73,11 +73,7 @@ pub fn run_cli<R: Read, W: Write, E: Write, F: Files>(
 
 /// Answers words that give no call: help goes to the output, a refusal's text and the line of a
 /// fault go to the fault stream.
-fn answer<W: Write, E: Write>(
-    none: &NoCall,
-    output: &mut Watched<W>,
-    faults: &mut Watched<E>,
-) -> u8
+fn answer<W: Write, E: Write>(none: &NoCall, output: &mut Watched<W>, faults: &mut Watched<E>) -> u8
     ensures answer { IsAnswer none.now result output.old output.new
         (writer_state E.contents faults.old) (writer_state E.contents faults.new) }
     ensures quiet { result ≡ 0 → faults.new ≡ faults.old }

@@ -7,8 +7,8 @@ ghost use Rattle.watched_io.specs.Prefix.{AppendsPrefix};
 ghost use Rattle.phase_session.specs.Scripts.{ScriptState, reply_to, after_line};
 ghost use Rattle.phase_session.specs.Session.{Stands};
 
-use crate::kept::Kept;
 use crate::Session;
+use crate::kept::Kept;
 use phase_script::{lf_of, without_cr};
 use std::alloc::{AllocError, Global};
 use std::io::Write;
@@ -134,11 +134,7 @@ impl Replayer {
     }
 
     /// Reads a piece of the script, and hands replies over as they grow many.
-    pub fn piece<W: Write>(
-        &mut self,
-        piece: &[u8],
-        writer: &mut Watched<W>,
-    ) -> Result<(), IoFault>
+    pub fn piece<W: Write>(&mut self, piece: &[u8], writer: &mut Watched<W>) -> Result<(), IoFault>
         ensures ok { OnOk result ((later owed : List ℕ) → Owes self.old (piece.now ++ later) owed
             → Goes (W.contents (inner_of writer.old)) (W.contents (inner_of writer.new))
             self.new later owed) }

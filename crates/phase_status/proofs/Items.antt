@@ -1,5 +1,5 @@
 -- Texts that grow by one item.
-use Rattle.std.proofs.Common.{◌≡◌, ◌<◌, ◌+◌, ℕ, List, [], ◌∷◌, ◌++◌, length, map, take, drop, sym, ◌∙◌, ap, append_assoc, append-nil, take-append-drop}
+use Rattle.std.proofs.Common.{◌≡◌, ℕ, List, [], ◌∷◌, ◌++◌, map, take, drop, sym, ◌∙◌, ap, append_assoc, append-nil, take-append-drop}
 use Rattle.std.specs.List.{flat_map}
 use Rattle.std.proofs.lemmas.Grind.{flat_map-append}
 use Rattle.std.proofs.lemmas.List.Concat.{flat_map-cons}

@@ -12,10 +12,7 @@ use watched_io::{Watched, WriteFailed};
 
 /// Writes the parts, one behind the other, each of them flushed. It takes no memory. After a failed
 /// write the writer has a prefix of them.
-pub fn write_parts<W: Write>(
-    parts: &[&str],
-    writer: &mut Watched<W>,
-) -> Result<(), WriteFailed>
+pub fn write_parts<W: Write>(parts: &[&str], writer: &mut Watched<W>) -> Result<(), WriteFailed>
     ensures ok { OnOk result (Appends (W.contents (inner_of writer.old))
         (W.contents (inner_of writer.new)) (flat_map (λ part. part.now) parts.now)) }
     ensures err { OnErr result (AppendsPrefix (W.contents (inner_of writer.old))

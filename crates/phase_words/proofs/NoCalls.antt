@@ -4,7 +4,7 @@ use Rattle.clap.specs.Words.{HasKind, IsAmong, Kinds, Text, kind_of}
 use Rattle.clap.specs.declared.error.Error.{Error}
 use Rattle.clap.specs.declared.error.kind.ErrorKind.{ErrorKind}
 use Rattle.clap.specs.declared.error.kind.ErrorKind.TheVariants as kind
-use Rattle.phase_words.specs.CommandLine.{AreRefused, AreTaken, AskHelp, HasRefusal, IsNoCall, IsToldBy, kinds_of}
+use Rattle.phase_words.specs.CommandLine.{AreTaken, AskHelp, HasRefusal, IsNoCall, IsToldBy, kinds_of}
 use Rattle.phase_words.specs.declared.call.NoCall.{NoCall}
 use Rattle.phase_words.specs.declared.call.NoCall.TheVariants as no_call
 
