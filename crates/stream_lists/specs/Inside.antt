@@ -12,6 +12,7 @@ use Rattle.stream_lists.specs.declared.span.Span.{Span}
 use Rattle.stream_lists.specs.declared.span.TheConstants.{LENGTH_MAX}
 use Rattle.stream_lists.specs.declared.job.Job.TheInside.{Inside}
 
+-- what a job stands for
 abbrev pub JobValue : Type 0
 JobValue = Job
 
@@ -23,6 +24,7 @@ items_of lists = map (λ list. list.items) lists
 abbrev pub given : Graph → List (Vec ℤ Global) → Job
 given graph samples = record { graph = graph; samples = items_of samples }
 
+-- the graph and the samples that a job keeps
 abbrev pub job_view : Inside → JobValue
 job_view job = given job.graph job.samples.items
 

@@ -9,6 +9,7 @@ use Rattle.stream_lists.specs.declared.span.Span.{Span}
 use Rattle.phase_base.specs.declared.operation.Op.{Op}
 use Rattle.phase_base.specs.declared.operation.Op.TheVariants.{Sum, Product, Least, Greatest, Any}
 
+-- whether the operation is `any`
 abbrev pub is_any : Op → Bool
 is_any Any = true
 is_any Sum = false

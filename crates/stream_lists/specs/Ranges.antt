@@ -27,6 +27,7 @@ first_some (Some a ∷ os) = Some a
 
 -- ---- the outputs of filters and peers
 
+-- whether a number is past the greatest value or below the least
 abbrev pub is_out_of_range : ℤ → Bool
 is_out_of_range z = not (nat_le (unsigned_abs z) value_max)
 
@@ -81,6 +82,7 @@ abbrev pub is_taken : Job → List Span → ℕ → ℕ → Bool
 is_taken job spans p n =
     list_any (task_takes job spans p n) (range_with_len 0 (length job.graph.tasks))
 
+-- whether the value of a phase is out of range
 abbrev pub is_too_big : Outcome → Bool
 is_too_big TooBig = true
 is_too_big (Value v) = false
