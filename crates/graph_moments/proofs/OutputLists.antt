@@ -14,6 +14,7 @@ use Rattle.graph_base.specs.Graphs.{Task}
 use Rattle.graph_base.specs.TaskLines.{HasEnds, has_children}
 use Rattle.stream_lists.specs.Spans.{turns_below, takes_from, puts_on, signalled_by, LooksAt}
 use Rattle.stream_lists.specs.Lists.{entry, every, turn_at, in_turn, mixed_at, mixed, output_list}
+use Rattle.stream_laws.proofs.ListLengths.{steps_long}
 use Rattle.graph_moments.specs.Moments.{HasExchanged, HasSamples}
 use Rattle.graph_moments.proofs.Entries.{IsPrefix-trans, prefix_length, prefix_at, prefix_by, take_prefix, take_of_prefix}
 use Rattle.graph_moments.proofs.Turns.{turns-mono, turn-within, turn-taken}
@@ -174,47 +175,9 @@ pub length_made : (samples : List ℤ) (task : Task) (now : List (List ℤ)) (b 
     → ((k : ℕ) → k < length task.inputs → LooksAt task.kind 0 k
     → length (get_or now k []) ≡ takes_from task b k)
     → length (output_list samples now task b j) ≡ puts_on task b j
-length_made samples task now b j ends lt has counts = by task.kind refl
-  where
-    one : (task.kind ≡ Source → ⊥) → LooksAt task.kind 0 0 → takes_from task b 0 ≡ b
-        → length (get_or now 0 []) ≡ b
-    one not looks is = counts 0 (has_inputs task.kind _ _ ends not) looks ∙ is
-
-    peer : (c : Bool) → length (get_or now 0 []) ≡ b
-        → length (if c then mixed task.mul (get_or now 0 []) (get_or now 1 []) else get_or now 0 [])
-        ≡ b
-    peer true all =
-        range_long (mixed_at task.mul (get_or now 0 []) (get_or now 1 []))
-        (length (get_or now 0 [])) ∙ all
-    peer false all = all
-
-    by : (kind : Kind) → task.kind ≡ kind
-        → length (output_list samples now task b j) ≡ puts_on task b j
-    by Source e =
-        let H : Kind → Type 0 = λ kind. HasSamples kind b (length samples) in
-        rw e (length-take-le b samples (subst H e has))
-    by Fir e =
-        let n : length (get_or now 0 []) ≡ b =
-        one (λ s. (let no : Fir ≡ Source = sym e ∙ s in cc)) (rw e tt) (rw e refl) in
-        rw e (range_long (output_at task.taps task.shift (get_or now 0 []))
-        (length (get_or now 0 [])) ∙ n)
-    by Split e =
-        let n : length (get_or now 0 []) ≡ b =
-        one (λ s. (let no : Split ≡ Source = sym e ∙ s in cc)) (rw e tt) (rw e refl) in
-        let m = length task.outputs in
-        rw e (range_long (λ k. entry (get_or now 0 []) (j + k * m))
-        (turns_below m j (length (get_or now 0 []))) ∙ ap (λ c. turns_below m j c) n)
-    by Join e = rw e (range_long (turn_at now) b)
-    by Peer e =
-        let n : length (get_or now 0 []) ≡ b =
-        one (λ s. (let no : Peer ≡ Source = sym e ∙ s in cc)) (rw e refl) (rw e refl) in
-        rw e (peer (nat_lt 0 j) n)
-    by Sink e =
-        let H : Kind → Type 0 = λ kind. HasEnds kind (length task.inputs) (length task.outputs) in
-        let S : Kind → Type 0 = λ kind. j < length (signalled_by (record task { kind = kind })) in
-        let both : (length task.inputs ≡ 1) × (length task.outputs ≡ 0) = subst H e ends in
-        let few : j < length task.outputs = subst S e lt in
-        absurd (omega (arith, both.1))
+length_made samples task now b j ends lt has counts =
+    let Samples : Kind → Type 0 = λ kind. HasSamples kind b (length samples) in
+    steps_long samples now task b j ends lt (λ source. subst Samples source has) counts
 
 -- and no more than its steps
 pub puts-few : (task : Task) (b j : ℕ)

@@ -15,6 +15,7 @@ use Rattle.stream_lists.specs.Jobs.{Job, samples_at, place_in}
 use Rattle.stream_lists.specs.Spans.{spans_of, lengths_of, span_at, span_in, offset_of, takes_from, signalled_by, LooksAt}
 use Rattle.stream_lists.specs.Lists.{numbers_of, list_over, phase_in, members_of, taken_from, sink_over, sinks_of, is_sink_at, lines_of}
 use Rattle.stream_lists.proofs.SpansAbove.{spans_all}
+use Rattle.stream_laws.proofs.Ordered.{parent_waits}
 use Rattle.graph_moments.specs.Moments.{Moment, HasRun, IsRegistered, IsOver, IsChild, HasNotPassed, TakenOn, input_at, value_at}
 use Rattle.graph_moments.specs.Settled.{Composes, Stands, IsReady}
 use Rattle.graph_moments.proofs.Entries.{prefix_whole, take_length}
@@ -75,21 +76,6 @@ taken_begin job m t k ready ran there lt = by (m.number x t) refl ((ran.tasks t 
 
 -- ---- at the end
 
--- a parent waits for what its child waits for
-pub parent_waits : (job : Job) (t : ℕ) (u : Parent) (k : ℕ)
-    → IsParent job.graph t (task_at job.graph t) u → k < length (task_at job.graph t).inputs
-    → (i : ℕ) × (i < length (task_at job.graph u.task).inputs)
-    × (input_at (task_at job.graph u.task) i ≡ input_at (task_at job.graph t) k)
-parent_waits job t u k is lt =
-    let x = input_at (task_at job.graph t) k in
-    let among = is.waits k 0 lt in
-    (among.0, among.1, within among.0 (task_at job.graph u.task).inputs x among.1 among.2)
-  where
-    within : (k : ℕ) (qs : List ℕ) (p : ℕ) → k < length qs → get_or qs k p ≡ p → get_or qs k 0 ≡ p
-    within k [] p lt e = absurd (omega arith)
-    within zero (q ∷ qs) p lt e = e
-    within (suc k) (q ∷ qs) p lt e = within k qs p (omega arith) e
-
 -- each task that the definitions have was registered on each phaser that it waits for
 pub came_in : (job : Job) (m : Moment) → IsReady job → HasRun job m → IsOver job m
     → (fuel t k : ℕ) → t < fuel → t < length job.graph.tasks
@@ -126,7 +112,7 @@ came_in job m ready ran over (suc fuel) t k below there lt none live =
         (is ∙ ap (λ o.
         span_at (task_at job.graph t) (length (samples_at job t)) (lengths_of job)
         (offset_of (spans_of job) o)) e) live in
-        let i = parent_waits job t u k ip lt in
+        let i = parent_waits job.graph t (task_at job.graph t) u k ip lt in
         number_case (m.number (input_at (task_at job.graph t) k) u.task) refl fp (omega arith)
         (λ n. up u i.0 e i.1 (ap (λ x. m.number x u.task) i.2 ∙ n) fp.live)
       where

@@ -26,7 +26,7 @@ use Rattle.stream_lists.specs.Jobs.{Job, samples_at, place_in}
 use Rattle.stream_lists.specs.Spans.{spans_of, lengths_of, span_in, takes_from, signalled_by, puts_on, LooksAt}
 use Rattle.stream_lists.specs.Lists.{members_of, sends_in, numbers_of, output_on, phase_in, sinks_of, number}
 use Rattle.stream_lists.specs.Ranges.{Where, is_out_of_range, are_made, takes_phase, task_takes, is_taken, is_too_big, first_too_big, Fits, answer_of}
-use Rattle.stream_laws.proofs.Ordered.{place-at, place-distinct}
+use Rattle.stream_laws.proofs.Ordered.{place-at, place_of_input}
 use Rattle.graph_moments.specs.Agreeing.{one}
 use Rattle.graph_moments.specs.Moments.{Moment, HasRun, TaskRan, HasEnded, IsRegistered, IsOver, OnOutput, OnInput, OnPhaser, PutOn, TakenOn, HasMetNone, input_at, taken_now, made_now, limits_at, value_at, HasExchanged}
 use Rattle.graph_base.specs.declared.place.Place.TheVariants as place
@@ -39,16 +39,6 @@ use Rattle.graph_moments.proofs.Tasks.{now_counts, made_begins}
 use Rattle.graph_moments.proofs.Whole.{composes, over_ended, stands_all, reads_all, puts_all}
 use Rattle.graph_moments.proofs.Results.{came_in, came_out, lines_are}
 use Rattle.graph_moments.proofs.Faults.{any-at, phase_faults, output_faults_at, AllFit, fits_from}
-
--- ---- the place of an input
-
-pub place_of_input : (job : Job) (t k : ℕ) → IsTaskLine job.graph t (task_at job.graph t)
-    → k < length (task_at job.graph t).inputs
-    → place_in (task_at job.graph t).inputs (input_at (task_at job.graph t) k) ≡ Some k
-place_of_input job t k line lt =
-    let same : 0 + k ≡ k = omega arith in
-    place-distinct 0 (task_at job.graph t).inputs (task_at job.graph t).outputs k lt
-    line.distinct ∙ ap (λ i. Some i) same
 
 -- ---- a value that was met
 
@@ -90,7 +80,7 @@ met_is_fault job m t k n ready ran there lt registered low high complete met =
     let ends : leb (suc n) (span.offset + takes_from task span.steps k) ≡ true =
     le-leb (suc n) (span.offset + takes_from task span.steps k) (omega arith) in
     let takes : task_takes job (spans_of job) x n t ≡ true =
-    ap (λ o. takes_phase task span n o) (place_of_input job t k line lt)
+    ap (λ o. takes_phase task span n o) (place_of_input job.graph t k ready.graph there lt)
     ∙ and_from (span.live && leb span.offset n)
     (leb (suc n) (span.offset + takes_from task span.steps k))
     (and_from span.live (leb span.offset n) s.live begins) ends in

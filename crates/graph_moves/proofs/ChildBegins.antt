@@ -20,7 +20,7 @@ use Rattle.graph_base.specs.TaskLines.{IsGraph, IsParent, has_children}
 use Rattle.stream_lists.specs.Jobs.{Job, samples_at, place_in}
 use Rattle.stream_lists.specs.Spans.{signalled_by}
 use Rattle.stream_lists.specs.Lists.{number}
-use Rattle.stream_laws.proofs.Ordered.{parent_signals}
+use Rattle.stream_laws.proofs.Ordered.{parent_signals, parent_waits}
 use Rattle.graph_moments.specs.Agreeing.{one}
 use Rattle.graph_moments.specs.Moments.{Moment, TaskRan, input_at, limits_at, value_at, IsRegistered, OnOutput, OnInput, OnPhaser, PutOn, TakenOn, SilentOn, OnLine, HasNotPassed, Joined, MayEnd, at_until, no_sample, no_input, HasEnded}
 use Rattle.graph_moves.specs.Moves.{HasGrown, Registers}
@@ -28,7 +28,6 @@ use Rattle.graph_moves.proofs.Framed.{task_later}
 use Rattle.graph_moves.proofs.OwnEvents.{eq_case}
 use Rattle.graph_moments.proofs.OnLines.{on_phaser}
 use Rattle.graph_moments.proofs.Whole.{parent_of}
-use Rattle.graph_moments.proofs.Results.{parent_waits}
 use Rattle.graph_moves.proofs.Registering.{part_stays, read_not_signalled, signals_from, waits_from, silent_from}
 
 -- the child's part, by its parent's
@@ -143,7 +142,7 @@ child_begins job before after t p n c a mode u is there legal grown s parent chi
         → (wait_phase (before.history p) n ≡ before.offset c)
         × (signal_phase (before.history p) n ≡ 0)
     parent_in k lt at =
-        let i = parent_waits job c u k par lt in
+        let i = parent_waits job.graph c (task_at job.graph c) u k par lt in
         let I : ℕ → Type 0 = λ x. i.0 < length (task_at job.graph x).inputs in
         let J : ℕ → Type 0 = λ x. input_at (task_at job.graph x) i.0 ≡ p in
         let K : ℕ → Type 0 = λ x. has_children (task_at job.graph x).kind ≡ true in

@@ -1,4 +1,4 @@
--- A moment that is put together of what each task had on its own; and phasers that all have left.
+-- A moment that is put together of what each task had on its own.
 use Rattle.std.proofs.Common.{ℕ, ◌<◌, length}
 use Rattle.graph_base.specs.TaskLines.{IsGraph}
 use Rattle.stream_lists.specs.Jobs.{Job}

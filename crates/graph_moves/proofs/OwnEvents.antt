@@ -30,7 +30,7 @@ use Rattle.graph_moments.proofs.Steps.{no_inputs}
 use Rattle.graph_moves.proofs.Nexts.{has_taken-next, has_taken-stay, has_taken-peer}
 use Rattle.graph_moments.proofs.OutputLists.{outputs_begin}
 use Rattle.graph_moments.proofs.Tasks.{now_counts, now_at, exchanged_as}
-use Rattle.graph_moments.proofs.TooBigs.{place_of_input}
+use Rattle.stream_laws.proofs.Ordered.{place_of_input}
 use Rattle.graph_moves.proofs.Framed.{made_same, ended_later}
 
 -- ---- whichever phaser
@@ -651,9 +651,9 @@ own_wait job before after t k p n outcome is there s ran = record {
         let there_i : q ≢ p =
         λ same. apart
         (same_Some i k
-        (sym (place_of_input job t i line lt)
+        (sym (place_of_input job.graph t i is there lt)
         ∙ ap (λ x. place_in (task_at job.graph t).inputs x) (same ∙ sym s.place)
-        ∙ place_of_input job t k line s.few)) in
+        ∙ place_of_input job.graph t k is there s.few)) in
         let still : after.history q ≡ before.history q = s.moved.elsewhere q there_i in
         subst S (sym (s.moved.numbers q t ∙ at)) (record {
           start = b.start;

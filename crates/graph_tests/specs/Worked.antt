@@ -1,6 +1,6 @@
 -- A worked run: a source, a peer alone on its exchange, a splitter, a joiner, a sink with `until`,
 -- and its child, from the opening to the end.
-use Rattle.std.specs.Prelude.{ℕ, List, [], ◌∷◌, ◌++◌, Option, Some, None, pos, codes}
+use Rattle.std.specs.Prelude.{ℕ, List, [], ◌∷◌, ◌++◌, take, Option, Some, None, pos, codes}
 use Rattle.phase_base.specs.declared.mode.Mode.TheVariants.{Sig, Wait, SigWait}
 use Rattle.phase_accum.specs.declared.outcome.Outcome.TheVariants.{Value}
 use Rattle.phase_history.specs.declared.event.Event.TheVariants.{Made, Registered, Dropped}
@@ -166,3 +166,7 @@ after_exchange = after_turn worked (exchange_wait 1 1 1 (Value (pos 5))) after_s
 -- late comes by out, after one step of it
 abbrev pub by_out : Parent
 by_out = record { task = 4; at = 1 }
+
+-- both samples are sent, and the source has still to leave
+abbrev pub after_samples : Moment
+after_samples = after_all worked worked_opening (take 8 peer_turns)

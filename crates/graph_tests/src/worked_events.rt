@@ -1,9 +1,12 @@
 //! Single events of the worked run, and the laws of one event used at them.
-ghost use Rattle.std.specs.Prelude.{ℕ, pos};
+ghost use Rattle.std.specs.Prelude.{ℕ, ℤ, pos};
 ghost use Rattle.phase_base.specs.declared.mode.Mode.TheVariants.{Wait};
+ghost use Rattle.phase_accum.specs.declared.outcome.Outcome.{Outcome};
 ghost use Rattle.phase_accum.specs.declared.outcome.Outcome.TheVariants.{Value};
 ghost use Rattle.graph_moments.specs.Moments.{HasRun, TaskRan, HasEnded};
 ghost use Rattle.graph_moves.specs.Moves.{Signals, Waits, Leaves, Registers, PartStays};
+ghost use Rattle.graph_moves.specs.Turned.{IsNextSample, IsNextSignal, IsFirstWait, IsNextLeave};
+ghost use Rattle.graph_tests.specs.Worked.{after_peer, after_samples};
 ghost use Rattle.graph_tests.specs.Worked.{worked, worked_opening, after_sample, after_first_wait};
 ghost use Rattle.graph_tests.specs.Worked.{after_signal_on_e, after_exchange, by_out};
 ghost use Rattle.graph_tests.specs.Worked.{before_late, with_late, before_end, worked_end};
@@ -58,3 +61,27 @@ fn parts_of_a_run()
     events_as_moves();
     laws::parts_join();
 }
+
+/// Near these events are others that are not the next ones of their tasks.
+fn events_that_are_not_next()
+    // out does not leave before it has registered late
+    ensures leaves_before_its_child { IsNextLeave worked before_late 4 5 2 → ⊥ }
+    // nor begins a step past `until`
+    ensures steps_past_until { (outcome : Outcome)
+        → IsFirstWait worked with_late 4 0 5 2 outcome → ⊥ }
+    // late does not wait before it is there
+    ensures waits_before_it_comes { (outcome : Outcome)
+        → IsFirstWait worked before_late 5 0 5 3 outcome → ⊥ }
+    // the peer puts nothing on Y before it has taken its value on E
+    ensures mixes_before_its_exchange { (v : ℤ)
+        → IsNextSignal worked after_signal_on_e 1 1 2 1 v → ⊥ }
+    // the source has no third sample
+    ensures samples_past_the_last { (v : ℤ) → IsNextSample worked after_samples 0 0 0 1 v → ⊥ }
+    // the splitter does not put its second value on A, where it has put its first
+    ensures splits_out_of_turn { (v : ℤ) → IsNextSignal worked before_late 2 0 3 1 v → ⊥ }
+    // the joiner does not take its second value from A
+    ensures joins_out_of_turn { (outcome : Outcome)
+        → IsFirstWait worked before_late 3 0 3 2 outcome → ⊥ }
+    // the splitter does not leave while the peer signals Y
+    ensures leaves_before_its_input_ends { IsNextLeave worked after_peer 2 2 2 → ⊥ }
+{}
