@@ -17,6 +17,8 @@ mod jobs;
 #[cfg(test)]
 mod lists;
 #[cfg(test)]
+mod operations;
+#[cfg(test)]
 mod registrations;
 #[cfg(test)]
 mod samples;
