@@ -1,16 +1,16 @@
 -- What is too big: a value that a task met, or a value that it made, is one that the definitions
 -- have out of range. Where none was met at the end, all fit.
 use Rattle.std.proofs.Common.{◌≡◌, ◌≢◌, ℕ, zero, suc, ◌+◌, ◌-◌, ◌<◌, ◌≤◌, true, false, ◌&&◌, leb, List, [], ◌∷◌, Option, Some, None, ℤ, pos, length, map, get_or, take, drop, refl, sym, ap, subst, ◌∙◌, arith}
-use Rattle.std.specs.Prelude.{slice_range, unsigned_abs, Ok}
+use Rattle.std.specs.Prelude.{slice_range, Ok}
 use Rattle.std.specs.List.{range_with_len}
 use mathlib.Core.List.{IsPrefix}
-use Rattle.std.proofs.lemmas.Bool.{le-leb, leb-true, and_from, and_parts}
+use Rattle.std.proofs.lemmas.Bool.{le-leb, and_from}
 use Rattle.std.proofs.lemmas.List.{length-map}
 use Rattle.std.proofs.lemmas.List.FromFn.{get_or-map-range_with_len}
 use Rattle.phase_accum.specs.declared.outcome.Outcome.{Outcome}
 use Rattle.phase_accum.specs.declared.outcome.Outcome.TheVariants.{Value, Empty, TooBig}
 use Rattle.phase_accum.specs.declared.single.Single.{Single}
-use Rattle.phase_accum.specs.Sends.{IsSend, value_max}
+use Rattle.phase_accum.specs.Sends.{AreSends}
 use Rattle.phase_accum.specs.Values.{applied}
 use Rattle.phase_history.specs.Histories.{done_of, phases_waited}
 use Rattle.phase_history.specs.Phases.{value_of_phase, stream_of, received_by}
@@ -38,7 +38,9 @@ use Rattle.graph_moments.proofs.OutputLists.{length_made}
 use Rattle.graph_moments.proofs.Tasks.{now_counts, made_begins}
 use Rattle.graph_moments.proofs.Whole.{composes, over_ended, stands_all, reads_all, puts_all}
 use Rattle.graph_moments.proofs.Results.{came_in, came_out, lines_are}
-use Rattle.graph_moments.proofs.Faults.{any-at, phase_faults, output_faults_at, AllFit, fits_from}
+use Rattle.graph_moments.proofs.Faults.{phase_faults, output_faults_at}
+use Rattle.stream_laws.specs.Entries.{AreInRange, Takes}
+use Rattle.stream_laws.proofs.Fitting.{any-at, made_on, fits_from}
 
 -- ---- a value that was met
 
@@ -135,16 +137,9 @@ fault_tells job (place.Task t, i) is there f =
 
 -- ---- at the end
 
-one-sends : (put : List ℤ) (i : ℕ) → AreLists (map one put) → i < length put
-    → IsSend (get_or put i (pos 0))
-one-sends [] i all lt = absurd (omega arith)
-one-sends (v ∷ put) zero all lt = all.0.0
-one-sends (v ∷ put) (suc i) all lt = one-sends put i all.2 (omega arith)
-
-send_fits : (v : ℤ) → IsSend v → is_out_of_range v ≡ false
-send_fits v is =
-    let small : leb (unsigned_abs v) value_max ≡ true =
-    le-leb (unsigned_abs v) value_max is.small in rw small refl
+puts_are_sends : (put : List ℤ) → AreLists (map one put) → AreSends put
+puts_are_sends [] all = tt
+puts_are_sends (v ∷ put) all = (all.0.0, puts_are_sends put all.2)
 
 -- what a registered task has taken in the end, a peer's E too
 taken_all : (job : Job) (m : Moment) (t k : ℕ) → IsReady job → HasRun job m → IsOver job m
@@ -224,23 +219,23 @@ slice_entry f n a k i fits lt =
     ∙ get_or-map-range_with_len f 0 n (a + i) (a + i) Empty (omega arith) at
 
 pub all_fit : (job : Job) (m : Moment) → IsReady job → HasRun job m → IsOver job m
-    → HasMetNone job m → AllFit job
+    → HasMetNone job m → AreInRange job
 all_fit job m ready ran over none = record {
-  outputs =
-      λ p t j i pp there place live lt. output p t j i pp there place live lt (m.number p t) refl;
-  phases = λ p t n pp there lt takes.
-      phase p t n pp there takes (place_in (task_at job.graph t).inputs p) refl takes;
+  outputs = λ t j makes.
+      (let on = made_on job t j ready.graph makes in
+      output on.0 t j on.1 makes.there on.2 makes.live (m.number on.0 t) refl);
+  phases = λ p n t pp lt takes e.
+      (let fine = phase p t n pp takes.there takes in
+      let clash : true ≡ false = sym (ap is_too_big e) ∙ fine in cc);
 }
   where
-    output : (p t j i : ℕ) → p < length job.graph.phasers → t < length job.graph.tasks
+    output : (p t j : ℕ) → p < length job.graph.phasers → t < length job.graph.tasks
         → place_in (signalled_by (task_at job.graph t)) p ≡ Some j → (span_in job t).live ≡ true
-        → i < length (output_on job (spans_of job) (numbers_of job) t j) → (o : Option ℕ)
-        → m.number p t ≡ o
-        → is_out_of_range (get_or (output_on job (spans_of job) (numbers_of job) t j) i (pos 0))
-        ≡ false
-    output p t j i pp there place live lt None absent =
+        → (o : Option ℕ) → m.number p t ≡ o
+        → AreSends (output_on job (spans_of job) (numbers_of job) t j)
+    output p t j pp there place live None absent =
         absurd (came_out job m ready ran over t p j there pp place absent live)
-    output p t j i pp there place live lt (Some n) some =
+    output p t j pp there place live (Some n) some =
         let P : Option ℕ → Type 0 = λ o. OnPhaser job m t p o in
         let A : Option ℕ → Type 0 = λ o. PutOn job m t j p o in
         let on : OnOutput job m t j p n =
@@ -250,42 +245,21 @@ all_fit job m ready ran over none = record {
         (place-at (signalled_by (task_at job.graph t)) p j place).0 in
         let whole : m.put t j ≡ output_on job (spans_of job) (numbers_of job) t j =
         o.ended (over_ended job m ready ran over t there (p, n, some)) in
-        let count : length (m.put t j)
-        ≡ length (output_on job (spans_of job) (numbers_of job) t j) = ap length whole in
         let S : List (List ℤ) → Type 0 = λ l. AreLists l in
-        let sends : IsSend (get_or (m.put t j) i (pos 0)) =
-        one-sends (m.put t j) i
+        let T : List ℤ → Type 0 = λ l. AreSends l in
+        subst T whole (puts_are_sends (m.put t j)
         (subst S on.sent
-        (sent_are_lists (limits_at job p) (m.history p) n (ran.phasers p pp).legal))
-        (omega arith) in
-        ap (λ l. is_out_of_range (get_or l i (pos 0))) (sym whole)
-        ∙ send_fits (get_or (m.put t j) i (pos 0)) sends
+        (sent_are_lists (limits_at job p) (m.history p) n (ran.phasers p pp).legal)))
 
     phase : (p t n : ℕ) → p < length job.graph.phasers → t < length job.graph.tasks
-        → task_takes job (spans_of job) p n t ≡ true
-        → (place : Option ℕ) → place_in (task_at job.graph t).inputs p ≡ place
-        → takes_phase (task_at job.graph t) (span_in job t) n
-        (place_in (task_at job.graph t).inputs p) ≡ true
+        → Takes job p n t
         → is_too_big
         (value_at job p (sends_in (members_of job (spans_of job) (numbers_of job) p) n)) ≡ false
-    phase p t n pp there takes None at e =
-        let T : Option ℕ → Type 0 =
-        λ o. takes_phase (task_at job.graph t) (span_in job t) n o ≡ true in
-        absurd (let f : false ≡ true = subst T at e in cc)
-    phase p t n pp there takes (Some k) at e =
-        let T : Option ℕ → Type 0 =
-        λ o. takes_phase (task_at job.graph t) (span_in job t) n o ≡ true in
+    phase p t n pp there takes =
         let task = task_at job.graph t in
-        let span = span_in job t in
-        let parts =
-        and_parts (span.live && leb span.offset n)
-        (leb (suc n) (span.offset + takes_from task span.steps k)) (subst T at e) in
-        let front = and_parts span.live (leb span.offset n) parts.0 in
-        let low : span.offset ≤ n = leb-true span.offset n front.1 in
-        let high : suc n ≤ span.offset + takes_from task span.steps k =
-        leb-true (suc n) (span.offset + takes_from task span.steps k) parts.1 in
-        let here = place-at task.inputs p k at in
-        number_case k here.0 here.1 front.0 low high (m.number (input_at task k) t) refl
+        let here = place-at task.inputs p takes.input takes.waits in
+        number_case takes.input here.0 here.1 takes.live takes.begun takes.within
+        (m.number (input_at task takes.input) t) refl
       where
         number_case : (k : ℕ) → k < length (task_at job.graph t).inputs
             → get_or (task_at job.graph t).inputs k 0 ≡ p → (span_in job t).live ≡ true

@@ -116,31 +116,53 @@ ended_later job before after t is there grown same ended = record {
 
 -- ---- the whole task
 
-pub task_later : (job : Job) (before after : Moment) (t : ℕ) → IsGraph job.graph
-    → t < length job.graph.tasks → HasGrown job before after t
-    → OthersMoved job before after t → TaskRan job before t → TaskRan job after t
-task_later job before after t is there grown o ran = record {
+-- what a moment has of a task's lists alone
+pub record ListsRan (job : Job) (m : Moment) (t : ℕ) : Type 0 where
+  pub puts : (j : ℕ) → j < length (signalled_by (task_at job.graph t))
+      → IsPrefix (m.put t j) (made_now job m t j)
+  pub exchanged : (j : ℕ)
+      → HasExchanged (task_at job.graph t).kind j (length (m.put t j)) (length (m.taken t 1))
+  pub takes : (k : ℕ) → k < length (task_at job.graph t).inputs
+      → HasTaken (task_at job.graph t) (m.begun t) k (length (m.taken t k))
+  pub samples : HasSamples (task_at job.graph t).kind (m.begun t) (length (samples_at job t))
+  pub cut : AtMost (m.begun t) (task_at job.graph t).until
+
+-- it stays where they do
+pub lists_later : (job : Job) (before after : Moment) (t : ℕ) → SameTask before after t
+    → TaskRan job before t → ListsRan job after t
+lists_later job before after t same ran = record {
   puts = λ j lt.
       (let A : List ℤ → Type 0 = λ l. IsPrefix l (made_now job after t j) in
       let B : List ℤ → Type 0 = λ l. IsPrefix (before.put t j) l in
-      subst A (sym (o.same.put j))
-      (subst B (sym (made_same job before after t j o.same)) (ran.puts j lt)));
+      subst A (sym (same.put j))
+      (subst B (sym (made_same job before after t j same)) (ran.puts j lt)));
   exchanged = λ j.
       (let A : List ℤ → Type 0 =
       λ l. HasExchanged (task_at job.graph t).kind j (length l) (length (after.taken t 1)) in
       let B : List ℤ → Type 0 =
       λ l. HasExchanged (task_at job.graph t).kind j (length (before.put t j)) (length l) in
-      subst A (sym (o.same.put j)) (subst B (sym (o.same.taken 1)) (ran.exchanged j)));
+      subst A (sym (same.put j)) (subst B (sym (same.taken 1)) (ran.exchanged j)));
   takes = λ k below.
       (let A : List ℤ → Type 0 = λ l. HasTaken (task_at job.graph t) (after.begun t) k (length l) in
       let D : ℕ → Type 0 = λ b. HasTaken (task_at job.graph t) b k (length (before.taken t k)) in
-      subst A (sym (o.same.taken k)) (subst D (sym o.same.begun) (ran.takes k below)));
+      subst A (sym (same.taken k)) (subst D (sym same.begun) (ran.takes k below)));
   samples =
       (let D : ℕ → Type 0 =
       λ b. HasSamples (task_at job.graph t).kind b (length (samples_at job t)) in
-      subst D (sym o.same.begun) ran.samples);
+      subst D (sym same.begun) ran.samples);
   cut = (let D : ℕ → Type 0 = λ b. AtMost b (task_at job.graph t).until in
-      subst D (sym o.same.begun) ran.cut);
+      subst D (sym same.begun) ran.cut);
+}
+
+pub task_later : (job : Job) (before after : Moment) (t : ℕ) → IsGraph job.graph
+    → t < length job.graph.tasks → HasGrown job before after t
+    → OthersMoved job before after t → TaskRan job before t → TaskRan job after t
+task_later job before after t is there grown o ran = record {
+  puts = lists.puts;
+  exchanged = lists.exchanged;
+  takes = lists.takes;
+  samples = lists.samples;
+  cut = lists.cut;
   outputs =
       λ p pp. outputs p pp (place_in (signalled_by (task_at job.graph t)) p) (before.number p t)
       refl (ran.outputs p pp);
@@ -152,6 +174,9 @@ task_later job before after t is there grown o ran = record {
       joined ((task_at job.graph t).parent) refl (ran.joined p n (sym (o.number p) ∙ at));
 }
   where
+    lists : ListsRan job after t
+    lists = lists_later job before after t o.same ran
+
     ended : HasEnded job before t → HasEnded job after t
     ended e = ended_later job before after t is there grown o.same e
 

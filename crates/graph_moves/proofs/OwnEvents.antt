@@ -31,7 +31,7 @@ use Rattle.graph_moves.proofs.Nexts.{has_taken-next, has_taken-stay, has_taken-p
 use Rattle.graph_moments.proofs.OutputLists.{outputs_begin}
 use Rattle.graph_moments.proofs.Tasks.{now_counts, now_at, exchanged_as}
 use Rattle.stream_laws.proofs.Ordered.{place_of_input}
-use Rattle.graph_moves.proofs.Framed.{made_same, ended_later}
+use Rattle.graph_moves.proofs.Framed.{ListsRan, lists_later, made_same, ended_later}
 
 -- ---- whichever phaser
 
@@ -701,27 +701,11 @@ pub own_leave : (job : Job) (before after : Moment) (t p n : ℕ) → IsGraph jo
     → t < length job.graph.tasks → HasGrown job before after t
     → Leaves job before after t p n → TaskRan job before t → TaskRan job after t
 own_leave job before after t p n is there grown s ran = record {
-  puts = λ j lt.
-      (let A : List ℤ → Type 0 = λ l. IsPrefix l (made_now job after t j) in
-      let B : List ℤ → Type 0 = λ l. IsPrefix (before.put t j) l in
-      subst A (sym (s.same.put j))
-      (subst B (sym (made_same job before after t j s.same)) (ran.puts j lt)));
-  exchanged = λ j.
-      (let A : List ℤ → Type 0 =
-      λ l. HasExchanged (task_at job.graph t).kind j (length l) (length (after.taken t 1)) in
-      let B : List ℤ → Type 0 =
-      λ l. HasExchanged (task_at job.graph t).kind j (length (before.put t j)) (length l) in
-      subst A (sym (s.same.put j)) (subst B (sym (s.same.taken 1)) (ran.exchanged j)));
-  takes = λ k below.
-      (let A : List ℤ → Type 0 = λ l. HasTaken (task_at job.graph t) (after.begun t) k (length l) in
-      let D : ℕ → Type 0 = λ b. HasTaken (task_at job.graph t) b k (length (before.taken t k)) in
-      subst A (sym (s.same.taken k)) (subst D (sym s.same.begun) (ran.takes k below)));
-  samples =
-      (let D : ℕ → Type 0 =
-      λ b. HasSamples (task_at job.graph t).kind b (length (samples_at job t)) in
-      subst D (sym s.same.begun) ran.samples);
-  cut = (let D : ℕ → Type 0 = λ b. AtMost b (task_at job.graph t).until in
-      subst D (sym s.same.begun) ran.cut);
+  puts = lists.puts;
+  exchanged = lists.exchanged;
+  takes = lists.takes;
+  samples = lists.samples;
+  cut = lists.cut;
   outputs =
       λ q qq. outputs q qq (place_in (signalled_by (task_at job.graph t)) q) refl
       (before.number q t) refl;
@@ -737,6 +721,9 @@ own_leave job before after t p n is there grown s ran = record {
       (sym (s.moved.numbers q c) ∙ none) on (eq_case q p);
 }
   where
+    lists : ListsRan job after t
+    lists = lists_later job before after t s.same ran
+
     event : Event
     event = Dropped n
 

@@ -76,7 +76,7 @@ find-none test a (suc n) each =
     rw (each a (omega arith)) (find-none test (a + 1) n (λ i lt. each i (omega arith)))
 
 -- some number passes, and where one does
-any-from : (test : ℕ → Bool) (a n : ℕ) → list_any test (range_with_len a n) ≡ true
+pub any-from : (test : ℕ → Bool) (a n : ℕ) → list_any test (range_with_len a n) ≡ true
     → (t : ℕ) × (t < a + n) × (test t ≡ true)
 any-from test a zero e = absurd (cc)
 any-from test a (suc n) e =
@@ -92,7 +92,7 @@ any-from test a (suc n) e =
         let r = rec f in
         let below : r.0 < a + 1 + n = r.1 in (r.0, omega arith, r.2)
 
-any-at : (test : ℕ → Bool) (a n t : ℕ) → a ≤ t → t < a + n → test t ≡ true
+pub any-at : (test : ℕ → Bool) (a n t : ℕ) → a ≤ t → t < a + n → test t ≡ true
     → list_any test (range_with_len a n) ≡ true
 any-at test a zero t low high e = absurd (omega arith)
 any-at test a (suc n) t low high e =
@@ -155,7 +155,7 @@ outputs_same job p t j is below there at =
 
 -- ---- what is taken
 
-takes_parts : (job : Job) (p n t : ℕ) → t < length job.graph.tasks
+pub takes_parts : (job : Job) (p n t : ℕ) → t < length job.graph.tasks
     → task_takes job (spans_of job) p n t ≡ true → Takes job p n t
 takes_parts job p n t there e = by (place_in (task_at job.graph t).inputs p) refl e
   where
@@ -206,7 +206,7 @@ second_place p q less =
     rw (ne_eqb p q (λ e. omega arith), eq-eqb q q refl) refl
 
 -- each output that a task makes stands on some phaser
-made_on : (job : Job) (t j : ℕ) → IsGraph job.graph → Makes job t j
+pub made_on : (job : Job) (t j : ℕ) → IsGraph job.graph → Makes job t j
     → (p : ℕ) × (p < length job.graph.phasers)
     × (place_in (signalled_by (task_at job.graph t)) p ≡ Some j)
 made_on job t j is makes = by (task_at job.graph t).kind j refl refl
