@@ -180,6 +180,24 @@ static bool add(std::string_view text) {
     return true;
 }
 
+static bool now(std::string_view text) {
+    uint64_t parent, child;
+    if (!nat(cut(text), parent) || !has_more || !nat(text, child)) return false;
+    Member *member;
+    if (refuse_task(parent, member)) return true;
+    if (!holds(member->mode, Wait)) say("no not-allowed\n");
+    else if (child <= greatest) say("no not-new\n");
+    else if (members.size() >= 1024) say("no too-many-tasks\n");
+    else {
+        uint64_t s = member->s;
+        members.push_back({child, Wait, s, done_phase, Part()});
+        greatest = child;
+        enter(Wait, s, done_phase);
+        say("ok ", done_phase);
+    }
+    return true;
+}
+
 static bool send(std::string_view text) {
     uint64_t task;
     int64_t value;
@@ -306,6 +324,7 @@ static bool obey(std::string_view line) {
     if (verb == "signal") return signal_one(line);
     if (verb == "wait") return wait_one(line);
     if (verb == "add") return add(line);
+    if (verb == "now") return now(line);
     if (verb == "drop") return drop(line);
     if (verb == "make") return make(line);
     return false;

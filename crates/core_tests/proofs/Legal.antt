@@ -1,16 +1,16 @@
 -- The worked histories are legal, and whose events they are.
-use Rattle.std.proofs.Common.{◌≡◌, ◌≢◌, ℕ, ◌+◌, Bool, true, false, cond, eqb, [], ◌∷◌, ◌++◌, ◌||◌, Some, None, pos, refl, sym, subst, arith}
+use Rattle.std.proofs.Common.{◌≡◌, ◌≢◌, ℕ, ◌+◌, Bool, true, false, cond, eqb, [], ◌∷◌, ◌++◌, ◌||◌, Some, None, pos, refl, sym, subst, ◌∙◌, arith}
 use Rattle.std.proofs.lemmas.Bool.{eqb-true}
 use Rattle.std.specs.Prelude.{IsSome}
 use Rattle.phase_base.specs.Limits.{AreLimits}
-use Rattle.phase_base.specs.declared.mode.Mode.TheVariants.{Sig}
+use Rattle.phase_base.specs.declared.mode.Mode.TheVariants.{Sig, Wait}
 use Rattle.phase_history.specs.declared.event.Event.TheVariants.{Registered, Signalled, Waited, Dropped}
-use Rattle.phase_history.specs.Histories.{IsBeginning, founder}
+use Rattle.phase_history.specs.Histories.{IsBeginning, founder, entry_at, has_dropped}
 use Rattle.phase_history.specs.Phases.{list_in_phase}
 use Rattle.phase_history.specs.Legal.{IsLegal}
-use Rattle.phase_history.specs.Others.{is_in, is_by, OnlyUsed, OthersCame, children_in, events_of}
-use Rattle.phase_history.specs.Sent.{sent_in, OnlySignalled}
-use Rattle.core_tests.specs.Worked.{worked_limits, founded, one_child, one_signal, two_signals, one_wait, all_left, all_got, half_turn, late_child}
+use Rattle.phase_history.specs.Others.{is_in, is_by, IsUsed, OnlyUsed, OthersCame, children_in, events_of}
+use Rattle.phase_history.specs.Sent.{sent_in, OnlySignalled, OneHasSent}
+use Rattle.core_tests.specs.Worked.{worked_limits, founded, one_child, one_signal, two_signals, one_wait, all_left, all_got, everyone_left, half_turn, late_child}
 
 limits_are : AreLimits worked_limits
 limits_are = record { bound_least = omega arith; bound_most = omega arith; phases_least = omega arith; phases_most = omega arith }
@@ -36,6 +36,9 @@ all_left_is_legal = (one_wait_is_legal, refl)
 
 pub all_got_is_legal : IsLegal worked_limits all_got
 all_got_is_legal = (all_left_is_legal, (refl, omega arith))
+
+pub everyone_left_is_legal : IsLegal worked_limits everyone_left
+everyone_left_is_legal = (all_got_is_legal, refl)
 
 pub half_turn_is_legal : IsLegal worked_limits half_turn
 half_turn_is_legal = (founded_is_legal, (refl, (tt, omega arith, tt), tt))
@@ -103,6 +106,22 @@ only_1_sent other apart = elim (eqb 1 other) as (λ b. (eqb 1 other ≡ b)
       | true ↦ λ e. absurd (apart (sym (eqb-true _ _ e)))
       | false ↦ λ e. refl
     ] refl
+
+-- and no two tasks have sent in a phase
+pub one_has_sent : OneHasSent one_wait (1 ∷ []) 0
+one_has_sent a b a_stands b_stands a_sent b_sent = sym (only 1 a a_stands) ∙ only 1 b b_stands
+
+-- tasks 0, 1 and 2 were used, and have dropped
+pub everyone_gone : (task : ℕ) → IsUsed everyone_left task → has_dropped everyone_left task ≡ true
+everyone_gone task used = by (eqb 2 task) (eqb 1 task) (eqb 0 task) used
+  where
+    by : (a b c : Bool) → IsSome (cond a (Some (entry_at Wait 0 0))
+        (cond b (Some (entry_at Sig 0 0)) (cond c (Some founder) None)))
+        → cond a true (cond b true (cond c true false)) ≡ true
+    by true b c used = refl
+    by false true c used = refl
+    by false false true used = refl
+    by false false false used = absurd (cc)
 
 pub not_empty : one_signal ≢ []
 not_empty e = absurd (cc)

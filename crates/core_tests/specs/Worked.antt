@@ -38,6 +38,10 @@ all_left = Dropped 1 ∷ one_wait
 abbrev pub all_got : History
 all_got = Waited 2 1 ∷ all_left
 
+-- and leaves too, the last of all
+abbrev pub everyone_left : History
+everyone_left = Dropped 2 ∷ all_got
+
 -- a founder that has signalled, and has still to wait
 abbrev pub half_turn : History
 half_turn = Signalled 0 ([] ∷ []) None ∷ founded

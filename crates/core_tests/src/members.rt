@@ -15,7 +15,7 @@ fn signal(registry: &mut Registry, number: u64) {
     if let Some(entry) = registry.get(number)
         && entry.signal_phase < 100
     {
-        registry.signalled(number);
+        registry.signalled(number, 1);
     }
 }
 
@@ -24,7 +24,7 @@ fn wait(registry: &mut Registry, number: u64) {
     if let Some(entry) = registry.get(number)
         && entry.wait_phase < 100
     {
-        registry.waited(number);
+        registry.waited(number, 1);
     }
 }
 

@@ -1,6 +1,6 @@
 //! A ring of two slots.
 use phase_accum::{Outcome, Pending, Sum};
-use phase_ring::{Role, SlotRing};
+use phase_ring::{MergeRefusal, Role, SlotRing};
 use std::test::Fail;
 
 #[test]
@@ -27,5 +27,16 @@ fn tasks_come_and_go(rt: HostRuntime) -> Result<(), Fail> {
     assert_eq!(rt; ring.base(), 1);
     ring.clear();
     assert_eq!(rt; ring.base(), 1);
+    Ok(())
+}
+
+#[test]
+fn a_phase_takes_so_many_sends(rt: HostRuntime) -> Result<(), Fail> {
+    let ring = SlotRing::<Sum>::with_bound(rt.alloc(), 1)?;
+    assert_eq!(rt; ring.can_merge(0, 65536, None), Ok(()));
+    assert_eq!(rt;
+        ring.can_merge(0, 65537, None),
+        Err(MergeRefusal::PhaseFull)
+    );
     Ok(())
 }

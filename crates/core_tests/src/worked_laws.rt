@@ -19,7 +19,7 @@ ghost use Rattle.phase_history.specs.Histories.{wait_phase, start_of, has_droppe
 ghost use Rattle.phase_history.specs.Histories.{phases_signalled, phases_waited};
 ghost use Rattle.phase_history.specs.Phases.{stream_of, received_by, sends_of_phase};
 ghost use Rattle.phase_history.specs.Phases.{named_in_phase, single_of_phase};
-ghost use Rattle.phase_history.specs.Legal.{IsLegal};
+ghost use Rattle.phase_history.specs.Legal.{AreLists, IsLegal};
 ghost use Rattle.phase_history.specs.Laws.{HasReceived, HasReceivedFrom, HasCounted, HasNoEvents};
 ghost use Rattle.phase_history.specs.Laws.{IsInTurn, IsAnswered, GoesOn, GoesOnPlainly};
 ghost use Rattle.phase_history.specs.Blocks.{one_by_one_refusal, one_by_one};
@@ -34,7 +34,7 @@ ghost use Rattle.phase_history.specs.Replies.{wait_block_reply, reply_to, after_
 ghost use Rattle.phase_history.specs.Replies.{after_register, after_register_now, after_signal};
 ghost use Rattle.phase_history.specs.Replies.{after_wait, after_wait_block, after_drop};
 ghost use Rattle.core_tests.specs.Worked.{worked_limits, founded, one_child, one_signal};
-ghost use Rattle.core_tests.specs.Worked.{two_signals, one_wait, all_left, all_got};
+ghost use Rattle.core_tests.specs.Worked.{two_signals, one_wait, all_left, all_got, everyone_left};
 ghost use Rattle.core_tests.specs.Worked.{half_turn, late_child, one_list, two_lists};
 
 use phase_accum::{Sum, laws as values};
@@ -46,10 +46,12 @@ fn received_streams()
     ensures left { HasReceivedFrom sum_value one_wait 0 founder }
     ensures stream { All IsInRange (stream_of sum_value one_wait) }
     ensures answer { IsInRange (Value (pos 7)) }
+    ensures counted { length (received_by sum_value one_wait 2) ≡ phases_waited one_wait 2 }
 {
     laws::got();
     laws::received();
     laws::in_range::<Sum>();
+    laws::received_are_counted();
 }
 
 /// What longer histories keep.
@@ -218,16 +220,27 @@ fn sends_of_tasks()
     laws::each_phase_is_named();
 }
 
+/// What task 1, which alone has sent, put into a phase.
+fn sends_together()
+    ensures alone { sends_of_phase one_wait 0 ≡ gathered one_wait (1 ∷ []) 0 }
+    ensures sendable { AreLists (sent_by one_wait 1) }
+{
+    laws::gathered_alone();
+    laws::sent_are_lists();
+}
+
 /// Who holds the phases open.
 fn open_phases()
     ensures open { done_of one_wait ≤ 0 + phases_signalled one_wait 1 }
     ensures dropped { has_dropped all_left 1 ≡ true }
     ensures done { done_of all_left ≡ top_of all_left }
+    ensures left { HasNoSignaller everyone_left }
     ensures reached { ReachesTop one_wait }
     ensures below { 0 + phases_signalled one_wait 1 ≤ top_of one_wait }
 {
     laws::holds_open();
     laws::all_dropped();
+    laws::all_left();
     laws::top_is_reached();
 }
 

@@ -2,11 +2,14 @@
 use Rattle.std.proofs.Common.{ℕ, ◌≡◌, ◌<◌, [], ◌∷◌, Some, None, refl, arith}
 use Rattle.std.specs.List.{All, Contains}
 use Rattle.std.proofs.lemmas.List.Elements.{All-cons, All-nil}
-use Rattle.graph_words.specs.declared.operation.Op.TheVariants.{Sum}
-use Rattle.graph_base.specs.declared.line.Kind.TheVariants.{Source, Sink}
+use Rattle.phase_base.specs.declared.operation.Op.TheVariants.{Sum}
+use Rattle.graph_base.specs.declared.line.Kind.TheVariants.{Source, Peer, Sink}
 use Rattle.graph_base.specs.declared.place.Place.TheVariants as place
-use Rattle.graph_base.specs.Graphs.{Graph, no_task, name_at, sources_of, source_number, task_at, phaser_at}
+use Rattle.graph_base.specs.Graphs.{Graph, no_task, no_phaser, no_graph, name_at, sources_of, source_number, task_at, phaser_at}
 use Rattle.graph_base.specs.TaskLines.{IsTaskLine}
+use Rattle.graph_base.specs.Registrations.{registrations_of, signalled_by}
+use Rattle.phase_base.specs.declared.mode.Mode.TheVariants as mode
+use Rattle.phase_accum.specs.declared.single.Single.TheVariants.{Neg}
 
 one : (P : ℕ → Type 0) (p : ℕ) → P p → All P (p ∷ [])
 one P p holds = All-cons P p [] holds (All-nil P)
@@ -80,3 +83,41 @@ late_sink-child = record {
     signals = All-nil (Contains []);
   };
 }
+
+-- ---- registrations
+
+-- X, E without a single, Y, and F, which has one
+abbrev four_phasers : Graph
+four_phasers = record no_graph {
+  phasers = no_phaser ∷ no_phaser ∷ no_phaser ∷ record no_phaser { single = Some Neg } ∷ [];
+}
+
+-- a peer waits on X, signals and waits on E, and signals Y
+peer_registrations :
+    registrations_of four_phasers (record no_task { kind = Peer; inputs = 0 ∷ 1 ∷ []; outputs = 2 ∷ [] })
+    ≡ record { phaser = 0; mode = mode.Wait; input = Some 0; output = None }
+    ∷ record { phaser = 1; mode = mode.SigWait; input = Some 1; output = Some 0 }
+    ∷ record { phaser = 2; mode = mode.Sig; input = None; output = Some 1 }
+    ∷ []
+peer_registrations = refl
+
+-- where E has a single, it may name it
+peer_with_single :
+    registrations_of four_phasers (record no_task { kind = Peer; inputs = 0 ∷ 3 ∷ []; outputs = 2 ∷ [] })
+    ≡ record { phaser = 0; mode = mode.Wait; input = Some 0; output = None }
+    ∷ record { phaser = 3; mode = mode.Single; input = Some 1; output = Some 0 }
+    ∷ record { phaser = 2; mode = mode.Sig; input = None; output = Some 1 }
+    ∷ []
+peer_with_single = refl
+
+peer_signals : signalled_by (record no_task { kind = Peer; inputs = 0 ∷ 1 ∷ []; outputs = 2 ∷ [] }) ≡ 1 ∷ 2 ∷ []
+peer_signals = refl
+
+-- a sink waits on X, and a source signals it
+sink_registrations : registrations_of late_sink (task_at late_sink 2)
+    ≡ record { phaser = 0; mode = mode.Wait; input = Some 0; output = None } ∷ []
+sink_registrations = refl
+
+source_registrations : registrations_of late_sink (task_at late_sink 0)
+    ≡ record { phaser = 0; mode = mode.Sig; input = None; output = Some 0 } ∷ []
+source_registrations = refl

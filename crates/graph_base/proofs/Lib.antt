@@ -1,3 +1,4 @@
 mod Examples
 mod Files
 mod Readers
+pub mod Registered

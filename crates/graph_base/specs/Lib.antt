@@ -1,4 +1,5 @@
 pub mod Graphs
 pub mod Kept
 pub mod Names
+pub mod Registrations
 pub mod TaskLines

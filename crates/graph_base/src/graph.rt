@@ -1,16 +1,21 @@
 //! Graphs.
-ghost use Rattle.std.specs.Prelude.{◌≡◌, ◌<◌, ◌≤◌, length, IsTrue, Some};
+ghost use Rattle.std.specs.Prelude.{◌≡◌, ◌<◌, ◌≤◌, ◌+◌, length, get_or, IsTrue, Some};
 ghost use Rattle.graph_words.specs.Words.{is_name, is_file};
 ghost use Rattle.graph_base.specs.Graphs.{Graph as GraphValue, IsPlace, sources_of};
 ghost use Rattle.graph_base.specs.Graphs.{task_at, phaser_at, file_at, name_at, name_among};
 ghost use Rattle.graph_base.specs.TaskLines.{IsGraph, IsPhaserLine, IsTaskLine};
 ghost use Rattle.graph_base.specs.Names.{place_of, names_of};
+ghost use Rattle.graph_base.specs.Registrations.{registrations_of, no_registration};
+ghost use Rattle.graph_base.specs.Registrations.{as_input, as_output, ends_of, exchange_mode};
+ghost use Rattle.graph_base.specs.Kept.{task_of};
 
-use crate::limits::{PHASERS_MAX, TASKS_MAX};
-use crate::line::{PhaserLine, TaskLine};
+use crate::limits::{ENDS_MAX, PHASERS_MAX, TASKS_MAX};
+use crate::line::{Kind, PhaserLine, TaskLine};
 use crate::place::Place;
+use crate::registration::Registration;
 use graph_words::{FILE_MAX, NAME_MAX};
 use indexmap::IndexMap;
+use phase_base::Mode;
 use std::alloc::Global;
 use std::marker::Model;
 
@@ -41,7 +46,8 @@ impl Model for Graph {
 }
 
 impl Graph {
-    ghost use Rattle.graph_base.specs.Kept.{graph_of, task_of};
+    ghost use Rattle.graph_base.specs.Kept.{graph_of};
+    ghost use Rattle.graph_base.specs.declared.line.Kind.TheVariants.{Peer};
 
     /// Makes the graph of these lines: each name with what it stands for, the phasers and the tasks
     /// in the order of their lines, and the file of each source in that order. It takes no memory.
@@ -105,6 +111,53 @@ impl Graph {
         &self.tasks[t]
     }
 
+    /// Tells on how many phasers task number `t` is registered, at most `ENDS_MAX + 1`. It takes no
+    /// memory.
+    pub fn registrations(&self, t: usize) -> usize
+        requires { t < length self.now.tasks }
+        ensures count { result ≡ length (registrations_of self.now (task_at self.now t)) }
+        ensures few { result ≤ ENDS_MAX + 1 }
+    {
+        let task = self.task(t);
+        task.inputs.len() + task.outputs.len()
+    }
+
+    /// Gives registration number `k` of task number `t`, from 0 on: its inputs and then its outputs,
+    /// and of a peer X, E and Y. It takes no memory.
+    pub fn registration(&self, t: usize, k: usize) -> Registration
+        requires task { t < length self.now.tasks }
+        requires number { k < length (registrations_of self.now (task_at self.now t)) }
+        ensures { result ≡ get_or (registrations_of self.now (task_at self.now t)) k no_registration }
+    {
+        let task = self.task(t);
+        match task.kind {
+            Kind::Peer => self.peer_registration(task, k),
+            _ => end_of(task, k),
+        }
+    }
+
+    /// Registration number `k` of a peer: X, E and Y.
+    fn peer_registration(&self, peer: &TaskLine, k: usize) -> Registration
+        requires peer { peer.now.kind ≡ Peer }
+        requires inputs { length peer.now.inputs.items ≡ 2 }
+        requires outputs { length peer.now.outputs.items ≡ 1 }
+        requires exchange { get_or peer.now.inputs.items 1 0 < length self.now.phasers }
+        requires number { k < 3 }
+        ensures { result
+            ≡ get_or (registrations_of self.now (task_of peer.now)) k no_registration }
+    {
+        match k {
+            0 => input(0, peer.inputs[0]),
+            1 => Registration {
+                phaser: peer.inputs[1],
+                mode: exchange_mode(self.phaser(peer.inputs[1])),
+                input: Some(1),
+                output: Some(0),
+            },
+            _ => output(1, peer.outputs[0]),
+        }
+    }
+
     /// Lends the file of source number `source`, as it is written, of 1 to `FILE_MAX` bytes. It
     /// takes no memory.
     pub fn file(&self, source: usize) -> &str
@@ -125,6 +178,53 @@ impl Graph {
         ensures stands { place_of self.now.names result.now ≡ Some place }
     {
         name_among(&self.names, place)
+    }
+}
+
+/// Number `k` of the inputs and then the outputs of a task.
+fn end_of(task: &TaskLine, k: usize) -> Registration
+    requires { k < length task.now.inputs.items + length task.now.outputs.items }
+    ensures { result ≡ get_or (ends_of (task_of task.now)) k no_registration }
+{
+    let inputs = task.inputs.len();
+    if k < inputs {
+        input(k, task.inputs[k])
+    } else {
+        output(k - inputs, task.outputs[k - inputs])
+    }
+}
+
+/// Input number `k` of a task, on phaser `p`.
+fn input(k: usize, p: usize) -> Registration
+    ensures { result ≡ as_input (k, p) }
+{
+    Registration {
+        phaser: p,
+        mode: Mode::Wait,
+        input: Some(k),
+        output: None,
+    }
+}
+
+/// Output number `j` of a task, on phaser `p`.
+fn output(j: usize, p: usize) -> Registration
+    ensures { result ≡ as_output (j, p) }
+{
+    Registration {
+        phaser: p,
+        mode: Mode::Sig,
+        input: None,
+        output: Some(j),
+    }
+}
+
+/// The mode in which a peer exchanges on a phaser.
+fn exchange_mode(line: &PhaserLine) -> Mode
+    ensures { result ≡ exchange_mode line.now }
+{
+    match line.single {
+        None => Mode::SigWait,
+        Some(_) => Mode::Single,
     }
 }
 

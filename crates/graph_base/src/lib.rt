@@ -7,9 +7,11 @@ pub mod laws;
 mod limits;
 mod line;
 mod place;
+mod registration;
 
 pub use graph::Graph;
-pub use graph_words::Op;
 pub use limits::{COUNT_MAX, ENDS_MAX, FACTOR_MAX, PHASERS_MAX, TASKS_MAX};
 pub use line::{Kind, Parent, PhaserLine, TaskLine};
+pub use phase_base::{Mode, Op};
 pub use place::Place;
+pub use registration::Registration;

@@ -1,7 +1,7 @@
 //! What a line of a graph's text declares.
 
-use graph_words::Op;
 use phase_accum::Single;
+use phase_base::Op;
 
 /// What a task does.
 #[derive(Clone, Copy, Debug, PartialEq, Eq)]
@@ -50,7 +50,8 @@ pub struct TaskLine {
     pub kind: Kind,
     /// The numbers of the phasers that it waits for. A peer has X and then E.
     pub inputs: Vec<usize>,
-    /// The numbers of the phasers that it signals. A peer has Y alone.
+    /// The numbers of the phasers behind `->` in its line: those that it signals, but that a peer, which
+    /// has Y alone, signals its second input E too.
     pub outputs: Vec<usize>,
     /// The task that registers it, where it is a child.
     pub parent: Option<Parent>,

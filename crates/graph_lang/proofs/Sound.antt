@@ -1,8 +1,9 @@
 -- What holds of a line that has no fault.
-use Rattle.std.proofs.Common.{ℕ, List, [], ◌∷◌, ◌++◌, ap, sym, ◌∙◌, ◌≡◌, ◌&&◌, Bool, true, false, not, Option, Some, None, is_some, if◌then◌else◌, refl, nat_lt, length}
+use Rattle.std.proofs.Common.{ℕ, ◌<◌, ◌≤◌, arith, List, [], ◌∷◌, ◌++◌, ap, sym, ◌∙◌, ◌≡◌, ◌&&◌, Bool, true, false, not, Option, Some, None, is_some, if◌then◌else◌, refl, nat_lt, length}
 use Rattle.std.specs.Option.{option_map_or}
+use Rattle.std.proofs.lemmas.Bool.Decides.{nat_tests}
 use Rattle.graph_words.specs.Words.{Word}
-use Rattle.graph_words.specs.declared.operation.Op.{Op}
+use Rattle.phase_base.specs.declared.operation.Op.{Op}
 use Rattle.graph_text.specs.Decls.{phaser, task, FunctionWords, BodyWords, EndWords}
 use Rattle.graph_base.specs.Graphs.{Graph, Task}
 use Rattle.graph_base.specs.Names.{place_of}
@@ -60,21 +61,40 @@ phaser-new before name operation bound single e =
     let twice = row-passed (is_some (place_of before.names name)) Twice _ limit.1 in
     nothing-there (place_of before.names name) twice.0
 
--- the numbers of a task's line that passes no limit
-pub task-within : (before : Graph) (name : Word) (body : BodyWords) (ends : EndWords)
-    → is_past_limit before (task name body ends) ≡ false
-    → (is_body_within body ≡ true) × (are_ends_within ends ≡ true)
-task-within before name body ends e =
-    let fits = is_body_within body && are_ends_within ends in
-    let all = both fits (nat_lt (length before.tasks) TASKS_MAX) (not-false _ e) in
-    both (is_body_within body) (are_ends_within ends) all.0
+-- a line whose numbers are there passes no limit
+pub not-past : (past : Bool) → not past ≡ true → past ≡ false
+not-past true e = absurd (cc)
+not-past false e = refl
 
-pub task-until : (before : Graph) (name : Word) (body : BodyWords) (ends : EndWords)
-    → is_past_limit before (task name body ends) ≡ false
-    → option_map_or is_count_within ends.until true ≡ true
-task-until before name body ends e =
-    (both (option_map_or (λ by. is_count_within by.at) ends.by true)
-    (option_map_or is_count_within ends.until true) (task-within before name body ends e).1).1
+pub past : (past : Bool) → not past ≡ false → past ≡ true
+past true e = refl
+past false e = absurd (cc)
+
+-- a task's line that passes a limit has that fault first
+pub task-limit : (before : Graph) (name : Word) (body : BodyWords) (ends : EndWords)
+    → is_past_limit before (task name body ends) ≡ true
+    → kind_of before (task name body ends) ≡ Some Limit
+task-limit before name body ends e =
+    ap (λ past. if past then Some Limit
+    else later_kind before name (phasers_of body) ends.by (task_line before.names 0 body ends)) e
+
+-- the numbers of a task, those of its ends, and room for it
+pub no-ends : (body ends room : Bool) → ends ≡ false → (body && ends && room) ≡ false
+no-ends true ends room e = rw e refl
+no-ends false ends room e = refl
+
+no-room : (rest room : Bool) → room ≡ false → (rest && room) ≡ false
+no-room true room e = e
+no-room false room e = refl
+
+pub room-none : (rest : Bool) (n m : ℕ) → m ≤ n → (rest && nat_lt n m) ≡ false
+room-none rest n m full = no-room rest (nat_lt n m) (grind (arith, nat_tests))
+
+pub room-some : (body ends : Bool) (n m : ℕ) → body ≡ true → ends ≡ true → n < m
+    → (body && ends && nat_lt n m) ≡ true
+room-some body ends n m b e free =
+    let room : nat_lt n m ≡ true = grind (arith, nat_tests) in
+    rw (b, e) room
 
 -- the kind of fault of a task's line that passes no limit is a later one; the number of the line
 -- decides nothing

@@ -8,7 +8,7 @@ use Rattle.graph_text.specs.Decls.{FunctionWords, neg, abs, halve, clamp, ByWord
 use Rattle.graph_text.specs.Decls.{BodyWords, source, fir, split, join, peer, sink}
 use Rattle.graph_base.specs.Graphs.{Task, Named}
 use Rattle.graph_base.specs.Names.{phaser_named, task_named}
-use Rattle.graph_words.specs.declared.operation.Op.{Op}
+use Rattle.phase_base.specs.declared.operation.Op.{Op}
 use Rattle.graph_base.specs.declared.line.Kind.{Kind}
 use Rattle.graph_base.specs.declared.line.Kind.TheVariants as kind
 use Rattle.graph_base.specs.declared.line.Parent.{Parent}

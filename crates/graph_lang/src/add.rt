@@ -9,13 +9,12 @@ ghost use Rattle.graph_text.specs.Lines.{body_of, ends_of, by_of, word_of};
 ghost use Rattle.graph_base.specs.Kept.{task_of};
 ghost use Rattle.graph_base.specs.Names.{files_of, place_of};
 ghost use Rattle.graph_lang.specs.LineTasks.{files_in, task_line, inputs_of, outputs_of};
-ghost use Rattle.graph_lang.specs.Faults.{is_body_within, is_count_within};
+ghost use Rattle.graph_lang.specs.Numbers.{AreNumbersOf, steps_in};
 
-use crate::declare::until_in;
 use crate::draft::{Draft, add_name};
 use crate::parents::parent_of;
 use crate::phasers::{input_words, kind_of, numbers_of, output_words};
-use crate::within::{factor_of, shift_of, taps_of};
+use crate::within::{EndNumbers, Numbers};
 use graph_base::{Op, PhaserLine, Place, TaskLine};
 use graph_text::{Body, TaskWords, file_text, name_text};
 use phase_accum::Single;
@@ -56,21 +55,21 @@ impl Draft {
         add_name(alloc, &mut self.names, name_text(name), place)
     }
 
-    /// The line of a task whose numbers are within their limits, as line `number`.
+    /// The line of a task with these numbers, as line `number`.
     pub(crate) fn task_line(
         &self,
         alloc: Global,
         number: u64,
         words: TaskWords<'_, '_>,
+        numbers: Numbers,
+        steps: EndNumbers,
     ) -> Result<TaskLine, AllocError>
         requires body { IsBody (body_of words.body) }
         requires inputs { IsTrue (list_all is_name (inputs_of (body_of words.body))) }
         requires outputs { IsTrue (list_all is_name (outputs_of (body_of words.body))) }
         requires by { IfSome (by_of words.ends.by) IsBy }
-        requires until { IfSome (word_of words.ends.until) (λ steps. IsTrue (is_nat steps)) }
-        requires within { IsTrue (is_body_within (body_of words.body)) }
-        requires at { IfSome (by_of words.ends.by) (λ by. IsTrue (is_count_within by.at)) }
-        requires steps { IsTrue (option_map_or is_count_within (word_of words.ends.until) true) }
+        requires numbers { AreNumbersOf numbers (body_of words.body) }
+        requires steps { steps ≡ steps_in (ends_of words.ends) }
         ensures { IfOk result (λ line. task_of line ≡ task_line self.now.names number
             (body_of words.entry.body) (ends_of words.entry.ends)) }
     {
@@ -81,11 +80,11 @@ impl Draft {
             kind: kind_of(words.body),
             inputs: numbers_of(alloc, &self.names, &inputs)?,
             outputs: numbers_of(alloc, &self.names, &outputs)?,
-            parent: parent_of(&self.names, words.ends.by),
-            until: until_in(words.ends.until),
-            taps: taps_of(alloc, words.body)?,
-            shift: shift_of(words.body),
-            mul: factor_of(words.body),
+            parent: parent_of(&self.names, words.ends.by, steps.at),
+            until: steps.until,
+            taps: numbers.taps,
+            shift: numbers.shift,
+            mul: numbers.factor,
         })
     }
 

@@ -8,7 +8,6 @@ ghost use Rattle.graph_lang.specs.Faults.{phasers_of, is_count_within};
 
 use crate::fault::{FaultKind, GraphFault, GraphRefusal};
 use crate::phasers::{input_words, output_words};
-use crate::within::count_in;
 use graph_text::Body;
 use std::alloc::{AllocError, AllocFailed, Global};
 
@@ -52,16 +51,4 @@ pub(crate) fn phaser_words<'a>(
     let outputs = output_words(alloc, body)?;
     words.extend_from_slice(&outputs)?;
     Ok(words)
-}
-
-/// The steps after which a task drops, where it does.
-pub(crate) fn until_in(until: Option<&[u8]>) -> Option<u64>
-    requires nat { IfSome (word_of until) (λ steps. IsTrue (is_nat steps)) }
-    requires within { IsTrue (option_map_or is_count_within (word_of until) true) }
-    ensures { result ≡ option_map nat_value (word_of until.entry) }
-{
-    match until {
-        None => None,
-        Some(steps) => Some(count_in(steps)),
-    }
 }

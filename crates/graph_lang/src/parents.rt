@@ -5,17 +5,17 @@ ghost use Rattle.graph_text.specs.Plain.{plain};
 ghost use Rattle.graph_words.specs.Words.{is_name};
 ghost use Rattle.graph_text.specs.Decls.{IsBy};
 ghost use Rattle.graph_text.specs.Lines.{by_of};
+ghost use Rattle.graph_text.specs.Numbers.{nat_value};
 ghost use Rattle.graph_base.specs.Names.{names_of, place_of};
 ghost use Rattle.graph_base.specs.Kept.{task_of};
 ghost use Rattle.graph_lang.specs.LineTasks.{parent_of};
 ghost use Rattle.graph_base.specs.TaskLines.{has_children};
 ghost use Rattle.graph_lang.specs.Faults.{is_parent_known, is_phaser, is_in_order, may_be_parent};
-ghost use Rattle.graph_lang.specs.Faults.{is_held, holds_for, is_plain, is_count_within, later_kind};
+ghost use Rattle.graph_lang.specs.Faults.{is_held, holds_for, is_plain, later_kind};
 
 use crate::draft::{Draft, place_of, task_named};
 use crate::fault::FaultKind;
 use crate::phasers::{are_among, are_distinct, are_in_order, are_phasers, is_exchange_below};
-use crate::within::count_in;
 use graph_base::{Kind, Parent, Place, TaskLine};
 use graph_text::{By, name_text};
 use indexmap::IndexMap;
@@ -31,19 +31,21 @@ pub(crate) fn is_parent_known(names: &IndexMap<String, Place>, by: Option<By<'_>
     }
 }
 
-/// The parent of a task, where it has one.
-pub(crate) fn parent_of(names: &IndexMap<String, Place>, by: Option<By<'_>>) -> Option<Parent>
+/// The parent of a task, where it has one, after so many steps.
+pub(crate) fn parent_of(
+    names: &IndexMap<String, Place>,
+    by: Option<By<'_>>,
+    at: Option<u64>,
+) -> Option<Parent>
     requires by { IfSome (by_of by) IsBy }
-    requires within { IfSome (by_of by) (λ by. IsTrue (is_count_within by.at)) }
+    requires at { at ≡ option_map (λ by. nat_value by.at) (by_of by) }
     ensures { result ≡ option_map (parent_of (names_of names.now.entries)) (by_of by.entry) }
 {
-    match by {
-        None => None,
-        Some(by) => Some(Parent {
-            task: task_named(names, name_text(by.parent)).unwrap_or(0),
-            at: count_in(by.at),
-        }),
-    }
+    let by = by?;
+    Some(Parent {
+        task: task_named(names, name_text(by.parent)).unwrap_or(0),
+        at: at?,
+    })
 }
 
 /// Whether a task of the kind may have children.

@@ -1,23 +1,24 @@
 //! Reading the lines of a graph's text.
-ghost use Rattle.std.specs.Prelude.{◌≡◌, IfOk, IfErr, OnOk, Ok, Err, Some, None};
+ghost use Rattle.std.specs.Prelude.{◌≡◌, IfOk, IfErr, IfSome, OnOk, Ok, Err, Some, None, is_some, not};
 ghost use Rattle.graph_text.specs.Decls.{IsWellFormed};
-ghost use Rattle.graph_text.specs.Lines.{decl_of, single_of};
+ghost use Rattle.graph_text.specs.Lines.{decl_of, single_of, body_of, ends_of};
 ghost use Rattle.graph_text.specs.Texts.{lines_of};
 ghost use Rattle.graph_text.specs.declared.line.Line.TheVariants as line;
 ghost use Rattle.graph_lang.specs.LineTasks.{phaser_line};
 ghost use Rattle.graph_lang.specs.Faults.{kind_of, is_past_limit};
+ghost use Rattle.graph_lang.specs.Numbers.{AreNumbersOf, steps_in};
 ghost use Rattle.graph_lang.specs.Reads.{TellsDecl, Steps, TellsFault, Tells};
 
 use crate::declare::{fault, phaser_words};
 use crate::draft::{Draft, place_of};
 use crate::fault::{FaultKind, GraphRefusal};
-use crate::within::{are_ends_within, is_body_within, phaser_line};
+use crate::within::{EndNumbers, Numbers, numbers_of, phaser_line, steps_of};
 use graph_base::{Graph, PHASERS_MAX, PhaserLine, TASKS_MAX};
 use graph_text::{
     Line, PhaserWords, TaskWords, are_printable, begins_comment, line_at, lines_of, name_text,
     without_cr, words_of,
 };
-use std::alloc::Global;
+use std::alloc::{AllocError, Global};
 
 impl Draft {
     /// The line of a phaser, or the first kind of fault of its words.
@@ -42,12 +43,30 @@ impl Draft {
         Ok(line)
     }
 
-    /// Whether a number of a task's line is outside its limit.
-    fn is_past_limit(&self, words: TaskWords<'_, '_>) -> bool
+    /// The numbers of a task's line, where each is within its limit and there is room for the task.
+    fn numbers(
+        &self,
+        alloc: Global,
+        words: TaskWords<'_, '_>,
+    ) -> Result<Option<(Numbers, EndNumbers)>, AllocError>
         requires { IsWellFormed (decl_of (line.Task words)) }
-        ensures { result ≡ is_past_limit self.now (decl_of (line.Task words.entry)) }
+        ensures within { IfOk result (λ found. is_some found
+            ≡ not (is_past_limit self.now (decl_of (line.Task words.entry)))) }
+        ensures numbers { IfOk result (λ found. IfSome found (λ both.
+            AreNumbersOf both.0 (body_of words.entry.body))) }
+        ensures steps { IfOk result (λ found. IfSome found (λ both.
+            both.1 ≡ steps_in (ends_of words.entry.ends))) }
     {
-        !(is_body_within(words.body) && are_ends_within(words.ends) && self.tasks.len() < TASKS_MAX)
+        if self.tasks.len() >= TASKS_MAX {
+            return Ok(None);
+        }
+        let Some(steps) = steps_of(words.ends) else {
+            return Ok(None);
+        };
+        match numbers_of(alloc, words.body)? {
+            None => Ok(None),
+            Some(numbers) => Ok(Some((numbers, steps))),
+        }
     }
 
     /// Declares a phaser as line `number`.
@@ -85,10 +104,10 @@ impl Draft {
         ensures fault { IfErr result (λ e.
             TellsDecl number self.old (decl_of (line.Task words.entry)) (Err e)) }
     {
-        if self.is_past_limit(words) {
+        let Some((numbers, steps)) = self.numbers(alloc, words)? else {
             return Err(fault(number, FaultKind::Limit));
-        }
-        let task = self.task_line(alloc, number, words)?;
+        };
+        let task = self.task_line(alloc, number, words, numbers, steps)?;
         let phasers = phaser_words(alloc, words.body)?;
         if let Some(kind) = self.later_kind(words.name, &phasers, words.ends.by, &task) {
             return Err(fault(number, kind));

@@ -1,5 +1,5 @@
-//! Whether the numbers of a line are within their limits, and what they are.
-ghost use Rattle.std.specs.Prelude.{◌≡◌, ◌≤◌, ◌↔◌, ◌&&◌, IsTrue, IfSome, IfOk, length, map, if◌then◌else◌, Some, None, option_map, true};
+//! The numbers of a line, where they are within their limits.
+ghost use Rattle.std.specs.Prelude.{◌≡◌, ◌&&◌, [], IsTrue, IfSome, IfOk, length, map, if◌then◌else◌, Some, None, is_some, option_map, true, nat_le, unsigned_abs, pos};
 ghost use Rattle.std.specs.Option.{option_map_or};
 ghost use Rattle.std.specs.Int.Signed.{le_z};
 ghost use Rattle.std.specs.List.{list_all};
@@ -10,6 +10,7 @@ ghost use Rattle.graph_text.specs.Lines.{single_of as function_words, function_o
 ghost use Rattle.graph_text.specs.Lines.{ends_of, by_of, word_of};
 ghost use Rattle.graph_lang.specs.LineTasks.{single_of, phaser_line};
 ghost use Rattle.graph_lang.specs.LineTasks.{taps_of, shift_of, factor_of};
+ghost use Rattle.graph_lang.specs.Numbers.{AreNumbersOf, steps_in};
 ghost use Rattle.graph_lang.specs.Faults.{is_function_within, is_bound_within, is_body_within};
 ghost use Rattle.graph_lang.specs.Faults.{is_tap_within, is_number_of_ends, is_count_within};
 ghost use Rattle.graph_lang.specs.Faults.{are_ends_within, is_phaser_within};
@@ -85,25 +86,64 @@ pub(crate) fn phaser_line(words: PhaserWords<'_>) -> Option<PhaserLine>
 
 // ---- tasks
 
-/// Whether the word is a tap within its limit.
-fn is_tap_within(word: &[u8]) -> bool
-    requires { IsTrue (is_int word.now) }
-    ensures { result ≡ is_tap_within word.now }
-{
-    int_within(word, TAP_MAX).is_some()
+/// The numbers of what a task does: the taps and the shift of a filter, and the factor of a peer.
+#[derive(Drop)]
+pub(crate) struct Numbers {
+    pub(crate) taps: Vec<i64>,
+    pub(crate) shift: u32,
+    pub(crate) factor: i64,
 }
 
-/// Whether each word is a tap within its limit.
-fn are_taps_within(words: &[&[u8]]) -> bool
-    requires { IsTrue (list_all is_int (plain words.now)) }
-    ensures { result ≡ list_all is_tap_within (plain words.now) }
+/// The numbers of a task's ends: after how many steps of its parent it is registered, and after how
+/// many of its own it drops.
+#[derive(Clone, Copy, Debug)]
+pub(crate) struct EndNumbers {
+    pub(crate) at: Option<u64>,
+    pub(crate) until: Option<u64>,
+}
+
+/// The tap that a word writes, where it is within its limit.
+fn tap_of(word: &[u8]) -> Option<i64>
+    requires { IsTrue (is_int word.now) }
+    ensures { result ≡ (if is_tap_within word.now then Some (int_value word.now) else None) }
 {
+    int_within(word, TAP_MAX)
+}
+
+/// The taps that words write, where each is within its limit.
+fn taps_of(alloc: Global, words: &[&[u8]]) -> Result<Option<Vec<i64>>, AllocError>
+    requires { IsTrue (list_all is_int (plain words.now)) }
+    ensures within { IfOk result (λ found.
+        is_some found ≡ list_all is_tap_within (plain words.now)) }
+    ensures taps { IfOk result (λ found. IfSome found (λ taps.
+        taps.items ≡ map int_value (plain words.now))) }
+{
+    let mut taps = Vec::new(alloc);
     for word in words {
-        if !is_tap_within(word) {
-            return false;
-        }
+        let Some(tap) = tap_of(word) else {
+            return Ok(None);
+        };
+        taps.push(tap)?;
     }
-    true
+    Ok(Some(taps))
+}
+
+/// The shift that a word writes, where it is within its limit.
+fn shift_of(word: &[u8]) -> Option<u32>
+    requires { IsTrue (is_nat word.now) }
+    ensures { result
+        ≡ (if nat_le (nat_value word.now) SHIFT_MAX then Some (nat_value word.now) else None) }
+{
+    Some(nat_within(word, SHIFT_MAX as u64)? as u32)
+}
+
+/// The factor that a word writes, where it is within its limit.
+fn factor_of(word: &[u8]) -> Option<i64>
+    requires { IsTrue (is_int word.now) }
+    ensures { result ≡ (if nat_le (unsigned_abs (int_value word.now)) FACTOR_MAX
+        then Some (int_value word.now) else None) }
+{
+    int_within(word, FACTOR_MAX)
 }
 
 /// Whether a splitter may have so many outputs, or a joiner so many inputs.
@@ -113,130 +153,100 @@ fn is_number_of_ends(count: usize) -> bool
     2 <= count && count <= ENDS_MAX
 }
 
-/// Whether the word is a shift within its limit.
-fn is_shift_within(word: &[u8]) -> bool
-    requires { IsTrue (is_nat word.now) }
-    ensures { IsTrue result ↔ (nat_value word.now ≤ SHIFT_MAX) }
+/// The numbers of a filter, where each, and how many taps there are, is within its limit.
+fn filter_numbers(
+    alloc: Global,
+    shift: &[u8],
+    taps: &[&[u8]],
+) -> Result<Option<Numbers>, AllocError>
+    requires shift { IsTrue (is_nat shift.now) }
+    requires taps { IsTrue (list_all is_int (plain taps.now)) }
+    ensures within { IfOk result (λ found. is_some found
+        ≡ (nat_le (nat_value shift.now) SHIFT_MAX && nat_le (length taps.now) TAPS_MAX
+        && list_all is_tap_within (plain taps.now))) }
+    ensures numbers { IfOk result (λ found. IfSome found (λ numbers.
+        (numbers.taps.items ≡ map int_value (plain taps.now))
+        × (numbers.shift ≡ nat_value shift.now) × (numbers.factor ≡ pos 0))) }
 {
-    nat_within(word, SHIFT_MAX as u64).is_some()
-}
-
-/// Whether the numbers of a task's words are within their limits.
-pub(crate) fn is_body_within(body: Body<'_, '_>) -> bool
-    requires { IsBody (body_of body) }
-    ensures { result ≡ is_body_within (body_of body.entry) }
-{
-    match body {
-        Body::Source(..) | Body::Sink(..) => true,
-        Body::Fir(_, _, shift, taps) => {
-            is_shift_within(shift) && taps.len() <= TAPS_MAX && are_taps_within(taps)
-        }
-        Body::Split(_, outputs) => is_number_of_ends(outputs.len()),
-        Body::Join(inputs, _) => is_number_of_ends(inputs.len()),
-        Body::Peer(_, _, _, factor) => int_within(factor, FACTOR_MAX).is_some(),
+    let Some(shift) = shift_of(shift) else {
+        return Ok(None);
+    };
+    if taps.len() > TAPS_MAX {
+        return Ok(None);
+    }
+    match taps_of(alloc, taps)? {
+        None => Ok(None),
+        Some(taps) => Ok(Some(Numbers {
+            taps,
+            shift,
+            factor: 0,
+        })),
     }
 }
 
-/// Whether the word is a number of steps within its limit.
-fn is_count_within(word: &[u8]) -> bool
-    requires { IsTrue (is_nat word.now) }
-    ensures { result ≡ is_count_within word.now }
+/// The numbers of a task that is no filter, and a peer's factor or 0.
+fn numbers_with(alloc: Global, factor: i64) -> Numbers
+    ensures { (result.taps.items ≡ []) × (result.shift ≡ 0) × (result.factor ≡ factor) }
 {
-    nat_within(word, COUNT_MAX).is_some()
+    Numbers {
+        taps: Vec::new(alloc),
+        shift: 0,
+        factor,
+    }
 }
 
-/// Whether the numbers of the ends of a task's line are within their limits.
-pub(crate) fn are_ends_within(ends: Ends<'_>) -> bool
+/// The numbers of what a task does, where each, and how many ends it has, is within its limits.
+pub(crate) fn numbers_of(alloc: Global, body: Body<'_, '_>) -> Result<Option<Numbers>, AllocError>
+    requires { IsBody (body_of body) }
+    ensures within { IfOk result (λ found. is_some found ≡ is_body_within (body_of body.entry)) }
+    ensures numbers { IfOk result (λ found. IfSome found (λ numbers.
+        AreNumbersOf numbers (body_of body.entry))) }
+{
+    let factor = match body {
+        Body::Fir(_, _, shift, taps) => return filter_numbers(alloc, shift, taps),
+        Body::Split(_, outputs) if !is_number_of_ends(outputs.len()) => None,
+        Body::Join(inputs, _) if !is_number_of_ends(inputs.len()) => None,
+        Body::Peer(_, _, _, factor) => factor_of(factor),
+        _ => Some(0),
+    };
+    match factor {
+        None => Ok(None),
+        Some(factor) => Ok(Some(numbers_with(alloc, factor))),
+    }
+}
+
+/// The number of steps that a word writes, where it is within its limit.
+fn count_of(word: &[u8]) -> Option<u64>
+    requires { IsTrue (is_nat word.now) }
+    ensures { result ≡ (if is_count_within word.now then Some (nat_value word.now) else None) }
+{
+    nat_within(word, COUNT_MAX)
+}
+
+/// The number of steps that a word writes, where there is one; the outer `None` is a number that is
+/// outside its limit.
+fn count_in(word: Option<&[u8]>) -> Option<Option<u64>>
+    requires { IfSome (word_of word) (λ steps. IsTrue (is_nat steps)) }
+    ensures { result ≡ (if option_map_or is_count_within (word_of word.entry) true
+        then Some (option_map nat_value (word_of word.entry)) else None) }
+{
+    match word {
+        None => Some(None),
+        Some(steps) => Some(Some(count_of(steps)?)),
+    }
+}
+
+/// The numbers of the ends of a task's line, where each is within its limit.
+pub(crate) fn steps_of(ends: Ends<'_>) -> Option<EndNumbers>
     requires by { IfSome (by_of ends.by) IsBy }
     requires until { IfSome (word_of ends.until) (λ steps. IsTrue (is_nat steps)) }
-    ensures { result ≡ are_ends_within (ends_of ends.entry) }
+    ensures { result ≡ (if are_ends_within (ends_of ends.entry)
+        then Some (steps_in (ends_of ends.entry)) else None) }
 {
-    let by = match ends.by {
-        None => true,
-        Some(by) => is_count_within(by.at),
+    let at = match ends.by {
+        None => None,
+        Some(by) => Some(count_of(by.at)?),
     };
-    let until = match ends.until {
-        None => true,
-        Some(steps) => is_count_within(steps),
-    };
-    by && until
-}
-
-/// The number that a word writes, which is a tap within its limit.
-fn tap_in(word: &[u8]) -> i64
-    requires int { IsTrue (is_int word.now) }
-    requires within { IsTrue (is_tap_within word.now) }
-    ensures { result ≡ int_value word.now }
-{
-    int_within(word, TAP_MAX).unwrap_or(0)
-}
-
-/// The numbers that words write, which are taps within their limit.
-fn numbers_in(alloc: Global, words: &[&[u8]]) -> Result<Vec<i64>, AllocError>
-    requires ints { IsTrue (list_all is_int (plain words.now)) }
-    requires within { IsTrue (list_all is_tap_within (plain words.now)) }
-    ensures { IfOk result (λ numbers. numbers.items ≡ map int_value (plain words.now)) }
-{
-    let mut numbers = Vec::new(alloc);
-    for word in words {
-        numbers.push(tap_in(word))?;
-    }
-    Ok(numbers)
-}
-
-/// The taps of a task, none where it is no filter.
-pub(crate) fn taps_of(alloc: Global, body: Body<'_, '_>) -> Result<Vec<i64>, AllocError>
-    requires body { IsBody (body_of body) }
-    requires within { IsTrue (is_body_within (body_of body)) }
-    ensures { IfOk result (λ taps. taps.items ≡ taps_of (body_of body.entry)) }
-{
-    match body {
-        Body::Fir(_, _, _, taps) => numbers_in(alloc, taps),
-        _ => Ok(Vec::new(alloc)),
-    }
-}
-
-/// The shift of a task, 0 where it is no filter.
-pub(crate) fn shift_of(body: Body<'_, '_>) -> u32
-    requires body { IsBody (body_of body) }
-    requires within { IsTrue (is_body_within (body_of body)) }
-    ensures { result ≡ shift_of (body_of body.entry) }
-{
-    match body {
-        Body::Fir(_, _, shift, _) => shift_in(shift),
-        _ => 0,
-    }
-}
-
-/// The shift that a word within its limit writes.
-fn shift_in(word: &[u8]) -> u32
-    requires nat { IsTrue (is_nat word.now) }
-    requires within { nat_value word.now ≤ SHIFT_MAX }
-    ensures { result ≡ nat_value word.now }
-{
-    match nat_within(word, SHIFT_MAX as u64) {
-        Some(shift) => shift as u32,
-        None => 0,
-    }
-}
-
-/// The factor of a task, 0 where it is no peer.
-pub(crate) fn factor_of(body: Body<'_, '_>) -> i64
-    requires body { IsBody (body_of body) }
-    requires within { IsTrue (is_body_within (body_of body)) }
-    ensures { result ≡ factor_of (body_of body.entry) }
-{
-    match body {
-        Body::Peer(_, _, _, factor) => int_within(factor, FACTOR_MAX).unwrap_or(0),
-        _ => 0,
-    }
-}
-
-/// The number of steps that a word within its limit writes.
-pub(crate) fn count_in(word: &[u8]) -> u64
-    requires nat { IsTrue (is_nat word.now) }
-    requires within { IsTrue (is_count_within word.now) }
-    ensures { result ≡ nat_value word.now }
-{
-    nat_within(word, COUNT_MAX).unwrap_or(0)
+    let until = count_in(ends.until)?;
+    Some(EndNumbers { at, until })
 }

@@ -2,7 +2,7 @@
 use Rattle.std.proofs.Common.{◌≡◌, [], ◌∷◌, true, false, refl, codes, Some, None}
 use Rattle.std.specs.List.{list_all, list_any}
 use Rattle.graph_text.specs.Texts.{words_of, are_printable, is_ignored}
-use Rattle.graph_words.specs.declared.operation.Op.TheVariants.{Sum}
+use Rattle.phase_base.specs.declared.operation.Op.TheVariants.{Sum}
 use Rattle.graph_text.specs.Numbers.{is_nat, is_int}
 use Rattle.graph_text.specs.Decls.{phaser, task, source, neg, abs, halve, clamp}
 use Rattle.graph_text.specs.Reading.{line_at, phaser_at, task_at, body_at, source_at, sink_at, word_at, after, begins, single_at, operation_at, function_at, function_named, clamp_at, by_at, until_at, ends_at}

@@ -5,9 +5,9 @@ use Rattle.std.specs.Str.{bytes_eq}
 use Rattle.graph_words.specs.Words.{Word, is_name}
 use Rattle.std.proofs.lemmas.Option.{same_Some}
 use Rattle.graph_text.proofs.Digits.{both}
-use Rattle.graph_words.specs.Operations.{operation_word}
-use Rattle.graph_words.specs.declared.operation.Op.{Op}
-use Rattle.graph_words.specs.declared.operation.Op.TheVariants.{Sum, Product, Least, Greatest, Any}
+use Rattle.phase_base.specs.OperationWords.{operation_word}
+use Rattle.phase_base.specs.declared.operation.Op.{Op}
+use Rattle.phase_base.specs.declared.operation.Op.TheVariants.{Sum, Product, Least, Greatest, Any}
 use Rattle.graph_text.specs.Numbers.{is_nat, is_int}
 use Rattle.graph_text.specs.Decls.{Decl, phaser, task, FunctionWords, neg, abs, halve, clamp, ByWords, EndWords, BodyWords, source, fir, split, join, peer, sink}
 use Rattle.graph_text.specs.Decls.{spelling, function_words, single_words, by_words, until_words, end_words, kind_word, body_words, IsFunction, IsBody, AreEnds, AreSome, IsWellFormed, may_have_parent, Spells}

@@ -7,9 +7,9 @@ use Rattle.std.proofs.lemmas.List.{append_assoc}
 use Rattle.std.proofs.lemmas.Option.{cond_some, same_Some}
 use Rattle.std.proofs.lemmas.Slice.Eq.{bytes_eq-Decides}
 use Rattle.graph_words.specs.Words.{Word, is_name, is_file}
-use Rattle.graph_words.specs.Operations.{operation_of, operation_word}
-use Rattle.graph_words.specs.declared.operation.Op.{Op}
-use Rattle.graph_words.proofs.Operations.{operation-read}
+use Rattle.phase_base.specs.OperationWords.{operation_of, operation_word}
+use Rattle.phase_base.specs.declared.operation.Op.{Op}
+use Rattle.phase_base.proofs.OperationWords.{operation-read}
 use Rattle.graph_text.specs.Numbers.{is_nat, is_int}
 use Rattle.graph_text.specs.Decls.{Decl, phaser, task, FunctionWords, neg, abs, halve, ByWords, EndWords, BodyWords}
 use Rattle.graph_text.specs.Decls.{function_words, single_words, by_words, until_words, end_words, kind_word, body_words, IsFunction, IsBody, IsBy, AreEnds, AreSome, may_have_parent, Spells}

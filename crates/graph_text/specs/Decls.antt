@@ -4,8 +4,8 @@ use Rattle.std.specs.Prelude.{ℕ, ◌≡◌, ◌≤◌, Bool, true, false, List
 use Rattle.std.specs.List.{list_all}
 use Rattle.graph_words.specs.Words.{Word, is_name, is_file}
 use Rattle.graph_text.specs.Texts.{words_of, are_printable}
-use Rattle.graph_words.specs.Operations.{operation_word}
-use Rattle.graph_words.specs.declared.operation.Op.{Op}
+use Rattle.phase_base.specs.OperationWords.{operation_word}
+use Rattle.phase_base.specs.declared.operation.Op.{Op}
 use Rattle.graph_text.specs.Numbers.{is_nat, is_int}
 
 -- ---- what a line declares

@@ -3,7 +3,7 @@ use Rattle.std.specs.Prelude.{ℕ, List, Option, Some, None}
 use Rattle.std.specs.Borrow.{Bor}
 use Rattle.graph_words.specs.Words.{Word}
 use Rattle.graph_text.specs.Plain.{plain as words_in}
-use Rattle.graph_words.specs.declared.operation.Op.{Op}
+use Rattle.phase_base.specs.declared.operation.Op.{Op}
 use Rattle.graph_text.specs.Decls.{Decl, phaser, task, FunctionWords, neg, abs, halve, clamp, ByWords, EndWords}
 use Rattle.graph_text.specs.Decls.{BodyWords, source, fir, split, join, peer, sink}
 use Rattle.graph_text.specs.Reading.{Found}

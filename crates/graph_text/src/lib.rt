@@ -9,8 +9,9 @@ mod number;
 mod read;
 mod text;
 
-pub use graph_words::{FILE_MAX, NAME_MAX, Op, file_text, name_text};
+pub use graph_words::{FILE_MAX, NAME_MAX, file_text, name_text};
 pub use line::{Body, By, Ends, Function, Line, PhaserWords, TaskWords};
 pub use number::{int_within, nat_within};
+pub use phase_base::Op;
 pub use read::line_at;
 pub use text::{are_printable, begins_comment, lines_of, without_cr, words_of};

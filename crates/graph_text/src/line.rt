@@ -1,6 +1,6 @@
 //! What a line declares, by its words.
 
-use graph_words::Op;
+use phase_base::Op;
 
 /// What a line declares, by its words. Names, files and numbers stand as they are written.
 #[derive(Clone, Copy)]

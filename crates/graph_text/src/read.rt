@@ -16,7 +16,8 @@ ghost use Rattle.graph_text.specs.Reading.{phaser_at, task_at, line_at};
 
 use crate::line::{Body, By, Ends, Function, Line, PhaserWords, TaskWords};
 use crate::number::{is_int, is_nat};
-use graph_words::{Op, is_file, is_name};
+use graph_words::{is_file, is_name};
+use phase_base::Op;
 
 // ---- words
 

@@ -1,9 +1,7 @@
 -- Worked words, computed in the definitions.
-use Rattle.std.proofs.Common.{◌≡◌, [], ◌∷◌, true, false, refl, codes, List, map, Some, None}
+use Rattle.std.proofs.Common.{◌≡◌, [], ◌∷◌, true, false, refl, codes, List}
 use Rattle.std.specs.List.{list_all, list_any}
 use Rattle.graph_words.specs.Words.{Word, is_name, is_file, is_word_byte}
-use Rattle.graph_words.specs.Operations.{operation_of}
-use Rattle.graph_words.specs.declared.operation.Op.TheVariants.{Sum, Product, Least, Greatest, Any}
 
 -- the words of the grammar
 abbrev reserved : List Word
@@ -45,13 +43,3 @@ files = refl
 -- but has no byte of no word
 no_files : list_any is_file ((97 ∷ 127 ∷ []) ∷ (97 ∷ 32 ∷ 98 ∷ []) ∷ [] ∷ []) ≡ false
 no_files = refl
-
--- the five operations, and words that stand for none
-operations : map operation_of
-    (codes "sum" ∷ codes "product" ∷ codes "least" ∷ codes "greatest" ∷ codes "any" ∷ [])
-    ≡ Some Sum ∷ Some Product ∷ Some Least ∷ Some Greatest ∷ Some Any ∷ []
-operations = refl
-
-no_operations : map operation_of (codes "mean" ∷ codes "Sum" ∷ codes "sums" ∷ codes "neg" ∷ [] ∷ [])
-    ≡ None ∷ None ∷ None ∷ None ∷ None ∷ []
-no_operations = refl

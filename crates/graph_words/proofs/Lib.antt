@@ -1,3 +1,2 @@
 mod Ascii
 mod Examples
-pub mod Operations

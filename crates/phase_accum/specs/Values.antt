@@ -3,6 +3,8 @@
 use Rattle.std.specs.Prelude.{◌/◌, ◌≤◌, nat_le, ℤ, pos, negsuc, ◌+ℤ◌, ◌*ℤ◌, neg_ℤ, unsigned_abs, List, [], ◌∷◌, if◌then◌else◌, Option, Some, None}
 use Rattle.std.specs.Int.{int_min, int_max}
 pub use Rattle.phase_accum.specs.Sends.{value_max, IsSend, AreSends}
+use Rattle.phase_base.specs.declared.operation.Op.{Op}
+use Rattle.phase_base.specs.declared.operation.Op.TheVariants.{Sum, Product, Least, Greatest, Any}
 use Rattle.phase_accum.specs.declared.outcome.Outcome.{Outcome}
 use Rattle.phase_accum.specs.declared.outcome.Outcome.TheVariants.{Value, Empty, TooBig}
 use Rattle.phase_accum.specs.declared.single.Single.{Single}
@@ -56,6 +58,14 @@ greatest_value (v ∷ vs) = Value (greatest_of v vs)
 abbrev pub any_value : List ℤ → Outcome
 any_value [] = Empty
 any_value (v ∷ vs) = Value v
+
+-- the value by an operation
+abbrev pub value_by : Op → List ℤ → Outcome
+value_by Sum = sum_value
+value_by Product = product_value
+value_by Least = least_value
+value_by Greatest = greatest_value
+value_by Any = any_value
 
 -- a value has a magnitude of one
 abbrev pub IsInRange : Outcome → Type 0

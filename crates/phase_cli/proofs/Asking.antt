@@ -1,120 +1,120 @@
 -- What words ask for, and which statuses may come.
 use Rattle.std.proofs.Common.{◌≡◌, ◌≢◌, ◌⊎◌, inl, inr, ℕ, List, [], ◌∷◌, refl, sym, ◌∙◌, ap, subst, rules, arith}
-use Rattle.clap.specs.Words.{HasKind, IsAmong, Kinds, Text, kind_of}
-use Rattle.clap.specs.declared.error.Error.{Error}
-use Rattle.clap.specs.declared.error.kind.ErrorKind.{ErrorKind}
-use Rattle.clap.specs.declared.error.kind.ErrorKind.TheVariants as kind
-use Rattle.phase_cli.specs.Ends.{IsStatus, MayEnd, MayEndAs}
-use Rattle.phase_words.specs.CommandLine.{AreRefused, AreTaken, Asked, Asks, AskHelp, asked_in, check, eval, kinds_of, replay}
+use Rattle.phase_cli.specs.Ends.{IsAnswer, IsStatus, MayEnd, MayEndAs}
+use Rattle.phase_status.specs.Statuses.{Reports}
+use Rattle.phase_words.proofs.NoCalls.{asked-help-not-taken, help-not-taken, refusal-not-help, refusal-not-taken, taken-or-not}
+use Rattle.phase_words.specs.CommandLine.{AreRefused, AreTaken, Asked, Asks, AskHelp, IsNoCall, asked_in, asked_of, check, eval, replay}
+use Rattle.phase_words.specs.declared.call.Call.{Call}
+use Rattle.phase_words.specs.declared.call.NoCall.{NoCall}
+use Rattle.phase_words.specs.declared.call.NoCall.TheVariants as no_call
+use Rattle.watched_io.specs.States.{WriterState}
+use Rattle.watched_io.specs.declared.fault.IoFault.TheVariants.{OutOfMemory}
+use Rattle.watched_io.specs.declared.watched.Watched.{Watched}
 
 -- ---- what words ask for
 
+-- words give one call, and ask for what it asks for
+pub asks-call : (words : List (List ℕ)) (given call : Call) → given ≡ call → Asks words (asked_of given) → Asks words (asked_of call)
+asks-call words given call same asks = subst (λ (call : Call). Asks words (asked_of call)) same asks
+
 -- words ask for one thing
-pub asks-one : (words : List Text) (one other : Asked) → Asks words one → Asks words other → one ≡ other
+pub asks-one : (words : List (List ℕ)) (one other : Asked) → Asks words one → Asks words other → one ≡ other
 asks-one words one other p q = sym p.command ∙ q.command
 
-replay-not-check : (name : Text) → replay ≢ check name
+replay-not-check : (name : List ℕ) → replay ≢ check name
 replay-not-check name = λ e. search rules
 
-replay-not-eval : (name : Text) → replay ≢ eval name
+replay-not-eval : (name : List ℕ) → replay ≢ eval name
 replay-not-eval name = λ e. search rules
 
-check-not-eval : (name other : Text) → check name ≢ eval other
+check-not-eval : (name other : List ℕ) → check name ≢ eval other
 check-not-eval name other = λ e. search rules
 
-pub not-check : (words : List Text) (name : Text) → Asks words replay → Asks words (check name) → ⊥
+pub not-check : (words : List (List ℕ)) (name : List ℕ) → Asks words replay → Asks words (check name) → ⊥
 not-check words name p q = replay-not-check name (asks-one words replay (check name) p q)
 
-pub not-eval : (words : List Text) (name : Text) → Asks words replay → Asks words (eval name) → ⊥
+pub not-eval : (words : List (List ℕ)) (name : List ℕ) → Asks words replay → Asks words (eval name) → ⊥
 not-eval words name p q = replay-not-eval name (asks-one words replay (eval name) p q)
 
-pub not-both : (words : List Text) (name other : Text) → Asks words (check name) → Asks words (eval other) → ⊥
+pub not-both : (words : List (List ℕ)) (name other : List ℕ) → Asks words (check name) → Asks words (eval other) → ⊥
 not-both words name other p q = check-not-eval name other (asks-one words (check name) (eval other) p q)
 
 -- the name that is asked for
-abbrev name_of : Asked → Text
+abbrev name_of : Asked → List ℕ
 name_of replay = []
 name_of (check name) = name
 name_of (eval name) = name
 
-pub same-check : (words : List Text) (name other : Text) → Asks words (check name) → Asks words (check other) → name ≡ other
+pub same-check : (words : List (List ℕ)) (name other : List ℕ) → Asks words (check name) → Asks words (check other) → name ≡ other
 same-check words name other p q = ap name_of (asks-one words (check name) (check other) p q)
 
-pub same-eval : (words : List Text) (name other : Text) → Asks words (eval name) → Asks words (eval other) → name ≡ other
+pub same-eval : (words : List (List ℕ)) (name other : List ℕ) → Asks words (eval name) → Asks words (eval other) → name ≡ other
 same-eval words name other p q = ap name_of (asks-one words (eval name) (eval other) p q)
 
 -- ---- statuses
 
-not-empty : (k : Kinds) → [] ≢ kind.DisplayHelp ∷ k
-not-empty k = λ e. search rules
-
 -- what taken words ask for was done, or stopped
-pub may-end-asked : (words : List Text) (what : Asked) (status : ℕ) → Asks words what → MayEndAs what status → MayEnd words status
+pub may-end-asked : (words : List (List ℕ)) (what : Asked) (status : ℕ) → Asks words what → MayEndAs what status → MayEnd words status
 may-end-asked words what status asks ends = record {
   asked = λ other again. subst (λ (w : Asked). MayEndAs w status) (asks-one words what other asks again) ends;
-  help = λ help. absurd (not-empty [] (sym asks.taken ∙ help));
+  help = λ help. absurd (asked-help-not-taken words help asks.taken);
   refused = λ refused. absurd (refused.0 asks.taken);
   untaken = λ none. absurd (none asks.taken);
 }
 
--- words that are taken fail for memory alone
-pub taken-memory : (words : List Text) (error : Error) → AreTaken words → HasKind (kinds_of words) error → kind_of error ≡ kind.OutOfMemory
-taken-memory words error taken has = elim (subst (λ (kinds : Kinds). HasKind kinds error) taken has) [
-  | inl memory ↦ memory
-  | inr among ↦ absurd among
-]
+-- words that are taken give no call for memory alone
+pub taken-memory : {W : Type 0} (words : List (List ℕ)) (none : NoCall) (status : ℕ) (old new : Watched W) (before after : WriterState)
+    → AreTaken words → IsNoCall words none → IsAnswer none status old new before after
+    → (status ≡ 5) × ((new ≡ old) × Reports OutOfMemory before after)
+taken-memory words (no_call.Help text) status old new before after taken why answer = absurd (help-not-taken words why taken)
+taken-memory words (no_call.Refused text) status old new before after taken why answer = absurd (refusal-not-taken words why taken)
+taken-memory words no_call.OutOfMemory status old new before after taken why answer = answer
 
 five-as : (what : Asked) (status : ℕ) → status ≡ 5 → MayEndAs what status
 five-as replay status five = inr five
 five-as (check name) status five = inr (inr five)
 five-as (eval name) status five = inr (inr (inr five))
 
-pub memory-not-help : kind.OutOfMemory ≢ kind.DisplayHelp
-memory-not-help = λ e. search rules
+-- the status of words that ask for help
+help-ends : {W : Type 0} (words : List (List ℕ)) (none : NoCall) (status : ℕ) (old new : Watched W) (before after : WriterState)
+    → IsNoCall words none → IsAnswer none status old new before after → AskHelp words → (status ≡ 0) ⊎ (status ≡ 5)
+help-ends words (no_call.Help text) status old new before after why answer help = answer
+help-ends words (no_call.Refused text) status old new before after why answer help = absurd (refusal-not-help words why help)
+help-ends words no_call.OutOfMemory status old new before after why answer help = inr answer.0
 
--- a call for help is no refusal
-pub refused-not-help : (words : List Text) (error : Error) → AreRefused words → HasKind (kinds_of words) error → kind_of error ≢ kind.DisplayHelp
-refused-not-help words error refused has = λ help. elim has [
-  | inl memory ↦ memory-not-help (sym memory ∙ help)
-  | inr among ↦ refused.1 (subst (λ k. IsAmong k (kinds_of words)) help among)
-]
+-- the status of words that are refused
+refused-ends : {W : Type 0} (words : List (List ℕ)) (none : NoCall) (status : ℕ) (old new : Watched W) (before after : WriterState)
+    → IsNoCall words none → IsAnswer none status old new before after → AreRefused words → (status ≡ 2) ⊎ (status ≡ 5)
+refused-ends words (no_call.Help text) status old new before after why answer refused = absurd (refused.1 why)
+refused-ends words (no_call.Refused text) status old new before after why answer refused = inl answer.0
+refused-ends words no_call.OutOfMemory status old new before after why answer refused = inr answer.0
 
--- what an error's answer says of its status
-pub record Answered (error : Error) (status : ℕ) : Type 0 where
-  pub one : (status ≡ 0) ⊎ ((status ≡ 2) ⊎ (status ≡ 5))
-  pub done : status ≡ 0 → kind_of error ≡ kind.DisplayHelp
-  pub refused : status ≡ 2 → kind_of error ≢ kind.DisplayHelp
-  pub memory : kind_of error ≡ kind.OutOfMemory → status ≡ 5
+-- the status of words that are not taken
+untaken-ends : {W : Type 0} (none : NoCall) (status : ℕ) (old new : Watched W) (before after : WriterState)
+    → IsAnswer none status old new before after → (status ≡ 0) ⊎ ((status ≡ 2) ⊎ (status ≡ 5))
+untaken-ends (no_call.Help text) status old new before after (inl zero) = inl zero
+untaken-ends (no_call.Help text) status old new before after (inr five) = inr (inr five)
+untaken-ends (no_call.Refused text) status old new before after answer = inr (inl answer.0)
+untaken-ends no_call.OutOfMemory status old new before after answer = inr (inr answer.0)
 
-help-ends : (words : List Text) (error : Error) (status : ℕ) → HasKind (kinds_of words) error → Answered error status
-    → AskHelp words → (status ≡ 0) ⊎ (status ≡ 5)
-help-ends words error status has answered help = elim answered.one [
-  | inl zero ↦ inl zero
-  | inr rest ↦ elim rest [
-    | inl two ↦ elim (subst (λ (kinds : Kinds). HasKind kinds error) help has) [
-      | inl memory ↦ inr (answered.memory memory)
-      | inr among ↦ elim among [ inl is ↦ absurd (answered.refused two is) | inr none ↦ absurd none ]
-    ]
-    | inr five ↦ inr five
-  ]
-]
-
-refused-ends : (words : List Text) (error : Error) (status : ℕ) → HasKind (kinds_of words) error → Answered error status
-    → AreRefused words → (status ≡ 2) ⊎ (status ≡ 5)
-refused-ends words error status has answered refused = elim answered.one [
-  | inl zero ↦ absurd (refused-not-help words error refused has (answered.done zero))
-  | inr rest ↦ rest
-]
-
--- clap took no words
-pub may-end-answered : (words : List Text) (error : Error) (status : ℕ) → HasKind (kinds_of words) error → Answered error status
-    → MayEnd words status
-may-end-answered words error status has answered = record {
-  asked = λ what asks. five-as what status (answered.memory (taken-memory words error asks.taken has));
-  help = help-ends words error status has answered;
-  refused = refused-ends words error status has answered;
-  untaken = λ _. answered.one;
+-- the words give no call
+pub may-end-answered : {W : Type 0} (words : List (List ℕ)) (none : NoCall) (status : ℕ) (old new : Watched W) (before after : WriterState)
+    → IsNoCall words none → IsAnswer none status old new before after → MayEnd words status
+may-end-answered words none status old new before after why answer = record {
+  asked = λ what asks. five-as what status (taken-memory words none status old new before after asks.taken why answer).0;
+  help = help-ends words none status old new before after why answer;
+  refused = refused-ends words none status old new before after why answer;
+  untaken = λ _. untaken-ends none status old new before after answer;
 }
+
+-- a refusal leaves the output as it was
+pub refused-silent : {W : Type 0} (words : List (List ℕ)) (none : NoCall) (status : ℕ) (old new : Watched W) (before after : WriterState)
+    → IsNoCall words none → IsAnswer none status old new before after → AreRefused words ⊎ (status ≡ 2) → new ≡ old
+refused-silent words (no_call.Help text) status old new before after why answer (inl refused) = absurd (refused.1 why)
+refused-silent words (no_call.Help text) status old new before after why (inl zero) (inr two) = absurd (omega (arith, two, zero))
+refused-silent words (no_call.Help text) status old new before after why (inr five) (inr two) = absurd (omega (arith, two, five))
+refused-silent words (no_call.Refused text) status old new before after why answer which = answer.1
+refused-silent words no_call.OutOfMemory status old new before after why answer which = answer.1.0
 
 -- ---- no other status comes
 
@@ -134,16 +134,12 @@ any-untaken status (inl zero) = inl zero
 any-untaken status (inr (inl two)) = inr (inr (inl two))
 any-untaken status (inr (inr five)) = inr (inr (inr (inr five)))
 
-some-not-empty : (k : ErrorKind) (ks : Kinds) → k ∷ ks ≢ []
-some-not-empty k ks = λ e. search rules
+any-by : (words : List (List ℕ)) (status : ℕ) → MayEnd words status → AreTaken words ⊎ (AreTaken words → ⊥) → IsStatus status
+any-by words status ends (inl taken) = any-as (asked_in words) status (ends.asked (asked_in words) (record { taken = taken; command = refl }))
+any-by words status ends (inr untaken) = any-untaken status (ends.untaken untaken)
 
-any-by : (words : List Text) (status : ℕ) (kinds : Kinds) → kinds_of words ≡ kinds → MayEnd words status → IsStatus status
-any-by words status [] e ends = any-as (asked_in words) status (ends.asked (asked_in words) (record { taken = e; command = refl }))
-any-by words status (k ∷ ks) e ends =
-    any-untaken status (ends.untaken (λ taken. some-not-empty k ks (sym e ∙ taken)))
-
-pub any-status : (words : List Text) (status : ℕ) → MayEnd words status → IsStatus status
-any-status words status ends = any-by words status (kinds_of words) refl ends
+pub any-status : (words : List (List ℕ)) (status : ℕ) → MayEnd words status → IsStatus status
+any-status words status ends = any-by words status ends (taken-or-not words)
 
 two-as : (what : Asked) (status : ℕ) → status ≡ 2 → MayEndAs what status → ⊥
 two-as replay status two (inl zero) = omega (arith, two, zero)
@@ -156,6 +152,6 @@ two-as (eval name) status two (inr (inl one)) = omega (arith, two, one)
 two-as (eval name) status two (inr (inr (inl three))) = omega (arith, two, three)
 two-as (eval name) status two (inr (inr (inr five))) = omega (arith, two, five)
 
-pub taken-not-two : (words : List Text) (status : ℕ) → MayEnd words status → AreTaken words → status ≢ 2
+pub taken-not-two : (words : List (List ℕ)) (status : ℕ) → MayEnd words status → AreTaken words → status ≢ 2
 taken-not-two words status ends taken = λ two.
     two-as (asked_in words) status two (ends.asked (asked_in words) (record { taken = taken; command = refl }))

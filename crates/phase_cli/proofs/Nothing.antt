@@ -5,10 +5,11 @@ use Rattle.watched_io.specs.States.{ReaderState, WriterState}
 use Rattle.watched_io.proofs.Giving.{reads_nothing}
 use Rattle.phase_replay.specs.Replay.{RepliesPrefix}
 use Rattle.phase_replay.specs.Replies.{replies_of}
-use Rattle.phase_replay.specs.declared.fault.ReplayFault.TheVariants.{OutOfMemory}
+use Rattle.watched_io.specs.declared.fault.IoFault.TheVariants.{OutOfMemory}
 use Rattle.phase_replay.specs.declared.whole.TheConstants.{SCRIPT_MAX}
 use Rattle.phase_replay.proofs.Reading.{replays_nothing}
-use Rattle.phase_status.specs.Statuses.{ReplayEnds, Reports}
+use Rattle.phase_status.specs.Statuses.{Reports}
+use Rattle.phase_cli.specs.Replays.{ReplayEnds}
 
 -- nothing is a prefix of the replies
 known_none : (unread : Option (List ℕ)) (old : WriterState) (count : ℕ) (failed : Bool)

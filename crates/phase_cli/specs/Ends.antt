@@ -1,12 +1,13 @@
 -- How a run of the program may end, by what its words ask for.
 use Rattle.std.specs.Prelude.{◌≡◌, ◌⊎◌, ℕ, List, Option}
-use Rattle.clap.specs.Words.{Text}
 use Rattle.phase_replay.specs.Replay.{HasCause}
-use Rattle.phase_replay.specs.declared.fault.ReplayFault.{ReplayFault}
-use Rattle.phase_replay.specs.declared.fault.ReplayFault.TheVariants.{OutOfMemory}
 use Rattle.phase_status.specs.Statuses.{Reports}
 use Rattle.phase_words.specs.CommandLine.{AreRefused, AreTaken, Asked, Asks, AskHelp, check, eval, replay}
+use Rattle.phase_words.specs.declared.call.NoCall.{NoCall}
+use Rattle.phase_words.specs.declared.call.NoCall.TheVariants as no_call
 use Rattle.watched_io.specs.States.{ReaderState, WriterState, writer_state}
+use Rattle.watched_io.specs.declared.fault.IoFault.{IoFault}
+use Rattle.watched_io.specs.declared.fault.IoFault.TheVariants.{OutOfMemory}
 use Rattle.watched_io.specs.declared.watched.Watched.{Watched}
 
 -- the statuses of the program
@@ -20,7 +21,7 @@ MayEndAs (check _) status = (status ≡ 0) ⊎ ((status ≡ 1) ⊎ (status ≡ 5
 MayEndAs (eval _) status = (status ≡ 0) ⊎ ((status ≡ 1) ⊎ ((status ≡ 3) ⊎ (status ≡ 5)))
 
 -- the statuses that may come, by what the words ask for
-pub record MayEnd (words : List Text) (status : ℕ) : Type 0 where
+pub record MayEnd (words : List (List ℕ)) (status : ℕ) : Type 0 where
   pub asked : (what : Asked) → Asks words what → MayEndAs what status
   pub help : AskHelp words → (status ≡ 0) ⊎ (status ≡ 5)
   pub refused : AreRefused words → (status ≡ 2) ⊎ (status ≡ 5)
@@ -36,14 +37,21 @@ pub record IsUnbegun {F W : Type 0} (status : ℕ) (closed files : F) (old new :
 
 -- the answer to words that are not taken stopped: memory ran out, or help could not be written
 pub record AnswerStops (old new before after : WriterState) : Type 0 where
-  pub fault : ReplayFault
+  pub fault : IoFault
   pub cause : (input : ReaderState) → HasCause fault input input old new
   pub says : Reports fault before after
 
 -- how words that are not taken are answered: a refusal leaves the output as it was
-pub record AnswerEnds {W : Type 0} (words : List Text) (status : ℕ)
+pub record AnswerEnds {W : Type 0} (words : List (List ℕ)) (status : ℕ)
     (contents : W → Option (List ℕ)) (old new : Watched W)
     (before after : WriterState) : Type 0 where
   pub silent : AreRefused words ⊎ (status ≡ 2) → new ≡ old
   pub stops : status ≡ 5
       → AnswerStops (writer_state contents old) (writer_state contents new) before after
+
+-- the status by why there is no call; what is told goes to the fault stream alone, but for help
+abbrev pub IsAnswer : {W : Type 0} → NoCall → ℕ → Watched W → Watched W → WriterState → WriterState → Type 0
+IsAnswer (no_call.Help text) status old new before after = (status ≡ 0) ⊎ (status ≡ 5)
+IsAnswer (no_call.Refused text) status old new before after = (status ≡ 2) × (new ≡ old)
+IsAnswer no_call.OutOfMemory status old new before after =
+    (status ≡ 5) × ((new ≡ old) × Reports OutOfMemory before after)

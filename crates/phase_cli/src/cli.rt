@@ -1,25 +1,19 @@
 //! A run of the program over any input and outputs.
 ghost use Rattle.std.specs.Prelude.{◌≡◌, ◌≢◌, ◌⊎◌, ℕ, List};
-ghost use Rattle.clap.specs.Words.{kind_of};
-ghost use Rattle.phase_cli.specs.Ends.{AnswerEnds, AnswerStops, IsUnbegun, MayEnd};
+ghost use Rattle.graph_commands.specs.GraphRuns.{CheckEnds, EvalEnds};
+ghost use Rattle.phase_cli.specs.Ends.{AnswerEnds, AnswerStops, IsAnswer, IsUnbegun, MayEnd};
+ghost use Rattle.phase_cli.specs.Replays.{ReplayEnds};
 ghost use Rattle.phase_words.specs.CommandLine.{AreTaken, AskCheck, AskEval, AskGraph, AskReplay};
 ghost use Rattle.phase_words.specs.CommandLine.{texts};
-ghost use Rattle.phase_status.specs.GraphRuns.{CheckEnds, EvalEnds};
-ghost use Rattle.phase_status.specs.Statuses.{ReplayEnds, Reports};
-ghost use Rattle.phase_replay.specs.declared.fault.ReplayFault.TheVariants.{OutOfMemory};
 ghost use Rattle.watched_io.specs.States.{reader_state, writer_state};
 
-use clap::Error;
-use clap::error::ErrorKind;
-use phase_files::Files;
-use phase_replay::ReplayFault;
-use phase_status::{
-    check_and_report, eval_and_report, refuse, replay_and_report, report, show_help,
-};
-use phase_words::{Call, read_words};
+use crate::replayed::replay_and_report;
+use graph_commands::{check_and_report, eval_and_report};
+use phase_status::{refuse, report, show_help};
+use phase_words::{Call, NoCall, read_words};
 use std::alloc::Global;
 use std::io::{Read, Write};
-use watched_io::Watched;
+use watched_io::{Files, IoFault, Watched};
 
 /// Runs the program on its words, without its own name, and answers its exit status: 0 where what
 /// was asked for is done or help was shown, 1 where a graph or its samples are refused, 2 where the
@@ -73,39 +67,23 @@ pub fn run_cli<R: Read, W: Write, E: Write, F: Files>(
         Ok(Call::Replay) => replay_and_report(alloc, input, output, faults),
         Ok(Call::Check(graph)) => check_and_report(alloc, graph, output, faults, files),
         Ok(Call::Eval(graph)) => eval_and_report(alloc, graph, output, faults, files),
-        Err(error) => answer(alloc, &error, output, faults),
+        Err(none) => answer(&none, output, faults),
     }
 }
 
-/// Shows what clap says in place of taking the words: help on the output, and a refusal on the
-/// fault stream.
-fn answer<W: Write, E: Write>(
-    alloc: Global,
-    error: &Error,
-    output: &mut Watched<W>,
-    faults: &mut Watched<E>,
-) -> u8
-    ensures status { (result ≡ 0) ⊎ ((result ≡ 2) ⊎ (result ≡ 5)) }
-    ensures done { result ≡ 0 → kind_of error.now ≡ ErrorKind.DisplayHelp }
-    ensures refused { result ≡ 2 → kind_of error.now ≢ ErrorKind.DisplayHelp }
-    ensures memory { kind_of error.now ≡ ErrorKind.OutOfMemory → (result ≡ 5)
-        × Reports OutOfMemory
+/// Answers words that give no call: help goes to the output, a refusal's text and the line of a
+/// fault go to the fault stream.
+fn answer<W: Write, E: Write>(none: &NoCall, output: &mut Watched<W>, faults: &mut Watched<E>) -> u8
+    ensures answer { IsAnswer none.now result output.old output.new
         (writer_state E.contents faults.old) (writer_state E.contents faults.new) }
-    ensures silent { kind_of error.now ≢ ErrorKind.DisplayHelp → output.new ≡ output.old }
     ensures quiet { result ≡ 0 → faults.new ≡ faults.old }
     ensures stops { result ≡ 5 → AnswerStops
         (writer_state W.contents output.old) (writer_state W.contents output.new)
         (writer_state E.contents faults.old) (writer_state E.contents faults.new) }
 {
-    let kind = error.kind();
-    if kind == ErrorKind::OutOfMemory {
-        return report(ReplayFault::OutOfMemory, faults);
+    match none {
+        NoCall::Help(text) => show_help(text.as_str(), output, faults),
+        NoCall::Refused(text) => refuse(text.as_str(), faults),
+        NoCall::OutOfMemory => report(IoFault::OutOfMemory, faults),
     }
-    let Ok(text) = error.to_string(alloc) else {
-        return report(ReplayFault::OutOfMemory, faults);
-    };
-    if kind != ErrorKind::DisplayHelp {
-        return refuse(text.as_str(), faults);
-    }
-    show_help(text.as_str(), output, faults)
 }

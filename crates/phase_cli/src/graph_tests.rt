@@ -1,8 +1,8 @@
 //! Checks and evaluations of graphs, on files that are held in memory.
 use crate::tests::{Broken, Held, run_graph, status_of};
-use phase_files::{FileFault, Files};
 use std::alloc::Global;
 use std::test::Fail;
+use watched_io::{FileFault, Files};
 
 /// Whether a graph on these samples has this output, and the run ends well.
 fn evaluates(

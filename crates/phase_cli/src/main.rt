@@ -6,14 +6,14 @@ mod cli;
 #[cfg(test)]
 mod graph_tests;
 mod laws;
+mod replayed;
 #[cfg(test)]
 mod tests;
 
 use cli::run_cli;
-use phase_files::DiskFiles;
 use phase_status::{own_words, refuse_words};
 use std::process::ExitCode;
-use watched_io::Watched;
+use watched_io::{DiskFiles, Watched};
 
 fn main(rt: HostRuntime) -> ExitCode {
     let mut faults = Watched::new(rt.stderr());

@@ -1,12 +1,11 @@
 //! Runs of the program whose text no clause says, and calls that have to succeed.
 use crate::cli::run_cli;
-use phase_files::{FileFault, Files};
 use phase_status::refuse_words;
 use std::alloc::Global;
 use std::io;
 use std::io::{ErrorKind, Read, Write};
 use std::test::Fail;
-use watched_io::Watched;
+use watched_io::{FileFault, Files, Watched};
 
 /// A stream whose every call fails.
 #[derive(Clone, Copy)]

@@ -1,5 +1,5 @@
 -- The least of a list of numbers, by how often each number stands in it.
-use Rattle.std.proofs.Common.{◌≡◌, ℕ, ◌+◌, ◌<◌, ◌≤◌, ◌⊎◌, Bool, true, false, cond, eqb, List, [], ◌∷◌, Option, Some, None, map, min, length, unwrap_or, refl, sym, ap, subst, ◌∙◌, ⊎_elim, arith, inl, inr}
+use Rattle.std.proofs.Common.{◌≡◌, ℕ, ◌+◌, ◌<◌, ◌≤◌, ◌⊎◌, Bool, true, false, cond, eqb, List, [], ◌∷◌, Some, None, map, min, length, unwrap_or, refl, sym, ap, subst, ◌∙◌, ⊎_elim, arith, inl, inr}
 use Rattle.std.specs.List.{filter}
 use Rattle.std.proofs.lemmas.Option.{same_Some}
 use Rattle.std.proofs.lemmas.Bool.{cases_eq, cases_lt, eq-eqb, ne_eqb}
@@ -68,56 +68,56 @@ done_by_counts (x ∷ xs) d top low high (inl at) =
 -- ---- the members that stand at a phase
 
 -- one signaller moves on
-pub signallers-signalled : (ms : Members) (task p : ℕ) (e : Entry) → entry_of ms task ≡ Some e → mode_signals e.mode ≡ true
-    → count_of p (signal_phases (changed_at task (signalled 1) ms)) + is e.signal_phase p
-    ≡ count_of p (signal_phases ms) + is (e.signal_phase + 1) p
-signallers-signalled [] task p e found signals = absurd (cc)
-signallers-signalled (m ∷ ms) task p e found signals =
+pub signallers-signalled : (ms : Members) (task p by : ℕ) (e : Entry) → entry_of ms task ≡ Some e → mode_signals e.mode ≡ true
+    → count_of p (signal_phases (changed_at task (signalled by) ms)) + is e.signal_phase p
+    ≡ count_of p (signal_phases ms) + is (e.signal_phase + by) p
+signallers-signalled [] task p by e found signals = absurd (cc)
+signallers-signalled (m ∷ ms) task p by e found signals =
     elim (eqb m.0 task) as (λ b. (cond b (Some m.1) (entry_of ms task) ≡ Some e)
-    → count_of p (signal_phases (cond b ((m.0, signalled 1 m.1) ∷ ms) (m ∷ changed_at task (signalled 1) ms))) + is e.signal_phase p
-    ≡ count_of p (signal_phases (m ∷ ms)) + is (e.signal_phase + 1) p) [
+    → count_of p (signal_phases (cond b ((m.0, signalled by m.1) ∷ ms) (m ∷ changed_at task (signalled by) ms))) + is e.signal_phase p
+    ≡ count_of p (signal_phases (m ∷ ms)) + is (e.signal_phase + by) p) [
       | true ↦ λ f.
           let same : m.1 ≡ e = same_Some _ _ f in
           let mode : mode_signals m.1.mode ≡ true = ap (λ (x : Entry). mode_signals x.mode) same ∙ signals in
           let s : m.1.signal_phase ≡ e.signal_phase = ap (λ (x : Entry). x.signal_phase) same in
-          let S : ℕ → Type 0 = λ n. (is (n + 1) p + count_of p (signal_phases ms)) + is e.signal_phase p ≡ (is n p + count_of p (signal_phases ms)) + is (e.signal_phase + 1) p in
+          let S : ℕ → Type 0 = λ k. (is (k + by) p + count_of p (signal_phases ms)) + is e.signal_phase p ≡ (is k p + count_of p (signal_phases ms)) + is (e.signal_phase + by) p in
           let B : Bool → Type 0 = λ b.
-          count_of p (map (λ (x : ℕ × Entry). x.1.signal_phase) (cond b ((m.0, signalled 1 m.1) ∷ filter (λ (x : ℕ × Entry). mode_signals x.1.mode) ms) (filter (λ (x : ℕ × Entry). mode_signals x.1.mode) ms))) + is e.signal_phase p
-          ≡ count_of p (map (λ (x : ℕ × Entry). x.1.signal_phase) (cond b (m ∷ filter (λ (x : ℕ × Entry). mode_signals x.1.mode) ms) (filter (λ (x : ℕ × Entry). mode_signals x.1.mode) ms))) + is (e.signal_phase + 1) p in
+          count_of p (map (λ (x : ℕ × Entry). x.1.signal_phase) (cond b ((m.0, signalled by m.1) ∷ filter (λ (x : ℕ × Entry). mode_signals x.1.mode) ms) (filter (λ (x : ℕ × Entry). mode_signals x.1.mode) ms))) + is e.signal_phase p
+          ≡ count_of p (map (λ (x : ℕ × Entry). x.1.signal_phase) (cond b (m ∷ filter (λ (x : ℕ × Entry). mode_signals x.1.mode) ms) (filter (λ (x : ℕ × Entry). mode_signals x.1.mode) ms))) + is (e.signal_phase + by) p in
           subst B (sym mode) (subst S (sym s) (omega arith))
       | false ↦ λ f.
-          let rest = signallers-signalled ms task p e f signals in
+          let rest = signallers-signalled ms task p by e f signals in
           elim (mode_signals m.1.mode) as (λ b.
-          count_of p (map (λ (x : ℕ × Entry). x.1.signal_phase) (cond b (m ∷ filter (λ (x : ℕ × Entry). mode_signals x.1.mode) (changed_at task (signalled 1) ms)) (filter (λ (x : ℕ × Entry). mode_signals x.1.mode) (changed_at task (signalled 1) ms)))) + is e.signal_phase p
-          ≡ count_of p (map (λ (x : ℕ × Entry). x.1.signal_phase) (cond b (m ∷ filter (λ (x : ℕ × Entry). mode_signals x.1.mode) ms) (filter (λ (x : ℕ × Entry). mode_signals x.1.mode) ms))) + is (e.signal_phase + 1) p) [
+          count_of p (map (λ (x : ℕ × Entry). x.1.signal_phase) (cond b (m ∷ filter (λ (x : ℕ × Entry). mode_signals x.1.mode) (changed_at task (signalled by) ms)) (filter (λ (x : ℕ × Entry). mode_signals x.1.mode) (changed_at task (signalled by) ms)))) + is e.signal_phase p
+          ≡ count_of p (map (λ (x : ℕ × Entry). x.1.signal_phase) (cond b (m ∷ filter (λ (x : ℕ × Entry). mode_signals x.1.mode) ms) (filter (λ (x : ℕ × Entry). mode_signals x.1.mode) ms))) + is (e.signal_phase + by) p) [
             | true ↦ omega arith
             | false ↦ rest
           ]
     ] found
 
 -- one waiter moves on
-pub waiters-waited : (ms : Members) (task p : ℕ) (e : Entry) → entry_of ms task ≡ Some e → mode_waits e.mode ≡ true
-    → count_of p (wait_phases (changed_at task (waited 1) ms)) + is e.wait_phase p
-    ≡ count_of p (wait_phases ms) + is (e.wait_phase + 1) p
-waiters-waited [] task p e found waits = absurd (cc)
-waiters-waited (m ∷ ms) task p e found waits =
+pub waiters-waited : (ms : Members) (task p by : ℕ) (e : Entry) → entry_of ms task ≡ Some e → mode_waits e.mode ≡ true
+    → count_of p (wait_phases (changed_at task (waited by) ms)) + is e.wait_phase p
+    ≡ count_of p (wait_phases ms) + is (e.wait_phase + by) p
+waiters-waited [] task p by e found waits = absurd (cc)
+waiters-waited (m ∷ ms) task p by e found waits =
     elim (eqb m.0 task) as (λ b. (cond b (Some m.1) (entry_of ms task) ≡ Some e)
-    → count_of p (wait_phases (cond b ((m.0, waited 1 m.1) ∷ ms) (m ∷ changed_at task (waited 1) ms))) + is e.wait_phase p
-    ≡ count_of p (wait_phases (m ∷ ms)) + is (e.wait_phase + 1) p) [
+    → count_of p (wait_phases (cond b ((m.0, waited by m.1) ∷ ms) (m ∷ changed_at task (waited by) ms))) + is e.wait_phase p
+    ≡ count_of p (wait_phases (m ∷ ms)) + is (e.wait_phase + by) p) [
       | true ↦ λ f.
           let same : m.1 ≡ e = same_Some _ _ f in
           let mode : mode_waits m.1.mode ≡ true = ap (λ (x : Entry). mode_waits x.mode) same ∙ waits in
           let s : m.1.wait_phase ≡ e.wait_phase = ap (λ (x : Entry). x.wait_phase) same in
-          let S : ℕ → Type 0 = λ n. (is (n + 1) p + count_of p (wait_phases ms)) + is e.wait_phase p ≡ (is n p + count_of p (wait_phases ms)) + is (e.wait_phase + 1) p in
+          let S : ℕ → Type 0 = λ k. (is (k + by) p + count_of p (wait_phases ms)) + is e.wait_phase p ≡ (is k p + count_of p (wait_phases ms)) + is (e.wait_phase + by) p in
           let B : Bool → Type 0 = λ b.
-          count_of p (map (λ (x : ℕ × Entry). x.1.wait_phase) (cond b ((m.0, waited 1 m.1) ∷ filter (λ (x : ℕ × Entry). mode_waits x.1.mode) ms) (filter (λ (x : ℕ × Entry). mode_waits x.1.mode) ms))) + is e.wait_phase p
-          ≡ count_of p (map (λ (x : ℕ × Entry). x.1.wait_phase) (cond b (m ∷ filter (λ (x : ℕ × Entry). mode_waits x.1.mode) ms) (filter (λ (x : ℕ × Entry). mode_waits x.1.mode) ms))) + is (e.wait_phase + 1) p in
+          count_of p (map (λ (x : ℕ × Entry). x.1.wait_phase) (cond b ((m.0, waited by m.1) ∷ filter (λ (x : ℕ × Entry). mode_waits x.1.mode) ms) (filter (λ (x : ℕ × Entry). mode_waits x.1.mode) ms))) + is e.wait_phase p
+          ≡ count_of p (map (λ (x : ℕ × Entry). x.1.wait_phase) (cond b (m ∷ filter (λ (x : ℕ × Entry). mode_waits x.1.mode) ms) (filter (λ (x : ℕ × Entry). mode_waits x.1.mode) ms))) + is (e.wait_phase + by) p in
           subst B (sym mode) (subst S (sym s) (omega arith))
       | false ↦ λ f.
-          let rest = waiters-waited ms task p e f waits in
+          let rest = waiters-waited ms task p by e f waits in
           elim (mode_waits m.1.mode) as (λ b.
-          count_of p (map (λ (x : ℕ × Entry). x.1.wait_phase) (cond b (m ∷ filter (λ (x : ℕ × Entry). mode_waits x.1.mode) (changed_at task (waited 1) ms)) (filter (λ (x : ℕ × Entry). mode_waits x.1.mode) (changed_at task (waited 1) ms)))) + is e.wait_phase p
-          ≡ count_of p (map (λ (x : ℕ × Entry). x.1.wait_phase) (cond b (m ∷ filter (λ (x : ℕ × Entry). mode_waits x.1.mode) ms) (filter (λ (x : ℕ × Entry). mode_waits x.1.mode) ms))) + is (e.wait_phase + 1) p) [
+          count_of p (map (λ (x : ℕ × Entry). x.1.wait_phase) (cond b (m ∷ filter (λ (x : ℕ × Entry). mode_waits x.1.mode) (changed_at task (waited by) ms)) (filter (λ (x : ℕ × Entry). mode_waits x.1.mode) (changed_at task (waited by) ms)))) + is e.wait_phase p
+          ≡ count_of p (map (λ (x : ℕ × Entry). x.1.wait_phase) (cond b (m ∷ filter (λ (x : ℕ × Entry). mode_waits x.1.mode) ms) (filter (λ (x : ℕ × Entry). mode_waits x.1.mode) ms))) + is (e.wait_phase + by) p) [
             | true ↦ omega arith
             | false ↦ rest
           ]
@@ -161,7 +161,7 @@ wait_phases-few (m ∷ ms) =
 pub signaller-counted : (ms : Members) (task : ℕ) (e : Entry) → entry_of ms task ≡ Some e → mode_signals e.mode ≡ true
     → 0 < count_of e.signal_phase (signal_phases ms)
 signaller-counted ms task e found signals =
-    let moved = signallers-signalled ms task e.signal_phase e found signals in
+    let moved = signallers-signalled ms task e.signal_phase 1 e found signals in
     let one = is-same e.signal_phase in
     let none = is-other (e.signal_phase + 1) e.signal_phase (λ x. omega arith) in
     omega arith
@@ -169,7 +169,7 @@ signaller-counted ms task e found signals =
 pub waiter-counted : (ms : Members) (task : ℕ) (e : Entry) → entry_of ms task ≡ Some e → mode_waits e.mode ≡ true
     → 0 < count_of e.wait_phase (wait_phases ms)
 waiter-counted ms task e found waits =
-    let moved = waiters-waited ms task e.wait_phase e found waits in
+    let moved = waiters-waited ms task e.wait_phase 1 e found waits in
     let one = is-same e.wait_phase in
     let none = is-other (e.wait_phase + 1) e.wait_phase (λ x. omega arith) in
     omega arith

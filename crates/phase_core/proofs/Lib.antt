@@ -1,6 +1,7 @@
 pub mod Boarded
 pub mod CoreSteps
 pub mod Joining
+pub mod JoiningNow
 pub mod LeastCounts
 pub mod Leaving
 pub mod MemberCounts
@@ -9,5 +10,7 @@ pub mod NewCore
 pub mod Replies
 pub mod RingSlots
 pub mod SignalCore
+pub mod SignalReply
 pub mod SignalRows
+pub mod SignalSlots
 pub mod WaitCore

@@ -1,19 +1,19 @@
 -- A new core, and what the readers tell.
-use Rattle.std.proofs.Common.{◌≡◌, ℕ, ◌+◌, ◌<◌, ◌≤◌, ◌⊎◌, List, [], ◌∷◌, Option, Some, None, length, unwrap_or, refl, sym, ◌∙◌, ap, subst, arith, inl, inr}
-use Rattle.std.specs.Prelude.{IsSome, IfOk}
-use Rattle.phase_base.specs.Limits.{Limits, AreLimits}
-use Rattle.phase_base.specs.Members.{signal_phases, wait_phases, least}
+use Rattle.std.proofs.Common.{◌≡◌, ℕ, [], ◌∷◌, Option, Some, None, unwrap_or, refl, sym, ◌∙◌, ap, subst, arith, inl, inr}
+use Rattle.std.specs.Prelude.{IsSome}
+use Rattle.phase_base.specs.Limits.{AreLimits}
+use Rattle.phase_base.specs.Members.{signal_phases, least}
 use Rattle.phase_accum.specs.Operations.{Operation}
 use Rattle.phase_history.specs.declared.event.Event.TheVariants.{Made}
-use Rattle.phase_history.specs.Histories.{History, founder, members_of, top_of, done_of}
+use Rattle.phase_history.specs.Histories.{History, founder, members_of, done_of}
 use Rattle.phase_registry.specs.Rosters.{Roster, roster, next_after}
 use Rattle.phase_ring.specs.declared.board.Board.{Board}
 use Rattle.phase_ring.specs.declared.role.Role.{Role}
 use Rattle.phase_ring.specs.declared.role.Role.TheVariants.{Signaller, Waiter}
-use Rattle.phase_ring.specs.Rings.{Ring, standing}
-use Rattle.phase_ring.specs.Standings.{is, count_of}
+use Rattle.phase_ring.specs.Rings.{standing}
+use Rattle.phase_ring.specs.Standings.{is}
 use Rattle.phase_ring.specs.Boards.{IsKept}
-use Rattle.phase_core.specs.Cores.{CoreState, StandsFor, IsBoarded, IsCore, core_of}
+use Rattle.phase_core.specs.Cores.{StandsFor, IsBoarded, IsCore, core_of}
 use Rattle.phase_core.proofs.LeastCounts.{is-same}
 use Rattle.phase_core.proofs.Boarded.{done_is}
 

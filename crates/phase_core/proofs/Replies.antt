@@ -1,26 +1,20 @@
 -- Refusals and replies of a core, by its members.
-use Rattle.std.proofs.Common.{◌≡◌, ℕ, ◌+◌, ◌<◌, ◌≤◌, Bool, true, false, cond, List, [], ◌∷◌, ◌++◌, Option, Some, None, ℤ, Ok, Err, not, length, refl, sym, ap, subst, ◌∙◌, arith}
+use Rattle.std.proofs.Common.{◌≡◌, ℕ, ◌<◌, ◌≤◌, cond, List, [], ◌∷◌, Option, Some, ℤ, sym, ap, ◌∙◌}
 use Rattle.std.specs.Prelude.{is_some}
-use Rattle.std.specs.Option.{option_map}
-use Rattle.std.proofs.lemmas.Option.{same_Some}
-use Rattle.std.proofs.lemmas.Bool.{lt-ltb, le-ltb, leb-false}
+use Rattle.std.proofs.lemmas.Bool.{lt-ltb, le-ltb}
 use Rattle.phase_base.specs.Limits.{Limits, AreLimits}
 use Rattle.phase_base.specs.declared.limits.TheConstants.{PHASES_MAX}
-use Rattle.phase_base.specs.Modes.{mode_signals, mode_waits}
 use Rattle.phase_base.specs.declared.entry.Entry.{Entry}
 use Rattle.phase_accum.specs.declared.outcome.Outcome.{Outcome}
-use Rattle.phase_accum.specs.declared.single.Single.{Single}
 use Rattle.phase_accum.specs.Operations.{Operation}
 use Rattle.phase_history.specs.declared.event.Event.TheVariants.{Made, Registered, RegisteredNow, Signalled, Waited, Dropped}
 use Rattle.phase_history.specs.declared.got.Got.TheVariants as got
-use Rattle.phase_history.specs.declared.refusal.SignalRefusal.{SignalRefusal}
-use Rattle.phase_history.specs.declared.refusal.SignalRefusal.TheVariants as signal
 use Rattle.phase_history.specs.declared.refusal.WaitRefusal.{WaitRefusal}
 use Rattle.phase_history.specs.declared.refusal.WaitRefusal.TheVariants as wait
-use Rattle.phase_base.specs.Members.{entry_of, signal_phases, wait_phases, least}
-use Rattle.phase_history.specs.Histories.{History, members_of, top_of, done_of, wait_phase, signal_phase}
-use Rattle.phase_history.specs.Phases.{value_of_phase, sends_of_phase, named_in_phase}
-use Rattle.phase_history.specs.Refusals.{first_row, refusal_at, signal_rows, signal_refusal, wait_refusal, plain_signal_rows, plain_wait_rows, wait_rows_at}
+use Rattle.phase_base.specs.Members.{entry_of, signal_phases, least}
+use Rattle.phase_history.specs.Histories.{History, members_of, done_of, wait_phase, signal_phase}
+use Rattle.phase_history.specs.Phases.{value_of_phase}
+use Rattle.phase_history.specs.Refusals.{first_row, refusal_at, wait_refusal, plain_wait_rows, wait_rows_at}
 use Rattle.phase_history.specs.Replies.{wait_reply, refused_or, got_at}
 use Rattle.phase_history.specs.Legal.{IsLegal}
 use Rattle.phase_history.proofs.Steps.{member_entry_is}
@@ -36,14 +30,6 @@ pub wait_refusal_is : {A : Type 0} (op : Operation A) (core : CoreState A) (h : 
 wait_refusal_is op core h task stands =
     ap (λ ms. refusal_at (entry_of ms task) wait.NoTask
     (wait_rows_at core.limits (done_of h) (is_some (least (signal_phases ms))) 1)) (sym stands.members_are)
-
-pub wait_no_task : {A : Type 0} (op : Operation A) (value : List ℤ → Outcome) (core : CoreState A)
-    (h : History) (task : ℕ) → StandsFor op core h
-    → entry_of core.members task ≡ None → wait_reply value core.limits h task ≡ Err wait.NoTask
-wait_no_task op value core h task stands none =
-    ap (λ r. refused_or r (got_at value h (wait_phase h task)))
-    (wait_refusal_is op core h task stands ∙ ap (λ o. refusal_at o wait.NoTask
-    (wait_rows_at core.limits (done_of h) (is_some (least (signal_phases core.members))) 1)) none)
 
 -- the reply to a plain wait of a member, by its refusal
 pub wait_reply_is : {A : Type 0} (op : Operation A) (value : List ℤ → Outcome) (core : CoreState A)
@@ -70,27 +56,6 @@ got_ended value h w past =
     ap (λ b. cond b (got.Value w (value_of_phase value h w)) got.Ended) (le-ltb w (done_of h) past)
 
 -- ---- signals
-
--- the refusal of a plain signal of a member
-pub signal_refusal_is : {A : Type 0} (op : Operation A) (core : CoreState A) (h : History) (task : ℕ) (e : Entry) (sends : List ℤ)
-    (single : Option Single) → StandsFor op core h → entry_of core.members task ≡ Some e
-    → signal_refusal core.limits h task (sends ∷ []) single
-    ≡ first_row (plain_signal_rows core.limits (least (wait_phases core.members)) (length (sends_of_phase h e.signal_phase))
-    (named_in_phase h e.signal_phase) (length sends) single e)
-signal_refusal_is op core h task e sends single stands found =
-    let found_h : entry_of (members_of h) task ≡ Some e = (rw (← stands.members_are) found) in
-    ap (λ o. refusal_at o signal.NoTask (λ x. plain_signal_rows core.limits (least (wait_phases (members_of h)))
-    (length (sends_of_phase h x.signal_phase)) (named_in_phase h x.signal_phase) (length sends) single x)) found_h
-    ∙ ap (λ ms. first_row (plain_signal_rows core.limits (least (wait_phases ms)) (length (sends_of_phase h e.signal_phase))
-    (named_in_phase h e.signal_phase) (length sends) single e)) (sym stands.members_are)
-
-pub signal_no_task : {A : Type 0} (op : Operation A) (core : CoreState A) (h : History) (task : ℕ) (sends : List ℤ)
-    (single : Option Single) → StandsFor op core h → entry_of core.members task ≡ None
-    → signal_refusal core.limits h task (sends ∷ []) single ≡ Some signal.NoTask
-signal_no_task op core h task sends single stands none =
-    let none_h : entry_of (members_of h) task ≡ None = (rw (← stands.members_are) none) in
-    ap (λ o. refusal_at o signal.NoTask (λ x. plain_signal_rows core.limits (least (wait_phases (members_of h)))
-    (length (sends_of_phase h x.signal_phase)) (named_in_phase h x.signal_phase) (length sends) single x)) none_h
 
 pub signal_phase_is : {A : Type 0} (op : Operation A) (core : CoreState A) (h : History) (task : ℕ) (e : Entry)
     → StandsFor op core h → entry_of core.members task ≡ Some e → signal_phase h task ≡ e.signal_phase

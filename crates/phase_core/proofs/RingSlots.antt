@@ -1,24 +1,22 @@
 -- The slots of a ring, as the slots of a core.
-use Rattle.std.proofs.Common.{◌≡◌, ℕ, ℤ, ◌+◌, ◌-◌, ◌<◌, ◌≤◌, true, List, [], ◌∷◌, Option, Some, None, map, max, length, refl, sym, ◌∙◌, ap, subst, arith, ⊎_elim}
+use Rattle.std.proofs.Common.{◌≡◌, ℕ, ℤ, ◌+◌, ◌-◌, ◌≤◌, true, List, [], ◌∷◌, Option, Some, None, map, length, refl, sym, ◌∙◌, ap, subst, arith, ⊎_elim}
 use Rattle.std.specs.Prelude.{slice_get}
 use Rattle.std.specs.Option.{option_map}
 use Rattle.std.proofs.lemmas.Option.{same_Some, slice_get-map}
 use Rattle.std.proofs.lemmas.Bool.{cases_lt}
 use Rattle.phase_base.specs.Limits.{Limits}
 use Rattle.phase_accum.specs.declared.single.Single.{Single}
-use Rattle.phase_accum.specs.Operations.{Operation, AccumulateLaws, IsPartOf}
-use Rattle.phase_accum.specs.Parcels.{Parcel, StandsForSends}
-use Rattle.phase_base.specs.Members.{least, wait_phases}
+use Rattle.phase_accum.specs.Operations.{Operation, IsPartOf}
 use Rattle.phase_history.specs.Histories.{History, top_of}
-use Rattle.phase_history.specs.Phases.{first_named, sends_of_phase, named_in_phase}
+use Rattle.phase_history.specs.Phases.{first_named}
 use Rattle.phase_registry.specs.Rosters.{Roster}
 use Rattle.phase_ring.specs.declared.slot.Slot.{Slot}
-use Rattle.phase_ring.specs.Slots.{IsUnused, joined, first_of, sent}
+use Rattle.phase_ring.specs.Slots.{IsUnused, first_of, sent}
 use Rattle.phase_ring.specs.Rings.{Ring, slot_at, sents, KeepsSlots}
 use Rattle.phase_ring.proofs.Kept.{option_map-some}
-use Rattle.phase_core.specs.Slots.{KeptSlot, opened_slot}
+use Rattle.phase_core.specs.Slots.{KeptSlot}
 use Rattle.phase_core.specs.Cores.{StandsFor, IsSlotOf, KeepsSends, KeepsPhase, IsBoarded, sent_of, core_with}
-use Rattle.phase_core.proofs.CoreSteps.{joined_slot, none_from_top}
+use Rattle.phase_core.proofs.CoreSteps.{none_from_top}
 use Rattle.phase_core.proofs.Boarded.{slowest_is}
 
 -- ---- between the two
@@ -79,25 +77,9 @@ kept_slots {A} reg reg' limits r new top top' p slot keeps low is =
 
 -- ---- sends that join
 
-first_same : (named : Option (Option Single)) (single : Option Single) → first_of named single ≡ first_named named true single
+pub first_same : (named : Option (Option Single)) (single : Option Single) → first_of named single ≡ first_named named true single
 first_same (Some named) single = refl
 first_same None single = refl
-
-pub sent_of-joined : {A : Type 0} (op : Operation A) (held : Parcel A) (single : Option Single) (slot : Slot A)
-    → sent_of (joined op held single slot) ≡ joined_slot op (sent_of slot) held single
-sent_of-joined {A} op held single slot =
-    ap (λ n. let x : KeptSlot A = record { part = op.join slot.part held.part; count = slot.count + held.count; named = n } in x) (first_same slot.named single)
-
--- the first sends of a phase
-pub joined-unused : {A : Type 0} (op : Operation A) (laws : AccumulateLaws op) (held : Parcel A) (single : Option Single) (slot : KeptSlot A) (sends : List ℤ)
-    → StandsForSends op held sends → slot.part ≡ op.unit → slot.count ≡ 0 → slot.named ≡ None
-    → joined_slot op slot held single ≡ opened_slot held single
-joined-unused {A} op laws held single slot sends holds part count named =
-    ap (λ a. let x : KeptSlot A = record { part = op.join a held.part; count = slot.count + held.count; named = first_named slot.named true single } in x) part
-    ∙ ap (λ a. let x : KeptSlot A = record { part = a; count = slot.count + held.count; named = first_named slot.named true single } in x)
-    (laws.left_unit held.part sends holds.part_is)
-    ∙ ap (λ n. let x : KeptSlot A = record { part = held.part; count = n; named = first_named slot.named true single } in x) (let z : slot.count + held.count ≡ held.count = omega arith in z)
-    ∙ ap (λ n. let x : KeptSlot A = record { part = held.part; count = held.count; named = first_named n true single } in x) named
 
 -- ---- what a slot of the ring says of the history
 

@@ -1,38 +1,39 @@
--- The refusal of a signal: its first rows do not look into the phase, and the last two do.
-use Rattle.std.proofs.Common.{◌≡◌, ℕ, ℤ, ◌+◌, ◌<◌, ◌≤◌, ◌⊎◌, Bool, true, false, ◌&&◌, cond, eqb, ltb, leb, not, List, [], ◌∷◌, ◌++◌, Option, Some, None, Ok, Err, length, refl, sym, ap, subst, ◌∙◌, arith}
-use Rattle.std.specs.Prelude.{is_some}
+-- The refusal of a signal: the rows of its phases by the ring's slots are those of any history that
+-- the core stands for.
+use Rattle.std.proofs.Common.{◌≡◌, ℕ, ℤ, ◌+◌, ◌<◌, ◌≤◌, Bool, true, false, ◌&&◌, cond, eqb, ltb, leb, List, [], ◌∷◌, ◌++◌, Option, Some, None, Err, length, refl, sym, ap, subst, ◌∙◌, arith, zero, suc, drop, slice_index_or, ⊎_elim}
+use Rattle.std.specs.Prelude.{is_some, IsSome}
 use Rattle.std.specs.Option.{option_map}
-use Rattle.std.proofs.lemmas.Bool.{leb-false}
-use Rattle.phase_base.specs.Limits.{Limits, AreLimits}
-use Rattle.phase_base.specs.Modes.{mode_signals, mode_waits, is_single}
+use Rattle.std.proofs.lemmas.Bool.{leb-false, cases_lt}
+use Rattle.phase_base.specs.Limits.{Limits}
+use Rattle.phase_base.specs.Modes.{mode_waits}
 use Rattle.phase_base.specs.declared.entry.Entry.{Entry}
-use Rattle.phase_base.specs.declared.limits.TheConstants.{SENDS_MAX, MEMBERS_MAX}
-use Rattle.phase_base.specs.Members.{entry_of, wait_phases, least}
+use Rattle.phase_base.specs.declared.limits.TheConstants.{SENDS_MAX}
+use Rattle.phase_base.specs.Members.{wait_phases, least, signalled}
 use Rattle.phase_accum.specs.declared.single.Single.{Single}
 use Rattle.phase_accum.specs.Singles.{differs}
 use Rattle.phase_accum.specs.Operations.{Operation}
 use Rattle.phase_accum.specs.Parcels.{Parcel, StandsForSends}
 use Rattle.phase_history.specs.declared.refusal.SignalRefusal.{SignalRefusal}
 use Rattle.phase_history.specs.declared.refusal.SignalRefusal.TheVariants as signal
-use Rattle.phase_history.specs.Histories.{History, signal_phase}
+use Rattle.phase_history.specs.Histories.{History, signal_phase, members_of, top_of}
 use Rattle.phase_history.specs.Phases.{sends_of_phase, named_in_phase}
-use Rattle.phase_history.specs.Refusals.{first_row, signal_refusal, plain_signal_rows, is_bad_block, is_ahead}
+use Rattle.phase_history.specs.Refusals.{first_row, signal_refusal, is_ahead, phase_rows, list_rows}
 use Rattle.phase_history.specs.Replies.{signal_reply, refused_or}
 use Rattle.phase_history.proofs.Refused.{no_row}
 use Rattle.phase_registry.specs.Rosters.{Roster}
 use Rattle.phase_ring.specs.declared.slot.Slot.{Slot}
 use Rattle.phase_ring.specs.Slots.{merge_refusal}
-use Rattle.phase_ring.specs.Rings.{Ring, slot_at}
+use Rattle.phase_ring.specs.Rings.{Ring, slot_at, IsWithin}
 use Rattle.phase_ring.specs.declared.slot.MergeRefusal.{MergeRefusal}
 use Rattle.phase_ring.specs.declared.slot.MergeRefusal.TheVariants as merge
-use Rattle.phase_ring.specs.declared.board.Board.{Board}
-use Rattle.phase_ring.proofs.Slots.{slot_at-some}
-use Rattle.phase_core.proofs.SignalCore.{ready-within}
+use Rattle.phase_ring.proofs.Slots.{slot_at-some, slot_at-past}
 use Rattle.phase_core.specs.Rows.{refusal_of}
-use Rattle.phase_core.specs.Cores.{CoreState, StandsFor, IsBoarded, KeepsSends, sent_of, core_with, core_of}
-use Rattle.phase_core.proofs.Boarded.{Early, Ready, boarded_of, ready, slowest_is}
+use Rattle.phase_core.specs.Cores.{StandsFor, IsBoarded, core_with}
 use Rattle.phase_core.proofs.RingSlots.{slot_keeps}
-use Rattle.phase_core.proofs.Replies.{signal_refusal_is, signal_no_task, signal_phase_is}
+use Rattle.std.proofs.lemmas.List.{drop_more}
+use Rattle.phase_ring.specs.Blocks.{BlockFits}
+use Rattle.phase_core.specs.Blocks.{StandForLists, named_at, count_at, block_rows, IsOpen}
+use Rattle.phase_core.proofs.CoreSteps.{none_from_top}
 
 -- ---- a table in two parts
 
@@ -41,7 +42,7 @@ abbrev pub first_or : {R : Type 0} → Option R → Option R → Option R
 first_or (Some r) other = Some r
 first_or None other = other
 
-first_row-append : {R : Type 0} (rows more : List (Bool × R)) → first_row (rows ++ more) ≡ first_or (first_row rows) (first_row more)
+pub first_row-append : {R : Type 0} (rows more : List (Bool × R)) → first_row (rows ++ more) ≡ first_or (first_row rows) (first_row more)
 first_row-append [] more = refl
 first_row-append {R} (row ∷ rows) more =
     elim (row.0) as (λ b. cond b (Some row.1) (first_row (rows ++ more)) ≡ first_or (cond b (Some row.1) (first_row rows)) (first_row more)) [
@@ -49,19 +50,9 @@ first_row-append {R} (row ∷ rows) more =
       | false ↦ first_row-append rows more
     ]
 
-first_or-none : {R : Type 0} (o : Option R) → first_or o None ≡ o
+pub first_or-none : {R : Type 0} (o : Option R) → first_or o None ≡ o
 first_or-none None = refl
 first_or-none (Some r) = refl
-
-abbrev early_rows : Limits → Option ℕ → Option Single → Entry → List (Bool × SignalRefusal)
-early_rows limits slowest single e =
-    (not (mode_signals e.mode), signal.NoSignal)
-    ∷ (is_some single && not (is_single e.mode), signal.NotSingle)
-    ∷ (is_bad_block limits 1, signal.BadBlock)
-    ∷ (mode_waits e.mode && eqb e.signal_phase (e.wait_phase + 1), signal.SignalTwice)
-    ∷ (leb limits.phases_max e.signal_phase, signal.Spent)
-    ∷ (is_ahead slowest limits.bound e.signal_phase, signal.Ahead)
-    ∷ []
 
 -- the rows that look into the phase
 abbrev pub late_rows : Option ℕ → ℕ → Option (Option Single) → ℕ → Option Single → List (Bool × SignalRefusal)
@@ -70,16 +61,8 @@ late_rows slowest count named n single =
     ∷ (is_some slowest && ltb SENDS_MAX (count + n), signal.PhaseFull)
     ∷ []
 
--- none of them applies where no waiter is registered, nor to no send in a phase that nobody has joined
-late_none : (slowest : Option ℕ) (single : Option Single) → first_row (late_rows slowest 0 None 0 single) ≡ None
-late_none None single = refl
-late_none (Some b) single = refl
-
-late_alone : (count n : ℕ) (named : Option (Option Single)) (single : Option Single) → first_row (late_rows None count named n single) ≡ None
-late_alone count n named single = refl
-
 -- else they are the ring's
-late_merge : {A : Type 0} (b n : ℕ) (slot : Slot A) (single : Option Single)
+pub late_merge : {A : Type 0} (b n : ℕ) (slot : Slot A) (single : Option Single)
     → first_row (late_rows (Some b) slot.count slot.named n single) ≡ option_map refusal_of (merge_refusal slot n single)
 late_merge b n slot single =
     elim (differs slot.named single) as (λ d. cond d (Some signal.SingleDiffers) (cond (ltb SENDS_MAX (slot.count + n)) (Some signal.PhaseFull) None)
@@ -89,71 +72,7 @@ late_merge b n slot single =
           ≡ option_map refusal_of (cond f (Some merge.PhaseFull) None)) [ true ↦ refl | false ↦ refl ]
     ]
 
-rows_split : (limits : Limits) (slowest : Option ℕ) (count : ℕ) (named : Option (Option Single)) (n : ℕ) (single : Option Single) (e : Entry)
-    (r : Option SignalRefusal) → r ≡ first_row (plain_signal_rows limits slowest 0 None 0 single e)
-    → first_row (plain_signal_rows limits slowest count named n single e) ≡ first_or r (first_row (late_rows slowest count named n single))
-rows_split limits slowest count named n single e r row =
-    let early = early_rows limits slowest single e in
-    let early_is : r ≡ first_row early =
-    row ∙ first_row-append early (late_rows slowest 0 None 0 single) ∙ ap (first_or (first_row early)) (late_none slowest single) ∙ first_or-none (first_row early) in
-    first_row-append early (late_rows slowest count named n single)
-    ∙ ap (λ o. first_or o (first_row (late_rows slowest count named n single))) (sym early_is)
-
 -- ---- the refusal of a signal
-
-pub early_from : (limits : Limits) (slowest : Option ℕ) (single : Option Single) (e : Entry)
-    → None ≡ first_row (plain_signal_rows limits slowest 0 None 0 single e) → Early limits.bound limits.phases_max slowest e
-early_from limits slowest single e row =
-    let p = no_row (plain_signal_rows limits slowest 0 None 0 single e) (sym row) in
-    record {
-      signals = not_false (mode_signals e.mode) p.0;
-      below = leb-false _ _ p.1.1.1.1.0;
-      behind = p.1.1.1.1.1.0;
-    }
-  where
-    not_false : (b : Bool) → not b ≡ false → b ≡ true
-    not_false true e = refl
-    not_false false e = absurd (cc)
-
--- where one of the first rows applies, it is the refusal
-pub refused_early : {A : Type 0} (op : Operation A) (core : CoreState A) (h : History) (task : ℕ) (e : Entry) (sends : List ℤ) (single : Option Single)
-    (r : SignalRefusal) → StandsFor op core h → entry_of core.members task ≡ Some e
-    → Some r ≡ first_row (plain_signal_rows core.limits (least (wait_phases core.members)) 0 None 0 single e)
-    → signal_refusal core.limits h task (sends ∷ []) single ≡ Some r
-refused_early op core h task e sends single r stands found row =
-    signal_refusal_is op core h task e sends single stands found
-    ∙ rows_split core.limits (least (wait_phases core.members)) (length (sends_of_phase h e.signal_phase)) (named_in_phase h e.signal_phase) (length sends) single e (Some r) row
-
--- where none applies and no waiter is registered, the signal is accepted
-pub accepted_alone : {A : Type 0} (op : Operation A) (core : CoreState A) (h : History) (task : ℕ) (e : Entry) (sends : List ℤ) (single : Option Single)
-    → StandsFor op core h → entry_of core.members task ≡ Some e → wait_phases core.members ≡ []
-    → None ≡ first_row (plain_signal_rows core.limits (least (wait_phases core.members)) 0 None 0 single e)
-    → signal_refusal core.limits h task (sends ∷ []) single ≡ None
-accepted_alone op core h task e sends single stands found alone row =
-    signal_refusal_is op core h task e sends single stands found
-    ∙ rows_split core.limits (least (wait_phases core.members)) (length (sends_of_phase h e.signal_phase)) (named_in_phase h e.signal_phase) (length sends) single e None row
-    ∙ ap (λ xs. first_row (late_rows (least xs) (length (sends_of_phase h e.signal_phase)) (named_in_phase h e.signal_phase) (length sends) single)) alone
-
--- else the refusal is the ring's
-pub refused_late : {A : Type 0} (op : Operation A) (reg : Roster) (limits : Limits) (r : Ring A) (done top : ℕ) (h : History) (task : ℕ) (e : Entry)
-    (slot : Slot A) (held : Parcel A) (sends : List ℤ) (single : Option Single)
-    → StandsFor op (core_with reg limits r top) h → IsBoarded op reg.members r limits.bound done top
-    → entry_of reg.members task ≡ Some e → r.base ≤ e.signal_phase → slot_at r e.signal_phase ≡ Some slot → StandsForSends op held sends
-    → None ≡ first_row (plain_signal_rows limits (least (wait_phases reg.members)) 0 None 0 single e)
-    → signal_refusal limits h task (sends ∷ []) single ≡ option_map refusal_of (merge_refusal slot held.count single)
-refused_late {A} op reg limits r done top h task e slot held sends single stands b found low at holds row =
-    let keeps : KeepsSends op (sent_of slot) h e.signal_phase = slot_keeps op reg limits r done top e.signal_phase h slot stands b low at in
-    let count : length (sends_of_phase h e.signal_phase) ≡ slot.count = sym keeps.count_is in
-    let named : named_in_phase h e.signal_phase ≡ slot.named = sym keeps.named_is in
-    let n : length sends ≡ held.count = sym holds.count_is in
-    signal_refusal_is op (core_with reg limits r top) h task e sends single stands found
-    ∙ rows_split limits (least (wait_phases reg.members)) (length (sends_of_phase h e.signal_phase)) (named_in_phase h e.signal_phase) (length sends) single e None row
-    ∙ ap (λ o. first_row (late_rows o (length (sends_of_phase h e.signal_phase)) (named_in_phase h e.signal_phase) (length sends) single))
-    (slowest_is op reg.members r limits.bound done top b)
-    ∙ ap (λ k. first_row (late_rows (Some r.base) k (named_in_phase h e.signal_phase) (length sends) single)) count
-    ∙ ap (λ k. first_row (late_rows (Some r.base) slot.count k (length sends) single)) named
-    ∙ ap (λ k. first_row (late_rows (Some r.base) slot.count slot.named k single)) n
-    ∙ late_merge r.base held.count slot single
 
 -- ---- the reply
 
@@ -161,46 +80,238 @@ pub reply_refused : (limits : Limits) (h : History) (task : ℕ) (lists : List (
     → signal_refusal limits h task lists single ≡ Some r → signal_reply limits h task lists single ≡ Err r
 reply_refused limits h task lists single r refused = ap (λ o. refused_or o (signal_phase h task)) refused
 
-pub reply_accepted : {A : Type 0} (op : Operation A) (core : CoreState A) (h : History) (task : ℕ) (e : Entry) (sends : List ℤ) (single : Option Single)
-    → StandsFor op core h → entry_of core.members task ≡ Some e → signal_refusal core.limits h task (sends ∷ []) single ≡ None
-    → signal_reply core.limits h task (sends ∷ []) single ≡ Ok e.signal_phase
-reply_accepted op core h task e sends single stands found none =
-    ap (λ o. refused_or o (signal_phase h task)) none ∙ ap (λ p. Ok p) (signal_phase_is op core h task e stands found)
-
 -- ---- what a signal knows once its first rows are passed
 
--- while a waiter is registered
-pub record Passed {A : Type 0} (op : Operation A) (reg : Roster) (b : Board A) (single : Option Single) (e : Entry) : Type 0 where
-  pub boarded : IsBoarded op reg.members b.ring b.limits.bound b.done b.top
-  pub early : Early b.limits.bound b.limits.phases_max (least (wait_phases reg.members)) e
-  pub ready : Ready b.ring b.limits.bound b.done e
-  pub row : None ≡ first_row (plain_signal_rows b.limits (least (wait_phases reg.members)) 0 None 0 single e)
+-- ---- one phase
 
-pub passed : {A : Type 0} (op : Operation A) (reg : Roster) (b : Board A) (task : ℕ) (single : Option Single) (e : Entry) (slowest : Option ℕ) (waiters : ℕ)
-    → (wait_phases reg.members ≡ []) ⊎ IsBoarded op reg.members b.ring b.limits.bound b.done b.top
-    → waiters ≡ length (wait_phases reg.members) → (waiters ≡ 0 → ⊥)
-    → entry_of reg.members task ≡ Some e → length reg.members ≤ MEMBERS_MAX → slowest ≡ least (wait_phases reg.members)
-    → None ≡ first_row (plain_signal_rows b.limits slowest 0 None 0 single e) → Passed op reg b single e
-passed op reg b task single e slowest waiters either count some found few slow row =
-    let boarded = boarded_of (wait_phases reg.members) either (λ z. some (count ∙ z)) in
-    let R : Option ℕ → Type 0 = λ o. None ≡ first_row (plain_signal_rows b.limits o 0 None 0 single e) in
-    let here = subst R slow row in
-    let early = early_from b.limits (least (wait_phases reg.members)) single e here in
-    record {
-      boarded = boarded;
-      early = early;
-      ready = ready op reg.members b.ring b.limits.bound b.done b.top b.limits.phases_max task e boarded found few early;
-      row = here;
-    }
+abbrev three_rows : Limits → Option ℕ → Entry → List (Bool × SignalRefusal)
+three_rows limits slowest e =
+    (mode_waits e.mode && eqb e.signal_phase (e.wait_phase + 1), signal.SignalTwice)
+    ∷ (leb limits.phases_max e.signal_phase, signal.Spent)
+    ∷ (is_ahead slowest limits.bound e.signal_phase, signal.Ahead)
+    ∷ []
 
--- the ring's refusal, for any history
-pub refused_by_ring : {A : Type 0} (op : Operation A) (reg : Roster) (b : Board A) (h : History) (task : ℕ) (e : Entry) (held : Parcel A) (sends : List ℤ)
-    (single : Option Single) (r : Option MergeRefusal)
-    → Passed op reg b single e → StandsFor op (core_of reg b) h → StandsForSends op held sends → entry_of reg.members task ≡ Some e
-    → ((slot : Slot A) → slot_at b.ring e.signal_phase ≡ Some slot → merge_refusal slot held.count single ≡ r)
-    → signal_refusal b.limits h task (sends ∷ []) single ≡ option_map refusal_of r
-refused_by_ring op reg b h task e held sends single r p stands holds found refused =
-    let w = ready-within op reg.members b.ring b.limits.bound b.done b.top e p.boarded p.ready in
-    let slot = slot_at-some b.ring e.signal_phase w in
-    refused_late op reg b.limits b.ring b.done b.top h task e slot.0 held sends single stands p.boarded found w.low slot.1 holds p.row
-    ∙ ap (option_map refusal_of) (refused slot.0 slot.1)
+late_nothing : (slowest : Option ℕ) → first_row (late_rows slowest 0 None 0 None) ≡ None
+late_nothing None = refl
+late_nothing (Some b) = refl
+
+pub phase_split : (limits : Limits) (slowest : Option ℕ) (count : ℕ) (named : Option (Option Single)) (n : ℕ) (single : Option Single) (e : Entry)
+    (r : Option SignalRefusal) → r ≡ first_row (phase_rows limits slowest 0 None 0 None e)
+    → first_row (phase_rows limits slowest count named n single e) ≡ first_or r (first_row (late_rows slowest count named n single))
+phase_split limits slowest count named n single e r row =
+    let three = three_rows limits slowest e in
+    let is : r ≡ first_row three =
+    row ∙ first_row-append three (late_rows slowest 0 None 0 None) ∙ ap (first_or (first_row three)) (late_nothing slowest) ∙ first_or-none (first_row three) in
+    first_row-append three (late_rows slowest count named n single)
+    ∙ ap (λ o. first_or o (first_row (late_rows slowest count named n single))) (sym is)
+
+-- ---- the rows of a block, one more phase done with
+
+-- the rows that look into the phase, by the ring's refusal
+pub late_by_ring : {A : Type 0} (b n : ℕ) (o : Option (Slot A)) (slot : Slot A) (single : Option Single) (m : Option MergeRefusal) → o ≡ Some slot
+    → merge_refusal slot n single ≡ m
+    → first_row (late_rows (Some b) (count_at o) (named_at o) n single) ≡ option_map refusal_of m
+late_by_ring b n o slot single m found is =
+    ap (λ x. first_row (late_rows (Some b) (count_at x) (named_at x) n single)) found
+    ∙ late_merge b n slot single ∙ ap (λ x. option_map refusal_of x) is
+
+-- ---- the rows by the ring are those of any history that the core stands for
+
+pub rows_same_alone : {A : Type 0} (op : Operation A) (limits : Limits) (r : Ring A) (h : History) (held : List (Parcel A)) (lists : List (List ℤ)) (single : Option Single) (e : Entry)
+    → StandForLists op held lists → least (wait_phases (members_of h)) ≡ None
+    → list_rows limits h lists single e ≡ block_rows limits None r held single e
+rows_same_alone op limits r h [] [] single e holds alone = refl
+rows_same_alone op limits r h [] (sends ∷ lists) single e holds alone = absurd holds
+rows_same_alone op limits r h (held ∷ more) [] single e holds alone = absurd holds
+rows_same_alone op limits r h (held ∷ more) (sends ∷ lists) single e holds alone =
+    ap (λ o. phase_rows limits o (length (sends_of_phase h e.signal_phase)) (named_in_phase h e.signal_phase) (length sends) single e
+    ++ list_rows limits h lists single (signalled 1 e)) alone
+    ∙ ap (λ x. phase_rows limits None (count_at (slot_at r e.signal_phase)) (named_at (slot_at r e.signal_phase)) held.count single e ++ x)
+    (rows_same_alone op limits r h more lists single (signalled 1 e) holds.1 alone)
+
+-- what a slot has is what its phase has
+pub record Same {A : Type 0} (o : Option (Slot A)) (h : History) (p : ℕ) : Type 0 where
+  pub count : length (sends_of_phase h p) ≡ count_at o
+  pub named : named_in_phase h p ≡ named_at o
+
+same_at : {A : Type 0} (op : Operation A) (reg : Roster) (limits : Limits) (r : Ring A) (done top p : ℕ) (h : History)
+    → StandsFor op (core_with reg limits r top) h → IsBoarded op reg.members r limits.bound done top → r.base ≤ p → Same (slot_at r p) h p
+same_at op reg limits r done top p h stands b low =
+    ⊎_elim
+    (λ inside.
+    let slot = slot_at-some r p (record { low = low; high = inside }) in
+    let k = slot_keeps op reg limits r done top p h slot.0 stands b low slot.1 in
+    record { count = sym k.count_is ∙ sym (ap count_at slot.1); named = sym k.named_is ∙ sym (ap named_at slot.1) })
+    (λ past.
+    let none = slot_at-past r p past in
+    let t : top ≡ top_of h = stands.top_is in
+    let up = b.kept.top_bound in
+    let long = b.kept.long in
+    let nothing = none_from_top limits h p stands.legal (omega arith) in
+    record { count = ap length nothing.0 ∙ sym (ap count_at none); named = nothing.1 ∙ sym (ap named_at none) })
+    (cases_lt p (r.base + length r.slots))
+
+pub rows_same : {A : Type 0} (op : Operation A) (reg : Roster) (limits : Limits) (r : Ring A) (done top : ℕ) (h : History) (held : List (Parcel A)) (lists : List (List ℤ)) (single : Option Single) (e : Entry)
+    → StandsFor op (core_with reg limits r top) h → IsBoarded op reg.members r limits.bound done top → r.base ≤ e.signal_phase
+    → least (wait_phases (members_of h)) ≡ Some r.base → StandForLists op held lists
+    → list_rows limits h lists single e ≡ block_rows limits (Some r.base) r held single e
+rows_same op reg limits r done top h [] [] single e stands b low slow holds = refl
+rows_same op reg limits r done top h [] (sends ∷ lists) single e stands b low slow holds = absurd holds
+rows_same op reg limits r done top h (held ∷ more) [] single e stands b low slow holds = absurd holds
+rows_same op reg limits r done top h (held ∷ more) (sends ∷ lists) single e stands b low slow holds =
+    let s = same_at op reg limits r done top e.signal_phase h stands b low in
+    let o = slot_at r e.signal_phase in
+    let rest = list_rows limits h lists single (signalled 1 e) in
+    let n : length sends ≡ held.count = sym holds.0.count_is in
+    ap (λ x. phase_rows limits x (length (sends_of_phase h e.signal_phase)) (named_in_phase h e.signal_phase) (length sends) single e ++ rest) slow
+    ∙ ap (λ x. phase_rows limits (Some r.base) x (named_in_phase h e.signal_phase) (length sends) single e ++ rest) s.count
+    ∙ ap (λ x. phase_rows limits (Some r.base) (count_at o) x (length sends) single e ++ rest) s.named
+    ∙ ap (λ x. phase_rows limits (Some r.base) (count_at o) (named_at o) x single e ++ rest) n
+    ∙ ap (λ x. phase_rows limits (Some r.base) (count_at o) (named_at o) held.count single e ++ x)
+    (rows_same op reg limits r done top h more lists single (signalled 1 e) stands b (omega arith) slow holds.1)
+
+-- ---- an accepted block
+
+-- no row applies: every phase is below the last that the phaser was made for
+pub first_or_none : {R : Type 0} (a b : Option R) → first_or a b ≡ None → (a ≡ None) × (b ≡ None)
+first_or_none None b none = (refl, none)
+first_or_none (Some r) b none = absurd (cc)
+
+pub parts_none : {A : Type 0} (limits : Limits) (slowest : Option ℕ) (r : Ring A) (held : Parcel A) (rest : List (Parcel A)) (single : Option Single) (e : Entry)
+    → first_row (block_rows limits slowest r (held ∷ rest) single e) ≡ None
+    → (first_row (phase_rows limits slowest (count_at (slot_at r e.signal_phase)) (named_at (slot_at r e.signal_phase)) held.count single e) ≡ None)
+    × (first_row (block_rows limits slowest r rest single (signalled 1 e)) ≡ None)
+parts_none limits slowest r held rest single e none =
+    first_or_none (first_row (phase_rows limits slowest (count_at (slot_at r e.signal_phase)) (named_at (slot_at r e.signal_phase)) held.count single e))
+    (first_row (block_rows limits slowest r rest single (signalled 1 e))) (sym (first_row-append (phase_rows limits slowest (count_at (slot_at r e.signal_phase)) (named_at (slot_at r e.signal_phase)) held.count single e)
+    (block_rows limits slowest r rest single (signalled 1 e))) ∙ none)
+
+-- what an accepted phase tells
+pub below_of : (limits : Limits) (slowest : Option ℕ) (count : ℕ) (named : Option (Option Single)) (n : ℕ) (single : Option Single) (e : Entry)
+    → first_row (phase_rows limits slowest count named n single e) ≡ None
+    → (e.signal_phase < limits.phases_max) × (is_ahead slowest limits.bound e.signal_phase ≡ false)
+below_of limits slowest count named n single e none =
+    let p = no_row (phase_rows limits slowest count named n single e) none in
+    (leb-false _ _ p.1.0, p.1.1.0)
+
+-- an accepted block ends within the phases that the phaser was made for
+far_on : {A : Type 0} (limits : Limits) (slowest : Option ℕ) (r : Ring A) (held : List (Parcel A)) (single : Option Single) (e : Entry) → e.signal_phase ≤ limits.phases_max
+    → first_row (block_rows limits slowest r held single e) ≡ None → e.signal_phase + length held ≤ limits.phases_max
+far_on limits slowest r [] single e low none = omega arith
+far_on limits slowest r (held ∷ more) single e low none =
+    let p = parts_none limits slowest r held more single e none in
+    let b : e.signal_phase < limits.phases_max = (below_of limits slowest (count_at (slot_at r e.signal_phase)) (named_at (slot_at r e.signal_phase)) held.count single e p.0).0 in
+    let rest : e.signal_phase + 1 + length more ≤ limits.phases_max = far_on limits slowest r more single (signalled 1 e) (omega arith) p.1 in
+    omega arith
+
+pub block_far : {A : Type 0} (limits : Limits) (slowest : Option ℕ) (r : Ring A) (held : List (Parcel A)) (single : Option Single) (e : Entry) → 0 < length held
+    → first_row (block_rows limits slowest r held single e) ≡ None → e.signal_phase + length held ≤ limits.phases_max
+block_far limits slowest r [] single e some none = absurd (omega arith)
+block_far limits slowest r (held ∷ more) single e some none =
+    let p = parts_none limits slowest r held more single e none in
+    let b : e.signal_phase < limits.phases_max = (below_of limits slowest (count_at (slot_at r e.signal_phase)) (named_at (slot_at r e.signal_phase)) held.count single e p.0).0 in
+    far_on limits slowest r (held ∷ more) single e (omega arith) none
+
+-- and not ahead of the slowest waiter
+near_on : {A : Type 0} (limits : Limits) (b : ℕ) (r : Ring A) (held : List (Parcel A)) (single : Option Single) (e : Entry) → e.signal_phase ≤ b + limits.bound
+    → first_row (block_rows limits (Some b) r held single e) ≡ None → e.signal_phase + length held ≤ b + limits.bound
+near_on limits b r [] single e low none = omega arith
+near_on limits b r (held ∷ more) single e low none =
+    let p = parts_none limits (Some b) r held more single e none in
+    let n : e.signal_phase < b + limits.bound = leb-false _ _ (below_of limits (Some b) (count_at (slot_at r e.signal_phase)) (named_at (slot_at r e.signal_phase)) held.count single e p.0).1 in
+    let rest : e.signal_phase + 1 + length more ≤ b + limits.bound = near_on limits b r more single (signalled 1 e) (omega arith) p.1 in
+    omega arith
+
+pub block_near : {A : Type 0} (limits : Limits) (b : ℕ) (r : Ring A) (held : List (Parcel A)) (single : Option Single) (e : Entry) → 0 < length held
+    → first_row (block_rows limits (Some b) r held single e) ≡ None → e.signal_phase + length held ≤ b + limits.bound
+block_near limits b r [] single e some none = absurd (omega arith)
+block_near limits b r (held ∷ more) single e some none =
+    let p = parts_none limits (Some b) r held more single e none in
+    let n : e.signal_phase < b + limits.bound = leb-false _ _ (below_of limits (Some b) (count_at (slot_at r e.signal_phase)) (named_at (slot_at r e.signal_phase)) held.count single e p.0).1 in
+    near_on limits b r (held ∷ more) single e (omega arith) none
+
+-- and no phase refuses its list
+pub block_fits : {A : Type 0} (limits : Limits) (b : ℕ) (r : Ring A) (held : List (Parcel A)) (single : Option Single) (e : Entry)
+    → first_row (block_rows limits (Some b) r held single e) ≡ None → BlockFits r e.signal_phase held single
+block_fits limits b r [] single e none = tt
+block_fits {A} limits b r (held ∷ more) single e none =
+    let p = parts_none limits (Some b) r held more single e none in
+    let o = slot_at r e.signal_phase in
+    let late = (first_or_none (first_row (phase_rows limits (Some b) 0 None 0 None e)) (first_row (late_rows (Some b) (count_at o) (named_at o) held.count single)) (sym (phase_split limits (Some b) (count_at o) (named_at o) held.count single e (first_row (phase_rows limits (Some b) 0 None 0 None e)) refl) ∙ p.0)).1 in (
+      λ slot found. nothing (merge_refusal slot held.count single) (sym (late_by_ring b held.count o slot single (merge_refusal slot held.count single) found refl) ∙ late),
+      block_fits limits b r more single (signalled 1 e) p.1,
+    )
+  where
+    nothing : (m : Option MergeRefusal) → option_map refusal_of m ≡ None → m ≡ None
+    nothing None e = refl
+    nothing (Some x) e = absurd (cc)
+
+-- ---- a phase whose ring refuses
+
+pub refused_in_phase : {A : Type 0} (op : Operation A) (limits : Limits) (slowest : Option ℕ) (r : Ring A) (done top : ℕ) (e : Entry) (held : Parcel A) (single : Option Single)
+    (early : Option SignalRefusal) (m : MergeRefusal)
+    → IsOpen op r limits.bound done top slowest e.signal_phase → early ≡ first_row (phase_rows limits slowest 0 None 0 None e) → early ≡ None
+    → ((slot : Slot A) → slot_at r e.signal_phase ≡ Some slot → merge_refusal slot held.count single ≡ Some m)
+    → Some (refusal_of m) ≡ first_row (phase_rows limits slowest (count_at (slot_at r e.signal_phase)) (named_at (slot_at r e.signal_phase)) held.count single e)
+refused_in_phase {A} op limits slowest r done top e held single early m opened row none refused =
+    let o = slot_at r e.signal_phase in
+    let G : Option ℕ → Type 0 = λ x. early ≡ first_row (phase_rows limits x 0 None 0 None e)
+    → Some (refusal_of m) ≡ first_row (phase_rows limits x (count_at o) (named_at o) held.count single e) in
+    subst G (sym opened.slowest_is) (λ row'.
+    let behind : e.signal_phase < r.base + limits.bound = leb-false _ _ (below_of limits (Some r.base) 0 None 0 None e (sym row' ∙ none)).1 in
+    let base = opened.kept.base_done in
+    let low = opened.low in
+    let long = opened.kept.long in
+    let w : IsWithin r e.signal_phase = record { low = omega arith; high = omega arith } in
+    let slot = slot_at-some r e.signal_phase w in
+    sym (phase_split limits (Some r.base) (count_at o) (named_at o) held.count single e early row'
+    ∙ ap (λ x. first_or x (first_row (late_rows (Some r.base) (count_at o) (named_at o) held.count single))) none
+    ∙ late_by_ring r.base held.count o slot.0 single (Some m) slot.1 (refused slot.0 slot.1))) row
+
+-- ---- the loop over a block's parcels
+
+pub record ListsLoop {A : Type 0} (op : Operation A) (limits : Limits) (slowest : Option ℕ) (r : Ring A) (lists : List (Parcel A)) (single : Option Single) (entry at : Entry) (i : ℕ) : Type 0 where
+  pub phase_is : at.signal_phase ≡ entry.signal_phase + i
+  pub left : first_row (block_rows limits slowest r (drop i lists) single at) ≡ first_row (block_rows limits slowest r lists single entry)
+  pub held : (rest : List (List ℤ)) → StandForLists op (drop i lists) rest → (all : List (List ℤ)) × StandForLists op lists all
+
+pub rows_at : {A : Type 0} (limits : Limits) (slowest : Option ℕ) (r : Ring A) (lists : List (Parcel A)) (held : Parcel A) (single : Option Single) (at : Entry) (i : ℕ) (o w : Option SignalRefusal)
+    → first_row (block_rows limits slowest r (drop i lists) single at) ≡ w → i < length lists → held ≡ slice_index_or lists i held
+    → o ≡ first_row (phase_rows limits slowest (count_at (slot_at r at.signal_phase)) (named_at (slot_at r at.signal_phase)) held.count single at)
+    → first_or o (first_row (block_rows limits slowest r (drop (i + 1) lists) single (signalled 1 at))) ≡ w
+rows_at {A} limits slowest r lists held single at i o w left inside is row =
+    let rest = block_rows limits slowest r (drop (i + 1) lists) single (signalled 1 at) in
+    ap (λ x. first_or x (first_row rest)) row
+    ∙ sym (first_row-append (phase_rows limits slowest (count_at (slot_at r at.signal_phase)) (named_at (slot_at r at.signal_phase)) held.count single at) rest)
+    ∙ ap (λ x. first_row (block_rows limits slowest r (x ∷ drop (i + 1) lists) single at)) is
+    ∙ ap (λ xs. first_row (block_rows limits slowest r xs single at)) (sym (drop_more lists i held inside))
+    ∙ left
+
+pub first_or-some : {R : Type 0} (o x : Option R) → is_some o ≡ true → first_or o x ≡ o
+first_or-some None x some = absurd (cc)
+first_or-some (Some r) x some = refl
+
+pub none-of : {R : Type 0} (o : Option R) → is_some o ≡ false → o ≡ None
+none-of None none = refl
+none-of (Some r) none = absurd (cc)
+
+pub held_next : {A : Type 0} (op : Operation A) (lists : List (Parcel A)) (held : Parcel A) (sends : List ℤ) (i : ℕ) (W : Type 0)
+    → ((rest : List (List ℤ)) → StandForLists op (drop i lists) rest → W) → i < length lists → held ≡ slice_index_or lists i held → StandsForSends op held sends
+    → (rest : List (List ℤ)) → StandForLists op (drop (i + 1) lists) rest → W
+held_next {A} op lists held sends i W whole inside is holds rest more =
+    let L : List (Parcel A) → Type 0 = λ xs. StandForLists op xs (sends ∷ rest) in
+    let all : StandForLists op (held ∷ drop (i + 1) lists) (sends ∷ rest) = (holds, more) in
+    whole (sends ∷ rest) (subst L (ap (λ x. x ∷ drop (i + 1) lists) is ∙ sym (drop_more lists i held inside)) all)
+
+pub drop-past : {X : Type 0} (xs : List X) (i : ℕ) → length xs ≤ i → drop i xs ≡ []
+drop-past [] zero past = refl
+drop-past [] (suc i) past = refl
+drop-past (x ∷ xs) zero past = absurd (omega arith)
+drop-past (x ∷ xs) (suc i) past = drop-past xs i (omega arith)
+
+pub some-of : {R : Type 0} (o : Option R) (x : R) → o ≡ Some x → IsSome o
+some-of o x is = ap is_some is
+
+pub first_or-past : {R : Type 0} (o x w : Option R) → o ≡ None → first_or o x ≡ w → x ≡ w
+first_or-past None x w none is = is
+first_or-past (Some r) x w none is = absurd (cc)

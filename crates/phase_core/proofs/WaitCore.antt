@@ -1,6 +1,6 @@
 -- What a wait leaves of a core over a registry and a board.
-use Rattle.std.proofs.Common.{◌≡◌, ℕ, ℤ, ◌+◌, ◌<◌, ◌≤◌, ◌⊎◌, true, Bool, List, [], ◌∷◌, Option, Some, None, Ok, Err, length, unwrap_or, refl, sym, ◌∙◌, ap, subst, arith, ⊎_elim, inl, inr}
-use Rattle.std.specs.Prelude.{is_some}
+use Rattle.std.proofs.Common.{◌≡◌, ℕ, ◌+◌, ◌<◌, ◌≤◌, ◌⊎◌, true, Bool, [], ◌∷◌, Option, Some, None, Ok, length, unwrap_or, refl, sym, ◌∙◌, ap, subst, arith, ⊎_elim, inl, inr, zero, suc, ◌-◌, cond, map, take, drop, min}
+use Rattle.std.specs.Prelude.{is_some, slice_range}
 use Rattle.std.proofs.lemmas.Option.{same_Some}
 use Rattle.phase_base.specs.Modes.{mode_waits}
 use Rattle.phase_base.specs.declared.entry.Entry.{Entry}
@@ -11,28 +11,35 @@ use Rattle.phase_accum.specs.Operations.{Operation, AccumulateLaws}
 use Rattle.phase_history.specs.declared.event.Event.TheVariants.{Waited}
 use Rattle.phase_history.specs.declared.got.Got.TheVariants as got
 use Rattle.phase_history.specs.declared.refusal.WaitRefusal.{WaitRefusal}
-use Rattle.phase_history.specs.Histories.{History, done_of}
-use Rattle.phase_history.specs.Phases.{value_of_phase}
-use Rattle.phase_history.specs.Refusals.{first_row, wait_refusal, plain_wait_rows}
-use Rattle.phase_history.specs.Replies.{wait_reply, refused_or, got_at}
+use Rattle.phase_history.specs.Histories.{History, done_of, members_of, wait_phase}
+use Rattle.phase_history.specs.Phases.{value_of_phase, stream_of}
+use Rattle.phase_history.specs.Refusals.{first_row, wait_refusal, plain_wait_rows, refusal_at, wait_rows_at}
+use Rattle.phase_history.specs.Replies.{wait_reply, refused_or, got_at, wait_block_reply, got_block_at}
 use Rattle.phase_history.proofs.MemberLemmas.{signal_phases-waited}
 use Rattle.phase_registry.specs.Rosters.{Roster, roster}
 use Rattle.phase_ring.specs.declared.board.Board.{Board}
 use Rattle.phase_ring.specs.declared.slot.Slot.{Slot}
 use Rattle.phase_ring.specs.declared.role.Role.TheVariants.{Signaller, Waiter}
 use Rattle.phase_ring.specs.Slots.{slot_value}
-use Rattle.phase_ring.specs.Rings.{Ring, slot_at, standing, sents, KeepsSlots}
+use Rattle.phase_ring.specs.Rings.{slot_at, standing, sents, KeepsSlots}
 use Rattle.phase_ring.specs.Standings.{is, count_of}
 use Rattle.phase_ring.specs.Boards.{IsKept}
 use Rattle.phase_ring.proofs.Slots.{slot_at-some}
 use Rattle.phase_ring.proofs.Kept.{standing-within}
 use Rattle.phase_core.specs.Cores.{CoreState, StandsFor, IsBoarded, sent_of, core_of, core_with}
 use Rattle.phase_core.proofs.CoreSteps.{waits_stands, kept_value}
-use Rattle.phase_core.proofs.LeastCounts.{waiters-waited}
+use Rattle.phase_core.proofs.LeastCounts.{waiters-waited, two_counts, wait_phases-few, waiter-counted}
 use Rattle.phase_core.proofs.Boarded.{boarded_of, waits-some, slowest_is, ReadyToWait, ready_to_wait}
 use Rattle.phase_core.proofs.NewCore.{done_of_boarded}
 use Rattle.phase_core.proofs.Replies.{wait_reply_is, got_value, got_ended}
 use Rattle.phase_core.proofs.RingSlots.{kept_slots, slot_keeps}
+use Rattle.std.proofs.lemmas.Bool.{lt-ltb, le-ltb}
+use Rattle.phase_history.proofs.Steps.{member_entry_is}
+use Rattle.phase_ring.specs.Blocks.{value_at, value_in, block_values}
+use Rattle.std.specs.List.{range_with_len}
+use Rattle.phase_history.specs.declared.refusal.WaitRefusal.TheVariants as wait
+use Rattle.phase_history.specs.declared.got.GotBlock.TheVariants as got_block
+use Rattle.std.proofs.lemmas.List.FromFn.{take-map-range_with_len}
 
 -- what a wait of a waiter knows
 pub record Waiting {A : Type 0} (op : Operation A) (reg : Roster) (b : Board A) (e : Entry) : Type 0 where
@@ -86,44 +93,44 @@ waits_value op laws reg b h task e outcome w stands complete value reply =
 -- ---- after it
 
 -- the board still agrees with the members
-pub boarded_waited : {A : Type 0} (op : Operation A) (reg new_reg : Roster) (b new : Board A) (task : ℕ) (e : Entry)
+pub boarded_waited : {A : Type 0} (op : Operation A) (reg new_reg : Roster) (b new : Board A) (task n : ℕ) (e : Entry)
     → IsBoarded op reg.members b.ring b.limits.bound b.done b.top → entry_of reg.members task ≡ Some e → mode_waits e.mode ≡ true
-    → new_reg ≡ roster (changed_at task (waited 1) reg.members) reg.greatest
+    → new_reg ≡ roster (changed_at task (waited n) reg.members) reg.greatest
     → new.done ≡ b.done → new.top ≡ b.top
-    → ((p : ℕ) → standing new.ring Waiter p + is e.wait_phase p ≡ standing b.ring Waiter p + is (e.wait_phase + 1) p)
+    → ((p : ℕ) → standing new.ring Waiter p + is e.wait_phase p ≡ standing b.ring Waiter p + is (e.wait_phase + n) p)
     → ((p : ℕ) → standing new.ring Signaller p ≡ standing b.ring Signaller p)
     → IsKept op new.ring new.limits.bound new.done new.top → 0 < standing new.ring Waiter new.ring.base
     → IsBoarded op new_reg.members new.ring new.limits.bound new.done new.top
-boarded_waited op reg new_reg b new task e boarded found waits reg_is done_is top_is moved others kept stops =
-    let members : new_reg.members ≡ changed_at task (waited 1) reg.members = ap (λ (r : Roster). r.members) reg_is in
+boarded_waited op reg new_reg b new task n e boarded found waits reg_is done_is top_is moved others kept stops =
+    let members : new_reg.members ≡ changed_at task (waited n) reg.members = ap (λ (r : Roster). r.members) reg_is in
     record {
       kept = kept;
       done_at = ⊎_elim (λ at. inl (done_is ∙ at ∙ sym top_is))
           (λ some. inr (let o = others new.done in let d = ap (standing b.ring Signaller) done_is in omega arith)) boarded.done_at;
       base_at = stops;
       signallers_are = λ p. others p ∙ boarded.signallers_are p
-          ∙ sym (ap (λ ms. count_of p (signal_phases ms)) members ∙ ap (count_of p) (signal_phases-waited reg.members task 1));
+          ∙ sym (ap (λ ms. count_of p (signal_phases ms)) members ∙ ap (count_of p) (signal_phases-waited reg.members task n));
       waiters_are = λ p.
           let m = moved p in
           let t = boarded.waiters_are p in
-          let c = waiters-waited reg.members task p e found waits in
-          let n : count_of p (wait_phases new_reg.members) ≡ count_of p (wait_phases (changed_at task (waited 1) reg.members)) =
+          let c = waiters-waited reg.members task p n e found waits in
+          let n : count_of p (wait_phases new_reg.members) ≡ count_of p (wait_phases (changed_at task (waited n) reg.members)) =
           ap (λ ms. count_of p (wait_phases ms)) members in
           omega arith;
     }
 
 -- and the core stands for the history with the wait
-pub stands_waited : {A : Type 0} (op : Operation A) (reg new_reg : Roster) (b new : Board A) (h : History) (task : ℕ) (e : Entry)
+pub stands_waited : {A : Type 0} (op : Operation A) (reg new_reg : Roster) (b new : Board A) (h : History) (task n : ℕ) (e : Entry)
     → Waiting op reg b e → StandsFor op (core_of reg b) h → entry_of reg.members task ≡ Some e
     → IsBoarded op new_reg.members new.ring new.limits.bound new.done new.top
-    → wait_refusal b.limits h task 1 ≡ None → e.wait_phase < b.done
-    → new_reg ≡ roster (changed_at task (waited 1) reg.members) reg.greatest
+    → wait_refusal b.limits h task n ≡ None → e.wait_phase + n ≤ b.done
+    → new_reg ≡ roster (changed_at task (waited n) reg.members) reg.greatest
     → new.limits ≡ b.limits → new.top ≡ b.top → KeepsSlots (sents b.ring) (sents new.ring)
-    → StandsFor op (core_of new_reg new) (Waited task 1 ∷ h)
-stands_waited {A} op reg new_reg b new h task e w stands found boarded none complete reg_is limits_is top_is keeps =
+    → StandsFor op (core_of new_reg new) (Waited task n ∷ h)
+stands_waited {A} op reg new_reg b new h task n e w stands found boarded none complete reg_is limits_is top_is keeps =
     let d = done_of_boarded op reg b h stands w.boarded in
-    let there : StandsFor op (core_with new_reg b.limits new.ring new.top) (Waited task 1 ∷ h) =
-    waits_stands op (core_of reg b) (core_with new_reg b.limits new.ring new.top) h task e stands found none (omega arith)
+    let there : StandsFor op (core_with new_reg b.limits new.ring new.top) (Waited task n ∷ h) =
+    waits_stands op (core_of reg b) (core_with new_reg b.limits new.ring new.top) h task n e stands found none (omega arith)
     (record {
       limits_same = refl;
       greatest_same = ap (λ (r : Roster). unwrap_or r.greatest 0) reg_is;
@@ -134,5 +141,73 @@ stands_waited {A} op reg new_reg b new h task e w stands found boarded none comp
           same_Some _ _ (sym waiter ∙ slowest_is op new_reg.members new.ring new.limits.bound new.done new.top boarded) in
           kept_slots reg new_reg b.limits b.ring new.ring b.top new.top p slot keeps (omega arith) is;
     }) in
-    let S : CoreState A → Type 0 = λ k. StandsFor op k (Waited task 1 ∷ h) in
+    let S : CoreState A → Type 0 = λ k. StandsFor op k (Waited task n ∷ h) in
     subst S (sym (ap (λ l. core_with new_reg l new.ring new.top) limits_is)) there
+
+-- ---- the reply
+
+pub wait_block_is : {A : Type 0} (op : Operation A) (reg : Roster) (b : Board A) (h : History) (task n : ℕ) (e : Entry) (has_signaller : Bool) (r : Option WaitRefusal)
+    → Waiting op reg b e → StandsFor op (core_of reg b) h → entry_of reg.members task ≡ Some e
+    → has_signaller ≡ is_some (least (signal_phases reg.members))
+    → r ≡ first_row (wait_rows_at b.limits b.done has_signaller n e)
+    → (wait_refusal b.limits h task n ≡ r) × (wait_block_reply b.limits h task n ≡ refused_or r (got_block_at h e.wait_phase n))
+wait_block_is op reg b h task n e has_signaller r w stands found has row =
+    let found_h : entry_of (members_of h) task ≡ Some e = (rw (← stands.members_are) found) in
+    let phase : wait_phase h task ≡ e.wait_phase = ap (λ (x : Entry). x.wait_phase) (member_entry_is (members_of h) task e found_h) in
+    let done = done_of_boarded op reg b h stands w.boarded in
+    let is : wait_refusal b.limits h task n ≡ r =
+    ap (λ ms. refusal_at (entry_of ms task) wait.NoTask (wait_rows_at b.limits (done_of h) (is_some (least (signal_phases ms))) n)) (sym stands.members_are)
+    ∙ ap (λ o. refusal_at o wait.NoTask (wait_rows_at b.limits (done_of h) (is_some (least (signal_phases reg.members))) n)) found
+    ∙ ap (λ d. first_row (wait_rows_at b.limits d (is_some (least (signal_phases reg.members))) n e)) (sym done)
+    ∙ ap (λ s. first_row (wait_rows_at b.limits b.done s n e)) (sym has)
+    ∙ sym row in
+    (is, ap (λ o. refused_or o (got_block_at h (wait_phase h task) n)) is ∙ ap (λ q. refused_or r (got_block_at h q n)) phase)
+
+pub got_block_values : (h : History) (w n done : ℕ) → done ≡ done_of h → w < done → got_block_at h w n ≡ got_block.Values w (min n (done - w))
+got_block_values h w n done is complete =
+    ap (λ b. cond b (got_block.Values w (min n (done_of h - w))) got_block.Ended) (lt-ltb w (done_of h) (omega arith))
+    ∙ ap (λ d. got_block.Values w (min n (d - w))) (sym is)
+
+pub got_block_ended : (h : History) (w n done : ℕ) → done ≡ done_of h → done ≤ w → got_block_at h w n ≡ got_block.Ended
+got_block_ended h w n done is past =
+    ap (λ b. cond b (got_block.Values w (min n (done_of h - w))) got_block.Ended) (le-ltb w (done_of h) (omega arith))
+
+-- ---- the values
+
+map-same : {X : Type 0} (f g : ℕ → X) (a n : ℕ) → ((p : ℕ) → a ≤ p → p < a + n → f p ≡ g p) → map f (range_with_len a n) ≡ map g (range_with_len a n)
+map-same f g a zero same = refl
+map-same f g a (suc n) same =
+    ap (λ x. x ∷ map f (range_with_len (a + 1) n)) (same a (omega arith) (omega arith))
+    ∙ ap (λ xs. g a ∷ xs) (map-same f g (a + 1) n (λ p low high. same p (omega arith) (omega arith)))
+
+drop-map-range : {X : Type 0} (f : ℕ → X) (a n k s : ℕ) → a + k ≡ s → drop k (map f (range_with_len a n)) ≡ map f (range_with_len s (n - k))
+drop-map-range f a n zero s e = ap (λ m. map f (range_with_len a m)) (let z : n ≡ n - 0 = omega arith in z) ∙ ap (λ q. map f (range_with_len q (n - 0))) (let t : a ≡ s = omega arith in t)
+drop-map-range f a zero (suc k) s e = ap (λ m. map f (range_with_len s m)) (let z : 0 ≡ 0 - suc k = omega arith in z)
+drop-map-range f a (suc n) (suc k) s e = drop-map-range f (a + 1) n k s (omega arith) ∙ ap (λ m. map f (range_with_len s m)) (let z : n - k ≡ suc n - suc k = omega arith in z)
+
+pub values_are : {A : Type 0} (op : Operation A) (laws : AccumulateLaws op) (reg : Roster) (b : Board A) (h : History) (phase count : ℕ)
+    → IsBoarded op reg.members b.ring b.limits.bound b.done b.top → StandsFor op (core_of reg b) h → b.ring.base ≤ phase → phase + count ≤ b.done
+    → block_values op b.ring phase count ≡ slice_range (stream_of op.value h) phase (phase + count)
+values_are op laws reg b h phase count boarded stands low complete =
+    let d = done_of_boarded op reg b h stands boarded in
+    let long = boarded.kept.long in
+    let up = boarded.kept.top_bound in
+    let below = boarded.kept.done_top in
+    let each : (p : ℕ) → phase ≤ p → p < phase + count → value_at op b.ring p ≡ value_of_phase op.value h p = λ p from to.
+    (let slot = slot_at-some b.ring p (record { low = omega arith; high = omega arith }) in
+    let keeps = slot_keeps op reg b.limits b.ring b.done b.top p h slot.0 stands boarded (omega arith) slot.1 in
+    ap (value_in op) slot.1 ∙ kept_value op laws (sent_of slot.0) h p keeps) in
+    map-same (value_at op b.ring) (value_of_phase op.value h) phase count each
+    ∙ sym (take-map-range_with_len (value_of_phase op.value h) phase (done_of h - phase) count (omega arith))
+    ∙ sym (ap (take count) (drop-map-range (value_of_phase op.value h) 0 (done_of h) phase phase (omega arith)))
+    ∙ ap (λ k. take k (drop phase (stream_of op.value h))) (let e : count ≡ phase + count - phase = omega arith in e)
+
+pub few_by : {A : Type 0} (op : Operation A) (reg : Roster) (b : Board A) (task n : ℕ) (e : Entry) → IsBoarded op reg.members b.ring b.limits.bound b.done b.top
+    → entry_of reg.members task ≡ Some e → length reg.members ≤ MEMBERS_MAX → mode_waits e.mode ≡ true → 0 < n → standing b.ring Waiter (e.wait_phase + n) < MEMBERS_MAX
+few_by op reg b task n e boarded found few waits some =
+    let at = waiter-counted reg.members task e found waits in
+    let here = boarded.waiters_are e.wait_phase in
+    let next = boarded.waiters_are (e.wait_phase + n) in
+    let two = two_counts (wait_phases reg.members) e.wait_phase (e.wait_phase + n) (λ q. omega arith) in
+    let most = wait_phases-few reg.members in
+    omega arith

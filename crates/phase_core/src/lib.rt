@@ -3,6 +3,7 @@
 //! The first calls are `PhaserCore::new`, `PhaserCore::signal` and `PhaserCore::wait`.
 #![tactic(auto)]
 
+mod list_refusals;
 mod members;
 mod phaser_core;
 mod refusal_rows;

@@ -1,9 +1,9 @@
 //! Tasks that join a phaser and leave it.
-ghost use Rattle.std.specs.Prelude.{◌≡◌, ◌≢◌, ◌↔◌, ◌∷◌, Some, None, Err, IsOk, IsSome, OnOk, OnErr, IfErr};
+ghost use Rattle.std.specs.Prelude.{◌≡◌, ◌≢◌, ◌↔◌, ◌∷◌, Some, None, Err, IsOk, IsSome, OnOk, OnErr, IfOk, IfErr};
 ghost use Rattle.phase_base.specs.Members.{entry_of};
-ghost use Rattle.phase_history.specs.declared.event.Event.TheVariants.{Registered, Dropped};
-ghost use Rattle.phase_history.specs.Histories.{History};
-ghost use Rattle.phase_history.specs.Refusals.{register_refusal};
+ghost use Rattle.phase_history.specs.declared.event.Event.TheVariants.{Registered, RegisteredNow, Dropped};
+ghost use Rattle.phase_history.specs.Histories.{History, done_of};
+ghost use Rattle.phase_history.specs.Refusals.{register_refusal, register_now_refusal};
 ghost use Rattle.phase_core.specs.Cores.{StandsFor};
 ghost use Rattle.phase_core.specs.Additions.{refusal_of_add};
 
@@ -64,6 +64,43 @@ impl<A: Accumulate> PhaserCore<A> {
         }
         self.board.register(Entry { mode, ..entry });
         Ok(())
+    }
+
+    /// Registers the task `child` as a waiter at the first phase that is not complete, and answers
+    /// that phase. Its refusals are those of `register` for the mode `Wait`.
+    ///
+    /// It may take memory, which it asks for last.
+    pub fn register_now(&mut self, parent: u64, child: u64) -> Result<u64, RegisterRefusal>
+        ensures ok { IfOk result (λ phase. (h : History) → StandsFor A.operation self.old h
+            → (register_now_refusal h parent child ≡ None) × (phase ≡ done_of h)) }
+        ensures refused { IfErr result (λ e. e ≢ RegisterRefusal.OutOfMemory
+            → (h : History) → StandsFor A.operation self.old h
+            → register_now_refusal h parent child ≡ Some e) }
+        // Want of memory is answered last: only where the registration is accepted.
+        ensures out_of_memory { IfErr result (λ e. e ≡ RegisterRefusal.OutOfMemory
+            → (h : History) → StandsFor A.operation self.old h
+            → register_now_refusal h parent child ≡ None) }
+        ensures after { OnOk result ((h : History) → StandsFor A.operation self.old h
+            → StandsFor A.operation self.new (RegisteredNow parent child ∷ h)) }
+
+        ensures limits { self.new.limits ≡ self.old.limits }
+        ensures err { OnErr result (self.new ≡ self.old) }
+    {
+        let Some(entry) = self.registry.get(parent) else {
+            return Err(RegisterRefusal::NoTask);
+        };
+        if !entry.mode.waits() {
+            return Err(RegisterRefusal::NotAllowed);
+        }
+        let done = self.board.done;
+        let added = self
+            .registry
+            .add(child, Mode::Wait, entry.signal_phase, done);
+        if let Err(refusal) = added {
+            return Err(register_refusal_of(refusal));
+        }
+        self.board.join_now();
+        Ok(done)
     }
 
     /// Ends a task's registration. What it held and never signalled is in no phase.

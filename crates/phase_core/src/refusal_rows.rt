@@ -1,6 +1,6 @@
 //! The refusals of a signal and of a wait by a task with a given entry.
-ghost use Rattle.std.specs.Prelude.{◌≡◌, None};
-ghost use Rattle.phase_history.specs.Refusals.{first_row, plain_signal_rows, plain_wait_rows};
+ghost use Rattle.std.specs.Prelude.{◌≡◌, None, []};
+ghost use Rattle.phase_history.specs.Refusals.{first_row, signal_rows_before, phase_rows, wait_rows_at};
 ghost use Rattle.phase_core.specs.Rows.{refusal_of};
 
 use phase_accum::Single;
@@ -8,16 +8,14 @@ use phase_base::{Entry, Mode, Spec};
 use phase_history::{SignalRefusal, WaitRefusal};
 use phase_ring::MergeRefusal;
 
-/// The first refusal of a plain signal that does not look into its phase, in the order of the
-/// table. `slowest` is the least wait phase of the waiters.
-pub fn signal_refusal(
+/// The first refusal of a signal of so many phases that does not look at its phases.
+pub fn block_refusal(
     spec: Spec,
-    slowest: Option<u64>,
+    phases: u64,
     single: &Option<Single>,
     entry: Entry,
 ) -> Option<SignalRefusal>
-    // A signal of no send meets no refusal in a phase that no signal has joined.
-    ensures { result ≡ first_row (plain_signal_rows spec slowest 0 None 0 single.now entry) }
+    ensures { result ≡ first_row (signal_rows_before spec phases single.now entry []) }
 {
     if !entry.mode.signals() {
         return Some(SignalRefusal::NoSignal);
@@ -25,6 +23,16 @@ pub fn signal_refusal(
     if single.is_some() && entry.mode != Mode::Single {
         return Some(SignalRefusal::NotSingle);
     }
+    (phases == 0 || phases > spec.bound()).then_some(SignalRefusal::BadBlock)
+}
+
+/// The first refusal of a signal in the phase of the entry that does not look into the phase.
+/// `slowest` is the least wait phase of the waiters.
+pub fn early_refusal(spec: Spec, slowest: Option<u64>, entry: Entry) -> Option<SignalRefusal>
+    // A signal of no send meets no refusal in a phase that no signal has joined.
+    ensures { result ≡ first_row (phase_rows spec slowest 0 None 0 None entry) }
+{
+    let _bound = spec.bound();
     let phase = entry.signal_phase;
     if entry.mode.waits() && phase.checked_sub(entry.wait_phase) == Some(1) {
         return Some(SignalRefusal::SignalTwice);
@@ -46,20 +54,25 @@ pub fn phase_refusal(refusal: MergeRefusal) -> SignalRefusal
     }
 }
 
-/// The first refusal of a plain wait, in the order of the table. `done` is the first phase that is
-/// not complete.
-pub fn wait_refusal(spec: Spec, done: u64, has_signaller: bool, entry: Entry) -> Option<WaitRefusal>
-    ensures { result ≡ first_row (plain_wait_rows spec done has_signaller entry) }
+/// The first refusal of a wait for at most so many phases, in the order of the table. `done` is the
+/// first phase that is not complete.
+pub fn wait_refusal(
+    spec: Spec,
+    done: u64,
+    has_signaller: bool,
+    phases: u64,
+    entry: Entry,
+) -> Option<WaitRefusal>
+    ensures { result ≡ first_row (wait_rows_at spec done has_signaller phases entry) }
 {
-    let _bound = spec.bound();
     if !entry.mode.waits() {
         return Some(WaitRefusal::NoWait);
+    }
+    if phases == 0 || phases > spec.bound() {
+        return Some(WaitRefusal::BadBlock);
     }
     if entry.mode.signals() && entry.signal_phase == entry.wait_phase {
         return Some(WaitRefusal::SignalFirst);
     }
-    if done <= entry.wait_phase && has_signaller {
-        return Some(WaitRefusal::NotYet);
-    }
-    None
+    (done <= entry.wait_phase && has_signaller).then_some(WaitRefusal::NotYet)
 }

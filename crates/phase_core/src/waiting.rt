@@ -1,15 +1,17 @@
-//! A wait on a phaser.
-ghost use Rattle.std.specs.Prelude.{◌≡◌, ℕ, OnErr, Ok};
+//! Waits on a phaser, for one phase and for phases in a row.
+ghost use Rattle.std.specs.Prelude.{◌≡◌, ℕ, OnErr, Ok, length};
 ghost use Rattle.phase_accum.specs.declared.outcome.Outcome.{Outcome};
 ghost use Rattle.phase_accum.specs.Values.{IsInRange};
 ghost use Rattle.phase_history.specs.Histories.{History};
-ghost use Rattle.phase_history.specs.Replies.{wait_reply, after_wait};
+ghost use Rattle.phase_history.specs.Phases.{stream_of};
+ghost use Rattle.phase_history.specs.Replies.{wait_reply, after_wait, wait_block_reply, after_wait_block};
 ghost use Rattle.phase_core.specs.Cores.{StandsFor};
+ghost use Rattle.phase_core.specs.Blocks.{written};
 
 use crate::phaser_core::PhaserCore;
 use crate::refusal_rows;
-use phase_accum::Accumulate;
-use phase_history::{Got, WaitRefusal};
+use phase_accum::{Accumulate, Outcome};
+use phase_history::{Got, GotBlock, WaitRefusal};
 
 impl<A: Accumulate> PhaserCore<A> {
     /// Waits for the task's phase, and answers it with its value, or that no more will come. It
@@ -34,7 +36,7 @@ impl<A: Accumulate> PhaserCore<A> {
         let done = self.board.done;
         let has_signaller = self.has_signaller();
         let limits = self.board.limits;
-        if let Some(refusal) = refusal_rows::wait_refusal(limits, done, has_signaller, entry) {
+        if let Some(refusal) = refusal_rows::wait_refusal(limits, done, has_signaller, 1, entry) {
             return Err(refusal);
         }
         let phase = entry.wait_phase;
@@ -42,7 +44,48 @@ impl<A: Accumulate> PhaserCore<A> {
             return Ok(Got::Ended);
         }
         let outcome = self.board.wait(phase);
-        self.registry.waited(task);
+        self.registry.waited(task, 1);
         Ok(Got::Value { phase, outcome })
+    }
+
+    /// Waits for the task's phase and those behind it that are complete, as many as there are
+    /// places, and writes their values; or answers that no more will come. The places behind the
+    /// values stay. It never blocks, and takes no memory.
+    pub fn wait_block(&mut self, task: u64, out: &mut [Outcome]) -> Result<GotBlock, WaitRefusal>
+        ensures reply { (h : History) → StandsFor A.operation self.old h
+            → wait_block_reply self.old.limits h task (length out.old) ≡ result }
+        ensures after { (h : History) → StandsFor A.operation self.old h
+            → StandsFor A.operation self.new (after_wait_block result task h) }
+        ensures out { (h : History) → StandsFor A.operation self.old h
+            → out.new ≡ written result (stream_of A.operation.value h) out.old }
+
+        ensures limits { self.new.limits ≡ self.old.limits }
+        ensures err { OnErr result (self.new ≡ self.old) }
+    {
+        let Some(entry) = self.registry.get(task) else {
+            return Err(WaitRefusal::NoTask);
+        };
+        if !entry.mode.waits() {
+            return Err(WaitRefusal::NoWait);
+        }
+        let done = self.board.done;
+        let has_signaller = self.has_signaller();
+        let limits = self.board.limits;
+        let asked = out.len();
+        let refusal = refusal_rows::wait_refusal(limits, done, has_signaller, asked as u64, entry);
+        if let Some(refusal) = refusal {
+            return Err(refusal);
+        }
+        let phase = entry.wait_phase;
+        if done <= phase {
+            return Ok(GotBlock::Ended);
+        }
+        let count = asked.min((done - phase) as usize);
+        self.board.wait_block(phase, count, out);
+        self.registry.waited(task, count as u64);
+        Ok(GotBlock::Values {
+            phase,
+            count: count as u64,
+        })
     }
 }

@@ -35,13 +35,13 @@ changed_at-twice task n (m ∷ ms) =
 
 -- ---- the lists of a phase
 
-list_in_phase-below : (lists : List (List ℤ)) (s p : ℕ) → p < s → list_in_phase lists s p ≡ []
+pub list_in_phase-below : (lists : List (List ℤ)) (s p : ℕ) → p < s → list_in_phase lists s p ≡ []
 list_in_phase-below [] s p below = refl
 list_in_phase-below (sends ∷ lists) s p below =
     ap (λ b. cond b sends (list_in_phase lists (s + 1) p)) (ne_eqb s p (λ e. omega arith))
     ∙ list_in_phase-below lists (s + 1) p (omega arith)
 
-list_in_phase-first : (sends : List ℤ) (lists : List (List ℤ)) (s p : ℕ)
+pub list_in_phase-first : (sends : List ℤ) (lists : List (List ℤ)) (s p : ℕ)
     → list_in_phase (sends ∷ lists) s p ≡ list_in_phase (sends ∷ []) s p ++ list_in_phase lists (s + 1) p
 list_in_phase-first sends lists s p =
     elim (eqb s p) as (λ b. (eqb s p ≡ b)
@@ -54,13 +54,13 @@ list_in_phase-first sends lists s p =
 
 -- ---- the name of a phase's first signal
 
-first_named-twice : (named : Option (Option Single)) (a b : Bool) (single : Option Single)
+pub first_named-twice : (named : Option (Option Single)) (a b : Bool) (single : Option Single)
     → first_named named (a || b) single ≡ first_named (first_named named a single) b single
 first_named-twice (Some named) a b single = refl
 first_named-twice None true b single = refl
 first_named-twice None false b single = refl
 
-is_among-below : (s k n p : ℕ) → p < s → s ≤ k → is_among k n p ≡ false
+pub is_among-below : (s k n p : ℕ) → p < s → s ≤ k → is_among k n p ≡ false
 is_among-below s k n p below up = ap (λ b. b && ltb p (k + n)) (lt-leb k p (omega arith))
 
 is_among-past : (s n p : ℕ) → s < p → is_among s (suc n) p ≡ (is_among s 1 p || is_among (s + 1) n p)
@@ -78,7 +78,7 @@ is_among-at s n p from here =
     ap (λ b. b && ltb p (s + suc n)) from_is ∙ lt-ltb p (s + suc n) (omega arith)
     ∙ sym (ap (λ b. b || is_among (s + 1) n p) first_in)
 
-is_among-first : (s n p : ℕ) → is_among s (suc n) p ≡ (is_among s 1 p || is_among (s + 1) n p)
+pub is_among-first : (s n p : ℕ) → is_among s (suc n) p ≡ (is_among s 1 p || is_among (s + 1) n p)
 is_among-first s n p =
     ⊎_elim (λ below.
     is_among-below s s (suc n) p below (omega arith)

@@ -1,6 +1,6 @@
 -- What each task that began in a mode that waits has received, also after it has left.
 use Rattle.std.proofs.Common.{◌≡◌, ℕ, ◌+◌, ◌-◌, ◌<◌, ◌≤◌, true, false, cond, eqb, List, [], ◌∷◌, ◌++◌, Some, None, ℤ, length, take, drop, refl, sym, ap, subst, ◌∙◌, arith}
-use Rattle.std.proofs.lemmas.List.{take-append-le, drop-append-le, length-drop}
+use Rattle.std.proofs.lemmas.List.{take-append-le, drop-append-le, length-drop, length-append, length-take-le}
 use Rattle.std.proofs.lemmas.List.FromFn.{length-map-range_with_len}
 use Rattle.std.proofs.lemmas.Option.{same_Some}
 use Rattle.std.proofs.lemmas.Bool.{eqb-true}
@@ -14,7 +14,7 @@ use Rattle.phase_history.specs.declared.event.Event.{Event}
 use Rattle.phase_history.specs.declared.event.Event.TheVariants.{Made, Registered, RegisteredNow, Signalled, Waited, Dropped}
 use Rattle.phase_base.specs.Members.{entry_of, waited}
 use Rattle.phase_history.specs.Histories.{History, members_of, done_of, top_of, founder, entry_at, signal_phase, wait_phase, greatest_used, start_of, phases_waited}
-use Rattle.phase_history.specs.Phases.{stream_of, received_by}
+use Rattle.phase_history.specs.Phases.{value_of_phase, stream_of, received_by}
 use Rattle.phase_history.specs.Legal.{IsLegal}
 use Rattle.phase_history.specs.Laws.{HasReceivedFrom}
 use Rattle.phase_history.proofs.MemberLemmas.{Each-entry, entry_of-changed_same, entry_of-push_new}
@@ -147,3 +147,44 @@ received_law value limits h task start legal start_is waits =
       complete = g.complete;
       received = g.received ∙ ap (λ k. take k (drop start.wait_phase (stream_of value h))) (sym count);
     }
+
+-- ---- how much each task has received
+
+-- as many values as phases that it waited for, all of which were complete
+pub length-received : (value : List ℤ → Outcome) (limits : Limits) (h : History) (task : ℕ)
+    → IsLegal limits h → length (received_by value h task) ≡ phases_waited h task
+length-received value limits [] task legal = absurd legal
+length-received value limits (Made founding ∷ before) task legal =
+    let P : History → Type 0 = λ b. length (received_by value b task) ≡ phases_waited b task in
+    subst P (sym legal.1) refl
+length-received value limits (Registered parent child mode ∷ before) task legal =
+    length-received value limits before task legal.0
+length-received value limits (RegisteredNow parent child ∷ before) task legal =
+    length-received value limits before task legal.0
+length-received value limits (Signalled signaller lists single ∷ before) task legal =
+    length-received value limits before task legal.0
+length-received value limits (Dropped gone ∷ before) task legal =
+    length-received value limits before task legal.0
+length-received value limits (Waited waiter n ∷ before) task legal =
+    let w = wait_phase before task in
+    let xs = stream_of value before in
+    let got = received_by value before task in
+    let earlier : length got ≡ phases_waited before task =
+    length-received value limits before task legal.0 in
+    elim (eqb waiter task) as (λ b. (eqb waiter task ≡ b)
+    → length (cond b (got ++ take n (drop w xs)) got)
+    ≡ cond b (phases_waited before task + n) (phases_waited before task)) [
+      | true ↦ λ t.
+          let at : wait_phase before waiter ≡ w =
+          ap (λ m. wait_phase before m) (eqb-true waiter task t) in
+          let complete : wait_phase before waiter + n ≤ done_of before = legal.1.1 in
+          let long : length xs ≡ done_of before =
+          length-map-range_with_len (value_of_phase value before) 0 (done_of before) in
+          let rest : length (drop w xs) ≡ length xs - w = length-drop w xs in
+          let whole : length (take n (drop w xs)) ≡ n =
+          length-take-le n (drop w xs) (omega arith) in
+          let both : length (got ++ take n (drop w xs)) ≡ length got + length (take n (drop w xs)) =
+          length-append got (take n (drop w xs)) in
+          omega arith
+      | false ↦ λ t. earlier
+    ] refl

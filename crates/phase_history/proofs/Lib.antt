@@ -17,6 +17,8 @@ pub mod Used
 pub mod Descent
 pub mod Answered
 pub mod Gathered
+pub mod OneSender
+pub mod Sendable
 pub mod Sendings
 pub mod Signallers
 pub mod InRange

@@ -1,6 +1,6 @@
 -- Who holds a phase open, and who reached the top.
 use Rattle.std.proofs.Common.{◌≡◌, ℕ, ◌+◌, ◌<◌, ◌≤◌, true, false, cond, eqb, List, [], ◌∷◌, ◌++◌, Option, Some, None, ℤ, length, max, unwrap_or, refl, sym, ap, subst, ◌∙◌, arith, ◌⊎◌, inl, inr}
-use Rattle.std.specs.Prelude.{is_some}
+use Rattle.std.specs.Prelude.{is_some, IsSome}
 use Rattle.std.proofs.lemmas.Bool.{eqb-true, ne_eqb, eq-eqb, cases_lt}
 use Rattle.std.proofs.lemmas.Option.{same_Some}
 use Rattle.phase_base.specs.Limits.{Limits}
@@ -10,9 +10,10 @@ use Rattle.phase_base.specs.declared.entry.Entry.{Entry}
 use Rattle.phase_accum.specs.declared.outcome.Outcome.{Outcome}
 use Rattle.phase_accum.specs.declared.outcome.Outcome.TheVariants.{Empty}
 use Rattle.phase_history.specs.declared.event.Event.TheVariants.{Made, Registered, RegisteredNow, Signalled, Waited, Dropped}
-use Rattle.phase_base.specs.Members.{entry_of, changed_at, without, least, signalled, waited}
+use Rattle.phase_base.specs.Members.{Members, entry_of, signal_phases, changed_at, without, least, signalled, waited}
 use Rattle.phase_history.specs.Histories.{History, positions_of, members_of, signal_phase, wait_phase, done_of, top_of, greatest_used, start_of, founder, entry_at, phases_signalled, has_dropped, HasNoSignaller}
 use Rattle.phase_history.specs.Legal.{IsLegal}
+use Rattle.phase_history.specs.Others.{IsUsed}
 use Rattle.phase_history.proofs.Each.{Each, Each-of_picked}
 use Rattle.phase_history.proofs.Refused.{Registers, registers_from, SignalsNow, signals_from, WaitsNow, waits_from}
 use Rattle.phase_history.proofs.Steps.{StandsWell, IsSound, sound_of, member_entry_is, done_low}
@@ -274,3 +275,19 @@ pub mode_of_start : (limits : Limits) (h : History) (task : ℕ) (start entry : 
 mode_of_start limits h task start entry legal is found =
     let b = began limits h task entry legal found in
     sym b.2 ∙ ap (λ (x : Entry). x.mode) (same_Some _ _ (sym b.1 ∙ is))
+
+-- ---- where all have left
+
+-- where each task that was used has dropped, no task is registered, and none signals
+pub quiet_from : (limits : Limits) (h : History) → IsLegal limits h
+    → ((n : ℕ) → IsUsed h n → has_dropped h n ≡ true) → HasNoSignaller h
+quiet_from limits h legal gone = ap signal_phases (none (members_of h) refl)
+  where
+    none : (ms : Members) → members_of h ≡ ms → members_of h ≡ []
+    none [] e = e
+    none (m ∷ ms) e =
+        let here : eqb m.0 m.0 ≡ true = eq-eqb m.0 m.0 refl in
+        let found : entry_of (m ∷ ms) m.0 ≡ Some m.1 = rw here refl in
+        let A : Members → Type 0 = λ l. IsSome (entry_of l m.0) in
+        let alive = (alive_law limits h m.0 legal).0 (subst A (sym e) (ap is_some found)) in
+        absurd (let f : true ≡ false = sym (gone m.0 alive.0) ∙ alive.1 in cc)

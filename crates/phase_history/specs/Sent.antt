@@ -1,5 +1,5 @@
 -- What one task has sent on a phaser, and what some tasks together have sent in a phase.
-use Rattle.std.specs.Prelude.{◌≡◌, ℕ, ◌+◌, ℤ, List, [], ◌∷◌, ◌++◌, Option, Some, false, if◌then◌else◌, ◌==◌}
+use Rattle.std.specs.Prelude.{◌≡◌, ◌≢◌, ℕ, ◌+◌, ℤ, List, [], ◌∷◌, ◌++◌, Option, Some, true, false, if◌then◌else◌, ◌==◌}
 use Rattle.phase_base.specs.declared.entry.Entry.{Entry}
 use Rattle.phase_accum.specs.declared.single.Single.{Single}
 use Rattle.phase_history.specs.declared.event.Event.TheVariants.{Signalled}
@@ -31,6 +31,11 @@ gathered h (task ∷ tasks) p = sent_in h task p ++ gathered h tasks p
 -- no task but these has signalled
 abbrev pub OnlySignalled : List ℕ → History → Type 0
 OnlySignalled tasks h = (task : ℕ) → is_in task tasks ≡ false → phases_signalled h task ≡ 0
+
+-- at most one of these tasks has sent in phase p
+abbrev pub OneHasSent : History → List ℕ → ℕ → Type 0
+OneHasSent h tasks p = (a b : ℕ) → is_in a tasks ≡ true → is_in b tasks ≡ true
+    → sent_in h a p ≢ [] → sent_in h b p ≢ [] → a ≡ b
 
 -- every signal names the same: this single, or none where it is None
 abbrev pub NamesAll : Option Single → History → Type 0

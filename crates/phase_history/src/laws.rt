@@ -11,8 +11,8 @@ ghost use Rattle.phase_accum.specs.Values.{IsInRange};
 ghost use Rattle.phase_base.specs.Members.{entry_of, wait_phases, least};
 ghost use Rattle.phase_history.specs.Histories.{History, IsBeginning, IsWaiter, HasNoSignaller};
 ghost use Rattle.phase_history.specs.Histories.{members_of, top_of, done_of, greatest_used};
-ghost use Rattle.phase_history.specs.Histories.{IsAlive, start_of, has_dropped};
-ghost use Rattle.phase_history.specs.Phases.{stream_of};
+ghost use Rattle.phase_history.specs.Histories.{IsAlive, start_of, has_dropped, phases_waited};
+ghost use Rattle.phase_history.specs.Phases.{received_by, stream_of};
 ghost use Rattle.phase_history.specs.Legal.{IsLegal};
 ghost use Rattle.phase_history.specs.Laws.{HasReceived, HasReceivedFrom, HasCounted, HasNoEvents, IsInTurn, IsAnswered};
 ghost use Rattle.phase_history.specs.Laws.{GoesOn, GoesOnPlainly};
@@ -31,8 +31,8 @@ pub use others::{
 };
 use phase_accum::Accumulate;
 pub use sent::{
-    all_dropped, each_phase_is_named, holds_open, mode_stays, one_sender, sends_are_gathered,
-    sent_in_turn, sent_stays, top_is_reached, unused_is_silent,
+    all_dropped, all_left, each_phase_is_named, gathered_alone, holds_open, mode_stays, one_sender,
+    sends_are_gathered, sent_are_lists, sent_in_turn, sent_stays, top_is_reached, unused_is_silent,
 };
 
 /// Under an accumulator each value of the stream is in range, and so is what a wait is answered:
@@ -59,6 +59,12 @@ pub fn received()
     ensures { (value : List ℤ → Outcome) (limits : Limits) (h : History) (task : ℕ) (start : Entry)
         → IsLegal limits h → start_of h task ≡ Some start → mode_waits start.mode ≡ true
         → HasReceivedFrom value h task start }
+{}
+
+/// A task has received as many values as there are phases that it waited for.
+pub fn received_are_counted()
+    ensures { (value : List ℤ → Outcome) (limits : Limits) (h : History) (task : ℕ)
+        → IsLegal limits h → length (received_by value h task) ≡ phases_waited h task }
 {}
 
 /// The stream of a longer history begins with this one's: no complete phase ever changes.

@@ -156,29 +156,29 @@ impl Registry {
         true
     }
 
-    /// Counts one more signalled phase of a task.
-    pub fn signalled(&mut self, number: u64)
+    /// Counts so many more signalled phases of a task.
+    pub fn signalled(&mut self, number: u64, phases: u64)
         requires member { IsSome (entry_of self.old.members number) }
         requires below { IfSome (entry_of self.old.members number)
-            (λ entry. entry.signal_phase + 1 < 2 ^ 64) }
+            (λ entry. entry.signal_phase + phases < 2 ^ 64) }
         ensures { self.new
-            ≡ roster (changed_at number (signalled 1) self.old.members) self.old.greatest }
+            ≡ roster (changed_at number (signalled phases) self.old.members) self.old.greatest }
     {
         if let Ok(place) = self.search(number) {
-            self.members[place].1.signal_phase += 1;
+            self.members[place].1.signal_phase += phases;
         }
     }
 
-    /// Counts one more phase that a task waited for.
-    pub fn waited(&mut self, number: u64)
+    /// Counts so many more phases that a task waited for.
+    pub fn waited(&mut self, number: u64, phases: u64)
         requires member { IsSome (entry_of self.old.members number) }
         requires below { IfSome (entry_of self.old.members number)
-            (λ entry. entry.wait_phase + 1 < 2 ^ 64) }
+            (λ entry. entry.wait_phase + phases < 2 ^ 64) }
         ensures { self.new
-            ≡ roster (changed_at number (waited 1) self.old.members) self.old.greatest }
+            ≡ roster (changed_at number (waited phases) self.old.members) self.old.greatest }
     {
         if let Ok(place) = self.search(number) {
-            self.members[place].1.wait_phase += 1;
+            self.members[place].1.wait_phase += phases;
         }
     }
 

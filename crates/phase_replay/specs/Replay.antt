@@ -5,8 +5,8 @@ use Rattle.std.specs.declared.option.Option.{Option}
 use Rattle.watched_io.specs.Prefix.{AppendsPrefix}
 use Rattle.watched_io.specs.States.{Gives, ReaderState, ReadsTooMuch, ReadsWithin, WriterState}
 use Rattle.phase_replay.specs.Replies.{replies_of}
-use Rattle.phase_replay.specs.declared.fault.ReplayFault.{ReplayFault}
-use Rattle.phase_replay.specs.declared.fault.ReplayFault.TheVariants.{ReadFault, WriteFault, OutOfMemory}
+use Rattle.watched_io.specs.declared.fault.IoFault.{IoFault}
+use Rattle.watched_io.specs.declared.fault.IoFault.TheVariants.{ReadFault, WriteFault, OutOfMemory}
 use Rattle.phase_replay.specs.declared.whole.TheConstants.{SCRIPT_MAX, PIECE_MAX}
 
 -- the bytes, or none where they are not known
@@ -49,7 +49,7 @@ pub record ReplaysPrefix (old new : ReaderState) (before after : WriterState) : 
 
 -- the fault has its cause: a read failed or the script is too long; a write failed; memory ran out,
 -- with no more read than a script may have; and nothing else failed
-abbrev pub HasCause : ReplayFault → ReaderState → ReaderState → WriterState → WriterState → Type 0
+abbrev pub HasCause : IoFault → ReaderState → ReaderState → WriterState → WriterState → Type 0
 HasCause ReadFault old new before after =
     ((new.failed ≡ true) ⊎ ReadsTooMuch SCRIPT_MAX PIECE_MAX old new)
     × (after.failed ≡ before.failed)

@@ -3,8 +3,8 @@ use Rattle.std.specs.Prelude.{◌≡◌, ℕ, Bool, List, ◌++◌, take, true, 
 use Rattle.std.specs.Io.KnownBytes.{Appends}
 use Rattle.std.specs.declared.option.Option.{Option}
 use Rattle.std.specs.declared.result.Result.{Result}
-use Rattle.phase_replay.specs.declared.fault.ReplayFault.{ReplayFault}
-use Rattle.phase_replay.specs.declared.fault.ReplayFault.TheVariants.{ReadFault, WriteFault, OutOfMemory}
+use Rattle.watched_io.specs.declared.fault.IoFault.{IoFault}
+use Rattle.watched_io.specs.declared.fault.IoFault.TheVariants.{ReadFault, WriteFault, OutOfMemory}
 use Rattle.phase_script.specs.Lines.{lines_after}
 use Rattle.phase_replay.specs.Replies.{replies}
 use Rattle.phase_session.specs.Scripts.{ScriptState}
@@ -33,12 +33,12 @@ pub record Goes (old new : Option (List ℕ)) (replayer : Replayer) (later owed 
   pub owes : Owes replayer later rest
 
 -- the note of a failed write, before and after, at a fault of a call that writes and reads nothing
-abbrev pub FaultIsNoted : ReplayFault → Bool → Bool → Type 0
+abbrev pub FaultIsNoted : IoFault → Bool → Bool → Type 0
 FaultIsNoted ReadFault old new = ⊥
 FaultIsNoted WriteFault old new = new ≡ true
 FaultIsNoted OutOfMemory old new = new ≡ old
 
 -- the same at each answer
-abbrev pub IsNoted : {A : Type 0} → Result A ReplayFault → Bool → Bool → Type 0
+abbrev pub IsNoted : {A : Type 0} → Result A IoFault → Bool → Bool → Type 0
 IsNoted (Ok _) old new = new ≡ old
 IsNoted (Err fault) old new = FaultIsNoted fault old new

@@ -4,14 +4,12 @@
 //! after the other. A line gives a command where `read` reads it.
 #![tactic(auto)]
 
-mod fault;
 mod kept;
 pub mod laws;
 mod replayer;
 mod whole;
 
-pub use fault::ReplayFault;
-pub use phase_script::{Command, Operator, Refusal, Reply, ReplyLine, line, read};
+pub use phase_script::{Command, Op, Refusal, Reply, ReplyLine, line, read};
 pub use phase_session::Session;
-pub use watched_io::{ReadFailed, Watched, WriteFailed};
+pub use watched_io::{IoFault as ReplayFault, ReadFailed, Watched, WriteFailed};
 pub use whole::{PIECE_MAX, SCRIPT_MAX, replay};

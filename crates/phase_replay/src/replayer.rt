@@ -7,12 +7,12 @@ ghost use Rattle.watched_io.specs.Prefix.{AppendsPrefix};
 ghost use Rattle.phase_session.specs.Scripts.{ScriptState, reply_to, after_line};
 ghost use Rattle.phase_session.specs.Session.{Stands};
 
+use crate::Session;
 use crate::kept::Kept;
-use crate::{ReplayFault, Session};
 use phase_script::{lf_of, without_cr};
 use std::alloc::{AllocError, Global};
 use std::io::Write;
-use watched_io::{Watched, WriteFailed};
+use watched_io::{IoFault, Watched, WriteFailed};
 
 // As soon as so many bytes of replies wait, they go to the writer.
 const OUT_MAX: usize = 65536;
@@ -100,7 +100,7 @@ impl Replayer {
 
     // Hands over the replies that wait, where memory ran out for the next one, and gives the fault
     // to tell: a write that fails then is told in place of the want of memory.
-    fn stop<W: Write>(&self, writer: &mut Watched<W>) -> ReplayFault
+    fn stop<W: Write>(&self, writer: &mut Watched<W>) -> IoFault
         ensures prefix { (before : Replayer) (later owed : List ℕ) → Owes before later owed
             → waiting_of self.now ≡ waiting_of before
             → AppendsPrefix (W.contents (inner_of writer.old)) (W.contents (inner_of writer.new))
@@ -108,8 +108,8 @@ impl Replayer {
         ensures noted { FaultIsNoted result (has_failed_of writer.old) (has_failed_of writer.new) }
     {
         match writer.send(self.out.as_slice()) {
-            Ok(()) => ReplayFault::OutOfMemory,
-            Err(_) => ReplayFault::WriteFault,
+            Ok(()) => IoFault::OutOfMemory,
+            Err(_) => IoFault::WriteFault,
         }
     }
 
@@ -134,11 +134,7 @@ impl Replayer {
     }
 
     /// Reads a piece of the script, and hands replies over as they grow many.
-    pub fn piece<W: Write>(
-        &mut self,
-        piece: &[u8],
-        writer: &mut Watched<W>,
-    ) -> Result<(), ReplayFault>
+    pub fn piece<W: Write>(&mut self, piece: &[u8], writer: &mut Watched<W>) -> Result<(), IoFault>
         ensures ok { OnOk result ((later owed : List ℕ) → Owes self.old (piece.now ++ later) owed
             → Goes (W.contents (inner_of writer.old)) (W.contents (inner_of writer.new))
             self.new later owed) }
@@ -176,7 +172,7 @@ impl Replayer {
     }
 
     /// Ends the script, and hands over the replies that are left.
-    pub fn finish<W: Write>(&mut self, writer: &mut Watched<W>) -> Result<(), ReplayFault>
+    pub fn finish<W: Write>(&mut self, writer: &mut Watched<W>) -> Result<(), IoFault>
         ensures ok { OnOk result ((owed : List ℕ) → Owes self.old [] owed
             → Appends (W.contents (inner_of writer.old)) (W.contents (inner_of writer.new)) owed) }
 

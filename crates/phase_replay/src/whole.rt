@@ -9,11 +9,10 @@ ghost use Rattle.phase_replay.specs.Reading.{StopsReading};
 ghost use Rattle.phase_replay.specs.Replay.{HasCause, RepliesPrefix, RepliesWhole};
 ghost use Rattle.phase_replay.specs.Replay.{ReplaysAll, ReplaysPrefix};
 
-use crate::ReplayFault;
 use crate::replayer::Replayer;
 use std::alloc::Global;
 use std::io::{Read, Write};
-use watched_io::Watched;
+use watched_io::{IoFault, Watched};
 
 /// The longest script that is replayed, in bytes.
 pub const SCRIPT_MAX: usize = 1_073_741_824;
@@ -26,7 +25,7 @@ fn read_piece<R: Read>(
     reader: &mut Watched<R>,
     piece: &mut [u8],
     left: usize,
-) -> Result<usize, ReplayFault>
+) -> Result<usize, IoFault>
     ensures bound { ReadsAtMost result piece.new }
     ensures fits { IfOk result (λ n. n ≤ left) }
     ensures gives { IfOk result (λ n. Gives (reader_state R.remaining reader.old)
@@ -34,13 +33,13 @@ fn read_piece<R: Read>(
     ensures end { IfOk result (λ n. n ≡ 0 → 0 < length piece.new
         → IsAtEnd (R.remaining (inner_of reader.new))) }
     ensures kept { OnOk result (has_failed_of reader.new ≡ has_failed_of reader.old) }
-    ensures err { IfErr result (λ fault. (fault ≡ ReplayFault.ReadFault)
+    ensures err { IfErr result (λ fault. (fault ≡ IoFault.ReadFault)
         × StopsReading (reader_state R.remaining reader.old)
         (reader_state R.remaining reader.new) left (length piece.new)) }
 {
     let count = reader.read(piece)?;
     if count > left {
-        return Err(ReplayFault::ReadFault);
+        return Err(IoFault::ReadFault);
     }
     Ok(count)
 }
@@ -50,7 +49,7 @@ fn replay_pieces<R: Read, W: Write>(
     alloc: Global,
     reader: &mut Watched<R>,
     writer: &mut Watched<W>,
-) -> Result<(), ReplayFault>
+) -> Result<(), IoFault>
     ensures all { OnOk result (ReplaysAll
         (reader_state R.remaining reader.old) (reader_state R.remaining reader.new)
         (writer_state W.contents writer.old) (writer_state W.contents writer.new)) }
@@ -89,7 +88,7 @@ pub fn replay<R: Read, W: Write>(
     alloc: Global,
     reader: &mut Watched<R>,
     writer: &mut Watched<W>,
-) -> Result<(), ReplayFault>
+) -> Result<(), IoFault>
     ensures ok { OnOk result (RepliesWhole (reader_state R.remaining reader.old)
         (writer_state W.contents writer.old) (writer_state W.contents writer.new)) }
 

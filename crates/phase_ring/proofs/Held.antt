@@ -6,9 +6,11 @@ use Rattle.std.proofs.lemmas.List.Elements.{All-get_or, All-set, All-drop, All-a
 use Rattle.std.proofs.lemmas.Option.{slice_get_within, get_or_from_slice_get}
 use Rattle.circular_buffer.specs.Buffer.{keep_last}
 use Rattle.phase_accum.specs.Operations.{Operation}
+use Rattle.phase_ring.specs.declared.role.Role.{Role}
+use Rattle.phase_ring.specs.declared.role.Role.TheVariants.{Signaller, Waiter}
 use Rattle.phase_ring.specs.declared.slot.Slot.{Slot}
 use Rattle.phase_ring.specs.Rings.{IsRing}
-use Rattle.phase_ring.specs.Slots.{IsHeld}
+use Rattle.phase_ring.specs.Slots.{IsHeld, with_standing}
 
 -- the slot of each place stands for some sends
 pub IsHeld-get : {A : Type 0} (op : Operation A) (slots : List (Slot A)) (capacity place : ℕ) (slot : Slot A)
@@ -26,6 +28,11 @@ IsRing-set op slots capacity place slot r held =
       full = (let h : capacity ≡ length slots = r.full in omega arith);
       held = All-set (IsHeld op) slots place slot held r.held;
     }
+
+-- who stands there makes no difference
+pub IsHeld-standing : {A : Type 0} (op : Operation A) (role : Role) (n : ℕ) (slot : Slot A) → IsHeld op slot → IsHeld op (with_standing role n slot)
+IsHeld-standing op Signaller n slot held = held
+IsHeld-standing op Waiter n slot held = held
 
 -- one slot less in front and one more at the end are as many
 pub length-moved : {X : Type 0} (xs : List X) (y : X) → 0 < length xs → length (drop 1 xs ++ y ∷ []) ≡ length xs

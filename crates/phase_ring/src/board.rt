@@ -1,15 +1,15 @@
 //! A ring with the first phase that is not complete, and the top.
-ghost use Rattle.std.specs.Prelude.{◌≡◌, ℕ, ◌<◌, ◌≤◌, ◌+◌, ◌⊎◌, max, true, OnOk, OnErr, IfOk, IfErr, Some, None};
+ghost use Rattle.std.specs.Prelude.{◌≡◌, ℕ, ◌<◌, ◌≤◌, ◌+◌, ◌⊎◌, max, true, OnOk, OnErr, IfOk, IfErr, Some, None, [], ◌∷◌, length, drop, ◌++◌};
 ghost use Rattle.phase_ring.specs.declared.slot.Slot.{Slot};
 ghost use Rattle.phase_ring.specs.declared.role.Role.{Role};
 ghost use Rattle.phase_ring.specs.declared.role.Role.TheVariants.{Signaller, Waiter};
-ghost use Rattle.phase_ring.specs.Slots.{joined, slot_value, merge_refusal};
-ghost use Rattle.phase_ring.specs.Rings.{standing, sents, slot_at, with_slot, cleared, KeepsSlots};
+ghost use Rattle.phase_ring.specs.Slots.{slot_value};
+ghost use Rattle.phase_ring.specs.Rings.{standing, sents, slot_at, cleared, KeepsSlots};
 ghost use Rattle.phase_ring.specs.Standings.{is, other, takes_part, phase_for, counted};
 ghost use Rattle.phase_ring.specs.Boards.{IsBoard};
+ghost use Rattle.phase_ring.specs.Blocks.{block_joined, block_values, BlockFits};
 
 use crate::role::Role;
-use crate::slot::MergeRefusal;
 use crate::slot_ring::SlotRing;
 use phase_accum::{Accumulate, Outcome, Pending, Single};
 use phase_base::{Entry, MEMBERS_MAX, PHASES_MAX, Spec};
@@ -91,46 +91,88 @@ impl<A: Accumulate> Board<A> {
         }
     }
 
-    /// Joins a signal to its phase, and moves its task on to the next one. The sends are handed
-    /// back where it is refused.
-    pub fn signal(
-        &mut self,
-        phase: u64,
-        pending: Pending<A>,
-        single: Option<Single>,
-    ) -> Result<(), (MergeRefusal, Pending<A>)>
+    /// Moves a signaller on from a phase to a later one, at most the top.
+    fn go_on(&mut self, from: u64, to: u64)
+        requires kept { IsBoard A.operation self.old }
+        requires low { self.old.done ≤ from }
+        requires later { from < to }
+        requires high { to ≤ self.old.top }
+        requires stands { 0 < standing self.old.ring Signaller from }
+        requires few { standing self.old.ring Signaller to < MEMBERS_MAX }
+        ensures kept { IsBoard A.operation self.new }
+        ensures limits { self.new.limits ≡ self.old.limits }
+        ensures top { self.new.top ≡ self.old.top }
+        ensures same { sents self.new.ring ≡ sents self.old.ring }
+        ensures moved { (p : ℕ) → standing self.new.ring Signaller p + is from p
+            ≡ standing self.old.ring Signaller p + is to p }
+        ensures others { (p : ℕ)
+            → standing self.new.ring Waiter p ≡ standing self.old.ring Waiter p }
+        ensures stops { (self.new.done ≡ self.new.top)
+            ⊎ (0 < standing self.new.ring Signaller self.new.done) }
+    {
+        self.ring.leave(from, Role::Signaller);
+        self.ring.enter(to, Role::Signaller);
+        self.settle();
+    }
+
+    /// Joins a signal to its phase, which does not refuse it, and moves its task on to the next one.
+    pub fn signal(&mut self, phase: u64, pending: &Pending<A>, single: &Option<Single>)
         requires kept { IsBoard A.operation self.old }
         requires low { self.old.done ≤ phase }
         requires ahead { phase < self.old.ring.base + self.old.limits.bound }
         requires stands { 0 < standing self.old.ring Signaller phase }
         requires few { standing self.old.ring Signaller (phase + 1) < MEMBERS_MAX }
         requires far { phase < PHASES_MAX }
-        ensures kept { OnOk result (IsBoard A.operation self.new) }
+        requires fits { BlockFits self.old.ring phase (pending.now ∷ []) single.now }
+        ensures kept { IsBoard A.operation self.new }
         ensures limits { self.new.limits ≡ self.old.limits }
-        ensures top { OnOk result (self.new.top ≡ max self.old.top (phase + 1)) }
-        ensures slots { OnOk result ((slot : Slot A) → slot_at self.old.ring phase ≡ Some slot
-            → let more = joined A.operation pending single slot in
-            (merge_refusal slot pending.count single ≡ None)
-            × (sents self.new.ring ≡ sents (with_slot phase more self.old.ring))) }
-        ensures moved { OnOk result ((p : ℕ)
-            → standing self.new.ring Signaller p + is phase p
-            ≡ standing self.old.ring Signaller p + is (phase + 1) p) }
-        ensures others { OnOk result ((p : ℕ)
-            → standing self.new.ring Waiter p ≡ standing self.old.ring Waiter p) }
-        ensures stops { OnOk result ((self.new.done ≡ self.new.top)
-            ⊎ (0 < standing self.new.ring Signaller self.new.done)) }
-        ensures refused { IfErr result (λ e.
-            (slot : Slot A) → slot_at self.old.ring phase ≡ Some slot
-            → merge_refusal slot pending.count single ≡ Some e.0) }
-        ensures pending { IfErr result (λ e. e.1 ≡ pending) }
-        ensures err { OnErr result (self.new ≡ self.old) }
+        ensures top { self.new.top ≡ max self.old.top (phase + 1) }
+        ensures slots { sents self.new.ring ≡ sents
+            (block_joined A.operation phase (pending.now ∷ []) single.now self.old.ring) }
+        ensures moved { (p : ℕ) → standing self.new.ring Signaller p + is phase p
+            ≡ standing self.old.ring Signaller p + is (phase + 1) p }
+        ensures others { (p : ℕ)
+            → standing self.new.ring Waiter p ≡ standing self.old.ring Waiter p }
+        ensures base { self.new.ring.base ≡ self.old.ring.base }
+        ensures stops { (self.new.done ≡ self.new.top)
+            ⊎ (0 < standing self.new.ring Signaller self.new.done) }
     {
-        self.ring.merge(phase, pending, single)?;
-        self.ring.leave(phase, Role::Signaller);
-        self.ring.enter(phase + 1, Role::Signaller);
+        self.ring.join(phase, pending, single);
         self.top = self.top.max(phase + 1);
-        self.settle();
-        Ok(())
+        self.go_on(phase, phase + 1);
+    }
+
+    /// Joins the signals of a block to their phases, of which this is the first and none refuses its
+    /// one, and moves their task on to the phase behind them.
+    pub fn signal_block(&mut self, phase: u64, lists: &[Pending<A>], single: &Option<Single>)
+        requires kept { IsBoard A.operation self.old }
+        requires some { 0 < length lists.now }
+        requires low { self.old.done ≤ phase }
+        requires ahead { phase + length lists.now ≤ self.old.ring.base + self.old.limits.bound }
+        requires stands { 0 < standing self.old.ring Signaller phase }
+        requires few { standing self.old.ring Signaller (phase + length lists.now) < MEMBERS_MAX }
+        requires far { phase + length lists.now ≤ PHASES_MAX }
+        requires fits { BlockFits self.old.ring phase lists.now single.now }
+        ensures kept { IsBoard A.operation self.new }
+        ensures limits { self.new.limits ≡ self.old.limits }
+        ensures top { self.new.top ≡ max self.old.top (phase + length lists.now) }
+        ensures slots { sents self.new.ring
+            ≡ sents (block_joined A.operation phase lists.now single.now self.old.ring) }
+        ensures moved { (p : ℕ) → standing self.new.ring Signaller p + is phase p
+            ≡ standing self.old.ring Signaller p + is (phase + length lists.now) p }
+        ensures others { (p : ℕ)
+            → standing self.new.ring Waiter p ≡ standing self.old.ring Waiter p }
+        ensures base { self.new.ring.base ≡ self.old.ring.base }
+        ensures stops { (self.new.done ≡ self.new.top)
+            ⊎ (0 < standing self.new.ring Signaller self.new.done) }
+    {
+        let mut next = phase;
+        for pending in lists {
+            self.ring.join(next, pending, single);
+            next += 1;
+        }
+        self.top = self.top.max(next);
+        self.go_on(phase, next);
     }
 
     /// Tells the value of a waiter's phase, which is complete, and moves the waiter on to the next
@@ -160,17 +202,45 @@ impl<A: Accumulate> Board<A> {
         outcome
     }
 
-    /// Raises the top past this phase, where no waiter is registered and nobody looks at the slots.
-    pub fn raise_top(&mut self, phase: u64)
-        requires { phase < PHASES_MAX }
+    /// Writes the values of so many phases, the first this one of a waiter and all complete, and
+    /// moves the waiter on to the phase behind them. The places behind the values stay.
+    pub fn wait_block(&mut self, phase: u64, count: usize, out: &mut [Outcome])
+        requires kept { IsBoard A.operation self.old }
+        requires some { 0 < count }
+        requires room { count ≤ length out.old }
+        requires complete { phase + count ≤ self.old.done }
+        requires stands { 0 < standing self.old.ring Waiter phase }
+        requires few { standing self.old.ring Waiter (phase + count) < MEMBERS_MAX }
+        ensures out { out.new
+            ≡ block_values A.operation self.old.ring phase count ++ drop count out.old }
+        ensures kept { IsBoard A.operation self.new }
+        ensures limits { self.new.limits ≡ self.old.limits }
+        ensures done { self.new.done ≡ self.old.done }
+        ensures top { self.new.top ≡ self.old.top }
+        ensures slots { KeepsSlots (sents self.old.ring) (sents self.new.ring) }
+        ensures moved { (p : ℕ) → standing self.new.ring Waiter p + is phase p
+            ≡ standing self.old.ring Waiter p + is (phase + count) p }
+        ensures others { (p : ℕ)
+            → standing self.new.ring Signaller p ≡ standing self.old.ring Signaller p }
+        ensures stops { 0 < standing self.new.ring Waiter self.new.ring.base }
+    {
+        for i in 0..count {
+            out[i] = self.ring.value(phase + i as u64);
+        }
+        self.ring.leave(phase, Role::Waiter);
+        self.ring.enter(phase + count as u64, Role::Waiter);
+        self.give_up();
+    }
+
+    /// Raises the top to this one, where no waiter is registered and nobody looks at the slots.
+    pub fn raise_top(&mut self, top: u64)
+        requires { top ≤ PHASES_MAX }
         ensures limits { self.new.limits ≡ self.old.limits }
         ensures ring { self.new.ring ≡ self.old.ring }
         ensures done { self.new.done ≡ self.old.done }
-        ensures top { self.new.top ≡ max self.old.top (phase + 1) }
+        ensures top { self.new.top ≡ max self.old.top top }
     {
-        if self.top <= phase {
-            self.top = phase + 1;
-        }
+        self.top = self.top.max(top);
     }
 
     /// Empties each slot, where the last waiter has left.
@@ -240,6 +310,23 @@ impl<A: Accumulate> Board<A> {
     {
         self.enter_as(Role::Signaller, entry);
         self.enter_as(Role::Waiter, entry);
+    }
+
+    /// Lets one more waiter stand at the first phase that is not complete.
+    pub fn join_now(&mut self)
+        requires kept { IsBoard A.operation self.old }
+        requires few { standing self.old.ring Waiter self.old.done < MEMBERS_MAX }
+        ensures kept { IsBoard A.operation self.new }
+        ensures limits { self.new.limits ≡ self.old.limits }
+        ensures done { self.new.done ≡ self.old.done }
+        ensures top { self.new.top ≡ self.old.top }
+        ensures same { sents self.new.ring ≡ sents self.old.ring }
+        ensures standing { (p : ℕ) → standing self.new.ring Waiter p
+            ≡ standing self.old.ring Waiter p + is self.old.done p }
+        ensures others { (p : ℕ)
+            → standing self.new.ring Signaller p ≡ standing self.old.ring Signaller p }
+    {
+        self.ring.enter(self.done, Role::Waiter);
     }
 
     /// Lets a task with this entry stand at its phases no more. Some waiter is left.

@@ -47,13 +47,13 @@ impl<A: Copy> Slot<A> {
 
     /// Why so many more sends do not join the phase.
     pub fn refusal(&self, count: u64, single: &Option<Single>) -> Option<MergeRefusal>
-        requires { (self.now.count ≤ SENDS_MAX) × (count ≤ SENDS_MAX) }
+        requires { self.now.count ≤ SENDS_MAX }
         ensures { result ≡ merge_refusal self.now count single.now }
     {
         if is_other(self.named, *single) {
             return Some(MergeRefusal::SingleDiffers);
         }
-        (self.count + count > SENDS_MAX).then_some(MergeRefusal::PhaseFull)
+        (count > SENDS_MAX - self.count).then_some(MergeRefusal::PhaseFull)
     }
 
     /// Tells how many of the role stand at the phase.
@@ -66,30 +66,21 @@ impl<A: Copy> Slot<A> {
         }
     }
 
-    /// The slot where so many of the role stand.
-    pub fn with_standing(self, role: Role, standing: u32) -> Slot<A>
-        ensures { result ≡ with_standing role standing self }
+    /// Lets so many of the role stand at the phase.
+    pub fn stand(&mut self, role: Role, standing: u32)
+        ensures { self.new ≡ with_standing role standing self.old }
     {
         match role {
-            Role::Signaller => Slot {
-                signallers: standing,
-                ..self
-            },
-            Role::Waiter => Slot {
-                waiters: standing,
-                ..self
-            },
+            Role::Signaller => self.signallers = standing,
+            Role::Waiter => self.waiters = standing,
         }
     }
 
-    /// The slot where the phase is complete.
-    pub fn sealed(self) -> Slot<A>
-        ensures { result ≡ sealed self }
+    /// Makes the phase complete.
+    pub fn seal(&mut self)
+        ensures { self.new ≡ sealed self.old }
     {
-        Slot {
-            sealed: true,
-            ..self
-        }
+        self.sealed = true;
     }
 }
 
@@ -111,21 +102,16 @@ impl<A: Accumulate> Slot<A> {
         }
     }
 
-    /// The slot after these sends have joined it.
-    pub fn joined(&self, pending: &Pending<A>, single: Option<Single>) -> Slot<A>
-        requires few { self.now.count + pending.now.count ≤ SENDS_MAX }
-        requires held { IsHeld A.operation self.now }
-        ensures value { result ≡ joined A.operation pending.now single self.now }
-        ensures held { IsHeld A.operation result }
+    /// Joins these sends to the phase's.
+    pub fn join(&mut self, pending: &Pending<A>, single: &Option<Single>)
+        requires few { self.old.count + pending.now.count ≤ SENDS_MAX }
+        requires held { IsHeld A.operation self.old }
+        ensures value { self.new ≡ joined A.operation pending.now single.now self.old }
+        ensures held { IsHeld A.operation self.new }
     {
-        Slot {
-            part: A::join(self.part, pending.part()),
-            count: self.count + pending.count(),
-            named: self.named.or(Some(single)),
-            sealed: self.sealed,
-            signallers: self.signallers,
-            waiters: self.waiters,
-        }
+        self.part = A::join(self.part, pending.part());
+        self.count += pending.count();
+        self.named = self.named.or(Some(*single));
     }
 
     /// Tells the value of the sends, with the single applied where one was named.

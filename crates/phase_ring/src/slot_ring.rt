@@ -12,7 +12,7 @@ use crate::role::Role;
 use crate::slot::{MergeRefusal, Slot};
 use circular_buffer::HeapCircularBuffer;
 use phase_accum::{Accumulate, Outcome, Pending, Single};
-use phase_base::{BOUND_MAX, MEMBERS_MAX};
+use phase_base::{BOUND_MAX, MEMBERS_MAX, SENDS_MAX};
 use std::alloc::{AllocError, Global};
 use std::marker::Model;
 
@@ -68,25 +68,13 @@ impl<A: Accumulate> SlotRing<A> {
     }
 
     /// The slot of a phase.
-    fn slot(&self, phase: u64) -> Slot<A>
+    fn slot(&self, phase: u64) -> &Slot<A>
         requires { IsWithin self.now phase }
-        ensures slot { slot_at self.now phase ≡ Some result }
-        ensures held { IsHeld A.operation result }
+        ensures slot { slot_at self.now phase ≡ Some result.now }
+        ensures held { IsHeld A.operation result.now }
     {
         match self.slots.get((phase - self.base) as usize) {
-            Some(slot) => *slot,
-            None => unreachable!(),
-        }
-    }
-
-    /// Puts this slot in the place of the phase's.
-    fn set(&mut self, phase: u64, slot: Slot<A>)
-        requires within { IsWithin self.old phase }
-        requires held { IsHeld A.operation slot }
-        ensures { self.new ≡ with_slot phase slot self.old }
-    {
-        match self.slots.get_mut((phase - self.base) as usize) {
-            Some(place) => *place = slot,
+            Some(slot) => slot,
             None => unreachable!(),
         }
     }
@@ -112,14 +100,54 @@ impl<A: Accumulate> SlotRing<A> {
         ensures pending { IfErr result (λ e. e.1 ≡ pending) }
         ensures err { OnErr result (self.new ≡ self.old) }
     {
-        let slot = self.slot(phase);
-        let count = pending.count();
-        let refusal = slot.refusal(count, &single);
-        if let Some(refusal) = refusal {
+        if let Err(refusal) = self.can_merge(phase, pending.count(), single) {
             return Err((refusal, pending));
         }
-        self.set(phase, slot.joined(&pending, single));
+        self.join(phase, &pending, &single);
         Ok(())
+    }
+
+    /// Tells why so many more sends would not join a phase, as `merge` would. It merges nothing.
+    ///
+    /// The phase is not complete, and not the last of the ring.
+    pub fn can_merge(
+        &self,
+        phase: u64,
+        count: u64,
+        single: Option<Single>,
+    ) -> Result<(), MergeRefusal>
+        requires within { IsWithin self.now phase }
+        requires below { phase + 1 < self.now.base + length self.now.slots }
+        requires incomplete { is_sealed self.now phase ≡ false }
+        ensures ok { OnOk result ((slot : Slot A) → slot_at self.now phase ≡ Some slot
+            → merge_refusal slot count single ≡ None) }
+        ensures refused { IfErr result (λ e.
+            (slot : Slot A) → slot_at self.now phase ≡ Some slot
+            → merge_refusal slot count single ≡ Some e) }
+    {
+        match self.slot(phase).refusal(count, &single) {
+            Some(refusal) => Err(refusal),
+            None => Ok(()),
+        }
+    }
+
+    /// Joins sends that the phase does not refuse. It takes no memory.
+    ///
+    /// The phase is not complete, and not the last of the ring.
+    pub(crate) fn join(&mut self, phase: u64, pending: &Pending<A>, single: &Option<Single>)
+        requires within { IsWithin self.old phase }
+        requires below { phase + 1 < self.old.base + length self.old.slots }
+        requires incomplete { is_sealed self.old phase ≡ false }
+        requires fits { (slot : Slot A) → slot_at self.old phase ≡ Some slot
+            → merge_refusal slot pending.now.count single.now ≡ None }
+        ensures { (slot : Slot A) → slot_at self.old phase ≡ Some slot
+            → let more = joined A.operation pending.now single.now slot in
+            self.new ≡ with_slot phase more self.old }
+    {
+        match self.slots.get_mut((phase - self.base) as usize) {
+            Some(slot) => slot.join(pending, single),
+            None => unreachable!(),
+        }
     }
 
     /// Seals a phase, which is complete from now on. It was not before, and is not the last of the
@@ -131,8 +159,10 @@ impl<A: Accumulate> SlotRing<A> {
         ensures { (slot : Slot A) → slot_at self.old phase ≡ Some slot
             → self.new ≡ with_slot phase (sealed slot) self.old }
     {
-        let slot = self.slot(phase);
-        self.set(phase, slot.sealed());
+        match self.slots.get_mut((phase - self.base) as usize) {
+            Some(slot) => slot.seal(),
+            None => unreachable!(),
+        }
     }
 
     /// Tells the value of a complete phase, with the single applied that its first signal named.
@@ -153,9 +183,10 @@ impl<A: Accumulate> SlotRing<A> {
             → let more = standing_of role slot + 1 in
             self.new ≡ with_slot phase (with_standing role more slot) self.old }
     {
-        let slot = self.slot(phase);
-        let standing = slot.standing(role);
-        self.set(phase, slot.with_standing(role, standing + 1));
+        match self.slots.get_mut((phase - self.base) as usize) {
+            Some(slot) => slot.stand(role, slot.standing(role) + 1),
+            None => unreachable!(),
+        }
     }
 
     /// One of the role leaves the phase, at which some of it stand.
@@ -166,9 +197,10 @@ impl<A: Accumulate> SlotRing<A> {
             → let fewer = standing_of role slot - 1 in
             self.new ≡ with_slot phase (with_standing role fewer slot) self.old }
     {
-        let slot = self.slot(phase);
-        let standing = slot.standing(role);
-        self.set(phase, slot.with_standing(role, standing - 1));
+        match self.slots.get_mut((phase - self.base) as usize) {
+            Some(slot) => slot.stand(role, slot.standing(role) - 1),
+            None => unreachable!(),
+        }
     }
 
     /// Tells how many of the role stand at the phase.

@@ -7,6 +7,8 @@ use Rattle.std.proofs.lemmas.Slice.Eq.{bytes_eq-Decides}
 use Rattle.std.proofs.lemmas.List.{length-append, append-nil}
 use Rattle.std.specs.Fmt.{signed_decimal}
 use Rattle.phase_script.proofs.Digits.{nat_found, nat_only, int_found, int_only, decimal_has_no_space, signed_has_no_space, decimal_short, signed_short}
+use Rattle.phase_base.specs.OperationWords.{operation_word, operation_of}
+use Rattle.phase_base.proofs.OperationWords.{operation-read}
 use Rattle.phase_script.specs.Numbers.{most, nat_of, int_of}
 use Rattle.phase_script.specs.Words.{word, rest}
 use Rattle.phase_base.specs.declared.mode.Mode.{Mode}
@@ -15,12 +17,12 @@ use Rattle.phase_accum.specs.Ranges.{IsRange}
 use Rattle.phase_accum.specs.Singles.{CanBeNamed}
 use Rattle.phase_accum.specs.declared.single.Single.{Single}
 use Rattle.phase_accum.specs.declared.single.Single.TheVariants.{Neg, Abs, Halve, Clamp}
-use Rattle.phase_script.specs.Commands.{IsCommand, spelling, operator_text, mode_text, single_text, maybe_single_text, operator_of, mode_of, clamp_of, ends_of, clamp_after, single_of}
-use Rattle.phase_script.specs.Commands.{make_of, add_of, send_of, signal_of, signal_with, wait_of, drop_of, command_after, command_of}
-use Rattle.phase_script.specs.declared.command.Operator.{Operator}
-use Rattle.phase_script.specs.declared.command.Operator.TheVariants.{Sum, Product, Least, Greatest, Any}
+use Rattle.phase_script.specs.Commands.{IsCommand, spelling, mode_text, single_text, maybe_single_text, mode_of, clamp_of, ends_of, clamp_after, single_of}
+use Rattle.phase_script.specs.Commands.{make_of, add_of, now_of, send_of, signal_of, signal_with, wait_of, drop_of, command_after, command_of}
+use Rattle.phase_base.specs.declared.operation.Op.{Op}
+use Rattle.phase_base.specs.declared.operation.Op.TheVariants.{Sum, Product, Least, Greatest, Any}
 use Rattle.phase_script.specs.declared.command.Command.{Command}
-use Rattle.phase_script.specs.declared.command.Command.TheVariants.{Make, Add, Send, Signal, Wait, Drop}
+use Rattle.phase_script.specs.declared.command.Command.TheVariants.{Make, Add, Now, Send, Signal, Wait, Drop}
 
 -- words
 
@@ -90,18 +92,6 @@ chosen {A} {P} verb name o p x = at (bytes_eq verb name) (bytes_eq-Decides verb 
         → (verb ≡ name → o ≡ Some x → P) → (p ≡ Some x → P) → P
     at true same e here there = here (same refl) e
     at false same e here there = there e
-
-operator_found : (name : List ℕ) (operator : Operator) → operator_of name ≡ Some operator
-    → name ≡ operator_text operator
-unfolding operator_of
-operator_found name operator e =
-    let P : Operator → Type 0 = λ o. name ≡ operator_text o in
-    chosen name (codes "sum") _ _ operator e (λ same is. subst P (same_Some Sum operator is) same) (λ e1.
-    chosen name (codes "product") _ _ operator e1 (λ same is. subst P (same_Some Product operator is) same) (λ e2.
-    chosen name (codes "least") _ _ operator e2 (λ same is. subst P (same_Some Least operator is) same) (λ e3.
-    chosen name (codes "greatest") _ _ operator e3 (λ same is. subst P (same_Some Greatest operator is) same) (λ e4.
-    chosen name (codes "any") (Some Any) None operator e4 (λ same is. subst P (same_Some Any operator is) same)
-    (λ other. absurd (cc))))))
 
 mode_found : (name : List ℕ) (m : Mode) → mode_of name ≡ Some m → name ≡ mode_text m
 unfolding mode_of
@@ -176,12 +166,12 @@ make_found : (text : List ℕ) (c : Command) → make_of text ≡ Some c
     → Spells (codes "make" ++ 32 ∷ text) c
 unfolding make_of spelling
 make_found text c e =
-    option_and_then_some _ (operator_of (word text)) c e (λ operator is_operator e1.
+    option_and_then_some _ (operation_of (word text)) c e (λ operation is_operation e1.
     option_and_then_some _ (rest text) c e1 (λ numbers is_numbers e2.
     option_and_then_some _ (nat_of (word numbers)) c e2 (λ bound is_bound e3.
     option_and_then_some _ (rest numbers) c e3 (λ last is_last e4.
     option_and_then_some _ (nat_of last) c e4 (λ phases is_phases e5.
-    let first = operator_found (word text) operator is_operator in
+    let first = operation-read (word text) operation is_operation in
     let second = nat_found (word numbers) bound is_bound in
     let third = nat_found last phases is_phases in
     let text_is = rest_found text numbers is_numbers in
@@ -191,7 +181,7 @@ make_found text c e =
       (second.1, third.1),
       ap (λ t. codes "make" ++ 32 ∷ t)
           (text_is ∙ ap (λ w. w ++ 32 ∷ numbers) first
-          ∙ ap (λ t. operator_text operator ++ 32 ∷ t)
+          ∙ ap (λ t. operation_word operation ++ 32 ∷ t)
           (numbers_is ∙ ap (λ w. w ++ 32 ∷ last) second.0
           ∙ ap (λ t. decimal bound ++ 32 ∷ t) third.0)),
     ))))))
@@ -219,6 +209,24 @@ add_found text c e =
           (words_are ∙ ap (λ w. w ++ 32 ∷ last) second.0
           ∙ ap (λ t. decimal child ++ 32 ∷ t) third)),
     ))))))
+
+now_found : (text : List ℕ) (c : Command) → now_of text ≡ Some c
+    → Spells (codes "now" ++ 32 ∷ text) c
+unfolding now_of spelling
+now_found text c e =
+    option_and_then_some _ (nat_of (word text)) c e (λ parent is_parent e1.
+    option_and_then_some _ (rest text) c e1 (λ last is_last e2.
+    option_and_then_some _ (nat_of last) c e2 (λ child is_child e3.
+    let first = nat_found (word text) parent is_parent in
+    let second = nat_found last child is_child in
+    let text_is = rest_found text last is_last in
+    let P : Command → Type 0 = Spells (codes "now" ++ 32 ∷ text) in
+    subst P (same_Some _ c e3) (
+      (first.1, second.1),
+      ap (λ t. codes "now" ++ 32 ∷ t)
+          (text_is ∙ ap (λ w. w ++ 32 ∷ last) first.0
+          ∙ ap (λ t. decimal parent ++ 32 ∷ t) second.0),
+    ))))
 
 send_found : (text : List ℕ) (c : Command) → send_of text ≡ Some c
     → Spells (codes "send" ++ 32 ∷ text) c
@@ -290,11 +298,12 @@ after_found verb text c e =
     λ name same spells. (spells.0, ap (λ v. v ++ 32 ∷ text) same ∙ spells.1) in
     chosen verb (codes "make") _ _ c e (λ same is. named _ same (make_found text c is)) (λ e1.
     chosen verb (codes "add") _ _ c e1 (λ same is. named _ same (add_found text c is)) (λ e2.
-    chosen verb (codes "send") _ _ c e2 (λ same is. named _ same (send_found text c is)) (λ e3.
-    chosen verb (codes "signal") _ _ c e3 (λ same is. named _ same (signal_found text c is)) (λ e4.
-    chosen verb (codes "wait") _ _ c e4 (λ same is. named _ same (wait_found text c is)) (λ e5.
-    chosen verb (codes "drop") _ _ c e5 (λ same is. named _ same (drop_found text c is))
-    (λ other. absurd (cc)))))))
+    chosen verb (codes "now") _ _ c e2 (λ same is. named _ same (now_found text c is)) (λ e3.
+    chosen verb (codes "send") _ _ c e3 (λ same is. named _ same (send_found text c is)) (λ e4.
+    chosen verb (codes "signal") _ _ c e4 (λ same is. named _ same (signal_found text c is)) (λ e5.
+    chosen verb (codes "wait") _ _ c e5 (λ same is. named _ same (wait_found text c is)) (λ e6.
+    chosen verb (codes "drop") _ _ c e6 (λ same is. named _ same (drop_found text c is))
+    (λ other. absurd (cc))))))))
 
 -- a line that is read is the spelling of its command, whose numbers are within their limits
 pub command_found : (line : List ℕ) (c : Command) → command_of line ≡ Some c
@@ -311,16 +320,15 @@ then_some : {A B : Type 0} (f : A → Option B) (o : Option A) (x : A) (r : Opti
     → o ≡ Some x → f x ≡ r → option_and_then f o ≡ r
 then_some f o x r is e = rw is e
 
-operator_only : (operator : Operator) (more : List ℕ)
-    → (word (operator_text operator ++ 32 ∷ more) ≡ operator_text operator)
-    × (rest (operator_text operator ++ 32 ∷ more) ≡ Some more)
-    × (operator_of (operator_text operator) ≡ Some operator)
-unfolding operator_of
-operator_only Sum more = (refl, refl, refl)
-operator_only Product more = (refl, refl, refl)
-operator_only Least more = (refl, refl, refl)
-operator_only Greatest more = (refl, refl, refl)
-operator_only Any more = (refl, refl, refl)
+operation_only : (operation : Op) (more : List ℕ)
+    → (word (operation_word operation ++ 32 ∷ more) ≡ operation_word operation)
+    × (rest (operation_word operation ++ 32 ∷ more) ≡ Some more)
+    × (operation_of (operation_word operation) ≡ Some operation)
+operation_only Sum more = (refl, refl, refl)
+operation_only Product more = (refl, refl, refl)
+operation_only Least more = (refl, refl, refl)
+operation_only Greatest more = (refl, refl, refl)
+operation_only Any more = (refl, refl, refl)
 
 mode_only : (m : Mode) → mode_of (mode_text m) ≡ Some m
 unfolding mode_of
@@ -329,12 +337,12 @@ mode_only mode.Wait = refl
 mode_only mode.SigWait = refl
 mode_only mode.Single = refl
 
-make_only : (operator : Operator) (bound phases : ℕ) → bound ≤ most → phases ≤ most
-    → make_of (operator_text operator ++ 32 ∷ (decimal bound ++ 32 ∷ decimal phases))
-    ≡ Some (Make operator bound phases)
+make_only : (operation : Op) (bound phases : ℕ) → bound ≤ most → phases ≤ most
+    → make_of (operation_word operation ++ 32 ∷ (decimal bound ++ 32 ∷ decimal phases))
+    ≡ Some (Make operation bound phases)
 unfolding make_of
-make_only operator bound phases small few =
-    let named = operator_only operator (decimal bound ++ 32 ∷ decimal phases) in
+make_only operation bound phases small few =
+    let named = operation_only operation (decimal bound ++ 32 ∷ decimal phases) in
     let free = decimal_has_no_space bound small in
     rw (
       named.0,
@@ -395,6 +403,18 @@ signal_only task (Some single) small can =
       single_only single can,
     ) refl
 
+now_only : (parent child : ℕ) → parent ≤ most → child ≤ most
+    → now_of (decimal parent ++ 32 ∷ decimal child) ≡ Some (Now parent child)
+unfolding now_of
+now_only parent child small few =
+    let free = decimal_has_no_space parent small in
+    rw (
+      word_prefix (decimal child) (decimal parent) free,
+      nat_only parent small,
+      rest_prefix (decimal child) (decimal parent) free,
+      nat_only child few,
+    ) refl
+
 send_only : (task : ℕ) (value : ℤ) → task ≤ most → nat_abs value ≤ most
     → send_of (decimal task ++ 32 ∷ signed_decimal value) ≡ Some (Send task value)
 unfolding send_of
@@ -410,8 +430,9 @@ send_only task value small few =
 -- the spelling of a command within its limits is read as the command
 pub command_only : (c : Command) → IsCommand c → command_of (spelling c) ≡ Some c
 unfolding command_of command_after wait_of drop_of spelling
-command_only (Make operator bound phases) is = make_only operator bound phases is.0 is.1
+command_only (Make operation bound phases) is = make_only operation bound phases is.0 is.1
 command_only (Add parent child m) is = add_only parent child m is.0 is.1
+command_only (Now parent child) is = now_only parent child is.0 is.1
 command_only (Send task value) is = send_only task value is.0 is.1
 command_only (Signal task single) is = signal_only task single is.0 is.1
 command_only (Wait task) is = rw (nat_only task is) refl
@@ -430,12 +451,12 @@ only_at line o e c is same = e ∙ ap command_of same ∙ command_only c is
 
 -- how long a line can be
 
-operator_short : (operator : Operator) → length (operator_text operator) ≤ 8
-operator_short Sum = omega arith
-operator_short Product = omega arith
-operator_short Least = omega arith
-operator_short Greatest = omega arith
-operator_short Any = omega arith
+operation_short : (operation : Op) → length (operation_word operation) ≤ 8
+operation_short Sum = omega arith
+operation_short Product = omega arith
+operation_short Least = omega arith
+operation_short Greatest = omega arith
+operation_short Any = omega arith
 
 mode_short : (m : Mode) → length (mode_text m) ≤ 7
 mode_short mode.Sig = omega arith
@@ -458,10 +479,10 @@ single_short (Some (Clamp range)) can =
 
 pub short_line : (c : Command) → IsCommand c → length (spelling c) ≤ 74
 unfolding spelling
-short_line (Make operator bound phases) is =
+short_line (Make operation bound phases) is =
     simp length-append (omega (
       arith,
-      operator_short operator,
+      operation_short operation,
       decimal_short bound is.0,
       decimal_short phases is.1,
     ))
@@ -474,6 +495,8 @@ short_line (Add parent child m) is =
       decimal_short child is.1,
       mode_short m,
     ))
+short_line (Now parent child) is =
+    simp length-append (omega (arith, decimal_short parent is.0, decimal_short child is.1))
 short_line (Signal task single) is =
     simp length-append (omega (arith, decimal_short task is.0, single_short single is.1))
 short_line (Wait task) is = omega (arith, decimal_short task is)

@@ -10,7 +10,7 @@ use Rattle.phase_script.specs.ReplyLines.{reason_text, reply_text, IsReply, IsOn
 use Rattle.phase_script.specs.declared.refusal.Refusal.{Refusal}
 use Rattle.phase_script.specs.declared.refusal.Refusal.TheVariants.{NoPhaser, Made, BadBound, BadPhases, NoTask, NoSignal, TooManySends, NotSingle, SignalTwice, Spent, Ahead, SingleDiffers, PhaseFull, NoWait, SignalFirst, NotYet, NotAllowed, NotNew, TooManyTasks}
 use Rattle.phase_script.specs.declared.reply.Reply.{Reply}
-use Rattle.phase_script.specs.declared.reply.Reply.TheVariants.{Accepted, Signalled, Value, Empty, TooBig, Ended, Refused, BadLine}
+use Rattle.phase_script.specs.declared.reply.Reply.TheVariants.{Accepted, Signalled, Joined, Value, Empty, TooBig, Ended, Refused, BadLine}
 
 abbrev ends_no_line : List ℕ → Bool
 ends_no_line bs = list_all (λ b. not (b == 10)) bs
@@ -44,6 +44,11 @@ pub reply_is_one_line : (reply : Reply) → IsReply reply → IsOneLine (reply_t
 unfolding reply_text
 reply_is_one_line Accepted is = (codes "ok", refl, refl)
 reply_is_one_line (Signalled phase) is = (
+  codes "ok " ++ decimal phase,
+  refl,
+  decimal_has_no_line_end phase is,
+)
+reply_is_one_line (Joined phase) is = (
   codes "ok " ++ decimal phase,
   refl,
   decimal_has_no_line_end phase is,
@@ -101,6 +106,7 @@ pub reply_short : (reply : Reply) → IsReply reply → length (reply_text reply
 unfolding reply_text
 reply_short Accepted is = omega arith
 reply_short (Signalled phase) is = simp length-append (omega (arith, decimal_short phase is))
+reply_short (Joined phase) is = simp length-append (omega (arith, decimal_short phase is))
 reply_short (Value phase value) is =
     simp length-append (omega (arith, decimal_short phase is.0, signed_short value is.1))
 reply_short (Empty phase) is = simp length-append (omega (arith, decimal_short phase is))

@@ -8,20 +8,12 @@ use Rattle.phase_accum.specs.declared.single.Single.{Single}
 use Rattle.phase_accum.specs.declared.single.Single.TheVariants.{Neg, Abs, Halve, Clamp}
 use Rattle.phase_script.specs.Numbers.{most, nat_of, int_of}
 use Rattle.phase_script.specs.Words.{word, rest}
-use Rattle.phase_script.specs.declared.command.Operator.{Operator}
-use Rattle.phase_script.specs.declared.command.Operator.TheVariants.{Sum, Product, Least, Greatest, Any}
+use Rattle.phase_base.specs.declared.operation.Op.{Op}
+use Rattle.phase_base.specs.OperationWords.{operation_word, operation_of}
 use Rattle.phase_script.specs.declared.command.Command.{Command}
-use Rattle.phase_script.specs.declared.command.Command.TheVariants.{Make, Add, Send, Signal, Wait, Drop}
+use Rattle.phase_script.specs.declared.command.Command.TheVariants.{Make, Add, Now, Send, Signal, Wait, Drop}
 
 -- ---- the one line of a command
-
--- the word for an operator
-abbrev pub operator_text : Operator → List ℕ
-operator_text Sum = codes "sum"
-operator_text Product = codes "product"
-operator_text Least = codes "least"
-operator_text Greatest = codes "greatest"
-operator_text Any = codes "any"
 
 -- the word for a mode
 abbrev pub mode_text : Mode → List ℕ
@@ -45,10 +37,11 @@ maybe_single_text (Some single) = 32 ∷ single_text single
 
 -- the one line that gives the command, without its line end
 unfoldable pub spelling : Command → List ℕ
-spelling (Make operator bound phases) =
-    codes "make" ++ 32 ∷ (operator_text operator ++ 32 ∷ (decimal bound ++ 32 ∷ decimal phases))
+spelling (Make operation bound phases) =
+    codes "make" ++ 32 ∷ (operation_word operation ++ 32 ∷ (decimal bound ++ 32 ∷ decimal phases))
 spelling (Add parent child mode) =
     codes "add" ++ 32 ∷ (decimal parent ++ 32 ∷ (decimal child ++ 32 ∷ mode_text mode))
+spelling (Now parent child) = codes "now" ++ 32 ∷ (decimal parent ++ 32 ∷ decimal child)
 spelling (Send task value) = codes "send" ++ 32 ∷ (decimal task ++ 32 ∷ signed_decimal value)
 spelling (Signal task single) = codes "signal" ++ 32 ∷ (decimal task ++ maybe_single_text single)
 spelling (Wait task) = codes "wait" ++ 32 ∷ decimal task
@@ -58,6 +51,7 @@ spelling (Drop task) = codes "drop" ++ 32 ∷ decimal task
 abbrev pub IsCommand : Command → Type 0
 IsCommand (Make _ bound phases) = (bound ≤ most) × (phases ≤ most)
 IsCommand (Add parent child _) = (parent ≤ most) × (child ≤ most)
+IsCommand (Now parent child) = (parent ≤ most) × (child ≤ most)
 IsCommand (Send task value) = (task ≤ most) × (nat_abs value ≤ most)
 IsCommand (Signal task single) = (task ≤ most) × CanBeNamed single
 IsCommand (Wait task) = task ≤ most
@@ -69,16 +63,6 @@ IsCommand (Drop task) = task ≤ most
 infixl 10 ◌>>=◌
 abbrev pub ◌>>=◌ : {A B : Type 0} → Option A → (A → Option B) → Option B
 o >>= f = option_and_then f o
-
--- the operator that a word names
-unfoldable pub operator_of : List ℕ → Option Operator
-operator_of name =
-    if bytes_eq name (codes "sum") then Some Sum
-    else if bytes_eq name (codes "product") then Some Product
-    else if bytes_eq name (codes "least") then Some Least
-    else if bytes_eq name (codes "greatest") then Some Greatest
-    else if bytes_eq name (codes "any") then Some Any
-    else None
 
 -- the mode that a word names
 unfoldable pub mode_of : List ℕ → Option Mode
@@ -116,12 +100,12 @@ single_of text =
 -- the command whose words after the first are in the text, for each first word
 unfoldable pub make_of : List ℕ → Option Command
 make_of text = do
-  operator ← operator_of (word text)
+  operation ← operation_of (word text)
   numbers ← rest text
   bound ← nat_of (word numbers)
   last ← rest numbers
   phases ← nat_of last
-  Some (Make operator bound phases)
+  Some (Make operation bound phases)
 
 unfoldable pub add_of : List ℕ → Option Command
 add_of text = do
@@ -131,6 +115,13 @@ add_of text = do
   last ← rest words
   mode ← mode_of last
   Some (Add parent child mode)
+
+unfoldable pub now_of : List ℕ → Option Command
+now_of text = do
+  parent ← nat_of (word text)
+  last ← rest text
+  child ← nat_of last
+  Some (Now parent child)
 
 unfoldable pub send_of : List ℕ → Option Command
 send_of text = do
@@ -166,6 +157,7 @@ unfoldable pub command_after : List ℕ → List ℕ → Option Command
 command_after verb text =
     if bytes_eq verb (codes "make") then make_of text
     else if bytes_eq verb (codes "add") then add_of text
+    else if bytes_eq verb (codes "now") then now_of text
     else if bytes_eq verb (codes "send") then send_of text
     else if bytes_eq verb (codes "signal") then signal_of text
     else if bytes_eq verb (codes "wait") then wait_of text

@@ -6,7 +6,7 @@ use Rattle.phase_script.specs.Numbers.{most}
 use Rattle.phase_script.specs.declared.refusal.Refusal.{Refusal}
 use Rattle.phase_script.specs.declared.refusal.Refusal.TheVariants.{NoPhaser, Made, BadBound, BadPhases, NoTask, NoSignal, TooManySends, NotSingle, SignalTwice, Spent, Ahead, SingleDiffers, PhaseFull, NoWait, SignalFirst, NotYet, NotAllowed, NotNew, TooManyTasks}
 use Rattle.phase_script.specs.declared.reply.Reply.{Reply}
-use Rattle.phase_script.specs.declared.reply.Reply.TheVariants.{Accepted, Signalled, Value, Empty, TooBig, Ended, Refused, BadLine}
+use Rattle.phase_script.specs.declared.reply.Reply.TheVariants.{Accepted, Signalled, Joined, Value, Empty, TooBig, Ended, Refused, BadLine}
 
 -- the text of a reason, which follows `no` and a space
 abbrev pub reason_text : Refusal → List ℕ
@@ -38,6 +38,7 @@ phase_text name phase = name ++ codes " " ++ decimal phase ++ codes "\n"
 unfoldable pub reply_text : Reply → List ℕ
 reply_text Accepted = codes "ok\n"
 reply_text (Signalled phase) = phase_text (codes "ok") phase
+reply_text (Joined phase) = phase_text (codes "ok") phase
 reply_text (Value phase value) =
     codes "value " ++ decimal phase ++ codes " " ++ signed_decimal value ++ codes "\n"
 reply_text (Empty phase) = phase_text (codes "empty") phase
@@ -49,6 +50,7 @@ reply_text BadLine = codes "bad line\n"
 -- the numbers of the reply are within those of a script
 abbrev pub IsReply : Reply → Type 0
 IsReply (Signalled phase) = phase ≤ most
+IsReply (Joined phase) = phase ≤ most
 IsReply (Value phase value) = (phase ≤ most) × (nat_abs value ≤ most)
 IsReply (Empty phase) = phase ≤ most
 IsReply (TooBig phase) = phase ≤ most

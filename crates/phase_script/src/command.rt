@@ -1,29 +1,14 @@
 //! The commands that a script line can give.
 
 use phase_accum::Single;
-use phase_base::Mode;
-
-/// How the sends of a phase make its value.
-#[derive(Clone, Copy, Debug, PartialEq, Eq)]
-pub enum Operator {
-    /// The sends are added up.
-    Sum,
-    /// The sends are multiplied.
-    Product,
-    /// The least send is the value.
-    Least,
-    /// The greatest send is the value.
-    Greatest,
-    /// The first send is the value.
-    Any,
-}
+use phase_base::{Mode, Op};
 
 /// What a script line asks for. Task 0 is the founder.
 #[derive(Clone, Copy, Debug, PartialEq, Eq)]
 pub enum Command {
     /// Makes the phaser. `bound` and `phases` are in phases.
     Make {
-        operator: Operator,
+        operation: Op,
         bound: u64,
         phases: u64,
     },
@@ -32,6 +17,11 @@ pub enum Command {
         parent: u64,
         child: u64,
         mode: Mode,
+    },
+    /// Registers the child as a waiter from the first phase that is not complete.
+    Now {
+        parent: u64,
+        child: u64,
     },
     /// Holds one more send for the task.
     Send {

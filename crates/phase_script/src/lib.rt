@@ -10,8 +10,9 @@ mod reply;
 mod reply_line;
 mod script_line;
 
-pub use command::{Command, Operator};
+pub use command::Command;
 pub use cuts::{lf_of, without_cr};
+pub use phase_base::Op;
 pub use refusal::Refusal;
 pub use reply::Reply;
 pub use reply_line::{ReplyLine, line};

@@ -9,6 +9,8 @@ pub enum Reply {
     Accepted,
     /// The signal was made for this phase.
     Signalled { phase: u64 },
+    /// The child is registered, and waits from this phase on.
+    Joined { phase: u64 },
     /// The phase that was waited for has this value.
     Value { phase: u64, value: i64 },
     /// The phase that was waited for has no value.

@@ -102,7 +102,7 @@ pub fn line(reply: Reply) -> ReplyLine
 {
     match reply {
         Reply::Accepted => ReplyLine::of(b"ok\n"),
-        Reply::Signalled { phase } => ReplyLine::of_phase(b"ok", phase),
+        Reply::Signalled { phase } | Reply::Joined { phase } => ReplyLine::of_phase(b"ok", phase),
         Reply::Value { phase, value } => ReplyLine::of_value(phase, value),
         Reply::Empty { phase } => ReplyLine::of_phase(b"empty", phase),
         Reply::TooBig { phase } => ReplyLine::of_phase(b"toobig", phase),

@@ -6,14 +6,14 @@ mod words;
 ghost use Rattle.std.specs.Prelude.{◌≡◌, ◌≤◌, nat_abs, IfSome};
 ghost use Rattle.phase_script.specs.Numbers.{most};
 ghost use Rattle.phase_script.specs.Commands.{IsCommand, spelling, command_of, command_after};
-ghost use Rattle.phase_script.specs.Commands.{operator_of, mode_of, single_of, clamp_after, ends_of};
-ghost use Rattle.phase_script.specs.Commands.{clamp_of, make_of, add_of, send_of, signal_of};
+ghost use Rattle.phase_script.specs.Commands.{mode_of, single_of, clamp_after, ends_of};
+ghost use Rattle.phase_script.specs.Commands.{clamp_of, make_of, add_of, now_of, send_of, signal_of};
 ghost use Rattle.phase_script.specs.Commands.{wait_of, drop_of};
 
-use crate::{Command, Operator};
+use crate::Command;
 use number::{int, nat};
 use phase_accum::Single;
-use phase_base::Mode;
+use phase_base::{Mode, Op};
 use words::cut;
 
 /// Reads a script line, without its LF and CR, as the one command that it gives.
@@ -44,6 +44,8 @@ fn command_with(verb: &[u8], text: &[u8]) -> Option<Command>
         make(text)
     } else if verb == b"add".as_slice() {
         add(text)
+    } else if verb == b"now".as_slice() {
+        now(text)
     } else if verb == b"send".as_slice() {
         send(text)
     } else if verb == b"signal".as_slice() {
@@ -62,34 +64,15 @@ fn make(text: &[u8]) -> Option<Command>
     ensures { result ≡ make_of text.now }
 {
     let (name, numbers) = cut(text);
-    let operator = operator(name)?;
+    let operation = Op::read(name)?;
     let (bound, last) = cut(numbers?);
     let bound = nat(bound)?;
     let phases = nat(last?)?;
     Some(Command::Make {
-        operator,
+        operation,
         bound,
         phases,
     })
-}
-
-#[tactic(auto, unfolding(crate::specs::Commands::operator_of))]
-fn operator(name: &[u8]) -> Option<Operator>
-    ensures { result ≡ operator_of name.now }
-{
-    if name == b"sum".as_slice() {
-        Some(Operator::Sum)
-    } else if name == b"product".as_slice() {
-        Some(Operator::Product)
-    } else if name == b"least".as_slice() {
-        Some(Operator::Least)
-    } else if name == b"greatest".as_slice() {
-        Some(Operator::Greatest)
-    } else if name == b"any".as_slice() {
-        Some(Operator::Any)
-    } else {
-        None
-    }
 }
 
 #[tactic(auto, unfolding(crate::specs::Commands::add_of))]
@@ -123,6 +106,16 @@ fn mode(name: &[u8]) -> Option<Mode>
     } else {
         None
     }
+}
+
+#[tactic(auto, unfolding(crate::specs::Commands::now_of))]
+fn now(text: &[u8]) -> Option<Command>
+    ensures { result ≡ now_of text.now }
+{
+    let (parent, last) = cut(text);
+    let parent = nat(parent)?;
+    let child = nat(last?)?;
+    Some(Command::Now { parent, child })
 }
 
 #[tactic(auto, unfolding(crate::specs::Commands::send_of))]

@@ -1,5 +1,5 @@
 mod Examples
 pub mod Obeying
-pub mod Operators
+pub mod Operations
 pub mod Scripted
 pub mod Short

@@ -5,9 +5,10 @@ use Rattle.std.specs.Global.{Global}
 use Rattle.phase_script.specs.declared.command.Command.{Command}
 use Rattle.phase_script.specs.declared.reply.Reply.{Reply}
 use Rattle.phase_session.specs.declared.any_phaser.AnyPhaser.{AnyPhaser}
-use Rattle.phase_session.specs.Scripts.{ScriptState, NoPhaser, OnePhaser, after_line, state_from, state_after, start, value_of, history_after, held_after}
+use Rattle.phase_accum.specs.Values.{value_by}
+use Rattle.phase_session.specs.Scripts.{ScriptState, NoPhaser, OnePhaser, after_line, state_from, state_after, start, history_after, held_after}
 use Rattle.phase_session.specs.Session.{SessionState, session_of, MaybeStandsFor, Stands, IsSession}
-use Rattle.phase_session.proofs.Operators.{AnyStandsAfter}
+use Rattle.phase_session.proofs.Operations.{AnyStandsAfter}
 
 pub state_from-push : (state : ScriptState) (lines : List (List ℕ)) (line : List ℕ)
     → state_from state (lines ++ line ∷ []) ≡ after_line (state_from state lines) line
@@ -24,8 +25,8 @@ comes_on : {E : Type 0} (old new : AnyPhaser) (r : Result Reply E) (command : Co
     → OnOk r (AnyStandsAfter old new command) → OnErr r (new ≡ old) → MaybeStandsFor (Some old) state → IsSession (Some new)
 unfolding MaybeStandsFor
 comes_on old new (Ok reply) command NoPhaser after same stands = absurd stands
-comes_on old new (Ok reply) command (OnePhaser operator limits h held) after same stands =
-    (OnePhaser operator limits (history_after (value_of operator) limits h held command) (held_after limits h held command), after operator limits h held stands)
+comes_on old new (Ok reply) command (OnePhaser operation limits h held) after same stands =
+    (OnePhaser operation limits (history_after (value_by operation) limits h held command) (held_after limits h held command), after operation limits h held stands)
 comes_on old new (Err fault) command state after same stands =
     let S : AnyPhaser → Type 0 = λ p. IsSession (Some p) in subst S (sym same) (state, stands)
 

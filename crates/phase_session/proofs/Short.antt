@@ -25,8 +25,8 @@ use Rattle.phase_history.specs.declared.refusal.WaitRefusal.{WaitRefusal}
 use Rattle.phase_history.specs.declared.refusal.WaitRefusal.TheVariants as wait
 use Rattle.phase_history.specs.Histories.{History, members_of, signal_phase, done_of, top_of}
 use Rattle.phase_history.specs.Legal.{IsLegal}
-use Rattle.phase_history.specs.Refusals.{signal_refusal, signal_rows, register_refusal, drop_refusal}
-use Rattle.phase_history.specs.declared.reply.Reply.TheVariants.{Accepted as CallAccepted, SignalledIn, Received, NotRegistered, NotSignalled, NotReceived, NotDropped}
+use Rattle.phase_history.specs.Refusals.{signal_refusal, signal_rows, register_refusal, register_now_refusal, drop_refusal}
+use Rattle.phase_history.specs.declared.reply.Reply.TheVariants.{Accepted as CallAccepted, JoinedAt, SignalledIn, Received, NotRegistered, NotSignalled, NotReceived, NotDropped}
 use Rattle.phase_history.specs.Replies.{signal_reply, wait_reply, refused_or, reply_by as by_result}
 use Rattle.phase_history.proofs.InRange.{wait_reply-in_range}
 use Rattle.phase_history.proofs.LawProofs.{answers_law}
@@ -35,9 +35,9 @@ use Rattle.phase_history.proofs.Steps.{done_below_top, sound_of, member_entry_is
 use Rattle.phase_history.proofs.Tops.{top_within}
 use Rattle.phase_core.proofs.Replies.{limits_of}
 use Rattle.phase_script.specs.declared.command.Command.{Command}
-use Rattle.phase_script.specs.declared.command.Command.TheVariants.{Make, Add, Send, Signal, Wait, Drop}
-use Rattle.phase_script.specs.declared.command.Operator.{Operator}
-use Rattle.phase_script.specs.declared.command.Operator.TheVariants.{Sum, Product, Least, Greatest, Any}
+use Rattle.phase_script.specs.declared.command.Command.TheVariants.{Make, Add, Now, Send, Signal, Wait, Drop}
+use Rattle.phase_base.specs.declared.operation.Op.{Op}
+use Rattle.phase_base.specs.declared.operation.Op.TheVariants.{Sum, Product, Least, Greatest, Any}
 use Rattle.phase_script.specs.declared.refusal.Refusal.{Refusal}
 use Rattle.phase_script.specs.Commands.{command_of}
 use Rattle.phase_script.specs.Numbers.{most}
@@ -46,7 +46,8 @@ use Rattle.phase_script.proofs.ReplyLines.{reply_short}
 use Rattle.phase_session.specs.declared.script_phaser.ScriptPhaser.{ScriptPhaser}
 use Rattle.phase_session.specs.declared.any_phaser.AnyPhaser.{AnyPhaser}
 use Rattle.phase_session.specs.declared.any_phaser.AnyPhaser.TheVariants as phaser
-use Rattle.phase_session.specs.Scripts.{ScriptState, NoPhaser, OnePhaser, Held, held_by, value_of, done_unless, script_reply, value_reply, phaser_reply, command_reply, reply_by, reply_to}
+use Rattle.phase_accum.specs.Values.{value_by}
+use Rattle.phase_session.specs.Scripts.{ScriptState, NoPhaser, OnePhaser, Held, held_by, done_unless, script_reply, value_reply, phaser_reply, command_reply, reply_by, reply_to}
 use Rattle.phase_session.specs.Session.{PhaserStandsFor, AnyStandsFor, MaybeStandsFor}
 
 -- ---- replies without a phase
@@ -62,6 +63,14 @@ registered_is_reply (Some register.NotAllowed) child = tt
 registered_is_reply (Some register.NotNew) child = tt
 registered_is_reply (Some register.TooManyTasks) child = tt
 registered_is_reply (Some register.OutOfMemory) child = tt
+
+joined_is_reply : (o : Option RegisterRefusal) (phase : ℕ) → phase ≤ most → IsReply (script_reply (by_result JoinedAt NotRegistered (refused_or o phase)))
+joined_is_reply None phase low = low
+joined_is_reply (Some register.NoTask) phase low = tt
+joined_is_reply (Some register.NotAllowed) phase low = tt
+joined_is_reply (Some register.NotNew) phase low = tt
+joined_is_reply (Some register.TooManyTasks) phase low = tt
+joined_is_reply (Some register.OutOfMemory) phase low = tt
 
 dropped_is_reply : (o : Option NoTask) (task : ℕ) → IsReply (script_reply (by_result (λ answer. CallAccepted) NotDropped (refused_or o task)))
 dropped_is_reply None task = tt
@@ -116,6 +125,14 @@ signalled_low limits h task sends single phase are ok =
     let is : signal_phase h task ≡ phase = a.1 in
     omega (arith, are.phases_most)
 
+-- the first phase that is not complete is one that was made, or the next
+done_low : (limits : Limits) (h : History) → IsLegal limits h → done_of h ≤ most
+done_low limits h legal =
+    let below : done_of h ≤ top_of h = done_below_top h (sound_of limits h legal) in
+    let top : top_of h ≤ limits.phases_max = top_within limits h legal in
+    let are : AreLimits limits = limits_of limits h legal in
+    omega (arith, are.phases_most)
+
 received_low : (value : List ℤ → Outcome) (limits : Limits) (h : History) (task phase : ℕ) (o : Outcome)
     → IsLegal limits h → wait_reply value limits h task ≡ Ok (got.Value phase o) → phase ≤ most
 received_low value limits h task phase o legal reply =
@@ -130,8 +147,10 @@ received_low value limits h task phase o legal reply =
 
 phaser_is_reply : {A : Type 0} (op : Operation A) (laws : AccumulateLaws op) (limits : Limits) (h : History) (held : Held)
     → IsLegal limits h → (command : Command) → IsReply (phaser_reply op.value limits h held command)
-phaser_is_reply op laws limits h held legal (Make operator bound phases) = tt
+phaser_is_reply op laws limits h held legal (Make operation bound phases) = tt
 phaser_is_reply op laws limits h held legal (Add parent child mode) = registered_is_reply (register_refusal h parent child mode) child
+phaser_is_reply op laws limits h held legal (Now parent child) =
+    joined_is_reply (register_now_refusal h parent child) (done_of h) (done_low limits h legal)
 phaser_is_reply op laws limits h held legal (Send task number) = done_is_reply _
 phaser_is_reply op laws limits h held legal (Signal task single) =
     signalled_is_reply _ (λ phase ok. signalled_low limits h task (held_by held task) single phase (limits_of limits h legal) ok)
@@ -144,8 +163,8 @@ legal_at : {A : Type 0} (op : Operation A) (p : ScriptPhaser A) (limits : Limits
 legal_at op p limits h held stands =
     let L : Limits → Type 0 = λ l. IsLegal l h in subst L stands.limits_are stands.core.legal
 
-any_is_reply : (p : AnyPhaser) (operator : Operator) (limits : Limits) (h : History) (held : Held) (command : Command)
-    → AnyStandsFor p operator limits h held → IsReply (phaser_reply (value_of operator) limits h held command)
+any_is_reply : (p : AnyPhaser) (operation : Op) (limits : Limits) (h : History) (held : Held) (command : Command)
+    → AnyStandsFor p operation limits h held → IsReply (phaser_reply (value_by operation) limits h held command)
 unfolding AnyStandsFor
 any_is_reply (phaser.Sum p) Sum limits h held command stands =
     phaser_is_reply sum_operation sum_laws limits h held (legal_at sum_operation p limits h held stands) command
@@ -181,15 +200,16 @@ any_is_reply (phaser.Any p) Any limits h held command stands =
 pub state_is_reply : (p : Option AnyPhaser) (state : ScriptState) (command : Command) → MaybeStandsFor p state
     → IsReply (command_reply state command)
 unfolding MaybeStandsFor command_reply
-state_is_reply None NoPhaser (Make operator bound phases) stands = done_is_reply _
+state_is_reply None NoPhaser (Make operation bound phases) stands = done_is_reply _
 state_is_reply None NoPhaser (Add parent child mode) stands = tt
+state_is_reply None NoPhaser (Now parent child) stands = tt
 state_is_reply None NoPhaser (Send task number) stands = tt
 state_is_reply None NoPhaser (Signal task single) stands = tt
 state_is_reply None NoPhaser (Wait task) stands = tt
 state_is_reply None NoPhaser (Drop task) stands = tt
-state_is_reply None (OnePhaser operator limits h held) command stands = absurd stands
+state_is_reply None (OnePhaser operation limits h held) command stands = absurd stands
 state_is_reply (Some p) NoPhaser command stands = absurd stands
-state_is_reply (Some p) (OnePhaser operator limits h held) command stands = any_is_reply p operator limits h held command stands
+state_is_reply (Some p) (OnePhaser operation limits h held) command stands = any_is_reply p operation limits h held command stands
 
 line_is_reply : (p : Option AnyPhaser) (state : ScriptState) (o : Option Command) → MaybeStandsFor p state → IsReply (reply_by state o)
 line_is_reply p state None stands = tt

@@ -5,7 +5,7 @@ use Rattle.phase_base.specs.declared.limits.TheConstants.{BOUND_MAX, PHASES_MAX,
 use Rattle.phase_base.specs.Modes.{mode_signals}
 use Rattle.phase_base.specs.declared.entry.Entry.{Entry}
 use Rattle.phase_base.specs.Members.{entry_of}
-use Rattle.phase_accum.specs.Values.{sum_value, product_value, least_value, greatest_value, any_value}
+use Rattle.phase_accum.specs.Values.{value_by}
 use Rattle.phase_accum.specs.declared.outcome.Outcome.{Outcome}
 use Rattle.phase_accum.specs.declared.outcome.Outcome.TheVariants as outcome
 use Rattle.phase_history.specs.declared.event.Event.TheVariants.{Made}
@@ -25,14 +25,13 @@ use Rattle.phase_history.specs.declared.reply.Reply.{Reply as CallReply}
 use Rattle.phase_history.specs.declared.reply.Reply.TheVariants as call_reply
 use Rattle.phase_history.specs.Refusals.{first_row, refusal_at, drop_refusal}
 use Rattle.phase_history.specs.Replies.{reply_to as reply_to_call, after_reply, signal_reply}
-use Rattle.phase_script.specs.declared.command.Operator.{Operator}
-use Rattle.phase_script.specs.declared.command.Operator.TheVariants.{Sum, Product, Least, Greatest, Any}
+use Rattle.phase_base.specs.declared.operation.Op.{Op}
 use Rattle.phase_script.specs.declared.command.Command.{Command}
-use Rattle.phase_script.specs.declared.command.Command.TheVariants.{Make, Add, Send, Signal, Wait, Drop}
+use Rattle.phase_script.specs.declared.command.Command.TheVariants.{Make, Add, Now, Send, Signal, Wait, Drop}
 use Rattle.phase_script.specs.declared.refusal.Refusal.{Refusal}
 use Rattle.phase_script.specs.declared.refusal.Refusal.TheVariants as no
 use Rattle.phase_script.specs.declared.reply.Reply.{Reply}
-use Rattle.phase_script.specs.declared.reply.Reply.TheVariants.{Accepted, Signalled, Value, Empty, TooBig, Ended, Refused, BadLine}
+use Rattle.phase_script.specs.declared.reply.Reply.TheVariants.{Accepted, Signalled, Joined, Value, Empty, TooBig, Ended, Refused, BadLine}
 use Rattle.phase_script.specs.Commands.{command_of}
 use Rattle.phase_script.specs.ReplyLines.{reply_text}
 
@@ -40,23 +39,15 @@ use Rattle.phase_script.specs.ReplyLines.{reply_text}
 abbrev pub Held : Type 0
 Held = List (ℕ × ℤ)
 
--- what the lines so far have made: no phaser, or one with its operator, its limits, its history
+-- what the lines so far have made: no phaser, or one with its operation, its limits, its history
 -- and the sends that its tasks hold
 pub data ScriptState : Type 0 where
   NoPhaser : ScriptState
-  OnePhaser : (operator : Operator) (limits : Limits) (history : History) (held : Held) → ScriptState
+  OnePhaser : (operation : Op) (limits : Limits) (history : History) (held : Held) → ScriptState
 
 -- before the first line
 unfoldable pub start : ScriptState
 start = NoPhaser
-
--- the value of a list of sends under an operator
-abbrev pub value_of : Operator → List ℤ → Outcome
-value_of Sum = sum_value
-value_of Product = product_value
-value_of Least = least_value
-value_of Greatest = greatest_value
-value_of Any = any_value
 
 -- the sends that a task holds
 abbrev pub held_by : Held → ℕ → List ℤ
@@ -136,10 +127,11 @@ value_reply phase (outcome.Value value) = Value phase value
 value_reply phase outcome.Empty = Empty phase
 value_reply phase outcome.TooBig = TooBig phase
 
--- what a phaser answers to a call, as a reply. No line asks for a block, nor for a waiter that
--- joins now: what stands for their answers is never seen
+-- what a phaser answers to a call, as a reply. No line asks for a block: what stands for its answers
+-- is never seen
 abbrev pub script_reply : CallReply → Reply
 script_reply call_reply.Accepted = Accepted
+script_reply (call_reply.JoinedAt phase) = Joined phase
 script_reply (call_reply.SignalledIn phase) = Signalled phase
 script_reply (call_reply.Received (got.Value phase outcome)) = value_reply phase outcome
 script_reply (call_reply.Received got.Ended) = Ended
@@ -155,9 +147,11 @@ held_signal held task single = call.Signal task (held_by held task ∷ []) singl
 
 -- the reply to a command where there is a phaser
 abbrev pub phaser_reply : (List ℤ → Outcome) → Limits → History → Held → Command → Reply
-phaser_reply value limits h held (Make operator bound phases) = Refused no.Made
+phaser_reply value limits h held (Make operation bound phases) = Refused no.Made
 phaser_reply value limits h held (Add parent child mode) =
     script_reply (reply_to_call value limits h (call.Register parent child mode))
+phaser_reply value limits h held (Now parent child) =
+    script_reply (reply_to_call value limits h (call.RegisterNow parent child))
 phaser_reply value limits h held (Send task number) = send_reply h held task
 phaser_reply value limits h held (Signal task single) =
     script_reply (reply_to_call value limits h (held_signal held task single))
@@ -168,15 +162,15 @@ phaser_reply value limits h held (Drop task) =
 
 -- the reply to a command
 unfoldable pub command_reply : ScriptState → Command → Reply
-command_reply NoPhaser (Make operator bound phases) = make_reply bound phases
+command_reply NoPhaser (Make operation bound phases) = make_reply bound phases
 command_reply NoPhaser command = Refused no.NoPhaser
-command_reply (OnePhaser operator limits h held) command =
-    phaser_reply (value_of operator) limits h held command
+command_reply (OnePhaser operation limits h held) command =
+    phaser_reply (value_by operation) limits h held command
 
 -- a phaser is made where its limits are within theirs
-abbrev pub made_by : Reply → Operator → ℕ → ℕ → ScriptState
-made_by Accepted operator bound phases = OnePhaser operator (limits bound phases) (Made 0 ∷ []) []
-made_by reply operator bound phases = NoPhaser
+abbrev pub made_by : Reply → Op → ℕ → ℕ → ScriptState
+made_by Accepted operation bound phases = OnePhaser operation (limits bound phases) (Made 0 ∷ []) []
+made_by reply operation bound phases = NoPhaser
 
 -- an accepted send is held, behind the others
 abbrev pub held_after_send : Reply → Held → ℕ → ℤ → Held
@@ -199,9 +193,11 @@ after_call value limits h call = after_reply call (reply_to_call value limits h 
 
 -- the history that a command leaves where there is a phaser
 abbrev pub history_after : (List ℤ → Outcome) → Limits → History → Held → Command → History
-history_after value limits h held (Make operator bound phases) = h
+history_after value limits h held (Make operation bound phases) = h
 history_after value limits h held (Add parent child mode) =
     after_call value limits h (call.Register parent child mode)
+history_after value limits h held (Now parent child) =
+    after_call value limits h (call.RegisterNow parent child)
 history_after value limits h held (Send task number) = h
 history_after value limits h held (Signal task single) =
     after_call value limits h (held_signal held task single)
@@ -210,8 +206,9 @@ history_after value limits h held (Drop task) = after_call value limits h (call.
 
 -- the sends that tasks hold after a command where there is a phaser
 abbrev pub held_after : Limits → History → Held → Command → Held
-held_after limits h held (Make operator bound phases) = held
+held_after limits h held (Make operation bound phases) = held
 held_after limits h held (Add parent child mode) = held
+held_after limits h held (Now parent child) = held
 held_after limits h held (Send task number) =
     held_after_send (send_reply h held task) held task number
 held_after limits h held (Signal task single) =
@@ -221,11 +218,11 @@ held_after limits h held (Drop task) = held_after_drop (drop_refusal h task) hel
 
 -- what a command leaves
 unfoldable pub after_command : ScriptState → Command → ScriptState
-after_command NoPhaser (Make operator bound phases) =
-    made_by (make_reply bound phases) operator bound phases
+after_command NoPhaser (Make operation bound phases) =
+    made_by (make_reply bound phases) operation bound phases
 after_command NoPhaser command = NoPhaser
-after_command (OnePhaser operator limits h held) command =
-    OnePhaser operator limits (history_after (value_of operator) limits h held command)
+after_command (OnePhaser operation limits h held) command =
+    OnePhaser operation limits (history_after (value_by operation) limits h held command)
     (held_after limits h held command)
 
 -- the reply to a line that gives this command, or none
@@ -233,15 +230,17 @@ abbrev pub reply_by : ScriptState → Option Command → Reply
 reply_by state (Some command) = command_reply state command
 reply_by state None = BadLine
 
--- the reply is `ok` alone: the line was done
+-- the reply is `ok` alone, or with the phase of a waiter that joins now: the line was done
 abbrev pub IsOkReply : Reply → Type 0
 IsOkReply Accepted = Unit {0}
+IsOkReply (Joined phase) = Unit {0}
 IsOkReply reply = ⊥
 
--- a line may want memory where it gives a `make`, an `add` or a `send`
+-- a line may want memory where it gives a `make`, an `add`, a `now` or a `send`
 abbrev pub MayWantMemory : Option Command → Type 0
-MayWantMemory (Some (Make operator bound phases)) = Unit {0}
+MayWantMemory (Some (Make operation bound phases)) = Unit {0}
 MayWantMemory (Some (Add parent child mode)) = Unit {0}
+MayWantMemory (Some (Now parent child)) = Unit {0}
 MayWantMemory (Some (Send task value)) = Unit {0}
 MayWantMemory command = ⊥
 

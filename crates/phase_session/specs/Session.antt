@@ -11,8 +11,8 @@ use Rattle.phase_accum.specs.Greatests.{greatest_operation}
 use Rattle.phase_accum.specs.Anys.{any_operation}
 use Rattle.phase_history.specs.Histories.{History}
 use Rattle.phase_core.specs.Cores.{StandsFor}
-use Rattle.phase_script.specs.declared.command.Operator.{Operator}
-use Rattle.phase_script.specs.declared.command.Operator.TheVariants.{Sum, Product, Least, Greatest, Any}
+use Rattle.phase_base.specs.declared.operation.Op.{Op}
+use Rattle.phase_base.specs.declared.operation.Op.TheVariants.{Sum, Product, Least, Greatest, Any}
 use Rattle.phase_session.specs.declared.script_phaser.ScriptPhaser.{ScriptPhaser}
 use Rattle.phase_session.specs.declared.any_phaser.AnyPhaser.{AnyPhaser}
 use Rattle.phase_session.specs.declared.any_phaser.AnyPhaser.TheVariants as phaser
@@ -26,8 +26,8 @@ pub record PhaserStandsFor {A : Type 0} (op : Operation A) (phaser : ScriptPhase
   pub core : StandsFor op phaser.core h
   pub holds : (task : ℕ) → StandsForSends op (held_at op phaser.held task) (held_by held task)
 
--- the phaser is one under the operator, and has this history and these sends
-unfoldable pub AnyStandsFor : AnyPhaser → Operator → Limits → History → Held → Type 0
+-- the phaser is one under the operation, and has this history and these sends
+unfoldable pub AnyStandsFor : AnyPhaser → Op → Limits → History → Held → Type 0
 AnyStandsFor (phaser.Sum p) Sum limits h held = PhaserStandsFor sum_operation p limits h held
 AnyStandsFor (phaser.Product p) Product limits h held =
     PhaserStandsFor product_operation p limits h held
@@ -35,12 +35,12 @@ AnyStandsFor (phaser.Least p) Least limits h held = PhaserStandsFor least_operat
 AnyStandsFor (phaser.Greatest p) Greatest limits h held =
     PhaserStandsFor greatest_operation p limits h held
 AnyStandsFor (phaser.Any p) Any limits h held = PhaserStandsFor any_operation p limits h held
-AnyStandsFor p operator limits h held = ⊥
+AnyStandsFor p operation limits h held = ⊥
 
--- both have no phaser, or the phaser has the state's operator, history and sends
+-- both have no phaser, or the phaser has the state's operation, history and sends
 unfoldable pub MaybeStandsFor : Option AnyPhaser → ScriptState → Type 0
 MaybeStandsFor None NoPhaser = Unit {0}
-MaybeStandsFor (Some p) (OnePhaser operator limits h held) = AnyStandsFor p operator limits h held
+MaybeStandsFor (Some p) (OnePhaser operation limits h held) = AnyStandsFor p operation limits h held
 MaybeStandsFor p state = ⊥
 
 -- a session: where its memory comes from, and the phaser that its lines have made, where they did

@@ -1,18 +1,19 @@
-//! A session's phaser, under any of the operators.
+//! A session's phaser, under any of the operations.
 ghost use Rattle.std.specs.Prelude.{◌≡◌, [], ◌∷◌, IfOk, OnOk, OnErr};
 ghost use Rattle.phase_base.specs.Limits.{Limits};
+ghost use Rattle.phase_accum.specs.Values.{value_by};
 ghost use Rattle.phase_history.specs.Histories.{History};
 ghost use Rattle.phase_script.specs.Commands.{IsCommand};
-ghost use Rattle.phase_session.specs.Scripts.{Held, value_of, IsOkReply, MayWantMemory};
+ghost use Rattle.phase_session.specs.Scripts.{Held, IsOkReply, MayWantMemory};
 ghost use Rattle.phase_session.specs.Scripts.{phaser_reply, history_after, held_after};
 
 use crate::script_phaser::ScriptPhaser;
-use phase_accum::{Any, Greatest, Least, Product, Sum};
+use phase_accum::{Any, Greatest, Least, Op, Product, Sum};
 use phase_base::Spec;
-use phase_script::{Command, Operator, Reply};
+use phase_script::{Command, Reply};
 use std::alloc::{AllocError, Global};
 
-/// A phaser that a script made, by its operator.
+/// A phaser that a script made, by its operation.
 pub enum AnyPhaser {
     Sum(ScriptPhaser<Sum>),
     Product(ScriptPhaser<Product>),
@@ -27,33 +28,33 @@ impl AnyPhaser {
     ghost use Rattle.phase_session.specs.Session.{AnyStandsFor};
 
     /// Makes a phaser whose founder, task 0, holds no sends.
-    pub fn new(alloc: Global, operator: Operator, spec: Spec) -> Result<AnyPhaser, AllocError>
-        ensures { IfOk result (λ phaser. AnyStandsFor phaser operator spec (Made 0 ∷ []) []) }
+    pub fn new(alloc: Global, operation: Op, spec: Spec) -> Result<AnyPhaser, AllocError>
+        ensures { IfOk result (λ phaser. AnyStandsFor phaser operation spec (Made 0 ∷ []) []) }
     {
-        match operator {
-            Operator::Sum => Ok(AnyPhaser::Sum(ScriptPhaser::new(alloc, spec)?)),
-            Operator::Product => Ok(AnyPhaser::Product(ScriptPhaser::new(alloc, spec)?)),
-            Operator::Least => Ok(AnyPhaser::Least(ScriptPhaser::new(alloc, spec)?)),
-            Operator::Greatest => Ok(AnyPhaser::Greatest(ScriptPhaser::new(alloc, spec)?)),
-            Operator::Any => Ok(AnyPhaser::Any(ScriptPhaser::new(alloc, spec)?)),
+        match operation {
+            Op::Sum => Ok(AnyPhaser::Sum(ScriptPhaser::new(alloc, spec)?)),
+            Op::Product => Ok(AnyPhaser::Product(ScriptPhaser::new(alloc, spec)?)),
+            Op::Least => Ok(AnyPhaser::Least(ScriptPhaser::new(alloc, spec)?)),
+            Op::Greatest => Ok(AnyPhaser::Greatest(ScriptPhaser::new(alloc, spec)?)),
+            Op::Any => Ok(AnyPhaser::Any(ScriptPhaser::new(alloc, spec)?)),
         }
     }
 
     /// The reply to a command.
     pub fn obey(&mut self, command: Command) -> Result<Reply, AllocError>
         requires { IsCommand command }
-        ensures reply { IfOk result (λ reply. (operator : Operator) (limits : Limits)
-            (h : History) (held : Held) → AnyStandsFor self.old operator limits h held
-            → reply ≡ phaser_reply (value_of operator) limits h held command) }
-        ensures after { OnOk result ((operator : Operator) (limits : Limits) (h : History)
-            (held : Held) → AnyStandsFor self.old operator limits h held
-            → AnyStandsFor self.new operator limits
-            (history_after (value_of operator) limits h held command)
+        ensures reply { IfOk result (λ reply. (operation : Op) (limits : Limits)
+            (h : History) (held : Held) → AnyStandsFor self.old operation limits h held
+            → reply ≡ phaser_reply (value_by operation) limits h held command) }
+        ensures after { OnOk result ((operation : Op) (limits : Limits) (h : History)
+            (held : Held) → AnyStandsFor self.old operation limits h held
+            → AnyStandsFor self.new operation limits
+            (history_after (value_by operation) limits h held command)
             (held_after limits h held command)) }
         ensures err { OnErr result (self.new ≡ self.old) }
-        ensures memory { OnErr result ((operator : Operator) (limits : Limits) (h : History)
-            (held : Held) → AnyStandsFor self.old operator limits h held
-            → IsOkReply (phaser_reply (value_of operator) limits h held command)) }
+        ensures memory { OnErr result ((operation : Op) (limits : Limits) (h : History)
+            (held : Held) → AnyStandsFor self.old operation limits h held
+            → IsOkReply (phaser_reply (value_by operation) limits h held command)) }
         ensures asks { OnErr result (MayWantMemory (Some command)) }
     {
         match self {

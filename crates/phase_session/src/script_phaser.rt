@@ -127,6 +127,7 @@ impl<A: Accumulate> ScriptPhaser<A> {
                 child,
                 mode,
             } => self.add(parent, child, mode),
+            Command::Now { parent, child } => self.add_now(parent, child),
             Command::Send { task, value } => self.send(task, value),
             Command::Signal { task, single } => Ok(self.signal(task, single)),
             Command::Wait { task } => Ok(self.wait(task)),
@@ -152,6 +153,28 @@ impl<A: Accumulate> ScriptPhaser<A> {
     {
         match self.core.register(parent, child, mode) {
             Ok(()) => Ok(Reply::Accepted),
+            Err(refusal) => register_reason(refusal),
+        }
+    }
+
+    // Registers the child as a waiter that joins now.
+    fn add_now(&mut self, parent: u64, child: u64) -> Result<Reply, AllocError>
+        ensures reply { IfOk result (λ reply. (limits : Limits) (h : History) (held : Held)
+            → PhaserStandsFor A.operation self.old limits h held
+            → reply ≡ script_reply
+            (reply_to A.operation.value limits h (call.RegisterNow parent child))) }
+        ensures after { OnOk result ((limits : Limits) (h : History) (held : Held)
+            → PhaserStandsFor A.operation self.old limits h held
+            → PhaserStandsFor A.operation self.new limits
+            (after_call A.operation.value limits h (call.RegisterNow parent child)) held) }
+        ensures err { OnErr result (self.new ≡ self.old) }
+        ensures memory { OnErr result ((limits : Limits) (h : History) (held : Held)
+            → PhaserStandsFor A.operation self.old limits h held
+            → IsOkReply (script_reply
+            (reply_to A.operation.value limits h (call.RegisterNow parent child)))) }
+    {
+        match self.core.register_now(parent, child) {
+            Ok(phase) => Ok(Reply::Joined { phase }),
             Err(refusal) => register_reason(refusal),
         }
     }

@@ -53,7 +53,7 @@ impl Session {
 
     /// Answers one line, given with neither its LF nor the CR before it.
     ///
-    /// Want of memory comes only from a `make`, `add` or `send` that would be answered `ok`, and
+    /// Want of memory comes only from a `make`, `add`, `now` or `send` that would be answered `ok`, and
     /// leaves the session unchanged.
     #[tactic(auto, using(crate::proofs::Scripted::state_after_push), unfolding(crate::specs::Session::Stands, crate::specs::Scripts::reply_to, crate::specs::Scripts::after_line))]
     pub fn line(&mut self, line: &[u8]) -> Result<ReplyLine, AllocError>
@@ -115,7 +115,7 @@ impl Session {
         ensures asks { OnErr result (MayWantMemory (Some command)) }
     {
         let Command::Make {
-            operator,
+            operation,
             bound,
             phases,
         } = command
@@ -127,7 +127,7 @@ impl Session {
             Err(SpecFault::BadBound) => return Ok(Reply::Refused(Refusal::BadBound)),
             Err(SpecFault::BadPhases) => return Ok(Reply::Refused(Refusal::BadPhases)),
         };
-        self.phaser = Some(AnyPhaser::new(self.alloc, operator, spec)?);
+        self.phaser = Some(AnyPhaser::new(self.alloc, operation, spec)?);
         Ok(Reply::Accepted)
     }
 }

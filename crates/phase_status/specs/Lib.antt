@@ -1,2 +1,1 @@
-pub mod GraphRuns
 pub mod Statuses

@@ -10,11 +10,9 @@ ghost use Rattle.watched_io.specs.Watched.{has_failed_of, inner_of};
 use std::io::Write;
 use watched_io::{Watched, WriteFailed};
 
-/// Writes the parts, one behind the other.
-pub(crate) fn write_parts<W: Write>(
-    parts: &[&str],
-    writer: &mut Watched<W>,
-) -> Result<(), WriteFailed>
+/// Writes the parts, one behind the other, each of them flushed. It takes no memory. After a failed
+/// write the writer has a prefix of them.
+pub fn write_parts<W: Write>(parts: &[&str], writer: &mut Watched<W>) -> Result<(), WriteFailed>
     ensures ok { OnOk result (Appends (W.contents (inner_of writer.old))
         (W.contents (inner_of writer.new)) (flat_map (λ part. part.now) parts.now)) }
     ensures err { OnErr result (AppendsPrefix (W.contents (inner_of writer.old))
@@ -28,8 +26,8 @@ pub(crate) fn write_parts<W: Write>(
     Ok(())
 }
 
-/// Tells a line, by its parts. Where a write fails there is nobody to be told.
-pub(crate) fn say<E: Write>(parts: &[&str], faults: &mut Watched<E>)
+/// Tells a line, by its parts. Where a write fails there is nobody to be told. It takes no memory.
+pub fn say<E: Write>(parts: &[&str], faults: &mut Watched<E>)
     ensures { Says (flat_map (λ part. part.now) parts.now)
         (writer_state E.contents faults.old) (writer_state E.contents faults.new) }
 {

@@ -1,16 +1,15 @@
 //! What the program shows in place of a replay.
 ghost use Rattle.std.specs.Prelude.{◌≡◌, ◌⊎◌, true};
 ghost use Rattle.std.specs.Io.KnownBytes.{Appends};
-ghost use Rattle.phase_replay.specs.declared.fault.ReplayFault.TheVariants.{WriteFault};
+ghost use Rattle.watched_io.specs.declared.fault.IoFault.TheVariants.{WriteFault};
 ghost use Rattle.phase_status.specs.Statuses.{Reports};
 ghost use Rattle.watched_io.specs.Prefix.{AppendsPrefix};
 ghost use Rattle.watched_io.specs.States.{writer_state};
 ghost use Rattle.watched_io.specs.Watched.{has_failed_of, inner_of};
 
 use crate::status::{DONE, REFUSED, report};
-use phase_replay::ReplayFault;
 use std::io::Write;
-use watched_io::Watched;
+use watched_io::{IoFault, Watched};
 
 /// Shows help on the output, once, and answers the exit status: 0, or 5 where a write fails.
 pub fn show_help<W: Write, E: Write>(
@@ -30,7 +29,7 @@ pub fn show_help<W: Write, E: Write>(
 {
     match output.send(text.as_bytes()) {
         Ok(()) => DONE,
-        Err(_) => report(ReplayFault::WriteFault, faults),
+        Err(_) => report(IoFault::WriteFault, faults),
     }
 }
 

@@ -3,9 +3,8 @@ ghost use Rattle.std.specs.Prelude.{◌≡◌};
 ghost use Rattle.phase_status.specs.Statuses.{Reports, fault_line};
 ghost use Rattle.watched_io.specs.States.{writer_state};
 
-use phase_replay::ReplayFault;
 use std::io::Write;
-use watched_io::Watched;
+use watched_io::{IoFault, Watched};
 
 /// What was asked for is done, or help was shown.
 pub const DONE: u8 = 0;
@@ -23,7 +22,7 @@ pub const TOO_BIG: u8 = 3;
 pub const FAILED: u8 = 5;
 
 /// Writes a fault's line, and answers the status after a fault.
-pub fn report<E: Write>(fault: ReplayFault, faults: &mut Watched<E>) -> u8
+pub fn report<E: Write>(fault: IoFault, faults: &mut Watched<E>) -> u8
     ensures status { result ≡ 5 }
     ensures line { Reports fault
         (writer_state E.contents faults.old) (writer_state E.contents faults.new) }
@@ -33,12 +32,12 @@ pub fn report<E: Write>(fault: ReplayFault, faults: &mut Watched<E>) -> u8
 }
 
 /// A fault's line, with its line feed.
-fn line_of(fault: ReplayFault) -> &'static str
+fn line_of(fault: IoFault) -> &'static str
     ensures { result.now ≡ fault_line fault }
 {
     match fault {
-        ReplayFault::ReadFault => "phase: read fault\n",
-        ReplayFault::WriteFault => "phase: write fault\n",
-        ReplayFault::OutOfMemory => "phase: out of memory\n",
+        IoFault::ReadFault => "phase: read fault\n",
+        IoFault::WriteFault => "phase: write fault\n",
+        IoFault::OutOfMemory => "phase: out of memory\n",
     }
 }

@@ -1,16 +1,15 @@
 //! The words of the process, without the program's own name.
 ghost use Rattle.std.specs.Prelude.{◌≡◌, ◌≢◌, codes};
 ghost use Rattle.std.specs.IoError.{error_kind};
-ghost use Rattle.phase_replay.specs.declared.fault.ReplayFault.TheVariants as fault;
+ghost use Rattle.watched_io.specs.declared.fault.IoFault.TheVariants as fault;
 ghost use Rattle.phase_status.specs.Statuses.{Reports, Says};
 ghost use Rattle.watched_io.specs.States.{writer_state};
 
 use crate::status::{REFUSED, report};
-use phase_replay::ReplayFault;
 use std::env::Env;
 use std::io::{ErrorKind, Write};
 use std::{env, io};
-use watched_io::Watched;
+use watched_io::{IoFault, Watched};
 
 /// The words of the process, without the program's own name.
 pub fn own_words<R: Env + Alloc>(rt: &R) -> io::Result<Vec<String<R::A>, R::A>> {
@@ -31,7 +30,7 @@ pub fn refuse_words<E: Write>(error: &io::Error, faults: &mut Watched<E>) -> u8
         (writer_state E.contents faults.old) (writer_state E.contents faults.new) }
 {
     if error.kind() == ErrorKind::OutOfMemory {
-        return report(ReplayFault::OutOfMemory, faults);
+        return report(IoFault::OutOfMemory, faults);
     }
     let _ = faults.send(b"error: a word of the command line is not UTF-8\n");
     REFUSED

@@ -1,3 +1,4 @@
 mod Called
+pub mod NoCalls
 mod Refused
 mod Simple

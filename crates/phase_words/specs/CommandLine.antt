@@ -1,13 +1,16 @@
 -- What the words of a command line ask for, by what clap makes of them. The program's own name is
 -- not among them.
 use Rattle.std.specs.Prelude.{◌≡◌, ◌≢◌, ◌⊎◌, true, List, [], ◌∷◌, Option, Some, None}
-use Rattle.std.specs.Prelude.{String, codes, if◌then◌else◌, map, string_bytes, unwrap_or}
+use Rattle.std.specs.Prelude.{String, codes, if◌then◌else◌, map, string_bytes, unwrap_or, ⊤}
 use Rattle.std.specs.Str.{bytes_eq}
 use Rattle.clap.specs.Words.{App, IsAmong, Kinds, Row, Rule, Shape, Text, fault_of, first_of}
 use Rattle.clap.specs.Words.{new_app, new_rule, subcommand_of, with_rule, with_subcommand}
-use Rattle.clap.specs.declared.error.kind.ErrorKind.TheVariants.{DisplayHelp}
-use Rattle.phase_words.specs.declared.command_line.Call.{Call}
-use Rattle.phase_words.specs.declared.command_line.Call.TheVariants as call
+use Rattle.clap.specs.declared.error.kind.ErrorKind.{ErrorKind}
+use Rattle.clap.specs.declared.error.kind.ErrorKind.TheVariants.{DisplayHelp, OutOfMemory}
+use Rattle.phase_words.specs.declared.call.Call.{Call}
+use Rattle.phase_words.specs.declared.call.Call.TheVariants as call
+use Rattle.phase_words.specs.declared.call.NoCall.{NoCall}
+use Rattle.phase_words.specs.declared.call.NoCall.TheVariants as no_call
 
 -- ---- the command line
 
@@ -97,3 +100,24 @@ asked_of (call.Eval name) = eval name.now
 -- the words as texts
 abbrev pub texts : {Z : Type 0} → List (String Z) → List Text
 texts words = map string_bytes words
+
+-- ---- why there is no call
+
+-- a kind of refusal, which is no call for help, is among the kinds
+pub record HasRefusal (words : List Text) : Type 0 where
+  pub kind : ErrorKind
+  pub among : IsAmong kind (kinds_of words)
+  pub other : kind ≢ DisplayHelp
+
+-- why the words give no call: they ask for help, or something in them is refused; memory may run
+-- out over any words
+abbrev pub IsNoCall : List Text → NoCall → Type 0
+IsNoCall words (no_call.Help text) = IsAmong DisplayHelp (kinds_of words)
+IsNoCall words (no_call.Refused text) = HasRefusal words
+IsNoCall words no_call.OutOfMemory = ⊤
+
+-- how an error of this kind is told, with its text
+abbrev pub IsToldBy : ErrorKind → NoCall → Type 0
+IsToldBy kind (no_call.Help text) = kind ≡ DisplayHelp
+IsToldBy kind (no_call.Refused text) = (kind ≢ DisplayHelp) × (kind ≢ OutOfMemory)
+IsToldBy kind no_call.OutOfMemory = ⊤

@@ -1,23 +1,15 @@
 //! The words of the program, as clap reads them.
-ghost use Rattle.std.specs.Prelude.{◌≡◌, IfOk, Some, false};
-ghost use Rattle.clap.specs.Words.{FailsBy, app_of, rule_of, subcommand_rows_of};
+ghost use Rattle.std.specs.Prelude.{◌≡◌, IfOk, IfErr, Some, false};
+ghost use Rattle.clap.specs.Words.{FailsBy, app_of, kind_of, rule_of, subcommand_rows_of};
+ghost use Rattle.phase_words.specs.CommandLine.{Asks, IsNoCall, IsToldBy};
 ghost use Rattle.phase_words.specs.CommandLine.{asked_as, asked_by, asked_in, asked_of, graph_rule};
 ghost use Rattle.phase_words.specs.CommandLine.{kinds_of, phase_app, texts};
 
 use crate::help::{ABOUT, CHECK, CHECK_END, END, EVAL, EVAL_END, GRAPH, REPLAY};
+use crate::{Call, NoCall};
+use clap::error::ErrorKind;
 use clap::{Arg, ArgMatches, Command, Error};
 use std::alloc::{AllocError, Global};
-
-/// What the words ask for.
-#[derive(Clone, Copy, Debug, PartialEq, Eq)]
-pub enum Call<'a> {
-    /// A replay of the script on standard input.
-    Replay,
-    /// A check of the graph in the file of this name.
-    Check(&'a str),
-    /// An evaluation of the graph in the file of this name.
-    Eval(&'a str),
-}
 
 /// The word behind `check` and `eval`, which has to be given: the name of a graph's file.
 fn graph_word<'a>(alloc: Global) -> Arg<'a>
@@ -76,13 +68,39 @@ fn call_named<'a>(name: &str, graph: &'a str) -> Call<'a>
     Call::Replay
 }
 
-/// Reads the words after the program's own name. A call for help is an `Err` too, and its text is
-/// the error's.
-pub fn read_words<'a>(alloc: Global, words: &'a [String]) -> Result<Call<'a>, Error>
+/// Reads the words by clap.
+fn parse<'a>(alloc: Global, words: &'a [String]) -> Result<Call<'a>, Error>
     ensures fails { FailsBy (kinds_of (texts words.now)) result }
     ensures call { IfOk result (λ call. asked_of call ≡ asked_in (texts words.now)) }
 {
     let command = command(alloc)?;
     let matches = command.try_get_matches_from(words)?;
     Ok(call_of(&matches))
+}
+
+/// What clap says in place of taking the words, with its text.
+fn no_call(alloc: Global, error: &Error) -> NoCall
+    ensures { IsToldBy (kind_of error.now) result }
+{
+    let kind = error.kind();
+    if kind == ErrorKind::OutOfMemory {
+        return NoCall::OutOfMemory;
+    }
+    match error.to_string(alloc) {
+        Err(_) => NoCall::OutOfMemory,
+        Ok(text) if kind == ErrorKind::DisplayHelp => NoCall::Help(text),
+        Ok(text) => NoCall::Refused(text),
+    }
+}
+
+/// Reads the words after the program's own name. Where they ask for help or are refused, the text
+/// is clap's.
+pub fn read_words<'a>(alloc: Global, words: &'a [String]) -> Result<Call<'a>, NoCall>
+    ensures call { IfOk result (λ call. Asks (texts words.now) (asked_of call)) }
+    ensures no_call { IfErr result (λ none. IsNoCall (texts words.now) none) }
+{
+    match parse(alloc, words) {
+        Ok(call) => Ok(call),
+        Err(error) => Err(no_call(alloc, &error)),
+    }
 }

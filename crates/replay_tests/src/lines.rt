@@ -1,7 +1,7 @@
 //! The grammar and the reply lines at chosen texts, which no clause names.
 use phase_accum::{Range, Single};
 use phase_base::Mode;
-use phase_script::{Command, Operator, Refusal, Reply, line, read};
+use phase_script::{Command, Op, Refusal, Reply, line, read};
 use std::test::Fail;
 
 #[test]
@@ -36,7 +36,7 @@ fn commands_are_read(rt: HostRuntime) {
         (
             "make sum 2 100",
             Command::Make {
-                operator: Operator::Sum,
+                operation: Op::Sum,
                 bound: 2,
                 phases: 100,
             },
@@ -73,7 +73,7 @@ fn commands_are_read(rt: HostRuntime) {
         (
             "make greatest 1 2",
             Command::Make {
-                operator: Operator::Greatest,
+                operation: Op::Greatest,
                 bound: 1,
                 phases: 2,
             },

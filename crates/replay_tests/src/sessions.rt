@@ -182,6 +182,37 @@ fn refusals_and_singles(rt: HostRuntime) -> Result<(), Fail> {
     Ok(())
 }
 
+#[test]
+fn a_waiter_joins_now(rt: HostRuntime) -> Result<(), Fail> {
+    let rows: Rows<'_> = &[
+        ("now 0 1", "no phaser"),
+        ("make sum 4 100", "ok"),
+        ("add 0 1 sig", "ok"),
+        ("add 0 2 wait", "ok"),
+        ("drop 0", "ok"),
+        ("send 1 10", "ok"),
+        ("signal 1", "ok 0"),
+        ("send 1 20", "ok"),
+        ("signal 1", "ok 1"),
+        ("now 2 3", "ok 2"),
+        ("wait 3", "no not-yet"),
+        ("signal 1", "ok 2"),
+        ("wait 3", "value 2 0"),
+        ("wait 2", "value 0 10"),
+        ("now 1 4", "no not-allowed"),
+        ("now 9 4", "no no-task"),
+        ("now 2 3", "no not-new"),
+        ("now 2", "bad line"),
+        ("now 2 4 wait", "bad line"),
+    ];
+    follow(
+        &rt,
+        &mut Session::new(rt.alloc()),
+        "a_waiter_joins_now",
+        rows,
+    )
+}
+
 // In each order the three sends add up to 2^63 - 1; then one more than that is too big.
 #[test]
 fn sum_range(rt: HostRuntime) -> Result<(), Fail> {

@@ -5,6 +5,8 @@ use Rattle.csv.specs.Reading.{default_config, strip_bom, AreRecords, Reached}
 use Rattle.csv.specs.declared.parser.State.{State}
 use Rattle.csv.specs.declared.parser.State.TheVariants as st
 use Rattle.phase_accum.specs.Sends.{IsSend, AreSends}
+use Rattle.std.specs.declared.option.Option.{Option}
+use Rattle.watched_io.specs.Files.{HasBytes}
 use Rattle.watched_io.specs.States.{ReaderState, ReadsAll}
 use Rattle.sample_text.specs.declared.sample.TheConstants.{TEXT_MAX}
 
@@ -52,3 +54,15 @@ pub record ReadsBadSample (old new : ReaderState) (n : ℕ) : Type 0 where
   pub text : List ℕ
   pub reads : ReadsAll TEXT_MAX old new text
   pub bad : IsBadSample text n
+
+-- the values are the samples of the file's text, or of some text where nothing is known of the file
+pub record AreSamplesOf (known : Option (List ℕ)) (values : List ℤ) : Type 0 where
+  pub text : List ℕ
+  pub bytes : HasBytes known text
+  pub samples : AreShortSamples values text
+
+-- record number n is the first of such a text that is not of a value
+pub record HasBadSample (known : Option (List ℕ)) (n : ℕ) : Type 0 where
+  pub text : List ℕ
+  pub bytes : HasBytes known text
+  pub bad : IsBadShortSample n text

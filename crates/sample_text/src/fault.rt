@@ -1,17 +1,10 @@
 //! Why no samples were read.
+ghost use Rattle.std.specs.Prelude.{◌≡◌};
+ghost use Rattle.sample_text.specs.Faults.{as_sample_fault};
 
+use crate::TEXT_MAX;
 use thiserror::Error;
-
-/// Why a text was not read to its end.
-#[derive(Clone, Copy, Debug, PartialEq, Eq, Hash, Error)]
-pub enum TextFault {
-    /// A read failed, or the text is longer than the limit.
-    #[error("a read failed, or the text is too long")]
-    ReadFault,
-    /// Memory ran out.
-    #[error("memory ran out")]
-    OutOfMemory,
-}
+use watched_io::FileFault;
 
 /// Why a reader gave no samples.
 #[derive(Clone, Copy, Debug, PartialEq, Eq, Hash, Error)]
@@ -24,9 +17,20 @@ pub enum SampleFault {
         number: usize,
     },
     /// A read failed, or the text is longer than `TEXT_MAX`.
-    #[error("a read failed, or the samples take more than 67108864 bytes")]
+    #[error("a read failed, or the samples take more than {most} bytes", most = TEXT_MAX)]
     ReadFault,
     /// Memory ran out.
     #[error("memory ran out")]
     OutOfMemory,
+}
+
+impl From<FileFault> for SampleFault {
+    ghost from_gives = { λ fault given. given ≡ as_sample_fault fault };
+
+    fn from(fault: FileFault) -> SampleFault {
+        match fault {
+            FileFault::ReadFault => SampleFault::ReadFault,
+            FileFault::OutOfMemory => SampleFault::OutOfMemory,
+        }
+    }
 }

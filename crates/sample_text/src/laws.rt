@@ -1,14 +1,13 @@
-//! Laws of the samples of a text, and the numbers behind the constants. The contract of each
+//! Laws of the samples of a text, and the number behind the constant. The contract of each
 //! function is the law.
 ghost use Rattle.std.specs.Prelude.{◌≡◌, ℕ, ℤ, List};
 ghost use Rattle.sample_text.specs.Samples.{AreSamples, IsBadSample};
 
-use crate::{PIECE_MAX, TEXT_MAX};
+use crate::TEXT_MAX;
 
-/// Samples may take 67,108,864 bytes, and 65,536 are read at once.
+/// Samples may take 67,108,864 bytes.
 pub fn numbers()
     ensures text_max { TEXT_MAX ≡ 67108864 }
-    ensures piece_max { PIECE_MAX ≡ 65536 }
 {}
 
 /// A text has one list of samples, or one first bad record, and never both.

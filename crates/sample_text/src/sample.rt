@@ -7,17 +7,16 @@ ghost use Rattle.phase_accum.specs.Sends.{IsSend, AreSends};
 ghost use Rattle.sample_text.specs.Samples.{AreSamples, IsBadSample};
 ghost use Rattle.sample_text.specs.Samples.{AreShortSamples, IsBadShortSample};
 ghost use Rattle.sample_text.specs.Samples.{ReadsSamples, ReadsBadSample};
-ghost use Rattle.sample_text.specs.declared.text.TheConstants.{PIECE_MAX};
 ghost use Rattle.watched_io.specs.States.{ReadsTooMuch, ReadsWithin, reader_state};
 ghost use Rattle.watched_io.specs.Watched.{has_failed_of, inner_of};
+ghost use Rattle.watched_io.specs.declared.text.TheConstants.{CHUNK_MAX};
 
+use crate::SampleFault;
 use crate::number::value_of;
-use crate::text::read_text;
-use crate::{SampleFault, TextFault};
 use csv::{ByteRecord, ReaderBuilder};
 use std::alloc::Global;
 use std::io::Read;
-use watched_io::Watched;
+use watched_io::{Watched, read_text};
 
 /// The longest text of samples that is read, in bytes.
 pub const TEXT_MAX: usize = 67_108_864;
@@ -100,7 +99,7 @@ pub fn read_samples<R: Read>(
         (reader_state R.remaining reader.old) (reader_state R.remaining reader.new) n }
 
     ensures read { IsErrOf result SampleFault.ReadFault → (has_failed_of reader.new ≡ true)
-        ⊎ ReadsTooMuch TEXT_MAX PIECE_MAX
+        ⊎ ReadsTooMuch TEXT_MAX CHUNK_MAX
         (reader_state R.remaining reader.old) (reader_state R.remaining reader.new) }
 
     // A text that is too long is no want of memory.
@@ -111,9 +110,6 @@ pub fn read_samples<R: Read>(
     ensures kept { (result ≢ Err SampleFault.ReadFault)
         → has_failed_of reader.new ≡ has_failed_of reader.old }
 {
-    match read_text(alloc, reader, TEXT_MAX) {
-        Ok(text) => samples_of(alloc, text.as_slice()),
-        Err(TextFault::ReadFault) => Err(SampleFault::ReadFault),
-        Err(TextFault::OutOfMemory) => Err(SampleFault::OutOfMemory),
-    }
+    let text = read_text(alloc, reader, TEXT_MAX)?;
+    samples_of(alloc, text.as_slice())
 }

@@ -1,27 +1,8 @@
-//! Whole lists of a graph: what each task puts on each phaser, composed from the samples of the
-//! sources, phaser by phaser.
-//!
-//! It is for whoever wants the exact lists of a graph's sinks, or the first value that is out of
-//! range: make a `Job` of a graph and the samples of its sources, and give it to `eval`.
+//! Jobs and their lists under one name: a graph with the samples of its sources (`stream_lists`),
+//! and what its sinks get, or the first value out of range (`stream_eval`).
 #![tactic(auto)]
 
-mod fault;
-mod job;
-pub mod laws;
-mod lengths;
-mod list;
-mod meetings;
-mod members;
-mod numbers;
-mod outputs;
-mod phases;
-mod span;
-mod spans;
-mod taken;
-mod takes;
-mod whole;
-
-pub use fault::{EvalFault, JobRefusal};
-pub use job::Job;
-pub use span::{LENGTH_MAX, Span};
-pub use whole::{Lines, eval};
+pub use stream_eval::{EvalFault, Lines, eval};
+pub use stream_lists::{
+    Job, JobRefusal, LENGTH_MAX, Span, input_number, laws, number_of, output_number, taken_count,
+};

@@ -10,16 +10,16 @@ use Rattle.graph_base.specs.Graphs.{Task, task_at, phaser_at}
 use Rattle.graph_base.specs.TaskLines.{IsGraph, IsTaskLine, IsParent, has_children}
 use Rattle.graph_base.specs.declared.line.Kind.{Kind}
 use Rattle.graph_base.specs.declared.line.Kind.TheVariants.{Source, Fir, Split, Join, Peer, Sink}
-use Rattle.graph_words.specs.declared.operation.Op.TheVariants.{Any}
+use Rattle.phase_base.specs.declared.operation.Op.TheVariants.{Any}
 use Rattle.graph_base.specs.declared.line.Parent.{Parent}
-use Rattle.stream_job.specs.Jobs.{Job, samples_at, place_in}
-use Rattle.stream_job.specs.Spans.{signalled_by, puts_on, offset_of, span_at, spans_of, lengths_of, span_in, end_on, end_of}
-use Rattle.stream_job.specs.Lists.{Member, list_of_phaser}
-use Rattle.stream_job.specs.Meetings.{is_any, overlap, meet_on, meets_on, meets_above, meeting_line}
+use Rattle.stream_lists.specs.Jobs.{Job, samples_at, place_in}
+use Rattle.stream_lists.specs.Spans.{signalled_by, puts_on, offset_of, span_at, spans_of, lengths_of, span_in, end_on, end_of}
+use Rattle.stream_lists.specs.Lists.{Member, list_of_phaser}
+use Rattle.stream_lists.specs.Meetings.{is_any, overlap, meet_on, meets_on, meets_above, meeting_line}
 use Rattle.stream_laws.specs.Entries.{output_values, HasEntry}
-use Rattle.stream_job.specs.declared.span.Span.{Span}
+use Rattle.stream_lists.specs.declared.span.Span.{Span}
 use Rattle.stream_laws.proofs.Ordered.{place-at, parent_signals}
-use Rattle.stream_job.proofs.SpansAbove.{parent-is, spans_all}
+use Rattle.stream_lists.proofs.SpansAbove.{parent-is, spans_all}
 use Rattle.stream_laws.proofs.LengthsAbove.{lengths_all}
 use Rattle.stream_laws.proofs.ListLengths.{outputs_long}
 

@@ -10,20 +10,20 @@ use Rattle.phase_accum.specs.declared.single.Single.{Single}
 use Rattle.phase_accum.specs.Values.{applied, ranged, sum_of, product_of, value_max}
 use Rattle.graph_base.specs.Graphs.{Task, task_at, phaser_at, is_sink}
 use Rattle.graph_base.specs.TaskLines.{IsGraph, IsTaskLine, HasEnds, is_distinct}
-use Rattle.graph_words.specs.declared.operation.Op.{Op}
-use Rattle.graph_words.specs.declared.operation.Op.TheVariants.{Sum, Product, Least, Greatest, Any}
+use Rattle.phase_base.specs.declared.operation.Op.{Op}
+use Rattle.phase_base.specs.declared.operation.Op.TheVariants.{Sum, Product, Least, Greatest, Any}
 use Rattle.graph_base.specs.declared.line.Kind.{Kind}
 use Rattle.graph_base.specs.declared.line.Kind.TheVariants.{Source, Fir, Split, Join, Peer, Sink}
-use Rattle.stream_job.specs.Jobs.{Job, samples_at, place_in}
-use Rattle.stream_job.specs.Spans.{signalled_by, takes_from, offset_of, span_at, spans_of, lengths_of, span_in}
-use Rattle.stream_job.specs.Lists.{entry, taken_from, output_on, member_at, member_by, members_of, sends_in, value_by, number, phase_in, list_over, list_of_phaser, numbers_of, is_sink_at, sink_over, lines_of}
-use Rattle.stream_job.specs.Ranges.{Fits}
+use Rattle.stream_lists.specs.Jobs.{Job, samples_at, place_in}
+use Rattle.stream_lists.specs.Spans.{signalled_by, takes_from, offset_of, span_at, spans_of, lengths_of, span_in}
+use Rattle.stream_lists.specs.Lists.{entry, taken_from, output_on, member_at, member_by, members_of, sends_in, value_by, number, phase_in, list_over, list_of_phaser, numbers_of, is_sink_at, sink_over, lines_of}
+use Rattle.stream_lists.specs.Ranges.{Fits}
 use Rattle.stream_laws.specs.Entries.{Takes, AreInRange}
 use Rattle.stream_laws.specs.Exact.{exact_by, exact_single, exact_in, exact_over, exact_lists, exact_lines}
-use Rattle.stream_job.specs.declared.span.Span.{Span}
-use Rattle.stream_job.proofs.Growing.{grown-whole, filter_map-same}
+use Rattle.stream_lists.specs.declared.span.Span.{Span}
+use Rattle.stream_lists.proofs.Growing.{grown-whole, filter_map-same}
 use Rattle.stream_laws.proofs.Ordered.{looked_above}
-use Rattle.stream_job.proofs.SpansAbove.{spans_all}
+use Rattle.stream_lists.proofs.SpansAbove.{spans_all}
 use Rattle.stream_laws.proofs.ListsAbove.{output_by_taken, same_members, lists_above, numbers_all}
 use Rattle.stream_laws.proofs.ListLengths.{length-numbers}
 use Rattle.stream_laws.proofs.EachPhase.{member_where, length-list}

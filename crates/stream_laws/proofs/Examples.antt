@@ -2,17 +2,17 @@
 use Rattle.std.proofs.Common.{◌≡◌, [], ◌∷◌, List, ℕ, ℤ, pos, neg_ℤ, Some, None, Ok, Err, false, map, refl}
 use Rattle.phase_accum.specs.declared.single.Single.{Single}
 use Rattle.phase_accum.specs.declared.single.Single.TheVariants.{Neg, Halve, Clamp}
-use Rattle.graph_words.specs.declared.operation.Op.{Op}
-use Rattle.graph_words.specs.declared.operation.Op.TheVariants.{Sum, Product, Least, Greatest, Any}
+use Rattle.phase_base.specs.declared.operation.Op.{Op}
+use Rattle.phase_base.specs.declared.operation.Op.TheVariants.{Sum, Product, Least, Greatest, Any}
 use Rattle.graph_base.specs.declared.line.Kind.TheVariants.{Source, Fir, Split, Join, Peer}
 use Rattle.graph_base.specs.declared.place.Place.TheVariants as place
 use Rattle.graph_base.specs.declared.line.PhaserLine.{PhaserLine}
 use Rattle.graph_base.specs.Graphs.{Graph, Task, no_graph, no_task}
-use Rattle.stream_job.specs.Jobs.{Job}
-use Rattle.stream_job.specs.Ranges.{answer_of}
-use Rattle.stream_job.specs.Meetings.{meet_on, meeting_line}
-use Rattle.stream_job.specs.Spans.{spans_of}
-use Rattle.stream_job.specs.Texts.{text_of}
+use Rattle.stream_lists.specs.Jobs.{Job}
+use Rattle.stream_lists.specs.Ranges.{answer_of}
+use Rattle.stream_lists.specs.Meetings.{meet_on, meeting_line}
+use Rattle.stream_lists.specs.Spans.{spans_of}
+use Rattle.stream_lists.specs.Texts.{text_of}
 use Rattle.std.specs.Prelude.{codes}
 use Rattle.std.specs.Fmt.{digits}
 

@@ -13,13 +13,13 @@ use Rattle.graph_base.specs.TaskLines.{IsGraph, IsTaskLine, HasEnds}
 use Rattle.graph_base.specs.declared.line.Kind.{Kind}
 use Rattle.graph_base.specs.declared.line.Kind.TheVariants.{Source, Fir, Split, Join, Peer, Sink}
 use Rattle.graph_base.specs.declared.place.Place.TheVariants as place
-use Rattle.stream_job.specs.Jobs.{Job, samples_at, place_in}
-use Rattle.stream_job.specs.Spans.{spans_of, lengths_of, span_in, signalled_by, takes_from}
-use Rattle.stream_job.specs.Lists.{members_of, sends_in, value_by, list_over, list_of_phaser, number, numbers_of, numbers_above, output_on}
-use Rattle.stream_job.specs.Ranges.{first_some, is_out_of_range, are_made, made_fault, output_fault, output_fault_of, output_faults, takes_phase, task_takes, is_taken, is_too_big, is_fault, first_fault, phase_fault_of, fault_on, Fits}
+use Rattle.stream_lists.specs.Jobs.{Job, samples_at, place_in}
+use Rattle.stream_lists.specs.Spans.{spans_of, lengths_of, span_in, signalled_by, takes_from}
+use Rattle.stream_lists.specs.Lists.{members_of, sends_in, value_by, list_over, list_of_phaser, number, numbers_of, numbers_above, output_on}
+use Rattle.stream_lists.specs.Ranges.{first_some, is_out_of_range, are_made, made_fault, output_fault, output_fault_of, output_faults, takes_phase, task_takes, is_taken, is_too_big, is_fault, first_fault, phase_fault_of, fault_on, Fits}
 use Rattle.stream_laws.specs.Entries.{output_values, sends_at, Takes, Makes, AreInRange}
-use Rattle.stream_job.proofs.Growing.{AreSameBelow, grown-same}
-use Rattle.stream_job.proofs.Made.{IsSend-in_range}
+use Rattle.stream_lists.proofs.Growing.{AreSameBelow, grown-same}
+use Rattle.stream_lists.proofs.InRange.{IsSend-in_range}
 use Rattle.stream_laws.proofs.Ordered.{looked_above, place-at}
 use Rattle.stream_laws.proofs.ListsAbove.{same_members, same_output}
 use Rattle.stream_laws.proofs.EachPhase.{find_none, length-list}

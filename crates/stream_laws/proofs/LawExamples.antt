@@ -1,15 +1,43 @@
 -- The laws at worked graphs, each beside what is near it and does not hold.
-use Rattle.std.proofs.Common.{◌≡◌, [], ◌∷◌, pos, Some, Ok, true, length, map, get_or, refl}
+use Rattle.std.proofs.Common.{◌≡◌, ℕ, ℤ, List, [], ◌∷◌, pos, Some, None, Ok, true, length, map, get_or, refl, arith}
 use Rattle.phase_accum.specs.declared.outcome.Outcome.TheVariants.{Value, TooBig}
-use Rattle.graph_words.specs.declared.operation.Op.TheVariants.{Sum}
+use Rattle.phase_base.specs.declared.operation.Op.TheVariants.{Sum}
 use Rattle.graph_base.specs.Graphs.{task_at}
-use Rattle.stream_job.specs.Jobs.{Job, samples_at}
+use Rattle.graph_base.specs.declared.line.Kind.TheVariants.{Peer}
+use Rattle.stream_lists.specs.Jobs.{Job, samples_at, place_in}
 use Rattle.stream_laws.specs.Exact.{exact_lines, exact_lists}
-use Rattle.stream_job.specs.Ranges.{answer_of}
-use Rattle.stream_job.specs.Spans.{nowhere, puts_on, lengths_of, spans_of, span_at, span_in, span_of}
-use Rattle.stream_job.specs.Lists.{list_of_phaser, list_over, numbers_of, numbers_above, output_on, ends_on}
+use Rattle.stream_lists.specs.Ranges.{answer_of}
+use Rattle.stream_lists.specs.Spans.{nowhere, signalled_by, LooksAt, puts_on, lengths_of, spans_of, span_at, span_in, span_of}
+use Rattle.stream_lists.specs.Lists.{list_of_phaser, list_over, members_of, numbers_of, numbers_above, output_list, output_on, ends_on}
 use Rattle.stream_laws.proofs.Examples.{minus, plain, source, fir, sink, added_by, stops_at, job_of, these}
 use Rattle.stream_laws.proofs.Examples.{nothing, split_to_one_bus_7, any_hands_over_2, any_hands_over_3, any_hands_over_4, peers, peers_with_single, too_big_phase}
+
+-- ---- places
+
+-- of the first peer X is input 0 and E input 1; E is its output 0 and Y its output 1
+peers-inputs : (task_at peers.graph 2).inputs ≡ 0 ∷ 2 ∷ []
+peers-inputs = refl
+
+peers-e : place_in (signalled_by (task_at peers.graph 2)) 2 ≡ Some 0
+peers-e = refl
+
+peers-y : place_in (signalled_by (task_at peers.graph 2)) 3 ≡ Some 1
+peers-y = refl
+
+-- X is none of its outputs
+peers-x : place_in (signalled_by (task_at peers.graph 2)) 0 ≡ None
+peers-x = refl
+
+-- a phaser that stood twice on a line would have its first place
+twice-place : place_in (4 ∷ 7 ∷ 4 ∷ []) 4 ≡ Some 0
+twice-place = refl
+
+-- E is looked at by Y and not by itself
+peers-y_looks : LooksAt Peer 1 1
+peers-y_looks = tt
+
+peers-e_looks : LooksAt Peer 0 1 → ⊥
+peers-e_looks looks = (let none : ◌≡◌ {A = ℕ} 1 0 = looks in omega arith)
 
 -- ---- a task's span, over the spans of all tasks
 
@@ -101,7 +129,44 @@ output_above-all : list_over output_above (spans_of output_above) (lengths_of ou
     (numbers_of output_above) 0 ≡ Value (pos 11) ∷ []
 output_above-all = refl
 
+-- who puts what on a peer's E, over the lists above it and over all
+peers-members : members_of peers (spans_of peers) (numbers_above peers 2) 2
+    ≡ (0, these (1 ∷ 2 ∷ [])) ∷ (0, these (10 ∷ 20 ∷ 30 ∷ [])) ∷ []
+peers-members = refl
+
+peers-all_members : members_of peers (spans_of peers) (numbers_of peers) 2
+    ≡ (0, these (1 ∷ 2 ∷ [])) ∷ (0, these (10 ∷ 20 ∷ 30 ∷ [])) ∷ []
+peers-all_members = refl
+
+-- where the filter's input stands below, over the lists above its output it puts nothing there
+output_above-members : members_of output_above (spans_of output_above)
+    (numbers_above output_above 0) 0 ≡ (0, these (10 ∷ [])) ∷ (0, []) ∷ []
+output_above-members = refl
+
+output_above-all_members : members_of output_above (spans_of output_above)
+    (numbers_of output_above) 0 ≡ (0, these (10 ∷ [])) ∷ (0, these (1 ∷ 2 ∷ 3 ∷ [])) ∷ []
+output_above-all_members = refl
+
 -- ---- the length of a phaser's list
+
+-- three steps of a splitter of two outputs put two values on the first and one on the second
+abbrev split-three : ℕ → List ℤ
+split-three j =
+    output_list [] (these (1 ∷ 2 ∷ 3 ∷ []) ∷ []) (task_at split_to_one_bus_7.graph 1) 3 j
+
+split-three_first : split-three 0 ≡ these (1 ∷ 3 ∷ [])
+split-three_first = refl
+
+split-three_second : split-three 1 ≡ these (2 ∷ [])
+split-three_second = refl
+
+split-puts : puts_on (task_at split_to_one_bus_7.graph 1) 3 1 ≡ 1
+split-puts = refl
+
+-- where less was taken than three steps take, they put less
+split-less : output_list [] (these (1 ∷ 2 ∷ []) ∷ []) (task_at split_to_one_bus_7.graph 1) 3 0
+    ≡ these (1 ∷ [])
+split-less = refl
 
 -- the filter would end there at phase 3, and the list does so at phase 1
 output_above-ends : ends_on output_above 0 ≡ 0 ∷ 1 ∷ 3 ∷ []

@@ -6,12 +6,12 @@ use Rattle.graph_base.specs.Graphs.{Task, task_at}
 use Rattle.graph_base.specs.TaskLines.{IsGraph, IsTaskLine, IsParent, HasEnds}
 use Rattle.graph_base.specs.declared.line.Kind.{Kind}
 use Rattle.graph_base.specs.declared.line.Kind.TheVariants.{Source, Fir, Split, Join, Peer, Sink}
-use Rattle.stream_job.specs.Jobs.{Job, samples_at, place_in}
-use Rattle.stream_job.specs.Spans.{nowhere, signalled_by, offset_of, cut_at, span_at, spans_over, spans_of, lengths_of, enough_for, values_from, greatest, length_on, end_on, end_of}
-use Rattle.stream_job.specs.declared.span.Span.{Span}
-use Rattle.stream_job.proofs.Growing.{AreSameBelow, grown-whole, map-same, map-each}
-use Rattle.stream_laws.proofs.Ordered.{LooksAt, AreSameAt, looks-first, looked_above, parent_signals}
-use Rattle.stream_job.proofs.SpansAbove.{parent-is, same_offset, spans_are}
+use Rattle.stream_lists.specs.Jobs.{Job, samples_at, place_in}
+use Rattle.stream_lists.specs.Spans.{nowhere, signalled_by, LooksAt, offset_of, cut_at, span_at, spans_over, spans_of, lengths_of, enough_for, values_from, greatest, length_on, end_on, end_of}
+use Rattle.stream_lists.specs.declared.span.Span.{Span}
+use Rattle.stream_lists.proofs.Growing.{AreSameBelow, grown-whole, map-same, map-each}
+use Rattle.stream_laws.proofs.Ordered.{AreSameAt, looks-first, looked_above, parent_signals}
+use Rattle.stream_lists.proofs.SpansAbove.{parent-is, same_offset, spans_are}
 
 -- how many values the first input has
 pub first_value : (task : Task) (lengths : List ℕ) (offset : ℕ) → 0 < length task.inputs

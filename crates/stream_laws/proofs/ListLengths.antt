@@ -7,16 +7,15 @@ use Rattle.graph_base.specs.Graphs.{Task, task_at}
 use Rattle.graph_base.specs.TaskLines.{IsGraph, IsTaskLine, HasEnds}
 use Rattle.graph_base.specs.declared.line.Kind.{Kind}
 use Rattle.graph_base.specs.declared.line.Kind.TheVariants.{Source, Fir, Split, Join, Peer, Sink}
-use Rattle.stream_job.specs.Jobs.{Job, samples_at, place_in}
-use Rattle.stream_job.specs.Spans.{signalled_by, puts_on, takes_from, turns_below, offset_of, cut_at, span_at, spans_of, lengths_of, span_in, enough_for, values_from, greatest, end_on, end_of}
-use Rattle.stream_job.specs.Lists.{turn_at, mixed, taken_by, output_list, output_on, member_at, member_by, list_over, number, numbers_of, end_of_member, ends_on}
-use Rattle.stream_job.specs.declared.span.Span.{Span}
-use Rattle.stream_job.proofs.Growing.{map-same}
+use Rattle.stream_lists.specs.Jobs.{Job, samples_at, place_in}
+use Rattle.stream_lists.specs.Spans.{signalled_by, LooksAt, puts_on, takes_from, turns_below, offset_of, cut_at, span_at, spans_of, lengths_of, span_in, enough_for, values_from, greatest, end_on, end_of}
+use Rattle.stream_lists.specs.Lists.{turn_at, mixed, mixed_at, taken_by, output_list, output_on, member_at, member_by, list_over, number, numbers_of, end_of_member, ends_on}
+use Rattle.stream_lists.specs.declared.span.Span.{Span}
+use Rattle.stream_lists.proofs.Growing.{map-same}
 use Rattle.stream_laws.proofs.Ordered.{place-at}
-use Rattle.stream_job.proofs.SpansAbove.{spans_all}
+use Rattle.stream_lists.proofs.SpansAbove.{spans_all}
 use Rattle.stream_laws.proofs.ListsAbove.{first_taken, numbers_all}
 use Rattle.stream_laws.proofs.LengthsAbove.{first_value, lengths_all}
-use Rattle.stream_job.proofs.Mixing.{length-mixed}
 
 -- ---- steps
 
@@ -133,7 +132,9 @@ length-output samples taken task steps j ends lt enough one = by task.kind refl
         → length (if b then mixed task.mul (get_or taken 0 []) (get_or taken 1 [])
         else get_or taken 0 []) ≡ steps
     peer false all = all
-    peer true all = length-mixed task.mul (get_or taken 0 []) (get_or taken 1 []) ∙ all
+    peer true all =
+        length-map-range_with_len (mixed_at task.mul (get_or taken 0 []) (get_or taken 1 [])) 0
+        (length (get_or taken 0 [])) ∙ all
 
     by : (kind : Kind) → task.kind ≡ kind
         → length (output_list samples taken task steps j) ≡ puts_on task steps j
@@ -153,6 +154,28 @@ length-output samples taken task steps j ends lt enough one = by task.kind refl
         let both : (length task.inputs ≡ 1) × (length task.outputs ≡ 0) = subst H e ends in
         let few : j < length task.outputs = subst S e lt in
         absurd (omega (arith, both.1))
+
+-- the first output looks at the first input
+looks_first : (kind : Kind) → LooksAt kind 0 0
+looks_first Source = tt
+looks_first Fir = tt
+looks_first Split = tt
+looks_first Join = tt
+looks_first Peer = refl
+looks_first Sink = tt
+
+-- so many steps, of which what they look at was taken
+pub steps_long : (samples : List ℤ) (taken : List (List ℤ)) (task : Task) (steps j : ℕ)
+    → HasEnds task.kind (length task.inputs) (length task.outputs)
+    → j < length (signalled_by task)
+    → (task.kind ≡ Source → steps ≤ length samples)
+    → ((k : ℕ) → k < length task.inputs → LooksAt task.kind 0 k
+    → length (get_or taken k []) ≡ takes_from task steps k)
+    → length (output_list samples taken task steps j) ≡ puts_on task steps j
+steps_long samples taken task steps j ends lt enough each =
+    length-output samples taken task steps j ends lt enough
+    (λ one. each 0 (has_input task.kind _ _ ends one) (looks_first task.kind)
+    ∙ one_each task steps 0 one)
 
 source_enough : (task : Task) (samples : ℕ) (values : List ℕ) → task.kind ≡ Source
     → enough_for task samples values ≡ samples

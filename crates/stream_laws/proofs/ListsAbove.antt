@@ -7,12 +7,12 @@ use Rattle.graph_base.specs.Graphs.{Task, task_at, phaser_at}
 use Rattle.graph_base.specs.TaskLines.{IsGraph, IsTaskLine, HasEnds}
 use Rattle.graph_base.specs.declared.line.Kind.{Kind}
 use Rattle.graph_base.specs.declared.line.Kind.TheVariants.{Source, Fir, Split, Join, Peer, Sink}
-use Rattle.stream_job.specs.Jobs.{Job, samples_at, place_in}
-use Rattle.stream_job.specs.Spans.{nowhere, signalled_by, takes_from, spans_of, lengths_of}
-use Rattle.stream_job.specs.Lists.{member_at, member_by, members_of, output_list, taken_by, taken_from, phase_in, value_by, number, list_over, list_of_phaser, numbers_above, numbers_of}
-use Rattle.stream_job.specs.declared.span.Span.{Span}
-use Rattle.stream_job.proofs.Growing.{AreSameBelow, grown-same, grown-whole, map-same, filter_map-same}
-use Rattle.stream_laws.proofs.Ordered.{LooksAt, AreSameAt, looked_above}
+use Rattle.stream_lists.specs.Jobs.{Job, samples_at, place_in}
+use Rattle.stream_lists.specs.Spans.{nowhere, signalled_by, LooksAt, takes_from, spans_of, lengths_of}
+use Rattle.stream_lists.specs.Lists.{member_at, member_by, members_of, output_list, output_on, taken_by, taken_from, phase_in, value_by, number, list_over, list_of_phaser, numbers_above, numbers_of}
+use Rattle.stream_lists.specs.declared.span.Span.{Span}
+use Rattle.stream_lists.proofs.Growing.{AreSameBelow, grown-same, grown-whole, map-same, filter_map-same}
+use Rattle.stream_laws.proofs.Ordered.{AreSameAt, looked_above}
 
 -- what a task takes is the same of each of these inputs
 abbrev pub TakesSame : Task → Span → List (List ℤ) → List (List ℤ) → (ℕ → Type 0) → Type 0
@@ -136,3 +136,24 @@ numbers_all job p is below =
     grown-whole (numbers_over job) (length job.graph.phasers) p [] below
     (λ xs ys same. ap (map number)
     (same_phases job (spans_of job) (lengths_of job) p xs ys is same))
+
+-- who puts what on a phaser too
+pub members_above : (job : Job) (p : ℕ) → IsGraph job.graph → p < length job.graph.phasers
+    → members_of job (spans_of job) (numbers_above job p) p
+    ≡ members_of job (spans_of job) (numbers_of job) p
+members_above job p is below =
+    same_members job (spans_of job) p (numbers_above job p) (numbers_of job) is
+    (grown-same (numbers_over job) [] p (length job.graph.phasers) (omega arith))
+
+pub outputs_above : (job : Job) (t j p : ℕ) → IsGraph job.graph → t < length job.graph.tasks
+    → p < length job.graph.phasers → place_in (signalled_by (task_at job.graph t)) p ≡ Some j
+    → output_on job (spans_of job) (numbers_above job p) t j
+    ≡ output_on job (spans_of job) (numbers_of job) t j
+outputs_above job t j p is there below place =
+    let task = task_at job.graph t in
+    let line = is.tasks t there in
+    let same = grown-same (numbers_over job) [] p (length job.graph.phasers) (omega arith) in
+    same_output (samples_at job t) task (get_or (spans_of job) t nowhere) (numbers_above job p)
+    (numbers_of job) j line.ends
+    (λ k lt looks. same (get_or task.inputs k 0)
+    (looked_above job.graph t task j k p line place lt looks))

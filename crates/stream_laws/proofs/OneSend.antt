@@ -7,11 +7,11 @@ use Rattle.std.proofs.lemmas.Bool.Decides.{nat_tests}
 use Rattle.std.proofs.lemmas.Option.{slice_get-get_or}
 use Rattle.graph_base.specs.Graphs.{task_at, phaser_at}
 use Rattle.graph_base.specs.TaskLines.{IsGraph}
-use Rattle.graph_words.specs.declared.operation.Op.TheVariants.{Any}
-use Rattle.stream_job.specs.Jobs.{Job, place_in}
-use Rattle.stream_job.specs.Spans.{signalled_by, spans_of, span_in}
-use Rattle.stream_job.specs.Lists.{Member, entry, member_at, member_by, send_in, sends_in, numbers_of}
-use Rattle.stream_job.specs.Meetings.{meeting_line}
+use Rattle.phase_base.specs.declared.operation.Op.TheVariants.{Any}
+use Rattle.stream_lists.specs.Jobs.{Job, place_in}
+use Rattle.stream_lists.specs.Spans.{signalled_by, spans_of, span_in}
+use Rattle.stream_lists.specs.Lists.{Member, entry, member_at, member_by, send_in, sends_in, numbers_of}
+use Rattle.stream_lists.specs.Meetings.{meeting_line}
 use Rattle.stream_laws.specs.Entries.{output_values, sends_at, HasEntry}
 use Rattle.stream_laws.proofs.EachPhase.{member_where, entry_alone}
 

@@ -1,15 +1,17 @@
 -- The phasers that a task's steps and outputs look at stand above those that it signals.
-use Rattle.std.proofs.Common.{◌≡◌, ℕ, zero, suc, ◌+◌, ◌<◌, Bool, true, false, cond, eqb, List, [], ◌∷◌, length, get_or, Some, refl, sym, ap, subst, ◌∙◌, arith, eqb-true, eq-eqb, Contains}
+use Rattle.std.proofs.Common.{◌≡◌, ℕ, zero, suc, ◌+◌, ◌<◌, Bool, true, false, not, ◌||◌, cond, eqb, List, [], ◌∷◌, ◌++◌, length, get_or, Some, refl, sym, ap, subst, ◌∙◌, arith, eqb-true, eq-eqb, Contains}
 use Rattle.std.specs.Prelude.{Option}
-use Rattle.std.specs.List.{position_from}
+use Rattle.std.specs.List.{position_from, list_any}
+use Rattle.std.proofs.lemmas.Bool.{and_parts}
 use Rattle.std.proofs.lemmas.Option.{same_Some}
 use Rattle.graph_base.specs.Graphs.{Graph, Task, task_at}
-use Rattle.graph_base.specs.TaskLines.{IsTaskLine, IsParent, HasEnds, IsExchangeBelow, has_children}
+use Rattle.graph_base.specs.TaskLines.{IsGraph, IsTaskLine, IsParent, HasEnds, IsExchangeBelow, has_children, is_distinct}
 use Rattle.graph_base.specs.declared.line.Kind.{Kind}
 use Rattle.graph_base.specs.declared.line.Kind.TheVariants.{Source, Fir, Split, Join, Peer, Sink}
 use Rattle.graph_base.specs.declared.line.Parent.{Parent}
-use Rattle.stream_job.specs.Jobs.{place_in}
-use Rattle.stream_job.specs.Spans.{signalled_by}
+use Rattle.stream_lists.specs.Jobs.{place_in}
+use Rattle.stream_lists.specs.Spans.{signalled_by, LooksAt}
+use Rattle.stream_lists.proofs.SpansAbove.{parent-is}
 
 -- ---- the place of a phaser on a line
 
@@ -56,13 +58,58 @@ has-place n (q ∷ qs) (suc k) lt =
     by true later = (n, refl)
     by false later = later
 
--- ---- the order
+-- ---- the place of an input
 
--- output number j looks at input number k: a peer's E at X alone, each other output at all inputs
-abbrev pub LooksAt : Kind → ℕ → ℕ → Type 0
-LooksAt Peer zero k = k ≡ 0
-LooksAt Peer (suc j) k = Unit {0}
-LooksAt kind j k = Unit {0}
+-- a number that stands among the first of two lists stands in both together
+any_front : (test : ℕ → Bool) (xs ys : List ℕ) (k : ℕ) → k < length xs
+    → test (get_or xs k 0) ≡ true → list_any test (xs ++ ys) ≡ true
+any_front test [] ys k lt e = absurd (omega arith)
+any_front test (x ∷ xs) ys zero lt e = ap (λ b. b || list_any test (xs ++ ys)) e
+any_front test (x ∷ xs) ys (suc k) lt e =
+    ap (λ b. test x || b) (any_front test xs ys k (omega arith) e) ∙ or_right (test x)
+  where
+    or_right : (b : Bool) → (b || true) ≡ true
+    or_right true = refl
+    or_right false = refl
+
+-- where no number stands twice, each stands at its own place
+place-distinct : (n : ℕ) (xs ys : List ℕ) (k : ℕ) → k < length xs
+    → is_distinct (xs ++ ys) ≡ true → place_from n xs (get_or xs k 0) ≡ Some (n + k)
+place-distinct n [] ys k lt d = absurd (omega arith)
+place-distinct n (x ∷ xs) ys zero lt d =
+    let here : eqb x x ≡ true = eq-eqb x x refl in
+    let same : n ≡ n + 0 = omega arith in
+    rw here (ap (λ i. Some i) same)
+place-distinct n (x ∷ xs) ys (suc k) lt d =
+    let parts =
+    and_parts (not (list_any (λ q. eqb q x) (xs ++ ys))) (is_distinct (xs ++ ys)) d in
+    let rest = place-distinct (n + 1) xs ys k (omega arith) parts.1 in
+    let next : n + 1 + k ≡ n + suc k = omega arith in
+    by (eqb x (get_or xs k 0)) refl parts.0 (rest ∙ ap (λ i. Some i) next)
+  where
+    by : (b : Bool) → eqb x (get_or xs k 0) ≡ b
+        → not (list_any (λ q. eqb q x) (xs ++ ys)) ≡ true
+        → place_from (n + 1) xs (get_or xs k 0) ≡ Some (n + suc k)
+        → cond b (Some n) (place_from (n + 1) xs (get_or xs k 0)) ≡ Some (n + suc k)
+    by false e out rest = rest
+    by true e out rest =
+        let same : x ≡ get_or xs k 0 = eqb-true x (get_or xs k 0) e in
+        let turned : eqb (get_or xs k 0) x ≡ true = eq-eqb (get_or xs k 0) x (sym same) in
+        let found : list_any (λ q. eqb q x) (xs ++ ys) ≡ true =
+        any_front (λ q. eqb q x) xs ys k (omega arith) turned in
+        absurd (let f : false ≡ true = sym (ap not found) ∙ out in cc)
+
+-- each input of a task stands at its own place
+pub place_of_input : (graph : Graph) (t k : ℕ) → IsGraph graph → t < length graph.tasks
+    → k < length (task_at graph t).inputs
+    → place_in (task_at graph t).inputs (get_or (task_at graph t).inputs k 0) ≡ Some k
+place_of_input graph t k is there lt =
+    let task = task_at graph t in
+    let same : 0 + k ≡ k = omega arith in
+    place-distinct 0 task.inputs task.outputs k lt (is.tasks t there).distinct
+    ∙ ap (λ i. Some i) same
+
+-- ---- the order
 
 -- two lists by phasers have the same entries at these inputs of a task
 abbrev pub AreSameAt : {X : Type 0} → X → Task → List X → List X → (ℕ → Type 0) → Type 0
@@ -131,6 +178,12 @@ looked_above graph t task j k p line place lt looks = by task.kind refl
         let at = place-at (of_peer task) p j (ap (λ qs. place_in qs p) (sym signals) ∙ place) in
         peer j at.0 at.1 (subst Looks e looks) (subst Below e line.exchange) ends.1
 
+pub outputs_look_above : (graph : Graph) (t j k p : ℕ) → IsGraph graph → t < length graph.tasks
+    → place_in (signalled_by (task_at graph t)) p ≡ Some j → k < length (task_at graph t).inputs
+    → LooksAt (task_at graph t).kind j k → get_or (task_at graph t).inputs k 0 < p
+outputs_look_above graph t j k p is there place lt looks =
+    looked_above graph t (task_at graph t) j k p (is.tasks t there) place lt looks
+
 -- ---- parents
 
 plain_ends : (task : Task) → has_children task.kind ≡ true → signalled_by task ≡ task.outputs
@@ -144,16 +197,17 @@ plain_ends task e = by task.kind refl
     by Join k = rw k refl
     by Peer k = absurd (let b : true ≡ false = sym e ∙ ap has_children k in cc)
 
+-- an entry of a list is the same whatever stands for one that is not there
+within : (k : ℕ) (qs : List ℕ) (p : ℕ) → k < length qs → get_or qs k p ≡ p → get_or qs k 0 ≡ p
+within k [] p lt e = absurd (omega arith)
+within zero (q ∷ qs) p lt e = e
+within (suc k) (q ∷ qs) p lt e = within k qs p (omega arith) e
+
 -- what is among these phasers has a place there
 among_place : (qs : List ℕ) (p : ℕ) → Contains qs p → (i : ℕ) × (place_in qs p ≡ Some i)
 among_place qs p among =
     let Place : ℕ → Type 0 = λ y. (i : ℕ) × (place_in qs y ≡ Some i) in
     subst Place (within among.0 qs p among.1 among.2) (has-place 0 qs among.0 among.1)
-  where
-    within : (k : ℕ) (qs : List ℕ) (p : ℕ) → k < length qs → get_or qs k p ≡ p → get_or qs k 0 ≡ p
-    within k [] p lt e = absurd (omega arith)
-    within zero (q ∷ qs) p lt e = e
-    within (suc k) (q ∷ qs) p lt e = within k qs p (omega arith) e
 
 -- a parent signals what its child signals
 pub parent_signals : (graph : Graph) (t : ℕ) (task : Task) (u : Parent) (p j : ℕ)
@@ -169,3 +223,30 @@ parent_signals graph t task u p j is place =
     let In : ℕ → Type 0 = λ y. Contains above.outputs y in
     let among : Contains above.outputs p = subst In at.1 (is.signals j 0 at.0) in
     subst There (sym (plain_ends above is.kind)) (among_place above.outputs p among)
+
+pub parents_signal : (graph : Graph) (t p j : ℕ) (u : Parent) → IsGraph graph
+    → t < length graph.tasks → (task_at graph t).parent ≡ Some u
+    → place_in (signalled_by (task_at graph t)) p ≡ Some j
+    → (i : ℕ) × (place_in (signalled_by (task_at graph u.task)) p ≡ Some i)
+parents_signal graph t p j u is there e place =
+    parent_signals graph t (task_at graph t) u p j
+    (parent-is graph t (task_at graph t) u (is.tasks t there) e) place
+
+-- and waits for what it waits for
+pub parent_waits : (graph : Graph) (t : ℕ) (task : Task) (u : Parent) (k : ℕ)
+    → IsParent graph t task u → k < length task.inputs
+    → (i : ℕ) × (i < length (task_at graph u.task).inputs)
+    × (get_or (task_at graph u.task).inputs i 0 ≡ get_or task.inputs k 0)
+parent_waits graph t task u k is lt =
+    let x = get_or task.inputs k 0 in
+    let among = is.waits k 0 lt in
+    (among.0, among.1, within among.0 (task_at graph u.task).inputs x among.1 among.2)
+
+pub parents_wait : (graph : Graph) (t k : ℕ) (u : Parent) → IsGraph graph
+    → t < length graph.tasks → (task_at graph t).parent ≡ Some u
+    → k < length (task_at graph t).inputs
+    → (i : ℕ) × (i < length (task_at graph u.task).inputs)
+    × (get_or (task_at graph u.task).inputs i 0 ≡ get_or (task_at graph t).inputs k 0)
+parents_wait graph t k u is there e lt =
+    parent_waits graph t (task_at graph t) u k
+    (parent-is graph t (task_at graph t) u (is.tasks t there) e) lt

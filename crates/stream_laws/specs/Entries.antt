@@ -4,10 +4,10 @@ use Rattle.std.specs.Prelude.{◌≡◌, ◌≢◌, ℕ, ℤ, ◌+◌, ◌<◌, 
 use Rattle.phase_accum.specs.Sends.{AreSends}
 use Rattle.phase_accum.specs.declared.outcome.Outcome.TheVariants.{TooBig}
 use Rattle.graph_base.specs.Graphs.{task_at, phaser_at}
-use Rattle.stream_job.specs.Jobs.{Job, place_in}
-use Rattle.stream_job.specs.Spans.{signalled_by, takes_from, spans_of, span_in}
-use Rattle.stream_job.specs.Lists.{members_of, output_on, sends_in, value_by, numbers_of, list_of_phaser}
-use Rattle.stream_job.specs.Ranges.{are_made}
+use Rattle.stream_lists.specs.Jobs.{Job, place_in}
+use Rattle.stream_lists.specs.Spans.{signalled_by, takes_from, spans_of, span_in}
+use Rattle.stream_lists.specs.Lists.{members_of, output_on, sends_in, value_by, numbers_of, list_of_phaser}
+use Rattle.stream_lists.specs.Ranges.{are_made}
 
 -- what task number t puts on its output number j
 abbrev pub output_values : Job → ℕ → ℕ → List ℤ

@@ -4,12 +4,12 @@ use Rattle.std.specs.List.{range_with_len, fold}
 use Rattle.phase_accum.specs.Values.{sum_of, product_of, least_of, greatest_of, single_of}
 use Rattle.phase_accum.specs.declared.single.Single.{Single}
 use Rattle.graph_base.specs.Graphs.{phaser_at}
-use Rattle.graph_words.specs.declared.operation.Op.{Op}
-use Rattle.graph_words.specs.declared.operation.Op.TheVariants.{Sum, Product, Least, Greatest, Any}
-use Rattle.stream_job.specs.Jobs.{Job}
-use Rattle.stream_job.specs.Spans.{spans_of, lengths_of}
-use Rattle.stream_job.specs.Lists.{Member, members_of, sends_in, sink_over, sinks_of}
-use Rattle.stream_job.specs.declared.span.Span.{Span}
+use Rattle.phase_base.specs.declared.operation.Op.{Op}
+use Rattle.phase_base.specs.declared.operation.Op.TheVariants.{Sum, Product, Least, Greatest, Any}
+use Rattle.stream_lists.specs.Jobs.{Job}
+use Rattle.stream_lists.specs.Spans.{spans_of, lengths_of}
+use Rattle.stream_lists.specs.Lists.{Member, members_of, sends_in, sink_over, sinks_of}
+use Rattle.stream_lists.specs.declared.span.Span.{Span}
 
 -- numbers reduced by an operation. Of no numbers the least, the greatest and the first are none
 abbrev pub exact_by : Op → List ℤ → Option ℤ

@@ -1,17 +1,48 @@
 //! The laws. The contract of each function is the law.
-ghost use Rattle.std.specs.Prelude.{◌≡◌, ◌-◌, ◌<◌, ◌↔◌, ℕ, [], ◌∷◌, length, map, get_or, None, true};
+ghost use Rattle.std.specs.Prelude.{◌≡◌, ◌-◌, ◌<◌, ◌≤◌, ◌↔◌, ℕ, ℤ, List, [], ◌∷◌, length, map, get_or, Some, None, true};
 ghost use Rattle.phase_accum.specs.declared.outcome.Outcome.TheVariants.{Empty};
-ghost use Rattle.graph_base.specs.Graphs.{phaser_at, task_at};
-ghost use Rattle.graph_words.specs.declared.operation.Op.TheVariants.{Any};
-ghost use Rattle.graph_base.specs.TaskLines.{IsGraph};
+ghost use Rattle.graph_base.specs.Graphs.{Graph, Task, phaser_at, task_at};
+ghost use Rattle.graph_base.specs.declared.line.Kind.TheVariants.{Source};
+ghost use Rattle.graph_base.specs.declared.line.Parent.{Parent};
+ghost use Rattle.phase_base.specs.declared.operation.Op.TheVariants.{Any};
+ghost use Rattle.graph_base.specs.TaskLines.{HasEnds, IsGraph};
 ghost use Rattle.stream_laws.specs.Entries.{AreInRange, HasEntry, output_values, sends_at, Takes};
 ghost use Rattle.stream_laws.specs.Exact.{exact_lines, exact_lists};
-ghost use Rattle.stream_job.specs.Jobs.{Job};
-ghost use Rattle.stream_job.specs.Lists.{ends_on, entry, lines_of, list_of_phaser, list_over, number, numbers_of, output_on};
-ghost use Rattle.stream_job.specs.Meetings.{meet_on, meeting_line};
-ghost use Rattle.stream_job.specs.Ranges.{Fits};
-ghost use Rattle.stream_job.specs.Spans.{greatest, lengths_of, puts_on, signalled_by};
-ghost use Rattle.stream_job.specs.Spans.{span_in, span_of, spans_of, spans_up_to};
+ghost use Rattle.stream_lists.specs.Jobs.{Job, place_in};
+ghost use Rattle.stream_lists.specs.Lists.{ends_on, entry, lines_of, list_of_phaser, list_over, members_of, number};
+ghost use Rattle.stream_lists.specs.Lists.{numbers_above, numbers_of, output_list, output_on};
+ghost use Rattle.stream_lists.specs.Meetings.{meet_on, meeting_line};
+ghost use Rattle.stream_lists.specs.Ranges.{Fits};
+ghost use Rattle.stream_lists.specs.Spans.{greatest, lengths_of, LooksAt, puts_on, signalled_by, takes_from};
+ghost use Rattle.stream_lists.specs.Spans.{span_in, span_of, spans_of, spans_up_to};
+
+/// A phaser has a place among those of a line where it stands there, and each input of a task stands
+/// at its own. A parent signals what its child signals, and waits for what its child waits for.
+pub fn places()
+    ensures found { (qs : List ℕ) (p j : ℕ) → place_in qs p ≡ Some j
+        → (j < length qs) × (get_or qs j 0 ≡ p) }
+    ensures input { (graph : Graph) (t k : ℕ) → IsGraph graph → t < length graph.tasks
+        → k < length (task_at graph t).inputs
+        → place_in (task_at graph t).inputs (get_or (task_at graph t).inputs k 0) ≡ Some k }
+    ensures signals { (graph : Graph) (t p j : ℕ) (u : Parent) → IsGraph graph
+        → t < length graph.tasks → (task_at graph t).parent ≡ Some u
+        → place_in (signalled_by (task_at graph t)) p ≡ Some j
+        → (i : ℕ) × (place_in (signalled_by (task_at graph u.task)) p ≡ Some i) }
+    ensures waits { (graph : Graph) (t k : ℕ) (u : Parent) → IsGraph graph
+        → t < length graph.tasks → (task_at graph t).parent ≡ Some u
+        → k < length (task_at graph t).inputs
+        → (i : ℕ) × (i < length (task_at graph u.task).inputs)
+        × (get_or (task_at graph u.task).inputs i 0 ≡ get_or (task_at graph t).inputs k 0) }
+{}
+
+/// Each input that an output of a task looks at stands above that output: a peer's X above its E,
+/// and X and E above its Y.
+pub fn outputs_look_above()
+    ensures { (graph : Graph) (t j k p : ℕ) → IsGraph graph → t < length graph.tasks
+        → place_in (signalled_by (task_at graph t)) p ≡ Some j
+        → k < length (task_at graph t).inputs → LooksAt (task_at graph t).kind j k
+        → get_or (task_at graph t).inputs k 0 < p }
+{}
 
 /// The spans of the tasks above it decide the span of each task, and in a graph that was read it is
 /// the same over the spans of all tasks.
@@ -32,9 +63,28 @@ pub fn lists_above_decide()
         ≡ map number (list_over job (spans_of job) (lengths_of job) (numbers_of job) p) }
 {}
 
-/// In a graph that was read each task puts as many values on each of its outputs as its steps say,
-/// and the list of each phaser is as long as the greatest end of a task's values on it.
+/// The lists of the phasers above a phaser decide what each task puts on it, and so its members.
+pub fn members_above_decide()
+    ensures members { (job : Job) (p : ℕ) → IsGraph job.graph → p < length job.graph.phasers
+        → members_of job (spans_of job) (numbers_above job p) p
+        ≡ members_of job (spans_of job) (numbers_of job) p }
+    ensures output { (job : Job) (t j p : ℕ) → IsGraph job.graph → t < length job.graph.tasks
+        → p < length job.graph.phasers → place_in (signalled_by (task_at job.graph t)) p ≡ Some j
+        → output_on job (spans_of job) (numbers_above job p) t j
+        ≡ output_on job (spans_of job) (numbers_of job) t j }
+{}
+
+/// So many steps of a task put as many values on each of its outputs as they say, where the samples
+/// of a source are as many, and what the steps look at was taken. So each task of a graph that was
+/// read does in its steps, and the list of each phaser is as long as the greatest end of a task's
+/// values on it.
 pub fn lengths_are_ends()
+    ensures steps { (samples : List ℤ) (taken : List (List ℤ)) (task : Task) (steps j : ℕ)
+        → HasEnds task.kind (length task.inputs) (length task.outputs)
+        → j < length (signalled_by task) → (task.kind ≡ Source → steps ≤ length samples)
+        → ((k : ℕ) → k < length task.inputs → LooksAt task.kind 0 k
+        → length (get_or taken k []) ≡ takes_from task steps k)
+        → length (output_list samples taken task steps j) ≡ puts_on task steps j }
     ensures outputs { (job : Job) (t j : ℕ) → IsGraph job.graph → t < length job.graph.tasks
         → j < length (signalled_by (task_at job.graph t))
         → length (output_on job (spans_of job) (numbers_of job) t j)

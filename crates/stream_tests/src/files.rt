@@ -1,10 +1,10 @@
 //! Samples in files that are held in memory.
 
-use phase_files::{DiskFiles, FileFault, Files, read_sample_file};
-use sample_text::SampleFault;
+use sample_text::{SampleFault, read_sample_file};
 use std::alloc::Global;
 use std::fs;
 use std::test::Fail;
+use watched_io::{DiskFiles, FileFault, Files};
 
 /// Two files, of which one has samples, and no other.
 #[derive(Drop)]

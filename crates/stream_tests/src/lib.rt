@@ -1,5 +1,5 @@
 //! Tests of filters, of graphs and samples as text, of the lists of graphs, and of what reads and
-//! writes them, by public calls: of `watched_io`, `sample_text`, `stream_filters`, `phase_files`,
+//! writes them, by public calls: of `watched_io`, `sample_text`, `stream_filters`,
 //! `graph_lang` and `stream_job`. They stand in a crate of their own, since a crate is proved anew
 //! with its tests.
 #![tactic(auto)]
@@ -14,6 +14,10 @@ mod graph_faults;
 mod graphs;
 #[cfg(test)]
 mod jobs;
+#[cfg(test)]
+mod lists;
+#[cfg(test)]
+mod registrations;
 #[cfg(test)]
 mod samples;
 #[cfg(test)]

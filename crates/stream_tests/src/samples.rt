@@ -1,10 +1,10 @@
 //! Texts with the samples that they hold, or with the number of their first bad record.
 
-use sample_text::{SampleFault, TextFault, read_samples, read_text, samples_of};
+use sample_text::{SampleFault, read_samples, samples_of};
 use std::io;
 use std::io::Read;
 use std::test::Fail;
-use watched_io::Watched;
+use watched_io::{FileFault, Watched, read_text};
 
 /// Gives a text, `size` bytes a read at most, and fails at the read of the number `fails_at`.
 #[derive(Drop)]
@@ -128,6 +128,6 @@ fn a_byte_past_the_limit_is_a_fault(rt: HostRuntime) -> Result<(), Fail> {
     let text = read_text(rt.alloc(), &mut pieces_of(b"12345", 2), 5)?;
     assert_eq!(rt; text.as_slice(), b"12345".as_slice());
     let found = read_text(rt.alloc(), &mut pieces_of(b"123456", 2), 5);
-    assert!(rt; found.map(|text| text.len()) == Err(TextFault::ReadFault));
+    assert!(rt; found.map(|text| text.len()) == Err(FileFault::ReadFault));
     Ok(())
 }

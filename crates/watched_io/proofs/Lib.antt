@@ -1,2 +1,3 @@
 pub mod Giving
+mod Reading
 pub mod Writing

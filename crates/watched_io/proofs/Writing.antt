@@ -33,3 +33,13 @@ prefix_of_prefix old new bs rest owed e p = (p.0, p.1 ++ rest, e ∙ ap (λ l. l
 -- nothing is a prefix
 pub prefix_none : (old new : Option (List ℕ)) (bs : List ℕ) → Keeps old new → AppendsPrefix old new bs
 prefix_none old new bs p = ([], bs, refl, Appends-kept old old new [] (Appends-nil old) p)
+
+-- one text was written, and of the next a prefix
+pub prefix_after : (old mid new : Option (List ℕ)) (before bytes : List ℕ) → Appends old mid before
+    → AppendsPrefix mid new bytes → AppendsPrefix old new (before ++ bytes)
+prefix_after old mid new before bytes p q = (
+  before ++ q.0,
+  q.1,
+  ap (λ l. before ++ l) q.2 ∙ sym (append_assoc before q.0 q.1),
+  Appends-trans old mid new before q.0 p q.3,
+)

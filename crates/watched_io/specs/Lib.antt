@@ -1,3 +1,5 @@
+pub mod Faults
+pub mod Files
 pub mod Prefix
 pub mod States
 pub mod Watched

@@ -1,7 +1,7 @@
 -- What a `Watched` is to its callers: the reader or writer in it, whether a call of it failed, and
 -- how many bytes its reads gave.
 use Rattle.std.specs.Prelude.{◌≡◌, ℕ, ◌+◌, min, Bool}
-use Rattle.watched_io.specs.declared.watched.TheConstants.{COUNT_MAX}
+use Rattle.watched_io.specs.declared.watched.TheConstants.{BYTES_COUNTED_MAX}
 use Rattle.watched_io.specs.declared.watched.Watched.{Watched}
 
 -- the reader or the writer itself
@@ -18,4 +18,4 @@ count_of watched = watched.count
 
 -- n bytes more are counted, as far as a count goes
 abbrev pub CountsUp : ℕ → ℕ → ℕ → Type 0
-CountsUp old new n = min COUNT_MAX new ≡ min COUNT_MAX (old + n)
+CountsUp old new n = min BYTES_COUNTED_MAX new ≡ min BYTES_COUNTED_MAX (old + n)

@@ -1,9 +1,10 @@
-//! The number behind the constant. The contract is the law.
+//! The numbers behind the constants. The contract is the law.
 ghost use Rattle.std.specs.Prelude.{◌≡◌};
 
-use crate::COUNT_MAX;
+use crate::{BYTES_COUNTED_MAX, CHUNK_MAX};
 
-/// A count of bytes goes to 2^64 - 1.
+/// A count of bytes goes to 2^64 - 1, and 65,536 are read at once.
 pub fn numbers()
-    ensures count_max { COUNT_MAX ≡ 18446744073709551615 }
+    ensures bytes_counted_max { BYTES_COUNTED_MAX ≡ 18446744073709551615 }
+    ensures chunk_max { CHUNK_MAX ≡ 65536 }
 {}

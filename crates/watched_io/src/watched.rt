@@ -8,12 +8,12 @@ use crate::{ReadFailed, WriteFailed};
 use std::io::{Read, Write};
 
 /// The greatest number of bytes that is counted.
-pub const COUNT_MAX: u64 = 18_446_744_073_709_551_615;
+pub const BYTES_COUNTED_MAX: u64 = 18_446_744_073_709_551_615;
 
 /// A reader or a writer, whether one of its calls through here has failed, and how many bytes its
 /// reads gave.
 ///
-/// The note is set by a failure alone, and never taken back. The count stops at `COUNT_MAX`.
+/// The note is set by a failure alone, and never taken back. The count stops at `BYTES_COUNTED_MAX`.
 #[derive(Drop)]
 pub struct Watched<T> {
     inner: T,
@@ -44,7 +44,7 @@ impl<T> Watched<T> {
         self.has_failed
     }
 
-    /// Tells how many bytes the reads have given since `new`, or `COUNT_MAX` where it is more.
+    /// Tells how many bytes the reads have given since `new`, or `BYTES_COUNTED_MAX` where it is more.
     pub fn count(&self) -> u64
         ensures { result ≡ count_of self.now }
     {

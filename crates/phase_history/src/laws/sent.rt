@@ -10,10 +10,10 @@ ghost use Rattle.phase_accum.specs.declared.single.Single.{Single};
 ghost use Rattle.phase_history.specs.Histories.{History, members_of, done_of, top_of, start_of};
 ghost use Rattle.phase_history.specs.Histories.{HasNoSignaller, has_dropped, phases_signalled};
 ghost use Rattle.phase_history.specs.Phases.{sends_of_phase, named_in_phase, single_of_phase};
-ghost use Rattle.phase_history.specs.Legal.{IsLegal};
-ghost use Rattle.phase_history.specs.Others.{is_in, is_distinct, OthersCame};
+ghost use Rattle.phase_history.specs.Legal.{AreLists, IsLegal};
+ghost use Rattle.phase_history.specs.Others.{is_in, is_distinct, IsUsed, OthersCame};
 ghost use Rattle.phase_history.specs.Sent.{sent_by, sent_in, gathered};
-ghost use Rattle.phase_history.specs.Sent.{OnlySignalled, NamesAll, IsSilent, ReachesTop};
+ghost use Rattle.phase_history.specs.Sent.{OnlySignalled, OneHasSent, NamesAll, IsSilent, ReachesTop};
 
 /// The sends of a phase are those of its tasks put together: whatever is the same in any order is
 /// the same of both.
@@ -29,6 +29,20 @@ pub fn one_sender()
     ensures { (h : History) (task p : ℕ)
         → ((other : ℕ) → other ≢ task → sent_in h other p ≡ [])
         → sends_of_phase h p ≡ sent_in h task p }
+{}
+
+/// The sends of a phase in which at most one of some tasks has sent, and nobody else, are those of
+/// the tasks put together, in the same order.
+pub fn gathered_alone()
+    ensures { (h : History) (tasks : List ℕ) (p : ℕ) → is_distinct tasks ≡ true
+        → OnlySignalled tasks h → OneHasSent h tasks p
+        → sends_of_phase h p ≡ gathered h tasks p }
+{}
+
+/// What a task has sent in each phase can be sent, and is no more than a phase may have.
+pub fn sent_are_lists()
+    ensures { (limits : Limits) (h : History) (task : ℕ) → IsLegal limits h
+        → AreLists (sent_by h task) }
 {}
 
 /// A task's lists of sends stand in its phases one after another, from its start on, and there are
@@ -74,6 +88,12 @@ pub fn all_dropped()
         → IsLegal limits h → HasNoSignaller h → start_of h task ≡ Some start
         → mode_signals start.mode ≡ true → has_dropped h task ≡ true }
     ensures done { (h : History) → HasNoSignaller h → done_of h ≡ top_of h }
+{}
+
+/// Where each task whose number was used has dropped, no registered task signals.
+pub fn all_left()
+    ensures { (limits : Limits) (h : History) → IsLegal limits h
+        → ((task : ℕ) → IsUsed h task → has_dropped h task ≡ true) → HasNoSignaller h }
 {}
 
 /// Some task has signalled up to the top, and none past it.

@@ -2,8 +2,8 @@
 use Rattle.std.proofs.Common.{refl}
 use Rattle.phase_base.specs.declared.mode.Mode.TheVariants.{Sig}
 use Rattle.phase_history.specs.Histories.{entry_at}
-use Rattle.core_tests.specs.Worked.{worked_limits, one_wait, all_left}
-use Rattle.core_tests.proofs.Legal.{one_wait_is_legal, all_left_is_legal}
+use Rattle.core_tests.specs.Worked.{worked_limits, one_wait, all_left, everyone_left}
+use Rattle.core_tests.proofs.Legal.{one_wait_is_legal, all_left_is_legal, everyone_left_is_legal, everyone_gone}
 use Rattle.core_tests.proofs.worked_laws.open_phases.Goals as goal
 
 pub returns-clause-open : goal.returns-clause-open
@@ -25,3 +25,7 @@ returns-clause-reached c =
 pub returns-clause-below : goal.returns-clause-below
 returns-clause-below c =
     c.top_is_reached.ensures.below worked_limits one_wait 1 (entry_at Sig 0 0) one_wait_is_legal refl
+
+pub returns-clause-left : goal.returns-clause-left
+returns-clause-left c =
+    c.all_left.ensures worked_limits everyone_left everyone_left_is_legal everyone_gone

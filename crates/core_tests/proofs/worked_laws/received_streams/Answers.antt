@@ -23,3 +23,7 @@ returns-clause-stream c =
 pub returns-clause-answer : goal.returns-clause-answer
 returns-clause-answer c =
     c.in_range.ensures.answer worked_limits two_signals 2 0 (Value (pos 7)) two_signals_is_legal refl
+
+pub returns-clause-counted : goal.returns-clause-counted
+returns-clause-counted c =
+    c.received_are_counted.ensures sum_value worked_limits one_wait 2 one_wait_is_legal

@@ -3,9 +3,8 @@ use Rattle.std.specs.List.{flat_map}
 use Rattle.std.proofs.KnownBytes.{Appends-trans}
 use Rattle.std.proofs.lemmas.List.{take_more}
 use Rattle.std.proofs.lemmas.Result.{err_from_is_err_and}
-use Rattle.watched_io.proofs.Writing.{prefix_of_prefix}
-use Rattle.stream_lines.proofs.Items.{flat_map-push, flat_map-rest}
-use Rattle.stream_lines.proofs.Putting.{prefix_after}
+use Rattle.watched_io.proofs.Writing.{prefix_after, prefix_of_prefix}
+use Rattle.phase_status.proofs.Items.{flat_map-push, flat_map-rest}
 use Rattle.phase_status.proofs.parts.write_parts.Goals as goal
 
 abbrev nowhere : Bor (List ℕ)

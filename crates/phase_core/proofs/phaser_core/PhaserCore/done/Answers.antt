@@ -1,7 +1,7 @@
 -- The board's done is that of the history, while a waiter is registered.
-use Rattle.std.proofs.Common.{◌≡◌, ◌<◌, length, sym, arith}
+use Rattle.std.proofs.Common.{◌≡◌, ◌<◌, length, arith}
 use Rattle.phase_base.specs.Members.{wait_phases}
-use Rattle.phase_core.specs.Cores.{CoreState, StandsFor, core_of}
+use Rattle.phase_core.specs.Cores.{StandsFor, core_of}
 use Rattle.phase_core.proofs.Boarded.{boarded_of}
 use Rattle.phase_core.proofs.NewCore.{done_of_boarded}
 use Rattle.phase_core.proofs.phaser_core.PhaserCore.done.Goals as goal

@@ -2,7 +2,6 @@
 use Rattle.std.proofs.Common.{◌≡◌, Some, length, refl, sym, ap, ◌∙◌}
 use Rattle.phase_base.specs.Members.{entry_of, without, wait_phases}
 use Rattle.phase_registry.specs.Rosters.{Roster}
-use Rattle.phase_ring.specs.declared.board.Board.{Board}
 use Rattle.phase_core.specs.Cores.{StandsFor, core_of}
 use Rattle.phase_core.proofs.Boarded.{boarded_of}
 use Rattle.phase_core.proofs.Leaving.{drops_alone, drops_core, none_left, stands_there, waiter_left}

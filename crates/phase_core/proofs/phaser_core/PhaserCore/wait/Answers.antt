@@ -1,6 +1,6 @@
 -- While a waiter is registered, the board's done is that of the history, and its ring has the
 -- slot of each phase that a waiter has still to get.
-use Rattle.std.proofs.Common.{◌≡◌, ℕ, ◌<◌, List, [], ◌∷◌, Option, Some, None, Ok, Err, true, length, sym, subst, ◌∙◌, ap, inr}
+use Rattle.std.proofs.Common.{◌≡◌, ◌<◌, ◌∷◌, Some, None, Ok, Err, true, sym, subst, ◌∙◌, arith, inr}
 use Rattle.std.specs.Prelude.{is_some}
 use Rattle.phase_base.specs.Modes.{mode_waits}
 use Rattle.phase_base.specs.Members.{entry_of, changed_at, signal_phases, least, waited}
@@ -93,14 +93,14 @@ invariant_of-self g c =
     let has : c.has_signaller-has_signaller.result ≡ is_some (least (signal_phases reg.members)) =
     subst H (sym c.self.view_is) c.has_signaller-has_signaller.ensures in
     let o = c.wait-outcome.ensures in
-    let boarded = boarded_waited op reg c.waited.new.self b c.wait-outcome.new.self c.args.task e w.boarded found waits c.waited.ensures
+    let boarded = boarded_waited op reg c.waited.new.self b c.wait-outcome.new.self c.args.task 1 e w.boarded found waits c.waited.ensures
     o.done o.top o.moved o.others o.kept o.stops in
     let h = c.self.invariant.history in
     let stands = c.self.invariant.stands in
     let r = waits_reply op reg b h c.args.task e c.has_signaller-has_signaller.result None w stands found has c.in_default-wait_refusal.ensures in
     record {
       history = Waited c.args.task 1 ∷ h;
-      stands = stands_waited op reg c.waited.new.self b c.wait-outcome.new.self h c.args.task e w stands found boarded r.0 c.if-done-phase.false
+      stands = stands_waited op reg c.waited.new.self b c.wait-outcome.new.self h c.args.task 1 e w stands found boarded r.0 (let before : e.wait_phase < b.done = c.if-done-phase.false in omega arith)
           c.waited.ensures o.limits o.top o.slots;
       boarded = inr boarded;
       used = used_after reg c.waited.new.self (changed_at c.args.task (waited 1) reg.members) c.self.invariant.used c.waited.ensures;
@@ -138,11 +138,11 @@ returns-clause-after g c h given =
     let has : c.has_signaller-has_signaller.result ≡ is_some (least (signal_phases reg.members)) =
     subst H (sym c.self.view_is) c.has_signaller-has_signaller.ensures in
     let o = c.wait-outcome.ensures in
-    let boarded = boarded_waited op reg c.waited.new.self b c.wait-outcome.new.self c.args.task e w.boarded found waits c.waited.ensures
+    let boarded = boarded_waited op reg c.waited.new.self b c.wait-outcome.new.self c.args.task 1 e w.boarded found waits c.waited.ensures
     o.done o.top o.moved o.others o.kept o.stops in
     let stands : StandsFor op (core_of reg b) h = rw c.self.view_is given in
     let r = waits_reply op reg b h c.args.task e c.has_signaller-has_signaller.result None w stands found has c.in_default-wait_refusal.ensures in
-    stands_waited op reg c.waited.new.self b c.wait-outcome.new.self h c.args.task e w stands found boarded r.0 c.if-done-phase.false
+    stands_waited op reg c.waited.new.self b c.wait-outcome.new.self h c.args.task 1 e w stands found boarded r.0 (let before : e.wait_phase < b.done = c.if-done-phase.false in omega arith)
     c.waited.ensures o.limits o.top o.slots
 
 -- what it answers is a value of some legal history

@@ -8,10 +8,10 @@ use Rattle.phase_registry.proofs.Places.{not_member, entry_of-at, entry_of-gap, 
 use Rattle.phase_registry.proofs.Kept.{IsAt-number, IsRoster-changed, none_before}
 use Rattle.phase_registry.proofs.registry.Registry.waited.Goals as goal
 
-below_from : (o : Option Entry) (e : Entry) → o ≡ Some e
-    → IfSome o (λ entry. entry.wait_phase + 1 < 2 ^ 64) → e.wait_phase + 1 < 2 ^ 64
-below_from o e found below =
-    let P : Option Entry → Type 0 = λ x. IfSome x (λ entry. entry.wait_phase + 1 < 2 ^ 64) in
+below_from : (n : ℕ) (o : Option Entry) (e : Entry) → o ≡ Some e
+    → IfSome o (λ entry. entry.wait_phase + n < 2 ^ 64) → e.wait_phase + n < 2 ^ 64
+below_from n o e found below =
+    let P : Option Entry → Type 0 = λ x. IfSome x (λ entry. entry.wait_phase + n < 2 ^ 64) in
     subst P found below
 
 pub overflow_add-index_mut : goal.overflow_add-index_mut
@@ -24,7 +24,7 @@ overflow_add-index_mut c =
     c.index_mut.ensures.value ∙ ap (λ (r : Roster). get_or r.members c.in-Ok.place c.index_mut.result.now) c.self.view_is in
     let found : entry_of members c.args.number ≡ Some c.index_mut.result.now.1 =
     is ∙ ap (λ (m : ℕ × Entry). Some m.1) (sym here) in
-    omega (arith, below_from _ _ found c.requires.below)
+    omega (arith, below_from _ _ _ found c.requires.below)
 
 pub invariant_of-self : goal.invariant_of-self
 invariant_of-self c =
@@ -32,10 +32,10 @@ invariant_of-self c =
     let d = c.index_mut.result.now in
     let R : Roster → Type 0 = λ r. IsAt r.members c.args.number c.in-Ok.place in
     let at : IsAt l c.args.number c.in-Ok.place = subst R (sym c.self.view_is) c.in-Ok.ensures.found in
-    let M : ℕ × Entry → Type 0 = λ m. IsRoster (set l c.in-Ok.place (m.0, waited 1 m.1)) c.self.inside.greatest c.self.inside.signallers c.self.inside.waiters in
-    let N : ℕ → Type 0 = λ n. IsRoster (set l c.in-Ok.place (n, waited 1 (get_or l c.in-Ok.place d).1)) c.self.inside.greatest c.self.inside.signallers c.self.inside.waiters in
+    let M : ℕ × Entry → Type 0 = λ m. IsRoster (set l c.in-Ok.place (m.0, waited c.args.phases m.1)) c.self.inside.greatest c.self.inside.signallers c.self.inside.waiters in
+    let N : ℕ → Type 0 = λ n. IsRoster (set l c.in-Ok.place (n, waited c.args.phases (get_or l c.in-Ok.place d).1)) c.self.inside.greatest c.self.inside.signallers c.self.inside.waiters in
     subst M (sym c.index_mut.ensures.value) (subst N (sym (IsAt-number l c.args.number c.in-Ok.place d at))
-    (IsRoster-changed l c.self.inside.greatest _ _ c.args.number c.in-Ok.place d (waited 1) c.self.invariant at (λ e. refl)))
+    (IsRoster-changed l c.self.inside.greatest _ _ c.args.number c.in-Ok.place d (waited c.args.phases) c.self.invariant at (λ e. refl)))
 
 pub returns-in-Ok : goal.returns-in-Ok
 returns-in-Ok c =
@@ -47,10 +47,10 @@ returns-in-Ok c =
     let R : Roster → Type 0 = λ r. IsAt r.members k place in
     let at : IsAt l k place = subst R (sym c.self.view_is) c.in-Ok.ensures.found in
     let rising = c.self.invariant.rising in
-    ap (λ (m : ℕ × Entry). roster (set l place (m.0, waited 1 m.1)) greatest) c.index_mut.ensures.value
-    ∙ ap (λ n. roster (set l place (n, waited 1 (get_or l place d).1)) greatest) (IsAt-number l k place d at)
-    ∙ ap (λ ms. roster ms greatest) (changed_at-place l k place d (waited 1) at (none_before l k place rising at))
-    ∙ ap (λ (r : Roster). roster (changed_at k (waited 1) r.members) r.greatest) c.self.view_is
+    ap (λ (m : ℕ × Entry). roster (set l place (m.0, waited c.args.phases m.1)) greatest) c.index_mut.ensures.value
+    ∙ ap (λ n. roster (set l place (n, waited c.args.phases (get_or l place d).1)) greatest) (IsAt-number l k place d at)
+    ∙ ap (λ ms. roster ms greatest) (changed_at-place l k place d (waited c.args.phases) at (none_before l k place rising at))
+    ∙ ap (λ (r : Roster). roster (changed_at k (waited c.args.phases) r.members) r.greatest) c.self.view_is
 
 pub returns-in_default : goal.returns-in_default
 returns-in_default c =

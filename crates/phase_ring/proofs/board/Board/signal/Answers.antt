@@ -1,65 +1,117 @@
--- The sends join the slot, the task goes on to the next one, and then done moves up.
-use Rattle.std.proofs.Common.{ℕ, sym, subst, ◌∙◌, arith}
+-- The sends join their phase, and the task goes on to the next one.
+use Rattle.std.proofs.Common.{◌≡◌, ℕ, ◌+◌, ◌-◌, ◌<◌, ◌≤◌, List, [], ◌∷◌, Some, length, max, drop, refl, sym, ap, subst, ◌∙◌, arith}
 use Rattle.phase_ring.specs.declared.role.Role.TheVariants.{Signaller, Waiter}
+use Rattle.phase_ring.specs.Rings.{Ring, standing, sents}
 use Rattle.phase_ring.specs.Boards.{IsKept}
-use Rattle.phase_ring.proofs.Moves.{Merges, merges_on, leaving, entering}
+use Rattle.phase_ring.specs.Blocks.{block_joined}
+use Rattle.phase_ring.proofs.Slots.{sealed-high}
+use Rattle.phase_ring.proofs.Blocks.{joins_first, joins_within, joins_next}
 use Rattle.phase_ring.proofs.board.Board.signal.Goals as goal
 
-pub leave-requires-clause-some : goal.leave-requires-clause-some
-leave-requires-clause-some g c =
+pub join-requires-clause-within : goal.join-requires-clause-within
+join-requires-clause-within g c =
+    let op = g.A.Accumulate.operation in
     let old = c.args.self.now in
-    let m : Merges g.A.Accumulate.operation old.ring c.merge.new.self old.limits.bound old.done old.top c.args.phase c.args.pending c.args.single =
-    merges_on _ _ _ _ _ _ _ _ _ c.requires.kept c.requires.low c.requires.ahead c.requires.far c.in_ok-merge.ensures.ok in
-    let s = m.stands Signaller c.args.phase in
+    let want = block_joined op c.args.phase (c.args.pending.now ∷ []) c.args.single.now old.ring in
+    let first = joins_first op old.ring old.limits.bound old.done old.top c.args.phase (c.args.pending.now ∷ []) c.args.single.now c.requires.kept c.requires.stands c.requires.fits in
+    let w = joins_within op old.ring old.ring old.limits.bound old.done old.top c.args.phase (c.args.pending.now ∷ []) c.args.single.now want first c.requires.low c.requires.ahead in
+    w.0
+
+pub join-requires-clause-below : goal.join-requires-clause-below
+join-requires-clause-below g c =
+    let op = g.A.Accumulate.operation in
+    let old = c.args.self.now in
+    let want = block_joined op c.args.phase (c.args.pending.now ∷ []) c.args.single.now old.ring in
+    let first = joins_first op old.ring old.limits.bound old.done old.top c.args.phase (c.args.pending.now ∷ []) c.args.single.now c.requires.kept c.requires.stands c.requires.fits in
+    let w = joins_within op old.ring old.ring old.limits.bound old.done old.top c.args.phase (c.args.pending.now ∷ []) c.args.single.now want first c.requires.low c.requires.ahead in
+    w.1
+
+pub join-requires-clause-incomplete : goal.join-requires-clause-incomplete
+join-requires-clause-incomplete g c =
+    let op = g.A.Accumulate.operation in
+    let old = c.args.self.now in
+    let want = block_joined op c.args.phase (c.args.pending.now ∷ []) c.args.single.now old.ring in
+    let first = joins_first op old.ring old.limits.bound old.done old.top c.args.phase (c.args.pending.now ∷ []) c.args.single.now c.requires.kept c.requires.stands c.requires.fits in
+    let w = joins_within op old.ring old.ring old.limits.bound old.done old.top c.args.phase (c.args.pending.now ∷ []) c.args.single.now want first c.requires.low c.requires.ahead in
+    sealed-high op old.ring old.limits.bound old.done old.top c.args.phase c.requires.kept w.0 c.requires.low
+
+pub join-requires-clause-fits : goal.join-requires-clause-fits
+join-requires-clause-fits g c =
+    c.requires.fits.0
+
+pub go_on-requires-clause-kept : goal.go_on-requires-clause-kept
+go_on-requires-clause-kept g c =
+    let op = g.A.Accumulate.operation in
+    let old = c.args.self.now in
+    let want = block_joined op c.args.phase (c.args.pending.now ∷ []) c.args.single.now old.ring in
+    let first = joins_first op old.ring old.limits.bound old.done old.top c.args.phase (c.args.pending.now ∷ []) c.args.single.now c.requires.kept c.requires.stands c.requires.fits in
+    let w = joins_within op old.ring old.ring old.limits.bound old.done old.top c.args.phase (c.args.pending.now ∷ []) c.args.single.now want first c.requires.low c.requires.ahead in
+    let j = joins_next op old.ring old.ring c.join.new.self old.limits.bound old.done old.top c.args.phase c.args.pending.now [] c.args.single.now want first c.requires.low c.requires.ahead c.requires.far c.join.ensures in
+    let K : ℕ → Type 0 = λ t. IsKept op c.join.new.self old.limits.bound old.done t in
+    subst K (sym c.max-self.ensures) j.kept
+
+pub go_on-requires-clause-stands : goal.go_on-requires-clause-stands
+go_on-requires-clause-stands g c =
+    let op = g.A.Accumulate.operation in
+    let old = c.args.self.now in
+    let want = block_joined op c.args.phase (c.args.pending.now ∷ []) c.args.single.now old.ring in
+    let first = joins_first op old.ring old.limits.bound old.done old.top c.args.phase (c.args.pending.now ∷ []) c.args.single.now c.requires.kept c.requires.stands c.requires.fits in
+    let w = joins_within op old.ring old.ring old.limits.bound old.done old.top c.args.phase (c.args.pending.now ∷ []) c.args.single.now want first c.requires.low c.requires.ahead in
+    let j = joins_next op old.ring old.ring c.join.new.self old.limits.bound old.done old.top c.args.phase c.args.pending.now [] c.args.single.now want first c.requires.low c.requires.ahead c.requires.far c.join.ensures in
+    let s = j.stands Signaller c.args.phase in
     let h = c.requires.stands in
     omega arith
 
-pub enter-requires-clause-within : goal.enter-requires-clause-within
-enter-requires-clause-within g c =
-    let l = leaving g.A.Accumulate.operation c.args.self.now.ring c.merge.new.self c.leave.new.self c.args.self.now.limits.bound c.args.self.now.done c.args.self.now.top
-    c.args.phase c.args.pending c.args.single c.requires.kept c.requires.low c.requires.ahead c.requires.far c.in_ok-merge.ensures.ok c.leave.ensures in
-    l.next
-
-pub enter-requires-clause-few : goal.enter-requires-clause-few
-enter-requires-clause-few g c =
-    let l = leaving g.A.Accumulate.operation c.args.self.now.ring c.merge.new.self c.leave.new.self c.args.self.now.limits.bound c.args.self.now.done c.args.self.now.top
-    c.args.phase c.args.pending c.args.single c.requires.kept c.requires.low c.requires.ahead c.requires.far c.in_ok-merge.ensures.ok c.leave.ensures in
-    let room = l.room in
-    let h = c.requires.few in
+pub go_on-requires-clause-few : goal.go_on-requires-clause-few
+go_on-requires-clause-few g c =
+    let op = g.A.Accumulate.operation in
+    let old = c.args.self.now in
+    let want = block_joined op c.args.phase (c.args.pending.now ∷ []) c.args.single.now old.ring in
+    let first = joins_first op old.ring old.limits.bound old.done old.top c.args.phase (c.args.pending.now ∷ []) c.args.single.now c.requires.kept c.requires.stands c.requires.fits in
+    let w = joins_within op old.ring old.ring old.limits.bound old.done old.top c.args.phase (c.args.pending.now ∷ []) c.args.single.now want first c.requires.low c.requires.ahead in
+    let j = joins_next op old.ring old.ring c.join.new.self old.limits.bound old.done old.top c.args.phase c.args.pending.now [] c.args.single.now want first c.requires.low c.requires.ahead c.requires.far c.join.ensures in
+    let s = j.stands Signaller (c.args.phase + 1) in
+    let few = c.requires.few in
     omega arith
 
-pub settle-requires : goal.settle-requires
-settle-requires g c =
-    let l = leaving g.A.Accumulate.operation c.args.self.now.ring c.merge.new.self c.leave.new.self c.args.self.now.limits.bound c.args.self.now.done c.args.self.now.top
-    c.args.phase c.args.pending c.args.single c.requires.kept c.requires.low c.requires.ahead c.requires.far c.in_ok-merge.ensures.ok c.leave.ensures in
-    let e = entering g.A.Accumulate.operation c.args.self.now.ring c.merge.new.self c.leave.new.self c.enter.new.self c.args.self.now.limits.bound c.args.self.now.done
-    c.args.self.now.top c.args.phase c.args.pending c.args.single l c.requires.low c.requires.stands c.enter.ensures in
-    let T : ℕ → Type 0 = λ t. IsKept g.A.Accumulate.operation c.enter.new.self c.args.self.now.limits.bound c.args.self.now.done t in
-    subst T (sym c.max-self.ensures) e.kept
-
 pub returns-clause-slots : goal.returns-clause-slots
-returns-clause-slots g c slot found =
-    let l = leaving g.A.Accumulate.operation c.args.self.now.ring c.merge.new.self c.leave.new.self c.args.self.now.limits.bound c.args.self.now.done c.args.self.now.top
-    c.args.phase c.args.pending c.args.single c.requires.kept c.requires.low c.requires.ahead c.requires.far c.in_ok-merge.ensures.ok c.leave.ensures in
-    let e = entering g.A.Accumulate.operation c.args.self.now.ring c.merge.new.self c.leave.new.self c.enter.new.self c.args.self.now.limits.bound c.args.self.now.done
-    c.args.self.now.top c.args.phase c.args.pending c.args.single l c.requires.low c.requires.stands c.enter.ensures in
-    ((l.merged.sents_are slot found).0, c.settle.ensures.same ∙ e.sents_same ∙ (l.merged.sents_are slot found).1)
+returns-clause-slots g c =
+    let op = g.A.Accumulate.operation in
+    let old = c.args.self.now in
+    let want = block_joined op c.args.phase (c.args.pending.now ∷ []) c.args.single.now old.ring in
+    let first = joins_first op old.ring old.limits.bound old.done old.top c.args.phase (c.args.pending.now ∷ []) c.args.single.now c.requires.kept c.requires.stands c.requires.fits in
+    let w = joins_within op old.ring old.ring old.limits.bound old.done old.top c.args.phase (c.args.pending.now ∷ []) c.args.single.now want first c.requires.low c.requires.ahead in
+    let j = joins_next op old.ring old.ring c.join.new.self old.limits.bound old.done old.top c.args.phase c.args.pending.now [] c.args.single.now want first c.requires.low c.requires.ahead c.requires.far c.join.ensures in
+    c.go_on.ensures.same ∙ ap sents j.left
 
 pub returns-clause-moved : goal.returns-clause-moved
 returns-clause-moved g c p =
-    let l = leaving g.A.Accumulate.operation c.args.self.now.ring c.merge.new.self c.leave.new.self c.args.self.now.limits.bound c.args.self.now.done c.args.self.now.top
-    c.args.phase c.args.pending c.args.single c.requires.kept c.requires.low c.requires.ahead c.requires.far c.in_ok-merge.ensures.ok c.leave.ensures in
-    let e = entering g.A.Accumulate.operation c.args.self.now.ring c.merge.new.self c.leave.new.self c.enter.new.self c.args.self.now.limits.bound c.args.self.now.done
-    c.args.self.now.top c.args.phase c.args.pending c.args.single l c.requires.low c.requires.stands c.enter.ensures in
-    let a = c.settle.ensures.standing Signaller p in
-    let b = e.moved p in
-    let d = l.merged.stands Signaller p in
+    let op = g.A.Accumulate.operation in
+    let old = c.args.self.now in
+    let want = block_joined op c.args.phase (c.args.pending.now ∷ []) c.args.single.now old.ring in
+    let first = joins_first op old.ring old.limits.bound old.done old.top c.args.phase (c.args.pending.now ∷ []) c.args.single.now c.requires.kept c.requires.stands c.requires.fits in
+    let w = joins_within op old.ring old.ring old.limits.bound old.done old.top c.args.phase (c.args.pending.now ∷ []) c.args.single.now want first c.requires.low c.requires.ahead in
+    let j = joins_next op old.ring old.ring c.join.new.self old.limits.bound old.done old.top c.args.phase c.args.pending.now [] c.args.single.now want first c.requires.low c.requires.ahead c.requires.far c.join.ensures in
+    let a = c.go_on.ensures.moved p in
+    let d = j.stands Signaller p in
     omega arith
 
 pub returns-clause-others : goal.returns-clause-others
 returns-clause-others g c p =
-    let l = leaving g.A.Accumulate.operation c.args.self.now.ring c.merge.new.self c.leave.new.self c.args.self.now.limits.bound c.args.self.now.done c.args.self.now.top
-    c.args.phase c.args.pending c.args.single c.requires.kept c.requires.low c.requires.ahead c.requires.far c.in_ok-merge.ensures.ok c.leave.ensures in
-    let e = entering g.A.Accumulate.operation c.args.self.now.ring c.merge.new.self c.leave.new.self c.enter.new.self c.args.self.now.limits.bound c.args.self.now.done
-    c.args.self.now.top c.args.phase c.args.pending c.args.single l c.requires.low c.requires.stands c.enter.ensures in
-    c.settle.ensures.standing Waiter p ∙ e.others p ∙ l.merged.stands Waiter p
+    let op = g.A.Accumulate.operation in
+    let old = c.args.self.now in
+    let want = block_joined op c.args.phase (c.args.pending.now ∷ []) c.args.single.now old.ring in
+    let first = joins_first op old.ring old.limits.bound old.done old.top c.args.phase (c.args.pending.now ∷ []) c.args.single.now c.requires.kept c.requires.stands c.requires.fits in
+    let w = joins_within op old.ring old.ring old.limits.bound old.done old.top c.args.phase (c.args.pending.now ∷ []) c.args.single.now want first c.requires.low c.requires.ahead in
+    let j = joins_next op old.ring old.ring c.join.new.self old.limits.bound old.done old.top c.args.phase c.args.pending.now [] c.args.single.now want first c.requires.low c.requires.ahead c.requires.far c.join.ensures in
+    c.go_on.ensures.others p ∙ j.stands Waiter p
+
+pub returns-clause-base : goal.returns-clause-base
+returns-clause-base g c =
+    let op = g.A.Accumulate.operation in
+    let old = c.args.self.now in
+    let want = block_joined op c.args.phase (c.args.pending.now ∷ []) c.args.single.now old.ring in
+    let first = joins_first op old.ring old.limits.bound old.done old.top c.args.phase (c.args.pending.now ∷ []) c.args.single.now c.requires.kept c.requires.stands c.requires.fits in
+    let w = joins_within op old.ring old.ring old.limits.bound old.done old.top c.args.phase (c.args.pending.now ∷ []) c.args.single.now want first c.requires.low c.requires.ahead in
+    let j = joins_next op old.ring old.ring c.join.new.self old.limits.bound old.done old.top c.args.phase c.args.pending.now [] c.args.single.now want first c.requires.low c.requires.ahead c.requires.far c.join.ensures in
+    ap (λ (r : Ring g.row.A.Denot). r.base) c.go_on.ensures.same ∙ j.base_same

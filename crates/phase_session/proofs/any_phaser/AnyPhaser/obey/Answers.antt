@@ -1,12 +1,12 @@
--- Each operator's phaser obeys by itself.
+-- Each operation's phaser obeys by itself.
 use Rattle.std.proofs.Common.{refl}
 use Rattle.phase_accum.specs.Sums.{sum_operation}
 use Rattle.phase_accum.specs.Products.{product_operation}
 use Rattle.phase_accum.specs.Leasts.{least_operation}
 use Rattle.phase_accum.specs.Greatests.{greatest_operation}
 use Rattle.phase_accum.specs.Anys.{any_operation}
-use Rattle.phase_script.specs.declared.command.Operator.TheVariants.{Sum, Product, Least, Greatest, Any}
-use Rattle.phase_session.proofs.Operators.{replies_under, stands_under, ok_under, under_sum, under_product, under_least, under_greatest, under_any}
+use Rattle.phase_base.specs.declared.operation.Op.TheVariants.{Sum, Product, Least, Greatest, Any}
+use Rattle.phase_session.proofs.Operations.{replies_under, stands_under, ok_under, under_sum, under_product, under_least, under_greatest, under_any}
 use Rattle.phase_session.proofs.any_phaser.AnyPhaser.obey.Goals as goal
 
 pub returns-in-Sum-clause-reply : goal.returns-in-Sum-clause-reply

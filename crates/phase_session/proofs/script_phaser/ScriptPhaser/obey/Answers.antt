@@ -19,6 +19,18 @@ pub returns-in-Add-clause-memory : goal.returns-in-Add-clause-memory
 returns-in-Add-clause-memory g c =
     ok_on_err g.A.Accumulate.operation c.args.self.now c.add.result c.args.command _ c.in-Add.is c.add.ensures.memory
 
+pub returns-in-Now-clause-reply : goal.returns-in-Now-clause-reply
+returns-in-Now-clause-reply g c =
+    replies_if_ok g.A.Accumulate.operation c.args.self.now c.add_now.result c.args.command _ c.in-Now.is c.add_now.ensures.reply
+
+pub returns-in-Now-clause-after : goal.returns-in-Now-clause-after
+returns-in-Now-clause-after g c =
+    stands_on_ok g.A.Accumulate.operation c.args.self.now c.add_now.new.self c.add_now.result c.args.command _ c.in-Now.is c.add_now.ensures.after
+
+pub returns-in-Now-clause-memory : goal.returns-in-Now-clause-memory
+returns-in-Now-clause-memory g c =
+    ok_on_err g.A.Accumulate.operation c.args.self.now c.add_now.result c.args.command _ c.in-Now.is c.add_now.ensures.memory
+
 pub returns-in-Send-clause-reply : goal.returns-in-Send-clause-reply
 returns-in-Send-clause-reply g c =
     replies_if_ok g.A.Accumulate.operation c.args.self.now c.send.result c.args.command _ c.in-Send.is c.send.ensures.reply
@@ -52,3 +64,6 @@ returns-in-Add-clause-asks g c = asks_as c.add.result c.args.command _ c.in-Add.
 
 pub returns-in-Send-clause-asks : goal.returns-in-Send-clause-asks
 returns-in-Send-clause-asks g c = asks_as c.send.result c.args.command _ c.in-Send.is tt
+
+pub returns-in-Now-clause-asks : goal.returns-in-Now-clause-asks
+returns-in-Now-clause-asks g c = asks_as c.add_now.result c.args.command _ c.in-Now.is tt

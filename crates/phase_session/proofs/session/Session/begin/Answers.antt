@@ -7,4 +7,4 @@ use Rattle.phase_session.proofs.session.Session.begin.Goals as goal
 
 pub invariant_of-self : goal.invariant_of-self
 unfolding MaybeStandsFor
-invariant_of-self c = (OnePhaser c.in-Make.operator c.in-Ok.spec (Made 0 ∷ []) [], c.in_ok-new.ensures)
+invariant_of-self c = (OnePhaser c.in-Make.operation c.in-Ok.spec (Made 0 ∷ []) [], c.in_ok-new.ensures)

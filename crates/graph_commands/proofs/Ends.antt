@@ -1,0 +1,159 @@
+-- How a check and an evaluation end, from what their parts promise.
+use Rattle.std.proofs.Common.{◌≡◌, ◌<◌, inl, inr, ℕ, true, List, Some, refl, arith}
+use Rattle.std.specs.Io.KnownBytes.{Appends}
+use Rattle.std.specs.declared.option.Option.{Option}
+use Rattle.watched_io.specs.Prefix.{AppendsPrefix}
+use Rattle.watched_io.specs.States.{WriterState}
+use Rattle.watched_io.specs.declared.watched.Watched.{Watched}
+use Rattle.graph_base.specs.Graphs.{name_at}
+use Rattle.graph_base.specs.declared.place.Place.{Place}
+use Rattle.graph_commands.specs.FileJobs.{Explains, IsJobOf, Known}
+use Rattle.graph_commands.specs.declared.fault.JobFault.{JobFault}
+use Rattle.graph_commands.specs.declared.fault.JobFault.TheVariants as fault
+use Rattle.graph_commands.proofs.Needed.{needed-graph}
+use Rattle.watched_io.specs.declared.fault.IoFault.TheVariants.{WriteFault}
+use Rattle.graph_commands.specs.GraphRuns.{CheckEnds, EvalEnds, IsNoJob, check_line, job_line, job_status, too_big_line}
+use Rattle.phase_status.specs.Statuses.{Reports, Says, fault_line}
+use Rattle.stream_lists.specs.Jobs.{Job}
+use Rattle.stream_lists.specs.Lists.{lines_of}
+use Rattle.stream_lists.specs.Ranges.{Fits, first_too_big}
+use Rattle.stream_lists.specs.Texts.{text_of}
+
+-- no fault is told with the status 0
+not_zero : (status n : ℕ) → status ≡ n → 0 < n → status ≡ 0 → ⊥
+not_zero status n is some zero = omega (arith, is, some, zero)
+
+some_status : (found : JobFault) → 0 < job_status found
+some_status (fault.Graph found) = omega arith
+some_status (fault.BadSample name number) = omega arith
+some_status fault.ReadFault = omega arith
+some_status fault.OutOfMemory = omega arith
+
+-- the files tell no job
+no_job : {W : Type 0} (known : Known) (name : List ℕ) (found : JobFault) (status : ℕ)
+    (output : Watched W) → status ≡ job_status found → Explains known name found
+    → IsNoJob known name status (job_line found) output output
+no_job known name found status output is explains = record {
+  found = found;
+  explains = explains;
+  status_is = is;
+  line_is = refl;
+  silent = refl;
+}
+
+pub check-no_job : {W : Type 0} (contents : W → Option (List ℕ)) (known : Known) (name : List ℕ)
+    (found : JobFault) (status : ℕ) (output : Watched W) (before after : WriterState)
+    → status ≡ job_status found → Explains known name found → Says (job_line found) before after
+    → CheckEnds known name status contents output output before after
+check-no_job contents known name found status output before after is explains says = record {
+  done = λ zero. absurd (not_zero status (job_status found) is (some_status found) zero);
+  stops = λ _. record {
+    line = job_line found;
+    cause = inl (no_job known name found status output is explains);
+    says = says;
+  };
+}
+
+pub eval-no_job : {W : Type 0} (contents : W → Option (List ℕ)) (known : Known) (name : List ℕ)
+    (found : JobFault) (status : ℕ) (output : Watched W) (before after : WriterState)
+    → status ≡ job_status found → Explains known name found → Says (job_line found) before after
+    → EvalEnds known name status contents output output before after
+eval-no_job contents known name found status output before after is explains says = record {
+  done = λ zero. absurd (not_zero status (job_status found) is (some_status found) zero);
+  stops = λ _. record {
+    line = job_line found;
+    cause = inl (no_job known name found status output is explains);
+    says = says;
+  };
+}
+
+-- memory ran out over the lists of a job that the files tell
+pub eval-no_memory : {W : Type 0} (contents : W → Option (List ℕ)) (known : Known) (name : List ℕ)
+    (job : Job) (status : ℕ) (output : Watched W) (before after : WriterState) → status ≡ 5
+    → IsJobOf known name job → Says (job_line fault.OutOfMemory) before after
+    → EvalEnds known name status contents output output before after
+eval-no_memory contents known name job status output before after is of says =
+    eval-no_job contents known name fault.OutOfMemory status output before after is
+    (needed-graph known name job.graph of.graph_of) says
+
+-- a value is out of range
+pub eval-too_big : {W : Type 0} (contents : W → Option (List ℕ)) (known : Known) (name : List ℕ)
+    (job : Job) (place : Place) (number status : ℕ) (output : Watched W)
+    (before after : WriterState) → status ≡ 3 → IsJobOf known name job → first_too_big job ≡ Some (place, number)
+    → Says (too_big_line (name_at job.graph place) number) before after
+    → EvalEnds known name status contents output output before after
+eval-too_big contents known name job place number status output before after is of first says = record {
+  done = λ zero. absurd (not_zero status 3 is (omega arith) zero);
+  stops = λ _. record {
+    line = too_big_line (name_at job.graph place) number;
+    cause = inr (inl (record {
+      job = job;
+      place = place;
+      number = number;
+      job_of = of;
+      first = first;
+      status_is = is;
+      line_is = refl;
+      silent = refl;
+    }));
+    says = says;
+  };
+}
+
+-- the text was written
+pub check-done : {W : Type 0} (contents : W → Option (List ℕ)) (known : Known) (name : List ℕ)
+    (job : Job) (old new : Watched W) (before after : WriterState) → IsJobOf known name job
+    → Appends (contents old.inner) (contents new.inner) (check_line job.graph)
+    → CheckEnds known name 0 contents old new before after
+check-done contents known name job old new before after of written = record {
+  done = λ _. record { job = job; job_of = of; written = written };
+  stops = λ other. absurd (other refl);
+}
+
+pub eval-done : {W : Type 0} (contents : W → Option (List ℕ)) (known : Known) (name : List ℕ)
+    (job : Job) (old new : Watched W) (before after : WriterState) → IsJobOf known name job → Fits job
+    → Appends (contents old.inner) (contents new.inner) (text_of job.graph (lines_of job))
+    → EvalEnds known name 0 contents old new before after
+eval-done contents known name job old new before after of fits written = record {
+  done = λ _. record { job = job; job_of = of; fits = fits; written = written };
+  stops = λ other. absurd (other refl);
+}
+
+-- a prefix of it was, and a write failed
+pub check-unwritten : {W : Type 0} (contents : W → Option (List ℕ)) (known : Known) (name : List ℕ)
+    (job : Job) (status : ℕ) (old new : Watched W) (before after : WriterState) → status ≡ 5 → IsJobOf known name job
+    → AppendsPrefix (contents old.inner) (contents new.inner) (check_line job.graph)
+    → new.has_failed ≡ true → Reports WriteFault before after
+    → CheckEnds known name status contents old new before after
+check-unwritten contents known name job status old new before after is of written noted says = record {
+  done = λ zero. absurd (not_zero status 5 is (omega arith) zero);
+  stops = λ _. record {
+    line = fault_line WriteFault;
+    cause = inr (record {
+      written = record { job = job; job_of = of; written = written };
+      noted = noted;
+      status_is = is;
+      line_is = refl;
+    });
+    says = says;
+  };
+}
+
+pub eval-unwritten : {W : Type 0} (contents : W → Option (List ℕ)) (known : Known) (name : List ℕ)
+    (job : Job) (status : ℕ) (old new : Watched W) (before after : WriterState) → status ≡ 5 → IsJobOf known name job → Fits job
+    → AppendsPrefix (contents old.inner) (contents new.inner) (text_of job.graph (lines_of job))
+    → new.has_failed ≡ true → Reports WriteFault before after
+    → EvalEnds known name status contents old new before after
+eval-unwritten contents known name job status old new before after is of fits written noted says = record {
+  done = λ zero. absurd (not_zero status 5 is (omega arith) zero);
+  stops = λ _. record {
+    line = fault_line WriteFault;
+    cause = inr (inr (record {
+      written = record { job = job; job_of = of; fits = fits; written = written };
+      noted = noted;
+      status_is = is;
+      line_is = refl;
+    }));
+    says = says;
+  };
+}

@@ -1,0 +1,5 @@
+mod Counted
+mod Ends
+mod Needed
+mod Places
+mod Putting

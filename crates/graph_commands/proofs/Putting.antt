@@ -1,0 +1,75 @@
+-- Texts that are put one behind the other.
+use Rattle.std.proofs.Common.{◌≡◌, ℕ, List, [], ◌++◌, refl, sym, ◌∙◌, ap, append_assoc, append-nil}
+use Rattle.std.specs.Io.KnownBytes.{Appends}
+use Rattle.std.proofs.KnownBytes.{Appends-nil, Appends-trans}
+use Rattle.std.specs.declared.option.Option.{Option}
+use Rattle.watched_io.specs.Prefix.{AppendsPrefix}
+use Rattle.watched_io.proofs.Writing.{prefix_of_prefix}
+use Rattle.graph_commands.specs.Puts.{Puts}
+
+-- all the bytes wait
+pub Puts-kept : (old : Option (List ℕ)) (before bytes : List ℕ)
+    → Puts old old before (before ++ bytes) bytes
+Puts-kept old before bytes = record { sent = []; whole = refl; appends = Appends-nil old }
+
+-- what waited was written, and the bytes wait
+pub Puts-begun : (old new : Option (List ℕ)) (before bytes : List ℕ) → Appends old new before
+    → Puts old new before bytes bytes
+Puts-begun old new before bytes p = record { sent = before; whole = refl; appends = p }
+
+-- all was written
+pub Puts-all : (old mid new : Option (List ℕ)) (before bytes : List ℕ) → Appends old mid before
+    → Appends mid new bytes → Puts old new before [] bytes
+Puts-all old mid new before bytes p q = record {
+  sent = before ++ bytes;
+  whole = sym (append-nil (before ++ bytes));
+  appends = Appends-trans old mid new before bytes p q;
+}
+
+-- two puts put both texts
+pub Puts-append : (old mid new : Option (List ℕ)) (before between after xs ys : List ℕ)
+    → Puts old mid before between xs → Puts mid new between after ys
+    → Puts old new before after (xs ++ ys)
+Puts-append old mid new before between after xs ys p q = record {
+  sent = p.sent ++ q.sent;
+  whole = sym (append_assoc before xs ys)
+      ∙ (ap (λ l. l ++ ys) p.whole ∙ (append_assoc p.sent between ys
+      ∙ (ap (λ l. p.sent ++ l) q.whole ∙ sym (append_assoc p.sent q.sent after))));
+  appends = Appends-trans old mid new p.sent q.sent p.appends q.appends;
+}
+
+-- the first text was put, and of the second a prefix was written
+pub prefix_behind : (old mid new : Option (List ℕ)) (before between xs ys : List ℕ)
+    → Puts old mid before between xs → AppendsPrefix mid new (between ++ ys)
+    → AppendsPrefix old new (before ++ (xs ++ ys))
+prefix_behind old mid new before between xs ys p q = (
+  p.sent ++ q.0,
+  q.1,
+  sym (append_assoc before xs ys) ∙ (ap (λ l. l ++ ys) p.whole
+      ∙ (append_assoc p.sent between ys
+      ∙ (ap (λ l. p.sent ++ l) q.2 ∙ sym (append_assoc p.sent q.0 q.1)))),
+  Appends-trans old mid new p.sent q.0 p.appends q.3,
+)
+
+-- the text was put, and of what waited then a prefix was written
+pub prefix_of_put : (old mid new : Option (List ℕ)) (before after bytes : List ℕ)
+    → Puts old mid before after bytes → AppendsPrefix mid new after
+    → AppendsPrefix old new (before ++ bytes)
+prefix_of_put old mid new before after bytes p q = (
+  p.sent ++ q.0,
+  q.1,
+  p.whole ∙ (ap (λ l. p.sent ++ l) q.2 ∙ sym (append_assoc p.sent q.0 q.1)),
+  Appends-trans old mid new p.sent q.0 p.appends q.3,
+)
+
+-- of the first text a prefix was written
+pub prefix_before : (old new : Option (List ℕ)) (before xs ys : List ℕ)
+    → AppendsPrefix old new (before ++ xs) → AppendsPrefix old new (before ++ (xs ++ ys))
+prefix_before old new before xs ys p =
+    prefix_of_prefix old new (before ++ xs) ys (before ++ (xs ++ ys))
+    (sym (append_assoc before xs ys)) p
+
+-- the same of a text that ends with them
+pub prefix_within : (old new : Option (List ℕ)) (before xs ys whole : List ℕ) → whole ≡ xs ++ ys
+    → AppendsPrefix old new (before ++ xs) → AppendsPrefix old new (before ++ whole)
+prefix_within old new before xs ys whole e p = rw e (prefix_before old new before xs ys p)

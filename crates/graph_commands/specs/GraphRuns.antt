@@ -1,0 +1,165 @@
+-- How a check or an evaluation of a graph ends: its status, and what stands on its streams then.
+use Rattle.std.specs.Prelude.{◌≡◌, ◌≢◌, ◌⊎◌, ℕ, true, List, [], ◌∷◌, length, codes, decimal, Some, string_bytes}
+use Rattle.std.specs.List.{flat_map}
+use Rattle.std.specs.Io.KnownBytes.{Appends}
+use Rattle.std.specs.declared.option.Option.{Option}
+use Rattle.graph_base.specs.Graphs.{Graph, name_at}
+use Rattle.graph_lang.specs.declared.fault.FaultKind.{FaultKind}
+use Rattle.graph_lang.specs.declared.fault.FaultKind.TheVariants.{Syntax, Limit, Twice, Unknown, OutBeforeIn, BadParent, NotHeld, AnyMeets}
+use Rattle.graph_base.specs.declared.place.Place.{Place}
+use Rattle.stream_lists.specs.Jobs.{Job}
+use Rattle.stream_lists.specs.Lists.{lines_of}
+use Rattle.stream_lists.specs.Ranges.{Fits, first_too_big}
+use Rattle.stream_lists.specs.Texts.{text_of}
+use Rattle.graph_commands.specs.FileJobs.{Explains, IsJobOf, Known}
+use Rattle.graph_commands.specs.declared.fault.JobFault.{JobFault}
+use Rattle.graph_commands.specs.declared.fault.JobFault.TheVariants as fault
+use Rattle.watched_io.specs.declared.fault.IoFault.TheVariants.{OutOfMemory, ReadFault, WriteFault}
+use Rattle.watched_io.specs.Prefix.{AppendsPrefix}
+use Rattle.watched_io.specs.States.{WriterState, writer_state}
+use Rattle.watched_io.specs.declared.watched.Watched.{Watched}
+use Rattle.phase_status.specs.Statuses.{Says, fault_line}
+
+-- the parts, one behind the other
+abbrev pub joined : List (List ℕ) → List ℕ
+joined parts = flat_map (λ part. part) parts
+
+-- ---- what is written
+
+-- how many phasers and tasks the graph has
+abbrev pub check_line : Graph → List ℕ
+check_line graph = joined (
+    codes "ok phasers " ∷ decimal (length graph.phasers)
+    ∷ codes " tasks " ∷ decimal (length graph.tasks) ∷ codes "\n" ∷ [])
+
+-- the files tell a job, and its line was written
+pub record Checks (known : Known) (name : List ℕ) (old new : WriterState) : Type 0 where
+  pub job : Job
+  pub job_of : IsJobOf known name job
+  pub written : Appends old.written new.written (check_line job.graph)
+
+-- the files tell a job, and a prefix of its line was written
+pub record ChecksPrefix (known : Known) (name : List ℕ) (old new : WriterState) : Type 0 where
+  pub job : Job
+  pub job_of : IsJobOf known name job
+  pub written : AppendsPrefix old.written new.written (check_line job.graph)
+
+-- the files tell a job whose values fit, and the lists of its sinks were written
+pub record Evaluates (known : Known) (name : List ℕ) (old new : WriterState) : Type 0 where
+  pub job : Job
+  pub job_of : IsJobOf known name job
+  pub fits : Fits job
+  pub written : Appends old.written new.written (text_of job.graph (lines_of job))
+
+-- the files tell a job whose values fit, and a prefix of the lists of its sinks was written
+pub record EvaluatesPrefix (known : Known) (name : List ℕ) (old new : WriterState) : Type 0 where
+  pub job : Job
+  pub job_of : IsJobOf known name job
+  pub fits : Fits job
+  pub written : AppendsPrefix old.written new.written (text_of job.graph (lines_of job))
+
+-- ---- the lines of faults
+
+abbrev pub kind_text : FaultKind → List ℕ
+kind_text Syntax = codes "syntax"
+kind_text Limit = codes "limit"
+kind_text Twice = codes "twice"
+kind_text Unknown = codes "unknown"
+kind_text OutBeforeIn = codes "out-before-in"
+kind_text BadParent = codes "bad-parent"
+kind_text NotHeld = codes "not-held"
+kind_text AnyMeets = codes "any-meets"
+
+abbrev pub graph_line : ℕ → FaultKind → List ℕ
+graph_line line kind = joined (
+    codes "phase: graph line " ∷ decimal line ∷ codes ": " ∷ kind_text kind ∷ codes "\n" ∷ [])
+
+abbrev pub samples_line : List ℕ → ℕ → List ℕ
+samples_line name number = joined (
+    codes "phase: samples of " ∷ name ∷ codes ": record " ∷ decimal number ∷ codes "\n" ∷ [])
+
+abbrev pub too_big_line : List ℕ → ℕ → List ℕ
+too_big_line name n = joined (
+    codes "phase: too big at " ∷ name ∷ codes " " ∷ decimal n ∷ codes "\n" ∷ [])
+
+-- the line and the status of a fault of the files
+abbrev pub job_line : JobFault → List ℕ
+job_line (fault.Graph found) = graph_line found.line found.kind
+job_line (fault.BadSample name number) = samples_line (string_bytes name) number
+job_line fault.ReadFault = fault_line ReadFault
+job_line fault.OutOfMemory = fault_line OutOfMemory
+
+abbrev pub job_status : JobFault → ℕ
+job_status (fault.Graph found) = 1
+job_status (fault.BadSample name number) = 1
+job_status fault.ReadFault = 5
+job_status fault.OutOfMemory = 5
+
+-- ---- why there is no other answer
+
+-- the files tell no job, or memory ran out: nothing was written, and no write failed
+pub record IsNoJob {W : Type 0} (known : Known) (name : List ℕ) (status : ℕ) (line : List ℕ)
+    (old new : Watched W) : Type 0 where
+  pub found : JobFault
+  pub explains : Explains known name found
+  pub status_is : status ≡ job_status found
+  pub line_is : line ≡ job_line found
+  pub silent : new ≡ old
+
+-- the files tell a job, and the first of its values that is out of range: nothing was written
+pub record IsTooBig {W : Type 0} (known : Known) (name : List ℕ) (status : ℕ) (line : List ℕ)
+    (old new : Watched W) : Type 0 where
+  pub job : Job
+  pub place : Place
+  pub number : ℕ
+  pub job_of : IsJobOf known name job
+  pub first : first_too_big job ≡ Some (place, number)
+  pub status_is : status ≡ 3
+  pub line_is : line ≡ too_big_line (name_at job.graph place) number
+  pub silent : new ≡ old
+
+-- a write to the output failed, after what was written before it
+pub record IsUnwritten (Written : Type 0) (status : ℕ) (line : List ℕ)
+    (new : WriterState) : Type 0 where
+  pub written : Written
+  pub noted : new.failed ≡ true
+  pub status_is : status ≡ 5
+  pub line_is : line ≡ fault_line WriteFault
+
+-- ---- how a check and an evaluation end
+
+-- a check has a status other than 0: it has its cause, whose line was told
+pub record CheckStops {W : Type 0} (known : Known) (name : List ℕ) (status : ℕ)
+    (contents : W → Option (List ℕ)) (old new : Watched W)
+    (before after : WriterState) : Type 0 where
+  pub line : List ℕ
+  pub cause : IsNoJob known name status line old new
+      ⊎ IsUnwritten (ChecksPrefix known name (writer_state contents old)
+      (writer_state contents new)) status line (writer_state contents new)
+  pub says : Says line before after
+
+-- an evaluation has a status other than 0: it has its cause, whose line was told
+pub record EvalStops {W : Type 0} (known : Known) (name : List ℕ) (status : ℕ)
+    (contents : W → Option (List ℕ)) (old new : Watched W)
+    (before after : WriterState) : Type 0 where
+  pub line : List ℕ
+  pub cause : IsNoJob known name status line old new ⊎ (IsTooBig known name status line old new
+      ⊎ IsUnwritten (EvaluatesPrefix known name (writer_state contents old)
+      (writer_state contents new)) status line (writer_state contents new))
+  pub says : Says line before after
+
+-- how a check ends, by its status
+pub record CheckEnds {W : Type 0} (known : Known) (name : List ℕ) (status : ℕ)
+    (contents : W → Option (List ℕ)) (old new : Watched W)
+    (before after : WriterState) : Type 0 where
+  pub done : status ≡ 0
+      → Checks known name (writer_state contents old) (writer_state contents new)
+  pub stops : status ≢ 0 → CheckStops known name status contents old new before after
+
+-- how an evaluation ends, by its status
+pub record EvalEnds {W : Type 0} (known : Known) (name : List ℕ) (status : ℕ)
+    (contents : W → Option (List ℕ)) (old new : Watched W)
+    (before after : WriterState) : Type 0 where
+  pub done : status ≡ 0
+      → Evaluates known name (writer_state contents old) (writer_state contents new)
+  pub stops : status ≢ 0 → EvalStops known name status contents old new before after

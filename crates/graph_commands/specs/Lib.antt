@@ -1,0 +1,3 @@
+pub mod FileJobs
+pub mod GraphRuns
+pub mod Puts

@@ -1,0 +1,92 @@
+//! The lines of a graph's faults.
+ghost use Rattle.std.specs.Prelude.{◌≡◌};
+ghost use Rattle.graph_base.specs.Graphs.{IsPlace, name_at};
+ghost use Rattle.graph_commands.specs.GraphRuns.{graph_line, job_line, job_status, kind_text};
+ghost use Rattle.graph_commands.specs.GraphRuns.{samples_line, too_big_line};
+ghost use Rattle.phase_status.specs.Statuses.{Says};
+ghost use Rattle.watched_io.specs.States.{writer_state};
+
+use crate::JobFault;
+use graph_lang::{FaultKind, Graph, GraphFault, Place};
+use itoa::Buffer;
+use phase_status::{GRAPH_REFUSED, TOO_BIG, report, say};
+use std::io::Write;
+use watched_io::{IoFault, Watched};
+
+/// The word for a kind of fault.
+fn word_of(kind: FaultKind) -> &'static str
+    ensures { result.now ≡ kind_text kind }
+{
+    match kind {
+        FaultKind::Syntax => "syntax",
+        FaultKind::Limit => "limit",
+        FaultKind::Twice => "twice",
+        FaultKind::Unknown => "unknown",
+        FaultKind::OutBeforeIn => "out-before-in",
+        FaultKind::BadParent => "bad-parent",
+        FaultKind::NotHeld => "not-held",
+        FaultKind::AnyMeets => "any-meets",
+    }
+}
+
+/// Tells a faulty line of a graph.
+fn tell_graph_fault<E: Write>(fault: GraphFault, faults: &mut Watched<E>)
+    ensures { Says (graph_line fault.line fault.kind)
+        (writer_state E.contents faults.old) (writer_state E.contents faults.new) }
+{
+    let mut buffer = Buffer::new();
+    let line = buffer.format(fault.line);
+    let parts = ["phase: graph line ", line, ": ", word_of(fault.kind), "\n"];
+    say(parts.as_slice(), faults);
+}
+
+/// Tells a record of a source that is none.
+fn tell_bad_sample<E: Write>(name: &str, number: usize, faults: &mut Watched<E>)
+    ensures { Says (samples_line name.now number)
+        (writer_state E.contents faults.old) (writer_state E.contents faults.new) }
+{
+    let mut buffer = Buffer::new();
+    let number = buffer.format(number);
+    let parts = ["phase: samples of ", name, ": record ", number, "\n"];
+    say(parts.as_slice(), faults);
+}
+
+/// Tells why the files give no job, and answers the status: 1 where the graph or the samples are
+/// refused, and else 5.
+pub(crate) fn report_job_fault<E: Write>(fault: &JobFault, faults: &mut Watched<E>) -> u8
+    ensures status { result ≡ job_status fault.now }
+    ensures line { Says (job_line fault.now)
+        (writer_state E.contents faults.old) (writer_state E.contents faults.new) }
+{
+    match fault {
+        JobFault::Graph(found) => {
+            tell_graph_fault(*found, faults);
+            GRAPH_REFUSED
+        }
+        JobFault::BadSample { name, number } => {
+            tell_bad_sample(name.as_str(), *number, faults);
+            GRAPH_REFUSED
+        }
+        JobFault::ReadFault => report(IoFault::ReadFault, faults),
+        JobFault::OutOfMemory => report(IoFault::OutOfMemory, faults),
+    }
+}
+
+/// Tells where a value is out of range, and answers the status 3.
+pub(crate) fn report_too_big<E: Write>(
+    graph: &Graph,
+    place: Place,
+    number: usize,
+    faults: &mut Watched<E>,
+) -> u8
+    requires { IsPlace graph.now place }
+    ensures status { result ≡ 3 }
+    ensures line { Says (too_big_line (name_at graph.now place) number)
+        (writer_state E.contents faults.old) (writer_state E.contents faults.new) }
+{
+    let mut buffer = Buffer::new();
+    let number = buffer.format(number);
+    let parts = ["phase: too big at ", graph.name(place), " ", number, "\n"];
+    say(parts.as_slice(), faults);
+    TOO_BIG
+}

@@ -1,0 +1,34 @@
+//! The graph of a file.
+ghost use Rattle.std.specs.Prelude.{◌≡◌, ℕ, List, IfOk, IfErr};
+ghost use Rattle.graph_commands.specs.FileJobs.{Explains, IsGraphOf};
+
+use crate::JobFault;
+use graph_lang::{Graph, GraphRefusal, read_graph};
+use std::alloc::Global;
+use watched_io::{FileFault, Files};
+
+/// The longest text of a graph that is read, in bytes.
+pub const GRAPH_MAX: usize = 1_048_576;
+
+/// Reads the graph in the file of this name, of at most `GRAPH_MAX` bytes, the whole file before
+/// the first line.
+pub fn read_graph_file<F: Files>(
+    alloc: Global,
+    files: &mut F,
+    name: &str,
+) -> Result<Graph, JobFault>
+    ensures ok { IfOk result (λ graph. IsGraphOf (F.file files.old) name.now graph) }
+    ensures fault { IfErr result (λ fault. Explains (F.file files.old) name.now fault) }
+    ensures kept { (other : List ℕ) → F.file files.new other ≡ F.file files.old other }
+{
+    let text = match files.read(alloc, name, GRAPH_MAX) {
+        Ok(text) => text,
+        Err(FileFault::ReadFault) => return Err(JobFault::ReadFault),
+        Err(FileFault::OutOfMemory) => return Err(JobFault::OutOfMemory),
+    };
+    match read_graph(alloc, text.as_slice()) {
+        Ok(graph) => Ok(graph),
+        Err(GraphRefusal::Fault(fault)) => Err(JobFault::Graph(fault)),
+        Err(GraphRefusal::OutOfMemory) => Err(JobFault::OutOfMemory),
+    }
+}

@@ -1,0 +1,38 @@
+//! The job of a graph's file.
+ghost use Rattle.std.specs.Prelude.{◌≡◌, ℕ, List, IfOk, IfErr};
+ghost use Rattle.graph_commands.specs.FileJobs.{Explains, IsJobOf};
+
+use crate::JobFault;
+use crate::graph_file::read_graph_file;
+use crate::sources::read_sources;
+use graph_lang::{FaultKind, GraphFault};
+use std::alloc::Global;
+use stream_lists::{Job, JobRefusal};
+use watched_io::Files;
+
+/// Makes the job of a graph's file: reads the graph, then the samples of each source in the order
+/// of the lines, live or not, each read and checked before the next.
+///
+/// `AnyMeets` is told once all samples were read. `OutOfMemory` comes where memory was refused.
+pub fn read_job<F: Files>(alloc: Global, files: &mut F, name: &str) -> Result<Job, JobFault>
+    ensures ok { IfOk result (λ job. IsJobOf (F.file files.old) name.now job) }
+    ensures fault { IfErr result (λ fault. Explains (F.file files.old) name.now fault) }
+    ensures kept { (other : List ℕ) → F.file files.new other ≡ F.file files.old other }
+{
+    let graph = match read_graph_file(alloc, files, name) {
+        Ok(graph) => graph,
+        Err(fault) => return Err(fault),
+    };
+    let samples = match read_sources(alloc, files, &graph) {
+        Ok(samples) => samples,
+        Err(fault) => return Err(fault),
+    };
+    match Job::new(alloc, graph, samples) {
+        Ok(job) => Ok(job),
+        Err(JobRefusal::AnyMeets { line }) => Err(JobFault::Graph(GraphFault {
+            line,
+            kind: FaultKind::AnyMeets,
+        })),
+        Err(JobRefusal::OutOfMemory) => Err(JobFault::OutOfMemory),
+    }
+}

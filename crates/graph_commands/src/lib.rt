@@ -1,0 +1,23 @@
+//! The commands on graphs: what each reads, answers and writes, and how it ends.
+//!
+//! `check_and_report` and `eval_and_report` run a command and answer the exit status. They read by
+//! `read_job` the job of a graph's file: its graph, and the samples in the files of its sources;
+//! `write_lines` writes what an evaluation gave each sink.
+#![tactic(auto)]
+
+mod fault;
+mod graph_faults;
+mod graph_file;
+mod graph_runs;
+mod job_file;
+pub mod laws;
+mod lines;
+mod output_buffer;
+mod sources;
+
+pub use fault::JobFault;
+pub use graph_file::{GRAPH_MAX, read_graph_file};
+pub use graph_runs::{check_and_report, eval_and_report};
+pub use job_file::read_job;
+pub use lines::write_lines;
+pub use sources::read_sources;

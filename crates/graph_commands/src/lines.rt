@@ -1,0 +1,102 @@
+//! The output of a graph.
+ghost use Rattle.std.specs.Prelude.{◌≡◌, ◌<◌, ◌++◌, length, map, true, OnOk, OnErr};
+ghost use Rattle.std.specs.List.{All};
+ghost use Rattle.std.specs.Io.KnownBytes.{Appends};
+ghost use Rattle.stream_eval.specs.Results.{told};
+ghost use Rattle.stream_lists.specs.Texts.{sink_text, text_of, value_text};
+ghost use Rattle.graph_commands.specs.Puts.{Puts, heading_text};
+ghost use Rattle.watched_io.specs.Prefix.{AppendsPrefix};
+ghost use Rattle.watched_io.specs.Watched.{has_failed_of, inner_of};
+
+use crate::output_buffer::OutputBuffer;
+use graph_base::{Graph, Place};
+use itoa::Buffer;
+use std::io::Write;
+use stream_eval::Lines;
+use watched_io::{Watched, WriteFailed};
+
+/// Writes the values of each sink: its name, a space and the count of its values, and then each
+/// value, each on a line of its own.
+///
+/// The text is written in pieces of at most `CHUNK_MAX` bytes, each of them flushed. It takes no
+/// memory. After a failed write the writer has a prefix of the text.
+pub fn write_lines<W: Write>(
+    writer: &mut Watched<W>,
+    graph: &Graph,
+    lines: &[Lines],
+) -> Result<(), WriteFailed>
+    requires { All (λ sink. sink.task < length graph.now.tasks) lines.now }
+    ensures ok { OnOk result (Appends (W.contents (inner_of writer.old))
+        (W.contents (inner_of writer.new)) (text_of graph.now (map told lines.now))) }
+    ensures err { OnErr result (AppendsPrefix (W.contents (inner_of writer.old))
+        (W.contents (inner_of writer.new)) (text_of graph.now (map told lines.now))) }
+    ensures failed { OnErr result (has_failed_of writer.new ≡ true) }
+    ensures kept { OnOk result (has_failed_of writer.new ≡ has_failed_of writer.old) }
+{
+    let mut piece = OutputBuffer::new();
+    for sink in lines {
+        let name = graph.name(Place::Task(sink.task));
+        piece.put_sink(name, &sink.values, writer)?;
+    }
+    piece.hand_over(writer)
+}
+
+impl OutputBuffer {
+    /// Puts a value on a line of its own.
+    fn put_value<W: Write>(
+        &mut self,
+        value: i64,
+        writer: &mut Watched<W>,
+    ) -> Result<(), WriteFailed>
+        ensures ok { OnOk result (Puts (W.contents (inner_of writer.old))
+            (W.contents (inner_of writer.new)) self.old self.new (value_text value)) }
+        ensures err { OnErr result (AppendsPrefix (W.contents (inner_of writer.old))
+            (W.contents (inner_of writer.new)) (self.old ++ value_text value)) }
+        ensures failed { OnErr result (has_failed_of writer.new ≡ true) }
+        ensures kept { OnOk result (has_failed_of writer.new ≡ has_failed_of writer.old) }
+    {
+        self.put(Buffer::new().format(value).as_bytes(), writer)?;
+        self.put(b"\n", writer)
+    }
+
+    /// Puts the line of a sink's name and count.
+    fn put_heading<W: Write>(
+        &mut self,
+        name: &str,
+        count: usize,
+        writer: &mut Watched<W>,
+    ) -> Result<(), WriteFailed>
+        ensures ok { OnOk result (Puts (W.contents (inner_of writer.old))
+            (W.contents (inner_of writer.new)) self.old self.new (heading_text name.now count)) }
+        ensures err { OnErr result (AppendsPrefix (W.contents (inner_of writer.old))
+            (W.contents (inner_of writer.new)) (self.old ++ heading_text name.now count)) }
+        ensures failed { OnErr result (has_failed_of writer.new ≡ true) }
+        ensures kept { OnOk result (has_failed_of writer.new ≡ has_failed_of writer.old) }
+    {
+        self.put(name.as_bytes(), writer)?;
+        self.put(b" ", writer)?;
+        self.put(Buffer::new().format(count).as_bytes(), writer)?;
+        self.put(b"\n", writer)
+    }
+
+    /// Puts a sink's name, the count of its values, and the values.
+    fn put_sink<W: Write>(
+        &mut self,
+        name: &str,
+        values: &[i64],
+        writer: &mut Watched<W>,
+    ) -> Result<(), WriteFailed>
+        ensures ok { OnOk result (Puts (W.contents (inner_of writer.old))
+            (W.contents (inner_of writer.new)) self.old self.new (sink_text name.now values.now)) }
+        ensures err { OnErr result (AppendsPrefix (W.contents (inner_of writer.old))
+            (W.contents (inner_of writer.new)) (self.old ++ sink_text name.now values.now)) }
+        ensures failed { OnErr result (has_failed_of writer.new ≡ true) }
+        ensures kept { OnOk result (has_failed_of writer.new ≡ has_failed_of writer.old) }
+    {
+        self.put_heading(name, values.len(), writer)?;
+        for value in values {
+            self.put_value(*value, writer)?;
+        }
+        Ok(())
+    }
+}

@@ -1,0 +1,96 @@
+//! Text that is collected, so that a writer is called once for many lines.
+ghost use Rattle.std.specs.Prelude.{◌≡◌, ◌≤◌, ◌++◌, ◌+◌, List, ℕ, [], length, take, true, OnOk, OnErr};
+ghost use Rattle.std.specs.Io.KnownBytes.{Appends};
+ghost use Rattle.graph_commands.specs.Puts.{Puts};
+ghost use Rattle.watched_io.specs.declared.text.TheConstants.{CHUNK_MAX};
+ghost use Rattle.watched_io.specs.Prefix.{AppendsPrefix};
+ghost use Rattle.watched_io.specs.Watched.{has_failed_of, inner_of};
+
+use std::io::Write;
+use std::marker::Model;
+use watched_io::{CHUNK_MAX, Watched, WriteFailed};
+
+/// The end of a text, of at most `CHUNK_MAX` bytes, which waits to be written. It stands on the
+/// stack.
+#[derive(Drop)]
+pub(crate) struct OutputBuffer {
+    buf: [u8; CHUNK_MAX],
+    len: usize,
+}
+
+impl Model for OutputBuffer {
+    ghost Value = { List ℕ };
+
+    ghost view = { λ piece. take piece.len piece.buf };
+
+    ghost invariant = { λ piece. piece.len ≤ CHUNK_MAX };
+}
+
+impl OutputBuffer {
+    /// Nothing waits.
+    pub(crate) fn new() -> OutputBuffer
+        ensures { result ≡ [] }
+    {
+        OutputBuffer {
+            buf: [0; CHUNK_MAX],
+            len: 0,
+        }
+    }
+
+    /// Whether so many bytes more find room.
+    fn has_room(&self, count: usize) -> bool
+        ensures { result ≡ true → length self.now + count ≤ CHUNK_MAX }
+    {
+        count <= CHUNK_MAX - self.len
+    }
+
+    /// Keeps the bytes behind those that wait.
+    fn keep(&mut self, bytes: &[u8])
+        requires { length self.old + length bytes.now ≤ CHUNK_MAX }
+        ensures { self.new ≡ self.old ++ bytes.now }
+    {
+        let end = self.len + bytes.len();
+        self.buf[self.len..end].copy_from_slice(bytes);
+        self.len = end;
+    }
+
+    /// Writes what waits.
+    pub(crate) fn hand_over<W: Write>(&mut self, writer: &mut Watched<W>) -> Result<(), WriteFailed>
+        ensures ok { OnOk result (Appends (W.contents (inner_of writer.old))
+            (W.contents (inner_of writer.new)) self.old) }
+        ensures empty { OnOk result (self.new ≡ []) }
+        ensures err { OnErr result (AppendsPrefix (W.contents (inner_of writer.old))
+            (W.contents (inner_of writer.new)) self.old) }
+        ensures failed { OnErr result (has_failed_of writer.new ≡ true) }
+        ensures kept { OnOk result (has_failed_of writer.new ≡ has_failed_of writer.old) }
+    {
+        writer.send(&self.buf[..self.len])?;
+        self.len = 0;
+        Ok(())
+    }
+
+    /// Puts the bytes behind those that wait, and writes what finds no room.
+    pub(crate) fn put<W: Write>(
+        &mut self,
+        bytes: &[u8],
+        writer: &mut Watched<W>,
+    ) -> Result<(), WriteFailed>
+        ensures ok { OnOk result (Puts (W.contents (inner_of writer.old))
+            (W.contents (inner_of writer.new)) self.old self.new bytes.now) }
+        ensures err { OnErr result (AppendsPrefix (W.contents (inner_of writer.old))
+            (W.contents (inner_of writer.new)) (self.old ++ bytes.now)) }
+        ensures failed { OnErr result (has_failed_of writer.new ≡ true) }
+        ensures kept { OnOk result (has_failed_of writer.new ≡ has_failed_of writer.old) }
+    {
+        if self.has_room(bytes.len()) {
+            self.keep(bytes);
+            return Ok(());
+        }
+        self.hand_over(writer)?;
+        if self.has_room(bytes.len()) {
+            self.keep(bytes);
+            return Ok(());
+        }
+        writer.send(bytes)
+    }
+}

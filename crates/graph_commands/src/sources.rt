@@ -1,0 +1,86 @@
+//! The samples of the sources of a graph.
+ghost use Rattle.std.specs.Prelude.{◌≡◌, ◌<◌, ◌≤◌, ℕ, List, length, true, IfOk, IfErr};
+ghost use Rattle.std.specs.List.{All};
+ghost use Rattle.phase_accum.specs.Sends.{AreSends};
+ghost use Rattle.sample_text.specs.Samples.{AreSamplesOf};
+ghost use Rattle.graph_base.specs.Graphs.{is_source, source_number, sources_of, task_at};
+ghost use Rattle.stream_lists.specs.Inside.{items_of};
+ghost use Rattle.graph_commands.specs.FileJobs.{AreFirstSamples, AreSamples, Explains, IsGraphOf};
+ghost use Rattle.graph_commands.specs.FileJobs.{IsReached, file_of};
+
+use crate::JobFault;
+use graph_lang::{Graph, Kind, Place};
+use sample_text::{SampleFault, read_sample_file};
+use std::alloc::Global;
+use watched_io::Files;
+
+/// Whether task number `t` is a source.
+fn is_source_line(graph: &Graph, t: usize) -> bool
+    requires { t < length graph.now.tasks }
+    ensures { result ≡ is_source (task_at graph.now t).kind }
+{
+    matches!(graph.task(t).kind, Kind::Source)
+}
+
+/// Reads the samples of task number `t`, which is source number `source`.
+fn read_source<F: Files>(
+    alloc: Global,
+    files: &mut F,
+    graph: &Graph,
+    t: usize,
+    source: usize,
+) -> Result<Vec<i64>, JobFault>
+    requires task { t < length graph.now.tasks }
+    requires source { source < sources_of graph.now }
+    requires number { source ≡ source_number graph.now.tasks t }
+    ensures ok { IfOk result (λ values.
+        AreSamplesOf (F.file files.old (file_of graph.now t)) values.items) }
+    ensures values { IfOk result (λ values. AreSends values.items
+        × (length values.items ≤ 67108864)) }
+    ensures fault { IfErr result (λ fault. (name : List ℕ)
+        → IsReached (F.file files.old) name graph.now t → Explains (F.file files.old) name fault) }
+    ensures kept { (other : List ℕ) → F.file files.new other ≡ F.file files.old other }
+{
+    match read_sample_file(alloc, files, graph.file(source)) {
+        Ok(values) => Ok(values),
+        Err(SampleFault::BadSample { number }) => {
+            match String::from_str(alloc, graph.name(Place::Task(t))) {
+                Ok(name) => Err(JobFault::BadSample { name, number }),
+                Err(_) => Err(JobFault::OutOfMemory),
+            }
+        }
+        Err(SampleFault::ReadFault) => Err(JobFault::ReadFault),
+        Err(SampleFault::OutOfMemory) => Err(JobFault::OutOfMemory),
+    }
+}
+
+/// Reads the samples of each source in the order of the lines, each file whole before its first
+/// record, and each source before the next.
+pub fn read_sources<F: Files>(
+    alloc: Global,
+    files: &mut F,
+    graph: &Graph,
+) -> Result<Vec<Vec<i64>>, JobFault>
+    ensures ok { IfOk result (λ lists.
+        AreSamples (F.file files.old) graph.now (items_of lists.items)) }
+    ensures each { IfOk result (λ lists. length lists.items ≡ sources_of graph.now) }
+    ensures sends { IfOk result (λ lists. All (λ list. AreSends list.items) lists.items) }
+    ensures few { IfOk result (λ lists. All (λ list. length list.items ≤ 67108864) lists.items) }
+    ensures fault { IfErr result (λ fault. (name : List ℕ)
+        → IsGraphOf (F.file files.old) name graph.now → Explains (F.file files.old) name fault) }
+    ensures kept { (other : List ℕ) → F.file files.new other ≡ F.file files.old other }
+{
+    let mut lists = Vec::new(alloc);
+    for t in 0..graph.tasks() {
+        if is_source_line(graph, t) {
+            let list = match read_source(alloc, files, graph, t, lists.len()) {
+                Ok(list) => list,
+                Err(fault) => return Err(fault),
+            };
+            let Ok(()) = lists.push(list) else {
+                return Err(JobFault::OutOfMemory);
+            };
+        }
+    }
+    Ok(lists)
+}

@@ -1,0 +1,392 @@
+-- The value of a complete phase is that of what its tasks have sent in it: in any order, or because
+-- one task alone has sent.
+use Rattle.std.proofs.Common.{◌≡◌, ◌≢◌, ℕ, zero, suc, ◌+◌, ◌-◌, ◌<◌, ◌≤◌, Bool, true, false, not, ◌&&◌, ◌||◌, cond, eqb, leb, List, [], ◌∷◌, ◌++◌, Option, Some, None, ℤ, length, refl, sym, ap, subst, ◌∙◌, arith, ◌⊎◌, inl, inr}
+use Rattle.std.specs.Prelude.{slice_get, if◌then◌else◌}
+use Rattle.std.specs.List.{range_with_len, cons_option, list_any, find}
+use Rattle.std.specs.Option.{option_map}
+use Rattle.std.proofs.lemmas.List.{append-nil}
+use Rattle.std.proofs.lemmas.Bool.{eqb-true, eq-eqb, cases_lt, le-leb, lt-leb, and_parts}
+use Rattle.std.proofs.lemmas.Option.{same_Some}
+use Rattle.phase_accum.specs.Exchanges.{Exchanges}
+use Rattle.phase_accum.proofs.Orders.{Exchanges-sum, Exchanges-product, Exchanges-least, Exchanges-greatest}
+use Rattle.phase_history.specs.Histories.{History}
+use Rattle.phase_history.specs.Phases.{sends_of_phase}
+use Rattle.phase_history.specs.Others.{is_in, is_distinct}
+use Rattle.phase_history.specs.Sent.{sent_in, gathered, OnlySignalled}
+use Rattle.phase_history.proofs.Gathered.{sends_are_gathered, sends_of_phase-alone}
+use Rattle.phase_history.proofs.Sendings.{sent_in-none}
+use Rattle.phase_base.specs.declared.operation.Op.{Op}
+use Rattle.phase_base.specs.declared.operation.Op.TheVariants.{Sum, Product, Least, Greatest, Any}
+use Rattle.graph_base.specs.Graphs.{task_at, phaser_at}
+use Rattle.graph_base.specs.TaskLines.{IsGraph}
+use Rattle.stream_lists.specs.Jobs.{Job, place_in}
+use Rattle.stream_lists.specs.Spans.{signalled_by, puts_on, spans_of, end_of, span_in}
+use Rattle.stream_lists.specs.Lists.{Member, send_in, member_at, member_by, value_by, numbers_of, output_on}
+use Rattle.stream_lists.specs.Meetings.{is_any, overlap, meet_on, meets_on, meets_above, meeting_line}
+use Rattle.stream_laws.proofs.Ordered.{place-at}
+use Rattle.stream_laws.proofs.ListLengths.{outputs_long}
+use Rattle.graph_moments.specs.Agreeing.{Agrees}
+use Rattle.graph_moments.specs.Moments.{Moment, numbers_on, limits_at, value_at, PhaserRan}
+use Rattle.graph_moments.specs.Settled.{IsReady}
+use Rattle.graph_moments.proofs.Agreed.{AllAgree, agrees_at, sent_is, Found, found, bool_case, is_in-or}
+use Rattle.graph_moments.proofs.Numbers.{numbers_distinct}
+use Rattle.graph_moments.proofs.Phasers.{AreGathered}
+
+-- ---- one task alone
+
+-- at most one of these tasks has sent in phase p
+abbrev pub AtMostOne : History → List ℕ → ℕ → Type 0
+AtMostOne h tasks p = (a b : ℕ) → is_in a tasks ≡ true → is_in b tasks ≡ true
+    → sent_in h a p ≢ [] → sent_in h b p ≢ [] → a ≡ b
+
+or_right : (b : Bool) → (b || true) ≡ true
+or_right true = refl
+or_right false = refl
+
+in_front : (t : ℕ) (ts : List ℕ) → is_in t (t ∷ ts) ≡ true
+in_front t ts = let here : eqb t t ≡ true = eq-eqb t t refl in rw here refl
+
+in_rest : (u t : ℕ) (ts : List ℕ) → is_in t ts ≡ true → is_in t (u ∷ ts) ≡ true
+in_rest u t ts e = rw e (or_right (eqb u t))
+
+-- none of them has
+none_gathered : (h : History) (tasks : List ℕ) (p : ℕ)
+    → ((t : ℕ) → is_in t tasks ≡ true → sent_in h t p ≡ []) → gathered h tasks p ≡ []
+none_gathered h [] p none = refl
+none_gathered h (t ∷ ts) p none =
+    ap (λ l. l ++ gathered h ts p) (none t (in_front t ts))
+    ∙ none_gathered h ts p (λ u e. none u (in_rest t u ts e))
+
+is_nil : (xs : List ℤ) → (xs ≡ []) ⊎ (xs ≢ [])
+is_nil [] = inl refl
+is_nil (x ∷ xs) = inr (λ e. (let l : suc (length xs) ≡ 0 = ap length e in omega arith))
+
+-- the one that has
+pub record Sender (h : History) (tasks : List ℕ) (p : ℕ) : Type 0 where
+  pub task : ℕ
+  pub is_there : is_in task tasks ≡ true
+  pub sends : sent_in h task p ≢ []
+  pub all : gathered h tasks p ≡ sent_in h task p
+
+not_true : (b : Bool) → not b ≡ true → b ≡ false
+not_true true e = sym e
+not_true false e = refl
+
+sender : (h : History) (tasks : List ℕ) (p : ℕ) → is_distinct tasks ≡ true → AtMostOne h tasks p
+    → ((t : ℕ) → is_in t tasks ≡ true → sent_in h t p ≡ []) ⊎ Sender h tasks p
+sender h [] p distinct one = inl (λ t e. absurd (cc))
+sender h (t ∷ ts) p distinct one =
+    let parts = and_parts (not (is_in t ts)) (is_distinct ts) distinct in
+    by (is_nil (sent_in h t p)) (not_true (is_in t ts) parts.0)
+    (sender h ts p parts.1 (λ a b ia ib. one a b (in_rest t a ts ia) (in_rest t b ts ib)))
+  where
+    by : (sent_in h t p ≡ []) ⊎ (sent_in h t p ≢ []) → is_in t ts ≡ false
+        → ((u : ℕ) → is_in u ts ≡ true → sent_in h u p ≡ []) ⊎ Sender h ts p
+        → ((u : ℕ) → is_in u (t ∷ ts) ≡ true → sent_in h u p ≡ []) ⊎ Sender h (t ∷ ts) p
+    by (inl none) apart (inl others) = inl (λ u e. at u (is_in-or (eqb t u) (is_in u ts) e))
+      where
+        at : (u : ℕ) → (eqb t u ≡ true) ⊎ (is_in u ts ≡ true) → sent_in h u p ≡ []
+        at u (inl same) =
+            let P : ℕ → Type 0 = λ x. sent_in h x p ≡ [] in subst P (eqb-true t u same) none
+        at u (inr rest) = others u rest
+    by (inl none) apart (inr s) = inr (record {
+      task = s.task;
+      is_there = in_rest t s.task ts s.is_there;
+      sends = s.sends;
+      all = ap (λ l. l ++ gathered h ts p) none ∙ s.all;
+    })
+    by (inr some) apart rest = inr (record {
+      task = t;
+      is_there = in_front t ts;
+      sends = some;
+      all = ap (λ l. sent_in h t p ++ l)
+          (none_gathered h ts p (λ u e. others u e (is_nil (sent_in h u p))))
+          ∙ append-nil (sent_in h t p);
+    })
+      where
+        others : (u : ℕ) → is_in u ts ≡ true → (sent_in h u p ≡ []) ⊎ (sent_in h u p ≢ [])
+            → sent_in h u p ≡ []
+        others u e (inl none) = none
+        others u e (inr more) =
+            let same : t ≡ u = one t u (in_front t ts) (in_rest t u ts e) some more in
+            let here : is_in t ts ≡ true = ap (λ x. is_in x ts) same ∙ e in
+            absurd (let no : true ≡ false = sym here ∙ apart in cc)
+
+pub gathered_alone : (h : History) (tasks : List ℕ) (p : ℕ) → is_distinct tasks ≡ true
+    → OnlySignalled tasks h → AtMostOne h tasks p
+    → sends_of_phase h p ≡ gathered h tasks p
+gathered_alone h tasks p distinct only one = by (sender h tasks p distinct one)
+  where
+    silent : (t : ℕ) → is_in t tasks ≡ false → sent_in h t p ≡ []
+    silent t e = sent_in-none h t p (only t e)
+
+    by : ((t : ℕ) → is_in t tasks ≡ true → sent_in h t p ≡ []) ⊎ Sender h tasks p
+        → sends_of_phase h p ≡ gathered h tasks p
+    by (inl none) =
+        sends_of_phase-alone h 0 p (λ other apart. nothing other) ∙ nothing 0
+        ∙ sym (none_gathered h tasks p none)
+      where
+        nothing : (t : ℕ) → sent_in h t p ≡ []
+        nothing t = at (bool_case (is_in t tasks))
+          where
+            at : (is_in t tasks ≡ true) ⊎ (is_in t tasks ≡ false) → sent_in h t p ≡ []
+            at (inl e) = none t e
+            at (inr e) = silent t e
+    by (inr s) =
+        sends_of_phase-alone h s.task p
+        (λ other apart.
+        others other apart (bool_case (is_in other tasks)) (is_nil (sent_in h other p)))
+        ∙ sym s.all
+      where
+        others : (other : ℕ) → other ≢ s.task
+            → (is_in other tasks ≡ true) ⊎ (is_in other tasks ≡ false)
+            → (sent_in h other p ≡ []) ⊎ (sent_in h other p ≢ []) → sent_in h other p ≡ []
+        others other apart there (inl none) = none
+        others other apart (inr out) (inr more) = silent other out
+        others other apart (inl there) (inr more) =
+            absurd (apart (one other s.task there s.is_there more s.sends))
+
+-- ---- two members of a phaser with `any`
+
+op_case : (op : Op) → Exchanges (value_by op) ⊎ (is_any op ≡ true)
+op_case Sum = inl Exchanges-sum
+op_case Product = inl Exchanges-product
+op_case Least = inl Exchanges-least
+op_case Greatest = inl Exchanges-greatest
+op_case Any = inr refl
+
+-- where no number passes, none does
+find-no : (test : ℕ → Bool) (a n t : ℕ) → find test (range_with_len a n) ≡ None → a ≤ t → t < a + n
+    → test t ≡ false
+find-no test a zero t e low high = absurd (omega arith)
+find-no test a (suc n) t e low high =
+    by (test a) refl e (cases_lt a t)
+    (λ f more. find-no test (a + 1) n t f (omega arith) (omega arith))
+  where
+    by : (b : Bool) → test a ≡ b → cond b (Some a) (find test (range_with_len (a + 1) n)) ≡ None
+        → (a < t) ⊎ (t ≤ a)
+        → (find test (range_with_len (a + 1) n) ≡ None → a < t → test t ≡ false) → test t ≡ false
+    by true is e c rec = absurd (cc)
+    by false is e (inl more) rec = rec e more
+    by false is e (inr here) rec = let same : t ≡ a = omega arith in ap test same ∙ is
+
+any-no : (test : ℕ → Bool) (a n t : ℕ) → list_any test (range_with_len a n) ≡ false → a ≤ t
+    → t < a + n → test t ≡ false
+any-no test a zero t e low high = absurd (omega arith)
+any-no test a (suc n) t e low high =
+    by (test a) refl e (cases_lt a t)
+    (λ f more. any-no test (a + 1) n t f (omega arith) (omega arith))
+  where
+    by : (b : Bool) → test a ≡ b → (b || list_any test (range_with_len (a + 1) n)) ≡ false
+        → (a < t) ⊎ (t ≤ a)
+        → (list_any test (range_with_len (a + 1) n) ≡ false → a < t → test t ≡ false)
+        → test t ≡ false
+    by true is e c rec = absurd (let no : true ≡ false = e in cc)
+    by false is e (inl more) rec = rec e more
+    by false is e (inr here) rec = let same : t ≡ a = omega arith in ap test same ∙ is
+
+no_line : (f : ℕ → ℕ) (o : Option ℕ) → option_map f o ≡ None → o ≡ None
+no_line f None e = refl
+no_line f (Some t) e = absurd (cc)
+
+-- no task meets one above it
+pub do_not_meet : (job : Job) (p t u : ℕ) → meeting_line job ≡ None → p < length job.graph.phasers
+    → is_any (phaser_at job.graph p).op ≡ true
+    → t < length job.graph.tasks → u < t → meet_on job.graph (spans_of job) t p u ≡ false
+do_not_meet job p t u apart pp any there above =
+    let spans = spans_of job in
+    let none : find (meets_above job.graph spans) (range_with_len 0 (length job.graph.tasks))
+    ≡ None = no_line (λ t. (task_at job.graph t).line) _ apart in
+    let here : meets_above job.graph spans t ≡ false =
+    find-no (meets_above job.graph spans) 0 (length job.graph.tasks) t none (omega arith)
+    (omega arith) in
+    let on : meets_on job.graph spans t p ≡ false =
+    any-no (meets_on job.graph spans t) 0 (length job.graph.phasers) p here (omega arith)
+    (omega arith) in
+    let one : list_any (meet_on job.graph spans t p) (range_with_len 0 t) ≡ false =
+    ap (λ b. b && list_any (meet_on job.graph spans t p) (range_with_len 0 t)) (sym any) ∙ on in
+    any-no (meet_on job.graph spans t p) 0 t u one (omega arith) (omega arith)
+
+-- two that signal in phase n do
+two_meet : (a ae b be n : ℕ) → a ≤ n → n < ae → b ≤ n → n < be → overlap a ae b be ≡ true
+two_meet a ae b be n la ha lb hb =
+    let one : leb (suc a) ae ≡ true = le-leb (suc a) ae (omega arith) in
+    let two : leb (suc b) be ≡ true = le-leb (suc b) be (omega arith) in
+    let three : leb (suc a) be ≡ true = le-leb (suc a) be (omega arith) in
+    let four : leb (suc b) ae ≡ true = le-leb (suc b) ae (omega arith) in
+    rw (one, two, three, four) refl
+
+some_below : (xs : List ℤ) (k : ℕ) (v : ℤ) → slice_get xs k ≡ Some v → k < length xs
+some_below [] k v e = absurd (cc)
+some_below (x ∷ xs) zero v e = omega arith
+some_below (x ∷ xs) (suc k) v e = let r : k < length xs = some_below xs k v e in omega arith
+
+-- what a member sends is within it
+pub sends_within : (n : ℕ) (member : Member) (v : ℤ) → send_in n member ≡ Some v
+    → (member.0 ≤ n) × (n < member.0 + length member.1)
+sends_within n member v e = by (cases_lt n member.0)
+  where
+    by : (n < member.0) ⊎ (member.0 ≤ n) → (member.0 ≤ n) × (n < member.0 + length member.1)
+    by (inl early) =
+        let test : leb (suc n) member.0 ≡ true = le-leb (suc n) member.0 early in
+        let none : None ≡ Some v =
+        ap (λ b. cond b None (slice_get member.1 (n - member.0))) (sym test) ∙ e in
+        absurd (cc)
+    by (inr later) =
+        let test : leb (suc n) member.0 ≡ false = lt-leb (suc n) member.0 (omega arith) in
+        let some : slice_get member.1 (n - member.0) ≡ Some v =
+        ap (λ b. cond b None (slice_get member.1 (n - member.0))) (sym test) ∙ e in
+        let below : n - member.0 < length member.1 = some_below member.1 (n - member.0) v some in
+        (later, omega arith)
+
+-- a task that sends in phase n signals it
+pub signals_at : (job : Job) (p t n : ℕ) (member : Member) (v : ℤ) → IsGraph job.graph
+    → t < length job.graph.tasks
+    → member_at job (spans_of job) (numbers_of job) p t ≡ Some member → send_in n member ≡ Some v
+    → ((span_in job t).offset ≤ n) × (n < end_of job.graph (spans_of job) p t)
+signals_at job p t n member v is there at sends =
+    by (place_in (signalled_by (task_at job.graph t)) p) refl at
+  where
+    by : (place : Option ℕ) → place_in (signalled_by (task_at job.graph t)) p ≡ place
+        → member_by job (spans_of job) (numbers_of job) t place ≡ Some member
+        → ((span_in job t).offset ≤ n) × (n < end_of job.graph (spans_of job) p t)
+    by None e found = absurd (cc)
+    by (Some j) e found = live_case ((span_in job t).live) refl found
+      where
+        live_case : (b : Bool) → (span_in job t).live ≡ b
+            → (if b then Some (
+              (span_in job t).offset,
+              output_on job (spans_of job) (numbers_of job) t
+                  j,
+            ) else None) ≡ Some member
+            → ((span_in job t).offset ≤ n) × (n < end_of job.graph (spans_of job) p t)
+        live_case false dead found = absurd (cc)
+        live_case true live found =
+            let out : Member =
+            ((span_in job t).offset, output_on job (spans_of job) (numbers_of job) t j) in
+            let same : out ≡ member = same_Some _ _ found in
+            let w : ((span_in job t).offset ≤ n)
+            × (n < (span_in job t).offset + length
+            (output_on job (spans_of job) (numbers_of job) t j)) =
+            sends_within n out v (ap (λ x. send_in n x) same ∙ sends) in
+            let long : length (output_on job (spans_of job) (numbers_of job) t j)
+            ≡ puts_on (task_at job.graph t) (span_in job t).steps j =
+            outputs_long job t j is there (place-at (signalled_by (task_at job.graph t)) p j e).0 in
+            let ends : end_of job.graph (spans_of job) p t
+            ≡ (span_in job t).offset + puts_on (task_at job.graph t) (span_in job t).steps j =
+            rw (e, live) refl in
+            let low : (span_in job t).offset ≤ n = w.0 in
+            let high : n
+            < (span_in job t).offset + length
+            (output_on job (spans_of job) (numbers_of job) t j) = w.1 in
+            (low, omega arith)
+
+pub in_range : (t a n : ℕ) → is_in t (range_with_len a n) ≡ true → t < a + n
+in_range t a zero e = absurd (cc)
+in_range t a (suc n) e =
+    elim (eqb a t) as (λ b. (eqb a t ≡ b) → (b || is_in t (range_with_len (a + 1) n)) ≡ true
+    → t < a + suc n) [
+      | true ↦ λ s f. let same : a ≡ t = eqb-true _ _ s in omega arith
+      | false ↦ λ s f. let r : t < a + 1 + n = in_range t (a + 1) n f in omega arith
+    ] refl e
+
+-- ---- the phaser
+
+pub are_gathered : (job : Job) (m : Moment) (p : ℕ) → IsReady job → p < length job.graph.phasers
+    → PhaserRan job m p
+    → AllAgree (m.history p) (m.number p) (member_at job (spans_of job) (numbers_of job) p)
+    (range_with_len 0 (length job.graph.tasks))
+    → AreGathered job m p
+are_gathered job m p ready pp ran agree n below = by (op_case (phaser_at job.graph p).op)
+  where
+    h : History
+    h = m.history p
+
+    ts : List ℕ
+    ts = range_with_len 0 (length job.graph.tasks)
+
+    only : OnlySignalled (numbers_on job m p) (m.history p)
+    only = λ t none. (ran.strangers t none).nothing
+
+    -- the task of a number that has sent
+    signals : (a : ℕ) → (f : Found (m.number p) (range_with_len 0 (length job.graph.tasks)) a)
+        → sent_in (m.history p) a n ≢ []
+        → (f.0 < length job.graph.tasks) × ((span_in job f.0).offset ≤ n)
+        × (n < end_of job.graph (spans_of job) p f.0)
+    signals a f some =
+        let there : f.0 < 0 + length job.graph.tasks =
+        in_range f.0 0 (length job.graph.tasks) f.1 in
+        let A : Option ℕ → Type 0 =
+        λ o. Agrees (m.history p) o (member_at job (spans_of job) (numbers_of job) p f.0) in
+        let a_is : Agrees (m.history p) (Some a)
+        (member_at job (spans_of job) (numbers_of job) p f.0) =
+        subst A f.2
+        (agrees_at (m.history p) (m.number p) (member_at job (spans_of job) (numbers_of job) p)
+        (range_with_len 0 (length job.graph.tasks)) f.0 f.1 agree) in
+        member_case f.0 (omega arith) (member_at job (spans_of job) (numbers_of job) p f.0) refl
+        a_is
+      where
+        member_case : (t : ℕ) → t < length job.graph.tasks → (o : Option Member)
+            → member_at job (spans_of job) (numbers_of job) p t ≡ o
+            → Agrees (m.history p) (Some a) o
+            → (t < length job.graph.tasks) × ((span_in job t).offset ≤ n)
+            × (n < end_of job.graph (spans_of job) p t)
+        member_case t there None e silent =
+            absurd (some (sent_in-none (m.history p) a n silent.nothing))
+        member_case t there (Some member) e has =
+            let sent : sent_in (m.history p) a n ≡ cons_option (send_in n member) [] =
+            sent_is (limits_at job p) (m.history p) a member n ran.legal below has in
+            send_case (send_in n member) refl sent
+          where
+            send_case : (o : Option ℤ) → send_in n member ≡ o
+                → sent_in (m.history p) a n ≡ cons_option o []
+                → (t < length job.graph.tasks) × ((span_in job t).offset ≤ n)
+                × (n < end_of job.graph (spans_of job) p t)
+            send_case None s sent = absurd (some sent)
+            send_case (Some v) s sent =
+                let r = signals_at job p t n member v ready.graph there e s in (there, r.0, r.1)
+
+    meet : (t u : ℕ) → is_any (phaser_at job.graph p).op ≡ true → u < t
+        → (t < length job.graph.tasks) × ((span_in job t).offset ≤ n)
+        × (n < end_of job.graph (spans_of job) p t)
+        → (u < length job.graph.tasks) × ((span_in job u).offset ≤ n)
+        × (n < end_of job.graph (spans_of job) p u) → ⊥
+    meet t u any above one other =
+        let no : meet_on job.graph (spans_of job) t p u ≡ false =
+        do_not_meet job p t u ready.apart pp any one.0 above in
+        let yes : meet_on job.graph (spans_of job) t p u ≡ true =
+        two_meet (span_in job t).offset (end_of job.graph (spans_of job) p t)
+        (span_in job u).offset (end_of job.graph (spans_of job) p u) n one.1 one.2 other.1
+        other.2 in
+        (let e : true ≡ false = sym yes ∙ no in cc)
+
+    one : is_any (phaser_at job.graph p).op ≡ true → AtMostOne (m.history p) (numbers_on job m p) n
+    one any a b ia ib sa sb =
+        let fa = found (m.number p) (range_with_len 0 (length job.graph.tasks)) a ia in
+        let fb = found (m.number p) (range_with_len 0 (length job.graph.tasks)) b ib in
+        order fa fb (signals a fa sa) (signals b fb sb) (cases_lt fa.0 fb.0) (cases_lt fb.0 fa.0)
+      where
+        order : (fa : Found (m.number p) (range_with_len 0 (length job.graph.tasks)) a)
+            → (fb : Found (m.number p) (range_with_len 0 (length job.graph.tasks)) b)
+            → (fa.0 < length job.graph.tasks) × ((span_in job fa.0).offset ≤ n)
+            × (n < end_of job.graph (spans_of job) p fa.0)
+            → (fb.0 < length job.graph.tasks) × ((span_in job fb.0).offset ≤ n)
+            × (n < end_of job.graph (spans_of job) p fb.0)
+            → (fa.0 < fb.0) ⊎ (fb.0 ≤ fa.0) → (fb.0 < fa.0) ⊎ (fa.0 ≤ fb.0) → a ≡ b
+        order fa fb ra rb (inl less) d = absurd (meet fb.0 fa.0 any less rb ra)
+        order fa fb ra rb (inr most) (inl more) = absurd (meet fa.0 fb.0 any more ra rb)
+        order fa fb ra rb (inr most) (inr least) =
+            let same : fa.0 ≡ fb.0 = omega arith in
+            same_Some a b (sym fa.2 ∙ ap (λ t. m.number p t) same ∙ fb.2)
+
+    by : Exchanges (value_by (phaser_at job.graph p).op)
+        ⊎ (is_any (phaser_at job.graph p).op ≡ true)
+        → value_at job p (sends_of_phase (m.history p) n)
+        ≡ value_at job p (gathered (m.history p) (numbers_on job m p) n)
+    by (inl swaps) =
+        sends_are_gathered (value_at job p) (m.history p) (numbers_on job m p) n swaps
+        (numbers_distinct job m p ran) only
+    by (inr any) =
+        ap (value_at job p)
+        (gathered_alone (m.history p) (numbers_on job m p) n (numbers_distinct job m p ran) only
+        (one any))

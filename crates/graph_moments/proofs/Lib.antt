@@ -1,0 +1,15 @@
+pub mod Agreed
+pub mod Answered
+pub mod Anys
+pub mod Entries
+pub mod Faults
+pub mod Numbers
+pub mod OnLines
+pub mod OutputLists
+pub mod Phasers
+pub mod Results
+pub mod Steps
+pub mod Tasks
+pub mod TooBigs
+pub mod Turns
+pub mod Whole

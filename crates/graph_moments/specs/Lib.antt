@@ -1,0 +1,3 @@
+pub mod Agreeing
+pub mod Moments
+pub mod Settled

@@ -1,0 +1,7 @@
+pub mod GraphTests
+pub mod Histories
+pub mod NextTests
+pub mod OpeningTests
+pub mod RunTests
+pub mod Tests
+pub mod WorkedRun

@@ -1,0 +1,48 @@
+-- Each is the next event, as a test says.
+use Rattle.std.proofs.Common.{refl, arith, pos}
+use Rattle.phase_base.specs.declared.mode.Mode.TheVariants.{Wait}
+use Rattle.phase_accum.specs.declared.outcome.Outcome.TheVariants.{Value}
+use Rattle.graph_tests.specs.Runs.{sample, signal, first_wait, exchange_wait}
+use Rattle.graph_tests.specs.Worked.{worked, worked_opening, after_sample, after_first_wait, after_signal_on_e, before_late, before_end, late_registers, late_leaves}
+use Rattle.graph_tests.proofs.NextTests.{is_next}
+use Rattle.graph_tests.proofs.WorkedRun.{worked-is}
+use Rattle.graph_tests.proofs.worked_events.events_as_moves.Goals as goal
+
+pub returns-clause-sample : goal.returns-clause-sample
+returns-clause-sample c =
+    let ran = c.a_run_from_its_opening_to_its_end.ensures.opening in
+    c.next_events_are_moves.ensures.sample worked worked_opening 0 0 0 1 (pos 5)
+    ((is_next worked worked_opening (sample 0 0 0 1 (pos 5))).sound refl worked-is ran).1
+    (ran.tasks 0 (omega arith))
+
+pub returns-clause-first_wait : goal.returns-clause-first_wait
+returns-clause-first_wait c =
+    let ran = c.a_run_from_its_opening_to_its_end.ensures.through.1.0 in
+    c.next_events_are_moves.ensures.first_wait worked after_sample 1 0 0 2 (Value (pos 5))
+    ((is_next worked after_sample (first_wait 1 0 0 2 (Value (pos 5)))).sound refl worked-is ran).1
+
+pub returns-clause-signal : goal.returns-clause-signal
+returns-clause-signal c =
+    let ran = c.a_run_from_its_opening_to_its_end.ensures.through.1.1.0 in
+    c.next_events_are_moves.ensures.signal worked after_first_wait 1 0 1 1 (pos 5)
+    ((is_next worked after_first_wait (signal 1 0 1 1 (pos 5))).sound refl worked-is ran).1
+    (ran.tasks 1 (omega arith))
+
+pub returns-clause-exchange_wait : goal.returns-clause-exchange_wait
+returns-clause-exchange_wait c =
+    let ran = c.a_run_from_its_opening_to_its_end.ensures.through.1.1.1.0 in
+    c.next_events_are_moves.ensures.exchange_wait worked after_signal_on_e 1 1 1 (Value (pos 5))
+    ((is_next worked after_signal_on_e (exchange_wait 1 1 1 (Value (pos 5)))).sound refl worked-is
+    ran).1
+
+pub returns-clause-leave : goal.returns-clause-leave
+returns-clause-leave c =
+    let ran = c.a_run_from_its_opening_to_its_end.ensures.before_end in
+    c.next_events_are_moves.ensures.leave worked before_end 5 5 3
+    ((is_next worked before_end late_leaves).sound refl worked-is ran).1
+
+pub returns-clause-child : goal.returns-clause-child
+returns-clause-child c =
+    let ran = c.a_run_from_its_opening_to_its_end.ensures.before_late in
+    let next = ((is_next worked before_late late_registers).sound refl worked-is ran).1 in
+    c.next_events_are_moves.ensures.child worked before_late 4 5 2 5 3 Wait next.0 next.1

@@ -1,0 +1,6 @@
+//! Tests of runs of graphs: whole runs, event by event, and each law of them used once.
+#![tactic(auto)]
+
+mod worked_events;
+mod worked_faults;
+mod worked_run;

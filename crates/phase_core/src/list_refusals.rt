@@ -1,0 +1,73 @@
+//! The refusals that the signals of a block meet in their phases.
+ghost use Rattle.std.specs.Prelude.{◌≡◌, ◌+◌, ◌≤◌, ℤ, List, None, IsSome, length};
+ghost use Rattle.phase_history.specs.Refusals.{first_row, phase_rows};
+ghost use Rattle.phase_ring.specs.Rings.{slot_at};
+ghost use Rattle.phase_core.specs.Blocks.{StandForLists, block_rows, count_at, named_at, IsOpen};
+
+use crate::refusal_rows;
+use phase_accum::{Accumulate, Pending, Single};
+use phase_base::Entry;
+use phase_history::SignalRefusal;
+use phase_ring::Board;
+
+/// The first refusal of a signal in the phase of the entry. `slowest` is the least wait phase of the
+/// waiters.
+pub fn list_refusal<A: Accumulate>(
+    board: &Board<A>,
+    slowest: Option<u64>,
+    entry: Entry,
+    pending: &Pending<A>,
+    single: &Option<Single>,
+) -> Option<SignalRefusal>
+    requires { let now = board.now in IsSome slowest
+        → IsOpen A.operation now.ring now.limits.bound now.done now.top slowest
+        entry.signal_phase }
+    ensures { let slot = slot_at board.now.ring entry.signal_phase in
+        result ≡ first_row (phase_rows board.now.limits slowest (count_at slot) (named_at slot)
+        pending.now.count single.now entry) }
+{
+    let early = refusal_rows::early_refusal(board.limits, slowest, entry);
+    if early.is_some() {
+        return early;
+    }
+    let Some(_slowest) = slowest else {
+        return None;
+    };
+    match board
+        .ring
+        .can_merge(entry.signal_phase, pending.count(), *single)
+    {
+        Ok(()) => None,
+        Err(refusal) => Some(refusal_rows::phase_refusal(refusal)),
+    }
+}
+
+/// The first refusal that the signals of a block meet in their phases, the first of which is the
+/// entry's.
+pub fn lists_refusal<A: Accumulate>(
+    board: &Board<A>,
+    slowest: Option<u64>,
+    entry: Entry,
+    lists: &[Pending<A>],
+    single: &Option<Single>,
+) -> Option<SignalRefusal>
+    requires opened { let now = board.now in IsSome slowest
+        → IsOpen A.operation now.ring now.limits.bound now.done now.top slowest
+        entry.signal_phase }
+    requires far { entry.signal_phase + length lists.now ≤ 9223372036854775808 }
+    ensures rows { let now = board.now in
+        result ≡ first_row (block_rows now.limits slowest now.ring lists.now single.now entry) }
+    ensures held { result ≡ None
+        → (sends : List (List ℤ)) × StandForLists A.operation lists.now sends }
+{
+    let mut at = entry;
+    for pending in lists {
+        let _part = pending.part();
+        let refusal = list_refusal(board, slowest, at, pending, single);
+        if refusal.is_some() {
+            return refusal;
+        }
+        at.signal_phase += 1;
+    }
+    None
+}

@@ -1,0 +1,23 @@
+//! What the words ask for, as plain data.
+
+/// What the words ask for.
+#[derive(Clone, Copy, Debug, PartialEq, Eq)]
+pub enum Call<'a> {
+    /// A replay of the script on standard input.
+    Replay,
+    /// A check of the graph in the file of this name.
+    Check(&'a str),
+    /// An evaluation of the graph in the file of this name.
+    Eval(&'a str),
+}
+
+/// Why the words give no call.
+#[derive(Debug, Drop)]
+pub enum NoCall {
+    /// Help is asked for. This is its text.
+    Help(String),
+    /// The words are refused. This is clap's text, which says why.
+    Refused(String),
+    /// Memory ran out.
+    OutOfMemory,
+}

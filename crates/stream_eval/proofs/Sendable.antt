@@ -1,0 +1,35 @@
+-- Lists of values that can be sent.
+use Rattle.std.proofs.Common.{◌≡◌, ℕ, zero, suc, ◌+◌, ◌<◌, ◌≤◌, List, [], ◌∷◌, length, get_or, map, take, drop, ℤ, arith, Some, Bool, true, false}
+use Rattle.std.specs.Prelude.{if◌then◌else◌}
+use Rattle.std.specs.List.{All, range_with_len, position_from}
+use Rattle.phase_accum.specs.Sends.{IsSend, AreSends}
+use Rattle.stream_lists.specs.Lists.{entry}
+
+pub AreSends-take : (n : ℕ) (xs : List ℤ) → AreSends xs → AreSends (take n xs)
+AreSends-take zero xs s = tt
+AreSends-take (suc n) [] s = tt
+AreSends-take (suc n) (x ∷ xs) s = (s.0, AreSends-take n xs s.1)
+
+pub AreSends-drop : (n : ℕ) (xs : List ℤ) → AreSends xs → AreSends (drop n xs)
+AreSends-drop zero xs s = s
+AreSends-drop (suc n) [] s = tt
+AreSends-drop (suc n) (x ∷ xs) s = AreSends-drop n xs s.1
+
+-- one of several lists
+pub AreSends-one : {A : Type 0} (f : A → List ℤ) (xs : List A) (k : ℕ)
+    → All (λ x. AreSends (f x)) xs → AreSends (get_or (map f xs) k [])
+AreSends-one f [] k all = tt
+AreSends-one f (x ∷ xs) zero all = all 0 x (omega arith)
+AreSends-one f (x ∷ xs) (suc k) all =
+    AreSends-one f xs k (λ n d lt. all (suc n) d (omega arith))
+
+-- numbers each of which can be sent
+pub AreSends-range : (f : ℕ → ℤ) (a n : ℕ) → ((i : ℕ) → IsSend (f i))
+    → AreSends (map f (range_with_len a n))
+AreSends-range f a zero each = tt
+AreSends-range f a (suc n) each = (each a, AreSends-range f (a + 1) n each)
+
+pub IsSend-entry : (xs : List ℤ) (n : ℕ) → AreSends xs → IsSend (entry xs n)
+IsSend-entry [] n s = record { small = omega arith }
+IsSend-entry (x ∷ xs) zero s = s.0
+IsSend-entry (x ∷ xs) (suc n) s = IsSend-entry xs n s.1

@@ -1,0 +1,7 @@
+pub mod Inside
+pub mod Jobs
+pub mod Lists
+pub mod Meetings
+pub mod Ranges
+pub mod Spans
+pub mod Texts

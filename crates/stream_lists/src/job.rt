@@ -1,0 +1,183 @@
+//! A graph with the samples of its sources.
+ghost use Rattle.std.specs.Prelude.{◌≡◌, ◌<◌, ◌≤◌, ℕ, [], length, get_or, Some, None, IfOk, Err};
+ghost use Rattle.std.specs.List.{All};
+ghost use Rattle.phase_accum.specs.Sends.{AreSends};
+ghost use Rattle.graph_base.specs.Graphs.{is_source, phaser_at, task_at, source_number, sources_of};
+ghost use Rattle.graph_base.specs.Kept.{task_of};
+ghost use Rattle.graph_base.specs.TaskLines.{IsTaskLine};
+ghost use Rattle.stream_lists.specs.Jobs.{samples_at};
+ghost use Rattle.stream_lists.specs.Inside.{given, items_of, IsShort};
+ghost use Rattle.stream_lists.specs.Meetings.{meeting_line};
+ghost use Rattle.stream_lists.specs.Spans.{spans_of, lengths_of, nowhere};
+
+use crate::lengths::all_lengths;
+use crate::meetings::first_meeting;
+use crate::refusal::JobRefusal;
+use crate::span::{LENGTH_MAX, Span};
+use crate::task_spans::all_spans;
+use graph_base::{Graph, Kind, PhaserLine, TaskLine};
+use std::alloc::Global;
+use std::marker::Model;
+
+/// A graph with the samples of its sources, ready to be evaluated.
+///
+/// **Spans.** How far each task comes, and how long the list of each phaser is, follow from the
+/// lines and from the numbers of the samples. A job works them out once.
+///
+/// **Phasers with `any`.** In each phase of such a phaser at most one task signals.
+#[derive(Drop)]
+pub struct Job {
+    graph: Graph,
+    samples: Vec<Vec<i64>>,
+    spans: Vec<Span>,
+    lengths: Vec<u128>,
+}
+
+impl Model for Job {
+    ghost use Rattle.stream_lists.specs.Inside.{JobValue, job_view, IsJob};
+
+    ghost Value = { JobValue };
+
+    ghost view = { job_view };
+
+    ghost invariant = { IsJob };
+}
+
+impl Job {
+    /// Makes a job of a graph and the samples of its sources, one list for each source in the order
+    /// of their lines. A list has at most 67,108,864 values, none of which is `NO_VALUE`.
+    ///
+    /// Where two tasks signal in one phase of a phaser with `any`, the answer is `AnyMeets` with
+    /// the least line of a task that meets a task of an earlier line, or `OutOfMemory`. It takes
+    /// memory for a span of each task and a length of each phaser, and no list is composed, so it
+    /// makes no difference how long the lists are. A refusal drops the graph and the samples.
+    pub fn new(alloc: Global, graph: Graph, samples: Vec<Vec<i64>>) -> Result<Job, JobRefusal>
+        requires each { length samples.items ≡ sources_of graph }
+        requires sends { All (λ list. AreSends list.items) samples.items }
+        requires few { All (λ list. length list.items ≤ 67108864) samples.items }
+        ensures graph { IfOk result (λ job. job.graph ≡ graph) }
+        ensures samples { IfOk result (λ job. job.samples ≡ items_of samples.items) }
+        ensures apart { IfOk result (λ job. meeting_line job ≡ None) }
+        ensures any_meets { (line : ℕ) → result ≡ Err (JobRefusal.AnyMeets line)
+            → meeting_line (given graph samples.items) ≡ Some line }
+    {
+        let Ok(lengths) = all_lengths(alloc, &graph, &samples) else {
+            return Err(JobRefusal::OutOfMemory);
+        };
+        let Ok(spans) = all_spans(alloc, &graph, &samples, &lengths) else {
+            return Err(JobRefusal::OutOfMemory);
+        };
+        if let Some(line) = first_meeting(&graph, &spans) {
+            return Err(JobRefusal::AnyMeets { line });
+        }
+        Ok(Job {
+            graph,
+            samples,
+            spans,
+            lengths,
+        })
+    }
+
+    /// Lends the graph. It takes no memory.
+    pub fn graph(&self) -> &Graph
+        ensures graph { result.now ≡ self.now.graph }
+        ensures samples { length self.now.samples ≡ sources_of self.now.graph }
+        ensures apart { meeting_line self.now ≡ None }
+    {
+        &self.graph
+    }
+
+    /// Lends the samples of a source, none where there is no such source. Sources are numbered
+    /// among themselves, in the order of their lines. It takes no memory.
+    pub fn samples(&self, source: usize) -> &[i64]
+        ensures value { result.now ≡ get_or self.now.samples source [] }
+        ensures sends { AreSends result.now }
+    {
+        match self.samples.get(source) {
+            Some(samples) => samples.as_slice(),
+            None => &[],
+        }
+    }
+
+    /// Tells how far task number `t` comes. It takes no memory.
+    pub fn span(&self, t: usize) -> Span
+        requires { t < length self.now.graph.tasks }
+        ensures span { result ≡ get_or (spans_of self.now) t nowhere }
+        ensures short { IsShort result }
+    {
+        self.spans[t]
+    }
+
+    /// Tells how long the list of phaser number `p` is, in phases. It takes no memory.
+    pub fn length(&self, p: usize) -> u128
+        requires { p < length self.now.graph.phasers }
+        ensures length { result ≡ get_or (lengths_of self.now) p 0 }
+        ensures short { result ≤ LENGTH_MAX }
+    {
+        self.lengths[p]
+    }
+
+    /// How many phasers there are.
+    pub(crate) fn phasers(&self) -> usize
+        ensures { result ≡ length self.now.graph.phasers }
+    {
+        self.graph.phasers()
+    }
+
+    /// How many tasks there are.
+    pub(crate) fn tasks(&self) -> usize
+        ensures count { result ≡ length self.now.graph.tasks }
+        ensures few { result ≤ 64 }
+    {
+        self.graph.tasks()
+    }
+
+    /// The line of phaser number `p`.
+    pub(crate) fn phaser(&self, p: usize) -> PhaserLine
+        requires { p < length self.now.graph.phasers }
+        ensures { result ≡ phaser_at self.now.graph p }
+    {
+        *self.graph.phaser(p)
+    }
+
+    /// The line of task number `t`.
+    pub(crate) fn task(&self, t: usize) -> &TaskLine
+        requires { t < length self.now.graph.tasks }
+        ensures task { task_of result.now ≡ task_at self.now.graph t }
+        ensures line { IsTaskLine self.now.graph t (task_of result.now) }
+    {
+        self.graph.task(t)
+    }
+
+    /// Lends the samples of task number `t`, where it is a source. Of another task they are those of
+    /// the next source below it, or none, and are of no use. It takes no memory.
+    pub fn samples_of(&self, t: usize) -> &[i64]
+        requires { t < length self.now.graph.tasks }
+        ensures value { result.now ≡ samples_at self.now t }
+        ensures sends { AreSends result.now }
+    {
+        self.samples(number_of_source(&self.graph, t))
+    }
+}
+
+/// Whether task number `t` is a source.
+fn is_source_line(graph: &Graph, t: usize) -> bool
+    requires { t < length graph.now.tasks }
+    ensures { result ≡ is_source (task_at graph.now t).kind }
+{
+    matches!(graph.task(t).kind, Kind::Source)
+}
+
+/// The number of a source among the sources: how many stand above it.
+pub(crate) fn number_of_source(graph: &Graph, t: usize) -> usize
+    requires { t ≤ length graph.now.tasks }
+    ensures { result ≡ source_number graph.now.tasks t }
+{
+    let mut count = 0;
+    for above in 0..t {
+        if is_source_line(graph, above) {
+            count += 1;
+        }
+    }
+    count
+}

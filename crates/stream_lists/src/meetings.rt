@@ -1,0 +1,94 @@
+//! Which tasks signal in one phase of a phaser with `any`.
+ghost use Rattle.std.specs.Prelude.{◌≡◌, ◌<◌, length, get_or};
+ghost use Rattle.std.specs.List.{All, list_any, range_with_len};
+ghost use Rattle.graph_base.specs.Graphs.{phaser_at};
+ghost use Rattle.stream_lists.specs.Inside.{IsShort};
+ghost use Rattle.stream_lists.specs.Meetings.{is_any, meet_on, meeting_at, meets_above, meets_on};
+ghost use Rattle.stream_lists.specs.Spans.{nowhere};
+
+use crate::lengths::end_on;
+use crate::span::Span;
+use graph_base::{Graph, Op};
+
+/// The offset of task number `t`.
+fn offset_at(spans: &[Span], t: usize) -> u128
+    ensures { result ≡ (get_or spans.now t nowhere).offset }
+{
+    match spans.get(t) {
+        Some(span) => span.offset,
+        None => 0,
+    }
+}
+
+/// Whether tasks number `t` and `u` signal in one phase of phaser number `p`.
+fn meet(graph: &Graph, spans: &[Span], t: usize, p: usize, u: usize) -> bool
+    requires first { t < length graph.now.tasks }
+    requires second { u < length graph.now.tasks }
+    requires short { All IsShort spans.now }
+    ensures { result ≡ meet_on graph.now spans.now t p u }
+{
+    let first = offset_at(spans, t);
+    let first_end = end_on(graph, spans, p, t);
+    let second = offset_at(spans, u);
+    let second_end = end_on(graph, spans, p, u);
+    first < first_end && second < second_end && first < second_end && second < first_end
+}
+
+/// Whether task number `t` meets a task above it on phaser number `p`, whatever its operation is.
+fn meets_one(graph: &Graph, spans: &[Span], t: usize, p: usize) -> bool
+    requires task { t < length graph.now.tasks }
+    requires short { All IsShort spans.now }
+    ensures { result ≡ list_any (meet_on graph.now spans.now t p) (range_with_len 0 t) }
+{
+    for u in 0..t {
+        if meet(graph, spans, t, p, u) {
+            return true;
+        }
+    }
+    false
+}
+
+/// Whether phaser number `p` is one with `any`.
+fn is_any_line(graph: &Graph, p: usize) -> bool
+    requires { p < length graph.now.phasers }
+    ensures { result ≡ is_any (phaser_at graph.now p).op }
+{
+    matches!(graph.phaser(p).op, Op::Any)
+}
+
+/// Whether task number `t` meets a task above it on phaser number `p`.
+fn meets(graph: &Graph, spans: &[Span], t: usize, p: usize) -> bool
+    requires task { t < length graph.now.tasks }
+    requires phaser { p < length graph.now.phasers }
+    requires short { All IsShort spans.now }
+    ensures { result ≡ meets_on graph.now spans.now t p }
+{
+    is_any_line(graph, p) && meets_one(graph, spans, t, p)
+}
+
+/// Whether task number `t` meets a task above it.
+fn meets_some(graph: &Graph, spans: &[Span], t: usize) -> bool
+    requires task { t < length graph.now.tasks }
+    requires short { All IsShort spans.now }
+    ensures { result ≡ meets_above graph.now spans.now t }
+{
+    for p in 0..graph.phasers() {
+        if meets(graph, spans, t, p) {
+            return true;
+        }
+    }
+    false
+}
+
+/// The line of the first task that meets a task above it.
+pub(crate) fn first_meeting(graph: &Graph, spans: &[Span]) -> Option<u64>
+    requires { All IsShort spans.now }
+    ensures { result ≡ meeting_at graph.now spans.now }
+{
+    for t in 0..graph.tasks() {
+        if meets_some(graph, spans, t) {
+            return Some(graph.task(t).line);
+        }
+    }
+    None
+}
