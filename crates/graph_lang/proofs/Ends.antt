@@ -1,11 +1,14 @@
 -- What well-formed words say of a task's line.
-use Rattle.std.proofs.Common.{◌≡◌, ◌&&◌, Bool, true, false, Some, None, Option, IfSome, IsTrue, refl, ap, ◌∙◌}
+use Rattle.std.proofs.Common.{ℕ, ℤ, List, option_map, ◌≡◌, ◌&&◌, Bool, true, false, Some, None, Option, IfSome, IsTrue, refl, ap, ◌∙◌}
 use Rattle.std.specs.List.{list_all}
 use Rattle.std.proofs.lemmas.List.Folds.{list_all-append}
 use Rattle.graph_words.specs.Words.{is_name}
-use Rattle.graph_text.specs.Numbers.{is_nat}
+use Rattle.graph_base.specs.Graphs.{Named}
+use Rattle.graph_base.specs.declared.line.Kind.{Kind}
+use Rattle.graph_base.specs.declared.line.Parent.{Parent}
+use Rattle.graph_text.specs.Numbers.{is_nat, nat_value}
 use Rattle.graph_text.specs.Decls.{EndWords, ByWords, BodyWords, source, fir, split, join, peer, sink, IsBody, IsBy, AreEnds}
-use Rattle.graph_lang.specs.LineTasks.{inputs_of, outputs_of}
+use Rattle.graph_lang.specs.LineTasks.{inputs_of, outputs_of, task_line, kind_of_body, numbers_of, parent_of, taps_of, shift_of, factor_of}
 use Rattle.graph_lang.specs.Faults.{phasers_of}
 
 no_by : (by : Option ByWords) → by ≡ None → IfSome by IsBy
@@ -43,3 +46,24 @@ pub phasers-names : (body : BodyWords) → IsBody body → list_all is_name (pha
 phasers-names body is = list_all-append is_name (inputs_of body) (outputs_of body)
     ∙ ap (λ b. b && list_all is_name (outputs_of body)) (inputs-names body is)
     ∙ outputs-names body is
+
+-- the task of a line, by its fields
+pub task-built : (names : List Named) (n : ℕ) (body : BodyWords) (ends : EndWords) (kind : Kind)
+    (inputs outputs : List ℕ) (parent : Option Parent) (until : Option ℕ) (taps : List ℤ) (shift : ℕ)
+    (mul : ℤ) → kind ≡ kind_of_body body → inputs ≡ numbers_of names (inputs_of body)
+    → outputs ≡ numbers_of names (outputs_of body) → parent ≡ option_map (parent_of names) ends.by
+    → until ≡ option_map nat_value ends.until → taps ≡ taps_of body → shift ≡ shift_of body
+    → mul ≡ factor_of body
+    → record {
+      line = n;
+      kind = kind;
+      inputs = inputs;
+      outputs = outputs;
+      parent = parent;
+      until = until;
+      taps = taps;
+      shift = shift;
+      mul = mul;
+    } ≡ task_line names n body ends
+task-built names n body ends kind inputs outputs parent until taps shift mul a b c d e f g h =
+    rw (a, b, c, d, e, f, g, h) refl

@@ -1,6 +1,6 @@
 -- What holds of a line that has no fault.
-use Rattle.std.proofs.Common.{ℕ, ◌<◌, ◌≤◌, arith, List, [], ◌∷◌, ◌++◌, ap, sym, ◌∙◌, ◌≡◌, ◌&&◌, Bool, true, false, not, Option, Some, None, is_some, if◌then◌else◌, refl, nat_lt, length}
-use Rattle.std.specs.Option.{option_map_or}
+use Rattle.std.proofs.Common.{ℕ, ◌<◌, ◌≤◌, arith, [], ◌∷◌, ◌++◌, ap, sym, ◌∙◌, ◌≡◌, ◌&&◌, ◌||◌, Bool, true, false, not, Option, Some, None, is_some, if◌then◌else◌, refl, nat_lt, length}
+use Rattle.std.specs.List.{list_all}
 use Rattle.std.proofs.lemmas.Bool.Decides.{nat_tests}
 use Rattle.graph_words.specs.Words.{Word}
 use Rattle.phase_base.specs.declared.operation.Op.{Op}
@@ -8,14 +8,13 @@ use Rattle.graph_text.specs.Decls.{phaser, task, FunctionWords, BodyWords, EndWo
 use Rattle.graph_base.specs.Graphs.{Graph, Task}
 use Rattle.graph_base.specs.Names.{place_of}
 use Rattle.graph_lang.specs.LineTasks.{task_line, files_in}
-use Rattle.graph_lang.specs.Faults.{kind_of, later_kind, phasers_of, is_past_limit}
-use Rattle.graph_lang.specs.Faults.{is_phaser_within, is_body_within, are_ends_within, is_count_within}
-use Rattle.graph_lang.specs.Reads.{told, with_line}
-use Rattle.graph_base.specs.declared.limits.TheConstants.{PHASERS_MAX, TASKS_MAX}
-use Rattle.graph_lang.specs.declared.fault.FaultKind.TheVariants.{Limit, Twice}
+use Rattle.graph_lang.specs.Faults.{kind_of, later_kind, last_kind, phasers_of, is_past_limit, are_distinct, is_phaser, is_parent_known}
+use Rattle.graph_lang.specs.Faults.{is_phaser_within}
+use Rattle.graph_lang.specs.Reads.{with_line}
+use Rattle.graph_base.specs.declared.limits.TheConstants.{PHASERS_MAX}
+use Rattle.graph_lang.specs.declared.fault.FaultKind.TheVariants.{Limit, Twice, Unknown}
 use Rattle.graph_lang.specs.declared.fault.FaultKind.{FaultKind}
 use Rattle.graph_base.specs.declared.place.Place.TheVariants as place
-use Rattle.graph_lang.proofs.Alls.{both}
 
 -- the first row does not apply, and neither does any after it
 pub row-passed : {R : Type 0} (b : Bool) (r : R) (rest : Option R)
@@ -83,7 +82,7 @@ pub no-ends : (body ends room : Bool) → ends ≡ false → (body && ends && ro
 no-ends true ends room e = rw e refl
 no-ends false ends room e = refl
 
-no-room : (rest room : Bool) → room ≡ false → (rest && room) ≡ false
+pub no-room : (rest room : Bool) → room ≡ false → (rest && room) ≡ false
 no-room true room e = e
 no-room false room e = refl
 
@@ -106,18 +105,36 @@ kind-later before name body ends n e =
     ap (λ past. if past then Some Limit
     else later_kind before name (phasers_of body) ends.by (task_line before.names n body ends)) e
 
--- what a task's line that passes no limit comes to, by its phasers and its task
-pub told-later : (before : Graph) (name : Word) (body : BodyWords) (ends : EndWords) (n : ℕ)
-    (phasers : List Word) (t : Task) (kind : Option FaultKind)
-    → is_past_limit before (task name body ends) ≡ false → phasers ≡ phasers_of body
-    → t ≡ task_line before.names n body ends → kind ≡ later_kind before name phasers ends.by t
-    → told n before (task name body ends) kind
-    ≡ told n before (task name body ends) (kind_of before (task name body ends))
-told-later before name body ends n phasers t kind past same line e =
-    ap (told n before (task name body ends)) (e
-    ∙ ap (λ words. later_kind before name words ends.by t) same
-    ∙ ap (later_kind before name (phasers_of body) ends.by) line
-    ∙ sym (kind-later before name body ends n past))
+-- its first kind of fault, row by row
+module _ (before : Graph) (name : Word) (body : BodyWords) (ends : EndWords) (n : ℕ)
+    (past : is_past_limit before (task name body ends) ≡ false) where
+  abbrev line : Task
+  line = task_line before.names n body ends
+
+  abbrev again : Bool
+  again = is_some (place_of before.names name) || not (are_distinct (phasers_of body))
+
+  abbrev known : Bool
+  known = list_all (is_phaser before.names) (phasers_of body) && is_parent_known before.names ends.by
+
+  abbrev after-limit : Bool → Option FaultKind
+  after-limit b = if b then Some Twice else (if not known then Some Unknown else last_kind before line)
+
+  pub task-twice : again ≡ true → kind_of before (task name body ends) ≡ Some Twice
+  task-twice twice = kind-later before name body ends n past ∙ ap after-limit twice
+
+  abbrev after-twice : Bool → Option FaultKind
+  after-twice b = if not b then Some Unknown else last_kind before line
+
+  pub task-unknown : again ≡ false → known ≡ false → kind_of before (task name body ends) ≡ Some Unknown
+  task-unknown new none =
+      kind-later before name body ends n past ∙ ap after-limit new ∙ ap after-twice none
+
+  pub task-last : again ≡ false → known ≡ true → (t : Task) → t ≡ line
+      → kind_of before (task name body ends) ≡ last_kind before t
+  task-last new all t is =
+      kind-later before name body ends n past ∙ ap after-limit new ∙ ap after-twice all
+      ∙ ap (last_kind before) (sym is)
 
 -- the graph with the task of a line
 pub with-task : (before : Graph) (name : Word) (body : BodyWords) (ends : EndWords) (n : ℕ)

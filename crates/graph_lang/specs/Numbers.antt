@@ -1,7 +1,7 @@
 -- The numbers of a task's line, as the code reads them.
 use Rattle.std.specs.Prelude.{◌≡◌, option_map}
 use Rattle.graph_text.specs.Numbers.{nat_value}
-use Rattle.graph_text.specs.Decls.{BodyWords, ByWords, EndWords}
+use Rattle.graph_text.specs.Decls.{BodyWords, EndWords}
 use Rattle.graph_lang.specs.LineTasks.{taps_of, shift_of, factor_of}
 use Rattle.graph_lang.specs.declared.within.Numbers.{Numbers}
 use Rattle.graph_lang.specs.declared.within.EndNumbers.{EndNumbers}

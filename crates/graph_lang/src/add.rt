@@ -1,5 +1,5 @@
 //! What a line adds to the graph.
-ghost use Rattle.std.specs.Prelude.{◌≡◌, ◌++◌, ◌∷◌, [], IsTrue, IfOk, IfSome, OnOk, None, length, true};
+ghost use Rattle.std.specs.Prelude.{◌≡◌, ◌++◌, ◌∷◌, [], IsTrue, IfOk, IfSome, OnOk, None, length, true, is_some, ◌&&◌};
 ghost use Rattle.std.specs.Option.{option_map_or};
 ghost use Rattle.std.specs.List.{list_all};
 ghost use Rattle.graph_text.specs.Numbers.{is_nat};
@@ -9,6 +9,7 @@ ghost use Rattle.graph_text.specs.Lines.{body_of, ends_of, by_of, word_of};
 ghost use Rattle.graph_base.specs.Kept.{task_of};
 ghost use Rattle.graph_base.specs.Names.{files_of, place_of};
 ghost use Rattle.graph_lang.specs.LineTasks.{files_in, task_line, inputs_of, outputs_of};
+ghost use Rattle.graph_lang.specs.Faults.{is_phaser, is_parent_known, phasers_of};
 ghost use Rattle.graph_lang.specs.Numbers.{AreNumbersOf, steps_in};
 
 use crate::draft::{Draft, add_name};
@@ -55,7 +56,8 @@ impl Draft {
         add_name(alloc, &mut self.names, name_text(name), place)
     }
 
-    /// The line of a task with these numbers, as line `number`.
+    /// The line of a task with these numbers, as line `number`, where its phasers and its parent were
+    /// declared.
     pub(crate) fn task_line(
         &self,
         alloc: Global,
@@ -63,29 +65,42 @@ impl Draft {
         words: TaskWords<'_, '_>,
         numbers: Numbers,
         steps: EndNumbers,
-    ) -> Result<TaskLine, AllocError>
+    ) -> Result<Option<TaskLine>, AllocError>
         requires body { IsBody (body_of words.body) }
         requires inputs { IsTrue (list_all is_name (inputs_of (body_of words.body))) }
         requires outputs { IsTrue (list_all is_name (outputs_of (body_of words.body))) }
         requires by { IfSome (by_of words.ends.by) IsBy }
         requires numbers { AreNumbersOf numbers (body_of words.body) }
         requires steps { steps ≡ steps_in (ends_of words.ends) }
-        ensures { IfOk result (λ line. task_of line ≡ task_line self.now.names number
-            (body_of words.entry.body) (ends_of words.entry.ends)) }
+        ensures known { IfOk result (λ found. is_some found
+            ≡ (list_all (is_phaser self.now.names) (phasers_of (body_of words.entry.body))
+            && is_parent_known self.now.names (by_of words.entry.ends.by))) }
+        ensures line { IfOk result (λ found. IfSome found (λ line. task_of line
+            ≡ task_line self.now.names number (body_of words.entry.body)
+            (ends_of words.entry.ends))) }
     {
+        let Some(parent) = parent_of(&self.names, words.ends.by, steps.at) else {
+            return Ok(None);
+        };
         let inputs = input_words(alloc, words.body)?;
+        let Some(inputs) = numbers_of(alloc, &self.names, &inputs)? else {
+            return Ok(None);
+        };
         let outputs = output_words(alloc, words.body)?;
-        Ok(TaskLine {
+        let Some(outputs) = numbers_of(alloc, &self.names, &outputs)? else {
+            return Ok(None);
+        };
+        Ok(Some(TaskLine {
             line: number,
             kind: kind_of(words.body),
-            inputs: numbers_of(alloc, &self.names, &inputs)?,
-            outputs: numbers_of(alloc, &self.names, &outputs)?,
-            parent: parent_of(&self.names, words.ends.by, steps.at),
+            inputs,
+            outputs,
+            parent,
             until: steps.until,
             taps: numbers.taps,
             shift: numbers.shift,
             mul: numbers.factor,
-        })
+        }))
     }
 
     /// Adds a task of a new name, and its file where it is a source.

@@ -1,5 +1,5 @@
 //! Parents, and what a task's line needs of the lines above it.
-ghost use Rattle.std.specs.Prelude.{◌≡◌, ◌||◌, ◌&&◌, ◌∷◌, [], not, is_some, option_map, IsTrue, IfSome};
+ghost use Rattle.std.specs.Prelude.{◌≡◌, ◌||◌, ◌&&◌, ◌∷◌, [], not, is_some, option_map, IsTrue, IfSome, Some, None, if◌then◌else◌};
 ghost use Rattle.std.specs.List.{list_all};
 ghost use Rattle.graph_text.specs.Plain.{plain};
 ghost use Rattle.graph_words.specs.Words.{is_name};
@@ -10,42 +10,36 @@ ghost use Rattle.graph_base.specs.Names.{names_of, place_of};
 ghost use Rattle.graph_base.specs.Kept.{task_of};
 ghost use Rattle.graph_lang.specs.LineTasks.{parent_of};
 ghost use Rattle.graph_base.specs.TaskLines.{has_children};
-ghost use Rattle.graph_lang.specs.Faults.{is_parent_known, is_phaser, is_in_order, may_be_parent};
-ghost use Rattle.graph_lang.specs.Faults.{is_held, holds_for, is_plain, later_kind};
+ghost use Rattle.graph_lang.specs.Faults.{is_parent_known, is_in_order, may_be_parent};
+ghost use Rattle.graph_lang.specs.Faults.{is_held, holds_for, is_plain, last_kind, are_distinct};
 
 use crate::draft::{Draft, place_of, task_named};
 use crate::fault::FaultKind;
-use crate::phasers::{are_among, are_distinct, are_in_order, are_phasers, is_exchange_below};
+use crate::phasers::{are_among, are_distinct, are_in_order, is_exchange_below};
 use graph_base::{Kind, Parent, Place, TaskLine};
 use graph_text::{By, name_text};
 use indexmap::IndexMap;
 
-/// Whether a parent, where there is one, is a task declared above.
-pub(crate) fn is_parent_known(names: &IndexMap<String, Place>, by: Option<By<'_>>) -> bool
-    requires { IfSome (by_of by) IsBy }
-    ensures { result ≡ is_parent_known (names_of names.now.entries) (by_of by.entry) }
-{
-    match by {
-        None => true,
-        Some(by) => task_named(names, name_text(by.parent)).is_some(),
-    }
-}
-
-/// The parent of a task, where it has one, after so many steps.
+/// The parent of a task, where it has one, after so many steps; the outer `None` is a name that is no
+/// task's.
 pub(crate) fn parent_of(
     names: &IndexMap<String, Place>,
     by: Option<By<'_>>,
     at: Option<u64>,
-) -> Option<Parent>
+) -> Option<Option<Parent>>
     requires by { IfSome (by_of by) IsBy }
     requires at { at ≡ option_map (λ by. nat_value by.at) (by_of by) }
-    ensures { result ≡ option_map (parent_of (names_of names.now.entries)) (by_of by.entry) }
+    ensures { result ≡ (if is_parent_known (names_of names.now.entries) (by_of by.entry)
+        then Some (option_map (parent_of (names_of names.now.entries)) (by_of by.entry))
+        else None) }
 {
-    let by = by?;
-    Some(Parent {
-        task: task_named(names, name_text(by.parent)).unwrap_or(0),
-        at: at?,
-    })
+    match (by, at) {
+        (Some(by), Some(at)) => {
+            let task = task_named(names, name_text(by.parent))?;
+            Some(Some(Parent { task, at }))
+        }
+        _ => Some(None),
+    }
 }
 
 /// Whether a task of the kind may have children.
@@ -110,26 +104,19 @@ impl Draft {
         outputs.iter().all(|y| self.is_plain(*y))
     }
 
-    /// The first kind of fault of a task's line whose numbers are within their limits.
-    pub(crate) fn later_kind(
-        &self,
-        name: &[u8],
-        phasers: &[&[u8]],
-        by: Option<By<'_>>,
-        task: &TaskLine,
-    ) -> Option<FaultKind>
-        requires name { IsTrue (is_name name.now) }
-        requires phasers { IsTrue (list_all is_name (plain phasers.now)) }
-        requires by { IfSome (by_of by) IsBy }
+    /// Whether the name of a task's line is there already, or a phaser stands twice in the line.
+    pub(crate) fn is_twice(&self, name: &[u8], phasers: &[&[u8]]) -> bool
+        requires { IsTrue (is_name name.now) }
         ensures { result
-            ≡ later_kind self.now name.now (plain phasers.now) (by_of by.entry) (task_of task.now) }
+            ≡ (is_some (place_of self.now.names name.now) || not (are_distinct (plain phasers.now))) }
     {
-        if place_of(&self.names, name_text(name)).is_some() || !are_distinct(phasers) {
-            return Some(FaultKind::Twice);
-        }
-        if !(are_phasers(&self.names, phasers) && is_parent_known(&self.names, by)) {
-            return Some(FaultKind::Unknown);
-        }
+        place_of(&self.names, name_text(name)).is_some() || !are_distinct(phasers)
+    }
+
+    /// The first kind of fault of a task whose numbers and names were read.
+    pub(crate) fn last_kind(&self, task: &TaskLine) -> Option<FaultKind>
+        ensures { result ≡ last_kind self.now (task_of task.now) }
+    {
         if !is_in_order(task) {
             return Some(FaultKind::OutBeforeIn);
         }

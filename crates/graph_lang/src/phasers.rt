@@ -1,12 +1,12 @@
 //! The phasers of a task's line.
-ghost use Rattle.std.specs.Prelude.{◌≡◌, ◌++◌, ◌==◌, nat_lt, IsTrue, IfOk, map};
+ghost use Rattle.std.specs.Prelude.{◌≡◌, ◌++◌, ◌==◌, nat_lt, IsTrue, IfOk, IfSome, is_some, map};
 ghost use Rattle.std.specs.Str.{bytes_eq};
 ghost use Rattle.std.specs.List.{list_all, list_any};
 ghost use Rattle.graph_text.specs.Plain.{plain};
 ghost use Rattle.graph_words.specs.Words.{is_name};
 ghost use Rattle.graph_text.specs.Lines.{body_of};
 ghost use Rattle.graph_base.specs.Names.{names_of, phaser_named};
-ghost use Rattle.graph_lang.specs.LineTasks.{inputs_of, outputs_of, numbers_of, kind_of_body, or_zero};
+ghost use Rattle.graph_lang.specs.LineTasks.{inputs_of, outputs_of, numbers_of, kind_of_body};
 ghost use Rattle.graph_lang.specs.Faults.{are_distinct, is_phaser, is_among, phasers_of};
 ghost use Rattle.graph_lang.specs.Faults.{is_exchange_below};
 
@@ -88,50 +88,34 @@ pub(crate) fn are_distinct(words: &[&[u8]]) -> bool
     true
 }
 
-/// Whether each name is that of a phaser.
-pub(crate) fn are_phasers(names: &IndexMap<String, Place>, words: &[&[u8]]) -> bool
-    requires { IsTrue (list_all is_name (plain words.now)) }
-    ensures { result ≡ list_all (is_phaser (names_of names.now.entries)) (plain words.now) }
-{
-    for word in words {
-        if !is_phaser(names, word) {
-            return false;
-        }
-    }
-    true
-}
-
-/// Whether the name is that of a phaser.
-fn is_phaser(names: &IndexMap<String, Place>, word: &[u8]) -> bool
+/// The number of the phaser of that name.
+fn number_of(names: &IndexMap<String, Place>, word: &[u8]) -> Option<usize>
     requires { IsTrue (is_name word.now) }
-    ensures { result ≡ is_phaser (names_of names.now.entries) word.now }
+    ensures { result ≡ phaser_named (names_of names.now.entries) word.now }
 {
-    phaser_named(names, name_text(word)).is_some()
+    phaser_named(names, name_text(word))
 }
 
-/// The number of the phaser of that name, 0 where there is none.
-fn number_of(names: &IndexMap<String, Place>, word: &[u8]) -> usize
-    requires { IsTrue (is_name word.now) }
-    ensures { result ≡ or_zero (phaser_named (names_of names.now.entries) word.now) }
-{
-    phaser_named(names, name_text(word)).unwrap_or(0)
-}
-
-/// The numbers of the phasers of these names.
+/// The numbers of the phasers of these names, where each is the name of one.
 pub(crate) fn numbers_of(
     alloc: Global,
     names: &IndexMap<String, Place>,
     words: &[&[u8]],
-) -> Result<Vec<usize>, AllocError>
+) -> Result<Option<Vec<usize>>, AllocError>
     requires { IsTrue (list_all is_name (plain words.now)) }
-    ensures { IfOk result (λ numbers.
-        numbers.items ≡ numbers_of (names_of names.now.entries) (plain words.now)) }
+    ensures known { IfOk result (λ found. is_some found
+        ≡ list_all (is_phaser (names_of names.now.entries)) (plain words.now)) }
+    ensures numbers { IfOk result (λ found. IfSome found (λ numbers.
+        numbers.items ≡ numbers_of (names_of names.now.entries) (plain words.now))) }
 {
     let mut numbers = Vec::new(alloc);
     for word in words {
-        numbers.push(number_of(names, word))?;
+        let Some(number) = number_of(names, word) else {
+            return Ok(None);
+        };
+        numbers.push(number)?;
     }
-    Ok(numbers)
+    Ok(Some(numbers))
 }
 
 /// Whether each of these numbers is above `x`.

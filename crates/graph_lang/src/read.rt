@@ -107,9 +107,14 @@ impl Draft {
         let Some((numbers, steps)) = self.numbers(alloc, words)? else {
             return Err(fault(number, FaultKind::Limit));
         };
-        let task = self.task_line(alloc, number, words, numbers, steps)?;
         let phasers = phaser_words(alloc, words.body)?;
-        if let Some(kind) = self.later_kind(words.name, &phasers, words.ends.by, &task) {
+        if self.is_twice(words.name, &phasers) {
+            return Err(fault(number, FaultKind::Twice));
+        }
+        let Some(task) = self.task_line(alloc, number, words, numbers, steps)? else {
+            return Err(fault(number, FaultKind::Unknown));
+        };
+        if let Some(kind) = self.last_kind(&task) {
             return Err(fault(number, kind));
         }
         self.add_task(alloc, words.name, words.body, task)?;

@@ -104,7 +104,8 @@ gathered_is limits h number member (t ∷ ts) n legal below agree =
     → gathered h (cons_option o (filter_map number ts)) n
     ≡ sends_in (cons_option (member t) (filter_map member ts)) n) [
       | None ↦ elim (member t) as (λ (m : Option Member). Agrees h None m
-          → gathered h (filter_map number ts) n ≡ sends_in (cons_option m (filter_map member ts)) n) [
+          → gathered h (filter_map number ts) n
+          ≡ sends_in (cons_option m (filter_map member ts)) n) [
             | None ↦ λ a. rest
             | Some m ↦ λ a.
                 let held : done_of h ≤ m.0 = a.later in

@@ -1,34 +1,32 @@
 -- What is too big: a value that a task met, or a value that it made, is one that the definitions
 -- have out of range. Where none was met at the end, all fit.
-use Rattle.std.proofs.Common.{◌≡◌, ◌≢◌, ℕ, zero, suc, ◌+◌, ◌-◌, ◌<◌, ◌≤◌, Bool, true, false, not, ◌&&◌, ◌||◌, cond, eqb, leb, List, [], ◌∷◌, ◌++◌, Option, Some, None, ℤ, pos, length, map, get_or, take, drop, refl, sym, ap, subst, ◌∙◌, arith}
+use Rattle.std.proofs.Common.{◌≡◌, ◌≢◌, ℕ, zero, suc, ◌+◌, ◌-◌, ◌<◌, ◌≤◌, true, false, ◌&&◌, leb, List, [], ◌∷◌, Option, Some, None, ℤ, pos, length, map, get_or, take, drop, refl, sym, ap, subst, ◌∙◌, arith}
 use Rattle.std.specs.Prelude.{slice_range, unsigned_abs, Ok}
-use Rattle.std.specs.List.{range_with_len, list_any, position_from}
+use Rattle.std.specs.List.{range_with_len}
 use mathlib.Core.List.{IsPrefix}
-use Rattle.std.proofs.lemmas.Bool.{eqb-true, eq-eqb, le-leb, leb-true, and_from, and_parts}
+use Rattle.std.proofs.lemmas.Bool.{le-leb, leb-true, and_from, and_parts}
 use Rattle.std.proofs.lemmas.List.{length-map}
 use Rattle.std.proofs.lemmas.List.FromFn.{get_or-map-range_with_len}
-use Rattle.phase_base.specs.Limits.{Limits}
 use Rattle.phase_accum.specs.declared.outcome.Outcome.{Outcome}
 use Rattle.phase_accum.specs.declared.outcome.Outcome.TheVariants.{Value, Empty, TooBig}
 use Rattle.phase_accum.specs.declared.single.Single.{Single}
 use Rattle.phase_accum.specs.Sends.{IsSend, value_max}
 use Rattle.phase_accum.specs.Values.{applied}
-use Rattle.phase_history.specs.declared.event.Event.TheVariants.{Made, Registered, RegisteredNow, Signalled, Waited, Dropped}
-use Rattle.phase_history.specs.Histories.{History, done_of, phases_waited}
+use Rattle.phase_history.specs.Histories.{done_of, phases_waited}
 use Rattle.phase_history.specs.Phases.{value_of_phase, stream_of, received_by}
 use Rattle.phase_history.specs.Laws.{HasReceivedFrom}
-use Rattle.phase_history.specs.Legal.{IsLegal, AreLists}
-use Rattle.phase_history.specs.Sent.{sent_by}
+use Rattle.phase_history.specs.Legal.{AreLists}
 use Rattle.phase_history.proofs.Left.{received_law}
+use Rattle.phase_history.proofs.Sendable.{sent_are_lists}
 use Rattle.graph_base.specs.declared.line.Kind.{Kind}
 use Rattle.graph_base.specs.declared.line.Kind.TheVariants.{Source, Fir, Split, Join, Peer, Sink}
 use Rattle.graph_base.specs.Graphs.{task_at, phaser_at}
-use Rattle.graph_base.specs.TaskLines.{IsGraph, IsTaskLine, HasEnds, is_distinct}
+use Rattle.graph_base.specs.TaskLines.{IsGraph, IsTaskLine, HasEnds}
 use Rattle.stream_lists.specs.Jobs.{Job, samples_at, place_in}
 use Rattle.stream_lists.specs.Spans.{spans_of, lengths_of, span_in, takes_from, signalled_by, puts_on, LooksAt}
 use Rattle.stream_lists.specs.Lists.{members_of, sends_in, numbers_of, output_on, phase_in, sinks_of, number}
 use Rattle.stream_lists.specs.Ranges.{Where, is_out_of_range, are_made, takes_phase, task_takes, is_taken, is_too_big, first_too_big, Fits, answer_of}
-use Rattle.stream_laws.proofs.Ordered.{place-at}
+use Rattle.stream_laws.proofs.Ordered.{place-at, place-distinct}
 use Rattle.graph_moments.specs.Agreeing.{one}
 use Rattle.graph_moments.specs.Moments.{Moment, HasRun, TaskRan, HasEnded, IsRegistered, IsOver, OnOutput, OnInput, OnPhaser, PutOn, TakenOn, HasMetNone, input_at, taken_now, made_now, limits_at, value_at, HasExchanged}
 use Rattle.graph_base.specs.declared.place.Place.TheVariants as place
@@ -44,48 +42,12 @@ use Rattle.graph_moments.proofs.Faults.{any-at, phase_faults, output_faults_at, 
 
 -- ---- the place of an input
 
-any_front : (test : ℕ → Bool) (xs ys : List ℕ) (k : ℕ) → k < length xs → test (get_or xs k 0) ≡ true
-    → list_any test (xs ++ ys) ≡ true
-any_front test [] ys k lt e = absurd (omega arith)
-any_front test (x ∷ xs) ys zero lt e = ap (λ b. b || list_any test (xs ++ ys)) e
-any_front test (x ∷ xs) ys (suc k) lt e =
-    ap (λ b. test x || b) (any_front test xs ys k (omega arith) e) ∙ or_right (test x)
-  where
-    or_right : (b : Bool) → (b || true) ≡ true
-    or_right true = refl
-    or_right false = refl
-
-place_from-distinct : (n : ℕ) (xs ys : List ℕ) (k : ℕ) → k < length xs
-    → is_distinct (xs ++ ys) ≡ true
-    → position_from (λ q. eqb q (get_or xs k 0)) n xs ≡ Some (n + k)
-place_from-distinct n [] ys k lt d = absurd (omega arith)
-place_from-distinct n (x ∷ xs) ys zero lt d =
-    let here : eqb x x ≡ true = eq-eqb x x refl in
-    let same : n ≡ n + 0 = omega arith in
-    rw here (ap (λ i. Some i) same)
-place_from-distinct n (x ∷ xs) ys (suc k) lt d =
-    let parts = and_parts (not (list_any (λ q. eqb q x) (xs ++ ys))) (is_distinct (xs ++ ys)) d in
-    let rest = place_from-distinct (n + 1) xs ys k (omega arith) parts.1 in
-    let next : n + 1 + k ≡ n + suc k = omega arith in
-    by (eqb x (get_or xs k 0)) refl parts.0 (rest ∙ ap (λ i. Some i) next)
-  where
-    by : (b : Bool) → eqb x (get_or xs k 0) ≡ b → not (list_any (λ q. eqb q x) (xs ++ ys)) ≡ true
-        → position_from (λ q. eqb q (get_or xs k 0)) (n + 1) xs ≡ Some (n + suc k)
-        → cond b (Some n) (position_from (λ q. eqb q (get_or xs k 0)) (n + 1) xs) ≡ Some (n + suc k)
-    by false e out rest = rest
-    by true e out rest =
-        let same : x ≡ get_or xs k 0 = eqb-true x (get_or xs k 0) e in
-        let turned : eqb (get_or xs k 0) x ≡ true = eq-eqb (get_or xs k 0) x (sym same) in
-        let found : list_any (λ q. eqb q x) (xs ++ ys) ≡ true =
-        any_front (λ q. eqb q x) xs ys k (omega arith) turned in
-        absurd (let f : false ≡ true = sym (ap not found) ∙ out in cc)
-
 pub place_of_input : (job : Job) (t k : ℕ) → IsTaskLine job.graph t (task_at job.graph t)
     → k < length (task_at job.graph t).inputs
     → place_in (task_at job.graph t).inputs (input_at (task_at job.graph t) k) ≡ Some k
 place_of_input job t k line lt =
     let same : 0 + k ≡ k = omega arith in
-    place_from-distinct 0 (task_at job.graph t).inputs (task_at job.graph t).outputs k lt
+    place-distinct 0 (task_at job.graph t).inputs (task_at job.graph t).outputs k lt
     line.distinct ∙ ap (λ i. Some i) same
 
 -- ---- a value that was met
@@ -182,29 +144,6 @@ fault_tells job (place.Task t, i) is there f =
     f.4 f.5 f.6
 
 -- ---- at the end
-
--- each list that a task has sent can be sent
-sends_apart : (xs ys : List (List ℤ)) → AreLists xs → AreLists ys → AreLists (xs ++ ys)
-sends_apart [] ys a b = b
-sends_apart (x ∷ xs) ys a b = (a.0, a.1, sends_apart xs ys a.2 b)
-
-pub sent_are_sends : (limits : Limits) (h : History) (n : ℕ) → IsLegal limits h
-    → AreLists (sent_by h n)
-sent_are_sends limits [] n legal = absurd legal
-sent_are_sends limits (Made t ∷ before) n legal =
-    let P : History → Type 0 = λ b. AreLists (sent_by b n) in subst P (sym legal.1) tt
-sent_are_sends limits (Registered parent child mode ∷ before) n legal =
-    sent_are_sends limits before n legal.0
-sent_are_sends limits (RegisteredNow parent child ∷ before) n legal =
-    sent_are_sends limits before n legal.0
-sent_are_sends limits (Waited t k ∷ before) n legal = sent_are_sends limits before n legal.0
-sent_are_sends limits (Dropped t ∷ before) n legal = sent_are_sends limits before n legal.0
-sent_are_sends limits (Signalled t lists single ∷ before) n legal =
-    let earlier : AreLists (sent_by before n) = sent_are_sends limits before n legal.0 in
-    elim (eqb t n) as (λ b. AreLists (cond b (sent_by before n ++ lists) (sent_by before n))) [
-      | true ↦ sends_apart (sent_by before n) lists earlier legal.1.1
-      | false ↦ earlier
-    ]
 
 one-sends : (put : List ℤ) (i : ℕ) → AreLists (map one put) → i < length put
     → IsSend (get_or put i (pos 0))
@@ -327,7 +266,7 @@ all_fit job m ready ran over none = record {
         let sends : IsSend (get_or (m.put t j) i (pos 0)) =
         one-sends (m.put t j) i
         (subst S on.sent
-        (sent_are_sends (limits_at job p) (m.history p) n (ran.phasers p pp).legal))
+        (sent_are_lists (limits_at job p) (m.history p) n (ran.phasers p pp).legal))
         (omega arith) in
         ap (λ l. is_out_of_range (get_or l i (pos 0))) (sym whole)
         ∙ send_fits (get_or (m.put t j) i (pos 0)) sends

@@ -1,5 +1,5 @@
--- A moment of a run of a graph: what has happened on each phaser, and how far each task has come. It
--- knows no time, no turns and no threads: `HasRun` is what holds of it after any events that the
+-- A moment of a run of a graph: what has happened on each phaser, and how far each task has come.
+-- It knows no time, no turns and no threads: `HasRun` is what holds of it after any events that the
 -- tasks have made in the order of their own steps.
 use Rattle.std.specs.Prelude.{◌≡◌, ℕ, suc, ◌+◌, ◌<◌, ◌≤◌, ◌%◌, ℤ, List, [], ◌∷◌, length, map, take, drop, get_or, Option, Some, None, true, false, ◌⊎◌}
 use Rattle.std.specs.List.{range_with_len, filter_map, All}
@@ -133,8 +133,8 @@ Joined m t (Some parent) =
     (m.offset t ≡ m.offset parent.task + parent.at) × (parent.at ≤ m.begun parent.task)
     × IsRegistered m parent.task
 
--- of a child that is not registered on phaser p, where its parent is as number n: the parent has begun
--- at most the steps after which the child comes, and fewer where it has left
+-- of a child that is not registered on phaser p, where its parent is as number n: the parent has
+-- begun at most the steps after which the child comes, and fewer where it has left
 pub record HasNotPassed (m : Moment) (p n : ℕ) (parent : Parent) : Type 0 where
   pub early : m.begun parent.task ≤ parent.at
   pub ended : has_dropped (m.history p) n ≡ true → m.begun parent.task < parent.at

@@ -30,8 +30,8 @@ pub fn streams()
         → stream_of (value_at job p) (m.history p) ≡ list_of_phaser job p }
 {}
 
-/// What a task has taken from an input at some moment begins what it takes there in all its steps. So
-/// the values that a sink has so far are right, and can be shown while the run goes on.
+/// What a task has taken from an input at some moment begins what it takes there in all its steps.
+/// So the values that a sink has so far are right, and can be shown while the run goes on.
 pub fn takes()
     ensures { (job : Job) (m : Moment) (t k : ℕ) → IsReady job → HasRun job m
         → t < length job.graph.tasks → k < length (task_at job.graph t).inputs
@@ -39,10 +39,10 @@ pub fn takes()
         (taken_from (numbers_of job) (task_at job.graph t) (span_in job t) k) }
 {}
 
-/// A registered task is one that is live by the lines: it began at its offset, and has begun at most
-/// its steps, and all of them where it may end. What it has put on an output begins its output list,
-/// and is all of it where the task has ended. So no run registers a task that should not come, or
-/// lets one leave too early.
+/// A registered task is one that is live by the lines: it began at its offset, and has begun at
+/// most its steps, and all of them where it may end. What it has put on an output begins its output
+/// list, and is all of it where the task has ended. So no run registers a task that should not
+/// come, or lets one leave too early.
 pub fn members()
     ensures stands { (job : Job) (m : Moment) (t : ℕ) → IsReady job → HasRun job m
         → t < length job.graph.tasks → IsRegistered m t → Stands job m t }
@@ -74,16 +74,17 @@ pub fn too_big_is_a_fault()
         → IsFaultAt job at → first_too_big job ≢ None }
 {}
 
-/// Where a run is over and no task has got a value that is too big, the answer of the job is what its
-/// sinks have taken. This is what a run that ends well has written.
+/// Where a run is over and no task has got a value that is too big, the answer of the job is what
+/// its sinks have taken. This is what a run that ends well has written.
 pub fn answers()
     ensures { (job : Job) (m : Moment) → IsReady job → HasRun job m → IsOver job m
         → HasMetNone job m
         → answer_of job ≡ Ok (map (λ t. (t, m.taken t 0)) (sinks_of job)) }
 {}
 
-/// Where no wait on any phaser was answered a value that is too big, no task has got one. So whoever
-/// runs a graph, and stops at the first such answer, has the premise of `answers` at the end.
+/// Where no wait on any phaser was answered a value that is too big, no task has got one. So
+/// whoever runs a graph, and stops at the first such answer, has the premise of `answers` at the
+/// end.
 pub fn met_none()
     ensures { (job : Job) (m : Moment)
         → ((p : ℕ) → p < length job.graph.phasers

@@ -32,8 +32,8 @@ pub record PhaserOpened (job : Job) (m : Moment) (p : ℕ) : Type 0 where
   pub used : (t n : ℕ) → m.number p t ≡ Some n → IsUsed (m.history p) n
   pub apart : (t n : ℕ) → m.number p t ≡ Some n → n ≢ founder
 
--- task t at the opening: it is registered on the phasers of its line where it has no parent, in a mode
--- that may signal its outputs and wait for its inputs, and on none where it has one
+-- task t at the opening: it is registered on the phasers of its line where it has no parent, in a
+-- mode that may signal its outputs and wait for its inputs, and on none where it has one
 pub record TaskOpened (job : Job) (m : Moment) (t : ℕ) : Type 0 where
   pub rooted : (p n : ℕ) → m.number p t ≡ Some n → (task_at job.graph t).parent ≡ None
   pub lines : (p n : ℕ) → m.number p t ≡ Some n → OnLine (task_at job.graph t) p

@@ -1,6 +1,7 @@
 //! How a run goes on: what it has at its opening, and that each next event keeps it. Each function
-//! here makes no call and has no effect: its contract is the law. So whoever makes events one by one,
-//! in any order of the tasks, has `HasRun` of every moment, and with it the laws of `graph_moments`.
+//! here makes no call and has no effect: its contract is the law. So whoever makes events one by
+//! one, in any order of the tasks, has `HasRun` of every moment, and with it the laws of
+//! `graph_moments`.
 ghost use Rattle.std.specs.Prelude.{◌<◌, ℕ, ℤ, suc, [], ◌∷◌, length};
 ghost use Rattle.phase_base.specs.declared.mode.Mode.{Mode};
 ghost use Rattle.phase_accum.specs.declared.outcome.Outcome.{Outcome};
@@ -56,8 +57,8 @@ pub fn turns_keep()
 {}
 
 /// The moment after a next event is what the event makes of the moment before, as the relations of
-/// `specs/Moves.antt` say it. So who has a moment of one task's own takes that task's next events for
-/// `own_events_keep`, and need not say what other tasks have done.
+/// `specs/Moves.antt` say it. So who has a moment of one task's own takes that task's next events
+/// for `own_events_keep`, and need not say what other tasks have done.
 pub fn next_events_are_moves()
     ensures sample { (job : Job) (m : Moment) (t j p n : ℕ) (v : ℤ)
         → IsNextSample job m t j p n v → TaskRan job m t
@@ -78,9 +79,9 @@ pub fn next_events_are_moves()
         → Registers job m (after_register p n c a mode m) t p n c a mode u }
 {}
 
-/// A task's own event keeps what a moment has of the task, where the histories of the phasers on its
-/// line grew legally, and a child's registration gives what it has of the child. For who knows of a
-/// run only what one task has seen, as a thread that moves one task does.
+/// A task's own event keeps what a moment has of the task, where the histories of the phasers on
+/// its line grew legally, and a child's registration gives what it has of the child. For who knows
+/// of a run only what one task has seen, as a thread that moves one task does.
 pub fn own_events_keep()
     ensures signal { (job : Job) (before after : Moment) (t j p n : ℕ) (v : ℤ)
         → IsGraph job.graph → t < length job.graph.tasks
@@ -103,8 +104,8 @@ pub fn own_events_keep()
 {}
 
 /// What a moment has of a task stays where others' events came, and so does that it has ended. So a
-/// task need not know what the others did since its own last event. Of each history it asks that the
-/// task's part is the same, which it is where none of the later events is the task's: `part`.
+/// task need not know what the others did since its own last event. Of each history it asks that
+/// the task's part is the same, which it is where none of the later events is the task's: `part`.
 pub fn others_leave()
     ensures part { (n : ℕ) (old new : History) → OthersCame (n ∷ []) old new
         → PartStays n old new }

@@ -88,7 +88,8 @@ stays job m t p =
 abbrev pub Later : Job → Moment → ℕ → ℕ → ℕ → Parent → Type 0
 Later job m t p c u = m.number p c ≡ None → OnLine (task_at job.graph c) p → m.begun t < u.at
 
-abbrev pub comes_later : (job : Job) (m : Moment) (t p c : ℕ) (u : Parent) → Test (Later job m t p c u)
+abbrev pub comes_later : (job : Job) (m : Moment) (t p c : ℕ) (u : Parent)
+    → Test (Later job m t p c u)
 comes_later job m t p c u =
     where_so (m.number p c ≡ None) (OnLine (task_at job.graph c) p → m.begun t < u.at)
     (is_none (m.number p c)) (λ none. rw none refl)
@@ -129,7 +130,8 @@ has_exchanged Sink j put taken = always tt
 has_exchanged Peer zero put taken = always tt
 has_exchanged Peer (suc j) put taken = test.is_at_most put taken
 
-abbrev pub may_begin : (job : Job) (m : Moment) (t p : ℕ) → Test (Given job m t p → MayBegin job m t)
+abbrev pub may_begin : (job : Job) (m : Moment) (t p : ℕ)
+    → Test (Given job m t p → MayBegin job m t)
 may_begin job m t p =
     let task = task_at job.graph t in
     giving (λ b g. record {
@@ -343,7 +345,8 @@ is_child_of job m t p n c a mode (Some u) e =
     (both (test.is_some_of (m.number p t) n)
     (both (test.is_none (m.number p c))
     (both (test.is_none (register_refusal (m.history p) n a mode))
-    (both (both (outputs of_c (λ j. mode_signals mode ≡ true) (λ j. test.is_true (mode_signals mode)))
+    (both (both
+    (outputs of_c (λ j. mode_signals mode ≡ true) (λ j. test.is_true (mode_signals mode)))
     (inputs of_c (λ k. mode_waits mode ≡ true) (λ k. test.is_true (mode_waits mode))))
     (both (both (test.is_equal (m.begun t) u.at)
     (test.is_equal (m.offset c) (m.offset t + u.at)))

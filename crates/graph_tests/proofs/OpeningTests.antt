@@ -27,7 +27,8 @@ get_or-some (x ∷ xs) zero n e = omega arith
 get_or-some (x ∷ xs) (suc i) n e =
     let r : i < length xs = get_or-some xs i n e in omega arith
 
-pub row-some : (rows : List (List (Option ℕ))) (p t n : ℕ) → get_or (get_or rows p []) t None ≡ Some n
+pub row-some : (rows : List (List (Option ℕ))) (p t n : ℕ)
+    → get_or (get_or rows p []) t None ≡ Some n
     → p < length rows
 row-some [] p t n e = absurd (cc)
 row-some (row ∷ rows) zero t n e = omega arith
@@ -152,7 +153,8 @@ abbrev pub IsOnIt : Job → List (List (Option ℕ)) → ℕ → ℕ → Type 0
 IsOnIt job rows t p = (task_at job.graph t).parent ≡ None → OnLine (task_at job.graph t) p
     → IsSome (get_or (get_or rows p []) t None)
 
-abbrev pub is_on_it : (job : Job) (rows : List (List (Option ℕ))) (t p : ℕ) → Test (IsOnIt job rows t p)
+abbrev pub is_on_it : (job : Job) (rows : List (List (Option ℕ))) (t p : ℕ)
+    → Test (IsOnIt job rows t p)
 is_on_it job rows t p =
     let task = task_at job.graph t in
     let o = get_or (get_or rows p []) t None in
@@ -169,7 +171,8 @@ WaitsOn job histories rows t k =
     → start_of (get_or histories (input_at (task_at job.graph t) k) []) n ≡ Some start
     → mode_waits start.mode ≡ true
 
-abbrev pub waits_on : (job : Job) (histories : List History) (rows : List (List (Option ℕ))) (t k : ℕ)
+abbrev pub waits_on : (job : Job) (histories : List History) (rows : List (List (Option ℕ)))
+    (t k : ℕ)
     → Test (WaitsOn job histories rows t k)
 waits_on job histories rows t k =
     let p = input_at (task_at job.graph t) k in
@@ -197,7 +200,8 @@ task_opened job histories rows offsets t =
       nothing_put = λ j. refl;
       nothing_taken = λ k. refl;
     })
-    (both (each (length rows) (λ p. OnIt job histories rows t p) (λ p. on_it job histories rows t p))
+    (both (each (length rows) (λ p. OnIt job histories rows t p)
+    (λ p. on_it job histories rows t p))
     (both (each (length job.graph.phasers) (λ p. IsOnIt job rows t p) (λ p. is_on_it job rows t p))
     (both (each (length task.inputs) (λ k. WaitsOn job histories rows t k)
     (λ k. waits_on job histories rows t k))
@@ -219,5 +223,6 @@ has_opened job histories rows offsets =
       phasers = λ p pp. b.left p pp is pp;
       tasks = λ t there. b.right t there is there;
     })
-    (both (each (length job.graph.phasers) OfPhaser (λ p. phaser_opened job histories rows offsets p))
+    (both (each (length job.graph.phasers) OfPhaser
+    (λ p. phaser_opened job histories rows offsets p))
     (each (length job.graph.tasks) OfTask (λ t. task_opened job histories rows offsets t)))

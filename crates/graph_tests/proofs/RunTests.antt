@@ -43,7 +43,8 @@ run_to_the_end job m (turn ∷ turns) ran =
 
 -- ---- the end
 
-abbrev pub is_over : (job : Job) (m : Moment) → Test (IsGraph job.graph → HasRun job m → IsOver job m)
+abbrev pub is_over : (job : Job) (m : Moment)
+    → Test (IsGraph job.graph → HasRun job m → IsOver job m)
 is_over job m =
     let Gone : ℕ → Type 0 = λ p. (t : ℕ) → t < length job.graph.tasks → (n : ℕ)
     → m.number p t ≡ Some n → has_dropped (m.history p) n ≡ true in

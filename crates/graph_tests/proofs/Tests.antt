@@ -1,5 +1,5 @@
--- Tests of facts by computing: where a test holds, its fact is so. A test of a whole is put together
--- of tests of its parts, so that a worked run is checked by `refl`.
+-- Tests of facts by computing: where a test holds, its fact is so. A test of a whole is put
+-- together of tests of its parts, so that a worked run is checked by `refl`.
 use Rattle.std.proofs.Common.{◌≡◌, ◌≢◌, ℕ, zero, suc, ◌<◌, ◌≤◌, Bool, true, false, not, ◌&&◌, ◌||◌, eqb, leb, eqb-true, eq-eqb, leb-true, List, [], ◌∷◌, Option, Some, None, ℤ, pos, negsuc, refl, ap, subst, ◌∙◌, arith, ◌⊎◌, inl, inr}
 use Rattle.std.proofs.lemmas.Bool.{and_parts, cases_lt}
 use Rattle.std.proofs.lemmas.Option.{same_Some}
@@ -70,7 +70,8 @@ when_some (Some y) P test = record {
 
 -- a fact that is asked for where another is so, which a Boolean says
 abbrev pub where_so : (A P : Type 0) (says : Bool) → (A → says ≡ true) → Test P → Test (A → P)
-where_so A P says is test = record { holds = not says || test.holds; sound = λ e a. by says (is a) e }
+where_so A P says is test =
+    record { holds = not says || test.holds; sound = λ e a. by says (is a) e }
   where
     by : (b : Bool) → b ≡ true → (not b || test.holds) ≡ true → P
     by true so e = test.sound e

@@ -9,8 +9,8 @@ use Rattle.graph_moments.specs.Moments.{Moment, HasRun}
 use Rattle.graph_moves.specs.Turned.{after_signal, after_wait, after_leave, after_register}
 use Rattle.graph_moves.specs.Turned.{IsNextSample, IsNextSignal, IsFirstWait, IsExchangeWait, IsNextLeave, IsNextChild}
 
--- an event of task t on phaser p, where its number is n: v on output j; an outcome from input k; that
--- it leaves; that it registers task c as number a
+-- an event of task t on phaser p, where its number is n: v on output j; an outcome from input k;
+-- that it leaves; that it registers task c as number a
 pub data Turn : Type 0 where
   sample : (t j p n : ℕ) (v : ℤ) → Turn
   signal : (t j p n : ℕ) (v : ℤ) → Turn
@@ -60,8 +60,8 @@ abbrev pub after_all : Job → Moment → List Turn → Moment
 after_all job m [] = m
 after_all job m (turn ∷ turns) = after_all job (after_turn job turn m) turns
 
--- a moment at which nothing was sent or taken, with the history of each phaser, the numbers on it of
--- the tasks, and the offset of each task
+-- a moment at which nothing was sent or taken, with the history of each phaser, the numbers on it
+-- of the tasks, and the offset of each task
 abbrev pub opened : List History → List (List (Option ℕ)) → List ℕ → Moment
 opened histories numbers offsets = record {
   history = λ p. get_or histories p [];

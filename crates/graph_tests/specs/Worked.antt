@@ -1,5 +1,5 @@
--- A worked run: a source, a peer alone on its exchange, a splitter, a joiner, a sink with `until`, and
--- its child, from the opening to the end.
+-- A worked run: a source, a peer alone on its exchange, a splitter, a joiner, a sink with `until`,
+-- and its child, from the opening to the end.
 use Rattle.std.specs.Prelude.{ℕ, List, [], ◌∷◌, ◌++◌, Option, Some, None, pos, codes}
 use Rattle.phase_base.specs.declared.mode.Mode.TheVariants.{Sig, Wait, SigWait}
 use Rattle.phase_accum.specs.declared.outcome.Outcome.TheVariants.{Value}
@@ -19,9 +19,9 @@ use Rattle.graph_tests.specs.Runs.{Turn, sample, signal, first_wait, exchange_wa
 abbrev pub bus : PhaserLine
 bus = record { op = Sum; bound = 4; single = None }
 
--- phaser X sum 4 / phaser E sum 4 / phaser Y sum 4 / phaser A sum 4 / phaser B sum 4 / phaser Z sum 4
--- source s s.csv -> X / peer p X E -> Y mul 3 / split d Y -> A B / join j A B -> Z
--- sink out Z until 1 / sink late Z by out at 1
+-- phaser X sum 4 / phaser E sum 4 / phaser Y sum 4 / phaser A sum 4 / phaser B sum 4 / phaser Z sum
+-- 4 source s s.csv -> X / peer p X E -> Y mul 3 / split d Y -> A B / join j A B -> Z sink out Z
+-- until 1 / sink late Z by out at 1
 abbrev pub worked_graph : Graph
 worked_graph = record {
   names = (codes "X", place.Phaser 0) ∷ (codes "E", place.Phaser 1) ∷ (codes "Y", place.Phaser 2)
@@ -90,7 +90,8 @@ peer_turns =
     ∷ signal 1 1 2 1 (pos 14)
     ∷ []
 
--- the splitter puts 10 on A, and the joiner puts it on Z, where out takes it; the splitter puts 14 on B
+-- the splitter puts 10 on A, and the joiner puts it on Z, where out takes it; the splitter puts 14
+-- on B
 abbrev pub lane_turns : List Turn
 lane_turns =
     first_wait 2 0 2 2 (Value (pos 10))
@@ -148,8 +149,8 @@ before_end = after_all worked with_late (late_turns ++ last_turns)
 abbrev pub worked_end : Moment
 worked_end = after_turn worked late_leaves before_end
 
--- the first four moments after the opening: the source has signalled 5, the peer has taken it, has put
--- it on E, and has taken it there
+-- the first four moments after the opening: the source has signalled 5, the peer has taken it, has
+-- put it on E, and has taken it there
 abbrev pub after_sample : Moment
 after_sample = after_turn worked (sample 0 0 0 1 (pos 5)) worked_opening
 

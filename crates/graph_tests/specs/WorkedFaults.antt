@@ -49,7 +49,8 @@ faulty = record {
 
 -- X has two signallers and a waiter
 abbrev pub founded_sum : History
-founded_sum = Dropped 0 ∷ Registered 0 3 Wait ∷ Registered 0 2 Sig ∷ Registered 0 1 Sig ∷ Made 0 ∷ []
+founded_sum =
+    Dropped 0 ∷ Registered 0 3 Wait ∷ Registered 0 2 Sig ∷ Registered 0 1 Sig ∷ Made 0 ∷ []
 
 -- of X, W and Y
 abbrev pub faulty_histories : List History
@@ -69,7 +70,8 @@ faulty_offsets = 0 ∷ 0 ∷ 0 ∷ 0 ∷ 0 ∷ 0 ∷ []
 abbrev pub faulty_opening : Moment
 faulty_opening = opened faulty_histories faulty_numbers faulty_offsets
 
--- out takes the sum of a's and b's values, and the filter takes c's, of which it makes twice as much
+-- out takes the sum of a's and b's values, and the filter takes c's, of which it makes twice as
+-- much
 abbrev pub faulty_turns : List Turn
 faulty_turns =
     sample 0 0 0 1 greatest

@@ -73,7 +73,7 @@ any_front test (x ∷ xs) ys (suc k) lt e =
     or_right false = refl
 
 -- where no number stands twice, each stands at its own place
-place-distinct : (n : ℕ) (xs ys : List ℕ) (k : ℕ) → k < length xs
+pub place-distinct : (n : ℕ) (xs ys : List ℕ) (k : ℕ) → k < length xs
     → is_distinct (xs ++ ys) ≡ true → place_from n xs (get_or xs k 0) ≡ Some (n + k)
 place-distinct n [] ys k lt d = absurd (omega arith)
 place-distinct n (x ∷ xs) ys zero lt d =

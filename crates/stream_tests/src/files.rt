@@ -4,7 +4,7 @@ use sample_text::{SampleFault, read_sample_file};
 use std::alloc::Global;
 use std::fs;
 use std::test::Fail;
-use watched_io::{DiskFiles, FileFault, Files};
+use watched_io::{DiskFiles, FileFault, Files, IoFault};
 
 /// Two files, of which one has samples, and no other.
 #[derive(Drop)]
@@ -51,5 +51,20 @@ fn a_file_of_the_disk_is_read_within_its_limit(rt: HostRuntime) -> Result<(), Fa
     assert!(rt; long == Err(FileFault::ReadFault));
     assert!(rt; gone == Err(FileFault::ReadFault));
     assert!(rt; folder == Err(FileFault::ReadFault));
+    Ok(())
+}
+
+#[test]
+fn a_fault_of_a_file_is_the_fault_of_that_name(rt: HostRuntime) -> Result<(), Fail> {
+    assert_eq!(rt; IoFault::from(FileFault::ReadFault), IoFault::ReadFault);
+    assert_eq!(rt; IoFault::from(FileFault::OutOfMemory), IoFault::OutOfMemory);
+    assert_eq!(rt;
+        SampleFault::from(FileFault::ReadFault),
+        SampleFault::ReadFault
+    );
+    assert_eq!(rt;
+        SampleFault::from(FileFault::OutOfMemory),
+        SampleFault::OutOfMemory
+    );
     Ok(())
 }

@@ -66,7 +66,19 @@ fn a_peer_is_registered_on_its_exchange_once(rt: HostRuntime) -> Result<(), Fail
     let text = "phaser X sum 1\nphaser E sum 1\nphaser F sum 1 single neg\nphaser Y sum 1\n\
                 peer p X <-> E -> Y mul 1\npeer q X <-> F -> Y mul 1";
     let graph = read_graph(rt.alloc(), text.as_bytes())?;
-    assert!(rt; has(&graph, 0, &[input(0, 0), exchange(1, Mode::SigWait), output(1, 3)]));
-    assert!(rt; has(&graph, 1, &[input(0, 0), exchange(2, Mode::Single), output(1, 3)]));
+    assert!(rt;
+        has(
+            &graph,
+            0,
+            &[input(0, 0), exchange(1, Mode::SigWait), output(1, 3)]
+        )
+    );
+    assert!(rt;
+        has(
+            &graph,
+            1,
+            &[input(0, 0), exchange(2, Mode::Single), output(1, 3)]
+        )
+    );
     Ok(())
 }

@@ -4,11 +4,14 @@ use Rattle.graph_text.specs.Plain.{plain}
 use Rattle.graph_words.specs.Words.{is_name}
 use Rattle.graph_base.specs.Names.{names_of}
 use Rattle.graph_lang.specs.LineTasks.{numbers_of}
+use Rattle.graph_lang.specs.Faults.{is_phaser}
 use Rattle.graph_lang.proofs.phasers.numbers_of.Given as goal
 
--- the words that are left are names, and the numbers of the others are there
+-- the words that are left are names, the others were of phasers, and their numbers are there
 abbrev pub invariant-loop-word : goal.invariant-loop-word
 invariant-loop-word l = record {
   names : list_all is_name (plain (drop l.word-index l.words)) ≡ true;
+  rest : list_all (is_phaser (names_of l.names.entries)) (plain l.words)
+      ≡ list_all (is_phaser (names_of l.names.entries)) (plain (drop l.word-index l.words));
   made : l.numbers.items ≡ numbers_of (names_of l.names.entries) (plain (take l.word-index l.words));
 }

@@ -1,4 +1,4 @@
-use Rattle.std.proofs.Common.{rules, ◌≡◌, ◌∙◌, sym, ap, Bor, [], ◌++◌, ◌∷◌, take, get_or, map, true, Some, FitsSigned, w64, to_z-of_z}
+use Rattle.std.proofs.Common.{rules, ◌∙◌, sym, ap, Bor, [], ◌++◌, ◌∷◌, take, get_or, map, FitsSigned, w64, to_z-of_z}
 use Rattle.std.proofs.lemmas.Option.{cond_some}
 use Rattle.graph_words.specs.Words.{Word}
 use Rattle.graph_text.specs.Plain.{plain}

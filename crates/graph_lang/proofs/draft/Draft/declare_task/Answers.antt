@@ -1,37 +1,71 @@
-use Rattle.std.proofs.Common.{◌≡◌, ◌∙◌, sym, ap, Ok, false, is_some}
-use Rattle.std.specs.List.{list_all}
+use Rattle.std.proofs.Common.{◌≡◌, ◌∙◌, sym, ap, Ok, is_some, subst, IfSome, not, ◌||◌}
 use Rattle.graph_text.specs.Plain.{plain}
-use Rattle.graph_words.specs.Words.{is_name}
 use Rattle.graph_text.specs.Decls.{task}
 use Rattle.graph_text.specs.Lines.{body_of, ends_of}
 use Rattle.graph_base.specs.Kept.{task_of}
-use Rattle.graph_lang.specs.Faults.{is_past_limit}
+use Rattle.graph_base.specs.Names.{place_of}
+use Rattle.graph_lang.specs.LineTasks.{task_line}
+use Rattle.graph_lang.specs.Faults.{is_past_limit, are_distinct}
 use Rattle.graph_lang.specs.Reads.{told}
-use Rattle.graph_lang.proofs.Ends.{phasers-names}
-use Rattle.graph_lang.proofs.Sound.{not-past, past, task-limit, told-later, with-task}
+use Rattle.graph_lang.proofs.Sound.{not-past, past, task-limit, task-twice, task-unknown, task-last, with-task}
 use Rattle.graph_lang.proofs.draft.Draft.declare_task.Goals as goal
 
--- each phaser of the line is a name
-pub later_kind-requires-clause-phasers : goal.later_kind-requires-clause-phasers
-later_kind-requires-clause-phasers c =
-    ap (λ words. list_all is_name words) (ap plain c.deref.ensures.value ∙ c.in_ok-phasers.ensures)
-    ∙ phasers-names (body_of c.args.words.body) c.requires.1
-
--- the kind is a later one
-pub returns-in-Some-later_kind-clause-fault : goal.returns-in-Some-later_kind-clause-fault
-returns-in-Some-later_kind-clause-fault c =
+-- the name is there already, or a phaser stands twice in the line
+pub returns-then-is_twice-clause-fault : goal.returns-then-is_twice-clause-fault
+returns-then-is_twice-clause-fault c =
     let before = c.args.self.now in
     let name = c.args.words.name.now in
     let body = body_of c.args.words.body in
     let ends = ends_of c.args.words.ends in
-    let past : is_past_limit before (task name body ends) ≡ false =
-    not-past (is_past_limit before (task name body ends)) (sym c.in_ok-numbers.ensures.within ∙ ap is_some c.in-Some.is) in
+    let d = task name body ends in
+    let within = not-past (is_past_limit before d)
+    (sym c.in_ok-numbers.ensures.within ∙ ap is_some c.in-Some.is) in
     let words = ap plain c.deref.ensures.value ∙ c.in_ok-phasers.ensures in
-    rw c.fault-in-Some-later_kind.ensures
-    (ap (told c.args.number before (task name body ends)) (sym c.in-Some-later_kind.is)
-    ∙ told-later before name body ends c.args.number (plain c.deref.result.now)
-    (task_of c.in_ok-task.task) c.later_kind.result past words c.in_ok-task.ensures
-    c.later_kind.ensures)
+    let twice = ap (λ ws. is_some (place_of before.names name) || not (are_distinct ws)) (sym words)
+    ∙ sym c.is_twice.ensures in
+    rw c.fault-then-is_twice.ensures
+    (ap (told c.args.number before d)
+    (sym (task-twice before name body ends c.args.number within (twice ∙ c.if-is_twice.true))))
+
+-- a name is unknown
+pub returns-in_default-2-clause-fault : goal.returns-in_default-2-clause-fault
+returns-in_default-2-clause-fault c =
+    let before = c.args.self.now in
+    let name = c.args.words.name.now in
+    let body = body_of c.args.words.body in
+    let ends = ends_of c.args.words.ends in
+    let d = task name body ends in
+    let within = not-past (is_past_limit before d)
+    (sym c.in_ok-numbers.ensures.within ∙ ap is_some c.in-Some.is) in
+    let words = ap plain c.deref.ensures.value ∙ c.in_ok-phasers.ensures in
+    let twice = ap (λ ws. is_some (place_of before.names name) || not (are_distinct ws)) (sym words)
+    ∙ sym c.is_twice.ensures in
+    let none = sym c.in_ok-task.ensures.known ∙ ap is_some c.in_default-2.is in
+    rw c.fault-in_default-2.ensures
+    (ap (told c.args.number before d)
+    (sym (task-unknown before name body ends c.args.number within (twice ∙ c.if-is_twice.false) none)))
+
+-- the task has a fault
+pub returns-in-Some-last_kind-clause-fault : goal.returns-in-Some-last_kind-clause-fault
+returns-in-Some-last_kind-clause-fault c =
+    let before = c.args.self.now in
+    let name = c.args.words.name.now in
+    let body = body_of c.args.words.body in
+    let ends = ends_of c.args.words.ends in
+    let d = task name body ends in
+    let within = not-past (is_past_limit before d)
+    (sym c.in_ok-numbers.ensures.within ∙ ap is_some c.in-Some.is) in
+    let words = ap plain c.deref.ensures.value ∙ c.in_ok-phasers.ensures in
+    let twice = ap (λ ws. is_some (place_of before.names name) || not (are_distinct ws)) (sym words)
+    ∙ sym c.is_twice.ensures in
+    let read = subst (λ o. IfSome o (λ t. task_of t ≡ task_line before.names c.args.number body ends))
+    c.in-Some-2.is c.in_ok-task.ensures.line in
+    let known = sym c.in_ok-task.ensures.known ∙ ap is_some c.in-Some-2.is in
+    let last = c.last_kind.ensures
+    ∙ sym (task-last before name body ends c.args.number within (twice ∙ c.if-is_twice.false) known
+    (task_of c.in-Some-2.task) read) in
+    rw c.fault-in-Some-last_kind.ensures
+    (ap (told c.args.number before d) (sym c.in-Some-last_kind.is ∙ last))
 
 -- there is none, and the task is the line's
 pub returns-clause-ok : goal.returns-clause-ok
@@ -40,15 +74,21 @@ returns-clause-ok c =
     let name = c.args.words.name.now in
     let body = body_of c.args.words.body in
     let ends = ends_of c.args.words.ends in
-    let past : is_past_limit before (task name body ends) ≡ false =
-    not-past (is_past_limit before (task name body ends)) (sym c.in_ok-numbers.ensures.within ∙ ap is_some c.in-Some.is) in
+    let d = task name body ends in
+    let within = not-past (is_past_limit before d)
+    (sym c.in_ok-numbers.ensures.within ∙ ap is_some c.in-Some.is) in
     let words = ap plain c.deref.ensures.value ∙ c.in_ok-phasers.ensures in
+    let twice = ap (λ ws. is_some (place_of before.names name) || not (are_distinct ws)) (sym words)
+    ∙ sym c.is_twice.ensures in
+    let read = subst (λ o. IfSome o (λ t. task_of t ≡ task_line before.names c.args.number body ends))
+    c.in-Some-2.is c.in_ok-task.ensures.line in
+    let known = sym c.in_ok-task.ensures.known ∙ ap is_some c.in-Some-2.is in
+    let last = c.last_kind.ensures
+    ∙ sym (task-last before name body ends c.args.number within (twice ∙ c.if-is_twice.false) known
+    (task_of c.in-Some-2.task) read) in
     ap Ok (c.in_ok-add_task.ensures ∙ with-task before name body ends c.args.number
-    (task_of c.in_ok-task.task) c.in_ok-task.ensures)
-    ∙ ap (told c.args.number before (task name body ends)) (sym c.in_default-later_kind.is)
-    ∙ told-later before name body ends c.args.number (plain c.deref.result.now)
-    (task_of c.in_ok-task.task) c.later_kind.result past words c.in_ok-task.ensures
-    c.later_kind.ensures
+    (task_of c.in-Some-2.task) read)
+    ∙ ap (told c.args.number before d) (sym c.in_default-last_kind.is ∙ last)
 
 -- a number is past its limit
 pub returns-in_default-clause-fault : goal.returns-in_default-clause-fault
