@@ -7,7 +7,9 @@ use Rattle.phase_accum.specs.declared.outcome.Outcome.{Outcome}
 use Rattle.phase_history.specs.Phases.{received_by}
 use Rattle.phase_history.specs.declared.refusal.RegisterRefusal.{RegisterRefusal}
 use Rattle.phase_shared.specs.Regs.{RegState}
-use Rattle.phase_shared.specs.Calls.{Registers}
+use Rattle.phase_shared.specs.declared.refusal.Tried.{Tried}
+use Rattle.phase_shared.specs.declared.refusal.Tried.TheVariants.{Busy, Refused}
+use Rattle.phase_shared.specs.Calls.{Registers, Tries}
 use Rattle.phase_shared.proofs.PartSteps.{parent_stays, refused_register}
 use Rattle.phase_received.specs.Received.{received_of}
 
@@ -16,12 +18,27 @@ pub received_now : {A K : Type 0} (op : Operation A) (old new : RegState A K) (l
 received_now op old new list number is = ap (λ n. received_by op.value new.seen n) number ∙ is
 
 -- a registration adds nothing to what its parent has received
+pub parent_received : {A K : Type 0} (op : Operation A) (mode : Mode) (old new : RegState A K)
+    (answer : Result (RegState A K) RegisterRefusal) → Registers op mode old new answer
+    → received_by op.value new.seen old.number ≡ received_of op old
+parent_received op mode old new (Ok child) is =
+    (parent_stays old.number child.number mode old.seen new.seen is.registered).received op.value
+parent_received op mode old new (Err refusal) is =
+    (refused_register old.number mode old.seen new.seen refusal is).received op.value
+
 pub received_by_parent : {A K : Type 0} (op : Operation A) (mode : Mode) (old new : RegState A K)
     (answer : Result (RegState A K) RegisterRefusal) → Registers op mode old new answer
     → new.number ≡ old.number → received_of op new ≡ received_of op old
-received_by_parent op mode old new (Ok child) is number =
-    received_now op old new (received_of op old) number
-    ((parent_stays old.number child.number mode old.seen new.seen is.registered).received op.value)
-received_by_parent op mode old new (Err refusal) is number =
-    received_now op old new (received_of op old) number
-    ((refused_register old.number mode old.seen new.seen refusal is).received op.value)
+received_by_parent op mode old new answer is number =
+    received_now op old new (received_of op old) number (parent_received op mode old new answer is)
+
+-- a try receives nothing where its call receives nothing
+pub received_by_try : {A K X R : Type 0} (op : Operation A) (old new : RegState A K)
+    (call : Result X R → Type 0) (result : Result X (Tried R)) → Tries (new ≡ old) call result
+    → ((answer : Result X R) → call answer → received_by op.value new.seen old.number ≡ received_of op old)
+    → new.number ≡ old.number → received_of op new ≡ received_of op old
+received_by_try op old new call (Ok x) t none number =
+    received_now op old new (received_of op old) number (none (Ok x) t)
+received_by_try op old new call (Err Busy) t none number = ap (received_of op) t
+received_by_try op old new call (Err (Refused refusal)) t none number =
+    received_now op old new (received_of op old) number (none (Err refusal) t)

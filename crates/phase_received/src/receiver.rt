@@ -17,6 +17,8 @@ ghost use Rattle.phase_shared.specs.Parts.{with_got, with_any};
 ghost use Rattle.phase_received.specs.Received.{received_of, Receives};
 ghost use Rattle.phase_received.specs.Whole.{HasSeenEnd, HasWhole};
 
+mod trying;
+
 use crate::fault::ReceiveFault;
 use crate::laws;
 use crate::receipts::Receipts;

@@ -13,8 +13,8 @@ use Rattle.phase_core.specs.Cores.{CoreState, StandsFor}
 use Rattle.phase_shared.specs.declared.view.View.{View}
 use Rattle.phase_shared.specs.declared.rule.Terms.{Terms}
 use Rattle.phase_history.specs.Others.{IsUsed, is_by, events_of, OthersCame}
-use Rattle.phase_shared.specs.Views.{front, resting, turning, front_of, speaks_of}
-use Rattle.phase_shared.specs.Rule.{Allows, IsGoodAt, HasOneHistory, StandsWithin, TookAt, IsStation, Entered, Keeps}
+use Rattle.phase_shared.specs.Views.{knowledge, resting, turning, known_of, speaks_of}
+use Rattle.phase_shared.specs.Rule.{Allows, IsGoodAt, HasOneHistory, StandsWithin, TookAt, IsSeatOfTask, AfterTake, Keeps}
 use Rattle.phase_history.proofs.Used.{IsUsed-member, IsUsed-longer, entry_of-others}
 use Rattle.phase_shared.proofs.Keeping.{gives, one_of, or_false, is_in_self}
 
@@ -38,14 +38,14 @@ own_event me old new event by came = record {
 }
 
 module _ {A K : Type 0} (op : Operation A) (allows : K → Allows) (terms : Terms K) (me : ℕ) where
-  pub entered : (entry : Entry) (v : View) (x : CoreState A) (w : View) → IsStation allows terms me entry v → TookAt op allows terms v x w → Entered op allows terms me entry v x w
+  pub entered : (entry : Entry) (v : View) (x : CoreState A) (w : View) → IsSeatOfTask allows terms me entry v → TookAt op allows terms v x w → AfterTake op allows terms me entry v x w
   entered entry v x w s t =
       let speaks : speaks_of v ≡ me ∷ [] = ap speaks_of s.rests in
-      let others : OthersCame (me ∷ []) (front_of v).seen t.now = subst (λ (l : List ℕ). OthersCame l (front_of v).seen t.now) speaks t.others in
-      let legal : IsLegal terms.limits (others.later ++ (front_of v).seen) = subst (λ (h : History). IsLegal terms.limits h) others.is t.good.legal in
+      let others : OthersCame (me ∷ []) (known_of v).seen t.now = subst (λ (l : List ℕ). OthersCame l (known_of v).seen t.now) speaks t.others in
+      let legal : IsLegal terms.limits (others.later ++ (known_of v).seen) = subst (λ (h : History). IsLegal terms.limits h) others.is t.good.legal in
       let member : entry_of (members_of t.now) me ≡ Some entry =
       ap (λ h. entry_of (members_of h) me) others.is
-      ∙ entry_of-others terms.limits others.later (front_of v).seen me entry legal (others.others me (is_in_self me [])) s.member in
+      ∙ entry_of-others terms.limits others.later (known_of v).seen me entry legal (others.others me (is_in_self me [])) s.member in
       record {
         now = t.now;
         others = others;
@@ -72,7 +72,7 @@ module _ {A K : Type 0} (op : Operation A) (allows : K → Allows) (terms : Term
       subst (λ (z : View). Gives (HasOneHistory op allows) terms number z y (λ v q u. goes v u)) (sym is)
       (λ views k at. (
         resting all (me ∷ []),
-        gives terms.limits (allows terms.rule) (StandsWithin op terms.limits) number (front now (me ∷ [])) y own.later (me ∷ [])
+        gives terms.limits (allows terms.rule) (StandsWithin op terms.limits) number (knowledge now (me ∷ [])) y own.later (me ∷ [])
             (λ task none. own.own task (or_false (eqb me task) none)) good' stands' refl
             (λ task has. (subst (λ (n : ℕ). IsUsed all n) (one_of me task has) used', inl has)) views k at,
         subst (λ (h : History). goes (turning now (me ∷ [])) (resting h (me ∷ []))) own.is told,
@@ -81,18 +81,18 @@ module _ {A K : Type 0} (op : Operation A) (allows : K → Allows) (terms : Term
   -- a give after a call that made no event
   pub gives_same : (number : ℕ) (y : CoreState A) (w : View) (now : History) → w ≡ turning now (me ∷ []) → IsUsed now me
       → IsGoodAt allows terms now → StandsWithin op terms.limits y now
-      → Gives (HasOneHistory op allows) terms number w y (λ v z u. u ≡ resting (front_of v).seen (speaks_of v))
+      → Gives (HasOneHistory op allows) terms number w y (λ v z u. u ≡ resting (known_of v).seen (speaks_of v))
   gives_same number y w now is used good stands =
-      gives_own (λ v u. u ≡ resting (front_of v).seen (speaks_of v)) number y w now now is used (own_none me now) good stands refl
+      gives_own (λ v u. u ≡ resting (known_of v).seen (speaks_of v)) number y w now now is used (own_none me now) good stands refl
 
   -- a seat after a give
   pub stays : (entry : Entry) (v : View) (h : History) → v ≡ resting h (me ∷ []) → IsGoodAt allows terms h
-      → entry_of (members_of h) me ≡ Some entry → IsStation allows terms me entry v
-  stays entry v h is good member = subst (λ (u : View). IsStation allows terms me entry u) (sym is) (record { rests = refl; member = member; good = good })
+      → entry_of (members_of h) me ≡ Some entry → IsSeatOfTask allows terms me entry v
+  stays entry v h is good member = subst (λ (u : View). IsSeatOfTask allows terms me entry u) (sym is) (record { rests = refl; member = member; good = good })
 
   -- the same, with the entry that the core told
   pub station : (entry : Entry) (v : View) (h : History) (x : CoreState A) (o : Option Entry) → v ≡ resting h (me ∷ []) → IsGoodAt allows terms h
-      → StandsWithin op terms.limits x h → o ≡ entry_of x.members me → o ≡ Some entry → IsStation allows terms me entry v
+      → StandsWithin op terms.limits x h → o ≡ entry_of x.members me → o ≡ Some entry → IsSeatOfTask allows terms me entry v
   station entry v h x o is good stands viewed some =
       stays entry v h is good (ap (λ ms. entry_of ms me) (sym stands.stands.members_are) ∙ sym viewed ∙ some)
 

@@ -10,11 +10,11 @@ use Rattle.turn_lock.proofs.Keeping.{within}
 use Rattle.phase_base.specs.Limits.{Limits}
 use Rattle.phase_history.specs.Histories.{History}
 use Rattle.phase_history.specs.Legal.{IsLegal}
-use Rattle.phase_shared.specs.declared.view.Front.{Front}
+use Rattle.phase_shared.specs.declared.view.Knowledge.{Knowledge}
 use Rattle.phase_shared.specs.declared.view.View.{View}
 use Rattle.phase_shared.specs.declared.view.View.TheVariants.{Resting, Turning, Joining, Spent}
 use Rattle.phase_history.specs.Others.{IsUsed, is_in, is_distinct, events_of, OnlyUsed, OthersCame}
-use Rattle.phase_shared.specs.Views.{front, resting, turning, speaks_of, is_turning}
+use Rattle.phase_shared.specs.Views.{knowledge, resting, turning, speaks_of, is_turning}
 use Rattle.phase_shared.specs.Rule.{Allows, IsGood, IsSound, Kept, Took, Learned, HasOneHistory, StandsWithin, founding}
 use Rattle.phase_accum.specs.Operations.{Operation}
 use Rattle.phase_core.specs.Cores.{CoreState, StandsFor}
@@ -85,7 +85,7 @@ rests_home x holder log j (Joining f g) s = refl
 rests_home x holder log j Spent s = refl
 
 not_the_holder : {T : Type 0} (home : Option T) (holder : ℕ) (log : History) (views : List View) (number : ℕ) (v : View) → home ≡ None
-    → ((f : Front) × (get_elem? views holder ≡ some (Turning f))) → get_elem? views number ≡ some v → is_turning v ≡ false → holder ≢ number
+    → ((f : Knowledge) × (get_elem? views holder ≡ some (Turning f))) → get_elem? views number ≡ some v → is_turning v ≡ false → holder ≢ number
 not_the_holder home holder log views number v e o at rests same =
     let is : v ≡ Turning o.0 = some-injective v (Turning o.0) (sym at ∙ ap (get_elem? views) (sym same) ∙ o.1) in
     not_both (is_turning v) (ap is_turning is) rests
@@ -145,7 +145,7 @@ used_some h task used none = let P : History → Type 0 = λ g. IsUsed g task in
     let never : IsUsed [] task = subst P none used in cc
 
 module _ {T : Type 0} (limits : Limits) (allows : Allows) (Stands : T → History → Type 0) where
-  pub takes : (number : ℕ) (f : Front) → (task : ℕ) × (is_in task f.speaks ≡ true)
+  pub takes : (number : ℕ) (f : Knowledge) → (task : ℕ) × (is_in task f.speaks ≡ true)
       → (x : T) (views : List View) → Kept limits allows Stands (Some x) views → get_elem? views number ≡ some (Resting f)
       → (w : View) × Kept limits allows Stands None (set views number w) × Took limits allows Stands (Resting f) x w
   takes number f one x views k at =
@@ -157,7 +157,7 @@ module _ {T : Type 0} (limits : Limits) (allows : Allows) (Stands : T → Histor
           good = k.good;
           stands = λ y e. absurd (none_some y (sym e));
           holder = number;
-          out = λ e. (front k.log f.speaks, set_here views number w (within views number (Resting f) at));
+          out = λ e. (knowledge k.log f.speaks, set_here views number w (within views number (Resting f) at));
           sound = λ j v e. ⊎_elim
               (λ (p : (j ≡ number) × (w ≡ v)). subst (λ (u : View). IsSound {T = T} None number k.log j u) p.1 (refl, s.1, p.0, refl, one))
               (λ (p : (j ≢ number) × (get_elem? views j ≡ some v)).
@@ -176,7 +176,7 @@ module _ {T : Type 0} (limits : Limits) (allows : Allows) (Stands : T → Histor
       )
 
   -- the history goes on by `own`, events of those that the giver speaks for; what it speaks for afterwards was its own or is new
-  pub gives : (number : ℕ) (f : Front) (y : T) (own : History) (speaks : List ℕ)
+  pub gives : (number : ℕ) (f : Knowledge) (y : T) (own : History) (speaks : List ℕ)
       → ((task : ℕ) → is_in task f.speaks ≡ false → events_of task own ≡ [])
       → IsGood limits allows (own ++ f.seen) → Stands y (own ++ f.seen) → is_distinct speaks ≡ true
       → ((task : ℕ) → is_in task speaks ≡ true → IsUsed (own ++ f.seen) task × ((is_in task f.speaks ≡ true) ⊎ (IsUsed f.seen task → ⊥)))
@@ -224,7 +224,7 @@ module _ {T : Type 0} (limits : Limits) (allows : Allows) (Stands : T → Histor
       }
 
   -- the look after a join: the joined view has seen all
-  pub looks : (number : ℕ) (f g : Front) (home : Option T) (views : List View) → Kept limits allows Stands home views
+  pub looks : (number : ℕ) (f g : Knowledge) (home : Option T) (views : List View) → Kept limits allows Stands home views
       → get_elem? views number ≡ some (Joining f g)
       → (w : View) × Kept limits allows Stands home (set views number w) × Learned limits allows (Joining f g) w
   looks number f g home views k at =
@@ -304,7 +304,7 @@ module _ {T : Type 0} (limits : Limits) (allows : Allows) (Stands : T → Histor
       }
 
   -- two views at rest are joined
-  pub merges : (number other : ℕ) (f g : Front) (home : Option T) (views : List View) → Kept limits allows Stands home views → other ≢ number
+  pub merges : (number other : ℕ) (f g : Knowledge) (home : Option T) (views : List View) → Kept limits allows Stands home views → other ≢ number
       → get_elem? views number ≡ some (Resting f) → get_elem? views other ≡ some (Resting g)
       → Kept limits allows Stands home (set (set views number (Joining f g)) other Spent)
   merges number other f g home views k ne at at' =
@@ -357,7 +357,7 @@ module _ {T : Type 0} (limits : Limits) (allows : Allows) (Stands : T → Histor
   -- a seat that speaks for all numbers that it has seen used is never refused
   pub never_busy : {N : Type 0} (holds : N → Option T → List View → Type 0) (name : N)
       → ((views : List View) → holds name None views → Kept limits allows Stands None views)
-      → (f : Front) → (task : ℕ) × (is_in task f.speaks ≡ true) × IsUsed f.seen task
+      → (f : Knowledge) → (task : ℕ) × (is_in task f.speaks ≡ true) × IsUsed f.seen task
       → OnlyUsed f.speaks f.seen → Busy holds name (Resting f) → ⊥
   never_busy holds name opens f one only b =
       let k = opens b.views b.kept in

@@ -7,8 +7,8 @@ use Rattle.phase_history.specs.Histories.{History}
 use Rattle.phase_history.specs.Others.{OthersCame, is_distinct}
 use Rattle.phase_shared.specs.declared.view.View.{View}
 use Rattle.phase_shared.specs.declared.rule.Terms.{Terms}
-use Rattle.phase_shared.specs.Views.{resting, front_of, joining}
-use Rattle.phase_shared.specs.Rule.{Allows, IsGoodAt, IsStation, LearnedAt}
+use Rattle.phase_shared.specs.Views.{resting, known_of, joining}
+use Rattle.phase_shared.specs.Rule.{Allows, IsGoodAt, IsSeatOfTask, LearnedAt}
 use Rattle.phase_shared.proofs.NextSteps.{member_after}
 
 -- two numbers that stand in a list without repetition differ
@@ -22,20 +22,20 @@ module _ {K : Type 0} (allows : K → Allows) (terms : Terms K) (me you : ℕ) (
   pub record Met : Type 0 where
     pub now : History
     pub is : both ≡ resting now (me ∷ you ∷ [])
-    pub first : OthersCame (me ∷ []) (front_of v).seen now
-    pub second : OthersCame (you ∷ []) (front_of w).seen now
+    pub first : OthersCame (me ∷ []) (known_of v).seen now
+    pub second : OthersCame (you ∷ []) (known_of w).seen now
     pub apart : me ≢ you
     pub good : IsGoodAt allows terms now
-    pub left : IsStation allows terms me entry (resting now (me ∷ []))
-    pub right : IsStation allows terms you start (resting now (you ∷ []))
+    pub left : IsSeatOfTask allows terms me entry (resting now (me ∷ []))
+    pub right : IsSeatOfTask allows terms you start (resting now (you ∷ []))
 
-  pub met : IsStation allows terms me entry v → IsStation allows terms you start w → LearnedAt allows terms (joining v w) both → Met
+  pub met : IsSeatOfTask allows terms me entry v → IsSeatOfTask allows terms you start w → LearnedAt allows terms (joining v w) both → Met
   met s t learned =
       let now = learned.now in
-      let mine : (front_of v).speaks ≡ me ∷ [] = ap (λ (z : View). (front_of z).speaks) s.rests in
-      let yours : (front_of w).speaks ≡ you ∷ [] = ap (λ (z : View). (front_of z).speaks) t.rests in
-      let came : OthersCame (me ∷ []) (front_of v).seen now = subst (λ (l : List ℕ). OthersCame l (front_of v).seen now) mine learned.first in
-      let came' : OthersCame (you ∷ []) (front_of w).seen now = subst (λ (l : List ℕ). OthersCame l (front_of w).seen now) yours learned.second in
+      let mine : (known_of v).speaks ≡ me ∷ [] = ap (λ (z : View). (known_of z).speaks) s.rests in
+      let yours : (known_of w).speaks ≡ you ∷ [] = ap (λ (z : View). (known_of z).speaks) t.rests in
+      let came : OthersCame (me ∷ []) (known_of v).seen now = subst (λ (l : List ℕ). OthersCame l (known_of v).seen now) mine learned.first in
+      let came' : OthersCame (you ∷ []) (known_of w).seen now = subst (λ (l : List ℕ). OthersCame l (known_of w).seen now) yours learned.second in
       record {
         now = now;
         is = learned.is ∙ (λ i. resting now (mine i ++ yours i));
@@ -43,6 +43,6 @@ module _ {K : Type 0} (allows : K → Allows) (terms : Terms K) (me you : ℕ) (
         second = came';
         apart = numbers_apart me you (sym (λ i. is_distinct (mine i ++ yours i)) ∙ learned.distinct);
         good = learned.good;
-        left = record { rests = refl; member = member_after terms.limits me entry (front_of v).seen now came learned.good.legal s.member; good = learned.good };
-        right = record { rests = refl; member = member_after terms.limits you start (front_of w).seen now came' learned.good.legal t.member; good = learned.good };
+        left = record { rests = refl; member = member_after terms.limits me entry (known_of v).seen now came learned.good.legal s.member; good = learned.good };
+        right = record { rests = refl; member = member_after terms.limits you start (known_of w).seen now came' learned.good.legal t.member; good = learned.good };
       }

@@ -1,7 +1,7 @@
 -- A registration is taken apart and put together.
 use Rattle.turn_lock.specs.Seats.{IsSameSeat}
 use Rattle.phase_accum.specs.Parcels.{Parcel}
-use Rattle.phase_shared.specs.Views.{front_of}
+use Rattle.phase_shared.specs.Views.{known_of}
 use Rattle.phase_shared.specs.Regs.{RegState, reg_state}
 use Rattle.std.proofs.Common.{◌≡◌, ℕ, Option, Some, refl, sym, ap, subst, ◌∙◌}
 use Rattle.turn_lock.specs.declared.seat.Seat.{Seat}
@@ -10,7 +10,7 @@ use Rattle.atomic_table.specs.Seated.{TableId}
 use Rattle.phase_base.specs.declared.entry.Entry.{Entry}
 use Rattle.phase_shared.specs.declared.view.View.{View}
 use Rattle.phase_shared.specs.declared.rule.Terms.{Terms}
-use Rattle.phase_shared.specs.Rule.{Allows, IsGoodAt, IsStation}
+use Rattle.phase_shared.specs.Rule.{Allows, IsGoodAt, IsSeatOfTask}
 use Rattle.phase_shared.specs.Regs.{IsReg, place_in, view_in}
 
 same_some : {A : Type 0} (x y : A) → Some x ≡ Some y → x ≡ y
@@ -20,16 +20,16 @@ module _ {T K : Type 0} (allows : K → Allows) (table : TableId) (terms : Terms
   -- the seat of a registration with this phaser
   pub record Opened (entry : Entry) (s : Seat T (Terms K) View) : Type 0 where
     pub at : seat_place s ≡ (table, Some terms)
-    pub station : IsStation allows terms me entry (seat_view s)
+    pub station : IsSeatOfTask allows terms me entry (seat_view s)
 
   pub opened : (entry : Entry) (o : Option (Seat T (Terms K) View)) (s : Seat T (Terms K) View) → o ≡ Some s → IsReg allows o me entry
       → place_in o ≡ (table, Some terms) → Opened entry s
   opened entry o s is r at =
       let same : r.terms ≡ terms = same_some r.terms terms (sym r.named ∙ ap (λ p. p.1) at) in
-      let station : IsStation allows terms me entry (view_in o) = subst (λ (t : Terms K). IsStation allows t me entry (view_in o)) same r.station in
-      record { at = sym (ap place_in is) ∙ at; station = subst (λ (v : View). IsStation allows terms me entry v) (ap view_in is) station }
+      let station : IsSeatOfTask allows terms me entry (view_in o) = subst (λ (t : Terms K). IsSeatOfTask allows t me entry (view_in o)) same r.station in
+      record { at = sym (ap place_in is) ∙ at; station = subst (λ (v : View). IsSeatOfTask allows terms me entry v) (ap view_in is) station }
 
-  pub closed : (entry : Entry) (s : Seat T (Terms K) View) → seat_place s ≡ (table, Some terms) → IsStation allows terms me entry (seat_view s)
+  pub closed : (entry : Entry) (s : Seat T (Terms K) View) → seat_place s ≡ (table, Some terms) → IsSeatOfTask allows terms me entry (seat_view s)
       → IsReg allows (Some s) me entry
   closed entry s at station = record { terms = terms; named = ap (λ p. p.1) at; there = refl; station = station }
 
@@ -41,7 +41,7 @@ module _ {T K : Type 0} (allows : K → Allows) (table : TableId) (terms : Terms
     number = me;
     entry = is i;
     held = held;
-    seen = (front_of (same.2 i)).seen;
+    seen = (known_of (same.2 i)).seen;
   }
 
   -- the seat of a registration, as contracts see it
@@ -51,7 +51,7 @@ module _ {T K : Type 0} (allows : K → Allows) (table : TableId) (terms : Terms
 
   -- what a registration has seen is good
   pub good_of : (entry : Entry) (o : Option (Seat T (Terms K) View)) → IsReg allows o me entry → place_in o ≡ (table, Some terms)
-      → IsGoodAt allows terms (front_of (view_in o)).seen
+      → IsGoodAt allows terms (known_of (view_in o)).seen
   good_of entry o r at =
       let same : r.terms ≡ terms = same_some r.terms terms (sym r.named ∙ ap (λ p. p.1) at) in
-      subst (λ (t : Terms K). IsGoodAt allows t (front_of (view_in o)).seen) same r.station.good
+      subst (λ (t : Terms K). IsGoodAt allows t (known_of (view_in o)).seen) same r.station.good

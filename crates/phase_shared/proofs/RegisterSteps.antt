@@ -22,7 +22,7 @@ use Rattle.phase_history.proofs.Refused.{registers_from}
 use Rattle.phase_shared.specs.declared.view.View.{View}
 use Rattle.phase_shared.specs.declared.rule.Terms.{Terms}
 use Rattle.phase_history.specs.Others.{IsUsed, is_in}
-use Rattle.phase_shared.specs.Views.{front, resting, turning, first_part, other_part}
+use Rattle.phase_shared.specs.Views.{knowledge, resting, turning, first_part, other_part}
 use Rattle.phase_shared.specs.Rule.{Allows, IsGoodAt, HasOneHistory, StandsWithin}
 use Rattle.phase_shared.specs.Calls.{number_after, next_child, RefusesRegister}
 use Rattle.phase_history.specs.Others.{OthersCame}
@@ -84,7 +84,7 @@ module _ {A K : Type 0} (op : Operation A) (allows : K → Allows) (terms : Term
       subst (λ (z : View). Gives (HasOneHistory op allows) terms number z y (λ v q u. goes v u)) (sym is)
       (λ views k at. (
         resting (Registered me child mode ∷ now) (me ∷ child ∷ []),
-        gives terms.limits (allows terms.rule) (StandsWithin op terms.limits) number (front now (me ∷ [])) y (Registered me child mode ∷ []) (me ∷ child ∷ [])
+        gives terms.limits (allows terms.rule) (StandsWithin op terms.limits) number (knowledge now (me ∷ [])) y (Registered me child mode ∷ []) (me ∷ child ∷ [])
             (λ task none. ap (λ b. cond b (Registered me child mode ∷ []) []) (or_false (eqb me task) none))
             good stands (rw out refl)
             (λ task has. ⊎_elim

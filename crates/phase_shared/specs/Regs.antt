@@ -11,8 +11,8 @@ use Rattle.phase_shared.specs.declared.view.View.{View}
 use Rattle.phase_shared.specs.declared.view.View.TheVariants.{Spent}
 use Rattle.phase_shared.specs.declared.rule.Terms.{Terms}
 use Rattle.phase_shared.specs.declared.phaser.Phaser.{Phaser}
-use Rattle.phase_shared.specs.Views.{resting, front_of}
-use Rattle.phase_shared.specs.Rule.{Allows, IsGoodAt, IsStation}
+use Rattle.phase_shared.specs.Views.{resting, known_of}
+use Rattle.phase_shared.specs.Rule.{Allows, IsGoodAt, IsSeatOfTask}
 
 -- a registration: its phaser, its number, its mode and phases, the sends that it holds, and the
 -- history that it has seen
@@ -75,7 +75,7 @@ module _ {T K : Type 0} where
     pub terms : Terms K
     pub named : (place_in seat).1 ≡ Some terms
     pub there : is_some seat ≡ true
-    pub station : IsStation allows terms me entry (view_in seat)
+    pub station : IsSeatOfTask allows terms me entry (view_in seat)
 
   -- the parts of a registration, as contracts see it
   abbrev pub reg_state : {A : Type 0} → Option (Seat T (Terms K) View) → ℕ → Entry → Parcel A
@@ -85,7 +85,7 @@ module _ {T K : Type 0} where
     number = me;
     entry = entry;
     held = held;
-    seen = (front_of (view_in seat)).seen;
+    seen = (known_of (view_in seat)).seen;
   }
 
   -- for the code: what holds of a past's seat
@@ -93,14 +93,14 @@ module _ {T K : Type 0} where
     pub terms : Terms K
     pub named : (seat_place seat).1 ≡ Some terms
     pub rests : seat_view seat
-        ≡ resting (front_of (seat_view seat)).seen (front_of (seat_view seat)).speaks
-    pub distinct : is_distinct (front_of (seat_view seat)).speaks ≡ true
-    pub good : IsGoodAt allows terms (front_of (seat_view seat)).seen
+        ≡ resting (known_of (seat_view seat)).seen (known_of (seat_view seat)).speaks
+    pub distinct : is_distinct (known_of (seat_view seat)).speaks ≡ true
+    pub good : IsGoodAt allows terms (known_of (seat_view seat)).seen
 
   -- a past's seat, as contracts see it
   abbrev pub past_state : Seat T (Terms K) View → PastState K
   past_state seat = record {
     at = seat_place seat;
-    numbers = (front_of (seat_view seat)).speaks;
-    seen = (front_of (seat_view seat)).seen;
+    numbers = (known_of (seat_view seat)).speaks;
+    seen = (known_of (seat_view seat)).seen;
   }

@@ -11,12 +11,12 @@ use Rattle.phase_base.specs.Members.{entry_of}
 use Rattle.phase_history.specs.Histories.{History, members_of}
 use Rattle.phase_history.specs.Legal.{IsLegal}
 use Rattle.phase_core.specs.Cores.{CoreState, StandsFor}
-use Rattle.phase_shared.specs.declared.view.Front.{Front}
+use Rattle.phase_shared.specs.declared.view.Knowledge.{Knowledge}
 use Rattle.phase_shared.specs.declared.view.View.{View}
 use Rattle.phase_shared.specs.declared.view.View.TheVariants.{Resting, Turning, Joining, Spent}
 use Rattle.phase_shared.specs.declared.rule.Terms.{Terms}
 use Rattle.phase_history.specs.Others.{OthersCame, IsUsed, is_in, is_distinct}
-use Rattle.phase_shared.specs.Views.{resting, turning, speaks_of, front_of, second_of, Fits}
+use Rattle.phase_shared.specs.Views.{resting, turning, speaks_of, known_of, second_of, Fits}
 
 -- which signals are allowed after a history
 abbrev pub Allows : Type 1
@@ -51,7 +51,7 @@ pub record Kept {T : Type 0} (limits : Limits) (allows : Allows) (Stands : T →
   pub good : IsGood limits allows log
   pub stands : (x : T) → home ≡ Some x → Stands x log
   pub holder : ℕ
-  pub out : home ≡ None → (f : Front) × (get_elem? views holder ≡ some (Turning f))
+  pub out : home ≡ None → (f : Knowledge) × (get_elem? views holder ≡ some (Turning f))
   pub sound : (j : ℕ) (v : View) → get_elem? views j ≡ some v → IsSound home holder log j v
   pub owner : ℕ → ℕ
   pub owns : (j : ℕ) (v : View) (task : ℕ) → get_elem? views j ≡ some v
@@ -77,7 +77,7 @@ founding = resting (Made 0 ∷ []) (0 ∷ [])
 pub record Took {T : Type 0} (limits : Limits) (allows : Allows) (Stands : T → History → Type 0)
     (v : View) (x : T) (w : View) : Type 0 where
   pub now : History
-  pub others : OthersCame (speaks_of v) (front_of v).seen now
+  pub others : OthersCame (speaks_of v) (known_of v).seen now
   pub good : IsGood limits allows now
   pub stands : Stands x now
   pub is : w ≡ turning now (speaks_of v)
@@ -85,7 +85,7 @@ pub record Took {T : Type 0} (limits : Limits) (allows : Allows) (Stands : T →
 -- the look after a join
 pub record Learned (limits : Limits) (allows : Allows) (v : View) (w : View) : Type 0 where
   pub now : History
-  pub first : Fits (front_of v) now
+  pub first : Fits (known_of v) now
   pub second : Fits (second_of v) now
   pub distinct : is_distinct (speaks_of v) ≡ true
   pub good : IsGood limits allows now
@@ -100,17 +100,17 @@ TookAt op allows terms v x w =
     Took terms.limits (allows terms.rule) (StandsWithin op terms.limits) v x w
 
 -- a seat at rest that speaks for one registered task
-pub record IsStation {K : Type 0} (allows : K → Allows) (terms : Terms K) (me : ℕ) (entry : Entry)
+pub record IsSeatOfTask {K : Type 0} (allows : K → Allows) (terms : Terms K) (me : ℕ) (entry : Entry)
     (v : View) : Type 0 where
-  pub rests : v ≡ resting (front_of v).seen (me ∷ [])
-  pub member : entry_of (members_of (front_of v).seen) me ≡ Some entry
-  pub good : IsGoodAt allows terms (front_of v).seen
+  pub rests : v ≡ resting (known_of v).seen (me ∷ [])
+  pub member : entry_of (members_of (known_of v).seen) me ≡ Some entry
+  pub good : IsGoodAt allows terms (known_of v).seen
 
 -- what a take leads to, for such a seat: others' events came, and its task stands where it stood
-pub record Entered {A K : Type 0} (op : Operation A) (allows : K → Allows) (terms : Terms K)
+pub record AfterTake {A K : Type 0} (op : Operation A) (allows : K → Allows) (terms : Terms K)
     (me : ℕ) (entry : Entry) (v : View) (x : CoreState A) (w : View) : Type 0 where
   pub now : History
-  pub others : OthersCame (me ∷ []) (front_of v).seen now
+  pub others : OthersCame (me ∷ []) (known_of v).seen now
   pub good : IsGoodAt allows terms now
   pub stands : StandsWithin op terms.limits x now
   pub is : w ≡ turning now (me ∷ [])

@@ -103,13 +103,13 @@
 //! other anything.
 #![tactic(auto)]
 
+mod ghost_steps;
 mod hints;
 pub mod laws;
 mod next;
 pub mod one_send;
 mod past;
 mod phaser;
-mod plays;
 mod putting;
 mod refusal;
 mod reg;

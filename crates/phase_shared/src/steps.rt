@@ -9,8 +9,8 @@ ghost use Rattle.phase_history.specs.Histories.{History, entry_at};
 ghost use Rattle.phase_history.specs.Replies.{wait_reply, after_wait};
 ghost use Rattle.phase_history.specs.Others.{OnlyUsed, OthersCame};
 ghost use Rattle.phase_shared.specs.declared.view.View.TheVariants.{Resting};
-ghost use Rattle.phase_shared.specs.Views.{front_of, joining};
-ghost use Rattle.phase_shared.specs.Rule.{HasOneHistory, Entered, IsGoodAt, IsStation, LearnedAt};
+ghost use Rattle.phase_shared.specs.Views.{known_of, joining};
+ghost use Rattle.phase_shared.specs.Rule.{HasOneHistory, AfterTake, IsGoodAt, IsSeatOfTask, LearnedAt};
 ghost use Rattle.phase_core.specs.Cores.{StandsFor};
 ghost use Rattle.phase_shared.specs.Calls.{Tries, Waits, HasRegistered, RefusesRegister};
 ghost use Rattle.phase_shared.specs.Calls.{Refuses, HasLeft, number_after};
@@ -18,9 +18,9 @@ ghost use Rattle.phase_shared.specs.Entries.{entry_after_wait, entry_after_both}
 ghost use Rattle.phase_shared.specs.Nexts.{SignalsAndMayWait};
 ghost use Rattle.phase_shared.specs.Regs.{phaser_limits, phaser_terms};
 
+use crate::ghost_steps::{OnGive, OnJoin, OnLook, OnSplit, OnTake, Plan, Same};
 use crate::hints::Moved;
 use crate::phaser::Phaser;
-use crate::plays::{Apart, Both, Give, Plan, Same, Sees, Together};
 use crate::refusal::Tried;
 use crate::rule::SignalRule;
 use crate::view::{PhaserSeat, PhaserTurn};
@@ -37,17 +37,17 @@ fn enter<A: Accumulate, K: SignalRule>(
     entry: Entry,
 ) -> Result<PhaserTurn<A, K>, PhaserSeat<A, K>>
     requires seat { IsSeatOf phaser.now.lock seat }
-    requires at { IsStation K.allows (phaser_terms phaser.now) me entry (seat_view seat) }
+    requires at { IsSeatOfTask K.allows (phaser_terms phaser.now) me entry (seat_view seat) }
     ensures turn { IfOk result (λ turn. IsTurnOf phaser.now.lock turn) }
-    ensures took { IfOk result (λ turn. Entered A.operation K.allows (phaser_terms phaser.now) me
+    ensures took { IfOk result (λ turn. AfterTake A.operation K.allows (phaser_terms phaser.now) me
         entry (seat_view seat) (turn_value turn) (turn_view turn)) }
 
     ensures err { IfErr result (λ back. IsSameSeat seat back) }
     ensures still { IfErr result (λ back.
-        IsStation K.allows (phaser_terms phaser.now) me entry (seat_view back)) }
-    ensures alone { OnlyUsed (me ∷ []) (front_of (seat_view seat)).seen → IsOk result }
+        IsSeatOfTask K.allows (phaser_terms phaser.now) me entry (seat_view back)) }
+    ensures alone { OnlyUsed (me ∷ []) (known_of (seat_view seat)).seen → IsOk result }
 {
-    match phaser.lock.try_take::<Sees<A, K>>(seat) {
+    match phaser.lock.try_take::<OnTake<A, K>>(seat) {
         Ok(turn) => Ok(turn),
         Err(back) => Err(back),
     }
@@ -67,7 +67,7 @@ fn put_back<A: Accumulate, K: SignalRule, E: Plan, X: Copy>(
     ensures rule { E.goes (turn_view turn) (seat_view result) }
 {
     let _ = told;
-    let seat = phaser.lock.give::<Give<E>>(turn);
+    let seat = phaser.lock.give::<OnGive<E>>(turn);
     phaser.hints.wake(moved);
     seat
 }
@@ -107,19 +107,19 @@ pub fn signal<A: Accumulate, K: SignalRule>(
     Result<(u64, Option<Got>), Tried<SignalRefusal>>,
 )
     requires seat { IsSeatOf phaser.now.lock seat }
-    requires at { IsStation K.allows (phaser_terms phaser.now) me entry (seat_view seat) }
+    requires at { IsSeatOfTask K.allows (phaser_terms phaser.now) me entry (seat_view seat) }
     requires rule { (h : History) (sends : List ℤ) → IsGoodAt K.allows (phaser_terms phaser.now) h
-        → OthersCame (me ∷ []) (front_of (seat_view seat)).seen h
+        → OthersCame (me ∷ []) (known_of (seat_view seat)).seen h
         → StandsForSends A.operation pending sends
         → K.allows (phaser_terms phaser.now).rule h me (sends ∷ []) single }
     ensures seat { IsSeatOf phaser.now.lock result.0 }
-    ensures at { IsStation K.allows (phaser_terms phaser.now) me result.1 (seat_view result.0) }
+    ensures at { IsSeatOfTask K.allows (phaser_terms phaser.now) me result.1 (seat_view result.0) }
     ensures call { Tries (IsSameSeat seat result.0 × (result.1 ≡ entry))
         (SignalsAndMayWait waits A.operation (phaser_limits phaser.now) me pending single
-        (front_of (seat_view seat)).seen (front_of (seat_view result.0)).seen) result.2 }
+        (known_of (seat_view seat)).seen (known_of (seat_view result.0)).seen) result.2 }
     ensures entry { result.1 ≡ entry_after_both (result_ok result.2) entry }
     ensures known { result.2 ≢ Err (Tried.Refused SignalRefusal.NoTask) }
-    ensures alone { OnlyUsed (me ∷ []) (front_of (seat_view seat)).seen
+    ensures alone { OnlyUsed (me ∷ []) (known_of (seat_view seat)).seen
         → result.2 ≢ Err Tried.Busy }
 {
     let mut turn = match enter(phaser, seat, me, entry) {
@@ -154,12 +154,12 @@ pub fn leave<A: Accumulate, K: SignalRule>(
     entry: Entry,
 ) -> Result<PhaserSeat<A, K>, PhaserSeat<A, K>>
     requires seat { IsSeatOf phaser.now.lock seat }
-    requires at { IsStation K.allows (phaser_terms phaser.now) me entry (seat_view seat) }
+    requires at { IsSeatOfTask K.allows (phaser_terms phaser.now) me entry (seat_view seat) }
     ensures seat { IfOk result (λ s. IsSeatOf phaser.now.lock s) }
     ensures ok { IfOk result (λ s. HasLeft K.allows (phaser_terms phaser.now) me
-        (front_of (seat_view seat)).seen (seat_view s)) }
+        (known_of (seat_view seat)).seen (seat_view s)) }
     ensures err { IfErr result (λ s. IsSameSeat seat s) }
-    ensures alone { OnlyUsed (me ∷ []) (front_of (seat_view seat)).seen → IsOk result }
+    ensures alone { OnlyUsed (me ∷ []) (known_of (seat_view seat)).seen → IsOk result }
 {
     let mut turn = match enter(phaser, seat, me, entry) {
         Ok(turn) => turn,
@@ -180,15 +180,15 @@ pub fn wait<A: Accumulate, K: SignalRule>(
     entry: Entry,
 ) -> (PhaserSeat<A, K>, Entry, Result<Got, Tried<WaitRefusal>>)
     requires seat { IsSeatOf phaser.now.lock seat }
-    requires at { IsStation K.allows (phaser_terms phaser.now) me entry (seat_view seat) }
+    requires at { IsSeatOfTask K.allows (phaser_terms phaser.now) me entry (seat_view seat) }
     ensures seat { IsSeatOf phaser.now.lock result.0 }
-    ensures at { IsStation K.allows (phaser_terms phaser.now) me result.1 (seat_view result.0) }
+    ensures at { IsSeatOfTask K.allows (phaser_terms phaser.now) me result.1 (seat_view result.0) }
     ensures call { Tries (IsSameSeat seat result.0 × (result.1 ≡ entry))
         (Waits A.operation.value (phaser_limits phaser.now) me
-        (front_of (seat_view seat)).seen (front_of (seat_view result.0)).seen) result.2 }
+        (known_of (seat_view seat)).seen (known_of (seat_view result.0)).seen) result.2 }
     ensures entry { result.1 ≡ entry_after_wait (result_ok result.2) entry }
     ensures known { result.2 ≢ Err (Tried.Refused WaitRefusal.NoTask) }
-    ensures alone { OnlyUsed (me ∷ []) (front_of (seat_view seat)).seen
+    ensures alone { OnlyUsed (me ∷ []) (known_of (seat_view seat)).seen
         → result.2 ≢ Err Tried.Busy }
 {
     let mut turn = match enter(phaser, seat, me, entry) {
@@ -227,19 +227,19 @@ pub fn register<A: Accumulate, K: SignalRule>(
     Result<(u64, PhaserSeat<A, K>, Entry), Tried<RegisterRefusal>>,
 )
     requires seat { IsSeatOf phaser.now.lock seat }
-    requires at { IsStation K.allows (phaser_terms phaser.now) me entry (seat_view seat) }
+    requires at { IsSeatOfTask K.allows (phaser_terms phaser.now) me entry (seat_view seat) }
     ensures seat { IsSeatOf phaser.now.lock result.0 }
-    ensures at { IsStation K.allows (phaser_terms phaser.now) me entry (seat_view result.0) }
+    ensures at { IsSeatOfTask K.allows (phaser_terms phaser.now) me entry (seat_view result.0) }
     ensures child { IfOk result.1 (λ made. IsSeatOf phaser.now.lock made.1
-        × IsStation K.allows (phaser_terms phaser.now) made.0 made.2 (seat_view made.1)
-        × ((front_of (seat_view made.1)).seen ≡ (front_of (seat_view result.0)).seen)
+        × IsSeatOfTask K.allows (phaser_terms phaser.now) made.0 made.2 (seat_view made.1)
+        × ((known_of (seat_view made.1)).seen ≡ (known_of (seat_view result.0)).seen)
         × (made.2 ≡ entry_at mode entry.signal_phase entry.wait_phase)) }
     ensures ok { IfOk result.1 (λ made. HasRegistered me made.0 mode
-        (front_of (seat_view seat)).seen (front_of (seat_view result.0)).seen) }
+        (known_of (seat_view seat)).seen (known_of (seat_view result.0)).seen) }
     ensures err { IfErr result.1 (Refuses (IsSameSeat seat result.0) (RefusesRegister me mode
-        (front_of (seat_view seat)).seen (front_of (seat_view result.0)).seen)) }
+        (known_of (seat_view seat)).seen (known_of (seat_view result.0)).seen)) }
     ensures known { result.1 ≢ Err (Tried.Refused RegisterRefusal.NoTask) }
-    ensures alone { OnlyUsed (me ∷ []) (front_of (seat_view seat)).seen
+    ensures alone { OnlyUsed (me ∷ []) (known_of (seat_view seat)).seen
         → result.1 ≢ Err Tried.Busy }
 {
     let mut turn = match enter(phaser, seat, me, entry) {
@@ -256,7 +256,7 @@ pub fn register<A: Accumulate, K: SignalRule>(
     }
     let Some(start) = found else { unreachable!() };
     let both = put_back::<A, K, Brand, _>(phaser, turn, moved, (me, child, mode));
-    let (seat, other) = phaser.lock.split::<Apart>(both);
+    let (seat, other) = phaser.lock.split::<OnSplit>(both);
     (seat, Ok((child, other, start)))
 }
 
@@ -267,11 +267,11 @@ pub fn join<A: Accumulate, K: SignalRule>(
     other: PhaserSeat<A, K>,
 ) -> PhaserSeat<A, K>
     requires seats { IsSeatOf phaser.now.lock seat × IsSeatOf phaser.now.lock other }
-    requires rests { (seat_view seat ≡ Resting (front_of (seat_view seat)))
-        × (seat_view other ≡ Resting (front_of (seat_view other))) }
+    requires rests { (seat_view seat ≡ Resting (known_of (seat_view seat)))
+        × (seat_view other ≡ Resting (known_of (seat_view other))) }
     ensures seat { IsSeatOf phaser.now.lock result }
     ensures rule { LearnedAt K.allows (phaser_terms phaser.now)
         (joining (seat_view seat) (seat_view other)) (seat_view result) }
 {
-    phaser.lock.join::<Together, Both<K>>(seat, other)
+    phaser.lock.join::<OnJoin, OnLook<K>>(seat, other)
 }

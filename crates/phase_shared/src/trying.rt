@@ -11,9 +11,9 @@ ghost use Rattle.phase_shared.specs.Entries.{entry_stays, entry_after_signal};
 ghost use Rattle.phase_shared.specs.Entries.{entry_after_wait, entry_after_both};
 ghost use Rattle.phase_shared.specs.Nexts.{SignalsAndMayWait};
 
+use crate::ghost_steps::OnSplit;
 use crate::past::Past;
 use crate::phaser::Phaser;
-use crate::plays::Apart;
 use crate::refusal::Tried;
 use crate::reg::Reg;
 use crate::rule::SignalRule;
@@ -204,7 +204,7 @@ impl<A: Accumulate, K: SignalRule> Reg<A, K> {
             unreachable!()
         };
         let both = steps::join(phaser, seat, other_seat);
-        let (seat, other_seat) = phaser.lock.split::<Apart>(both);
+        let (seat, other_seat) = phaser.lock.split::<OnSplit>(both);
         first.seat = Some(seat);
         second.seat = Some(other_seat);
         (first, second)

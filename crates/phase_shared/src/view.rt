@@ -7,7 +7,7 @@ use std::marker::PhantomData;
 use turn_lock::{Seat, Turn, TurnLock, TurnRule};
 
 // What was seen, and the numbers spoken for. No value of it is made.
-pub struct Front {
+pub struct Knowledge {
     pub seen: LinkedList<Event>,
     pub speaks: LinkedList<u64>,
 }
@@ -15,11 +15,11 @@ pub struct Front {
 // What a seat knows. No value of it is made.
 pub enum View {
     // At rest: others may have gone on.
-    Resting(Front),
+    Resting(Knowledge),
     // With the turn: it has seen all.
-    Turning(Front),
+    Turning(Knowledge),
     // From a join to its look: what both had seen.
-    Joining(Front, Front),
+    Joining(Knowledge, Knowledge),
     // Left behind by a join.
     Spent,
 }

@@ -18,6 +18,8 @@ mod puts;
 #[cfg(test)]
 mod received;
 #[cfg(test)]
+mod receiver_tries;
+#[cfg(test)]
 mod threads;
 #[cfg(test)]
 mod tries;

@@ -5,7 +5,7 @@ ghost use Rattle.turn_lock.specs.Seats.{seat_number, seat_view, turn_number, tur
 ghost use Rattle.turn_lock.specs.Steps.{Takes, Gives, Looks, Forks, Merges, Busy};
 
 use super::TurnLock;
-use super::plays::{Give, Look, Pair, Try, Twin};
+use super::ghost_steps::{OnGive, OnJoin, OnLook, OnSplit, OnTake};
 use crate::rule::{Learns, Tells, TurnRule};
 use crate::seat::{Seat, Turn};
 use atomic_table::{Join, Split, Table};
@@ -59,7 +59,7 @@ impl<T, R: TurnRule<T>> TurnLock<T, R> {
     {
         let Seat { mut inner } = seat;
         let shared = &self.table.shared;
-        let found = shared.compare_exchange::<Try<M, R>>(&mut inner, 0, FREE, TAKEN);
+        let found = shared.compare_exchange::<OnTake<M, R>>(&mut inner, 0, FREE, TAKEN);
         if found != FREE {
             return Err(Seat { inner });
         }
@@ -85,7 +85,7 @@ impl<T, R: TurnRule<T>> TurnLock<T, R> {
         let shared = &self.table.shared;
         let spent = shared.exchange(&mut inner, 0, Some(value));
         let None = spent else { unreachable!() };
-        shared.swap::<Give<M>>(&mut inner, 0, FREE);
+        shared.swap::<OnGive<M>>(&mut inner, 0, FREE);
         Seat { inner }
     }
 
@@ -104,7 +104,7 @@ impl<T, R: TurnRule<T>> TurnLock<T, R> {
         ensures right { seat_view result.1 ≡ M.right (seat_view seat) }
     {
         let Seat { mut inner } = seat;
-        let other = self.table.shared.split_seat::<Twin<M>>(&mut inner);
+        let other = self.table.shared.split_seat::<OnSplit<M>>(&mut inner);
         (Seat { inner }, Seat { inner: other })
     }
 
@@ -128,8 +128,8 @@ impl<T, R: TurnRule<T>> TurnLock<T, R> {
         let Seat { mut inner } = seat;
         let Seat { inner: other } = other;
         let shared = &self.table.shared;
-        shared.join_seat::<Pair<M>>(&mut inner, other);
-        shared.load::<Look<L>>(&mut inner, 0);
+        shared.join_seat::<OnJoin<M>>(&mut inner, other);
+        shared.load::<OnLook<L>>(&mut inner, 0);
         Seat { inner }
     }
 

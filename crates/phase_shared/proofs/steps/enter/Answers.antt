@@ -2,8 +2,8 @@ use Rattle.std.proofs.Common.{sym, subst, ap, ◌∷◌, []}
 use Rattle.phase_shared.specs.Regs.{phaser_terms}
 use Rattle.turn_lock.specs.Seats.{seat_view, seat_number, turn_value, turn_view}
 use Rattle.turn_lock.specs.Steps.{Takes, Busy}
-use Rattle.phase_shared.specs.Views.{front, front_of}
-use Rattle.phase_shared.specs.Rule.{StandsWithin, HasOneHistory, TookAt, IsStation}
+use Rattle.phase_shared.specs.Views.{knowledge, known_of}
+use Rattle.phase_shared.specs.Rule.{StandsWithin, HasOneHistory, TookAt, IsSeatOfTask}
 use Rattle.phase_shared.specs.declared.view.View.{View}
 use Rattle.std.specs.Prelude.{is_some}
 use Rattle.phase_history.proofs.Used.{IsUsed-member}
@@ -17,10 +17,10 @@ try_take-requires-clause-rule g c =
     let terms = phaser_terms c.args.phaser.now in
     let op = g.A.Accumulate.operation in
     let allows = g.K.SignalRule.allows in
-    let seen = (front_of (seat_view c.args.seat)).seen in
+    let seen = (known_of (seat_view c.args.seat)).seen in
     let P : View → Type 0 = λ v. Takes (HasOneHistory op allows) terms (seat_number c.args.seat) v (TookAt op allows terms) in
     subst P (sym c.requires.at.rests)
-    (takes terms.limits (allows terms.rule) (StandsWithin op terms.limits) (seat_number c.args.seat) (front seen (c.args.me ∷ []))
+    (takes terms.limits (allows terms.rule) (StandsWithin op terms.limits) (seat_number c.args.seat) (knowledge seen (c.args.me ∷ []))
     (c.args.me, is_in_self c.args.me []))
 
 pub returns-in-Ok-clause-took : goal.returns-in-Ok-clause-took
@@ -31,7 +31,7 @@ returns-in-Ok-clause-took g c =
 -- the seat came back as it was
 pub returns-in-Err-clause-still : goal.returns-in-Err-clause-still
 returns-in-Err-clause-still g c =
-    let P : View → Type 0 = λ v. IsStation g.K.SignalRule.allows (phaser_terms c.args.phaser.now) c.args.me c.args.entry v in
+    let P : View → Type 0 = λ v. IsSeatOfTask g.K.SignalRule.allows (phaser_terms c.args.phaser.now) c.args.me c.args.entry v in
     subst P (sym c.in-Err.ensures.err.2) c.requires.at
 
 -- no other seat can have the turn
@@ -40,10 +40,10 @@ returns-in-Err-clause-alone g c only =
     let terms = phaser_terms c.args.phaser.now in
     let op = g.A.Accumulate.operation in
     let allows = g.K.SignalRule.allows in
-    let seen = (front_of (seat_view c.args.seat)).seen in
+    let seen = (known_of (seat_view c.args.seat)).seen in
     let P : View → Type 0 = λ v. Busy (HasOneHistory op allows) terms v in
     absurd (never_busy terms.limits (allows terms.rule) (StandsWithin op terms.limits) (HasOneHistory op allows) terms (λ views k. k)
-    (front seen (c.args.me ∷ []))
+    (knowledge seen (c.args.me ∷ []))
     (c.args.me, is_in_self c.args.me [], IsUsed-member seen c.args.me (ap is_some c.requires.at.member))
     only
     (subst P c.requires.at.rests c.in-Err.ensures.busy))

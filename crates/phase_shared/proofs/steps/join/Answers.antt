@@ -2,7 +2,7 @@ use Rattle.std.proofs.Common.{sym, subst}
 use Rattle.phase_shared.specs.Regs.{phaser_terms}
 use Rattle.turn_lock.specs.Seats.{seat_view, seat_number}
 use Rattle.turn_lock.specs.Steps.{Merges}
-use Rattle.phase_shared.specs.Views.{front_of}
+use Rattle.phase_shared.specs.Views.{known_of}
 use Rattle.phase_shared.specs.Rule.{StandsWithin, HasOneHistory}
 use Rattle.phase_shared.specs.declared.view.View.{View}
 use Rattle.phase_shared.specs.declared.view.View.TheVariants.{Resting, Joining, Spent}
@@ -14,8 +14,8 @@ join-requires-clause-merges g c =
     let op = g.A.Accumulate.operation in
     let allows = g.K.SignalRule.allows in
     let terms = phaser_terms c.args.phaser.now in
-    let f = front_of (seat_view c.args.seat) in
-    let h = front_of (seat_view c.args.other) in
+    let f = known_of (seat_view c.args.seat) in
+    let h = known_of (seat_view c.args.other) in
     let number = seat_number c.args.seat in
     let other = seat_number c.args.other in
     let P : View → View → Type 0 = λ v w. Merges (HasOneHistory op allows) terms number v other w (Joining f h) Spent in
@@ -28,4 +28,4 @@ join-requires-clause-looks g c =
     let op = g.A.Accumulate.operation in
     let allows = g.K.SignalRule.allows in
     let terms = phaser_terms c.args.phaser.now in
-    looks terms.limits (allows terms.rule) (StandsWithin op terms.limits) (seat_number c.args.seat) (front_of (seat_view c.args.seat)) (front_of (seat_view c.args.other))
+    looks terms.limits (allows terms.rule) (StandsWithin op terms.limits) (seat_number c.args.seat) (known_of (seat_view c.args.seat)) (known_of (seat_view c.args.other))

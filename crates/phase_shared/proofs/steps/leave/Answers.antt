@@ -4,7 +4,7 @@ use Rattle.phase_shared.specs.Regs.{phaser_terms}
 use Rattle.turn_lock.specs.Seats.{turn_view, turn_value, turn_number}
 use Rattle.phase_base.specs.Members.{entry_of}
 use Rattle.phase_history.specs.declared.event.Event.TheVariants.{Dropped}
-use Rattle.phase_shared.specs.Views.{resting, front_of, speaks_of}
+use Rattle.phase_shared.specs.Views.{resting, known_of, speaks_of}
 use Rattle.phase_shared.specs.Rule.{StandsWithin}
 use Rattle.phase_shared.specs.declared.view.View.{View}
 use Rattle.phase_shared.proofs.Giving.{gives_own, own_none, own_event, lent, after_call, AfterCall}
@@ -39,7 +39,7 @@ put_back-requires-clause-rule g c =
     let s : AfterCall op allows terms c.args.me (Dropped c.args.me ∷ e.now) c.drop_task-answer.new.self =
     after_call op allows terms c.args.me e.now (Dropped c.args.me ∷ e.now) old c.drop_task-answer.new.self before c.in-Ok-answer.ensures.limits
     (c.in-Ok-answer.ensures.after e.now before.stands) e.good.keeps in
-    gives_own op allows terms c.args.me (λ v w. w ≡ resting (Dropped c.args.me ∷ (front_of v).seen) (speaks_of v))
+    gives_own op allows terms c.args.me (λ v w. w ≡ resting (Dropped c.args.me ∷ (known_of v).seen) (speaks_of v))
     (turn_number turn) c.drop_task-answer.new.self (turn_view turn) e.now (Dropped c.args.me ∷ e.now) e.is e.used
     (own_event c.args.me e.now e.now (Dropped c.args.me) (λ t. refl) (own_none c.args.me e.now)) s.good s.stands refl
 
@@ -58,6 +58,6 @@ returns-clause-ok g c =
     record {
       before = e.now;
       others = e.others;
-      rests = c.put_back.ensures.rule ∙ ap (λ (v : View). resting (Dropped c.args.me ∷ (front_of v).seen) (speaks_of v)) e.is;
+      rests = c.put_back.ensures.rule ∙ ap (λ (v : View). resting (Dropped c.args.me ∷ (known_of v).seen) (speaks_of v)) e.is;
       good = s.good;
     }

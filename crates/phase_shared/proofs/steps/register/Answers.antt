@@ -8,8 +8,8 @@ use Rattle.phase_history.specs.Refusals.{register_refusal}
 use Rattle.phase_history.specs.declared.event.Event.TheVariants.{Registered}
 use Rattle.phase_core.specs.Cores.{CoreState}
 use Rattle.phase_history.proofs.MemberLemmas.{entry_of-push_old}
-use Rattle.phase_shared.specs.Views.{resting, front_of, speaks_of, first_part, other_part}
-use Rattle.phase_shared.specs.Rule.{IsStation, StandsWithin}
+use Rattle.phase_shared.specs.Views.{resting, known_of, speaks_of, first_part, other_part}
+use Rattle.phase_shared.specs.Rule.{IsSeatOfTask, StandsWithin}
 use Rattle.phase_shared.specs.Calls.{RefusesRegister, number_after}
 use Rattle.phase_history.specs.declared.refusal.RegisterRefusal.{RegisterRefusal}
 use Rattle.phase_history.specs.declared.refusal.RegisterRefusal.TheVariants as register
@@ -80,7 +80,7 @@ put_back-both-requires-clause-rule g c =
     let event = Registered me child mode in
     let s = left g (goal.at.put_back-both-requires-clause-rule g c).In-Some in
     gives_child op allows terms me (turn_number turn) c.register-answer.new.self (turn_view turn) e.now child mode e.is e.used new s.good s.stands
-    (λ v w. w ≡ resting (event ∷ (front_of v).seen) (me ∷ child ∷ [])) refl
+    (λ v w. w ≡ resting (event ∷ (known_of v).seen) (me ∷ child ∷ [])) refl
 
 pub give-requires-clause-rule : goal.give-requires-clause-rule
 give-requires-clause-rule g c =
@@ -107,7 +107,7 @@ split-seat-requires-clause-rule g c =
     let event = Registered me child mode in
     let h : History = event ∷ e.now in
     let both : seat_view c.put_back-both.result ≡ resting h (me ∷ child ∷ []) =
-    c.put_back-both.ensures.rule ∙ ap (λ (v : View). resting (event ∷ (front_of v).seen) (me ∷ child ∷ [])) e.is in
+    c.put_back-both.ensures.rule ∙ ap (λ (v : View). resting (event ∷ (known_of v).seen) (me ∷ child ∷ [])) e.is in
     forks_child op allows terms me (seat_number c.put_back-both.result) (seat_view c.put_back-both.result) h child both
 
 pub returns-clause-at : goal.returns-clause-at
@@ -122,10 +122,10 @@ returns-clause-at g c =
     let s = left g (goal.at.returns-clause-at g c).In-Some in
     let h : History = event ∷ e.now in
     let both : seat_view c.put_back-both.result ≡ resting h (me ∷ child ∷ []) =
-    c.put_back-both.ensures.rule ∙ ap (λ (v : View). resting (event ∷ (front_of v).seen) (me ∷ child ∷ [])) e.is in
+    c.put_back-both.ensures.rule ∙ ap (λ (v : View). resting (event ∷ (known_of v).seen) (me ∷ child ∷ [])) e.is in
     let member : entry_of (members_of h) me ≡ Some c.args.entry =
     entry_of-push_old (members_of e.now) child me (entry_at mode (signal_phase e.now me) (wait_phase e.now me)) c.args.entry e.member in
-    subst (λ (v : View). IsStation allows terms me c.args.entry v) (sym (c.split-seat.ensures.left ∙ ap first_part both))
+    subst (λ (v : View). IsSeatOfTask allows terms me c.args.entry v) (sym (c.split-seat.ensures.left ∙ ap first_part both))
     (record { rests = refl; member = member; good = s.good })
 
 pub returns-clause-child : goal.returns-clause-child
@@ -142,13 +142,13 @@ returns-clause-child g c =
     let s = left g (goal.at.returns-clause-child g c).In-Some in
     let h : History = event ∷ e.now in
     let both : seat_view c.put_back-both.result ≡ resting h (me ∷ child ∷ []) =
-    c.put_back-both.ensures.rule ∙ ap (λ (v : View). resting (event ∷ (front_of v).seen) (me ∷ child ∷ [])) e.is in
+    c.put_back-both.ensures.rule ∙ ap (λ (v : View). resting (event ∷ (known_of v).seen) (me ∷ child ∷ [])) e.is in
     let right = c.split-seat.ensures.right ∙ ap other_part both in
     let left = c.split-seat.ensures.left ∙ ap first_part both in (
       c.split-seat.ensures.seats.1,
       station op allows terms child c.in-Some.start (seat_view c.split-seat.result.1) h c.register-answer.new.self c.view-found.result
           right s.good s.stands c.view-found.ensures c.in-Some.is,
-      ap (λ (v : View). (front_of v).seen) right ∙ sym (ap (λ (v : View). (front_of v).seen) left),
+      ap (λ (v : View). (known_of v).seen) right ∙ sym (ap (λ (v : View). (known_of v).seen) left),
       told_entry op allows terms child c.in-Some.start (entry_at mode c.args.entry.signal_phase c.args.entry.wait_phase) h c.register-answer.new.self c.view-found.result
           s.stands c.view-found.ensures c.in-Some.is (member_child terms.limits e.now me child mode c.args.entry e.good.legal new e.member),
     )
@@ -166,12 +166,12 @@ returns-clause-ok g c =
     let event = Registered me child mode in
     let h : History = event ∷ e.now in
     let both : seat_view c.put_back-both.result ≡ resting h (me ∷ child ∷ []) =
-    c.put_back-both.ensures.rule ∙ ap (λ (v : View). resting (event ∷ (front_of v).seen) (me ∷ child ∷ [])) e.is in
+    c.put_back-both.ensures.rule ∙ ap (λ (v : View). resting (event ∷ (known_of v).seen) (me ∷ child ∷ [])) e.is in
     let left = c.split-seat.ensures.left ∙ ap first_part both in
     record {
       before = e.now;
       others = e.others;
-      seen = ap (λ (v : View). (front_of v).seen) left;
+      seen = ap (λ (v : View). (known_of v).seen) left;
       reply = accepted;
       next = child_is_next e.now child old.greatest before.stands.greatest_is c.child_of-child.ensures new.above;
     }
@@ -182,8 +182,8 @@ returns-in-Err-answer-clause-at g c =
     let terms = phaser_terms c.args.phaser.now in
     let me = c.args.me in
     let e = c.in-Ok.ensures.took in
-    subst (λ (v : View). IsStation allows terms me c.args.entry v)
-    (sym (c.give.ensures.rule ∙ ap (λ (v : View). resting (front_of v).seen (speaks_of v)) e.is))
+    subst (λ (v : View). IsSeatOfTask allows terms me c.args.entry v)
+    (sym (c.give.ensures.rule ∙ ap (λ (v : View). resting (known_of v).seen (speaks_of v)) e.is))
     (record { rests = refl; member = e.member; good = e.good })
 
 pub returns-in-Err-answer-clause-err : goal.returns-in-Err-answer-clause-err
@@ -198,10 +198,10 @@ returns-in-Err-answer-clause-err g c =
     let e = c.in-Ok.ensures.took in
     let old = c.value-core.result.now in
     let before : StandsWithin op terms.limits old e.now = lent op allows terms me (turn_value turn) old e.now c.value-core.ensures.value e.stands in
-    let seen : (front_of (seat_view c.give.result)).seen ≡ e.now = ap (λ (v : View). (front_of v).seen) c.give.ensures.rule ∙ ap (λ (v : View). (front_of v).seen) e.is in
+    let seen : (known_of (seat_view c.give.result)).seen ≡ e.now = ap (λ (v : View). (known_of v).seen) c.give.ensures.rule ∙ ap (λ (v : View). (known_of v).seen) e.is in
     let next : child ≡ number_after (greatest_used e.now) = c.child_of-child.ensures ∙ ap number_after before.stands.greatest_is in
-    subst (λ (h : History). RefusesRegister me mode (front_of (seat_view c.args.seat)).seen h c.in-Err-answer.refusal) (sym seen)
-    (refuses c.in-Err-answer.refusal me mode (front_of (seat_view c.args.seat)).seen e.now e.others
+    subst (λ (h : History). RefusesRegister me mode (known_of (seat_view c.args.seat)).seen h c.in-Err-answer.refusal) (sym seen)
+    (refuses c.in-Err-answer.refusal me mode (known_of (seat_view c.args.seat)).seen e.now e.others
     (λ other. ap (λ n. register_refusal e.now me n mode) (sym next) ∙ c.in-Err-answer.ensures.refused other e.now before.stands)
     (λ none. ap (λ n. register_refusal e.now me n mode) (sym next) ∙ c.in-Err-answer.ensures.out_of_memory none e.now before.stands))
 

@@ -8,7 +8,7 @@ use Rattle.phase_history.specs.Histories.{History, signal_phase}
 use Rattle.phase_core.specs.Cores.{CoreState}
 use Rattle.phase_history.specs.Replies.{signal_reply, wait_reply, after_wait}
 use Rattle.phase_accum.specs.Parcels.{StandsForSends}
-use Rattle.phase_shared.specs.Views.{resting, front_of, speaks_of}
+use Rattle.phase_shared.specs.Views.{resting, known_of, speaks_of}
 use Rattle.phase_shared.specs.Rule.{StandsWithin}
 use Rattle.phase_shared.specs.Nexts.{MayWait}
 use Rattle.phase_shared.specs.declared.view.View.{View}
@@ -74,7 +74,7 @@ put_back-seat-requires-clause-rule g c =
     let s = left g (goal.at.put_back-seat-requires-clause-rule g c).After-wait_where-waited held.0 held.1 in
     gives_own op allows terms c.args.me
     (λ v w. (sends : List ℤ) × StandsForSends op c.args.pending sends
-    × (w ≡ resting (after_wait waited c.args.me (Signalled c.args.me (sends ∷ []) c.args.single ∷ (front_of v).seen)) (speaks_of v)))
+    × (w ≡ resting (after_wait waited c.args.me (Signalled c.args.me (sends ∷ []) c.args.single ∷ (known_of v).seen)) (speaks_of v)))
     (turn_number turn) new (turn_view turn) e.now (after_wait waited c.args.me middle) e.is e.used
     (own_wait c.args.me e.now middle waited
     (own_event c.args.me e.now e.now (Signalled c.args.me (held.0 ∷ []) c.args.single) (λ t. refl) (own_none c.args.me e.now)))
@@ -104,7 +104,7 @@ returns-clause-at g c =
     let middle : History = Signalled c.args.me (told.0 ∷ []) c.args.single ∷ e.now in
     let s = left g (goal.at.returns-clause-at g c).After-wait_where-waited told.0 told.1 in
     station op allows terms c.args.me c.in-Some.entry (seat_view c.put_back-seat.result) (after_wait waited c.args.me middle) new c.view.result
-    (told.2 ∙ ap (λ (v : View). resting (after_wait waited c.args.me (Signalled c.args.me (told.0 ∷ []) c.args.single ∷ (front_of v).seen)) (speaks_of v)) e.is)
+    (told.2 ∙ ap (λ (v : View). resting (after_wait waited c.args.me (Signalled c.args.me (told.0 ∷ []) c.args.single ∷ (known_of v).seen)) (speaks_of v)) e.is)
     s.good s.stands c.view.ensures c.in-Some.is
 
 pub returns-clause-entry : goal.returns-clause-entry
@@ -131,10 +131,10 @@ returns-clause-call g c =
     let told = c.put_back-seat.ensures.rule in
     let waited = c.wait_where-waited.result in
     let middle : History = Signalled c.args.me (told.0 ∷ []) c.args.single ∷ e.now in
-    let last : History = (front_of (seat_view c.put_back-seat.result)).seen in
+    let last : History = (known_of (seat_view c.put_back-seat.result)).seen in
     let seen : last ≡ after_wait waited c.args.me middle =
-    ap (λ (v : View). (front_of v).seen) told.2
-    ∙ ap (λ (v : View). after_wait waited c.args.me (Signalled c.args.me (told.0 ∷ []) c.args.single ∷ (front_of v).seen)) e.is in
+    ap (λ (v : View). (known_of v).seen) told.2
+    ∙ ap (λ (v : View). after_wait waited c.args.me (Signalled c.args.me (told.0 ∷ []) c.args.single ∷ (known_of v).seen)) e.is in
     let limits = c.in-Ok-answer.ensures.limits ∙ before.limits_are in
     let P : Option Got → Type 0 = λ got. MayWait c.args.waits op.value terms.limits c.args.me middle last got in
     record {
@@ -161,7 +161,7 @@ returns-in-Err-answer-clause-at g c =
     let terms = phaser_terms c.args.phaser.now in
     let e = c.in-Ok.ensures.took in
     stays op allows terms c.args.me c.args.entry (seat_view c.give-seat.result) e.now
-    (c.give-seat.ensures.rule ∙ ap (λ (v : View). resting (front_of v).seen (speaks_of v)) e.is) e.good e.member
+    (c.give-seat.ensures.rule ∙ ap (λ (v : View). resting (known_of v).seen (speaks_of v)) e.is) e.good e.member
 
 pub returns-in-Err-answer-clause-call : goal.returns-in-Err-answer-clause-call
 returns-in-Err-answer-clause-call g c =
@@ -178,7 +178,7 @@ returns-in-Err-answer-clause-call g c =
       sends = held.0;
       others = e.others;
       stands = held.1;
-      seen = ap (λ (v : View). (front_of v).seen) c.give-seat.ensures.rule ∙ ap (λ (v : View). (front_of v).seen) e.is;
+      seen = ap (λ (v : View). (known_of v).seen) c.give-seat.ensures.rule ∙ ap (λ (v : View). (known_of v).seen) e.is;
       reply = λ sends stands. ap (λ l. signal_reply l e.now c.args.me (sends ∷ []) c.args.single) (sym before.limits_are)
           ∙ c.in-Err-answer.ensures.refused e.now sends before.stands stands;
     }

@@ -9,7 +9,7 @@ use Rattle.phase_history.specs.Histories.{wait_phase}
 use Rattle.phase_history.specs.Refusals.{wait_refusal}
 use Rattle.phase_history.specs.Replies.{got_at, wait_reply, after_wait}
 use Rattle.phase_history.proofs.Answered.{wait_refusal-never}
-use Rattle.phase_shared.specs.Views.{resting, front_of, speaks_of}
+use Rattle.phase_shared.specs.Views.{resting, known_of, speaks_of}
 use Rattle.phase_shared.specs.Rule.{StandsWithin}
 use Rattle.phase_shared.specs.Calls.{Waits}
 use Rattle.phase_shared.specs.declared.view.View.{View}
@@ -58,7 +58,7 @@ put_back-seat-requires-clause-rule g c =
     let answer = c.wait-answer.result in
     let new = c.wait-answer.new.self in
     let s = left g (goal.at.put_back-seat-requires-clause-rule g c).After-wait-answer in
-    gives_own op allows terms c.args.me (λ v w. w ≡ resting (after_wait answer c.args.me (front_of v).seen) (speaks_of v))
+    gives_own op allows terms c.args.me (λ v w. w ≡ resting (after_wait answer c.args.me (known_of v).seen) (speaks_of v))
     (turn_number turn) new (turn_view turn) e.now (after_wait answer c.args.me e.now) e.is e.used
     (own_wait c.args.me e.now e.now answer (own_none c.args.me e.now)) s.good s.stands refl
 
@@ -72,7 +72,7 @@ returns-in-Ok-answer-clause-at g c =
     let new = c.wait-answer.new.self in
     let s = left g (goal.at.returns-in-Ok-answer-clause-at g c).After-wait-answer in
     station op allows terms c.args.me c.in-Some.entry (seat_view c.put_back-seat.result) (after_wait answer c.args.me e.now) new c.view.result
-    (c.put_back-seat.ensures.rule ∙ ap (λ (v : View). resting (after_wait answer c.args.me (front_of v).seen) (speaks_of v)) e.is)
+    (c.put_back-seat.ensures.rule ∙ ap (λ (v : View). resting (after_wait answer c.args.me (known_of v).seen) (speaks_of v)) e.is)
     s.good s.stands c.view.ensures c.in-Some.is
 
 pub returns-in-Err-answer-clause-at : goal.returns-in-Err-answer-clause-at
@@ -85,7 +85,7 @@ returns-in-Err-answer-clause-at g c =
     let new = c.wait-answer.new.self in
     let s = left g (goal.at.returns-in-Err-answer-clause-at g c).After-wait-answer in
     station op allows terms c.args.me c.in-Some.entry (seat_view c.put_back-seat.result) (after_wait answer c.args.me e.now) new c.view.result
-    (c.put_back-seat.ensures.rule ∙ ap (λ (v : View). resting (after_wait answer c.args.me (front_of v).seen) (speaks_of v)) e.is)
+    (c.put_back-seat.ensures.rule ∙ ap (λ (v : View). resting (after_wait answer c.args.me (known_of v).seen) (speaks_of v)) e.is)
     s.good s.stands c.view.ensures c.in-Some.is
 
 pub returns-in-Ok-answer-clause-call : goal.returns-in-Ok-answer-clause-call
@@ -95,11 +95,11 @@ returns-in-Ok-answer-clause-call g c =
     let e = c.in-Ok.ensures.took in
     let before = stood g (goal.at.returns-in-Ok-answer-clause-call g c).After-wait-answer in
     let answer = c.wait-answer.result in
-    let P : Result Got WaitRefusal → Type 0 = λ r. Waits op.value terms.limits c.args.me (front_of (seat_view c.args.seat)).seen (front_of (seat_view c.put_back-seat.result)).seen r in
+    let P : Result Got WaitRefusal → Type 0 = λ r. Waits op.value terms.limits c.args.me (known_of (seat_view c.args.seat)).seen (known_of (seat_view c.put_back-seat.result)).seen r in
     subst P c.in-Ok-answer.is (record {
       before = e.now;
       others = e.others;
-      seen = ap (λ (v : View). (front_of v).seen) c.put_back-seat.ensures.rule ∙ ap (λ (v : View). after_wait answer c.args.me (front_of v).seen) e.is;
+      seen = ap (λ (v : View). (known_of v).seen) c.put_back-seat.ensures.rule ∙ ap (λ (v : View). after_wait answer c.args.me (known_of v).seen) e.is;
       reply = ap (λ l. wait_reply op.value l e.now c.args.me) (sym before.limits_are) ∙ c.wait-answer.ensures.reply e.now before.stands;
     })
 
@@ -110,11 +110,11 @@ returns-in-Err-answer-clause-call g c =
     let e = c.in-Ok.ensures.took in
     let before = stood g (goal.at.returns-in-Err-answer-clause-call g c).After-wait-answer in
     let answer = c.wait-answer.result in
-    let P : Result Got WaitRefusal → Type 0 = λ r. Waits op.value terms.limits c.args.me (front_of (seat_view c.args.seat)).seen (front_of (seat_view c.put_back-seat.result)).seen r in
+    let P : Result Got WaitRefusal → Type 0 = λ r. Waits op.value terms.limits c.args.me (known_of (seat_view c.args.seat)).seen (known_of (seat_view c.put_back-seat.result)).seen r in
     subst P c.in-Err-answer.is (record {
       before = e.now;
       others = e.others;
-      seen = ap (λ (v : View). (front_of v).seen) c.put_back-seat.ensures.rule ∙ ap (λ (v : View). after_wait answer c.args.me (front_of v).seen) e.is;
+      seen = ap (λ (v : View). (known_of v).seen) c.put_back-seat.ensures.rule ∙ ap (λ (v : View). after_wait answer c.args.me (known_of v).seen) e.is;
       reply = ap (λ l. wait_reply op.value l e.now c.args.me) (sym before.limits_are) ∙ c.wait-answer.ensures.reply e.now before.stands;
     })
 

@@ -2,7 +2,7 @@ use Rattle.std.proofs.Common.{◌≡◌, ◌++◌, sym, subst, ap, ◌∙◌}
 use Rattle.turn_lock.specs.Seats.{seat_view}
 use Rattle.phase_history.specs.Histories.{History}
 use Rattle.phase_history.specs.Others.{OthersCame, is_distinct}
-use Rattle.phase_shared.specs.Views.{front_of, resting}
+use Rattle.phase_shared.specs.Views.{known_of, resting}
 use Rattle.phase_shared.specs.declared.view.View.{View}
 use Rattle.phase_shared.specs.Regs.{phaser_terms}
 use Rattle.phase_shared.specs.Rule.{IsGoodAt}
@@ -21,39 +21,39 @@ invariant_of-result g c =
     record {
       terms = phaser_terms c.args.phaser.now;
       named = ap (λ p. p.1) c.join.ensures.seat;
-      rests = is ∙ sym (ap (λ (v : View). resting (front_of v).seen (front_of v).speaks) is);
-      distinct = ap (λ (v : View). is_distinct (front_of v).speaks) is ∙ c.join.ensures.rule.distinct;
-      good = subst (λ (h : History). IsGoodAt g.K.SignalRule.allows (phaser_terms c.args.phaser.now) h) (sym (ap (λ (v : View). (front_of v).seen) is)) rule.good;
+      rests = is ∙ sym (ap (λ (v : View). resting (known_of v).seen (known_of v).speaks) is);
+      distinct = ap (λ (v : View). is_distinct (known_of v).speaks) is ∙ c.join.ensures.rule.distinct;
+      good = subst (λ (h : History). IsGoodAt g.K.SignalRule.allows (phaser_terms c.args.phaser.now) h) (sym (ap (λ (v : View). (known_of v).seen) is)) rule.good;
     }
 
 pub returns-clause-numbers : goal.returns-clause-numbers
 returns-clause-numbers g c =
-    ap (λ (v : View). (front_of v).speaks) c.join.ensures.rule.is ∙ (λ i. (c.self.view_is i).numbers ++ (c.other.view_is i).numbers)
+    ap (λ (v : View). (known_of v).speaks) c.join.ensures.rule.is ∙ (λ i. (c.self.view_is i).numbers ++ (c.other.view_is i).numbers)
 
 pub returns-clause-distinct : goal.returns-clause-distinct
 returns-clause-distinct g c =
-    ap (λ (v : View). is_distinct (front_of v).speaks) c.join.ensures.rule.is ∙ c.join.ensures.rule.distinct
+    ap (λ (v : View). is_distinct (known_of v).speaks) c.join.ensures.rule.is ∙ c.join.ensures.rule.distinct
 
 pub returns-clause-first : goal.returns-clause-first
 returns-clause-first g c =
     let rule = c.join.ensures.rule in
-    let seen : (front_of (seat_view c.join.result)).seen ≡ rule.now = ap (λ (v : View). (front_of v).seen) rule.is in
-    let came : OthersCame (front_of (seat_view c.self.inside.seat)).speaks (front_of (seat_view c.self.inside.seat)).seen rule.now = rule.first in
+    let seen : (known_of (seat_view c.join.result)).seen ≡ rule.now = ap (λ (v : View). (known_of v).seen) rule.is in
+    let came : OthersCame (known_of (seat_view c.self.inside.seat)).speaks (known_of (seat_view c.self.inside.seat)).seen rule.now = rule.first in
     let P : History → Type 0 = λ h. OthersCame c.args.self.numbers c.args.self.seen h in
     subst P (sym seen) (subst (λ r. OthersCame r.numbers r.seen rule.now) c.self.view_is came)
 
 pub returns-clause-second : goal.returns-clause-second
 returns-clause-second g c =
     let rule = c.join.ensures.rule in
-    let seen : (front_of (seat_view c.join.result)).seen ≡ rule.now = ap (λ (v : View). (front_of v).seen) rule.is in
-    let came : OthersCame (front_of (seat_view c.other.inside.seat)).speaks (front_of (seat_view c.other.inside.seat)).seen rule.now = rule.second in
+    let seen : (known_of (seat_view c.join.result)).seen ≡ rule.now = ap (λ (v : View). (known_of v).seen) rule.is in
+    let came : OthersCame (known_of (seat_view c.other.inside.seat)).speaks (known_of (seat_view c.other.inside.seat)).seen rule.now = rule.second in
     let P : History → Type 0 = λ h. OthersCame c.args.other.numbers c.args.other.seen h in
     subst P (sym seen) (subst (λ r. OthersCame r.numbers r.seen rule.now) c.other.view_is came)
 
 pub returns-clause-good : goal.returns-clause-good
 returns-clause-good g c =
     let rule = c.join.ensures.rule in
-    subst (λ (h : History). IsGoodAt g.K.SignalRule.allows (phaser_terms c.args.phaser.now) h) (sym (ap (λ (v : View). (front_of v).seen) rule.is)) rule.good
+    subst (λ (h : History). IsGoodAt g.K.SignalRule.allows (phaser_terms c.args.phaser.now) h) (sym (ap (λ (v : View). (known_of v).seen) rule.is)) rule.good
 
 pub returns-clause-at : goal.returns-clause-at
 returns-clause-at g c = c.join.ensures.seat ∙ sym c.requires.at.0

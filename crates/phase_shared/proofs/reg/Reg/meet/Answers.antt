@@ -5,9 +5,9 @@ use Rattle.phase_history.specs.Histories.{History}
 use Rattle.phase_history.specs.Others.{OthersCame}
 use Rattle.phase_shared.specs.declared.view.View.{View}
 use Rattle.phase_shared.specs.declared.view.View.TheVariants.{Resting}
-use Rattle.phase_shared.specs.Views.{front_of, first_part, other_part}
+use Rattle.phase_shared.specs.Views.{known_of, first_part, other_part}
 use Rattle.phase_shared.specs.Regs.{view_in, phaser_place, phaser_terms}
-use Rattle.phase_shared.specs.Rule.{IsStation, IsGoodAt}
+use Rattle.phase_shared.specs.Rule.{IsSeatOfTask, IsGoodAt}
 use Rattle.phase_shared.proofs.Opening.{opened, closed}
 use Rattle.phase_shared.proofs.Meeting.{Met, met}
 use Rattle.phase_shared.proofs.RegisterSteps.{forks_child}
@@ -59,8 +59,8 @@ join-both-requires-clause-rests g c =
     (sym c.take.ensures.value ∙ c.in-Some.is) c.first.invariant (ap (λ r. r.at) c.first.view_is ∙ c.requires.at.0) in
     let q = opened allows p.0 terms c.second.inside.number c.second.inside.entry c.second.inside.seat c.in-Some-take.other_seat
     (sym c.take-2.ensures.value ∙ c.in-Some-take.is) c.second.invariant (ap (λ r. r.at) c.second.view_is ∙ c.requires.at.1) in (
-      o.station.rests ∙ sym (ap (λ (z : View). Resting (front_of z)) o.station.rests),
-      q.station.rests ∙ sym (ap (λ (z : View). Resting (front_of z)) q.station.rests),
+      o.station.rests ∙ sym (ap (λ (z : View). Resting (known_of z)) o.station.rests),
+      q.station.rests ∙ sym (ap (λ (z : View). Resting (known_of z)) q.station.rests),
     )
 
 -- the joined seat speaks for both
@@ -80,7 +80,7 @@ invariant_of-first g c =
     let m = both g (goal.at.invariant_of-first g c).After-join-both in
     let left = c.split-seat.ensures.left ∙ ap first_part m.is in
     closed allows p.0 terms c.first.inside.number c.first.inside.entry c.split-seat.result.0 c.split-seat.ensures.seats.0
-    (subst (λ (z : View). IsStation allows terms c.first.inside.number c.first.inside.entry z) (sym left) m.left)
+    (subst (λ (z : View). IsSeatOfTask allows terms c.first.inside.number c.first.inside.entry z) (sym left) m.left)
 
 pub invariant_of-second : goal.invariant_of-second
 invariant_of-second g c =
@@ -90,7 +90,7 @@ invariant_of-second g c =
     let m = both g (goal.at.invariant_of-second g c).After-join-both in
     let right = c.split-seat.ensures.right ∙ ap other_part m.is in
     closed allows p.0 terms c.second.inside.number c.second.inside.entry c.split-seat.result.1 c.split-seat.ensures.seats.1
-    (subst (λ (z : View). IsStation allows terms c.second.inside.number c.second.inside.entry z) (sym right) m.right)
+    (subst (λ (z : View). IsSeatOfTask allows terms c.second.inside.number c.second.inside.entry z) (sym right) m.right)
 
 -- both have seen what the joined seat had
 pub returns-clause-one : goal.returns-clause-one
@@ -98,7 +98,7 @@ returns-clause-one g c =
     let m = both g (goal.at.returns-clause-one g c).After-join-both in
     let left = c.split-seat.ensures.left ∙ ap first_part m.is in
     let right = c.split-seat.ensures.right ∙ ap other_part m.is in
-    ap (λ (z : View). (front_of z).seen) left ∙ sym (ap (λ (z : View). (front_of z).seen) right)
+    ap (λ (z : View). (known_of z).seen) left ∙ sym (ap (λ (z : View). (known_of z).seen) right)
 
 pub returns-clause-apart : goal.returns-clause-apart
 returns-clause-apart g c =
@@ -111,24 +111,24 @@ returns-clause-good g c =
     let allows = g.K.SignalRule.allows in
     let m = both g (goal.at.returns-clause-good g c).After-join-both in
     let left = c.split-seat.ensures.left ∙ ap first_part m.is in
-    subst (λ (h : History). IsGoodAt allows terms h) (sym (ap (λ (z : View). (front_of z).seen) left)) m.good
+    subst (λ (h : History). IsGoodAt allows terms h) (sym (ap (λ (z : View). (known_of z).seen) left)) m.good
 
 pub returns-clause-begins : goal.returns-clause-begins
 returns-clause-begins g c =
     let m = both g (goal.at.returns-clause-begins g c).After-join-both in
     let left = c.split-seat.ensures.left ∙ ap first_part m.is in
-    let seen = ap (λ (z : View). (front_of z).seen) left in
-    let mine = ap (λ o. (front_of (view_in o)).seen) (sym (sym c.take.ensures.value ∙ c.in-Some.is)) ∙ ap (λ r. r.seen) c.first.view_is in
-    let yours = ap (λ o. (front_of (view_in o)).seen) (sym (sym c.take-2.ensures.value ∙ c.in-Some-take.is)) ∙ ap (λ r. r.seen) c.second.view_is in
+    let seen = ap (λ (z : View). (known_of z).seen) left in
+    let mine = ap (λ o. (known_of (view_in o)).seen) (sym (sym c.take.ensures.value ∙ c.in-Some.is)) ∙ ap (λ r. r.seen) c.first.view_is in
+    let yours = ap (λ o. (known_of (view_in o)).seen) (sym (sym c.take-2.ensures.value ∙ c.in-Some-take.is)) ∙ ap (λ r. r.seen) c.second.view_is in
     let number = ap (λ r. r.number) c.first.view_is in
     let number' = ap (λ r. r.number) c.second.view_is in
-    let new = (front_of (seat_view c.split-seat.result.0)).seen in
-    let first : OthersCame (c.first.inside.number ∷ []) (front_of (seat_view c.in-Some.seat)).seen new =
-    subst (λ (h : History). OthersCame (c.first.inside.number ∷ []) (front_of (seat_view c.in-Some.seat)).seen h) (sym seen) m.first in
-    let second : OthersCame (c.second.inside.number ∷ []) (front_of (seat_view c.in-Some-take.other_seat)).seen new =
-    subst (λ (h : History). OthersCame (c.second.inside.number ∷ []) (front_of (seat_view c.in-Some-take.other_seat)).seen h) (sym seen) m.second in (
+    let new = (known_of (seat_view c.split-seat.result.0)).seen in
+    let first : OthersCame (c.first.inside.number ∷ []) (known_of (seat_view c.in-Some.seat)).seen new =
+    subst (λ (h : History). OthersCame (c.first.inside.number ∷ []) (known_of (seat_view c.in-Some.seat)).seen h) (sym seen) m.first in
+    let second : OthersCame (c.second.inside.number ∷ []) (known_of (seat_view c.in-Some-take.other_seat)).seen new =
+    subst (λ (h : History). OthersCame (c.second.inside.number ∷ []) (known_of (seat_view c.in-Some-take.other_seat)).seen h) (sym seen) m.second in (
       subst (λ (h : History). OthersCame (c.args.self.number ∷ []) h new) mine
-          (subst (λ n. OthersCame (n ∷ []) (front_of (seat_view c.in-Some.seat)).seen new) number first),
+          (subst (λ n. OthersCame (n ∷ []) (known_of (seat_view c.in-Some.seat)).seen new) number first),
       subst (λ (h : History). OthersCame (c.args.other.number ∷ []) h new) yours
-          (subst (λ n. OthersCame (n ∷ []) (front_of (seat_view c.in-Some-take.other_seat)).seen new) number' second),
+          (subst (λ n. OthersCame (n ∷ []) (known_of (seat_view c.in-Some-take.other_seat)).seen new) number' second),
     )

@@ -2,9 +2,9 @@ use Rattle.std.proofs.Common.{◌≡◌, [], ◌∷◌, Some, true, false, sym, 
 use Rattle.std.specs.Prelude.{is_some}
 use Rattle.phase_history.specs.Histories.{History}
 use Rattle.phase_history.specs.Others.{OnlyUsed, is_distinct}
-use Rattle.phase_shared.specs.Views.{front_of}
+use Rattle.phase_shared.specs.Views.{known_of}
 use Rattle.phase_shared.specs.Views.{resting}
-use Rattle.phase_shared.specs.Rule.{IsGoodAt, IsStation}
+use Rattle.phase_shared.specs.Rule.{IsGoodAt, IsSeatOfTask}
 use Rattle.phase_shared.specs.declared.view.View.{View}
 use Rattle.phase_shared.specs.Regs.{RegState, reg_state, phaser_place, phaser_terms}
 use Rattle.phase_shared.proofs.Opening.{opened, closed}
@@ -28,9 +28,9 @@ invariant_of-result g c =
     record {
       terms = phaser_terms c.args.phaser.now;
       named = ap (λ p. p.1) c.in-Ok.ensures.seat;
-      rests = is ∙ sym (ap (λ (v : View). resting (front_of v).seen (front_of v).speaks) is);
-      distinct = ap (λ (v : View). is_distinct (front_of v).speaks) is;
-      good = subst (λ (h : History). IsGoodAt g.K.SignalRule.allows (phaser_terms c.args.phaser.now) h) (sym (ap (λ (v : View). (front_of v).seen) is)) left.good;
+      rests = is ∙ sym (ap (λ (v : View). resting (known_of v).seen (known_of v).speaks) is);
+      distinct = ap (λ (v : View). is_distinct (known_of v).speaks) is;
+      good = subst (λ (h : History). IsGoodAt g.K.SignalRule.allows (phaser_terms c.args.phaser.now) h) (sym (ap (λ (v : View). (known_of v).seen) is)) left.good;
     }
 
 pub invariant_of-result-in-Err : goal.invariant_of-result-in-Err
@@ -41,7 +41,7 @@ invariant_of-result-in-Err g c =
     c.in-Some.is c.self.invariant (ap (λ r. r.at) c.self.view_is ∙ c.requires.at) in
     let same = c.in-Err.ensures.err in
     closed g.K.SignalRule.allows p.0 terms c.self.inside.number c.self.inside.entry c.in-Err.seat (same.0 ∙ o.at)
-    (subst (λ (v : View). IsStation g.K.SignalRule.allows terms c.self.inside.number c.self.inside.entry v) (sym same.2) o.station)
+    (subst (λ (v : View). IsSeatOfTask g.K.SignalRule.allows terms c.self.inside.number c.self.inside.entry v) (sym same.2) o.station)
 
 pub returns-in-Err-clause-alone : goal.returns-in-Err-clause-alone
 returns-in-Err-clause-alone g c only =

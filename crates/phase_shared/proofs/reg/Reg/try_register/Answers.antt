@@ -5,8 +5,8 @@ use Rattle.phase_history.specs.declared.refusal.RegisterRefusal.{RegisterRefusal
 use Rattle.phase_history.specs.declared.refusal.RegisterRefusal.TheVariants as register
 use Rattle.phase_history.specs.Histories.{entry_at}
 use Rattle.phase_history.specs.Others.{OnlyUsed}
-use Rattle.phase_shared.specs.Views.{front_of}
-use Rattle.phase_shared.specs.Rule.{IsStation}
+use Rattle.phase_shared.specs.Views.{known_of}
+use Rattle.phase_shared.specs.Rule.{IsSeatOfTask}
 use Rattle.phase_shared.specs.Calls.{Refuses, HasRegistered, RefusesRegister}
 use Rattle.phase_shared.specs.Regs.{RegState, reg_state, phaser_place, phaser_terms}
 use Rattle.phase_shared.proofs.Answering.{Refuses-map}
@@ -46,12 +46,12 @@ invariant_of-self-2 g c =
 
 -- the child's seat, and where it stands
 new_child : (g : Over) (c : In-Ok g) → IsSeatOf c.args.phaser.now.lock c.in-Ok.made.1
-    × IsStation g.K.SignalRule.allows (phaser_terms c.args.phaser.now) c.in-Ok.made.0 c.in-Ok.made.2 (seat_view c.in-Ok.made.1)
-    × ((front_of (seat_view c.in-Ok.made.1)).seen ≡ (front_of (seat_view c.register-seat.result.0)).seen)
+    × IsSeatOfTask g.K.SignalRule.allows (phaser_terms c.args.phaser.now) c.in-Ok.made.0 c.in-Ok.made.2 (seat_view c.in-Ok.made.1)
+    × ((known_of (seat_view c.in-Ok.made.1)).seen ≡ (known_of (seat_view c.register-seat.result.0)).seen)
     × (c.in-Ok.made.2 ≡ entry_at c.args.mode c.self.inside.entry.signal_phase c.self.inside.entry.wait_phase)
 new_child g c = subst (λ r. IfOk r (λ m. IsSeatOf c.args.phaser.now.lock m.1
-    × IsStation g.K.SignalRule.allows (phaser_terms c.args.phaser.now) m.0 m.2 (seat_view m.1)
-    × ((front_of (seat_view m.1)).seen ≡ (front_of (seat_view c.register-seat.result.0)).seen)
+    × IsSeatOfTask g.K.SignalRule.allows (phaser_terms c.args.phaser.now) m.0 m.2 (seat_view m.1)
+    × ((known_of (seat_view m.1)).seen ≡ (known_of (seat_view c.register-seat.result.0)).seen)
     × (m.2 ≡ entry_at c.args.mode c.self.inside.entry.signal_phase c.self.inside.entry.wait_phase))) c.in-Ok.is c.register-seat.ensures.child
 
 pub invariant_of-result : goal.invariant_of-result
@@ -75,11 +75,11 @@ returns-clause-call g c =
     let is : reg_state (Some c.in-Some.seat) inside.number inside.entry inside.pending ≡ c.args.self.now =
     reg_is g.K.SignalRule.allows p.0 terms inside.number inside.entry inside.pending inside.seat c.in-Some.seat c.args.self.now
     (sym c.take.ensures.value ∙ c.in-Some.is) c.self.view_is in
-    let new = (front_of (seat_view c.register-seat.result.0)).seen in
+    let new = (known_of (seat_view c.register-seat.result.0)).seen in
     let P : RegState g.row.A.Denot g.row.K.Denot → Type 0 = λ r. HasRegistered r.number made.0 c.args.mode r.seen new in
     record {
       call = record {
-        registered = subst P is (subst (λ r. IfOk r (λ m. HasRegistered inside.number m.0 c.args.mode (front_of (seat_view c.in-Some.seat)).seen new)) c.in-Ok.is c.register-seat.ensures.ok);
+        registered = subst P is (subst (λ r. IfOk r (λ m. HasRegistered inside.number m.0 c.args.mode (known_of (seat_view c.in-Some.seat)).seen new)) c.in-Ok.is c.register-seat.ensures.ok);
         at = child.0 ∙ sym c.requires.at;
         seen = child.2;
         entry = child.3 ∙ ap (λ r. entry_at c.args.mode r.entry.signal_phase r.entry.wait_phase) is;
@@ -104,8 +104,8 @@ returns-in-Err-clause-call g c =
     (sym c.take.ensures.value ∙ c.in-Some.is) c.self.view_is in
     let s = c.in-Some.seat in
     let s' = c.register-seat.result.0 in
-    let new = (front_of (seat_view s')).seen in
-    let call : RegisterRefusal → Type 0 = RefusesRegister inside.number c.args.mode (front_of (seat_view s)).seen new in
+    let new = (known_of (seat_view s')).seen in
+    let call : RegisterRefusal → Type 0 = RefusesRegister inside.number c.args.mode (known_of (seat_view s)).seen new in
     let P : RegState g.row.A.Denot g.row.K.Denot → Type 0 = λ old. Refuses (reg_state (Some s') inside.number inside.entry inside.pending ≡ old)
     (RefusesRegister old.number c.args.mode old.seen new) tried in
     let Q : RegState g.row.A.Denot g.row.K.Denot → Type 0 = λ r. OnlyUsed (r.number ∷ []) r.seen in

@@ -1,7 +1,7 @@
 use Rattle.std.proofs.Common.{◌≡◌, ℕ, Option, Some, Ok, Err, true, false, sym, subst, ap, ◌∙◌}
 use Rattle.std.specs.Prelude.{is_some, Result}
 use Rattle.turn_lock.specs.Seats.{seat_view, IsSameSeat}
-use Rattle.phase_shared.specs.Views.{front_of}
+use Rattle.phase_shared.specs.Views.{known_of}
 use Rattle.phase_shared.specs.Regs.{RegState, reg_state, phaser_place, phaser_terms, phaser_limits}
 use Rattle.phase_history.specs.declared.got.Got.{Got}
 use Rattle.phase_shared.specs.Calls.{Tries, MaySignal}
@@ -56,9 +56,9 @@ returns-in-Ok-clause-call g c =
     let s = c.in-Some.seat in
     let s' = c.signal-seat.result.0 in
     let P : RegState g.row.A.Denot g.row.K.Denot → Type 0 = λ old.
-    SignalsAndMayWait c.args.waits op limits old.number old.held c.args.single old.seen (front_of (seat_view s')).seen (Ok c.in-Ok.answer) in
+    SignalsAndMayWait c.args.waits op limits old.number old.held c.args.single old.seen (known_of (seat_view s')).seen (Ok c.in-Ok.answer) in
     subst P is (subst (λ r. Tries (IsSameSeat s s' × (c.signal-seat.result.1 ≡ inside.entry))
-    (SignalsAndMayWait c.args.waits op limits inside.number inside.pending c.args.single (front_of (seat_view s)).seen (front_of (seat_view s')).seen) r)
+    (SignalsAndMayWait c.args.waits op limits inside.number inside.pending c.args.single (known_of (seat_view s)).seen (known_of (seat_view s')).seen) r)
     c.in-Ok.is c.signal-seat.ensures.call)
 
 pub returns-in-Err-clause-call : goal.returns-in-Err-clause-call
@@ -74,9 +74,9 @@ returns-in-Err-clause-call g c =
     let s = c.in-Some.seat in
     let s' = c.signal-seat.result.0 in
     let entry' = c.signal-seat.result.1 in
-    let call : Result (ℕ × Option Got) SignalRefusal → Type 0 = λ answer. SignalsAndMayWait c.args.waits op limits inside.number inside.pending c.args.single (front_of (seat_view s)).seen (front_of (seat_view s')).seen answer in
+    let call : Result (ℕ × Option Got) SignalRefusal → Type 0 = λ answer. SignalsAndMayWait c.args.waits op limits inside.number inside.pending c.args.single (known_of (seat_view s)).seen (known_of (seat_view s')).seen answer in
     let P : RegState g.row.A.Denot g.row.K.Denot → Type 0 = λ old. Tries (reg_state (Some s') inside.number entry' inside.pending ≡ old)
-    (SignalsAndMayWait c.args.waits op limits old.number old.held c.args.single old.seen (front_of (seat_view s')).seen) (Err c.in-Err.tried) in
+    (SignalsAndMayWait c.args.waits op limits old.number old.held c.args.single old.seen (known_of (seat_view s')).seen) (Err c.in-Err.tried) in
     subst P is (Tries-map (IsSameSeat s s' × (entry' ≡ inside.entry))
     (reg_state (Some s') inside.number entry' inside.pending ≡ reg_state (Some s) inside.number inside.entry inside.pending) call call
     (λ same. same_reg g.K.SignalRule.allows p.0 terms inside.number inside.entry entry' inside.pending s s' same.0 same.1) (λ answer w. w)

@@ -3,7 +3,7 @@ use Rattle.std.specs.Prelude.{is_some, Result}
 use Rattle.std.specs.Result.{result_ok}
 use Rattle.turn_lock.specs.Seats.{seat_view, IsSameSeat}
 use Rattle.phase_history.specs.Others.{OnlyUsed}
-use Rattle.phase_shared.specs.Views.{front_of}
+use Rattle.phase_shared.specs.Views.{known_of}
 use Rattle.phase_shared.specs.Regs.{RegState, reg_state, phaser_place, phaser_terms, phaser_limits}
 use Rattle.phase_shared.specs.Calls.{Tries, Waits}
 use Rattle.phase_shared.specs.Entries.{entry_after_wait}
@@ -47,9 +47,9 @@ returns-clause-call g c =
     let s = c.in-Some.seat in
     let s' = c.wait-seat.result.0 in
     let entry' = c.wait-seat.result.1 in
-    let call : Result Got WaitRefusal → Type 0 = λ answer. Waits value limits inside.number (front_of (seat_view s)).seen (front_of (seat_view s')).seen answer in
+    let call : Result Got WaitRefusal → Type 0 = λ answer. Waits value limits inside.number (known_of (seat_view s)).seen (known_of (seat_view s')).seen answer in
     let P : RegState g.row.A.Denot g.row.K.Denot → Type 0 = λ old. Tries (reg_state (Some s') inside.number entry' inside.pending ≡ old)
-    (Waits value limits old.number old.seen (front_of (seat_view s')).seen) c.wait-seat.result.2 in
+    (Waits value limits old.number old.seen (known_of (seat_view s')).seen) c.wait-seat.result.2 in
     let Q : RegState g.row.A.Denot g.row.K.Denot → Type 0 = λ r. OnlyUsed (r.number ∷ []) r.seen in
     let entry = c.wait-seat.ensures.entry ∙ ap (λ r. entry_after_wait (result_ok c.wait-seat.result.2) r.entry) is in
     record {

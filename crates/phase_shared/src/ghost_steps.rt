@@ -9,11 +9,11 @@ use std::marker::{Brand, PhantomData};
 use turn_lock::{Join, Learns, Split, Tells};
 
 // A take: all that the others did is seen.
-pub struct Sees<A, K> {
+pub struct OnTake<A, K> {
     marker: PhantomData<(A, K)>,
 }
 
-impl<A: Accumulate, K: SignalRule> Tells<Terms<K>, PhaserCore<A>, View> for Sees<A, K> {
+impl<A: Accumulate, K: SignalRule> Tells<Terms<K>, PhaserCore<A>, View> for OnTake<A, K> {
     ghost use Rattle.phase_shared.specs.Rule.{TookAt};
 
     ghost then = { TookAt A.operation K.allows };
@@ -23,9 +23,9 @@ impl<A: Accumulate, K: SignalRule> Tells<Terms<K>, PhaserCore<A>, View> for Sees
 pub struct Same;
 
 impl<K, T> Tells<Terms<K>, T, View> for Same {
-    ghost use Rattle.phase_shared.specs.Views.{resting, front_of, speaks_of};
+    ghost use Rattle.phase_shared.specs.Views.{resting, known_of, speaks_of};
 
-    ghost then = { λ terms v y w. w ≡ resting (front_of v).seen (speaks_of v) };
+    ghost then = { λ terms v y w. w ≡ resting (known_of v).seen (speaks_of v) };
 }
 
 // What a give tells, as its caller picks it.
@@ -40,18 +40,18 @@ impl Plan for Brand {
 }
 
 // A give after a call that made an event.
-pub struct Give<E> {
+pub struct OnGive<E> {
     marker: PhantomData<E>,
 }
 
-impl<K, T, E: Plan> Tells<Terms<K>, T, View> for Give<E> {
+impl<K, T, E: Plan> Tells<Terms<K>, T, View> for OnGive<E> {
     ghost then = { λ terms v y w. E.goes v w };
 }
 
 // A seat that speaks for two is cut in two.
-pub struct Apart;
+pub struct OnSplit;
 
-impl Split<View> for Apart {
+impl Split<View> for OnSplit {
     ghost use Rattle.phase_shared.specs.Views.{first_part, other_part};
 
     ghost left = { first_part };
@@ -60,9 +60,9 @@ impl Split<View> for Apart {
 }
 
 // Two seats at rest are joined.
-pub struct Together;
+pub struct OnJoin;
 
-impl Join<View> for Together {
+impl Join<View> for OnJoin {
     ghost use Rattle.phase_shared.specs.Views.{joining};
     ghost use Rattle.phase_shared.specs.declared.view.View.TheVariants.{Spent};
 
@@ -72,11 +72,11 @@ impl Join<View> for Together {
 }
 
 // The look after a join.
-pub struct Both<K> {
+pub struct OnLook<K> {
     marker: PhantomData<K>,
 }
 
-impl<K: SignalRule> Learns<Terms<K>, View> for Both<K> {
+impl<K: SignalRule> Learns<Terms<K>, View> for OnLook<K> {
     ghost use Rattle.phase_shared.specs.Rule.{LearnedAt};
 
     ghost then = { LearnedAt K.allows };

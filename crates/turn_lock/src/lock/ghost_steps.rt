@@ -7,46 +7,46 @@ use crate::seat::Doing;
 use atomic_table::{Join, Play, Split};
 use std::marker::PhantomData;
 
-pub struct Try<M, R> {
+pub struct OnTake<M, R> {
     marker: PhantomData<(M, R)>,
 }
 
 impl<T, R: TurnRule<T>, M: Tells<R::Name, T, R::View>> Play<Option<T>, Doing<R::Name, R::View>>
-    for Try<M, R> {
+    for OnTake<M, R> {
     ghost then = { tried R.holds M.then };
 }
 
-pub struct Give<M> {
+pub struct OnGive<M> {
     marker: PhantomData<M>,
 }
 
-impl<T, N, V, M: Tells<N, T, V>> Play<Option<T>, Doing<N, V>> for Give<M> {
+impl<T, N, V, M: Tells<N, T, V>> Play<Option<T>, Doing<N, V>> for OnGive<M> {
     ghost then = { gave M.then };
 }
 
-pub struct Look<L> {
+pub struct OnLook<L> {
     marker: PhantomData<L>,
 }
 
-impl<T, N, V, L: Learns<N, V>> Play<Option<T>, Doing<N, V>> for Look<L> {
+impl<T, N, V, L: Learns<N, V>> Play<Option<T>, Doing<N, V>> for OnLook<L> {
     ghost then = { looked L.then };
 }
 
-pub struct Twin<M> {
+pub struct OnSplit<M> {
     marker: PhantomData<M>,
 }
 
-impl<N, V, M: Split<V>> Split<Doing<N, V>> for Twin<M> {
+impl<N, V, M: Split<V>> Split<Doing<N, V>> for OnSplit<M> {
     ghost left = { λ d. doing d.name false (M.left d.client) };
 
     ghost right = { λ d. doing d.name false (M.right d.client) };
 }
 
-pub struct Pair<M> {
+pub struct OnJoin<M> {
     marker: PhantomData<M>,
 }
 
-impl<N, V, M: Join<V>> Join<Doing<N, V>> for Pair<M> {
+impl<N, V, M: Join<V>> Join<Doing<N, V>> for OnJoin<M> {
     ghost both = { λ d e. doing d.name false (M.both d.client e.client) };
 
     ghost spent = { doing None false M.spent };
