@@ -1,5 +1,5 @@
 -- Tests of the next event of a task.
-use Rattle.std.proofs.Common.{◌≡◌, ℕ, zero, suc, ◌+◌, ◌<◌, Bool, true, false, ◌||◌, cond, eqb, eq-eqb, List, [], ◌∷◌, ◌++◌, Option, Some, None, is_some, is_none, ℤ, pos, length, get_or, take, drop, unsigned_abs, refl, ap, arith, inl, inr}
+use Rattle.std.proofs.Common.{◌≡◌, ℕ, zero, suc, ◌+◌, ◌<◌, Bool, true, false, ◌||◌, cond, eqb, eq-eqb, List, [], ◌∷◌, ◌++◌, Option, Some, None, is_some, is_none, ℤ, pos, length, get_or, take, drop, unsigned_abs, refl, sym, ◌∙◌, ap, arith, inl, inr}
 use Rattle.std.specs.List.{position_from}
 use Rattle.phase_base.specs.Modes.{mode_signals, mode_waits}
 use Rattle.phase_base.specs.Members.{signal_phases}
@@ -12,7 +12,7 @@ use Rattle.phase_history.specs.Refusals.{register_refusal, signal_refusal, wait_
 use Rattle.graph_base.specs.declared.line.Kind.{Kind}
 use Rattle.graph_base.specs.declared.line.Kind.TheVariants.{Source, Fir, Split, Join, Peer, Sink}
 use Rattle.graph_base.specs.declared.line.Parent.{Parent}
-use Rattle.graph_base.specs.Graphs.{Task, task_at, phaser_at}
+use Rattle.graph_base.specs.Graphs.{Task, task_at, phaser_at, is_source}
 use Rattle.graph_base.specs.TaskLines.{IsGraph}
 use Rattle.stream_lists.specs.Jobs.{Job, samples_at, place_in}
 use Rattle.stream_lists.specs.Spans.{signalled_by, takes_from}
@@ -149,21 +149,22 @@ may_begin job m t p =
 
 -- ---- the end of a task
 
-abbrev pub is_source : (kind : Kind) → Test (kind ≡ Source)
-is_source Source = always refl
-is_source Fir = never
-is_source Split = never
-is_source Join = never
-is_source Peer = never
-is_source Sink = never
+pub source-is : (kind : Kind) → is_source kind ≡ true → kind ≡ Source
+source-is Source e = refl
+source-is Fir e = absurd (cc)
+source-is Split e = absurd (cc)
+source-is Join e = absurd (cc)
+source-is Peer e = absurd (cc)
+source-is Sink e = absurd (cc)
+
+pub no_source : (kind : Kind) → is_source kind ≡ false → kind ≡ Source → ⊥
+no_source kind e source = (let clash : true ≡ false = ap is_source (sym source) ∙ e in cc)
+
+abbrev pub is_source_kind : (kind : Kind) → Test (kind ≡ Source)
+is_source_kind kind = giving (source-is kind) (test.is_true (is_source kind))
 
 abbrev pub is_no_source : (kind : Kind) → Test (kind ≡ Source → ⊥)
-is_no_source Source = never
-is_no_source Fir = always (λ s. absurd (cc))
-is_no_source Split = always (λ s. absurd (cc))
-is_no_source Join = always (λ s. absurd (cc))
-is_no_source Peer = always (λ s. absurd (cc))
-is_no_source Sink = always (λ s. absurd (cc))
+is_no_source kind = giving (no_source kind) (test.is_false (is_source kind))
 
 abbrev pub is_peer : (kind : Kind) → Test (kind ≡ Peer)
 is_peer Peer = always refl
@@ -185,7 +186,7 @@ may_end m task t samples =
     let End = MayEnd m task t samples in
     either End (giving (λ e. at_until e) (test.is_some_of task.until (m.begun t)))
     (either End (giving (λ b. no_sample b.left b.right)
-    (both (is_source task.kind) (test.is_at_most samples (m.begun t))))
+    (both (is_source_kind task.kind) (test.is_at_most samples (m.begun t))))
     (giving (λ b. no_input b.left b.right)
     (both (is_no_source task.kind) (ran_out m task t (first_input task (m.begun t))))))
 
@@ -246,7 +247,7 @@ is_next_sample job m t j p n v =
       sample = b.right.right.right.right;
     })
     (both (is_accepted_signal job m t j p n v)
-    (both (is_source (task_at job.graph t).kind)
+    (both (is_source_kind (task_at job.graph t).kind)
     (both (may_begin job m t p)
     (both (test.is_equal (length (m.put t j)) (m.begun t))
     (test.is_value (get_or (samples_at job t) (m.begun t) (pos 0)) v)))))

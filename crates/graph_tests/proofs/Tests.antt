@@ -15,6 +15,9 @@ pub record Test (P : Type 0) : Type 0 where
 pub untrue : {P : Type 0} → false ≡ true → P
 untrue e = absurd (cc)
 
+pub nothing_there : {X P : Type 0} (x : X) → None ≡ Some x → P
+nothing_there x is = absurd (cc)
+
 abbrev pub never : {P : Type 0} → Test P
 never = record { holds = false; sound = untrue }
 
@@ -62,7 +65,7 @@ each (suc n) P test = record {
 -- a fact of what is there
 abbrev pub when_some : {X : Type 0} (o : Option X) (P : X → Type 0) → ((x : X) → Test (P x))
     → Test ((x : X) → o ≡ Some x → P x)
-when_some None P test = record { holds = true; sound = λ e x is. absurd (cc) }
+when_some None P test = always (λ x is. nothing_there x is)
 when_some (Some y) P test = record {
   holds = (test y).holds;
   sound = λ e x is. subst P (same_Some y x is) ((test y).sound e);
@@ -75,7 +78,7 @@ where_so A P says is test =
   where
     by : (b : Bool) → b ≡ true → (not b || test.holds) ≡ true → P
     by true so e = test.sound e
-    by false so e = absurd (cc)
+    by false so e = untrue so
 
 -- ---- tests of plain facts
 
@@ -93,8 +96,8 @@ abbrev pub is_other : (a b : ℕ) → Test (a ≢ b)
 is_other a b = record { holds = not (eqb a b); sound = λ e same. by (eqb a b) (eq-eqb a b same) e }
   where
     by : (c : Bool) → c ≡ true → not c ≡ true → ⊥
-    by true so e = absurd (cc)
-    by false so e = absurd (cc)
+    by true so e = untrue e
+    by false so e = untrue so
 
 abbrev pub is_at_most : (a b : ℕ) → Test (a ≤ b)
 is_at_most a b = record { holds = leb a b; sound = λ e. leb-true a b e }

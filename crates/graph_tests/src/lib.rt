@@ -1,6 +1,7 @@
 //! Tests of runs of graphs: whole runs, event by event, and each law of them used once.
 #![tactic(auto)]
 
+mod ready;
 mod worked_events;
 mod worked_faults;
 mod worked_run;

@@ -1,7 +1,5 @@
 -- One fact of each premise does not hold.
-use Rattle.std.proofs.Common.{◌≡◌, ◌<◌, ◌≤◌, ℕ, length, [], ◌∷◌, Option, Some, None, refl, arith, inr}
-use Rattle.graph_base.specs.declared.line.Kind.{Kind}
-use Rattle.graph_base.specs.declared.line.Kind.TheVariants.{Source, Split}
+use Rattle.std.proofs.Common.{◌≡◌, ◌<◌, ◌≤◌, ℕ, List, length, [], ◌∷◌, Option, Some, None, refl, arith, inr}
 use Rattle.graph_base.specs.Graphs.{task_at}
 use Rattle.stream_lists.specs.Jobs.{samples_at}
 use Rattle.graph_moments.specs.Moments.{MayEnd, at_until, no_sample, no_input}
@@ -20,7 +18,7 @@ returns-clause-steps_past_until c = λ outcome e.
 
 pub returns-clause-waits_before_it_comes : goal.returns-clause-waits_before_it_comes
 returns-clause-waits_before_it_comes c = λ outcome e.
-    (let absent : None ≡ Some 3 = e.wait.numbered in absurd (cc))
+    (let number : Option ℕ = None in let absent : number ≡ Some 3 = e.wait.numbered in cc)
 
 pub returns-clause-mixes_before_its_exchange : goal.returns-clause-mixes_before_its_exchange
 returns-clause-mixes_before_its_exchange c = λ v e.
@@ -44,4 +42,4 @@ returns-clause-leaves_before_its_input_ends c = λ e. by e.ended.may_end
     by : MayEnd after_peer (task_at worked.graph 2) 2 (length (samples_at worked 2)) → ⊥
     by (at_until u) = absurd (cc)
     by (no_sample s few) = absurd (cc)
-    by (no_input s out) = (let none : 2 ∷ [] ≡ [] = out.0 in absurd (cc))
+    by (no_input s out) = (let phases : List ℕ = 2 ∷ [] in let none : phases ≡ [] = out.0 in cc)

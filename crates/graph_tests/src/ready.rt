@@ -1,0 +1,11 @@
+//! What a job tells is all that the laws of runs ask for.
+ghost use Rattle.graph_moments.specs.Settled.{IsReady};
+
+use stream_lists::Job;
+
+/// Each job that was made is ready: its graph was read, and no two tasks meet. It takes no memory.
+fn a_job_is_ready(job: &Job)
+    ensures { IsReady job.now }
+{
+    let _tasks = job.graph().tasks();
+}
