@@ -1,7 +1,8 @@
 //! What holds of every moment of a run. Each function here makes no call and has no effect: its
 //! contract is the law. `IsReady` is what reading a graph and making a job tell, and `HasRun` what
 //! the events of a run keep, in whatever order the tasks take their turns.
-ghost use Rattle.std.specs.Prelude.{◌≡◌, ◌≢◌, ◌+◌, ◌<◌, ◌≤◌, ℕ, ℤ, suc, pos, List, Some, None, Ok, true, length, get_or, map};
+ghost use Rattle.std.specs.Prelude.{◌≡◌, ◌≢◌, ◌+◌, ◌<◌, ◌≤◌, ℕ, ℤ, suc, pos, List, Some, None, Ok};
+ghost use Rattle.std.specs.Prelude.{true, length, get_or, map};
 ghost use mathlib.Core.List.{IsPrefix};
 ghost use Rattle.phase_accum.specs.declared.outcome.Outcome.TheVariants.{TooBig};
 ghost use Rattle.phase_history.specs.Histories.{HasNoSignaller, done_of};
@@ -11,7 +12,8 @@ ghost use Rattle.graph_base.specs.TaskLines.{IsGraph};
 ghost use Rattle.graph_base.specs.declared.place.Place.TheVariants as place;
 ghost use Rattle.stream_lists.specs.Jobs.{Job, place_in};
 ghost use Rattle.stream_lists.specs.Lists.{numbers_of, list_of_phaser, taken_from, sinks_of};
-ghost use Rattle.stream_lists.specs.Ranges.{Where, first_too_big, answer_of, are_made, is_out_of_range};
+ghost use Rattle.stream_lists.specs.Ranges.{Where, first_too_big, answer_of, are_made};
+ghost use Rattle.stream_lists.specs.Ranges.{is_out_of_range};
 ghost use Rattle.stream_lists.specs.Spans.{span_in, signalled_by};
 ghost use Rattle.graph_moments.specs.Moments.{Moment, HasRun, IsOver, IsRegistered};
 ghost use Rattle.graph_moments.specs.Moments.{HasMetNone, AnsweredNone};
