@@ -10,7 +10,7 @@ use Rattle.graph_moments.specs.Moments.{Moment, HasRun}
 use Rattle.graph_moments.proofs.OnLines.{on_phaser}
 use Rattle.graph_moves.specs.Moves.{HasGrown, OthersMoved}
 use Rattle.graph_moves.specs.Turned.{with_at}
-use Rattle.graph_tests.specs.Runs.{Turn, sample, signal, first_wait, exchange_wait, leave, child, after_turn, after_all}
+use Rattle.graph_tests.specs.Runs.{TaskEvent, sample, signal, first_wait, exchange_wait, leave, child, after_turn, after_all}
 
 event_begins : (p q : ℕ) (event : Event) (h : ℕ → History)
     → IsBeginning (h q) (with_at p (event ∷ h p) h q)
@@ -22,7 +22,7 @@ event_begins p q event h = by (eqb q p) refl
         record { later = event ∷ []; is = ap (λ x. event ∷ h x) (sym same) }
     by false e = record { later = []; is = refl }
 
-pub turn_begins : (job : Job) (turn : Turn) (m : Moment) (q : ℕ)
+pub turn_begins : (job : Job) (turn : TaskEvent) (m : Moment) (q : ℕ)
     → IsBeginning (m.history q) ((after_turn job turn m).history q)
 turn_begins job (sample t j p n v) m q = event_begins p q _ m.history
 turn_begins job (signal t j p n v) m q = event_begins p q _ m.history
@@ -31,7 +31,7 @@ turn_begins job (exchange_wait t p n outcome) m q = event_begins p q _ m.history
 turn_begins job (leave t p n) m q = event_begins p q _ m.history
 turn_begins job (child t p n c a mode) m q = event_begins p q _ m.history
 
-pub turns_begin : (job : Job) (turns : List Turn) (m : Moment) (q : ℕ)
+pub turns_begin : (job : Job) (turns : List TaskEvent) (m : Moment) (q : ℕ)
     → IsBeginning (m.history q) ((after_all job m turns).history q)
 turns_begin job [] m q = record { later = []; is = refl }
 turns_begin job (turn ∷ turns) m q =

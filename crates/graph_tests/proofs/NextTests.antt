@@ -21,7 +21,7 @@ use Rattle.graph_moments.specs.Moments.{Moment, HasRun, limits_at, value_at, inp
 use Rattle.graph_moments.proofs.OnLines.{on_phaser}
 use Rattle.graph_moves.specs.Moves.{IsStaying, NoneDue, MayBegin}
 use Rattle.graph_moves.specs.Turned.{IsAcceptedSignal, IsNextSignal, IsNextSample, IsAnsweredWait, IsFirstWait, IsExchangeWait, IsNextLeave, IsNextChild}
-use Rattle.graph_tests.specs.Runs.{Turn, sample, signal, first_wait, exchange_wait, leave, child, IsThere, IsNext}
+use Rattle.graph_tests.specs.Runs.{TaskEvent, sample, signal, first_wait, exchange_wait, leave, child, IsThere, IsNext}
 use Rattle.graph_tests.proofs.Tests as test
 use Rattle.graph_tests.proofs.Tests.{Test, Both, never, always, giving, both, either, each, when_some, where_so}
 
@@ -385,7 +385,7 @@ on_it job m t p P next =
     giving (λ b is ran. (b.left, b.right (record { graph = is; ran = ran; there = b.left })))
     (both (is_there_at job t p) next)
 
-abbrev pub is_next : (job : Job) (m : Moment) (turn : Turn)
+abbrev pub is_next : (job : Job) (m : Moment) (turn : TaskEvent)
     → Test (IsGraph job.graph → HasRun job m → IsNext job m turn)
 is_next job m (sample t j p n v) =
     on_it job m t p (IsNextSample job m t j p n v) (is_next_sample job m t j p n v)

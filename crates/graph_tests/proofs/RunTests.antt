@@ -10,13 +10,13 @@ use Rattle.stream_lists.specs.Jobs.{Job}
 use Rattle.stream_lists.specs.Ranges.{is_too_big}
 use Rattle.graph_moments.specs.Moments.{Moment, HasRun, IsOver, AnsweredNone, value_at}
 use Rattle.graph_moments.proofs.OnLines.{on_phaser}
-use Rattle.graph_tests.specs.Runs.{Turn, after_turn, after_all, IsNext, AreNext, HasRunThrough}
+use Rattle.graph_tests.specs.Runs.{TaskEvent, after_turn, after_all, IsNext, AreNext, HasRunThrough}
 use Rattle.graph_tests.proofs.Tests as test
 use Rattle.graph_tests.proofs.Tests.{Test, Both, never, always, giving, both, either, each, when_some}
 use Rattle.graph_tests.proofs.GraphTests.{all_of}
 use Rattle.graph_tests.proofs.NextTests.{is_next}
 
-abbrev pub are_next : (job : Job) (m : Moment) (turns : List Turn)
+abbrev pub are_next : (job : Job) (m : Moment) (turns : List TaskEvent)
     → Test (IsGraph job.graph → AreNext job m turns)
 are_next job m [] = always (λ is. tt)
 are_next job m (turn ∷ turns) =
@@ -24,8 +24,8 @@ are_next job m (turn ∷ turns) =
     (both (is_next job m turn) (are_next job (after_turn job turn m) turns))
 
 -- where each next event keeps what a run has, all do
-pub run_through : (job : Job) (m : Moment) (turns : List Turn)
-    → ((m : Moment) (turn : Turn) → IsNext job m turn → HasRun job m
+pub run_through : (job : Job) (m : Moment) (turns : List TaskEvent)
+    → ((m : Moment) (turn : TaskEvent) → IsNext job m turn → HasRun job m
     → HasRun job (after_turn job turn m))
     → AreNext job m turns → HasRun job m → HasRunThrough job m turns
 run_through job m [] keeps next ran = ran
@@ -35,7 +35,7 @@ run_through job m (turn ∷ turns) keeps next ran = (
       (keeps m turn (next.0 ran) ran),
 )
 
-pub run_to_the_end : (job : Job) (m : Moment) (turns : List Turn) → HasRunThrough job m turns
+pub run_to_the_end : (job : Job) (m : Moment) (turns : List TaskEvent) → HasRunThrough job m turns
     → HasRun job (after_all job m turns)
 run_to_the_end job m [] ran = ran
 run_to_the_end job m (turn ∷ turns) ran =

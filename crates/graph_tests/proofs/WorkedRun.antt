@@ -4,7 +4,7 @@ use Rattle.graph_base.specs.TaskLines.{IsGraph}
 use Rattle.stream_lists.specs.Jobs.{Job}
 use Rattle.graph_moments.specs.Moments.{Moment, HasRun}
 use Rattle.graph_moments.specs.Settled.{IsReady}
-use Rattle.graph_tests.specs.Runs.{Turn, AreNext, HasRunThrough, after_all}
+use Rattle.graph_tests.specs.Runs.{TaskEvent, AreNext, HasRunThrough, after_all}
 use Rattle.graph_tests.specs.Worked.{worked}
 use Rattle.graph_tests.proofs.GraphTests.{is_graph}
 use Rattle.graph_tests.proofs.RunTests.{are_next, run_to_the_end}
@@ -17,10 +17,10 @@ worked-ready = record { graph = worked-is; apart = refl }
 
 -- that next events lead on
 abbrev pub LeadOn : Type 0
-LeadOn = (job : Job) (m : Moment) (turns : List Turn) → IsGraph job.graph
+LeadOn = (job : Job) (m : Moment) (turns : List TaskEvent) → IsGraph job.graph
     → AreNext job m turns → HasRun job m → HasRunThrough job m turns
 
-pub part : LeadOn → (job : Job) (m : Moment) (turns : List Turn) → IsGraph job.graph
+pub part : LeadOn → (job : Job) (m : Moment) (turns : List TaskEvent) → IsGraph job.graph
     → (are_next job m turns).holds ≡ true → HasRun job m → HasRun job (after_all job m turns)
 part lead job m turns is e ran =
     run_to_the_end job m turns (lead job m turns is ((are_next job m turns).sound e is) ran)

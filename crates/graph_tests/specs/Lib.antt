@@ -1,3 +1,4 @@
 pub mod Runs
 pub mod Worked
 pub mod WorkedFaults
+pub mod WorkedTurns

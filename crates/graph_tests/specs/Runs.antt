@@ -1,62 +1,24 @@
 -- Runs of a graph as lists of events, one event of one task at a time.
-use Rattle.std.specs.Prelude.{ℕ, suc, ◌<◌, ℤ, List, [], ◌∷◌, Option, None, get_or, length}
-use Rattle.phase_base.specs.declared.mode.Mode.{Mode}
-use Rattle.phase_accum.specs.declared.outcome.Outcome.{Outcome}
+use Rattle.std.specs.Prelude.{ℕ, List, [], ◌∷◌, Option, None, get_or}
 use Rattle.phase_history.specs.Histories.{History}
-use Rattle.graph_base.specs.declared.line.Parent.{Parent}
 use Rattle.stream_lists.specs.Jobs.{Job}
 use Rattle.graph_moments.specs.Moments.{Moment, HasRun}
-use Rattle.graph_moves.specs.Turned.{after_signal, after_wait, after_leave, after_register}
-use Rattle.graph_moves.specs.Turned.{IsNextSample, IsNextSignal, IsFirstWait, IsExchangeWait, IsNextLeave, IsNextChild}
-
--- an event of task t on phaser p, where its number is n: v on output j; an outcome from input k;
--- that it leaves; that it registers task c as number a
-pub data Turn : Type 0 where
-  sample : (t j p n : ℕ) (v : ℤ) → Turn
-  signal : (t j p n : ℕ) (v : ℤ) → Turn
-  first_wait : (t k p n : ℕ) (outcome : Outcome) → Turn
-  exchange_wait : (t p n : ℕ) (outcome : Outcome) → Turn
-  leave : (t p n : ℕ) → Turn
-  child : (t p n c a : ℕ) (mode : Mode) → Turn
-
--- the graph has the task and the phaser
-pub record IsThere (job : Job) (t p : ℕ) : Type 0 where
-  pub task : t < length job.graph.tasks
-  pub phaser : p < length job.graph.phasers
-
--- the moment after it
-abbrev pub after_turn : Job → Turn → Moment → Moment
-after_turn job (sample t j p n v) m = after_signal job t j p n v (suc (m.begun t)) m
-after_turn job (signal t j p n v) m = after_signal job t j p n v (m.begun t) m
-after_turn job (first_wait t k p n outcome) m = after_wait t k p n outcome (suc (m.begun t)) m
-after_turn job (exchange_wait t p n outcome) m = after_wait t 1 p n outcome (m.begun t) m
-after_turn job (leave t p n) m = after_leave p n m
-after_turn job (child t p n c a mode) m = after_register p n c a mode m
-
--- the event is the next one of its task, on a phaser that accepts it
-abbrev pub IsNext : Job → Moment → Turn → Type 0
-IsNext job m (sample t j p n v) = IsThere job t p × IsNextSample job m t j p n v
-IsNext job m (signal t j p n v) = IsThere job t p × IsNextSignal job m t j p n v
-IsNext job m (first_wait t k p n outcome) = IsThere job t p × IsFirstWait job m t k p n outcome
-IsNext job m (exchange_wait t p n outcome) = IsThere job t p × IsExchangeWait job m t p n outcome
-IsNext job m (leave t p n) = IsThere job t p × IsNextLeave job m t p n
-IsNext job m (child t p n c a mode) =
-    IsThere job t p × ((u : Parent) × IsNextChild job m t p n c a mode u)
+pub use Rattle.graph_turns.specs.TaskEvents.{TaskEvent, sample, signal, first_wait, exchange_wait, leave, child, IsThere, after_turn, IsNext}
 
 -- each of these events is the next one, where the run came so far
-abbrev pub AreNext : Job → Moment → List Turn → Type 0
+abbrev pub AreNext : Job → Moment → List TaskEvent → Type 0
 AreNext job m [] = Unit {0}
 AreNext job m (turn ∷ turns) =
     (HasRun job m → IsNext job m turn) × AreNext job (after_turn job turn m) turns
 
 -- each moment of these events, from the first to the last, is one of a run
-abbrev pub HasRunThrough : Job → Moment → List Turn → Type 0
+abbrev pub HasRunThrough : Job → Moment → List TaskEvent → Type 0
 HasRunThrough job m [] = HasRun job m
 HasRunThrough job m (turn ∷ turns) =
     HasRun job m × HasRunThrough job (after_turn job turn m) turns
 
 -- the moment after all of them
-abbrev pub after_all : Job → Moment → List Turn → Moment
+abbrev pub after_all : Job → Moment → List TaskEvent → Moment
 after_all job m [] = m
 after_all job m (turn ∷ turns) = after_all job (after_turn job turn m) turns
 

@@ -13,7 +13,7 @@ use Rattle.graph_base.specs.declared.place.Place.TheVariants as place
 use Rattle.graph_base.specs.Graphs.{Graph, no_task}
 use Rattle.stream_lists.specs.Jobs.{Job}
 use Rattle.graph_moments.specs.Moments.{Moment}
-use Rattle.graph_tests.specs.Runs.{Turn, sample, signal, first_wait, exchange_wait, leave, child, opened, after_turn, after_all}
+use Rattle.graph_tests.specs.Runs.{TaskEvent, sample, signal, first_wait, exchange_wait, leave, child, opened, after_turn, after_all}
 
 -- phaser NAME sum 4
 abbrev pub bus : PhaserLine
@@ -75,7 +75,7 @@ abbrev pub worked_opening : Moment
 worked_opening = opened worked_histories worked_numbers worked_offsets
 
 -- the source's samples go through the peer, which puts 3 * 5 - 5 and 3 * 7 - 7 on Y
-abbrev pub peer_turns : List Turn
+abbrev pub peer_turns : List TaskEvent
 peer_turns =
     sample 0 0 0 1 (pos 5)
     ∷ first_wait 1 0 0 2 (Value (pos 5))
@@ -92,7 +92,7 @@ peer_turns =
 
 -- the splitter puts 10 on A, and the joiner puts it on Z, where out takes it; the splitter puts 14
 -- on B
-abbrev pub lane_turns : List Turn
+abbrev pub lane_turns : List TaskEvent
 lane_turns =
     first_wait 2 0 2 2 (Value (pos 10))
     ∷ signal 2 0 3 1 (pos 10)
@@ -104,11 +104,11 @@ lane_turns =
     ∷ []
 
 -- out registers late on Z
-abbrev pub late_registers : Turn
+abbrev pub late_registers : TaskEvent
 late_registers = child 4 5 2 5 3 Wait
 
 -- out leaves, the joiner puts 14 on Z, and late takes it
-abbrev pub late_turns : List Turn
+abbrev pub late_turns : List TaskEvent
 late_turns =
     leave 4 5 2
     ∷ first_wait 3 1 4 2 (Value (pos 14))
@@ -117,7 +117,7 @@ late_turns =
     ∷ []
 
 -- the peer, the splitter and the joiner leave, each when its input has ended
-abbrev pub last_turns : List Turn
+abbrev pub last_turns : List TaskEvent
 last_turns =
     leave 1 0 2 ∷ leave 1 1 1 ∷ leave 1 2 1
     ∷ leave 2 2 2 ∷ leave 2 3 1 ∷ leave 2 4 1
@@ -125,13 +125,19 @@ last_turns =
     ∷ []
 
 -- and so does late
-abbrev pub late_leaves : Turn
+abbrev pub late_leaves : TaskEvent
 late_leaves = leave 5 5 3
 
 -- all events of the run
-abbrev pub worked_turns : List Turn
+abbrev pub worked_turns : List TaskEvent
 worked_turns =
     peer_turns ++ lane_turns ++ late_registers ∷ late_turns ++ last_turns ++ late_leaves ∷ []
+
+-- whose turns they are
+abbrev pub worked_order : List ℕ
+worked_order =
+    0 ∷ 1 ∷ 1 ∷ 1 ∷ 1 ∷ 0 ∷ 1 ∷ 1 ∷ 0 ∷ 1 ∷ 1 ∷ 2 ∷ 2 ∷ 3 ∷ 2 ∷ 3 ∷ 4 ∷ 2 ∷ 4 ∷ 4 ∷ 3 ∷ 3 ∷ 5 ∷ 1
+    ∷ 1 ∷ 1 ∷ 2 ∷ 2 ∷ 2 ∷ 3 ∷ 3 ∷ 3 ∷ 5 ∷ []
 
 -- after the peer's events; before and after late is registered; before it leaves, and at the end
 abbrev pub after_peer : Moment

@@ -1,5 +1,5 @@
 -- A run that meets a value that is too big, and in which a filter makes one.
-use Rattle.std.specs.Prelude.{ℕ, ℤ, List, [], ◌∷◌, Option, Some, None, pos, codes}
+use Rattle.std.specs.Prelude.{ℕ, ℤ, List, [], ◌∷◌, Option, Some, None, pos, codes, take}
 use Rattle.phase_base.specs.declared.mode.Mode.TheVariants.{Sig, Wait}
 use Rattle.phase_accum.specs.declared.outcome.Outcome.TheVariants.{Value, TooBig}
 use Rattle.phase_history.specs.declared.event.Event.TheVariants.{Made, Registered, Dropped}
@@ -9,7 +9,7 @@ use Rattle.graph_base.specs.declared.place.Place.TheVariants as place
 use Rattle.graph_base.specs.Graphs.{Graph, no_task}
 use Rattle.stream_lists.specs.Jobs.{Job}
 use Rattle.graph_moments.specs.Moments.{Moment}
-use Rattle.graph_tests.specs.Runs.{Turn, sample, first_wait, opened, after_all}
+use Rattle.graph_tests.specs.Runs.{TaskEvent, sample, first_wait, opened, after_all}
 use Rattle.graph_tests.specs.Worked.{bus, founded}
 
 -- the greatest value, 2^63 - 1
@@ -72,7 +72,7 @@ faulty_opening = opened faulty_histories faulty_numbers faulty_offsets
 
 -- out takes the sum of a's and b's values, and the filter takes c's, of which it makes twice as
 -- much
-abbrev pub faulty_turns : List Turn
+abbrev pub faulty_turns : List TaskEvent
 faulty_turns =
     sample 0 0 0 1 greatest
     ∷ sample 1 0 0 2 greatest
@@ -83,3 +83,7 @@ faulty_turns =
 
 abbrev pub faulty_moment : Moment
 faulty_moment = after_all faulty faulty_opening faulty_turns
+
+-- before out takes the sum
+abbrev pub before_fault : Moment
+before_fault = after_all faulty faulty_opening (take 2 faulty_turns)

@@ -5,3 +5,4 @@ mod ready;
 mod worked_events;
 mod worked_faults;
 mod worked_run;
+mod worked_turns;

@@ -11,7 +11,7 @@ ghost use Rattle.stream_lists.specs.Ranges.{answer_of};
 ghost use Rattle.stream_lists.specs.Spans.{span_in};
 ghost use Rattle.graph_moments.specs.Moments.{Moment, HasRun, IsOver, HasMetNone, value_at};
 ghost use Rattle.graph_moments.specs.Settled.{Stands, PutsOut};
-ghost use Rattle.graph_tests.specs.Runs.{Turn, AreNext, HasRunThrough};
+ghost use Rattle.graph_tests.specs.Runs.{TaskEvent, AreNext, HasRunThrough};
 ghost use Rattle.graph_tests.specs.Worked.{worked, worked_opening, worked_turns, worked_end};
 ghost use Rattle.graph_tests.specs.Worked.{after_peer, before_late, with_late, before_end};
 
@@ -20,7 +20,7 @@ use graph_moves::laws as moves;
 
 /// Events that are each the next one of their task lead from one moment of a run to another.
 pub(crate) fn turns_lead_on()
-    ensures { (job : Job) (m : Moment) (turns : List Turn) → IsGraph job.graph
+    ensures { (job : Job) (m : Moment) (turns : List TaskEvent) → IsGraph job.graph
         → AreNext job m turns → HasRun job m → HasRunThrough job m turns }
 {
     moves::turns_keep();

@@ -2,14 +2,14 @@
 use Rattle.graph_base.specs.TaskLines.{IsGraph}
 use Rattle.stream_lists.specs.Jobs.{Job}
 use Rattle.graph_moments.specs.Moments.{Moment, HasRun}
-use Rattle.graph_tests.specs.Runs.{Turn, sample, signal, first_wait, exchange_wait, leave, child, after_turn, IsNext}
+use Rattle.graph_tests.specs.Runs.{TaskEvent, sample, signal, first_wait, exchange_wait, leave, child, after_turn, IsNext}
 use Rattle.graph_tests.proofs.RunTests.{run_through}
 use Rattle.graph_tests.proofs.worked_run.turns_lead_on.Goals as goal
 
 pub returns : goal.returns
 returns c = λ job m turns is next ran. run_through job m turns (keeps job is) next ran
   where
-    keeps : (job : Job) → IsGraph job.graph → (m : Moment) (turn : Turn) → IsNext job m turn
+    keeps : (job : Job) → IsGraph job.graph → (m : Moment) (turn : TaskEvent) → IsNext job m turn
         → HasRun job m → HasRun job (after_turn job turn m)
     keeps job is m (sample t j p n v) next ran =
         c.turns_keep.ensures.sample job m t j p n v is next.0.task next.0.phaser next.1 ran

@@ -1,0 +1,63 @@
+//! The table of turns at the worked runs: what each turn makes, and what it tells.
+ghost use Rattle.std.specs.Prelude.{◌≡◌, ℕ, [], ◌∷◌, Some, None, map, pos, true, false};
+ghost use Rattle.graph_base.specs.declared.place.Place.TheVariants as place;
+ghost use Rattle.graph_turns.specs.Answers.{answers_in_turn, makes, turn_tells, is_stalled};
+ghost use Rattle.graph_turns.specs.Answers.{Moved, Ended, Blocked, Gone, TooBig};
+ghost use Rattle.graph_tests.specs.Worked.{worked, worked_opening, worked_turns, worked_order};
+ghost use Rattle.graph_tests.specs.Worked.{after_signal_on_e, with_late, before_end, worked_end};
+ghost use Rattle.graph_tests.specs.WorkedFaults.{faulty, faulty_moment, before_fault};
+ghost use Rattle.graph_tests.specs.WorkedTurns.{late, late_after, with_child, child_after};
+ghost use Rattle.graph_tests.specs.WorkedTurns.{crossed, crossed_after, six, seven};
+
+/// By turns of the tasks in this order each turn makes the event that the run has next.
+fn turns_make_the_run()
+    ensures { answers_in_turn worked worked_opening worked_order ≡ map makes worked_turns }
+{}
+
+/// What single turns of that run tell.
+fn turns_tell()
+    ensures sample { turn_tells worked None worked_opening 0 ≡ Some Moved }
+    ensures not_yet { turn_tells worked None worked_opening 1 ≡ Some Blocked }
+    ensures not_there_yet { turn_tells worked None worked_opening 5 ≡ Some Gone }
+    ensures no_such_task { turn_tells worked None worked_opening 6 ≡ Some Gone }
+    ensures exchange { turn_tells worked None after_signal_on_e 1 ≡ Some Moved }
+    ensures there { turn_tells worked None with_late 5 ≡ Some Blocked }
+    ensures last_drop { turn_tells worked None before_end 5 ≡ Some Ended }
+    ensures ended { turn_tells worked None worked_end 5 ≡ Some Gone }
+{}
+
+/// A wait for a value that is too big makes its event and tells the phase; a filter's value that is
+/// too big makes none and tells the step. After it each turn tells it again.
+fn values_that_are_too_big_are_told()
+    ensures taken { turn_tells faulty None before_fault 2 ≡ Some (TooBig (place.Phaser 0, 0)) }
+    ensures made { turn_tells faulty None faulty_moment 4 ≡ Some (TooBig (place.Task 4, 0)) }
+    ensures again { turn_tells faulty (Some (place.Task 4, 0)) faulty_moment 0
+        ≡ Some (TooBig (place.Task 4, 0)) }
+{}
+
+/// A sink that comes after two steps of its parent, and one that leaves after two of its own. The
+/// child also comes where its parent ends with that step, and then not at all.
+fn late_and_early_sinks_get_theirs()
+    ensures out { (late_after 2 14).taken 1 0 ≡ pos 1 ∷ pos 2 ∷ pos 3 ∷ pos 4 ∷ [] }
+    ensures late { (late_after 2 14).taken 2 0 ≡ pos 3 ∷ pos 4 ∷ [] }
+    ensures early { (late_after 2 14).taken 3 0 ≡ pos 1 ∷ pos 2 ∷ [] }
+    ensures gone { turn_tells (late 2) None (late_after 2 14) 1 ≡ Some Gone }
+    ensures at_the_end { ((late_after 4 14).number 0 2 ≡ Some 4) × ((late_after 4 14).taken 2 0 ≡ []) }
+    ensures past_the_end { (late_after 5 14).number 0 2 ≡ None }
+{}
+
+/// A filter's child adds its values to those of the filter, for one step.
+fn a_filter_and_its_child_add_up()
+    ensures out { (child_after 20).taken 3 0 ≡ pos 1 ∷ pos 3 ∷ pos 8 ∷ pos 7 ∷ [] }
+    ensures gone { turn_tells with_child None (child_after 20) 3 ≡ Some Gone }
+{}
+
+/// A splitter's half and the whole of a stream on one phaser of bound 1: six samples go through,
+/// and with seven each task comes to wait for another.
+fn the_seventh_sample_stalls()
+    ensures six { (crossed_after six 30).taken 4 0
+        ≡ pos 2 ∷ pos 5 ∷ pos 8 ∷ pos 4 ∷ pos 5 ∷ pos 6 ∷ [] }
+    ensures gone { turn_tells (crossed six) None (crossed_after six 30) 4 ≡ Some Gone }
+    ensures over { is_stalled (crossed six) (crossed_after six 30) ≡ false }
+    ensures stalled { is_stalled (crossed seven) (crossed_after seven 20) ≡ true }
+{}
