@@ -1,6 +1,8 @@
 //! The table of turns at the worked runs: what each turn makes, and what it tells.
 ghost use Rattle.std.specs.Prelude.{◌≡◌, ℕ, [], ◌∷◌, Some, None, map, pos, true, false};
 ghost use Rattle.graph_base.specs.declared.place.Place.TheVariants as place;
+ghost use Rattle.graph_moments.specs.Moments.{HasRun};
+ghost use Rattle.graph_turns.specs.TaskEvents.{IsNext, sample};
 ghost use Rattle.graph_turns.specs.Answers.{answers_in_turn, makes, turn_tells, is_stalled};
 ghost use Rattle.graph_turns.specs.Answers.{Moved, Ended, Blocked, Gone, TooBig};
 ghost use Rattle.graph_tests.specs.Worked.{worked, worked_opening, worked_turns, worked_order};
@@ -9,10 +11,23 @@ ghost use Rattle.graph_tests.specs.WorkedFaults.{faulty, faulty_moment, before_f
 ghost use Rattle.graph_tests.specs.WorkedTurns.{late, late_after, with_child, child_after};
 ghost use Rattle.graph_tests.specs.WorkedTurns.{crossed, crossed_after, six, seven};
 
+use crate::worked_run::a_run_from_its_opening_to_its_end;
+use graph_turns::laws as turns;
+
 /// By turns of the tasks in this order each turn makes the event that the run has next.
 fn turns_make_the_run()
     ensures { answers_in_turn worked worked_opening worked_order ≡ map makes worked_turns }
 {}
+
+/// By the law the source's first sample is its next event, and late's drop, the last event of all,
+/// leaves a moment that has run.
+fn turns_make_next_events()
+    ensures next { IsNext worked worked_opening (sample 0 0 0 1 (pos 5)) }
+    ensures keeps { HasRun worked worked_end }
+{
+    a_run_from_its_opening_to_its_end();
+    turns::turns_make_next_events();
+}
 
 /// What single turns of that run tell.
 fn turns_tell()

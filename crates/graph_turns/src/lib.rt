@@ -4,3 +4,5 @@
 //!
 //! `specs/Nexts.antt` is the first page to read, and `specs/Answers.antt` the second.
 #![tactic(auto)]
+
+pub mod laws;

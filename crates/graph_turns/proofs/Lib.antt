@@ -1,0 +1,5 @@
+pub mod Boundaries
+pub mod Calling
+pub mod Places
+pub mod Signalling
+pub mod Turning

@@ -1,0 +1,25 @@
+//! What a turn makes is the task's next event. Each function here makes no call and has no effect:
+//! its contract is the law.
+ghost use Rattle.std.specs.Prelude.{◌≡◌, ℕ, None};
+ghost use Rattle.graph_base.specs.TaskLines.{IsGraph};
+ghost use Rattle.stream_lists.specs.Jobs.{Job};
+ghost use Rattle.graph_moments.specs.Moments.{Moment, HasRun};
+ghost use Rattle.graph_turns.specs.TaskEvents.{TaskEvent, IsNext, after_turn};
+ghost use Rattle.graph_turns.specs.Nexts.{first_due};
+ghost use Rattle.graph_turns.specs.Answers.{answer_of_turn, makes};
+
+use graph_moves::laws as moves;
+
+/// Where a turn of a task with no child to register makes an event, the event is the task's next
+/// one, and the moment after it has run as well. So who gives turns by the table, and nothing else,
+/// stays within the runs of the graph.
+pub fn turns_make_next_events()
+    ensures next { (job : Job) (m : Moment) (t : ℕ) (event : TaskEvent) → IsGraph job.graph
+        → HasRun job m → first_due job m t ≡ None → answer_of_turn job m t ≡ makes event
+        → IsNext job m event }
+    ensures keeps { (job : Job) (m : Moment) (t : ℕ) (event : TaskEvent) → IsGraph job.graph
+        → HasRun job m → first_due job m t ≡ None → answer_of_turn job m t ≡ makes event
+        → HasRun job (after_turn job event m) }
+{
+    moves::turns_keep();
+}
