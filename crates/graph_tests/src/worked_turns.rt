@@ -7,6 +7,7 @@ ghost use Rattle.graph_turns.specs.Answers.{answers_in_turn, makes, turn_tells, 
 ghost use Rattle.graph_turns.specs.Answers.{Moved, Ended, Blocked, Gone, TooBig};
 ghost use Rattle.graph_tests.specs.Worked.{worked, worked_opening, worked_turns, worked_order};
 ghost use Rattle.graph_tests.specs.Worked.{after_signal_on_e, with_late, before_end, worked_end};
+ghost use Rattle.graph_tests.specs.Worked.{before_late, late_registers};
 ghost use Rattle.graph_tests.specs.WorkedFaults.{faulty, faulty_moment, before_fault};
 ghost use Rattle.graph_tests.specs.WorkedTurns.{late, late_after, with_child, child_after};
 ghost use Rattle.graph_tests.specs.WorkedTurns.{crossed, crossed_after, six, seven};
@@ -20,10 +21,12 @@ fn turns_make_the_run()
 {}
 
 /// By the law the source's first sample is its next event, and late's drop, the last event of all,
-/// leaves a moment that has run.
+/// leaves a moment that has run. So does the event by which out registers late.
 fn turns_make_next_events()
-    ensures next { IsNext worked worked_opening (sample 0 0 0 1 (pos 5)) }
-    ensures keeps { HasRun worked worked_end }
+    ensures childless { IsNext worked worked_opening (sample 0 0 0 1 (pos 5)) }
+    ensures end { HasRun worked worked_end }
+    ensures next { IsNext worked before_late late_registers }
+    ensures keeps { HasRun worked with_late }
 {
     a_run_from_its_opening_to_its_end();
     turns::turns_make_next_events();

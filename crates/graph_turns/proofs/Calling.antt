@@ -275,7 +275,7 @@ may_end job m t e =
     by (inl cut) = at_until (until_is (task_at job.graph t).until (m.begun t) cut)
     by (inr over) = input (task_at job.graph t).kind refl over
 
-accepted : {R : Type 0} (made event : TaskEvent) (o : Option R)
+pub accepted : {R : Type 0} (made event : TaskEvent) (o : Option R)
     → accepted_answer made o ≡ makes event → (o ≡ None) × (made ≡ event)
 accepted made event None e = (refl, ap (λ a. event_or event a) e)
 accepted made event (Some r) e = absurd (cc)

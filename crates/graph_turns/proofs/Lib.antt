@@ -1,5 +1,6 @@
 pub mod Boundaries
 pub mod Calling
 pub mod Places
+pub mod Registering
 pub mod Signalling
 pub mod Turning

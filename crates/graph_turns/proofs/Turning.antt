@@ -1,5 +1,5 @@
--- Where no child is due, a turn makes an event that is the task's next one.
-use Rattle.std.proofs.Common.{◌≡◌, ℕ, Bool, true, false, ◌||◌, cond, Option, Some, None, length, refl, sym, subst, ◌∙◌}
+-- A turn makes an event that is the task's next one.
+use Rattle.std.proofs.Common.{◌≡◌, ℕ, Bool, true, false, ◌||◌, cond, Option, Some, None, length, refl, sym, ◌∙◌}
 use Rattle.graph_base.specs.declared.line.Kind.{Kind}
 use Rattle.graph_base.specs.declared.line.Kind.TheVariants.{Source, Fir, Split, Join, Peer, Sink}
 use Rattle.graph_base.specs.Graphs.{task_at}
@@ -7,7 +7,8 @@ use Rattle.graph_base.specs.TaskLines.{IsGraph}
 use Rattle.stream_lists.specs.Jobs.{Job}
 use Rattle.graph_moments.specs.Moments.{Moment, HasRun}
 use Rattle.graph_turns.specs.TaskEvents.{TaskEvent, IsNext}
-use Rattle.graph_turns.specs.Nexts.{is_not_live, leaves, signals, exchanges, is_live, of_live, first_owed, first_due, waits_first, at_boundary, without_child, is_cut, has_input_ended, next_step}
+use Rattle.graph_turns.proofs.Registering.{child_next}
+use Rattle.graph_turns.specs.Nexts.{HasChildrenToCome, is_not_live, leaves, signals, exchanges, is_live, of_live, first_owed, first_due, waits_first, at_boundary, without_child, is_cut, has_input_ended, next_step}
 use Rattle.graph_turns.specs.Answers.{makes, answer_to, answer_of_turn}
 use Rattle.graph_turns.proofs.Signalling.{Live, live-is, signal_next}
 use Rattle.graph_turns.proofs.Boundaries.{or_false}
@@ -81,25 +82,33 @@ childless job m t event is ran live none due answer =
         (has_input_ended job m t (task_at job.graph t).kind) end in
         stepping job m t event is ran live none due both.0 both.1 answer
 
+-- where a child is due, its parent's children have to be such as they are before they come
 pub turn_makes_next : (job : Job) (m : Moment) (t : ℕ) (event : TaskEvent) → IsGraph job.graph
-    → HasRun job m → first_due job m t ≡ None → answer_of_turn job m t ≡ makes event
-    → IsNext job m event
-turn_makes_next job m t event is ran due answer = by (is_live job m t) refl answer
+    → HasRun job m → ((c : ℕ) → first_due job m t ≡ Some c → HasChildrenToCome job m)
+    → answer_of_turn job m t ≡ makes event → IsNext job m event
+turn_makes_next job m t event is ran to_come answer = by (is_live job m t) refl answer
   where
-    at_rest : Live job m t → first_owed job m t ≡ None
-        → answer_to job m t (at_boundary job m t (first_due job m t)) ≡ makes event
-        → IsNext job m event
-    at_rest live none answer =
-        let A : Option ℕ → Type 0 = λ o. answer_to job m t (at_boundary job m t o) ≡ makes event in
-        childless job m t event is ran live none due (subst A due answer)
+    at_rest : (o : Option ℕ) → first_due job m t ≡ o → Live job m t → first_owed job m t ≡ None
+        → answer_to job m t (at_boundary job m t o) ≡ makes event → IsNext job m event
+    at_rest None due live none answer = childless job m t event is ran live none due answer
+    at_rest (Some c) due live none answer =
+        child_next job m t c event is ran (to_come c due) live none due answer
 
     of_owed : (o : Option ℕ) → first_owed job m t ≡ o → Live job m t
         → answer_to job m t (of_live job m t o) ≡ makes event → IsNext job m event
     of_owed (Some j) owes live answer = owing job m t j event is ran live owes answer
-    of_owed None none live answer = at_rest live none answer
+    of_owed None none live answer = at_rest (first_due job m t) refl live none answer
 
     by : (b : Bool) → is_live job m t ≡ b
         → answer_to job m t (cond b (of_live job m t (first_owed job m t)) is_not_live)
         ≡ makes event → IsNext job m event
     by true live answer = of_owed (first_owed job m t) refl (live-is job m t live) answer
     by false live answer = absurd (cc)
+
+-- a task with no child to register needs no such fact
+pub childless_makes_next : (job : Job) (m : Moment) (t : ℕ) (event : TaskEvent) → IsGraph job.graph
+    → HasRun job m → first_due job m t ≡ None → answer_of_turn job m t ≡ makes event
+    → IsNext job m event
+childless_makes_next job m t event is ran due answer =
+    turn_makes_next job m t event is ran
+    (λ c e. absurd (let wrong : Some c ≡ None = sym e ∙ due in cc)) answer

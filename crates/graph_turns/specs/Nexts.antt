@@ -1,6 +1,6 @@
 -- What a task does next at a moment, by the order of its events: the rest of its step; at a
 -- boundary first its children that come there, then `until`, the end of its input, and a step.
-use Rattle.std.specs.Prelude.{ℕ, suc, ◌+◌, Bool, false, not, ◌&&◌, ◌||◌, ◌==◌, List, length, Option, Some, None, is_some, unwrap_or, nat_le, nat_lt, if◌then◌else◌}
+use Rattle.std.specs.Prelude.{◌<◌, [], ◌≡◌, ℕ, suc, ◌+◌, Bool, false, not, ◌&&◌, ◌||◌, ◌==◌, List, length, Option, Some, None, is_some, unwrap_or, nat_le, nat_lt, if◌then◌else◌, true}
 use Rattle.std.specs.List.{range_with_len, find}
 use Rattle.phase_base.specs.Members.{signal_phases, least}
 use Rattle.phase_history.specs.Histories.{History, members_of, done_of, has_dropped}
@@ -141,3 +141,17 @@ of_live job m t None = at_boundary job m t (first_due job m t)
 -- what task t does next
 abbrev pub next_of : Job → Moment → ℕ → Next
 next_of job m t = if is_live job m t then of_live job m t (first_owed job m t) else is_not_live
+
+-- ---- children to come
+
+-- a child begins so many steps after its parent, and has done nothing where it is not registered
+-- on all phasers of its line. The opening sets both, and no event of a live task changes them
+pub record HasChildrenToCome (job : Job) (m : Moment) : Type 0 where
+  pub offset : (c : ℕ) (u : Parent) → c < length job.graph.tasks
+      → (task_at job.graph c).parent ≡ Some u → m.offset c ≡ m.offset u.task + u.at
+  pub nothing_begun : (c : ℕ) → c < length job.graph.tasks
+      → is_some (first_missing job m c) ≡ true → m.begun c ≡ 0
+  pub nothing_put : (c j : ℕ) → c < length job.graph.tasks
+      → is_some (first_missing job m c) ≡ true → m.put c j ≡ []
+  pub nothing_taken : (c k : ℕ) → c < length job.graph.tasks
+      → is_some (first_missing job m c) ≡ true → m.taken c k ≡ []

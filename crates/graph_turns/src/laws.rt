@@ -5,21 +5,25 @@ ghost use Rattle.graph_base.specs.TaskLines.{IsGraph};
 ghost use Rattle.stream_lists.specs.Jobs.{Job};
 ghost use Rattle.graph_moments.specs.Moments.{Moment, HasRun};
 ghost use Rattle.graph_turns.specs.TaskEvents.{TaskEvent, IsNext, after_turn};
-ghost use Rattle.graph_turns.specs.Nexts.{first_due};
+ghost use Rattle.graph_turns.specs.Nexts.{first_due, HasChildrenToCome};
 ghost use Rattle.graph_turns.specs.Answers.{answer_of_turn, makes};
 
 use graph_moves::laws as moves;
 
-/// Where a turn of a task with no child to register makes an event, the event is the task's next
-/// one, and the moment after it has run as well. So who gives turns by the table, and nothing else,
-/// stays within the runs of the graph.
+/// Where a turn makes an event, the event is the task's next one, and the moment after it has run as
+/// well. So who gives turns by the table, and nothing else, stays within the runs of the graph. Of
+/// children it asks that those to come are as the opening leaves them, and of a task with no child
+/// to register not even that: `childless`.
 pub fn turns_make_next_events()
     ensures next { (job : Job) (m : Moment) (t : ℕ) (event : TaskEvent) → IsGraph job.graph
-        → HasRun job m → first_due job m t ≡ None → answer_of_turn job m t ≡ makes event
+        → HasRun job m → HasChildrenToCome job m → answer_of_turn job m t ≡ makes event
         → IsNext job m event }
     ensures keeps { (job : Job) (m : Moment) (t : ℕ) (event : TaskEvent) → IsGraph job.graph
-        → HasRun job m → first_due job m t ≡ None → answer_of_turn job m t ≡ makes event
+        → HasRun job m → HasChildrenToCome job m → answer_of_turn job m t ≡ makes event
         → HasRun job (after_turn job event m) }
+    ensures childless { (job : Job) (m : Moment) (t : ℕ) (event : TaskEvent) → IsGraph job.graph
+        → HasRun job m → first_due job m t ≡ None → answer_of_turn job m t ≡ makes event
+        → IsNext job m event × HasRun job (after_turn job event m) }
 {
     moves::turns_keep();
 }

@@ -1,0 +1,268 @@
+-- A child that a turn registers is the one that is next.
+use Rattle.std.proofs.Common.{◌≡◌, ◌≢◌, ℕ, ◌+◌, ◌-◌, ◌<◌, ◌≤◌, true, false, not, eqb, Option, Some, None, is_some, length, get_or, refl, sym, ap, subst, ◌∙◌, arith, ◌⊎◌, inl, inr}
+use Rattle.std.proofs.lemmas.Bool.{and_parts, eqb-true, cases_lt}
+use Rattle.std.proofs.lemmas.List.{length-map, length-append}
+use Rattle.phase_base.specs.Modes.{mode_signals, mode_waits}
+use Rattle.phase_history.specs.Histories.{greatest_used}
+use Rattle.phase_history.specs.Refusals.{register_refusal}
+use Rattle.graph_base.specs.declared.line.Kind.{Kind}
+use Rattle.graph_base.specs.declared.line.Kind.TheVariants.{Source, Fir, Split, Join, Peer, Sink}
+use Rattle.graph_base.specs.declared.line.Parent.{Parent}
+use Rattle.graph_base.specs.declared.registration.Registration.{Registration}
+use Rattle.graph_base.specs.Graphs.{task_at}
+use Rattle.graph_base.specs.Registrations.{ends_of, as_input, as_output, no_registration}
+use Rattle.graph_base.specs.TaskLines.{IsGraph, has_children, IsParent}
+use Rattle.graph_base.proofs.Registered.{registrations-phasers, registrations-plain, end-input, end-output}
+use Rattle.stream_lists.specs.Jobs.{Job, place_in}
+use Rattle.stream_lists.specs.Spans.{signalled_by, takes_from}
+use Rattle.stream_lists.proofs.SpansAbove.{parent-is}
+use Rattle.stream_laws.proofs.Ordered.{place-at, parent_signals, parent_waits}
+use Rattle.graph_moments.specs.Moments.{Moment, HasRun, OnLine, input_at}
+use Rattle.graph_moments.proofs.OnLines.{on_phaser}
+use Rattle.graph_moments.proofs.OutputLists.{puts-few}
+use Rattle.graph_turns.specs.TaskEvents.{TaskEvent, IsNext, child}
+use Rattle.graph_turns.specs.Nexts.{HasChildrenToCome, first_owed, first_due, first_missing, is_due, comes_by, has_registered, registrations_at, number_on}
+use Rattle.graph_turns.specs.Answers.{makes, call_register}
+use Rattle.graph_turns.proofs.Places.{find-some, place_of_output}
+use Rattle.graph_turns.proofs.Signalling.{Live, number_there, found_below}
+use Rattle.graph_turns.proofs.Boundaries.{all_put, all_taken, made_many}
+use Rattle.graph_turns.proofs.Calling.{accepted}
+
+-- the parent of a child that comes at this boundary
+pub record Comes (t b : ℕ) (parent : Option Parent) : Type 0 where
+  pub by : Parent
+  pub is : parent ≡ Some by
+  pub task : by.task ≡ t
+  pub at : by.at ≡ b
+
+comes-is : (t b : ℕ) (parent : Option Parent) → comes_by t b parent ≡ true → Comes t b parent
+comes-is t b None e = absurd (cc)
+comes-is t b (Some u) e =
+    let both = and_parts (eqb u.task t) (eqb u.at b) e in
+    record { by = u; is = refl; task = eqb-true u.task t both.0; at = eqb-true u.at b both.1 }
+
+no_peer : (kind : Kind) → has_children kind ≡ true → kind ≢ Peer
+no_peer Source e = λ p. (cc)
+no_peer Fir e = λ p. (cc)
+no_peer Sink e = λ p. (cc)
+no_peer Split e = absurd (cc)
+no_peer Join e = absurd (cc)
+no_peer Peer e = absurd (cc)
+
+plain_outputs : (job : Job) (c : ℕ) → has_children (task_at job.graph c).kind ≡ true
+    → signalled_by (task_at job.graph c) ≡ (task_at job.graph c).outputs
+plain_outputs job c plain = by (task_at job.graph c).kind refl
+  where
+    by : (kind : Kind) → (task_at job.graph c).kind ≡ kind
+        → signalled_by (task_at job.graph c) ≡ (task_at job.graph c).outputs
+    by Source e = rw e refl
+    by Fir e = rw e refl
+    by Split e = rw e refl
+    by Join e = rw e refl
+    by Sink e = rw e refl
+    by Peer e = absurd (no_peer (task_at job.graph c).kind plain e)
+
+plain_takes : (job : Job) (t b k : ℕ) → has_children (task_at job.graph t).kind ≡ true
+    → takes_from (task_at job.graph t) b k ≡ b
+plain_takes job t b k plain = by (task_at job.graph t).kind refl
+  where
+    by : (kind : Kind) → (task_at job.graph t).kind ≡ kind
+        → takes_from (task_at job.graph t) b k ≡ b
+    by Source e = rw e refl
+    by Fir e = rw e refl
+    by Split e = rw e refl
+    by Peer e = rw e refl
+    by Sink e = rw e refl
+    by Join e =
+        absurd (let wrong : true ≡ false = sym plain ∙ ap has_children e in cc)
+
+-- ---- what a registration of a child is for
+
+-- no phaser is an input and an output
+apart : (job : Job) (c k j p : ℕ) → IsGraph job.graph → c < length job.graph.tasks
+    → k < length (task_at job.graph c).inputs → get_or (task_at job.graph c).inputs k 0 ≡ p
+    → j < length (task_at job.graph c).outputs → get_or (task_at job.graph c).outputs j 0 ≡ p → ⊥
+apart job c k j p is there few at less on =
+    let below : get_or (task_at job.graph c).inputs k 0 < get_or (task_at job.graph c).outputs j 0 =
+    (is.tasks c there).in_order k 0 few j 0 less in
+    omega arith
+
+-- the phaser is on the line, and the mode is that of its use there
+pub record IsFor (job : Job) (c : ℕ) (r : Registration) : Type 0 where
+  pub on_line : OnLine (task_at job.graph c) r.phaser
+  pub signals : (j : ℕ) → place_in (signalled_by (task_at job.graph c)) r.phaser ≡ Some j
+      → mode_signals r.mode ≡ true
+  pub waits : (k : ℕ) → k < length (task_at job.graph c).inputs
+      → input_at (task_at job.graph c) k ≡ r.phaser → mode_waits r.mode ≡ true
+
+for_input : (job : Job) (c k : ℕ) → IsGraph job.graph → c < length job.graph.tasks
+    → signalled_by (task_at job.graph c) ≡ (task_at job.graph c).outputs
+    → k < length (task_at job.graph c).inputs
+    → IsFor job c (as_input (k, get_or (task_at job.graph c).inputs k 0))
+for_input job c k is there plain lt = record {
+  on_line = inr (k, lt, refl);
+  signals = λ j place.
+      (let at = place-at (signalled_by (task_at job.graph c))
+      (get_or (task_at job.graph c).inputs k 0) j place in
+      let long : length (signalled_by (task_at job.graph c))
+      ≡ length (task_at job.graph c).outputs = ap length plain in
+      absurd (apart job c k j (get_or (task_at job.graph c).inputs k 0) is there lt refl
+      (omega arith) (sym (ap (λ qs. get_or qs j 0) plain) ∙ at.1)));
+  waits = λ k lt at. refl;
+}
+
+for_output : (job : Job) (c j : ℕ) → IsGraph job.graph → c < length job.graph.tasks
+    → signalled_by (task_at job.graph c) ≡ (task_at job.graph c).outputs
+    → j < length (task_at job.graph c).outputs
+    → IsFor job c (as_output (j, get_or (task_at job.graph c).outputs j 0))
+for_output job c j is there plain lt =
+    let line = is.tasks c there in
+    let long : length (signalled_by (task_at job.graph c))
+    ≡ length (task_at job.graph c).outputs = ap length plain in
+    let same : get_or (signalled_by (task_at job.graph c)) j 0
+    ≡ get_or (task_at job.graph c).outputs j 0 = ap (λ qs. get_or qs j 0) plain in
+    record {
+      on_line = inl (
+        j,
+        ap (λ p. place_in (signalled_by (task_at job.graph c)) p) (sym same)
+            ∙ place_of_output job.graph c (task_at job.graph c) j line (omega arith),
+      );
+      signals = λ i place. refl;
+      waits = λ k few at.
+          absurd (apart job c k j (get_or (task_at job.graph c).outputs j 0) is there few at lt refl);
+    }
+
+pub is_for : (job : Job) (c i : ℕ) → IsGraph job.graph → c < length job.graph.tasks
+    → has_children (task_at job.graph c).kind ≡ true → i < length (registrations_at job c)
+    → IsFor job c (get_or (registrations_at job c) i no_registration)
+is_for job c i is there plain lt = by (cases_lt i (length (task_at job.graph c).inputs))
+  where
+    same : registrations_at job c ≡ ends_of (task_at job.graph c)
+    same =
+        registrations-plain job.graph (task_at job.graph c)
+        (no_peer (task_at job.graph c).kind plain)
+
+    long : length (registrations_at job c)
+        ≡ length (task_at job.graph c).inputs + length (task_at job.graph c).outputs
+    long =
+        sym (length-map (registrations_at job c) (λ r. r.phaser))
+        ∙ ap length (registrations-phasers job.graph c (task_at job.graph c) (is.tasks c there))
+        ∙ length-append (task_at job.graph c).inputs (task_at job.graph c).outputs
+
+    For : Registration → Type 0
+    For r = IsFor job c r
+
+    by : (i < length (task_at job.graph c).inputs) ⊎ (length (task_at job.graph c).inputs ≤ i)
+        → IsFor job c (get_or (registrations_at job c) i no_registration)
+    by (inl few) =
+        subst For (sym (ap (λ rs. get_or rs i no_registration) same
+        ∙ end-input (task_at job.graph c) i few))
+        (for_input job c i is there (plain_outputs job c plain) few)
+    by (inr from) =
+        let all : length (registrations_at job c)
+        ≡ length (task_at job.graph c).inputs + length (task_at job.graph c).outputs = long in
+        let less : i - length (task_at job.graph c).inputs
+        < length (task_at job.graph c).outputs = omega arith in
+        subst For (sym (ap (λ rs. get_or rs i no_registration) same
+        ∙ end-output (task_at job.graph c) i from less))
+        (for_output job c (i - length (task_at job.graph c).inputs) is there
+        (plain_outputs job c plain) less)
+
+-- a phaser on the child's line is on its parent's
+on_parent : (job : Job) (c p : ℕ) (u : Parent) → IsGraph job.graph → c < length job.graph.tasks
+    → (task_at job.graph c).parent ≡ Some u → OnLine (task_at job.graph c) p
+    → OnLine (task_at job.graph u.task) p
+on_parent job c p u is there parent (inl out) =
+    let i = parent_signals job.graph c (task_at job.graph c) u p out.0
+    (parent-is job.graph c (task_at job.graph c) u (is.tasks c there) parent) out.1 in
+    inl (i.0, i.1)
+on_parent job c p u is there parent (inr into) =
+    let i = parent_waits job.graph c (task_at job.graph c) u into.0
+    (parent-is job.graph c (task_at job.graph c) u (is.tasks c there) parent) into.1 in
+    inr (i.0, i.1, i.2 ∙ into.2)
+
+-- ---- the event
+
+pub child_next : (job : Job) (m : Moment) (t c : ℕ) (event : TaskEvent) → IsGraph job.graph
+    → HasRun job m → HasChildrenToCome job m → Live job m t → first_owed job m t ≡ None
+    → first_due job m t ≡ Some c
+    → call_register m t c (first_missing job m c) ≡ makes event → IsNext job m event
+child_next job m t c event is ran to_come live none due answer =
+    by (first_missing job m c) refl answer
+  where
+    found : (is_due job m t c ≡ true) × (c < length job.graph.tasks)
+    found = found_below (is_due job m t) (length job.graph.tasks) c due
+
+    parts : (comes_by t (m.begun t) (task_at job.graph c).parent ≡ true)
+        × (is_some (first_missing job m c) ≡ true)
+    parts = and_parts (comes_by t (m.begun t) (task_at job.graph c).parent)
+        (is_some (first_missing job m c)) found.0
+
+    comes : Comes t (m.begun t) (task_at job.graph c).parent
+    comes = comes-is t (m.begun t) (task_at job.graph c).parent parts.0
+
+    parent : IsParent job.graph c (task_at job.graph c) comes.by
+    parent = parent-is job.graph c (task_at job.graph c) comes.by (is.tasks c found.1) comes.is
+
+    parent_plain : has_children (task_at job.graph t).kind ≡ true
+    parent_plain =
+        let P : ℕ → Type 0 = λ x. has_children (task_at job.graph x).kind ≡ true in
+        subst P comes.task parent.kind
+
+    absent : (o : Option ℕ) → not (is_some o) ≡ true → o ≡ None
+    absent None e = refl
+    absent (Some n) e = absurd (cc)
+
+    by : (o : Option Registration) → first_missing job m c ≡ o
+        → call_register m t c o ≡ makes event → IsNext job m event
+    by None missing e = absurd (cc)
+    by (Some r) missing e =
+        let f = find-some (λ x. not (has_registered m c x)) (registrations_at job c) r
+        no_registration missing in
+        let For : Registration → Type 0 = λ x. IsFor job c x in
+        let use_of : IsFor job c r =
+        subst For f.1.2 (is_for job c f.1.0 is found.1 parent.child_kind f.1.1) in
+        let p = r.phaser in
+        let n = number_on m t p in
+        let a = greatest_used (m.history p) + 1 in
+        let made = accepted (child t p n c a r.mode) event
+        (register_refusal (m.history p) n a r.mode) e in
+        let L : ℕ → Type 0 = λ x. OnLine (task_at job.graph x) p in
+        let above : OnLine (task_at job.graph t) p =
+        subst L comes.task (on_parent job c p comes.by is found.1 comes.is use_of.on_line) in
+        let Next : TaskEvent → Type 0 = λ e. IsNext job m e in
+        subst Next made.1 (
+          record {
+            task = live.there;
+            phaser = on_phaser job t p is live.there above;
+          },
+          (
+            comes.by,
+            record {
+              child = found.1;
+              parent = comes.is;
+              by = comes.task;
+              on_line = use_of.on_line;
+              numbered = number_there job m t p is live above;
+              absent = absent (m.number p c) f.0;
+              accepted = made.0;
+              signals = use_of.signals;
+              waits = use_of.waits;
+              boundary = sym comes.at;
+              offset = to_come.offset c comes.by found.1 comes.is
+                  ∙ ap (λ x. m.offset x + comes.by.at) comes.task;
+              nothing_put = λ j place. to_come.nothing_put c j found.1 parts.1;
+              nothing_taken = λ k lt at. to_come.nothing_taken c k found.1 parts.1;
+              nothing_begun = to_come.nothing_begun c found.1 parts.1;
+              all_put = λ i place.
+                  (let at = place-at (signalled_by (task_at job.graph t)) p i place in
+                  ap length (all_put job m t ran live.there none i at.0)
+                  ∙ made_many job m t i is ran live.there at.0
+                  ∙ puts-few (task_at job.graph t) (m.begun t) i (is.tasks t live.there).ends
+                  parent_plain);
+              all_taken = λ k lt at.
+                  all_taken job m t is ran live.there none k lt
+                  ∙ plain_takes job t (m.begun t) k parent_plain;
+            },
+          ),
+        )
