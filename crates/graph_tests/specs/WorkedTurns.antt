@@ -45,7 +45,8 @@ late at = record {
 -- s is 1, out 2 and early 3; late begins so many steps after out
 abbrev pub late_opening : ℕ → Moment
 late_opening at = opened
-    ((Dropped 0 ∷ Registered 0 3 Wait ∷ Registered 0 2 Wait ∷ Registered 0 1 Sig ∷ Made 0 ∷ []) ∷ [])
+    ((Dropped 0 ∷ Registered 0 3 Wait ∷ Registered 0 2 Wait ∷ Registered 0 1 Sig ∷ Made 0 ∷ [])
+    ∷ [])
     ((Some 1 ∷ Some 2 ∷ None ∷ Some 3 ∷ []) ∷ []) (0 ∷ 0 ∷ at ∷ 0 ∷ [])
 
 -- after so many rounds

@@ -60,7 +60,8 @@ fn late_and_early_sinks_get_theirs()
     ensures late { (late_after 2 14).taken 2 0 ≡ pos 3 ∷ pos 4 ∷ [] }
     ensures early { (late_after 2 14).taken 3 0 ≡ pos 1 ∷ pos 2 ∷ [] }
     ensures gone { turn_tells (late 2) None (late_after 2 14) 1 ≡ Some Gone }
-    ensures at_the_end { ((late_after 4 14).number 0 2 ≡ Some 4) × ((late_after 4 14).taken 2 0 ≡ []) }
+    ensures at_the_end { ((late_after 4 14).number 0 2 ≡ Some 4)
+        × ((late_after 4 14).taken 2 0 ≡ []) }
     ensures past_the_end { (late_after 5 14).number 0 2 ≡ None }
 {}
 

@@ -129,7 +129,8 @@ for_output job c j is there plain lt =
       );
       signals = λ i place. refl;
       waits = λ k few at.
-          absurd (apart job c k j (get_or (task_at job.graph c).outputs j 0) is there few at lt refl);
+          absurd (apart job c k j (get_or (task_at job.graph c).outputs j 0) is there few at lt
+          refl);
     }
 
 pub is_for : (job : Job) (c i : ℕ) → IsGraph job.graph → c < length job.graph.tasks

@@ -53,7 +53,8 @@ pub number_there : (job : Job) (m : Moment) (t p : ℕ) → IsGraph job.graph �
     → OnLine (task_at job.graph t) p → m.number p t ≡ Some (number_on m t p)
 number_there job m t p is live on =
     let line = is.tasks t live.there in
-    numbered job m t p line (registrations-phasers job.graph t (task_at job.graph t) line) live.all on
+    numbered job m t p line (registrations-phasers job.graph t (task_at job.graph t) line) live.all
+    on
 
 -- a task that has not come to its end has left no phaser
 pub stays : (job : Job) (m : Moment) (t : ℕ) → IsGraph job.graph → HasRun job m

@@ -63,7 +63,8 @@ call_signal job m t p v event =
 -- task t waits on phaser p
 abbrev pub call_wait : Job → Moment → ℕ → ℕ → (Outcome → TaskEvent) → Answer
 call_wait job m t p event =
-    wait_answer event (wait_reply (value_at job p) (limits_at job p) (m.history p) (number_on m t p))
+    wait_answer event
+    (wait_reply (value_at job p) (limits_at job p) (m.history p) (number_on m t p))
 
 -- task t leaves the first phaser that it has not left
 abbrev pub call_leave : Moment → ℕ → Option Registration → Answer
@@ -78,7 +79,8 @@ call_register m t c None = is_refused
 call_register m t c (Some r) =
     let n = number_on m t r.phaser in
     let a = greatest_used (m.history r.phaser) + 1 in
-    accepted_answer (child t r.phaser n c a r.mode) (register_refusal (m.history r.phaser) n a r.mode)
+    accepted_answer (child t r.phaser n c a r.mode)
+    (register_refusal (m.history r.phaser) n a r.mode)
 
 -- ---- the table
 

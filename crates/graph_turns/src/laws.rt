@@ -10,8 +10,8 @@ ghost use Rattle.graph_turns.specs.Answers.{answer_of_turn, makes};
 
 use graph_moves::laws as moves;
 
-/// Where a turn makes an event, the event is the task's next one, and the moment after it has run as
-/// well. So who gives turns by the table, and nothing else, stays within the runs of the graph. Of
+/// Where a turn makes an event, the event is the task's next one, and the moment after it has run
+/// as well. So who gives turns by the table, and nothing else, stays within the runs of the graph. Of
 /// children it asks that those to come are as the opening leaves them, and of a task with no child
 /// to register not even that: `childless`.
 pub fn turns_make_next_events()

@@ -1,5 +1,5 @@
 -- By the law; what the turns make is computed.
-use Rattle.std.proofs.Common.{◌≡◌, ℕ, zero, suc, ◌+◌, ◌<◌, true, [], Some, is_some, length, refl, subst, pos, arith}
+use Rattle.std.proofs.Common.{◌≡◌, ℕ, zero, suc, ◌+◌, ◌<◌, true, [], Some, is_some, refl, subst, pos, arith}
 use Rattle.std.proofs.lemmas.Option.{same_Some}
 use Rattle.graph_base.specs.declared.line.Parent.{Parent}
 use Rattle.graph_base.specs.Graphs.{task_at}
