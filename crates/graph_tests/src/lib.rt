@@ -1,6 +1,9 @@
-//! Tests of runs of graphs: whole runs, event by event, and each law of them used once.
+//! Tests of runs of graphs: whole runs, event by event, and each law of them used once; and of the
+//! phasers of a graph, by their calls.
 #![tactic(auto)]
 
+#[cfg(test)]
+mod cores;
 mod ready;
 mod worked_events;
 mod worked_faults;

@@ -1,0 +1,159 @@
+//! Phasers of a graph under each operation, with the members that a graph's tasks are.
+use graph_cores::AnyCore;
+use phase_accum::{NO_VALUE, Op, Outcome, Single, VALUE_MAX};
+use phase_base::{Entry, Mode, Spec};
+use phase_history::{Got, NoTask, RegisterRefusal, SignalRefusal, WaitRefusal};
+use std::alloc::Global;
+use std::test::Fail;
+
+const ALL: [Op; 5] = [Op::Sum, Op::Product, Op::Least, Op::Greatest, Op::Any];
+
+/// A phaser of bound 2 whose founder has registered tasks 1 and 2 in `Sig` and task 3 in `Wait`, and
+/// has left.
+fn opened(alloc: Global, op: Op) -> Result<AnyCore, Fail> {
+    let mut core = AnyCore::new(alloc, op, Spec::new(2, 100)?)?;
+    core.register(0, 1, Mode::Sig)?;
+    core.register(0, 2, Mode::Sig)?;
+    core.register(0, 3, Mode::Wait)?;
+    core.drop_task(0)?;
+    Ok(core)
+}
+
+fn value(phase: u64, value: i64) -> Result<Got, WaitRefusal> {
+    Ok(Got::Value {
+        phase,
+        outcome: Outcome::Value(value),
+    })
+}
+
+#[test]
+fn two_sends_are_one_value(rt: HostRuntime) -> Result<(), Fail> {
+    for (op, expected) in [
+        (Op::Sum, 2),
+        (Op::Product, -35),
+        (Op::Least, -5),
+        (Op::Greatest, 7),
+        (Op::Any, 7),
+    ] {
+        let mut core = opened(rt.alloc(), op)?;
+        assert_eq!(rt; core.signal_one(1, 7, None), Ok(0));
+        assert_eq!(rt; core.wait(3), Err(WaitRefusal::NotYet), "{op:?}");
+        assert_eq!(rt; core.signal_one(2, -5, None), Ok(0));
+        assert_eq!(rt; core.wait(3), value(0, expected), "{op:?}");
+    }
+    Ok(())
+}
+
+#[test]
+fn two_sends_are_too_big(rt: HostRuntime) -> Result<(), Fail> {
+    for op in [Op::Sum, Op::Product] {
+        let mut core = opened(rt.alloc(), op)?;
+        assert_eq!(rt; core.signal_one(1, VALUE_MAX, None), Ok(0));
+        assert_eq!(rt; core.signal_one(2, 2, None), Ok(0));
+        let got = Got::Value {
+            phase: 0,
+            outcome: Outcome::TooBig,
+        };
+        assert_eq!(rt; core.wait(3), Ok(got), "{op:?}");
+    }
+    Ok(())
+}
+
+#[test]
+fn a_member_stands_at_its_phases(rt: HostRuntime) -> Result<(), Fail> {
+    for op in ALL {
+        let mut core = opened(rt.alloc(), op)?;
+        assert_eq!(rt; core.signal_one(1, 4, None), Ok(0));
+        assert_eq!(rt; core.signal_one(1, 4, None), Ok(1));
+        assert_eq!(rt;
+            core.signal_one(1, 4, None),
+            Err(SignalRefusal::Ahead),
+            "{op:?}"
+        );
+        assert_eq!(rt; core.signal_one(2, 4, None), Ok(0));
+        assert_eq!(rt; core.done(), 1, "{op:?}");
+        assert_eq!(rt; core.least_wait(), Some(0));
+        assert!(rt; core.wait(3).is_ok());
+        assert_eq!(rt; core.least_wait(), Some(1), "{op:?}");
+        let entry = Entry {
+            mode: Mode::Sig,
+            signal_phase: 2,
+            wait_phase: 0,
+        };
+        assert_eq!(rt; core.view(1), Some(entry), "{op:?}");
+        assert_eq!(rt; core.view(0), None, "{op:?}");
+        assert_eq!(rt; core.next_number(), Some(4), "{op:?}");
+    }
+    Ok(())
+}
+
+#[test]
+fn a_phaser_without_a_signaller_ends(rt: HostRuntime) -> Result<(), Fail> {
+    for op in ALL {
+        let mut core = opened(rt.alloc(), op)?;
+        assert_eq!(rt; core.signal_one(1, 4, None), Ok(0));
+        assert_eq!(rt; core.drop_task(1), Ok(()));
+        assert_eq!(rt; core.has_signaller(), true, "{op:?}");
+        assert_eq!(rt; core.wait(3), Err(WaitRefusal::NotYet));
+        assert_eq!(rt; core.drop_task(2), Ok(()));
+        assert_eq!(rt; core.has_signaller(), false, "{op:?}");
+        assert_eq!(rt; core.wait(3), value(0, 4), "{op:?}");
+        assert_eq!(rt; core.wait(3), Ok(Got::Ended), "{op:?}");
+        assert_eq!(rt; core.drop_task(3), Ok(()));
+        assert_eq!(rt; core.drop_task(3), Err(NoTask));
+        assert_eq!(rt; core.least_wait(), None, "{op:?}");
+    }
+    Ok(())
+}
+
+#[test]
+fn a_single_is_applied_to_a_phase(rt: HostRuntime) -> Result<(), Fail> {
+    for op in ALL {
+        let mut core = AnyCore::new(rt.alloc(), op, Spec::new(1, 100)?)?;
+        core.register(0, 1, Mode::Single)?;
+        core.drop_task(0)?;
+        assert_eq!(rt; core.signal_one(1, 5, Some(Single::Neg)), Ok(0));
+        assert_eq!(rt;
+            core.signal_one(1, 5, None),
+            Err(SignalRefusal::SignalTwice)
+        );
+        assert_eq!(rt; core.wait(1), value(0, -5), "{op:?}");
+    }
+    Ok(())
+}
+
+#[test]
+fn calls_are_refused_by_name(rt: HostRuntime) -> Result<(), Fail> {
+    for op in ALL {
+        let mut core = opened(rt.alloc(), op)?;
+        assert_eq!(rt;
+            core.register(0, 4, Mode::Wait),
+            Err(RegisterRefusal::NoTask),
+            "{op:?}"
+        );
+        assert_eq!(rt;
+            core.register(3, 4, Mode::Sig),
+            Err(RegisterRefusal::NotAllowed)
+        );
+        assert_eq!(rt;
+            core.register(3, 2, Mode::Wait),
+            Err(RegisterRefusal::NotNew)
+        );
+        assert_eq!(rt; core.signal_one(0, 1, None), Err(SignalRefusal::NoTask));
+        assert_eq!(rt; core.signal_one(3, 1, None), Err(SignalRefusal::NoSignal));
+        let named = core.signal_one(1, 1, Some(Single::Abs));
+        assert_eq!(rt; named, Err(SignalRefusal::NotSingle), "{op:?}");
+        assert_eq!(rt; core.wait(0), Err(WaitRefusal::NoTask));
+        assert_eq!(rt; core.wait(1), Err(WaitRefusal::NoWait), "{op:?}");
+    }
+    Ok(())
+}
+
+#[test]
+fn the_least_value_is_sent(rt: HostRuntime) -> Result<(), Fail> {
+    let mut core = opened(rt.alloc(), Op::Least)?;
+    assert_eq!(rt; core.signal_one(1, NO_VALUE + 1, None), Ok(0));
+    assert_eq!(rt; core.signal_one(2, 3, None), Ok(0));
+    assert_eq!(rt; core.wait(3), value(0, NO_VALUE + 1));
+    Ok(())
+}
