@@ -1,11 +1,5 @@
-pub mod Keeping
-pub mod Giving
-pub mod Answering
+pub mod Later
 pub mod Opening
-pub mod SignalSteps
-pub mod WaitSteps
-pub mod RegisterSteps
 pub mod NextSteps
-pub mod Meeting
 pub mod OneValue
 pub mod PartSteps

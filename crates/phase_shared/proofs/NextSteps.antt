@@ -22,10 +22,9 @@ use Rattle.phase_history.specs.Refusals.{first_row, refusal_at, wait_rows, wait_
 use Rattle.phase_history.specs.Others.{OthersCame}
 use Rattle.phase_history.proofs.LawProofs.{turns_law}
 use Rattle.phase_history.proofs.MemberLemmas.{entry_of-changed_same}
-use Rattle.phase_history.proofs.Used.{entry_of-others}
 use Rattle.phase_shared.specs.Calls.{Waits}
 use Rattle.phase_shared.specs.Nexts.{MadeWhere, MayWait}
-use Rattle.phase_shared.proofs.Keeping.{is_in_self}
+use Rattle.phase_seats.proofs.Giving.{member_after}
 
 same_some : {A : Type 0} (x y : A) → Some x ≡ Some y → x ≡ y
 same_some x y e = cc
@@ -46,13 +45,6 @@ limits_of limits (RegisteredNow parent child ∷ before) legal = limits_of limit
 limits_of limits (Signalled task lists single ∷ before) legal = limits_of limits before legal.0
 limits_of limits (Waited task n ∷ before) legal = limits_of limits before legal.0
 limits_of limits (Dropped task ∷ before) legal = limits_of limits before legal.0
-
--- a task stands where it stood while others' events came
-pub member_after : (limits : Limits) (me : ℕ) (entry : Entry) (old now : History) → OthersCame (me ∷ []) old now → IsLegal limits now
-    → entry_of (members_of old) me ≡ Some entry → entry_of (members_of now) me ≡ Some entry
-member_after limits me entry old now came legal member =
-    ap (λ h. entry_of (members_of h) me) came.is
-    ∙ entry_of-others limits came.later old me entry (subst (λ (h : History). IsLegal limits h) came.is legal) (came.others me (is_in_self me [])) member
 
 -- where it stands after its signal
 pub signalled_member : (limits : Limits) (me : ℕ) (entry entry' : Entry) (old before new : History) (single : Option Single) (sends : List ℤ)

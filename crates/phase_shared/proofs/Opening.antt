@@ -1,16 +1,16 @@
 -- A registration is taken apart and put together.
 use Rattle.turn_lock.specs.Seats.{IsSameSeat}
 use Rattle.phase_accum.specs.Parcels.{Parcel}
-use Rattle.phase_shared.specs.Views.{known_of}
+use Rattle.phase_seats.specs.Views.{known_of}
 use Rattle.phase_shared.specs.Regs.{RegState, reg_state}
 use Rattle.std.proofs.Common.{◌≡◌, ℕ, Option, Some, refl, sym, ap, subst, ◌∙◌}
 use Rattle.turn_lock.specs.declared.seat.Seat.{Seat}
 use Rattle.turn_lock.specs.Seats.{seat_place, seat_view}
 use Rattle.atomic_table.specs.Seated.{TableId}
 use Rattle.phase_base.specs.declared.entry.Entry.{Entry}
-use Rattle.phase_shared.specs.declared.view.View.{View}
-use Rattle.phase_shared.specs.declared.rule.Terms.{Terms}
-use Rattle.phase_shared.specs.Rule.{Allows, IsGoodAt, IsSeatOfTask}
+use Rattle.phase_seats.specs.declared.view.View.{View}
+use Rattle.phase_seats.specs.declared.rule.Terms.{Terms}
+use Rattle.phase_seats.specs.Rule.{Allows, IsGoodAt, IsSeatOfTask}
 use Rattle.phase_shared.specs.Regs.{IsReg, place_in, view_in}
 
 same_some : {A : Type 0} (x y : A) → Some x ≡ Some y → x ≡ y

@@ -1,5 +1,5 @@
--- What each call answers, and how the history that its task has seen goes on: by events of others,
--- up to the moment of the call, and then by the call's own event, where it makes one.
+-- What each call of a registration answers, and what the registration has seen and where it stands
+-- after it. The records of single calls are those of the steps of its seat.
 use Rattle.std.specs.Prelude.{◌≡◌, ◌≢◌, ℕ, ℤ, Bool, true, false, List, [], ◌∷◌, Option, Result, Ok, Err, None, Some, min, ◌+◌, ◌-◌, ◌^◌}
 use Rattle.std.specs.Result.{result_ok}
 use Rattle.phase_base.specs.Limits.{Limits}
@@ -20,23 +20,12 @@ use Rattle.phase_history.specs.Refusals.{register_refusal}
 use Rattle.phase_history.specs.Replies.{signal_reply, after_signal, wait_reply, after_wait}
 use Rattle.phase_history.specs.Histories.{entry_at}
 use Rattle.phase_history.specs.Others.{OnlyUsed, OthersCame}
-use Rattle.phase_shared.specs.declared.view.View.{View}
-use Rattle.phase_shared.specs.declared.rule.Terms.{Terms}
-use Rattle.phase_shared.specs.declared.refusal.Tried.{Tried}
-use Rattle.phase_shared.specs.declared.refusal.Tried.TheVariants.{Busy, Refused}
-use Rattle.phase_shared.specs.Views.{resting}
-use Rattle.phase_shared.specs.Rule.{Allows, IsGoodAt}
 use Rattle.phase_shared.specs.Regs.{RegState}
-
--- a refused try: the turn was another's and all stayed as it was, or the call is refused
-abbrev pub Refuses : {R : Type 0} → Type 0 → (R → Type 0) → Tried R → Type 0
-Refuses same call Busy = same
-Refuses same call (Refused refusal) = call refusal
-
--- a try: the turn was another's and all stayed as it was, or the call has its answer
-abbrev pub Tries : {X R : Type 0} → Type 0 → (Result X R → Type 0) → Result X (Tried R) → Type 0
-Tries same call (Ok answer) = call (Ok answer)
-Tries same call (Err tried) = Refuses same (λ refusal. call (Err refusal)) tried
+use Rattle.phase_seats.specs.declared.rule.Terms.{Terms}
+use Rattle.phase_seats.specs.Rule.{Allows, IsGoodAt}
+use Rattle.phase_seats.specs.declared.tried.Tried.{Tried}
+use Rattle.phase_seats.specs.declared.tried.Tried.TheVariants.{Busy, Refused}
+pub use Rattle.phase_seats.specs.Calls.{Refuses, Tries, Signals, Waits, number_after, next_child, HasRegistered, RefusesRegister}
 
 -- a try of a registration, of which `answered` says what it answered and what was seen by it. It
 -- stays on its phaser, under its number and in its mode, and has seen a good history; it stands
@@ -64,49 +53,10 @@ pub record IsCall {A K X E : Type 0} (allows : K → Allows) (terms : Terms K) (
   pub good : IsGoodAt allows terms new.seen
   pub known : result ≢ Err no_task
 
--- a signal: events of others, and there the definition's answer, with sends that the task holds;
--- then the signal's event, where it was accepted
-pub record Signals {A : Type 0} (op : Operation A) (limits : Limits) (me : ℕ) (held : Parcel A)
-    (single : Option Single) (old new : History) (answer : Result ℕ SignalRefusal) : Type 0 where
-  pub before : History
-  pub sends : List ℤ
-  pub others : OthersCame (me ∷ []) old before
-  pub stands : StandsForSends op held sends
-  pub seen : new ≡ after_signal answer me (sends ∷ []) single before
-  -- the same, whichever sends those are that the task holds
-  pub reply : (xs : List ℤ) → StandsForSends op held xs
-      → signal_reply limits before me (xs ∷ []) single ≡ answer
-
 -- what is held after a call: no sends where it signalled, else what was held before
 abbrev pub HeldAfter : {A : Type 0} → Operation A → Bool → Parcel A → Parcel A → Type 0
 HeldAfter op true old new = StandsForSends op new [] × (new.count ≡ 0)
 HeldAfter op false old new = new ≡ old
-
--- a wait: events of others, and there the definition's answer; then the wait's event, where it got
--- a value
-pub record Waits (value : List ℤ → Outcome) (limits : Limits) (me : ℕ) (old new : History)
-    (answer : Result Got WaitRefusal) : Type 0 where
-  pub before : History
-  pub others : OthersCame (me ∷ []) old before
-  pub seen : new ≡ after_wait answer me before
-  pub reply : wait_reply value limits before me ≡ answer
-
--- the number above this one, or where there is none, the last number
-abbrev pub number_after : ℕ → ℕ
-number_after greatest = min (greatest + 1) (2 ^ 64 - 1)
-
--- the number that the next child is given
-abbrev pub next_child : History → ℕ
-next_child h = number_after (greatest_used h)
-
--- an accepted registration: events of others, and there a child with the number above all that
--- were used; then its event
-pub record HasRegistered (me child : ℕ) (mode : Mode) (old new : History) : Type 0 where
-  pub before : History
-  pub others : OthersCame (me ∷ []) old before
-  pub seen : new ≡ Registered me child mode ∷ before
-  pub reply : register_refusal before me child mode ≡ None
-  pub next : child ≡ greatest_used before + 1
 
 -- the child of an accepted registration, whose parent has then seen this: it is on the parent's
 -- phaser and at the parent's phases, has seen what the parent has, and holds nothing
@@ -117,14 +67,6 @@ pub record IsChild {A K : Type 0} (op : Operation A) (mode : Mode) (old new chil
   pub seen : child.seen ≡ new.seen
   pub entry : child.entry ≡ entry_at mode old.entry.signal_phase old.entry.wait_phase
   pub none_held : StandsForSends op child.held [] × (child.held.count ≡ 0)
-
--- a refused registration: events of others, and there the definition's refusal, or want of memory
--- where the definition accepts
-abbrev pub RefusesRegister : ℕ → Mode → History → History → RegisterRefusal → Type 0
-RefusesRegister me mode old new register.OutOfMemory =
-    OthersCame (me ∷ []) old new × (register_refusal new me (next_child new) mode ≡ None)
-RefusesRegister me mode old new refusal =
-    OthersCame (me ∷ []) old new × (register_refusal new me (next_child new) mode ≡ Some refusal)
 
 -- a registration: a child, or the refusal
 abbrev pub Registers : {A K : Type 0} → Operation A → Mode → RegState A K → RegState A K
@@ -138,14 +80,6 @@ pub record Leaves (me : ℕ) (old new : History) : Type 0 where
   pub before : History
   pub others : OthersCame (me ∷ []) old before
   pub seen : new ≡ Dropped me ∷ before
-
--- for the code: a seat whose task has left
-pub record HasLeft {K : Type 0} (allows : K → Allows) (terms : Terms K) (me : ℕ) (old : History)
-    (v : View) : Type 0 where
-  pub before : History
-  pub others : OthersCame (me ∷ []) old before
-  pub rests : v ≡ resting (Dropped me ∷ before) (me ∷ [])
-  pub good : IsGoodAt allows terms (Dropped me ∷ before)
 
 -- whatever the others do, the phaser's rule allows a signal of the sends that are held
 abbrev pub MaySignal : {A K : Type 0} → Operation A → (K → Allows) → Terms K → RegState A K

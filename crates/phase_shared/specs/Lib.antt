@@ -1,5 +1,6 @@
-pub mod Views
-pub mod Rule
+pub use Rattle.phase_seats.specs.Views
+pub use Rattle.phase_seats.specs.Rule
+pub use Rattle.phase_seats.specs.LockedPhasers
 pub mod Calls
 pub mod Regs
 pub mod Entries

@@ -13,35 +13,13 @@ use Rattle.phase_history.specs.Histories.{History}
 use Rattle.phase_shared.specs.declared.next.Next.{Next}
 use Rattle.phase_shared.specs.Regs.{RegState}
 use Rattle.phase_shared.specs.Calls.{Signals, Waits}
+pub use Rattle.phase_seats.specs.Calls.{MayWait, HasSignalledAndMayWait, SignalsAndMayWait}
 
 -- a call that is made where it can be, with its answer; else there is none, and nothing came
 abbrev pub MadeWhere : {X : Type 0} → Bool → (X → Type 0) → Type 0 → Option X → Type 0
 MadeWhere true call nothing (Some answer) = call answer
 MadeWhere false call nothing None = nothing
 MadeWhere can call nothing answer = ⊥
-
--- for the code: a wait right after, where one is asked for. Where it got nothing, nothing came
-abbrev pub MayWait : Bool → (List ℤ → Outcome) → Limits → ℕ → History → History → Option Got
-    → Type 0
-MayWait true value limits me old new (Some got) = Waits value limits me old new (Ok got)
-MayWait false value limits me old new (Some got) = ⊥
-MayWait asked value limits me old new None = new ≡ old
-
--- for the code: an accepted signal, up to the middle, and then such a wait
-pub record HasSignalledAndMayWait {A : Type 0} (asked : Bool) (op : Operation A) (limits : Limits)
-    (me : ℕ) (held : Parcel A) (single : Option Single) (old new : History)
-    (answer : ℕ × Option Got) : Type 0 where
-  pub middle : History
-  pub signals : Signals op limits me held single old middle (Ok answer.0)
-  pub waits : MayWait asked op.value limits me middle new answer.1
-
--- for the code: the same, or the signal is refused, and then there is no wait
-abbrev pub SignalsAndMayWait : {A : Type 0} → Bool → Operation A → Limits → ℕ → Parcel A
-    → Option Single → History → History → Result (ℕ × Option Got) SignalRefusal → Type 0
-SignalsAndMayWait asked op limits me held single old new (Ok answer) =
-    HasSignalledAndMayWait asked op limits me held single old new answer
-SignalsAndMayWait asked op limits me held single old new (Err refusal) =
-    Signals op limits me held single old new (Err refusal)
 
 -- the signal came first, up to the middle, and then the wait
 pub record GoesNext {A K : Type 0} (op : Operation A) (limits : Limits) (single : Option Single)

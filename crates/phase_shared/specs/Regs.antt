@@ -1,18 +1,19 @@
 -- What contracts see of a phaser, a registration and a past.
 use Rattle.std.specs.Prelude.{◌≡◌, ℕ, List, [], Option, Some, None, true, is_some}
 use Rattle.turn_lock.specs.declared.seat.Seat.{Seat}
-use Rattle.turn_lock.specs.Seats.{Place, seat_place, seat_view, lock_name, lock_place}
+use Rattle.turn_lock.specs.Seats.{Place, seat_place, seat_view}
 use Rattle.phase_base.specs.Limits.{Limits}
 use Rattle.phase_base.specs.declared.entry.Entry.{Entry}
 use Rattle.phase_accum.specs.Parcels.{Parcel}
 use Rattle.phase_history.specs.Histories.{History}
 use Rattle.phase_history.specs.Others.{is_distinct}
-use Rattle.phase_shared.specs.declared.view.View.{View}
-use Rattle.phase_shared.specs.declared.view.View.TheVariants.{Spent}
-use Rattle.phase_shared.specs.declared.rule.Terms.{Terms}
+use Rattle.phase_seats.specs.declared.view.View.{View}
+use Rattle.phase_seats.specs.declared.view.View.TheVariants.{Spent}
+use Rattle.phase_seats.specs.Views.{resting, known_of}
+use Rattle.phase_seats.specs.declared.rule.Terms.{Terms}
+use Rattle.phase_seats.specs.Rule.{Allows, IsGoodAt, IsSeatOfTask}
+use Rattle.phase_seats.specs.LockedPhasers.{locked_place, locked_terms}
 use Rattle.phase_shared.specs.declared.phaser.Phaser.{Phaser}
-use Rattle.phase_shared.specs.Views.{resting, known_of}
-use Rattle.phase_shared.specs.Rule.{Allows, IsGoodAt, IsSeatOfTask}
 
 -- a registration: its phaser, its number, its mode and phases, the sends that it holds, and the
 -- history that it has seen
@@ -37,11 +38,11 @@ IsGoodOn {K} allows at seen = (terms : Terms K) → at.1 ≡ Some terms → IsGo
 module _ {A K : Type 0} where
   -- which phaser it is
   abbrev pub phaser_place : Phaser A K → Place (Terms K)
-  phaser_place p = lock_place p.lock
+  phaser_place p = locked_place p.locked
 
   -- the limits and the rule that it was made with
   abbrev pub phaser_terms : Phaser A K → Terms K
-  phaser_terms p = lock_name p.lock
+  phaser_terms p = locked_terms p.locked
 
   -- the limits alone
   abbrev pub phaser_limits : Phaser A K → Limits

@@ -103,8 +103,6 @@
 //! other anything.
 #![tactic(auto)]
 
-mod ghost_steps;
-mod hints;
 pub mod laws;
 mod next;
 pub mod one_send;
@@ -113,15 +111,12 @@ mod phaser;
 mod putting;
 mod refusal;
 mod reg;
-mod rule;
-mod steps;
 mod trying;
-mod view;
 mod waiting;
 
 pub use next::Next;
 pub use past::Past;
+pub use phase_seats::{NoRule, SignalRule, Terms, Tried};
 pub use phaser::Phaser;
-pub use refusal::{SendRefusal, Tried};
+pub use refusal::SendRefusal;
 pub use reg::Reg;
-pub use rule::{NoRule, SignalRule, Terms};

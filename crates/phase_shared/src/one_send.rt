@@ -10,11 +10,10 @@ ghost use Rattle.phase_shared.specs.Puts.{SignalsValue};
 ghost use Rattle.phase_shared.specs.Regs.{phaser_place, phaser_terms, phaser_limits};
 
 use crate::phaser::Phaser;
-use crate::refusal::Tried;
 use crate::reg::Reg;
-use crate::rule::SignalRule;
 use phase_accum::Accumulate;
 use phase_core::SignalRefusal;
+use phase_seats::{SignalRule, Tried};
 
 /// The rule that allows the signals of one send.
 #[derive(Clone, Copy, Debug, PartialEq, Eq)]

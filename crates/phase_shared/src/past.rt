@@ -1,14 +1,12 @@
 //! What registrations that left have seen.
 ghost use Rattle.std.specs.Prelude.{◌≡◌, ◌++◌, true};
 ghost use Rattle.phase_history.specs.Others.{OthersCame, is_distinct};
-ghost use Rattle.phase_shared.specs.Rule.{IsGoodAt};
+ghost use Rattle.phase_seats.specs.Rule.{IsGoodAt};
 ghost use Rattle.phase_shared.specs.Regs.{phaser_place, phaser_terms, IsGoodOn};
 
 use crate::phaser::Phaser;
-use crate::rule::SignalRule;
-use crate::steps;
-use crate::view::PhaserSeat;
 use phase_accum::Accumulate;
+use phase_seats::{PhaserSeat, SignalRule, steps};
 use std::marker::Model;
 
 /// What registrations that left have seen: one history, and the numbers of those whose calls it
@@ -56,7 +54,7 @@ impl<A: Accumulate, K: SignalRule> Past<A, K> {
         let Past { seat } = self;
         let Past { seat: second } = other;
         Past {
-            seat: steps::join(phaser, seat, second),
+            seat: steps::join(&phaser.locked, seat, second),
         }
     }
 }

@@ -4,18 +4,14 @@ ghost use Rattle.phase_accum.specs.Parcels.{StandsForSends};
 ghost use Rattle.phase_history.specs.declared.event.Event.TheVariants.{Made};
 ghost use Rattle.phase_history.specs.Histories.{founder};
 ghost use Rattle.phase_history.specs.Others.{OnlyUsed};
-ghost use Rattle.phase_shared.specs.Rule.{IsGoodAt};
+ghost use Rattle.phase_seats.specs.Rule.{IsGoodAt};
 ghost use Rattle.phase_shared.specs.Regs.{phaser_place, phaser_terms, phaser_limits};
 
-use crate::hints::Hints;
 use crate::reg::Reg;
-use crate::rule::{SignalRule, Terms};
-use crate::view::PhaserLock;
 use phase_accum::{Accumulate, Pending};
 use phase_base::{Entry, Mode, Spec};
-use phase_core::PhaserCore;
+use phase_seats::{LockedPhaser, SignalRule, Terms};
 use std::alloc::{AllocError, Global};
-use turn_lock::TurnLock;
 
 /// A phaser between threads, which use it by shared reference. Each has registrations of its own.
 ///
@@ -32,8 +28,7 @@ use turn_lock::TurnLock;
 /// **Not promised.** That a thread gets its turn, and in what order threads do.
 #[derive(Drop)]
 pub struct Phaser<A: Accumulate, K: SignalRule> {
-    pub(crate) lock: PhaserLock<A, K>,
-    pub(crate) hints: Hints,
+    pub(crate) locked: LockedPhaser<A, K>,
 }
 
 impl<A: Accumulate, K: SignalRule> Phaser<A, K> {
@@ -55,10 +50,7 @@ impl<A: Accumulate, K: SignalRule> Phaser<A, K> {
         ensures good { IfOk result (λ made.
             IsGoodAt K.allows (phaser_terms made.0) made.1.seen) }
     {
-        let bound = limits.bound();
-        let core = PhaserCore::new(alloc, limits, 0)?;
-        let terms = Terms { limits, rule };
-        let (lock, seat) = TurnLock::new(alloc, &terms, core)?;
+        let (locked, seat) = LockedPhaser::new(alloc, Terms { limits, rule })?;
         let entry = Entry {
             mode: Mode::Single,
             signal_phase: 0,
@@ -70,7 +62,6 @@ impl<A: Accumulate, K: SignalRule> Phaser<A, K> {
             entry,
             pending: Pending::new(),
         };
-        let hints = Hints::new(bound);
-        Ok((Phaser { lock, hints }, founder))
+        Ok((Phaser { locked }, founder))
     }
 }

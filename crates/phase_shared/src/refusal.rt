@@ -5,16 +5,8 @@ use crossbeam_utils::Backoff;
 use phase_accum::NO_VALUE;
 use phase_base::SENDS_MAX;
 use phase_core::{SignalRefusal, WaitRefusal};
+use phase_seats::Tried;
 use thiserror::Error;
-
-/// Why a try was refused.
-#[derive(Clone, Copy, Debug, PartialEq, Eq)]
-pub enum Tried<R> {
-    /// Another registration was in the middle of a call. Nothing changed.
-    Busy,
-    /// The phaser refused the call.
-    Refused(R),
-}
 
 /// Why a send was refused. The variants stand in the order in which they are checked.
 #[derive(Clone, Copy, Debug, PartialEq, Eq, Hash, Error)]

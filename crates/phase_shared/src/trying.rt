@@ -3,7 +3,7 @@ ghost use Rattle.std.specs.Prelude.{◌≡◌, ◌≢◌, [], ◌∷◌, Err, If
 ghost use Rattle.std.specs.Result.{result_ok};
 ghost use Rattle.phase_accum.specs.Parcels.{StandsForSends};
 ghost use Rattle.phase_history.specs.Others.{OnlyUsed, OthersCame};
-ghost use Rattle.phase_shared.specs.Rule.{IsGoodAt};
+ghost use Rattle.phase_seats.specs.Rule.{IsGoodAt};
 ghost use Rattle.phase_shared.specs.Regs.{phaser_place, phaser_terms, phaser_limits};
 ghost use Rattle.phase_shared.specs.Calls.{IsTry, Tries, Signals, Waits, Registers};
 ghost use Rattle.phase_shared.specs.Calls.{MaySignal, Leaves};
@@ -11,16 +11,13 @@ ghost use Rattle.phase_shared.specs.Entries.{entry_stays, entry_after_signal};
 ghost use Rattle.phase_shared.specs.Entries.{entry_after_wait, entry_after_both};
 ghost use Rattle.phase_shared.specs.Nexts.{SignalsAndMayWait};
 
-use crate::ghost_steps::OnSplit;
 use crate::past::Past;
 use crate::phaser::Phaser;
-use crate::refusal::Tried;
 use crate::reg::Reg;
-use crate::rule::SignalRule;
-use crate::steps;
 use phase_accum::{Accumulate, Pending, Single};
 use phase_base::Mode;
 use phase_core::{Got, RegisterRefusal, SignalRefusal, WaitRefusal};
+use phase_seats::{SignalRule, Tried, steps};
 
 impl<A: Accumulate, K: SignalRule> Reg<A, K> {
     /// Signals its phase, with the sends that it holds and a single or none, and answers that
@@ -75,7 +72,7 @@ impl<A: Accumulate, K: SignalRule> Reg<A, K> {
             unreachable!()
         };
         let (seat, entry, answer) = steps::signal(
-            phaser,
+            &phaser.locked,
             seat,
             self.number,
             self.entry,
@@ -108,7 +105,7 @@ impl<A: Accumulate, K: SignalRule> Reg<A, K> {
         let Some(seat) = self.seat.take() else {
             unreachable!()
         };
-        let (seat, entry, answer) = steps::wait(phaser, seat, self.number, self.entry);
+        let (seat, entry, answer) = steps::wait(&phaser.locked, seat, self.number, self.entry);
         self.seat = Some(seat);
         self.entry = entry;
         answer
@@ -134,7 +131,7 @@ impl<A: Accumulate, K: SignalRule> Reg<A, K> {
         let Some(seat) = self.seat.take() else {
             unreachable!()
         };
-        let (seat, answer) = steps::register(phaser, seat, self.number, self.entry, mode);
+        let (seat, answer) = steps::register(&phaser.locked, seat, self.number, self.entry, mode);
         self.seat = Some(seat);
         let made = match answer {
             Ok(made) => made,
@@ -170,7 +167,7 @@ impl<A: Accumulate, K: SignalRule> Reg<A, K> {
             pending,
         } = self;
         let Some(seat) = seat else { unreachable!() };
-        match steps::leave(phaser, seat, number, entry) {
+        match steps::leave(&phaser.locked, seat, number, entry) {
             Ok(seat) => Ok(Past { seat }),
             Err(seat) => Err(Reg {
                 seat: Some(seat),
@@ -203,8 +200,8 @@ impl<A: Accumulate, K: SignalRule> Reg<A, K> {
         let Some(other_seat) = second.seat.take() else {
             unreachable!()
         };
-        let both = steps::join(phaser, seat, other_seat);
-        let (seat, other_seat) = phaser.lock.split::<OnSplit>(both);
+        let both = steps::join(&phaser.locked, seat, other_seat);
+        let (seat, other_seat) = steps::split(&phaser.locked, both);
         first.seat = Some(seat);
         second.seat = Some(other_seat);
         (first, second)

@@ -2,7 +2,7 @@
 ghost use Rattle.std.specs.Prelude.{◌≡◌, ◌≢◌, [], ◌∷◌, Err, OnOk, OnErr};
 ghost use Rattle.std.specs.Result.{result_ok};
 ghost use Rattle.phase_accum.specs.Parcels.{StandsForSends};
-ghost use Rattle.phase_shared.specs.Rule.{IsGoodAt};
+ghost use Rattle.phase_seats.specs.Rule.{IsGoodAt};
 ghost use Rattle.phase_shared.specs.Regs.{phaser_place, phaser_terms, phaser_limits};
 ghost use Rattle.phase_shared.specs.Calls.{IsCall, Signals, Waits, Registers};
 ghost use Rattle.phase_shared.specs.Calls.{MaySignal, Leaves};
@@ -12,13 +12,13 @@ ghost use Rattle.phase_shared.specs.Nexts.{SignalsAndMayWait};
 
 use crate::past::Past;
 use crate::phaser::Phaser;
-use crate::refusal::{self, Tried};
+use crate::refusal;
 use crate::reg::Reg;
-use crate::rule::SignalRule;
 use crossbeam_utils::Backoff;
 use phase_accum::{Accumulate, Single};
 use phase_base::Mode;
 use phase_core::{Got, RegisterRefusal, SignalRefusal, WaitRefusal};
+use phase_seats::{SignalRule, Tried};
 use std::sync::Wait;
 
 impl<A: Accumulate, K: SignalRule> Reg<A, K> {
@@ -98,7 +98,7 @@ impl<A: Accumulate, K: SignalRule> Reg<A, K> {
         tried: Tried<SignalRefusal>,
     ) {
         if let Tried::Refused(_) = tried {
-            phaser.hints.pause_for_room(rt, self.entry.signal_phase);
+            phaser.locked.pause_for_room(rt, self.entry.signal_phase);
         }
         refusal::snooze_if_busy(backoff, &tried);
     }
@@ -135,7 +135,7 @@ impl<A: Accumulate, K: SignalRule> Reg<A, K> {
         let entry = self.entry;
         let signals_first = entry.mode.signals() && entry.signal_phase == entry.wait_phase;
         if entry.mode.waits() && !signals_first {
-            phaser.hints.pause_for_phase(rt, entry.wait_phase);
+            phaser.locked.pause_for_phase(rt, entry.wait_phase);
         }
     }
 

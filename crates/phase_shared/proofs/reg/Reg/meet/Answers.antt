@@ -1,16 +1,15 @@
 use Rattle.std.proofs.Common.{◌≡◌, [], ◌∷◌, true, false, sym, subst, ap, ◌∙◌}
 use Rattle.std.specs.Prelude.{is_some}
-use Rattle.turn_lock.specs.Seats.{seat_view, seat_number}
+use Rattle.turn_lock.specs.Seats.{seat_view}
 use Rattle.phase_history.specs.Histories.{History}
 use Rattle.phase_history.specs.Others.{OthersCame}
-use Rattle.phase_shared.specs.declared.view.View.{View}
-use Rattle.phase_shared.specs.declared.view.View.TheVariants.{Resting}
-use Rattle.phase_shared.specs.Views.{known_of, first_part, other_part}
+use Rattle.phase_seats.specs.declared.view.View.{View}
+use Rattle.phase_seats.specs.declared.view.View.TheVariants.{Resting}
+use Rattle.phase_seats.specs.Views.{known_of, resting, first_part, other_part}
 use Rattle.phase_shared.specs.Regs.{view_in, phaser_place, phaser_terms}
-use Rattle.phase_shared.specs.Rule.{IsSeatOfTask, IsGoodAt}
+use Rattle.phase_seats.specs.Rule.{IsSeatOfTask, IsGoodAt}
 use Rattle.phase_shared.proofs.Opening.{opened, closed}
-use Rattle.phase_shared.proofs.Meeting.{Met, met}
-use Rattle.phase_shared.proofs.RegisterSteps.{forks_child}
+use Rattle.phase_seats.proofs.Meeting.{Met, met}
 use Rattle.phase_shared.proofs.reg.Reg.meet.Given.{Over}
 use Rattle.phase_shared.proofs.reg.Reg.meet.Goals.{After-join-both}
 use Rattle.phase_shared.proofs.reg.Reg.meet.Goals as goal
@@ -64,13 +63,16 @@ join-both-requires-clause-rests g c =
     )
 
 -- the joined seat speaks for both
-pub split-seat-requires-clause-rule : goal.split-seat-requires-clause-rule
-split-seat-requires-clause-rule g c =
-    let terms = phaser_terms c.args.phaser.now in
-    let allows = g.K.SignalRule.allows in
-    let m = both g (goal.at.split-seat-requires-clause-rule g c).After-join-both in
-    forks_child g.A.Accumulate.operation allows terms c.first.inside.number (seat_number c.join-both.result) (seat_view c.join-both.result) m.now
-    c.second.inside.number m.is
+pub split-seat-requires-clause-two : goal.split-seat-requires-clause-two
+split-seat-requires-clause-two g c =
+    let m = both g (goal.at.split-seat-requires-clause-two g c).After-join-both in
+    let me = c.first.inside.number in
+    let you = c.second.inside.number in
+    record {
+      one = me;
+      other = you;
+      rests = m.is ∙ sym (ap (λ (z : View). resting (known_of z).seen (me ∷ you ∷ [])) m.is);
+    }
 
 pub invariant_of-first : goal.invariant_of-first
 invariant_of-first g c =

@@ -6,8 +6,8 @@ use Rattle.phase_history.proofs.OthersEvents.{OthersCame-refl, OthersCame-trans}
 use Rattle.phase_shared.specs.Regs.{phaser_terms}
 use Rattle.phase_shared.specs.Calls.{Tries}
 use Rattle.phase_shared.specs.Nexts.{SignalsAndMayWait}
-use Rattle.phase_shared.proofs.Answering.{again}
-use Rattle.phase_shared.proofs.SignalSteps.{may_later, signals_and_may_wait_later}
+use Rattle.phase_seats.proofs.Answering.{again}
+use Rattle.phase_shared.proofs.Later.{may_later, signals_and_may_wait_later}
 use Rattle.phase_shared.proofs.reg.Reg.signal_and_wait.Goals as goal
 
 pub try_signal_and_wait-requires-clause-rule : goal.try_signal_and_wait-requires-clause-rule

@@ -1,17 +1,17 @@
 use Rattle.std.proofs.Common.{◌≡◌, [], ◌∷◌, Some, Err, true, false, refl, sym, subst, ap, ◌∙◌, rules}
 use Rattle.std.specs.Prelude.{is_some, Result, IfOk, IfErr}
-use Rattle.turn_lock.specs.Seats.{seat_view, IsSeatOf, IsSameSeat}
+use Rattle.turn_lock.specs.Seats.{seat_view, IsSeatAt, IsSameSeat}
 use Rattle.phase_history.specs.declared.refusal.RegisterRefusal.{RegisterRefusal}
 use Rattle.phase_history.specs.declared.refusal.RegisterRefusal.TheVariants as register
 use Rattle.phase_history.specs.Histories.{entry_at}
 use Rattle.phase_history.specs.Others.{OnlyUsed}
-use Rattle.phase_shared.specs.Views.{known_of}
-use Rattle.phase_shared.specs.Rule.{IsSeatOfTask}
+use Rattle.phase_seats.specs.Views.{known_of}
+use Rattle.phase_seats.specs.Rule.{IsSeatOfTask}
 use Rattle.phase_shared.specs.Calls.{Refuses, HasRegistered, RefusesRegister}
 use Rattle.phase_shared.specs.Regs.{RegState, reg_state, phaser_place, phaser_terms}
-use Rattle.phase_shared.proofs.Answering.{Refuses-map}
+use Rattle.phase_seats.proofs.Answering.{Refuses-map}
 use Rattle.phase_shared.proofs.Opening.{opened, closed, reg_is, same_reg}
-use Rattle.phase_shared.specs.declared.refusal.Tried.TheVariants.{Busy, Refused}
+use Rattle.phase_seats.specs.declared.tried.Tried.TheVariants.{Busy, Refused}
 use Rattle.phase_shared.proofs.reg.Reg.try_register.Given.{Over}
 use Rattle.phase_shared.proofs.reg.Reg.try_register.Goals.{In-Ok}
 use Rattle.phase_shared.proofs.reg.Reg.try_register.Goals as goal
@@ -45,11 +45,11 @@ invariant_of-self-2 g c =
     closed g.K.SignalRule.allows p.0 terms inside.number inside.entry c.register-seat.result.0 c.register-seat.ensures.seat c.register-seat.ensures.at
 
 -- the child's seat, and where it stands
-new_child : (g : Over) (c : In-Ok g) → IsSeatOf c.args.phaser.now.lock c.in-Ok.made.1
+new_child : (g : Over) (c : In-Ok g) → IsSeatAt (phaser_place c.args.phaser.now) c.in-Ok.made.1
     × IsSeatOfTask g.K.SignalRule.allows (phaser_terms c.args.phaser.now) c.in-Ok.made.0 c.in-Ok.made.2 (seat_view c.in-Ok.made.1)
     × ((known_of (seat_view c.in-Ok.made.1)).seen ≡ (known_of (seat_view c.register-seat.result.0)).seen)
     × (c.in-Ok.made.2 ≡ entry_at c.args.mode c.self.inside.entry.signal_phase c.self.inside.entry.wait_phase)
-new_child g c = subst (λ r. IfOk r (λ m. IsSeatOf c.args.phaser.now.lock m.1
+new_child g c = subst (λ r. IfOk r (λ m. IsSeatAt (phaser_place c.args.phaser.now) m.1
     × IsSeatOfTask g.K.SignalRule.allows (phaser_terms c.args.phaser.now) m.0 m.2 (seat_view m.1)
     × ((known_of (seat_view m.1)).seen ≡ (known_of (seat_view c.register-seat.result.0)).seen)
     × (m.2 ≡ entry_at c.args.mode c.self.inside.entry.signal_phase c.self.inside.entry.wait_phase))) c.in-Ok.is c.register-seat.ensures.child

@@ -3,7 +3,7 @@ use Rattle.phase_shared.specs.Regs.{phaser_limits}
 use Rattle.phase_shared.specs.Calls.{Tries}
 use Rattle.phase_shared.specs.Nexts.{SignalsAndMayWait, HasSignalledAndMayWait}
 use Rattle.phase_base.specs.Members.{signalled}
-use Rattle.phase_shared.proofs.SignalSteps.{signals_alone, entry_alone}
+use Rattle.phase_shared.proofs.Later.{signals_alone, entry_alone}
 use Rattle.phase_shared.proofs.reg.Reg.try_signal.Goals as goal
 
 pub returns-in-Ok-clause-call : goal.returns-in-Ok-clause-call

@@ -1,13 +1,13 @@
 use Rattle.std.proofs.Common.{◌≡◌, ℕ, Option, Some, Ok, Err, true, false, sym, subst, ap, ◌∙◌}
 use Rattle.std.specs.Prelude.{is_some, Result}
 use Rattle.turn_lock.specs.Seats.{seat_view, IsSameSeat}
-use Rattle.phase_shared.specs.Views.{known_of}
+use Rattle.phase_seats.specs.Views.{known_of}
 use Rattle.phase_shared.specs.Regs.{RegState, reg_state, phaser_place, phaser_terms, phaser_limits}
 use Rattle.phase_history.specs.declared.got.Got.{Got}
 use Rattle.phase_shared.specs.Calls.{Tries, MaySignal}
 use Rattle.phase_shared.specs.Nexts.{SignalsAndMayWait}
 use Rattle.phase_history.specs.declared.refusal.SignalRefusal.{SignalRefusal}
-use Rattle.phase_shared.proofs.Answering.{Tries-map}
+use Rattle.phase_seats.proofs.Answering.{Tries-map}
 use Rattle.phase_shared.proofs.Opening.{opened, closed, same_reg, reg_is}
 use Rattle.phase_shared.proofs.reg.Reg.try_signal_and_wait.Goals as goal
 

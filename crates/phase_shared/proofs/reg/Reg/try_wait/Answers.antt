@@ -3,13 +3,13 @@ use Rattle.std.specs.Prelude.{is_some, Result}
 use Rattle.std.specs.Result.{result_ok}
 use Rattle.turn_lock.specs.Seats.{seat_view, IsSameSeat}
 use Rattle.phase_history.specs.Others.{OnlyUsed}
-use Rattle.phase_shared.specs.Views.{known_of}
+use Rattle.phase_seats.specs.Views.{known_of}
 use Rattle.phase_shared.specs.Regs.{RegState, reg_state, phaser_place, phaser_terms, phaser_limits}
 use Rattle.phase_shared.specs.Calls.{Tries, Waits}
 use Rattle.phase_shared.specs.Entries.{entry_after_wait}
 use Rattle.phase_history.specs.declared.got.Got.{Got}
 use Rattle.phase_history.specs.declared.refusal.WaitRefusal.{WaitRefusal}
-use Rattle.phase_shared.proofs.Answering.{Tries-map}
+use Rattle.phase_seats.proofs.Answering.{Tries-map}
 use Rattle.phase_shared.proofs.Opening.{opened, closed, same_reg, reg_is}
 use Rattle.phase_shared.proofs.reg.Reg.try_wait.Goals as goal
 

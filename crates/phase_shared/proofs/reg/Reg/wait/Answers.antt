@@ -7,8 +7,8 @@ use Rattle.phase_history.proofs.OthersEvents.{OthersCame-refl, OthersCame-trans}
 use Rattle.phase_shared.specs.Regs.{phaser_terms}
 use Rattle.phase_shared.specs.Calls.{Tries, Waits}
 use Rattle.phase_shared.specs.Entries.{entry_after_wait}
-use Rattle.phase_shared.proofs.Answering.{again}
-use Rattle.phase_shared.proofs.WaitSteps.{waits_later}
+use Rattle.phase_seats.proofs.Answering.{again}
+use Rattle.phase_shared.proofs.Later.{waits_later}
 use Rattle.phase_shared.proofs.reg.Reg.wait.Goals as goal
 
 pub returns-in-Ok-clause-call : goal.returns-in-Ok-clause-call

@@ -1,0 +1,5 @@
+pub mod Views
+pub mod Rule
+pub mod LockedPhasers
+pub mod Calls
+pub mod Entries

@@ -1,0 +1,292 @@
+//! The steps of a seat at rest that speaks for one task. Each call of a registration is one.
+ghost use Rattle.std.specs.Prelude.{◌≡◌, ◌≢◌, ℤ, List, [], ◌∷◌, true, false, Ok, Err, IfOk, IfErr, IsOk, IsErr};
+ghost use Rattle.std.specs.Result.{result_ok};
+ghost use Rattle.turn_lock.specs.Seats.{IsSeatAt, IsTurnAt, IsSameSeat};
+ghost use Rattle.turn_lock.specs.Seats.{seat_view, turn_number, turn_view, turn_value};
+ghost use Rattle.turn_lock.specs.Steps.{Gives};
+ghost use Rattle.phase_accum.specs.Parcels.{StandsForSends};
+ghost use Rattle.phase_history.specs.Histories.{History, entry_at};
+ghost use Rattle.phase_history.specs.Replies.{wait_reply, after_wait};
+ghost use Rattle.phase_history.specs.Others.{OnlyUsed, OthersCame};
+ghost use Rattle.phase_seats.specs.declared.view.View.TheVariants.{Resting};
+ghost use Rattle.phase_seats.specs.Views.{known_of, joining, first_part, other_part, SpeaksForTwo};
+ghost use Rattle.phase_seats.specs.Rule.{HasOneHistory, AfterTake, IsGoodAt, IsSeatOfTask, LearnedAt};
+ghost use Rattle.phase_core.specs.Cores.{StandsFor};
+ghost use Rattle.phase_seats.specs.Calls.{Tries, Waits, HasRegistered, RefusesRegister};
+ghost use Rattle.phase_seats.specs.Calls.{Refuses, HasLeft, SignalsAndMayWait, number_after};
+ghost use Rattle.phase_seats.specs.Entries.{entry_after_wait, entry_after_both};
+ghost use Rattle.phase_seats.specs.Calls.{SignalsAndMayWait};
+ghost use Rattle.phase_seats.specs.LockedPhasers.{locked_place, locked_terms, locked_limits};
+
+use crate::ghost_steps::{OnGive, OnJoin, OnLook, OnSplit, OnTake, Plan, Same};
+use crate::hints::Moved;
+use crate::locked::LockedPhaser;
+use crate::rule::SignalRule;
+use crate::tried::Tried;
+use crate::view::{PhaserSeat, PhaserTurn};
+use phase_accum::{Accumulate, Pending, Single};
+use phase_base::{Entry, Mode};
+use phase_core::{Got, PhaserCore, RegisterRefusal, SignalRefusal, WaitRefusal};
+use std::marker::Brand;
+
+// Takes the turn, and learns what the others did.
+fn enter<A: Accumulate, K: SignalRule>(
+    phaser: &LockedPhaser<A, K>,
+    seat: PhaserSeat<A, K>,
+    me: u64,
+    entry: Entry,
+) -> Result<PhaserTurn<A, K>, PhaserSeat<A, K>>
+    requires seat { IsSeatAt (locked_place phaser.now) seat }
+    requires at { IsSeatOfTask K.allows (locked_terms phaser.now) me entry (seat_view seat) }
+    ensures turn { IfOk result (λ turn. IsTurnAt (locked_place phaser.now) turn) }
+    ensures took { IfOk result (λ turn. AfterTake A.operation K.allows (locked_terms phaser.now) me
+        entry (seat_view seat) (turn_value turn) (turn_view turn)) }
+
+    ensures err { IfErr result (λ back. IsSameSeat seat back) }
+    ensures still { IfErr result (λ back.
+        IsSeatOfTask K.allows (locked_terms phaser.now) me entry (seat_view back)) }
+    ensures alone { OnlyUsed (me ∷ []) (known_of (seat_view seat)).seen → IsOk result }
+{
+    match phaser.lock.try_take::<OnTake<A, K>>(seat) {
+        Ok(turn) => Ok(turn),
+        Err(back) => Err(back),
+    }
+}
+
+// Gives the turn back. What the give tells is picked by its caller, and may speak of `told`.
+fn put_back<A: Accumulate, K: SignalRule, E: Plan, X: Copy>(
+    phaser: &LockedPhaser<A, K>,
+    turn: PhaserTurn<A, K>,
+    moved: Moved,
+    told: X,
+) -> PhaserSeat<A, K>
+    requires turn { IsTurnAt (locked_place phaser.now) turn }
+    requires rule { Gives (HasOneHistory A.operation K.allows) (locked_terms phaser.now)
+        (turn_number turn) (turn_view turn) (turn_value turn) (λ v y w. E.goes v w) }
+    ensures seat { IsSeatAt (locked_place phaser.now) result }
+    ensures rule { E.goes (turn_view turn) (seat_view result) }
+{
+    let _ = told;
+    let seat = phaser.lock.give::<OnGive<E>>(turn);
+    phaser.hints.wake(moved);
+    seat
+}
+
+// Waits where that is asked for. Where it is not, the wait is refused.
+fn wait_where<A: Accumulate>(
+    core: &mut PhaserCore<A>,
+    me: u64,
+    asked: bool,
+) -> Result<Got, WaitRefusal>
+    ensures reply { (h : History) → StandsFor A.operation core.old h → asked ≡ true
+        → wait_reply A.operation.value core.old.limits h me ≡ result }
+    ensures none { asked ≡ false → IsErr result }
+    ensures after { (h : History) → StandsFor A.operation core.old h
+        → StandsFor A.operation core.new (after_wait result me h) }
+    ensures limits { core.new.limits ≡ core.old.limits }
+{
+    if asked {
+        core.wait(me)
+    } else {
+        Err(WaitRefusal::NoWait)
+    }
+}
+
+// Signals, and then waits where that is asked for and answers at once: both under one turn.
+pub fn signal<A: Accumulate, K: SignalRule>(
+    phaser: &LockedPhaser<A, K>,
+    seat: PhaserSeat<A, K>,
+    me: u64,
+    entry: Entry,
+    pending: Pending<A>,
+    single: Option<Single>,
+    waits: bool,
+) -> (
+    PhaserSeat<A, K>,
+    Entry,
+    Result<(u64, Option<Got>), Tried<SignalRefusal>>,
+)
+    requires seat { IsSeatAt (locked_place phaser.now) seat }
+    requires at { IsSeatOfTask K.allows (locked_terms phaser.now) me entry (seat_view seat) }
+    requires rule { (h : History) (sends : List ℤ) → IsGoodAt K.allows (locked_terms phaser.now) h
+        → OthersCame (me ∷ []) (known_of (seat_view seat)).seen h
+        → StandsForSends A.operation pending sends
+        → K.allows (locked_terms phaser.now).rule h me (sends ∷ []) single }
+    ensures seat { IsSeatAt (locked_place phaser.now) result.0 }
+    ensures at { IsSeatOfTask K.allows (locked_terms phaser.now) me result.1 (seat_view result.0) }
+    ensures call { Tries (IsSameSeat seat result.0 × (result.1 ≡ entry))
+        (SignalsAndMayWait waits A.operation (locked_limits phaser.now) me pending single
+        (known_of (seat_view seat)).seen (known_of (seat_view result.0)).seen) result.2 }
+    ensures entry { result.1 ≡ entry_after_both (result_ok result.2) entry }
+    ensures known { result.2 ≢ Err (Tried.Refused SignalRefusal.NoTask) }
+    ensures alone { OnlyUsed (me ∷ []) (known_of (seat_view seat)).seen
+        → result.2 ≢ Err Tried.Busy }
+{
+    let mut turn = match enter(phaser, seat, me, entry) {
+        Ok(turn) => turn,
+        Err(seat) => return (seat, entry, Err(Tried::Busy)),
+    };
+    let _part = pending.part();
+    let core = turn.value();
+    let answer = core.signal(me, pending, single);
+    let phase = match answer {
+        Ok(phase) => phase,
+        Err(refused) => {
+            let seat = phaser.lock.give::<Same>(turn);
+            return (seat, entry, Err(Tried::Refused(refused.0)));
+        }
+    };
+    let waited = wait_where(core, me, waits);
+    let Some(entry) = core.view(me) else {
+        unreachable!()
+    };
+    let moved = phaser.hints.publish(core);
+    let told = (me, &pending, &single, waited);
+    let seat = put_back::<A, K, Brand, _>(phaser, turn, moved, told);
+    (seat, entry, Ok((phase, waited.ok())))
+}
+
+// Leaves.
+pub fn leave<A: Accumulate, K: SignalRule>(
+    phaser: &LockedPhaser<A, K>,
+    seat: PhaserSeat<A, K>,
+    me: u64,
+    entry: Entry,
+) -> Result<PhaserSeat<A, K>, PhaserSeat<A, K>>
+    requires seat { IsSeatAt (locked_place phaser.now) seat }
+    requires at { IsSeatOfTask K.allows (locked_terms phaser.now) me entry (seat_view seat) }
+    ensures seat { IfOk result (λ s. IsSeatAt (locked_place phaser.now) s) }
+    ensures ok { IfOk result (λ s. HasLeft K.allows (locked_terms phaser.now) me
+        (known_of (seat_view seat)).seen (seat_view s)) }
+    ensures err { IfErr result (λ s. IsSameSeat seat s) }
+    ensures alone { OnlyUsed (me ∷ []) (known_of (seat_view seat)).seen → IsOk result }
+{
+    let mut turn = match enter(phaser, seat, me, entry) {
+        Ok(turn) => turn,
+        Err(seat) => return Err(seat),
+    };
+    let core = turn.value();
+    let answer = core.drop_task(me);
+    let Ok(()) = answer else { unreachable!() };
+    let moved = phaser.hints.publish(core);
+    Ok(put_back::<A, K, Brand, _>(phaser, turn, moved, me))
+}
+
+// Waits.
+pub fn wait<A: Accumulate, K: SignalRule>(
+    phaser: &LockedPhaser<A, K>,
+    seat: PhaserSeat<A, K>,
+    me: u64,
+    entry: Entry,
+) -> (PhaserSeat<A, K>, Entry, Result<Got, Tried<WaitRefusal>>)
+    requires seat { IsSeatAt (locked_place phaser.now) seat }
+    requires at { IsSeatOfTask K.allows (locked_terms phaser.now) me entry (seat_view seat) }
+    ensures seat { IsSeatAt (locked_place phaser.now) result.0 }
+    ensures at { IsSeatOfTask K.allows (locked_terms phaser.now) me result.1 (seat_view result.0) }
+    ensures call { Tries (IsSameSeat seat result.0 × (result.1 ≡ entry))
+        (Waits A.operation.value (locked_limits phaser.now) me
+        (known_of (seat_view seat)).seen (known_of (seat_view result.0)).seen) result.2 }
+    ensures entry { result.1 ≡ entry_after_wait (result_ok result.2) entry }
+    ensures known { result.2 ≢ Err (Tried.Refused WaitRefusal.NoTask) }
+    ensures alone { OnlyUsed (me ∷ []) (known_of (seat_view seat)).seen
+        → result.2 ≢ Err Tried.Busy }
+{
+    let mut turn = match enter(phaser, seat, me, entry) {
+        Ok(turn) => turn,
+        Err(seat) => return (seat, entry, Err(Tried::Busy)),
+    };
+    let core = turn.value();
+    let answer = core.wait(me);
+    let Some(entry) = core.view(me) else {
+        unreachable!()
+    };
+    let moved = phaser.hints.publish(core);
+    let seat = put_back::<A, K, Brand, _>(phaser, turn, moved, (me, answer));
+    match answer {
+        Ok(got) => (seat, entry, Ok(got)),
+        Err(refusal) => (seat, entry, Err(Tried::Refused(refusal))),
+    }
+}
+
+// The number of the next child. Where none is left it is the last one, which is refused.
+fn child_of<A: Accumulate>(core: &PhaserCore<A>) -> u64
+    ensures { result ≡ number_after core.now.greatest }
+{
+    core.next_number().unwrap_or(u64::MAX)
+}
+
+// Registers a child. The answer is the child's number, seat and entry.
+pub fn register<A: Accumulate, K: SignalRule>(
+    phaser: &LockedPhaser<A, K>,
+    seat: PhaserSeat<A, K>,
+    me: u64,
+    entry: Entry,
+    mode: Mode,
+) -> (
+    PhaserSeat<A, K>,
+    Result<(u64, PhaserSeat<A, K>, Entry), Tried<RegisterRefusal>>,
+)
+    requires seat { IsSeatAt (locked_place phaser.now) seat }
+    requires at { IsSeatOfTask K.allows (locked_terms phaser.now) me entry (seat_view seat) }
+    ensures seat { IsSeatAt (locked_place phaser.now) result.0 }
+    ensures at { IsSeatOfTask K.allows (locked_terms phaser.now) me entry (seat_view result.0) }
+    ensures child { IfOk result.1 (λ made. IsSeatAt (locked_place phaser.now) made.1
+        × IsSeatOfTask K.allows (locked_terms phaser.now) made.0 made.2 (seat_view made.1)
+        × ((known_of (seat_view made.1)).seen ≡ (known_of (seat_view result.0)).seen)
+        × (made.2 ≡ entry_at mode entry.signal_phase entry.wait_phase)) }
+    ensures ok { IfOk result.1 (λ made. HasRegistered me made.0 mode
+        (known_of (seat_view seat)).seen (known_of (seat_view result.0)).seen) }
+    ensures err { IfErr result.1 (Refuses (IsSameSeat seat result.0) (RefusesRegister me mode
+        (known_of (seat_view seat)).seen (known_of (seat_view result.0)).seen)) }
+    ensures known { result.1 ≢ Err (Tried.Refused RegisterRefusal.NoTask) }
+    ensures alone { OnlyUsed (me ∷ []) (known_of (seat_view seat)).seen
+        → result.1 ≢ Err Tried.Busy }
+{
+    let mut turn = match enter(phaser, seat, me, entry) {
+        Ok(turn) => turn,
+        Err(seat) => return (seat, Err(Tried::Busy)),
+    };
+    let core = turn.value();
+    let child = child_of(core);
+    let answer = core.register(me, child, mode);
+    let found = core.view(child);
+    let moved = phaser.hints.publish(core);
+    if let Err(refusal) = answer {
+        return (phaser.lock.give::<Same>(turn), Err(Tried::Refused(refusal)));
+    }
+    let Some(start) = found else { unreachable!() };
+    let both = put_back::<A, K, Brand, _>(phaser, turn, moved, (me, child, mode));
+    let (seat, other) = split(phaser, both);
+    (seat, Ok((child, other, start)))
+}
+
+// Joins two seats at rest.
+pub fn join<A: Accumulate, K: SignalRule>(
+    phaser: &LockedPhaser<A, K>,
+    seat: PhaserSeat<A, K>,
+    other: PhaserSeat<A, K>,
+) -> PhaserSeat<A, K>
+    requires seats { IsSeatAt (locked_place phaser.now) seat × IsSeatAt (locked_place phaser.now) other }
+    requires rests { (seat_view seat ≡ Resting (known_of (seat_view seat)))
+        × (seat_view other ≡ Resting (known_of (seat_view other))) }
+    ensures seat { IsSeatAt (locked_place phaser.now) result }
+    ensures rule { LearnedAt K.allows (locked_terms phaser.now)
+        (joining (seat_view seat) (seat_view other)) (seat_view result) }
+{
+    phaser.lock.join::<OnJoin, OnLook<K>>(seat, other)
+}
+
+// Cuts a seat at rest that speaks for two in two, each of which speaks for one.
+pub fn split<A: Accumulate, K: SignalRule>(
+    phaser: &LockedPhaser<A, K>,
+    seat: PhaserSeat<A, K>,
+) -> (PhaserSeat<A, K>, PhaserSeat<A, K>)
+    requires seat { IsSeatAt (locked_place phaser.now) seat }
+    requires two { SpeaksForTwo (seat_view seat) }
+    ensures seats { IsSeatAt (locked_place phaser.now) result.0
+        × IsSeatAt (locked_place phaser.now) result.1 }
+    ensures left { seat_view result.0 ≡ first_part (seat_view seat) }
+    ensures right { seat_view result.1 ≡ other_part (seat_view seat) }
+{
+    phaser.lock.split::<OnSplit>(seat)
+}

@@ -1,0 +1,78 @@
+-- A call after others' events is a call from the start.
+use Rattle.std.proofs.Common.{◌≡◌, ℕ, ℤ, Bool, true, false, List, [], ◌∷◌, Option, Some, None, refl, subst, sym}
+use Rattle.std.specs.Prelude.{Ok, Err, Result}
+use Rattle.phase_base.specs.Limits.{Limits}
+use Rattle.phase_base.specs.declared.entry.Entry.{Entry}
+use Rattle.phase_accum.specs.Operations.{Operation}
+use Rattle.phase_accum.specs.Parcels.{Parcel, StandsForSends}
+use Rattle.phase_accum.specs.declared.outcome.Outcome.{Outcome}
+use Rattle.phase_accum.specs.declared.single.Single.{Single}
+use Rattle.phase_history.specs.declared.got.Got.{Got}
+use Rattle.phase_history.specs.declared.refusal.SignalRefusal.{SignalRefusal}
+use Rattle.phase_history.specs.declared.refusal.WaitRefusal.{WaitRefusal}
+use Rattle.phase_history.specs.Histories.{History}
+use Rattle.phase_history.specs.Others.{OthersCame}
+use Rattle.phase_history.proofs.OthersEvents.{OthersCame-trans}
+use Rattle.phase_seats.specs.declared.rule.Terms.{Terms}
+use Rattle.phase_seats.specs.Rule.{Allows}
+use Rattle.phase_seats.specs.Calls.{Signals, Waits, MayWait, SignalsAndMayWait}
+use Rattle.phase_seats.specs.Entries.{entry_after_wait}
+use Rattle.phase_shared.specs.Calls.{MaySignal}
+use Rattle.phase_shared.specs.Regs.{RegState}
+
+-- where no wait was asked for it stands where its signal left it
+pub entry_alone : (value : List ℤ → Outcome) (limits : Limits) (me : ℕ) (middle new : History) (got : Option Got) (entry : Entry)
+    → MayWait false value limits me middle new got → entry_after_wait got entry ≡ entry
+entry_alone value limits me middle new None entry w = refl
+entry_alone value limits me middle new (Some got) entry w = absurd w
+
+-- a signal with no wait after it
+pub signals_alone : {A : Type 0} (op : Operation A) (limits : Limits) (me : ℕ) (held : Parcel A) (single : Option Single) (old new : History) (answer : ℕ × Option Got)
+    → SignalsAndMayWait false op limits me held single old new (Ok answer) → Signals op limits me held single old new (Ok answer.0)
+signals_alone op limits me held single old new (phase, None) s =
+    subst (λ (h : History). Signals op limits me held single old h (Ok phase)) (sym s.waits) s.signals
+signals_alone op limits me held single old new (phase, Some got) s = absurd s.waits
+
+module _ {A K : Type 0} (op : Operation A) (terms : Terms K) (single : Option Single) (old now : RegState A K) (number : now.number ≡ old.number)
+    (held : now.held ≡ old.held) (came : OthersCame (old.number ∷ []) old.seen now.seen) where
+  -- what the rule allows, it allows after others' events too
+  pub may_later : (allows : K → Allows) → MaySignal op allows terms old single → MaySignal op allows terms now single
+  may_later allows may h sends good others stands =
+      let more : OthersCame (old.number ∷ []) now.seen h = subst (λ n. OthersCame (n ∷ []) now.seen h) number others in
+      subst (λ n. allows terms.rule h n (sends ∷ []) single) (sym number)
+      (may h sends good (OthersCame-trans (old.number ∷ []) old.seen now.seen h came more) (subst (λ p. StandsForSends op p sends) held stands))
+
+  -- a signal after others' events is a signal from the start
+  pub signals_later : (new : History) (answer : Result ℕ SignalRefusal) → Signals op terms.limits now.number now.held single now.seen new answer
+      → Signals op terms.limits old.number old.held single old.seen new answer
+  signals_later new answer signals =
+      let P : ℕ → Parcel A → Type 0 = λ n p. Signals op terms.limits n p single now.seen new answer in
+      let Q : Parcel A → Type 0 = λ p. P old.number p in
+      let s : Signals op terms.limits old.number old.held single now.seen new answer =
+      subst Q held (subst (λ n. P n now.held) number signals) in
+      record {
+        before = s.before;
+        sends = s.sends;
+        others = OthersCame-trans (old.number ∷ []) old.seen now.seen s.before came s.others;
+        stands = s.stands;
+        seen = s.seen;
+        reply = s.reply;
+      }
+
+  -- the same, with a wait that was asked for
+  pub signals_and_may_wait_later : (asked : Bool) (new : History) (answer : Result (ℕ × Option Got) SignalRefusal)
+      → SignalsAndMayWait asked op terms.limits now.number now.held single now.seen new answer
+      → SignalsAndMayWait asked op terms.limits old.number old.held single old.seen new answer
+  signals_and_may_wait_later asked new (Ok answer) s = record {
+    middle = s.middle;
+    signals = signals_later s.middle (Ok answer.0) s.signals;
+    waits = subst (λ n. MayWait asked op.value terms.limits n s.middle new answer.1) number s.waits;
+  }
+  signals_and_may_wait_later asked new (Err refusal) s = signals_later new (Err refusal) s
+
+-- a wait after others' events is a wait from the start
+pub waits_later : (value : List ℤ → Outcome) (limits : Limits) (me number : ℕ) (old now new : History) (answer : Result Got WaitRefusal)
+    → number ≡ me → OthersCame (me ∷ []) old now → Waits value limits number now new answer → Waits value limits me old new answer
+waits_later value limits me number old now new answer same came w =
+    let v : Waits value limits me now new answer = subst (λ (n : ℕ). Waits value limits n now new answer) same w in
+    record { before = v.before; others = OthersCame-trans (me ∷ []) old now v.before came v.others; seen = v.seen; reply = v.reply }
