@@ -1,9 +1,12 @@
 //! The table of turns at the worked runs: what each turn makes, and what it tells.
-ghost use Rattle.std.specs.Prelude.{◌≡◌, ℕ, [], ◌∷◌, Some, None, map, pos, true, false};
+ghost use Rattle.std.specs.Prelude.{◌≡◌, ◌≢◌, ℕ, [], ◌∷◌, Some, None, IsSome, map, pos};
+ghost use Rattle.std.specs.Prelude.{true, false};
 ghost use Rattle.graph_base.specs.declared.place.Place.TheVariants as place;
 ghost use Rattle.graph_moments.specs.Moments.{HasRun};
 ghost use Rattle.graph_turns.specs.TaskEvents.{IsNext, sample};
 ghost use Rattle.graph_turns.specs.Answers.{answers_in_turn, makes, turn_tells, is_stalled};
+ghost use Rattle.graph_turns.specs.Answers.{answer_of_turn, after_answer, after_turns, is_refused};
+ghost use Rattle.graph_turns.specs.Reached.{HasBegun, IsReachable};
 ghost use Rattle.graph_turns.specs.Answers.{Moved, Ended, Blocked, Gone, TooBig};
 ghost use Rattle.graph_tests.specs.Worked.{worked, worked_opening, worked_turns, worked_order};
 ghost use Rattle.graph_tests.specs.Worked.{after_signal_on_e, with_late, before_end, worked_end};
@@ -30,6 +33,24 @@ fn turns_make_next_events()
 {
     a_run_from_its_opening_to_its_end();
     turns::turns_make_next_events();
+}
+
+/// By the laws the opening of that run is reached, as its founders have left and its tasks have the
+/// modes of their lines; so are the moment after the source's first turn and the end. So no turn is
+/// refused: not that of the peer at the opening, which waits, nor any of late, once it is there.
+fn the_run_is_reached()
+    ensures begun { HasBegun worked worked_opening }
+    ensures opening { IsReachable worked worked_opening }
+    ensures turn { IsReachable worked
+        (after_answer worked (answer_of_turn worked worked_opening 0) worked_opening) }
+    ensures turns { IsReachable worked (after_turns worked worked_opening worked_order) }
+    ensures answered { answer_of_turn worked worked_opening 1 ≢ is_refused }
+    ensures told { IsSome (turn_tells worked None
+        (after_turns worked worked_opening worked_order) 5) }
+{
+    a_run_from_its_opening_to_its_end();
+    turns::turns_stay_reached();
+    turns::no_turn_is_refused();
 }
 
 /// What single turns of that run tell.

@@ -129,7 +129,7 @@ first_wait_next job m t event is ran live no_source none due uncut more answer =
 
 -- ---- a peer's wait on E
 
-waits_as_peer : (kind : Kind) (j put taken : ℕ) → waits_first kind j put taken ≡ true
+pub waits_as_peer : (kind : Kind) (j put taken : ℕ) → waits_first kind j put taken ≡ true
     → (kind ≡ Peer) × (taken ≤ put)
 waits_as_peer Peer (suc j) put taken e = (refl, leb-true taken put e)
 waits_as_peer Peer zero put taken e = absurd (cc)
@@ -175,7 +175,7 @@ exchange_next job m t j event is ran live owes first answer =
 
 -- ---- a sample
 
-source_ends : (job : Job) (t : ℕ) → IsGraph job.graph → t < length job.graph.tasks
+pub source_ends : (job : Job) (t : ℕ) → IsGraph job.graph → t < length job.graph.tasks
     → (task_at job.graph t).kind ≡ Source → length (signalled_by (task_at job.graph t)) ≡ 1
 source_ends job t is there e =
     let H : Kind → Type 0 = λ kind. HasEnds kind (length (task_at job.graph t).inputs)

@@ -1,6 +1,14 @@
 pub mod Boundaries
 pub mod Calling
+pub mod EndModes
+pub mod Entries
+pub mod NotRefused
 pub mod Places
+pub mod Ranged
+pub mod Refusing
+pub mod Reaching
 pub mod Registering
 pub mod Signalling
+pub mod Telling
 pub mod Turning
+pub mod Whose

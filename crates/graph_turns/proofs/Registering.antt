@@ -41,7 +41,7 @@ comes-is t b (Some u) e =
     let both = and_parts (eqb u.task t) (eqb u.at b) e in
     record { by = u; is = refl; task = eqb-true u.task t both.0; at = eqb-true u.at b both.1 }
 
-no_peer : (kind : Kind) → has_children kind ≡ true → kind ≢ Peer
+pub no_peer : (kind : Kind) → has_children kind ≡ true → kind ≢ Peer
 no_peer Source e = λ p. (cc)
 no_peer Fir e = λ p. (cc)
 no_peer Sink e = λ p. (cc)
@@ -49,7 +49,7 @@ no_peer Split e = absurd (cc)
 no_peer Join e = absurd (cc)
 no_peer Peer e = absurd (cc)
 
-plain_outputs : (job : Job) (c : ℕ) → has_children (task_at job.graph c).kind ≡ true
+pub plain_outputs : (job : Job) (c : ℕ) → has_children (task_at job.graph c).kind ≡ true
     → signalled_by (task_at job.graph c) ≡ (task_at job.graph c).outputs
 plain_outputs job c plain = by (task_at job.graph c).kind refl
   where
@@ -182,6 +182,41 @@ on_parent job c p u is there parent (inr into) =
     (parent-is job.graph c (task_at job.graph c) u (is.tasks c there) parent) into.1 in
     inr (i.0, i.1, i.2 ∙ into.2)
 
+-- ---- the child that is due
+
+-- task c is a child of task t that comes at this boundary, and misses a registration
+pub record IsDueChild (job : Job) (m : Moment) (t c : ℕ) : Type 0 where
+  pub there : c < length job.graph.tasks
+  pub missing : is_some (first_missing job m c) ≡ true
+  pub comes : Comes t (m.begun t) (task_at job.graph c).parent
+  pub parent : IsParent job.graph c (task_at job.graph c) comes.by
+  pub parent_plain : has_children (task_at job.graph t).kind ≡ true
+
+pub due_child : (job : Job) (m : Moment) (t c : ℕ) → IsGraph job.graph
+    → first_due job m t ≡ Some c → IsDueChild job m t c
+due_child job m t c is due =
+    let found = found_below (is_due job m t) (length job.graph.tasks) c due in
+    let parts = and_parts (comes_by t (m.begun t) (task_at job.graph c).parent)
+    (is_some (first_missing job m c)) found.0 in
+    let comes = comes-is t (m.begun t) (task_at job.graph c).parent parts.0 in
+    let parent = parent-is job.graph c (task_at job.graph c) comes.by (is.tasks c found.1)
+    comes.is in
+    let P : ℕ → Type 0 = λ x. has_children (task_at job.graph x).kind ≡ true in
+    record {
+      there = found.1;
+      missing = parts.1;
+      comes = comes;
+      parent = parent;
+      parent_plain = subst P comes.task parent.kind;
+    }
+
+-- a phaser on the child's line, and so on its parent's
+pub on_parents_line : (job : Job) (m : Moment) (t c p : ℕ) → IsGraph job.graph
+    → IsDueChild job m t c → OnLine (task_at job.graph c) p → OnLine (task_at job.graph t) p
+on_parents_line job m t c p is d on =
+    let L : ℕ → Type 0 = λ x. OnLine (task_at job.graph x) p in
+    subst L d.comes.task (on_parent job c p d.comes.by is d.there d.comes.is on)
+
 -- ---- the event
 
 pub child_next : (job : Job) (m : Moment) (t c : ℕ) (event : TaskEvent) → IsGraph job.graph
@@ -189,48 +224,28 @@ pub child_next : (job : Job) (m : Moment) (t c : ℕ) (event : TaskEvent) → Is
     → first_due job m t ≡ Some c
     → call_register m t c (first_missing job m c) ≡ makes event → IsNext job m event
 child_next job m t c event is ran to_come live none due answer =
-    by (first_missing job m c) refl answer
+    by (first_missing job m c) refl (due_child job m t c is due) answer
   where
-    found : (is_due job m t c ≡ true) × (c < length job.graph.tasks)
-    found = found_below (is_due job m t) (length job.graph.tasks) c due
-
-    parts : (comes_by t (m.begun t) (task_at job.graph c).parent ≡ true)
-        × (is_some (first_missing job m c) ≡ true)
-    parts = and_parts (comes_by t (m.begun t) (task_at job.graph c).parent)
-        (is_some (first_missing job m c)) found.0
-
-    comes : Comes t (m.begun t) (task_at job.graph c).parent
-    comes = comes-is t (m.begun t) (task_at job.graph c).parent parts.0
-
-    parent : IsParent job.graph c (task_at job.graph c) comes.by
-    parent = parent-is job.graph c (task_at job.graph c) comes.by (is.tasks c found.1) comes.is
-
-    parent_plain : has_children (task_at job.graph t).kind ≡ true
-    parent_plain =
-        let P : ℕ → Type 0 = λ x. has_children (task_at job.graph x).kind ≡ true in
-        subst P comes.task parent.kind
-
     absent : (o : Option ℕ) → not (is_some o) ≡ true → o ≡ None
     absent None e = refl
     absent (Some n) e = absurd (cc)
 
-    by : (o : Option Registration) → first_missing job m c ≡ o
+    by : (o : Option Registration) → first_missing job m c ≡ o → IsDueChild job m t c
         → call_register m t c o ≡ makes event → IsNext job m event
-    by None missing e = absurd (cc)
-    by (Some r) missing e =
+    by None missing d e = absurd (cc)
+    by (Some r) missing d e =
         let f = find-some (λ x. not (has_registered m c x)) (registrations_at job c) r
         no_registration missing in
         let For : Registration → Type 0 = λ x. IsFor job c x in
         let use_of : IsFor job c r =
-        subst For f.1.2 (is_for job c f.1.0 is found.1 parent.child_kind f.1.1) in
+        subst For f.1.2 (is_for job c f.1.0 is d.there d.parent.child_kind f.1.1) in
         let p = r.phaser in
         let n = number_on m t p in
         let a = greatest_used (m.history p) + 1 in
         let made = accepted (child t p n c a r.mode) event
         (register_refusal (m.history p) n a r.mode) e in
-        let L : ℕ → Type 0 = λ x. OnLine (task_at job.graph x) p in
         let above : OnLine (task_at job.graph t) p =
-        subst L comes.task (on_parent job c p comes.by is found.1 comes.is use_of.on_line) in
+        on_parents_line job m t c p is d use_of.on_line in
         let Next : TaskEvent → Type 0 = λ e. IsNext job m e in
         subst Next made.1 (
           record {
@@ -238,32 +253,32 @@ child_next job m t c event is ran to_come live none due answer =
             phaser = on_phaser job t p is live.there above;
           },
           (
-            comes.by,
+            d.comes.by,
             record {
-              child = found.1;
-              parent = comes.is;
-              by = comes.task;
+              child = d.there;
+              parent = d.comes.is;
+              by = d.comes.task;
               on_line = use_of.on_line;
               numbered = number_there job m t p is live above;
               absent = absent (m.number p c) f.0;
               accepted = made.0;
               signals = use_of.signals;
               waits = use_of.waits;
-              boundary = sym comes.at;
-              offset = to_come.offset c comes.by found.1 comes.is
-                  ∙ ap (λ x. m.offset x + comes.by.at) comes.task;
-              nothing_put = λ j place. to_come.nothing_put c j found.1 parts.1;
-              nothing_taken = λ k lt at. to_come.nothing_taken c k found.1 parts.1;
-              nothing_begun = to_come.nothing_begun c found.1 parts.1;
+              boundary = sym d.comes.at;
+              offset = to_come.offset c d.comes.by d.there d.comes.is
+                  ∙ ap (λ x. m.offset x + d.comes.by.at) d.comes.task;
+              nothing_put = λ j place. to_come.nothing_put c j d.there d.missing;
+              nothing_taken = λ k lt at. to_come.nothing_taken c k d.there d.missing;
+              nothing_begun = to_come.nothing_begun c d.there d.missing;
               all_put = λ i place.
                   (let at = place-at (signalled_by (task_at job.graph t)) p i place in
                   ap length (all_put job m t ran live.there none i at.0)
                   ∙ made_many job m t i is ran live.there at.0
                   ∙ puts-few (task_at job.graph t) (m.begun t) i (is.tasks t live.there).ends
-                  parent_plain);
+                  d.parent_plain);
               all_taken = λ k lt at.
                   all_taken job m t is ran live.there none k lt
-                  ∙ plain_takes job t (m.begun t) k parent_plain;
+                  ∙ plain_takes job t (m.begun t) k d.parent_plain;
             },
           ),
         )

@@ -6,7 +6,7 @@ use Rattle.phase_accum.specs.declared.outcome.Outcome.TheVariants as outcome
 use Rattle.phase_history.specs.declared.got.Got.{Got}
 use Rattle.phase_history.specs.declared.got.Got.TheVariants as got
 use Rattle.phase_history.specs.declared.refusal.SignalRefusal.{SignalRefusal}
-use Rattle.phase_history.specs.declared.refusal.SignalRefusal.TheVariants.{Ahead}
+use Rattle.phase_history.specs.declared.refusal.SignalRefusal.TheVariants.{Ahead, Spent}
 use Rattle.phase_history.specs.declared.refusal.WaitRefusal.{WaitRefusal}
 use Rattle.phase_history.specs.declared.refusal.WaitRefusal.TheVariants.{NotYet}
 use Rattle.phase_history.specs.Histories.{greatest_used, wait_phase}
@@ -22,9 +22,9 @@ use Rattle.graph_moments.specs.Moments.{Moment, limits_at, value_at, input_at, m
 use Rattle.graph_turns.specs.TaskEvents.{TaskEvent, sample, signal, first_wait, exchange_wait, leave, child, after_turn}
 use Rattle.graph_turns.specs.Nexts.{Next, is_not_live, registers, leaves, samples, signals, waits, exchanges, next_of, is_live, number_on, first_missing, first_kept}
 
--- a turn makes one event; or none, as its call is Ahead or NotYet, as the task is not live, as the
--- value that it would signal is out of range at this place, or as the phaser refuses the call for
--- another reason, which no turn of the tables has
+-- a turn makes one event; or none, as its call is Ahead or NotYet or the phaser has no phase left for
+-- it, as the task is not live, as the value that it would signal is out of range at this place, or as
+-- the phaser refuses the call for another reason, which no run comes to
 pub data Answer : Type 0 where
   makes : TaskEvent → Answer
   is_blocked : Answer
@@ -38,6 +38,7 @@ pub data Answer : Type 0 where
 abbrev pub signal_answer : TaskEvent → Option SignalRefusal → Answer
 signal_answer event None = makes event
 signal_answer event (Some Ahead) = is_blocked
+signal_answer event (Some Spent) = is_blocked
 signal_answer event (Some refusal) = is_refused
 
 -- a wait, which makes the event of its outcome
@@ -132,7 +133,7 @@ after_answer job answer m = m
 -- ---- the word of the answer
 
 -- what a turn tells: that an event was made; that it was the task's last drop; that the phaser
--- would not take the call yet; that the task is not live; that a value is out of range
+-- would not take the call now; that the task is not live; that a value is out of range
 pub data Told : Type 0 where
   Moved : Told
   Ended : Told
@@ -181,7 +182,7 @@ answers_in_turn job m (t ∷ ts) =
 
 -- ---- where nobody moves
 
--- whether an answer is that the call was Ahead or NotYet
+-- whether an answer is that the phaser would not take the call now
 abbrev pub was_blocked : Answer → Bool
 was_blocked (makes event) = false
 was_blocked is_blocked = true

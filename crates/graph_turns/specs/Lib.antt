@@ -1,3 +1,4 @@
 pub mod Answers
 pub mod Nexts
+pub mod Reached
 pub mod TaskEvents

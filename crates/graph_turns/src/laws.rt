@@ -1,12 +1,16 @@
 //! What a turn makes is the task's next event. Each function here makes no call and has no effect:
 //! its contract is the law.
-ghost use Rattle.std.specs.Prelude.{◌≡◌, ℕ, None};
+ghost use Rattle.std.specs.Prelude.{◌≡◌, ◌≢◌, ℕ, List, Option, None, IsSome};
+ghost use Rattle.phase_accum.specs.Sends.{AreSends};
 ghost use Rattle.graph_base.specs.TaskLines.{IsGraph};
-ghost use Rattle.stream_lists.specs.Jobs.{Job};
+ghost use Rattle.stream_lists.specs.Jobs.{Job, samples_at};
+ghost use Rattle.stream_lists.specs.Ranges.{Where};
 ghost use Rattle.graph_moments.specs.Moments.{Moment, HasRun};
 ghost use Rattle.graph_turns.specs.TaskEvents.{TaskEvent, IsNext, after_turn};
 ghost use Rattle.graph_turns.specs.Nexts.{first_due, HasChildrenToCome};
-ghost use Rattle.graph_turns.specs.Answers.{answer_of_turn, makes};
+ghost use Rattle.graph_turns.specs.Answers.{answer_of_turn, after_answer, after_turns, makes};
+ghost use Rattle.graph_turns.specs.Answers.{is_refused, turn_tells};
+ghost use Rattle.graph_turns.specs.Reached.{HasBegun, IsReachable};
 
 use graph_moves::laws as moves;
 
@@ -27,3 +31,27 @@ pub fn turns_make_next_events()
 {
     moves::turns_keep();
 }
+
+/// The opening is reached, and turns lead from a reached moment to reached ones, whichever tasks
+/// have them and whatever they answer. So who begins at the opening and gives turns by the table
+/// has what `turns_make_next_events` asks for, always.
+pub fn turns_stay_reached()
+    ensures opening { (job : Job) (m : Moment) → IsGraph job.graph → HasBegun job m
+        → IsReachable job m }
+    ensures turn { (job : Job) (m : Moment) (t : ℕ) → IsGraph job.graph → IsReachable job m
+        → IsReachable job (after_answer job (answer_of_turn job m t) m) }
+    ensures turns { (job : Job) (m : Moment) (ts : List ℕ) → IsGraph job.graph
+        → IsReachable job m → IsReachable job (after_turns job m ts) }
+{
+    turns_make_next_events();
+}
+
+/// At a reached moment no turn is refused: a phaser accepts the task's call, or would not take it
+/// now, so that each turn has a word of the table. Of the samples it asks that each can be sent, as
+/// a job's can.
+pub fn no_turn_is_refused()
+    ensures answered { (job : Job) (m : Moment) (t : ℕ) → IsGraph job.graph
+        → AreSends (samples_at job t) → IsReachable job m → answer_of_turn job m t ≢ is_refused }
+    ensures told { (job : Job) (m : Moment) (t : ℕ) (met : Option Where) → IsGraph job.graph
+        → AreSends (samples_at job t) → IsReachable job m → IsSome (turn_tells job met m t) }
+{}
