@@ -1,3 +1,4 @@
+//! Filters, splitters, joiners and peers step by step.
 use std::alloc::AllocError;
 use std::test::*;
 use stream_filters::{Fir, FirFault, Join, Peer, Split, TooBigValue, VALUE_MAX, VALUE_MIN};

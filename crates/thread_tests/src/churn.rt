@@ -1,3 +1,4 @@
+//! Registrations that join, leave and are replaced while others go on.
 ghost use Rattle.std.specs.Prelude.{◌≡◌, ◌<◌, [], None, IfSome};
 ghost use denote.Param.Send.{IsSync};
 ghost use Rattle.phase_shared.specs.Regs.{phaser_place};

@@ -1,3 +1,4 @@
+//! Threads that signal, wait and leave, and what each got.
 ghost use Rattle.std.specs.Prelude.{◌≡◌, None, IfSome};
 ghost use Rattle.phase_shared.specs.Regs.{phaser_place};
 

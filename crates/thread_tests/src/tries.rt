@@ -1,3 +1,4 @@
+//! Calls that wait for nobody: answers and refusals in their order.
 ghost use Rattle.std.specs.Prelude.{◌≡◌, IfSome};
 ghost use Rattle.phase_shared.specs.Regs.{phaser_place};
 
