@@ -1,5 +1,6 @@
 -- How a check and an evaluation end, from what their parts promise.
-use Rattle.std.proofs.Common.{◌≡◌, ◌<◌, inl, inr, ℕ, true, List, Some, refl, arith}
+use Rattle.std.proofs.Common.{◌≡◌, ◌<◌, inl, inr, ℕ, true, List, Ok, Err, Some, refl, arith}
+use Rattle.std.specs.Prelude.{OnOk, OnErr, Result}
 use Rattle.std.specs.Io.KnownBytes.{Appends}
 use Rattle.std.specs.declared.option.Option.{Option}
 use Rattle.watched_io.specs.Prefix.{AppendsPrefix}
@@ -101,7 +102,7 @@ eval-too_big contents known name job place number status output before after is 
 }
 
 -- the text was written
-pub check-done : {W : Type 0} (contents : W → Option (List ℕ)) (known : Known) (name : List ℕ)
+check-done : {W : Type 0} (contents : W → Option (List ℕ)) (known : Known) (name : List ℕ)
     (job : Job) (old new : Watched W) (before after : WriterState) → IsJobOf known name job
     → Appends (contents old.inner) (contents new.inner) (check_line job.graph)
     → CheckEnds known name 0 contents old new before after
@@ -110,7 +111,7 @@ check-done contents known name job old new before after of written = record {
   stops = λ other. absurd (other refl);
 }
 
-pub eval-done : {W : Type 0} (contents : W → Option (List ℕ)) (known : Known) (name : List ℕ)
+eval-done : {W : Type 0} (contents : W → Option (List ℕ)) (known : Known) (name : List ℕ)
     (job : Job) (old new : Watched W) (before after : WriterState) → IsJobOf known name job → Fits job
     → Appends (contents old.inner) (contents new.inner) (text_of job.graph (lines_of job))
     → EvalEnds known name 0 contents old new before after
@@ -120,7 +121,7 @@ eval-done contents known name job old new before after of fits written = record 
 }
 
 -- a prefix of it was, and a write failed
-pub check-unwritten : {W : Type 0} (contents : W → Option (List ℕ)) (known : Known) (name : List ℕ)
+check-unwritten : {W : Type 0} (contents : W → Option (List ℕ)) (known : Known) (name : List ℕ)
     (job : Job) (status : ℕ) (old new : Watched W) (before after : WriterState) → status ≡ 5 → IsJobOf known name job
     → AppendsPrefix (contents old.inner) (contents new.inner) (check_line job.graph)
     → new.has_failed ≡ true → Reports WriteFault before after
@@ -139,7 +140,7 @@ check-unwritten contents known name job status old new before after is of writte
   };
 }
 
-pub eval-unwritten : {W : Type 0} (contents : W → Option (List ℕ)) (known : Known) (name : List ℕ)
+eval-unwritten : {W : Type 0} (contents : W → Option (List ℕ)) (known : Known) (name : List ℕ)
     (job : Job) (status : ℕ) (old new : Watched W) (before after : WriterState) → status ≡ 5 → IsJobOf known name job → Fits job
     → AppendsPrefix (contents old.inner) (contents new.inner) (text_of job.graph (lines_of job))
     → new.has_failed ≡ true → Reports WriteFault before after
@@ -157,3 +158,30 @@ eval-unwritten contents known name job status old new before after is of fits wr
     says = says;
   };
 }
+
+-- the text was written, or a write failed
+pub check-written : {W A F : Type 0} (Quiet : Type 0) (contents : W → Option (List ℕ)) (known : Known) (name : List ℕ)
+    (job : Job) (written : Result A F) (status : ℕ) (old new : Watched W) (before after : WriterState)
+    → IsJobOf known name job
+    → OnOk written (Appends (contents old.inner) (contents new.inner) (check_line job.graph))
+    → OnErr written (AppendsPrefix (contents old.inner) (contents new.inner) (check_line job.graph))
+    → OnErr written (new.has_failed ≡ true)
+    → OnOk written ((status ≡ 0) × Quiet) → OnErr written ((status ≡ 5) × Reports WriteFault before after)
+    → CheckEnds known name status contents old new before after
+check-written Quiet contents known name job (Ok done) status old new before after of whole part failed zero five =
+    rw zero.0 (check-done contents known name job old new before after of whole)
+check-written Quiet contents known name job (Err fault) status old new before after of whole part failed zero five =
+    check-unwritten contents known name job status old new before after five.0 of part failed five.1
+
+pub eval-written : {W A F : Type 0} (Quiet : Type 0) (contents : W → Option (List ℕ)) (known : Known) (name : List ℕ)
+    (job : Job) (written : Result A F) (status : ℕ) (old new : Watched W) (before after : WriterState)
+    → IsJobOf known name job → Fits job
+    → OnOk written (Appends (contents old.inner) (contents new.inner) (text_of job.graph (lines_of job)))
+    → OnErr written (AppendsPrefix (contents old.inner) (contents new.inner) (text_of job.graph (lines_of job)))
+    → OnErr written (new.has_failed ≡ true)
+    → OnOk written ((status ≡ 0) × Quiet) → OnErr written ((status ≡ 5) × Reports WriteFault before after)
+    → EvalEnds known name status contents old new before after
+eval-written Quiet contents known name job (Ok done) status old new before after of fits whole part failed zero five =
+    rw zero.0 (eval-done contents known name job old new before after of fits whole)
+eval-written Quiet contents known name job (Err fault) status old new before after of fits whole part failed zero five =
+    eval-unwritten contents known name job status old new before after five.0 of fits part failed five.1

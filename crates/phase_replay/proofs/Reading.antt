@@ -1,6 +1,5 @@
 -- A replay on its way through its script.
-use Rattle.std.proofs.Common.{◌≡◌, ◌⊎◌, inl, inr, true, ℕ, ◌+◌, ◌-◌, ◌≤◌, List, [], ◌++◌, None, Some, length, take, drop, refl, sym, ◌∙◌, ap, subst, append_assoc, append-nil, arith, length-append}
-use Rattle.std.proofs.lemmas.List.{take_at}
+use Rattle.std.proofs.Common.{◌≡◌, ◌⊎◌, inl, inr, true, ℕ, ◌+◌, ◌-◌, ◌≤◌, List, [], ◌++◌, None, Some, length, refl, sym, ◌∙◌, ap, subst, append_assoc, append-nil, arith, length-append}
 use Rattle.std.specs.Io.KnownBytes.{Appends, Keeps, IsAtEnd}
 use Rattle.std.proofs.KnownBytes.{Appends-nil, Appends-trans}
 use Rattle.std.specs.declared.option.Option.{Option}
@@ -186,8 +185,3 @@ reads_end_failed unread mid rest old new was replayer left reads gives ends step
       short = omega (arith, reads.count);
       replied = rw none (goes_failed old.written was new.written replayer [] _ (reads.goes []) step);
     }
-
--- the bytes that a read put at a buffer's beginning stand there afterwards
-pub take-written : (count len : ℕ) (written items now : List ℕ) → now ≡ take len (written ++ drop (length written) items) → length written ≡ len
-    → take count now ≡ take count written
-take-written count len written items now e long = ap (take count) (e ∙ take_at written (drop (length written) items) len long)

@@ -1,5 +1,5 @@
 //! Replay of a script from a reader to a writer.
-ghost use Rattle.std.specs.Prelude.{◌≡◌, ◌<◌, ◌≤◌, length, take};
+ghost use Rattle.std.specs.Prelude.{◌≡◌, ◌<◌, ◌≤◌, ℕ, List, length, take};
 ghost use Rattle.std.specs.Prelude.{OnOk, OnErr, IfOk, IfErr};
 ghost use Rattle.std.specs.Io.{ReadsAtMost};
 ghost use Rattle.std.specs.Io.KnownBytes.{IsAtEnd};
@@ -8,6 +8,8 @@ ghost use Rattle.watched_io.specs.Watched.{inner_of, has_failed_of};
 ghost use Rattle.phase_replay.specs.Reading.{StopsReading};
 ghost use Rattle.phase_replay.specs.Replay.{HasCause, RepliesPrefix, RepliesWhole};
 ghost use Rattle.phase_replay.specs.Replay.{ReplaysAll, ReplaysPrefix};
+ghost use Rattle.phase_replay.specs.Replayer.{Owes};
+ghost use Rattle.phase_replay.specs.Replies.{replies_of};
 
 use crate::replayer::Replayer;
 use std::alloc::Global;
@@ -44,7 +46,42 @@ fn read_piece<R: Read>(
     Ok(count)
 }
 
-// Replays the whole script that the reader has left.
+// Replays the whole script that the reader has left, of which the replayer has read no byte. The
+// piece is the room for the bytes that are read at once.
+fn replay_by<R: Read, W: Write>(
+    replayer: &mut Replayer,
+    piece: &mut [u8],
+    reader: &mut Watched<R>,
+    writer: &mut Watched<W>,
+) -> Result<(), IoFault>
+    requires begun { (script : List ℕ) → Owes replayer.old script (replies_of script) }
+    requires room { length piece.old ≡ PIECE_MAX }
+    ensures all { OnOk result (ReplaysAll
+        (reader_state R.remaining reader.old) (reader_state R.remaining reader.new)
+        (writer_state W.contents writer.old) (writer_state W.contents writer.new)) }
+
+    ensures prefix { OnErr result (ReplaysPrefix
+        (reader_state R.remaining reader.old) (reader_state R.remaining reader.new)
+        (writer_state W.contents writer.old) (writer_state W.contents writer.new)) }
+
+    ensures cause { IfErr result (λ fault. HasCause fault
+        (reader_state R.remaining reader.old) (reader_state R.remaining reader.new)
+        (writer_state W.contents writer.old) (writer_state W.contents writer.new)) }
+{
+    let mut left = SCRIPT_MAX;
+    'replaying: loop {
+        replayer.hand_over(writer)?;
+        let count = read_piece(reader, piece, left)?;
+        if count == 0 {
+            replayer.finish(writer)?;
+            return Ok(());
+        }
+        left -= count;
+        replayer.piece(&piece[..count], writer)?;
+    }
+}
+
+// The same, with a replayer and a piece of its own.
 fn replay_pieces<R: Read, W: Write>(
     alloc: Global,
     reader: &mut Watched<R>,
@@ -64,17 +101,7 @@ fn replay_pieces<R: Read, W: Write>(
 {
     let mut piece = vec![in alloc; 0u8; PIECE_MAX]?;
     let mut replayer = Replayer::new(alloc);
-    let mut left = SCRIPT_MAX;
-    'replaying: loop {
-        replayer.hand_over(writer)?;
-        let count = read_piece(reader, piece.as_mut_slice(), left)?;
-        if count == 0 {
-            replayer.finish(writer)?;
-            return Ok(());
-        }
-        left -= count;
-        replayer.piece(&piece[..count], writer)?;
-    }
+    replay_by(&mut replayer, piece.as_mut_slice(), reader, writer)
 }
 
 /// Replays the whole script that the reader has left: each of its lines is answered by one reply

@@ -1,9 +1,11 @@
 //! The words of the program, as clap reads them.
 ghost use Rattle.std.specs.Prelude.{◌≡◌, IfOk, IfErr, Some, false};
-ghost use Rattle.clap.specs.Words.{FailsBy, app_of, kind_of, rule_of, subcommand_rows_of};
+ghost use Rattle.clap.specs.Words.{FailsBy, app_of, kind_of, rule_of, shape_of};
+ghost use Rattle.clap.specs.Words.{subcommand_rows_of};
+ghost use Rattle.clap.specs.declared.builder.command.Command.{out-Command};
 ghost use Rattle.phase_words.specs.CommandLine.{Asks, IsNoCall, IsToldBy};
 ghost use Rattle.phase_words.specs.CommandLine.{asked_as, asked_by, asked_in, asked_of, graph_rule};
-ghost use Rattle.phase_words.specs.CommandLine.{kinds_of, phase_app, texts};
+ghost use Rattle.phase_words.specs.CommandLine.{graph_shape, kinds_of, phase_app, texts};
 
 use crate::help::{ABOUT, CHECK, CHECK_END, END, EVAL, EVAL_END, GRAPH, REPLAY};
 use crate::{Call, NoCall};
@@ -22,27 +24,34 @@ fn graph_word<'a>(alloc: Global) -> Arg<'a>
         .required(true)
 }
 
+/// A command whose one word is the name of a graph's file.
+fn graph_command<'a>(
+    alloc: Global,
+    name: &'a str,
+    about: &'a str,
+    end: &'a str,
+) -> Result<Command<'a>, AllocError>
+    ensures shape { IfOk result (λ c. shape_of c ≡ graph_shape name.now) }
+    ensures local { IfOk result (λ c. (out-Command c).has_globals ≡ false) }
+{
+    Command::new(alloc, name)
+        .about(about)
+        .after_help(end)
+        .arg(graph_word(alloc))
+}
+
 /// The program's command line.
 fn command<'a>(alloc: Global) -> Result<Command<'a>, AllocError>
     ensures { IfOk result (λ c. app_of c ≡ phase_app) }
 {
-    let replay = Command::new(alloc, "replay").about(REPLAY).after_help(END);
-    let check = Command::new(alloc, "check")
-        .about(CHECK)
-        .after_help(CHECK_END)
-        .arg(graph_word(alloc))?;
-    let eval = Command::new(alloc, "eval")
-        .about(EVAL)
-        .after_help(EVAL_END)
-        .arg(graph_word(alloc))?;
     Command::new(alloc, "phase")
         .no_binary_name(true)
         .about(ABOUT)
         .after_help(END)
         .bin_name("phase")?
-        .subcommand(replay)?
-        .subcommand(check)?
-        .subcommand(eval)
+        .subcommand(Command::new(alloc, "replay").about(REPLAY).after_help(END))?
+        .subcommand(graph_command(alloc, "check", CHECK, CHECK_END)?)?
+        .subcommand(graph_command(alloc, "eval", EVAL, EVAL_END)?)
 }
 
 /// What the words ask for, by what clap found in them.

@@ -1,4 +1,4 @@
-use Rattle.std.proofs.Common.{◌≡◌, Err, map, ap, ◌∙◌}
+use Rattle.std.proofs.Common.{rules, ◌≡◌, Err, map, ap, ◌∙◌}
 use Rattle.std.proofs.lemmas.Result.{IfOk-weaker}
 use Rattle.stream_lists.specs.Spans.{spans_of}
 use Rattle.stream_lists.specs.Lists.{sink_over, sinks_of}
@@ -25,5 +25,5 @@ returns-clause-too_big c place n e = absurd (c.all_lines.ensures.no_place place 
 -- the fault is that of the lists
 pub returns-in-Err-clause-too_big : goal.returns-in-Err-clause-too_big
 returns-in-Err-clause-too_big c place n e =
-    let same : c.in-Err.fault ≡ fault.TooBig place n = cc in
+    let same : c.in-Err.fault ≡ fault.TooBig place n = search rules in
     c.phaser_lists.ensures.too_big place n (c.in-Err.is ∙ ap Err same)

@@ -1,4 +1,4 @@
-use Rattle.std.proofs.Common.{◌≡◌, ◌+◌, ◌++◌, ◌∙◌, length, take, drop, get_or, pos, ap, rules, w64, FitsSigned}
+use Rattle.std.proofs.Common.{◌+◌, ◌++◌, ◌∙◌, length, take, drop, get_or, pos, ap, rules, w64, FitsSigned}
 use Rattle.std.proofs.lemmas.Int.{to_z-of_z}
 use Rattle.std.specs.List.{flat_map}
 use Rattle.std.proofs.lemmas.List.{take_more}
