@@ -6,11 +6,13 @@ ghost use Rattle.graph_moments.specs.Moments.{HasRun};
 ghost use Rattle.graph_turns.specs.TaskEvents.{IsNext, sample};
 ghost use Rattle.graph_turns.specs.Answers.{answers_in_turn, makes, turn_tells, is_stalled};
 ghost use Rattle.graph_turns.specs.Answers.{answer_of_turn, after_answer, after_turns, is_refused};
+ghost use Rattle.graph_turns.specs.Beginnings.{opening};
 ghost use Rattle.graph_turns.specs.Reached.{HasBegun, IsReachable};
 ghost use Rattle.graph_turns.specs.Answers.{Moved, Ended, Blocked, Gone, TooBig};
 ghost use Rattle.graph_tests.specs.Worked.{worked, worked_opening, worked_turns, worked_order};
 ghost use Rattle.graph_tests.specs.Worked.{after_signal_on_e, with_late, before_end, worked_end};
 ghost use Rattle.graph_tests.specs.Worked.{before_late, late_registers};
+ghost use Rattle.graph_tests.specs.Worked.{founded, founded_exchange};
 ghost use Rattle.graph_tests.specs.WorkedFaults.{faulty, faulty_moment, before_fault};
 ghost use Rattle.graph_tests.specs.WorkedTurns.{late, late_after, with_child, child_after};
 ghost use Rattle.graph_tests.specs.WorkedTurns.{crossed, crossed_after, six, seven};
@@ -51,6 +53,23 @@ fn the_run_is_reached()
     a_run_from_its_opening_to_its_end();
     turns::turns_stay_reached();
     turns::no_turn_is_refused();
+}
+
+/// The opening of its job is the one that was worked out: the founder has registered a task that
+/// signals and a task that waits, and on E the peer, which does both. On Z out is number 2, and late,
+/// which begins a step after it, is not there yet. By the law it is reached.
+fn the_run_begins()
+    ensures on_x { (opening worked).history 0 ≡ founded }
+    ensures on_e { (opening worked).history 1 ≡ founded_exchange }
+    ensures on_z { (opening worked).history 5 ≡ founded }
+    ensures out { (opening worked).number 5 4 ≡ Some 2 }
+    ensures late { (opening worked).number 5 5 ≡ None }
+    ensures offset { (opening worked).offset 5 ≡ 1 }
+    ensures begun { HasBegun worked (opening worked) }
+    ensures reached { IsReachable worked (opening worked) }
+{
+    a_run_from_its_opening_to_its_end();
+    turns::runs_begin();
 }
 
 /// What single turns of that run tell.

@@ -1,3 +1,5 @@
+pub mod AtOpening
+pub mod Beginning
 pub mod Boundaries
 pub mod Calling
 pub mod EndModes

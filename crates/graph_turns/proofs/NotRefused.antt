@@ -314,7 +314,7 @@ parent_holds job m t c i is there d lt = by (cases_lt i (length (task_at job.gra
         → ParentHolds job t (as_output (j, get_or (task_at job.graph c).outputs j 0))
     output j few =
         let y = get_or (task_at job.graph c).outputs j 0 in
-        let plain = plain_outputs job c d.parent.child_kind in
+        let plain = plain_outputs job c (no_peer (task_at job.graph c).kind d.parent.child_kind) in
         let many : length (signalled_by (task_at job.graph c))
         ≡ length (task_at job.graph c).outputs = ap length plain in
         let place : place_in (signalled_by (task_at job.graph c)) y ≡ Some j =
@@ -369,7 +369,7 @@ register_told job m t c is reached live due =
         let n = number_on m t p in
         let For : Registration → Type 0 = λ x. IsFor job c x in
         let use_of : IsFor job c r =
-        subst For f.1.2 (is_for job c f.1.0 is d.there d.parent.child_kind f.1.1) in
+        subst For f.1.2 (is_for job c f.1.0 is d.there f.1.1) in
         let line = on_parents_line job m t c p is d use_of.on_line in
         let pp = on_phaser job t p is live.there line in
         let at = number_there job m t p is live line in

@@ -104,7 +104,7 @@ find-some test (y ∷ ys) x d e = by (test y) refl e (λ f. find-some test ys x 
 -- ---- the phasers on a line
 
 -- a phaser on the line of a task is one of its inputs or of its outputs
-on_ends : (graph : Graph) (t : ℕ) (task : Task) (p : ℕ) → IsTaskLine graph t task → OnLine task p
+pub on_ends : (graph : Graph) (t : ℕ) (task : Task) (p : ℕ) → IsTaskLine graph t task → OnLine task p
     → (i : ℕ) × (i < length (task.inputs ++ task.outputs))
     × (get_or (task.inputs ++ task.outputs) i 0 ≡ p)
 on_ends graph t task p line (inr into) = front into.0 into.1 into.2

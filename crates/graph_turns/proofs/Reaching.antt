@@ -217,7 +217,7 @@ to_come_moved job before after t p event moved all come =
 -- ---- a child's registration
 
 -- a task has one registration on each phaser of its line
-one_registration : (job : Job) (c i k : ℕ) → IsGraph job.graph → c < length job.graph.tasks
+pub one_registration : (job : Job) (c i k : ℕ) → IsGraph job.graph → c < length job.graph.tasks
     → i < length (registrations_at job c) → k < length (registrations_at job c)
     → (get_or (registrations_at job c) i no_registration).phaser
     ≡ (get_or (registrations_at job c) k no_registration).phaser → i ≡ k
@@ -248,7 +248,7 @@ one_registration job c i k is there few less same =
         distinct
 
 -- a place of a list, whatever stands for no element
-get_or-any : {X : Type 0} (xs : List X) (k : ℕ) (d e : X) → k < length xs
+pub get_or-any : {X : Type 0} (xs : List X) (k : ℕ) (d e : X) → k < length xs
     → get_or xs k d ≡ get_or xs k e
 get_or-any [] k d e lt = absurd (omega arith)
 get_or-any (x ∷ xs) zero d e lt = refl

@@ -1,5 +1,5 @@
 -- A child that a turn registers is the one that is next.
-use Rattle.std.proofs.Common.{◌≡◌, ◌≢◌, ℕ, ◌+◌, ◌-◌, ◌<◌, ◌≤◌, true, false, not, eqb, Option, Some, None, is_some, length, get_or, refl, sym, ap, subst, ◌∙◌, arith, ◌⊎◌, inl, inr}
+use Rattle.std.proofs.Common.{◌≡◌, ◌≢◌, ℕ, zero, suc, ◌+◌, [], ◌∷◌, ◌-◌, ◌<◌, ◌≤◌, true, false, not, eqb, Option, Some, None, is_some, length, get_or, refl, sym, ap, subst, ◌∙◌, arith, ◌⊎◌, inl, inr}
 use Rattle.std.proofs.lemmas.Bool.{and_parts, eqb-true, cases_lt}
 use Rattle.std.proofs.lemmas.List.{length-map, length-append}
 use Rattle.phase_base.specs.Modes.{mode_signals, mode_waits}
@@ -9,9 +9,11 @@ use Rattle.graph_base.specs.declared.line.Kind.{Kind}
 use Rattle.graph_base.specs.declared.line.Kind.TheVariants.{Source, Fir, Split, Join, Peer, Sink}
 use Rattle.graph_base.specs.declared.line.Parent.{Parent}
 use Rattle.graph_base.specs.declared.registration.Registration.{Registration}
-use Rattle.graph_base.specs.Graphs.{task_at}
-use Rattle.graph_base.specs.Registrations.{ends_of, as_input, as_output, no_registration}
-use Rattle.graph_base.specs.TaskLines.{IsGraph, has_children, IsParent}
+use Rattle.phase_accum.specs.declared.single.Single.{Single}
+use Rattle.graph_base.specs.declared.line.PhaserLine.{PhaserLine}
+use Rattle.graph_base.specs.Graphs.{Task, task_at, phaser_at}
+use Rattle.graph_base.specs.Registrations.{ends_of, as_input, as_output, as_exchange, exchange_mode, no_registration}
+use Rattle.graph_base.specs.TaskLines.{IsGraph, IsTaskLine, HasEnds, IsExchangeBelow, has_children, IsParent}
 use Rattle.graph_base.proofs.Registered.{registrations-phasers, registrations-plain, end-input, end-output}
 use Rattle.stream_lists.specs.Jobs.{Job, place_in}
 use Rattle.stream_lists.specs.Spans.{signalled_by, takes_from}
@@ -49,7 +51,7 @@ no_peer Split e = absurd (cc)
 no_peer Join e = absurd (cc)
 no_peer Peer e = absurd (cc)
 
-pub plain_outputs : (job : Job) (c : ℕ) → has_children (task_at job.graph c).kind ≡ true
+pub plain_outputs : (job : Job) (c : ℕ) → (task_at job.graph c).kind ≢ Peer
     → signalled_by (task_at job.graph c) ≡ (task_at job.graph c).outputs
 plain_outputs job c plain = by (task_at job.graph c).kind refl
   where
@@ -60,7 +62,7 @@ plain_outputs job c plain = by (task_at job.graph c).kind refl
     by Split e = rw e refl
     by Join e = rw e refl
     by Sink e = rw e refl
-    by Peer e = absurd (no_peer (task_at job.graph c).kind plain e)
+    by Peer e = absurd (plain e)
 
 plain_takes : (job : Job) (t b k : ℕ) → has_children (task_at job.graph t).kind ≡ true
     → takes_from (task_at job.graph t) b k ≡ b
@@ -133,15 +135,14 @@ for_output job c j is there plain lt =
           refl);
     }
 
-pub is_for : (job : Job) (c i : ℕ) → IsGraph job.graph → c < length job.graph.tasks
-    → has_children (task_at job.graph c).kind ≡ true → i < length (registrations_at job c)
+for_plain : (job : Job) (c i : ℕ) → IsGraph job.graph → c < length job.graph.tasks
+    → (task_at job.graph c).kind ≢ Peer → i < length (registrations_at job c)
     → IsFor job c (get_or (registrations_at job c) i no_registration)
-is_for job c i is there plain lt = by (cases_lt i (length (task_at job.graph c).inputs))
+for_plain job c i is there plain lt = by (cases_lt i (length (task_at job.graph c).inputs))
   where
     same : registrations_at job c ≡ ends_of (task_at job.graph c)
     same =
-        registrations-plain job.graph (task_at job.graph c)
-        (no_peer (task_at job.graph c).kind plain)
+        registrations-plain job.graph (task_at job.graph c) plain
 
     long : length (registrations_at job c)
         ≡ length (task_at job.graph c).inputs + length (task_at job.graph c).outputs
@@ -168,6 +169,111 @@ is_for job c i is there plain lt = by (cases_lt i (length (task_at job.graph c).
         ∙ end-output (task_at job.graph c) i from less))
         (for_output job c (i - length (task_at job.graph c).inputs) is there
         (plain_outputs job c plain) less)
+
+-- those of a peer: it waits on X, exchanges on E, and signals Y
+for_peer : (job : Job) (c i : ℕ) → IsGraph job.graph → c < length job.graph.tasks
+    → (task_at job.graph c).kind ≡ Peer → i < length (registrations_at job c)
+    → IsFor job c (get_or (registrations_at job c) i no_registration)
+for_peer job c i is there peer lt =
+    let ends : (length task.inputs ≡ 2) × (length task.outputs ≡ 1) =
+    subst (λ kind. HasEnds kind (length task.inputs) (length task.outputs)) peer line.ends in
+    let below : x < e = subst (λ kind. IsExchangeBelow kind task.inputs) peer line.exchange in
+    let all : registrations_at job c ≡ as_input (0, x) ∷ as_exchange job.graph e
+    ∷ as_output (1, y) ∷ [] = rw peer refl in
+    let outs : signalled_by task ≡ e ∷ y ∷ [] = rw peer refl in
+    let many : length (registrations_at job c) ≡ 3 = ap length all in
+    subst (IsFor job c) (sym (ap (λ rs. get_or rs i no_registration) all))
+    (at i (omega arith) ends.0 ends.1 below outs)
+  where
+    task : Task
+    task = task_at job.graph c
+
+    line : IsTaskLine job.graph c (task_at job.graph c)
+    line = is.tasks c there
+
+    x : ℕ
+    x = get_or (task_at job.graph c).inputs 0 0
+
+    e : ℕ
+    e = get_or (task_at job.graph c).inputs 1 0
+
+    y : ℕ
+    y = get_or (task_at job.graph c).outputs 0 0
+
+    -- an input stands above Y
+    above : (k : ℕ) → k < length (task_at job.graph c).inputs
+        → length (task_at job.graph c).outputs ≡ 1
+        → get_or (task_at job.graph c).inputs k 0 < get_or (task_at job.graph c).outputs 0 0
+    above k few one = line.in_order k 0 few 0 0 (omega arith)
+
+    exchange_signals : (mode : PhaserLine) → mode_signals (exchange_mode mode) ≡ true
+    exchange_signals phaser = by phaser.single refl
+      where
+        by : (o : Option Single) → phaser.single ≡ o → mode_signals (exchange_mode phaser) ≡ true
+        by None f = rw f refl
+        by (Some single) f = rw f refl
+
+    exchange_waits : (mode : PhaserLine) → mode_waits (exchange_mode mode) ≡ true
+    exchange_waits phaser = by phaser.single refl
+      where
+        by : (o : Option Single) → phaser.single ≡ o → mode_waits (exchange_mode phaser) ≡ true
+        by None f = rw f refl
+        by (Some single) f = rw f refl
+
+    at : (k : ℕ) → k < 3 → length (task_at job.graph c).inputs ≡ 2
+        → length (task_at job.graph c).outputs ≡ 1 → x < e
+        → signalled_by (task_at job.graph c) ≡ e ∷ y ∷ []
+        → IsFor job c (get_or (as_input (0, x) ∷ as_exchange job.graph e ∷ as_output (1, y) ∷ [])
+        k no_registration)
+    at zero lt two one below outs = record {
+      on_line = inr (0, omega arith, refl);
+      signals = λ j place.
+          (let found = place-at (signalled_by (task_at job.graph c)) x j place in
+          let long : length (signalled_by (task_at job.graph c)) ≡ 2 = ap length outs in
+          absurd (no_output j (omega arith)
+          (sym (ap (λ qs. get_or qs j 0) outs) ∙ found.1) (above 0 (omega arith) one)));
+      waits = λ k few same. refl;
+    }
+      where
+        no_output : (j : ℕ) → j < 2 → get_or (e ∷ y ∷ []) j 0 ≡ x → x < y → ⊥
+        no_output zero few same less = omega arith
+        no_output (suc zero) few same less = omega arith
+        no_output (suc (suc j)) few same less = absurd (omega arith)
+    at (suc zero) lt two one below outs = record {
+      on_line = inr (1, omega arith, refl);
+      signals = λ j place. exchange_signals (phaser_at job.graph e);
+      waits = λ k few same. exchange_waits (phaser_at job.graph e);
+    }
+    at (suc (suc zero)) lt two one below outs = record {
+      on_line = inl (
+        1,
+        ap (λ p. place_in (signalled_by (task_at job.graph c)) p)
+            (sym (ap (λ qs. get_or qs 1 0) outs))
+            ∙ place_of_output job.graph c (task_at job.graph c) 1 line
+            (let long : length (signalled_by (task_at job.graph c)) ≡ 2 = ap length outs in
+            omega arith),
+      );
+      signals = λ j place. refl;
+      waits = λ k few same.
+          (let less : get_or (task_at job.graph c).inputs k 0 < y = above k few one in
+          absurd (omega arith));
+    }
+    at (suc (suc (suc k))) lt two one below outs = absurd (omega arith)
+
+-- each registration of a task is for its phaser
+pub is_for : (job : Job) (c i : ℕ) → IsGraph job.graph → c < length job.graph.tasks
+    → i < length (registrations_at job c)
+    → IsFor job c (get_or (registrations_at job c) i no_registration)
+is_for job c i is there lt = by (task_at job.graph c).kind refl
+  where
+    by : (kind : Kind) → (task_at job.graph c).kind ≡ kind
+        → IsFor job c (get_or (registrations_at job c) i no_registration)
+    by Source f = for_plain job c i is there (λ p. (let no = sym f ∙ p in cc)) lt
+    by Fir f = for_plain job c i is there (λ p. (let no = sym f ∙ p in cc)) lt
+    by Split f = for_plain job c i is there (λ p. (let no = sym f ∙ p in cc)) lt
+    by Join f = for_plain job c i is there (λ p. (let no = sym f ∙ p in cc)) lt
+    by Sink f = for_plain job c i is there (λ p. (let no = sym f ∙ p in cc)) lt
+    by Peer f = for_peer job c i is there f lt
 
 -- a phaser on the child's line is on its parent's
 on_parent : (job : Job) (c p : ℕ) (u : Parent) → IsGraph job.graph → c < length job.graph.tasks
@@ -238,7 +344,7 @@ child_next job m t c event is ran to_come live none due answer =
         no_registration missing in
         let For : Registration → Type 0 = λ x. IsFor job c x in
         let use_of : IsFor job c r =
-        subst For f.1.2 (is_for job c f.1.0 is d.there d.parent.child_kind f.1.1) in
+        subst For f.1.2 (is_for job c f.1.0 is d.there f.1.1) in
         let p = r.phaser in
         let n = number_on m t p in
         let a = greatest_used (m.history p) + 1 in

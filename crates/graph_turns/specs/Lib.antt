@@ -1,4 +1,5 @@
 pub mod Answers
+pub mod Beginnings
 pub mod Nexts
 pub mod Reached
 pub mod TaskEvents

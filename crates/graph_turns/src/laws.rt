@@ -10,6 +10,7 @@ ghost use Rattle.graph_turns.specs.TaskEvents.{TaskEvent, IsNext, after_turn};
 ghost use Rattle.graph_turns.specs.Nexts.{first_due, HasChildrenToCome};
 ghost use Rattle.graph_turns.specs.Answers.{answer_of_turn, after_answer, after_turns, makes};
 ghost use Rattle.graph_turns.specs.Answers.{is_refused, turn_tells};
+ghost use Rattle.graph_turns.specs.Beginnings.{opening};
 ghost use Rattle.graph_turns.specs.Reached.{HasBegun, IsReachable};
 
 use graph_moves::laws as moves;
@@ -55,3 +56,13 @@ pub fn no_turn_is_refused()
     ensures told { (job : Job) (m : Moment) (t : ℕ) (met : Option Where) → IsGraph job.graph
         → AreSends (samples_at job t) → IsReachable job m → IsSome (turn_tells job met m t) }
 {}
+
+/// Each graph has an opening: on each phaser its founder, number 0, has registered the tasks without
+/// a parent in the order of their lines, as 1, 2, .., and has left. So who opens the phasers in this
+/// way is at a moment that is reached.
+pub fn runs_begin()
+    ensures begun { (job : Job) → IsGraph job.graph → HasBegun job (opening job) }
+    ensures reached { (job : Job) → IsGraph job.graph → IsReachable job (opening job) }
+{
+    turns_stay_reached();
+}
