@@ -14,7 +14,7 @@ ghost use Rattle.graph_lang.specs.Numbers.{AreNumbersOf, steps_in};
 
 use crate::draft::{Draft, add_name};
 use crate::parents::parent_of;
-use crate::phasers::{input_words, kind_of, numbers_of, output_words};
+use crate::phasers::{input_numbers, kind_of, output_numbers};
 use crate::within::{EndNumbers, Numbers};
 use graph_base::{Op, PhaserLine, Place, TaskLine};
 use graph_text::{Body, TaskWords, file_text, name_text};
@@ -82,12 +82,10 @@ impl Draft {
         let Some(parent) = parent_of(&self.names, words.ends.by, steps.at) else {
             return Ok(None);
         };
-        let inputs = input_words(alloc, words.body)?;
-        let Some(inputs) = numbers_of(alloc, &self.names, &inputs)? else {
+        let Some(inputs) = input_numbers(alloc, &self.names, words.body)? else {
             return Ok(None);
         };
-        let outputs = output_words(alloc, words.body)?;
-        let Some(outputs) = numbers_of(alloc, &self.names, &outputs)? else {
+        let Some(outputs) = output_numbers(alloc, &self.names, words.body)? else {
             return Ok(None);
         };
         Ok(Some(TaskLine {

@@ -97,7 +97,7 @@ fn number_of(names: &IndexMap<String, Place>, word: &[u8]) -> Option<usize>
 }
 
 /// The numbers of the phasers of these names, where each is the name of one.
-pub(crate) fn numbers_of(
+fn numbers_of(
     alloc: Global,
     names: &IndexMap<String, Place>,
     words: &[&[u8]],
@@ -116,6 +116,38 @@ pub(crate) fn numbers_of(
         numbers.push(number)?;
     }
     Ok(Some(numbers))
+}
+
+/// The numbers of the phasers that a task waits for, where each word is the name of one.
+pub(crate) fn input_numbers(
+    alloc: Global,
+    names: &IndexMap<String, Place>,
+    body: Body<'_, '_>,
+) -> Result<Option<Vec<usize>>, AllocError>
+    requires { IsTrue (list_all is_name (inputs_of (body_of body))) }
+    ensures known { IfOk result (λ found. is_some found
+        ≡ list_all (is_phaser (names_of names.now.entries)) (inputs_of (body_of body.entry))) }
+    ensures numbers { IfOk result (λ found. IfSome found (λ numbers.
+        numbers.items ≡ numbers_of (names_of names.now.entries) (inputs_of (body_of body.entry)))) }
+{
+    let words = input_words(alloc, body)?;
+    numbers_of(alloc, names, &words)
+}
+
+/// The numbers of the phasers that a task signals, where each word is the name of one.
+pub(crate) fn output_numbers(
+    alloc: Global,
+    names: &IndexMap<String, Place>,
+    body: Body<'_, '_>,
+) -> Result<Option<Vec<usize>>, AllocError>
+    requires { IsTrue (list_all is_name (outputs_of (body_of body))) }
+    ensures known { IfOk result (λ found. is_some found
+        ≡ list_all (is_phaser (names_of names.now.entries)) (outputs_of (body_of body.entry))) }
+    ensures numbers { IfOk result (λ found. IfSome found (λ numbers.
+        numbers.items ≡ numbers_of (names_of names.now.entries) (outputs_of (body_of body.entry)))) }
+{
+    let words = output_words(alloc, body)?;
+    numbers_of(alloc, names, &words)
 }
 
 /// Whether each of these numbers is above `x`.

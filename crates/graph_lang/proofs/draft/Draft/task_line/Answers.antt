@@ -2,7 +2,6 @@ use Rattle.std.proofs.Common.{rules, ◌≡◌, ◌∙◌, sym, ap, subst, ◌&&
 use Rattle.std.specs.List.{list_all}
 use Rattle.std.proofs.lemmas.Option.{cond_some}
 use Rattle.std.proofs.lemmas.List.Folds.{list_all-append}
-use Rattle.graph_text.specs.Plain.{plain}
 use Rattle.graph_text.specs.Lines.{body_of, ends_of, by_of}
 use Rattle.graph_base.specs.Graphs.{Graph, Named}
 use Rattle.graph_base.specs.Names.{names_of}
@@ -34,11 +33,9 @@ returns-clause-known c =
     let parent = cond_some (is_parent_known names by) (option_map (parent_of names) by)
     c.in-Some.parent (sym c.parent_of.ensures ∙ c.in-Some.is) in
     let ins : list_all (is_phaser names) (inputs_of body) ≡ true =
-    ap (list_all (is_phaser names)) (sym (ap plain c.deref.ensures.value ∙ c.in_ok-inputs.ensures))
-    ∙ sym c.in_ok-inputs-2.ensures.known ∙ ap is_some c.in-Some-2.is in
+    sym c.in_ok-inputs.ensures.known ∙ ap is_some c.in-Some-2.is in
     let outs : list_all (is_phaser names) (outputs_of body) ≡ true =
-    ap (list_all (is_phaser names)) (sym (ap plain c.deref-2.ensures.value ∙ c.in_ok-outputs.ensures))
-    ∙ sym c.in_ok-outputs-2.ensures.known ∙ ap is_some c.in-Some-3.is in
+    sym c.in_ok-outputs.ensures.known ∙ ap is_some c.in-Some-3.is in
     let all : list_all (is_phaser names) (phasers_of body) ≡ true =
     list_all-append (is_phaser names) (inputs_of body) (outputs_of body)
     ∙ ap (λ b. b && list_all (is_phaser names) (outputs_of body)) ins ∙ outs in
@@ -55,17 +52,15 @@ returns-clause-line c =
     let same = ap (λ (graph : Graph). graph.names) c.self.view_is in
     let parent = cond_some (is_parent_known names ends.by) (option_map (parent_of names) ends.by)
     c.in-Some.parent (sym c.parent_of.ensures ∙ c.in-Some.is) in
-    let ins = subst (λ o. IfSome o (λ found. found.items ≡ numbers_of names (plain c.deref.result.now)))
-    c.in-Some-2.is c.in_ok-inputs-2.ensures.numbers in
-    let outs = subst (λ o. IfSome o (λ found. found.items ≡ numbers_of names (plain c.deref-2.result.now)))
-    c.in-Some-3.is c.in_ok-outputs-2.ensures.numbers in
+    let ins = subst (λ o. IfSome o (λ found. found.items ≡ numbers_of names (inputs_of body)))
+    c.in-Some-2.is c.in_ok-inputs.ensures.numbers in
+    let outs = subst (λ o. IfSome o (λ found. found.items ≡ numbers_of names (outputs_of body)))
+    c.in-Some-3.is c.in_ok-outputs.ensures.numbers in
     let fits : FitsSigned w64 c.args.numbers.factor = search rules in
     task-built c.args.self.now.names c.args.number body ends c.kind_of.result _ _ c.in-Some.parent
     c.args.steps.until _ c.args.numbers.shift _ c.kind_of.ensures
-    (ins ∙ ap (numbers_of names) (ap plain c.deref.ensures.value ∙ c.in_ok-inputs.ensures)
-    ∙ ap (λ ns. numbers_of ns (inputs_of body)) same)
-    (outs ∙ ap (numbers_of names) (ap plain c.deref-2.ensures.value ∙ c.in_ok-outputs.ensures)
-    ∙ ap (λ ns. numbers_of ns (outputs_of body)) same)
+    (ins ∙ ap (λ ns. numbers_of ns (inputs_of body)) same)
+    (outs ∙ ap (λ ns. numbers_of ns (outputs_of body)) same)
     (sym parent.1 ∙ ap (λ ns. option_map (parent_of ns) ends.by) same)
     (ap (λ steps. steps.until) c.requires.steps) c.requires.numbers.taps c.requires.numbers.shift
     (to_z-of_z fits ∙ c.requires.numbers.factor)
