@@ -9,8 +9,9 @@ ghost use Rattle.phase_history.specs.Histories.{History, entry_at};
 ghost use Rattle.phase_history.specs.Replies.{wait_reply, after_wait};
 ghost use Rattle.phase_history.specs.Others.{OnlyUsed, OthersCame};
 ghost use Rattle.phase_seats.specs.declared.view.View.TheVariants.{Resting};
-ghost use Rattle.phase_seats.specs.Views.{known_of, joining, first_part, other_part, SpeaksForTwo};
-ghost use Rattle.phase_seats.specs.Rule.{HasOneHistory, AfterTake, IsGoodAt, IsSeatOfTask, LearnedAt};
+ghost use Rattle.phase_seats.specs.Views.{known_of, joining, first_part, other_part};
+ghost use Rattle.phase_seats.specs.Views.{SpeaksForOne, SpeaksForTwo};
+ghost use Rattle.phase_seats.specs.Rule.{HasOneHistory, AfterTake, IsGoodAt, IsSeatOfTask, LearnedAt, HaveMet};
 ghost use Rattle.phase_core.specs.Cores.{StandsFor};
 ghost use Rattle.phase_seats.specs.Calls.{Tries, Waits, HasRegistered, RefusesRegister};
 ghost use Rattle.phase_seats.specs.Calls.{Refuses, HasLeft, SignalsAndMayWait, number_after};
@@ -92,7 +93,7 @@ fn wait_where<A: Accumulate>(
     }
 }
 
-// Signals, and then waits where that is asked for and answers at once: both under one turn.
+/// Signals, and then waits where that is asked for and answers at once: both under one turn.
 pub fn signal<A: Accumulate, K: SignalRule>(
     phaser: &LockedPhaser<A, K>,
     seat: PhaserSeat<A, K>,
@@ -146,7 +147,7 @@ pub fn signal<A: Accumulate, K: SignalRule>(
     (seat, entry, Ok((phase, waited.ok())))
 }
 
-// Leaves.
+/// Leaves.
 pub fn leave<A: Accumulate, K: SignalRule>(
     phaser: &LockedPhaser<A, K>,
     seat: PhaserSeat<A, K>,
@@ -172,7 +173,7 @@ pub fn leave<A: Accumulate, K: SignalRule>(
     Ok(put_back::<A, K, Brand, _>(phaser, turn, moved, me))
 }
 
-// Waits.
+/// Waits.
 pub fn wait<A: Accumulate, K: SignalRule>(
     phaser: &LockedPhaser<A, K>,
     seat: PhaserSeat<A, K>,
@@ -215,7 +216,7 @@ fn child_of<A: Accumulate>(core: &PhaserCore<A>) -> u64
     core.next_number().unwrap_or(u64::MAX)
 }
 
-// Registers a child. The answer is the child's number, seat and entry.
+/// Registers a child. The answer is the child's number, seat and entry.
 pub fn register<A: Accumulate, K: SignalRule>(
     phaser: &LockedPhaser<A, K>,
     seat: PhaserSeat<A, K>,
@@ -260,7 +261,7 @@ pub fn register<A: Accumulate, K: SignalRule>(
     (seat, Ok((child, other, start)))
 }
 
-// Joins two seats at rest.
+/// Joins two seats at rest.
 pub fn join<A: Accumulate, K: SignalRule>(
     phaser: &LockedPhaser<A, K>,
     seat: PhaserSeat<A, K>,
@@ -276,8 +277,8 @@ pub fn join<A: Accumulate, K: SignalRule>(
     phaser.lock.join::<OnJoin, OnLook<K>>(seat, other)
 }
 
-// Cuts a seat at rest that speaks for two in two, each of which speaks for one.
-pub fn split<A: Accumulate, K: SignalRule>(
+// Cuts a seat at rest that speaks for two numbers in two, one for each.
+fn split<A: Accumulate, K: SignalRule>(
     phaser: &LockedPhaser<A, K>,
     seat: PhaserSeat<A, K>,
 ) -> (PhaserSeat<A, K>, PhaserSeat<A, K>)
@@ -289,4 +290,22 @@ pub fn split<A: Accumulate, K: SignalRule>(
     ensures right { seat_view result.1 ≡ other_part (seat_view seat) }
 {
     phaser.lock.split::<OnSplit>(seat)
+}
+
+/// The same two seats, which now have seen one history: it begins with what each had seen.
+pub fn meet<A: Accumulate, K: SignalRule>(
+    phaser: &LockedPhaser<A, K>,
+    seat: PhaserSeat<A, K>,
+    other: PhaserSeat<A, K>,
+) -> (PhaserSeat<A, K>, PhaserSeat<A, K>)
+    requires seats { IsSeatAt (locked_place phaser.now) seat
+        × IsSeatAt (locked_place phaser.now) other }
+    requires rests { SpeaksForOne (seat_view seat) × SpeaksForOne (seat_view other) }
+    ensures seats { IsSeatAt (locked_place phaser.now) result.0
+        × IsSeatAt (locked_place phaser.now) result.1 }
+    ensures met { HaveMet K.allows (locked_terms phaser.now) (seat_view seat) (seat_view other)
+        (seat_view result.0) (seat_view result.1) }
+{
+    let both = join(phaser, seat, other);
+    split(phaser, both)
 }

@@ -200,8 +200,7 @@ impl<A: Accumulate, K: SignalRule> Reg<A, K> {
         let Some(other_seat) = second.seat.take() else {
             unreachable!()
         };
-        let both = steps::join(&phaser.locked, seat, other_seat);
-        let (seat, other_seat) = steps::split(&phaser.locked, both);
+        let (seat, other_seat) = steps::meet(&phaser.locked, seat, other_seat);
         first.seat = Some(seat);
         second.seat = Some(other_seat);
         (first, second)
