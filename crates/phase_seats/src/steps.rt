@@ -1,6 +1,5 @@
 //! The steps of a seat at rest that speaks for one task. Each call of a registration is one.
 ghost use Rattle.std.specs.Prelude.{◌≡◌, ◌≢◌, ℤ, List, [], ◌∷◌, true, false, Ok, Err, IfOk, IfErr, IsOk, IsErr};
-ghost use Rattle.std.specs.Result.{result_ok};
 ghost use Rattle.turn_lock.specs.Seats.{IsSeatAt, IsTurnAt, IsSameSeat};
 ghost use Rattle.turn_lock.specs.Seats.{seat_view, turn_number, turn_view, turn_value};
 ghost use Rattle.turn_lock.specs.Steps.{Gives};
@@ -13,6 +12,7 @@ ghost use Rattle.phase_seats.specs.Views.{known_of, joining, first_part, other_p
 ghost use Rattle.phase_seats.specs.Views.{SpeaksForOne, SpeaksForTwo};
 ghost use Rattle.phase_seats.specs.Rule.{HasOneHistory, AfterTake, IsGoodAt, IsSeatOfTask, LearnedAt, HaveMet};
 ghost use Rattle.phase_core.specs.Cores.{StandsFor};
+ghost use Rattle.phase_seats.specs.Steps.{IsStep};
 ghost use Rattle.phase_seats.specs.Calls.{Tries, Waits, HasRegistered, RefusesRegister};
 ghost use Rattle.phase_seats.specs.Calls.{Refuses, HasLeft, SignalsAndMayWait, number_after};
 ghost use Rattle.phase_seats.specs.Entries.{entry_after_wait, entry_after_both};
@@ -114,14 +114,11 @@ pub fn signal<A: Accumulate, K: SignalRule>(
         → StandsForSends A.operation pending sends
         → K.allows (locked_terms phaser.now).rule h me (sends ∷ []) single }
     ensures seat { IsSeatAt (locked_place phaser.now) result.0 }
-    ensures at { IsSeatOfTask K.allows (locked_terms phaser.now) me result.1 (seat_view result.0) }
-    ensures call { Tries (IsSameSeat seat result.0 × (result.1 ≡ entry))
+    ensures step { IsStep K.allows (locked_terms phaser.now) me SignalRefusal.NoTask
+        entry_after_both (Tries (IsSameSeat seat result.0 × (result.1 ≡ entry))
         (SignalsAndMayWait waits A.operation (locked_limits phaser.now) me pending single
-        (known_of (seat_view seat)).seen (known_of (seat_view result.0)).seen) result.2 }
-    ensures entry { result.1 ≡ entry_after_both (result_ok result.2) entry }
-    ensures known { result.2 ≢ Err (Tried.Refused SignalRefusal.NoTask) }
-    ensures alone { OnlyUsed (me ∷ []) (known_of (seat_view seat)).seen
-        → result.2 ≢ Err Tried.Busy }
+        (known_of (seat_view seat)).seen (known_of (seat_view result.0)).seen) result.2)
+        entry result.1 (seat_view seat) (seat_view result.0) result.2 }
 {
     let mut turn = match enter(phaser, seat, me, entry) {
         Ok(turn) => turn,
@@ -183,14 +180,11 @@ pub fn wait<A: Accumulate, K: SignalRule>(
     requires seat { IsSeatAt (locked_place phaser.now) seat }
     requires at { IsSeatOfTask K.allows (locked_terms phaser.now) me entry (seat_view seat) }
     ensures seat { IsSeatAt (locked_place phaser.now) result.0 }
-    ensures at { IsSeatOfTask K.allows (locked_terms phaser.now) me result.1 (seat_view result.0) }
-    ensures call { Tries (IsSameSeat seat result.0 × (result.1 ≡ entry))
+    ensures step { IsStep K.allows (locked_terms phaser.now) me WaitRefusal.NoTask
+        entry_after_wait (Tries (IsSameSeat seat result.0 × (result.1 ≡ entry))
         (Waits A.operation.value (locked_limits phaser.now) me
-        (known_of (seat_view seat)).seen (known_of (seat_view result.0)).seen) result.2 }
-    ensures entry { result.1 ≡ entry_after_wait (result_ok result.2) entry }
-    ensures known { result.2 ≢ Err (Tried.Refused WaitRefusal.NoTask) }
-    ensures alone { OnlyUsed (me ∷ []) (known_of (seat_view seat)).seen
-        → result.2 ≢ Err Tried.Busy }
+        (known_of (seat_view seat)).seen (known_of (seat_view result.0)).seen) result.2)
+        entry result.1 (seat_view seat) (seat_view result.0) result.2 }
 {
     let mut turn = match enter(phaser, seat, me, entry) {
         Ok(turn) => turn,

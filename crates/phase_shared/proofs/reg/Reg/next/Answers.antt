@@ -48,7 +48,7 @@ returns-then-not-waits-clause-call g c =
     let phase = c.in-Ok.answer.0 in
     let got = c.in-Ok.answer.1 in
     let both : HasSignalledAndMayWait asked op limits old.number old.held c.args.single old.seen new.seen c.in-Ok.answer =
-    subst (λ r. SignalsAndMayWait asked op limits old.number old.held c.args.single old.seen new.seen r) c.in-Ok.is c.signal_and_wait.ensures.call in
+    subst (λ r. SignalsAndMayWait asked op limits old.number old.held c.args.single old.seen new.seen r) c.in-Ok.is c.signal_and_wait.ensures.call.call in
     let signals : mode_signals old.entry.mode ≡ true = ap mode_signals (sym c.mode.ensures.value) ∙ sym c.signals.ensures ∙ c.if-not-signals.false in
     let waits : asked ≡ mode_waits old.entry.mode = c.waits-waits.ensures ∙ ap mode_waits c.mode-2.ensures.value in
     record {
@@ -82,16 +82,16 @@ wait_in_turn-got-requires-2-clause-waits g c =
     let phase = c.in-Ok.answer.0 in
     let got = c.in-Ok.answer.1 in
     let both : HasSignalledAndMayWait asked op limits old.number old.held c.args.single old.seen new.seen c.in-Ok.answer =
-    subst (λ r. SignalsAndMayWait asked op limits old.number old.held c.args.single old.seen new.seen r) c.in-Ok.is c.signal_and_wait.ensures.call in
+    subst (λ r. SignalsAndMayWait asked op limits old.number old.held c.args.single old.seen new.seen r) c.in-Ok.is c.signal_and_wait.ensures.call.call in
     let signals : mode_signals old.entry.mode ≡ true = ap mode_signals (sym c.mode.ensures.value) ∙ sym c.signals.ensures ∙ c.if-not-signals.false in
     let waits : asked ≡ mode_waits old.entry.mode = c.waits-waits.ensures ∙ ap mode_waits c.mode-2.ensures.value in
     let none : is_some got ≡ false = sym c.is_some-else-not-waits.ensures ∙ c.if-is_some-2.false in
     let last : new.seen ≡ both.middle = unanswered op.value limits old.number both.middle new.seen asked got none both.waits in
     let s : Signals op limits old.number old.held c.args.single old.seen new.seen (Ok phase) =
     subst (λ (h : History). Signals op limits old.number old.held c.args.single old.seen h (Ok phase)) (sym last) both.signals in
-    let legal : IsLegal limits new.seen = c.signal_and_wait.ensures.good.legal in
+    let legal : IsLegal limits new.seen = c.signal_and_wait.ensures.call.good.legal in
     let there : entry_of (members_of new.seen) old.number ≡ Some new.entry =
-    subst (λ n. entry_of (members_of new.seen) n ≡ Some new.entry) c.signal_and_wait.ensures.at.1 c.mode-mode.ensures.entry in
+    subst (λ n. entry_of (members_of new.seen) n ≡ Some new.entry) c.signal_and_wait.ensures.call.at.1 c.mode-mode.ensures.entry in
     let is : new.entry ≡ signalled 1 old.entry =
     signalled_member limits old.number old.entry new.entry old.seen s.before new.seen c.args.single s.sends s.others s.seen legal c.mode.ensures.entry there in
     ap (λ (e : Entry). mode_waits e.mode) is ∙ sym waits ∙ c.if-not-waits.false
@@ -107,16 +107,16 @@ wait_in_turn-got-requires-2-clause-signalled g c signals' same =
     let phase = c.in-Ok.answer.0 in
     let got = c.in-Ok.answer.1 in
     let both : HasSignalledAndMayWait asked op limits old.number old.held c.args.single old.seen new.seen c.in-Ok.answer =
-    subst (λ r. SignalsAndMayWait asked op limits old.number old.held c.args.single old.seen new.seen r) c.in-Ok.is c.signal_and_wait.ensures.call in
+    subst (λ r. SignalsAndMayWait asked op limits old.number old.held c.args.single old.seen new.seen r) c.in-Ok.is c.signal_and_wait.ensures.call.call in
     let signals : mode_signals old.entry.mode ≡ true = ap mode_signals (sym c.mode.ensures.value) ∙ sym c.signals.ensures ∙ c.if-not-signals.false in
     let waits : asked ≡ mode_waits old.entry.mode = c.waits-waits.ensures ∙ ap mode_waits c.mode-2.ensures.value in
     let none : is_some got ≡ false = sym c.is_some-else-not-waits.ensures ∙ c.if-is_some-2.false in
     let last : new.seen ≡ both.middle = unanswered op.value limits old.number both.middle new.seen asked got none both.waits in
     let s : Signals op limits old.number old.held c.args.single old.seen new.seen (Ok phase) =
     subst (λ (h : History). Signals op limits old.number old.held c.args.single old.seen h (Ok phase)) (sym last) both.signals in
-    let legal : IsLegal limits new.seen = c.signal_and_wait.ensures.good.legal in
+    let legal : IsLegal limits new.seen = c.signal_and_wait.ensures.call.good.legal in
     let there : entry_of (members_of new.seen) old.number ≡ Some new.entry =
-    subst (λ n. entry_of (members_of new.seen) n ≡ Some new.entry) c.signal_and_wait.ensures.at.1 c.mode-mode.ensures.entry in
+    subst (λ n. entry_of (members_of new.seen) n ≡ Some new.entry) c.signal_and_wait.ensures.call.at.1 c.mode-mode.ensures.entry in
     let is : new.entry ≡ signalled 1 old.entry =
     signalled_member limits old.number old.entry new.entry old.seen s.before new.seen c.args.single s.sends s.others s.seen legal c.mode.ensures.entry there in
     signalled_apart limits old.number old.entry new.entry old.seen s.before new.seen c.args.single s.sends s.others s.seen legal c.mode.ensures.entry is
@@ -133,7 +133,7 @@ returns-clause-call g c =
     let phase = c.in-Ok.answer.0 in
     let got = c.in-Ok.answer.1 in
     let both : HasSignalledAndMayWait asked op limits old.number old.held c.args.single old.seen new.seen c.in-Ok.answer =
-    subst (λ r. SignalsAndMayWait asked op limits old.number old.held c.args.single old.seen new.seen r) c.in-Ok.is c.signal_and_wait.ensures.call in
+    subst (λ r. SignalsAndMayWait asked op limits old.number old.held c.args.single old.seen new.seen r) c.in-Ok.is c.signal_and_wait.ensures.call.call in
     let signals : mode_signals old.entry.mode ≡ true = ap mode_signals (sym c.mode.ensures.value) ∙ sym c.signals.ensures ∙ c.if-not-signals.false in
     let waits : asked ≡ mode_waits old.entry.mode = c.waits-waits.ensures ∙ ap mode_waits c.mode-2.ensures.value in
     let none : is_some got ≡ false = sym c.is_some-else-not-waits.ensures ∙ c.if-is_some-2.false in
@@ -149,7 +149,7 @@ returns-clause-call g c =
             (new.seen ≡ old.seen) phase signals s;
         waits = made (mode_waits old.entry.mode) (λ (got : Got). Waits op.value limits old.number new.seen last (Ok got)) (last ≡ new.seen) got
             (sym waits ∙ c.if-not-waits.false)
-            (subst (λ n. Waits op.value limits n new.seen last (Ok got)) c.signal_and_wait.ensures.at.1 c.wait_in_turn-got-2.ensures.call);
+            (subst (λ n. Waits op.value limits n new.seen last (Ok got)) c.signal_and_wait.ensures.call.at.1 c.wait_in_turn-got-2.ensures.call);
         named = λ none. absurd (let z : true ≡ false = sym signals ∙ none in cc);
       };
       entry = search rules;
