@@ -4,7 +4,7 @@ ghost use Rattle.turn_lock.specs.Seats.{IsSeatAt, IsTurnAt, IsSameSeat};
 ghost use Rattle.turn_lock.specs.Seats.{seat_view, turn_number, turn_view, turn_value};
 ghost use Rattle.turn_lock.specs.Steps.{Gives};
 ghost use Rattle.phase_accum.specs.Parcels.{StandsForSends};
-ghost use Rattle.phase_history.specs.Histories.{History, entry_at};
+ghost use Rattle.phase_history.specs.Histories.{History};
 ghost use Rattle.phase_history.specs.Replies.{wait_reply, after_wait};
 ghost use Rattle.phase_history.specs.Others.{OnlyUsed, OthersCame};
 ghost use Rattle.phase_seats.specs.declared.view.View.TheVariants.{Resting};
@@ -12,8 +12,8 @@ ghost use Rattle.phase_seats.specs.Views.{known_of, joining, first_part, other_p
 ghost use Rattle.phase_seats.specs.Views.{SpeaksForOne, SpeaksForTwo};
 ghost use Rattle.phase_seats.specs.Rule.{HasOneHistory, AfterTake, IsGoodAt, IsSeatOfTask, LearnedAt, HaveMet};
 ghost use Rattle.phase_core.specs.Cores.{StandsFor};
-ghost use Rattle.phase_seats.specs.Steps.{IsStep};
-ghost use Rattle.phase_seats.specs.Calls.{Tries, Waits, HasRegistered, RefusesRegister};
+ghost use Rattle.phase_seats.specs.Steps.{IsStep, HasChild};
+ghost use Rattle.phase_seats.specs.Calls.{Tries, Waits, RefusesRegister};
 ghost use Rattle.phase_seats.specs.Calls.{Refuses, HasLeft, SignalsAndMayWait, number_after};
 ghost use Rattle.phase_seats.specs.Entries.{entry_after_wait, entry_after_both};
 ghost use Rattle.phase_seats.specs.Calls.{SignalsAndMayWait};
@@ -225,12 +225,9 @@ pub fn register<A: Accumulate, K: SignalRule>(
     requires at { IsSeatOfTask K.allows (locked_terms phaser.now) me entry (seat_view seat) }
     ensures seat { IsSeatAt (locked_place phaser.now) result.0 }
     ensures at { IsSeatOfTask K.allows (locked_terms phaser.now) me entry (seat_view result.0) }
-    ensures child { IfOk result.1 (λ made. IsSeatAt (locked_place phaser.now) made.1
-        × IsSeatOfTask K.allows (locked_terms phaser.now) made.0 made.2 (seat_view made.1)
-        × ((known_of (seat_view made.1)).seen ≡ (known_of (seat_view result.0)).seen)
-        × (made.2 ≡ entry_at mode entry.signal_phase entry.wait_phase)) }
-    ensures ok { IfOk result.1 (λ made. HasRegistered me made.0 mode
-        (known_of (seat_view seat)).seen (known_of (seat_view result.0)).seen) }
+    ensures ok { IfOk result.1 (λ made. IsSeatAt (locked_place phaser.now) made.1
+        × HasChild K.allows (locked_terms phaser.now) me made.0 mode entry made.2
+        (seat_view seat) (seat_view result.0) (seat_view made.1)) }
     ensures err { IfErr result.1 (Refuses (IsSameSeat seat result.0) (RefusesRegister me mode
         (known_of (seat_view seat)).seen (known_of (seat_view result.0)).seen)) }
     ensures known { result.1 ≢ Err (Tried.Refused RegisterRefusal.NoTask) }
