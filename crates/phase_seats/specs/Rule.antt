@@ -91,11 +91,13 @@ pub record Learned (limits : Limits) (allows : Allows) (v : View) (w : View) : T
   pub good : IsGood limits allows now
   pub is : w ≡ resting now (speaks_of v)
 
--- the same at a phaser's terms
+-- a good history, at a phaser's terms
 abbrev pub IsGoodAt : {K : Type 0} → (K → Allows) → Terms K → History → Type 0
 IsGoodAt allows terms h = IsGood terms.limits (allows terms.rule) h
 
-abbrev pub TookAt : {A K : Type 0} → Operation A → (K → Allows) → Terms K → View → CoreState A → View → Type 0
+-- a take, at a phaser's terms
+abbrev pub TookAt : {A K : Type 0} → Operation A → (K → Allows) → Terms K → View → CoreState A
+    → View → Type 0
 TookAt op allows terms v x w =
     Took terms.limits (allows terms.rule) (StandsWithin op terms.limits) v x w
 
@@ -128,5 +130,6 @@ pub record HaveMet {K : Type 0} (allows : K → Allows) (terms : Terms K) (v w n
   pub distinct : is_distinct ((known_of v).speaks ++ (known_of w).speaks) ≡ true
   pub good : IsGoodAt allows terms now
 
+-- a look, at a phaser's terms
 abbrev pub LearnedAt : {K : Type 0} → (K → Allows) → Terms K → View → View → Type 0
 LearnedAt allows terms v w = Learned terms.limits (allows terms.rule) v w

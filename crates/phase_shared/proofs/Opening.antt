@@ -10,7 +10,7 @@ use Rattle.atomic_table.specs.Seated.{TableId}
 use Rattle.phase_base.specs.declared.entry.Entry.{Entry}
 use Rattle.phase_seats.specs.declared.view.View.{View}
 use Rattle.phase_seats.specs.declared.rule.Terms.{Terms}
-use Rattle.phase_seats.specs.Rule.{Allows, IsGoodAt, IsSeatOfTask}
+use Rattle.phase_seats.specs.Rule.{Allows, IsSeatOfTask}
 use Rattle.phase_shared.specs.Regs.{IsReg, place_in, view_in}
 use Rattle.std.specs.Prelude.{Result, Ok, Err, IsErr}
 use Rattle.std.specs.Result.{result_ok}
@@ -56,13 +56,6 @@ module _ {T K : Type 0} (allows : K → Allows) (table : TableId) (terms : Terms
   pub reg_is : {A : Type 0} (entry : Entry) (held : Parcel A) (o : Option (Seat T (Terms K) View)) (s : Seat T (Terms K) View) (reg : RegState A K)
       → o ≡ Some s → reg_state o me entry held ≡ reg → reg_state (Some s) me entry held ≡ reg
   reg_is entry held o s reg is seen = ap (λ p. reg_state p me entry held) (sym is) ∙ seen
-
-  -- what a registration has seen is good
-  pub good_of : (entry : Entry) (o : Option (Seat T (Terms K) View)) → IsReg allows o me entry → place_in o ≡ (table, Some terms)
-      → IsGoodAt allows terms (known_of (view_in o)).seen
-  good_of entry o r at =
-      let same : r.terms ≡ terms = same_some r.terms terms (sym r.named ∙ ap (λ p. p.1) at) in
-      subst (λ (t : Terms K). IsGoodAt allows t (known_of (view_in o)).seen) same r.station.good
 
   -- a step of a registration's seat is a try of the registration. What it holds stays where the try is refused
   pub is_try : {A X R : Type 0} (no_task : R) (after : Option X → Entry → Entry) (call : RegState A K → History → Result X R → Type 0)

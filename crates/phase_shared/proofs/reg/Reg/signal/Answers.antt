@@ -1,4 +1,4 @@
-use Rattle.std.proofs.Common.{◌≡◌, false, subst, ap, ◌∙◌, rules}
+use Rattle.std.proofs.Common.{false, subst, ap, ◌∙◌, rules}
 use Rattle.std.specs.Result.{result_ok}
 use Rattle.phase_base.specs.Members.{signalled}
 use Rattle.phase_shared.specs.Regs.{phaser_limits}
