@@ -31,7 +31,7 @@ use phase_core::{Got, PhaserCore, RegisterRefusal, SignalRefusal, WaitRefusal};
 use std::marker::Brand;
 
 // Takes the turn, and learns what the others did.
-fn enter<A: Accumulate, K: SignalRule>(
+pub(crate) fn enter<A: Accumulate, K: SignalRule>(
     phaser: &LockedPhaser<A, K>,
     seat: PhaserSeat<A, K>,
     me: u64,
@@ -55,7 +55,7 @@ fn enter<A: Accumulate, K: SignalRule>(
 }
 
 // Gives the turn back. What the give tells is picked by its caller, and may speak of `told`.
-fn put_back<A: Accumulate, K: SignalRule, E: Plan, X: Copy>(
+pub(crate) fn put_back<A: Accumulate, K: SignalRule, E: Plan, X: Copy>(
     phaser: &LockedPhaser<A, K>,
     turn: PhaserTurn<A, K>,
     moved: Moved,
@@ -204,7 +204,7 @@ pub fn wait<A: Accumulate, K: SignalRule>(
 }
 
 // The number of the next child. Where none is left it is the last one, which is refused.
-fn child_of<A: Accumulate>(core: &PhaserCore<A>) -> u64
+pub(crate) fn child_of<A: Accumulate>(core: &PhaserCore<A>) -> u64
     ensures { result ≡ number_after core.now.greatest }
 {
     core.next_number().unwrap_or(u64::MAX)
@@ -269,7 +269,7 @@ pub fn join<A: Accumulate, K: SignalRule>(
 }
 
 // Cuts a seat at rest that speaks for two numbers in two, one for each.
-fn split<A: Accumulate, K: SignalRule>(
+pub(crate) fn split<A: Accumulate, K: SignalRule>(
     phaser: &LockedPhaser<A, K>,
     seat: PhaserSeat<A, K>,
 ) -> (PhaserSeat<A, K>, PhaserSeat<A, K>)
