@@ -3,3 +3,4 @@ pub mod Rule
 pub mod LockedPhasers
 pub mod Calls
 pub mod Entries
+pub mod Steps

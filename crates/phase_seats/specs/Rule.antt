@@ -1,5 +1,5 @@
 -- The rule of a shared phaser: there is one legal history, which keeps the phaser's rule.
-use Rattle.std.specs.Prelude.{◌≡◌, ℕ, ℤ, List, [], ◌∷◌, Option, Some, None, true}
+use Rattle.std.specs.Prelude.{◌≡◌, ℕ, ℤ, List, [], ◌∷◌, ◌++◌, Option, Some, None, true}
 use mathlib.Core.Option.{some}
 use lib.ListN.{get_elem?}
 use Rattle.phase_base.specs.Limits.{Limits}
@@ -91,11 +91,13 @@ pub record Learned (limits : Limits) (allows : Allows) (v : View) (w : View) : T
   pub good : IsGood limits allows now
   pub is : w ≡ resting now (speaks_of v)
 
--- the same at a phaser's terms
+-- a good history, at a phaser's terms
 abbrev pub IsGoodAt : {K : Type 0} → (K → Allows) → Terms K → History → Type 0
 IsGoodAt allows terms h = IsGood terms.limits (allows terms.rule) h
 
-abbrev pub TookAt : {A K : Type 0} → Operation A → (K → Allows) → Terms K → View → CoreState A → View → Type 0
+-- a take, at a phaser's terms
+abbrev pub TookAt : {A K : Type 0} → Operation A → (K → Allows) → Terms K → View → CoreState A
+    → View → Type 0
 TookAt op allows terms v x w =
     Took terms.limits (allows terms.rule) (StandsWithin op terms.limits) v x w
 
@@ -117,5 +119,17 @@ pub record AfterTake {A K : Type 0} (op : Operation A) (allows : K → Allows) (
   pub member : entry_of (members_of now) me ≡ Some entry
   pub used : IsUsed now me
 
+-- two seats at rest that met have seen one good history, and each speaks for what it spoke for
+pub record HaveMet {K : Type 0} (allows : K → Allows) (terms : Terms K) (v w new_v new_w : View)
+    : Type 0 where
+  pub now : History
+  pub left : new_v ≡ resting now (known_of v).speaks
+  pub right : new_w ≡ resting now (known_of w).speaks
+  pub first : OthersCame (known_of v).speaks (known_of v).seen now
+  pub second : OthersCame (known_of w).speaks (known_of w).seen now
+  pub distinct : is_distinct ((known_of v).speaks ++ (known_of w).speaks) ≡ true
+  pub good : IsGoodAt allows terms now
+
+-- a look, at a phaser's terms
 abbrev pub LearnedAt : {K : Type 0} → (K → Allows) → Terms K → View → View → Type 0
 LearnedAt allows terms v w = Learned terms.limits (allows terms.rule) v w

@@ -58,7 +58,12 @@ first_part v = resting (known_of v).seen (take 1 (known_of v).speaks)
 abbrev pub other_part : View → View
 other_part v = resting (known_of v).seen (drop 1 (known_of v).speaks)
 
--- the view is at rest and speaks for these two numbers
+-- the view is at rest and speaks for one number
+pub record SpeaksForOne (v : View) : Type 0 where
+  pub task : ℕ
+  pub rests : v ≡ resting (known_of v).seen (task ∷ [])
+
+-- the view is at rest and speaks for two numbers
 pub record SpeaksForTwo (v : View) : Type 0 where
   pub one : ℕ
   pub other : ℕ

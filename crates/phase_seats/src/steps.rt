@@ -1,18 +1,19 @@
 //! The steps of a seat at rest that speaks for one task. Each call of a registration is one.
 ghost use Rattle.std.specs.Prelude.{◌≡◌, ◌≢◌, ℤ, List, [], ◌∷◌, true, false, Ok, Err, IfOk, IfErr, IsOk, IsErr};
-ghost use Rattle.std.specs.Result.{result_ok};
 ghost use Rattle.turn_lock.specs.Seats.{IsSeatAt, IsTurnAt, IsSameSeat};
 ghost use Rattle.turn_lock.specs.Seats.{seat_view, turn_number, turn_view, turn_value};
 ghost use Rattle.turn_lock.specs.Steps.{Gives};
 ghost use Rattle.phase_accum.specs.Parcels.{StandsForSends};
-ghost use Rattle.phase_history.specs.Histories.{History, entry_at};
+ghost use Rattle.phase_history.specs.Histories.{History};
 ghost use Rattle.phase_history.specs.Replies.{wait_reply, after_wait};
 ghost use Rattle.phase_history.specs.Others.{OnlyUsed, OthersCame};
 ghost use Rattle.phase_seats.specs.declared.view.View.TheVariants.{Resting};
-ghost use Rattle.phase_seats.specs.Views.{known_of, joining, first_part, other_part, SpeaksForTwo};
-ghost use Rattle.phase_seats.specs.Rule.{HasOneHistory, AfterTake, IsGoodAt, IsSeatOfTask, LearnedAt};
+ghost use Rattle.phase_seats.specs.Views.{known_of, joining, first_part, other_part};
+ghost use Rattle.phase_seats.specs.Views.{SpeaksForOne, SpeaksForTwo};
+ghost use Rattle.phase_seats.specs.Rule.{HasOneHistory, AfterTake, IsGoodAt, IsSeatOfTask, LearnedAt, HaveMet};
 ghost use Rattle.phase_core.specs.Cores.{StandsFor};
-ghost use Rattle.phase_seats.specs.Calls.{Tries, Waits, HasRegistered, RefusesRegister};
+ghost use Rattle.phase_seats.specs.Steps.{IsStep, HasChild};
+ghost use Rattle.phase_seats.specs.Calls.{Tries, Waits, RefusesRegister};
 ghost use Rattle.phase_seats.specs.Calls.{Refuses, HasLeft, SignalsAndMayWait, number_after};
 ghost use Rattle.phase_seats.specs.Entries.{entry_after_wait, entry_after_both};
 ghost use Rattle.phase_seats.specs.Calls.{SignalsAndMayWait};
@@ -30,7 +31,7 @@ use phase_core::{Got, PhaserCore, RegisterRefusal, SignalRefusal, WaitRefusal};
 use std::marker::Brand;
 
 // Takes the turn, and learns what the others did.
-fn enter<A: Accumulate, K: SignalRule>(
+pub(crate) fn enter<A: Accumulate, K: SignalRule>(
     phaser: &LockedPhaser<A, K>,
     seat: PhaserSeat<A, K>,
     me: u64,
@@ -54,7 +55,7 @@ fn enter<A: Accumulate, K: SignalRule>(
 }
 
 // Gives the turn back. What the give tells is picked by its caller, and may speak of `told`.
-fn put_back<A: Accumulate, K: SignalRule, E: Plan, X: Copy>(
+pub(crate) fn put_back<A: Accumulate, K: SignalRule, E: Plan, X: Copy>(
     phaser: &LockedPhaser<A, K>,
     turn: PhaserTurn<A, K>,
     moved: Moved,
@@ -92,7 +93,7 @@ fn wait_where<A: Accumulate>(
     }
 }
 
-// Signals, and then waits where that is asked for and answers at once: both under one turn.
+/// Signals, and then waits where that is asked for and answers at once: both under one turn.
 pub fn signal<A: Accumulate, K: SignalRule>(
     phaser: &LockedPhaser<A, K>,
     seat: PhaserSeat<A, K>,
@@ -113,14 +114,11 @@ pub fn signal<A: Accumulate, K: SignalRule>(
         → StandsForSends A.operation pending sends
         → K.allows (locked_terms phaser.now).rule h me (sends ∷ []) single }
     ensures seat { IsSeatAt (locked_place phaser.now) result.0 }
-    ensures at { IsSeatOfTask K.allows (locked_terms phaser.now) me result.1 (seat_view result.0) }
-    ensures call { Tries (IsSameSeat seat result.0 × (result.1 ≡ entry))
+    ensures step { IsStep K.allows (locked_terms phaser.now) me SignalRefusal.NoTask
+        entry_after_both (Tries (IsSameSeat seat result.0 × (result.1 ≡ entry))
         (SignalsAndMayWait waits A.operation (locked_limits phaser.now) me pending single
-        (known_of (seat_view seat)).seen (known_of (seat_view result.0)).seen) result.2 }
-    ensures entry { result.1 ≡ entry_after_both (result_ok result.2) entry }
-    ensures known { result.2 ≢ Err (Tried.Refused SignalRefusal.NoTask) }
-    ensures alone { OnlyUsed (me ∷ []) (known_of (seat_view seat)).seen
-        → result.2 ≢ Err Tried.Busy }
+        (known_of (seat_view seat)).seen (known_of (seat_view result.0)).seen) result.2)
+        entry result.1 (seat_view seat) (seat_view result.0) result.2 }
 {
     let mut turn = match enter(phaser, seat, me, entry) {
         Ok(turn) => turn,
@@ -146,7 +144,7 @@ pub fn signal<A: Accumulate, K: SignalRule>(
     (seat, entry, Ok((phase, waited.ok())))
 }
 
-// Leaves.
+/// Leaves.
 pub fn leave<A: Accumulate, K: SignalRule>(
     phaser: &LockedPhaser<A, K>,
     seat: PhaserSeat<A, K>,
@@ -172,7 +170,7 @@ pub fn leave<A: Accumulate, K: SignalRule>(
     Ok(put_back::<A, K, Brand, _>(phaser, turn, moved, me))
 }
 
-// Waits.
+/// Waits.
 pub fn wait<A: Accumulate, K: SignalRule>(
     phaser: &LockedPhaser<A, K>,
     seat: PhaserSeat<A, K>,
@@ -182,14 +180,11 @@ pub fn wait<A: Accumulate, K: SignalRule>(
     requires seat { IsSeatAt (locked_place phaser.now) seat }
     requires at { IsSeatOfTask K.allows (locked_terms phaser.now) me entry (seat_view seat) }
     ensures seat { IsSeatAt (locked_place phaser.now) result.0 }
-    ensures at { IsSeatOfTask K.allows (locked_terms phaser.now) me result.1 (seat_view result.0) }
-    ensures call { Tries (IsSameSeat seat result.0 × (result.1 ≡ entry))
+    ensures step { IsStep K.allows (locked_terms phaser.now) me WaitRefusal.NoTask
+        entry_after_wait (Tries (IsSameSeat seat result.0 × (result.1 ≡ entry))
         (Waits A.operation.value (locked_limits phaser.now) me
-        (known_of (seat_view seat)).seen (known_of (seat_view result.0)).seen) result.2 }
-    ensures entry { result.1 ≡ entry_after_wait (result_ok result.2) entry }
-    ensures known { result.2 ≢ Err (Tried.Refused WaitRefusal.NoTask) }
-    ensures alone { OnlyUsed (me ∷ []) (known_of (seat_view seat)).seen
-        → result.2 ≢ Err Tried.Busy }
+        (known_of (seat_view seat)).seen (known_of (seat_view result.0)).seen) result.2)
+        entry result.1 (seat_view seat) (seat_view result.0) result.2 }
 {
     let mut turn = match enter(phaser, seat, me, entry) {
         Ok(turn) => turn,
@@ -209,13 +204,13 @@ pub fn wait<A: Accumulate, K: SignalRule>(
 }
 
 // The number of the next child. Where none is left it is the last one, which is refused.
-fn child_of<A: Accumulate>(core: &PhaserCore<A>) -> u64
+pub(crate) fn child_of<A: Accumulate>(core: &PhaserCore<A>) -> u64
     ensures { result ≡ number_after core.now.greatest }
 {
     core.next_number().unwrap_or(u64::MAX)
 }
 
-// Registers a child. The answer is the child's number, seat and entry.
+/// Registers a child. The answer is the child's number, seat and entry.
 pub fn register<A: Accumulate, K: SignalRule>(
     phaser: &LockedPhaser<A, K>,
     seat: PhaserSeat<A, K>,
@@ -230,12 +225,9 @@ pub fn register<A: Accumulate, K: SignalRule>(
     requires at { IsSeatOfTask K.allows (locked_terms phaser.now) me entry (seat_view seat) }
     ensures seat { IsSeatAt (locked_place phaser.now) result.0 }
     ensures at { IsSeatOfTask K.allows (locked_terms phaser.now) me entry (seat_view result.0) }
-    ensures child { IfOk result.1 (λ made. IsSeatAt (locked_place phaser.now) made.1
-        × IsSeatOfTask K.allows (locked_terms phaser.now) made.0 made.2 (seat_view made.1)
-        × ((known_of (seat_view made.1)).seen ≡ (known_of (seat_view result.0)).seen)
-        × (made.2 ≡ entry_at mode entry.signal_phase entry.wait_phase)) }
-    ensures ok { IfOk result.1 (λ made. HasRegistered me made.0 mode
-        (known_of (seat_view seat)).seen (known_of (seat_view result.0)).seen) }
+    ensures ok { IfOk result.1 (λ made. IsSeatAt (locked_place phaser.now) made.1
+        × HasChild K.allows (locked_terms phaser.now) me made.0 mode entry made.2
+        (seat_view seat) (seat_view result.0) (seat_view made.1)) }
     ensures err { IfErr result.1 (Refuses (IsSameSeat seat result.0) (RefusesRegister me mode
         (known_of (seat_view seat)).seen (known_of (seat_view result.0)).seen)) }
     ensures known { result.1 ≢ Err (Tried.Refused RegisterRefusal.NoTask) }
@@ -260,7 +252,7 @@ pub fn register<A: Accumulate, K: SignalRule>(
     (seat, Ok((child, other, start)))
 }
 
-// Joins two seats at rest.
+/// Joins two seats at rest.
 pub fn join<A: Accumulate, K: SignalRule>(
     phaser: &LockedPhaser<A, K>,
     seat: PhaserSeat<A, K>,
@@ -276,8 +268,8 @@ pub fn join<A: Accumulate, K: SignalRule>(
     phaser.lock.join::<OnJoin, OnLook<K>>(seat, other)
 }
 
-// Cuts a seat at rest that speaks for two in two, each of which speaks for one.
-pub fn split<A: Accumulate, K: SignalRule>(
+// Cuts a seat at rest that speaks for two numbers in two, one for each.
+pub(crate) fn split<A: Accumulate, K: SignalRule>(
     phaser: &LockedPhaser<A, K>,
     seat: PhaserSeat<A, K>,
 ) -> (PhaserSeat<A, K>, PhaserSeat<A, K>)
@@ -289,4 +281,22 @@ pub fn split<A: Accumulate, K: SignalRule>(
     ensures right { seat_view result.1 ≡ other_part (seat_view seat) }
 {
     phaser.lock.split::<OnSplit>(seat)
+}
+
+/// The same two seats, which now have seen one history: it begins with what each had seen.
+pub fn meet<A: Accumulate, K: SignalRule>(
+    phaser: &LockedPhaser<A, K>,
+    seat: PhaserSeat<A, K>,
+    other: PhaserSeat<A, K>,
+) -> (PhaserSeat<A, K>, PhaserSeat<A, K>)
+    requires seats { IsSeatAt (locked_place phaser.now) seat
+        × IsSeatAt (locked_place phaser.now) other }
+    requires rests { SpeaksForOne (seat_view seat) × SpeaksForOne (seat_view other) }
+    ensures seats { IsSeatAt (locked_place phaser.now) result.0
+        × IsSeatAt (locked_place phaser.now) result.1 }
+    ensures met { HaveMet K.allows (locked_terms phaser.now) (seat_view seat) (seat_view other)
+        (seat_view result.0) (seat_view result.1) }
+{
+    let both = join(phaser, seat, other);
+    split(phaser, both)
 }

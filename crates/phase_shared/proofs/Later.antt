@@ -1,6 +1,7 @@
 -- A call after others' events is a call from the start.
-use Rattle.std.proofs.Common.{◌≡◌, ℕ, ℤ, Bool, true, false, List, [], ◌∷◌, Option, Some, None, refl, subst, sym}
+use Rattle.std.proofs.Common.{◌≡◌, ℕ, ℤ, Bool, false, List, [], ◌∷◌, ◌⊎◌, Option, Some, None, refl, subst, sym, ap, ◌∙◌}
 use Rattle.std.specs.Prelude.{Ok, Err, Result}
+use Rattle.std.specs.Result.{result_ok}
 use Rattle.phase_base.specs.Limits.{Limits}
 use Rattle.phase_base.specs.declared.entry.Entry.{Entry}
 use Rattle.phase_accum.specs.Operations.{Operation}
@@ -12,12 +13,15 @@ use Rattle.phase_history.specs.declared.refusal.SignalRefusal.{SignalRefusal}
 use Rattle.phase_history.specs.declared.refusal.WaitRefusal.{WaitRefusal}
 use Rattle.phase_history.specs.Histories.{History}
 use Rattle.phase_history.specs.Others.{OthersCame}
-use Rattle.phase_history.proofs.OthersEvents.{OthersCame-trans}
+use Rattle.phase_history.proofs.OthersEvents.{OthersCame-refl, OthersCame-trans}
 use Rattle.phase_seats.specs.declared.rule.Terms.{Terms}
 use Rattle.phase_seats.specs.Rule.{Allows}
 use Rattle.phase_seats.specs.Calls.{Signals, Waits, MayWait, SignalsAndMayWait}
 use Rattle.phase_seats.specs.Entries.{entry_after_wait}
-use Rattle.phase_shared.specs.Calls.{MaySignal}
+use Rattle.phase_seats.specs.declared.tried.Tried.{Tried}
+use Rattle.phase_seats.specs.declared.tried.Tried.TheVariants.{Busy, Refused}
+use Rattle.phase_seats.proofs.Answering.{again}
+use Rattle.phase_shared.specs.Calls.{IsTry, IsCall, Tries, MaySignal}
 use Rattle.phase_shared.specs.Regs.{RegState}
 
 -- where no wait was asked for it stands where its signal left it
@@ -76,3 +80,58 @@ pub waits_later : (value : List ℤ → Outcome) (limits : Limits) (me number : 
 waits_later value limits me number old now new answer same came w =
     let v : Waits value limits me now new answer = subst (λ (n : ℕ). Waits value limits n now new answer) same w in
     record { before = v.before; others = OthersCame-trans (me ∷ []) old now v.before came v.others; seen = v.seen; reply = v.reply }
+
+-- events of others came, and nothing else changed: what each further try of a call that waits starts from
+pub record HasWaited {A K : Type 0} (old now : RegState A K) : Type 0 where
+  pub at : now.at ≡ old.at
+  pub number : now.number ≡ old.number
+  pub entry : now.entry ≡ old.entry
+  pub held : now.held ≡ old.held
+  pub others : OthersCame (old.number ∷ []) old.seen now.seen
+
+module _ {A K X R : Type 0} (allows : K → Allows) (terms : Terms K) (no_task : R) (after : Option X → Entry → Entry) (old now new : RegState A K)
+    (waited : HasWaited old now) where
+  -- a try that is made again: the turn was another's, or it came too early
+  pub waits_on : (call : Result X R → Type 0) (early : R) (tried : Tried R) (result : Result X (Tried R)) → result ≡ Err tried
+      → (tried ≡ Busy) ⊎ (tried ≡ Refused early) → IsTry allows terms no_task after (Tries (new ≡ now) call result) now new result
+      → (call (Err early) → OthersCame (now.number ∷ []) now.seen new.seen) → ((e : Entry) → after None e ≡ e) → new.held ≡ now.held
+      → HasWaited old new
+  waits_on call early tried result is again_for t came stands held =
+      let more : OthersCame (now.number ∷ []) now.seen new.seen =
+      again (new ≡ now) call early (OthersCame (now.number ∷ []) now.seen new.seen) tried again_for (subst (λ r. Tries (new ≡ now) call r) is t.call)
+      (λ same. subst (λ (h : History). OthersCame (now.number ∷ []) now.seen h) (sym (ap (λ (r : RegState A K). r.seen) same)) (OthersCame-refl (now.number ∷ []) now.seen))
+      came in
+      record {
+        at = t.at.0 ∙ waited.at;
+        number = t.at.1 ∙ waited.number;
+        entry = t.entry ∙ ap (λ r. after (result_ok r) now.entry) is ∙ stands now.entry ∙ waited.entry;
+        held = held ∙ waited.held;
+        others = OthersCame-trans (old.number ∷ []) old.seen now.seen new.seen waited.others (subst (λ n. OthersCame (n ∷ []) now.seen new.seen) waited.number more);
+      }
+
+  -- a try that is accepted is the answer of the call
+  pub accepted : (answered answered' : Type 0) (result : Result X (Tried R)) (x : X) → result ≡ Ok x
+      → IsTry allows terms no_task after answered now new result → answered' → IsCall allows terms no_task after answered' old new (Ok x)
+  accepted answered answered' result x is t call = record {
+    call = call;
+    entry = t.entry ∙ (λ i. after (result_ok (is i)) (waited.entry i));
+    mode = t.mode ∙ ap (λ (e : Entry). e.mode) waited.entry;
+    at = (t.at.0 ∙ waited.at, t.at.1 ∙ waited.number);
+    good = t.good;
+    known = λ none. cc;
+  }
+
+  -- and so is one that is refused
+  pub refused : (answered answered' : Type 0) (result : Result X (Tried R)) (refusal : R) → result ≡ Err (Refused refusal)
+      → IsTry allows terms no_task after answered now new result → answered' → IsCall allows terms no_task after answered' old new (Err refusal)
+  refused answered answered' result refusal is t call = record {
+    call = call;
+    entry = t.entry ∙ (λ i. after (result_ok (is i)) (waited.entry i));
+    mode = t.mode ∙ ap (λ (e : Entry). e.mode) waited.entry;
+    at = (t.at.0 ∙ waited.at, t.at.1 ∙ waited.number);
+    good = t.good;
+    known = λ none. t.known (is ∙ ap (λ r. Err (Refused r)) (same_refusal refusal no_task none));
+  }
+    where
+      same_refusal : (x y : R) → ◌≡◌ {A = Result X R} (Err x) (Err y) → x ≡ y
+      same_refusal x y e = cc

@@ -2,7 +2,7 @@
 use Rattle.std.proofs.Common.{◌≡◌, ◌≢◌, ℕ, ◌+◌, ◌≤◌, ℤ, Bool, true, false, not, ◌&&◌, cond, eqb, leb, ltb, List, [], ◌∷◌, Option, Some, None, refl, sym, ap, subst, ◌∙◌, arith}
 use Rattle.std.proofs.lemmas.Bool.{ne_eqb}
 use Rattle.std.proofs.lemmas.Bool.Decides.{nat_tests}
-use Rattle.phase_base.specs.Limits.{Limits, AreLimits}
+use Rattle.phase_base.specs.Limits.{Limits}
 use Rattle.phase_base.specs.Modes.{mode_signals, mode_waits}
 use Rattle.phase_base.specs.declared.mode.Mode.{Mode}
 use Rattle.phase_base.specs.declared.mode.Mode.TheVariants.{Sig, Wait, SigWait, Single as Singles}
@@ -13,11 +13,12 @@ use Rattle.phase_history.specs.declared.got.Got.{Got}
 use Rattle.phase_base.specs.Members.{entry_of, signalled, signal_phases}
 use Rattle.phase_base.specs.Members.{least as least_of}
 use Rattle.phase_accum.specs.declared.single.Single.{Single}
-use Rattle.phase_history.specs.declared.event.Event.TheVariants.{Made, Registered, RegisteredNow, Signalled, Waited, Dropped}
+use Rattle.phase_history.specs.declared.event.Event.TheVariants.{Signalled}
 use Rattle.phase_history.specs.declared.refusal.WaitRefusal.{WaitRefusal}
 use Rattle.phase_history.specs.declared.refusal.WaitRefusal.TheVariants as wait
 use Rattle.phase_history.specs.Histories.{History, members_of, positions_of, done_at}
 use Rattle.phase_history.specs.Legal.{IsLegal}
+use Rattle.phase_core.proofs.Replies.{limits_of}
 use Rattle.phase_history.specs.Refusals.{first_row, refusal_at, wait_rows, wait_refusal, is_bad_block}
 use Rattle.phase_history.specs.Others.{OthersCame}
 use Rattle.phase_history.proofs.LawProofs.{turns_law}
@@ -35,16 +36,6 @@ waits_else Sig none = absurd (cc)
 waits_else Wait none = refl
 waits_else SigWait none = absurd (cc)
 waits_else Singles none = absurd (cc)
-
--- a legal history has limits that are within theirs
-pub limits_of : (limits : Limits) (h : History) → IsLegal limits h → AreLimits limits
-limits_of limits [] legal = absurd legal
-limits_of limits (Made task ∷ before) legal = legal.0
-limits_of limits (Registered parent child mode ∷ before) legal = limits_of limits before legal.0
-limits_of limits (RegisteredNow parent child ∷ before) legal = limits_of limits before legal.0
-limits_of limits (Signalled task lists single ∷ before) legal = limits_of limits before legal.0
-limits_of limits (Waited task n ∷ before) legal = limits_of limits before legal.0
-limits_of limits (Dropped task ∷ before) legal = limits_of limits before legal.0
 
 -- where it stands after its signal
 pub signalled_member : (limits : Limits) (me : ℕ) (entry entry' : Entry) (old before new : History) (single : Option Single) (sends : List ℤ)

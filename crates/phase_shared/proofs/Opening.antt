@@ -3,15 +3,23 @@ use Rattle.turn_lock.specs.Seats.{IsSameSeat}
 use Rattle.phase_accum.specs.Parcels.{Parcel}
 use Rattle.phase_seats.specs.Views.{known_of}
 use Rattle.phase_shared.specs.Regs.{RegState, reg_state}
-use Rattle.std.proofs.Common.{◌≡◌, ℕ, Option, Some, refl, sym, ap, subst, ◌∙◌}
+use Rattle.std.proofs.Common.{◌≡◌, ℕ, [], ◌∷◌, Option, Some, refl, sym, ap, subst, ◌∙◌}
 use Rattle.turn_lock.specs.declared.seat.Seat.{Seat}
 use Rattle.turn_lock.specs.Seats.{seat_place, seat_view}
 use Rattle.atomic_table.specs.Seated.{TableId}
 use Rattle.phase_base.specs.declared.entry.Entry.{Entry}
 use Rattle.phase_seats.specs.declared.view.View.{View}
 use Rattle.phase_seats.specs.declared.rule.Terms.{Terms}
-use Rattle.phase_seats.specs.Rule.{Allows, IsGoodAt, IsSeatOfTask}
+use Rattle.phase_seats.specs.Rule.{Allows, IsSeatOfTask}
 use Rattle.phase_shared.specs.Regs.{IsReg, place_in, view_in}
+use Rattle.std.specs.Prelude.{Result, Ok, Err, IsErr}
+use Rattle.std.specs.Result.{result_ok}
+use Rattle.phase_history.specs.Histories.{History}
+use Rattle.phase_history.specs.Others.{OnlyUsed}
+use Rattle.phase_seats.specs.declared.tried.Tried.{Tried}
+use Rattle.phase_seats.specs.declared.tried.Tried.TheVariants.{Busy, Refused}
+use Rattle.phase_seats.specs.Steps.{IsStep}
+use Rattle.phase_shared.specs.Calls.{IsTry, Tries}
 
 same_some : {A : Type 0} (x y : A) → Some x ≡ Some y → x ≡ y
 same_some x y e = cc
@@ -49,9 +57,42 @@ module _ {T K : Type 0} (allows : K → Allows) (table : TableId) (terms : Terms
       → o ≡ Some s → reg_state o me entry held ≡ reg → reg_state (Some s) me entry held ≡ reg
   reg_is entry held o s reg is seen = ap (λ p. reg_state p me entry held) (sym is) ∙ seen
 
-  -- what a registration has seen is good
-  pub good_of : (entry : Entry) (o : Option (Seat T (Terms K) View)) → IsReg allows o me entry → place_in o ≡ (table, Some terms)
-      → IsGoodAt allows terms (known_of (view_in o)).seen
-  good_of entry o r at =
-      let same : r.terms ≡ terms = same_some r.terms terms (sym r.named ∙ ap (λ p. p.1) at) in
-      subst (λ (t : Terms K). IsGoodAt allows t (known_of (view_in o)).seen) same r.station.good
+  -- a step of a registration's seat is a try of the registration. What it holds stays where the try is refused
+  pub is_try : {A X R : Type 0} (no_task : R) (after : Option X → Entry → Entry) (call : RegState A K → History → Result X R → Type 0)
+      → (entry entry' : Entry) (held held' : Parcel A) (s s' : Seat T (Terms K) View) (reg : RegState A K) (result : Result X (Tried R))
+      → reg_state (Some s) me entry held ≡ reg → reg.at ≡ (table, Some terms) → seat_place s' ≡ (table, Some terms)
+      → ((answer : Option X) (e : Entry) → (after answer e).mode ≡ e.mode) → (IsErr result → held' ≡ held)
+      → IsStep allows terms me no_task after
+      (Tries (IsSameSeat s s' × (entry' ≡ entry)) (call (reg_state (Some s) me entry held) (known_of (seat_view s')).seen) result)
+      entry entry' (seat_view s) (seat_view s') result
+      → IsTry allows terms no_task after (Tries (reg_state (Some s') me entry' held' ≡ reg) (call reg (known_of (seat_view s')).seen) result)
+      reg (reg_state (Some s') me entry' held') result
+  is_try {A} {X} {R} no_task after call entry entry' held held' s s' reg result is at at' mode stays step =
+      let old : RegState A K = reg_state (Some s) me entry held in
+      let new : RegState A K = reg_state (Some s') me entry' held' in
+      let seen = (known_of (seat_view s')).seen in
+      let P : RegState A K → Type 0 = λ r. Tries (new ≡ r) (call r seen) result in
+      let Q : RegState A K → Type 0 = λ r. OnlyUsed (r.number ∷ []) r.seen in
+      let entry_is : entry' ≡ after (result_ok result) reg.entry = step.entry_is ∙ ap (λ (r : RegState A K). after (result_ok result) r.entry) is in
+      record {
+        call = subst P is (tried result stays step.call);
+        entry = entry_is;
+        mode = ap (λ (e : Entry). e.mode) entry_is ∙ mode (result_ok result) reg.entry;
+        at = (at' ∙ sym at, ap (λ (r : RegState A K). r.number) is);
+        good = step.at.good;
+        known = step.known;
+        alone = λ only. step.alone (subst Q (sym is) only);
+      }
+    where
+      tried : (result : Result X (Tried R)) → (IsErr result → held' ≡ held)
+          → Tries (IsSameSeat s s' × (entry' ≡ entry)) (call (reg_state (Some s) me entry held) (known_of (seat_view s')).seen) result
+          → Tries (reg_state (Some s') me entry' held' ≡ reg_state (Some s) me entry held) (call (reg_state (Some s) me entry held) (known_of (seat_view s')).seen) result
+      tried (Ok answer) stays answered = answered
+      tried (Err Busy) stays same = λ i. record {
+        at = same.0.0 i;
+        number = me;
+        entry = same.1 i;
+        held = stays refl i;
+        seen = (known_of (same.0.2 i)).seen;
+      }
+      tried (Err (Refused refusal)) stays answered = answered

@@ -1,23 +1,15 @@
 -- What each call of a registration answers, and what the registration has seen and where it stands
 -- after it. The records of single calls are those of the steps of its seat.
-use Rattle.std.specs.Prelude.{◌≡◌, ◌≢◌, ℕ, ℤ, Bool, true, false, List, [], ◌∷◌, Option, Result, Ok, Err, None, Some, min, ◌+◌, ◌-◌, ◌^◌}
+use Rattle.std.specs.Prelude.{◌≡◌, ◌≢◌, ℕ, ℤ, Bool, true, false, List, [], ◌∷◌, Option, Result, Ok, Err}
 use Rattle.std.specs.Result.{result_ok}
-use Rattle.phase_base.specs.Limits.{Limits}
 use Rattle.phase_base.specs.declared.entry.Entry.{Entry}
 use Rattle.phase_base.specs.declared.mode.Mode.{Mode}
 use Rattle.phase_accum.specs.Operations.{Operation}
 use Rattle.phase_accum.specs.Parcels.{Parcel, StandsForSends}
-use Rattle.phase_accum.specs.declared.outcome.Outcome.{Outcome}
 use Rattle.phase_accum.specs.declared.single.Single.{Single}
-use Rattle.phase_history.specs.declared.event.Event.TheVariants.{Registered, Dropped}
-use Rattle.phase_history.specs.declared.got.Got.{Got}
+use Rattle.phase_history.specs.declared.event.Event.TheVariants.{Dropped}
 use Rattle.phase_history.specs.declared.refusal.RegisterRefusal.{RegisterRefusal}
-use Rattle.phase_history.specs.declared.refusal.RegisterRefusal.TheVariants as register
-use Rattle.phase_history.specs.declared.refusal.SignalRefusal.{SignalRefusal}
-use Rattle.phase_history.specs.declared.refusal.WaitRefusal.{WaitRefusal}
-use Rattle.phase_history.specs.Histories.{History, greatest_used}
-use Rattle.phase_history.specs.Refusals.{register_refusal}
-use Rattle.phase_history.specs.Replies.{signal_reply, after_signal, wait_reply, after_wait}
+use Rattle.phase_history.specs.Histories.{History}
 use Rattle.phase_history.specs.Histories.{entry_at}
 use Rattle.phase_history.specs.Others.{OnlyUsed, OthersCame}
 use Rattle.phase_shared.specs.Regs.{RegState}

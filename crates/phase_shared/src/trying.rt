@@ -55,18 +55,13 @@ impl<A: Accumulate, K: SignalRule> Reg<A, K> {
         requires at { self.old.at ≡ phaser_place phaser.now }
         requires rule { MaySignal A.operation K.allows (phaser_terms phaser.now) self.old single }
 
-        ensures call { let old = self.old in Tries (self.new ≡ old)
-            (SignalsAndMayWait waits A.operation (phaser_limits phaser.now) old.number old.held
-            single old.seen self.new.seen) result }
-        ensures entry { self.new.entry ≡ entry_after_both (result_ok result) self.old.entry }
-        ensures at { (self.new.at ≡ self.old.at) × (self.new.number ≡ self.old.number) }
-        ensures good { IsGoodAt K.allows (phaser_terms phaser.now) self.new.seen }
+        ensures call { let old = self.old in
+            IsTry K.allows (phaser_terms phaser.now) SignalRefusal.NoTask entry_after_both
+            (Tries (self.new ≡ old) (SignalsAndMayWait waits A.operation (phaser_limits phaser.now)
+            old.number old.held single old.seen self.new.seen) result) old self.new result }
         ensures none_held { OnOk result
             (StandsForSends A.operation self.new.held [] × (self.new.held.count ≡ 0)) }
-
         ensures held { OnErr result (self.new.held ≡ self.old.held) }
-        ensures known { result ≢ Err (Tried.Refused SignalRefusal.NoTask) }
-        ensures alone { OnlyUsed (self.old.number ∷ []) self.old.seen → result ≢ Err Tried.Busy }
     {
         let Some(seat) = self.seat.take() else {
             unreachable!()
@@ -200,8 +195,7 @@ impl<A: Accumulate, K: SignalRule> Reg<A, K> {
         let Some(other_seat) = second.seat.take() else {
             unreachable!()
         };
-        let both = steps::join(&phaser.locked, seat, other_seat);
-        let (seat, other_seat) = steps::split(&phaser.locked, both);
+        let (seat, other_seat) = steps::meet(&phaser.locked, seat, other_seat);
         first.seat = Some(seat);
         second.seat = Some(other_seat);
         (first, second)

@@ -62,17 +62,13 @@ impl<A: Accumulate, K: SignalRule> Reg<A, K> {
         requires rule { MaySignal A.operation K.allows (phaser_terms phaser.now) self.old single }
 
         ensures call { let old = self.old in
-            SignalsAndMayWait waits A.operation (phaser_limits phaser.now) old.number old.held
-            single old.seen self.new.seen result }
-        ensures entry { self.new.entry ≡ entry_after_both (result_ok result) self.old.entry }
-        ensures at { (self.new.at ≡ self.old.at) × (self.new.number ≡ self.old.number) }
-        ensures good { IsGoodAt K.allows (phaser_terms phaser.now) self.new.seen }
+            IsCall K.allows (phaser_terms phaser.now) SignalRefusal.NoTask entry_after_both
+            (SignalsAndMayWait waits A.operation (phaser_limits phaser.now) old.number old.held
+            single old.seen self.new.seen result) old self.new result }
+        ensures waited { result ≢ Err SignalRefusal.Ahead }
         ensures none_held { OnOk result
             (StandsForSends A.operation self.new.held [] × (self.new.held.count ≡ 0)) }
-
         ensures held { OnErr result (self.new.held ≡ self.old.held) }
-        ensures known { result ≢ Err SignalRefusal.NoTask }
-        ensures waited { result ≢ Err SignalRefusal.Ahead }
     {
         let backoff = Backoff::new();
         let named = &single;

@@ -126,8 +126,8 @@ returns-clause-at g c =
     subst (λ (v : View). IsSeatOfTask allows terms me c.args.entry v) (sym (c.split-seat.ensures.left ∙ ap first_part both))
     (record { rests = refl; member = member; good = s.good })
 
-pub returns-clause-child : goal.returns-clause-child
-returns-clause-child g c =
+pub returns-clause-ok : goal.returns-clause-ok
+returns-clause-ok g c =
     let op = g.A.Accumulate.operation in
     let allows = g.K.SignalRule.allows in
     let terms = locked_terms c.args.phaser.now in
@@ -135,44 +135,32 @@ returns-clause-child g c =
     let mode = c.args.mode in
     let child = c.child_of-child.result in
     let e = c.in-Ok.ensures.took in
-    let new = born g (goal.at.returns-clause-child g c).In-Some in
+    let before = stood g (goal.at.returns-clause-ok g c).In-Some in
+    let new = born g (goal.at.returns-clause-ok g c).In-Some in
     let event = Registered me child mode in
-    let s = left g (goal.at.returns-clause-child g c).In-Some in
+    let s = left g (goal.at.returns-clause-ok g c).In-Some in
     let h : History = event ∷ e.now in
     let both : seat_view c.put_back-both.result ≡ resting h (me ∷ child ∷ []) =
     c.put_back-both.ensures.rule ∙ ap (λ (v : View). resting (event ∷ (known_of v).seen) (me ∷ child ∷ [])) e.is in
     let right = c.split-seat.ensures.right ∙ ap other_part both in
     let left = c.split-seat.ensures.left ∙ ap first_part both in (
       c.split-seat.ensures.seats.1,
-      station op allows terms child c.in-Some.start (seat_view c.split-seat.result.1) h c.register-answer.new.self c.view-found.result
-          right s.good s.stands c.view-found.ensures c.in-Some.is,
-      ap (λ (v : View). (known_of v).seen) right ∙ sym (ap (λ (v : View). (known_of v).seen) left),
-      told_entry op allows terms child c.in-Some.start (entry_at mode c.args.entry.signal_phase c.args.entry.wait_phase) h c.register-answer.new.self c.view-found.result
-          s.stands c.view-found.ensures c.in-Some.is (member_child terms.limits e.now me child mode c.args.entry e.good.legal new e.member),
+      record {
+        registered = record {
+          before = e.now;
+          others = e.others;
+          seen = ap (λ (v : View). (known_of v).seen) left;
+          reply = c.in_default.ensures.ok e.now before.stands;
+          next = child_is_next e.now child c.value-core.result.now.greatest before.stands.greatest_is c.child_of-child.ensures new.above;
+        };
+        at = station op allows terms child c.in-Some.start (seat_view c.split-seat.result.1) h c.register-answer.new.self c.view-found.result
+            right s.good s.stands c.view-found.ensures c.in-Some.is;
+        seen = ap (λ (v : View). (known_of v).seen) right ∙ sym (ap (λ (v : View). (known_of v).seen) left);
+        start_is = told_entry op allows terms child c.in-Some.start (entry_at mode c.args.entry.signal_phase c.args.entry.wait_phase) h
+            c.register-answer.new.self c.view-found.result s.stands c.view-found.ensures c.in-Some.is
+            (member_child terms.limits e.now me child mode c.args.entry e.good.legal new e.member);
+      },
     )
-
-pub returns-clause-ok : goal.returns-clause-ok
-returns-clause-ok g c =
-    let me = c.args.me in
-    let mode = c.args.mode in
-    let child = c.child_of-child.result in
-    let e = c.in-Ok.ensures.took in
-    let old = c.value-core.result.now in
-    let before = stood g (goal.at.returns-clause-ok g c).In-Some in
-    let accepted : register_refusal e.now me child mode ≡ None = c.in_default.ensures.ok e.now before.stands in
-    let new = born g (goal.at.returns-clause-ok g c).In-Some in
-    let event = Registered me child mode in
-    let h : History = event ∷ e.now in
-    let both : seat_view c.put_back-both.result ≡ resting h (me ∷ child ∷ []) =
-    c.put_back-both.ensures.rule ∙ ap (λ (v : View). resting (event ∷ (known_of v).seen) (me ∷ child ∷ [])) e.is in
-    let left = c.split-seat.ensures.left ∙ ap first_part both in
-    record {
-      before = e.now;
-      others = e.others;
-      seen = ap (λ (v : View). (known_of v).seen) left;
-      reply = accepted;
-      next = child_is_next e.now child old.greatest before.stands.greatest_is c.child_of-child.ensures new.above;
-    }
 
 pub returns-in-Err-answer-clause-at : goal.returns-in-Err-answer-clause-at
 returns-in-Err-answer-clause-at g c =

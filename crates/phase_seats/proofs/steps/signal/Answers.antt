@@ -1,4 +1,4 @@
-use Rattle.std.proofs.Common.{◌≡◌, ℤ, List, [], ◌∷◌, Err, true, false, sym, subst, ap, refl, ◌∙◌}
+use Rattle.std.proofs.Common.{◌≡◌, ℤ, List, [], ◌∷◌, Err, true, false, sym, subst, ap, refl, ◌∙◌, rules}
 use Rattle.std.specs.Prelude.{is_some, Option}
 use Rattle.phase_seats.specs.LockedPhasers.{locked_terms}
 use Rattle.turn_lock.specs.Seats.{seat_view, turn_view, turn_value, turn_number}
@@ -92,79 +92,64 @@ give-seat-requires-clause-rule g c =
     let after : StandsWithin op terms.limits c.signal-answer.new.self e.now = subst (λ (z : CoreState g.row.A.Denot). StandsWithin op terms.limits z e.now) (sym c.in-Err-answer.ensures.err) before in
     gives_same op allows terms c.args.me (turn_number turn) c.signal-answer.new.self (turn_view turn) e.now e.is e.used e.good after
 
-pub returns-clause-at : goal.returns-clause-at
-returns-clause-at g c =
+pub returns-clause-step : goal.returns-clause-step
+returns-clause-step g c =
     let op = g.A.Accumulate.operation in
     let allows = g.K.SignalRule.allows in
     let terms = locked_terms c.args.phaser.now in
     let e = c.in-Ok.ensures.took in
+    let after = (goal.at.returns-clause-step g c).After-wait_where-waited in
+    let before = stood g after in
     let told = c.put_back-seat.ensures.rule in
     let waited = c.wait_where-waited.result in
     let new = c.wait_where-waited.new.core in
     let middle : History = Signalled c.args.me (told.0 ∷ []) c.args.single ∷ e.now in
-    let s = left g (goal.at.returns-clause-at g c).After-wait_where-waited told.0 told.1 in
-    station op allows terms c.args.me c.in-Some.entry (seat_view c.put_back-seat.result) (after_wait waited c.args.me middle) new c.view.result
-    (told.2 ∙ ap (λ (v : View). resting (after_wait waited c.args.me (Signalled c.args.me (told.0 ∷ []) c.args.single ∷ (known_of v).seen)) (speaks_of v)) e.is)
-    s.good s.stands c.view.ensures c.in-Some.is
-
-pub returns-clause-entry : goal.returns-clause-entry
-returns-clause-entry g c =
-    let op = g.A.Accumulate.operation in
-    let allows = g.K.SignalRule.allows in
-    let terms = locked_terms c.args.phaser.now in
-    let e = c.in-Ok.ensures.took in
-    let held = c.part-part.ensures.held in
-    let waited = c.wait_where-waited.result in
-    let new = c.wait_where-waited.new.core in
-    let middle : History = Signalled c.args.me (held.0 ∷ []) c.args.single ∷ e.now in
-    let s = left g (goal.at.returns-clause-entry g c).After-wait_where-waited held.0 held.1 in
-    told_entry op allows terms c.args.me c.in-Some.entry (entry_after_wait (result_ok waited) (signalled 1 c.args.entry)) (after_wait waited c.args.me middle) new c.view.result
-    s.stands c.view.ensures c.in-Some.is (member_signals_and_waits c.args.me held.0 c.args.single e.now c.args.entry waited e.member)
-    ∙ ap (λ got. entry_after_wait got (signalled 1 c.args.entry)) (sym c.ok.ensures.value)
-
-pub returns-clause-call : goal.returns-clause-call
-returns-clause-call g c =
-    let op = g.A.Accumulate.operation in
-    let terms = locked_terms c.args.phaser.now in
-    let e = c.in-Ok.ensures.took in
-    let before = stood g (goal.at.returns-clause-call g c).After-wait_where-waited in
-    let told = c.put_back-seat.ensures.rule in
-    let waited = c.wait_where-waited.result in
-    let middle : History = Signalled c.args.me (told.0 ∷ []) c.args.single ∷ e.now in
+    let s = left g after told.0 told.1 in
+    let view : seat_view c.put_back-seat.result ≡ resting (after_wait waited c.args.me middle) (c.args.me ∷ []) =
+    told.2 ∙ ap (λ (v : View). resting (after_wait waited c.args.me (Signalled c.args.me (told.0 ∷ []) c.args.single ∷ (known_of v).seen)) (speaks_of v)) e.is in
     let last : History = (known_of (seat_view c.put_back-seat.result)).seen in
-    let seen : last ≡ after_wait waited c.args.me middle =
-    ap (λ (v : View). (known_of v).seen) told.2
-    ∙ ap (λ (v : View). after_wait waited c.args.me (Signalled c.args.me (told.0 ∷ []) c.args.single ∷ (known_of v).seen)) e.is in
+    let seen : last ≡ after_wait waited c.args.me middle = ap (λ (v : View). (known_of v).seen) view in
     let limits = c.in-Ok-answer.ensures.limits ∙ before.limits_are in
     let P : Option Got → Type 0 = λ got. MayWait c.args.waits op.value terms.limits c.args.me middle last got in
     record {
-      middle = middle;
-      signals = record {
-        before = e.now;
-        sends = told.0;
-        others = e.others;
-        stands = told.1;
-        seen = refl;
-        reply = λ sends held. ap (λ l. signal_reply l e.now c.args.me (sends ∷ []) c.args.single) (sym before.limits_are)
-            ∙ c.in-Ok-answer.ensures.ok e.now sends before.stands held;
+      call = record {
+        middle = middle;
+        signals = record {
+          before = e.now;
+          sends = told.0;
+          others = e.others;
+          stands = told.1;
+          seen = refl;
+          reply = λ sends held. ap (λ l. signal_reply l e.now c.args.me (sends ∷ []) c.args.single) (sym before.limits_are)
+              ∙ c.in-Ok-answer.ensures.ok e.now sends before.stands held;
+        };
+        waits = subst P (sym c.ok.ensures.value) (may_wait c.args.waits op.value terms.limits c.args.me middle last waited seen
+            (λ asked. ap (λ l. wait_reply op.value l middle c.args.me) (sym limits)
+            ∙ c.wait_where-waited.ensures.reply middle (c.in-Ok-answer.ensures.after e.now told.0 before.stands told.1) asked)
+            c.wait_where-waited.ensures.none);
       };
-      waits = subst P (sym c.ok.ensures.value) (may_wait c.args.waits op.value terms.limits c.args.me middle last waited seen
-          (λ asked. ap (λ l. wait_reply op.value l middle c.args.me) (sym limits)
-          ∙ c.wait_where-waited.ensures.reply middle (c.in-Ok-answer.ensures.after e.now told.0 before.stands told.1) asked)
-          c.wait_where-waited.ensures.none);
+      at = station op allows terms c.args.me c.in-Some.entry (seat_view c.put_back-seat.result) (after_wait waited c.args.me middle) new c.view.result
+          view s.good s.stands c.view.ensures c.in-Some.is;
+      entry_is = told_entry op allows terms c.args.me c.in-Some.entry (entry_after_wait (result_ok waited) (signalled 1 c.args.entry))
+          (after_wait waited c.args.me middle) new c.view.result s.stands c.view.ensures c.in-Some.is
+          (member_signals_and_waits c.args.me told.0 c.args.single e.now c.args.entry waited e.member)
+          ∙ ap (λ got. entry_after_wait got (signalled 1 c.args.entry)) (sym c.ok.ensures.value);
+      known = search rules;
+      alone = search rules;
     }
 
-pub returns-in-Err-answer-clause-at : goal.returns-in-Err-answer-clause-at
-returns-in-Err-answer-clause-at g c =
-    let op = g.A.Accumulate.operation in
-    let allows = g.K.SignalRule.allows in
-    let terms = locked_terms c.args.phaser.now in
-    let e = c.in-Ok.ensures.took in
-    stays op allows terms c.args.me c.args.entry (seat_view c.give-seat.result) e.now
-    (c.give-seat.ensures.rule ∙ ap (λ (v : View). resting (known_of v).seen (speaks_of v)) e.is) e.good e.member
+-- the turn was another's
+pub returns-in-Err-clause-step : goal.returns-in-Err-clause-step
+returns-in-Err-clause-step g c = record {
+  call = (c.in-Err.ensures.err, refl);
+  at = c.in-Err.ensures.still;
+  entry_is = refl;
+  known = search rules;
+  alone = λ only. absurd (let z : false ≡ true = c.in-Err.ensures.alone only in cc);
+}
 
-pub returns-in-Err-answer-clause-call : goal.returns-in-Err-answer-clause-call
-returns-in-Err-answer-clause-call g c =
+pub returns-in-Err-answer-clause-step : goal.returns-in-Err-answer-clause-step
+returns-in-Err-answer-clause-step g c =
     let op = g.A.Accumulate.operation in
     let allows = g.K.SignalRule.allows in
     let terms = locked_terms c.args.phaser.now in
@@ -173,28 +158,25 @@ returns-in-Err-answer-clause-call g c =
     let old = c.value-core.result.now in
     let before : StandsWithin op terms.limits old e.now = lent op allows terms c.args.me (turn_value turn) old e.now c.value-core.ensures.value e.stands in
     let held = c.part-part.ensures.held in
+    let view : seat_view c.give-seat.result ≡ resting e.now (c.args.me ∷ []) =
+    c.give-seat.ensures.rule ∙ ap (λ (v : View). resting (known_of v).seen (speaks_of v)) e.is in
     record {
-      before = e.now;
-      sends = held.0;
-      others = e.others;
-      stands = held.1;
-      seen = ap (λ (v : View). (known_of v).seen) c.give-seat.ensures.rule ∙ ap (λ (v : View). (known_of v).seen) e.is;
-      reply = λ sends stands. ap (λ l. signal_reply l e.now c.args.me (sends ∷ []) c.args.single) (sym before.limits_are)
-          ∙ c.in-Err-answer.ensures.refused e.now sends before.stands stands;
+      call = record {
+        before = e.now;
+        sends = held.0;
+        others = e.others;
+        stands = held.1;
+        seen = ap (λ (v : View). (known_of v).seen) view;
+        reply = λ sends stands. ap (λ l. signal_reply l e.now c.args.me (sends ∷ []) c.args.single) (sym before.limits_are)
+            ∙ c.in-Err-answer.ensures.refused e.now sends before.stands stands;
+      };
+      at = stays op allows terms c.args.me c.args.entry (seat_view c.give-seat.result) e.now view e.good e.member;
+      entry_is = refl;
+      -- the task is registered
+      known = λ none.
+          let is : c.in-Err-answer.refused.0 ≡ signal.NoTask = cc in
+          signal_refusal-never old.limits e.now c.args.me (held.0 ∷ []) c.args.single (ap is_some e.member)
+          (refused_is (signal_refusal old.limits e.now c.args.me (held.0 ∷ []) c.args.single) (signal_phase e.now c.args.me) signal.NoTask
+          (c.in-Err-answer.ensures.refused e.now held.0 before.stands held.1 ∙ ap Err is));
+      alone = search rules;
     }
-
--- the task is registered
-pub returns-in-Err-answer-clause-known : goal.returns-in-Err-answer-clause-known
-returns-in-Err-answer-clause-known g c none =
-    let op = g.A.Accumulate.operation in
-    let allows = g.K.SignalRule.allows in
-    let terms = locked_terms c.args.phaser.now in
-    let turn = c.in-Ok.turn in
-    let e = c.in-Ok.ensures.took in
-    let old = c.value-core.result.now in
-    let before : StandsWithin op terms.limits old e.now = lent op allows terms c.args.me (turn_value turn) old e.now c.value-core.ensures.value e.stands in
-    let held = c.part-part.ensures.held in
-    let is : c.in-Err-answer.refused.0 ≡ signal.NoTask = cc in
-    signal_refusal-never old.limits e.now c.args.me (held.0 ∷ []) c.args.single (ap is_some e.member)
-    (refused_is (signal_refusal old.limits e.now c.args.me (held.0 ∷ []) c.args.single) (signal_phase e.now c.args.me) signal.NoTask
-    (c.in-Err-answer.ensures.refused e.now held.0 before.stands held.1 ∙ ap Err is))

@@ -1,7 +1,8 @@
-use Rattle.std.proofs.Common.{◌≡◌, Err, true, false, sym, subst, ap, refl, ◌∙◌}
+use Rattle.std.proofs.Common.{◌≡◌, [], ◌∷◌, Some, Err, true, false, sym, subst, ap, refl, ◌∙◌, rules}
 use Rattle.std.specs.Prelude.{Result, is_some}
 use Rattle.phase_seats.specs.LockedPhasers.{locked_terms}
 use Rattle.turn_lock.specs.Seats.{seat_view, turn_view, turn_value, turn_number}
+use Rattle.phase_base.specs.declared.entry.Entry.{Entry}
 use Rattle.phase_history.specs.declared.got.Got.{Got}
 use Rattle.phase_history.specs.declared.refusal.WaitRefusal.{WaitRefusal}
 use Rattle.phase_history.specs.declared.refusal.WaitRefusal.TheVariants as wait
@@ -10,7 +11,7 @@ use Rattle.phase_history.specs.Refusals.{wait_refusal}
 use Rattle.phase_history.specs.Replies.{got_at, wait_reply, after_wait}
 use Rattle.phase_history.proofs.Answered.{wait_refusal-never}
 use Rattle.phase_seats.specs.Views.{resting, known_of, speaks_of}
-use Rattle.phase_seats.specs.Rule.{StandsWithin}
+use Rattle.phase_seats.specs.Rule.{StandsWithin, IsSeatOfTask}
 use Rattle.phase_seats.specs.Calls.{Waits}
 use Rattle.phase_seats.specs.declared.view.View.{View}
 use Rattle.phase_seats.proofs.Answering.{refused_is}
@@ -19,7 +20,7 @@ use Rattle.std.specs.Result.{result_ok}
 use Rattle.phase_seats.specs.Entries.{entry_after_wait}
 use Rattle.phase_seats.proofs.WaitSteps.{own_wait, keeps_wait, member_after_wait, member_waits}
 use Rattle.phase_seats.proofs.steps.wait.Given.{Over}
-use Rattle.phase_seats.proofs.steps.wait.Goals.{After-wait-answer}
+use Rattle.phase_seats.proofs.steps.wait.Goals.{After-wait-answer, After-put_back-seat}
 use Rattle.phase_seats.proofs.steps.wait.Goals as goal
 
 -- the phaser under the turn stood for what was seen
@@ -62,96 +63,93 @@ put_back-seat-requires-clause-rule g c =
     (turn_number turn) new (turn_view turn) e.now (after_wait answer c.args.me e.now) e.is e.used
     (own_wait c.args.me e.now e.now answer (own_none c.args.me e.now)) s.good s.stands refl
 
-pub returns-in-Ok-answer-clause-at : goal.returns-in-Ok-answer-clause-at
-returns-in-Ok-answer-clause-at g c =
-    let op = g.A.Accumulate.operation in
-    let allows = g.K.SignalRule.allows in
-    let terms = locked_terms c.args.phaser.now in
-    let e = c.in-Ok.ensures.took in
-    let answer = c.wait-answer.result in
-    let new = c.wait-answer.new.self in
-    let s = left g (goal.at.returns-in-Ok-answer-clause-at g c).After-wait-answer in
-    station op allows terms c.args.me c.in-Some.entry (seat_view c.put_back-seat.result) (after_wait answer c.args.me e.now) new c.view.result
-    (c.put_back-seat.ensures.rule ∙ ap (λ (v : View). resting (after_wait answer c.args.me (known_of v).seen) (speaks_of v)) e.is)
-    s.good s.stands c.view.ensures c.in-Some.is
+-- what the seat has seen then
+rested : (g : Over) (c : After-put_back-seat g) → seat_view c.put_back-seat.result
+    ≡ resting (after_wait c.wait-answer.result c.args.me c.in-Ok.ensures.took.now) (c.args.me ∷ [])
+rested g c =
+    c.put_back-seat.ensures.rule
+    ∙ ap (λ (v : View). resting (after_wait c.wait-answer.result c.args.me (known_of v).seen) (speaks_of v)) c.in-Ok.ensures.took.is
 
-pub returns-in-Err-answer-clause-at : goal.returns-in-Err-answer-clause-at
-returns-in-Err-answer-clause-at g c =
+-- the wait and its answer
+waited : (g : Over) (c : After-put_back-seat g)
+    → StandsWithin g.A.Accumulate.operation (locked_terms c.args.phaser.now).limits c.value-core.result.now c.in-Ok.ensures.took.now
+    → Waits g.A.Accumulate.operation.value (locked_terms c.args.phaser.now).limits c.args.me (known_of (seat_view c.args.seat)).seen
+    (known_of (seat_view c.put_back-seat.result)).seen c.wait-answer.result
+waited g c before =
     let op = g.A.Accumulate.operation in
-    let allows = g.K.SignalRule.allows in
-    let terms = locked_terms c.args.phaser.now in
     let e = c.in-Ok.ensures.took in
-    let answer = c.wait-answer.result in
-    let new = c.wait-answer.new.self in
-    let s = left g (goal.at.returns-in-Err-answer-clause-at g c).After-wait-answer in
-    station op allows terms c.args.me c.in-Some.entry (seat_view c.put_back-seat.result) (after_wait answer c.args.me e.now) new c.view.result
-    (c.put_back-seat.ensures.rule ∙ ap (λ (v : View). resting (after_wait answer c.args.me (known_of v).seen) (speaks_of v)) e.is)
-    s.good s.stands c.view.ensures c.in-Some.is
-
-pub returns-in-Ok-answer-clause-call : goal.returns-in-Ok-answer-clause-call
-returns-in-Ok-answer-clause-call g c =
-    let op = g.A.Accumulate.operation in
-    let terms = locked_terms c.args.phaser.now in
-    let e = c.in-Ok.ensures.took in
-    let before = stood g (goal.at.returns-in-Ok-answer-clause-call g c).After-wait-answer in
-    let answer = c.wait-answer.result in
-    let P : Result Got WaitRefusal → Type 0 = λ r. Waits op.value terms.limits c.args.me (known_of (seat_view c.args.seat)).seen (known_of (seat_view c.put_back-seat.result)).seen r in
-    subst P c.in-Ok-answer.is (record {
+    record {
       before = e.now;
       others = e.others;
-      seen = ap (λ (v : View). (known_of v).seen) c.put_back-seat.ensures.rule ∙ ap (λ (v : View). after_wait answer c.args.me (known_of v).seen) e.is;
+      seen = ap (λ (v : View). (known_of v).seen) (rested g c);
       reply = ap (λ l. wait_reply op.value l e.now c.args.me) (sym before.limits_are) ∙ c.wait-answer.ensures.reply e.now before.stands;
-    })
+    }
 
-pub returns-in-Err-answer-clause-call : goal.returns-in-Err-answer-clause-call
-returns-in-Err-answer-clause-call g c =
-    let op = g.A.Accumulate.operation in
-    let terms = locked_terms c.args.phaser.now in
-    let e = c.in-Ok.ensures.took in
-    let before = stood g (goal.at.returns-in-Err-answer-clause-call g c).After-wait-answer in
-    let answer = c.wait-answer.result in
-    let P : Result Got WaitRefusal → Type 0 = λ r. Waits op.value terms.limits c.args.me (known_of (seat_view c.args.seat)).seen (known_of (seat_view c.put_back-seat.result)).seen r in
-    subst P c.in-Err-answer.is (record {
-      before = e.now;
-      others = e.others;
-      seen = ap (λ (v : View). (known_of v).seen) c.put_back-seat.ensures.rule ∙ ap (λ (v : View). after_wait answer c.args.me (known_of v).seen) e.is;
-      reply = ap (λ l. wait_reply op.value l e.now c.args.me) (sym before.limits_are) ∙ c.wait-answer.ensures.reply e.now before.stands;
-    })
-
-pub returns-in-Ok-answer-clause-entry : goal.returns-in-Ok-answer-clause-entry
-returns-in-Ok-answer-clause-entry g c =
+-- where the task stands then
+stands : (g : Over) (c : After-put_back-seat g) → (entry : Entry) → c.view.result ≡ Some entry
+    → AfterCall g.A.Accumulate.operation g.K.SignalRule.allows (locked_terms c.args.phaser.now) c.args.me
+    (after_wait c.wait-answer.result c.args.me c.in-Ok.ensures.took.now) c.wait-answer.new.self
+    → IsSeatOfTask g.K.SignalRule.allows (locked_terms c.args.phaser.now) c.args.me entry (seat_view c.put_back-seat.result)
+    × (entry ≡ entry_after_wait (result_ok c.wait-answer.result) c.args.entry)
+stands g c entry is s =
     let op = g.A.Accumulate.operation in
     let allows = g.K.SignalRule.allows in
     let terms = locked_terms c.args.phaser.now in
     let e = c.in-Ok.ensures.took in
     let answer = c.wait-answer.result in
-    let new = c.wait-answer.new.self in
-    let s = left g (goal.at.returns-in-Ok-answer-clause-entry g c).After-wait-answer in
-    told_entry op allows terms c.args.me c.in-Some.entry (entry_after_wait (result_ok answer) c.args.entry) (after_wait answer c.args.me e.now) new c.view.result
-    s.stands c.view.ensures c.in-Some.is (member_waits c.args.me e.now c.args.entry answer e.member)
-    ∙ ap (λ r. entry_after_wait (result_ok r) c.args.entry) c.in-Ok-answer.is
+    let new = c.wait-answer.new.self in (
+      station op allows terms c.args.me entry (seat_view c.put_back-seat.result) (after_wait answer c.args.me e.now) new c.view.result
+          (rested g c) s.good s.stands c.view.ensures is,
+      told_entry op allows terms c.args.me entry (entry_after_wait (result_ok answer) c.args.entry) (after_wait answer c.args.me e.now) new c.view.result
+          s.stands c.view.ensures is (member_waits c.args.me e.now c.args.entry answer e.member),
+    )
 
-pub returns-in-Err-answer-clause-entry : goal.returns-in-Err-answer-clause-entry
-returns-in-Err-answer-clause-entry g c =
+-- the turn was another's
+pub returns-in-Err-clause-step : goal.returns-in-Err-clause-step
+returns-in-Err-clause-step g c = record {
+  call = (c.in-Err.ensures.err, refl);
+  at = c.in-Err.ensures.still;
+  entry_is = refl;
+  known = search rules;
+  alone = λ only. absurd (let z : false ≡ true = c.in-Err.ensures.alone only in cc);
+}
+
+pub returns-in-Ok-answer-clause-step : goal.returns-in-Ok-answer-clause-step
+returns-in-Ok-answer-clause-step g c =
+    let at = goal.at.returns-in-Ok-answer-clause-step g c in
+    let terms = locked_terms c.args.phaser.now in
+    let before = stood g at.After-wait-answer in
+    let there = stands g at.After-put_back-seat c.in-Some.entry c.in-Some.is (left g at.After-wait-answer) in
+    let P : Result Got WaitRefusal → Type 0 = λ r. Waits g.A.Accumulate.operation.value terms.limits c.args.me (known_of (seat_view c.args.seat)).seen
+    (known_of (seat_view c.put_back-seat.result)).seen r in
+    record {
+      call = subst P c.in-Ok-answer.is (waited g at.After-put_back-seat before);
+      at = there.0;
+      entry_is = there.1 ∙ ap (λ r. entry_after_wait (result_ok r) c.args.entry) c.in-Ok-answer.is;
+      known = search rules;
+      alone = search rules;
+    }
+
+pub returns-in-Err-answer-clause-step : goal.returns-in-Err-answer-clause-step
+returns-in-Err-answer-clause-step g c =
+    let at = goal.at.returns-in-Err-answer-clause-step g c in
     let op = g.A.Accumulate.operation in
-    let allows = g.K.SignalRule.allows in
     let terms = locked_terms c.args.phaser.now in
     let e = c.in-Ok.ensures.took in
-    let answer = c.wait-answer.result in
-    let new = c.wait-answer.new.self in
-    let s = left g (goal.at.returns-in-Err-answer-clause-entry g c).After-wait-answer in
-    told_entry op allows terms c.args.me c.in-Some.entry (entry_after_wait (result_ok answer) c.args.entry) (after_wait answer c.args.me e.now) new c.view.result
-    s.stands c.view.ensures c.in-Some.is (member_waits c.args.me e.now c.args.entry answer e.member)
-    ∙ ap (λ r. entry_after_wait (result_ok r) c.args.entry) c.in-Err-answer.is
-
--- the task is registered
-pub returns-in-Err-answer-clause-known : goal.returns-in-Err-answer-clause-known
-returns-in-Err-answer-clause-known g c none =
-    let op = g.A.Accumulate.operation in
-    let e = c.in-Ok.ensures.took in
-    let before = stood g (goal.at.returns-in-Err-answer-clause-known g c).After-wait-answer in
     let old = c.value-core.result.now in
-    let is : c.in-Err-answer.refusal ≡ wait.NoTask = cc in
-    wait_refusal-never old.limits e.now c.args.me 1 (ap is_some e.member)
-    (refused_is (wait_refusal old.limits e.now c.args.me 1) (got_at op.value e.now (wait_phase e.now c.args.me)) wait.NoTask
-    (c.wait-answer.ensures.reply e.now before.stands ∙ c.in-Err-answer.is ∙ ap Err is))
+    let before = stood g at.After-wait-answer in
+    let there = stands g at.After-put_back-seat c.in-Some.entry c.in-Some.is (left g at.After-wait-answer) in
+    let P : Result Got WaitRefusal → Type 0 = λ r. Waits op.value terms.limits c.args.me (known_of (seat_view c.args.seat)).seen
+    (known_of (seat_view c.put_back-seat.result)).seen r in
+    record {
+      call = subst P c.in-Err-answer.is (waited g at.After-put_back-seat before);
+      at = there.0;
+      entry_is = there.1 ∙ ap (λ r. entry_after_wait (result_ok r) c.args.entry) c.in-Err-answer.is;
+      -- the task is registered
+      known = λ none.
+          let is : c.in-Err-answer.refusal ≡ wait.NoTask = cc in
+          wait_refusal-never old.limits e.now c.args.me 1 (ap is_some e.member)
+          (refused_is (wait_refusal old.limits e.now c.args.me 1) (got_at op.value e.now (wait_phase e.now c.args.me)) wait.NoTask
+          (c.wait-answer.ensures.reply e.now before.stands ∙ c.in-Err-answer.is ∙ ap Err is));
+      alone = search rules;
+    }

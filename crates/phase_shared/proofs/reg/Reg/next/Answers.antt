@@ -5,11 +5,13 @@ use Rattle.phase_base.specs.Modes.{mode_signals, mode_waits}
 use Rattle.phase_base.specs.Members.{entry_of, signalled}
 use Rattle.phase_history.specs.declared.got.Got.{Got}
 use Rattle.phase_history.specs.Histories.{History, members_of}
-use Rattle.phase_history.specs.Legal.{IsLegal}
-use Rattle.phase_shared.specs.Regs.{phaser_limits}
+use Rattle.phase_shared.specs.Regs.{RegState, phaser_limits}
 use Rattle.phase_shared.specs.Calls.{Signals, Waits}
 use Rattle.phase_shared.specs.Nexts.{SignalsAndMayWait, HasSignalledAndMayWait}
 use Rattle.phase_shared.proofs.NextSteps.{waits_else, signalled_member, signalled_apart, made, not_made, is_none, MadeWait, not_asked, answered, unanswered}
+use Rattle.phase_base.specs.Limits.{Limits}
+use Rattle.phase_shared.proofs.reg.Reg.next.Given.{Over}
+use Rattle.phase_shared.proofs.reg.Reg.next.Goals.{After-mode-mode}
 use Rattle.phase_shared.proofs.reg.Reg.next.Goals as goal
 use Rattle.phase_shared.proofs.reg.Reg.next.Goals.{then-not-waits-via-then-not-waits, then-not-waits-via-else-not-waits+then-is_some-2}
 
@@ -48,7 +50,7 @@ returns-then-not-waits-clause-call g c =
     let phase = c.in-Ok.answer.0 in
     let got = c.in-Ok.answer.1 in
     let both : HasSignalledAndMayWait asked op limits old.number old.held c.args.single old.seen new.seen c.in-Ok.answer =
-    subst (λ r. SignalsAndMayWait asked op limits old.number old.held c.args.single old.seen new.seen r) c.in-Ok.is c.signal_and_wait.ensures.call in
+    subst (λ r. SignalsAndMayWait asked op limits old.number old.held c.args.single old.seen new.seen r) c.in-Ok.is c.signal_and_wait.ensures.call.call in
     let signals : mode_signals old.entry.mode ≡ true = ap mode_signals (sym c.mode.ensures.value) ∙ sym c.signals.ensures ∙ c.if-not-signals.false in
     let waits : asked ≡ mode_waits old.entry.mode = c.waits-waits.ensures ∙ ap mode_waits c.mode-2.ensures.value in
     record {
@@ -71,86 +73,74 @@ returns-then-not-waits-clause-call g c =
       known = search rules;
     }
 
+-- a task that has signalled, and has no value yet
+module _ (g : Over) (c : After-mode-mode g) where
+  abbrev old : RegState g.row.A.Denot g.row.K.Denot
+  old = c.args.self.now
+
+  abbrev new : RegState g.row.A.Denot g.row.K.Denot
+  new = c.signal_and_wait.new.self
+
+  abbrev limits : Limits
+  limits = phaser_limits c.args.phaser.now
+
+  signals : mode_signals c.args.self.now.entry.mode ≡ true
+  signals = ap mode_signals (sym c.mode.ensures.value) ∙ sym c.signals.ensures ∙ c.if-not-signals.false
+
+  waits : mode_waits c.args.self.now.entry.mode ≡ true
+  waits = sym (c.waits-waits.ensures ∙ ap mode_waits c.mode-2.ensures.value) ∙ c.if-not-waits.false
+
+  signal : Signals g.A.Accumulate.operation limits old.number old.held c.args.single old.seen new.seen (Ok c.in-Ok.answer.0)
+  signal =
+      let op = g.A.Accumulate.operation in
+      let asked = c.waits-waits.result in
+      let both : HasSignalledAndMayWait asked op limits old.number old.held c.args.single old.seen new.seen c.in-Ok.answer =
+      subst (λ r. SignalsAndMayWait asked op limits old.number old.held c.args.single old.seen new.seen r) c.in-Ok.is c.signal_and_wait.ensures.call.call in
+      let none : is_some c.in-Ok.answer.1 ≡ false = sym c.is_some-else-not-waits.ensures ∙ c.if-is_some-2.false in
+      let last : new.seen ≡ both.middle = unanswered op.value limits old.number both.middle new.seen asked c.in-Ok.answer.1 none both.waits in
+      subst (λ (h : History). Signals op limits old.number old.held c.args.single old.seen h (Ok c.in-Ok.answer.0)) (sym last) both.signals
+
+  entry_is : new.entry ≡ signalled 1 old.entry
+  entry_is =
+      let there : entry_of (members_of new.seen) old.number ≡ Some new.entry =
+      subst (λ n. entry_of (members_of new.seen) n ≡ Some new.entry) c.signal_and_wait.ensures.call.at.1 c.mode-mode.ensures.entry in
+      signalled_member limits old.number old.entry new.entry old.seen signal.before new.seen c.args.single signal.sends signal.others signal.seen
+      c.signal_and_wait.ensures.call.good.legal c.mode.ensures.entry there
+
 -- a task that waits is one after its signal
 pub wait_in_turn-got-requires-2-clause-waits : goal.wait_in_turn-got-requires-2-clause-waits
 wait_in_turn-got-requires-2-clause-waits g c =
-    let old = c.args.self.now in
-    let new = c.signal_and_wait.new.self in
-    let limits = phaser_limits c.args.phaser.now in
-    let op = g.A.Accumulate.operation in
-    let asked = c.waits-waits.result in
-    let phase = c.in-Ok.answer.0 in
-    let got = c.in-Ok.answer.1 in
-    let both : HasSignalledAndMayWait asked op limits old.number old.held c.args.single old.seen new.seen c.in-Ok.answer =
-    subst (λ r. SignalsAndMayWait asked op limits old.number old.held c.args.single old.seen new.seen r) c.in-Ok.is c.signal_and_wait.ensures.call in
-    let signals : mode_signals old.entry.mode ≡ true = ap mode_signals (sym c.mode.ensures.value) ∙ sym c.signals.ensures ∙ c.if-not-signals.false in
-    let waits : asked ≡ mode_waits old.entry.mode = c.waits-waits.ensures ∙ ap mode_waits c.mode-2.ensures.value in
-    let none : is_some got ≡ false = sym c.is_some-else-not-waits.ensures ∙ c.if-is_some-2.false in
-    let last : new.seen ≡ both.middle = unanswered op.value limits old.number both.middle new.seen asked got none both.waits in
-    let s : Signals op limits old.number old.held c.args.single old.seen new.seen (Ok phase) =
-    subst (λ (h : History). Signals op limits old.number old.held c.args.single old.seen h (Ok phase)) (sym last) both.signals in
-    let legal : IsLegal limits new.seen = c.signal_and_wait.ensures.good.legal in
-    let there : entry_of (members_of new.seen) old.number ≡ Some new.entry =
-    subst (λ n. entry_of (members_of new.seen) n ≡ Some new.entry) c.signal_and_wait.ensures.at.1 c.mode-mode.ensures.entry in
-    let is : new.entry ≡ signalled 1 old.entry =
-    signalled_member limits old.number old.entry new.entry old.seen s.before new.seen c.args.single s.sends s.others s.seen legal c.mode.ensures.entry there in
-    ap (λ (e : Entry). mode_waits e.mode) is ∙ sym waits ∙ c.if-not-waits.false
+    let at = (goal.at.wait_in_turn-got-requires-2-clause-waits g c).After-mode-mode in
+    ap (λ (e : Entry). mode_waits e.mode) (entry_is g at) ∙ waits g at
 
 -- it has signalled
 pub wait_in_turn-got-requires-2-clause-signalled : goal.wait_in_turn-got-requires-2-clause-signalled
 wait_in_turn-got-requires-2-clause-signalled g c signals' same =
-    let old = c.args.self.now in
-    let new = c.signal_and_wait.new.self in
-    let limits = phaser_limits c.args.phaser.now in
-    let op = g.A.Accumulate.operation in
-    let asked = c.waits-waits.result in
-    let phase = c.in-Ok.answer.0 in
-    let got = c.in-Ok.answer.1 in
-    let both : HasSignalledAndMayWait asked op limits old.number old.held c.args.single old.seen new.seen c.in-Ok.answer =
-    subst (λ r. SignalsAndMayWait asked op limits old.number old.held c.args.single old.seen new.seen r) c.in-Ok.is c.signal_and_wait.ensures.call in
-    let signals : mode_signals old.entry.mode ≡ true = ap mode_signals (sym c.mode.ensures.value) ∙ sym c.signals.ensures ∙ c.if-not-signals.false in
-    let waits : asked ≡ mode_waits old.entry.mode = c.waits-waits.ensures ∙ ap mode_waits c.mode-2.ensures.value in
-    let none : is_some got ≡ false = sym c.is_some-else-not-waits.ensures ∙ c.if-is_some-2.false in
-    let last : new.seen ≡ both.middle = unanswered op.value limits old.number both.middle new.seen asked got none both.waits in
-    let s : Signals op limits old.number old.held c.args.single old.seen new.seen (Ok phase) =
-    subst (λ (h : History). Signals op limits old.number old.held c.args.single old.seen h (Ok phase)) (sym last) both.signals in
-    let legal : IsLegal limits new.seen = c.signal_and_wait.ensures.good.legal in
-    let there : entry_of (members_of new.seen) old.number ≡ Some new.entry =
-    subst (λ n. entry_of (members_of new.seen) n ≡ Some new.entry) c.signal_and_wait.ensures.at.1 c.mode-mode.ensures.entry in
-    let is : new.entry ≡ signalled 1 old.entry =
-    signalled_member limits old.number old.entry new.entry old.seen s.before new.seen c.args.single s.sends s.others s.seen legal c.mode.ensures.entry there in
-    signalled_apart limits old.number old.entry new.entry old.seen s.before new.seen c.args.single s.sends s.others s.seen legal c.mode.ensures.entry is
-    signals (sym waits ∙ c.if-not-waits.false) same
+    let at = (goal.at.wait_in_turn-got-requires-2-clause-signalled g c).After-mode-mode in
+    let s = signal g at in
+    signalled_apart (limits g at) c.args.self.now.number c.args.self.now.entry c.signal_and_wait.new.self.entry c.args.self.now.seen s.before
+    c.signal_and_wait.new.self.seen c.args.single s.sends s.others s.seen c.signal_and_wait.ensures.call.good.legal c.mode.ensures.entry (entry_is g at)
+    (signals g at) (waits g at) same
 
 -- a task that gets its value later
 pub returns-clause-call : goal.returns-clause-call
 returns-clause-call g c =
+    let at = (goal.at.returns-clause-call g c).After-mode-mode in
     let old = c.args.self.now in
     let new = c.signal_and_wait.new.self in
     let limits = phaser_limits c.args.phaser.now in
     let op = g.A.Accumulate.operation in
-    let asked = c.waits-waits.result in
-    let phase = c.in-Ok.answer.0 in
-    let got = c.in-Ok.answer.1 in
-    let both : HasSignalledAndMayWait asked op limits old.number old.held c.args.single old.seen new.seen c.in-Ok.answer =
-    subst (λ r. SignalsAndMayWait asked op limits old.number old.held c.args.single old.seen new.seen r) c.in-Ok.is c.signal_and_wait.ensures.call in
-    let signals : mode_signals old.entry.mode ≡ true = ap mode_signals (sym c.mode.ensures.value) ∙ sym c.signals.ensures ∙ c.if-not-signals.false in
-    let waits : asked ≡ mode_waits old.entry.mode = c.waits-waits.ensures ∙ ap mode_waits c.mode-2.ensures.value in
-    let none : is_some got ≡ false = sym c.is_some-else-not-waits.ensures ∙ c.if-is_some-2.false in
-    let last : new.seen ≡ both.middle = unanswered op.value limits old.number both.middle new.seen asked got none both.waits in
-    let s : Signals op limits old.number old.held c.args.single old.seen new.seen (Ok phase) =
-    subst (λ (h : History). Signals op limits old.number old.held c.args.single old.seen h (Ok phase)) (sym last) both.signals in
     let last = c.wait_in_turn-got-2.new.self.seen in
     let got = c.wait_in_turn-got-2.result in
     record {
       call = record {
         middle = new.seen;
         signals = made (mode_signals old.entry.mode) (λ (phase : ℕ). Signals op limits old.number old.held c.args.single old.seen new.seen (Ok phase))
-            (new.seen ≡ old.seen) phase signals s;
+            (new.seen ≡ old.seen) c.in-Ok.answer.0 (signals g at) (signal g at);
         waits = made (mode_waits old.entry.mode) (λ (got : Got). Waits op.value limits old.number new.seen last (Ok got)) (last ≡ new.seen) got
-            (sym waits ∙ c.if-not-waits.false)
-            (subst (λ n. Waits op.value limits n new.seen last (Ok got)) c.signal_and_wait.ensures.at.1 c.wait_in_turn-got-2.ensures.call);
-        named = λ none. absurd (let z : true ≡ false = sym signals ∙ none in cc);
+            (waits g at)
+            (subst (λ n. Waits op.value limits n new.seen last (Ok got)) c.signal_and_wait.ensures.call.at.1 c.wait_in_turn-got-2.ensures.call);
+        named = λ none. absurd (let z : true ≡ false = sym (signals g at) ∙ none in cc);
       };
       entry = search rules;
       mode = search rules;

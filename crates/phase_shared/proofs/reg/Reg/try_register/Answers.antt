@@ -6,7 +6,7 @@ use Rattle.phase_history.specs.declared.refusal.RegisterRefusal.TheVariants as r
 use Rattle.phase_history.specs.Histories.{entry_at}
 use Rattle.phase_history.specs.Others.{OnlyUsed}
 use Rattle.phase_seats.specs.Views.{known_of}
-use Rattle.phase_seats.specs.Rule.{IsSeatOfTask}
+use Rattle.phase_seats.specs.Steps.{HasChild}
 use Rattle.phase_shared.specs.Calls.{Refuses, HasRegistered, RefusesRegister}
 use Rattle.phase_shared.specs.Regs.{RegState, reg_state, phaser_place, phaser_terms}
 use Rattle.phase_seats.proofs.Answering.{Refuses-map}
@@ -46,13 +46,11 @@ invariant_of-self-2 g c =
 
 -- the child's seat, and where it stands
 new_child : (g : Over) (c : In-Ok g) → IsSeatAt (phaser_place c.args.phaser.now) c.in-Ok.made.1
-    × IsSeatOfTask g.K.SignalRule.allows (phaser_terms c.args.phaser.now) c.in-Ok.made.0 c.in-Ok.made.2 (seat_view c.in-Ok.made.1)
-    × ((known_of (seat_view c.in-Ok.made.1)).seen ≡ (known_of (seat_view c.register-seat.result.0)).seen)
-    × (c.in-Ok.made.2 ≡ entry_at c.args.mode c.self.inside.entry.signal_phase c.self.inside.entry.wait_phase)
+    × HasChild g.K.SignalRule.allows (phaser_terms c.args.phaser.now) c.self.inside.number c.in-Ok.made.0 c.args.mode c.self.inside.entry c.in-Ok.made.2
+    (seat_view c.in-Some.seat) (seat_view c.register-seat.result.0) (seat_view c.in-Ok.made.1)
 new_child g c = subst (λ r. IfOk r (λ m. IsSeatAt (phaser_place c.args.phaser.now) m.1
-    × IsSeatOfTask g.K.SignalRule.allows (phaser_terms c.args.phaser.now) m.0 m.2 (seat_view m.1)
-    × ((known_of (seat_view m.1)).seen ≡ (known_of (seat_view c.register-seat.result.0)).seen)
-    × (m.2 ≡ entry_at c.args.mode c.self.inside.entry.signal_phase c.self.inside.entry.wait_phase))) c.in-Ok.is c.register-seat.ensures.child
+    × HasChild g.K.SignalRule.allows (phaser_terms c.args.phaser.now) c.self.inside.number m.0 c.args.mode c.self.inside.entry m.2
+    (seat_view c.in-Some.seat) (seat_view c.register-seat.result.0) (seat_view m.1))) c.in-Ok.is c.register-seat.ensures.ok
 
 pub invariant_of-result : goal.invariant_of-result
 invariant_of-result g c =
@@ -60,7 +58,7 @@ invariant_of-result g c =
     let terms = phaser_terms c.args.phaser.now in
     let made = c.in-Ok.made in
     let child = new_child g (goal.at.invariant_of-result g c).In-Ok in
-    closed g.K.SignalRule.allows p.0 terms made.0 made.2 made.1 child.0 child.1
+    closed g.K.SignalRule.allows p.0 terms made.0 made.2 made.1 child.0 child.1.at
 
 same_err : {A E : Type 0} (x y : E) → ◌≡◌ {A = Result A E} (Err x) (Err y) → x ≡ y
 same_err x y e = cc
@@ -79,10 +77,10 @@ returns-clause-call g c =
     let P : RegState g.row.A.Denot g.row.K.Denot → Type 0 = λ r. HasRegistered r.number made.0 c.args.mode r.seen new in
     record {
       call = record {
-        registered = subst P is (subst (λ r. IfOk r (λ m. HasRegistered inside.number m.0 c.args.mode (known_of (seat_view c.in-Some.seat)).seen new)) c.in-Ok.is c.register-seat.ensures.ok);
+        registered = subst P is child.1.registered;
         at = child.0 ∙ sym c.requires.at;
-        seen = child.2;
-        entry = child.3 ∙ ap (λ r. entry_at c.args.mode r.entry.signal_phase r.entry.wait_phase) is;
+        seen = child.1.seen;
+        entry = child.1.start_is ∙ ap (λ r. entry_at c.args.mode r.entry.signal_phase r.entry.wait_phase) is;
         none_held = search rules;
       };
       entry = ap (λ r. r.entry) is;

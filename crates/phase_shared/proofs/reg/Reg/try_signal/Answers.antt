@@ -1,8 +1,10 @@
 use Rattle.std.proofs.Common.{◌≡◌, false, subst, ap, ◌∙◌, rules}
+use Rattle.std.specs.Result.{result_ok}
+use Rattle.phase_base.specs.Members.{signalled}
 use Rattle.phase_shared.specs.Regs.{phaser_limits}
 use Rattle.phase_shared.specs.Calls.{Tries}
+use Rattle.phase_shared.specs.Entries.{entry_after_both}
 use Rattle.phase_shared.specs.Nexts.{SignalsAndMayWait, HasSignalledAndMayWait}
-use Rattle.phase_base.specs.Members.{signalled}
 use Rattle.phase_shared.proofs.Later.{signals_alone, entry_alone}
 use Rattle.phase_shared.proofs.reg.Reg.try_signal.Goals as goal
 
@@ -12,17 +14,17 @@ returns-in-Ok-clause-call g c =
     let limits = phaser_limits c.args.phaser.now in
     let old = c.args.self.now in
     let new = c.try_signal_and_wait.new.self in
+    let t = c.try_signal_and_wait.ensures.call in
     let call = SignalsAndMayWait false op limits old.number old.held c.args.single old.seen new.seen in
     let s : HasSignalledAndMayWait false op limits old.number old.held c.args.single old.seen new.seen c.in-Ok.answer =
-    subst (λ r. Tries (new ≡ old) call r) c.in-Ok.is c.try_signal_and_wait.ensures.call in
-    let entry : new.entry ≡ signalled 1 old.entry =
-    c.in-Ok.ensures.entry ∙ entry_alone op.value limits old.number s.middle new.seen c.in-Ok.answer.1 (signalled 1 old.entry) s.waits in
+    subst (λ r. Tries (new ≡ old) call r) c.in-Ok.is t.call in
     record {
       call = signals_alone op limits old.number old.held c.args.single old.seen new.seen c.in-Ok.answer s;
-      entry = entry;
-      mode = ap (λ e. e.mode) entry;
-      at = c.try_signal_and_wait.ensures.at;
-      good = c.try_signal_and_wait.ensures.good;
+      entry = t.entry ∙ ap (λ r. entry_after_both (result_ok r) old.entry) c.in-Ok.is
+          ∙ entry_alone op.value limits old.number s.middle new.seen c.in-Ok.answer.1 (signalled 1 old.entry) s.waits;
+      mode = t.mode;
+      at = t.at;
+      good = t.good;
       known = search rules;
       alone = search rules;
     }
@@ -33,13 +35,14 @@ returns-in-Err-clause-call g c =
     let limits = phaser_limits c.args.phaser.now in
     let old = c.args.self.now in
     let new = c.try_signal_and_wait.new.self in
+    let t = c.try_signal_and_wait.ensures.call in
     let call = SignalsAndMayWait false op limits old.number old.held c.args.single old.seen new.seen in
     record {
-      call = subst (λ r. Tries (new ≡ old) call r) c.in-Err.is c.try_signal_and_wait.ensures.call;
-      entry = c.in-Err.ensures.entry;
-      mode = ap (λ e. e.mode) c.in-Err.ensures.entry;
-      at = c.try_signal_and_wait.ensures.at;
-      good = c.try_signal_and_wait.ensures.good;
+      call = subst (λ r. Tries (new ≡ old) call r) c.in-Err.is t.call;
+      entry = t.entry ∙ ap (λ r. entry_after_both (result_ok r) old.entry) c.in-Err.is;
+      mode = t.mode;
+      at = t.at;
+      good = t.good;
       known = search rules;
       alone = search rules;
     }

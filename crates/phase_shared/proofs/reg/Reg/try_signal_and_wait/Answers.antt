@@ -1,14 +1,19 @@
-use Rattle.std.proofs.Common.{◌≡◌, ℕ, Option, Some, Ok, Err, true, false, sym, subst, ap, ◌∙◌}
-use Rattle.std.specs.Prelude.{is_some, Result}
-use Rattle.turn_lock.specs.Seats.{seat_view, IsSameSeat}
-use Rattle.phase_seats.specs.Views.{known_of}
-use Rattle.phase_shared.specs.Regs.{RegState, reg_state, phaser_place, phaser_terms, phaser_limits}
+use Rattle.std.proofs.Common.{◌≡◌, ℕ, Option, Some, None, true, false, refl, sym, subst, ap, ◌∙◌}
+use Rattle.std.specs.Prelude.{is_some, Result, IsErr}
+use Rattle.phase_base.specs.declared.entry.Entry.{Entry}
+use Rattle.phase_accum.specs.Parcels.{Parcel}
 use Rattle.phase_history.specs.declared.got.Got.{Got}
-use Rattle.phase_shared.specs.Calls.{Tries, MaySignal}
-use Rattle.phase_shared.specs.Nexts.{SignalsAndMayWait}
 use Rattle.phase_history.specs.declared.refusal.SignalRefusal.{SignalRefusal}
-use Rattle.phase_seats.proofs.Answering.{Tries-map}
-use Rattle.phase_shared.proofs.Opening.{opened, closed, same_reg, reg_is}
+use Rattle.phase_history.specs.declared.refusal.SignalRefusal.TheVariants.{NoTask}
+use Rattle.phase_seats.specs.declared.rule.Terms.{Terms}
+use Rattle.phase_seats.specs.declared.tried.Tried.{Tried}
+use Rattle.phase_shared.specs.Regs.{RegState, reg_state, phaser_place, phaser_terms}
+use Rattle.phase_shared.specs.Calls.{IsTry, Tries, MaySignal}
+use Rattle.phase_shared.specs.Entries.{entry_after_both}
+use Rattle.phase_shared.specs.Nexts.{SignalsAndMayWait}
+use Rattle.phase_shared.proofs.Opening.{opened, closed, reg_is, is_try}
+use Rattle.phase_shared.proofs.reg.Reg.try_signal_and_wait.Given.{Over}
+use Rattle.phase_shared.proofs.reg.Reg.try_signal_and_wait.Goals.{After-signal-seat}
 use Rattle.phase_shared.proofs.reg.Reg.try_signal_and_wait.Goals as goal
 
 pub unreachable-requires : goal.unreachable-requires
@@ -34,50 +39,51 @@ invariant_of-self g c =
     let p = phaser_place c.args.phaser.now in
     let terms = phaser_terms c.args.phaser.now in
     let inside = c.self.inside in
-    closed g.K.SignalRule.allows p.0 terms inside.number c.signal-seat.result.1 c.signal-seat.result.0 c.signal-seat.ensures.seat c.signal-seat.ensures.at
+    closed g.K.SignalRule.allows p.0 terms inside.number c.signal-seat.result.1 c.signal-seat.result.0 c.signal-seat.ensures.seat c.signal-seat.ensures.step.at
 
 pub invariant_of-self-in-Err : goal.invariant_of-self-in-Err
 invariant_of-self-in-Err g c =
     let p = phaser_place c.args.phaser.now in
     let terms = phaser_terms c.args.phaser.now in
     let inside = c.self.inside in
-    closed g.K.SignalRule.allows p.0 terms inside.number c.signal-seat.result.1 c.signal-seat.result.0 c.signal-seat.ensures.seat c.signal-seat.ensures.at
+    closed g.K.SignalRule.allows p.0 terms inside.number c.signal-seat.result.1 c.signal-seat.result.0 c.signal-seat.ensures.seat c.signal-seat.ensures.step.at
+
+-- where a task stands after both, its mode is the same
+mode_stays : (answer : Option (ℕ × Option Got)) (entry : Entry) → (entry_after_both answer entry).mode ≡ entry.mode
+mode_stays None entry = refl
+mode_stays (Some answer) entry = refl
+
+module _ (g : Over) (c : After-signal-seat g) where
+  abbrev terms : Terms g.row.K.Denot
+  terms = phaser_terms c.args.phaser.now
+
+  -- the registration after the step, where it holds this
+  abbrev new : Parcel g.row.A.Denot → RegState g.row.A.Denot g.row.K.Denot
+  new held = reg_state (Some c.signal-seat.result.0) c.self.inside.number c.signal-seat.result.1 held
+
+  abbrev IsTried : Parcel g.row.A.Denot → Result (ℕ × Option Got) (Tried SignalRefusal) → Type 0
+  IsTried held result =
+      let old = c.args.self.now in
+      IsTry g.K.SignalRule.allows terms NoTask entry_after_both (Tries (new held ≡ old)
+      (SignalsAndMayWait c.args.waits g.A.Accumulate.operation terms.limits old.number old.held c.args.single old.seen (new held).seen) result)
+      old (new held) result
+
+  tried : (held : Parcel g.row.A.Denot) → (IsErr c.signal-seat.result.2 → held ≡ c.self.inside.pending) → IsTried held c.signal-seat.result.2
+  tried held stays =
+      let inside = c.self.inside in
+      is_try g.K.SignalRule.allows (phaser_place c.args.phaser.now).0 terms inside.number NoTask entry_after_both
+      (λ old new answer. SignalsAndMayWait c.args.waits g.A.Accumulate.operation terms.limits old.number old.held c.args.single old.seen new answer)
+      inside.entry c.signal-seat.result.1 inside.pending held c.in-Some.seat c.signal-seat.result.0 c.args.self.now c.signal-seat.result.2
+      (reg_is g.K.SignalRule.allows (phaser_place c.args.phaser.now).0 terms inside.number inside.entry inside.pending inside.seat c.in-Some.seat
+      c.args.self.now (sym c.take.ensures.value ∙ c.in-Some.is) c.self.view_is)
+      c.requires.at c.signal-seat.ensures.seat mode_stays stays c.signal-seat.ensures.step
 
 pub returns-in-Ok-clause-call : goal.returns-in-Ok-clause-call
 returns-in-Ok-clause-call g c =
-    let p = phaser_place c.args.phaser.now in
-    let terms = phaser_terms c.args.phaser.now in
-    let inside = c.self.inside in
-    let is : reg_state (Some c.in-Some.seat) inside.number inside.entry inside.pending ≡ c.args.self.now =
-    reg_is g.K.SignalRule.allows p.0 terms inside.number inside.entry inside.pending inside.seat c.in-Some.seat c.args.self.now
-    (sym c.take.ensures.value ∙ c.in-Some.is) c.self.view_is in
-    let limits = phaser_limits c.args.phaser.now in
-    let op = g.A.Accumulate.operation in
-    let s = c.in-Some.seat in
-    let s' = c.signal-seat.result.0 in
-    let P : RegState g.row.A.Denot g.row.K.Denot → Type 0 = λ old.
-    SignalsAndMayWait c.args.waits op limits old.number old.held c.args.single old.seen (known_of (seat_view s')).seen (Ok c.in-Ok.answer) in
-    subst P is (subst (λ r. Tries (IsSameSeat s s' × (c.signal-seat.result.1 ≡ inside.entry))
-    (SignalsAndMayWait c.args.waits op limits inside.number inside.pending c.args.single (known_of (seat_view s)).seen (known_of (seat_view s')).seen) r)
-    c.in-Ok.is c.signal-seat.ensures.call)
+    let after = (goal.at.returns-in-Ok-clause-call g c).After-signal-seat in
+    subst (IsTried g after c.new-self-inside.result) c.in-Ok.is (tried g after c.new-self-inside.result (λ err. absurd (let z : false ≡ true = subst (λ r. IsErr r) c.in-Ok.is err in cc)))
 
 pub returns-in-Err-clause-call : goal.returns-in-Err-clause-call
 returns-in-Err-clause-call g c =
-    let p = phaser_place c.args.phaser.now in
-    let terms = phaser_terms c.args.phaser.now in
-    let inside = c.self.inside in
-    let is : reg_state (Some c.in-Some.seat) inside.number inside.entry inside.pending ≡ c.args.self.now =
-    reg_is g.K.SignalRule.allows p.0 terms inside.number inside.entry inside.pending inside.seat c.in-Some.seat c.args.self.now
-    (sym c.take.ensures.value ∙ c.in-Some.is) c.self.view_is in
-    let limits = phaser_limits c.args.phaser.now in
-    let op = g.A.Accumulate.operation in
-    let s = c.in-Some.seat in
-    let s' = c.signal-seat.result.0 in
-    let entry' = c.signal-seat.result.1 in
-    let call : Result (ℕ × Option Got) SignalRefusal → Type 0 = λ answer. SignalsAndMayWait c.args.waits op limits inside.number inside.pending c.args.single (known_of (seat_view s)).seen (known_of (seat_view s')).seen answer in
-    let P : RegState g.row.A.Denot g.row.K.Denot → Type 0 = λ old. Tries (reg_state (Some s') inside.number entry' inside.pending ≡ old)
-    (SignalsAndMayWait c.args.waits op limits old.number old.held c.args.single old.seen (known_of (seat_view s')).seen) (Err c.in-Err.tried) in
-    subst P is (Tries-map (IsSameSeat s s' × (entry' ≡ inside.entry))
-    (reg_state (Some s') inside.number entry' inside.pending ≡ reg_state (Some s) inside.number inside.entry inside.pending) call call
-    (λ same. same_reg g.K.SignalRule.allows p.0 terms inside.number inside.entry entry' inside.pending s s' same.0 same.1) (λ answer w. w)
-    (Err c.in-Err.tried) (subst (λ r. Tries (IsSameSeat s s' × (entry' ≡ inside.entry)) call r) c.in-Err.is c.signal-seat.ensures.call))
+    let after = (goal.at.returns-in-Err-clause-call g c).After-signal-seat in
+    subst (IsTried g after c.self.inside.pending) c.in-Err.is (tried g after c.self.inside.pending (λ err. refl))

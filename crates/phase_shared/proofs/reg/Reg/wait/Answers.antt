@@ -1,14 +1,11 @@
-use Rattle.std.proofs.Common.{◌≡◌, [], ◌∷◌, Some, Ok, Err, sym, subst, ap, ◌∙◌, rules}
-use Rattle.std.specs.Result.{result_ok}
+use Rattle.std.proofs.Common.{◌≡◌, [], ◌∷◌, Ok, Err, sym, subst, ap, refl, ◌∙◌}
 use Rattle.phase_history.specs.Histories.{History}
 use Rattle.phase_history.specs.Others.{OthersCame}
-use Rattle.phase_history.specs.declared.refusal.WaitRefusal.TheVariants.{NotYet}
-use Rattle.phase_history.proofs.OthersEvents.{OthersCame-refl, OthersCame-trans}
+use Rattle.phase_history.specs.declared.refusal.WaitRefusal.TheVariants.{NotYet, NoTask}
 use Rattle.phase_shared.specs.Regs.{phaser_terms}
 use Rattle.phase_shared.specs.Calls.{Tries, Waits}
 use Rattle.phase_shared.specs.Entries.{entry_after_wait}
-use Rattle.phase_seats.proofs.Answering.{again}
-use Rattle.phase_shared.proofs.Later.{waits_later}
+use Rattle.phase_shared.proofs.Later.{waits_later, waits_on, accepted, refused}
 use Rattle.phase_shared.proofs.reg.Reg.wait.Goals as goal
 
 pub returns-in-Ok-clause-call : goal.returns-in-Ok-clause-call
@@ -21,17 +18,10 @@ returns-in-Ok-clause-call g c =
     let new = c.try_wait.new.self in
     let call = Waits value terms.limits now.number now.seen new.seen in
     let t = c.try_wait.ensures.call in
-    let entry : new.entry ≡ entry_after_wait (Some c.in-Ok.got) start.entry =
-    t.entry ∙ (λ j. entry_after_wait (result_ok (c.in-Ok.is j)) now.entry) ∙ ap (entry_after_wait (Some c.in-Ok.got)) i.entry in
-    record {
-      call = waits_later value terms.limits start.number now.number start.seen now.seen new.seen (Ok c.in-Ok.got) i.number i.others
-          (subst (λ r. Tries (new ≡ now) call r) c.in-Ok.is t.call);
-      entry = entry;
-      mode = ap (λ e. e.mode) entry;
-      at = (t.at.0 ∙ i.at, t.at.1 ∙ i.number);
-      good = t.good;
-      known = search rules;
-    }
+    accepted g.K.SignalRule.allows terms NoTask entry_after_wait start now new i (Tries (new ≡ now) call c.try_wait.result)
+    (Waits value terms.limits start.number start.seen new.seen (Ok c.in-Ok.got)) c.try_wait.result c.in-Ok.got c.in-Ok.is t
+    (waits_later value terms.limits start.number now.number start.seen now.seen new.seen (Ok c.in-Ok.got) i.number i.others
+    (subst (λ r. Tries (new ≡ now) call r) c.in-Ok.is t.call))
 
 pub returns-in-Some-of_wait-clause-call : goal.returns-in-Some-of_wait-clause-call
 returns-in-Some-of_wait-clause-call g c =
@@ -44,36 +34,17 @@ returns-in-Some-of_wait-clause-call g c =
     let call = Waits value terms.limits now.number now.seen new.seen in
     let t = c.try_wait.ensures.call in
     let is = c.in-Err.is ∙ ap Err c.in-Some-of_wait.ensures.some.0 in
-    let entry : new.entry ≡ start.entry = t.entry ∙ (λ j. entry_after_wait (result_ok (is j)) now.entry) ∙ i.entry in
-    record {
-      call = waits_later value terms.limits start.number now.number start.seen now.seen new.seen (Err c.in-Some-of_wait.refusal) i.number i.others
-          (subst (λ r. Tries (new ≡ now) call r) is t.call);
-      entry = entry;
-      mode = ap (λ e. e.mode) entry;
-      at = (t.at.0 ∙ i.at, t.at.1 ∙ i.number);
-      good = t.good;
-      known = search rules;
-    }
+    refused g.K.SignalRule.allows terms NoTask entry_after_wait start now new i (Tries (new ≡ now) call c.try_wait.result)
+    (Waits value terms.limits start.number start.seen new.seen (Err c.in-Some-of_wait.refusal)) c.try_wait.result c.in-Some-of_wait.refusal is t
+    (waits_later value terms.limits start.number now.number start.seen now.seen new.seen (Err c.in-Some-of_wait.refusal) i.number i.others
+    (subst (λ r. Tries (new ≡ now) call r) is t.call))
 
 pub loop-preserved : goal.loop-preserved
 loop-preserved g c =
-    let start = c.args.self.now in
-    let i = c.loop.invariant in
-    let value = g.A.Accumulate.operation.value in
     let terms = phaser_terms c.args.phaser.now in
     let now = c.loop.self in
     let new = c.try_wait.new.self in
-    let call = Waits value terms.limits now.number now.seen new.seen in
-    let t = c.try_wait.ensures.call in
-    let came : OthersCame (now.number ∷ []) now.seen new.seen =
-    again (new ≡ now) call NotYet (OthersCame (now.number ∷ []) now.seen new.seen) c.in-Err.tried c.in_default.ensures.none
-    (subst (λ r. Tries (new ≡ now) call r) c.in-Err.is t.call)
-    (λ same. subst (λ (h : History). OthersCame (now.number ∷ []) now.seen h) (sym (ap (λ r. r.seen) same)) (OthersCame-refl (now.number ∷ []) now.seen))
-    (λ w. subst (λ (h : History). OthersCame (now.number ∷ []) now.seen h) (sym w.seen) w.others) in
-    record {
-      at = t.at.0 ∙ i.at;
-      number = t.at.1 ∙ i.number;
-      entry = t.entry ∙ (λ j. entry_after_wait (result_ok (c.in-Err.is j)) now.entry) ∙ i.entry;
-      held = c.try_wait.ensures.held ∙ i.held;
-      others = OthersCame-trans (start.number ∷ []) start.seen now.seen new.seen i.others (subst (λ n. OthersCame (n ∷ []) now.seen new.seen) i.number came);
-    }
+    waits_on g.K.SignalRule.allows terms NoTask entry_after_wait c.args.self.now now new c.loop.invariant
+    (Waits g.A.Accumulate.operation.value terms.limits now.number now.seen new.seen) NotYet c.in-Err.tried c.try_wait.result c.in-Err.is
+    c.in_default.ensures.none c.try_wait.ensures.call
+    (λ w. subst (λ (h : History). OthersCame (now.number ∷ []) now.seen h) (sym w.seen) w.others) (λ e. refl) c.try_wait.ensures.held
