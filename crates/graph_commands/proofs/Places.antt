@@ -9,7 +9,7 @@ use Rattle.graph_base.specs.Graphs.{IsPlace}
 use Rattle.graph_base.specs.declared.place.Place.{Place}
 use Rattle.graph_base.specs.declared.place.Place.TheVariants as place
 use Rattle.stream_lists.specs.Jobs.{Job}
-use Rattle.stream_eval.specs.Results.{told}
+use Rattle.stream_eval.specs.Results.{sink_values}
 use Rattle.stream_lists.specs.Lists.{is_sink_at, lines_of, numbers_above, numbers_of, sink_over, sinks_of}
 use Rattle.stream_lists.specs.Ranges.{Where, fault_on, first_some, first_too_big, output_fault_of, output_faults, phase_fault_of}
 use Rattle.stream_lists.specs.Spans.{lengths_of, spans_of}
@@ -107,7 +107,7 @@ below-range n k d lt =
     subst At (sym (get_or-range_with_len 0 n k d below ∙ zero-add k)) below
 
 -- each sink with lines is a task of the graph
-pub sinks-within : (job : Job) (lines : List Lines) → map told lines ≡ lines_of job
+pub sinks-within : (job : Job) (lines : List Lines) → map sink_values lines ≡ lines_of job
     → All (λ sink. sink.task < length job.graph.tasks) lines
 sinks-within job lines e k d lt =
     let n = length job.graph.tasks in
@@ -115,7 +115,7 @@ sinks-within job lines e k d lt =
     let all : All Below (lines_of job) =
     All-map Below (sink_over job (spans_of job) (numbers_of job)) (sinks_of job)
     (All-filter (is_sink_at job) (λ t. t < n) (range_with_len 0 n) (below-range n)) in
-    let told_all : All Below (map told lines) = subst (All Below) (sym e) all in
-    let same : get_or (map told lines) k (told d) ≡ told (get_or lines k d) =
-    get_or-map told lines k d (told d) lt in
-    subst Below same (told_all k (told d) (omega (arith, lt, length-map lines told)))
+    let told_all : All Below (map sink_values lines) = subst (All Below) (sym e) all in
+    let same : get_or (map sink_values lines) k (sink_values d) ≡ sink_values (get_or lines k d) =
+    get_or-map sink_values lines k d (sink_values d) lt in
+    subst Below same (told_all k (sink_values d) (omega (arith, lt, length-map lines sink_values)))

@@ -60,6 +60,7 @@ pub record EvaluatesPrefix (known : Known) (name : List ℕ) (old new : WriterSt
 
 -- ---- the lines of faults
 
+-- the word for a kind of fault
 abbrev pub kind_text : FaultKind → List ℕ
 kind_text Syntax = codes "syntax"
 kind_text Limit = codes "limit"
@@ -70,25 +71,29 @@ kind_text BadParent = codes "bad-parent"
 kind_text NotHeld = codes "not-held"
 kind_text AnyMeets = codes "any-meets"
 
+-- the line of the fault of a line of a graph
 abbrev pub graph_line : ℕ → FaultKind → List ℕ
 graph_line line kind = joined (
     codes "phase: graph line " ∷ decimal line ∷ codes ": " ∷ kind_text kind ∷ codes "\n" ∷ [])
 
+-- the line of a record of a source that is no sample
 abbrev pub samples_line : List ℕ → ℕ → List ℕ
 samples_line name number = joined (
     codes "phase: samples of " ∷ name ∷ codes ": record " ∷ decimal number ∷ codes "\n" ∷ [])
 
+-- the line of a value that is out of range, by its phaser or task and its number there
 abbrev pub too_big_line : List ℕ → ℕ → List ℕ
 too_big_line name n = joined (
     codes "phase: too big at " ∷ name ∷ codes " " ∷ decimal n ∷ codes "\n" ∷ [])
 
--- the line and the status of a fault of the files
+-- the line of a fault of the files
 abbrev pub job_line : JobFault → List ℕ
 job_line (fault.Graph found) = graph_line found.line found.kind
 job_line (fault.BadSample name number) = samples_line (string_bytes name) number
 job_line fault.ReadFault = fault_line ReadFault
 job_line fault.OutOfMemory = fault_line OutOfMemory
 
+-- the status of a fault of the files
 abbrev pub job_status : JobFault → ℕ
 job_status (fault.Graph found) = 1
 job_status (fault.BadSample name number) = 1

@@ -2,7 +2,7 @@
 ghost use Rattle.std.specs.Prelude.{◌≡◌, ◌<◌, ◌++◌, length, map, true, OnOk, OnErr};
 ghost use Rattle.std.specs.List.{All};
 ghost use Rattle.std.specs.Io.KnownBytes.{Appends};
-ghost use Rattle.stream_eval.specs.Results.{told};
+ghost use Rattle.stream_eval.specs.Results.{sink_values};
 ghost use Rattle.stream_lists.specs.Texts.{sink_text, text_of, value_text};
 ghost use Rattle.graph_commands.specs.Puts.{Puts, heading_text};
 ghost use Rattle.watched_io.specs.Prefix.{AppendsPrefix};
@@ -27,9 +27,9 @@ pub fn write_lines<W: Write>(
 ) -> Result<(), WriteFailed>
     requires { All (λ sink. sink.task < length graph.now.tasks) lines.now }
     ensures ok { OnOk result (Appends (W.contents (inner_of writer.old))
-        (W.contents (inner_of writer.new)) (text_of graph.now (map told lines.now))) }
+        (W.contents (inner_of writer.new)) (text_of graph.now (map sink_values lines.now))) }
     ensures err { OnErr result (AppendsPrefix (W.contents (inner_of writer.old))
-        (W.contents (inner_of writer.new)) (text_of graph.now (map told lines.now))) }
+        (W.contents (inner_of writer.new)) (text_of graph.now (map sink_values lines.now))) }
     ensures failed { OnErr result (has_failed_of writer.new ≡ true) }
     ensures kept { OnOk result (has_failed_of writer.new ≡ has_failed_of writer.old) }
 {

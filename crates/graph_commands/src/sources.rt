@@ -3,6 +3,7 @@ ghost use Rattle.std.specs.Prelude.{◌≡◌, ◌<◌, ◌≤◌, ℕ, List, le
 ghost use Rattle.std.specs.List.{All};
 ghost use Rattle.phase_accum.specs.Sends.{AreSends};
 ghost use Rattle.sample_text.specs.Samples.{AreSamplesOf};
+ghost use Rattle.sample_text.specs.declared.sample.TheConstants.{TEXT_MAX};
 ghost use Rattle.graph_base.specs.Graphs.{is_source, source_number, sources_of, task_at};
 ghost use Rattle.stream_lists.specs.Inside.{items_of};
 ghost use Rattle.graph_commands.specs.FileJobs.{AreFirstSamples, AreSamples, Explains, IsGraphOf};
@@ -36,7 +37,7 @@ fn read_source<F: Files>(
     ensures ok { IfOk result (λ values.
         AreSamplesOf (F.file files.old (file_of graph.now t)) values.items) }
     ensures values { IfOk result (λ values. AreSends values.items
-        × (length values.items ≤ 67108864)) }
+        × (length values.items ≤ TEXT_MAX)) }
     ensures fault { IfErr result (λ fault. (name : List ℕ)
         → IsReached (F.file files.old) name graph.now t → Explains (F.file files.old) name fault) }
     ensures kept { (other : List ℕ) → F.file files.new other ≡ F.file files.old other }
@@ -65,7 +66,7 @@ pub fn read_sources<F: Files>(
         AreSamples (F.file files.old) graph.now (items_of lists.items)) }
     ensures each { IfOk result (λ lists. length lists.items ≡ sources_of graph.now) }
     ensures sends { IfOk result (λ lists. All (λ list. AreSends list.items) lists.items) }
-    ensures few { IfOk result (λ lists. All (λ list. length list.items ≤ 67108864) lists.items) }
+    ensures few { IfOk result (λ lists. All (λ list. length list.items ≤ TEXT_MAX) lists.items) }
     ensures fault { IfErr result (λ fault. (name : List ℕ)
         → IsGraphOf (F.file files.old) name graph.now → Explains (F.file files.old) name fault) }
     ensures kept { (other : List ℕ) → F.file files.new other ≡ F.file files.old other }

@@ -32,6 +32,7 @@ is_function_within halve = true
 is_function_within (clamp low high) = nat_le (unsigned_abs (int_value low)) value_max
     && nat_le (unsigned_abs (int_value high)) value_max && le_z (int_value low) (int_value high)
 
+-- whether a bound is within its limits
 abbrev pub is_bound_within : Word → Bool
 is_bound_within bound = nat_le 1 (nat_value bound) && nat_le (nat_value bound) BOUND_MAX
 
@@ -40,6 +41,7 @@ abbrev pub is_phaser_within : Word → Option FunctionWords → Bool
 is_phaser_within bound single =
     is_bound_within bound && option_map_or is_function_within single true
 
+-- whether a tap is within its limit
 abbrev pub is_tap_within : Word → Bool
 is_tap_within tap = nat_le (unsigned_abs (int_value tap)) TAP_MAX
 
@@ -59,13 +61,16 @@ is_body_within (peer input exchange output factor) =
     nat_le (unsigned_abs (int_value factor)) FACTOR_MAX
 is_body_within (sink input) = true
 
+-- whether a number of steps is within its limit
 abbrev pub is_count_within : Word → Bool
 is_count_within count = nat_le (nat_value count) COUNT_MAX
 
+-- whether the numbers of steps behind `at` and `until` are within their limit
 abbrev pub are_ends_within : EndWords → Bool
 are_ends_within ends = option_map_or (λ by. is_count_within by.at) ends.by true
     && option_map_or is_count_within ends.until true
 
+-- whether a number of a line is past its limit, or the graph has no room for it
 abbrev pub is_past_limit : Graph → Decl → Bool
 is_past_limit before (phaser name operation bound single) =
     not (is_phaser_within bound single && nat_lt (length before.phasers) PHASERS_MAX)
@@ -83,18 +88,22 @@ abbrev pub are_distinct : List Word → Bool
 are_distinct [] = true
 are_distinct (word ∷ words) = not (list_any (bytes_eq word) words) && are_distinct words
 
+-- whether a line declares a name again, or names a phaser twice
 abbrev pub is_twice : Graph → Decl → Bool
 is_twice before (phaser name operation bound single) = is_some (place_of before.names name)
 is_twice before (task name body ends) =
     is_some (place_of before.names name) || not (are_distinct (phasers_of body))
 
+-- whether a phaser of that name was declared
 abbrev pub is_phaser : List Named → Word → Bool
 is_phaser names word = is_some (phaser_named names word)
 
+-- whether the parent, where there is one, is a task that was declared
 abbrev pub is_parent_known : List Named → Option ByWords → Bool
 is_parent_known names None = true
 is_parent_known names (Some by) = is_some (task_named names by.parent)
 
+-- whether a line names a phaser or a parent that was not declared
 abbrev pub is_unknown : Graph → Decl → Bool
 is_unknown before (phaser name operation bound single) = false
 is_unknown before (task name body ends) =
@@ -113,6 +122,7 @@ abbrev pub is_in_order : Task → Bool
 is_in_order t = list_all (λ x. list_all (nat_lt x) t.outputs) t.inputs
     && is_exchange_below t.kind t.inputs
 
+-- whether an output of a line does not stand below each input
 abbrev pub is_out_before_in : Graph → Decl → Bool
 is_out_before_in before (phaser name operation bound single) = false
 is_out_before_in before (task name body ends) =
@@ -120,15 +130,18 @@ is_out_before_in before (task name body ends) =
 
 -- ---- parents
 
+-- whether the parent, where there is one, is of a kind that may have children
 abbrev pub may_be_parent : Graph → Option Parent → Bool
 may_be_parent before None = true
 may_be_parent before (Some parent) = has_children (task_at before parent.task).kind
 
+-- whether the parent of a line is of a kind that has no children
 abbrev pub is_bad_parent : Graph → Decl → Bool
 is_bad_parent before (phaser name operation bound single) = false
 is_bad_parent before (task name body ends) =
     not (may_be_parent before (task_line before.names 0 body ends).parent)
 
+-- whether p is one of these numbers
 abbrev pub is_among : List ℕ → ℕ → Bool
 is_among qs p = list_any (λ q. q == p) qs
 
@@ -143,9 +156,11 @@ holds_for before child (Some parent) =
 abbrev pub is_plain : Graph → ℕ → Bool
 is_plain before y = not (is_some (phaser_at before y).single)
 
+-- whether no output has a single, and the parent holds what its child needs
 abbrev pub is_held : Graph → Task → Bool
 is_held before t = list_all (is_plain before) t.outputs && holds_for before t t.parent
 
+-- whether a line signals a phaser with a single, or its parent lacks what it needs
 abbrev pub is_not_held : Graph → Decl → Bool
 is_not_held before (phaser name operation bound single) = false
 is_not_held before (task name body ends) =

@@ -14,18 +14,21 @@ use Rattle.graph_base.specs.declared.line.Kind.TheVariants as kind
 use Rattle.graph_base.specs.declared.line.Parent.{Parent}
 use Rattle.graph_base.specs.declared.line.PhaserLine.{PhaserLine}
 
+-- the number that is there, or 0
 abbrev pub or_zero : Option ℕ → ℕ
 or_zero None = 0
 or_zero (Some n) = n
 
 -- ---- a phaser
 
+-- the single that a function spells
 abbrev pub single_of : FunctionWords → Single
 single_of neg = Neg
 single_of abs = Abs
 single_of halve = Halve
 single_of (clamp low high) = Clamp (int_value low, int_value high)
 
+-- the phaser that the words of a line declare
 abbrev pub phaser_line : Op → Word → Option FunctionWords → PhaserLine
 phaser_line operation bound single = record {
   op = operation;
@@ -35,6 +38,7 @@ phaser_line operation bound single = record {
 
 -- ---- a task
 
+-- what the task of a line does
 abbrev pub kind_of_body : BodyWords → Kind
 kind_of_body (source file output) = kind.Source
 kind_of_body (fir input output shift taps) = kind.Fir
@@ -61,14 +65,17 @@ outputs_of (join inputs output) = output ∷ []
 outputs_of (peer input exchange output factor) = output ∷ []
 outputs_of (sink input) = []
 
+-- the taps of a filter, and none of another task
 abbrev pub taps_of : BodyWords → List ℤ
 taps_of (fir input output shift taps) = map int_value taps
 taps_of body = []
 
+-- the shift of a filter, or 0
 abbrev pub shift_of : BodyWords → ℕ
 shift_of (fir input output shift taps) = nat_value shift
 shift_of body = 0
 
+-- the factor of a peer, or 0
 abbrev pub factor_of : BodyWords → ℤ
 factor_of (peer input exchange output factor) = int_value factor
 factor_of body = pos 0
@@ -78,9 +85,11 @@ abbrev pub files_in : BodyWords → List (List ℕ)
 files_in (source file output) = file ∷ []
 files_in body = []
 
+-- the numbers of the phasers of these names
 abbrev pub numbers_of : List Named → List Word → List ℕ
 numbers_of names words = map (λ word. or_zero (phaser_named names word)) words
 
+-- the parent that `by` names, and how many steps it makes before
 abbrev pub parent_of : List Named → ByWords → Parent
 parent_of names by = record {
   task = or_zero (task_named names by.parent);

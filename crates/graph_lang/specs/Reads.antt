@@ -27,6 +27,7 @@ with_line before n (task name body ends) = record {
   files = before.files ++ files_in body;
 }
 
+-- line n has a fault of this kind
 abbrev pub fault_at : ℕ → FaultKind → Result Graph GraphFault
 fault_at n kind = Err (record { line = n; kind = kind })
 

@@ -68,6 +68,7 @@ abbrev pub asked_by : Option (Text × List Row) → Asked
 asked_by None = replay
 asked_by (Some command) = asked_as command.0 (first_of (codes "graph") command.1)
 
+-- what the words ask for, by the command that clap finds in them
 unfoldable pub asked_in : List Text → Asked
 asked_in words = asked_by (subcommand_of phase_app words)
 
@@ -76,6 +77,7 @@ pub record Asks (words : List Text) (what : Asked) : Type 0 where
   pub taken : AreTaken words
   pub command : asked_in words ≡ what
 
+-- the words ask for a replay
 abbrev pub AskReplay : List Text → Type 0
 AskReplay words = Asks words replay
 

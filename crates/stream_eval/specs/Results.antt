@@ -3,5 +3,5 @@ use Rattle.std.specs.Prelude.{ℕ, ℤ, List}
 use Rattle.stream_eval.specs.declared.whole.Lines.{Lines}
 
 -- a sink's number and its values
-abbrev pub told : Lines → ℕ × List ℤ
-told lines = (lines.task, lines.values.items)
+abbrev pub sink_values : Lines → ℕ × List ℤ
+sink_values lines = (lines.task, lines.values.items)

@@ -4,7 +4,7 @@ ghost use Rattle.std.specs.List.{All};
 ghost use Rattle.phase_accum.specs.Sends.{AreSends};
 ghost use Rattle.graph_base.specs.Graphs.{phaser_at};
 ghost use Rattle.graph_base.specs.declared.place.Place.{Place as PlaceValue};
-ghost use Rattle.stream_eval.specs.Results.{told};
+ghost use Rattle.stream_eval.specs.Results.{sink_values};
 ghost use Rattle.stream_lists.specs.Inside.{items_of};
 ghost use Rattle.stream_lists.specs.Lists.{is_sink_at, lines_of, list_over, number, numbers_of, sink_over, sinks_of, value_by};
 ghost use Rattle.stream_eval.specs.Parts.{member_of};
@@ -152,7 +152,7 @@ fn is_sink_line(job: &Job, t: usize) -> bool
 fn sink_lines(alloc: Global, job: &Job, lists: &[Vec<i64>], t: usize) -> Result<Lines, EvalFault>
     requires task { t < length job.now.graph.tasks }
     requires sends { All (λ list. AreSends list.items) lists.now }
-    ensures ok { IfOk result (λ lines. told lines
+    ensures ok { IfOk result (λ lines. sink_values lines
         ≡ sink_over job.now (spans_of job.now) (items_of lists.now) t) }
     ensures no_place { (place : PlaceValue) (n : ℕ)
         → result ≡ Err (EvalFault.TooBig place n) → ⊥ }
@@ -166,7 +166,7 @@ fn sink_lines(alloc: Global, job: &Job, lists: &[Vec<i64>], t: usize) -> Result<
 /// The values of all sinks, in the order of the lines, over the phasers' lists.
 fn all_lines(alloc: Global, job: &Job, lists: &[Vec<i64>]) -> Result<Vec<Lines>, EvalFault>
     requires sends { All (λ list. AreSends list.items) lists.now }
-    ensures ok { IfOk result (λ lines. map told lines.items
+    ensures ok { IfOk result (λ lines. map sink_values lines.items
         ≡ map (sink_over job.now (spans_of job.now) (items_of lists.now)) (sinks_of job.now)) }
     ensures no_place { (place : PlaceValue) (n : ℕ)
         → result ≡ Err (EvalFault.TooBig place n) → ⊥ }
@@ -196,7 +196,7 @@ fn all_lines(alloc: Global, job: &Job, lists: &[Vec<i64>]) -> Result<Vec<Lines>,
 /// takes memory for all lists; where one has more values than any memory holds, `OutOfMemory` comes
 /// when its turn comes.
 pub fn eval(alloc: Global, job: &Job) -> Result<Vec<Lines>, EvalFault>
-    ensures ok { IfOk result (λ lines. map told lines.items ≡ lines_of job.now) }
+    ensures ok { IfOk result (λ lines. map sink_values lines.items ≡ lines_of job.now) }
     ensures fits { IfOk result (λ lines. Fits job.now) }
     ensures too_big { (place : PlaceValue) (n : ℕ) → result ≡ Err (EvalFault.TooBig place n)
         → first_too_big job.now ≡ Some (place, n) }

@@ -6,6 +6,7 @@ use Rattle.std.proofs.lemmas.List.Sums.{count_by_more_yes, count_by_more_no}
 use Rattle.phase_accum.specs.Sends.{AreSends}
 use Rattle.graph_base.specs.Graphs.{Task, no_task, is_source, source_number, task_at}
 use Rattle.sample_text.specs.Samples.{AreSamplesOf}
+use Rattle.sample_text.specs.declared.sample.TheConstants.{TEXT_MAX}
 use Rattle.stream_lists.specs.Inside.{items_of}
 use Rattle.graph_commands.specs.FileJobs.{AreFirstSamples, Explains, IsReached, Known, file_of}
 use Rattle.graph_commands.proofs.Counted.{items_of-push, known-same, length-items_of, samples-push, source-within}
@@ -63,7 +64,7 @@ loop-t-preserved g c =
             subst (AreFirstSamples (g.F.Files.file c.args.files.now) graph)
                 (sym (items_of-push lists list)) first,
             All-push (λ list. AreSends list.items) lists list before.3 w.in-Ok.ensures.values.0,
-            All-push (λ list. length list.items ≤ 67108864) lists list before.4
+            All-push (λ list. length list.items ≤ TEXT_MAX) lists list before.4
                 w.in-Ok.ensures.values.1,
             λ other. w.in-Ok.ensures.kept other ∙ before.5 other,
           ))

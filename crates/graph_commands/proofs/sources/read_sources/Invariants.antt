@@ -2,6 +2,7 @@ use Rattle.std.proofs.Common.{◌≡◌, ◌≤◌, ℕ, List, length}
 use Rattle.std.specs.List.{All}
 use Rattle.phase_accum.specs.Sends.{AreSends}
 use Rattle.graph_base.specs.Graphs.{source_number}
+use Rattle.sample_text.specs.declared.sample.TheConstants.{TEXT_MAX}
 use Rattle.stream_lists.specs.Inside.{items_of}
 use Rattle.graph_commands.specs.FileJobs.{AreFirstSamples}
 use Rattle.graph_commands.proofs.sources.read_sources.Given as goal
@@ -13,5 +14,5 @@ invariant-loop-t g l =
     × (l.t ≤ length l.graph.tasks)
     × AreFirstSamples (g.F.Files.file l.fn.files) l.graph (items_of l.lists.items)
     × All (λ list. AreSends list.items) l.lists.items
-    × All (λ list. length list.items ≤ 67108864) l.lists.items
+    × All (λ list. length list.items ≤ TEXT_MAX) l.lists.items
     × ((other : List ℕ) → g.F.Files.file l.files other ≡ g.F.Files.file l.fn.files other)

@@ -3,7 +3,7 @@ use Rattle.std.proofs.lemmas.List.{map_push}
 use Rattle.std.specs.List.{range_with_len, filter}
 use Rattle.stream_lists.specs.Spans.{spans_of}
 use Rattle.stream_lists.specs.Lists.{sink_over, is_sink_at}
-use Rattle.stream_eval.specs.Results.{told}
+use Rattle.stream_eval.specs.Results.{sink_values}
 use Rattle.stream_lists.specs.Inside.{items_of}
 use Rattle.stream_lists.proofs.Firsts.{filter-skip, filter-take}
 use Rattle.stream_eval.proofs.whole.all_lines.Goals as goal
@@ -15,8 +15,8 @@ loop-t-preserved c =
     elim c.if-is_sink_line.branch [
       | then-is_sink_line+in-Ok-sink_lines+in-Ok-push w ↦
           rw (w.lines-is, w.in-Ok-push.ensures.items)
-          (map_push told c.loop-t.lines.items w.in-Ok-sink_lines.one
-          ∙ (ap (λ xs. xs ++ told w.in-Ok-sink_lines.one ∷ []) c.loop-t.invariant
+          (map_push sink_values c.loop-t.lines.items w.in-Ok-sink_lines.one
+          ∙ (ap (λ xs. xs ++ sink_values w.in-Ok-sink_lines.one ∷ []) c.loop-t.invariant
           ∙ (ap (λ v. map (sink_over c.args.job.now (spans_of c.args.job.now)
           (items_of c.args.lists.now))
           (filter (is_sink_at c.args.job.now) (range_with_len 0 c.loop-t.t)) ++ v ∷ [])
