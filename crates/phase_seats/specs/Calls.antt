@@ -1,5 +1,5 @@
--- What each step of a seat answers, and how the history that its task has seen goes on: by events of
--- others, up to the moment of the call, and then by the call's own event, where it makes one.
+-- What each step of a seat answers, and how the history that its task has seen goes on: by events
+-- of others, up to the moment of the call, and then by the call's own event, where it makes one.
 use Rattle.std.specs.Prelude.{◌≡◌, ℕ, ℤ, Bool, true, false, List, [], ◌∷◌, Option, Result, Ok, Err, None, Some, min, ◌+◌, ◌-◌, ◌^◌}
 use Rattle.phase_base.specs.Limits.{Limits}
 use Rattle.phase_base.specs.declared.mode.Mode.{Mode}

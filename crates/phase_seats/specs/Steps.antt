@@ -25,10 +25,10 @@ pub record IsStep {K X R : Type 0} (allows : K → Allows) (terms : Terms K) (me
   pub known : result ≢ Err (Refused no_task)
   pub alone : OnlyUsed (me ∷ []) (known_of old).seen → result ≢ Err Busy
 
--- an accepted registration, by its parent's views before and after it: the child's seat stands where
--- the parent's does, in its own mode, and has seen what the parent's has
-pub record HasChild {K : Type 0} (allows : K → Allows) (terms : Terms K) (me child : ℕ) (mode : Mode)
-    (entry start : Entry) (old new made : View) : Type 0 where
+-- an accepted registration, by its parent's views before and after it: the child's seat stands
+-- where the parent's does, in its own mode, and has seen what the parent's has
+pub record HasChild {K : Type 0} (allows : K → Allows) (terms : Terms K) (me child : ℕ)
+    (mode : Mode) (entry start : Entry) (old new made : View) : Type 0 where
   pub registered : HasRegistered me child mode (known_of old).seen (known_of new).seen
   pub at : IsSeatOfTask allows terms child start made
   pub seen : (known_of made).seen ≡ (known_of new).seen

@@ -258,7 +258,8 @@ pub fn join<A: Accumulate, K: SignalRule>(
     seat: PhaserSeat<A, K>,
     other: PhaserSeat<A, K>,
 ) -> PhaserSeat<A, K>
-    requires seats { IsSeatAt (locked_place phaser.now) seat × IsSeatAt (locked_place phaser.now) other }
+    requires seats { IsSeatAt (locked_place phaser.now) seat
+        × IsSeatAt (locked_place phaser.now) other }
     requires rests { (seat_view seat ≡ Resting (known_of (seat_view seat)))
         × (seat_view other ≡ Resting (known_of (seat_view other))) }
     ensures seat { IsSeatAt (locked_place phaser.now) result }

@@ -81,7 +81,7 @@ waits_later value limits me number old now new answer same came w =
     let v : Waits value limits me now new answer = subst (λ (n : ℕ). Waits value limits n now new answer) same w in
     record { before = v.before; others = OthersCame-trans (me ∷ []) old now v.before came v.others; seen = v.seen; reply = v.reply }
 
--- events of others came, and nothing else changed: what each further try of a call that waits starts from
+-- events of others came, and nothing else changed: from there a call that waits tries again
 pub record HasWaited {A K : Type 0} (old now : RegState A K) : Type 0 where
   pub at : now.at ≡ old.at
   pub number : now.number ≡ old.number

@@ -57,7 +57,8 @@ module _ {T K : Type 0} (allows : K → Allows) (table : TableId) (terms : Terms
       → o ≡ Some s → reg_state o me entry held ≡ reg → reg_state (Some s) me entry held ≡ reg
   reg_is entry held o s reg is seen = ap (λ p. reg_state p me entry held) (sym is) ∙ seen
 
-  -- a step of a registration's seat is a try of the registration. What it holds stays where the try is refused
+  -- a step of a registration's seat is a try of the registration. What is held stays where it is
+  -- refused
   pub is_try : {A X R : Type 0} (no_task : R) (after : Option X → Entry → Entry) (call : RegState A K → History → Result X R → Type 0)
       → (entry entry' : Entry) (held held' : Parcel A) (s s' : Seat T (Terms K) View) (reg : RegState A K) (result : Result X (Tried R))
       → reg_state (Some s) me entry held ≡ reg → reg.at ≡ (table, Some terms) → seat_place s' ≡ (table, Some terms)
