@@ -1,5 +1,5 @@
 -- What a wait leaves of a core over a registry and a board.
-use Rattle.std.proofs.Common.{◌≡◌, ℕ, ◌+◌, ◌<◌, ◌≤◌, ◌⊎◌, true, Bool, [], ◌∷◌, Option, Some, None, Ok, length, unwrap_or, refl, sym, ◌∙◌, ap, subst, arith, ⊎_elim, inl, inr, zero, suc, ◌-◌, cond, map, take, drop, min}
+use Rattle.std.proofs.Common.{◌≡◌, ℕ, ◌+◌, ◌<◌, ◌≤◌, ◌⊎◌, true, Bool, [], ◌∷◌, Option, Some, None, Ok, length, unwrap_or, refl, sym, ◌∙◌, ap, subst, arith, ⊎_elim, inl, inr, zero, suc, ◌-◌, cond, map, take, drop, min, List, ◌++◌, Result}
 use Rattle.std.specs.Prelude.{is_some, slice_range}
 use Rattle.std.proofs.lemmas.Option.{same_Some}
 use Rattle.phase_base.specs.Modes.{mode_waits}
@@ -39,7 +39,17 @@ use Rattle.phase_ring.specs.Blocks.{value_at, value_in, block_values}
 use Rattle.std.specs.List.{range_with_len}
 use Rattle.phase_history.specs.declared.refusal.WaitRefusal.TheVariants as wait
 use Rattle.phase_history.specs.declared.got.GotBlock.TheVariants as got_block
-use Rattle.std.proofs.lemmas.List.FromFn.{take-map-range_with_len}
+use Rattle.std.proofs.lemmas.List.FromFn.{take-map-range_with_len, length-range_with_len}
+use Rattle.std.proofs.lemmas.List.{length-take, length-drop, length-map, take-append-le}
+use Rattle.std.proofs.lemmas.List.Elements.{All-take, All-drop}
+use Rattle.std.specs.List.{All}
+use Rattle.phase_base.specs.Limits.{Limits}
+use Rattle.phase_accum.specs.Values.{IsInRange}
+use Rattle.phase_history.specs.declared.got.GotBlock.{GotBlock}
+use Rattle.phase_history.specs.Legal.{IsLegal}
+use Rattle.phase_history.proofs.BlockAnswers.{block_tells}
+use Rattle.phase_history.proofs.InRange.{stream_of-in_range}
+use Rattle.phase_core.specs.Blocks.{written}
 
 -- what a wait of a waiter knows
 pub record Waiting {A : Type 0} (op : Operation A) (reg : Roster) (b : Board A) (e : Entry) : Type 0 where
@@ -211,3 +221,22 @@ few_by op reg b task n e boarded found few waits some =
     let two = two_counts (wait_phases reg.members) e.wait_phase (e.wait_phase + n) (λ q. omega arith) in
     let most = wait_phases-few reg.members in
     omega arith
+
+-- what was got is in range, and has its places
+pub block_in_range : {A : Type 0} (op : Operation A) (laws : AccumulateLaws op) (limits : Limits) (h : History) (task phase count : ℕ)
+    (result : Result GotBlock WaitRefusal) (old new : List Outcome) → IsLegal limits h → wait_block_reply limits h task (length old) ≡ result
+    → new ≡ written result (stream_of op.value h) old → result ≡ Ok (got_block.Values phase count)
+    → (count ≤ length old) × All IsInRange (take count new)
+block_in_range op laws limits h task phase count result old new legal reply out got_is =
+    let t = block_tells limits h task (length old) phase count (reply ∙ got_is) in
+    let xs = stream_of op.value h in
+    let got = take (phase + count - phase) (drop phase xs) in
+    let new_is : new ≡ got ++ drop count old = out ∙ ap (λ r. written r xs old) got_is in
+    let long : length xs ≡ done_of h = length-map (range_with_len 0 (done_of h)) (value_of_phase op.value h) ∙ length-range_with_len 0 (done_of h) in
+    let below = t.below in
+    let at = t.phase_is in
+    let many = t.count_is in
+    let got_long : count ≤ length got = omega (arith, length-take (phase + count - phase) (drop phase xs), length-drop phase xs) in
+    let front : take count new ≡ take count got = ap (take count) new_is ∙ take-append-le count got (drop count old) got_long in
+    let P : List Outcome → Type 0 = λ l. All IsInRange l in
+    (omega arith, subst P (sym front) (All-take IsInRange count got (All-take IsInRange (phase + count - phase) (drop phase xs) (All-drop IsInRange phase xs (stream_of-in_range op laws limits h legal)))))

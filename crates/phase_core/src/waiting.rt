@@ -1,5 +1,6 @@
 //! Waits on a phaser, for one phase and for phases in a row.
-ghost use Rattle.std.specs.Prelude.{◌≡◌, ℕ, OnErr, Ok, length};
+ghost use Rattle.std.specs.Prelude.{◌≡◌, ℕ, ◌≤◌, OnErr, Ok, length, take};
+ghost use Rattle.std.specs.List.{All};
 ghost use Rattle.phase_accum.specs.declared.outcome.Outcome.{Outcome};
 ghost use Rattle.phase_accum.specs.Values.{IsInRange};
 ghost use Rattle.phase_history.specs.Histories.{History};
@@ -58,6 +59,9 @@ impl<A: Accumulate> PhaserCore<A> {
             → StandsFor A.operation self.new (after_wait_block result task h) }
         ensures out { (h : History) → StandsFor A.operation self.old h
             → out.new ≡ written result (stream_of A.operation.value h) out.old }
+        // What was got stands in the first places, and each value is in range.
+        ensures range { (phase count : ℕ) → result ≡ Ok (GotBlock.Values phase count)
+            → (count ≤ length out.old) × All IsInRange (take count out.new) }
 
         ensures limits { self.new.limits ≡ self.old.limits }
         ensures err { OnErr result (self.new ≡ self.old) }

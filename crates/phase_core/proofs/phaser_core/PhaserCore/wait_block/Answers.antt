@@ -12,7 +12,7 @@ use Rattle.phase_ring.proofs.Kept.{standing-within}
 use Rattle.phase_core.specs.Cores.{CoreState, StandsFor, core_of}
 use Rattle.phase_core.proofs.SignalCore.{used_after}
 use Rattle.phase_core.proofs.NewCore.{done_of_boarded}
-use Rattle.phase_core.proofs.WaitCore.{waiting, boarded_waited, stands_waited, wait_block_is, got_block_values, got_block_ended, values_are, few_by}
+use Rattle.phase_core.proofs.WaitCore.{waiting, boarded_waited, stands_waited, wait_block_is, got_block_values, got_block_ended, values_are, few_by, block_in_range}
 use Rattle.phase_core.proofs.phaser_core.PhaserCore.wait_block.Goals as goal
 
 pub returns-in-Some-refusal-clause-reply : goal.returns-in-Some-refusal-clause-reply
@@ -229,3 +229,13 @@ returns-clause-out g c h given =
     let low = within.low in
     c.wait_block.ensures.out
     ∙ ap (λ xs. xs ++ drop count c.args.out.now) (values_are op g.met.A.Accumulate.laws reg b h e.wait_phase count w.boarded stands low (omega arith))
+
+-- what it answers are values of some legal history
+pub returns-clause-range : goal.returns-clause-range
+returns-clause-range g c phase count is =
+    let op = g.A.Accumulate.operation in
+    let h = c.self.invariant.history in
+    let P : CoreState g.row.A.Denot → Type 0 = λ k. StandsFor op k h in
+    let stands : StandsFor op c.args.self.now h = subst P c.self.view_is c.self.invariant.stands in
+    block_in_range op g.met.A.Accumulate.laws c.args.self.now.limits h c.args.task phase count _ c.args.out.now _ stands.legal
+    (returns-clause-reply g c h stands) (returns-clause-out g c h stands) is
