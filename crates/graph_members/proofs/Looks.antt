@@ -10,14 +10,14 @@ use Rattle.phase_seats.specs.declared.rule.Terms.{Terms}
 use Rattle.phase_shared.specs.declared.phaser.Phaser.{Phaser}
 use Rattle.phase_seats.specs.Rule.{Allows}
 use Rattle.phase_shared.specs.Regs.{RegState, IsGoodOn, phaser_place, phaser_terms}
-use Rattle.graph_members.specs.Members.{MemberState, limits_at, member_state, IsMember, IsAlone}
+use Rattle.graph_members.specs.Members.{MemberState, limits_on, member_state, IsMember, IsAlone}
 
 -- a registration on this phaser is a member
 pub is_member : {A : Type 0} (allows : NoRule → Allows) (phaser : Phaser A NoRule) (reg : RegState A NoRule)
     (held : Option ℤ) → reg.at ≡ phaser_place phaser → IsGoodOn allows reg.at reg.seen
     → entry_of (members_of reg.seen) reg.number ≡ Some reg.entry → IsMember (member_state reg held)
 is_member allows phaser reg held at good entry = record {
-  legal = subst (λ place. IsLegal (limits_at place) reg.seen) (sym at)
+  legal = subst (λ place. IsLegal (limits_on place) reg.seen) (sym at)
       ((good (phaser_terms phaser) (ap (λ place. place.1) at)).legal);
   entry = reg.entry;
   member = entry;

@@ -1,5 +1,5 @@
--- What contracts see of a registration with its phaser, and what its calls do to the history that it
--- has seen.
+-- What contracts see of a registration with its phaser, and what its calls do to the history that
+-- it has seen.
 use Rattle.std.specs.Prelude.{◌≡◌, ◌≢◌, ℕ, ℤ, List, [], ◌∷◌, ◌++◌, Option, Some, None, Result, Ok, Err, true}
 use Rattle.turn_lock.specs.Seats.{Place}
 use Rattle.phase_base.specs.Limits.{Limits, limits}
@@ -32,8 +32,8 @@ abbrev pub limits_of : Option (Terms NoRule) → Limits
 limits_of None = limits 1 1
 limits_of (Some terms) = terms.limits
 
-abbrev pub limits_at : Spot → Limits
-limits_at at = limits_of at.1
+abbrev pub limits_on : Spot → Limits
+limits_on at = limits_of at.1
 
 -- a member: its phaser, its number, its mode, the value that it holds where one was refused, and
 -- the history that it has seen
@@ -65,7 +65,7 @@ HoldsJust op held (Some value) = StandsForSends op held (value ∷ [])
 
 -- it is registered, in its mode, and what it has seen is legal
 pub record IsMember (m : MemberState) : Type 0 where
-  pub legal : IsLegal (limits_at m.at) m.seen
+  pub legal : IsLegal (limits_on m.at) m.seen
   pub entry : Entry
   pub member : entry_of (members_of m.seen) m.number ≡ Some entry
   pub mode : entry.mode ≡ m.mode
@@ -75,7 +75,7 @@ pub record Stays (old new : MemberState) : Type 0 where
   pub at : new.at ≡ old.at
   pub number : new.number ≡ old.number
   pub mode : new.mode ≡ old.mode
-  pub legal : IsLegal (limits_at old.at) new.seen
+  pub legal : IsLegal (limits_on old.at) new.seen
 
 -- it is the only one on its phaser that it has seen
 pub record IsAlone (m : MemberState) : Type 0 where
@@ -98,13 +98,13 @@ RefusesPut value single old new BadValue = (value ≡ NO_VALUE) × (new ≡ old)
 RefusesPut value single old new HoldsAnother = HoldsOther old.held value × (new ≡ old)
 RefusesPut value single old new Busy = (new.seen ≡ old.seen) × IsHeld new value
 RefusesPut value single old new (Refused refusal) =
-    SignalsValue (limits_at old.at) old.number value single old.seen new.seen (Err refusal)
+    SignalsValue (limits_on old.at) old.number value single old.seen new.seen (Err refusal)
     × IsHeld new value
 
 -- a value that is put by a signal of its own, or the refusal
 abbrev pub Puts : ℤ → Option Single → MemberState → MemberState → Result ℕ PutRefusal → Type 0
 Puts value single old new (Ok phase) =
-    SignalsValue (limits_at old.at) old.number value single old.seen new.seen (Ok phase)
+    SignalsValue (limits_on old.at) old.number value single old.seen new.seen (Ok phase)
     × (new.held ≡ None)
 Puts value single old new (Err refusal) = RefusesPut value single old new refusal
 
@@ -128,13 +128,14 @@ pub record HasLeft (old : MemberState) (left : LeftState) : Type 0 where
   pub at : left.at ≡ old.at
   pub numbers : left.numbers ≡ old.number ∷ []
   pub leaves : Leaves old.number old.seen left.seen
-  pub legal : IsLegal (limits_at old.at) left.seen
+  pub legal : IsLegal (limits_on old.at) left.seen
 
--- two that left as one: its history begins with what each has seen, and has no later event of theirs
+-- two that left as one: its history begins with what each has seen, and has no later event of
+-- theirs
 pub record HasJoined (first second both : LeftState) : Type 0 where
   pub at : both.at ≡ first.at
   pub numbers : both.numbers ≡ first.numbers ++ second.numbers
   pub distinct : is_distinct both.numbers ≡ true
   pub first_came : OthersCame first.numbers first.seen both.seen
   pub second_came : OthersCame second.numbers second.seen both.seen
-  pub legal : IsLegal (limits_at first.at) both.seen
+  pub legal : IsLegal (limits_on first.at) both.seen

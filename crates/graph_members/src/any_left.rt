@@ -2,7 +2,7 @@
 ghost use Rattle.std.specs.Prelude.{◌≡◌, true};
 ghost use Rattle.phase_history.specs.Legal.{IsLegal};
 ghost use Rattle.phase_history.specs.Others.{is_distinct};
-ghost use Rattle.graph_members.specs.Members.{limits_at, HasJoined};
+ghost use Rattle.graph_members.specs.Members.{limits_on, HasJoined};
 ghost use Rattle.graph_members.specs.AnyMembers.{left_in, left_op};
 
 use crate::left::Left;
@@ -21,7 +21,7 @@ pub enum AnyLeft<'a> {
 impl<'a> AnyLeft<'a> {
     /// Says what holds of it wherever it was kept meanwhile. It does nothing.
     pub fn look(&self)
-        ensures legal { IsLegal (limits_at (left_in self.now).at) (left_in self.now).seen }
+        ensures legal { IsLegal (limits_on (left_in self.now).at) (left_in self.now).seen }
         ensures distinct { is_distinct (left_in self.now).numbers ≡ true }
     {
         match self {

@@ -3,7 +3,7 @@ ghost use Rattle.std.specs.Prelude.{◌≡◌, ◌≢◌, ◌↔◌, Err, IfOk, 
 ghost use Rattle.phase_accum.specs.declared.outcome.TheConstants.{NO_VALUE};
 ghost use Rattle.phase_accum.specs.Values.{value_by};
 ghost use Rattle.phase_shared.specs.Calls.{Tries, Waits};
-ghost use Rattle.graph_members.specs.Members.{limits_at, IsMember, Stays, IsAlone, HoldsOther};
+ghost use Rattle.graph_members.specs.Members.{limits_on, IsMember, Stays, IsAlone, HoldsOther};
 ghost use Rattle.graph_members.specs.Members.{Puts, HasLeft};
 ghost use Rattle.graph_members.specs.AnyMembers.{member_in, member_op, left_in, left_op};
 ghost use Rattle.graph_members.specs.AnyMembers.{AddsAny};
@@ -105,7 +105,7 @@ impl<'a> AnyMember<'a> {
     /// memory.
     pub fn try_get(&mut self) -> Result<Got, Tried<WaitRefusal>>
         ensures call { let old = member_in self.old in let new = member_in self.new in
-            Tries (new ≡ old) (Waits (value_by (member_op self.old)) (limits_at old.at) old.number
+            Tries (new ≡ old) (Waits (value_by (member_op self.old)) (limits_on old.at) old.number
             old.seen new.seen) result }
         ensures stays { Stays (member_in self.old) (member_in self.new) }
         ensures op { member_op self.new ≡ member_op self.old }
@@ -141,8 +141,8 @@ impl<'a> AnyMember<'a> {
         each_child!(self, one => one.add(rt, mode))
     }
 
-    /// Ends the registration: the value that it holds is in no phase. Where another is in the middle
-    /// of a call it comes back as it was. It takes no memory.
+    /// Ends the registration: the value that it holds is in no phase. Where another is in the
+    /// middle of a call it comes back as it was. It takes no memory.
     pub fn try_leave(self) -> Result<AnyLeft<'a>, AnyMember<'a>>
         ensures ok { IfOk result (λ left. HasLeft (member_in self.entry) (left_in left)
             × (left_op left ≡ member_op self.entry)) }

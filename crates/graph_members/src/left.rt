@@ -2,7 +2,7 @@
 ghost use Rattle.std.specs.Prelude.{◌≡◌, true};
 ghost use Rattle.phase_history.specs.Legal.{IsLegal};
 ghost use Rattle.phase_history.specs.Others.{is_distinct};
-ghost use Rattle.graph_members.specs.Members.{limits_at, HasJoined};
+ghost use Rattle.graph_members.specs.Members.{limits_on, HasJoined};
 
 use phase_accum::Accumulate;
 use phase_shared::{NoRule, Past, Phaser};
@@ -32,7 +32,7 @@ impl<'a, A: Accumulate> Left<'a, A> {
     /// Says what holds of it wherever it was kept meanwhile, as in a list or under a lock. It does
     /// nothing.
     pub fn look(&self)
-        ensures legal { IsLegal (limits_at self.now.at) self.now.seen }
+        ensures legal { IsLegal (limits_on self.now.at) self.now.seen }
         ensures distinct { is_distinct self.now.numbers ≡ true }
     {
         self.past.look();

@@ -3,8 +3,8 @@ ghost use Rattle.std.specs.Prelude.{◌≡◌, ◌≢◌, ◌↔◌, Err, IfOk, 
 ghost use Rattle.phase_accum.specs.declared.outcome.TheConstants.{NO_VALUE};
 ghost use Rattle.phase_shared.specs.Calls.{Tries, Waits};
 ghost use Rattle.phase_shared.specs.Regs.{phaser_place};
-ghost use Rattle.graph_members.specs.Members.{limits_at, member_state, IsMember, Stays, IsAlone, HoldsOther};
-ghost use Rattle.graph_members.specs.Members.{Puts, Adds, HasLeft};
+ghost use Rattle.graph_members.specs.Members.{limits_on, member_state, IsMember, Stays, IsAlone};
+ghost use Rattle.graph_members.specs.Members.{HoldsOther, Puts, Adds, HasLeft};
 
 use crate::left::Left;
 use crate::refusal::PutRefusal;
@@ -17,9 +17,9 @@ use std::sync::Wait;
 
 /// A registration with its phaser, which any one thread has at a time.
 ///
-/// **What it has.** Its phaser, a number that nobody else has there, a mode, the value that it holds
-/// where one was refused, and, in proofs alone, the history that it has seen. Each call makes that
-/// history longer, by what the others did meanwhile and by its own event.
+/// **What it has.** Its phaser, a number that nobody else has there, a mode, the value that it
+/// holds where one was refused, and, in proofs alone, the history that it has seen. Each call makes
+/// that history longer, by what the others did meanwhile and by its own event.
 ///
 /// **Calls.** Those that begin with `try_` answer at once, `Busy` where another registration is in
 /// the middle of a call.
@@ -110,7 +110,7 @@ impl<'a, A: Accumulate> Member<'a, A> {
     /// memory.
     pub fn try_get(&mut self) -> Result<Got, Tried<WaitRefusal>>
         ensures call { let old = self.old in Tries (self.new ≡ old)
-            (Waits A.operation.value (limits_at old.at) old.number old.seen self.new.seen) result }
+            (Waits A.operation.value (limits_on old.at) old.number old.seen self.new.seen) result }
         ensures stays { Stays self.old self.new }
         ensures held { self.new.held ≡ self.old.held }
         ensures known { result ≢ Err (Tried.Refused WaitRefusal.NoTask) }
@@ -155,8 +155,8 @@ impl<'a, A: Accumulate> Member<'a, A> {
         }
     }
 
-    /// Ends the registration: the value that it holds is in no phase. Where another is in the middle
-    /// of a call it comes back as it was. It takes no memory.
+    /// Ends the registration: the value that it holds is in no phase. Where another is in the
+    /// middle of a call it comes back as it was. It takes no memory.
     pub fn try_leave(self) -> Result<Left<'a, A>, Member<'a, A>>
         ensures ok { IfOk result (HasLeft self.entry) }
         ensures err { IfErr result (λ back. back ≡ self.entry) }
