@@ -1,6 +1,6 @@
 //! Tests of a lock and of a phaser between threads, by their public calls: of `turn_lock`,
-//! `phase_shared` and `phase_received`. They stand in a crate of their own, since a crate is proved
-//! anew with its tests.
+//! `phase_shared`, `phase_received` and `graph_members`. They stand in a crate of their own, since a
+//! crate is proved anew with its tests.
 #![tactic(auto)]
 
 #[cfg(test)]
@@ -11,6 +11,8 @@ mod head;
 mod kept;
 #[cfg(test)]
 mod locks;
+#[cfg(test)]
+mod members;
 #[cfg(test)]
 mod parts;
 #[cfg(test)]
