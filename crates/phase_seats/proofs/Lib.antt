@@ -5,3 +5,5 @@ pub mod SignalSteps
 pub mod WaitSteps
 pub mod RegisterSteps
 pub mod Meeting
+pub mod BlockSteps
+pub mod JoinSteps

@@ -8,6 +8,7 @@ use Rattle.phase_base.specs.Limits.{Limits}
 use Rattle.phase_base.specs.declared.mode.Mode.{Mode}
 use Rattle.phase_base.specs.declared.entry.Entry.{Entry}
 use Rattle.phase_accum.specs.Operations.{Operation}
+use Rattle.phase_history.specs.declared.event.Event.{Event}
 use Rattle.phase_history.specs.declared.event.Event.TheVariants.{Registered}
 use Rattle.phase_history.specs.declared.refusal.RegisterRefusal.{RegisterRefusal}
 use Rattle.phase_history.specs.declared.refusal.RegisterRefusal.TheVariants as register
@@ -21,7 +22,7 @@ use Rattle.phase_core.specs.Cores.{CoreState}
 use Rattle.phase_history.proofs.Refused.{registers_from}
 use Rattle.phase_seats.specs.declared.view.View.{View}
 use Rattle.phase_seats.specs.declared.rule.Terms.{Terms}
-use Rattle.phase_history.specs.Others.{IsUsed, is_in}
+use Rattle.phase_history.specs.Others.{IsUsed, is_by, is_in}
 use Rattle.phase_seats.specs.Views.{knowledge, resting, turning, first_part, other_part}
 use Rattle.phase_seats.specs.Rule.{Allows, IsGoodAt, HasOneHistory, StandsWithin}
 use Rattle.phase_seats.specs.Calls.{number_after, next_child, RefusesRegister}
@@ -42,7 +43,7 @@ in_two a b t has = elim (eqb a t) as (λ c. (eqb a t ≡ c) → (c || (eqb b t |
 none_some : {A : Type 0} (o : Option A) → o ≡ None → is_some o ≡ true → ⊥
 none_some o none some = let z : false ≡ true = sym (ap is_some none) ∙ some in cc
 
-child_used : (now : History) (me child : ℕ) (mode : Mode) → IsUsed (Registered me child mode ∷ now) child
+pub child_used : (now : History) (me child : ℕ) (mode : Mode) → IsUsed (Registered me child mode ∷ now) child
 child_used now me child mode = rw (eqb_refl child) refl
 
 -- what an accepted registration says of the child's number
@@ -75,23 +76,25 @@ pub child_is_next : (now : History) (child greatest : ℕ) → greatest ≡ grea
 child_is_next now child greatest is next above = grind (arith, nat_tests)
 
 module _ {A K : Type 0} (op : Operation A) (allows : K → Allows) (terms : Terms K) (me : ℕ) where
-  pub gives_child : (number : ℕ) (y : CoreState A) (w : View) (now : History) (child : ℕ) (mode : Mode) → w ≡ turning now (me ∷ []) → IsUsed now me → NewChild now me child
-      → IsGoodAt allows terms (Registered me child mode ∷ now) → StandsWithin op terms.limits y (Registered me child mode ∷ now)
-      → (goes : View → View → Type 0) → goes (turning now (me ∷ [])) (resting (Registered me child mode ∷ now) (me ∷ child ∷ []))
+  -- a give after a call that registered a child by this event
+  pub gives_child : (number : ℕ) (y : CoreState A) (w : View) (now : History) (event : Event) (child : ℕ) → ((task : ℕ) → is_by task event ≡ eqb me task)
+      → IsUsed (event ∷ now) child → w ≡ turning now (me ∷ []) → IsUsed now me → NewChild now me child
+      → IsGoodAt allows terms (event ∷ now) → StandsWithin op terms.limits y (event ∷ now)
+      → (goes : View → View → Type 0) → goes (turning now (me ∷ [])) (resting (event ∷ now) (me ∷ child ∷ []))
       → Gives (HasOneHistory op allows) terms number w y (λ v z u. goes v u)
-  gives_child number y w now child mode is used new good stands goes told =
+  gives_child number y w now event child by born is used new good stands goes told =
       let out : eqb child me ≡ false = ne_eqb child me new.apart in
       subst (λ (z : View). Gives (HasOneHistory op allows) terms number z y (λ v q u. goes v u)) (sym is)
       (λ views k at. (
-        resting (Registered me child mode ∷ now) (me ∷ child ∷ []),
-        gives terms.limits (allows terms.rule) (StandsWithin op terms.limits) number (knowledge now (me ∷ [])) y (Registered me child mode ∷ []) (me ∷ child ∷ [])
-            (λ task none. ap (λ b. cond b (Registered me child mode ∷ []) []) (or_false (eqb me task) none))
+        resting (event ∷ now) (me ∷ child ∷ []),
+        gives terms.limits (allows terms.rule) (StandsWithin op terms.limits) number (knowledge now (me ∷ [])) y (event ∷ []) (me ∷ child ∷ [])
+            (λ task none. ap (λ b. cond b (event ∷ []) []) (by task ∙ or_false (eqb me task) none))
             good stands (rw out refl)
             (λ task has. ⊎_elim
-            (λ (m : me ≡ task). subst (λ (n : ℕ). IsUsed (Registered me child mode ∷ now) n × ((is_in n (me ∷ []) ≡ true) ⊎ (IsUsed now n → ⊥))) m
-            (IsUsed-longer terms.limits now (Registered me child mode ∷ now) me good.legal (record { later = Registered me child mode ∷ []; is = refl }) used, inl (is_in_self me [])))
-            (λ (m : child ≡ task). subst (λ (n : ℕ). IsUsed (Registered me child mode ∷ now) n × ((is_in n (me ∷ []) ≡ true) ⊎ (IsUsed now n → ⊥))) m
-            (child_used now me child mode, inr new.unused))
+            (λ (m : me ≡ task). subst (λ (n : ℕ). IsUsed (event ∷ now) n × ((is_in n (me ∷ []) ≡ true) ⊎ (IsUsed now n → ⊥))) m
+            (IsUsed-longer terms.limits now (event ∷ now) me good.legal (record { later = event ∷ []; is = refl }) used, inl (is_in_self me [])))
+            (λ (m : child ≡ task). subst (λ (n : ℕ). IsUsed (event ∷ now) n × ((is_in n (me ∷ []) ≡ true) ⊎ (IsUsed now n → ⊥))) m
+            (born, inr new.unused))
             (in_two me child task has)) views k at,
         told,
       ))

@@ -4,3 +4,5 @@ pub mod LockedPhasers
 pub mod Calls
 pub mod Entries
 pub mod Steps
+pub mod Blocks
+pub mod Joins

@@ -139,9 +139,8 @@ impl Hints {
         self.done.pause(rt, phase.saturating_add(1));
     }
 
-    // Pauses while a signal of the phase is ahead.
-    pub fn pause_for_room<R: Wait>(&self, rt: &R, phase: u64) {
-        self.base
-            .pause(rt, phase.saturating_add(1).saturating_sub(self.bound));
+    // Pauses while a signal of the phases below `next` is ahead.
+    pub fn pause_for_room<R: Wait>(&self, rt: &R, next: u64) {
+        self.base.pause(rt, next.saturating_sub(self.bound));
     }
 }

@@ -10,8 +10,10 @@
 //! Not promised: that a turn is ever free, and when a pause ends.
 #![tactic(auto)]
 
+pub mod block_steps;
 mod ghost_steps;
 mod hints;
+pub mod join_steps;
 mod locked;
 mod rule;
 pub mod steps;

@@ -48,8 +48,8 @@ impl<A: Accumulate, K: SignalRule> LockedPhaser<A, K> {
         self.hints.pause_for_phase(rt, phase);
     }
 
-    /// Pauses while a signal of the phase is ahead, or for some time.
-    pub fn pause_for_room<W: Wait>(&self, rt: &W, phase: u64) {
-        self.hints.pause_for_room(rt, phase);
+    /// Pauses while a signal of the phases below `next` is ahead, or for some time.
+    pub fn pause_for_room<W: Wait>(&self, rt: &W, next: u64) {
+        self.hints.pause_for_room(rt, next);
     }
 }

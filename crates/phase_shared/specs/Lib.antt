@@ -8,3 +8,6 @@ pub mod Nexts
 pub mod Puts
 pub mod OneSends
 pub mod Parts
+pub mod Blocks
+pub mod Joins
+pub mod BlockParts

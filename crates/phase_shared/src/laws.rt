@@ -26,6 +26,10 @@ ghost use Rattle.phase_shared.specs.Parts.{PartStays, HasNoPart, SendsHeld, Gets
 
 use phase_accum::Accumulate;
 
+mod blocks;
+
+pub use blocks::{plain_signals, registers_now, signals_block, waits_block};
+
 /// Under others' events the part of each of these tasks stays, and so do their lists of what they
 /// have received.
 pub fn parts_stay()

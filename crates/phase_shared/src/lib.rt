@@ -103,6 +103,7 @@
 //! other anything.
 #![tactic(auto)]
 
+mod blocks;
 pub mod laws;
 mod next;
 pub mod one_send;
@@ -113,6 +114,7 @@ mod refusal;
 mod reg;
 mod trying;
 mod waiting;
+mod waiting_blocks;
 
 pub use next::Next;
 pub use past::Past;

@@ -80,21 +80,23 @@ impl<A: Accumulate, K: SignalRule> Reg<A, K> {
             if let Some(refusal) = refusal::of_signal(tried) {
                 return Err(refusal);
             }
-            self.pause_for_room(rt, phaser, &backoff, tried);
+            self.pause_for_room(rt, phaser, 1, &backoff, tried);
         }
         unreachable!()
     }
 
-    // Pauses after a signal whose turn was another's, or which was ahead.
-    fn pause_for_room<W: Wait>(
+    // Pauses after a signal of so many phases whose turn was another's, or which was ahead.
+    pub(crate) fn pause_for_room<W: Wait>(
         &self,
         rt: &W,
         phaser: &Phaser<A, K>,
+        phases: u64,
         backoff: &Backoff,
         tried: Tried<SignalRefusal>,
     ) {
         if let Tried::Refused(_) = tried {
-            phaser.locked.pause_for_room(rt, self.entry.signal_phase);
+            let next = self.entry.signal_phase.saturating_add(phases);
+            phaser.locked.pause_for_room(rt, next);
         }
         refusal::snooze_if_busy(backoff, &tried);
     }
@@ -127,7 +129,7 @@ impl<A: Accumulate, K: SignalRule> Reg<A, K> {
     }
 
     // Pauses while the phase of its next wait is not complete.
-    fn pause_for_phase<W: Wait>(&self, rt: &W, phaser: &Phaser<A, K>) {
+    pub(crate) fn pause_for_phase<W: Wait>(&self, rt: &W, phaser: &Phaser<A, K>) {
         let entry = self.entry;
         let signals_first = entry.mode.signals() && entry.signal_phase == entry.wait_phase;
         if entry.mode.waits() && !signals_first {

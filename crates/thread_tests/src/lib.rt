@@ -4,6 +4,10 @@
 #![tactic(auto)]
 
 #[cfg(test)]
+mod block_tries;
+#[cfg(test)]
+mod blocks;
+#[cfg(test)]
 mod churn;
 #[cfg(test)]
 mod head;

@@ -16,7 +16,7 @@ use Rattle.phase_history.specs.declared.refusal.RegisterRefusal.TheVariants as r
 use Rattle.phase_history.proofs.Answered.{register_refusal-never}
 use Rattle.phase_seats.specs.declared.view.View.{View}
 use Rattle.phase_seats.proofs.Giving.{gives_same, station, lent, after_call, AfterCall, told_entry}
-use Rattle.phase_seats.proofs.RegisterSteps.{NewChild, new_child, member_child, gives_child, refuses, child_is_next}
+use Rattle.phase_seats.proofs.RegisterSteps.{NewChild, new_child, child_used, member_child, gives_child, refuses, child_is_next}
 use Rattle.phase_seats.proofs.steps.register.Given.{Over}
 use Rattle.phase_seats.proofs.steps.register.Goals.{In-Some}
 use Rattle.phase_seats.proofs.steps.register.Goals as goal
@@ -79,7 +79,8 @@ put_back-both-requires-clause-rule g c =
     let new = born g (goal.at.put_back-both-requires-clause-rule g c).In-Some in
     let event = Registered me child mode in
     let s = left g (goal.at.put_back-both-requires-clause-rule g c).In-Some in
-    gives_child op allows terms me (turn_number turn) c.register-answer.new.self (turn_view turn) e.now child mode e.is e.used new s.good s.stands
+    gives_child op allows terms me (turn_number turn) c.register-answer.new.self (turn_view turn) e.now event child (λ task. refl)
+    (child_used e.now me child mode) e.is e.used new s.good s.stands
     (λ v w. w ≡ resting (event ∷ (known_of v).seen) (me ∷ child ∷ [])) refl
 
 pub give-requires-clause-rule : goal.give-requires-clause-rule

@@ -1,0 +1,22 @@
+use Rattle.std.proofs.Common.{◌≡◌, subst, ap, ◌∙◌, rules}
+use Rattle.phase_shared.specs.Regs.{RegState}
+use Rattle.phase_shared.specs.Calls.{Tries}
+use Rattle.phase_shared.specs.Joins.{RegistersNow, IsChildNow}
+use Rattle.phase_shared.proofs.reg.Reg.register_now.Goals as goal
+
+pub returns-in-Ok-clause-call : goal.returns-in-Ok-clause-call
+returns-in-Ok-clause-call g c =
+    let op = g.A.Accumulate.operation in
+    let i = c.loop.invariant in
+    let t = c.try_register_now.ensures.call in
+    let now = c.loop.self in
+    let new = c.try_register_now.new.self in
+    let P : RegState g.row.A.Denot g.row.K.Denot → Type 0 = λ old. IsChildNow op old new c.in-Ok.child in
+    record {
+      call = subst P i (subst (λ r. Tries (new ≡ now) (RegistersNow op now new) r) c.in-Ok.is t.call);
+      entry = t.entry ∙ ap (λ r. r.entry) i;
+      mode = t.mode ∙ ap (λ r. r.entry.mode) i;
+      at = (t.at.0 ∙ ap (λ r. r.at) i, t.at.1 ∙ ap (λ r. r.number) i);
+      good = t.good;
+      known = search rules;
+    }
