@@ -1,4 +1,5 @@
 pub mod Runs
 pub mod Worked
 pub mod WorkedFaults
+pub mod WorkedPlaces
 pub mod WorkedTurns

@@ -1,5 +1,5 @@
 //! The table of turns at the worked runs: what each turn makes, and what it tells.
-ghost use Rattle.std.specs.Prelude.{◌≡◌, ◌≢◌, ℕ, [], ◌∷◌, Some, None, IsSome, map, pos};
+ghost use Rattle.std.specs.Prelude.{◌≡◌, ◌≢◌, ℕ, [], ◌∷◌, Some, None, IsSome, Ok, map, pos};
 ghost use Rattle.std.specs.Prelude.{true, false};
 ghost use Rattle.graph_base.specs.declared.place.Place.TheVariants as place;
 ghost use Rattle.graph_moments.specs.Moments.{HasRun};
@@ -8,12 +8,16 @@ ghost use Rattle.graph_turns.specs.Answers.{answers_in_turn, makes, turn_tells, 
 ghost use Rattle.graph_turns.specs.Answers.{answer_of_turn, after_answer, after_turns, is_refused};
 ghost use Rattle.graph_turns.specs.Beginnings.{opening};
 ghost use Rattle.graph_turns.specs.Reached.{HasBegun, IsReachable};
+ghost use Rattle.graph_turns.specs.Nexts.{first_kept};
+ghost use Rattle.graph_turns.specs.TaskPlaces.{StandsAt, registration_at, value};
 ghost use Rattle.graph_turns.specs.Answers.{Moved, Ended, Blocked, Gone, TooBig};
 ghost use Rattle.graph_tests.specs.Worked.{worked, worked_opening, worked_turns, worked_order};
 ghost use Rattle.graph_tests.specs.Worked.{after_signal_on_e, with_late, before_end, worked_end};
 ghost use Rattle.graph_tests.specs.Worked.{before_late, late_registers};
 ghost use Rattle.graph_tests.specs.Worked.{founded, founded_exchange};
 ghost use Rattle.graph_tests.specs.WorkedFaults.{faulty, faulty_moment, before_fault};
+ghost use Rattle.graph_tests.specs.WorkedPlaces.{source_at, peer_at};
+ghost use Rattle.graph_tests.specs.WorkedPlaces.{after_sample, after_peer_wait};
 ghost use Rattle.graph_tests.specs.WorkedTurns.{late, late_after, with_child, child_after};
 ghost use Rattle.graph_tests.specs.WorkedTurns.{crossed, crossed_after, six, seven};
 
@@ -70,6 +74,25 @@ fn the_run_begins()
 {
     a_run_from_its_opening_to_its_end();
     turns::runs_begin();
+}
+
+/// At the opening of that run the source is registered as 1 and has begun nothing. By the laws it has
+/// begun a step after its sample, while the peer, which is registered as 2, 1 and 1, stays where it
+/// was; and once the peer has taken the sample 5, it owes 5 on E, its output 0.
+fn places_follow_the_run()
+    ensures source { StandsAt worked worked_opening 0 source_at }
+    ensures peer { StandsAt worked worked_opening 1 peer_at }
+    ensures begun { StandsAt worked after_sample 0 (record source_at { begun = 1 }) }
+    ensures waits { StandsAt worked after_sample 1 peer_at }
+    ensures owes { StandsAt worked after_peer_wait 1
+        (record peer_at { begun = 1; owed = value 0 (Ok (pos 5)) }) }
+    ensures leaves_first { first_kept worked worked_opening 1 ≡ Some (registration_at worked 1 0) }
+{
+    a_run_from_its_opening_to_its_end();
+    the_run_is_reached();
+    turns::turns_stay_reached();
+    turns::places_follow();
+    turns::places_tell();
 }
 
 /// What single turns of that run tell.
