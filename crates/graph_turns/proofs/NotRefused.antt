@@ -82,7 +82,7 @@ accepted_told event (Some r) e = absurd (cc)
 -- ---- members
 
 -- a task that is registered on a phaser and has not left it is a member there
-member_on : (job : Job) (m : Moment) (t p n : ℕ) (mode : Mode) → IsReachable job m
+pub member_on : (job : Job) (m : Moment) (t p n : ℕ) (mode : Mode) → IsReachable job m
     → t < length job.graph.tasks → HasRegistration job t p mode → p < length job.graph.phasers
     → m.number p t ≡ Some n → has_dropped (m.history p) n ≡ false → IsMember m p n mode
 member_on job m t p n mode reached there r pp at stays =

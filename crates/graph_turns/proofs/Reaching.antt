@@ -30,7 +30,7 @@ use Rattle.graph_turns.specs.TaskEvents.{TaskEvent, IsNext, sample, signal, firs
 use Rattle.graph_turns.specs.Nexts.{HasChildrenToCome, first_missing, has_registered, registrations_at}
 use Rattle.graph_turns.specs.Reached.{HasMode, HasModes, HasOnlyTasks, HasBegun, IsReachable}
 use Rattle.graph_turns.proofs.Places.{find-some}
-use Rattle.graph_turns.proofs.Whose.{task_of, IsForMissing}
+use Rattle.graph_turns.proofs.Whose.{task_of, IsInOrder}
 
 -- ---- events that give no number
 
@@ -257,7 +257,7 @@ get_or-any (x ∷ xs) (suc k) d e lt = get_or-any xs k d e (omega arith)
 modes_registered : (job : Job) (before after : Moment) (t p n c a : ℕ) (mode : Mode) (u : Parent)
     → IsGraph job.graph → HasRun job before → HasRun job after
     → Registers job before after t p n c a mode u
-    → IsForMissing job before (child t p n c a mode) → p < length job.graph.phasers
+    → IsInOrder job before (child t p n c a mode) → p < length job.graph.phasers
     → HasModes job before → HasModes job after
 modes_registered job before after t p n c a mode u is ran now s missing pp modes x there k d lt =
     let R : Registration → Type 0 = λ r. HasMode after x r in
@@ -466,7 +466,7 @@ reached_moved job before after t p event moved none all ran reached = record {
 
 pub reached_after : (job : Job) (m : Moment) (event : TaskEvent) → IsGraph job.graph
     → IsReachable job m → IsNext job m event → first_missing job m (task_of event) ≡ None
-    → IsForMissing job m event → HasRun job (after_turn job event m)
+    → IsInOrder job m event → HasRun job (after_turn job event m)
     → IsReachable job (after_turn job event m)
 reached_after job m (sample t j p n v) is reached next all missing ran =
     let s = next_sample_is job m t j p n v next.1 (reached.ran.tasks t next.0.task) in

@@ -52,7 +52,7 @@ none_owed_below test from (suc many) j i e low high =
         later (inr less) = (let same : from ≡ i = omega arith in ap test (sym same) ∙ is)
 
 -- how far a peer's E is: it has taken there all values but one at least
-peer_taken : (job : Job) (m : Moment) (t : ℕ) → IsGraph job.graph → IsReachable job m
+pub peer_taken : (job : Job) (m : Moment) (t : ℕ) → IsGraph job.graph → IsReachable job m
     → t < length job.graph.tasks → (task_at job.graph t).kind ≡ Peer
     → (length (m.taken t 1) ≤ m.begun t) × (m.begun t ≤ length (m.taken t 1) + 1)
 peer_taken job m t is reached there peer =

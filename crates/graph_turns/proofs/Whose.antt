@@ -21,16 +21,20 @@ task_of (exchange_wait t p n outcome) = t
 task_of (leave t p n) = t
 task_of (child t p n c a mode) = t
 
--- a child is registered for the first of its registrations that it has not made
-abbrev pub IsForMissing : Job → Moment → TaskEvent → Type 0
-IsForMissing job m (child t p n c a mode) =
+-- a child is registered for the first of its registrations that it has not made, and a task leaves
+-- the first phaser that it has not left
+abbrev pub IsInOrder : Job → Moment → TaskEvent → Type 0
+IsInOrder job m (child t p n c a mode) =
     (r : Registration) × (first_missing job m c ≡ Some r) × (r.phaser ≡ p) × (r.mode ≡ mode)
-IsForMissing job m event = Unit {0}
+    × (greatest_used (m.history p) + 1 ≡ a)
+IsInOrder job m (leave t p n) =
+    (r : Registration) × (first_kept job m t ≡ Some r) × (r.phaser ≡ p) × (number_on m t p ≡ n)
+IsInOrder job m event = Unit {0}
 
 -- whose event it is, of a task that is live, and for which registration
 pub record IsMadeBy (job : Job) (m : Moment) (t : ℕ) (event : TaskEvent) : Type 0 where
   pub own : task_of event ≡ t
-  pub missing : IsForMissing job m event
+  pub missing : IsInOrder job m event
 
 made_is : (job : Job) (m : Moment) (t : ℕ) (made event : TaskEvent) → made ≡ event
     → IsMadeBy job m t made → IsMadeBy job m t event
@@ -51,16 +55,17 @@ made_next job m t event (registers c) e = register (first_missing job m c) refl 
         let made = child t r.phaser n c a r.mode in
         made_is job m t made event
         (accepted made event (register_refusal (m.history r.phaser) n a r.mode) e).1
-        (record { own = refl; missing = (r, found, refl, refl) })
-made_next job m t event leaves e = drop (first_kept job m t) e
+        (record { own = refl; missing = (r, found, refl, refl, refl) })
+made_next job m t event leaves e = drop (first_kept job m t) refl e
   where
-    drop : (o : Option Registration) → call_leave m t o ≡ makes event → IsMadeBy job m t event
-    drop None e = absurd (cc)
-    drop (Some r) e =
+    drop : (o : Option Registration) → first_kept job m t ≡ o → call_leave m t o ≡ makes event
+        → IsMadeBy job m t event
+    drop None found e = absurd (cc)
+    drop (Some r) found e =
         let made = leave t r.phaser (number_on m t r.phaser) in
         made_is job m t made event
         (accepted made event (drop_refusal (m.history r.phaser) (number_on m t r.phaser)) e).1
-        (record { own = refl; missing = tt })
+        (record { own = refl; missing = (r, found, refl, refl) })
 made_next job m t event samples e =
     let p = output_at job t 0 in
     let v = get_or (samples_at job t) (m.begun t) (pos 0) in

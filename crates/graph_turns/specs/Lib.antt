@@ -3,3 +3,4 @@ pub mod Beginnings
 pub mod Nexts
 pub mod Reached
 pub mod TaskEvents
+pub mod TaskPlaces

@@ -1,17 +1,28 @@
 //! What a turn makes is the task's next event. Each function here makes no call and has no effect:
 //! its contract is the law.
-ghost use Rattle.std.specs.Prelude.{◌≡◌, ◌≢◌, ℕ, List, Option, None, IsSome};
+ghost use Rattle.std.specs.Prelude.{◌≡◌, ◌≢◌, ◌<◌, ℕ, List, Option, Some, None};
+ghost use Rattle.std.specs.Prelude.{IsSome, length, slice_get, ℤ};
+ghost use Rattle.phase_base.specs.declared.mode.Mode.{Mode};
 ghost use Rattle.phase_accum.specs.Sends.{AreSends};
+ghost use Rattle.phase_accum.specs.declared.outcome.Outcome.{Outcome};
+ghost use Rattle.graph_base.specs.Graphs.{task_at};
+ghost use Rattle.graph_base.specs.Registrations.{signalled_by};
 ghost use Rattle.graph_base.specs.TaskLines.{IsGraph};
 ghost use Rattle.stream_lists.specs.Jobs.{Job, samples_at};
 ghost use Rattle.stream_lists.specs.Ranges.{Where};
-ghost use Rattle.graph_moments.specs.Moments.{Moment, HasRun};
+ghost use Rattle.graph_moments.specs.Moments.{Moment, HasRun, input_at};
 ghost use Rattle.graph_turns.specs.TaskEvents.{TaskEvent, IsNext, after_turn};
+ghost use Rattle.graph_turns.specs.TaskEvents.{sample, signal, first_wait, exchange_wait};
+ghost use Rattle.graph_turns.specs.TaskEvents.{child, leave};
 ghost use Rattle.graph_turns.specs.Nexts.{first_due, HasChildrenToCome};
+ghost use Rattle.graph_turns.specs.Nexts.{first_missing, first_kept, registrations_at};
 ghost use Rattle.graph_turns.specs.Answers.{answer_of_turn, after_answer, after_turns, makes};
-ghost use Rattle.graph_turns.specs.Answers.{is_refused, turn_tells};
+ghost use Rattle.graph_turns.specs.Answers.{is_refused, turn_tells, output_at};
 ghost use Rattle.graph_turns.specs.Beginnings.{opening};
 ghost use Rattle.graph_turns.specs.Reached.{HasBegun, IsReachable};
+ghost use Rattle.graph_turns.specs.TaskPlaces.{TaskPlace, StandsAt, own_place, child_place};
+ghost use Rattle.graph_turns.specs.TaskPlaces.{child_of};
+ghost use Rattle.graph_turns.specs.TaskPlaces.{registration_at, registration_of_output};
 
 use graph_moves::laws as moves;
 
@@ -65,4 +76,69 @@ pub fn runs_begin()
     ensures reached { (job : Job) → IsGraph job.graph → IsReachable job (opening job) }
 {
     turns_stay_reached();
+}
+
+/// What the place of a task tells of its registrations: the first that it misses stands behind its
+/// numbers, and the first that it has not left behind those that it has. Registration `k` is on
+/// input `k`, and that of an output on the output. So whoever keeps a task's numbers in the order of
+/// its registrations need not search.
+pub fn places_tell()
+    ensures missing { (job : Job) (m : Moment) (t : ℕ) (at : TaskPlace) → StandsAt job m t at
+        → first_missing job m t ≡ slice_get (registrations_at job t) (length at.numbers) }
+    ensures kept { (job : Job) (m : Moment) (t : ℕ) (at : TaskPlace) → StandsAt job m t at
+        → length at.numbers ≡ length (registrations_at job t)
+        → first_kept job m t ≡ slice_get (registrations_at job t) at.left }
+    ensures input { (job : Job) (t k : ℕ) → IsGraph job.graph → t < length job.graph.tasks
+        → k < length (task_at job.graph t).inputs
+        → (registration_at job t k).phaser ≡ input_at (task_at job.graph t) k }
+    ensures output { (job : Job) (t j : ℕ) → IsGraph job.graph → t < length job.graph.tasks
+        → j < length (signalled_by (task_at job.graph t))
+        → (registration_of_output (task_at job.graph t) j < length (registrations_at job t))
+        × ((registration_at job t (registration_of_output (task_at job.graph t) j)).phaser
+        ≡ output_at job t j) }
+{}
+
+/// The places of the tasks follow a turn's event. Another task stays at its place, `others`, but a
+/// child that is registered has one number more, `child`. The task itself goes on to its `own_place`:
+/// a parent stays, who leaves a phaser has left one more, and who begins a step, signals or waits
+/// owes the rest of the step. So whoever moves tasks keeps for each of them its place alone.
+pub fn places_follow()
+    ensures others { (job : Job) (m : Moment) (t u : ℕ) (event : TaskEvent) (at : TaskPlace)
+        → IsGraph job.graph → IsReachable job m → answer_of_turn job m t ≡ makes event
+        → u < length job.graph.tasks → u ≢ t → child_of event ≢ Some u → StandsAt job m u at
+        → StandsAt job (after_turn job event m) u at }
+    ensures child { (job : Job) (m : Moment) (t p n c a : ℕ) (mode : Mode) (at : TaskPlace)
+        → IsGraph job.graph → IsReachable job m
+        → answer_of_turn job m t ≡ makes (child t p n c a mode) → StandsAt job m c at
+        → StandsAt job (after_turn job (child t p n c a mode) m) c (child_place a at) }
+    ensures parent { (job : Job) (m : Moment) (t p n c a : ℕ) (mode : Mode) (at : TaskPlace)
+        → IsGraph job.graph → IsReachable job m
+        → answer_of_turn job m t ≡ makes (child t p n c a mode) → StandsAt job m t at
+        → StandsAt job (after_turn job (child t p n c a mode) m) t
+        (own_place job m (child t p n c a mode) at) }
+    ensures leave { (job : Job) (m : Moment) (t p n : ℕ) (at : TaskPlace) → IsGraph job.graph
+        → IsReachable job m → answer_of_turn job m t ≡ makes (leave t p n) → StandsAt job m t at
+        → StandsAt job (after_turn job (leave t p n) m) t (own_place job m (leave t p n) at) }
+    ensures sample { (job : Job) (m : Moment) (t j p n : ℕ) (v : ℤ) (at : TaskPlace)
+        → IsGraph job.graph → IsReachable job m
+        → answer_of_turn job m t ≡ makes (sample t j p n v) → StandsAt job m t at
+        → StandsAt job (after_turn job (sample t j p n v) m) t
+        (own_place job m (sample t j p n v) at) }
+    ensures signal { (job : Job) (m : Moment) (t j p n : ℕ) (v : ℤ) (at : TaskPlace)
+        → IsGraph job.graph → IsReachable job m
+        → answer_of_turn job m t ≡ makes (signal t j p n v) → StandsAt job m t at
+        → StandsAt job (after_turn job (signal t j p n v) m) t
+        (own_place job m (signal t j p n v) at) }
+    ensures first_wait { (job : Job) (m : Moment) (t k p n : ℕ) (outcome : Outcome)
+        (at : TaskPlace) → IsGraph job.graph → IsReachable job m
+        → answer_of_turn job m t ≡ makes (first_wait t k p n outcome) → StandsAt job m t at
+        → StandsAt job (after_turn job (first_wait t k p n outcome) m) t
+        (own_place job m (first_wait t k p n outcome) at) }
+    ensures exchange_wait { (job : Job) (m : Moment) (t p n : ℕ) (outcome : Outcome)
+        (at : TaskPlace) → IsGraph job.graph → IsReachable job m
+        → answer_of_turn job m t ≡ makes (exchange_wait t p n outcome) → StandsAt job m t at
+        → StandsAt job (after_turn job (exchange_wait t p n outcome) m) t
+        (own_place job m (exchange_wait t p n outcome) at) }
+{
+    turns_make_next_events();
 }
