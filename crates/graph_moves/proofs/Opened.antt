@@ -86,7 +86,7 @@ all_named single f (Waited t n ∷ before) o = absurd o
 all_named single f (Dropped t ∷ before) o = all_named single f before o.1
 
 -- nobody left but the founder
-none_dropped : (f : ℕ) (h : History) (x : ℕ) → IsOpening f h → x ≢ f → has_dropped h x ≡ false
+pub none_dropped : (f : ℕ) (h : History) (x : ℕ) → IsOpening f h → x ≢ f → has_dropped h x ≡ false
 none_dropped f [] x o apart = absurd o
 none_dropped f (Made t ∷ before) x o apart =
     let P : History → Type 0 = λ b. has_dropped (Made t ∷ b) x ≡ false in subst P (sym o.1) refl

@@ -136,17 +136,15 @@ signals_from job m t i p n a mode legal on accepted =
     let stands : signal_phase h n ≡ r.0.signal_phase = r.2 in
     omega arith
 
--- as a waiter past what it has taken
-pub waits_from : (job : Job) (m : Moment) (t k p n a : ℕ) (mode : Mode)
+-- a task that waits stands past what it has taken
+pub waits_at : (job : Job) (m : Moment) (t k p n : ℕ) (entry : Entry)
     → IsLegal (limits_at job p) (m.history p) → OnInput job m t k p n
-    → register_refusal (m.history p) n a mode ≡ None
-    → wait_phase (m.history p) n ≡ m.offset t + length (m.taken t k)
-waits_from job m t k p n a mode legal on accepted =
+    → HasCounted (m.history p) n entry
+    → entry.wait_phase ≡ m.offset t + length (m.taken t k)
+waits_at job m t k p n entry legal on c =
     let h = m.history p in
     let value = value_at job p in
-    let r = parent_entry job m p n a mode legal accepted in
-    let c : HasCounted h n r.0 = r.1 in
-    let counts : c.start.wait_phase + phases_waited h n ≡ r.0.wait_phase = c.waits in
+    let counts : c.start.wait_phase + phases_waited h n ≡ entry.wait_phase = c.waits in
     let same : c.start ≡ on.start = same_Some _ _ (sym c.start_is ∙ on.start_is) in
     let from : c.start.wait_phase ≡ on.start.wait_phase = ap (λ (x : Entry). x.wait_phase) same in
     let at : on.start.wait_phase ≡ m.offset t = on.at in
@@ -166,8 +164,16 @@ waits_from job m t k p n a mode legal on accepted =
     let taken : length (m.taken t k) ≡ k_waited =
     ap length on.taken ∙ length-map (received_by value h n) number ∙ ap length got.received
     ∙ slice in
-    let stands : wait_phase h n ≡ r.0.wait_phase = r.3 in
     omega arith
+
+-- a parent that waits stands past what it has taken
+pub waits_from : (job : Job) (m : Moment) (t k p n a : ℕ) (mode : Mode)
+    → IsLegal (limits_at job p) (m.history p) → OnInput job m t k p n
+    → register_refusal (m.history p) n a mode ≡ None
+    → wait_phase (m.history p) n ≡ m.offset t + length (m.taken t k)
+waits_from job m t k p n a mode legal on accepted =
+    let r = parent_entry job m p n a mode legal accepted in
+    r.3 ∙ waits_at job m t k p n r.0 legal on r.1
 
 -- a task that only waits stands at signal phase 0
 pub silent_from : (job : Job) (m : Moment) (p n a : ℕ) (mode : Mode)

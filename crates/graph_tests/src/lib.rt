@@ -9,3 +9,5 @@ mod worked_events;
 mod worked_faults;
 mod worked_run;
 mod worked_turns;
+#[cfg(test)]
+mod worlds;

@@ -21,4 +21,5 @@ pub mod Standing
 pub mod Stepping
 pub mod Telling
 pub mod Turning
+pub mod Waiting
 pub mod Whose

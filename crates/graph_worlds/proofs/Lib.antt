@@ -1,0 +1,5 @@
+pub mod OpeningPhasers
+pub mod OpeningTasks
+pub mod Ending
+pub mod Reading
+pub mod Searching

@@ -1,0 +1,91 @@
+//! What the line of a task says.
+ghost use Rattle.std.specs.Prelude.{◌≡◌, ◌≢◌, ◌<◌, length};
+ghost use Rattle.graph_base.specs.Graphs.{is_source, task_at};
+ghost use Rattle.graph_base.specs.Kept.{task_of};
+ghost use Rattle.graph_base.specs.TaskLines.{HasEnds, IsTaskLine};
+ghost use Rattle.graph_base.specs.declared.line.Kind.TheVariants.{Source};
+ghost use Rattle.stream_lists.specs.Lists.{is_sink_at};
+ghost use Rattle.graph_moments.specs.Moments.{first_input, input_at};
+
+use graph_base::{Kind, Parent, TaskLine};
+use stream_lists::Job;
+
+/// The line of task number `t`.
+fn line_of(job: &Job, t: usize) -> &TaskLine
+    requires { t < length job.now.graph.tasks }
+    ensures task { task_of result.now ≡ task_at job.now.graph t }
+    ensures line { IsTaskLine job.now.graph t (task_of result.now) }
+{
+    job.graph().task(t)
+}
+
+/// What a task does.
+pub fn kind_of(job: &Job, t: usize) -> Kind
+    requires { t < length job.now.graph.tasks }
+    ensures { result ≡ (task_at job.now.graph t).kind }
+{
+    line_of(job, t).kind
+}
+
+/// The task that registers a task, and when.
+pub fn parent_of(job: &Job, t: usize) -> Option<Parent>
+    requires { t < length job.now.graph.tasks }
+    ensures { result ≡ (task_at job.now.graph t).parent }
+{
+    line_of(job, t).parent
+}
+
+/// After how many steps a task leaves.
+pub fn until_of(job: &Job, t: usize) -> Option<u64>
+    requires { t < length job.now.graph.tasks }
+    ensures { result ≡ (task_at job.now.graph t).until }
+{
+    line_of(job, t).until
+}
+
+/// Whether a task is a source.
+pub fn is_source(kind: Kind) -> bool
+    ensures { result ≡ is_source kind }
+{
+    matches!(kind, Kind::Source)
+}
+
+/// Whether a task is a sink.
+pub fn is_sink(job: &Job, t: usize) -> bool
+    requires { t < length job.now.graph.tasks }
+    ensures { result ≡ is_sink_at job.now t }
+{
+    matches!(kind_of(job, t), Kind::Sink)
+}
+
+/// The phaser that is input `k` of a task.
+pub fn input_of(job: &Job, t: usize, k: usize) -> usize
+    requires task { t < length job.now.graph.tasks }
+    requires input { k < length (task_at job.now.graph t).inputs }
+    ensures phaser { result ≡ input_at (task_at job.now.graph t) k }
+    ensures within { result < length job.now.graph.phasers }
+{
+    line_of(job, t).inputs[k]
+}
+
+/// The input that the step after so many waits for first.
+pub fn first_input_of(job: &Job, t: usize, steps: u64) -> usize
+    requires { t < length job.now.graph.tasks }
+    ensures input { result ≡ first_input (task_at job.now.graph t) steps }
+    ensures within { (task_at job.now.graph t).kind ≢ Source
+        → result < length (task_at job.now.graph t).inputs }
+{
+    first_input(line_of(job, t), steps)
+}
+
+/// The input that the step of a line after so many waits for first.
+fn first_input(task: &TaskLine, steps: u64) -> usize
+    requires { HasEnds task.now.kind (length task.now.inputs.items) (length task.now.outputs.items) }
+    ensures input { result ≡ first_input (task_of task.now) steps }
+    ensures within { task.now.kind ≢ Source → result < length task.now.inputs.items }
+{
+    match task.kind {
+        Kind::Join => (steps % task.inputs.len() as u64) as usize,
+        _ => 0,
+    }
+}

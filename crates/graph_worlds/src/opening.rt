@@ -1,0 +1,49 @@
+//! The opening of a run.
+ghost use Rattle.std.specs.Prelude.{◌≡◌, [], map, IfOk};
+ghost use Rattle.stream_eval.specs.Results.{told};
+ghost use Rattle.stream_lists.specs.Lists.{sinks_of};
+ghost use Rattle.graph_turns.specs.Beginnings.{opening};
+
+use crate::lines::is_sink;
+use crate::machine::Machine;
+use crate::opened_cores::opened_cores;
+use crate::opened_tasks::opened_tasks;
+use std::alloc::{AllocError, Global};
+use stream_eval::Lines;
+use stream_lists::Job;
+
+/// The sinks, in the order of their lines, which have taken nothing.
+fn opened_lines(alloc: Global, job: &Job) -> Result<Vec<Lines>, AllocError>
+    ensures { IfOk result (λ lines. map told lines.items ≡ map (λ t. (t, [])) (sinks_of job.now)) }
+{
+    let mut lines = Vec::with_capacity(alloc, job.graph().tasks())?;
+    for t in 0..job.graph().tasks() {
+        if is_sink(job, t) {
+            lines.push(Lines {
+                task: t,
+                values: Vec::new(alloc),
+            })?;
+        }
+    }
+    Ok(lines)
+}
+
+impl Machine {
+    ghost use Rattle.graph_worlds.specs.Machines.{IsMachineAt};
+
+    /// Makes the phasers of a graph, on which its tasks without a parent are registered, in the
+    /// order of their lines.
+    ///
+    /// It takes memory for a slot of each phase that a phaser may have open, an entry for each
+    /// registration, and the window of each filter.
+    pub fn new(alloc: Global, job: &Job) -> Result<Machine, AllocError>
+        ensures { IfOk result (λ machine. IsMachineAt job.now (opening job.now) machine) }
+    {
+        let _tasks = job.graph().tasks();
+        Ok(Machine {
+            cores: opened_cores(alloc, job)?,
+            tasks: opened_tasks(alloc, job)?,
+            lines: opened_lines(alloc, job)?,
+        })
+    }
+}

@@ -1,0 +1,73 @@
+//! A run of a graph on one thread.
+ghost use Rattle.std.specs.Prelude.{◌≡◌, map, IfOk};
+ghost use Rattle.stream_eval.specs.Results.{told};
+ghost use Rattle.stream_lists.specs.Lists.{sinks_of};
+ghost use Rattle.graph_moments.specs.Moments.{Moment};
+ghost use Rattle.graph_turns.specs.Beginnings.{opening};
+ghost use Rattle.graph_turns.specs.Nexts.{next_of};
+
+use crate::machine::Machine;
+use crate::step::Step;
+use std::alloc::{AllocError, Global};
+use std::marker::Model;
+use stream_eval::Lines;
+use stream_lists::Job;
+
+/// A run of a graph on one thread, which goes on by turns of its tasks.
+///
+/// **Moments.** A world stands for moments of the run: the events on each phaser so far, and how far
+/// each task has come.
+#[derive(Drop)]
+pub struct World<'a> {
+    job: &'a Job,
+    machine: Machine,
+}
+
+impl<'a> Model for World<'a> {
+    ghost use Rattle.graph_worlds.specs.Worlds.{WorldState};
+    ghost use Rattle.graph_worlds.specs.Machines.{IsMachine};
+
+    ghost Value = { WorldState };
+
+    ghost view = { λ w. record { job = w.job.now; machine = w.machine } };
+
+    ghost invariant = { λ w. IsMachine w.job.now w.machine };
+}
+
+impl<'a> World<'a> {
+    ghost use Rattle.graph_worlds.specs.Machines.{next_by};
+    ghost use Rattle.graph_worlds.specs.Worlds.{IsWorldAt};
+
+    /// Makes a run of a job at its opening: on each phaser a founder has registered the tasks
+    /// without a parent, in the order of their lines, as 1, 2, .., and has left.
+    ///
+    /// It takes memory for a slot of each phase that a phaser may have open, an entry for each
+    /// registration, the window of each filter and a list for each sink.
+    pub fn new(alloc: Global, job: &'a Job) -> Result<World<'a>, AllocError>
+        ensures job { IfOk result (λ world. world.job ≡ job.now) }
+        ensures opening { IfOk result (λ world. IsWorldAt world (opening job.now)) }
+    {
+        let machine = Machine::new(alloc, job)?;
+        Ok(World { job, machine })
+    }
+
+    /// Tells what task number `task` does next: nothing, where it is not live or there is none of
+    /// this number. It takes no memory.
+    pub fn next(&self, task: usize) -> Step
+        ensures next { (m : Moment) → IsWorldAt self.now m
+            → next_of self.now.job m task ≡ next_by result }
+        // A world stands for some moment, whatever was done with it before.
+        ensures stands { (m : Moment) × IsWorldAt self.now m }
+    {
+        self.machine.next(self.job, task)
+    }
+
+    /// Lends each sink's number and what it has taken so far, in the order of the lines. It takes no
+    /// memory.
+    pub fn lines(&self) -> &[Lines]
+        ensures { (m : Moment) → IsWorldAt self.now m → map told result.now
+            ≡ map (λ t. (t, m.taken t 0)) (sinks_of self.now.job) }
+    {
+        &self.machine.lines
+    }
+}
