@@ -5,7 +5,7 @@ use Rattle.graph_base.specs.Graphs.{phaser_at, task_at}
 use Rattle.graph_base.specs.TaskLines.{IsGraph}
 use Rattle.stream_lists.specs.Jobs.{Job}
 use Rattle.stream_lists.specs.Lists.{sinks_of}
-use Rattle.stream_eval.specs.Results.{told}
+use Rattle.stream_eval.specs.Results.{sink_values}
 use Rattle.graph_moments.specs.Moments.{Moment, limits_at}
 use Rattle.graph_cores.specs.Cores.{CoreStandsFor}
 use Rattle.graph_cores.specs.declared.any_core.AnyCore.{AnyCore}
@@ -32,7 +32,7 @@ pub record IsMachineAt (job : Job) (m : Moment) (machine : Machine) : Type 0 whe
   pub tasks_many : length machine.tasks.items ≡ length job.graph.tasks
   pub tasks : (t : ℕ) (state : TaskState) → slice_get machine.tasks.items t ≡ Some state
       → IsTaskAt job m t state
-  pub lines : map told machine.lines.items ≡ map (λ t. (t, m.taken t 0)) (sinks_of job)
+  pub lines : map sink_values machine.lines.items ≡ map (λ t. (t, m.taken t 0)) (sinks_of job)
 
 -- the machine stands at some moment
 abbrev pub IsMachine : Job → Machine → Type 0
