@@ -1,13 +1,15 @@
 -- The opening of a run, as the code has its tasks.
-use Rattle.std.proofs.Common.{◌≡◌, ℕ, zero, suc, ◌+◌, ◌-◌, ◌*◌, ◌<◌, ◌≤◌, Bool, true, false, cond, eqb, List, [], ◌∷◌, ◌++◌, Option, Some, None, length, get_or, refl, sym, ap, subst, ◌∙◌, arith, ◌⊎◌, inl, inr}
+use Rattle.std.proofs.Common.{◌≡◌, ◌≢◌, ℕ, zero, suc, ◌+◌, ◌-◌, ◌*◌, ◌<◌, ◌≤◌, Bool, true, false, cond, eqb, List, [], ◌∷◌, ◌++◌, Option, Some, None, length, get_or, refl, sym, ap, subst, ◌∙◌, arith, ◌⊎◌, inl, inr}
 use Rattle.std.specs.Prelude.{slice_get, nat_lt, unwrap_or, option_map}
 use Rattle.std.specs.List.{find, filter, range_with_len}
-use Rattle.std.proofs.lemmas.Bool.{cases_lt, lt-leb, eq-eqb}
+use Rattle.std.proofs.lemmas.Bool.{cases_lt, lt-leb, eq-eqb, ltb-true}
 use Rattle.std.proofs.lemmas.Option.{slice_get-get_or}
+use Rattle.phase_base.specs.declared.mode.Mode.{Mode}
 use Rattle.phase_history.specs.Histories.{greatest_used}
 use Rattle.phase_history.specs.Histories.{has_dropped}
 use Rattle.graph_base.specs.declared.line.Kind.{Kind}
 use Rattle.graph_base.specs.declared.line.Kind.TheVariants.{Source, Fir, Split, Join, Peer, Sink}
+use Rattle.graph_base.specs.declared.line.Parent.{Parent}
 use Rattle.graph_base.specs.declared.registration.Registration.{Registration}
 use Rattle.graph_base.specs.Graphs.{Task, task_at}
 use Rattle.graph_base.specs.Registrations.{no_registration}
@@ -15,7 +17,7 @@ use Rattle.graph_base.specs.TaskLines.{IsGraph}
 use Rattle.stream_lists.specs.Jobs.{Job}
 use Rattle.stream_lists.specs.Lists.{is_sink_at, sinks_of}
 use Rattle.stream_lists.specs.Spans.{signalled_by, puts_on, turns_below}
-use Rattle.graph_moments.specs.Moments.{HasRun, made_now}
+use Rattle.graph_moments.specs.Moments.{Moment, HasRun, made_now}
 use Rattle.graph_moments.proofs.OnLines.{on_phaser}
 use Rattle.graph_moments.proofs.Turns.{turn-within}
 use Rattle.graph_moves.specs.Openings.{PhaserOpened}
@@ -23,6 +25,7 @@ use Rattle.graph_moves.proofs.Opened.{none_dropped}
 use Rattle.graph_turns.proofs.Lacking.{nothing_lacks}
 use Rattle.graph_turns.specs.Beginnings.{mode_on, root_mode, root_number, number_after, roots_joined, opening}
 use Rattle.graph_turns.specs.Nexts.{registrations_at, number_on, has_left, is_owed, first_owed}
+use Rattle.graph_turns.specs.Reached.{IsReachable}
 use Rattle.graph_turns.specs.TaskPlaces.{registration_at, StandsAt, at_start}
 use Rattle.graph_turns.proofs.AtOpening.{phaser_opened, opening_has_begun}
 use Rattle.graph_turns.proofs.Boundaries.{made_many}

@@ -1,6 +1,7 @@
 -- The place that the fields of a task's state have.
 use Rattle.std.specs.Prelude.{◌≡◌, ℕ, ◌≤◌, Option, Some, slice_get}
 use Rattle.stream_filters.specs.Filter.{FirState, StandsFor}
+use Rattle.graph_base.specs.declared.line.Kind.{Kind}
 use Rattle.graph_base.specs.declared.line.Kind.TheVariants.{Fir, Sink}
 use Rattle.graph_base.specs.Graphs.{task_at}
 use Rattle.stream_lists.specs.Jobs.{Job}

@@ -1,6 +1,7 @@
 //! Runs of a graph on one thread, one event at a time.
 #![tactic(auto)]
 
+mod calls;
 mod lines;
 mod machine;
 mod next;
@@ -8,9 +9,11 @@ mod opened_cores;
 mod opened_tasks;
 mod opening;
 mod owed;
+mod stalls;
 mod roots;
 mod step;
 mod task_state;
+mod turned;
 mod world;
 
 pub use step::Step;

@@ -2,10 +2,13 @@
 ghost use Rattle.std.specs.Prelude.{◌≡◌, ◌≢◌, ◌<◌, length};
 ghost use Rattle.graph_base.specs.Graphs.{is_source, task_at};
 ghost use Rattle.graph_base.specs.Kept.{task_of};
-ghost use Rattle.graph_base.specs.TaskLines.{HasEnds, IsTaskLine};
+ghost use Rattle.graph_base.specs.TaskLines.{HasEnds, IsGraph, IsTaskLine};
 ghost use Rattle.graph_base.specs.declared.line.Kind.TheVariants.{Source};
+ghost use Rattle.graph_base.specs.Registrations.{signalled_by};
 ghost use Rattle.stream_lists.specs.Lists.{is_sink_at};
 ghost use Rattle.graph_moments.specs.Moments.{first_input, input_at};
+ghost use Rattle.graph_turns.specs.Answers.{output_at};
+ghost use Rattle.graph_turns.specs.TaskPlaces.{registration_of_output};
 
 use graph_base::{Kind, Parent, TaskLine};
 use stream_lists::Job;
@@ -87,5 +90,29 @@ fn first_input(task: &TaskLine, steps: u64) -> usize
     match task.kind {
         Kind::Join => (steps % task.inputs.len() as u64) as usize,
         _ => 0,
+    }
+}
+
+/// The registration of output `j` of a task, and its phaser.
+pub fn output_of(job: &Job, t: usize, j: usize) -> (usize, usize)
+    requires graph { IsGraph job.now.graph }
+    requires task { t < length job.now.graph.tasks }
+    requires output { j < length (signalled_by (task_at job.now.graph t)) }
+    ensures registration { result.0 ≡ registration_of_output (task_at job.now.graph t) j }
+    ensures phaser { result.1 ≡ output_at job.now t j }
+    ensures within { result.1 < length job.now.graph.phasers }
+{
+    let k = registration_of_output(line_of(job, t), j);
+    (k, job.graph().registration(t, k).phaser)
+}
+
+/// The number of the registration of output `j` of a line.
+fn registration_of_output(task: &TaskLine, j: usize) -> usize
+    requires { j < 8 }
+    ensures { result ≡ registration_of_output (task_of task.now) j }
+{
+    match task.kind {
+        Kind::Peer => j + 1,
+        _ => task.inputs.len() + j,
     }
 }

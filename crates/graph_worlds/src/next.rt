@@ -94,7 +94,8 @@ impl Machine {
         ensures { (m : Moment) → IsMachineAt job.now m self.now → is_due job.now m t c ≡ result }
     {
         let begun = self.state(job, t).begun;
-        comes_by(t, begun, parent_of(job, c)) && !self.state(job, c).is_registered(job, c)
+        comes_by(t, begun, parent_of(job, c))
+            && !self.state(job, c).is_registered(job, c)
     }
 
     /// What a live task does next where no child is due.

@@ -1,6 +1,6 @@
 //! The opening of a run.
 ghost use Rattle.std.specs.Prelude.{◌≡◌, [], map, IfOk};
-ghost use Rattle.stream_eval.specs.Results.{sink_values};
+ghost use Rattle.stream_eval.specs.Results.{told};
 ghost use Rattle.stream_lists.specs.Lists.{sinks_of};
 ghost use Rattle.graph_turns.specs.Beginnings.{opening};
 
@@ -14,7 +14,7 @@ use stream_lists::Job;
 
 /// The sinks, in the order of their lines, which have taken nothing.
 fn opened_lines(alloc: Global, job: &Job) -> Result<Vec<Lines>, AllocError>
-    ensures { IfOk result (λ lines. map sink_values lines.items ≡ map (λ t. (t, [])) (sinks_of job.now)) }
+    ensures { IfOk result (λ lines. map told lines.items ≡ map (λ t. (t, [])) (sinks_of job.now)) }
 {
     let mut lines = Vec::with_capacity(alloc, job.graph().tasks())?;
     for t in 0..job.graph().tasks() {

@@ -13,7 +13,5 @@ pub enum Owed {
         value: Result<i64, TooBigValue>,
     },
     /// A peer's wait on E, with what it took from X.
-    Exchange {
-        x: i64,
-    },
+    Exchange { x: i64 },
 }

@@ -1,6 +1,6 @@
 //! A run of a graph on one thread.
 ghost use Rattle.std.specs.Prelude.{◌≡◌, map, IfOk};
-ghost use Rattle.stream_eval.specs.Results.{sink_values};
+ghost use Rattle.stream_eval.specs.Results.{told};
 ghost use Rattle.stream_lists.specs.Lists.{sinks_of};
 ghost use Rattle.graph_moments.specs.Moments.{Moment};
 ghost use Rattle.graph_turns.specs.Beginnings.{opening};
@@ -65,7 +65,7 @@ impl<'a> World<'a> {
     /// Lends each sink's number and what it has taken so far, in the order of the lines. It takes no
     /// memory.
     pub fn lines(&self) -> &[Lines]
-        ensures { (m : Moment) → IsWorldAt self.now m → map sink_values result.now
+        ensures { (m : Moment) → IsWorldAt self.now m → map told result.now
             ≡ map (λ t. (t, m.taken t 0)) (sinks_of self.now.job) }
     {
         &self.machine.lines

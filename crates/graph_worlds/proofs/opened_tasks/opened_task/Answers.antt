@@ -1,6 +1,7 @@
 -- The fields stand at the opening.
-use Rattle.std.proofs.Common.{ap, ◌∙◌, arith}
+use Rattle.std.proofs.Common.{◌≡◌, ◌≤◌, true, Some, sym, ap, subst, ◌∙◌, arith}
 use Rattle.std.specs.Prelude.{slice_get}
+use Rattle.graph_base.specs.declared.line.Kind.TheVariants.{Sink}
 use Rattle.graph_base.specs.Graphs.{is_sink}
 use Rattle.stream_lists.specs.Lists.{sinks_of}
 use Rattle.graph_worlds.proofs.OpeningTasks.{opening_stands, sink_is}

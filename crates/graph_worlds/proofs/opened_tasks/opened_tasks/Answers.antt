@@ -1,11 +1,12 @@
 -- The state that was made stands behind those before it.
-use Rattle.std.proofs.Common.{◌≡◌, ℕ, ◌+◌, ◌≤◌, [], ◌∷◌, ◌++◌, length, sym, ap, subst, ◌∙◌, arith}
+use Rattle.std.proofs.Common.{◌≡◌, ℕ, ◌+◌, ◌≤◌, [], ◌∷◌, ◌++◌, Some, length, sym, ap, subst, ◌∙◌, arith}
 use Rattle.std.specs.Prelude.{slice_get}
 use Rattle.std.specs.List.{filter, range_with_len}
 use Rattle.std.proofs.lemmas.List.{length-append}
 use Rattle.stream_lists.specs.Lists.{is_sink_at}
 use Rattle.stream_lists.proofs.Firsts.{filter-skip, filter-take}
 use Rattle.graph_turns.specs.Beginnings.{opening}
+use Rattle.graph_worlds.specs.declared.task_state.TaskState.{TaskState}
 use Rattle.graph_worlds.specs.Places.{IsTaskAt}
 use Rattle.graph_worlds.proofs.OpeningPhasers.{each-push}
 use Rattle.graph_worlds.proofs.opened_tasks.opened_tasks.Goals as goal

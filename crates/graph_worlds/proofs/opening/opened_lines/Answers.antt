@@ -1,8 +1,8 @@
 -- A sink with no values stands behind those before it.
-use Rattle.std.proofs.Common.{ℕ, ℤ, List, [], ◌∷◌, ◌++◌, map, sym, ap, ◌∙◌}
+use Rattle.std.proofs.Common.{◌≡◌, ℕ, ℤ, List, [], ◌∷◌, ◌++◌, map, sym, ap, ◌∙◌}
 use Rattle.std.specs.List.{range_with_len, filter}
 use Rattle.std.proofs.lemmas.List.{map_push}
-use Rattle.stream_eval.specs.Results.{sink_values}
+use Rattle.stream_eval.specs.Results.{told}
 use Rattle.stream_lists.specs.Lists.{is_sink_at}
 use Rattle.stream_lists.proofs.Firsts.{filter-skip, filter-take}
 use Rattle.graph_worlds.proofs.opening.opened_lines.Goals as goal
@@ -20,7 +20,7 @@ loop-t-preserved c =
     elim c.if-is_sink.branch [
       | then-is_sink+in_ok-push w ↦
           rw (w.lines-is, w.in_ok-push.ensures.items)
-          (map_push sink_values c.loop-t.lines.items _
+          (map_push told c.loop-t.lines.items _
           ∙ (ap (λ xs. xs ++ (t, w.new.result.items) ∷ []) c.loop-t.invariant
           ∙ (ap (λ v. map empty sinks ++ (t, v) ∷ []) w.new.ensures.items
           ∙ (sym (map_push empty sinks t)

@@ -1,11 +1,11 @@
 use Rattle.std.proofs.Common.{◌≡◌, [], map}
 use Rattle.std.specs.List.{range_with_len, filter}
-use Rattle.stream_eval.specs.Results.{sink_values}
+use Rattle.stream_eval.specs.Results.{told}
 use Rattle.stream_lists.specs.Lists.{is_sink_at}
 use Rattle.graph_worlds.proofs.opening.opened_lines.Given as goal
 
 -- the sinks among the tasks before this one
 abbrev pub invariant-loop-t : goal.invariant-loop-t
 invariant-loop-t l =
-    map sink_values l.lines.items
+    map told l.lines.items
     ≡ map (λ t. (t, [])) (filter (is_sink_at l.job) (range_with_len 0 l.t))

@@ -1,12 +1,15 @@
 -- A task that has left a phaser, or has made the steps of `until`, makes no more; else its first
 -- input tells, or its samples.
-use Rattle.std.proofs.Common.{◌≡◌, ◌||◌, length, get_or, ap, sym, ◌∙◌, arith, false}
+use Rattle.std.proofs.Common.{◌≡◌, ◌≢◌, ℕ, ◌<◌, ◌||◌, refl, length, get_or, ap, sym, subst, ◌∙◌, arith, false, true}
 use Rattle.phase_base.specs.Members.{entry_of}
 use Rattle.phase_history.specs.Histories.{members_of}
 use Rattle.graph_base.specs.Graphs.{task_at, phaser_at, is_source}
+use Rattle.graph_base.specs.declared.line.Kind.{Kind}
+use Rattle.graph_base.specs.declared.line.Kind.TheVariants.{Source}
 use Rattle.graph_moments.specs.Moments.{first_input, input_at, limits_at}
-use Rattle.graph_turns.specs.Nexts.{has_input_ended}
+use Rattle.graph_turns.specs.Nexts.{is_cut, has_input_ended}
 use Rattle.graph_worlds.specs.Places.{place_of}
+use Rattle.graph_worlds.specs.Machines.{is_over}
 use Rattle.graph_worlds.proofs.Ending.{over_left, over_by_input, number_of_input, cut_is, no_source}
 use Rattle.graph_worlds.proofs.machine.Machine.is_over.Goals as goal
 use Rattle.graph_worlds.proofs.machine.Machine.is_over.Goals.{then-state-gt0-via-then-state-gt0, then-state-gt0-via-else-state-gt0+then-is_cut}
