@@ -1,4 +1,6 @@
+pub mod BlockValues
 pub mod CutAtLf
 pub mod Digits
+pub mod FilledPlaces
 pub mod Grammar
 pub mod ReplyLines

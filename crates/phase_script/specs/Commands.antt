@@ -1,17 +1,19 @@
 -- The script lines: each command within its limits has exactly one, its spelling.
-use Rattle.std.specs.Prelude.{ℕ, ◌≤◌, ℤ, List, [], ◌∷◌, ◌++◌, codes, decimal, nat_abs, bytes_eq, int_le, if◌then◌else◌, Option, Some, None, option_and_then}
+use Rattle.std.specs.Prelude.{ℕ, ◌≤◌, ℤ, List, [], ◌∷◌, ◌++◌, length, codes, decimal, nat_abs, bytes_eq, int_le, nat_le, ◌&&◌, if◌then◌else◌, Option, Some, None, option_and_then}
 use Rattle.std.specs.Fmt.{signed_decimal}
+use Rattle.std.specs.List.{All}
 use Rattle.phase_base.specs.declared.mode.Mode.{Mode}
 use Rattle.phase_base.specs.declared.mode.Mode.TheVariants as mode
 use Rattle.phase_accum.specs.Singles.{CanBeNamed}
 use Rattle.phase_accum.specs.declared.single.Single.{Single}
 use Rattle.phase_accum.specs.declared.single.Single.TheVariants.{Neg, Abs, Halve, Clamp}
 use Rattle.phase_script.specs.Numbers.{most, nat_of, int_of}
-use Rattle.phase_script.specs.Words.{word, rest}
+use Rattle.phase_script.specs.Words.{word, rest, words_of}
 use Rattle.phase_base.specs.declared.operation.Op.{Op}
 use Rattle.phase_base.specs.OperationWords.{operation_word, operation_of}
 use Rattle.phase_script.specs.declared.command.Command.{Command}
-use Rattle.phase_script.specs.declared.command.Command.TheVariants.{Make, Add, Now, Send, Signal, Wait, Drop}
+use Rattle.phase_script.specs.declared.command.Command.TheVariants.{Make, Add, Now, Send, Signal, Block, Wait, Take, Drop}
+use Rattle.phase_script.specs.declared.values.TheConstants.{VALUES_MAX}
 
 -- ---- the one line of a command
 
@@ -35,6 +37,11 @@ abbrev pub maybe_single_text : Option Single → List ℕ
 maybe_single_text None = []
 maybe_single_text (Some single) = 32 ∷ single_text single
 
+-- the words for values behind others
+abbrev pub values_text : List ℤ → List ℕ
+values_text [] = []
+values_text (value ∷ values) = 32 ∷ (signed_decimal value ++ values_text values)
+
 -- the one line that gives the command, without its line end
 unfoldable pub spelling : Command → List ℕ
 spelling (Make operation bound phases) =
@@ -44,8 +51,16 @@ spelling (Add parent child mode) =
 spelling (Now parent child) = codes "now" ++ 32 ∷ (decimal parent ++ 32 ∷ decimal child)
 spelling (Send task value) = codes "send" ++ 32 ∷ (decimal task ++ 32 ∷ signed_decimal value)
 spelling (Signal task single) = codes "signal" ++ 32 ∷ (decimal task ++ maybe_single_text single)
+spelling (Block task values) = codes "block" ++ 32 ∷ (decimal task ++ values_text values)
 spelling (Wait task) = codes "wait" ++ 32 ∷ decimal task
+spelling (Take task phases) = codes "take" ++ 32 ∷ (decimal task ++ 32 ∷ decimal phases)
 spelling (Drop task) = codes "drop" ++ 32 ∷ decimal task
+
+-- the values are at least one and not too many, and each is within its limit
+pub record IsBlock (values : List ℤ) : Type 0 where
+  pub some : 1 ≤ length values
+  pub few : length values ≤ VALUES_MAX
+  pub small : All (λ value. nat_abs value ≤ most) values
 
 -- the numbers of the command are within their limits
 abbrev pub IsCommand : Command → Type 0
@@ -54,7 +69,9 @@ IsCommand (Add parent child _) = (parent ≤ most) × (child ≤ most)
 IsCommand (Now parent child) = (parent ≤ most) × (child ≤ most)
 IsCommand (Send task value) = (task ≤ most) × (nat_abs value ≤ most)
 IsCommand (Signal task single) = (task ≤ most) × CanBeNamed single
+IsCommand (Block task values) = (task ≤ most) × IsBlock values
 IsCommand (Wait task) = task ≤ most
+IsCommand (Take task phases) = (task ≤ most) × (1 ≤ phases) × (phases ≤ VALUES_MAX)
 IsCommand (Drop task) = task ≤ most
 
 -- ---- how a line is read
@@ -142,6 +159,43 @@ signal_of text = do
   task ← nat_of (word text)
   signal_with task (rest text)
 
+-- the numbers that words are, if all of them are numbers
+unfoldable pub ints_of : List (List ℕ) → Option (List ℤ)
+ints_of [] = Some []
+ints_of (word ∷ words) = do
+  value ← int_of word
+  values ← ints_of words
+  Some (value ∷ values)
+
+-- the values, if they are not too many
+unfoldable pub few_values : List ℤ → Option (List ℤ)
+few_values values = if nat_le (length values) VALUES_MAX then Some values else None
+
+-- the values of a block whose words are in the text
+unfoldable pub values_of : List ℕ → Option (List ℤ)
+values_of text = do
+  values ← ints_of (words_of text)
+  few_values values
+
+unfoldable pub block_of : List ℕ → Option Command
+block_of text = do
+  task ← nat_of (word text)
+  words ← rest text
+  values ← values_of words
+  Some (Block task values)
+
+-- a wait of the task for so many phases, at least one and not too many
+unfoldable pub take_with : ℕ → ℕ → Option Command
+take_with task phases =
+    if nat_le 1 phases && nat_le phases VALUES_MAX then Some (Take task phases) else None
+
+unfoldable pub take_of : List ℕ → Option Command
+take_of text = do
+  task ← nat_of (word text)
+  last ← rest text
+  phases ← nat_of last
+  take_with task phases
+
 unfoldable pub wait_of : List ℕ → Option Command
 wait_of text = do
   task ← nat_of text
@@ -160,7 +214,9 @@ command_after verb text =
     else if bytes_eq verb (codes "now") then now_of text
     else if bytes_eq verb (codes "send") then send_of text
     else if bytes_eq verb (codes "signal") then signal_of text
+    else if bytes_eq verb (codes "block") then block_of text
     else if bytes_eq verb (codes "wait") then wait_of text
+    else if bytes_eq verb (codes "take") then take_of text
     else if bytes_eq verb (codes "drop") then drop_of text
     else None
 

@@ -1,5 +1,6 @@
 pub mod Commands
 pub mod Cuts
+pub mod Filled
 pub mod Lines
 pub mod Numbers
 pub mod ReplyLines

@@ -1,5 +1,6 @@
 //! The commands that a script line can give.
 
+use crate::Values;
 use phase_accum::Single;
 use phase_base::{Mode, Op};
 
@@ -33,9 +34,20 @@ pub enum Command {
         task: u64,
         single: Option<Single>,
     },
+    /// Signals as many of the task's next phases as there are values, each with its value as its
+    /// one send, and no single.
+    Block {
+        task: u64,
+        values: Values,
+    },
     /// Waits for the task's next phase.
     Wait {
         task: u64,
+    },
+    /// Waits for the task's next phases, as many as are complete, but no more than this.
+    Take {
+        task: u64,
+        phases: u64,
     },
     /// Drops the task's registration. The sends that it holds are given up.
     Drop {

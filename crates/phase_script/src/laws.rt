@@ -1,8 +1,10 @@
 //! Laws of script lines and reply lines. The contract of each function is the law.
 
-ghost use Rattle.std.specs.Prelude.{◌≡◌, ℕ, ◌≤◌, List, length, Some, None};
+ghost use Rattle.std.specs.Prelude.{◌≡◌, ℕ, ◌<◌, ◌≤◌, List, length, Some, None};
 ghost use Rattle.phase_script.specs.Commands.{IsCommand, spelling, command_of};
 ghost use Rattle.phase_script.specs.ReplyLines.{reply_text, IsReply, IsOneLine};
+ghost use Rattle.phase_script.specs.declared.script_line.TheConstants.{LINE_MAX};
+ghost use Rattle.phase_script.specs.declared.reply_line.TheConstants.{REPLY_MAX};
 ghost use Rattle.phase_script.specs.Cuts.{LinesAreCutAtLf, EveryScriptIsCut};
 
 use crate::{Command, Reply};
@@ -18,9 +20,10 @@ pub fn grammar_only()
     ensures { (c : Command) → IsCommand c → command_of (spelling c) ≡ Some c }
 {}
 
-/// No line of the grammar has more than 74 bytes.
+/// No line of the grammar has more than `LINE_MAX` bytes, 361.
 pub fn lines_are_short()
-    ensures { (line : List ℕ) → 75 ≤ length line → command_of line ≡ None }
+    ensures short { (line : List ℕ) → LINE_MAX < length line → command_of line ≡ None }
+    ensures number { LINE_MAX ≡ 361 }
 {}
 
 /// A reply line whose numbers are within those of a script has one line end, its last byte.
@@ -28,9 +31,11 @@ pub fn replies_are_single_lines()
     ensures { (reply : Reply) → IsReply reply → IsOneLine (reply_text reply) }
 {}
 
-/// No reply line whose numbers are within those of a script has more than 47 bytes.
+/// No reply line whose numbers are within those of a script has more than
+/// `REPLY_MAX` bytes, 363.
 pub fn replies_are_short()
-    ensures { (reply : Reply) → IsReply reply → length (reply_text reply) ≤ 47 }
+    ensures short { (reply : Reply) → IsReply reply → length (reply_text reply) ≤ REPLY_MAX }
+    ensures number { REPLY_MAX ≡ 363 }
 {}
 
 /// Where pieces with no LF are joined by an LF behind each, and bytes with no LF follow, the lines

@@ -1,6 +1,6 @@
 //! The replies to script lines.
 
-use crate::Refusal;
+use crate::{Outcomes, Refusal};
 
 /// The reply to a script line. Phases are counted from 0.
 #[derive(Clone, Copy, Debug, PartialEq, Eq)]
@@ -17,6 +17,8 @@ pub enum Reply {
     Empty { phase: u64 },
     /// The value of the phase that was waited for is out of range.
     TooBig { phase: u64 },
+    /// The phases that were waited for, this one and those behind it, gave these.
+    Values { phase: u64, outcomes: Outcomes },
     /// No further phase will be complete.
     Ended,
     /// The command was refused, and changed nothing.

@@ -1,14 +1,19 @@
 //! Reply lines as bytes.
 
-ghost use Rattle.std.specs.Prelude.{◌≡◌, ◌+◌, ◌≤◌, ◌++◌, List, ℕ, [], length, take};
-ghost use Rattle.phase_script.specs.ReplyLines.{reply_text, phase_text};
+ghost use Rattle.std.specs.Prelude.{◌≡◌, ◌+◌, ◌≤◌, ◌∷◌, ◌++◌, List, ℕ, [], length, take};
+ghost use Rattle.phase_script.specs.ReplyLines.{reply_text, phase_text, outcomes_text};
+ghost use Rattle.phase_script.specs.declared.reply_line.TheConstants.{LENGTH_MAX};
 
-use crate::{Refusal, Reply};
+use crate::{Outcomes, Refusal, Reply};
 use itoa::Buffer;
+use phase_accum::Outcome;
 use std::marker::Model;
 
-// The longest reply line has a phase of 20 digits and a value of 20 bytes.
-const LENGTH_MAX: usize = 48;
+/// The bytes of the longest reply line, that to a `take` of `VALUES_MAX` phases.
+pub const REPLY_MAX: usize = 363;
+
+// A phase of any 64 bits has a digit more than one of a script.
+const LENGTH_MAX: usize = REPLY_MAX + 1;
 
 /// A reply line as bytes, with its LF.
 #[derive(Drop)]
@@ -22,7 +27,7 @@ impl Model for ReplyLine {
 
     ghost view = { λ l. take l.len l.buf };
 
-    ghost invariant = { λ l. l.len ≤ 48 };
+    ghost invariant = { λ l. l.len ≤ LENGTH_MAX };
 }
 
 impl ReplyLine {
@@ -36,7 +41,7 @@ impl ReplyLine {
     }
 
     fn push(&mut self, bytes: &[u8])
-        requires { length self.old + length bytes.now ≤ 48 }
+        requires { length self.old + length bytes.now ≤ LENGTH_MAX }
         ensures { self.new ≡ self.old ++ bytes.now }
     {
         let end = self.len + bytes.len();
@@ -46,7 +51,7 @@ impl ReplyLine {
 
     // The line of `bytes` alone.
     fn of(bytes: &[u8]) -> ReplyLine
-        requires { length bytes.now ≤ 48 }
+        requires { length bytes.now ≤ LENGTH_MAX }
         ensures { result ≡ bytes.now }
     {
         let mut line = ReplyLine::new();
@@ -87,6 +92,33 @@ impl ReplyLine {
         line
     }
 
+    // Puts a space and the word for what a phase gave behind the others.
+    fn push_outcome(&mut self, outcome: Outcome)
+        requires { length self.old + 21 ≤ LENGTH_MAX }
+        ensures bytes { self.new ≡ self.old ++ outcomes_text (outcome ∷ []) }
+        ensures short { length self.new ≤ length self.old + 21 }
+    {
+        self.push(b" ");
+        match outcome {
+            Outcome::Value(number) => self.push(Buffer::new().format(number).as_bytes()),
+            Outcome::Empty => self.push(b"empty"),
+            Outcome::TooBig => self.push(b"toobig"),
+        }
+    }
+
+    #[tactic(auto, unfolding(crate::specs::ReplyLines::reply_text))]
+    fn of_values(phase: u64, outcomes: &Outcomes) -> ReplyLine
+        ensures { result ≡ reply_text (Reply.Values phase outcomes.now) }
+    {
+        let mut line = ReplyLine::of(b"values ");
+        line.push(Buffer::new().format(phase).as_bytes());
+        for outcome in outcomes.as_slice() {
+            line.push_outcome(*outcome);
+        }
+        line.push(b"\n");
+        line
+    }
+
     /// Gives the bytes of the line, up to and with its LF.
     pub fn bytes(&self) -> &[u8]
         ensures { result.now ≡ self.now }
@@ -106,6 +138,7 @@ pub fn line(reply: Reply) -> ReplyLine
         Reply::Value { phase, value } => ReplyLine::of_value(phase, value),
         Reply::Empty { phase } => ReplyLine::of_phase(b"empty", phase),
         Reply::TooBig { phase } => ReplyLine::of_phase(b"toobig", phase),
+        Reply::Values { phase, outcomes } => ReplyLine::of_values(phase, &outcomes),
         Reply::Ended => ReplyLine::of(b"ended\n"),
         Reply::Refused(refusal) => ReplyLine::of_refusal(refusal),
         Reply::BadLine => ReplyLine::of(b"bad line\n"),

@@ -8,13 +8,16 @@ ghost use Rattle.phase_script.specs.Numbers.{most};
 ghost use Rattle.phase_script.specs.Commands.{IsCommand, spelling, command_of, command_after};
 ghost use Rattle.phase_script.specs.Commands.{mode_of, single_of, clamp_after, ends_of};
 ghost use Rattle.phase_script.specs.Commands.{clamp_of, make_of, add_of, now_of, send_of, signal_of};
-ghost use Rattle.phase_script.specs.Commands.{wait_of, drop_of};
+ghost use Rattle.phase_script.specs.Commands.{block_of, values_of, wait_of, take_of, take_with, drop_of};
 
-use crate::Command;
+use crate::{Command, VALUES_MAX, Values};
 use number::{int, nat};
 use phase_accum::Single;
 use phase_base::{Mode, Op};
 use words::cut;
+
+/// The bytes of the longest line of the grammar, a `block` of `VALUES_MAX` values.
+pub const LINE_MAX: usize = 361;
 
 /// Reads a script line, without its LF and CR, as the one command that it gives.
 ///
@@ -50,8 +53,12 @@ fn command_with(verb: &[u8], text: &[u8]) -> Option<Command>
         send(text)
     } else if verb == b"signal".as_slice() {
         signal(text)
+    } else if verb == b"block".as_slice() {
+        block(text)
     } else if verb == b"wait".as_slice() {
         wait(text)
+    } else if verb == b"take".as_slice() {
+        take(text)
     } else if verb == b"drop".as_slice() {
         drop_task(text)
     } else {
@@ -191,6 +198,46 @@ fn clamp_between(low: i64, high: i64) -> Option<Single>
         Ok(single) => Some(single),
         Err(_) => None,
     }
+}
+
+#[tactic(auto, unfolding(crate::specs::Commands::block_of))]
+fn block(text: &[u8]) -> Option<Command>
+    ensures { result ≡ block_of text.now }
+{
+    let (task, last) = cut(text);
+    let task = nat(task)?;
+    let values = values(last?)?;
+    Some(Command::Block { task, values })
+}
+
+// Reads the words of the text as values, no more than `VALUES_MAX`.
+fn values(text: &[u8]) -> Option<Values>
+    ensures { result ≡ values_of text.now }
+{
+    let mut values = Values::new();
+    let mut more = Some(text);
+    while let Some(words) = more {
+        if values.as_slice().len() == VALUES_MAX {
+            return None;
+        }
+        let (word, rest) = cut(words);
+        values.push(int(word)?);
+        more = rest;
+    }
+    Some(values)
+}
+
+#[tactic(auto, unfolding(crate::specs::Commands::take_of, crate::specs::Commands::take_with))]
+fn take(text: &[u8]) -> Option<Command>
+    ensures { result ≡ take_of text.now }
+{
+    let (task, last) = cut(text);
+    let task = nat(task)?;
+    let phases = nat(last?)?;
+    if phases < 1 || phases > VALUES_MAX as u64 {
+        return None;
+    }
+    Some(Command::Take { task, phases })
 }
 
 #[tactic(auto, unfolding(crate::specs::Commands::wait_of))]

@@ -138,7 +138,7 @@ pub phaser_sent : {A : Type 0} (op : Operation A) (old : ScriptPhaser A) (new : 
     → PhaserStandsFor op old limits h held → Some e ≡ entry_of old.core.members task → mode_signals e.mode ≡ true
     → StandsForSends op own (held_by held task ++ v ∷ [])
     → ((other : ℕ) → held_at op new other ≡ cond (eqb task other) own (held_at op old.held other))
-    → PhaserStandsFor op (record { core = old.core; held = new }) limits h (held_after_send (send_reply h held task) held task v)
+    → PhaserStandsFor op (record { core = old.core; held = new; sends = old.sends }) limits h (held_after_send (send_reply h held task) held task v)
 phaser_sent op old new own limits h held task e v stands found signals more puts =
     let found_h : entry_of (members_of h) task ≡ Some e = sym (found ∙ ap (λ ms. entry_of ms task) stands.core.members_are) in
     let one_more : length (held_by held task ++ v ∷ []) ≤ 65536 = more.part_is.few in
@@ -148,7 +148,7 @@ phaser_sent op old new own limits h held task e v stands found signals more puts
     ap (λ o. done_unless (refusal_at o no.NoTask (send_rows (length (held_by held task))))) found_h
     ∙ ap (λ b. done_unless (cond (not b) (Some no.NoSignal) (cond (leb 65536 (length (held_by held task))) (Some no.TooManySends) None))) signals
     ∙ ap (λ b. done_unless (cond b (Some no.TooManySends) None)) few in
-    let R : Reply → Type 0 = λ r. PhaserStandsFor op (record { core = old.core; held = new }) limits h (held_after_send r held task v) in
+    let R : Reply → Type 0 = λ r. PhaserStandsFor op (record { core = old.core; held = new; sends = old.sends }) limits h (held_after_send r held task v) in
     subst R (sym accepted) (record {
       limits_are = stands.limits_are;
       core = stands.core;
@@ -162,13 +162,13 @@ pub phaser_signalled : {A : Type 0} (op : Operation A) (old : ScriptPhaser A) (c
     → signal_reply old.core.limits h task (held_by held task ∷ []) single ≡ Ok phase
     → StandsFor op core (Signalled task (held_by held task ∷ []) single ∷ h)
     → ((other : ℕ) → held_at op new other ≡ cond (eqb task other) (nothing op) (held_at op old.held other))
-    → PhaserStandsFor op (record { core = core; held = new }) limits
+    → PhaserStandsFor op (record { core = core; held = new; sends = old.sends }) limits
     (after_call op.value limits h (held_signal held task single))
     (held_after_signal (signal_reply limits h task (held_by held task ∷ []) single) held task)
 phaser_signalled op old core new limits h held task phase single stands same ok after clears =
     let L : Limits → Type 0 = λ l. signal_reply l h task (held_by held task ∷ []) single ≡ Ok phase in
     let accepted : signal_reply limits h task (held_by held task ∷ []) single ≡ Ok phase = subst L stands.limits_are ok in
-    let R : Result ℕ SignalRefusal → Type 0 = λ r. PhaserStandsFor op (record { core = core; held = new }) limits
+    let R : Result ℕ SignalRefusal → Type 0 = λ r. PhaserStandsFor op (record { core = core; held = new; sends = old.sends }) limits
     (after_reply (held_signal held task single) (reply_by SignalledIn NotSignalled r) h) (held_after_signal r held task) in
     subst R (sym accepted) (record {
       limits_are = same ∙ stands.limits_are;
@@ -182,10 +182,10 @@ pub phaser_dropped : {A : Type 0} (op : Operation A) (old : ScriptPhaser A) (cor
     → PhaserStandsFor op old limits h held → core.limits ≡ old.core.limits
     → drop_refusal h task ≡ None → StandsFor op core (Dropped task ∷ h)
     → ((other : ℕ) → held_at op new other ≡ cond (eqb task other) (nothing op) (held_at op old.held other))
-    → PhaserStandsFor op (record { core = core; held = new }) limits
+    → PhaserStandsFor op (record { core = core; held = new; sends = old.sends }) limits
     (after_call op.value limits h (Drop task)) (held_after_drop (drop_refusal h task) held task)
 phaser_dropped op old core new limits h held task stands same accepted after clears =
-    let R : Option NoTask → Type 0 = λ r. PhaserStandsFor op (record { core = core; held = new }) limits
+    let R : Option NoTask → Type 0 = λ r. PhaserStandsFor op (record { core = core; held = new; sends = old.sends }) limits
     (after_reply (Drop task) (reply_by (λ answer. CallAccepted) NotDropped (refused_or r task)) h) (held_after_drop r held task) in
     subst R (sym accepted) (record {
       limits_are = same ∙ stands.limits_are;

@@ -1,24 +1,27 @@
 //! The phaser of a session, with the sends that its tasks hold.
-ghost use Rattle.std.specs.Prelude.{◌≡◌, ◌≢◌, List, [], ◌∷◌, IfOk, OnOk, OnErr, Some, None};
+ghost use Rattle.std.specs.Prelude.{◌≡◌, ◌≢◌, ◌≤◌, length, List, [], ◌∷◌, IfOk, OnOk, OnErr, Some, None};
 ghost use Rattle.phase_base.specs.Limits.{Limits};
 ghost use Rattle.phase_accum.specs.Sends.{IsSend};
 ghost use Rattle.phase_history.specs.declared.call.Call.TheVariants as call;
 ghost use Rattle.phase_history.specs.Histories.{History};
 ghost use Rattle.phase_history.specs.Refusals.{drop_refusal};
 ghost use Rattle.phase_history.specs.Replies.{reply_to, signal_reply};
-ghost use Rattle.phase_script.specs.Commands.{IsCommand};
+ghost use Rattle.phase_script.specs.Commands.{IsCommand, IsBlock};
+ghost use Rattle.phase_script.specs.declared.values.TheConstants.{VALUES_MAX};
 ghost use Rattle.phase_session.specs.Scripts.{Held, held_by, send_reply, held_after_send};
 ghost use Rattle.phase_session.specs.Scripts.{script_reply, held_signal, after_call};
 ghost use Rattle.phase_session.specs.Scripts.{register_reason, signal_reason, wait_reason};
+ghost use Rattle.phase_session.specs.Scripts.{block_reply, after_block, take_reply};
 ghost use Rattle.phase_session.specs.Scripts.{value_reply, held_after_signal, held_after_drop};
 ghost use Rattle.phase_session.specs.Scripts.{IsOkReply, MayWantMemory};
 ghost use Rattle.phase_session.specs.Scripts.{phaser_reply, history_after, held_after};
 
+use crate::block_sends::BlockSends;
 use crate::held_sends::HeldSends;
 use phase_accum::{Accumulate, Outcome, SendFault, Single};
 use phase_base::{Mode, Spec};
-use phase_core::{Got, PhaserCore, RegisterRefusal, SignalRefusal, WaitRefusal};
-use phase_script::{Command, Refusal, Reply};
+use phase_core::{Got, GotBlock, PhaserCore, RegisterRefusal, SignalRefusal, WaitRefusal};
+use phase_script::{Command, Outcomes, Refusal, Reply, VALUES_MAX, Values};
 use std::alloc::{AllocError, Global};
 
 /// A phaser that a script made, and the sends that its tasks hold.
@@ -26,6 +29,7 @@ use std::alloc::{AllocError, Global};
 pub struct ScriptPhaser<A: Accumulate> {
     core: PhaserCore<A>,
     held: HeldSends<A>,
+    sends: BlockSends<A>,
 }
 
 // The reply that tells why a registration was refused. Want of memory is no reply.
@@ -57,8 +61,7 @@ fn signal_reason(refusal: SignalRefusal) -> Reply
         SignalRefusal::Ahead => Refusal::Ahead,
         SignalRefusal::SingleDiffers => Refusal::SingleDiffers,
         SignalRefusal::PhaseFull => Refusal::PhaseFull,
-        // No plain signal is answered so.
-        SignalRefusal::BadBlock => return Reply::BadLine,
+        SignalRefusal::BadBlock => Refusal::BadBlock,
     };
     Reply::Refused(reason)
 }
@@ -72,8 +75,7 @@ fn wait_reason(refusal: WaitRefusal) -> Reply
         WaitRefusal::NoWait => Refusal::NoWait,
         WaitRefusal::SignalFirst => Refusal::SignalFirst,
         WaitRefusal::NotYet => Refusal::NotYet,
-        // No plain wait is answered so.
-        WaitRefusal::BadBlock => return Reply::BadLine,
+        WaitRefusal::BadBlock => Refusal::BadBlock,
     };
     Reply::Refused(reason)
 }
@@ -89,6 +91,18 @@ fn value_reply(phase: u64, outcome: Outcome) -> Reply
     }
 }
 
+// The reply that tells what the phases from this one on gave.
+fn values_reply(phase: u64, places: &[Outcome]) -> Reply
+    requires { length places.now ≤ VALUES_MAX }
+    ensures { result ≡ Reply.Values phase places.now }
+{
+    let mut outcomes = Outcomes::new();
+    for outcome in places {
+        outcomes.push(*outcome);
+    }
+    Reply::Values { phase, outcomes }
+}
+
 impl<A: Accumulate> ScriptPhaser<A> {
     ghost use Rattle.phase_history.specs.declared.event.Event.TheVariants.{Made};
     ghost use Rattle.phase_session.specs.Session.{PhaserStandsFor};
@@ -100,6 +114,7 @@ impl<A: Accumulate> ScriptPhaser<A> {
         Ok(ScriptPhaser {
             core: PhaserCore::new(alloc, spec, 0)?,
             held: HeldSends::new(alloc),
+            sends: BlockSends::new(alloc)?,
         })
     }
 
@@ -130,7 +145,9 @@ impl<A: Accumulate> ScriptPhaser<A> {
             Command::Now { parent, child } => self.add_now(parent, child),
             Command::Send { task, value } => self.send(task, value),
             Command::Signal { task, single } => Ok(self.signal(task, single)),
+            Command::Block { task, values } => Ok(self.block(task, &values)),
             Command::Wait { task } => Ok(self.wait(task)),
+            Command::Take { task, phases } => Ok(self.take(task, phases)),
             Command::Drop { task } => Ok(self.drop_task(task)),
         }
     }
@@ -246,6 +263,55 @@ impl<A: Accumulate> ScriptPhaser<A> {
         match self.core.wait(task) {
             Ok(Got::Value { phase, outcome }) => value_reply(phase, outcome),
             Ok(Got::Ended) => Reply::Ended,
+            Err(refusal) => wait_reason(refusal),
+        }
+    }
+
+    // Signals a phase for each value, where the task holds no sends.
+    fn block(&mut self, task: u64, values: &Values) -> Reply
+        requires { IsBlock values.now }
+        ensures reply { (limits : Limits) (h : History) (held : Held)
+            → PhaserStandsFor A.operation self.old limits h held
+            → result ≡ block_reply A.operation.value limits h held task values.now }
+        ensures after { (limits : Limits) (h : History) (held : Held)
+            → PhaserStandsFor A.operation self.old limits h held
+            → PhaserStandsFor A.operation self.new limits
+            (after_block A.operation.value limits h held task values.now) held }
+    {
+        let Some(entry) = self.core.view(task) else {
+            return Reply::Refused(Refusal::NoTask);
+        };
+        let signals = entry.mode.signals();
+        if !signals {
+            return Reply::Refused(Refusal::NoSignal);
+        }
+        if self.held.of(task).count() > 0 {
+            return Reply::Refused(Refusal::Held);
+        }
+        self.sends.hold_each(values.as_slice());
+        match self.core.signal_lists(task, self.sends.as_slice(), None) {
+            Ok(phase) => Reply::Signalled { phase },
+            Err(refusal) => signal_reason(refusal),
+        }
+    }
+
+    // Waits for the task's next phases, as many as are complete, but no more than `phases`.
+    fn take(&mut self, task: u64, phases: u64) -> Reply
+        requires { phases ≤ VALUES_MAX }
+        ensures reply { (limits : Limits) (h : History) (held : Held)
+            → PhaserStandsFor A.operation self.old limits h held
+            → result ≡ take_reply A.operation.value limits h task phases }
+        ensures after { (limits : Limits) (h : History) (held : Held)
+            → PhaserStandsFor A.operation self.old limits h held
+            → PhaserStandsFor A.operation self.new limits
+            (after_call A.operation.value limits h (call.WaitBlock task phases)) held }
+    {
+        let mut places = [Outcome::Empty; VALUES_MAX];
+        match self.core.wait_block(task, &mut places[..phases as usize]) {
+            Ok(GotBlock::Values { phase, count }) => {
+                values_reply(phase, &places[..count as usize])
+            }
+            Ok(GotBlock::Ended) => Reply::Ended,
             Err(refusal) => wait_reason(refusal),
         }
     }

@@ -1,6 +1,7 @@
 //! A session: the lines of a script, one at a time.
 ghost use Rattle.std.specs.Prelude.{◌≡◌, ◌≤◌, ℕ, List, length, [], ◌∷◌, ◌++◌, OnOk, OnErr, IfOk, Some, None};
 ghost use Rattle.phase_script.specs.ReplyLines.{IsOneLine};
+ghost use Rattle.phase_script.specs.declared.reply_line.TheConstants.{REPLY_MAX};
 ghost use Rattle.phase_script.specs.Commands.{command_of, IsCommand};
 ghost use Rattle.phase_session.specs.Scripts.{ScriptState, start, reply_to, after_line};
 ghost use Rattle.phase_session.specs.Scripts.{command_reply, after_command, state_after};
@@ -67,8 +68,8 @@ impl Session {
             → IsOkReply (reply_by state (command_of line.now))) }
         // Only a `make`, an `add` or a `send` wants it.
         ensures asks { OnErr result (MayWantMemory (command_of line.now)) }
-        // A reply is one line, of at most 47 bytes.
-        ensures one_line { IfOk result (λ reply. IsOneLine reply × (length reply ≤ 47)) }
+        // A reply is one line, of at most 363 bytes.
+        ensures one_line { IfOk result (λ reply. IsOneLine reply × (length reply ≤ REPLY_MAX)) }
         // A session stands for some state, whatever was done with it before.
         ensures stands { (state : ScriptState) × Stands self.old state }
         // The same over the lines so far: the session then stands for them with this one.

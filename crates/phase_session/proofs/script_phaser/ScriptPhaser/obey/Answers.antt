@@ -67,3 +67,31 @@ returns-in-Send-clause-asks g c = asks_as c.send.result c.args.command _ c.in-Se
 
 pub returns-in-Now-clause-asks : goal.returns-in-Now-clause-asks
 returns-in-Now-clause-asks g c = asks_as c.add_now.result c.args.command _ c.in-Now.is tt
+
+pub block-requires : goal.block-requires
+block-requires g c =
+    let C : Command → Type 0 = λ command. IsCommand command in
+    let is_command = subst C c.in-Block.is c.requires in
+    is_command.1
+
+pub returns-in-Block-clause-reply : goal.returns-in-Block-clause-reply
+returns-in-Block-clause-reply g c =
+    replies g.A.Accumulate.operation c.args.self.now c.block.result c.args.command _ c.in-Block.is c.block.ensures.reply
+
+pub returns-in-Block-clause-after : goal.returns-in-Block-clause-after
+returns-in-Block-clause-after g c =
+    stands_then g.A.Accumulate.operation c.args.self.now c.block.new.self c.args.command _ c.in-Block.is c.block.ensures.after
+
+pub take-requires : goal.take-requires
+take-requires g c =
+    let C : Command → Type 0 = λ command. IsCommand command in
+    let is_command = subst C c.in-Take.is c.requires in
+    is_command.2
+
+pub returns-in-Take-clause-reply : goal.returns-in-Take-clause-reply
+returns-in-Take-clause-reply g c =
+    replies g.A.Accumulate.operation c.args.self.now c.take.result c.args.command _ c.in-Take.is c.take.ensures.reply
+
+pub returns-in-Take-clause-after : goal.returns-in-Take-clause-after
+returns-in-Take-clause-after g c =
+    stands_then g.A.Accumulate.operation c.args.self.now c.take.new.self c.args.command _ c.in-Take.is c.take.ensures.after
