@@ -217,37 +217,39 @@ fn the_grammar_of_blocks(rt: HostRuntime) {
     );
 }
 
-// Whether the line is read as a block of the task with just these values.
-fn is_block(line: &[u8], task: u64, values: &[i64]) -> bool {
-    match read(line) {
-        Some(
-            Command::Block {
-                task: number,
-                values: read,
-            },
-        ) => number == task && read.as_slice() == values,
-        _ => false,
+// A block of the task with these values, as far as it may have so many.
+fn block_of(task: u64, list: &[i64]) -> Command {
+    let mut values = Values::new();
+    for value in list {
+        if values.as_slice().len() < VALUES_MAX {
+            values.push(*value);
+        }
     }
+    Command::Block { task, values }
 }
 
 #[test]
 fn values_are_read_in_their_order(rt: HostRuntime) {
-    assert!(rt; is_block(b"block 3 -5", 3, &[-5]));
-    assert!(rt; is_block(b"block 0 5 0 -7", 0, &[5, 0, -7]));
-    assert!(rt;
-        is_block(
-            b"block 1 1 2 3 4 5 6 7 8 9 10 11 12 13 14 15 16",
-            1,
-            &[1, 2, 3, 4, 5, 6, 7, 8, 9, 10, 11, 12, 13, 14, 15, 16],
-        )
-    );
+    let most = [1, 2, 3, 4, 5, 6, 7, 8, 9, 10, 11, 12, 13, 14, 15, 16];
+    let rows: [(&str, u64, &[i64]); 3] = [
+        ("block 3 -5", 3, &[-5]),
+        ("block 0 5 0 -7", 0, &[5, 0, -7]),
+        ("block 1 1 2 3 4 5 6 7 8 9 10 11 12 13 14 15 16", 1, &most),
+    ];
+    for (text, task, values) in rows {
+        assert_eq!(rt;
+            read(text.as_bytes()),
+            Some(block_of(task, values)),
+            "at '{text}'"
+        );
+    }
+    assert!(rt; block_of(0, &[8]) != block_of(0, &[8, 0]));
     let mut values = Values::new();
     values.push(8);
     let first = values;
     values.push(-8);
     assert_eq!(rt; values.as_slice(), [8, -8].as_slice());
     assert_eq!(rt; first.as_slice(), [8].as_slice());
-    assert!(rt; first != values);
 }
 
 // A line of 361 bytes is read, and a longer one is no command.
@@ -261,7 +263,10 @@ fn the_longest_lines(rt: HostRuntime) -> Result<(), Fail> {
     }
     assert_eq!(rt; script.len(), LINE_MAX);
     assert_eq!(rt; script.len(), 361);
-    assert!(rt; is_block(&script, 9223372036854775807, &[-most; 16]));
+    assert_eq!(rt;
+        read(&script),
+        Some(block_of(9223372036854775807, &[-most; 16]))
+    );
     script.extend_from_slice(b"\r\n")?;
     replays(&rt, rt.alloc(), &script, b"no phaser\n")?;
     let longer = format!(in rt.alloc(); "block 19223372036854775807{}", " -1")?;
