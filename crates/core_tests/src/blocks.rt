@@ -1,5 +1,5 @@
 //! Blocks of phases, and waiters that join now, as calls on a phaser under sum.
-use phase_accum::{Outcome, Pending, SendFault, Single, Sum};
+use phase_accum::{Outcome, Pending, SendFault, Sum};
 use phase_base::{Mode, Spec};
 use phase_core::{GotBlock, PhaserCore, RegisterRefusal, SignalRefusal, WaitRefusal};
 use std::alloc::Global;
@@ -193,32 +193,5 @@ fn a_waiter_joins_behind_complete_phases_and_not_at_the_top(rt: HostRuntime) -> 
     assert_eq!(rt; core.top(), 2);
     assert_eq!(rt; core.register_now(0, 2), Ok(1));
     assert_eq!(rt; core.wait(2), Err(WaitRefusal::NotYet));
-    Ok(())
-}
-
-#[test]
-fn a_block_of_another_single_is_refused_whole(rt: HostRuntime) -> Result<(), Fail> {
-    let mut core = founded(rt.alloc(), 4, 100)?;
-    core.register(0, 1, Mode::Sig)?;
-    let mut out = [UNWRITTEN; 4];
-    assert_eq!(rt; signal(rt.alloc(), &mut core, 1, &[5])?, Ok(0));
-    match core.signal(0, pending_of(1)?, Some(Single::neg())) {
-        Ok(_) => return Err(Fail::from("a single that is not the block's")),
-        Err((refusal, _)) => assert_eq!(rt; refusal, SignalRefusal::SingleDiffers),
-    }
-    if let Err((refusal, _)) = core.signal(0, pending_of(1)?, None) {
-        return Err(Fail::from(refusal));
-    }
-    assert_eq!(rt; core.wait_block(0, &mut out), values(0, 1));
-    assert_eq!(rt; out[0], Outcome::Value(6));
-    if let Err((refusal, _)) = core.signal(0, pending_of(2)?, Some(Single::neg())) {
-        return Err(Fail::from(refusal));
-    }
-    // The first phase of the block has a single, which a task that only signals cannot name.
-    assert_eq!(rt;
-        signal(rt.alloc(), &mut core, 1, &[7, 8])?,
-        Err(SignalRefusal::SingleDiffers)
-    );
-    assert_eq!(rt; core.wait_block(0, &mut out), Err(WaitRefusal::NotYet));
     Ok(())
 }

@@ -1,5 +1,5 @@
 //! A ring of two slots.
-use phase_accum::{Outcome, Pending, Single, Sum};
+use phase_accum::{Outcome, Pending, Sum};
 use phase_ring::{MergeRefusal, Role, SlotRing};
 use std::test::Fail;
 
@@ -37,28 +37,6 @@ fn a_phase_takes_so_many_sends(rt: HostRuntime) -> Result<(), Fail> {
     assert_eq!(rt;
         ring.can_merge(0, 65537, None),
         Err(MergeRefusal::PhaseFull)
-    );
-    Ok(())
-}
-
-#[test]
-fn a_phase_takes_sends_of_its_own_single(rt: HostRuntime) -> Result<(), Fail> {
-    let mut ring = SlotRing::<Sum>::with_bound(rt.alloc(), 1)?;
-    assert_eq!(rt; ring.can_merge(0, 1, None), Ok(()));
-    if let Err((refusal, _)) = ring.merge(0, Pending::new(), Some(Single::neg())) {
-        return Err(Fail::from(refusal));
-    }
-    assert_eq!(rt; ring.can_merge(0, 1, Some(Single::neg())), Ok(()));
-    for single in [None, Some(Single::abs())] {
-        assert_eq!(rt;
-            ring.can_merge(0, 1, single),
-            Err(MergeRefusal::SingleDiffers)
-        );
-    }
-    // The single is looked at before the number of sends.
-    assert_eq!(rt;
-        ring.can_merge(0, 65537, None),
-        Err(MergeRefusal::SingleDiffers)
     );
     Ok(())
 }
