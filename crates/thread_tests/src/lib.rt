@@ -1,12 +1,8 @@
 //! Tests of a lock and of a phaser between threads, by their public calls: of `turn_lock`,
-//! `phase_shared`, `phase_received` and `graph_members`. They stand in a crate of their own, since a
-//! crate is proved anew with its tests.
+//! `phase_shared` and `phase_received`. They stand in a crate of their own, since a crate is proved
+//! anew with its tests.
 #![tactic(auto)]
 
-#[cfg(test)]
-mod block_tries;
-#[cfg(test)]
-mod blocks;
 #[cfg(test)]
 mod churn;
 #[cfg(test)]
@@ -15,8 +11,6 @@ mod head;
 mod kept;
 #[cfg(test)]
 mod locks;
-#[cfg(test)]
-mod members;
 #[cfg(test)]
 mod parts;
 #[cfg(test)]
