@@ -78,6 +78,13 @@ impl<'a> AnyMember<'a> {
         each!(self, one => one.look())
     }
 
+    /// Tells its number, which nobody else has on its phaser.
+    pub fn number(&self) -> u64
+        ensures { result ≡ (member_in self.now).number }
+    {
+        each!(self, one => one.number())
+    }
+
     /// Tells the value that it holds, where one was refused.
     pub fn held(&self) -> Option<i64>
         ensures { result ≡ (member_in self.now).held }

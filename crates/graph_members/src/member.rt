@@ -66,6 +66,13 @@ impl<'a, A: Accumulate> Member<'a, A> {
         self.reg.look();
     }
 
+    /// Tells its number, which nobody else has on its phaser.
+    pub fn number(&self) -> u64
+        ensures { result ≡ self.now.number }
+    {
+        self.reg.number()
+    }
+
     /// Tells the value that it holds, where one was refused.
     pub fn held(&self) -> Option<i64>
         ensures { result ≡ self.now.held }

@@ -96,6 +96,13 @@ impl<A: Accumulate, K: SignalRule> Reg<A, K> {
         let _number = self.number;
     }
 
+    /// Tells its number, which nobody else has on its phaser.
+    pub fn number(&self) -> u64
+        ensures { result ≡ self.now.number }
+    {
+        self.number
+    }
+
     /// Tells its mode.
     pub fn mode(&self) -> Mode
         ensures value { result ≡ self.now.entry.mode }
