@@ -2,8 +2,8 @@
 -- phaser knows that has left it.
 use Rattle.std.specs.Prelude.{◌≡◌, ℕ, ◌<◌, ◌≤◌, ℤ, List, [], ◌∷◌, length, get_or, slice_get, Some, true, false}
 use Rattle.std.specs.List.{All}
-use Rattle.phase_history.specs.declared.event.Event.TheVariants.{Made}
-use Rattle.phase_history.specs.Histories.{History, IsBeginning, phases_signalled, has_dropped}
+use Rattle.phase_history.specs.declared.event.Event.TheVariants.{Made, Signalled}
+use Rattle.phase_history.specs.Histories.{History, IsBeginning, has_dropped}
 use Rattle.phase_history.specs.Phases.{received_by}
 use Rattle.phase_history.specs.Others.{events_of, children_in, is_in}
 use Rattle.phase_history.specs.Sent.{NamesAll}
@@ -86,11 +86,17 @@ pub record HasLeftAt (job : Job) (m : Moment) (end : TaskEnd) : Type 0 where
 
 -- ---- a founder
 
+-- none of these events is a signal
+abbrev pub HasNoSignal : History → Type 0
+HasNoSignal [] = Unit {0}
+HasNoSignal (Signalled task lists single ∷ before) = ⊥
+HasNoSignal (event ∷ before) = HasNoSignal before
+
 -- the founder of a phaser made it, has signalled nothing, and registered tasks under these numbers
 -- alone
 pub record HasFounded (number : ℕ) (gave : List ℕ) (h : History) : Type 0 where
   pub made : IsBeginning (Made number ∷ []) h
-  pub silent : phases_signalled h number ≡ 0
+  pub silent : HasNoSignal (events_of number h)
   pub gave_these : (a : ℕ) → is_in a (children_in (events_of number h)) ≡ true → is_in a gave ≡ true
 
 -- a founder that has left: its number, those that it gave, and what it has seen
