@@ -1,1 +1,5 @@
+pub mod Absent
 pub mod Founding
+pub mod Joined
+pub mod OnPhasers
+pub mod Owns
