@@ -1,6 +1,5 @@
 -- A child that never came has run, since it has done nothing.
-use Rattle.std.proofs.Common.{◌≡◌, ℕ, ◌<◌, [], Option, Some, None, length, refl, sym, ap, subst, ◌∙◌}
-use Rattle.graph_base.specs.declared.line.Parent.{Parent}
+use Rattle.std.proofs.Common.{◌≡◌, ℕ, ◌<◌, [], Option, Some, None, length, sym, subst, ◌∙◌}
 use Rattle.graph_base.specs.Graphs.{task_at}
 use Rattle.graph_base.specs.TaskLines.{IsGraph}
 use Rattle.stream_lists.specs.Jobs.{Job, place_in}

@@ -1,20 +1,18 @@
 -- The moment of the whole run: what each task that came has by its own moment, and one history a
 -- phaser.
-use Rattle.std.proofs.Common.{◌≡◌, ℕ, zero, ◌+◌, ◌<◌, ◌≤◌, Bool, true, false, eqb, ◌||◌, List, [], ◌∷◌, Option, Some, None, length, slice_get, ℤ, refl, sym, ap, subst, ◌∙◌, arith, ◌⊎◌, inl, inr}
-use Rattle.std.proofs.lemmas.Bool.{cases_lt, eqb-true, eq-eqb}
-use Rattle.std.proofs.lemmas.Option.{same_Some, slice_get-get_or}
+use Rattle.std.proofs.Common.{◌≡◌, ℕ, ◌<◌, ◌≤◌, true, List, [], Option, Some, None, length, slice_get, ℤ, refl, sym, ap, subst, ◌∙◌, arith, ◌⊎◌, inl, inr}
+use Rattle.std.proofs.lemmas.Bool.{cases_lt}
+use Rattle.std.proofs.lemmas.Option.{same_Some}
 use Rattle.phase_history.specs.Histories.{History, has_dropped}
 use Rattle.phase_history.specs.Others.{is_in}
-use Rattle.graph_base.specs.declared.line.Parent.{Parent}
-use Rattle.graph_base.specs.Graphs.{task_at}
 use Rattle.graph_base.specs.TaskLines.{IsGraph}
 use Rattle.stream_lists.specs.Jobs.{Job}
-use Rattle.graph_moments.specs.Moments.{Moment, OnLine, IsRegistered, numbers_on}
+use Rattle.graph_moments.specs.Moments.{Moment, IsRegistered, numbers_on}
 use Rattle.graph_moments.proofs.Numbers.{in_numbers, from_numbers}
 use Rattle.graph_turns.specs.Beginnings.{opening}
 use Rattle.graph_turns.specs.Nexts.{registrations_at}
 use Rattle.graph_turns.specs.TaskPlaces.{registration_at}
-use Rattle.graph_ends.specs.TaskEnds.{TaskEnd, IsChildOf, HasGiven, FounderEnd}
+use Rattle.graph_ends.specs.TaskEnds.{TaskEnd, IsChildOf, FounderEnd}
 use Rattle.graph_ends.specs.RunEnds.{Ends, HasCome, IsRegisteredOn, HasWhole, IsRunEnd}
 use Rattle.graph_ends.proofs.Owns.{IsFound, found_on, has_some, HasOwn, owns_as, HasNumber, has_number}
 

@@ -3,3 +3,4 @@ pub mod Founding
 pub mod Joined
 pub mod OnPhasers
 pub mod Owns
+pub mod Wholes

@@ -14,7 +14,7 @@ use Rattle.phase_history.proofs.Sendings.{IsSilent-unused}
 use Rattle.phase_history.proofs.Signallers.{quiet_from}
 use Rattle.phase_history.proofs.Used.{IsUsed-longer, events_of-unused}
 use Rattle.phase_history.specs.Legal.{IsLegal}
-use Rattle.graph_base.specs.Graphs.{task_at, phaser_at}
+use Rattle.graph_base.specs.Graphs.{phaser_at}
 use Rattle.graph_base.specs.TaskLines.{IsGraph}
 use Rattle.stream_lists.specs.Jobs.{Job}
 use Rattle.graph_moments.specs.Moments.{Moment, PhaserRan, limits_at, numbers_on}

@@ -1,11 +1,10 @@
 -- What a task that has left has of its own, phaser by phaser.
-use Rattle.std.proofs.Common.{◌≡◌, ℕ, zero, suc, ◌+◌, ◌<◌, ◌≤◌, true, false, List, [], ◌∷◌, ◌++◌, Option, Some, None, is_some, length, map, get_or, slice_get, ℤ, refl, sym, ap, subst, ◌∙◌, arith, ◌⊎◌, inl, inr}
+use Rattle.std.proofs.Common.{◌≡◌, ℕ, ◌+◌, ◌<◌, ◌≤◌, true, [], ◌++◌, Option, Some, is_some, length, get_or, slice_get, sym, ap, subst, ◌∙◌, arith, inl, inr}
 use Rattle.std.specs.Prelude.{unwrap_or, nat_lt}
 use Rattle.std.proofs.lemmas.Bool.{lt-ltb}
-use Rattle.std.proofs.lemmas.Option.{same_Some, slice_get-get_or, slice_get_past}
+use Rattle.std.proofs.lemmas.Option.{slice_get-get_or}
 use Rattle.std.proofs.lemmas.List.{length-map, get_or-map, length-append}
-use Rattle.phase_base.specs.declared.entry.Entry.{Entry}
-use Rattle.phase_history.specs.Histories.{has_dropped, start_of}
+use Rattle.phase_history.specs.Histories.{has_dropped}
 use Rattle.phase_history.specs.Others.{IsUsed}
 use Rattle.graph_base.specs.declared.line.Kind.{Kind}
 use Rattle.graph_base.specs.declared.line.Kind.TheVariants.{Source, Fir, Split, Join, Peer, Sink}
@@ -13,13 +12,12 @@ use Rattle.graph_base.specs.Graphs.{task_at}
 use Rattle.graph_base.specs.Registrations.{no_registration}
 use Rattle.graph_base.specs.TaskLines.{IsGraph, HasEnds}
 use Rattle.graph_base.proofs.Registered.{registrations-phasers}
-use Rattle.stream_lists.specs.Jobs.{Job, place_in}
-use Rattle.stream_lists.specs.Spans.{signalled_by}
+use Rattle.stream_lists.specs.Jobs.{Job}
 use Rattle.graph_moments.specs.Moments.{Moment, TaskRan, OnLine, OnPhaser, PutOn, TakenOn, OnOutput, OnInput}
 use Rattle.graph_moments.proofs.OnLines.{on_phaser}
 use Rattle.graph_parts.specs.Parts.{HasPart}
 use Rattle.graph_turns.specs.Nexts.{registrations_at}
-use Rattle.graph_turns.specs.TaskPlaces.{StandsAt, registration_at}
+use Rattle.graph_turns.specs.TaskPlaces.{registration_at}
 use Rattle.graph_turns.proofs.Places.{on_ends}
 use Rattle.graph_ends.specs.TaskEnds.{TaskEnd, IsChildOf, HasOwnCalls, HasNumbers, HasLeftAt}
 
