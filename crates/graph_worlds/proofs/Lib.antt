@@ -3,3 +3,5 @@ pub mod OpeningTasks
 pub mod Ending
 pub mod Reading
 pub mod Searching
+pub mod Stalling
+pub mod Stepping

@@ -1,3 +1,4 @@
 pub mod Machines
 pub mod Places
+pub mod Stalls
 pub mod Worlds

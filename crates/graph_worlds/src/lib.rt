@@ -9,6 +9,7 @@ mod opened_tasks;
 mod opening;
 mod owed;
 mod roots;
+mod stalls;
 mod step;
 mod task_state;
 mod world;
