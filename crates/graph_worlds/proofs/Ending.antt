@@ -1,5 +1,5 @@
 -- Whether a live task makes no further step.
-use Rattle.std.proofs.Common.{◌≡◌, ◌≢◌, ℕ, ◌<◌, Bool, true, false, not, ◌&&◌, ◌||◌, Option, Some, is_some, length, get_or, nat_le, refl, sym, ap, subst, ◌∙◌, arith, inl}
+use Rattle.std.proofs.Common.{◌≡◌, ◌≢◌, ℕ, ◌<◌, Bool, true, false, not, ◌&&◌, ◌||◌, Option, Some, is_some, length, get_or, nat_le, refl, sym, ap, subst, ◌∙◌, arith}
 use Rattle.std.specs.Prelude.{unwrap_or}
 use Rattle.std.proofs.lemmas.Bool.{lt-ltb, le-ltb}
 use Rattle.std.proofs.lemmas.Option.{slice_get-get_or}
@@ -16,9 +16,7 @@ use Rattle.graph_turns.specs.Nexts.{is_live, is_cut, has_input_ended, has_run_ou
 use Rattle.graph_turns.specs.TaskPlaces.{TaskPlace, StandsAt, registration_at, registration_of_output}
 use Rattle.graph_turns.proofs.Signalling.{live-is, stays}
 use Rattle.graph_turns.proofs.Boundaries.{goes_on, or_false}
-use Rattle.graph_turns.proofs.Places.{place_of_output}
 use Rattle.graph_turns.proofs.Standing.{of_input, of_output, many}
-use Rattle.graph_moments.proofs.OnLines.{on_phaser}
 use Rattle.graph_base.specs.Registrations.{signalled_by}
 use Rattle.graph_turns.specs.Answers.{output_at}
 use Rattle.graph_turns.proofs.Waiting.{Waiter, waiter}
@@ -173,10 +171,3 @@ number_of_output job m t j at is stands live few =
       sym (ap (λ q. number_on m t q) out.1)
           ∙ ap (λ o. unwrap_or o 0) (number-at job m t k at stands less),
     )
-
--- an output is a phaser of the graph
-pub output_there : (job : Job) (t j : ℕ) → IsGraph job.graph → t < length job.graph.tasks
-    → j < length (signalled_by (task_at job.graph t)) → output_at job t j < length job.graph.phasers
-output_there job t j is there few =
-    on_phaser job t (output_at job t j) is there
-    (inl (j, place_of_output job.graph t (task_at job.graph t) j (is.tasks t there) few))

@@ -11,15 +11,15 @@ ghost use Rattle.graph_cores.specs.Cores.{CoreStandsFor};
 ghost use Rattle.graph_moments.specs.Moments.{Moment, limits_at, input_at};
 ghost use Rattle.graph_turns.specs.Nexts.{has_signaller, is_live, number_on, signals};
 ghost use Rattle.graph_turns.specs.Answers.{is_stalled, is_still, output_at};
-ghost use Rattle.graph_worlds.specs.Places.{owed_of};
+ghost use Rattle.graph_steps.specs.Steps.{owed_of};
 ghost use Rattle.graph_worlds.specs.Stalls.{blocks_signal, blocks_wait, would_block, is_value_in_range};
 ghost use Rattle.graph_worlds.specs.Machines.{next_by};
 
-use graph_steps::{input_of, output_of, Owed};
 use crate::machine::Machine;
 use crate::step::Step;
 use graph_base::Op;
 use graph_cores::AnyCore;
+use graph_steps::{Owed, input_of, output_of};
 use phase_base::PHASES_MAX;
 use stream_lists::Job;
 

@@ -1,6 +1,6 @@
 -- A value in range is signalled.
 use Rattle.std.proofs.Common.{not, ap, ◌∙◌}
-use Rattle.graph_worlds.specs.Places.{owed_of}
+use Rattle.graph_steps.specs.Steps.{owed_of}
 use Rattle.graph_worlds.proofs.Stepping.{signal_output}
 use Rattle.graph_worlds.proofs.Stalling.{value_blocks, value_moves, range_told}
 use Rattle.graph_worlds.proofs.machine.Machine.value_blocks.Goals as goal
