@@ -1,3 +1,4 @@
 pub mod Machines
+pub mod Parking
 pub mod Places
 pub mod Worlds
