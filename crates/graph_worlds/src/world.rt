@@ -1,5 +1,5 @@
 //! A run of a graph on one thread.
-ghost use Rattle.std.specs.Prelude.{◌≡◌, map, IfOk};
+ghost use Rattle.std.specs.Prelude.{◌≡◌, ℕ, None, [], get_or, map, IfOk};
 ghost use Rattle.stream_eval.specs.Results.{sink_values};
 ghost use Rattle.stream_lists.specs.Lists.{sinks_of};
 ghost use Rattle.graph_moments.specs.Moments.{Moment};
@@ -7,7 +7,9 @@ ghost use Rattle.graph_turns.specs.Beginnings.{opening};
 ghost use Rattle.graph_turns.specs.Nexts.{next_of};
 
 use crate::machine::Machine;
+use crate::parked::Parked;
 use crate::step::Step;
+use graph_base::Place;
 use std::alloc::{AllocError, Global};
 use std::marker::Model;
 use stream_eval::Lines;
@@ -21,17 +23,27 @@ use stream_lists::Job;
 pub struct World<'a> {
     job: &'a Job,
     machine: Machine,
+    // where a value was out of range
+    met: Option<(Place, u64)>,
+    parked: Parked,
 }
 
 impl<'a> Model for World<'a> {
+    ghost use Rattle.std.specs.Prelude.{◌≡◌, length};
     ghost use Rattle.graph_worlds.specs.Worlds.{WorldState};
     ghost use Rattle.graph_worlds.specs.Machines.{IsMachine};
 
     ghost Value = { WorldState };
 
-    ghost view = { λ w. record { job = w.job.now; machine = w.machine } };
+    ghost view = { λ w. record {
+      job = w.job.now;
+      machine = w.machine;
+      met = w.met;
+      parked = w.parked;
+    } };
 
-    ghost invariant = { λ w. IsMachine w.job.now w.machine };
+    ghost invariant = { λ w. IsMachine w.job.now w.machine
+        × (length w.parked ≡ length w.job.now.graph.phasers) };
 }
 
 impl<'a> World<'a> {
@@ -42,13 +54,21 @@ impl<'a> World<'a> {
     /// without a parent, in the order of their lines, as 1, 2, .., and has left.
     ///
     /// It takes memory for a slot of each phase that a phaser may have open, an entry for each
-    /// registration, the window of each filter and a list for each sink.
+    /// registration, the window of each filter, and a list for each sink and each phaser.
     pub fn new(alloc: Global, job: &'a Job) -> Result<World<'a>, AllocError>
         ensures job { IfOk result (λ world. world.job ≡ job.now) }
         ensures opening { IfOk result (λ world. IsWorldAt world (opening job.now)) }
+        ensures met { IfOk result (λ world. world.met ≡ None) }
+        ensures parked { IfOk result (λ world. (p : ℕ) → get_or world.parked p [] ≡ []) }
     {
         let machine = Machine::new(alloc, job)?;
-        Ok(World { job, machine })
+        let parked = Parked::new(alloc, job.graph().phasers())?;
+        Ok(World {
+            job,
+            machine,
+            met: None,
+            parked,
+        })
     }
 
     /// Tells what task number `task` does next: nothing, where it is not live or there is none of
