@@ -1,10 +1,11 @@
 //! A run of a graph on one thread.
-ghost use Rattle.std.specs.Prelude.{◌≡◌, ℕ, None, [], get_or, map, IfOk};
+ghost use Rattle.std.specs.Prelude.{◌≡◌, ◌≢◌, ◌<◌, ℕ, None, [], length, get_or, map, IfOk, false};
 ghost use Rattle.stream_eval.specs.Results.{sink_values};
 ghost use Rattle.stream_lists.specs.Lists.{sinks_of};
 ghost use Rattle.graph_moments.specs.Moments.{Moment};
 ghost use Rattle.graph_turns.specs.Beginnings.{opening};
 ghost use Rattle.graph_turns.specs.Nexts.{next_of};
+ghost use Rattle.graph_turns.specs.Answers.{is_stalled};
 
 use crate::machine::Machine;
 use crate::parked::Parked;
@@ -89,5 +90,25 @@ impl<'a> World<'a> {
             ≡ map (λ t. (t, m.taken t 0)) (sinks_of self.now.job) }
     {
         &self.machine.lines
+    }
+
+    /// Lends the tasks that were blocked on a phaser since its last event. It takes no memory.
+    pub fn parked(&self, phaser: usize) -> &[usize]
+        requires { phaser < length self.now.job.graph.phasers }
+        ensures { result.now ≡ get_or self.now.parked phaser [] }
+    {
+        self.parked.on(phaser)
+    }
+
+    /// Tells whether no task can move: some task is live, and the turn of each live task would be
+    /// blocked. After a value out of range no run is stalled. It takes no memory.
+    ///
+    /// It looks at each task.
+    pub fn stalled(&self) -> bool
+        ensures stalled { (m : Moment) → IsWorldAt self.now m → self.now.met ≡ None
+            → is_stalled self.now.job m ≡ result }
+        ensures met { self.now.met ≢ None → result ≡ false }
+    {
+        self.met.is_none() && self.machine.is_stalled(self.job)
     }
 }
