@@ -128,6 +128,7 @@ module _ (job : Job) (m : Moment) (t p n : ℕ) (h : History) (s : SeesOthers jo
       elsewhere = λ q apart. other_at p h m q apart;
       numbers = λ q u. refl;
       offset = λ u. refl;
+      others_begun = λ u apart. refl;
     };
     same = same;
     left = λ q u at. (stays_part q u at).dropped;
@@ -175,6 +176,7 @@ module _ (job : Job) (m after : Moment) (t p n : ℕ) (event : Event) (before : 
     elsewhere = elsewhere;
     numbers = moved.numbers;
     offset = offset;
+    others_begun = λ u apart. (moved.others u apart).begun;
   }
 
   -- it has left none of its phasers still

@@ -96,6 +96,7 @@ pub record HasMovedOn (job : Job) (before after : Moment) (t p : ℕ) (now : His
   pub elsewhere : (q : ℕ) → q ≢ p → after.history q ≡ before.history q
   pub numbers : (q u : ℕ) → after.number q u ≡ before.number q u
   pub offset : (u : ℕ) → after.offset u ≡ before.offset u
+  pub others_begun : (u : ℕ) → u ≢ t → after.begun u ≡ before.begun u
 
 -- with no event of the task
 pub record HasSeen (job : Job) (before after : Moment) (t p : ℕ) (now : History) : Type 0 where

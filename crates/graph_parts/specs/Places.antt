@@ -1,6 +1,6 @@
 -- How the place of a task stands by what its calls leave of its part, and how a task begins: a root
 -- by its founder, and a child while its parent registers it.
-use Rattle.std.specs.Prelude.{◌≡◌, ◌≢◌, ℕ, zero, suc, ◌<◌, List, [], ◌∷◌, ◌++◌, length, Some, None, is_some, true, ◌⊎◌}
+use Rattle.std.specs.Prelude.{◌≡◌, ◌≢◌, ℕ, suc, ◌<◌, List, [], ◌∷◌, ◌++◌, length, Some, None, is_some, true, ◌⊎◌}
 use Rattle.phase_history.specs.declared.event.Event.{Event}
 use Rattle.phase_history.specs.declared.event.Event.TheVariants.{Made, Registered}
 use Rattle.phase_history.specs.Histories.{History, IsBeginning}
@@ -91,6 +91,7 @@ pub record HasNewChild (job : Job) (before after : Moment) (t c : ℕ) (numbers 
   pub history : (q : ℕ) → after.history q ≡ before.history q
   pub numbers_stay : (q u : ℕ) → after.number q u ≡ before.number q u
   pub offset : (u : ℕ) → after.offset u ≡ before.offset u
+  pub others_begun : (u : ℕ) → u ≢ c → after.begun u ≡ before.begun u
 
 -- task t has seen others' events on phaser p, where its child c has no number yet
 pub record HasSeenBoth (job : Job) (before after : Moment) (t c p : ℕ) (numbers : List ℕ)
@@ -111,3 +112,4 @@ pub record HasAddedChild (job : Job) (before after : Moment) (t c p a : ℕ) (nu
   pub number : after.number p c ≡ Some a
   pub other_numbers : (q u : ℕ) → (q ≢ p) ⊎ (u ≢ c) → after.number q u ≡ before.number q u
   pub offset : (u : ℕ) → after.offset u ≡ before.offset u
+  pub begun : (u : ℕ) → after.begun u ≡ before.begun u
