@@ -2,5 +2,6 @@ pub mod Absent
 pub mod Founding
 pub mod Joined
 pub mod OnPhasers
+pub mod OwnCalls
 pub mod Owns
 pub mod Wholes
