@@ -1,4 +1,5 @@
 pub mod Absent
+pub mod CallsFollow
 pub mod Founding
 pub mod Joined
 pub mod OnPhasers

@@ -1,5 +1,5 @@
 -- What a task's own calls were stays under others' events, and goes on by its own.
-use Rattle.std.proofs.Common.{◌≡◌, ◌≢◌, ℕ, ◌<◌, Bool, true, false, cond, eqb, ◌||◌, List, [], ◌∷◌, ◌++◌, Option, Some, None, ℤ, length, refl, sym, ap, subst, ◌∙◌, ◌⊎◌, inl, inr, All}
+use Rattle.std.proofs.Common.{◌≡◌, ◌≢◌, ℕ, Bool, true, false, cond, eqb, ◌||◌, List, [], ◌∷◌, Some, ℤ, refl, sym, ap, subst, ◌∙◌, ◌⊎◌, inl, inr, All}
 use Rattle.std.proofs.lemmas.Bool.{eq-eqb, eqb-true}
 use Rattle.std.proofs.lemmas.List.{append-nil}
 use Rattle.std.proofs.lemmas.List.Elements.{All-cons, All-nil, All-append}
@@ -7,7 +7,7 @@ use Rattle.std.proofs.lemmas.Option.{same_Some}
 use Rattle.phase_accum.specs.declared.outcome.Outcome.{Outcome}
 use Rattle.phase_base.specs.declared.mode.Mode.{Mode}
 use Rattle.phase_history.specs.declared.event.Event.{Event}
-use Rattle.phase_history.specs.declared.event.Event.TheVariants.{Registered, Signalled, Waited, Dropped}
+use Rattle.phase_history.specs.declared.event.Event.TheVariants.{Registered, Waited, Dropped}
 use Rattle.phase_history.specs.Histories.{History}
 use Rattle.phase_history.specs.Phases.{received_by}
 use Rattle.phase_history.specs.Others.{events_of, children_in, is_in, OthersCame}
