@@ -2,8 +2,8 @@
 use Rattle.std.proofs.Common.{◌≡◌, ◌≢◌, ◌⊎◌, inl, inr, ℕ, List, [], ◌∷◌, refl, sym, ◌∙◌, ap, subst, rules, arith}
 use Rattle.phase_cli.specs.Ends.{IsAnswer, IsStatus, MayEnd, MayEndAs}
 use Rattle.phase_status.specs.Statuses.{Reports}
-use Rattle.phase_words.proofs.NoCalls.{asked-help-not-taken, help-not-taken, refusal-not-help, refusal-not-taken, taken-or-not}
-use Rattle.phase_words.specs.CommandLine.{AreRefused, AreTaken, Asked, Asks, AskHelp, IsNoCall, asked_in, asked_of, check, eval, replay}
+use Rattle.phase_words.proofs.NoCalls.{asked-help-not-taken, asked-version-not-taken, refusal-not-help, refusal-not-taken, refusal-not-version, shown-not-taken, taken-or-not}
+use Rattle.phase_words.specs.CommandLine.{AreRefused, AreTaken, Asked, Asks, AskHelp, AskVersion, IsNoCall, asked_in, asked_of, check, eval, replay}
 use Rattle.phase_words.specs.declared.call.Call.{Call}
 use Rattle.phase_words.specs.declared.call.NoCall.{NoCall}
 use Rattle.phase_words.specs.declared.call.NoCall.TheVariants as no_call
@@ -58,6 +58,7 @@ pub may-end-asked : (words : List (List ℕ)) (what : Asked) (status : ℕ) → 
 may-end-asked words what status asks ends = record {
   asked = λ other again. subst (λ (w : Asked). MayEndAs w status) (asks-one words what other asks again) ends;
   help = λ help. absurd (asked-help-not-taken words help asks.taken);
+  version = λ version. absurd (asked-version-not-taken words version asks.taken);
   refused = λ refused. absurd (refused.0 asks.taken);
   untaken = λ none. absurd (none asks.taken);
 }
@@ -66,7 +67,7 @@ may-end-asked words what status asks ends = record {
 pub taken-memory : {W : Type 0} (words : List (List ℕ)) (none : NoCall) (status : ℕ) (old new : Watched W) (before after : WriterState)
     → AreTaken words → IsNoCall words none → IsAnswer none status old new before after
     → (status ≡ 5) × ((new ≡ old) × Reports OutOfMemory before after)
-taken-memory words (no_call.Help text) status old new before after taken why answer = absurd (help-not-taken words why taken)
+taken-memory words (no_call.Shown text) status old new before after taken why answer = absurd (shown-not-taken words why taken)
 taken-memory words (no_call.Refused text) status old new before after taken why answer = absurd (refusal-not-taken words why taken)
 taken-memory words no_call.OutOfMemory status old new before after taken why answer = answer
 
@@ -78,22 +79,29 @@ five-as (eval name) status five = inr (inr (inr five))
 -- the status of words that ask for help
 help-ends : {W : Type 0} (words : List (List ℕ)) (none : NoCall) (status : ℕ) (old new : Watched W) (before after : WriterState)
     → IsNoCall words none → IsAnswer none status old new before after → AskHelp words → (status ≡ 0) ⊎ (status ≡ 5)
-help-ends words (no_call.Help text) status old new before after why answer help = answer
+help-ends words (no_call.Shown text) status old new before after why answer help = answer
 help-ends words (no_call.Refused text) status old new before after why answer help = absurd (refusal-not-help words why help)
 help-ends words no_call.OutOfMemory status old new before after why answer help = inr answer.0
+
+-- the status of words that ask for the version
+version-ends : {W : Type 0} (words : List (List ℕ)) (none : NoCall) (status : ℕ) (old new : Watched W) (before after : WriterState)
+    → IsNoCall words none → IsAnswer none status old new before after → AskVersion words → (status ≡ 0) ⊎ (status ≡ 5)
+version-ends words (no_call.Shown text) status old new before after why answer version = answer
+version-ends words (no_call.Refused text) status old new before after why answer version = absurd (refusal-not-version words why version)
+version-ends words no_call.OutOfMemory status old new before after why answer version = inr answer.0
 
 -- the status of words that are refused
 refused-ends : {W : Type 0} (words : List (List ℕ)) (none : NoCall) (status : ℕ) (old new : Watched W) (before after : WriterState)
     → IsNoCall words none → IsAnswer none status old new before after → AreRefused words → (status ≡ 2) ⊎ (status ≡ 5)
-refused-ends words (no_call.Help text) status old new before after why answer refused = absurd (refused.1 why)
+refused-ends words (no_call.Shown text) status old new before after why answer refused = absurd (refused.1 why.kind why.shown why.among)
 refused-ends words (no_call.Refused text) status old new before after why answer refused = inl answer.0
 refused-ends words no_call.OutOfMemory status old new before after why answer refused = inr answer.0
 
 -- the status of words that are not taken
 untaken-ends : {W : Type 0} (none : NoCall) (status : ℕ) (old new : Watched W) (before after : WriterState)
     → IsAnswer none status old new before after → (status ≡ 0) ⊎ ((status ≡ 2) ⊎ (status ≡ 5))
-untaken-ends (no_call.Help text) status old new before after (inl zero) = inl zero
-untaken-ends (no_call.Help text) status old new before after (inr five) = inr (inr five)
+untaken-ends (no_call.Shown text) status old new before after (inl zero) = inl zero
+untaken-ends (no_call.Shown text) status old new before after (inr five) = inr (inr five)
 untaken-ends (no_call.Refused text) status old new before after answer = inr (inl answer.0)
 untaken-ends no_call.OutOfMemory status old new before after answer = inr (inr answer.0)
 
@@ -103,6 +111,7 @@ pub may-end-answered : {W : Type 0} (words : List (List ℕ)) (none : NoCall) (s
 may-end-answered words none status old new before after why answer = record {
   asked = λ what asks. five-as what status (taken-memory words none status old new before after asks.taken why answer).0;
   help = help-ends words none status old new before after why answer;
+  version = version-ends words none status old new before after why answer;
   refused = refused-ends words none status old new before after why answer;
   untaken = λ _. untaken-ends none status old new before after answer;
 }
@@ -110,9 +119,9 @@ may-end-answered words none status old new before after why answer = record {
 -- a refusal leaves the output as it was
 pub refused-silent : {W : Type 0} (words : List (List ℕ)) (none : NoCall) (status : ℕ) (old new : Watched W) (before after : WriterState)
     → IsNoCall words none → IsAnswer none status old new before after → AreRefused words ⊎ (status ≡ 2) → new ≡ old
-refused-silent words (no_call.Help text) status old new before after why answer (inl refused) = absurd (refused.1 why)
-refused-silent words (no_call.Help text) status old new before after why (inl zero) (inr two) = absurd (omega (arith, two, zero))
-refused-silent words (no_call.Help text) status old new before after why (inr five) (inr two) = absurd (omega (arith, two, five))
+refused-silent words (no_call.Shown text) status old new before after why answer (inl refused) = absurd (refused.1 why.kind why.shown why.among)
+refused-silent words (no_call.Shown text) status old new before after why (inl zero) (inr two) = absurd (omega (arith, two, zero))
+refused-silent words (no_call.Shown text) status old new before after why (inr five) (inr two) = absurd (omega (arith, two, five))
 refused-silent words (no_call.Refused text) status old new before after why answer which = answer.1
 refused-silent words no_call.OutOfMemory status old new before after why answer which = answer.1.0
 

@@ -16,7 +16,7 @@ use std::io::{Read, Write};
 use watched_io::{Files, IoFault, Watched};
 
 /// Runs the program on its words, without its own name, and answers its exit status: 0 where what
-/// was asked for is done or help was shown, 1 where a graph or its samples are refused, 2 where the
+/// was asked for is done, or help or the version was shown, 1 where a graph or its samples are refused, 2 where the
 /// words are refused, 3 where a value of a graph is out of range, and 5 after a fault.
 ///
 /// A refusal's text goes to the fault stream, and so does a fault's line. Where that stream fails
@@ -71,7 +71,7 @@ pub fn run_cli<R: Read, W: Write, E: Write, F: Files>(
     }
 }
 
-/// Answers words that give no call: help goes to the output, a refusal's text and the line of a
+/// Answers words that give no call: help and the version go to the output, a refusal's text and the line of a
 /// fault go to the fault stream.
 fn answer<W: Write, E: Write>(none: &NoCall, output: &mut Watched<W>, faults: &mut Watched<E>) -> u8
     ensures answer { IsAnswer none.now result output.old output.new
@@ -82,7 +82,7 @@ fn answer<W: Write, E: Write>(none: &NoCall, output: &mut Watched<W>, faults: &m
         (writer_state E.contents faults.old) (writer_state E.contents faults.new) }
 {
     match none {
-        NoCall::Help(text) => show_help(text.as_str(), output, faults),
+        NoCall::Shown(text) => show_help(text.as_str(), output, faults),
         NoCall::Refused(text) => refuse(text.as_str(), faults),
         NoCall::OutOfMemory => report(IoFault::OutOfMemory, faults),
     }

@@ -169,7 +169,8 @@ Commands:
   help    Print this message or the help of the given subcommand(s)
 
 Options:
-  -h, --help  Print help
+  -h, --help     Print help
+  -V, --version  Print version
 
 Example, with the reply to each line and what it means:
   make sum 2 100    ok           a phaser that adds up, for phases 0 to 99
@@ -206,6 +207,24 @@ fn help_goes_to_the_output(rt: HostRuntime) -> Result<(), Fail> {
         );
         assert!(rt; help.faults.is_empty());
     }
+    Ok(())
+}
+
+#[test]
+fn the_version_goes_to_the_output(rt: HostRuntime) -> Result<(), Fail> {
+    for word in ["--version", "-V"] {
+        let version = run(rt.alloc(), [word].as_slice(), b"make sum 2 100\n")?;
+        assert_eq!(rt; version.status, 0, "at {word}");
+        assert_eq!(rt;
+            version.output.as_slice(),
+            b"phase 0.1.0\n".as_slice(),
+            "at {word}"
+        );
+        assert!(rt; version.faults.is_empty(), "at {word}");
+    }
+    let of_eval = run(rt.alloc(), ["eval", "--version"].as_slice(), b"")?;
+    assert_eq!(rt; of_eval.status, 2);
+    assert!(rt; of_eval.output.is_empty());
     Ok(())
 }
 

@@ -6,7 +6,7 @@ use Rattle.std.specs.Str.{bytes_eq}
 use Rattle.clap.specs.Words.{App, IsAmong, Kinds, Row, Rule, Shape, Text, fault_of, first_of}
 use Rattle.clap.specs.Words.{new_app, new_rule, subcommand_of, with_rule, with_subcommand}
 use Rattle.clap.specs.declared.error.kind.ErrorKind.{ErrorKind}
-use Rattle.clap.specs.declared.error.kind.ErrorKind.TheVariants.{DisplayHelp, OutOfMemory}
+use Rattle.clap.specs.declared.error.kind.ErrorKind.TheVariants.{DisplayHelp, DisplayVersion, OutOfMemory}
 use Rattle.phase_words.specs.declared.call.Call.{Call}
 use Rattle.phase_words.specs.declared.call.Call.TheVariants as call
 use Rattle.phase_words.specs.declared.call.NoCall.{NoCall}
@@ -17,6 +17,10 @@ use Rattle.phase_words.specs.declared.call.NoCall.TheVariants as no_call
 -- the words of the command leave out the program's own name
 abbrev pub without_own_name : App → App
 without_own_name app = record app { top = record app.top { no_binary_name = true } }
+
+-- the words may ask for the version
+abbrev pub with_version : App → App
+with_version app = record app { top = record app.top { has_version = true } }
 
 -- the name of a graph's file, which has to be given
 abbrev pub graph_rule : Rule
@@ -29,16 +33,18 @@ graph_shape name = (with_rule (new_app name) graph_rule).top
 -- the program, with its commands: `replay`, which takes no word, and `check` and `eval`
 unfoldable pub phase_app : App
 phase_app =
-    with_subcommand (with_subcommand (with_subcommand (without_own_name (new_app (codes "phase")))
-    (new_app (codes "replay")).top) (graph_shape (codes "check"))) (graph_shape (codes "eval"))
+    with_subcommand (with_subcommand (with_subcommand (with_version
+    (without_own_name (new_app (codes "phase")))) (new_app (codes "replay")).top)
+    (graph_shape (codes "check"))) (graph_shape (codes "eval"))
 
 -- ---- what the words ask for
 
--- the kinds of answer that clap may give in place of taking the words; a call for help is one
+-- the kinds of answer that clap may give in place of taking the words; a call for help is one, and
+-- so is one for the version
 unfoldable pub kinds_of : List Text → Kinds
 kinds_of words = fault_of phase_app words
 
--- clap takes the words: they ask for no help, and nothing is refused
+-- clap takes the words: they ask for no help and no version, and nothing is refused
 abbrev pub AreTaken : List Text → Type 0
 AreTaken words = kinds_of words ≡ []
 
@@ -46,9 +52,19 @@ AreTaken words = kinds_of words ≡ []
 abbrev pub AskHelp : List Text → Type 0
 AskHelp words = kinds_of words ≡ DisplayHelp ∷ []
 
--- the words are refused: they are not taken, and ask for no help
+-- the words ask for the version, and for nothing else
+abbrev pub AskVersion : List Text → Type 0
+AskVersion words = kinds_of words ≡ DisplayVersion ∷ []
+
+-- an answer of this kind is what was asked for, help or the version, and no refusal
+abbrev pub IsShown : ErrorKind → Type 0
+IsShown kind = (kind ≡ DisplayHelp) ⊎ (kind ≡ DisplayVersion)
+
+-- the words are refused: they are not taken, and ask for no help and no version
 abbrev pub AreRefused : List Text → Type 0
-AreRefused words = (kinds_of words ≢ []) × (IsAmong DisplayHelp (kinds_of words) → ⊥)
+AreRefused words =
+    (kinds_of words ≢ [])
+    × ((kind : ErrorKind) → IsShown kind → IsAmong kind (kinds_of words) → ⊥)
 
 -- what words that are taken ask for: a replay, or a check or an evaluation of a graph's file
 pub data Asked : Type 0 where
@@ -105,21 +121,27 @@ texts words = map string_bytes words
 
 -- ---- why there is no call
 
--- a kind of refusal, which is no call for help, is among the kinds
+-- a kind of refusal, which is no call for help or for the version, is among the kinds
 pub record HasRefusal (words : List Text) : Type 0 where
   pub kind : ErrorKind
   pub among : IsAmong kind (kinds_of words)
-  pub other : kind ≢ DisplayHelp
+  pub other : IsShown kind → ⊥
 
--- why the words give no call: they ask for help, or something in them is refused; memory may run
--- out over any words
+-- the words ask for help or for the version
+pub record HasShown (words : List Text) : Type 0 where
+  pub kind : ErrorKind
+  pub among : IsAmong kind (kinds_of words)
+  pub shown : IsShown kind
+
+-- why the words give no call: they ask for help or for the version, or something in them is refused;
+-- memory may run out over any words
 abbrev pub IsNoCall : List Text → NoCall → Type 0
-IsNoCall words (no_call.Help text) = IsAmong DisplayHelp (kinds_of words)
+IsNoCall words (no_call.Shown text) = HasShown words
 IsNoCall words (no_call.Refused text) = HasRefusal words
 IsNoCall words no_call.OutOfMemory = ⊤
 
 -- how an error of this kind is told, with its text
 abbrev pub IsToldBy : ErrorKind → NoCall → Type 0
-IsToldBy kind (no_call.Help text) = kind ≡ DisplayHelp
-IsToldBy kind (no_call.Refused text) = (kind ≢ DisplayHelp) × (kind ≢ OutOfMemory)
+IsToldBy kind (no_call.Shown text) = IsShown kind
+IsToldBy kind (no_call.Refused text) = (IsShown kind → ⊥) × (kind ≢ OutOfMemory)
 IsToldBy kind no_call.OutOfMemory = ⊤

@@ -14,8 +14,8 @@ pub enum Call<'a> {
 /// Why the words give no call.
 #[derive(Debug, Drop)]
 pub enum NoCall {
-    /// Help is asked for. This is its text.
-    Help(String),
+    /// Help or the version is asked for. This is its text.
+    Shown(String),
     /// The words are refused. This is clap's text, which says why.
     Refused(String),
     /// Memory ran out.

@@ -1,13 +1,13 @@
 //! The words of the program, as clap reads them.
-ghost use Rattle.std.specs.Prelude.{◌≡◌, IfOk, IfErr, Some, false};
+ghost use Rattle.std.specs.Prelude.{◌≡◌, ◌↔◌, IfOk, IfErr, IsTrue, Some, false};
 ghost use Rattle.clap.specs.Words.{FailsBy, app_of, kind_of, rule_of, shape_of};
 ghost use Rattle.clap.specs.Words.{subcommand_rows_of};
 ghost use Rattle.clap.specs.declared.builder.command.Command.{out-Command};
-ghost use Rattle.phase_words.specs.CommandLine.{Asks, IsNoCall, IsToldBy};
+ghost use Rattle.phase_words.specs.CommandLine.{Asks, IsNoCall, IsShown, IsToldBy};
 ghost use Rattle.phase_words.specs.CommandLine.{asked_as, asked_by, asked_in, asked_of, graph_rule};
 ghost use Rattle.phase_words.specs.CommandLine.{graph_shape, kinds_of, phase_app, texts};
 
-use crate::help::{ABOUT, CHECK, CHECK_END, END, EVAL, EVAL_END, GRAPH, REPLAY};
+use crate::help::{ABOUT, CHECK, CHECK_END, END, EVAL, EVAL_END, GRAPH, REPLAY, VERSION};
 use crate::{Call, NoCall};
 use clap::error::ErrorKind;
 use clap::{Arg, ArgMatches, Command, Error};
@@ -46,6 +46,7 @@ fn command<'a>(alloc: Global) -> Result<Command<'a>, AllocError>
 {
     Command::new(alloc, "phase")
         .no_binary_name(true)
+        .version(VERSION)
         .about(ABOUT)
         .after_help(END)
         .bin_name("phase")?
@@ -87,6 +88,13 @@ fn parse<'a>(alloc: Global, words: &'a [String]) -> Result<Call<'a>, Error>
     Ok(call_of(&matches))
 }
 
+/// Whether an answer of this kind is what was asked for, help or the version, and no refusal.
+fn is_shown(kind: ErrorKind) -> bool
+    ensures { IsTrue result ↔ IsShown kind }
+{
+    kind == ErrorKind::DisplayHelp || kind == ErrorKind::DisplayVersion
+}
+
 /// What clap says in place of taking the words, with its text.
 fn no_call(alloc: Global, error: &Error) -> NoCall
     ensures { IsToldBy (kind_of error.now) result }
@@ -97,13 +105,13 @@ fn no_call(alloc: Global, error: &Error) -> NoCall
     }
     match error.to_string(alloc) {
         Err(_) => NoCall::OutOfMemory,
-        Ok(text) if kind == ErrorKind::DisplayHelp => NoCall::Help(text),
+        Ok(text) if is_shown(kind) => NoCall::Shown(text),
         Ok(text) => NoCall::Refused(text),
     }
 }
 
-/// Reads the words after the program's own name. Where they ask for help or are refused, the text
-/// is clap's.
+/// Reads the words after the program's own name. Where they ask for help or for the version, or are
+/// refused, the text is clap's.
 pub fn read_words<'a>(alloc: Global, words: &'a [String]) -> Result<Call<'a>, NoCall>
     ensures call { IfOk result (λ call. Asks (texts words.now) (asked_of call)) }
     ensures no_call { IfErr result (λ none. IsNoCall (texts words.now) none) }

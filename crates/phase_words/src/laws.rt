@@ -1,6 +1,7 @@
 //! What clap makes of the words that the program's pages name.
 ghost use Rattle.std.specs.Prelude.{[], ◌∷◌, codes};
 ghost use Rattle.phase_words.specs.CommandLine.{AreRefused, AskCheck, AskEval, AskHelp, AskReplay};
+ghost use Rattle.phase_words.specs.CommandLine.{AskVersion};
 
 /// `phase` and `phase replay` ask for a replay.
 pub fn words_for_replay()
@@ -23,6 +24,13 @@ pub fn words_for_help()
     ensures replay_short { AskHelp (codes "replay" ∷ codes "-h" ∷ []) }
     ensures check_long { AskHelp (codes "check" ∷ codes "--help" ∷ []) }
     ensures eval_short { AskHelp (codes "eval" ∷ codes "-h" ∷ []) }
+{}
+
+/// `--version` and `-V` ask for the version. No command has one of its own.
+pub fn words_for_version()
+    ensures long { AskVersion (codes "--version" ∷ []) }
+    ensures short { AskVersion (codes "-V" ∷ []) }
+    ensures of_eval { AreRefused (codes "eval" ∷ codes "--version" ∷ []) }
 {}
 
 /// A word that is no command, a word behind `replay`, a flag that is none, `run`, and `check` and
