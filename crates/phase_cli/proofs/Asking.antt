@@ -1,5 +1,5 @@
 -- What words ask for, and which statuses may come.
-use Rattle.std.proofs.Common.{◌≡◌, ◌≢◌, ◌⊎◌, inl, inr, ℕ, List, [], ◌∷◌, refl, sym, ◌∙◌, ap, subst, rules, arith}
+use Rattle.std.proofs.Common.{◌≡◌, ◌≢◌, ◌⊎◌, inl, inr, ℕ, List, [], ◌∷◌, Option, None, refl, sym, ◌∙◌, ap, subst, rules, arith}
 use Rattle.phase_cli.specs.Ends.{IsAnswer, IsStatus, MayEnd, MayEndAs}
 use Rattle.phase_status.specs.Statuses.{Reports}
 use Rattle.phase_words.proofs.NoCalls.{asked-help-not-taken, asked-version-not-taken, refusal-not-help, refusal-not-taken, refusal-not-version, shown-not-taken, taken-or-not}
@@ -24,32 +24,44 @@ asks-one words one other p q = sym p.command ∙ q.command
 replay-not-check : (name : List ℕ) → replay ≢ check name
 replay-not-check name = λ e. search rules
 
-replay-not-eval : (name : List ℕ) → replay ≢ eval name
-replay-not-eval name = λ e. search rules
+replay-not-eval : (name : List ℕ) (sink : Option (List ℕ)) → replay ≢ eval name sink
+replay-not-eval name sink = λ e. search rules
 
-check-not-eval : (name other : List ℕ) → check name ≢ eval other
-check-not-eval name other = λ e. search rules
+check-not-eval : (name other : List ℕ) (sink : Option (List ℕ)) → check name ≢ eval other sink
+check-not-eval name other sink = λ e. search rules
 
 pub not-check : (words : List (List ℕ)) (name : List ℕ) → Asks words replay → Asks words (check name) → ⊥
 not-check words name p q = replay-not-check name (asks-one words replay (check name) p q)
 
-pub not-eval : (words : List (List ℕ)) (name : List ℕ) → Asks words replay → Asks words (eval name) → ⊥
-not-eval words name p q = replay-not-eval name (asks-one words replay (eval name) p q)
+pub not-eval : (words : List (List ℕ)) (name : List ℕ) (sink : Option (List ℕ)) → Asks words replay
+    → Asks words (eval name sink) → ⊥
+not-eval words name sink p q = replay-not-eval name sink (asks-one words replay (eval name sink) p q)
 
-pub not-both : (words : List (List ℕ)) (name other : List ℕ) → Asks words (check name) → Asks words (eval other) → ⊥
-not-both words name other p q = check-not-eval name other (asks-one words (check name) (eval other) p q)
+pub not-both : (words : List (List ℕ)) (name other : List ℕ) (sink : Option (List ℕ))
+    → Asks words (check name) → Asks words (eval other sink) → ⊥
+not-both words name other sink p q =
+    check-not-eval name other sink (asks-one words (check name) (eval other sink) p q)
 
 -- the name that is asked for
 abbrev name_of : Asked → List ℕ
 name_of replay = []
 name_of (check name) = name
-name_of (eval name) = name
+name_of (eval name sink) = name
+
+-- and the name of a sink
+abbrev sink_of : Asked → Option (List ℕ)
+sink_of replay = None
+sink_of (check name) = None
+sink_of (eval name sink) = sink
 
 pub same-check : (words : List (List ℕ)) (name other : List ℕ) → Asks words (check name) → Asks words (check other) → name ≡ other
 same-check words name other p q = ap name_of (asks-one words (check name) (check other) p q)
 
-pub same-eval : (words : List (List ℕ)) (name other : List ℕ) → Asks words (eval name) → Asks words (eval other) → name ≡ other
-same-eval words name other p q = ap name_of (asks-one words (eval name) (eval other) p q)
+pub same-eval : (words : List (List ℕ)) (name other : List ℕ) (sink also : Option (List ℕ))
+    → Asks words (eval name sink) → Asks words (eval other also) → (name ≡ other) × (sink ≡ also)
+same-eval words name other sink also p q =
+    let one = asks-one words (eval name sink) (eval other also) p q in
+    (ap name_of one, ap sink_of one)
 
 -- ---- statuses
 
@@ -74,7 +86,7 @@ taken-memory words no_call.OutOfMemory status old new before after taken why ans
 five-as : (what : Asked) (status : ℕ) → status ≡ 5 → MayEndAs what status
 five-as replay status five = inr five
 five-as (check name) status five = inr (inr five)
-five-as (eval name) status five = inr (inr (inr five))
+five-as (eval name sink) status five = inr (inr (inr five))
 
 -- the status of words that ask for help
 help-ends : {W : Type 0} (words : List (List ℕ)) (none : NoCall) (status : ℕ) (old new : Watched W) (before after : WriterState)
@@ -133,10 +145,10 @@ any-as replay status (inr five) = inr (inr (inr (inr five)))
 any-as (check name) status (inl zero) = inl zero
 any-as (check name) status (inr (inl one)) = inr (inl one)
 any-as (check name) status (inr (inr five)) = inr (inr (inr (inr five)))
-any-as (eval name) status (inl zero) = inl zero
-any-as (eval name) status (inr (inl one)) = inr (inl one)
-any-as (eval name) status (inr (inr (inl three))) = inr (inr (inr (inl three)))
-any-as (eval name) status (inr (inr (inr five))) = inr (inr (inr (inr five)))
+any-as (eval name sink) status (inl zero) = inl zero
+any-as (eval name sink) status (inr (inl one)) = inr (inl one)
+any-as (eval name sink) status (inr (inr (inl three))) = inr (inr (inr (inl three)))
+any-as (eval name sink) status (inr (inr (inr five))) = inr (inr (inr (inr five)))
 
 any-untaken : (status : ℕ) → (status ≡ 0) ⊎ ((status ≡ 2) ⊎ (status ≡ 5)) → IsStatus status
 any-untaken status (inl zero) = inl zero
@@ -156,10 +168,10 @@ two-as replay status two (inr five) = omega (arith, two, five)
 two-as (check name) status two (inl zero) = omega (arith, two, zero)
 two-as (check name) status two (inr (inl one)) = omega (arith, two, one)
 two-as (check name) status two (inr (inr five)) = omega (arith, two, five)
-two-as (eval name) status two (inl zero) = omega (arith, two, zero)
-two-as (eval name) status two (inr (inl one)) = omega (arith, two, one)
-two-as (eval name) status two (inr (inr (inl three))) = omega (arith, two, three)
-two-as (eval name) status two (inr (inr (inr five))) = omega (arith, two, five)
+two-as (eval name sink) status two (inl zero) = omega (arith, two, zero)
+two-as (eval name sink) status two (inr (inl one)) = omega (arith, two, one)
+two-as (eval name sink) status two (inr (inr (inl three))) = omega (arith, two, three)
+two-as (eval name sink) status two (inr (inr (inr five))) = omega (arith, two, five)
 
 pub taken-not-two : (words : List (List ℕ)) (status : ℕ) → MayEnd words status → AreTaken words → status ≢ 2
 taken-not-two words status ends taken = λ two.

@@ -18,7 +18,7 @@ IsStatus status = (status ≡ 0) ⊎ ((status ≡ 1) ⊎ ((status ≡ 2) ⊎ ((s
 abbrev pub MayEndAs : Asked → ℕ → Type 0
 MayEndAs replay status = (status ≡ 0) ⊎ (status ≡ 5)
 MayEndAs (check _) status = (status ≡ 0) ⊎ ((status ≡ 1) ⊎ (status ≡ 5))
-MayEndAs (eval _) status = (status ≡ 0) ⊎ ((status ≡ 1) ⊎ ((status ≡ 3) ⊎ (status ≡ 5)))
+MayEndAs (eval _ _) status = (status ≡ 0) ⊎ ((status ≡ 1) ⊎ ((status ≡ 3) ⊎ (status ≡ 5)))
 
 -- the statuses that may come, by what the words ask for
 pub record MayEnd (words : List (List ℕ)) (status : ℕ) : Type 0 where

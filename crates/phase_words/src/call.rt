@@ -7,8 +7,12 @@ pub enum Call<'a> {
     Replay,
     /// A check of the graph in the file of this name.
     Check(&'a str),
-    /// An evaluation of the graph in the file of this name.
-    Eval(&'a str),
+    /// An evaluation of the graph in the file of this name, for all its sinks, or for the one of a
+    /// name.
+    Eval {
+        graph: &'a str,
+        sink: Option<&'a str>,
+    },
 }
 
 /// Why the words give no call.

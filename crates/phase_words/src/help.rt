@@ -22,6 +22,9 @@ pub(crate) const EVAL: &str = "Writes the values of each sink of a graph";
 /// What the word behind `check` and `eval` is.
 pub(crate) const GRAPH: &str = "The file of the graph, of at most 1048576 bytes";
 
+/// What the word behind `--sink` is.
+pub(crate) const SINK: &str = "Write the values of this sink alone, each on a line";
+
 /// The end of the program's help, and of that of `replay`.
 pub(crate) const END: &str = "\
 Example, with the reply to each line and what it means:
@@ -63,7 +66,9 @@ and the file `numbers` the lines 1, 2 and 3, `phase eval sums` writes
   1
   3
   5
+and `phase eval sums --sink out` the last three of these lines, which may be the
+samples of another source.
 
-Exit status: 0 done; 1 the graph or its samples are refused; 2 the words were
-not understood; 3 a value is out of range; 5 a read or a write failed, or memory
-ran out.";
+Exit status: 0 done; 1 the graph or its samples are refused, or no sink has the
+name; 2 the words were not understood; 3 a value is out of range; 5 a read or a
+write failed, or memory ran out.";
