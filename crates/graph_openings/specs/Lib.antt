@@ -1,0 +1,3 @@
+pub mod Registrations
+pub mod Founders
+pub mod Openings
