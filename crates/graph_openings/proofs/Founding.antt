@@ -1,7 +1,8 @@
 -- A founder's own events: it registers tasks and leaves, whatever the others do meanwhile.
 use Rattle.std.proofs.Common.{◌≡◌, ℕ, Bool, true, false, eqb, ◌||◌, List, [], ◌∷◌, ◌++◌, refl, sym, ap, subst, ◌∙◌}
 use Rattle.phase_base.specs.declared.mode.Mode.{Mode}
-use Rattle.phase_history.specs.declared.event.Event.TheVariants.{Made, Registered, Dropped}
+use Rattle.phase_history.specs.declared.event.Event.TheVariants.{Made, Registered, RegisteredNow, Signalled, Waited, Dropped}
+use Rattle.phase_history.specs.declared.event.Event.{Event}
 use Rattle.phase_history.specs.Histories.{History}
 use Rattle.phase_history.specs.Others.{events_of, children_in, is_in, OthersCame}
 use Rattle.phase_history.proofs.Beginnings.{IsBeginning-trans}
@@ -14,8 +15,9 @@ use Rattle.graph_members.specs.Members.{MemberState, HasAdded, HasLeft, Stays, I
 use Rattle.graph_members.specs.AnyMembers.{member_in, member_op, left_in, left_op}
 use Rattle.graph_members.specs.declared.any_member.AnyMember.{AnyMember}
 use Rattle.graph_members.specs.declared.any_left.AnyLeft.{AnyLeft}
-use Rattle.graph_openings.specs.Registrations.{AreRegistrations}
-use Rattle.graph_openings.specs.Founders.{founder_state, HasFounded, IsFounder, IsRoot, IsLeftOf}
+use Rattle.graph_parts.specs.Places.{AreRegistrations}
+use Rattle.graph_ends.specs.TaskEnds.{HasNoSignal, HasFoundedAndLeft}
+use Rattle.graph_openings.specs.Founders.{founder_state, OnlyFounds, IsFounder, IsRoot, IsLeftOf}
 
 -- its own events are the same later
 events_stay : (old new : History) → OthersCame (0 ∷ []) old new → events_of 0 new ≡ events_of 0 old
@@ -35,7 +37,7 @@ in_push b a [] e = e
 in_push b a (c ∷ gave) e =
     step b gave (eqb c b) (eqb a b) (is_in b (gave ++ a ∷ [])) (in_push b a gave) e
 
-pub founds : HasFounded [] (Made 0 ∷ [])
+pub founds : OnlyFounds [] (Made 0 ∷ [])
 founds = record {
   made = record { later = []; is = refl };
   registrations = tt;
@@ -43,8 +45,8 @@ founds = record {
 }
 
 -- others' events leave it
-pub founded_stays : (gave : List ℕ) (old before : History) → HasFounded gave old
-    → OthersCame (0 ∷ []) old before → HasFounded gave before
+pub founded_stays : (gave : List ℕ) (old before : History) → OnlyFounds gave old
+    → OthersCame (0 ∷ []) old before → OnlyFounds gave before
 founded_stays gave old before is came =
     let same : events_of 0 before ≡ events_of 0 old = events_stay old before came in
     record {
@@ -54,8 +56,8 @@ founded_stays gave old before is came =
       gave_these = λ a e. is.gave_these a (ap (λ h. is_in a (children_in h)) (sym same) ∙ e);
     }
 
-pub registers : (a : ℕ) (mode : Mode) (gave : List ℕ) (before : History) → HasFounded gave before
-    → HasFounded (gave ++ a ∷ []) (Registered 0 a mode ∷ before)
+pub registers : (a : ℕ) (mode : Mode) (gave : List ℕ) (before : History) → OnlyFounds gave before
+    → OnlyFounds (gave ++ a ∷ []) (Registered 0 a mode ∷ before)
 registers a mode gave before is = record {
   made = IsBeginning-trans (Made 0 ∷ []) before (Registered 0 a mode ∷ before) is.made
       (record { later = Registered 0 a mode ∷ []; is = refl });
@@ -91,7 +93,7 @@ refused old new gave mode refusal is call stays = record {
 
 -- what it has seen before its event
 before_it : (old new child : MemberState) (gave : List ℕ) (mode : Mode) → IsFounder old gave
-    → (adds : HasAdded mode old new child) → HasFounded gave adds.registered.before
+    → (adds : HasAdded mode old new child) → OnlyFounds gave adds.registered.before
 before_it old new child gave mode is adds =
     founded_stays gave old.seen adds.registered.before is.founded
     (subst (λ n. OthersCame (n ∷ []) old.seen adds.registered.before) is.number
@@ -102,7 +104,7 @@ pub added : (old new child : MemberState) (gave : List ℕ) (mode : Mode) → Is
     → HasAdded mode old new child → Stays old new → IsFounder new (gave ++ child.number ∷ [])
 added old new child gave mode is adds stays = record {
   number = stays.number ∙ is.number;
-  founded = subst (HasFounded (gave ++ child.number ∷ []))
+  founded = subst (OnlyFounds (gave ++ child.number ∷ []))
       (sym (adds.registered.seen
       ∙ ap (λ n. Registered n child.number mode ∷ adds.registered.before) is.number))
       (registers child.number mode gave adds.registered.before
@@ -134,20 +136,46 @@ is_root old new child gave more mode is adds stays op child_op member =
       };
     }
 
--- a founder that has left
+-- ---- a founder that has left
+
+silent : (events : List Event) → AreRegistrations events → HasNoSignal events
+silent [] are = tt
+silent (Registered parent child mode ∷ events) are = silent events are
+silent (Made founding ∷ events) are = absurd are
+silent (RegisteredNow parent child ∷ events) are = absurd are
+silent (Signalled task lists single ∷ events) are = absurd are
+silent (Waited task n ∷ events) are = absurd are
+silent (Dropped task ∷ events) are = absurd are
+
+leaves_last : (gave : List ℕ) (before : History) → OnlyFounds gave before
+    → HasFoundedAndLeft (record { number = 0; gave = gave; seen = Dropped 0 ∷ before })
+leaves_last gave before is = record {
+  founded = record {
+    made = IsBeginning-trans (Made 0 ∷ []) before (Dropped 0 ∷ before) is.made
+        (record { later = Dropped 0 ∷ []; is = refl });
+    silent = silent (events_of 0 before) is.registrations;
+    gave_these = is.gave_these;
+  };
+  left = refl;
+}
+
 pub leaves : (member : AnyMember) (left : AnyLeft) (gave : List ℕ)
     → IsFounder (member_in member) gave → HasLeft (member_in member) (left_in left)
     → left_op left ≡ member_op member → IsLeftOf (founder_state member gave) left
-leaves member left gave is has op = record {
-  op = op;
-  at = has.at;
-  numbers = has.numbers ∙ ap (λ n. n ∷ []) is.number;
-  legal = has.legal;
-  gone = record {
-    before = has.leaves.before;
-    is = has.leaves.seen ∙ ap (λ n. Dropped n ∷ has.leaves.before) is.number;
-    founded = founded_stays gave (member_in member).seen has.leaves.before is.founded
-        (subst (λ n. OthersCame (n ∷ []) (member_in member).seen has.leaves.before) is.number
-        has.leaves.others);
-  };
-}
+leaves member left gave is has op =
+    let before = has.leaves.before in
+    let seen : (left_in left).seen ≡ Dropped 0 ∷ before =
+    has.leaves.seen ∙ ap (λ n. Dropped n ∷ before) is.number in
+    record {
+      op = op;
+      at = has.at;
+      numbers = has.numbers ∙ ap (λ n. n ∷ []) is.number;
+      legal = has.legal;
+      founded = subst
+          (λ h. HasFoundedAndLeft (record { number = 0; gave = gave; seen = h }))
+          (sym seen)
+          (leaves_last gave before
+          (founded_stays gave (member_in member).seen before is.founded
+          (subst (λ n. OthersCame (n ∷ []) (member_in member).seen before) is.number
+          has.leaves.others)));
+    }

@@ -1,25 +1,27 @@
 -- Lists that are gone through, or made, element by element.
 use Rattle.std.proofs.Common.{◌≡◌, ℕ, zero, suc, ◌+◌, ◌<◌, List, [], ◌∷◌, ◌++◌, length, Some, refl, sym, ap, subst, ◌∙◌, arith}
 use Rattle.std.specs.Prelude.{Result, Ok, Err, IfOk, slice_get, slice_set, slice_index_or, get_or, map}
-use Rattle.std.proofs.lemmas.List.{length-append}
+use Rattle.std.proofs.lemmas.List.{length-append, length-set, append_assoc, append-nil}
 use Rattle.std.specs.List.{All}
-use Rattle.std.proofs.lemmas.List.{length-set, append_assoc, append-nil}
 use Rattle.std.proofs.lemmas.List.Elements.{All-append}
+use Rattle.phase_base.specs.declared.mode.Mode.{Mode}
+use Rattle.phase_history.specs.declared.event.Event.TheVariants.{Registered}
+use Rattle.phase_history.specs.Legal.{IsLegal}
 use Rattle.graph_base.specs.Graphs.{Graph, task_at}
 use Rattle.graph_base.specs.Registrations.{registrations_of, no_registration}
 use Rattle.graph_base.specs.TaskLines.{IsGraph}
 use Rattle.graph_base.specs.declared.registration.Registration.{Registration}
-use Rattle.graph_members.specs.Members.{Spot}
+use Rattle.stream_lists.specs.Jobs.{Job}
+use Rattle.graph_members.specs.Members.{Spot, limits_on}
 use Rattle.graph_members.specs.AnyPhasers.{phaser_op, phaser_spot, IsFounderOf}
 use Rattle.graph_members.specs.declared.any_phaser.AnyPhaser.{AnyPhaser}
 use Rattle.graph_members.specs.declared.any_phaser.AnyReg.{AnyReg}
-use Rattle.stream_lists.specs.Jobs.{Job}
-use Rattle.graph_openings.specs.Openings.{IsOfLine, ArePhasers, AreFoundersFrom, spot_at, IsFounderOn, AreFounders, IsRootMember}
-use Rattle.graph_openings.specs.Openings.{AreLeftOf}
-use Rattle.graph_openings.specs.Founders.{FounderState, IsRoot, IsLeftOf}
-use Rattle.graph_turns.specs.TaskPlaces.{registration_at}
-use Rattle.phase_base.specs.declared.mode.Mode.{Mode}
+use Rattle.graph_members.specs.AnyMembers.{member_in, left_in}
 use Rattle.graph_members.specs.declared.any_member.AnyMember.{AnyMember}
+use Rattle.graph_turns.specs.TaskPlaces.{registration_at}
+use Rattle.graph_ends.specs.TaskEnds.{HasFoundedAndLeft}
+use Rattle.graph_openings.specs.Openings.{IsOfLine, ArePhasers, AreFoundersFrom, spot_at, IsFounderOn, AreFounders, IsRootMember, HaveFoundersLeft}
+use Rattle.graph_openings.specs.Founders.{FounderState, IsRoot, IsLeftOf}
 use Rattle.graph_openings.specs.declared.founder.FounderLeft.{FounderLeft}
 
 -- ---- lists
@@ -159,6 +161,13 @@ are_founders job phasers founders many of are = record {
 
 -- ---- founders that leave
 
+-- what these founders have seen when they left, in their order
+pub record AreLeftOf (founders : List FounderState) (lefts : List FounderLeft) : Type 0 where
+  pub many : length lefts ≡ length founders
+  pub each : (p : ℕ) (founder : FounderState) (left : FounderLeft)
+      → slice_get founders p ≡ Some founder → slice_get lefts p ≡ Some left
+      → IsLeftOf founder left.left × (left.gave.items ≡ founder.gave)
+
 -- these have left, and the rest stand behind them
 pub record HaveLeft (all : List FounderState) (lefts : List FounderLeft)
     (rest : List FounderState) : Type 0 where
@@ -282,11 +291,48 @@ pub root_member : (job : Job) (spots : ℕ → Spot) (t i p : ℕ) (mode : Mode)
     → p ≡ (registration_at job t i).phaser → mode ≡ (registration_at job t i).mode
     → slice_get founders p ≡ Some old → new.op ≡ old.op → new.at ≡ old.at
     → IsRoot mode new member → AreFounders job spots founders → IsRootMember job spots t i member
-root_member job spots t i p mode founders old new member at_p in_mode here op at root are = record {
-  founder = new;
-  on = subst (λ q. IsFounderOn job spots q new) at_p
-      (on_same job spots p old new op at (are.each p old here));
-  root = subst (λ m. IsRoot m new member) in_mode root;
+root_member job spots t i p mode founders old new member at_p in_mode here op at root are =
+    let on : IsFounderOn job spots (registration_at job t i).phaser new =
+    subst (λ q. IsFounderOn job spots q new) at_p
+    (on_same job spots p old new op at (are.each p old here)) in
+    let just = root.registered in
+    let limits = ap limits_on on.at ∙ on.line.limits_are in
+    record {
+      at = root.at ∙ on.at;
+      line = subst (λ o. IsOfLine job (registration_at job t i).phaser o
+          (spots (registration_at job t i).phaser)) (sym root.op) on.line;
+      mode = root.mode_is ∙ in_mode;
+      none_held = root.none_held;
+      root = record {
+        before = just.before;
+        is = just.is
+            ∙ ap (λ m. Registered 0 (member_in member).number m ∷ just.before) in_mode;
+        legal = subst (λ l. IsLegal l (member_in member).seen) limits root.legal;
+        made = just.made;
+        founder = just.founder;
+      };
+    }
+
+-- what the founders have seen is of the phasers whose founders they are
+pub have_left : (job : Job) (spots : ℕ → Spot) (founders : List FounderState)
+    (lefts : List FounderLeft) → AreFounders job spots founders → AreLeftOf founders lefts
+    → HaveFoundersLeft job spots lefts
+have_left job spots founders lefts are left = record {
+  many = left.many ∙ are.many;
+  each = λ p l e.
+      (let found = there founders lefts p l left.many e in
+      let is = left.each p found.0 l found.1 e in
+      let on = are.each p found.0 found.1 in
+      record {
+        at = is.0.at ∙ on.at;
+        line = subst (λ o. IsOfLine job p o (spots p)) (sym is.0.op) on.line;
+        numbers = is.0.numbers;
+        legal = subst (λ x. IsLegal x (left_in l.left).seen)
+            (ap limits_on on.at ∙ on.line.limits_are) is.0.legal;
+        founded = subst
+            (λ gave. HasFoundedAndLeft (record { number = 0; gave = gave; seen = (left_in l.left).seen }))
+            (sym is.1) is.0.founded;
+      });
 }
 
 -- what follows from an answer follows where there is one
@@ -306,3 +352,8 @@ has_founder graph t i n r is same few lt e many =
     let below = on_graph graph t i is same few lt in
     let at_p = ap (λ (x : Registration). x.phaser) e in
     omega arith
+
+-- a list of no elements
+pub no_elements : {X : Type 0} (xs : List X) → length xs ≡ 0 → xs ≡ []
+no_elements [] e = refl
+no_elements (x ∷ xs) e = absurd (omega arith)

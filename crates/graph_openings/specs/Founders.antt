@@ -3,7 +3,7 @@
 use Rattle.std.specs.Prelude.{◌≡◌, ℕ, List, [], ◌∷◌, None, true}
 use Rattle.phase_base.specs.declared.mode.Mode.{Mode}
 use Rattle.phase_base.specs.declared.operation.Op.{Op}
-use Rattle.phase_history.specs.declared.event.Event.TheVariants.{Made, Registered, Dropped}
+use Rattle.phase_history.specs.declared.event.Event.TheVariants.{Made, Registered}
 use Rattle.phase_history.specs.Histories.{History, IsBeginning}
 use Rattle.phase_history.specs.Legal.{IsLegal}
 use Rattle.phase_history.specs.Others.{events_of, children_in, is_in}
@@ -11,7 +11,8 @@ use Rattle.graph_members.specs.Members.{Spot, limits_on, MemberState}
 use Rattle.graph_members.specs.AnyMembers.{member_in, member_op, left_in, left_op}
 use Rattle.graph_members.specs.declared.any_member.AnyMember.{AnyMember}
 use Rattle.graph_members.specs.declared.any_left.AnyLeft.{AnyLeft}
-use Rattle.graph_openings.specs.Registrations.{AreRegistrations}
+use Rattle.graph_parts.specs.Places.{AreRegistrations}
+use Rattle.graph_ends.specs.TaskEnds.{HasFoundedAndLeft}
 
 -- a founder: its phaser's operation and place, the numbers that it gave, and what it has seen
 pub record FounderState : Type 0 where
@@ -29,8 +30,8 @@ founder_state member gave = record {
   seen = (member_in member).seen;
 }
 
--- the founder, number 0, made its phaser, and has registered tasks alone, under these numbers
-pub record HasFounded (gave : List ℕ) (h : History) : Type 0 where
+-- for the code: a founder made its phaser, and has registered tasks alone, under these numbers
+pub record OnlyFounds (gave : List ℕ) (h : History) : Type 0 where
   pub made : IsBeginning (Made 0 ∷ []) h
   pub registrations : AreRegistrations (events_of 0 h)
   pub gave_these : (a : ℕ) → is_in a (children_in (events_of 0 h)) ≡ true → is_in a gave ≡ true
@@ -38,7 +39,7 @@ pub record HasFounded (gave : List ℕ) (h : History) : Type 0 where
 -- for the code: what holds of a founder
 pub record IsFounder (m : MemberState) (gave : List ℕ) : Type 0 where
   pub number : m.number ≡ 0
-  pub founded : HasFounded gave m.seen
+  pub founded : OnlyFounds gave m.seen
 
 -- the last event that was seen is that the founder registered this number in this mode, and before
 -- it had registered tasks alone
@@ -57,17 +58,14 @@ pub record IsRoot (mode : Mode) (founder : FounderState) (member : AnyMember) : 
   pub legal : IsLegal (limits_on founder.at) (member_in member).seen
   pub registered : HasJustRegistered (member_in member).number mode (member_in member).seen
 
--- the founder's drop is the last event that was seen, and before it had registered tasks alone, under
--- these numbers
-pub record HasGone (gave : List ℕ) (seen : History) : Type 0 where
-  pub before : History
-  pub is : seen ≡ Dropped 0 ∷ before
-  pub founded : HasFounded gave before
-
 -- what a founder that left has seen
 pub record IsLeftOf (founder : FounderState) (left : AnyLeft) : Type 0 where
   pub op : left_op left ≡ founder.op
   pub at : (left_in left).at ≡ founder.at
   pub numbers : (left_in left).numbers ≡ 0 ∷ []
   pub legal : IsLegal (limits_on founder.at) (left_in left).seen
-  pub gone : HasGone founder.gave (left_in left).seen
+  pub founded : HasFoundedAndLeft (record {
+    number = 0;
+    gave = founder.gave;
+    seen = (left_in left).seen;
+  })

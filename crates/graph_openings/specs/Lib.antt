@@ -1,3 +1,2 @@
-pub mod Registrations
 pub mod Founders
 pub mod Openings

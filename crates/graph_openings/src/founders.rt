@@ -5,7 +5,7 @@ ghost use Rattle.graph_base.specs.Graphs.{task_at};
 ghost use Rattle.graph_members.specs.Members.{Spot};
 ghost use Rattle.graph_turns.specs.TaskPlaces.{registration_at};
 ghost use Rattle.stream_lists.specs.Jobs.{Job as JobValue};
-ghost use Rattle.graph_openings.specs.Openings.{ArePhasers, AreFoundersFrom, AreFounders, AreLeftOf};
+ghost use Rattle.graph_openings.specs.Openings.{ArePhasers, AreFoundersFrom, AreFounders, HaveFoundersLeft};
 ghost use Rattle.graph_openings.specs.Openings.{spot_at, IsRootMember};
 
 use crate::founder::{Founder, FounderLeft};
@@ -94,7 +94,8 @@ pub fn leave_all<'a, W: Wait>(
     alloc: Global,
     founders: Vec<Founder<'a>>,
 ) -> Result<Vec<FounderLeft<'a>>, AllocError>
-    ensures { IfOk result (λ lefts. AreLeftOf founders.entry.items lefts.items) }
+    ensures { IfOk result (λ lefts. (job : JobValue) (spots : ℕ → Spot)
+        → AreFounders job spots founders.entry.items → HaveFoundersLeft job spots lefts.items) }
 {
     let Ok(mut lefts) = Vec::with_capacity(alloc, founders.len()) else {
         dismiss_founders(rt, founders);

@@ -1,6 +1,6 @@
 -- The next founder has left.
-use Rattle.std.proofs.Common.{subst, sym, arith}
-use Rattle.graph_openings.proofs.Rows.{HaveLeft, one_left}
+use Rattle.std.proofs.Common.{subst, sym, ◌∙◌, arith}
+use Rattle.graph_openings.proofs.Rows.{HaveLeft, one_left, all_left, have_left, no_elements}
 use Rattle.graph_openings.proofs.founders.leave_all.Goals as goal
 
 pub loop-founder-preserved : goal.loop-founder-preserved
@@ -18,3 +18,12 @@ loop-founder-preserved g c =
           c.leave.ensures.left c.leave.ensures.gave),
       omega arith,
     )
+
+pub returns : goal.returns
+returns g c =
+    let rest = c.loop-founder.founders.rest in
+    λ job spots are. have_left job spots c.args.founders.items c.loop-founder.lefts.items are
+    (all_left c.args.founders.items c.loop-founder.lefts.items
+    (subst (HaveLeft c.args.founders.items c.loop-founder.lefts.items)
+    (no_elements rest.items (sym rest.ok.0 ∙ c.in_default-next.ensures.cases.0))
+    c.loop-founder.invariant.0))
