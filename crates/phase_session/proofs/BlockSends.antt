@@ -1,6 +1,6 @@
 -- The sends of a block, one for each value.
 use Rattle.std.proofs.Common.{◌≡◌, ℕ, ◌+◌, ◌<◌, List, [], ◌∷◌, ◌++◌, ℤ, length, take, get_or, sym, ◌∙◌, ap, subst, refl}
-use Rattle.std.proofs.lemmas.List.{take_more}
+use Rattle.std.proofs.lemmas.List.{length-append, take_more}
 use Rattle.phase_accum.specs.Operations.{Operation}
 use Rattle.phase_accum.specs.Parcels.{Parcel, StandsForSends}
 use Rattle.phase_core.specs.Blocks.{StandForLists}
@@ -27,3 +27,7 @@ stand_more {A} op helds new values i held d within stand stands put =
     subst P (sym put)
     (subst Q (sym (ap one_each (take_more values i d within) ∙ one_each-push (take i values) (get_or values i d)))
     (stand-push op helds (one_each (take i values)) held (get_or values i d ∷ []) stand stands))
+
+-- one more is one longer
+pub one_longer : {A : Type 0} (old new : List A) (item : A) → new ≡ old ++ item ∷ [] → length new ≡ length old + 1
+one_longer old new item put = ap length put ∙ length-append old (item ∷ [])

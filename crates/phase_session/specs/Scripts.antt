@@ -166,6 +166,7 @@ block_rows sends entry =
     ∷ (nat_lt 0 (length sends), no.Held)
     ∷ []
 
+-- the refusal of a block before its signal, where there is one
 abbrev pub block_refusal : History → Held → ℕ → Option Refusal
 block_refusal h held task =
     refusal_at (entry_of (members_of h) task) no.NoTask (block_rows (held_by held task))
@@ -234,11 +235,12 @@ held_after_drop None held task = held_by_others held task
 abbrev pub after_call : (List ℤ → Outcome) → Limits → History → Call → History
 after_call value limits h call = after_reply call (reply_to_call value limits h call) h
 
--- the history that a block leaves
+-- the one history where there is a refusal, and else the other
 abbrev pub after_unless : Option Refusal → History → History → History
 after_unless (Some refusal) h after = h
 after_unless None h after = after
 
+-- the history that a block leaves
 abbrev pub after_block : (List ℤ → Outcome) → Limits → History → Held → ℕ → List ℤ → History
 after_block value limits h held task values =
     after_unless (block_refusal h held task) h

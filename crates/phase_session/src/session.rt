@@ -59,7 +59,8 @@ fn begin(
     ensures memory { OnErr result ((state : ScriptState) (values : List ℤ)
         → MaybeStandsFor phaser.old state
         → IsOkReply (command_reply state (whole_command values command))) }
-    ensures asks { OnErr result ((values : List ℤ) → MayWantMemory (Some (whole_command values command))) }
+    ensures asks { OnErr result ((values : List ℤ)
+        → MayWantMemory (Some (whole_command values command))) }
 {
     let Command::Make {
         operation,
@@ -135,7 +136,7 @@ impl Session {
         // Memory is wanted only where the line would be answered `ok`.
         ensures memory { OnErr result ((state : ScriptState) → Stands self.old state
             → IsOkReply (reply_by state (command_of line.now))) }
-        // Only a `make`, an `add` or a `send` wants it.
+        // Only a `make`, an `add`, a `now` or a `send` wants it.
         ensures asks { OnErr result (MayWantMemory (command_of line.now)) }
         // A reply is one line, of at most 363 bytes.
         ensures one_line { IfOk result (λ reply. IsOneLine reply × (length reply ≤ REPLY_MAX)) }
@@ -151,7 +152,8 @@ impl Session {
         Ok(reply)
     }
 
-    /// The same, with the reply in place of the line that `reply` had.
+    /// The same as `line`, with the reply in place of the line that `reply` had. Want of memory leaves
+    /// that line too.
     #[tactic(auto, unfolding(crate::specs::Session::Stands, crate::specs::Scripts::reply_to, crate::specs::Scripts::after_line))]
     pub fn answer(&mut self, line: &[u8], reply: &mut ReplyLine) -> Result<(), AllocError>
         ensures reply { OnOk result ((state : ScriptState) → Stands self.old state
