@@ -1,17 +1,19 @@
 //! Runs of a graph on one thread, one event at a time.
 #![tactic(auto)]
 
-mod lines;
 mod machine;
 mod next;
 mod opened_cores;
 mod opened_tasks;
 mod opening;
-mod owed;
+mod parked;
 mod roots;
+mod stalls;
 mod step;
 mod task_state;
+mod turned;
 mod world;
 
 pub use step::Step;
+pub use turned::Turned;
 pub use world::World;
