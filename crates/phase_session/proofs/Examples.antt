@@ -2,9 +2,10 @@
 -- definitions and compared with replies that were found by hand. The text of a number is left out: a
 -- reply stands here as data.
 use Rattle.std.proofs.Common.{◌≡◌, List, ℕ, [], ◌∷◌, pos, negsuc, codes, refl}
+use Rattle.phase_accum.specs.declared.outcome.Outcome.TheVariants as outcome
 use Rattle.phase_script.specs.declared.refusal.Refusal.TheVariants as no
-use Rattle.phase_script.specs.ReplyLines.{WholeReply, Accepted, Signalled, Joined, Value, Empty, TooBig, Ended, Refused, BadLine}
-use Rattle.phase_script.specs.Commands.{command_of, mode_of, ends_of, clamp_after, single_of, make_of, add_of, now_of, send_of, signal_of, signal_with, wait_of, drop_of, command_after}
+use Rattle.phase_script.specs.ReplyLines.{WholeReply, Accepted, Signalled, Joined, Value, Empty, TooBig, Values, Ended, Refused, BadLine}
+use Rattle.phase_script.specs.Commands.{command_of, mode_of, ends_of, clamp_after, single_of, make_of, add_of, now_of, send_of, signal_of, signal_with, ints_of, few_values, values_of, block_of, take_with, take_of, wait_of, drop_of, command_after}
 use Rattle.phase_script.specs.Numbers.{nat_of, int_of}
 use Rattle.phase_script.specs.Lines.{lines_of}
 use Rattle.phase_session.specs.Scripts.{ScriptState, start, reply_by, after_line, command_reply, after_command}
@@ -161,3 +162,28 @@ joins_now : answers (codes "make sum 4 100\nadd 0 1 sig\nadd 0 2 wait\ndrop 0\ns
     ≡ Accepted ∷ Accepted ∷ Accepted ∷ Accepted ∷ Accepted ∷ Signalled 0 ∷ Accepted ∷ Signalled 1 ∷ Joined 2 ∷ Refused no.NotYet ∷ Signalled 2 ∷ Value 2 (pos 0) ∷ Value 0 (pos 10) ∷ Refused no.NotAllowed ∷ Refused no.NoTask ∷ Refused no.NotNew ∷ []
 unfolding lines_of command_of mode_of ends_of clamp_after single_of make_of add_of now_of send_of signal_of signal_with wait_of drop_of command_after nat_of int_of start after_line command_reply after_command
 joins_now = refl
+
+blocks : answers (codes "make sum 4 100\nadd 0 1 sig\nadd 0 2 wait\ndrop 0\nblock 1 5 6 7\ntake 2 2\nblock 1 8 9 10 11\nblock 1 8 9\ntake 2 5\ntake 2 4\ntake 2 1\nsend 1 3\nblock 1 4\ndrop 1\ntake 2 1\ntake 2 17\n")
+    ≡ Accepted ∷ Accepted ∷ Accepted ∷ Accepted ∷ Signalled 0 ∷ Values 0 (outcome.Value (pos 5) ∷ outcome.Value (pos 6) ∷ []) ∷ Refused no.Ahead
+    ∷ Signalled 3 ∷ Refused no.BadBlock ∷ Values 2 (outcome.Value (pos 7) ∷ outcome.Value (pos 8) ∷ outcome.Value (pos 9) ∷ []) ∷ Refused no.NotYet
+    ∷ Accepted ∷ Refused no.Held ∷ Accepted ∷ Ended ∷ BadLine ∷ []
+unfolding lines_of command_of mode_of ends_of clamp_after single_of make_of add_of now_of send_of signal_of signal_with ints_of few_values values_of block_of take_with take_of wait_of drop_of command_after nat_of int_of start after_line command_reply after_command
+blocks = refl
+
+blocks_of_none : answers (codes "make least 4 100\nadd 0 1 sig\nadd 0 2 wait\ndrop 0\nsignal 1\nblock 1 -4 9\ntake 2 4\ndrop 1\ntake 2 4\n")
+    ≡ Accepted ∷ Accepted ∷ Accepted ∷ Accepted ∷ Signalled 0 ∷ Signalled 1
+    ∷ Values 0 (outcome.Empty ∷ outcome.Value (negsuc 3) ∷ outcome.Value (pos 9) ∷ []) ∷ Accepted ∷ Ended ∷ []
+unfolding lines_of command_of mode_of ends_of clamp_after single_of make_of add_of now_of send_of signal_of signal_with ints_of few_values values_of block_of take_with take_of wait_of drop_of command_after nat_of int_of start after_line command_reply after_command
+blocks_of_none = refl
+
+blocks_too_big : answers (codes "make sum 2 100\nadd 0 1 sig\nadd 0 2 sig\nadd 0 3 wait\ndrop 0\nblock 1 9223372036854775807 1\nblock 2 1 2\ntake 3 2\n")
+    ≡ Accepted ∷ Accepted ∷ Accepted ∷ Accepted ∷ Accepted ∷ Signalled 0 ∷ Signalled 0
+    ∷ Values 0 (outcome.TooBig ∷ outcome.Value (pos 3) ∷ []) ∷ []
+unfolding lines_of command_of mode_of ends_of clamp_after single_of make_of add_of now_of send_of signal_of signal_with ints_of few_values values_of block_of take_with take_of wait_of drop_of command_after nat_of int_of start after_line command_reply after_command
+blocks_too_big = refl
+
+block_refusals : answers (codes "block 0 1\ntake 0 1\nmake sum 2 4\nblock 9 1 2 3\nadd 0 1 wait\nblock 1 1 2 3\nsend 0 7\nblock 0 1 2 3\nsignal 0\nblock 0 1 2 3\nblock 0 1\ntake 0 3\ntake 1 2\n")
+    ≡ Refused no.NoPhaser ∷ Refused no.NoPhaser ∷ Accepted ∷ Refused no.NoTask ∷ Accepted ∷ Refused no.NoSignal ∷ Accepted ∷ Refused no.Held ∷ Signalled 0
+    ∷ Refused no.BadBlock ∷ Refused no.SignalTwice ∷ Refused no.BadBlock ∷ Values 0 (outcome.Value (pos 7) ∷ []) ∷ []
+unfolding lines_of command_of mode_of ends_of clamp_after single_of make_of add_of now_of send_of signal_of signal_with ints_of few_values values_of block_of take_with take_of wait_of drop_of command_after nat_of int_of start after_line command_reply after_command
+block_refusals = refl
