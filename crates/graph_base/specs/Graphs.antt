@@ -89,6 +89,7 @@ abbrev pub IsPlace : Graph → Place → Type 0
 IsPlace graph (place.Phaser p) = p < length graph.phasers
 IsPlace graph (place.Task t) = t < length graph.tasks
 
+-- whether a task is a source
 abbrev pub is_source : Kind → Bool
 is_source Source = true
 is_source Fir = false
@@ -97,6 +98,7 @@ is_source Join = false
 is_source Peer = false
 is_source Sink = false
 
+-- whether a task is a sink
 abbrev pub is_sink : Kind → Bool
 is_sink Source = false
 is_sink Fir = false

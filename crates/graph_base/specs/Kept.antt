@@ -33,6 +33,7 @@ graph_of names phasers tasks files = record {
   files = files_of files;
 }
 
+-- the graph that the fields of the code hold
 abbrev pub graph_view : Inside → Graph
 graph_view graph =
     graph_of graph.names.entries graph.phasers.items graph.tasks.items graph.files.items

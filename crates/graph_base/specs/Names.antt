@@ -13,11 +13,13 @@ place_of [] name = None
 place_of (named ∷ others) name =
     if bytes_eq name named.0 then Some named.1 else place_of others name
 
+-- the number of a phaser, where the name is one's
 abbrev pub phaser_number : Option Place → Option ℕ
 phaser_number None = None
 phaser_number (Some (place.Phaser p)) = Some p
 phaser_number (Some (place.Task t)) = None
 
+-- the number of a task, where the name is one's
 abbrev pub task_number : Option Place → Option ℕ
 task_number None = None
 task_number (Some (place.Phaser p)) = None

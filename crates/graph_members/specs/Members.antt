@@ -32,6 +32,7 @@ abbrev pub limits_of : Option (Terms NoRule) → Limits
 limits_of None = limits 1 1
 limits_of (Some terms) = terms.limits
 
+-- the limits of the phaser that a spot is on
 abbrev pub limits_on : Spot → Limits
 limits_on at = limits_of at.1
 

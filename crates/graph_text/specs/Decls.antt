@@ -36,30 +36,36 @@ pub data BodyWords : Type 0 where
   peer : (input exchange output factor : Word) → BodyWords
   sink : (input : Word) → BodyWords
 
+-- what a line declares: a phaser, or a task
 pub data Decl : Type 0 where
   phaser : (name : Word) (operation : Op) (bound : Word) (single : Option FunctionWords) → Decl
   task : (name : Word) (body : BodyWords) (ends : EndWords) → Decl
 
 -- ---- how it is spelled
 
+-- the words of a function
 abbrev pub function_words : FunctionWords → List Word
 function_words neg = codes "neg" ∷ []
 function_words abs = codes "abs" ∷ []
 function_words halve = codes "halve" ∷ []
 function_words (clamp low high) = codes "clamp" ∷ low ∷ high ∷ []
 
+-- the words of a single, where there is one
 abbrev pub single_words : Option FunctionWords → List Word
 single_words None = []
 single_words (Some function) = codes "single" ∷ function_words function
 
+-- the words that name a parent, where there is one
 abbrev pub by_words : Option ByWords → List Word
 by_words None = []
 by_words (Some by) = codes "by" ∷ by.parent ∷ codes "at" ∷ by.at ∷ []
 
+-- the words of the last boundary, where there is one
 abbrev pub until_words : Option Word → List Word
 until_words None = []
 until_words (Some steps) = codes "until" ∷ steps ∷ []
 
+-- the words of the ends
 abbrev pub end_words : EndWords → List Word
 end_words ends = by_words ends.by ++ until_words ends.until
 
@@ -91,6 +97,7 @@ spelling (task name body ends) = kind_word body ∷ name ∷ (body_words body ++
 
 -- ---- which words may stand where
 
+-- the bounds of a clamp are whole numbers
 abbrev pub IsFunction : FunctionWords → Type 0
 IsFunction neg = Unit {0}
 IsFunction abs = Unit {0}
@@ -110,6 +117,7 @@ may_have_parent (sink input) = true
 abbrev pub AreSome : (Word → Bool) → List Word → Type 0
 AreSome test words = (1 ≤ length words) × IsTrue (list_all test words)
 
+-- the names, files and numbers of what a task does are such
 abbrev pub IsBody : BodyWords → Type 0
 IsBody (source file output) = IsTrue (is_file file) × IsTrue (is_name output)
 IsBody (fir input output shift taps) = IsTrue (is_name input) × IsTrue (is_name output)
@@ -120,6 +128,7 @@ IsBody (peer input exchange output factor) = IsTrue (is_name input) × IsTrue (i
     × IsTrue (is_name output) × IsTrue (is_int factor)
 IsBody (sink input) = IsTrue (is_name input)
 
+-- a parent is named, and the count of its steps is a number
 abbrev pub IsBy : ByWords → Type 0
 IsBy by = IsTrue (is_name by.parent) × IsTrue (is_nat by.at)
 

@@ -9,6 +9,7 @@ use Rattle.graph_text.specs.Numbers.{is_nat, is_int}
 use Rattle.graph_text.specs.Decls.{Decl, phaser, task, FunctionWords, neg, abs, halve, clamp, ByWords, EndWords}
 use Rattle.graph_text.specs.Decls.{BodyWords, source, fir, split, join, peer, sink, may_have_parent}
 
+-- what follows, where there is something before it
 infixl 10 ◌>>=◌
 abbrev pub ◌>>=◌ : {A B : Type 0} → Option A → (A → Option B) → Option B
 o >>= f = option_and_then f o
@@ -58,6 +59,7 @@ operation_at (word ∷ words) = do
   operation ← operation_of word
   Some (operation, words)
 
+-- the bounds of a clamp
 unfoldable pub clamp_at : List Word → Option (Found FunctionWords)
 clamp_at words = do
   low ← word_at is_int words
@@ -73,10 +75,12 @@ function_named word words =
     else if bytes_eq word (codes "clamp") then clamp_at words
     else None
 
+-- the function of a single
 unfoldable pub function_at : List Word → Option (Found FunctionWords)
 function_at [] = None
 function_at (word ∷ words) = function_named word words
 
+-- a single, or none where the word for it is missing
 unfoldable pub single_at : List Word → Option (Found (Option FunctionWords))
 single_at words =
     if begins (codes "single") words
@@ -86,6 +90,7 @@ single_at words =
       Some (Some function.0, function.1))
     else Some (None, words)
 
+-- a parent, or none where it is not allowed or the word for it is missing
 unfoldable pub by_at : Bool → List Word → Option (Found (Option ByWords))
 by_at allowed words =
     if allowed && begins (codes "by") words
@@ -97,6 +102,7 @@ by_at allowed words =
       Some (Some (record { parent = parent.0; at = at.0 }), at.1))
     else Some (None, words)
 
+-- a last boundary, or none where the word for it is missing
 unfoldable pub until_at : List Word → Option (Found (Option Word))
 until_at words =
     if begins (codes "until") words
@@ -113,6 +119,7 @@ ends_at allowed words = do
   until ← until_at by.1
   if length until.1 == 0 then Some (record { by = by.0; until = until.0 }) else None
 
+-- what a source does
 unfoldable pub source_at : List Word → Option (Found BodyWords)
 source_at words = do
   file ← word_at is_file words
@@ -120,6 +127,7 @@ source_at words = do
   output ← word_at is_name sent
   Some (source file.0 output.0, output.1)
 
+-- what a filter does
 unfoldable pub fir_at : List Word → Option (Found BodyWords)
 fir_at words = do
   input ← word_at is_name words
@@ -131,6 +139,7 @@ fir_at words = do
   taps ← some_at is_int tapped
   Some (fir input.0 output.0 shift.0 taps.0, taps.1)
 
+-- what a splitter does
 unfoldable pub split_at : List Word → Option (Found BodyWords)
 split_at words = do
   input ← word_at is_name words
@@ -138,6 +147,7 @@ split_at words = do
   outputs ← some_at is_name sent
   Some (split input.0 outputs.0, outputs.1)
 
+-- what a joiner does
 unfoldable pub join_at : List Word → Option (Found BodyWords)
 join_at words = do
   inputs ← some_at is_name words
@@ -145,6 +155,7 @@ join_at words = do
   output ← word_at is_name sent
   Some (join inputs.0 output.0, output.1)
 
+-- what a peer does
 unfoldable pub peer_at : List Word → Option (Found BodyWords)
 peer_at words = do
   input ← word_at is_name words
@@ -156,6 +167,7 @@ peer_at words = do
   factor ← word_at is_int multiplied
   Some (peer input.0 exchange.0 output.0 factor.0, factor.1)
 
+-- what a sink does
 unfoldable pub sink_at : List Word → Option (Found BodyWords)
 sink_at words = do
   input ← word_at is_name words
@@ -174,6 +186,7 @@ body_at kind words =
 
 -- ---- a line
 
+-- the line of a phaser, behind its first word
 unfoldable pub phaser_at : List Word → Option Decl
 phaser_at words = do
   name ← word_at is_name words
@@ -182,6 +195,7 @@ phaser_at words = do
   single ← single_at bound.1
   if length single.1 == 0 then Some (phaser name.0 operation.0 bound.0 single.0) else None
 
+-- the line of a task, by its first word
 unfoldable pub task_at : Word → List Word → Option Decl
 task_at kind words = do
   name ← word_at is_name words
@@ -189,6 +203,7 @@ task_at kind words = do
   ends ← ends_at (may_have_parent body.0) body.1
   Some (task name.0 body.0 ends)
 
+-- a line
 unfoldable pub line_at : List Word → Option Decl
 line_at [] = None
 line_at (kind ∷ words) =

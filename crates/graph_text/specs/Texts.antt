@@ -3,6 +3,7 @@ use Rattle.std.specs.Prelude.{ℕ, ◌-◌, ◌==◌, ◌||◌, Bool, true, not,
 use Rattle.std.specs.List.{slice_split, list_all}
 use Rattle.graph_words.specs.Words.{Word, is_word_byte}
 
+-- whether a byte ends a line
 abbrev pub is_line_feed : ℕ → Bool
 is_line_feed b = b == 10
 
@@ -20,6 +21,7 @@ without_cr line =
 abbrev pub lines_of : List ℕ → List (List ℕ)
 lines_of text = map without_cr (slice_split is_line_feed text)
 
+-- whether a list has nothing
 abbrev pub is_empty : List ℕ → Bool
 is_empty bytes = length bytes == 0
 
@@ -31,6 +33,7 @@ words_of line = filter (λ word. not (is_empty word)) (slice_split is_blank line
 abbrev pub is_printable : ℕ → Bool
 is_printable b = is_blank b || is_word_byte b
 
+-- whether each byte may stand on a line
 abbrev pub are_printable : List ℕ → Bool
 are_printable line = list_all is_printable line
 

@@ -27,5 +27,6 @@ any_value-in_range : (xs : List ℤ) → AreSends xs → IsInRange (any_value xs
 any_value-in_range [] s = tt
 any_value-in_range (v ∷ vs) s = s.0.small
 
+-- what the first send owes as an accumulator
 pub any_laws : AccumulateLaws any_operation
 any_laws = choosing-laws earlier any_value (λ a b c. refl) any-value_of_send any_value-in_range

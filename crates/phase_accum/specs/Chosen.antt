@@ -36,6 +36,7 @@ chosen-none_right : (choice : ℤ → ℤ → ℤ) (x : Option ℤ) → chosen c
 chosen-none_right choice None = refl
 chosen-none_right choice (Some v) = refl
 
+-- a choice that may be grouped gives carriers that may
 pub chosen-assoc : (choice : ℤ → ℤ → ℤ)
     → ((a b c : ℤ) → choice (choice a b) c ≡ choice a (choice b c))
     → (x y z : Option ℤ) → chosen choice (chosen choice x y) z ≡ chosen choice x (chosen choice y z)
@@ -44,6 +45,7 @@ chosen-assoc choice assoc (Some a) None z = refl
 chosen-assoc choice assoc (Some a) (Some b) None = refl
 chosen-assoc choice assoc (Some a) (Some b) (Some c) = ap Some (assoc a b c)
 
+-- a choice that may be swapped gives carriers that may
 pub chosen-swap : (choice : ℤ → ℤ → ℤ) → ((a b : ℤ) → choice a b ≡ choice b a)
     → (x y : Option ℤ) → chosen choice x y ≡ chosen choice y x
 chosen-swap choice swap None None = refl

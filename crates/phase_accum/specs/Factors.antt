@@ -43,6 +43,7 @@ assoc-one a (negsuc b) z =
     ∙ sym (*ℤ-neg_right (pos a) (pos (suc b) *ℤ z))
     ∙ ap (λ x. pos a *ℤ x) (sym (*ℤ-neg_left (pos (suc b)) z))
 
+-- products may be grouped
 pub *ℤ-assoc : (x y z : ℤ) → (x *ℤ y) *ℤ z ≡ x *ℤ (y *ℤ z)
 *ℤ-assoc (pos a) y z = assoc-one a y z
 *ℤ-assoc (negsuc a) y z =
@@ -53,12 +54,15 @@ pub *ℤ-assoc : (x y z : ℤ) → (x *ℤ y) *ℤ z ≡ x *ℤ (y *ℤ z)
 
 -- ---- one and nothing
 
+-- a product with 1 in front
 pub *ℤ-one_left : (z : ℤ) → pos 1 *ℤ z ≡ z
 *ℤ-one_left z = omega (arith, ints)
 
+-- a product with 1 behind
 pub *ℤ-one_right : (z : ℤ) → z *ℤ pos 1 ≡ z
 *ℤ-one_right z = omega (arith, ints)
 
+-- a product whose first factor has magnitude 0
 pub *ℤ-nothing_left : (a c : ℤ) → unsigned_abs a ≡ 0 → a *ℤ c ≡ pos 0
 *ℤ-nothing_left (pos a) c e = ap (λ n. pos n *ℤ c) e ∙ zero-*ℤ c
 *ℤ-nothing_left (negsuc a) c e = absurd (omega arith)

@@ -14,9 +14,11 @@ greatest_operation = choosing int_max greatest_value
 
 -- ---- the greater of two numbers
 
+-- the greater of numbers may be grouped
 pub int_max-assoc : (a b c : ℤ) → int_max (int_max a b) c ≡ int_max a (int_max b c)
 int_max-assoc a b c = omega (arith, ints, clamps)
 
+-- the greater of two, either first
 pub int_max-swap : (a b : ℤ) → int_max a b ≡ int_max b a
 int_max-swap a b = omega (arith, ints, clamps)
 
@@ -31,6 +33,7 @@ part-greatest : (v : ℤ) (vs : List ℤ) → part greatest_operation (v ∷ vs)
 part-greatest v [] = refl
 part-greatest v (w ∷ ws) = ap (chosen int_max (Some v)) (part-greatest w ws)
 
+-- the greatest of sends is one that can be sent
 pub greatest-value_of_send : (xs : List ℤ)
     → value_of_send (part greatest_operation xs) ≡ greatest_value xs
 greatest-value_of_send [] = refl
@@ -47,10 +50,12 @@ greatest_value-in_range : (xs : List ℤ) → AreSends xs → IsInRange (greates
 greatest_value-in_range [] s = tt
 greatest_value-in_range (v ∷ vs) s = greatest_of-small v vs s
 
+-- what the greatest send owes as an accumulator
 pub greatest_laws : AccumulateLaws greatest_operation
 greatest_laws =
     choosing-laws int_max greatest_value int_max-assoc greatest-value_of_send
     greatest_value-in_range
 
+-- its order does not matter
 pub greatest_commutes : Commutes greatest_operation
 greatest_commutes = choosing-commutes int_max greatest_value int_max-swap

@@ -14,9 +14,11 @@ least_operation = choosing int_min least_value
 
 -- ---- the lesser of two numbers
 
+-- the lesser of numbers may be grouped
 pub int_min-assoc : (a b c : ℤ) → int_min (int_min a b) c ≡ int_min a (int_min b c)
 int_min-assoc a b c = omega (arith, ints, clamps)
 
+-- the lesser of two, either first
 pub int_min-swap : (a b : ℤ) → int_min a b ≡ int_min b a
 int_min-swap a b = omega (arith, ints, clamps)
 
@@ -31,6 +33,7 @@ part-least : (v : ℤ) (vs : List ℤ) → part least_operation (v ∷ vs) ≡ S
 part-least v [] = refl
 part-least v (w ∷ ws) = ap (chosen int_min (Some v)) (part-least w ws)
 
+-- the least of sends is one that can be sent
 pub least-value_of_send : (xs : List ℤ)
     → value_of_send (part least_operation xs) ≡ least_value xs
 least-value_of_send [] = refl
@@ -47,10 +50,12 @@ least_value-in_range : (xs : List ℤ) → AreSends xs → IsInRange (least_valu
 least_value-in_range [] s = tt
 least_value-in_range (v ∷ vs) s = least_of-small v vs s
 
+-- what the least send owes as an accumulator
 pub least_laws : AccumulateLaws least_operation
 least_laws =
     choosing-laws int_min least_value int_min-assoc least-value_of_send
     least_value-in_range
 
+-- its order does not matter
 pub least_commutes : Commutes least_operation
 least_commutes = choosing-commutes int_min least_value int_min-swap

@@ -32,9 +32,11 @@ product_operation = record {
 
 -- ---- numbers that are capped
 
+-- a product within the range is kept
 pub capped-small : (z : ℤ) → unsigned_abs z ≤ value_max → capped z ≡ z
 capped-small z small = ap (λ b. cond b z too_big) (le-leb (unsigned_abs z) value_max small)
 
+-- a product beyond the range is noted as too big
 pub capped-big : (z : ℤ) → value_max < unsigned_abs z → capped z ≡ too_big
 capped-big z big = ap (λ b. cond b z too_big) (lt-leb (unsigned_abs z) value_max big)
 
@@ -97,6 +99,7 @@ capped-part x xs is =
     let product : x ≡ capped (product_of xs) = is ∙ part-product xs in
     ap capped product ∙ capped-capped (product_of xs) ∙ sym product
 
+-- what the product owes as an accumulator
 pub product_laws : AccumulateLaws product_operation
 product_laws = record {
   left_unit = λ x xs p. ap capped (*ℤ-one_left x) ∙ capped-part x xs p.is;
@@ -109,5 +112,6 @@ product_laws = record {
   of_tells = λ v w _ _ e. e;
 }
 
+-- its order does not matter
 pub product_commutes : Commutes product_operation
 product_commutes = record { swaps = λ x y xs ys _ _ _. ap capped (*ℤ_comm x y) }

@@ -33,6 +33,7 @@ when_small false z small = tt
 pub ranged-in_range : (z : ℤ) → IsInRange (ranged z)
 ranged-in_range z = when_small (nat_le (unsigned_abs z) value_max) z (λ e. grind (arith, nat_tests))
 
+-- what the sum owes as an accumulator
 pub sum_laws : AccumulateLaws sum_operation
 sum_laws = record {
   left_unit = λ x xs _. omega (arith, ints);
@@ -44,5 +45,6 @@ sum_laws = record {
   of_tells = λ v w _ _ e. e;
 }
 
+-- its order does not matter
 pub sum_commutes : Commutes sum_operation
 sum_commutes = record { swaps = λ x y xs ys _ _ _. omega (arith, ints) }

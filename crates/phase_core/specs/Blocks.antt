@@ -29,6 +29,7 @@ abbrev pub named_at : {A : Type 0} → Option (Slot A) → Option (Option Single
 named_at None = None
 named_at (Some slot) = slot.named
 
+-- how many sends a slot has, and 0 where there is none
 abbrev pub count_at : {A : Type 0} → Option (Slot A) → ℕ
 count_at None = 0
 count_at (Some slot) = slot.count

@@ -30,6 +30,7 @@ graph_rule = record (new_rule (codes "graph")) { required = true; value_names = 
 abbrev pub graph_app : Text → App
 graph_app name = with_rule (new_app name) graph_rule
 
+-- and its words as clap keeps them
 abbrev pub graph_shape : Text → Shape
 graph_shape name = (graph_app name).top
 

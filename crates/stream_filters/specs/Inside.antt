@@ -6,6 +6,7 @@ use Rattle.stream_filters.specs.Range.{ranged}
 use Rattle.stream_filters.specs.declared.fault.TooBigValue.{TooBigValue}
 use Rattle.stream_filters.specs.declared.fir.Fir.TheInside.{Inside}
 
+-- the filter that the fields of the code hold
 abbrev pub fir_view : Inside → FirState
 fir_view f = record { taps = f.taps.items; shift = f.shift; window = f.window.items }
 
