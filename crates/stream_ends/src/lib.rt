@@ -1,0 +1,5 @@
+//! The end of a run between threads: what the tasks and the founders leave behind is put together,
+//! compared, and gives the sinks' lines.
+#![tactic(auto)]
+
+mod joining;
