@@ -2,4 +2,8 @@
 //! compared, and gives the sinks' lines.
 #![tactic(auto)]
 
+mod gathering;
 mod joining;
+mod task_left;
+
+pub use task_left::{Given, Part, TaskLeft};
