@@ -2,6 +2,7 @@
 //! compared, and gives the sinks' lines.
 #![tactic(auto)]
 
+mod agreeing;
 mod gathering;
 mod joining;
 mod task_left;
