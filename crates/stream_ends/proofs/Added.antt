@@ -238,3 +238,10 @@ behind_set xs ys t x same u le = other xs t u x (omega arith) ∙ same u (omega 
     other (y ∷ xs) zero (suc u) x le = refl
     other (y ∷ xs) (suc t) zero x le = absurd (omega arith)
     other (y ∷ xs) (suc t) (suc u) x le = other xs t u x (omega arith)
+
+-- what stands at the same place of both
+pub same_place : {X : Type 0} (xs ys : List X) (t : ℕ) (a b : X) → t < length xs → t < length ys
+    → slice_get xs t ≡ slice_get ys t → get_or xs t a ≡ get_or ys t b
+same_place xs ys t a b low high same =
+    same_Some (get_or xs t a) (get_or ys t b)
+    (sym (slice_get-get_or xs t a low) ∙ (same ∙ slice_get-get_or ys t b high))

@@ -23,15 +23,20 @@ pub record Agrees (job : Job) (parts : List (Option Part)) (c : ℕ) : Type 0 wh
       ⊎ ((other : Part) × IsAt parts c other
       × (other.numbers.items ≡ given_to part.given.items c))
 
+-- task t, which knows this of itself, has number a on phaser p
+pub record HasNumberOn (job : Job) (part : Part) (t p a : ℕ) : Type 0 where
+  pub i : ℕ
+  pub few : i < length (registrations_at job t)
+  pub phaser : (registration_at job t i).phaser ≡ p
+  pub number : slice_get part.numbers.items i ≡ Some a
+
 -- some task that came has number a on phaser p
 pub record IsOfTask (job : Job) (parts : List (Option Part)) (p a : ℕ) : Type 0 where
   pub task : ℕ
+  pub there : task < length job.graph.tasks
   pub part : Part
   pub came : IsAt parts task part
-  pub i : ℕ
-  pub few : i < length (registrations_at job task)
-  pub phaser : (registration_at job task i).phaser ≡ p
-  pub number : slice_get part.numbers.items i ≡ Some a
+  pub has : HasNumberOn job part task p a
 
 -- each of these numbers is a task's on phaser p
 abbrev pub AreOfTasks : Job → List (Option Part) → ℕ → List ℕ → Type 0

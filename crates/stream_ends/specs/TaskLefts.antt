@@ -1,6 +1,7 @@
 -- What a task leaves behind, as the end of a run knows it.
-use Rattle.std.specs.Prelude.{◌≡◌, ℕ, ◌<◌, List, [], ◌∷◌, length, map, slice_get, Option, Some, None, ◌==◌, if◌then◌else◌}
-use Rattle.graph_base.specs.Graphs.{phaser_at, task_at}
+use Rattle.std.specs.Prelude.{◌≡◌, ℕ, ℤ, ◌<◌, get_or, List, [], ◌∷◌, length, map, slice_get, Option, Some, None, ◌==◌, if◌then◌else◌}
+use Rattle.phase_history.specs.Legal.{IsLegal}
+use Rattle.graph_base.specs.Graphs.{phaser_at}
 use Rattle.stream_lists.specs.Jobs.{Job}
 use Rattle.graph_moments.specs.Moments.{Moment, limits_at}
 use Rattle.graph_members.specs.Members.{Spot, limits_on}
@@ -8,6 +9,7 @@ use Rattle.graph_members.specs.AnyMembers.{left_in, left_op}
 use Rattle.graph_members.specs.declared.any_left.AnyLeft.{AnyLeft}
 use Rattle.graph_turns.specs.TaskPlaces.{registration_at}
 use Rattle.graph_ends.specs.TaskEnds.{TaskEnd, HasLeftAt, HasFoundedAndLeft}
+use Rattle.stream_ends.specs.Joinings.{IsAt}
 use Rattle.stream_ends.specs.declared.task_left.Given.{Given}
 use Rattle.stream_ends.specs.declared.task_left.Part.{Part}
 use Rattle.stream_ends.specs.declared.task_left.TaskLeft.{TaskLeft}
@@ -49,4 +51,19 @@ pub record IsTaskLeft (job : Job) (spots : ℕ → Spot) (left : TaskLeft) : Typ
 pub record IsFounderLeft (job : Job) (spots : ℕ → Spot) (p : ℕ) (gave : List ℕ) (left : AnyLeft)
     : Type 0 where
   pub is_left : IsLeftOf job spots p (0 ∷ []) left
+  pub legal : IsLegal (limits_at job p) (left_in left).seen
   pub founds : HasFoundedAndLeft (record { number = 0; gave = gave; seen = (left_in left).seen })
+
+-- the founders of all phasers, which gave these numbers, have left
+abbrev pub AreFounders : Job → (ℕ → Spot) → List (Option AnyLeft) → (ℕ → List ℕ) → Type 0
+AreFounders job spots founders gave = (p : ℕ) → p < length job.graph.phasers
+    → (founder : AnyLeft) × IsAt founders p founder × IsFounderLeft job spots p (gave p) founder
+
+-- what a task has taken, and nothing where it never came
+abbrev pub part_lines : Option Part → List ℤ
+part_lines None = []
+part_lines (Some part) = part.lines.items
+
+-- the same of task t
+abbrev pub lines_at : List (Option Part) → ℕ → List ℤ
+lines_at parts t = part_lines (get_or parts t None)

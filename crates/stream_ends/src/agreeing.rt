@@ -1,5 +1,5 @@
 //! Whether what the tasks know of one another agrees.
-ghost use Rattle.std.specs.Prelude.{◌≡◌, ◌<◌, ⊥, ℕ, true, length, slice_get, IfSome, None};
+ghost use Rattle.std.specs.Prelude.{◌≡◌, ◌<◌, ℕ, true, length, slice_get, IfSome, None};
 ghost use Rattle.graph_base.specs.TaskLines.{IsGraph};
 ghost use Rattle.stream_ends.specs.declared.task_left.Part.{Part as PartValue};
 ghost use Rattle.stream_ends.specs.Joinings.{IsAt};
@@ -10,7 +10,7 @@ use crate::task_left::{Given, Part};
 use stream_lists::Job;
 
 /// What task number `t` knows of itself, where it came.
-fn part_at(parts: &[Option<Part>], t: usize) -> Option<&Part>
+pub(crate) fn part_at(parts: &[Option<Part>], t: usize) -> Option<&Part>
     ensures some { IfSome result (λ part. IsAt parts.now t part.now) }
     ensures none { result ≡ None → (part : PartValue) → IsAt parts.now t part → ⊥ }
 {
@@ -24,9 +24,9 @@ fn part_at(parts: &[Option<Part>], t: usize) -> Option<&Part>
 fn given_to(given: &[Given], c: usize) -> &[u64]
     ensures { result.now ≡ given_to given.now c }
 {
-    for one in given {
-        if one.task == c {
-            return one.numbers.as_slice();
+    for i in 0..given.len() {
+        if given[i].task == c {
+            return given[i].numbers.as_slice();
         }
     }
     &[]

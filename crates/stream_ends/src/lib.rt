@@ -3,8 +3,12 @@
 #![tactic(auto)]
 
 mod agreeing;
+mod run_end;
 mod gathering;
+mod given_numbers;
 mod joining;
+mod lines;
 mod task_left;
 
+pub use run_end::finish;
 pub use task_left::{Given, Part, TaskLeft};

@@ -1,0 +1,12 @@
+-- A number stands at some place.
+use Rattle.std.proofs.Common.{rules, ◌≡◌, ℕ, Some, slice_get, sym, ap, subst, ◌∙◌, arith}
+use Rattle.std.proofs.lemmas.Option.{same_Some, slice_get-get_or}
+use Rattle.stream_ends.specs.Agreeing.{IsOfTask}
+use Rattle.stream_ends.proofs.Agreed.{below_next, place_of_number}
+use Rattle.stream_ends.proofs.given_numbers.are_of_tasks.Goals as goal
+
+pub returns : goal.returns
+returns c = λ e a inside.
+    (let k = place_of_number c.args.gave.now a inside in
+    let over = c.loop-k-test.false in
+    c.loop-k.invariant k.0 a (omega arith) k.2)
