@@ -1,5 +1,6 @@
 -- What was gathered and found to agree is the end of a run.
-use Rattle.std.proofs.Common.{◌≡◌, ◌≢◌, ℕ, ◌<◌, ◌≤◌, Bool, true, false, cond, List, [], ◌∷◌, Option, Some, None, ℤ, length, get_or, slice_get, refl, sym, ap, subst, ◌∙◌, arith, ◌⊎◌, inl, inr}
+use Rattle.std.proofs.Common.{◌≡◌, ◌≢◌, ℕ, zero, suc, ◌+◌, ◌<◌, ◌≤◌, Bool, true, false, cond, List, [], ◌∷◌, Option, Some, None, ℤ, length, map, get_or, slice_get, refl, sym, ap, subst, ◌∙◌, arith, ◌⊎◌, inl, inr}
+use Rattle.std.specs.List.{filter, range_with_len}
 use Rattle.std.proofs.lemmas.Option.{same_Some, slice_get-get_or}
 use Rattle.phase_history.specs.Histories.{History}
 use Rattle.phase_history.specs.Legal.{IsLegal}
@@ -8,6 +9,7 @@ use Rattle.phase_base.specs.Limits.{Limits}
 use Rattle.graph_base.specs.Graphs.{task_at}
 use Rattle.graph_base.specs.declared.line.Parent.{Parent}
 use Rattle.stream_lists.specs.Jobs.{Job}
+use Rattle.stream_lists.specs.Lists.{sinks_of, is_sink_at}
 use Rattle.graph_moments.specs.Moments.{Moment, limits_at}
 use Rattle.graph_members.specs.Members.{Spot, limits_on}
 use Rattle.graph_members.specs.AnyMembers.{left_in}
@@ -22,6 +24,24 @@ use Rattle.stream_ends.specs.Gatherings.{HasGathered, Tells, AreGathered}
 use Rattle.stream_ends.specs.TaskLefts.{given_to, AreFounders, part_lines, lines_at}
 use Rattle.stream_ends.specs.Agreeing.{Agrees, IsOfTask, AreOfTasks}
 use Rattle.stream_ends.proofs.Gathered.{below_length}
+
+map-filtered : {Y : Type 0} (f h : ℕ → Y) (test : ℕ → Bool) (a n : ℕ)
+    → ((t : ℕ) → t < a + n → f t ≡ h t)
+    → map f (filter test (range_with_len a n)) ≡ map h (filter test (range_with_len a n))
+map-filtered f h test a zero same = refl
+map-filtered f h test a (suc n) same =
+    let rest : map f (filter test (range_with_len (a + 1) n))
+    ≡ map h (filter test (range_with_len (a + 1) n)) =
+    map-filtered f h test (a + 1) n (λ t lt. same t (omega arith)) in
+    elim (test a) as (λ b. map f (cond b (a ∷ filter test (range_with_len (a + 1) n))
+    (filter test (range_with_len (a + 1) n)))
+    ≡ map h (cond b (a ∷ filter test (range_with_len (a + 1) n))
+    (filter test (range_with_len (a + 1) n)))) [
+      | true ↦
+          ap (λ y. y ∷ map f (filter test (range_with_len (a + 1) n))) (same a (omega arith))
+          ∙ ap (λ ys. h a ∷ ys) rest
+      | false ↦ rest
+    ]
 
 module _ (job : Job) (spots : ℕ → Spot) (founders joined : List (Option AnyLeft))
     (parts : List (Option Part)) (ends : Ends) (gave : ℕ → List ℕ)
@@ -169,3 +189,14 @@ module _ (job : Job) (spots : ℕ → Spot) (founders joined : List (Option AnyL
       by None (Some part) tells = absurd tells
       by (Some end) None tells = absurd tells
       by (Some end) (Some part) tells = tells.2
+
+  -- the lines of the sinks are those of the parts
+  pub sinks_are : map {B = ℕ × List ℤ} (λ t. (t, lines_in (slice_get ends t))) (sinks_of job)
+      ≡ map {B = ℕ × List ℤ} (λ t. (t, lines_at parts t)) (sinks_of job)
+  sinks_are =
+      let told : ℕ → ℕ × List ℤ = λ t. (t, lines_in (slice_get ends t)) in
+      let known : ℕ → ℕ × List ℤ = λ t. (t, lines_at parts t) in
+      map-filtered told known (is_sink_at job) 0 (length job.graph.tasks)
+      (λ t lt. (let there : t < length job.graph.tasks = omega arith in
+      let pair : List ℤ → ℕ × List ℤ = λ l. (t, l) in
+      ap pair (lines_are t there)))

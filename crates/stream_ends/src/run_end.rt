@@ -42,7 +42,7 @@ pub fn finish<'a>(
 {
     runs_end();
     let mut joined = founders;
-    let _graph = job.graph();
+    let _tasks = job.graph().tasks();
     let Some(parts) = gather(alloc, job, &mut joined, tasks)? else {
         return Ok(None);
     };
