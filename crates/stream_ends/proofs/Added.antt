@@ -1,25 +1,24 @@
 -- One task more is gathered: one that never came, and one that came.
-use Rattle.std.proofs.Common.{◌≡◌, ℕ, zero, suc, ◌+◌, ◌<◌, ◌≤◌, true, List, [], ◌∷◌, ◌++◌, Option, Some, None, length, map, get_or, slice_get, slice_set, refl, sym, ap, subst, ◌∙◌, arith, ◌⊎◌, inl, inr}
+use Rattle.std.proofs.Common.{◌≡◌, ℕ, zero, suc, ◌+◌, ◌<◌, ◌≤◌, List, [], ◌∷◌, ◌++◌, Option, Some, None, length, map, get_or, slice_get, slice_set, refl, sym, ap, subst, ◌∙◌, arith, ◌⊎◌, inl, inr}
 use Rattle.std.proofs.lemmas.Option.{same_Some, slice_get-get_or}
 use Rattle.std.proofs.lemmas.List.{length-append, length-map}
 use Rattle.phase_history.specs.Histories.{History}
-use Rattle.graph_base.specs.Graphs.{task_at}
 use Rattle.graph_base.specs.TaskLines.{IsGraph}
 use Rattle.stream_lists.specs.Jobs.{Job}
 use Rattle.graph_moments.specs.Moments.{Moment}
 use Rattle.graph_moments.proofs.OnLines.{on_phaser}
 use Rattle.graph_members.specs.Members.{Spot}
-use Rattle.graph_members.specs.AnyMembers.{left_in, left_op}
+use Rattle.graph_members.specs.AnyMembers.{left_in}
 use Rattle.graph_members.specs.declared.any_left.AnyLeft.{AnyLeft}
 use Rattle.graph_turns.specs.Nexts.{registrations_at}
 use Rattle.graph_turns.specs.TaskPlaces.{registration_at}
 use Rattle.graph_turns.proofs.Registering.{is_for}
 use Rattle.graph_ends.specs.TaskEnds.{TaskEnd, HasLeftAt}
-use Rattle.graph_ends.specs.RunEnds.{Ends, HasCome, IsRegisteredOn}
+use Rattle.graph_ends.specs.RunEnds.{Ends, HasCome}
 use Rattle.stream_ends.specs.declared.task_left.Part.{Part}
 use Rattle.stream_ends.specs.declared.task_left.TaskLeft.{TaskLeft}
 use Rattle.stream_ends.specs.Joinings.{IsAt, HasPlaceFor, HasGrownTo, HaveGrown, IsTakenIn}
-use Rattle.stream_ends.specs.Gatherings.{HasGathered, Tells, AreGathered}
+use Rattle.stream_ends.specs.Gatherings.{Tells, AreGathered}
 use Rattle.stream_ends.specs.TaskLefts.{IsLeftOf, IsTaskLeft, end_of}
 use Rattle.stream_ends.proofs.TakingIn.{grown_to_refl}
 use Rattle.stream_ends.proofs.Gathered.{in_longer, below_length, gathered_absent, IsAllTaken, gathered_more}

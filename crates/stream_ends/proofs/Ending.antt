@@ -1,26 +1,23 @@
 -- What was gathered and found to agree is the end of a run.
-use Rattle.std.proofs.Common.{◌≡◌, ◌≢◌, ℕ, zero, suc, ◌+◌, ◌<◌, ◌≤◌, Bool, true, false, cond, List, [], ◌∷◌, Option, Some, None, ℤ, length, map, get_or, slice_get, refl, sym, ap, subst, ◌∙◌, arith, ◌⊎◌, inl, inr}
+use Rattle.std.proofs.Common.{◌≡◌, ℕ, zero, suc, ◌+◌, ◌<◌, ◌≤◌, Bool, true, false, cond, List, [], ◌∷◌, Option, Some, None, ℤ, length, map, get_or, slice_get, refl, sym, ap, subst, ◌∙◌, arith, ◌⊎◌, inl, inr}
 use Rattle.std.specs.List.{filter, range_with_len}
-use Rattle.std.proofs.lemmas.Option.{same_Some, slice_get-get_or}
+use Rattle.std.proofs.lemmas.Option.{slice_get-get_or}
 use Rattle.phase_history.specs.Histories.{History}
 use Rattle.phase_history.specs.Legal.{IsLegal}
 use Rattle.phase_history.specs.Others.{is_in, OthersCame}
 use Rattle.phase_base.specs.Limits.{Limits}
-use Rattle.graph_base.specs.Graphs.{task_at}
-use Rattle.graph_base.specs.declared.line.Parent.{Parent}
 use Rattle.stream_lists.specs.Jobs.{Job}
 use Rattle.stream_lists.specs.Lists.{sinks_of, is_sink_at}
-use Rattle.graph_moments.specs.Moments.{Moment, limits_at}
+use Rattle.graph_moments.specs.Moments.{limits_at}
 use Rattle.graph_members.specs.Members.{Spot, limits_on}
 use Rattle.graph_members.specs.AnyMembers.{left_in}
 use Rattle.graph_members.specs.declared.any_left.AnyLeft.{AnyLeft}
 use Rattle.graph_turns.specs.Nexts.{registrations_at}
-use Rattle.graph_turns.specs.TaskPlaces.{registration_at}
-use Rattle.graph_ends.specs.TaskEnds.{TaskEnd, HasLeftAt, FounderEnd}
+use Rattle.graph_ends.specs.TaskEnds.{TaskEnd, FounderEnd}
 use Rattle.graph_ends.specs.RunEnds.{Ends, HasCome, IsRegisteredOn, HasWhole, IsRunEnd, lines_in}
 use Rattle.stream_ends.specs.declared.task_left.Part.{Part}
 use Rattle.stream_ends.specs.Joinings.{IsAt}
-use Rattle.stream_ends.specs.Gatherings.{HasGathered, Tells, AreGathered}
+use Rattle.stream_ends.specs.Gatherings.{Tells, AreGathered}
 use Rattle.stream_ends.specs.TaskLefts.{given_to, AreFounders, part_lines, lines_at}
 use Rattle.stream_ends.specs.Agreeing.{Agrees, IsOfTask, AreOfTasks}
 use Rattle.stream_ends.proofs.Gathered.{below_length}

@@ -1,8 +1,7 @@
 -- One task more stands with those before it.
-use Rattle.std.proofs.Common.{◌≡◌, ◌≢◌, ℕ, zero, suc, ◌+◌, ◌<◌, ◌≤◌, Bool, true, false, ◌||◌, eqb, List, [], ◌∷◌, ◌++◌, Option, Some, None, length, map, slice_get, refl, sym, ap, subst, ◌∙◌, arith, ◌⊎◌, inl, inr}
+use Rattle.std.proofs.Common.{◌≡◌, ℕ, zero, suc, ◌<◌, ◌≤◌, Bool, true, false, ◌||◌, eqb, List, [], ◌∷◌, ◌++◌, Option, Some, None, length, slice_get, refl, sym, ap, subst, ◌∙◌, ◌⊎◌, inl, inr}
 use Rattle.std.proofs.lemmas.Bool.{cases_lt, eqb-true}
 use Rattle.std.proofs.lemmas.Option.{same_Some, slice_get_past}
-use Rattle.std.proofs.lemmas.List.{length-append}
 use Rattle.phase_history.specs.Histories.{History}
 use Rattle.phase_history.specs.Others.{is_in, OthersCame}
 use Rattle.phase_history.proofs.OthersEvents.{OthersCame-trans, OthersCame-fewer}
@@ -13,8 +12,8 @@ use Rattle.graph_members.specs.declared.any_left.AnyLeft.{AnyLeft}
 use Rattle.graph_turns.specs.Nexts.{registrations_at}
 use Rattle.graph_turns.specs.TaskPlaces.{registration_at}
 use Rattle.graph_ends.specs.TaskEnds.{TaskEnd}
-use Rattle.graph_ends.specs.RunEnds.{Ends, HasCome, IsRegisteredOn}
-use Rattle.stream_ends.specs.Joinings.{IsAt, HasGrownTo, IsTakenIn, HaveGrown}
+use Rattle.graph_ends.specs.RunEnds.{Ends, IsRegisteredOn}
+use Rattle.stream_ends.specs.Joinings.{IsAt, HasGrownTo, IsTakenIn}
 use Rattle.stream_ends.specs.Gatherings.{HasGathered}
 use Rattle.stream_ends.proofs.TakingIn.{same_at, grown_to_trans}
 

@@ -1,17 +1,16 @@
 -- What is put together grows: each that was taken in stays so.
-use Rattle.std.proofs.Common.{◌≡◌, ◌≢◌, ℕ, zero, suc, ◌+◌, ◌<◌, ◌≤◌, Bool, true, false, not, ◌&&◌, ◌||◌, eqb, List, [], ◌∷◌, ◌++◌, Option, Some, None, length, slice_get, refl, sym, ap, subst, ◌∙◌, arith, ◌⊎◌, inl, inr}
+use Rattle.std.proofs.Common.{◌≡◌, ◌≢◌, ℕ, zero, suc, ◌+◌, ◌<◌, ◌≤◌, Bool, true, false, not, ◌||◌, eqb, List, [], ◌∷◌, ◌++◌, Option, Some, None, length, slice_get, refl, sym, ap, subst, ◌∙◌, arith, ◌⊎◌, inl, inr}
 use Rattle.std.proofs.lemmas.Bool.{eqb-true, and_parts, cases_lt}
 use Rattle.std.proofs.lemmas.Option.{same_Some, slice_get_past}
 use Rattle.std.proofs.lemmas.List.{length-append}
-use Rattle.phase_history.specs.Histories.{History}
 use Rattle.phase_history.specs.Legal.{IsLegal}
-use Rattle.phase_history.specs.Others.{is_in, is_distinct, OthersCame}
+use Rattle.phase_history.specs.Others.{is_in, is_distinct}
 use Rattle.phase_history.proofs.OthersEvents.{OthersCame-refl, OthersCame-trans, OthersCame-fewer}
 use Rattle.graph_moves.proofs.OwnEvents.{eq_case}
 use Rattle.stream_lists.specs.Jobs.{Job}
 use Rattle.graph_turns.specs.TaskPlaces.{registration_at}
 use Rattle.graph_members.specs.Members.{limits_on}
-use Rattle.graph_members.specs.AnyMembers.{left_in, left_op}
+use Rattle.graph_members.specs.AnyMembers.{left_in}
 use Rattle.graph_members.specs.declared.any_left.AnyLeft.{AnyLeft}
 use Rattle.stream_ends.specs.Joinings.{IsAt, HasPlaceFor, HasTakenIn, HasGrownTo, HaveGrown, IsTakenIn}
 

@@ -1,13 +1,10 @@
 -- What members that left have seen, put together phaser by phaser.
-use Rattle.std.specs.Prelude.{◌≡◌, ◌≢◌, ℕ, ◌<◌, ◌≤◌, List, [], ◌∷◌, length, slice_get, Option, Some, true, false}
+use Rattle.std.specs.Prelude.{◌≡◌, ◌≢◌, ℕ, List, length, slice_get, Option, Some, true, false}
 use Rattle.phase_history.specs.Legal.{IsLegal}
 use Rattle.phase_history.specs.Others.{is_in, OthersCame}
-use Rattle.stream_lists.specs.Jobs.{Job}
-use Rattle.graph_members.specs.Members.{LeftState, HasJoined, limits_on}
+use Rattle.graph_members.specs.Members.{HasJoined, limits_on}
 use Rattle.graph_members.specs.AnyMembers.{left_in, left_op}
 use Rattle.graph_members.specs.declared.any_left.AnyLeft.{AnyLeft}
-use Rattle.graph_turns.specs.Nexts.{registrations_at}
-use Rattle.graph_turns.specs.TaskPlaces.{registration_at}
 
 -- this stands at place p
 abbrev pub IsAt : {X : Type 0} → List (Option X) → ℕ → X → Type 0

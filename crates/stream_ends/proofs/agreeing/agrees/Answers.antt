@@ -1,9 +1,6 @@
 -- What was found of the task and of its parent.
-use Rattle.std.proofs.Common.{rules, ◌≡◌, ◌≤◌, Some, None, Bor, IfSome, sym, ap, subst, ◌∙◌, arith}
-use Rattle.std.specs.Prelude.{Option}
-use Rattle.graph_base.specs.declared.line.Parent.{Parent}
+use Rattle.std.proofs.Common.{◌≡◌, Some, None, IfSome, sym, ap, subst, ◌∙◌}
 use Rattle.graph_base.specs.Graphs.{Graph, Task, task_at}
-use Rattle.stream_ends.specs.declared.task_left.Part.{Part}
 use Rattle.stream_ends.specs.Joinings.{IsAt}
 use Rattle.stream_ends.specs.TaskLefts.{given_to}
 use Rattle.stream_ends.proofs.Agreed.{agreed_root, agreed_child, found_part, same_lists}

@@ -1,5 +1,4 @@
 -- One more agrees.
-use Rattle.std.proofs.Common.{rules}
 use Rattle.stream_ends.specs.Agreeing.{Agrees}
 use Rattle.stream_ends.proofs.Agreed.{below_next}
 use Rattle.stream_ends.proofs.agreeing.all_agree.Goals as goal

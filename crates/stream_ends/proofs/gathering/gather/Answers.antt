@@ -1,8 +1,6 @@
 -- What a task left behind is gathered with what those before it did.
-use Rattle.std.proofs.Common.{rules, ◌≡◌, ℕ, ◌+◌, ◌<◌, ◌≤◌, List, [], ◌∷◌, ◌++◌, None, Some, length, slice_get, refl, sym, ap, subst, ◌∙◌, arith}
+use Rattle.std.proofs.Common.{rules, ℕ, List, [], ◌∷◌, ◌++◌, None, Some, refl, sym, subst, ◌∙◌, arith}
 use Rattle.std.proofs.lemmas.List.{length-append}
-use Rattle.graph_members.specs.declared.any_left.AnyLeft.{AnyLeft}
-use Rattle.graph_ends.specs.RunEnds.{Ends}
 use Rattle.stream_ends.specs.Joinings.{IsAt}
 use Rattle.stream_ends.specs.Gatherings.{AreGathered}
 use Rattle.stream_ends.specs.TaskLefts.{end_of}

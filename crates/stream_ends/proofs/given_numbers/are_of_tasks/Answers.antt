@@ -1,8 +1,6 @@
 -- A number stands at some place.
-use Rattle.std.proofs.Common.{rules, ◌≡◌, ℕ, Some, slice_get, sym, ap, subst, ◌∙◌, arith}
-use Rattle.std.proofs.lemmas.Option.{same_Some, slice_get-get_or}
-use Rattle.stream_ends.specs.Agreeing.{IsOfTask}
-use Rattle.stream_ends.proofs.Agreed.{below_next, place_of_number}
+use Rattle.std.proofs.Common.{arith}
+use Rattle.stream_ends.proofs.Agreed.{place_of_number}
 use Rattle.stream_ends.proofs.given_numbers.are_of_tasks.Goals as goal
 
 pub returns : goal.returns

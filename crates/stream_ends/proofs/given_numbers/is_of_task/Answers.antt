@@ -1,5 +1,5 @@
 -- The task that was found.
-use Rattle.std.proofs.Common.{rules, ◌≡◌, IfSome, length, sym, ap, subst, ◌∙◌, arith}
+use Rattle.std.proofs.Common.{◌≡◌, IfSome, length, ap, subst, ◌∙◌, arith}
 use Rattle.graph_base.specs.Graphs.{Graph}
 use Rattle.stream_ends.specs.Joinings.{IsAt}
 use Rattle.stream_ends.proofs.given_numbers.is_of_task.Goals as goal

@@ -1,5 +1,5 @@
 -- What was popped is the last of what was left, and its place is that of its registration.
-use Rattle.std.proofs.Common.{rules, ◌≡◌, ℕ, ◌+◌, ◌-◌, take, ◌<◌, ◌≤◌, List, [], ◌∷◌, ◌++◌, length, get_or, slice_get, refl, sym, ap, subst, ◌∙◌, arith}
+use Rattle.std.proofs.Common.{◌≡◌, ℕ, ◌+◌, ◌-◌, take, ◌<◌, [], ◌∷◌, ◌++◌, length, get_or, sym, ap, subst, ◌∙◌, arith}
 use Rattle.std.proofs.lemmas.List.{length-append}
 use Rattle.stream_lists.specs.Jobs.{Job}
 use Rattle.graph_base.specs.declared.registration.Registration.{Registration}
@@ -93,7 +93,7 @@ loop-preserved c =
           c.loop.invariant.0 popped c.take_in.new.joined.items c.requires.there
           (subst (λ (r : Registration). HasTakenIn c.loop.joined.items c.take_in.new.joined.items r.phaser
           c.in-Some.left) (registration_is c.args.job.now c.args.t c.len.result (length c.pop.new.self.items)
-    c.graph-in-loop.result.now c.registration-p.result c.registration-p.ensures
-    c.graph-in-loop.ensures.graph (omega (arith, c.len.ensures))) c.take_in.ensures),
+          c.graph-in-loop.result.now c.registration-p.result c.registration-p.ensures
+          c.graph-in-loop.ensures.graph (omega (arith, c.len.ensures))) c.take_in.ensures),
       omega arith,
     )

@@ -1,5 +1,5 @@
 -- A sink with its values stands behind those before it.
-use Rattle.std.proofs.Common.{rules, ◌≡◌, ℕ, ℤ, ◌+◌, ◌<◌, ◌≤◌, List, [], ◌∷◌, ◌++◌, None, Some, map, length, slice_get, get_or, refl, sym, ap, ◌∙◌, arith}
+use Rattle.std.proofs.Common.{rules, ◌≡◌, ℕ, ℤ, ◌<◌, List, [], ◌∷◌, ◌++◌, None, map, length, sym, ap, ◌∙◌, arith}
 use Rattle.std.specs.List.{range_with_len, filter}
 use Rattle.std.proofs.lemmas.List.{map_push}
 use Rattle.graph_base.specs.Graphs.{Graph}

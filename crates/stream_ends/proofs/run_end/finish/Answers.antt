@@ -1,14 +1,9 @@
 -- What was gathered and agrees is the end of a run, of which the law tells the answer.
-use Rattle.std.proofs.Common.{rules, ◌≡◌, ◌<◌, ℕ, [], Ok, Some, length, map, get_or, slice_get, IfSome, sym, ap, subst, ◌∙◌, arith}
-use Rattle.std.proofs.lemmas.List.{get_or-map}
+use Rattle.std.proofs.Common.{◌≡◌, ◌<◌, ℕ, [], Ok, length, map, get_or, IfSome, sym, ap, subst, ◌∙◌, arith}
 use Rattle.graph_base.specs.TaskLines.{IsGraph}
-use Rattle.stream_lists.specs.Lists.{sinks_of}
-use Rattle.stream_lists.specs.Ranges.{answer_of}
 use Rattle.graph_moments.specs.Settled.{IsReady}
-use Rattle.graph_ends.specs.RunEnds.{Ends, lines_in}
-use Rattle.stream_eval.specs.Results.{sink_values}
+use Rattle.graph_ends.specs.RunEnds.{Ends}
 use Rattle.stream_ends.specs.Gatherings.{AreGathered}
-use Rattle.stream_ends.specs.TaskLefts.{lines_at}
 use Rattle.stream_ends.specs.Agreeing.{Agrees, AreOfTasks}
 use Rattle.stream_ends.proofs.Ending.{is_run_end, sinks_are}
 use Rattle.stream_ends.proofs.run_end.finish.Goals as goal
