@@ -1,10 +1,14 @@
 //! What a task holds of a phaser.
+ghost use Rattle.std.specs.Prelude.{◌≡◌, IfErr, IfOk, OnErr, OnOk};
+ghost use Rattle.stream_lists.specs.Lists.{number};
+ghost use Rattle.graph_tasks.specs.Holds.{GoesOn, HasSignalled, HasGot, HasSeenOthers, Leaves};
+ghost use Rattle.graph_tasks.specs.Holds.{IsGivenAs};
 
 use crate::held::Held;
 use graph_members::{AnyLeft, AnyMember, PutRefusal};
 use phase_accum::{Outcome, Single};
 use phase_base::Mode;
-use phase_core::{Got, RegisterRefusal, SignalRefusal, WaitRefusal};
+use phase_core::{Got, RegisterRefusal, SignalRefusal, WaitRefusal, laws};
 use phase_shared::Tried;
 use std::mem;
 use std::sync::Wait;
@@ -28,7 +32,11 @@ pub enum Given {
 
 impl<'a> Hold<'a> {
     /// Signals with one value.
-    pub fn put(&mut self, value: i64, single: Option<Single>) -> Result<(), Held> {
+    pub fn put(&mut self, value: i64, single: Option<Single>) -> Result<(), Held>
+        ensures ok { OnOk result (GoesOn (HasSignalled value single) self.old self.new) }
+        ensures err { OnErr result (GoesOn HasSeenOthers self.old self.new) }
+    {
+        laws::others_come();
         let Hold::On(member) = self else {
             return Err(Held::Stuck);
         };
@@ -42,7 +50,11 @@ impl<'a> Hold<'a> {
     }
 
     /// Waits for the next value.
-    pub fn get(&mut self) -> Result<Given, Held> {
+    pub fn get(&mut self) -> Result<Given, Held>
+        ensures { GoesOn (HasGot result) self.old self.new }
+    {
+        laws::others_come();
+        laws::answers();
         let Hold::On(member) = self else {
             return Err(Held::Stuck);
         };
@@ -69,7 +81,10 @@ impl<'a> Hold<'a> {
     }
 
     /// Leaves.
-    pub fn leave(&mut self) -> Result<AnyLeft<'a>, Held> {
+    pub fn leave(&mut self) -> Result<AnyLeft<'a>, Held>
+        ensures ok { IfOk result (Leaves self.old self.new) }
+        ensures err { OnErr result (self.new ≡ self.old) }
+    {
         match mem::replace(self, Hold::Gone) {
             Hold::On(member) => match member.try_leave() {
                 Ok(left) => Ok(left),
@@ -92,7 +107,9 @@ impl<'a> Hold<'a> {
 }
 
 /// What a wait gave, as a number.
-fn number_in(outcome: Outcome) -> Given {
+fn number_in(outcome: Outcome) -> Given
+    ensures { IsGivenAs outcome result }
+{
     match outcome {
         Outcome::Value(value) => Given::Value(value),
         Outcome::Empty => Given::Value(0),
