@@ -6,7 +6,6 @@ use Rattle.phase_history.specs.Histories.{members_of}
 use Rattle.phase_history.specs.Legal.{IsLegal}
 use Rattle.phase_history.specs.Others.{OnlyUsed}
 use Rattle.phase_seats.specs.declared.rule.NoRule.{NoRule}
-use Rattle.phase_seats.specs.declared.rule.Terms.{Terms}
 use Rattle.phase_shared.specs.declared.phaser.Phaser.{Phaser}
 use Rattle.phase_seats.specs.Rule.{Allows}
 use Rattle.phase_shared.specs.Regs.{RegState, IsGoodOn, phaser_place, phaser_terms}

@@ -1,6 +1,6 @@
 -- What contracts see of a registration with its phaser, and what its calls do to the history that
 -- it has seen.
-use Rattle.std.specs.Prelude.{◌≡◌, ◌≢◌, ℕ, ℤ, List, [], ◌∷◌, ◌++◌, Option, Some, None, Result, Ok, Err, true}
+use Rattle.std.specs.Prelude.{◌≡◌, ◌≢◌, ℕ, ℤ, [], ◌∷◌, ◌++◌, Option, Some, None, Result, Ok, Err, true}
 use Rattle.turn_lock.specs.Seats.{Place}
 use Rattle.phase_base.specs.Limits.{Limits, limits}
 use Rattle.phase_base.specs.Members.{entry_of}

@@ -1,13 +1,11 @@
 //! Runs of a graph on one thread, one event at a time.
 #![tactic(auto)]
 
-mod lines;
 mod machine;
 mod next;
 mod opened_cores;
 mod opened_tasks;
 mod opening;
-mod owed;
 mod roots;
 mod step;
 mod task_state;

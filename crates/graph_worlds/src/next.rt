@@ -10,13 +10,12 @@ ghost use Rattle.graph_moments.specs.Moments.{Moment, limits_at};
 ghost use Rattle.graph_turns.specs.Nexts.{next_of, at_boundary, without_child, is_live, is_due};
 ghost use Rattle.graph_turns.specs.Nexts.{comes_by, first_due, has_signaller, is_cut, next_step};
 
-use crate::lines::{first_input_of, input_of, is_source, kind_of, parent_of, until_of};
 use crate::machine::Machine;
-use crate::owed::Owed;
 use crate::step::Step;
 use crate::task_state::TaskState;
 use graph_base::{Op, Parent};
 use graph_cores::AnyCore;
+use graph_steps::{Owed, first_input_of, input_of, is_source, kind_of, parent_of, until_of};
 use phase_base::Entry;
 use stream_lists::Job;
 

@@ -6,16 +6,13 @@ ghost use Rattle.stream_lists.specs.Lists.{is_sink_at};
 ghost use Rattle.graph_turns.specs.Nexts.{registrations_at};
 ghost use Rattle.graph_turns.specs.TaskPlaces.{registration_at};
 ghost use Rattle.graph_turns.specs.Beginnings.{root_number, opening};
-ghost use Rattle.graph_worlds.specs.Places.{HasFilter, IsTaskAt};
+ghost use Rattle.graph_worlds.specs.Places.{IsTaskAt};
 
-use crate::lines::{is_sink, kind_of, parent_of};
-use crate::owed::Owed;
 use crate::roots::root_number;
 use crate::task_state::TaskState;
-use graph_base::Kind;
+use graph_steps::{Owed, first_filter, is_sink, parent_of};
 use smallvec::SmallVec;
 use std::alloc::{AllocError, Global};
-use stream_filters::{Fir, FirFault};
 use stream_lists::Job;
 
 /// The numbers of task number `t` on its phasers, none of a child's. It takes no memory.
@@ -38,22 +35,6 @@ fn root_numbers(alloc: Global, job: &Job, t: usize) -> SmallVec<u64, 9>
     numbers
 }
 
-/// The filter of task number `t`, where it is one, before its first sample.
-fn opened_filter(alloc: Global, job: &Job, t: usize) -> Result<Option<Fir>, AllocError>
-    requires { t < length job.now.graph.tasks }
-    ensures { IfOk result (λ filter. HasFilter job.now (opening job.now) t filter) }
-{
-    if kind_of(job, t) != Kind::Fir {
-        return Ok(None);
-    }
-    let line = job.graph().task(t);
-    match Fir::new(alloc, &line.taps, line.shift) {
-        Ok(fir) => Ok(Some(fir)),
-        Err(FirFault::OutOfMemory) => Err(AllocError),
-        Err(FirFault::BadTaps) => unreachable!(),
-    }
-}
-
 /// The state of task number `t`, above which there are so many sinks.
 fn opened_task(alloc: Global, job: &Job, t: usize, sink: usize) -> Result<TaskState, AllocError>
     requires graph { IsGraph job.now.graph }
@@ -66,7 +47,7 @@ fn opened_task(alloc: Global, job: &Job, t: usize, sink: usize) -> Result<TaskSt
         left: 0,
         begun: 0,
         owed: Owed::Nothing,
-        filter: opened_filter(alloc, job, t)?,
+        filter: first_filter(alloc, job, t)?,
         sink,
     })
 }

@@ -4,10 +4,10 @@ ghost use Rattle.stream_eval.specs.Results.{sink_values};
 ghost use Rattle.stream_lists.specs.Lists.{sinks_of};
 ghost use Rattle.graph_turns.specs.Beginnings.{opening};
 
-use crate::lines::is_sink;
 use crate::machine::Machine;
 use crate::opened_cores::opened_cores;
 use crate::opened_tasks::opened_tasks;
+use graph_steps::is_sink;
 use std::alloc::{AllocError, Global};
 use stream_eval::Lines;
 use stream_lists::Job;

@@ -4,7 +4,7 @@ ghost use Rattle.graph_moments.specs.Moments.{Moment};
 ghost use Rattle.graph_turns.specs.Nexts.{first_missing, is_live};
 ghost use Rattle.graph_turns.specs.TaskPlaces.{StandsAt};
 
-use crate::owed::Owed;
+use graph_steps::Owed;
 use smallvec::SmallVec;
 use stream_filters::Fir;
 use stream_lists::Job;

@@ -14,7 +14,7 @@ returns c =
       stands = opening_stands job c.args.t c.root_numbers.result.items c.requires.graph c.requires.task
           c.root_numbers.ensures.few c.root_numbers.ensures.numbers;
       room = omega arith;
-      filter = c.in_ok-opened_filter.ensures;
+      filter = c.in_ok-first_filter.ensures;
       sink = λ kind.
           ap (slice_get (sinks_of job)) c.requires.sinks
           ∙ sink_is job c.args.t c.requires.task (ap is_sink kind);

@@ -1,5 +1,4 @@
 -- The registration is alone, as the member is.
-use Rattle.std.proofs.Common.{rules}
 use Rattle.graph_members.proofs.Looks.{only_used}
 use Rattle.graph_members.proofs.member.Member.try_leave.Goals as goal
 
