@@ -1,9 +1,14 @@
 //! One event of a task.
+ghost use Rattle.std.specs.Prelude.{◌≡◌, ℕ, ℤ, Ok, false};
+ghost use Rattle.graph_members.specs.Members.{Spot};
+ghost use Rattle.graph_steps.specs.declared.owed.Owed.TheVariants.{Value};
+ghost use Rattle.graph_tasks.specs.Tasks.{IsTask};
 
 use crate::gate::Gate;
 use crate::hold::Given;
 use crate::task_state::TaskState;
 use crate::turned::Turned;
+use graph_parts::{laws, places};
 use graph_base::Kind;
 use graph_steps::{
     Owed, first_input_of, input_of, is_sink, is_source, kind_of, output_of, owed_after_exchange,
@@ -60,7 +65,18 @@ impl<'a> TaskState<'a> {
     }
 
     /// Puts the value that it owes on an output.
-    fn put(&mut self, job: &Job, output: usize, value: i64) -> Turned {
+    fn put(&mut self, job: &Job, output: usize, value: i64) -> Turned
+        requires task { (spots : ℕ → Spot) × IsTask job.now spots self.old }
+        requires met { self.old.met ≡ false }
+        requires over { self.old.over ≡ false }
+        requires owed { self.old.owed ≡ Value output (Ok value) }
+        ensures { (spots : ℕ → Spot) → IsTask job.now spots self.old
+            → IsTask job.now spots self.new }
+    {
+        laws::puts();
+        laws::others_come();
+        places::tells_next();
+        places::follow();
         let (k, p) = output_of(job, self.number, output);
         match self.holds[k].put(value, job.graph().phaser(p).single) {
             Ok(()) => {
