@@ -127,9 +127,11 @@ module _ (job : Job) (m : Moment) (t p n : ℕ) (h : History) (s : SeesOthers jo
       here = same_at p h m;
       elsewhere = λ q apart. other_at p h m q apart;
       numbers = λ q u. refl;
-      offset = refl;
+      offset = λ u. refl;
+      others_begun = λ u apart. refl;
     };
     same = same;
+    left = λ q u at. (stays_part q u at).dropped;
     staying = later_staying;
     ended = λ ended. later_ended is there part ended;
   }
@@ -166,13 +168,15 @@ module _ (job : Job) (m after : Moment) (t p n : ℕ) (event : Event) (before : 
       (λ e. (let L : ℕ → Type 0 = λ x. IsLegal (limits_at job x) (event ∷ before) in subst L (sym e) legal))
       (part.legal q on)
 
-  moved_on : TaskRan job after t → HasMovedOn job m after t p (event ∷ before)
-  moved_on ran = record {
+  moved_on : TaskRan job after t → ((u : ℕ) → after.offset u ≡ m.offset u)
+      → HasMovedOn job m after t p (event ∷ before)
+  moved_on ran offset = record {
     part = record { ran = ran; legal = legal_after };
     here = event_at p event before m after moved.here;
     elsewhere = elsewhere;
     numbers = moved.numbers;
-    offset = moved.offset;
+    offset = offset;
+    others_begun = λ u apart. (moved.others u apart).begun;
   }
 
   -- it has left none of its phasers still
@@ -214,7 +218,7 @@ module _ (job : Job) (m : Moment) (t p n : ℕ) (before : History) (is : IsGraph
         let after = after_signal job t j p n v begun now in
         let ran = own_signal job now after t j p n v is there signals (later_part job m t p n before others is there part).ran in
         record {
-          moved = moved_on job m after t p n event before part sees.legal signals.moved ran;
+          moved = moved_on job m after t p n event before part sees.legal signals.moved ran (λ u. refl);
           begun_is = set_at t begun m.begun;
           taken = signals.taken;
           put = signals.put;
@@ -287,7 +291,7 @@ module _ (job : Job) (m : Moment) (t p n : ℕ) (before : History) (is : IsGraph
           let after = after_wait t k p n outcome begun now in
           let ran = own_wait job now after t k p n outcome is there waits (later_part job m t p n before waited is there part).ran in
           record {
-            moved = moved_on job m after t p n (Waited n 1) before part sees.legal waits.moved ran;
+            moved = moved_on job m after t p n (Waited n 1) before part sees.legal waits.moved ran (λ u. refl);
             begun_is = set_at t begun m.begun;
             taken = waits.taken;
             other_takes = waits.other_takes;
@@ -358,7 +362,7 @@ module _ (job : Job) (m : Moment) (t p n : ℕ) (before : History) (is : IsGraph
         } in
         let ran = own_leave job now after t p n is there grown leaves part_now.ran in
         record {
-          moved = moved_on job m after t p n (Dropped n) before part sees.legal leaves.moved ran;
+          moved = moved_on job m after t p n (Dropped n) before part sees.legal leaves.moved ran (λ u. refl);
           same = record { offset = refl; begun = refl; taken = λ k. refl; put = λ j. refl };
           ended = ended_later job now after t is there grown leaves.same ended_now;
         }

@@ -4,7 +4,7 @@ use Rattle.std.specs.Prelude.{◌≡◌, ◌≢◌, ℕ, suc, ◌<◌, ℤ, pos,
 use Rattle.phase_accum.specs.declared.outcome.Outcome.{Outcome}
 use Rattle.phase_history.specs.declared.event.Event.{Event}
 use Rattle.phase_history.specs.declared.event.Event.TheVariants.{Signalled, Waited}
-use Rattle.phase_history.specs.Histories.{History}
+use Rattle.phase_history.specs.Histories.{History, has_dropped}
 use Rattle.phase_history.specs.Phases.{received_by}
 use Rattle.phase_history.specs.Legal.{IsLegal}
 use Rattle.phase_history.specs.Others.{OthersCame}
@@ -95,12 +95,15 @@ pub record HasMovedOn (job : Job) (before after : Moment) (t p : ℕ) (now : His
   pub here : after.history p ≡ now
   pub elsewhere : (q : ℕ) → q ≢ p → after.history q ≡ before.history q
   pub numbers : (q u : ℕ) → after.number q u ≡ before.number q u
-  pub offset : after.offset t ≡ before.offset t
+  pub offset : (u : ℕ) → after.offset u ≡ before.offset u
+  pub others_begun : (u : ℕ) → u ≢ t → after.begun u ≡ before.begun u
 
 -- with no event of the task
 pub record HasSeen (job : Job) (before after : Moment) (t p : ℕ) (now : History) : Type 0 where
   pub moved : HasMovedOn job before after t p now
   pub same : SameTask before after t
+  pub left : (q u : ℕ) → before.number q t ≡ Some u
+      → has_dropped (after.history q) u ≡ has_dropped (before.history q) u
   pub staying : IsStaying before t → IsStaying after t
   pub ended : HasEnded job before t → HasEnded job after t
 

@@ -12,7 +12,7 @@ use Rattle.graph_base.proofs.Registered.{registrations-phasers}
 use Rattle.stream_lists.specs.Jobs.{Job, samples_at}
 use Rattle.stream_lists.specs.Spans.{signalled_by, takes_from, puts_on, LooksAt}
 use Rattle.stream_laws.proofs.EachPhase.{find_none}
-use Rattle.graph_moments.specs.Moments.{Moment, HasRun, HasEnded, HasTaken, HasExchanged, HasSamples, AtMost, MayEnd, at_until, no_sample, no_input, RanOut, made_now, taken_now, first_input, input_at}
+use Rattle.graph_moments.specs.Moments.{Moment, TaskRan, HasEnded, HasTaken, HasExchanged, HasSamples, AtMost, MayEnd, at_until, no_sample, no_input, RanOut, made_now, taken_now, first_input, input_at}
 use Rattle.graph_moments.proofs.Entries.{prefix_whole}
 use Rattle.graph_moments.proofs.OutputLists.{length_made}
 use Rattle.graph_moments.proofs.Steps.{taken_count}
@@ -23,7 +23,7 @@ use Rattle.graph_turns.proofs.Places.{numbered}
 
 -- ---- what it has put and taken
 
-pub all_put : (job : Job) (m : Moment) (t : ℕ) → HasRun job m → t < length job.graph.tasks
+pub all_put : (job : Job) (m : Moment) (t : ℕ) → TaskRan job m t → t < length job.graph.tasks
     → first_owed job m t ≡ None → (j : ℕ) → j < length (signalled_by (task_at job.graph t))
     → m.put t j ≡ made_now job m t j
 all_put job m t ran there none j lt =
@@ -32,16 +32,16 @@ all_put job m t ran there none j lt =
     find_none (is_owed job m t) 0 n j none (omega arith) (omega arith) in
     let le : length (made_now job m t j) ≤ length (m.put t j) =
     ltb-false (length (m.put t j)) (length (made_now job m t j)) no_more in
-    prefix_whole (m.put t j) (made_now job m t j) ((ran.tasks t there).puts j lt) le
+    prefix_whole (m.put t j) (made_now job m t j) (ran.puts j lt) le
 
-pub made_many : (job : Job) (m : Moment) (t j : ℕ) → IsGraph job.graph → HasRun job m
+pub made_many : (job : Job) (m : Moment) (t j : ℕ) → IsGraph job.graph → TaskRan job m t
     → t < length job.graph.tasks → j < length (signalled_by (task_at job.graph t))
     → length (made_now job m t j) ≡ puts_on (task_at job.graph t) (m.begun t) j
 made_many job m t j is ran there lt =
     let line = is.tasks t there in
     length_made (samples_at job t) (task_at job.graph t) (taken_now m (task_at job.graph t) t)
-    (m.begun t) j line.ends lt (ran.tasks t there).samples
-    (now_counts job m t line (ran.tasks t there))
+    (m.begun t) j line.ends lt ran.samples
+    (now_counts job m t line ran)
 
 pub peer_ends : (job : Job) (t : ℕ) → IsGraph job.graph → t < length job.graph.tasks
     → (task_at job.graph t).kind ≡ Peer
@@ -55,7 +55,7 @@ peer_ends job t is there e =
     let two : length (signalled_by (task_at job.graph t)) ≡ 2 = rw e refl in
     (both.0, two)
 
-pub all_taken : (job : Job) (m : Moment) (t : ℕ) → IsGraph job.graph → HasRun job m
+pub all_taken : (job : Job) (m : Moment) (t : ℕ) → IsGraph job.graph → TaskRan job m t
     → t < length job.graph.tasks → first_owed job m t ≡ None
     → (k : ℕ) → k < length (task_at job.graph t).inputs
     → length (m.taken t k) ≡ takes_from (task_at job.graph t) (m.begun t) k
@@ -65,7 +65,7 @@ all_taken job m t is ran there none k lt = by (task_at job.graph t).kind k refl 
         → length (m.taken t k) ≡ takes_from (task_at job.graph t) (m.begun t) k
     exact looks =
         taken_count (task_at job.graph t) (m.begun t) k (length (m.taken t k))
-        (is.tasks t there).ends lt looks ((ran.tasks t there).takes k lt)
+        (is.tasks t there).ends lt looks (ran.takes k lt)
 
     peer : (task_at job.graph t).kind ≡ Peer → k ≡ 1
         → length (m.taken t k) ≡ takes_from (task_at job.graph t) (m.begun t) k
@@ -80,14 +80,14 @@ all_taken job m t is ran there none k lt = by (task_at job.graph t).kind k refl 
         let X : Kind → Type 0 =
         λ kind. HasExchanged kind 1 (length (m.put t 1)) (length (m.taken t 1)) in
         let low : length (m.put t 1) ≤ length (m.taken t 1) =
-        subst X e ((ran.tasks t there).exchanged 1) in
+        subst X e (ran.exchanged 1) in
         let K : ℕ → Type 0 =
         λ i. HasTaken (task_at job.graph t) (m.begun t) i (length (m.taken t i)) in
         let T : Kind → Type 0 =
         λ kind. HasTaken (record (task_at job.graph t) { kind = kind }) (m.begun t) 1
         (length (m.taken t 1)) in
         let has : (length (m.taken t 1) ≤ m.begun t) × (m.begun t ≤ length (m.taken t 1) + 1) =
-        subst T e (subst K at ((ran.tasks t there).takes k lt)) in
+        subst T e (subst K at (ran.takes k lt)) in
         let high : length (m.taken t 1) ≤ m.begun t = has.0 in
         let takes : takes_from (task_at job.graph t) (m.begun t) k ≡ m.begun t = rw e refl in
         let here : length (m.taken t k) ≡ length (m.taken t 1) =
@@ -112,7 +112,7 @@ no_missing : {X : Type 0} (o : Option X) → is_some o ≡ false → o ≡ None
 no_missing None e = refl
 no_missing (Some x) e = absurd (cc)
 
-pub none_due : (job : Job) (m : Moment) (t p : ℕ) → IsGraph job.graph → HasRun job m
+pub none_due : (job : Job) (m : Moment) (t p : ℕ) → IsGraph job.graph → TaskRan job m t
     → t < length job.graph.tasks → first_due job m t ≡ None → NoneDue job m t p
 none_due job m t p is ran there none c n u below parent of_t at absent on =
     by (cases_lt (m.begun t) u.at)
@@ -121,7 +121,7 @@ none_due job m t p is ran there none c n u below parent of_t at absent on =
     early =
         let E : ℕ → Type 0 = λ x. m.begun x ≤ u.at in
         subst E of_t
-        ((ran.tasks t there).children c p n u below parent of_t at absent on).early
+        (ran.children c p n u below parent of_t at absent on).early
 
     not_due : is_due job m t c ≡ false
     not_due =
@@ -157,7 +157,7 @@ pub or_true : (a b : Bool) → (a || b) ≡ true → (a ≡ true) ⊎ (b ≡ tru
 or_true true b e = inl refl
 or_true false b e = inr e
 
-one_more : (until : Option ℕ) (b : ℕ) → is_cut until b ≡ false → AtMost b until
+pub one_more : (until : Option ℕ) (b : ℕ) → is_cut until b ≡ false → AtMost b until
     → AtMost (suc b) until
 one_more None b e le = tt
 one_more (Some until) b e le = by (cases_lt b until)
@@ -182,13 +182,13 @@ more_samples job m t Peer e = tt
 more_samples job m t Sink e = tt
 
 -- the task begins its next step where nothing is owed, no child is due, and it is not at its end
-pub may_begin : (job : Job) (m : Moment) (t : ℕ) → IsGraph job.graph → HasRun job m
+pub may_begin : (job : Job) (m : Moment) (t : ℕ) → IsGraph job.graph → TaskRan job m t
     → t < length job.graph.tasks → first_owed job m t ≡ None → first_due job m t ≡ None
     → is_cut (task_at job.graph t).until (m.begun t) ≡ false
     → has_input_ended job m t (task_at job.graph t).kind ≡ false → MayBegin job m t
 may_begin job m t is ran there none due uncut more = record {
   taken = λ k lt. all_taken job m t is ran there none k lt;
-  cut = one_more (task_at job.graph t).until (m.begun t) uncut (ran.tasks t there).cut;
+  cut = one_more (task_at job.graph t).until (m.begun t) uncut ran.cut;
   samples = more_samples job m t (task_at job.graph t).kind more;
   children = λ p. none_due job m t p is ran there due;
 }

@@ -89,7 +89,7 @@ answered_wait job m t k event made is ran live lt more a =
       numbered = number_there job m t p is live (inr (k, lt, refl));
       few = lt;
       place = refl;
-      staying = stays job m t is ran live.there more;
+      staying = stays job m t is (ran.tasks t live.there) live.there more;
       answered =
           (answers_law (value_at job p) (limits_at job p) h n a.phase a.outcome a.reply).received;
     }
@@ -123,7 +123,7 @@ first_wait_next job m t event is ran live no_source none due uncut more answer =
         wait = answered_wait job m t k (first_wait t k p n) event is ran live lt
             (goes_on job m t uncut more) a;
         first = refl;
-        may_begin = may_begin job m t is ran live.there none due uncut more;
+        may_begin = may_begin job m t is (ran.tasks t live.there) live.there none due uncut more;
       },
     )
 
@@ -159,7 +159,7 @@ exchange_next job m t j event is ran live owes first answer =
     on_phaser job t p is live.there (inr (1, lt, refl)) in
     let plain : puts_on task (m.begun t) j ≡ m.begun t = rw peer refl in
     let many : length (made_now job m t j) ≡ puts_on task (m.begun t) j =
-    made_many job m t j is ran live.there o.0 in
+    made_many job m t j is (ran.tasks t live.there) live.there o.0 in
     let few : length (m.put t j) < length (made_now job m t j) = o.1 in
     let behind : length (m.taken t 1) ≤ length (m.put t j) = w.1 in
     let Next : TaskEvent → Type 0 = λ e. IsNext job m e in
@@ -216,19 +216,19 @@ sample_next job m t event is ran live source none due uncut more answer =
           accepted = (a.1, ((sendable v a.0, tt), omega arith, tt), (is.phasers p phaser).single);
           numbered = number_there job m t p is live on;
           place = place;
-          staying = stays job m t is ran live.there (goes_on job m t uncut more);
+          staying = stays job m t is (ran.tasks t live.there) live.there (goes_on job m t uncut more);
         };
         source = source;
-        may_begin = may_begin job m t is ran live.there none due uncut more;
-        all_put = ap length (all_put job m t ran live.there none 0 lt)
-            ∙ made_many job m t 0 is ran live.there lt ∙ plain;
+        may_begin = may_begin job m t is (ran.tasks t live.there) live.there none due uncut more;
+        all_put = ap length (all_put job m t (ran.tasks t live.there) live.there none 0 lt)
+            ∙ made_many job m t 0 is (ran.tasks t live.there) live.there lt ∙ plain;
         sample = refl;
       },
     )
 
 -- ---- a drop
 
-until_is : (until : Option ℕ) (b : ℕ) → is_cut until b ≡ true → until ≡ Some b
+pub until_is : (until : Option ℕ) (b : ℕ) → is_cut until b ≡ true → until ≡ Some b
 until_is None b e = absurd (cc)
 until_is (Some until) b e = ap (λ u. Some u) (eqb-true until b e)
 
@@ -290,7 +290,7 @@ leave_next job m t event is ran live none due end answer =
   where
     ended : HasEnded job m t
     ended = record {
-      all_put = λ j lt. all_put job m t ran live.there none j lt;
+      all_put = λ j lt. all_put job m t (ran.tasks t live.there) live.there none j lt;
       may_end = may_end job m t end;
     }
 
@@ -327,6 +327,6 @@ leave_next job m t event is ran live none due end answer =
             accepted = a.0;
             numbered = here;
             ended = ended;
-            children = none_due job m t p is ran live.there due;
+            children = none_due job m t p is (ran.tasks t live.there) live.there due;
           },
         )

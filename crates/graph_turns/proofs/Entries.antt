@@ -24,29 +24,29 @@ use Rattle.stream_lists.specs.Jobs.{Job, place_in}
 use Rattle.stream_lists.specs.Spans.{signalled_by}
 use Rattle.stream_lists.specs.Lists.{number}
 use Rattle.graph_moments.specs.Agreeing.{one}
-use Rattle.graph_moments.specs.Moments.{Moment, HasRun, OnPhaser, PutOn, TakenOn, OnOutput, OnInput, SilentOn, limits_at, value_at, input_at, numbers_on}
+use Rattle.graph_moments.specs.Moments.{Moment, HasRun, TaskRan, OnPhaser, PutOn, TakenOn, OnOutput, OnInput, SilentOn, limits_at, value_at, input_at, numbers_on}
 use Rattle.graph_moments.proofs.Numbers.{from_numbers, numbers_distinct}
 use Rattle.graph_turns.specs.Nexts.{registrations_at}
 use Rattle.graph_turns.specs.Reached.{IsReachable}
 
 -- ---- what a moment has of a task on a phaser
 
-pub on_output : (job : Job) (m : Moment) (t j p n : ℕ) → HasRun job m
+pub on_output : (job : Job) (m : Moment) (t j p n : ℕ) → TaskRan job m t
     → t < length job.graph.tasks → p < length job.graph.phasers
     → place_in (signalled_by (task_at job.graph t)) p ≡ Some j → m.number p t ≡ Some n
     → OnOutput job m t j p n
 on_output job m t j p n ran there pp place at =
     let O : Option ℕ → Type 0 = λ o. OnPhaser job m t p o in
     let N : Option ℕ → Type 0 = λ o. PutOn job m t j p o in
-    subst N at (subst O place ((ran.tasks t there).outputs p pp))
+    subst N at (subst O place (ran.outputs p pp))
 
-pub on_input : (job : Job) (m : Moment) (t k p n : ℕ) → HasRun job m
+pub on_input : (job : Job) (m : Moment) (t k p n : ℕ) → TaskRan job m t
     → t < length job.graph.tasks → k < length (task_at job.graph t).inputs
     → input_at (task_at job.graph t) k ≡ p → m.number p t ≡ Some n → OnInput job m t k p n
 on_input job m t k p n ran there lt place at =
     let P : ℕ → Type 0 = λ q. TakenOn job m t k q (m.number q t) in
     let N : Option ℕ → Type 0 = λ o. TakenOn job m t k p o in
-    subst N at (subst P place ((ran.tasks t there).inputs k lt))
+    subst N at (subst P place (ran.inputs k lt))
 
 -- ---- its entry
 
@@ -163,7 +163,7 @@ sent_few job m p s n ran pp among =
         → place_in (signalled_by (task_at job.graph t)) p ≡ o
         → length (sent_in (m.history p) n s) ≤ 1
     by t there at (Some j) place =
-        let on = on_output job m t j p n ran there pp place at in
+        let on = on_output job m t j p n (ran.tasks t there) there pp place at in
         put on.start
         (SentInTurn-of (limits_at job p) (m.history p) n on.start (ran.phasers p pp).legal
         on.start_is) (m.put t j) on.sent (cases_lt s on.start.signal_phase)

@@ -16,9 +16,8 @@ use Rattle.graph_base.specs.TaskLines.{IsGraph}
 use Rattle.stream_lists.specs.Jobs.{Job}
 use Rattle.stream_lists.specs.Spans.{signalled_by, puts_on}
 use Rattle.stream_lists.specs.Lists.{number, entry, mixed, mixed_at}
-use Rattle.graph_moments.specs.Moments.{Moment, HasRun, HasExchanged, made_now, taken_now}
+use Rattle.graph_moments.specs.Moments.{Moment, HasRun, TaskRan, HasExchanged, made_now, taken_now}
 use Rattle.graph_moments.proofs.Tasks.{now_at}
-use Rattle.graph_moves.specs.Moves.{Waits}
 use Rattle.graph_moves.proofs.Turned.{exchange_wait_is}
 use Rattle.graph_turns.specs.TaskEvents.{IsNext, exchange_wait, after_turn}
 use Rattle.graph_turns.specs.Nexts.{first_owed, waits_first, signals, exchanges}
@@ -28,7 +27,7 @@ use Rattle.graph_turns.specs.TaskPlaces.{Owed, nothing, value, exchange, Owes, T
 use Rattle.graph_turns.proofs.Signalling.{owed}
 use Rattle.graph_turns.proofs.Boundaries.{made_many, peer_ends}
 use Rattle.graph_turns.proofs.Turning.{turn_makes_next}
-use Rattle.graph_turns.proofs.Following.{Lacks, stays_at, keeps_moved}
+use Rattle.graph_turns.proofs.Following.{Lacks, GetsOne, gets_one, stays_at, keeps_moved}
 use Rattle.graph_turns.proofs.InOrder.{event_owes}
 use Rattle.graph_turns.proofs.Lacking.{first_is}
 
@@ -55,12 +54,12 @@ same_lacking : (w : Result ℤ TooBigValue) (x : ℤ) (i : ℕ)
 same_lacking w x zero = refl
 same_lacking w x (suc i) = refl
 
-exchange_lacks : (job : Job) (m after : Moment) (t p n : ℕ) (outcome : Outcome) (x : ℤ)
-    (w : Result ℤ TooBigValue) → IsGraph job.graph → HasRun job m → HasRun job after
+pub exchange_lacks : (job : Job) (m after : Moment) (t : ℕ) (outcome : Outcome) (x : ℤ)
+    (w : Result ℤ TooBigValue) → IsGraph job.graph → TaskRan job m t → TaskRan job after t
     → t < length job.graph.tasks → (task_at job.graph t).kind ≡ Peer
-    → Waits job m after t 1 p n outcome → after.begun t ≡ m.begun t → Lacks job m t (exchange x)
+    → GetsOne m after t 1 outcome → after.begun t ≡ m.begun t → Lacks job m t (exchange x)
     → Lacks job after t (value 1 w)
-exchange_lacks job m after t p n outcome x w is ran now there e s steps lacks i lt =
+exchange_lacks job m after t outcome x w is ran now there e s steps lacks i lt =
     let many : length (made_now job after t i)
     ≡ puts_on (task_at job.graph t) (after.begun t) i = made_many job after t i is now there lt in
     let was : length (made_now job m t i) ≡ puts_on (task_at job.graph t) (m.begun t) i =
@@ -74,16 +73,16 @@ exchange_lacks job m after t p n outcome x w is ran now there e s steps lacks i 
     (ap (λ k. lacking k (exchange x) i) e ∙ same_lacking w x i
     ∙ ap (λ k. lacking k (value 1 w) i) (sym e))
 
-exchange_owes : (job : Job) (m after : Moment) (t p n : ℕ) (outcome : Outcome) (x : ℤ)
-    → IsGraph job.graph → HasRun job m → HasRun job after → t < length job.graph.tasks
-    → (task_at job.graph t).kind ≡ Peer → Waits job m after t 1 p n outcome
+pub exchange_owes : (job : Job) (m after : Moment) (t : ℕ) (outcome : Outcome) (x : ℤ)
+    → IsGraph job.graph → TaskRan job m t → TaskRan job after t → t < length job.graph.tasks
+    → (task_at job.graph t).kind ≡ Peer → GetsOne m after t 1 outcome
     → Owes job m t (exchange x) → Lacks job m t (exchange x)
     → waits_first (task_at job.graph t).kind 1 (length (m.put t 1)) (length (m.taken t 1)) ≡ true
     → Lacks job after t
     (value 1 (ranged (((task_at job.graph t).mul *ℤ x) -ℤ number outcome)))
     → Owes job after t
     (value 1 (ranged (((task_at job.graph t).mul *ℤ x) -ℤ number outcome)))
-exchange_owes job m after t p n outcome x is ran now there e s owes before first lacks =
+exchange_owes job m after t outcome x is ran now there e s owes before first lacks =
     let task = task_at job.graph t in
     let out = number outcome in
     let w = ranged ((task.mul *ℤ x) -ℤ out) in
@@ -93,7 +92,7 @@ exchange_owes job m after t p n outcome x is ran now there e s owes before first
     let X : Kind → Type 0 =
     λ kind. HasExchanged kind 1 (length (m.put t 1)) (length (m.taken t 1)) in
     let low : length (m.put t 1) ≤ length (m.taken t 1) =
-    subst X e ((ran.tasks t there).exchanged 1) in
+    subst X e (ran.exchanged 1) in
     let turn : waits_first Peer 1 (length (m.put t 1)) (length (m.taken t 1)) ≡ true =
     ap (λ k. waits_first k 1 (length (m.put t 1)) (length (m.taken t 1))) (sym e) ∙ first in
     let high : length (m.taken t 1) ≤ length (m.put t 1) =
@@ -171,6 +170,9 @@ exchange_follows job m t p n outcome at is reached now answer stands =
     let there = next.0.task in
     let peer = next.1.peer in
     let s = exchange_wait_is job m t p n outcome next.1 in
+    let got = gets_one job m after t 1 p n outcome s in
+    let ran_before = reached.ran.tasks t there in
+    let ran_now = now.tasks t there in
     let for_event = event_owes job m t event answer in
     let owed_is = owes_exchange job m t for_event.0 at.owed stands.owes for_event.1 for_event.2 in
     let x = owed_is.0 in
@@ -186,11 +188,11 @@ exchange_follows job m t p n outcome at is reached now answer stands =
     let steps : after.begun t ≡ m.begun t =
     (let here : eqb t t ≡ true = eq-eqb t t refl in rw here refl) in
     let lacks : Lacks job after t (value 1 w) =
-    exchange_lacks job m after t p n outcome x w is reached.ran now there peer s steps before in
+    exchange_lacks job m after t outcome x w is ran_before ran_now there peer got steps before in
     let P : Owed → Type 0 = λ o. StandsAt job after t
     (record at { owed = owed_after_exchange (task_at job.graph t) o (number outcome) }) in
     subst P (sym owed_is.1)
     (stays_at job m after t at.begun (value 1 w) at stands
     (keeps_moved job m after t p (Waited n 1) t s.moved (λ b at. refl)) (steps ∙ stands.begun)
-    (exchange_owes job m after t p n outcome x is reached.ran now there peer s owes before
+    (exchange_owes job m after t outcome x is ran_before ran_now there peer got owes before
     (subst W same for_event.2) lacks) lacks)

@@ -13,6 +13,7 @@ use Rattle.stream_filters.specs.declared.fault.TooBigValue.{TooBigValue}
 use Rattle.phase_history.specs.declared.event.Event.TheVariants.{Waited}
 use Rattle.phase_accum.specs.declared.outcome.Outcome.{Outcome}
 use Rattle.phase_accum.specs.Sends.{value_max}
+use Rattle.phase_history.specs.Legal.{IsLegal}
 use Rattle.graph_base.specs.declared.line.Kind.{Kind}
 use Rattle.graph_base.specs.declared.line.Kind.TheVariants.{Source, Fir, Split, Join, Peer, Sink}
 use Rattle.graph_base.specs.Graphs.{task_at}
@@ -21,9 +22,8 @@ use Rattle.stream_lists.specs.Jobs.{Job}
 use Rattle.stream_lists.specs.Spans.{signalled_by, puts_on, takes_from, turns_below}
 use Rattle.stream_lists.specs.Lists.{number, entry, every, in_turn, turn_at}
 use Rattle.stream_lists.specs.Ranges.{is_out_of_range}
-use Rattle.graph_moments.specs.Moments.{Moment, HasRun, made_now, taken_now, first_input}
+use Rattle.graph_moments.specs.Moments.{Moment, HasRun, TaskRan, made_now, taken_now, first_input, input_at, limits_at}
 use Rattle.graph_moments.proofs.Tasks.{now_at}
-use Rattle.graph_moves.specs.Moves.{Waits}
 use Rattle.graph_moves.proofs.Nexts.{turns-next, turns-stay}
 use Rattle.graph_moves.proofs.Turned.{first_wait_is}
 use Rattle.graph_turns.specs.TaskEvents.{IsNext, first_wait, after_turn}
@@ -34,7 +34,7 @@ use Rattle.graph_turns.specs.TaskPlaces.{Owed, nothing, value, Owes, TaskPlace, 
 use Rattle.graph_turns.proofs.Boundaries.{made_many, peer_ends}
 use Rattle.graph_turns.proofs.Turning.{turn_makes_next}
 use Rattle.graph_turns.proofs.Ranged.{taken_ranged}
-use Rattle.graph_turns.proofs.Following.{Lacks, stays_at, keeps_moved}
+use Rattle.graph_turns.proofs.Following.{Lacks, GetsOne, gets_one, stays_at, keeps_moved}
 use Rattle.graph_turns.proofs.InOrder.{event_owes}
 use Rattle.graph_turns.proofs.Lacking.{first_none, first_is}
 use Rattle.graph_turns.proofs.Stepping.{owes_nothing}
@@ -65,25 +65,28 @@ turn_count m b some =
 -- ---- what a first wait changes
 
 -- the facts of a first wait, by its input number and what was taken
-pub record FirstWait (job : Job) (m after : Moment) (t k p n : ℕ) (outcome : Outcome)
+pub record FirstWait (job : Job) (m after : Moment) (t k : ℕ) (outcome : Outcome)
     : Type 0 where
   pub is : IsGraph job.graph
-  pub ran : HasRun job m
-  pub now : HasRun job after
+  pub ran : TaskRan job m t
+  pub now : TaskRan job after t
+  pub legal : IsLegal (limits_at job (input_at (task_at job.graph t) k))
+      (after.history (input_at (task_at job.graph t) k))
   pub there : t < length job.graph.tasks
-  pub waits : Waits job m after t k p n outcome
+  pub few : k < length (task_at job.graph t).inputs
+  pub waits : GetsOne m after t k outcome
   pub first : k ≡ first_input (task_at job.graph t) (m.begun t)
   pub steps : after.begun t ≡ suc (m.begun t)
   pub all_taken : length (m.taken t k) ≡ takes_from (task_at job.graph t) (m.begun t) k
   pub lacks : Lacks job m t nothing
 
-wait_lacks : (job : Job) (m after : Moment) (t k p n : ℕ) (outcome : Outcome) (owed : Owed)
-    → FirstWait job m after t k p n outcome
+wait_lacks : (job : Job) (m after : Moment) (t k : ℕ) (outcome : Outcome) (owed : Owed)
+    → FirstWait job m after t k outcome
     → ((i : ℕ) → i < length (signalled_by (task_at job.graph t))
     → puts_on (task_at job.graph t) (suc (m.begun t)) i
     ≡ puts_on (task_at job.graph t) (m.begun t) i + lacking (task_at job.graph t).kind owed i)
     → Lacks job after t owed
-wait_lacks job m after t k p n outcome owed w grows i lt =
+wait_lacks job m after t k outcome owed w grows i lt =
     let many : length (made_now job after t i)
     ≡ puts_on (task_at job.graph t) (after.begun t) i =
     made_many job after t i w.is w.now w.there lt in
@@ -100,14 +103,14 @@ wait_lacks job m after t k p n outcome owed w grows i lt =
     omega arith
 
 -- the value on output j is next, where it stands behind what was made before
-wait_owes : (job : Job) (m after : Moment) (t k p n j : ℕ) (outcome : Outcome) (v : ℤ)
-    (r : Result ℤ TooBigValue) → FirstWait job m after t k p n outcome
+wait_owes : (job : Job) (m after : Moment) (t k j : ℕ) (outcome : Outcome) (v : ℤ)
+    (r : Result ℤ TooBigValue) → FirstWait job m after t k outcome
     → Lacks job after t (value j r) → j < length (signalled_by (task_at job.graph t))
     → ((i : ℕ) → i < j → lacking (task_at job.graph t).kind (value j r) i ≡ 0)
     → ((a b : ℕ) → waits_first (task_at job.graph t).kind j a b ≡ false)
     → get_or (made_now job after t j) (length (made_now job m t j)) (pos 0) ≡ v → ranged v ≡ r
     → Owes job after t (value j r)
-wait_owes job m after t k p n j outcome v r w lacks lt below no_wait made is_r =
+wait_owes job m after t k j outcome v r w lacks lt below no_wait made is_r =
     let one : lacking (task_at job.graph t).kind (value j r) j ≡ 1 =
     (let here : eqb j j ≡ true = eq-eqb j j refl in rw here refl) in
     let full : length (made_now job m t j) ≡ length (m.put t j) + 0 = w.lacks j lt in
@@ -120,10 +123,10 @@ wait_owes job m after t k p n j outcome v r w lacks lt below no_wait made is_r =
     )
 
 -- the value that was taken is in range
-wait_ranged : (job : Job) (m after : Moment) (t k p n : ℕ) (outcome : Outcome)
-    → FirstWait job m after t k p n outcome → ranged (number outcome) ≡ Ok (number outcome)
-wait_ranged job m after t k p n outcome w =
-    let all = taken_ranged job after t k w.is w.now w.there w.waits.few in
+wait_ranged : (job : Job) (m after : Moment) (t k : ℕ) (outcome : Outcome)
+    → FirstWait job m after t k outcome → ranged (number outcome) ≡ Ok (number outcome)
+wait_ranged job m after t k outcome w =
+    let all = taken_ranged job after t k w.now w.legal w.few in
     let last : get_or (after.taken t k) (length (m.taken t k)) (pos 0) ≡ number outcome =
     ap (λ l. get_or l (length (m.taken t k)) (pos 0)) w.waits.taken
     ∙ behind (m.taken t k) (number outcome) (length (m.taken t k)) refl in
@@ -131,12 +134,12 @@ wait_ranged job m after t k p n outcome w =
     (ap is_out_of_range (sym last) ∙ all.at (length (m.taken t k)))
 
 -- what is taken from the input, as the step sees it
-now_taken : (job : Job) (m after : Moment) (t k p n : ℕ) (outcome : Outcome)
-    → FirstWait job m after t k p n outcome
+now_taken : (job : Job) (m after : Moment) (t k : ℕ) (outcome : Outcome)
+    → FirstWait job m after t k outcome
     → get_or (taken_now after (task_at job.graph t) t) k []
     ≡ m.taken t k ++ number outcome ∷ []
-now_taken job m after t k p n outcome w =
-    now_at after (task_at job.graph t) t k w.waits.few ∙ w.waits.taken
+now_taken job m after t k outcome w =
+    now_at after (task_at job.graph t) t k w.few ∙ w.waits.taken
 
 -- what a first wait leaves owed
 abbrev pub LeavesOwed : Job → Moment → ℕ → Owed → Type 0
@@ -151,12 +154,12 @@ none_below : (kind : Kind) (r : Result ℤ TooBigValue) (i : ℕ) → i < 0
     → lacking kind (value 0 r) i ≡ 0
 none_below kind r i lt = absurd (omega arith)
 
-fir_owes : (job : Job) (m after : Moment) (t k p n : ℕ) (outcome : Outcome)
-    → FirstWait job m after t k p n outcome → (task_at job.graph t).kind ≡ Fir
+fir_owes : (job : Job) (m after : Moment) (t k : ℕ) (outcome : Outcome)
+    → FirstWait job m after t k outcome → (task_at job.graph t).kind ≡ Fir
     → LeavesOwed job after t
     (value 0 (ranged (output_after (task_at job.graph t).taps (task_at job.graph t).shift
     (m.taken t 0 ++ number outcome ∷ []))))
-fir_owes job m after t k p n outcome w e =
+fir_owes job m after t k outcome w e =
     let task = task_at job.graph t in
     let xs = m.taken t 0 ++ number outcome ∷ [] in
     let v = output_after task.taps task.shift xs in
@@ -166,11 +169,11 @@ fir_owes job m after t k p n outcome w e =
     let inputs : length task.inputs ≡ 1 = ends.0 in
     let outs : signalled_by task ≡ task.outputs = rw e refl in
     let many : length (signalled_by task) ≡ 1 = ap length outs ∙ ends.1 in
-    let few : k < length task.inputs = w.waits.few in
+    let few : k < length task.inputs = w.few in
     let zero_k : k ≡ 0 = omega arith in
     let now_is : get_or (taken_now after task t) 0 [] ≡ xs =
     ap (λ i. get_or (taken_now after task t) i []) (sym zero_k)
-    ∙ now_taken job m after t k p n outcome w
+    ∙ now_taken job m after t k outcome w
     ∙ ap (λ i. m.taken t i ++ number outcome ∷ []) zero_k in
     let was : get_or (taken_now m task t) 0 [] ≡ m.taken t 0 =
     now_at m task t 0 (omega arith) in
@@ -184,7 +187,7 @@ fir_owes job m after t k p n outcome w e =
     ≡ outputs task.taps task.shift (get_or (taken_now m task t) 0 []) = rw e refl in
     is ∙ ap (λ l. outputs task.taps task.shift l) was) in
     let lacks : Lacks job after t (value 0 (ranged v)) =
-    wait_lacks job m after t k p n outcome (value 0 (ranged v)) w
+    wait_lacks job m after t k outcome (value 0 (ranged v)) w
     (λ i lt.
     (let at : i ≡ 0 = single_output i (length (signalled_by task)) many lt in
     let next : puts_on task (suc (m.begun t)) i ≡ suc (m.begun t) = rw e refl in
@@ -192,7 +195,7 @@ fir_owes job m after t k p n outcome w e =
     let one : lacking task.kind (value 0 (ranged v)) i ≡ 1 =
     ap (λ j. lacking task.kind (value 0 (ranged v)) j) at in
     omega arith)) in (
-      wait_owes job m after t k p n 0 outcome v (ranged v) w lacks (omega arith)
+      wait_owes job m after t k 0 outcome v (ranged v) w lacks (omega arith)
           (none_below task.kind (ranged v)) (λ a b. rw e refl)
           (ap (λ l. get_or l (length (made_now job m t 0)) (pos 0)) made
           ∙ behind (outputs task.taps task.shift (m.taken t 0)) v (length (made_now job m t 0))
@@ -200,10 +203,10 @@ fir_owes job m after t k p n outcome w e =
       lacks,
     )
 
-peer_first_owes : (job : Job) (m after : Moment) (t k p n : ℕ) (outcome : Outcome)
-    → FirstWait job m after t k p n outcome → (task_at job.graph t).kind ≡ Peer
+peer_first_owes : (job : Job) (m after : Moment) (t k : ℕ) (outcome : Outcome)
+    → FirstWait job m after t k outcome → (task_at job.graph t).kind ≡ Peer
     → LeavesOwed job after t (value 0 (Ok (number outcome)))
-peer_first_owes job m after t k p n outcome w e =
+peer_first_owes job m after t k outcome w e =
     let task = task_at job.graph t in
     let x = number outcome in
     let ends = peer_ends job t w.is w.there e in
@@ -212,7 +215,7 @@ peer_first_owes job m after t k p n outcome w e =
     let zero_k : k ≡ 0 = w.first ∙ rw e refl in
     let now_is : get_or (taken_now after task t) 0 [] ≡ m.taken t 0 ++ x ∷ [] =
     ap (λ i. get_or (taken_now after task t) i []) (sym zero_k)
-    ∙ now_taken job m after t k p n outcome w ∙ ap (λ i. m.taken t i ++ x ∷ []) zero_k in
+    ∙ now_taken job m after t k outcome w ∙ ap (λ i. m.taken t i ++ x ∷ []) zero_k in
     let was : get_or (taken_now m task t) 0 [] ≡ m.taken t 0 =
     now_at m task t 0 (omega arith) in
     let made : made_now job after t 0 ≡ m.taken t 0 ++ x ∷ [] =
@@ -221,18 +224,18 @@ peer_first_owes job m after t k p n outcome w e =
     let before : made_now job m t 0 ≡ m.taken t 0 =
     (let is : made_now job m t 0 ≡ get_or (taken_now m task t) 0 [] = rw e refl in is ∙ was) in
     let lacks : Lacks job after t (value 0 (Ok x)) =
-    wait_lacks job m after t k p n outcome (value 0 (Ok x)) w
+    wait_lacks job m after t k outcome (value 0 (Ok x)) w
     (λ i lt.
     (let next : puts_on task (suc (m.begun t)) i ≡ suc (m.begun t) = rw e refl in
     let last : puts_on task (m.begun t) i ≡ m.begun t = rw e refl in
     let one : lacking task.kind (value 0 (Ok x)) i ≡ 1 =
     ap (λ kind. lacking kind (value 0 (Ok x)) i) e ∙ each_lacks x i (omega arith) in
     omega arith)) in (
-      wait_owes job m after t k p n 0 outcome x (Ok x) w lacks (omega arith)
+      wait_owes job m after t k 0 outcome x (Ok x) w lacks (omega arith)
           (none_below task.kind (Ok x)) (λ a b. rw e refl)
           (ap (λ l. get_or l (length (made_now job m t 0)) (pos 0)) made
           ∙ behind (m.taken t 0) x (length (made_now job m t 0)) (ap length before))
-          (wait_ranged job m after t k p n outcome w),
+          (wait_ranged job m after t k outcome w),
       lacks,
     )
   where
@@ -241,10 +244,10 @@ peer_first_owes job m after t k p n outcome w e =
     each_lacks x (suc zero) lt = refl
     each_lacks x (suc (suc i)) lt = absurd (omega arith)
 
-join_owes : (job : Job) (m after : Moment) (t k p n : ℕ) (outcome : Outcome)
-    → FirstWait job m after t k p n outcome → (task_at job.graph t).kind ≡ Join
+join_owes : (job : Job) (m after : Moment) (t k : ℕ) (outcome : Outcome)
+    → FirstWait job m after t k outcome → (task_at job.graph t).kind ≡ Join
     → LeavesOwed job after t (value 0 (Ok (number outcome)))
-join_owes job m after t k p n outcome w e =
+join_owes job m after t k outcome w e =
     let task = task_at job.graph t in
     let x = number outcome in
     let b = m.begun t in
@@ -274,10 +277,10 @@ join_owes job m after t k p n outcome w e =
     let at_turn : turn_at lists b ≡ x =
     ap (λ m. entry (get_or lists (b % m) []) (b / m)) long
     ∙ ap (λ i. entry (get_or lists i []) (b / length task.inputs)) (sym first)
-    ∙ ap (λ l. entry l (b / length task.inputs)) (now_taken job m after t k p n outcome w)
+    ∙ ap (λ l. entry l (b / length task.inputs)) (now_taken job m after t k outcome w)
     ∙ behind (m.taken t k) x (b / length task.inputs) (sym count) in
     let lacks : Lacks job after t (value 0 (Ok x)) =
-    wait_lacks job m after t k p n outcome (value 0 (Ok x)) w
+    wait_lacks job m after t k outcome (value 0 (Ok x)) w
     (λ i lt.
     (let at : i ≡ 0 = single_output i (length (signalled_by task)) many lt in
     let next : puts_on task (suc (m.begun t)) i ≡ suc (m.begun t) = rw e refl in
@@ -285,21 +288,21 @@ join_owes job m after t k p n outcome w e =
     let one : lacking task.kind (value 0 (Ok x)) i ≡ 1 =
     ap (λ j. lacking task.kind (value 0 (Ok x)) j) at in
     omega arith)) in (
-      wait_owes job m after t k p n 0 outcome x (Ok x) w lacks (omega arith)
+      wait_owes job m after t k 0 outcome x (Ok x) w lacks (omega arith)
           (none_below task.kind (Ok x)) (λ a b. rw e refl)
           (ap (λ l. get_or l (length (made_now job m t 0)) (pos 0)) made
           ∙ ap (λ i. get_or (in_turn lists (after.begun t)) i (pos 0)) index
           ∙ get_or-map-range_with_len (turn_at lists) 0 (after.begun t) b b (pos 0) below from
           ∙ at_turn)
-          (wait_ranged job m after t k p n outcome w),
+          (wait_ranged job m after t k outcome w),
       lacks,
     )
 
-split_owes : (job : Job) (m after : Moment) (t k p n : ℕ) (outcome : Outcome)
-    → FirstWait job m after t k p n outcome → (task_at job.graph t).kind ≡ Split
+split_owes : (job : Job) (m after : Moment) (t k : ℕ) (outcome : Outcome)
+    → FirstWait job m after t k outcome → (task_at job.graph t).kind ≡ Split
     → LeavesOwed job after t
     (value (m.begun t % length (task_at job.graph t).outputs) (Ok (number outcome)))
-split_owes job m after t k p n outcome w e =
+split_owes job m after t k outcome w e =
     let task = task_at job.graph t in
     let x = number outcome in
     let b = m.begun t in
@@ -312,11 +315,11 @@ split_owes job m after t k p n outcome w e =
     let outs : signalled_by task ≡ task.outputs = rw e refl in
     let many : length (signalled_by task) ≡ outs_many = ap length outs in
     let turn : j < outs_many = mod_below b outs_many (omega arith) in
-    let few : k < length task.inputs = w.waits.few in
+    let few : k < length task.inputs = w.few in
     let zero_k : k ≡ 0 = omega arith in
     let now_is : get_or (taken_now after task t) 0 [] ≡ m.taken t 0 ++ x ∷ [] =
     ap (λ i. get_or (taken_now after task t) i []) (sym zero_k)
-    ∙ now_taken job m after t k p n outcome w ∙ ap (λ i. m.taken t i ++ x ∷ []) zero_k in
+    ∙ now_taken job m after t k outcome w ∙ ap (λ i. m.taken t i ++ x ∷ []) zero_k in
     let taken : length (m.taken t 0) ≡ b =
     ap (λ i. length (m.taken t i)) (sym zero_k) ∙ w.all_taken ∙ rw e refl in
     let longer : length (m.taken t 0 ++ x ∷ []) ≡ suc b =
@@ -340,9 +343,9 @@ split_owes job m after t k p n outcome w e =
     let whole : q * outs_many + j ≡ b = div-add-mod' b outs_many in
     let at : j + q * outs_many ≡ length (m.taken t 0) = omega arith in
     let lacks : Lacks job after t (value j (Ok x)) =
-    wait_lacks job m after t k p n outcome (value j (Ok x)) w
+    wait_lacks job m after t k outcome (value j (Ok x)) w
     (λ i lt. grows (omega arith) i lt (eqb i j) refl) in (
-      wait_owes job m after t k p n j outcome x (Ok x) w lacks (omega arith)
+      wait_owes job m after t k j outcome x (Ok x) w lacks (omega arith)
           (λ i lt. other_lacks i (λ same. omega arith)) (λ a b. rw e refl)
           (ap (λ l. get_or l (length (made_now job m t j)) (pos 0)) made
           ∙ ap (λ i. get_or (every outs_many j (m.taken t 0 ++ x ∷ [])) i (pos 0)) index
@@ -350,7 +353,7 @@ split_owes job m after t k p n outcome w e =
           (λ i. entry (m.taken t 0 ++ x ∷ []) (j + i * outs_many)) 0
           (turns_below outs_many j (length (m.taken t 0 ++ x ∷ []))) q q (pos 0) below from
           ∙ behind (m.taken t 0) x (j + q * outs_many) at)
-          (wait_ranged job m after t k p n outcome w),
+          (wait_ranged job m after t k outcome w),
       lacks,
     )
   where
@@ -404,20 +407,20 @@ split_owes job m after t k p n outcome w e =
         omega arith
 
 -- a sink owes nothing, and no source waits
-sink_owes : (job : Job) (m after : Moment) (t k p n : ℕ) (outcome : Outcome)
-    → FirstWait job m after t k p n outcome → length (signalled_by (task_at job.graph t)) ≡ 0
+sink_owes : (job : Job) (m after : Moment) (t k : ℕ) (outcome : Outcome)
+    → FirstWait job m after t k outcome → length (signalled_by (task_at job.graph t)) ≡ 0
     → LeavesOwed job after t nothing
-sink_owes job m after t k p n outcome w none =
+sink_owes job m after t k outcome w none =
     let lacks : Lacks job after t nothing = λ i lt. absurd (omega arith) in
     (first_none job after t lacks, lacks)
 
 -- ---- the place
 
-pub wait_leaves : (job : Job) (m after : Moment) (t k p n : ℕ) (outcome : Outcome)
-    → FirstWait job m after t k p n outcome
+pub wait_leaves : (job : Job) (m after : Moment) (t k : ℕ) (outcome : Outcome)
+    → FirstWait job m after t k outcome
     → LeavesOwed job after t
     (owed_after_wait (task_at job.graph t) (m.begun t) (m.taken t 0) (number outcome))
-wait_leaves job m after t k p n outcome w = by (task_at job.graph t).kind refl
+wait_leaves job m after t k outcome w = by (task_at job.graph t).kind refl
   where
     Left : Owed → Type 0
     Left o = LeavesOwed job after t o
@@ -438,27 +441,27 @@ wait_leaves job m after t k p n outcome w = by (task_at job.graph t).kind refl
         (owed_after_wait (task_at job.graph t) (m.begun t) (m.taken t 0) (number outcome))
     by Source e =
         let no_input : length (task_at job.graph t).inputs ≡ 0 = (ends Source e).0 in
-        let few : k < length (task_at job.graph t).inputs = w.waits.few in
+        let few : k < length (task_at job.graph t).inputs = w.few in
         absurd (omega arith)
     by Fir e =
         let left : owed_after_wait (task_at job.graph t) (m.begun t) (m.taken t 0)
         (number outcome) ≡ value 0 (ranged (output_after (task_at job.graph t).taps
         (task_at job.graph t).shift (m.taken t 0 ++ number outcome ∷ []))) = rw e refl in
-        subst Left (sym left) (fir_owes job m after t k p n outcome w e)
+        subst Left (sym left) (fir_owes job m after t k outcome w e)
     by Split e =
         let left : owed_after_wait (task_at job.graph t) (m.begun t) (m.taken t 0)
         (number outcome)
         ≡ value (m.begun t % length (task_at job.graph t).outputs) (Ok (number outcome)) =
         rw e refl in
-        subst Left (sym left) (split_owes job m after t k p n outcome w e)
+        subst Left (sym left) (split_owes job m after t k outcome w e)
     by Join e =
         let left : owed_after_wait (task_at job.graph t) (m.begun t) (m.taken t 0)
         (number outcome) ≡ value 0 (Ok (number outcome)) = rw e refl in
-        subst Left (sym left) (join_owes job m after t k p n outcome w e)
+        subst Left (sym left) (join_owes job m after t k outcome w e)
     by Peer e =
         let left : owed_after_wait (task_at job.graph t) (m.begun t) (m.taken t 0)
         (number outcome) ≡ value 0 (Ok (number outcome)) = rw e refl in
-        subst Left (sym left) (peer_first_owes job m after t k p n outcome w e)
+        subst Left (sym left) (peer_first_owes job m after t k outcome w e)
     by Sink e =
         let left : owed_after_wait (task_at job.graph t) (m.begun t) (m.taken t 0)
         (number outcome) ≡ nothing = rw e refl in
@@ -466,7 +469,7 @@ wait_leaves job m after t k p n outcome w = by (task_at job.graph t).kind refl
         let outs : signalled_by (task_at job.graph t) ≡ (task_at job.graph t).outputs =
         rw e refl in
         subst Left (sym left)
-        (sink_owes job m after t k p n outcome w (ap length outs ∙ no_output))
+        (sink_owes job m after t k outcome w (ap length outs ∙ no_output))
 
 pub first_wait_follows : (job : Job) (m : Moment) (t k p n : ℕ) (outcome : Outcome)
     (at : TaskPlace) → IsGraph job.graph → IsReachable job m
@@ -488,12 +491,15 @@ first_wait_follows job m t k p n outcome at is reached now answer stands =
     let L : Owed → Type 0 = λ o. Lacks job m t o in
     let steps : after.begun t ≡ suc (m.begun t) =
     (let here : eqb t t ≡ true = eq-eqb t t refl in rw here refl) in
-    let w : FirstWait job m after t k p n outcome = record {
+    let w : FirstWait job m after t k outcome = record {
       is = is;
-      ran = reached.ran;
-      now = now;
+      ran = reached.ran.tasks t next.0.task;
+      now = now.tasks t next.0.task;
+      legal = (now.phasers (input_at (task_at job.graph t) k)
+          ((is.tasks t next.0.task).inputs k 0 next.1.wait.few)).legal;
       there = next.0.task;
-      waits = s;
+      few = next.1.wait.few;
+      waits = gets_one job m after t k p n outcome s;
       first = next.1.first;
       steps = steps;
       all_taken = next.1.may_begin.taken k next.1.wait.few;
@@ -501,7 +507,7 @@ first_wait_follows job m t k p n outcome at is reached now answer stands =
     } in
     let B : ℕ → Type 0 = λ b. LeavesOwed job after t
     (owed_after_wait (task_at job.graph t) b (m.taken t 0) (number outcome)) in
-    let left = subst B stands.begun (wait_leaves job m after t k p n outcome w) in
+    let left = subst B stands.begun (wait_leaves job m after t k outcome w) in
     stays_at job m after t (suc at.begun)
     (owed_after_wait (task_at job.graph t) at.begun (m.taken t 0) (number outcome)) at stands
     (keeps_moved job m after t p (Waited n 1) t s.moved (λ b at. refl))

@@ -1,5 +1,5 @@
 -- A task's place after others' events, and after those of its own that signal and wait for nothing.
-use Rattle.std.proofs.Common.{◌≡◌, ◌≢◌, ℕ, ◌+◌, ◌-◌, ◌<◌, ◌≤◌, Bool, true, false, cond, eqb, List, [], ◌∷◌, ◌++◌, Some, length, get_or, slice_get, pos, refl, sym, ap, ◌∙◌, arith, ◌⊎◌, inl, inr}
+use Rattle.std.proofs.Common.{◌≡◌, ◌≢◌, ℕ, ◌+◌, ◌-◌, ◌<◌, ◌≤◌, Bool, true, false, cond, eqb, List, [], ◌∷◌, ◌++◌, Some, length, get_or, slice_get, ℤ, pos, refl, sym, ap, ◌∙◌, arith, ◌⊎◌, inl, inr}
 use Rattle.std.specs.Prelude.{nat_lt, unwrap_or}
 use Rattle.std.specs.List.{find, range_with_len}
 use Rattle.std.proofs.lemmas.Bool.{eqb-true, eq-eqb, ne_eqb, cases_lt, le-ltb}
@@ -10,15 +10,18 @@ use Rattle.phase_base.specs.declared.mode.Mode.{Mode}
 use Rattle.phase_history.specs.declared.event.Event.{Event}
 use Rattle.phase_history.specs.declared.event.Event.TheVariants.{Dropped}
 use Rattle.phase_history.specs.Histories.{History, has_dropped, greatest_used}
+use Rattle.phase_accum.specs.declared.outcome.Outcome.{Outcome}
 use Rattle.phase_accum.specs.declared.outcome.Outcome.TheVariants.{Empty}
+use Rattle.phase_history.specs.Legal.{IsLegal}
 use Rattle.phase_history.proofs.Received.{unused, start_of-above}
 use Rattle.graph_base.specs.declared.line.Parent.{Parent}
 use Rattle.graph_base.specs.Graphs.{task_at}
 use Rattle.graph_base.specs.TaskLines.{IsGraph}
 use Rattle.stream_lists.specs.Jobs.{Job}
 use Rattle.stream_lists.specs.Spans.{signalled_by}
-use Rattle.graph_moments.specs.Moments.{Moment, HasRun, made_now, limits_at}
-use Rattle.graph_moves.specs.Moves.{HasMoved, SameTask, Registers}
+use Rattle.stream_lists.specs.Lists.{number}
+use Rattle.graph_moments.specs.Moments.{Moment, made_now, limits_at}
+use Rattle.graph_moves.specs.Moves.{HasMoved, SameTask, Registers, Signals, Waits}
 use Rattle.graph_moves.proofs.Framed.{made_same}
 use Rattle.graph_turns.specs.Nexts.{is_owed, first_owed, in_step, waits_first, has_left, number_on, registrations_at, signals, exchanges}
 use Rattle.graph_turns.specs.Answers.{next_value}
@@ -80,6 +83,30 @@ lacks_same job before after t owed same lacks j lt =
     ap length (made_same job before after t j same) ∙ lacks j lt
     ∙ ap (λ l. length l + lacking (task_at job.graph t).kind owed j) (sym (same.put j))
 
+-- ---- what a call changes
+
+-- task t has put v on its output j, and nothing else
+pub record PutsOne (before after : Moment) (t j : ℕ) (v : ℤ) : Type 0 where
+  pub taken : (k : ℕ) → after.taken t k ≡ before.taken t k
+  pub put : after.put t j ≡ before.put t j ++ v ∷ []
+  pub other_puts : (i : ℕ) → i ≢ j → after.put t i ≡ before.put t i
+
+-- task t has got this outcome from its input k, and nothing else
+pub record GetsOne (before after : Moment) (t k : ℕ) (outcome : Outcome) : Type 0 where
+  pub taken : after.taken t k ≡ before.taken t k ++ number outcome ∷ []
+  pub other_takes : (i : ℕ) → i ≢ k → after.taken t i ≡ before.taken t i
+  pub put : (j : ℕ) → after.put t j ≡ before.put t j
+
+pub puts_one : (job : Job) (before after : Moment) (t j p n : ℕ) (v : ℤ)
+    → Signals job before after t j p n v → PutsOne before after t j v
+puts_one job before after t j p n v s =
+    record { taken = s.taken; put = s.put; other_puts = s.other_puts }
+
+pub gets_one : (job : Job) (before after : Moment) (t k p n : ℕ) (outcome : Outcome)
+    → Waits job before after t k p n outcome → GetsOne before after t k outcome
+gets_one job before after t k p n outcome s =
+    record { taken = s.taken; other_takes = s.other_takes; put = s.put }
+
 -- ---- registrations stay
 
 -- a task has the numbers that it had, and has left what it had left
@@ -89,7 +116,7 @@ pub record KeepsPlaces (before after : Moment) (t : ℕ) : Type 0 where
       → has_dropped (after.history q) n ≡ has_dropped (before.history q) n
 
 -- what stands at a place that the list has
-number_is : (job : Job) (m : Moment) (t i : ℕ) (at : TaskPlace) → StandsAt job m t at
+pub number_is : (job : Job) (m : Moment) (t i : ℕ) (at : TaskPlace) → StandsAt job m t at
     → i < length at.numbers
     → m.number (registration_at job t i).phaser t
     ≡ Some (number_on m t (registration_at job t i).phaser)
@@ -188,13 +215,13 @@ keeps_registered job before after t p n c a mode u x s apart = record {
 
 -- a registration is for the first that the child misses
 pub child_stands : (job : Job) (before after : Moment) (t p n c a : ℕ) (mode : Mode) (u : Parent)
-    (at : TaskPlace) → IsGraph job.graph → HasRun job before → p < length job.graph.phasers
+    (at : TaskPlace) → IsGraph job.graph → IsLegal (limits_at job p) (before.history p)
     → Registers job before after t p n c a mode u → StandsAt job before c at
     → length at.numbers < length (registrations_at job c)
     → (registration_at job c (length at.numbers)).phaser ≡ p
     → greatest_used (before.history p) < a
     → StandsAt job after c (child_place a at)
-child_stands job before after t p n c a mode u at is ran pp s stands room here new = record {
+child_stands job before after t p n c a mode u at is legal s stands room here new = record {
   few = (let l = length-append at.numbers (a ∷ []) in omega arith);
   few_left = (let l = length-append at.numbers (a ∷ []) in
       let le : at.left ≤ length at.numbers = stands.few_left in omega arith);
@@ -259,7 +286,7 @@ child_stands job before after t p n c a mode u at is ran pp s stands room here n
         let at_p : q ≡ p = ap (λ x. (registration_at job c x).phaser) same ∙ here in
         let none : has_dropped (before.history p) a ≡ false =
         (unused (λ sends. Empty)
-        (limits_at job p) (before.history p) a (ran.phasers p pp).legal
+        (limits_at job p) (before.history p) a legal
         (start_of-above (before.history p) a new)).stays in
         let few : at.left ≤ length at.numbers = stands.few_left in
         ap (λ x. has_dropped (after.history x) (unwrap_or (after.number x c) 0)) at_p

@@ -9,7 +9,7 @@ use Rattle.graph_base.specs.Graphs.{Task, task_at}
 use Rattle.graph_base.specs.TaskLines.{IsGraph}
 use Rattle.stream_lists.specs.Jobs.{Job}
 use Rattle.stream_lists.specs.Spans.{signalled_by, puts_on, turns_below}
-use Rattle.graph_moments.specs.Moments.{Moment, HasRun, made_now}
+use Rattle.graph_moments.specs.Moments.{Moment, TaskRan, made_now}
 use Rattle.graph_turns.specs.Nexts.{first_owed, is_owed}
 use Rattle.graph_turns.specs.TaskPlaces.{Owed, nothing, lacking}
 use Rattle.graph_turns.proofs.Boundaries.{made_many}
@@ -102,7 +102,7 @@ none_put task j lt = by task.kind refl
         is ∙ no_turn (length task.outputs) j (omega arith)
 
 -- a task that has begun no step and put nothing lacks nothing
-pub nothing_lacks : (job : Job) (m : Moment) (t : ℕ) → IsGraph job.graph → HasRun job m
+pub nothing_lacks : (job : Job) (m : Moment) (t : ℕ) → IsGraph job.graph → TaskRan job m t
     → t < length job.graph.tasks → m.begun t ≡ 0 → ((j : ℕ) → m.put t j ≡ [])
     → Lacks job m t nothing
 nothing_lacks job m t is ran there begun put j lt =

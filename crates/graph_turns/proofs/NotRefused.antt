@@ -114,10 +114,10 @@ signal_passes job m t j v is reached live lt more turn =
     let line : OnLine (task_at job.graph t) p = inl (j, place) in
     let pp = on_phaser job t p is live.there line in
     let at = number_there job m t p is live line in
-    let here = stays job m t is reached.ran live.there more p n at in
+    let here = stays job m t is (reached.ran.tasks t live.there) live.there more p n at in
     let mode = signal_mode job t j is live.there lt in
     let e = member_on job m t p n mode.mode reached live.there mode.on pp at here in
-    let on = on_output job m t j p n reached.ran live.there pp place at in
+    let on = on_output job m t j p n (reached.ran.tasks t live.there) live.there pp place at in
     may_signal job m p n v mode.mode is reached.ran pp e mode.signals mode.named
     (by mode e (signal_phase_is job m t j p n mode.mode on e) pp at mode.in_turn)
   where
@@ -136,7 +136,7 @@ signal_passes job m t j v is reached live lt more turn =
         let n = number_on m t p in
         let two : length (task_at job.graph t).inputs ≡ 2 =
         (peer_ends job t is live.there peer.0).0 in
-        let into = on_input job m t 1 p n reached.ran live.there (omega arith) peer.2 at in
+        let into = on_input job m t 1 p n (reached.ran.tasks t live.there) live.there (omega arith) peer.2 at in
         let w : e.entry.wait_phase ≡ m.offset t + length (m.taken t 1) =
         wait_phase_is job m t 1 p n mode.mode (reached.ran.phasers p pp).legal into e in
         let s_is : e.entry.signal_phase ≡ m.offset t + length (m.put t j) = s in
@@ -188,10 +188,10 @@ wait_passes job m t k is reached live lt more turn later =
     let line : OnLine (task_at job.graph t) p = inr (k, lt, refl) in
     let pp = on_phaser job t p is live.there line in
     let at = number_there job m t p is live line in
-    let here = stays job m t is reached.ran live.there more p n at in
+    let here = stays job m t is (reached.ran.tasks t live.there) live.there more p n at in
     let mode = wait_mode job t k is live.there lt in
     let e = member_on job m t p n mode.mode reached live.there mode.on pp at here in
-    let into = on_input job m t k p n reached.ran live.there lt refl at in
+    let into = on_input job m t k p n (reached.ran.tasks t live.there) live.there lt refl at in
     let w = wait_phase_is job m t k p n mode.mode (reached.ran.phasers p pp).legal into e in
     may_wait job m p n mode.mode is pp e mode.waits (by mode e w pp at mode.first)
     (λ quiet. (let w_is : e.entry.wait_phase ≡ m.offset t + length (m.taken t k) = w in
@@ -222,7 +222,7 @@ wait_passes job m t k is reached live lt more turn later =
         ap (λ q. place_in (signalled_by (task_at job.graph t)) q) (sym same)
         ∙ place_of_output job.graph t (task_at job.graph t) 0 (is.tasks t live.there)
         (omega arith) in
-        let on = on_output job m t 0 p n reached.ran live.there pp place at in
+        let on = on_output job m t 0 p n (reached.ran.tasks t live.there) live.there pp place at in
         let s : e.entry.signal_phase ≡ m.offset t + length (m.put t 0) =
         signal_phase_is job m t 0 p n mode.mode on e in
         let w_is : e.entry.wait_phase ≡ m.offset t + length (m.taken t k) = w in

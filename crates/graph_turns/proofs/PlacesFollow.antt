@@ -12,7 +12,7 @@ use Rattle.graph_base.specs.Registrations.{no_registration}
 use Rattle.graph_base.specs.TaskLines.{IsGraph}
 use Rattle.stream_lists.specs.Jobs.{Job}
 use Rattle.graph_moments.specs.Moments.{Moment}
-use Rattle.graph_moves.specs.Moves.{Leaves}
+use Rattle.graph_moves.specs.Moves.{SameTask}
 use Rattle.graph_moves.proofs.Turned.{next_sample_is, next_signal_is, first_wait_is, exchange_wait_is, next_leave_is, next_child_is}
 use Rattle.graph_turns.specs.TaskEvents.{TaskEvent, IsNext, sample, signal, first_wait, exchange_wait, leave, child, after_turn}
 use Rattle.graph_turns.specs.Nexts.{has_left, number_on, registrations_at}
@@ -99,8 +99,9 @@ child_follows job m t p n c a mode at is reached answer stands =
     same_Some (registration_at job c (length at.numbers)) made.0
     (sym (slice_get-get_or (registrations_at job c) (length at.numbers) no_registration room)
     ∙ found) in
-    child_stands job m (after_turn job event m) t p n c a mode next.1.0 at is reached.ran
-    next.0.phaser s stands room (ap (λ r. r.phaser) here ∙ made.2) (omega arith)
+    child_stands job m (after_turn job event m) t p n c a mode next.1.0 at is
+    (reached.ran.phasers p next.0.phaser).legal s stands room (ap (λ r. r.phaser) here ∙ made.2)
+    (omega arith)
   where
     within : (r : Registration) → (length at.numbers < length (registrations_at job c))
         ⊎ (length (registrations_at job c) ≤ length at.numbers)
@@ -129,37 +130,47 @@ parent_follows job m t p n c a mode at is reached answer stands =
 
 -- ---- a task that leaves
 
--- a task leaves the phaser of its registration i
-leave_stands : (job : Job) (m : Moment) (t p n : ℕ) (at : TaskPlace) → IsGraph job.graph
-    → t < length job.graph.tasks
-    → Leaves job m (after_turn job (leave t p n) m) t p n → StandsAt job m t at
-    → length at.numbers ≡ length (registrations_at job t)
-    → at.left < length (registrations_at job t) → (registration_at job t at.left).phaser ≡ p
-    → StandsAt job (after_turn job (leave t p n) m) t (record at { left = suc at.left })
-leave_stands job m t p n at is there s stands all room here = record {
+-- task t, as number n on phaser p, has left it
+pub record LeavesOne (before after : Moment) (t p n : ℕ) : Type 0 where
+  pub numbered : before.number p t ≡ Some n
+  pub numbers : (q : ℕ) → after.number q t ≡ before.number q t
+  pub gone : has_dropped (after.history p) n ≡ true
+  pub elsewhere : (q : ℕ) → q ≢ p → after.history q ≡ before.history q
+  pub same : SameTask before after t
+
+-- a task leaves the phaser of its next registration
+pub leave_stands : (job : Job) (m after : Moment) (t p n : ℕ) (at : TaskPlace) → IsGraph job.graph
+    → t < length job.graph.tasks → LeavesOne m after t p n → StandsAt job m t at
+    → at.left < length at.numbers → (registration_at job t at.left).phaser ≡ p
+    → StandsAt job after t (record at { left = suc at.left })
+leave_stands job m after t p n at is there s stands room here = record {
   few = stands.few;
   few_left = omega arith;
-  numbered = stands.numbered;
+  numbered = λ i lt. s.numbers (registration_at job t i).phaser ∙ stands.numbered i lt;
   leaves = λ i lt. leaves i lt (cases_lt i at.left) (cases_lt at.left i);
   begun = s.same.begun ∙ stands.begun;
-  owes = owes_same job m (after_turn job (leave t p n) m) t at.owed s.same stands.owes;
-  lacks = lacks_same job m (after_turn job (leave t p n) m) t at.owed s.same stands.lacks;
+  owes = owes_same job m after t at.owed s.same stands.owes;
+  lacks = lacks_same job m after t at.owed s.same stands.lacks;
 }
   where
+    all : length at.numbers ≤ length (registrations_at job t)
+    all = stands.few
+
     -- what was left, and what was not, on another phaser
     as_before : (i : ℕ) → i < length at.numbers → i ≢ at.left
-        → has_left (after_turn job (leave t p n) m) t (registration_at job t i)
-        ≡ has_left m t (registration_at job t i)
+        → has_left after t (registration_at job t i) ≡ has_left m t (registration_at job t i)
     as_before i lt other =
         let q = (registration_at job t i).phaser in
-        ap (λ h. has_dropped h (number_on m t q))
-        (s.moved.elsewhere q (λ same. other
-        (one_registration job t i at.left is there (omega arith) room (same ∙ sym here))))
+        let le : length at.numbers ≤ length (registrations_at job t) = all in
+        ap (λ o. has_dropped (after.history q) (unwrap_or o 0)) (s.numbers q)
+        ∙ ap (λ h. has_dropped h (number_on m t q))
+        (s.elsewhere q (λ same. other
+        (one_registration job t i at.left is there (omega arith) (omega arith)
+        (same ∙ sym here))))
 
     leaves : (i : ℕ) → i < length at.numbers → (i < at.left) ⊎ (at.left ≤ i)
         → (at.left < i) ⊎ (i ≤ at.left)
-        → has_left (after_turn job (leave t p n) m) t (registration_at job t i)
-        ≡ nat_lt i (suc at.left)
+        → has_left after t (registration_at job t i) ≡ nat_lt i (suc at.left)
     leaves i lt (inl low) d =
         as_before i lt (λ e. omega arith) ∙ stands.leaves i lt ∙ lt-ltb i at.left low
         ∙ sym (lt-ltb i (suc at.left) (omega arith))
@@ -170,13 +181,9 @@ leave_stands job m t p n at is there s stands all room here = record {
         let same : i ≡ at.left = omega arith in
         let q = (registration_at job t i).phaser in
         let at_p : q ≡ p = ap (λ x. (registration_at job t x).phaser) same ∙ here in
-        let after = after_turn job (leave t p n) m in
-        let first : eqb n n ≡ true = eq-eqb n n refl in
-        let dropped : has_dropped (Dropped n ∷ m.history p) n ≡ true = rw first refl in
-        ap (λ x. has_dropped (after.history x) (unwrap_or (m.number x t) 0)) at_p
-        ∙ ap (λ o. has_dropped (after.history p) (unwrap_or o 0)) s.numbered
-        ∙ ap (λ h. has_dropped h n) s.moved.here ∙ dropped
-        ∙ sym (lt-ltb i (suc at.left) (omega arith))
+        ap (λ x. has_dropped (after.history x) (unwrap_or (after.number x t) 0)) at_p
+        ∙ ap (λ o. has_dropped (after.history p) (unwrap_or o 0)) (s.numbers p ∙ s.numbered)
+        ∙ s.gone ∙ sym (lt-ltb i (suc at.left) (omega arith))
 
 pub leave_follows : (job : Job) (m : Moment) (t p n : ℕ) (at : TaskPlace) → IsGraph job.graph
     → IsReachable job m → answer_of_turn job m t ≡ makes (leave t p n) → StandsAt job m t at
@@ -199,7 +206,16 @@ leave_follows job m t p n at is reached answer stands =
     let here : registration_at job t at.left ≡ made.0 =
     same_Some (registration_at job t at.left) made.0
     (sym (slice_get-get_or (registrations_at job t) at.left no_registration room) ∙ found) in
-    leave_stands job m t p n at is next.0.task s stands all room
+    let first : eqb n n ≡ true = eq-eqb n n refl in
+    let dropped : has_dropped (Dropped n ∷ m.history p) n ≡ true = rw first refl in
+    let one : LeavesOne m (after_turn job event m) t p n = record {
+      numbered = s.numbered;
+      numbers = λ q. refl;
+      gone = ap (λ h. has_dropped h n) s.moved.here ∙ dropped;
+      elsewhere = s.moved.elsewhere;
+      same = s.same;
+    } in
+    leave_stands job m (after_turn job event m) t p n at is next.0.task one stands (omega arith)
     (ap (λ r. r.phaser) here ∙ made.2)
   where
     full : (length at.numbers < length (registrations_at job t))

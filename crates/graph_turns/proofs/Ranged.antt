@@ -27,7 +27,7 @@ use Rattle.graph_base.specs.TaskLines.{IsGraph}
 use Rattle.stream_lists.specs.Jobs.{Job, samples_at}
 use Rattle.stream_lists.specs.Lists.{value_by, number, every, in_turn}
 use Rattle.stream_lists.specs.Ranges.{are_made, is_out_of_range}
-use Rattle.graph_moments.specs.Moments.{Moment, HasRun, TakenOn, input_at, taken_now, made_now, limits_at}
+use Rattle.graph_moments.specs.Moments.{Moment, HasRun, TaskRan, TakenOn, input_at, taken_now, made_now, limits_at}
 
 -- ---- lists of numbers in range
 
@@ -113,11 +113,12 @@ numbers_ranged op limits h ns legal = record { at = λ i. at ns i }
         number_ranged (value_of_phase (value_by op) h n) (phase_ranged op limits h n legal)
     at (n ∷ ns) (suc i) = at ns i
 
-pub taken_ranged : (job : Job) (m : Moment) (t k : ℕ) → IsGraph job.graph → HasRun job m
-    → t < length job.graph.tasks → k < length (task_at job.graph t).inputs
-    → AreRanged (m.taken t k)
-taken_ranged job m t k is ran there lt =
-    by (m.number (input_at (task_at job.graph t) k) t) ((ran.tasks t there).inputs k lt)
+pub taken_ranged : (job : Job) (m : Moment) (t k : ℕ) → TaskRan job m t
+    → IsLegal (limits_at job (input_at (task_at job.graph t) k))
+    (m.history (input_at (task_at job.graph t) k))
+    → k < length (task_at job.graph t).inputs → AreRanged (m.taken t k)
+taken_ranged job m t k ran legal lt =
+    by (m.number (input_at (task_at job.graph t) k) t) (ran.inputs k lt)
   where
     by : (o : Option ℕ) → TakenOn job m t k (input_at (task_at job.graph t) k) o
         → AreRanged (m.taken t k)
@@ -127,7 +128,6 @@ taken_ranged job m t k is ran there lt =
         let p = input_at (task_at job.graph t) k in
         let op = (phaser_at job.graph p).op in
         let h = m.history p in
-        let legal = (ran.phasers p ((is.tasks t there).inputs k 0 lt)).legal in
         let got = received_law (value_by op) (limits_at job p) h n on.start legal on.start_is
         on.waits in
         let a = on.start.wait_phase in
@@ -150,8 +150,11 @@ inputs_ranged : (job : Job) (m : Moment) (t : ℕ) → IsGraph job.graph → Has
     → t < length job.graph.tasks → AllRanged (taken_now m (task_at job.graph t) t)
 inputs_ranged job m t is ran there = record {
   at = λ k. at 0 (length (task_at job.graph t).inputs) k (λ i lt.
-      taken_ranged job m t i is ran there
-      (let below : i < 0 + length (task_at job.graph t).inputs = lt in omega arith));
+      (let below : i < length (task_at job.graph t).inputs =
+      (let from_0 : i < 0 + length (task_at job.graph t).inputs = lt in omega arith) in
+      taken_ranged job m t i (ran.tasks t there)
+      (ran.phasers (input_at (task_at job.graph t) i) ((is.tasks t there).inputs i 0 below)).legal
+      below));
 }
   where
     at : (from many k : ℕ) → ((i : ℕ) → i < from + many → AreRanged (m.taken t i))

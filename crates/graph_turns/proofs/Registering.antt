@@ -37,7 +37,7 @@ pub record Comes (t b : ℕ) (parent : Option Parent) : Type 0 where
   pub task : by.task ≡ t
   pub at : by.at ≡ b
 
-comes-is : (t b : ℕ) (parent : Option Parent) → comes_by t b parent ≡ true → Comes t b parent
+pub comes-is : (t b : ℕ) (parent : Option Parent) → comes_by t b parent ≡ true → Comes t b parent
 comes-is t b None e = absurd (cc)
 comes-is t b (Some u) e =
     let both = and_parts (eqb u.task t) (eqb u.at b) e in
@@ -64,7 +64,7 @@ plain_outputs job c plain = by (task_at job.graph c).kind refl
     by Sink e = rw e refl
     by Peer e = absurd (plain e)
 
-plain_takes : (job : Job) (t b k : ℕ) → has_children (task_at job.graph t).kind ≡ true
+pub plain_takes : (job : Job) (t b k : ℕ) → has_children (task_at job.graph t).kind ≡ true
     → takes_from (task_at job.graph t) b k ≡ b
 plain_takes job t b k plain = by (task_at job.graph t).kind refl
   where
@@ -276,7 +276,7 @@ is_for job c i is there lt = by (task_at job.graph c).kind refl
     by Peer f = for_peer job c i is there f lt
 
 -- a phaser on the child's line is on its parent's
-on_parent : (job : Job) (c p : ℕ) (u : Parent) → IsGraph job.graph → c < length job.graph.tasks
+pub on_parent : (job : Job) (c p : ℕ) (u : Parent) → IsGraph job.graph → c < length job.graph.tasks
     → (task_at job.graph c).parent ≡ Some u → OnLine (task_at job.graph c) p
     → OnLine (task_at job.graph u.task) p
 on_parent job c p u is there parent (inl out) =
@@ -378,12 +378,12 @@ child_next job m t c event is ran to_come live none due answer =
               nothing_begun = to_come.nothing_begun c d.there d.missing;
               all_put = λ i place.
                   (let at = place-at (signalled_by (task_at job.graph t)) p i place in
-                  ap length (all_put job m t ran live.there none i at.0)
-                  ∙ made_many job m t i is ran live.there at.0
+                  ap length (all_put job m t (ran.tasks t live.there) live.there none i at.0)
+                  ∙ made_many job m t i is (ran.tasks t live.there) live.there at.0
                   ∙ puts-few (task_at job.graph t) (m.begun t) i (is.tasks t live.there).ends
                   d.parent_plain);
               all_taken = λ k lt at.
-                  all_taken job m t is ran live.there none k lt
+                  all_taken job m t is (ran.tasks t live.there) live.there none k lt
                   ∙ plain_takes job t (m.begun t) k d.parent_plain;
             },
           ),

@@ -18,7 +18,7 @@ use Rattle.graph_base.proofs.Registered.{registrations-phasers}
 use Rattle.stream_lists.specs.Jobs.{Job, place_in}
 use Rattle.stream_lists.specs.Spans.{signalled_by}
 use Rattle.stream_lists.specs.Ranges.{are_made, is_out_of_range}
-use Rattle.graph_moments.specs.Moments.{Moment, HasRun, HasEnded, HasExchanged, OnLine, OnPhaser, PutOn, TakenOn, OnOutput, OnInput, limits_at, made_now}
+use Rattle.graph_moments.specs.Moments.{Moment, HasRun, TaskRan, HasEnded, HasExchanged, OnLine, OnPhaser, PutOn, TakenOn, OnOutput, OnInput, limits_at, made_now}
 use Rattle.graph_moments.proofs.OnLines.{on_phaser}
 use Rattle.graph_moves.specs.Moves.{IsStaying}
 use Rattle.graph_turns.specs.TaskEvents.{TaskEvent, IsNext, signal}
@@ -57,24 +57,24 @@ number_there job m t p is live on =
     on
 
 -- a task that has not come to its end has left no phaser
-pub stays : (job : Job) (m : Moment) (t : ℕ) → IsGraph job.graph → HasRun job m
+pub stays : (job : Job) (m : Moment) (t : ℕ) → IsGraph job.graph → TaskRan job m t
     → t < length job.graph.tasks → (HasEnded job m t → ⊥) → IsStaying m t
 stays job m t is ran there more p n at =
-    by (has_dropped (m.history p) n) refl ((ran.tasks t there).lines p n at)
+    by (has_dropped (m.history p) n) refl (ran.lines p n at)
   where
     on_line : OnLine (task_at job.graph t) p → has_dropped (m.history p) n ≡ true
         → HasEnded job m t
     on_line (inl out) gone =
         let O : Option ℕ → Type 0 = λ o. OnPhaser job m t p o in
         let here : PutOn job m t out.0 p (m.number p t) =
-        subst O out.1 ((ran.tasks t there).outputs p (on_phaser job t p is there (inl out))) in
+        subst O out.1 (ran.outputs p (on_phaser job t p is there (inl out))) in
         let N : Option ℕ → Type 0 = λ o. PutOn job m t out.0 p o in
         let on : OnOutput job m t out.0 p n = subst N at here in
         on.left gone
     on_line (inr into) gone =
         let P : ℕ → Type 0 = λ q. TakenOn job m t into.0 q (m.number q t) in
         let here : TakenOn job m t into.0 p (m.number p t) =
-        subst P into.2 ((ran.tasks t there).inputs into.0 into.1) in
+        subst P into.2 (ran.inputs into.0 into.1) in
         let N : Option ℕ → Type 0 = λ o. TakenOn job m t into.0 p o in
         let on : OnInput job m t into.0 p n = subst N at here in
         on.left gone
@@ -135,7 +135,7 @@ signalled job m t j v made event e = by (is_out_of_range v) refl e
 
 -- ---- a value that is owed
 
-may_put : (kind : Kind) (j put taken : ℕ) → waits_first kind j put taken ≡ false
+pub may_put : (kind : Kind) (j put taken : ℕ) → waits_first kind j put taken ≡ false
     → HasExchanged kind j (suc put) taken
 may_put Source j put taken e = tt
 may_put Fir j put taken e = tt
@@ -202,7 +202,7 @@ signal_next job m t j event is ran live owes first answer =
           accepted = (a.1, ((sendable v a.0, tt), omega arith, tt), (is.phasers p phaser).single);
           numbered = number_there job m t p is live on;
           place = place;
-          staying = stays job m t is ran live.there (not_ended job m t j o.0 o.1);
+          staying = stays job m t is (ran.tasks t live.there) live.there (not_ended job m t j o.0 o.1);
         };
         few = o.1;
         entry = refl;

@@ -1,5 +1,5 @@
 -- The place of a task after its own sample, signal or wait.
-use Rattle.std.proofs.Common.{◌≡◌, ◌≢◌, ℕ, zero, suc, ◌+◌, ◌<◌, ◌≤◌, Bool, true, false, cond, eqb, [], ◌∷◌, Some, None, length, get_or, ℤ, pos, refl, sym, ap, subst, ◌∙◌, arith, inl}
+use Rattle.std.proofs.Common.{◌≡◌, ◌≢◌, ℕ, zero, suc, ◌+◌, ◌<◌, ◌≤◌, Bool, true, false, cond, eqb, [], ◌∷◌, Some, None, is_some, length, get_or, ℤ, pos, refl, sym, ap, subst, ◌∙◌, arith, inl}
 use Rattle.std.specs.Prelude.{Result}
 use Rattle.std.proofs.lemmas.Bool.{le-leb, ne_eqb, eq-eqb, eqb-true}
 use Rattle.std.proofs.lemmas.Option.{same_Some}
@@ -12,11 +12,11 @@ use Rattle.graph_base.specs.TaskLines.{IsGraph}
 use Rattle.stream_lists.specs.Jobs.{Job}
 use Rattle.stream_lists.specs.Spans.{signalled_by, puts_on}
 use Rattle.stream_laws.proofs.Ordered.{place-at}
-use Rattle.graph_moments.specs.Moments.{Moment, HasRun, made_now}
-use Rattle.graph_moves.specs.Moves.{Signals}
+use Rattle.graph_moments.specs.Moments.{Moment, HasRun, TaskRan, made_now}
+use Rattle.graph_moves.specs.Moves.{IsStaying}
 use Rattle.graph_moves.proofs.OwnEvents.{made_still}
 use Rattle.graph_moves.proofs.Turned.{next_sample_is, next_signal_is}
-use Rattle.graph_turns.specs.TaskEvents.{TaskEvent, IsNext, sample, signal, after_turn}
+use Rattle.graph_turns.specs.TaskEvents.{IsNext, sample, signal, after_turn}
 use Rattle.graph_turns.specs.Nexts.{first_owed, waits_first, signals, exchanges}
 use Rattle.graph_turns.specs.Answers.{makes, answer_of_turn, next_value}
 use Rattle.graph_turns.specs.Reached.{IsReachable}
@@ -25,25 +25,29 @@ use Rattle.stream_filters.specs.declared.fault.TooBigValue.{TooBigValue}
 use Rattle.phase_base.specs.Modes.{mode_signals, mode_waits}
 use Rattle.phase_base.specs.declared.mode.Mode.{Mode}
 use Rattle.phase_base.specs.declared.entry.Entry.{Entry}
+use Rattle.phase_base.specs.Members.{entry_of}
+use Rattle.phase_history.specs.Histories.{members_of, IsAlive}
+use Rattle.phase_history.specs.Legal.{IsLegal}
+use Rattle.phase_history.proofs.Alive.{alive_law}
+use Rattle.phase_history.proofs.Received.{counted}
+use Rattle.phase_history.proofs.Used.{start_from}
 use Rattle.phase_history.proofs.LawProofs.{turns_law}
 use Rattle.phase_history.proofs.Signallers.{mode_of_start}
-use Rattle.graph_moments.specs.Moments.{HasEnded, OnLine, limits_at}
+use Rattle.graph_moments.specs.Moments.{OnLine, limits_at, value_at}
 use Rattle.graph_moments.proofs.OnLines.{on_phaser}
 use Rattle.graph_turns.specs.Nexts.{number_on}
 use Rattle.graph_turns.specs.Answers.{output_at}
 use Rattle.graph_turns.proofs.Places.{place_of_output}
 use Rattle.graph_turns.proofs.Signalling.{Live, number_there, stays, owed, not_ended}
-use Rattle.graph_turns.proofs.NotRefused.{member_on}
 use Rattle.graph_turns.proofs.Telling.{peer_taken}
 use Rattle.graph_turns.proofs.Whose.{made_by}
 use Rattle.graph_moments.specs.Moments.{taken_now}
 use Rattle.graph_moments.proofs.Tasks.{now_at}
-use Rattle.graph_turns.proofs.Entries.{on_output, on_input, signal_phase_is, wait_phase_is}
-use Rattle.graph_turns.proofs.EndModes.{signal_mode, wait_mode}
+use Rattle.graph_turns.proofs.Entries.{IsMember, on_output, on_input, signal_phase_is, wait_phase_is}
 use Rattle.graph_turns.proofs.Boundaries.{made_many, peer_ends}
 use Rattle.graph_turns.proofs.Calling.{source_ends}
 use Rattle.graph_turns.proofs.Turning.{turn_makes_next}
-use Rattle.graph_turns.proofs.Following.{Lacks, stays_at, keeps_moved}
+use Rattle.graph_turns.proofs.Following.{Lacks, PutsOne, puts_one, KeepsPlaces, stays_at, keeps_moved}
 use Rattle.graph_turns.proofs.InOrder.{event_owes}
 use Rattle.graph_turns.proofs.Lacking.{first_none, first_is}
 
@@ -60,11 +64,11 @@ owes_nothing job m t (exchange x) owes none =
 
 -- ---- a sample
 
-sample_lacks : (job : Job) (m after : Moment) (t j p n : ℕ) (v : ℤ) → IsGraph job.graph
-    → HasRun job m → HasRun job after → t < length job.graph.tasks
-    → (task_at job.graph t).kind ≡ Source → Signals job m after t j p n v → j ≡ 0
+pub sample_lacks : (job : Job) (m after : Moment) (t j : ℕ) (v : ℤ) → IsGraph job.graph
+    → TaskRan job m t → TaskRan job after t → t < length job.graph.tasks
+    → (task_at job.graph t).kind ≡ Source → PutsOne m after t j v → j ≡ 0
     → after.begun t ≡ suc (m.begun t) → Lacks job m t nothing → Lacks job after t nothing
-sample_lacks job m after t j p n v is ran now there source s first steps lacks i lt =
+sample_lacks job m after t j v is ran now there source s first steps lacks i lt =
     let one : length (signalled_by (task_at job.graph t)) ≡ 1 =
     source_ends job t is there source in
     let at : i ≡ 0 = omega arith in
@@ -104,8 +108,9 @@ sample_follows job m t j p n v at is reached now answer stands =
     let steps : after.begun t ≡ suc (m.begun t) =
     (let here : eqb t t ≡ true = eq-eqb t t refl in rw here refl) in
     let lacks : Lacks job after t nothing =
-    sample_lacks job m after t j p n v is reached.ran now next.0.task next.1.source s (omega arith)
-    steps before in
+    sample_lacks job m after t j v is (reached.ran.tasks t next.0.task)
+    (now.tasks t next.0.task) next.0.task next.1.source (puts_one job m after t j p n v s)
+    (omega arith) steps before in
     let O : Owed → Type 0 = λ o. Owes job after t o in
     let A : Owed → Type 0 = λ o. Lacks job after t o in
     stays_at job m after t (suc at.begun) at.owed at stands
@@ -117,14 +122,14 @@ sample_follows job m t j p n v at is reached now answer stands =
 -- ---- a signal
 
 -- where the output that was first owed has its value, and no other lacks one, none does
-signal_lacks : (job : Job) (m after : Moment) (t j p n : ℕ) (v : ℤ) (owed left : Owed)
-    → Signals job m after t j p n v → after.begun t ≡ m.begun t → Lacks job m t owed
+pub signal_lacks : (job : Job) (m after : Moment) (t j : ℕ) (v : ℤ) (owed left : Owed)
+    → PutsOne m after t j v → after.begun t ≡ m.begun t → Lacks job m t owed
     → ((i : ℕ) → i < length (signalled_by (task_at job.graph t)) → i ≢ j
     → lacking (task_at job.graph t).kind owed i ≡ lacking (task_at job.graph t).kind left i)
     → lacking (task_at job.graph t).kind owed j
     ≡ lacking (task_at job.graph t).kind left j + 1
     → Lacks job after t left
-signal_lacks job m after t j p n v owed left s steps lacks others here i lt =
+signal_lacks job m after t j v owed left s steps lacks others here i lt =
     by (eqb i j) refl
   where
     made : length (made_now job after t i) ≡ length (made_now job m t i)
@@ -171,46 +176,57 @@ owes_value job m t j (exchange x) owes some first =
     absurd (let clash : signals 1 ≡ exchanges =
     sym (ap (λ b. cond b exchanges (signals 1)) not_first) ∙ owes.1 in cc)
 
--- a peer on E has taken no more than it has put
-peer_in_turn : (job : Job) (m : Moment) (t : ℕ) → IsGraph job.graph → IsReachable job m
-    → Live job m t → (HasEnded job m t → ⊥) → (task_at job.graph t).kind ≡ Peer
+-- a peer that stays on E has taken no more there than it has put
+pub peer_in_turn : (job : Job) (m : Moment) (t n : ℕ) → IsGraph job.graph → TaskRan job m t
+    → t < length job.graph.tasks → IsStaying m t
+    → IsLegal (limits_at job (output_at job t 0)) (m.history (output_at job t 0))
+    → m.number (output_at job t 0) t ≡ Some n → (task_at job.graph t).kind ≡ Peer
     → length (m.taken t 1) ≤ length (m.put t 0)
-peer_in_turn job m t is reached live more peer =
+peer_in_turn job m t n is ran there staying legal at peer =
     let p = output_at job t 0 in
-    let n = number_on m t p in
-    let ends = peer_ends job t is live.there peer in
+    let ends = peer_ends job t is there peer in
     let two : length (task_at job.graph t).inputs ≡ 2 = ends.0 in
     let both : length (signalled_by (task_at job.graph t)) ≡ 2 = ends.1 in
     let same : get_or (signalled_by (task_at job.graph t)) 0 0
     ≡ get_or (task_at job.graph t).inputs 1 0 = rw peer refl in
-    let place = place_of_output job.graph t (task_at job.graph t) 0 (is.tasks t live.there)
+    let place = place_of_output job.graph t (task_at job.graph t) 0 (is.tasks t there)
     (omega arith) in
-    let line : OnLine (task_at job.graph t) p = inl (0, place) in
-    let pp = on_phaser job t p is live.there line in
-    let at = number_there job m t p is live line in
-    let here = stays job m t is reached.ran live.there more p n at in
-    let mode = signal_mode job t 0 is live.there (omega arith) in
-    let wait = wait_mode job t 1 is live.there (omega arith) in
-    let e = member_on job m t p n mode.mode reached live.there mode.on pp at here in
-    let on = on_output job m t 0 p n reached.ran live.there pp place at in
-    let into = on_input job m t 1 p n reached.ran live.there (omega arith) (sym same) at in
-    let s : e.entry.signal_phase ≡ m.offset t + length (m.put t 0) =
-    signal_phase_is job m t 0 p n mode.mode on e in
-    let w : e.entry.wait_phase ≡ m.offset t + length (m.taken t 1) =
-    wait_phase_is job m t 1 p n mode.mode (reached.ran.phasers p pp).legal into e in
-    let started : Some e.start ≡ Some into.start = sym e.start_is ∙ into.start_is in
-    let mode_here : e.entry.mode ≡ e.start.mode =
-    mode_of_start (limits_at job p) (m.history p) n e.start e.entry
-    (reached.ran.phasers p pp).legal e.start_is e.is in
+    let pp = on_phaser job t p is there (inl (0, place)) in
+    let on = on_output job m t 0 p n ran there pp place at in
+    let into = on_input job m t 1 p n ran there (omega arith) (sym same) at in
+    let h = m.history p in
+    let limits = limits_at job p in
+    let alive : IsAlive h n =
+    (alive_law limits h n legal).1 (ap is_some on.start_is, staying p n at) in
+    let e = start_from (entry_of (members_of h) n) alive in
+    let c = counted (value_at job p) limits h n e.0 legal e.1 in
+    let member : IsMember m p n e.0.mode = record {
+      start = c.start;
+      entry = e.0;
+      start_is = c.start_is;
+      is = e.1;
+      mode_is = refl;
+      signals = c.signals;
+      waits = c.waits;
+    } in
+    let s : e.0.signal_phase ≡ m.offset t + length (m.put t 0) =
+    signal_phase_is job m t 0 p n e.0.mode on member in
+    let w : e.0.wait_phase ≡ m.offset t + length (m.taken t 1) =
+    wait_phase_is job m t 1 p n e.0.mode legal into member in
+    let mode_here : e.0.mode ≡ c.start.mode =
+    mode_of_start limits h n c.start e.0 legal c.start_is e.1 in
     let W : Mode → Type 0 = λ x. mode_waits x ≡ true in
-    let waits_is : mode_waits e.entry.mode ≡ true =
-    subst W (sym (mode_here ∙ ap (λ (x : Entry). x.mode) (same_Some e.start into.start started)))
-    into.waits in
+    let waiting : c.start ≡ into.start =
+    same_Some c.start into.start (sym c.start_is ∙ into.start_is) in
+    let waits_is : mode_waits e.0.mode ≡ true =
+    subst W (sym (mode_here ∙ ap (λ (x : Entry). x.mode) waiting)) into.waits in
     let S : Mode → Type 0 = λ x. mode_signals x ≡ true in
-    let signals_is : mode_signals e.entry.mode ≡ true = subst S (sym e.mode_is) mode.signals in
-    let turn = turns_law (limits_at job p) (m.history p) n e.entry
-    (reached.ran.phasers p pp).legal e.is signals_is waits_is in
-    let low : e.entry.wait_phase ≤ e.entry.signal_phase = turn.low in
+    let signalling : c.start ≡ on.start =
+    same_Some c.start on.start (sym c.start_is ∙ on.start_is) in
+    let signals_is : mode_signals e.0.mode ≡ true =
+    subst S (sym (mode_here ∙ ap (λ (x : Entry). x.mode) signalling)) on.signals in
+    let turn = turns_law limits h n e.0 legal e.1 signals_is waits_is in
+    let low : e.0.wait_phase ≤ e.0.signal_phase = turn.low in
     omega arith
 
 -- a peer that has put its value on E lacks the one on Y
@@ -220,18 +236,17 @@ peer_lacks w x zero lt apart = absurd (apart refl)
 peer_lacks w x (suc zero) lt apart = refl
 peer_lacks w x (suc (suc i)) lt apart = absurd (omega arith)
 
-peer_left_lacks : (job : Job) (m : Moment) (t j p n : ℕ) (v : ℤ) (w : Result ℤ TooBigValue)
+pub peer_left_lacks : (job : Job) (m after : Moment) (t j : ℕ) (v : ℤ) (w : Result ℤ TooBigValue)
     → IsGraph job.graph → t < length job.graph.tasks → (task_at job.graph t).kind ≡ Peer → j ≡ 0
-    → Signals job m (after_turn job (signal t j p n v) m) t j p n v
-    → (after_turn job (signal t j p n v) m).begun t ≡ m.begun t → Lacks job m t (value j w)
-    → Lacks job (after_turn job (signal t j p n v) m) t (exchange v)
-peer_left_lacks job m t j p n v w is there e same s steps before =
+    → PutsOne m after t j v → after.begun t ≡ m.begun t → Lacks job m t (value j w)
+    → Lacks job after t (exchange v)
+peer_left_lacks job m after t j v w is there e same s steps before =
     let both : length (signalled_by (task_at job.graph t)) ≡ 2 = (peer_ends job t is there e).1 in
     let first : eqb j j ≡ true = eq-eqb j j refl in
     let one : lacking (task_at job.graph t).kind (value j w) j ≡ 1 = rw first refl in
     let none : lacking (task_at job.graph t).kind (exchange v) j ≡ 0 =
     ap (λ y. lacking (task_at job.graph t).kind (exchange v) y) same in
-    signal_lacks job m (after_turn job (signal t j p n v) m) t j p n v (value j w) (exchange v) s
+    signal_lacks job m after t j v (value j w) (exchange v) s
     steps before
     (λ i lt apart.
     ap (λ k. lacking k (value j w) i) e ∙ ap (λ y. lacking Peer (value y w) i) same
@@ -239,29 +254,21 @@ peer_left_lacks job m t j p n v w is there e same s steps before =
     ∙ ap (λ k. lacking k (exchange v) i) (sym e)) (omega arith)
 
 -- and waits there before it does
-peer_owes : (job : Job) (m : Moment) (t j p n : ℕ) (v : ℤ) (w : Result ℤ TooBigValue)
-    → IsGraph job.graph → IsReachable job m → t < length job.graph.tasks → Live job m t
-    → (task_at job.graph t).kind ≡ Peer → j ≡ 0
-    → Signals job m (after_turn job (signal t j p n v) m) t j p n v
-    → (first_owed job m t ≡ Some j) × (next_value job m t j ≡ v)
-    × (waits_first (task_at job.graph t).kind j (length (m.put t j)) (length (m.taken t 1)) ≡ false)
-    → Lacks job m t (value j w)
-    → Lacks job (after_turn job (signal t j p n v) m) t (exchange v)
-    → Owes job (after_turn job (signal t j p n v) m) t (exchange v)
-peer_owes job m t j p n v w is reached there live e same s owes before lacks =
-    let after = after_turn job (signal t j p n v) m in
+pub peer_owes : (job : Job) (m after : Moment) (t j : ℕ) (v : ℤ) (w : Result ℤ TooBigValue)
+    → IsGraph job.graph → TaskRan job m t → t < length job.graph.tasks
+    → length (m.taken t 1) ≤ length (m.put t 0) → (task_at job.graph t).kind ≡ Peer → j ≡ 0
+    → PutsOne m after t j v → next_value job m t j ≡ v → Lacks job m t (value j w)
+    → Lacks job after t (exchange v) → Owes job after t (exchange v)
+peer_owes job m after t j v w is ran there low e same s next before lacks =
     let ends = peer_ends job t is there e in
     let two : length (task_at job.graph t).inputs ≡ 2 = ends.0 in
     let both : length (signalled_by (task_at job.graph t)) ≡ 2 = ends.1 in
-    let o = owed job m t j owes.0 in
-    let low : length (m.taken t 1) ≤ length (m.put t 0) =
-    peer_in_turn job m t is reached live (not_ended job m t j o.0 o.1) e in
-    let taken = peer_taken job m t is reached there e in
+    let taken = peer_taken job m t is ran there e in
     let high : m.begun t ≤ length (m.taken t 1) + 1 = taken.1 in
     let first_made : length (made_now job m t 0) ≡ puts_on (task_at job.graph t) (m.begun t) 0 =
-    made_many job m t 0 is reached.ran there (omega arith) in
+    made_many job m t 0 is ran there (omega arith) in
     let second_made : length (made_now job m t 1) ≡ puts_on (task_at job.graph t) (m.begun t) 1 =
-    made_many job m t 1 is reached.ran there (omega arith) in
+    made_many job m t 1 is ran there (omega arith) in
     let first_plain : puts_on (task_at job.graph t) (m.begun t) 0 ≡ m.begun t = rw e refl in
     let second_plain : puts_on (task_at job.graph t) (m.begun t) 1 ≡ m.begun t = rw e refl in
     let first_lacks : length (made_now job m t 0) ≡ length (m.put t 0) + 1 =
@@ -288,81 +295,50 @@ peer_owes job m t j p n v w is reached there live e same s owes before lacks =
       ap (λ l. get_or l (length (after.taken t 1)) (pos 0)) (s.taken 0)
           ∙ ap (λ i. get_or (m.taken t 0) i (pos 0)) (takes ∙ at)
           ∙ ap (λ l. get_or l (length (m.put t 0)) (pos 0)) (sym values)
-          ∙ ap (λ i. next_value job m t i) (sym same) ∙ owes.1,
+          ∙ ap (λ i. next_value job m t i) (sym same) ∙ next,
     )
   where
     none_below : (i : ℕ) → i < 1 → lacking (task_at job.graph t).kind (exchange v) i ≡ 0
     none_below zero lt = refl
     none_below (suc i) lt = absurd (omega arith)
 
-pub signal_follows : (job : Job) (m : Moment) (t j p n : ℕ) (v : ℤ) (at : TaskPlace)
-    → IsGraph job.graph → IsReachable job m
-    → answer_of_turn job m t ≡ makes (signal t j p n v) → StandsAt job m t at
-    → StandsAt job (after_turn job (signal t j p n v) m) t
-    (record at { owed = owed_after_signal (task_at job.graph t) j v })
-signal_follows job m t j p n v at is reached answer stands =
+-- the place after a value was put on output j, where a peer has taken no more from E than it has put
+pub puts_stand : (job : Job) (m after : Moment) (t j : ℕ) (v : ℤ) (w : Result ℤ TooBigValue)
+    (at : TaskPlace) → IsGraph job.graph → t < length job.graph.tasks → TaskRan job m t
+    → ((task_at job.graph t).kind ≡ Peer → length (m.taken t 1) ≤ length (m.put t 0))
+    → PutsOne m after t j v → KeepsPlaces m after t → after.begun t ≡ m.begun t
+    → next_value job m t j ≡ v → at.owed ≡ value j w → StandsAt job m t at
+    → StandsAt job after t (record at { owed = owed_after_signal (task_at job.graph t) j v })
+puts_stand job m after t j v w at is there ran in_turn puts keeps steps next owed_is stands =
     by (task_at job.graph t).kind j refl refl
   where
-    event : TaskEvent
-    event = signal t j p n v
-
-    after : Moment
-    after = after_turn job (signal t j p n v) m
-
-    next : IsNext job m (signal t j p n v)
-    next =
-        turn_makes_next job m t (signal t j p n v) is reached.ran (λ c due. reached.to_come) answer
-
-    s : Signals job m (after_turn job (signal t j p n v) m) t j p n v
-    s = next_signal_is job m t j p n v next.1 (reached.ran.tasks t next.0.task)
-
-    steps : (after_turn job (signal t j p n v) m).begun t ≡ m.begun t
-    steps = (let here : eqb t t ≡ true = eq-eqb t t refl in rw here refl)
-
-    owes : (first_owed job m t ≡ Some j) × (next_value job m t j ≡ v)
-        × (waits_first (task_at job.graph t).kind j (length (m.put t j)) (length (m.taken t 1))
-        ≡ false)
-    owes = event_owes job m t (signal t j p n v) answer
-
-    owed_is : (w : Result ℤ TooBigValue) × (at.owed ≡ value j w)
-    owed_is = owes_value job m t j at.owed stands.owes owes.0 owes.2
-
-    before : Lacks job m t (value j owed_is.0)
-    before = (let L : Owed → Type 0 = λ o. Lacks job m t o in subst L owed_is.1 stands.lacks)
+    before : Lacks job m t (value j w)
+    before = (let L : Owed → Type 0 = λ o. Lacks job m t o in subst L owed_is stands.lacks)
 
     Place : Owed → Type 0
-    Place o = StandsAt job (after_turn job (signal t j p n v) m) t (record at { owed = o })
+    Place o = StandsAt job after t (record at { owed = o })
 
     -- with what is left
-    stay : (left : Owed) → Owes job (after_turn job (signal t j p n v) m) t left
-        → Lacks job (after_turn job (signal t j p n v) m) t left
-        → StandsAt job (after_turn job (signal t j p n v) m) t (record at { owed = left })
+    stay : (left : Owed) → Owes job after t left → Lacks job after t left
+        → StandsAt job after t (record at { owed = left })
     stay left now lacks =
-        stays_at job m (after_turn job (signal t j p n v) m) t at.begun left at stands
-        (keeps_moved job m (after_turn job (signal t j p n v) m) t p
-        (Signalled n ((v ∷ []) ∷ []) (phaser_at job.graph p).single) t s.moved (λ b at. refl))
-        (steps ∙ stands.begun) now lacks
+        stays_at job m after t at.begun left at stands keeps (steps ∙ stands.begun) now lacks
 
     -- no other output lacks a value
     alone : (kind : Kind) → (task_at job.graph t).kind ≡ kind
-        → ((i : ℕ) → i ≢ j → lacking kind (value j owed_is.0) i ≡ 0)
+        → ((i : ℕ) → i ≢ j → lacking kind (value j w) i ≡ 0)
         → owed_after_signal (task_at job.graph t) j v ≡ nothing
-        → StandsAt job (after_turn job (signal t j p n v) m) t
-        (record at { owed = owed_after_signal (task_at job.graph t) j v })
+        → StandsAt job after t (record at { owed = owed_after_signal (task_at job.graph t) j v })
     alone kind e none left =
         let first : eqb j j ≡ true = eq-eqb j j refl in
-        let here : lacking (task_at job.graph t).kind (value j owed_is.0) j ≡ 1 =
-        rw first refl in
-        let lacks : Lacks job (after_turn job (signal t j p n v) m) t nothing =
-        signal_lacks job m (after_turn job (signal t j p n v) m) t j p n v
-        (value j owed_is.0) nothing s steps before
-        (λ i lt apart. ap (λ k. lacking k (value j owed_is.0) i) e ∙ none i apart) here in
-        subst Place (sym left)
-        (stay nothing (first_none job (after_turn job (signal t j p n v) m) t lacks) lacks)
+        let here : lacking (task_at job.graph t).kind (value j w) j ≡ 1 = rw first refl in
+        let lacks : Lacks job after t nothing =
+        signal_lacks job m after t j v (value j w) nothing puts steps before
+        (λ i lt apart. ap (λ k. lacking k (value j w) i) e ∙ none i apart) here in
+        subst Place (sym left) (stay nothing (first_none job after t lacks) lacks)
 
     by : (kind : Kind) (i : ℕ) → (task_at job.graph t).kind ≡ kind → j ≡ i
-        → StandsAt job (after_turn job (signal t j p n v) m) t
-        (record at { owed = owed_after_signal (task_at job.graph t) j v })
+        → StandsAt job after t (record at { owed = owed_after_signal (task_at job.graph t) j v })
     by Source i e same =
         alone Source e
         (λ x apart. (let other : eqb x j ≡ false = ne_eqb x j apart in rw other refl)) (rw e refl)
@@ -385,8 +361,50 @@ signal_follows job m t j p n v at is reached answer stands =
     by Peer zero e same =
         let left : owed_after_signal (task_at job.graph t) j v ≡ exchange v =
         rw e (rw same refl) in
+        let lacks = peer_left_lacks job m after t j v w is there e same puts steps before in
         subst Place (sym left)
-        (stay (exchange v) (peer_owes job m t j p n v owed_is.0 is reached next.0.task
-        (made_by job m t (signal t j p n v) answer).0 e same s owes before
-        (peer_left_lacks job m t j p n v owed_is.0 is next.0.task e same s steps before))
-        (peer_left_lacks job m t j p n v owed_is.0 is next.0.task e same s steps before))
+        (stay (exchange v)
+        (peer_owes job m after t j v w is ran there (in_turn e) e same puts next before lacks)
+        lacks)
+
+pub signal_follows : (job : Job) (m : Moment) (t j p n : ℕ) (v : ℤ) (at : TaskPlace)
+    → IsGraph job.graph → IsReachable job m
+    → answer_of_turn job m t ≡ makes (signal t j p n v) → StandsAt job m t at
+    → StandsAt job (after_turn job (signal t j p n v) m) t
+    (record at { owed = owed_after_signal (task_at job.graph t) j v })
+signal_follows job m t j p n v at is reached answer stands =
+    let event = signal t j p n v in
+    let after = after_turn job event m in
+    let next : IsNext job m event =
+    turn_makes_next job m t event is reached.ran (λ c due. reached.to_come) answer in
+    let ran = reached.ran.tasks t next.0.task in
+    let s = next_signal_is job m t j p n v next.1 ran in
+    let owes = event_owes job m t event answer in
+    let owed_is = owes_value job m t j at.owed stands.owes owes.0 owes.2 in
+    let steps : after.begun t ≡ m.begun t =
+    (let here : eqb t t ≡ true = eq-eqb t t refl in rw here refl) in
+    puts_stand job m after t j v owed_is.0 at is next.0.task ran
+    (λ e. in_turn (made_by job m t event answer).0 owes.0 e) (puts_one job m after t j p n v s)
+    (keeps_moved job m after t p
+    (Signalled n ((v ∷ []) ∷ []) (phaser_at job.graph p).single) t s.moved (λ b at. refl)) steps
+    owes.1 owed_is.1 stands
+  where
+    -- a peer that signals has not come to its end
+    in_turn : Live job m t → first_owed job m t ≡ Some j → (task_at job.graph t).kind ≡ Peer
+        → length (m.taken t 1) ≤ length (m.put t 0)
+    in_turn live first e =
+        let q = output_at job t 0 in
+        let ran = reached.ran.tasks t live.there in
+        let both : length (signalled_by (task_at job.graph t)) ≡ 2 =
+        (peer_ends job t is live.there e).1 in
+        let line : OnLine (task_at job.graph t) q =
+        inl (
+          0,
+          place_of_output job.graph t (task_at job.graph t) 0 (is.tasks t live.there)
+              (omega arith),
+        ) in
+        let o = owed job m t j first in
+        peer_in_turn job m t (number_on m t q) is ran live.there
+        (stays job m t is ran live.there (not_ended job m t j o.0 o.1))
+        (reached.ran.phasers q (on_phaser job t q is live.there line)).legal
+        (number_there job m t q is live line) e

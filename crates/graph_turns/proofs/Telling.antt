@@ -15,7 +15,7 @@ use Rattle.graph_base.specs.Graphs.{task_at}
 use Rattle.graph_base.specs.TaskLines.{IsGraph}
 use Rattle.stream_lists.specs.Jobs.{Job, samples_at, place_in}
 use Rattle.stream_lists.specs.Spans.{signalled_by, puts_on}
-use Rattle.graph_moments.specs.Moments.{Moment, HasTaken, OnLine, limits_at, value_at, input_at, first_input, made_now}
+use Rattle.graph_moments.specs.Moments.{Moment, TaskRan, HasTaken, OnLine, limits_at, value_at, input_at, first_input, made_now}
 use Rattle.graph_moments.proofs.OnLines.{on_phaser}
 use Rattle.graph_moments.proofs.Tasks.{first_looks}
 use Rattle.graph_turns.specs.TaskEvents.{sample, signal, first_wait, exchange_wait}
@@ -52,14 +52,14 @@ none_owed_below test from (suc many) j i e low high =
         later (inr less) = (let same : from ≡ i = omega arith in ap test (sym same) ∙ is)
 
 -- how far a peer's E is: it has taken there all values but one at least
-pub peer_taken : (job : Job) (m : Moment) (t : ℕ) → IsGraph job.graph → IsReachable job m
+pub peer_taken : (job : Job) (m : Moment) (t : ℕ) → IsGraph job.graph → TaskRan job m t
     → t < length job.graph.tasks → (task_at job.graph t).kind ≡ Peer
     → (length (m.taken t 1) ≤ m.begun t) × (m.begun t ≤ length (m.taken t 1) + 1)
-peer_taken job m t is reached there peer =
+peer_taken job m t is ran there peer =
     let two : length (task_at job.graph t).inputs ≡ 2 = (peer_ends job t is there peer).0 in
     let T : Kind → Type 0 = λ kind. HasTaken (record (task_at job.graph t) { kind = kind })
     (m.begun t) 1 (length (m.taken t 1)) in
-    subst T peer ((reached.ran.tasks t there).takes 1 (omega arith))
+    subst T peer (ran.takes 1 (omega arith))
 
 signals_told : (job : Job) (m : Moment) (t j : ℕ) → IsGraph job.graph
     → AreSends (samples_at job t) → IsReachable job m → Live job m t
@@ -73,13 +73,13 @@ signals_told job m t j is samples reached live owes =
     (length (m.put t j)))
     (signal_passes job m t j v is reached live o.0 (not_ended job m t j o.0 o.1)
     (λ peer first.
-    (let taken = peer_taken job m t is reached live.there peer in
+    (let taken = peer_taken job m t is (reached.ran.tasks t live.there) live.there peer in
     let high : m.begun t ≤ length (m.taken t 1) + 1 = taken.1 in
     let two : length (signalled_by (task_at job.graph t)) ≡ 2 =
     (peer_ends job t is live.there peer).1 in
     let plain : puts_on (task_at job.graph t) (m.begun t) 0 ≡ m.begun t = rw peer refl in
     let many : length (made_now job m t 0) ≡ puts_on (task_at job.graph t) (m.begun t) 0 =
-    made_many job m t 0 is reached.ran live.there (omega arith) in
+    made_many job m t 0 is (reached.ran.tasks t live.there) live.there (omega arith) in
     let few : length (m.put t j) < length (made_now job m t j) = o.1 in
     let put : length (m.put t j) ≡ length (m.put t 0) = ap (λ i. length (m.put t i)) first in
     let made : length (made_now job m t j) ≡ length (made_now job m t 0) =
@@ -126,9 +126,9 @@ exchange_told job m t j is reached live owes first =
         let plain : puts_on (task_at job.graph t) (m.begun t) j ≡ m.begun t = rw peer refl in
         let first_many : length (made_now job m t 0)
         ≡ puts_on (task_at job.graph t) (m.begun t) 0 =
-        made_many job m t 0 is reached.ran live.there (omega arith) in
+        made_many job m t 0 is (reached.ran.tasks t live.there) live.there (omega arith) in
         let many : length (made_now job m t j) ≡ puts_on (task_at job.graph t) (m.begun t) j =
-        made_many job m t j is reached.ran live.there lt in
+        made_many job m t j is (reached.ran.tasks t live.there) live.there lt in
         omega arith
 
     -- the peer itself signals there
@@ -150,8 +150,8 @@ exchange_told job m t j is reached live owes first =
         let pp = on_phaser job t p is live.there line in
         let at = number_there job m t p is live line in
         let o = owed job m t j owes in
-        let here = stays job m t is reached.ran live.there (not_ended job m t j o.0 o.1) p n at in
-        let on = on_output job m t 0 p n reached.ran live.there pp place at in
+        let here = stays job m t is (reached.ran.tasks t live.there) live.there (not_ended job m t j o.0 o.1) p n at in
+        let on = on_output job m t 0 p n (reached.ran.tasks t live.there) live.there pp place at in
         let none : HasNoSignaller (m.history p) =
         no_signaller (signal_phases (members_of (m.history p)))
         (not_from_false (has_signaller (m.history p)) quiet) in

@@ -53,7 +53,8 @@ over_left job m t at is ran stands live left = by (is_over job m t) refl
         let p = (registration_at job t 0).phaser in
         let number : m.number p t ≡ Some n = number-at job m t 0 at stands (omega arith) in
         let kept : has_dropped (m.history p) n ≡ false =
-        stays job m t is ran (live-is job m t live).there
+        stays job m t is (ran.tasks t (live-is job m t live).there)
+        (live-is job m t live).there
         (goes_on job m t parts.0 parts.1) p n number in
         let gone : has_left m t (registration_at job t 0) ≡ true =
         stands.leaves 0 (omega arith) ∙ lt-ltb 0 at.left left in

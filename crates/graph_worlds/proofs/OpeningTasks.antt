@@ -125,7 +125,7 @@ owes_nothing job t is there =
         → is_owed job (opening job) t j ≡ false
     none j lt =
         let many : length (made_now job (opening job) t j) ≡ puts_on (task_at job.graph t) 0 j =
-        made_many job (opening job) t j is ran there lt in
+        made_many job (opening job) t j is (ran.tasks t there) there lt in
         let zero_many = puts_none (task_at job.graph t) j lt in
         lt-leb (0 + 1) (length (made_now job (opening job) t j)) (omega arith)
 
@@ -170,7 +170,8 @@ opening_stands job t numbers is there few at = record {
   begun = refl;
   owes = owes_nothing job t is there;
   lacks = nothing_lacks job (opening job) t is
-      (begun_reached job (opening job) is (opening_has_begun job is)).ran there refl (λ j. refl);
+      ((begun_reached job (opening job) is (opening_has_begun job is)).ran.tasks t there) there refl
+      (λ j. refl);
 }
 
 -- ---- sinks
