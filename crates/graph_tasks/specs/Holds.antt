@@ -1,5 +1,5 @@
 -- What the calls of a registration do to what it has seen.
-use Rattle.std.specs.Prelude.{◌≡◌, ℕ, ℤ, List, [], ◌∷◌, ◌++◌, Option, Result, Ok, Err}
+use Rattle.std.specs.Prelude.{◌≡◌, ℕ, ℤ, List, [], ◌∷◌, ◌++◌, Option, Result, Ok, Err, false}
 use Rattle.phase_accum.specs.Values.{value_by}
 use Rattle.phase_accum.specs.declared.outcome.Outcome.{Outcome}
 use Rattle.phase_accum.specs.declared.single.Single.{Single}
@@ -13,6 +13,7 @@ use Rattle.phase_history.specs.Legal.{IsLegal}
 use Rattle.phase_history.specs.Others.{OthersCame}
 use Rattle.phase_history.specs.Replies.{wait_reply}
 use Rattle.stream_lists.specs.Lists.{number}
+use Rattle.stream_lists.specs.Ranges.{is_too_big}
 use Rattle.graph_members.specs.Members.{limits_on}
 use Rattle.graph_members.specs.AnyMembers.{member_in, member_op, left_in, left_op}
 use Rattle.graph_members.specs.declared.any_member.AnyMember.{AnyMember}
@@ -62,6 +63,7 @@ pub record HasWaited (x : ℤ) (old new : AnyMember) : Type 0 where
   pub made : HasMade wait_of old new before
   pub outcome : Outcome
   pub is : x ≡ number outcome
+  pub fits : is_too_big outcome ≡ false
   pub answered : received_by (value_by (member_op old)) (Waited (member_in old).number 1 ∷ before)
       (member_in old).number
       ≡ received_by (value_by (member_op old)) before (member_in old).number ++ outcome ∷ []
@@ -81,7 +83,7 @@ HasGot (Err held) old new = HasSeenOthers old new
 
 -- a number that is given for an outcome
 abbrev pub IsGivenAs : Outcome → Given → Type 0
-IsGivenAs outcome (given.Value x) = x ≡ number outcome
+IsGivenAs outcome (given.Value x) = (x ≡ number outcome) × (is_too_big outcome ≡ false)
 IsGivenAs outcome given.TooBig = Unit {0}
 IsGivenAs outcome given.Ended = ⊥
 

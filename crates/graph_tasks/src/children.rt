@@ -33,7 +33,7 @@ impl<'a> TaskState<'a> {
             .registration(child, self.children[i].numbers.len());
         let p = registration.phaser;
         let Some(k) = self.place_on(job, p) else {
-            return self.stick();
+            return self.meet(Turned::Stuck);
         };
         match self.holds[k].add(registration.mode) {
             Ok(member) => {
