@@ -1,3 +1,5 @@
 pub mod Machines
+pub mod Parking
 pub mod Places
+pub mod Stalls
 pub mod Worlds

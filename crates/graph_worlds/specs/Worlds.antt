@@ -1,13 +1,18 @@
 -- The moments that a world stands for.
+use Rattle.std.specs.Prelude.{ℕ, List, Option}
 use Rattle.stream_lists.specs.Jobs.{Job}
+use Rattle.stream_lists.specs.Ranges.{Where}
 use Rattle.graph_moments.specs.Moments.{Moment}
 use Rattle.graph_worlds.specs.declared.machine.Machine.{Machine}
 use Rattle.graph_worlds.specs.Machines.{IsMachineAt}
 
--- a job, and the machine that runs it
+-- a job, the machine that runs it, where a value was out of range, and the tasks that were blocked
+-- on each phaser since its last event
 pub record WorldState : Type 0 where
   pub job : Job
   pub machine : Machine
+  pub met : Option Where
+  pub parked : List (List ℕ)
 
 -- the world stands at this moment of its job's run
 abbrev pub IsWorldAt : WorldState → Moment → Type 0

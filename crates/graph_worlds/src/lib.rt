@@ -6,10 +6,14 @@ mod next;
 mod opened_cores;
 mod opened_tasks;
 mod opening;
+mod parked;
 mod roots;
+mod stalls;
 mod step;
 mod task_state;
+mod turned;
 mod world;
 
 pub use step::Step;
+pub use turned::Turned;
 pub use world::World;

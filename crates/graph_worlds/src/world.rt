@@ -1,13 +1,16 @@
 //! A run of a graph on one thread.
-ghost use Rattle.std.specs.Prelude.{◌≡◌, map, IfOk};
+ghost use Rattle.std.specs.Prelude.{◌≡◌, ◌≢◌, ◌<◌, ℕ, None, [], length, get_or, map, IfOk, false};
 ghost use Rattle.stream_eval.specs.Results.{sink_values};
 ghost use Rattle.stream_lists.specs.Lists.{sinks_of};
 ghost use Rattle.graph_moments.specs.Moments.{Moment};
 ghost use Rattle.graph_turns.specs.Beginnings.{opening};
 ghost use Rattle.graph_turns.specs.Nexts.{next_of};
+ghost use Rattle.graph_turns.specs.Answers.{is_stalled};
 
 use crate::machine::Machine;
+use crate::parked::Parked;
 use crate::step::Step;
+use graph_base::Place;
 use std::alloc::{AllocError, Global};
 use std::marker::Model;
 use stream_eval::Lines;
@@ -21,17 +24,27 @@ use stream_lists::Job;
 pub struct World<'a> {
     job: &'a Job,
     machine: Machine,
+    // where a value was out of range
+    met: Option<(Place, u64)>,
+    parked: Parked,
 }
 
 impl<'a> Model for World<'a> {
+    ghost use Rattle.std.specs.Prelude.{◌≡◌, length};
     ghost use Rattle.graph_worlds.specs.Worlds.{WorldState};
     ghost use Rattle.graph_worlds.specs.Machines.{IsMachine};
 
     ghost Value = { WorldState };
 
-    ghost view = { λ w. record { job = w.job.now; machine = w.machine } };
+    ghost view = { λ w. record {
+      job = w.job.now;
+      machine = w.machine;
+      met = w.met;
+      parked = w.parked;
+    } };
 
-    ghost invariant = { λ w. IsMachine w.job.now w.machine };
+    ghost invariant = { λ w. IsMachine w.job.now w.machine
+        × (length w.parked ≡ length w.job.now.graph.phasers) };
 }
 
 impl<'a> World<'a> {
@@ -42,13 +55,21 @@ impl<'a> World<'a> {
     /// without a parent, in the order of their lines, as 1, 2, .., and has left.
     ///
     /// It takes memory for a slot of each phase that a phaser may have open, an entry for each
-    /// registration, the window of each filter and a list for each sink.
+    /// registration, the window of each filter, and a list for each sink and each phaser.
     pub fn new(alloc: Global, job: &'a Job) -> Result<World<'a>, AllocError>
         ensures job { IfOk result (λ world. world.job ≡ job.now) }
         ensures opening { IfOk result (λ world. IsWorldAt world (opening job.now)) }
+        ensures met { IfOk result (λ world. world.met ≡ None) }
+        ensures parked { IfOk result (λ world. (p : ℕ) → get_or world.parked p [] ≡ []) }
     {
         let machine = Machine::new(alloc, job)?;
-        Ok(World { job, machine })
+        let parked = Parked::new(alloc, job.graph().phasers())?;
+        Ok(World {
+            job,
+            machine,
+            met: None,
+            parked,
+        })
     }
 
     /// Tells what task number `task` does next: nothing, where it is not live or there is none of
@@ -69,5 +90,25 @@ impl<'a> World<'a> {
             ≡ map (λ t. (t, m.taken t 0)) (sinks_of self.now.job) }
     {
         &self.machine.lines
+    }
+
+    /// Lends the tasks that were blocked on a phaser since its last event. It takes no memory.
+    pub fn parked(&self, phaser: usize) -> &[usize]
+        requires { phaser < length self.now.job.graph.phasers }
+        ensures { result.now ≡ get_or self.now.parked phaser [] }
+    {
+        self.parked.on(phaser)
+    }
+
+    /// Tells whether no task can move: some task is live, and the turn of each live task would be
+    /// blocked. After a value out of range no run is stalled. It takes no memory.
+    ///
+    /// It looks at each task.
+    pub fn stalled(&self) -> bool
+        ensures stalled { (m : Moment) → IsWorldAt self.now m → self.now.met ≡ None
+            → is_stalled self.now.job m ≡ result }
+        ensures met { self.now.met ≢ None → result ≡ false }
+    {
+        self.met.is_none() && self.machine.is_stalled(self.job)
     }
 }

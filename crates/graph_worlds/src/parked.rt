@@ -1,0 +1,76 @@
+//! The tasks that were blocked on each phaser.
+ghost use Rattle.std.specs.Prelude.{◌≡◌, ◌<◌, [], length, get_or, set, ℕ, IfOk};
+ghost use Rattle.graph_worlds.specs.Parking.{IsTaskList, with_task};
+
+use smallvec::SmallVec;
+use std::alloc::{AllocError, Global};
+use std::marker::Model;
+
+/// For each phaser a list of the tasks that were blocked there since its last event.
+#[derive(Drop)]
+pub struct Parked {
+    lists: Vec<SmallVec<usize, 64>>,
+}
+
+impl Model for Parked {
+    ghost use Rattle.std.specs.Prelude.{List, ℕ};
+    ghost use Rattle.std.specs.List.{All};
+    ghost use Rattle.graph_worlds.specs.Parking.{IsTaskList, parked_view};
+
+    ghost Value = { List (List ℕ) };
+
+    ghost view = { parked_view };
+
+    ghost invariant = { λ p. All IsTaskList p.lists.items };
+}
+
+impl Parked {
+    /// Makes an empty list for each phaser, with room for all tasks of a graph.
+    pub fn new(alloc: Global, phasers: usize) -> Result<Parked, AllocError>
+        ensures many { IfOk result (λ parked. length parked ≡ phasers) }
+        ensures empty { IfOk result (λ parked. (p : ℕ) → get_or parked p [] ≡ []) }
+    {
+        let mut lists = Vec::with_capacity(alloc, phasers)?;
+        for _ in 0..phasers {
+            lists.push(SmallVec::new(alloc))?;
+        }
+        Ok(Parked { lists })
+    }
+
+    /// The tasks in the list of a phaser.
+    pub fn on(&self, phaser: usize) -> &[usize]
+        requires { phaser < length self.now }
+        ensures { result.now ≡ get_or self.now phaser [] }
+    {
+        self.lists[phaser].as_slice()
+    }
+
+    /// Puts a task behind the list of a phaser, where it does not stand there.
+    pub fn park(&mut self, phaser: usize, task: usize)
+        requires phaser { phaser < length self.old }
+        requires task { task < 64 }
+        ensures { self.new ≡ set self.old phaser (with_task task (get_or self.old phaser [])) }
+    {
+        park_in(&mut self.lists[phaser], task);
+    }
+
+    /// Empties the list of a phaser.
+    pub fn free(&mut self, phaser: usize)
+        requires { phaser < length self.old }
+        ensures { self.new ≡ set self.old phaser [] }
+    {
+        self.lists[phaser].clear();
+    }
+}
+
+/// Puts a task behind a list, where it does not stand there.
+fn park_in(list: &mut SmallVec<usize, 64>, task: usize)
+    requires list { IsTaskList list.old }
+    requires task { task < 64 }
+    ensures items { list.new.items ≡ with_task task list.old.items }
+    ensures list { IsTaskList list.new }
+{
+    if !list.as_slice().contains(&task) {
+        list.push_reserved(task);
+    }
+}

@@ -1,0 +1,225 @@
+//! Tasks without a graph.
+use std::sync::atomic::AtomicU64;
+use std::sync::atomic::Ordering::SeqCst;
+use std::thread;
+use worker_pool::{Fault, Turned, Work};
+
+// How often a task that is held looks whether it may go on.
+const LOOKS: u32 = 100_000;
+
+/// A phaser of one task that puts and one that takes: how many it has of each.
+#[derive(Drop)]
+pub struct Place {
+    number: usize,
+    bound: u64,
+    put: AtomicU64,
+    taken: AtomicU64,
+    turns: AtomicU64,
+}
+
+impl Place {
+    pub fn new(number: usize, bound: u64) -> Place {
+        Place {
+            number,
+            bound,
+            put: AtomicU64::new(0),
+            taken: AtomicU64::new(0),
+            turns: AtomicU64::new(0),
+        }
+    }
+
+    /// How many were taken.
+    pub fn taken(&self) -> u64 {
+        self.taken.load(SeqCst)
+    }
+
+    /// How often a task tried.
+    pub fn turns(&self) -> u64 {
+        self.turns.load(SeqCst)
+    }
+
+    fn is_full(&self) -> bool {
+        self.put.load(SeqCst).saturating_sub(self.taken()) >= self.bound
+    }
+
+    // Puts one, where there is room.
+    fn put(&self) -> Turned {
+        self.turns.fetch_add(1, SeqCst);
+        if self.is_full() {
+            return Turned::Blocked(self.number);
+        }
+        self.put.fetch_add(1, SeqCst);
+        Turned::Moved(self.number)
+    }
+
+    // Takes one, where there is one.
+    fn take(&self) -> Turned {
+        self.turns.fetch_add(1, SeqCst);
+        if self.put.load(SeqCst) <= self.taken() {
+            return Turned::Blocked(self.number);
+        }
+        self.taken.fetch_add(1, SeqCst);
+        Turned::Moved(self.number)
+    }
+
+    /// Waits until so many were put. Tells whether it saw them.
+    fn sees_put(&self, count: u64) -> bool {
+        for _ in 0..LOOKS {
+            if self.put.load(SeqCst) >= count {
+                return true;
+            }
+            thread::yield_now();
+        }
+        false
+    }
+}
+
+/// What a task of the tests does.
+#[derive(Drop)]
+pub enum Toy<'a> {
+    /// Puts so many.
+    Source {
+        at: &'a Place,
+        left: u64,
+    },
+    /// Takes so many.
+    Sink {
+        at: &'a Place,
+        left: u64,
+    },
+    /// Takes one, and is held until so many were put.
+    Held {
+        at: &'a Place,
+        until: u64,
+    },
+    /// Puts one, which makes no other wait, and is held until so many were put.
+    Meets {
+        at: &'a Place,
+        has_put: bool,
+        until: u64,
+    },
+    /// Goes on for so many turns, and then its child of this number is born.
+    Parent {
+        child: usize,
+        left: u64,
+    },
+    /// Was not born. Then it goes on as a sink.
+    Child {
+        at: &'a Place,
+        left: u64,
+    },
+    /// Never ends by itself.
+    Endless,
+    /// Fails after so many turns.
+    Fails {
+        fault: Fault,
+        left: u64,
+    },
+    /// Is done.
+    Done,
+}
+
+impl<'a> Toy<'a> {
+    // One less to do; done where none is left.
+    fn moved(&mut self, turned: Turned) -> Turned {
+        if let Turned::Moved(_) = turned {
+            match self {
+                Toy::Source { left, .. } | Toy::Sink { left, .. } => {
+                    *left = left.saturating_sub(1);
+                }
+                _ => {}
+            }
+        }
+        turned
+    }
+
+    // Takes one, and is then held until so many were put.
+    fn held(&mut self, at: &'a Place, until: u64) -> Turned {
+        if at.taken() == 0 {
+            return at.take();
+        }
+        *self = Toy::Done;
+        seen_by(at, until)
+    }
+
+    // Puts one, and is then held until so many were put.
+    fn meets(&mut self, at: &'a Place, has_put: bool, until: u64) -> Turned {
+        if has_put {
+            *self = Toy::Done;
+            return seen_by(at, until);
+        }
+        *self = Toy::Meets {
+            at,
+            has_put: true,
+            until,
+        };
+        at.put()
+    }
+
+    fn parent(&mut self, child: usize, left: u64) -> Turned {
+        if left == 0 {
+            *self = Toy::Done;
+            return Turned::Born(child);
+        }
+        *self = Toy::Parent {
+            child,
+            left: left.wrapping_sub(1),
+        };
+        Turned::Ready
+    }
+
+    fn fails(&mut self, fault: Fault, left: u64) -> Turned {
+        if left == 0 {
+            return Turned::Failed(fault);
+        }
+        *self = Toy::Fails {
+            fault,
+            left: left.wrapping_sub(1),
+        };
+        Turned::Ready
+    }
+}
+
+// Fails as a value too big would, where it has waited for too long.
+fn seen_by(at: &Place, until: u64) -> Turned {
+    if at.sees_put(until) {
+        Turned::Ready
+    } else {
+        Turned::Failed(Fault::TooBig)
+    }
+}
+
+impl<'a> Work for Toy<'a> {
+    fn phasers(&self) -> u64 {
+        match self {
+            Toy::Source { at, .. }
+            | Toy::Sink { at, .. }
+            | Toy::Held { at, .. }
+            | Toy::Meets { at, .. }
+            | Toy::Child { at, .. } => 1u64.wrapping_shl((at.number & 63) as u32),
+            _ => 0,
+        }
+    }
+
+    fn turn(&mut self) -> Turned {
+        match *self {
+            Toy::Source { left: 0, .. } | Toy::Sink { left: 0, .. } | Toy::Done => Turned::Gone,
+            Toy::Source { at, .. } => self.moved(at.put()),
+            Toy::Sink { at, .. } => self.moved(at.take()),
+            Toy::Held { at, until } => self.held(at, until),
+            Toy::Meets { at, has_put, until } => self.meets(at, has_put, until),
+            Toy::Parent { child, left } => self.parent(child, left),
+            Toy::Child { .. } => Turned::Failed(Fault::OutOfMemory),
+            Toy::Endless => Turned::Ready,
+            Toy::Fails { fault, left } => self.fails(fault, left),
+        }
+    }
+
+    fn bring(&mut self, child: &mut Toy<'a>) -> bool {
+        let Toy::Child { at, left } = *child else {
+            return false;
+        };
+        *child = Toy::Sink { at, left };
+        true
+    }
+}

@@ -1,0 +1,28 @@
+//! Worker threads that go on with tasks by turns. A task is a value with a lock of its own; which
+//! worker goes on with which task is decided under one lock beside them.
+//!
+//! A worker goes on with a task as far as it comes, and then takes another, best one that meets no
+//! other task with which a worker is at work. A task that waits on a phaser is not taken again before
+//! something happens there. A worker with nothing to do sleeps, for a millisecond at most.
+//!
+//! ```text
+//! let mut pool = Pool::with_room(alloc, 2)?;
+//! pool.push(source);                       // task 0
+//! pool.push(sink);                         // task 1
+//! let fault = pool.run(&rt, 4);            // until all are done, or one failed
+//! let sink = pool.pop();                   // the last task
+//! ```
+//!
+//! Proved: that the code is safe, and which calls may wait. Only tested: that a run comes to an end,
+//! and that it tells `Stalled` only where every task waits. Not promised: a time.
+#![tactic(auto)]
+
+mod bell;
+mod number_set;
+mod pool;
+mod task_sets;
+mod work;
+mod workers;
+
+pub use pool::Pool;
+pub use work::{Fault, Turned, Work};

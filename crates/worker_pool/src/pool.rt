@@ -1,0 +1,250 @@
+//! The tasks of a run, between the workers.
+ghost use Rattle.std.specs.Prelude.{◌≡◌, ◌+◌, ◌↔◌, None, OnOk, OnErr, IfOk, IsSome};
+
+use crate::bell::Bell;
+use crate::number_set::NumberSet;
+use crate::task_sets::{Choice, Next, Taken, TaskSets, Went};
+use crate::work::{Fault, Turned, Work};
+use crate::workers::work_all;
+use crossbeam_utils::CachePadded;
+use std::alloc::{AllocError, Global};
+use std::marker::Model;
+use std::sync::{Mutex, Wait};
+use std::thread::Threads;
+use std::{hint, thread};
+
+// How many turns a worker makes with one task before it puts it back, at most.
+const TURNS_MAX: u32 = 1024;
+
+// How often it tries again where another is in the middle of a call.
+const TRIES_MAX: u32 = 300;
+
+// How often a worker with nothing to do yields before it sleeps.
+const YIELDS: u32 = 20;
+
+// How many tasks there are, at most.
+const TASKS_MAX: usize = 64;
+
+/// The tasks of a run, at most 64, numbered from 0 in the order in which they were put in. Each has a
+/// lock, which only the worker that took it takes. In contracts a pool is how many tasks it has.
+///
+/// **End.** It may be thrown away where a task may. Else `pop` takes out the tasks, and
+/// `destroy_empty` ends it.
+#[derive(Drop)]
+pub struct Pool<T: Work> {
+    tasks: Vec<Mutex<T>>,
+    sets: Mutex<TaskSets>,
+    bell: CachePadded<Bell>,
+}
+
+impl<T: Work> Model for Pool<T> {
+    ghost use Rattle.std.specs.Prelude.{ℕ};
+    ghost use Rattle.std.specs.Vec.{vec_len};
+
+    ghost Value = { ℕ };
+
+    ghost view = { λ pool. vec_len pool.tasks };
+}
+
+impl<T: Work> Pool<T> {
+    /// Makes one without a task, with room for so many. No other call takes memory, but for a `push`
+    /// beyond these.
+    pub fn with_room(alloc: Global, tasks: usize) -> Result<Pool<T>, AllocError>
+        ensures { IfOk result (λ pool. pool ≡ 0) }
+    {
+        Ok(Pool {
+            tasks: Vec::with_capacity(alloc, tasks)?,
+            sets: Mutex::new(TaskSets::new()),
+            bell: CachePadded::new(Bell::new()),
+        })
+    }
+
+    /// Puts in a task that may go on. It comes back where there are 64, or no memory.
+    pub fn push(&mut self, task: T) -> Result<(), T>
+        ensures ok { OnOk result (self.new ≡ self.old + 1) }
+        ensures err { OnErr result (self.new ≡ self.old) }
+    {
+        let number = self.tasks.len();
+        let phasers = NumberSet::from_bits(task.phasers());
+        self.push_unborn(task)?;
+        self.sets.get_mut().admit(number, phasers);
+        Ok(())
+    }
+
+    /// Puts in a task that goes on once another has brought it to life. It comes back where there are
+    /// 64, or no memory.
+    pub fn push_unborn(&mut self, task: T) -> Result<(), T>
+        ensures ok { OnOk result (self.new ≡ self.old + 1) }
+        ensures err { OnErr result (self.new ≡ self.old) }
+    {
+        if self.tasks.len() >= TASKS_MAX || self.tasks.reserve(1).is_err() {
+            return Err(task);
+        }
+        self.tasks.push_reserved(Mutex::new(task));
+        Ok(())
+    }
+
+    /// Goes on with the tasks until all are done, or until there is a fault, which it tells. The
+    /// thread that calls is one of `workers` workers; where a thread cannot be made, the run goes on
+    /// without it.
+    pub fn run<R: Threads + Wait + Sync>(&self, rt: &R, workers: usize) -> Option<Fault>
+    where
+        T: Send,
+    {
+        work_all(rt, self, workers);
+        self.sets.lock(rt).fault()
+    }
+
+    /// Takes out the task that was put in last.
+    pub fn pop(&mut self) -> Option<T>
+        ensures some { IsSome result → self.old ≡ self.new + 1 }
+        ensures none { (result ≡ None) ↔ (self.old ≡ 0) }
+        ensures same { result ≡ None → self.new ≡ 0 }
+    {
+        let task = self.tasks.pop()?;
+        Some(task.into_inner())
+    }
+
+    /// Ends it, where it has no task.
+    pub fn destroy_empty(self)
+        requires { self ≡ 0 }
+    {
+        let Pool {
+            tasks,
+            sets: _,
+            bell: _,
+        } = self;
+        tasks.destroy_empty();
+    }
+
+    /// Takes a task, or waits a while for one.
+    pub(crate) fn wait<W: Wait>(&self, rt: &W) -> Next {
+        for _ in 0..YIELDS {
+            if self.bell.has_work() {
+                match self.take(rt, Choice::Apart) {
+                    Next::Wait => {}
+                    next => return next,
+                }
+            }
+            thread::yield_now();
+        }
+        self.sleep(rt)
+    }
+
+    /// Takes a task.
+    pub(crate) fn take<W: Wait>(&self, rt: &W, choice: Choice) -> Next {
+        let mut sets = self.sets.lock(rt);
+        let next = sets.take(choice);
+        self.bell.show(sets.has_apart());
+        next
+    }
+
+    // Sleeps where there is no task to take, and takes any when it was not called meanwhile.
+    fn sleep<W: Wait>(&self, rt: &W) -> Next {
+        let rings = self.bell.rings();
+        let next = self.take_or_sleep(rt);
+        let Next::Wait = next else {
+            return next;
+        };
+        self.bell.sleep(rt, rings);
+        self.sets.lock(rt).woke();
+        if self.bell.rings() == rings {
+            self.take(rt, Choice::Any)
+        } else {
+            self.take(rt, Choice::Apart)
+        }
+    }
+
+    // Notes that the worker sleeps, where there is no task to take.
+    fn take_or_sleep<W: Wait>(&self, rt: &W) -> Next {
+        let mut sets = self.sets.lock(rt);
+        let next = sets.take(Choice::Apart);
+        if let Next::Wait = next {
+            sets.sleeps();
+        }
+        next
+    }
+
+    /// Puts a task back, and takes the next.
+    pub(crate) fn put_back<W: Wait>(&self, rt: &W, taken: Taken, went: Went) -> Next {
+        let mut sets = self.sets.lock(rt);
+        sets.put_back(taken, went);
+        let next = sets.take(Choice::Apart);
+        let calls = sets.calls();
+        self.bell.show(sets.has_apart());
+        drop(sets);
+        match next {
+            Next::Over => self.bell.ring_all(),
+            _ if calls => self.bell.ring(),
+            _ => {}
+        }
+        next
+    }
+
+    /// Goes on with a task as far as it comes.
+    pub(crate) fn go_on<W: Wait>(&self, rt: &W, number: usize) -> Went {
+        let Some(task) = self.tasks.get(number) else {
+            return stuck();
+        };
+        let mut task = task.lock(rt);
+        let mut went = go_on(&mut *task);
+        if let Turned::Born(child) = went.turned {
+            if child == number || !self.bring(rt, &mut *task, child) {
+                return stuck();
+            }
+            went.events.insert_all(NumberSet::from_bits(task.phasers()));
+        }
+        went
+    }
+
+    // Makes a task of the child that is born.
+    fn bring<W: Wait>(&self, rt: &W, parent: &mut T, child: usize) -> bool {
+        let Some(task) = self.tasks.get(child) else {
+            return false;
+        };
+        let mut task = task.lock(rt);
+        if !parent.bring(&mut *task) {
+            return false;
+        }
+        let phasers = NumberSet::from_bits(task.phasers());
+        self.sets.lock(rt).admit(child, phasers);
+        true
+    }
+}
+
+// No turn was made.
+fn stuck() -> Went {
+    Went {
+        turned: Turned::Failed(Fault::Stalled),
+        events: NumberSet::new(),
+        turns: 0,
+    }
+}
+
+// Goes on with a task as far as it comes.
+fn go_on<T: Work>(task: &mut T) -> Went {
+    let mut events = NumberSet::new();
+    let mut tries = 0;
+    for turns in 0..TURNS_MAX {
+        match task.turn() {
+            Turned::Moved(phaser) => events.insert(phaser),
+            Turned::Ready => {}
+            Turned::Busy if tries < TRIES_MAX => {
+                tries += 1;
+                hint::spin_loop();
+            }
+            turned => {
+                return Went {
+                    turned,
+                    events,
+                    turns,
+                };
+            }
+        }
+    }
+    Went {
+        turned: Turned::Ready,
+        events,
+        turns: TURNS_MAX,
+    }
+}

@@ -1,0 +1,272 @@
+//! Which task a worker takes next. No contract speaks of it: a wrong answer costs time, or a run
+//! that answers that it stands still.
+use crate::number_set::NumberSet;
+use crate::work::{Fault, Turned};
+
+// A worker that sleeps is called at most once in so many turns of tasks.
+const TURNS_BETWEEN_CALLS: u32 = 256;
+
+/// What a worker is to do.
+#[derive(Clone, Copy, Debug)]
+pub enum Next {
+    /// To go on with this task.
+    Take(Taken),
+    /// To wait until there is more.
+    Wait,
+    /// To end.
+    Over,
+}
+
+/// A task that a worker took.
+#[derive(Clone, Copy, Debug)]
+pub struct Taken {
+    pub task: usize,
+    // how often events had been told when it was taken
+    told: u64,
+}
+
+/// Which of the tasks a worker takes.
+#[derive(Clone, Copy, Debug, PartialEq, Eq)]
+pub enum Choice {
+    /// One that may go on, none of whose phasers is in use by another worker.
+    Apart,
+    /// Where there is none, any that may go on; where there is none either, one that waits for an
+    /// event, while a worker is at work that may have made one: it tells of its events only when it
+    /// puts its task back.
+    Any,
+}
+
+/// How far a worker came with a task.
+#[derive(Clone, Copy, Debug)]
+pub struct Went {
+    pub turned: Turned,
+    // the phasers on which it made events, and how many turns it made
+    pub events: NumberSet,
+    pub turns: u32,
+}
+
+/// The tasks by what may be done with them. A live task may go on, or waits for an event, or is with
+/// a worker.
+#[derive(Drop)]
+pub struct TaskSets {
+    ready: NumberSet,
+    waiting: NumberSet,
+    working: NumberSet,
+    // those with a worker that tries again, though nothing was told
+    trying: NumberSet,
+    // the phasers of each task, and the one that it waits on
+    phasers: [NumberSet; 64],
+    waits_on: [usize; 64],
+    // how often events were told, and for each phaser the last time
+    told: u64,
+    last_told: [u64; 64],
+    // the number of the task after the one that was taken last
+    from: u32,
+    // how many workers sleep, and the turns since one was called
+    asleep: u32,
+    turns: u32,
+    fault: Option<Fault>,
+}
+
+impl TaskSets {
+    /// Makes the sets with no task.
+    pub fn new() -> TaskSets {
+        TaskSets {
+            ready: NumberSet::new(),
+            waiting: NumberSet::new(),
+            working: NumberSet::new(),
+            trying: NumberSet::new(),
+            phasers: [NumberSet::new(); 64],
+            waits_on: [0; 64],
+            told: 0,
+            last_told: [0; 64],
+            from: 0,
+            asleep: 0,
+            turns: 0,
+            fault: None,
+        }
+    }
+
+    /// Puts in a task that may go on, with the phasers of its line.
+    pub fn admit(&mut self, task: usize, phasers: NumberSet) {
+        self.ready.insert(task);
+        self.phasers[task & 63] = phasers;
+    }
+
+    /// Tells why the run has no lines, where it has none.
+    pub fn fault(&self) -> Option<Fault> {
+        self.fault
+    }
+
+    // Keeps the first fault.
+    fn fail(&mut self, fault: Fault) {
+        if self.fault.is_none() {
+            self.fault = Some(fault);
+        }
+    }
+
+    /// Takes the next task. Where every live task waits and none is with a worker, the run stands
+    /// still.
+    pub fn take(&mut self, choice: Choice) -> Next {
+        if self.fault.is_some() || self.is_done() {
+            return Next::Over;
+        }
+        if self.ready.is_empty() && self.working.is_empty() {
+            self.fail(Fault::Stalled);
+            return Next::Over;
+        }
+        let Some(task) = self.choose(choice) else {
+            return Next::Wait;
+        };
+        if self.waiting.contains(task) {
+            self.trying.insert(task);
+        }
+        self.ready.remove(task);
+        self.waiting.remove(task);
+        self.working.insert(task);
+        self.from = (task & 63) as u32 + 1;
+        Next::Take(Taken {
+            task,
+            told: self.told,
+        })
+    }
+
+    // Whether no task is live.
+    fn is_done(&self) -> bool {
+        self.ready.is_empty() && self.waiting.is_empty() && self.working.is_empty()
+    }
+
+    fn choose(&self, choice: Choice) -> Option<usize> {
+        let apart = self.first_apart();
+        match choice {
+            Choice::Apart => apart,
+            Choice::Any => apart
+                .or(self.ready.first_from(self.from))
+                .or(self.first_to_try()),
+        }
+    }
+
+    // The first that waits, where a worker may have made an event that it has not told.
+    fn first_to_try(&self) -> Option<usize> {
+        if self.working == self.trying {
+            return None;
+        }
+        self.waiting.first_from(self.from)
+    }
+
+    // The first that may go on, none of whose phasers is in use.
+    fn first_apart(&self) -> Option<usize> {
+        let in_use = self.in_use();
+        let mut rest = self.ready;
+        for _ in 0..64 {
+            let task = rest.first_from(self.from)?;
+            if !self.phasers[task & 63].meets(in_use) {
+                return Some(task);
+            }
+            rest.remove(task);
+        }
+        None
+    }
+
+    // The phasers of the tasks that are with workers.
+    fn in_use(&self) -> NumberSet {
+        let mut phasers = NumberSet::new();
+        let mut rest = self.working;
+        for _ in 0..64 {
+            let Some(task) = rest.first_from(0) else {
+                break;
+            };
+            phasers.insert_all(self.phasers[task & 63]);
+            rest.remove(task);
+        }
+        phasers
+    }
+
+    /// Puts a task back.
+    pub fn put_back(&mut self, taken: Taken, went: Went) {
+        let task = taken.task;
+        self.working.remove(task);
+        self.trying.remove(task);
+        self.turns = self.turns.saturating_add(went.turns);
+        // An event that the task made itself came before it was refused.
+        let is_refused_still = match went.turned {
+            Turned::Blocked(phaser) => self.last_told[phaser & 63] <= taken.told,
+            _ => false,
+        };
+        self.tell(went.events);
+        match went.turned {
+            Turned::Blocked(phaser) if is_refused_still => self.park(task, phaser),
+            Turned::Blocked(_) | Turned::Moved(_) | Turned::Ready => self.ready.insert(task),
+            Turned::Busy | Turned::Born(_) => self.ready.insert(task),
+            Turned::Gone => {}
+            Turned::Failed(fault) => self.fail(fault),
+        }
+    }
+
+    // The task waits for an event on the phaser.
+    fn park(&mut self, task: usize, phaser: usize) {
+        self.waiting.insert(task);
+        self.waits_on[task & 63] = phaser;
+    }
+
+    // Tells of events on these phasers: those that wait for one may go on.
+    fn tell(&mut self, events: NumberSet) {
+        if events.is_empty() {
+            return;
+        }
+        self.told = self.told.wrapping_add(1);
+        self.note(events);
+        self.free(events);
+    }
+
+    // Notes when the phasers had events last.
+    fn note(&mut self, events: NumberSet) {
+        let mut rest = events;
+        for _ in 0..64 {
+            let Some(phaser) = rest.first_from(0) else {
+                return;
+            };
+            self.last_told[phaser & 63] = self.told;
+            rest.remove(phaser);
+        }
+    }
+
+    // Those that wait for an event on these phasers may go on.
+    fn free(&mut self, events: NumberSet) {
+        let mut rest = self.waiting;
+        for _ in 0..64 {
+            let Some(task) = rest.first_from(0) else {
+                return;
+            };
+            if events.contains(self.waits_on[task & 63]) {
+                self.waiting.remove(task);
+                self.ready.insert(task);
+            }
+            rest.remove(task);
+        }
+    }
+
+    /// Tells whether there is a task to take beside those that are with workers.
+    pub fn has_apart(&self) -> bool {
+        self.first_apart().is_some()
+    }
+
+    /// Notes that a worker goes to sleep.
+    pub fn sleeps(&mut self) {
+        self.asleep = self.asleep.saturating_add(1);
+    }
+
+    /// Notes that a worker woke.
+    pub fn woke(&mut self) {
+        self.asleep = self.asleep.saturating_sub(1);
+    }
+
+    /// Tells whether a worker that sleeps should be called.
+    pub fn calls(&mut self) -> bool {
+        if self.asleep == 0 || self.turns < TURNS_BETWEEN_CALLS || !self.has_apart() {
+            return false;
+        }
+        self.turns = 0;
+        true
+    }
+}

@@ -1,0 +1,47 @@
+//! What workers go on with.
+
+/// A task that goes on by short turns, none of which waits for another task.
+///
+/// Tasks and phasers have numbers from 0 to 63. A phaser is where tasks meet: what one does there may
+/// let another go on.
+pub trait Work {
+    /// The phasers on which it meets others, as bits: bit `p` for phaser number `p`.
+    fn phasers(&self) -> u64;
+
+    /// Goes on by one turn.
+    fn turn(&mut self) -> Turned;
+
+    /// Makes a task of its child of which it has just answered that it is born. Answers false where
+    /// there is no such child.
+    fn bring(&mut self, child: &mut Self) -> bool;
+}
+
+/// How far a task came by one turn.
+#[derive(Clone, Copy, Debug, PartialEq, Eq)]
+pub enum Turned {
+    /// It did something on this phaser that may let others go on.
+    Moved(usize),
+    /// It goes on.
+    Ready,
+    /// Others have to go on first, on this phaser.
+    Blocked(usize),
+    /// Another was in the middle of a call on the same phaser.
+    Busy,
+    /// Its child of this number may be brought to life.
+    Born(usize),
+    /// It is done.
+    Gone,
+    /// It cannot go on, for this reason.
+    Failed(Fault),
+}
+
+/// Why a run ended before all its tasks were done.
+#[derive(Clone, Copy, Debug, PartialEq, Eq)]
+pub enum Fault {
+    /// A value is out of range.
+    TooBig,
+    /// Every task waits for another.
+    Stalled,
+    /// There was no memory.
+    OutOfMemory,
+}
