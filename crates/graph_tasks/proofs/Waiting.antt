@@ -298,3 +298,13 @@ task_takes job spots s k p begun x old new owed filter lines entered few here in
                 (sym both.1.2) next.1,
           );
     }
+
+-- the registration of an input
+pub input_on : (job : Job) (s : TaskState) (k p : ℕ) → IsWhole job s
+    → k < length (task_at job.graph s.number).inputs → p ≡ input_at (task_at job.graph s.number) k
+    → (k < length (registrations_at job s.number))
+    × ((registration_at job s.number k).phaser ≡ p)
+input_on job s k p whole few is =
+    let all : length (registrations_at job s.number) ≡ length (task_at job.graph s.number).inputs + length (task_at job.graph s.number).outputs =
+    many job s.number whole.graph whole.there in
+    (omega arith, of_input job s.number k whole.graph whole.there few ∙ sym is)
