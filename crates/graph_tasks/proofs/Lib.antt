@@ -1,2 +1,4 @@
 mod Holding
 mod Turning
+mod Waiting
+mod Ending

@@ -1,4 +1,7 @@
 //! The children that a task registers between two steps.
+ghost use Rattle.std.specs.Prelude.{◌≡◌, ◌<◌, ◌≤◌, length, true, false};
+ghost use Rattle.graph_turns.specs.Nexts.{registrations_at};
+ghost use Rattle.graph_tasks.specs.Tasks.{IsWhole, HasAllNow};
 
 use crate::child::Child;
 use crate::hold::Hold;
@@ -10,16 +13,18 @@ use std::mem;
 use stream_lists::Job;
 
 impl<'a> TaskState<'a> {
-    /// The first child that comes now and whose registrations are not all made, or which is not
-    /// delivered, by its place among the children.
-    pub fn first_due(&self, job: &Job) -> Option<usize> {
+    /// Whether a child comes now whose registrations are not all made.
+    pub fn is_child_due(&self, job: &Job) -> bool
+        requires { IsWhole job.now self.now }
+        ensures { result ≡ false → HasAllNow job.now self.now }
+    {
         for i in 0..self.children.len() {
             let child = &self.children[i];
-            if child.at == self.begun && (self.born == Some(child.task) || !is_whole(job, child)) {
-                return Some(i);
+            if child.at == self.begun && !is_whole(job, child) {
+                return true;
             }
         }
-        None
+        false
     }
 
     /// Makes the next registration of a child.
@@ -88,6 +93,10 @@ impl<'a> TaskState<'a> {
 }
 
 /// Whether all registrations of a child are made.
-fn is_whole(job: &Job, child: &Child) -> bool {
+fn is_whole(job: &Job, child: &Child) -> bool
+    requires { child.now.task < length job.now.graph.tasks }
+    ensures { result ≡ true
+        → length (registrations_at job.now child.now.task) ≤ length child.now.numbers.items }
+{
     child.numbers.len() >= job.graph().registrations(child.task)
 }
