@@ -2,3 +2,4 @@ mod Holding
 mod Turning
 mod Waiting
 mod Ending
+mod Seeding

@@ -29,15 +29,16 @@ use Rattle.graph_tasks.specs.Seeds.{IsUnborn, AreChildrenBelow, IsSeed, HasRoom,
 same_some : {X : Type 0} (a b : X) → Some a ≡ Some b → a ≡ b
 same_some a b e = cc
 
-within : {X : Type 0} (xs : List X) (i : ℕ) (x : X) → slice_get xs i ≡ Some x → i < length xs
-within [] i x e = absurd (cc)
-within (y ∷ xs) zero x e = omega arith
-within (y ∷ xs) (suc i) x e = let less = within xs i x e in omega arith
-
 get_at : (xs : List ℕ) (i x : ℕ) → slice_get xs i ≡ Some x → get_or xs i 0 ≡ x
 get_at [] i x e = absurd (cc)
 get_at (y ∷ xs) zero x e = same_some y x e
 get_at (y ∷ xs) (suc i) x e = get_at xs i x e
+
+hold_at : (holds : List Hold) (i : ℕ) (hold : Hold) → slice_get holds i ≡ Some hold
+    → get_or holds i Gone ≡ hold
+hold_at [] i hold e = absurd (cc)
+hold_at (y ∷ holds) zero hold e = same_some y hold e
+hold_at (y ∷ holds) (suc i) hold e = hold_at holds i hold e
 
 kept : {X : Type 0} (xs : List X) (y x : X) (i : ℕ) → slice_get xs i ≡ Some x
     → slice_get (xs ++ y ∷ []) i ≡ Some x
@@ -155,6 +156,27 @@ receives job spots t holds numbers x long each root i lt =
       root = subst (λ k. IsRootMember job spots t k x) (sym e) root;
     }
 
+-- the lists of a seed with it
+pub has_received : (job : Job) (spots : ℕ → Spot) (t n : ℕ) (holds later : List Hold)
+    (numbers more : List ℕ) (x : AnyMember) → later ≡ holds ++ On x ∷ []
+    → more ≡ numbers ++ n ∷ [] → n ≡ (member_in x).number → length numbers ≡ length holds
+    → ((i : ℕ) → i < length holds → HasRegistration job spots t i holds numbers)
+    → IsRootMember job spots t (length holds) x
+    → (length more ≡ length later)
+    × ((i : ℕ) → i < length later → HasRegistration job spots t i later more)
+has_received job spots t n holds later numbers more x is are at long each root =
+    let one = length-append holds (On x ∷ []) in
+    let other = length-append numbers (n ∷ []) in
+    let long_is : length later ≡ length (holds ++ On x ∷ []) = ap length is in
+    let long_are : length more ≡ length (numbers ++ n ∷ []) = ap length are in
+    let all = receives job spots t holds numbers x long each root in (
+      omega arith,
+      λ i lt. subst (λ xs. HasRegistration job spots t i xs more) (sym is)
+          (subst (HasRegistration job spots t i (holds ++ On x ∷ []))
+          (sym (are ∙ ap (λ k. numbers ++ k ∷ []) at))
+          (all i (subst (λ xs. i < length xs) is lt))),
+    )
+
 -- ---- the first moment
 
 -- what has been seen by a hold
@@ -210,7 +232,7 @@ stands_first job spots s m is seed has all first own = record {
   own = own;
   place = place;
   holds = record {
-    on = λ i hold e le. held i hold e (within s.holds.items i hold e);
+    on = λ i lt le. held i lt;
     off = λ i left e. absurd (none left i (ap (λ xs. slice_get xs i) (sym seed.lefts) ∙ e));
   };
   filter = subst (HasFilter (task_at job.graph s.number) s.filter)
@@ -252,15 +274,14 @@ stands_first job spots s m is seed has all first own = record {
           owed = nothing;
         })) (sym (ap length seed.lefts)) first.place))
 
-    held : (i : ℕ) (hold : Hold) → slice_get s.holds.items i ≡ Some hold
-        → i < length s.holds.items
-        → IsHeldOn job spots m s.number (registration_at job s.number i).phaser hold
-    held i hold e lt =
-        let r = has.each i lt in
+    held : (i : ℕ) → i < length (registrations_at job s.number)
+        → IsHeldOn job spots m s.number (registration_at job s.number i).phaser
+        (get_or s.holds.items i Gone)
+    held i few =
+        let r = has.each i (omega arith) in
         let on = r.root in
-        let few : i < length (registrations_at job s.number) = omega arith in
         subst (IsHeldOn job spots m s.number (registration_at job s.number i).phaser)
-        (same_some (On r.member) hold (sym r.hold ∙ e))
+        (sym (hold_at s.holds.items i (On r.member) r.hold))
         (record {
           op = on.line.op_is;
           at = on.at;
@@ -283,4 +304,16 @@ is_whole job spots s is seed has all room = record {
   are_there = λ i child e. (seed.children.each i child e).there;
   staying = λ over. ap length seed.lefts;
   room = room;
+}
+
+-- a root that has received all its registrations is a task of its run
+pub begins : (job : Job) (spots : ℕ → Spot) (s : TaskState) → IsGraph job.graph → IsSeed job s
+    → HasReceived job spots s → length s.holds.items ≡ length (registrations_at job s.number)
+    → length (registrations_at job s.number) ≤ s.lefts.cap
+    → (m : Moment) × IsFirstMoment job m s.number s.numbers.items (seen_by s.holds.items)
+    × HasOwnCalls job m s.number
+    → IsTask job spots s
+begins job spots s is seed has all room first = record {
+  whole = is_whole job spots s is seed has all room;
+  stands = λ met. (first.0, stands_first job spots s first.0 is seed has all first.1 first.2);
 }

@@ -1,10 +1,15 @@
 -- The next task is a child or not.
-use Rattle.std.proofs.Common.{◌≡◌, ◌<◌, length, sym, ap, refl, ◌∙◌, subst, ◌+◌}
+use Rattle.std.proofs.Common.{◌≡◌, ◌<◌, length, sym, ap, refl, ◌∙◌, subst, ◌+◌, Option, Some, None}
 use Rattle.graph_base.specs.Graphs.{Graph}
 use Rattle.graph_tasks.specs.Seeds.{AreChildrenBelow, TellsChild}
 use Rattle.graph_tasks.proofs.Seeding.{one_child, other_task}
 use Rattle.graph_tasks.proofs.seed.children_of.Goals as goal
 use Rattle.graph_tasks.proofs.seed.children_of.Goals.{in-Some+in_ok-push, in_default}
+
+-- an answer that is none
+none : {X : Type 0} (o : Option X) → ((x : X) → o ≡ Some x → ⊥) → o ≡ None
+none None not = refl
+none (Some x) not = absurd (not x refl)
 
 pub loop-c-preserved : goal.loop-c-preserved
 loop-c-preserved c =
@@ -25,5 +30,7 @@ loop-c-preserved c =
           w.new.ensures.items))
       | in_default w ↦
           (subst (AreChildrenBelow job t (n + 1)) (sym (ap (λ v. v.items) w.children-is))
-          (other_task job t n children c.loop-c.invariant ?))
+          (other_task job t n children c.loop-c.invariant
+          (subst (TellsChild job t n) (none c.child_of.result w.in_default.not-Some)
+          c.child_of.ensures)))
     ]
