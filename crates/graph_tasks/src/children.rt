@@ -19,8 +19,7 @@ impl<'a> TaskState<'a> {
         ensures { result ≡ false → HasAllNow job.now self.now }
     {
         for i in 0..self.children.len() {
-            let child = &self.children[i];
-            if child.at == self.begun && !is_whole(job, child) {
+            if is_missing(job, &self.children[i], self.begun) {
                 return true;
             }
         }
@@ -90,6 +89,15 @@ impl<'a> TaskState<'a> {
         }
         None
     }
+}
+
+/// Whether a child comes after so many steps, and its registrations are not all made.
+fn is_missing(job: &Job, child: &Child, steps: u64) -> bool
+    requires { child.now.task < length job.now.graph.tasks }
+    ensures { result ≡ false → child.now.at ≡ steps
+        → length (registrations_at job.now child.now.task) ≤ length child.now.numbers.items }
+{
+    child.at == steps && !is_whole(job, child)
 }
 
 /// Whether all registrations of a child are made.
