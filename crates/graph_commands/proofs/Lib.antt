@@ -3,3 +3,4 @@ mod Ends
 mod Needed
 mod Places
 mod Putting
+pub mod Finding

@@ -1,16 +1,18 @@
 -- How a check or an evaluation of a graph ends: its status, and what stands on its streams then.
-use Rattle.std.specs.Prelude.{◌≡◌, ◌≢◌, ◌⊎◌, ℕ, true, List, [], ◌∷◌, length, codes, decimal, Some, string_bytes}
-use Rattle.std.specs.List.{flat_map}
+use Rattle.std.specs.Prelude.{◌≡◌, ◌≢◌, ◌⊎◌, ℕ, ℤ, true, ◌&&◌, ◌==◌, List, [], ◌∷◌, length, codes, decimal, Some, None, string_bytes, if◌then◌else◌}
+use Rattle.std.specs.List.{find, flat_map, range_with_len}
+use Rattle.std.specs.Str.{bytes_eq}
 use Rattle.std.specs.Io.KnownBytes.{Appends}
 use Rattle.std.specs.declared.option.Option.{Option}
 use Rattle.graph_base.specs.Graphs.{Graph, name_at}
 use Rattle.graph_lang.specs.declared.fault.FaultKind.{FaultKind}
 use Rattle.graph_lang.specs.declared.fault.FaultKind.TheVariants.{Syntax, Limit, Twice, Unknown, OutBeforeIn, BadParent, NotHeld, AnyMeets}
 use Rattle.graph_base.specs.declared.place.Place.{Place}
+use Rattle.graph_base.specs.declared.place.Place.TheVariants as place
 use Rattle.stream_lists.specs.Jobs.{Job}
-use Rattle.stream_lists.specs.Lists.{lines_of}
+use Rattle.stream_lists.specs.Lists.{is_sink_at, lines_of}
 use Rattle.stream_lists.specs.Ranges.{Fits, first_too_big}
-use Rattle.stream_lists.specs.Texts.{text_of}
+use Rattle.stream_lists.specs.Texts.{text_of, value_text}
 use Rattle.graph_commands.specs.FileJobs.{Explains, IsJobOf, Known}
 use Rattle.graph_commands.specs.declared.fault.JobFault.{JobFault}
 use Rattle.graph_commands.specs.declared.fault.JobFault.TheVariants as fault
@@ -44,19 +46,46 @@ pub record ChecksPrefix (known : Known) (name : List ℕ) (old new : WriterState
   pub job_of : IsJobOf known name job
   pub written : AppendsPrefix old.written new.written (check_line job.graph)
 
--- the files tell a job whose values fit, and the lists of its sinks were written
-pub record Evaluates (known : Known) (name : List ℕ) (old new : WriterState) : Type 0 where
-  pub job : Job
-  pub job_of : IsJobOf known name job
-  pub fits : Fits job
-  pub written : Appends old.written new.written (text_of job.graph (lines_of job))
+-- the sink of this name, by its number, where there is one
+abbrev pub sink_named : Job → List ℕ → Option ℕ
+sink_named job name =
+    find (λ t. is_sink_at job t && bytes_eq (name_at job.graph (place.Task t)) name)
+    (range_with_len 0 (length job.graph.tasks))
 
--- the files tell a job whose values fit, and a prefix of the lists of its sinks was written
-pub record EvaluatesPrefix (known : Known) (name : List ℕ) (old new : WriterState) : Type 0 where
+-- the values of a sink among those of all
+abbrev pub values_of_sink : ℕ → List (ℕ × List ℤ) → List ℤ
+values_of_sink t [] = []
+values_of_sink t (line ∷ lines) = if line.0 == t then line.1 else values_of_sink t lines
+
+-- each sink's name, the count of its values, and the values; or the values of one sink alone
+abbrev pub sinks_text : Job → Option ℕ → List ℕ
+sinks_text job None = text_of job.graph (lines_of job)
+sinks_text job (Some t) = flat_map value_text (values_of_sink t (lines_of job))
+
+-- what is asked for, all sinks or the one of a name, is this: all of them, or the sink of this number
+abbrev pub AsksSink : Job → Option (List ℕ) → Option ℕ → Type 0
+AsksSink job None sink = sink ≡ None
+AsksSink job (Some name) sink = (sink ≢ None) × (sink_named job name ≡ sink)
+
+-- the files tell a job whose values fit, and the lists of the sinks that were asked for were written
+pub record Evaluates (known : Known) (name : List ℕ) (asked : Option (List ℕ))
+    (old new : WriterState) : Type 0 where
   pub job : Job
   pub job_of : IsJobOf known name job
   pub fits : Fits job
-  pub written : AppendsPrefix old.written new.written (text_of job.graph (lines_of job))
+  pub sink : Option ℕ
+  pub asks : AsksSink job asked sink
+  pub written : Appends old.written new.written (sinks_text job sink)
+
+-- the files tell a job whose values fit, and a prefix of these lists was written
+pub record EvaluatesPrefix (known : Known) (name : List ℕ) (asked : Option (List ℕ))
+    (old new : WriterState) : Type 0 where
+  pub job : Job
+  pub job_of : IsJobOf known name job
+  pub fits : Fits job
+  pub sink : Option ℕ
+  pub asks : AsksSink job asked sink
+  pub written : AppendsPrefix old.written new.written (sinks_text job sink)
 
 -- ---- the lines of faults
 
@@ -86,6 +115,10 @@ abbrev pub too_big_line : List ℕ → ℕ → List ℕ
 too_big_line name n = joined (
     codes "phase: too big at " ∷ name ∷ codes " " ∷ decimal n ∷ codes "\n" ∷ [])
 
+-- the line of a name that no sink has
+abbrev pub no_sink_line : List ℕ → List ℕ
+no_sink_line name = joined (codes "phase: no sink " ∷ name ∷ codes "\n" ∷ [])
+
 -- the line of a fault of the files
 abbrev pub job_line : JobFault → List ℕ
 job_line (fault.Graph found) = graph_line found.line found.kind
@@ -109,6 +142,18 @@ pub record IsNoJob {W : Type 0} (known : Known) (name : List ℕ) (status : ℕ)
   pub explains : Explains known name found
   pub status_is : status ≡ job_status found
   pub line_is : line ≡ job_line found
+  pub silent : new ≡ old
+
+-- the files tell a job, and no sink of it has the name that was asked for: nothing was written
+pub record IsNoSink {W : Type 0} (known : Known) (name : List ℕ) (asked : Option (List ℕ))
+    (status : ℕ) (line : List ℕ) (old new : Watched W) : Type 0 where
+  pub job : Job
+  pub wanted : List ℕ
+  pub job_of : IsJobOf known name job
+  pub asked_is : asked ≡ Some wanted
+  pub none : sink_named job wanted ≡ None
+  pub status_is : status ≡ 1
+  pub line_is : line ≡ no_sink_line wanted
   pub silent : new ≡ old
 
 -- the files tell a job, and the first of its values that is out of range: nothing was written
@@ -144,13 +189,15 @@ pub record CheckStops {W : Type 0} (known : Known) (name : List ℕ) (status : �
   pub says : Says line before after
 
 -- an evaluation has a status other than 0: it has its cause, whose line was told
-pub record EvalStops {W : Type 0} (known : Known) (name : List ℕ) (status : ℕ)
-    (contents : W → Option (List ℕ)) (old new : Watched W)
+pub record EvalStops {W : Type 0} (known : Known) (name : List ℕ) (asked : Option (List ℕ))
+    (status : ℕ) (contents : W → Option (List ℕ)) (old new : Watched W)
     (before after : WriterState) : Type 0 where
   pub line : List ℕ
-  pub cause : IsNoJob known name status line old new ⊎ (IsTooBig known name status line old new
-      ⊎ IsUnwritten (EvaluatesPrefix known name (writer_state contents old)
-      (writer_state contents new)) status line (writer_state contents new))
+  pub cause : IsNoJob known name status line old new
+      ⊎ (IsNoSink known name asked status line old new
+      ⊎ (IsTooBig known name status line old new
+      ⊎ IsUnwritten (EvaluatesPrefix known name asked (writer_state contents old)
+      (writer_state contents new)) status line (writer_state contents new)))
   pub says : Says line before after
 
 -- how a check ends, by its status
@@ -161,10 +208,10 @@ pub record CheckEnds {W : Type 0} (known : Known) (name : List ℕ) (status : �
       → Checks known name (writer_state contents old) (writer_state contents new)
   pub stops : status ≢ 0 → CheckStops known name status contents old new before after
 
--- how an evaluation ends, by its status
-pub record EvalEnds {W : Type 0} (known : Known) (name : List ℕ) (status : ℕ)
-    (contents : W → Option (List ℕ)) (old new : Watched W)
+-- how an evaluation ends, by its status, of all sinks or of the one of the name that was asked for
+pub record EvalEnds {W : Type 0} (known : Known) (name : List ℕ) (asked : Option (List ℕ))
+    (status : ℕ) (contents : W → Option (List ℕ)) (old new : Watched W)
     (before after : WriterState) : Type 0 where
   pub done : status ≡ 0
-      → Evaluates known name (writer_state contents old) (writer_state contents new)
-  pub stops : status ≢ 0 → EvalStops known name status contents old new before after
+      → Evaluates known name asked (writer_state contents old) (writer_state contents new)
+  pub stops : status ≢ 0 → EvalStops known name asked status contents old new before after

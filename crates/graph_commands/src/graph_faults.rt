@@ -2,7 +2,7 @@
 ghost use Rattle.std.specs.Prelude.{◌≡◌};
 ghost use Rattle.graph_base.specs.Graphs.{IsPlace, name_at};
 ghost use Rattle.graph_commands.specs.GraphRuns.{graph_line, job_line, job_status, kind_text};
-ghost use Rattle.graph_commands.specs.GraphRuns.{samples_line, too_big_line};
+ghost use Rattle.graph_commands.specs.GraphRuns.{no_sink_line, samples_line, too_big_line};
 ghost use Rattle.phase_status.specs.Statuses.{Says};
 ghost use Rattle.watched_io.specs.States.{writer_state};
 
@@ -49,6 +49,17 @@ fn tell_bad_sample<E: Write>(name: &str, number: usize, faults: &mut Watched<E>)
     let number = buffer.format(number);
     let parts = ["phase: samples of ", name, ": record ", number, "\n"];
     say(parts.as_slice(), faults);
+}
+
+/// Tells that no sink has this name, and answers the status 1.
+pub(crate) fn report_no_sink<E: Write>(name: &str, faults: &mut Watched<E>) -> u8
+    ensures status { result ≡ 1 }
+    ensures line { Says (no_sink_line name.now)
+        (writer_state E.contents faults.old) (writer_state E.contents faults.new) }
+{
+    let parts = ["phase: no sink ", name, "\n"];
+    say(parts.as_slice(), faults);
+    GRAPH_REFUSED
 }
 
 /// Tells why the files give no job, and answers the status: 1 where the graph or the samples are

@@ -1,22 +1,26 @@
 //! A check and an evaluation of a graph, and the reports of their faults.
-ghost use Rattle.std.specs.Prelude.{◌≡◌, ◌⊎◌, ℕ, List, true, OnOk, OnErr};
+ghost use Rattle.std.specs.Prelude.{◌≡◌, ◌⊎◌, ℕ, List, Option, true, OnOk, OnErr, map, option_map};
 ghost use Rattle.std.specs.Io.KnownBytes.{Appends};
 ghost use Rattle.graph_commands.specs.FileJobs.{IsJobOf, Known};
-ghost use Rattle.graph_commands.specs.GraphRuns.{CheckEnds, EvalEnds, check_line};
+ghost use Rattle.graph_commands.specs.GraphRuns.{AsksSink, CheckEnds, EvalEnds, check_line};
+ghost use Rattle.graph_commands.specs.GraphRuns.{sinks_text};
+ghost use Rattle.stream_eval.specs.Results.{sink_values};
+ghost use Rattle.stream_lists.specs.Lists.{lines_of};
 ghost use Rattle.phase_status.specs.Statuses.{Reports};
 ghost use Rattle.watched_io.specs.declared.fault.IoFault.TheVariants.{WriteFault};
 ghost use Rattle.watched_io.specs.Prefix.{AppendsPrefix};
 ghost use Rattle.watched_io.specs.States.{writer_state};
 ghost use Rattle.watched_io.specs.Watched.{has_failed_of, inner_of};
 
-use crate::graph_faults::{report_job_fault, report_too_big};
-use crate::{read_job, write_lines};
+use crate::graph_faults::{report_job_fault, report_no_sink, report_too_big};
+use crate::sinks::{find_sink, values_of};
+use crate::{read_job, write_lines, write_values};
 use graph_lang::Graph;
 use itoa::Buffer;
 use phase_status::{DONE, report, write_parts};
 use std::alloc::Global;
 use std::io::Write;
-use stream_eval::{EvalFault, eval};
+use stream_eval::{EvalFault, Lines, eval};
 use stream_lists::Job;
 use watched_io::{Files, IoFault, Watched, WriteFailed};
 
@@ -70,44 +74,91 @@ fn write_counts<W: Write>(graph: &Graph, output: &mut Watched<W>) -> Result<(), 
 }
 
 /// Evaluates a graph on the samples of its sources, and answers the exit status: 0, with the lists
-/// of its sinks on the output; 1 where the graph or the samples are refused; 3 where a value is out
-/// of range; or 5 after a fault. The line of a refusal or a fault goes to the fault stream.
+/// of its sinks on the output, or the values alone of the sink of the name that is asked for; 1
+/// where the graph or the samples are refused, or no sink has the name; 3 where a value is out of
+/// range; or 5 after a fault. The line of a refusal or a fault goes to the fault stream.
 pub fn eval_and_report<W: Write, E: Write, F: Files>(
     alloc: Global,
     name: &str,
+    sink: Option<&str>,
     output: &mut Watched<W>,
     faults: &mut Watched<E>,
     files: &mut F,
 ) -> u8
     ensures status { (result ≡ 0) ⊎ ((result ≡ 1) ⊎ ((result ≡ 3) ⊎ (result ≡ 5))) }
-    ensures ends { EvalEnds (F.file files.old) name.now result W.contents output.old output.new
-        (writer_state E.contents faults.old) (writer_state E.contents faults.new) }
+    ensures ends { EvalEnds (F.file files.old) name.now (option_map (λ s. s.now) sink.entry) result W.contents output.old
+        output.new (writer_state E.contents faults.old) (writer_state E.contents faults.new) }
     ensures quiet { result ≡ 0 → faults.new ≡ faults.old }
 {
     match read_job(alloc, files, name) {
-        Ok(job) => eval_job(alloc, &job, output, faults),
+        Ok(job) => eval_asked(alloc, &job, sink, output, faults),
         Err(fault) => report_job_fault(&fault, faults),
     }
 }
 
-/// Evaluates a job, and answers the exit status.
+/// Evaluates a job for all its sinks, or for the one of a name, and answers the exit status.
+fn eval_asked<W: Write, E: Write>(
+    alloc: Global,
+    job: &Job,
+    sink: Option<&str>,
+    output: &mut Watched<W>,
+    faults: &mut Watched<E>,
+) -> u8
+    ensures status { (result ≡ 0) ⊎ ((result ≡ 1) ⊎ ((result ≡ 3) ⊎ (result ≡ 5))) }
+    ensures ends { (known : Known) (name : List ℕ) → IsJobOf known name job.now
+        → EvalEnds known name (option_map (λ s. s.now) sink.entry) result W.contents output.old output.new
+        (writer_state E.contents faults.old) (writer_state E.contents faults.new) }
+    ensures quiet { result ≡ 0 → faults.new ≡ faults.old }
+{
+    let Some(name) = sink else {
+        return eval_job(alloc, job, None, output, faults);
+    };
+    match find_sink(job, name) {
+        Some(t) => eval_job(alloc, job, Some(t), output, faults),
+        None => report_no_sink(name, faults),
+    }
+}
+
+/// Evaluates a job for all its sinks, or for the one of this number, and answers the exit status.
 fn eval_job<W: Write, E: Write>(
     alloc: Global,
     job: &Job,
+    sink: Option<usize>,
     output: &mut Watched<W>,
     faults: &mut Watched<E>,
 ) -> u8
     ensures status { (result ≡ 0) ⊎ ((result ≡ 3) ⊎ (result ≡ 5)) }
-    ensures ends { (known : Known) (name : List ℕ) → IsJobOf known name job.now
-        → EvalEnds known name result W.contents output.old output.new
+    ensures ends { (known : Known) (name : List ℕ) (asked : Option (List ℕ))
+        → IsJobOf known name job.now → AsksSink job.now asked sink
+        → EvalEnds known name asked result W.contents output.old output.new
         (writer_state E.contents faults.old) (writer_state E.contents faults.new) }
     ensures quiet { result ≡ 0 → faults.new ≡ faults.old }
 {
     match eval(alloc, job) {
-        Ok(lines) => report_written(write_lines(output, job.graph(), &lines), faults),
+        Ok(lines) => report_written(write_sinks(output, job, &lines, sink), faults),
         Err(EvalFault::TooBig { place, phase }) => {
             report_too_big(job.graph(), place, phase, faults)
         }
         Err(EvalFault::OutOfMemory) => report(IoFault::OutOfMemory, faults),
+    }
+}
+
+/// Writes the values of each sink of a job, or of one alone.
+fn write_sinks<W: Write>(
+    writer: &mut Watched<W>,
+    job: &Job,
+    lines: &[Lines],
+    sink: Option<usize>,
+) -> Result<(), WriteFailed>
+    requires { map sink_values lines.now ≡ lines_of job.now }
+    ensures ok { OnOk result (Appends (W.contents (inner_of writer.old))
+        (W.contents (inner_of writer.new)) (sinks_text job.now sink)) }
+    ensures err { OnErr result (AppendsPrefix (W.contents (inner_of writer.old))
+        (W.contents (inner_of writer.new)) (sinks_text job.now sink)) }
+    ensures failed { OnErr result (has_failed_of writer.new ≡ true) }
+{
+    match sink {
+        None => write_lines(writer, job.graph(), lines),
+        Some(t) => write_values(writer, values_of(lines, t)),
     }
 }

@@ -2,7 +2,7 @@
 //!
 //! `check_and_report` and `eval_and_report` run a command and answer the exit status. They read by
 //! `read_job` the job of a graph's file: its graph, and the samples in the files of its sources;
-//! `write_lines` writes what an evaluation gave each sink.
+//! `write_lines` writes what an evaluation gave each sink, and `write_values` what it gave one.
 #![tactic(auto)]
 
 mod fault;
@@ -13,11 +13,12 @@ mod job_file;
 pub mod laws;
 mod lines;
 mod output_buffer;
+mod sinks;
 mod sources;
 
 pub use fault::JobFault;
 pub use graph_file::{GRAPH_MAX, read_graph_file};
 pub use graph_runs::{check_and_report, eval_and_report};
 pub use job_file::read_job;
-pub use lines::write_lines;
+pub use lines::{write_lines, write_values};
 pub use sources::read_sources;

@@ -1,6 +1,6 @@
 //! The output of a graph.
 ghost use Rattle.std.specs.Prelude.{◌≡◌, ◌<◌, ◌++◌, length, map, true, OnOk, OnErr};
-ghost use Rattle.std.specs.List.{All};
+ghost use Rattle.std.specs.List.{All, flat_map};
 ghost use Rattle.std.specs.Io.KnownBytes.{Appends};
 ghost use Rattle.stream_eval.specs.Results.{sink_values};
 ghost use Rattle.stream_lists.specs.Texts.{sink_text, text_of, value_text};
@@ -38,6 +38,21 @@ pub fn write_lines<W: Write>(
         let name = graph.name(Place::Task(sink.task));
         piece.put_sink(name, &sink.values, writer)?;
     }
+    piece.hand_over(writer)
+}
+
+/// Writes the values of one sink, each on a line of its own: as `write_lines` writes them, with no
+/// name and no count.
+pub fn write_values<W: Write>(writer: &mut Watched<W>, values: &[i64]) -> Result<(), WriteFailed>
+    ensures ok { OnOk result (Appends (W.contents (inner_of writer.old))
+        (W.contents (inner_of writer.new)) (flat_map value_text values.now)) }
+    ensures err { OnErr result (AppendsPrefix (W.contents (inner_of writer.old))
+        (W.contents (inner_of writer.new)) (flat_map value_text values.now)) }
+    ensures failed { OnErr result (has_failed_of writer.new ≡ true) }
+    ensures kept { OnOk result (has_failed_of writer.new ≡ has_failed_of writer.old) }
+{
+    let mut piece = OutputBuffer::new();
+    piece.put_values(values, writer)?;
     piece.hand_over(writer)
 }
 
@@ -79,6 +94,26 @@ impl OutputBuffer {
         self.put(b"\n", writer)
     }
 
+    /// Puts values, each on a line of its own.
+    fn put_values<W: Write>(
+        &mut self,
+        values: &[i64],
+        writer: &mut Watched<W>,
+    ) -> Result<(), WriteFailed>
+        ensures ok { OnOk result (Puts (W.contents (inner_of writer.old))
+            (W.contents (inner_of writer.new)) self.old self.new
+            (flat_map value_text values.now)) }
+        ensures err { OnErr result (AppendsPrefix (W.contents (inner_of writer.old))
+            (W.contents (inner_of writer.new)) (self.old ++ flat_map value_text values.now)) }
+        ensures failed { OnErr result (has_failed_of writer.new ≡ true) }
+        ensures kept { OnOk result (has_failed_of writer.new ≡ has_failed_of writer.old) }
+    {
+        for value in values {
+            self.put_value(*value, writer)?;
+        }
+        Ok(())
+    }
+
     /// Puts a sink's name, the count of its values, and the values.
     fn put_sink<W: Write>(
         &mut self,
@@ -94,9 +129,6 @@ impl OutputBuffer {
         ensures kept { OnOk result (has_failed_of writer.new ≡ has_failed_of writer.old) }
     {
         self.put_heading(name, values.len(), writer)?;
-        for value in values {
-            self.put_value(*value, writer)?;
-        }
-        Ok(())
+        self.put_values(values, writer)
     }
 }

@@ -31,6 +31,7 @@ use Rattle.graph_moments.specs.Agreeing.{one}
 use Rattle.graph_moments.specs.Moments.{Moment, HasRun, PhaserRan, TaskRan, made_now, input_at, limits_at, value_at, OnPhaser, PutOn, TakenOn, SilentOn, OnLine, IsChild, Joined, AtMost, HasTaken, HasSamples, HasExchanged}
 use Rattle.graph_moves.specs.Openings.{IsOpening, PhaserOpened, TaskOpened, HasOpened}
 use Rattle.graph_moments.proofs.OnLines.{on_phaser}
+use Rattle.graph_moves.proofs.Framed.{ListsRan}
 
 -- ---- the history
 
@@ -203,6 +204,32 @@ exchanged_none Sink j n = tt
 exchanged_none Peer zero n = tt
 exchanged_none Peer (suc j) n = omega arith
 
+-- a task that has done nothing has what a moment says of its lists
+pub nothing_ran : (job : Job) (m : Moment) (t : ℕ) → m.begun t ≡ 0 → ((j : ℕ) → m.put t j ≡ [])
+    → ((k : ℕ) → m.taken t k ≡ []) → ListsRan job m t
+nothing_ran job m t begun put taken = record {
+  puts = λ j lt.
+      (let P : List ℤ → Type 0 = λ l. IsPrefix l (made_now job m t j) in
+      subst P (sym (put j)) (made_now job m t j, refl));
+  exchanged = λ j.
+      (let P : ℕ → Type 0 = λ n. HasExchanged (task_at job.graph t).kind j n
+      (length (m.taken t 1)) in
+      subst P (sym (ap length (put j)))
+      (exchanged_none (task_at job.graph t).kind j (length (m.taken t 1))));
+  takes = λ k lt.
+      (let B : ℕ → Type 0 = λ b. HasTaken (task_at job.graph t) b k (length (m.taken t k)) in
+      let N : ℕ → Type 0 = λ n. HasTaken (task_at job.graph t) 0 k n in
+      subst B (sym begun)
+      (subst N (sym (ap length (taken k))) (taken_none (task_at job.graph t) k lt)));
+  samples =
+      (let B : ℕ → Type 0 =
+      λ b. HasSamples (task_at job.graph t).kind b (length (samples_at job t)) in
+      subst B (sym begun)
+      (samples_none (task_at job.graph t).kind (length (samples_at job t))));
+  cut = (let B : ℕ → Type 0 = λ b. AtMost b (task_at job.graph t).until in
+      subst B (sym begun) (at_least_none (task_at job.graph t).until));
+}
+
 -- at the opening a moment has what every moment has
 pub opened_ran : (job : Job) (m : Moment) → IsGraph job.graph → HasOpened job m → HasRun job m
 opened_ran job m is o = record { phasers = phasers; tasks = tasks }
@@ -220,27 +247,11 @@ opened_ran job m is o = record { phasers = phasers; tasks = tasks }
 
     tasks : (t : ℕ) → t < length job.graph.tasks → TaskRan job m t
     tasks t there = record {
-      puts = λ j lt.
-          (let P : List ℤ → Type 0 = λ l. IsPrefix l (made_now job m t j) in
-          subst P (sym (a.nothing_put j)) (made_now job m t j, refl));
-      exchanged =
-          λ j. (let P : ℕ → Type 0 =
-          λ n. HasExchanged (task_at job.graph t).kind j n (length (m.taken t 1)) in
-          subst P (sym (ap length (a.nothing_put j)))
-          (exchanged_none (task_at job.graph t).kind j (length (m.taken t 1))));
-      takes = λ k lt.
-          (let B : ℕ → Type 0 = λ b. HasTaken (task_at job.graph t) b k (length (m.taken t k)) in
-          let N : ℕ → Type 0 = λ n. HasTaken (task_at job.graph t) 0 k n in
-          subst B (sym a.nothing_begun)
-          (subst N (sym (ap length (a.nothing_taken k)))
-          (taken_none (task_at job.graph t) k lt)));
-      samples =
-          (let B : ℕ → Type 0 =
-          λ b. HasSamples (task_at job.graph t).kind b (length (samples_at job t)) in
-          subst B (sym a.nothing_begun)
-          (samples_none (task_at job.graph t).kind (length (samples_at job t))));
-      cut = (let B : ℕ → Type 0 = λ b. AtMost b (task_at job.graph t).until in
-          subst B (sym a.nothing_begun) (at_least_none (task_at job.graph t).until));
+      puts = lists.puts;
+      exchanged = lists.exchanged;
+      takes = lists.takes;
+      samples = lists.samples;
+      cut = lists.cut;
       lines = a.lines;
       outputs =
           λ p pp. outputs p pp (place_in (signalled_by (task_at job.graph t)) p) refl (m.number p t)
@@ -260,6 +271,9 @@ opened_ran job m is o = record { phasers = phasers; tasks = tasks }
       where
         a : TaskOpened job m t
         a = o.tasks t there
+
+        lists : ListsRan job m t
+        lists = nothing_ran job m t a.nothing_begun a.nothing_put a.nothing_taken
 
         stays : (p n : ℕ) → p < length job.graph.phasers → m.number p t ≡ Some n
             → has_dropped (m.history p) n ≡ false

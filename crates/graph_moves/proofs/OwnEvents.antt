@@ -31,7 +31,7 @@ use Rattle.graph_moves.proofs.Nexts.{has_taken-next, has_taken-stay, has_taken-p
 use Rattle.graph_moments.proofs.OutputLists.{outputs_begin}
 use Rattle.graph_moments.proofs.Tasks.{now_counts, now_at, exchanged_as}
 use Rattle.stream_laws.proofs.Ordered.{place_of_input}
-use Rattle.graph_moves.proofs.Framed.{ListsRan, lists_later, made_same, ended_later}
+use Rattle.graph_moves.proofs.Framed.{ListsRan, lists_later, ended_later}
 
 -- ---- whichever phaser
 

@@ -38,15 +38,15 @@ use Rattle.graph_parts.specs.Parts.{HasPart, SeesOthers, SeesOwn, IsNextValue, I
 abbrev pub with_history : ℕ → History → Moment → Moment
 with_history p h m = record m { history = with_at p h m.history }
 
-same_at : (p : ℕ) (h : History) (m : Moment) → (with_history p h m).history p ≡ h
+pub same_at : (p : ℕ) (h : History) (m : Moment) → (with_history p h m).history p ≡ h
 same_at p h m = let here : eqb p p ≡ true = eq-eqb p p refl in rw here refl
 
-other_at : (p : ℕ) (h : History) (m : Moment) (q : ℕ) → q ≢ p
+pub other_at : (p : ℕ) (h : History) (m : Moment) (q : ℕ) → q ≢ p
     → (with_history p h m).history q ≡ m.history q
 other_at p h m q apart = let other : eqb q p ≡ false = ne_eqb q p (λ e. apart e) in rw other refl
 
 -- what holds of the history there, and of the others
-where_at : (p : ℕ) (h : History) (m : Moment) (q : ℕ) (P : History → Type 0) → (q ≡ p → P h)
+pub where_at : (p : ℕ) (h : History) (m : Moment) (q : ℕ) (P : History → Type 0) → (q ≡ p → P h)
     → P (m.history q)
     → P ((with_history p h m).history q)
 where_at p h m q P here there = by (eq_case q p)
@@ -55,10 +55,10 @@ where_at p h m q P here there = by (eq_case q p)
     by (inl e) = subst P (sym (ap (λ x. (with_history p h m).history x) e ∙ same_at p h m)) (here e)
     by (inr apart) = subst P (sym (other_at p h m q apart)) there
 
-still : (h : History) → IsBeginning h h
+pub still : (h : History) → IsBeginning h h
 still h = record { later = []; is = refl }
 
-no_change : (n : ℕ) (h : History) → PartStays n h h
+pub no_change : (n : ℕ) (h : History) → PartStays n h h
 no_change n h = record { sent = refl; dropped = refl; signalled = refl; received = λ value. refl }
 
 some_is : (a b : ℕ) → Some a ≡ Some b → a ≡ b

@@ -7,5 +7,6 @@
 //! `laws::puts`: the function does nothing, and its contract is the law.
 #![tactic(auto)]
 
+pub mod beginnings;
 pub mod laws;
 pub mod places;

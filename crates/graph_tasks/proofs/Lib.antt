@@ -3,3 +3,4 @@ mod Turning
 mod Waiting
 mod Ending
 mod Gone
+mod Seeding

@@ -1,5 +1,6 @@
 pub mod Runs
 pub mod Worked
 pub mod WorkedFaults
+pub mod WorkedParts
 pub mod WorkedPlaces
 pub mod WorkedTurns

@@ -7,6 +7,7 @@ mod cores;
 mod ready;
 mod worked_events;
 mod worked_faults;
+mod worked_parts;
 mod worked_run;
 mod worked_turns;
 #[cfg(test)]

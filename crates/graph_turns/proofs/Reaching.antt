@@ -216,36 +216,36 @@ to_come_moved job before after t p event moved all come =
 
 -- ---- a child's registration
 
+-- the phaser of a registration stands at the registration's place
+pub registration_placed : (job : Job) (c i : ℕ) → IsGraph job.graph → c < length job.graph.tasks
+    → i < length (registrations_at job c)
+    → place_in (map (λ r. r.phaser) (registrations_at job c))
+    (get_or (registrations_at job c) i no_registration).phaser ≡ Some i
+registration_placed job c i is there lt =
+    let rs = registrations_at job c in
+    let distinct : is_distinct (map (λ r. r.phaser) rs ++ []) ≡ true =
+    ap (λ l. is_distinct l)
+    (append-nil (map (λ r. r.phaser) rs)
+    ∙ registrations-phasers job.graph c (task_at job.graph c) (is.tasks c there))
+    ∙ (is.tasks c there).distinct in
+    let long = length-map rs (λ r. r.phaser) in
+    let same : 0 + i ≡ i = omega arith in
+    ap (λ p. place_in (map (λ r. r.phaser) rs) p)
+    (sym (get_or-map (λ r. r.phaser) rs i no_registration 0 lt))
+    ∙ place-distinct 0 (map (λ r. r.phaser) rs) [] i (omega arith) distinct
+    ∙ ap (λ k. Some k) same
+
 -- a task has one registration on each phaser of its line
 pub one_registration : (job : Job) (c i k : ℕ) → IsGraph job.graph → c < length job.graph.tasks
     → i < length (registrations_at job c) → k < length (registrations_at job c)
     → (get_or (registrations_at job c) i no_registration).phaser
     ≡ (get_or (registrations_at job c) k no_registration).phaser → i ≡ k
 one_registration job c i k is there few less same =
-    let place : Some (0 + i) ≡ Some (0 + k) =
-    sym (placed i few) ∙ ap (λ p. place_in phasers p) same ∙ placed k less in
-    let at : 0 + i ≡ 0 + k = same_Some (0 + i) (0 + k) place in
-    omega arith
-  where
-    phasers : List ℕ
-    phasers = map (λ r. r.phaser) (registrations_at job c)
-
-    distinct : is_distinct (map (λ r. r.phaser) (registrations_at job c) ++ []) ≡ true
-    distinct =
-        ap (λ l. is_distinct l)
-        (append-nil (map (λ r. r.phaser) (registrations_at job c))
-        ∙ registrations-phasers job.graph c (task_at job.graph c) (is.tasks c there))
-        ∙ (is.tasks c there).distinct
-
-    placed : (x : ℕ) → x < length (registrations_at job c)
-        → place_in (map (λ r. r.phaser) (registrations_at job c))
-        (get_or (registrations_at job c) x no_registration).phaser ≡ Some (0 + x)
-    placed x lt =
-        let long = length-map (registrations_at job c) (λ r. r.phaser) in
-        ap (λ p. place_in (map (λ r. r.phaser) (registrations_at job c)) p)
-        (sym (get_or-map (λ r. r.phaser) (registrations_at job c) x no_registration 0 lt))
-        ∙ place-distinct 0 (map (λ r. r.phaser) (registrations_at job c)) [] x (omega arith)
-        distinct
+    let place : Some i ≡ Some k =
+    sym (registration_placed job c i is there few)
+    ∙ ap (λ p. place_in (map (λ r. r.phaser) (registrations_at job c)) p) same
+    ∙ registration_placed job c k is there less in
+    same_Some i k place
 
 -- a place of a list, whatever stands for no element
 pub get_or-any : {X : Type 0} (xs : List X) (k : ℕ) (d e : X) → k < length xs

@@ -2,7 +2,7 @@
 use Rattle.std.specs.Prelude.{◌≡◌, ◌⊎◌, ℕ, List, Option}
 use Rattle.phase_replay.specs.Replay.{HasCause}
 use Rattle.phase_status.specs.Statuses.{Reports}
-use Rattle.phase_words.specs.CommandLine.{AreRefused, AreTaken, Asked, Asks, AskHelp, check, eval, replay}
+use Rattle.phase_words.specs.CommandLine.{AreRefused, AreTaken, Asked, Asks, AskHelp, AskVersion, check, eval, replay}
 use Rattle.phase_words.specs.declared.call.NoCall.{NoCall}
 use Rattle.phase_words.specs.declared.call.NoCall.TheVariants as no_call
 use Rattle.watched_io.specs.States.{ReaderState, WriterState, writer_state}
@@ -18,12 +18,13 @@ IsStatus status = (status ≡ 0) ⊎ ((status ≡ 1) ⊎ ((status ≡ 2) ⊎ ((s
 abbrev pub MayEndAs : Asked → ℕ → Type 0
 MayEndAs replay status = (status ≡ 0) ⊎ (status ≡ 5)
 MayEndAs (check _) status = (status ≡ 0) ⊎ ((status ≡ 1) ⊎ (status ≡ 5))
-MayEndAs (eval _) status = (status ≡ 0) ⊎ ((status ≡ 1) ⊎ ((status ≡ 3) ⊎ (status ≡ 5)))
+MayEndAs (eval _ _) status = (status ≡ 0) ⊎ ((status ≡ 1) ⊎ ((status ≡ 3) ⊎ (status ≡ 5)))
 
 -- the statuses that may come, by what the words ask for
 pub record MayEnd (words : List (List ℕ)) (status : ℕ) : Type 0 where
   pub asked : (what : Asked) → Asks words what → MayEndAs what status
   pub help : AskHelp words → (status ≡ 0) ⊎ (status ≡ 5)
+  pub version : AskVersion words → (status ≡ 0) ⊎ (status ≡ 5)
   pub refused : AreRefused words → (status ≡ 2) ⊎ (status ≡ 5)
   pub untaken : (AreTaken words → ⊥) → (status ≡ 0) ⊎ ((status ≡ 2) ⊎ (status ≡ 5))
 
@@ -35,7 +36,8 @@ pub record IsUnbegun {F W : Type 0} (status : ℕ) (closed files : F) (old new :
   pub silent : new ≡ old
   pub says : Reports OutOfMemory before after
 
--- the answer to words that are not taken stopped: memory ran out, or help could not be written
+-- the answer to words that are not taken stopped: memory ran out, or help or the version could not be
+-- written
 pub record AnswerStops (old new before after : WriterState) : Type 0 where
   pub fault : IoFault
   pub cause : (input : ReaderState) → HasCause fault input input old new
@@ -49,9 +51,10 @@ pub record AnswerEnds {W : Type 0} (words : List (List ℕ)) (status : ℕ)
   pub stops : status ≡ 5
       → AnswerStops (writer_state contents old) (writer_state contents new) before after
 
--- the status by why there is no call; what is told goes to the fault stream alone, but for help
+-- the status by why there is no call; what is told goes to the fault stream alone, but for help and
+-- the version
 abbrev pub IsAnswer : {W : Type 0} → NoCall → ℕ → Watched W → Watched W → WriterState → WriterState → Type 0
-IsAnswer (no_call.Help text) status old new before after = (status ≡ 0) ⊎ (status ≡ 5)
+IsAnswer (no_call.Shown text) status old new before after = (status ≡ 0) ⊎ (status ≡ 5)
 IsAnswer (no_call.Refused text) status old new before after = (status ≡ 2) × (new ≡ old)
 IsAnswer no_call.OutOfMemory status old new before after =
     (status ≡ 5) × ((new ≡ old) × Reports OutOfMemory before after)

@@ -1,5 +1,5 @@
 //! A run of the program over any input and outputs.
-ghost use Rattle.std.specs.Prelude.{◌≡◌, ◌≢◌, ◌⊎◌, ℕ, List};
+ghost use Rattle.std.specs.Prelude.{◌≡◌, ◌≢◌, ◌⊎◌, ℕ, List, Option};
 ghost use Rattle.graph_commands.specs.GraphRuns.{CheckEnds, EvalEnds};
 ghost use Rattle.phase_cli.specs.Ends.{AnswerEnds, AnswerStops, IsAnswer, IsUnbegun, MayEnd};
 ghost use Rattle.phase_cli.specs.Replays.{ReplayEnds};
@@ -16,8 +16,8 @@ use std::io::{Read, Write};
 use watched_io::{Files, IoFault, Watched};
 
 /// Runs the program on its words, without its own name, and answers its exit status: 0 where what
-/// was asked for is done or help was shown, 1 where a graph or its samples are refused, 2 where the
-/// words are refused, 3 where a value of a graph is out of range, and 5 after a fault.
+/// was asked for is done, or help or the version was shown, 1 where a graph or its samples are refused, or no sink has the name that is
+/// asked for, 2 where the words are refused, 3 where a value of a graph is out of range, and 5 after a fault.
 ///
 /// A refusal's text goes to the fault stream, and so does a fault's line. Where that stream fails
 /// too, the status stands alone.
@@ -45,10 +45,10 @@ pub fn run_cli<R: Read, W: Write, E: Write, F: Files>(
         (writer_state E.contents faults.old) (writer_state E.contents faults.new)
         ⊎ CheckEnds (F.file files.old) name result W.contents output.old output.new
         (writer_state E.contents faults.old) (writer_state E.contents faults.new) }
-    ensures eval { (name : List ℕ) → AskEval (texts words.now) name
+    ensures eval { (name : List ℕ) (sink : Option (List ℕ)) → AskEval (texts words.now) name sink
         → IsUnbegun result files.old files.new output.old output.new
         (writer_state E.contents faults.old) (writer_state E.contents faults.new)
-        ⊎ EvalEnds (F.file files.old) name result W.contents output.old output.new
+        ⊎ EvalEnds (F.file files.old) name sink result W.contents output.old output.new
         (writer_state E.contents faults.old) (writer_state E.contents faults.new) }
 
     // How other words are answered.
@@ -66,12 +66,14 @@ pub fn run_cli<R: Read, W: Write, E: Write, F: Files>(
     match read_words(alloc, words) {
         Ok(Call::Replay) => replay_and_report(alloc, input, output, faults),
         Ok(Call::Check(graph)) => check_and_report(alloc, graph, output, faults, files),
-        Ok(Call::Eval(graph)) => eval_and_report(alloc, graph, output, faults, files),
+        Ok(Call::Eval { graph, sink }) => {
+            eval_and_report(alloc, graph, sink, output, faults, files)
+        }
         Err(none) => answer(&none, output, faults),
     }
 }
 
-/// Answers words that give no call: help goes to the output, a refusal's text and the line of a
+/// Answers words that give no call: help and the version go to the output, a refusal's text and the line of a
 /// fault go to the fault stream.
 fn answer<W: Write, E: Write>(none: &NoCall, output: &mut Watched<W>, faults: &mut Watched<E>) -> u8
     ensures answer { IsAnswer none.now result output.old output.new
@@ -82,7 +84,7 @@ fn answer<W: Write, E: Write>(none: &NoCall, output: &mut Watched<W>, faults: &m
         (writer_state E.contents faults.old) (writer_state E.contents faults.new) }
 {
     match none {
-        NoCall::Help(text) => show_help(text.as_str(), output, faults),
+        NoCall::Shown(text) => show_help(text.as_str(), output, faults),
         NoCall::Refused(text) => refuse(text.as_str(), faults),
         NoCall::OutOfMemory => report(IoFault::OutOfMemory, faults),
     }

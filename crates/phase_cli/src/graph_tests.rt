@@ -51,6 +51,48 @@ fn a_filter(rt: HostRuntime) -> Result<(), Fail> {
     Ok(())
 }
 
+/// Whether an evaluation for the sink of a name ends with this status, output and line.
+fn evaluates_one(
+    alloc: Global,
+    graph: &str,
+    sink: &str,
+    status: u8,
+    output: &str,
+    line: &str,
+) -> Result<bool, Fail> {
+    let samples = [("s.csv", "1\n2\n3\n4\n")];
+    let mut files = Held {
+        graph,
+        samples: samples.as_slice(),
+    };
+    let words = ["eval", "g", "--sink", sink];
+    let mut out = Vec::new(alloc);
+    let mut told = Vec::new(alloc);
+    let words = words.as_slice();
+    let ended = status_of(alloc, words, Broken, &mut out, &mut told, &mut files)?;
+    let is_told = told.as_slice() == line.as_bytes();
+    Ok(ended == status && out.as_slice() == output.as_bytes() && is_told)
+}
+
+#[test]
+fn one_sink_alone(rt: HostRuntime) -> Result<(), Fail> {
+    let two = "phaser X sum 4\nsource s s.csv -> X\nsink out X\nsink late X by out at 2\n\
+        sink never X by out at 4\n";
+    assert!(rt; evaluates_one(rt.alloc(), two, "out", 0, "1\n2\n3\n4\n", "")?);
+    assert!(rt; evaluates_one(rt.alloc(), two, "late", 0, "3\n4\n", "")?);
+    assert!(rt; evaluates_one(rt.alloc(), two, "never", 0, "", "")?);
+    for name in ["s", "X", "la", "later", "bogus", ""] {
+        let mut line = String::from_str(rt.alloc(), "phase: no sink ")?;
+        line.push_str(name)?;
+        line.push_str("\n")?;
+        assert!(rt;
+            evaluates_one(rt.alloc(), two, name, 1, "", line.as_str())?,
+            "at {name}"
+        );
+    }
+    Ok(())
+}
+
 #[test]
 fn nothing_at_all(rt: HostRuntime) -> Result<(), Fail> {
     assert!(rt; evaluates(rt.alloc(), "", &[], "")?);

@@ -169,7 +169,8 @@ Commands:
   help    Print this message or the help of the given subcommand(s)
 
 Options:
-  -h, --help  Print help
+  -h, --help     Print help
+  -V, --version  Print version
 
 Example, with the reply to each line and what it means:
   make sum 2 100    ok           a phaser that adds up, for phases 0 to 99
@@ -210,6 +211,24 @@ fn help_goes_to_the_output(rt: HostRuntime) -> Result<(), Fail> {
 }
 
 #[test]
+fn the_version_goes_to_the_output(rt: HostRuntime) -> Result<(), Fail> {
+    for word in ["--version", "-V"] {
+        let version = run(rt.alloc(), [word].as_slice(), b"make sum 2 100\n")?;
+        assert_eq!(rt; version.status, 0, "at {word}");
+        assert_eq!(rt;
+            version.output.as_slice(),
+            b"phase 0.1.0\n".as_slice(),
+            "at {word}"
+        );
+        assert!(rt; version.faults.is_empty(), "at {word}");
+    }
+    let of_eval = run(rt.alloc(), ["eval", "--version"].as_slice(), b"")?;
+    assert_eq!(rt; of_eval.status, 2);
+    assert!(rt; of_eval.output.is_empty());
+    Ok(())
+}
+
+#[test]
 fn help_of_graphs_has_an_example(rt: HostRuntime) -> Result<(), Fail> {
     let check = run(rt.alloc(), ["check", "--help"].as_slice(), b"")?;
     assert_eq!(rt; check.status, 0);
@@ -217,7 +236,7 @@ fn help_of_graphs_has_an_example(rt: HostRuntime) -> Result<(), Fail> {
     assert!(rt; has(&check.output, "  ok phasers 1 tasks 2\n"));
     let eval = run(rt.alloc(), ["help", "eval"].as_slice(), b"")?;
     assert_eq!(rt; eval.status, 0);
-    assert!(rt; has(&eval.output, "Usage: phase eval <GRAPH>"));
+    assert!(rt; has(&eval.output, "Usage: phase eval [OPTIONS] <GRAPH>"));
     assert!(rt; has(&eval.output, "  out 3\n  1\n  3\n  5\n"));
     Ok(())
 }

@@ -4,21 +4,24 @@ use Rattle.clap.specs.Words.{HasKind, IsAmong, Kinds, Text, kind_of}
 use Rattle.clap.specs.declared.error.Error.{Error}
 use Rattle.clap.specs.declared.error.kind.ErrorKind.{ErrorKind}
 use Rattle.clap.specs.declared.error.kind.ErrorKind.TheVariants as kind
-use Rattle.phase_words.specs.CommandLine.{AreTaken, AskHelp, HasRefusal, IsNoCall, IsToldBy, kinds_of}
+use Rattle.phase_words.specs.CommandLine.{AreTaken, AskHelp, AskVersion, HasRefusal, HasShown, IsNoCall, IsShown, IsToldBy, kinds_of}
 use Rattle.phase_words.specs.declared.call.NoCall.{NoCall}
 use Rattle.phase_words.specs.declared.call.NoCall.TheVariants as no_call
 
 some-not-empty : (k : ErrorKind) (ks : Kinds) → k ∷ ks ≢ []
 some-not-empty k ks = λ e. search rules
 
-memory-not-help : kind.OutOfMemory ≢ kind.DisplayHelp
-memory-not-help = λ e. search rules
+memory-not-shown : IsShown kind.OutOfMemory → ⊥
+memory-not-shown (inl e) = search rules
+memory-not-shown (inr e) = search rules
 
 -- what is told of an error is why the words give no call
 pub told-no_call : (words : List Text) (error : Error) (none : NoCall) → HasKind (kinds_of words) error
     → IsToldBy (kind_of error) none → IsNoCall words none
-told-no_call words error (no_call.Help text) (inl memory) told = absurd (memory-not-help (sym memory ∙ told))
-told-no_call words error (no_call.Help text) (inr among) told = subst (λ (k : ErrorKind). IsAmong k (kinds_of words)) told among
+told-no_call words error (no_call.Shown text) (inl memory) told =
+    absurd (memory-not-shown (subst (λ (k : ErrorKind). IsShown k) memory told))
+told-no_call words error (no_call.Shown text) (inr among) told =
+    record { kind = kind_of error; among = among; shown = told }
 told-no_call words error (no_call.Refused text) (inl memory) told = absurd (told.1 memory)
 told-no_call words error (no_call.Refused text) (inr among) told = record { kind = kind_of error; among = among; other = told.0 }
 told-no_call words error no_call.OutOfMemory has told = tt
@@ -27,8 +30,8 @@ told-no_call words error no_call.OutOfMemory has told = tt
 none-among : (words : List Text) (k : ErrorKind) → IsAmong k (kinds_of words) → AreTaken words → ⊥
 none-among words k among taken = subst (λ (kinds : Kinds). IsAmong k kinds) taken among
 
-pub help-not-taken : (words : List Text) → IsAmong kind.DisplayHelp (kinds_of words) → AreTaken words → ⊥
-help-not-taken words among taken = none-among words kind.DisplayHelp among taken
+pub shown-not-taken : (words : List Text) → HasShown words → AreTaken words → ⊥
+shown-not-taken words has taken = none-among words has.kind has.among taken
 
 pub refusal-not-taken : (words : List Text) → HasRefusal words → AreTaken words → ⊥
 refusal-not-taken words has taken = none-among words has.kind has.among taken
@@ -36,12 +39,22 @@ refusal-not-taken words has taken = none-among words has.kind has.among taken
 -- words that ask for help and for nothing else have no refusal
 pub refusal-not-help : (words : List Text) → HasRefusal words → AskHelp words → ⊥
 refusal-not-help words has help = elim (subst (λ (kinds : Kinds). IsAmong has.kind kinds) help has.among) [
-  | inl is ↦ has.other is
+  | inl is ↦ has.other (inl is)
+  | inr none ↦ none
+]
+
+-- and so it is with the version
+pub refusal-not-version : (words : List Text) → HasRefusal words → AskVersion words → ⊥
+refusal-not-version words has version = elim (subst (λ (kinds : Kinds). IsAmong has.kind kinds) version has.among) [
+  | inl is ↦ has.other (inr is)
   | inr none ↦ none
 ]
 
 pub asked-help-not-taken : (words : List Text) → AskHelp words → AreTaken words → ⊥
 asked-help-not-taken words help taken = some-not-empty kind.DisplayHelp [] (sym help ∙ taken)
+
+pub asked-version-not-taken : (words : List Text) → AskVersion words → AreTaken words → ⊥
+asked-version-not-taken words version taken = some-not-empty kind.DisplayVersion [] (sym version ∙ taken)
 
 -- words are taken or not
 taken-by : (words : List Text) (kinds : Kinds) → kinds_of words ≡ kinds → AreTaken words ⊎ (AreTaken words → ⊥)

@@ -1,57 +1,59 @@
--- Words that are refused: one kind stands for them, or two, and none is a call for help.
-use Rattle.std.proofs.Common.{◌≡◌, ◌≢◌, List, [], ◌∷◌, rules}
+-- Words that are refused: one kind stands for them, or two, and none is a call for help or for the
+-- version.
+use Rattle.std.proofs.Common.{◌≡◌, ◌≢◌, ◌⊎◌, List, [], ◌∷◌, rules}
 use Rattle.std.proofs.Common.{inl, inr, sym, subst, ◌∙◌}
 use Rattle.clap.specs.Words.{IsAmong, Kinds, Text}
-use Rattle.clap.specs.declared.error.kind.ErrorKind.TheVariants.{DisplayHelp}
+use Rattle.clap.specs.declared.error.kind.ErrorKind.{ErrorKind}
 use Rattle.clap.specs.declared.error.kind.ErrorKind.TheVariants.{InvalidSubcommand, MissingRequiredArgument, UnknownArgument}
-use Rattle.phase_words.specs.CommandLine.{AreRefused, kinds_of}
+use Rattle.phase_words.specs.CommandLine.{AreRefused, IsShown, kinds_of}
 
-not_empty : (kinds : Kinds) → UnknownArgument ∷ kinds ≢ []
-not_empty kinds = λ e. search rules
+not_empty : (kind : ErrorKind) (kinds : Kinds) → kind ∷ kinds ≢ []
+not_empty kind kinds = λ e. search rules
 
-missing_not_empty : (kinds : Kinds) → MissingRequiredArgument ∷ kinds ≢ []
-missing_not_empty kinds = λ e. search rules
+unknown_not_shown : IsShown UnknownArgument → ⊥
+unknown_not_shown (inl e) = search rules
+unknown_not_shown (inr e) = search rules
 
-help_not_missing : DisplayHelp ≢ MissingRequiredArgument
-help_not_missing = λ e. search rules
+invalid_not_shown : IsShown InvalidSubcommand → ⊥
+invalid_not_shown (inl e) = search rules
+invalid_not_shown (inr e) = search rules
 
-help_not_unknown : DisplayHelp ≢ UnknownArgument
-help_not_unknown = λ e. search rules
+missing_not_shown : IsShown MissingRequiredArgument → ⊥
+missing_not_shown (inl e) = search rules
+missing_not_shown (inr e) = search rules
 
-help_not_invalid : DisplayHelp ≢ InvalidSubcommand
-help_not_invalid = λ e. search rules
+-- a kind that is shown is not among one kind that is not, and not among two
+not_among_one : (one kind : ErrorKind) → (IsShown one → ⊥) → IsShown kind
+    → IsAmong kind (one ∷ []) → ⊥
+not_among_one one kind refused shown (inl is) = refused (subst (λ (k : ErrorKind). IsShown k) is shown)
+not_among_one one kind refused shown (inr none) = none
+
+not_among_two : (one two kind : ErrorKind) → (IsShown one → ⊥) → (IsShown two → ⊥) → IsShown kind
+    → IsAmong kind (one ∷ two ∷ []) → ⊥
+not_among_two one two kind first second shown (inl is) = first (subst (λ (k : ErrorKind). IsShown k) is shown)
+not_among_two one two kind first second shown (inr rest) = not_among_one two kind second shown rest
+
+-- words of one kind of refusal, and of two
+refused_by_one : (words : List Text) (one : ErrorKind) → (IsShown one → ⊥)
+    → kinds_of words ≡ one ∷ [] → AreRefused words
+refused_by_one words one refused e = (
+  λ empty. not_empty one [] (sym e ∙ empty),
+  λ kind shown among.
+      not_among_one one kind refused shown (subst (λ (kinds : Kinds). IsAmong kind kinds) e among),
+)
 
 pub unknown_refused : (words : List Text) → kinds_of words ≡ UnknownArgument ∷ [] → AreRefused words
-unknown_refused words e = (
-  λ empty. not_empty [] (sym e ∙ empty),
-  λ among.
-      elim (subst (λ (kinds : Kinds). IsAmong DisplayHelp kinds) e among) [
-        | inl h ↦ help_not_unknown h
-        | inr h ↦ h
-      ],
-)
+unknown_refused words e = refused_by_one words UnknownArgument unknown_not_shown e
+
+pub missing_refused : (words : List Text) → kinds_of words ≡ MissingRequiredArgument ∷ []
+    → AreRefused words
+missing_refused words e = refused_by_one words MissingRequiredArgument missing_not_shown e
 
 pub stray_refused : (words : List Text) → kinds_of words ≡ UnknownArgument ∷ InvalidSubcommand ∷ []
     → AreRefused words
 stray_refused words e = (
-  λ empty. not_empty (InvalidSubcommand ∷ []) (sym e ∙ empty),
-  λ among.
-      elim (subst (λ (kinds : Kinds). IsAmong DisplayHelp kinds) e among) [
-        | inl h ↦ help_not_unknown h
-        | inr rest ↦ elim rest [
-          | inl h ↦ help_not_invalid h
-          | inr h ↦ h
-        ]
-      ],
-)
-
-pub missing_refused : (words : List Text) → kinds_of words ≡ MissingRequiredArgument ∷ []
-    → AreRefused words
-missing_refused words e = (
-  λ empty. missing_not_empty [] (sym e ∙ empty),
-  λ among.
-      elim (subst (λ (kinds : Kinds). IsAmong DisplayHelp kinds) e among) [
-        | inl h ↦ help_not_missing h
-        | inr h ↦ h
-      ],
+  λ empty. not_empty UnknownArgument (InvalidSubcommand ∷ []) (sym e ∙ empty),
+  λ kind shown among.
+      not_among_two UnknownArgument InvalidSubcommand kind unknown_not_shown invalid_not_shown shown
+      (subst (λ (kinds : Kinds). IsAmong kind kinds) e among),
 )

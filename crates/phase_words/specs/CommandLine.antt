@@ -1,12 +1,12 @@
 -- What the words of a command line ask for, by what clap makes of them. The program's own name is
 -- not among them.
 use Rattle.std.specs.Prelude.{◌≡◌, ◌≢◌, ◌⊎◌, true, List, [], ◌∷◌, Option, Some, None}
-use Rattle.std.specs.Prelude.{String, codes, if◌then◌else◌, map, string_bytes, unwrap_or, ⊤}
+use Rattle.std.specs.Prelude.{String, codes, if◌then◌else◌, map, option_map, string_bytes, unwrap_or, ⊤}
 use Rattle.std.specs.Str.{bytes_eq}
 use Rattle.clap.specs.Words.{App, IsAmong, Kinds, Row, Rule, Shape, Text, fault_of, first_of}
 use Rattle.clap.specs.Words.{new_app, new_rule, subcommand_of, with_rule, with_subcommand}
 use Rattle.clap.specs.declared.error.kind.ErrorKind.{ErrorKind}
-use Rattle.clap.specs.declared.error.kind.ErrorKind.TheVariants.{DisplayHelp, OutOfMemory}
+use Rattle.clap.specs.declared.error.kind.ErrorKind.TheVariants.{DisplayHelp, DisplayVersion, OutOfMemory}
 use Rattle.phase_words.specs.declared.call.Call.{Call}
 use Rattle.phase_words.specs.declared.call.Call.TheVariants as call
 use Rattle.phase_words.specs.declared.call.NoCall.{NoCall}
@@ -18,27 +18,44 @@ use Rattle.phase_words.specs.declared.call.NoCall.TheVariants as no_call
 abbrev pub without_own_name : App → App
 without_own_name app = record app { top = record app.top { no_binary_name = true } }
 
+-- the words may ask for the version
+abbrev pub with_version : App → App
+with_version app = record app { top = record app.top { has_version = true } }
+
 -- the name of a graph's file, which has to be given
 abbrev pub graph_rule : Rule
 graph_rule = record (new_rule (codes "graph")) { required = true; value_names = 1 }
 
--- a command whose one word is the name of a graph's file
+-- a command with one word, the name of a graph's file
+abbrev pub graph_app : Text → App
+graph_app name = with_rule (new_app name) graph_rule
+
 abbrev pub graph_shape : Text → Shape
-graph_shape name = (with_rule (new_app name) graph_rule).top
+graph_shape name = (graph_app name).top
+
+-- the name of a sink, which may be given behind `--sink`
+abbrev pub sink_rule : Rule
+sink_rule = record (new_rule (codes "sink")) { long = Some (codes "sink"); value_names = 1 }
+
+-- the command `eval`
+abbrev pub eval_shape : Shape
+eval_shape = (with_rule (graph_app (codes "eval")) sink_rule).top
 
 -- the program, with its commands: `replay`, which takes no word, and `check` and `eval`
 unfoldable pub phase_app : App
 phase_app =
-    with_subcommand (with_subcommand (with_subcommand (without_own_name (new_app (codes "phase")))
-    (new_app (codes "replay")).top) (graph_shape (codes "check"))) (graph_shape (codes "eval"))
+    with_subcommand (with_subcommand (with_subcommand (with_version
+    (without_own_name (new_app (codes "phase")))) (new_app (codes "replay")).top)
+    (graph_shape (codes "check"))) eval_shape
 
 -- ---- what the words ask for
 
--- the kinds of answer that clap may give in place of taking the words; a call for help is one
+-- the kinds of answer that clap may give in place of taking the words; a call for help is one, and
+-- so is one for the version
 unfoldable pub kinds_of : List Text → Kinds
 kinds_of words = fault_of phase_app words
 
--- clap takes the words: they ask for no help, and nothing is refused
+-- clap takes the words: they ask for no help and no version, and nothing is refused
 abbrev pub AreTaken : List Text → Type 0
 AreTaken words = kinds_of words ≡ []
 
@@ -46,27 +63,39 @@ AreTaken words = kinds_of words ≡ []
 abbrev pub AskHelp : List Text → Type 0
 AskHelp words = kinds_of words ≡ DisplayHelp ∷ []
 
--- the words are refused: they are not taken, and ask for no help
-abbrev pub AreRefused : List Text → Type 0
-AreRefused words = (kinds_of words ≢ []) × (IsAmong DisplayHelp (kinds_of words) → ⊥)
+-- the words ask for the version, and for nothing else
+abbrev pub AskVersion : List Text → Type 0
+AskVersion words = kinds_of words ≡ DisplayVersion ∷ []
 
--- what words that are taken ask for: a replay, or a check or an evaluation of a graph's file
+-- an answer of this kind is what was asked for, help or the version, and no refusal
+abbrev pub IsShown : ErrorKind → Type 0
+IsShown kind = (kind ≡ DisplayHelp) ⊎ (kind ≡ DisplayVersion)
+
+-- the words are refused: they are not taken, and ask for no help and no version
+abbrev pub AreRefused : List Text → Type 0
+AreRefused words =
+    (kinds_of words ≢ [])
+    × ((kind : ErrorKind) → IsShown kind → IsAmong kind (kinds_of words) → ⊥)
+
+-- what words that are taken ask for: a replay, a check of a graph's file, or its evaluation, for all
+-- its sinks or for the one of a name
 pub data Asked : Type 0 where
   replay : Asked
   check : Text → Asked
-  eval : Text → Asked
+  eval : Text → Option Text → Asked
 
--- by the command and the name that is given to it
-abbrev pub asked_as : Text → Option Text → Asked
-asked_as name graph =
+-- by the command and the names that are given to it
+abbrev pub asked_as : Text → Option Text → Option Text → Asked
+asked_as name graph sink =
     if bytes_eq name (codes "check") then check (unwrap_or graph [])
-    else if bytes_eq name (codes "eval") then eval (unwrap_or graph [])
+    else if bytes_eq name (codes "eval") then eval (unwrap_or graph []) sink
     else replay
 
 -- with no command a replay is asked for
 abbrev pub asked_by : Option (Text × List Row) → Asked
 asked_by None = replay
-asked_by (Some command) = asked_as command.0 (first_of (codes "graph") command.1)
+asked_by (Some command) =
+    asked_as command.0 (first_of (codes "graph") command.1) (first_of (codes "sink") command.1)
 
 -- what the words ask for, by the command that clap finds in them
 unfoldable pub asked_in : List Text → Asked
@@ -85,19 +114,20 @@ AskReplay words = Asks words replay
 abbrev pub AskCheck : List Text → Text → Type 0
 AskCheck words name = Asks words (check name)
 
--- the words ask for an evaluation of the graph in the file of this name
-abbrev pub AskEval : List Text → Text → Type 0
-AskEval words name = Asks words (eval name)
+-- the words ask for an evaluation of the graph in the file of this name, for all its sinks, or for
+-- the one of this name
+abbrev pub AskEval : List Text → Text → Option Text → Type 0
+AskEval words name sink = Asks words (eval name sink)
 
 -- the words ask for something of the graph in the file of this name
 abbrev pub AskGraph : List Text → Text → Type 0
-AskGraph words name = AskCheck words name ⊎ AskEval words name
+AskGraph words name = AskCheck words name ⊎ ((sink : Option Text) × AskEval words name sink)
 
 -- what a call asks for
 abbrev pub asked_of : Call → Asked
 asked_of call.Replay = replay
 asked_of (call.Check name) = check name.now
-asked_of (call.Eval name) = eval name.now
+asked_of (call.Eval graph sink) = eval graph.now (option_map (λ s. s.now) sink)
 
 -- the words as texts
 abbrev pub texts : {Z : Type 0} → List (String Z) → List Text
@@ -105,21 +135,27 @@ texts words = map string_bytes words
 
 -- ---- why there is no call
 
--- a kind of refusal, which is no call for help, is among the kinds
+-- a kind of refusal, which is no call for help or for the version, is among the kinds
 pub record HasRefusal (words : List Text) : Type 0 where
   pub kind : ErrorKind
   pub among : IsAmong kind (kinds_of words)
-  pub other : kind ≢ DisplayHelp
+  pub other : IsShown kind → ⊥
 
--- why the words give no call: they ask for help, or something in them is refused; memory may run
--- out over any words
+-- the words ask for help or for the version
+pub record HasShown (words : List Text) : Type 0 where
+  pub kind : ErrorKind
+  pub among : IsAmong kind (kinds_of words)
+  pub shown : IsShown kind
+
+-- why the words give no call: they ask for help or for the version, or something in them is refused;
+-- memory may run out over any words
 abbrev pub IsNoCall : List Text → NoCall → Type 0
-IsNoCall words (no_call.Help text) = IsAmong DisplayHelp (kinds_of words)
+IsNoCall words (no_call.Shown text) = HasShown words
 IsNoCall words (no_call.Refused text) = HasRefusal words
 IsNoCall words no_call.OutOfMemory = ⊤
 
 -- how an error of this kind is told, with its text
 abbrev pub IsToldBy : ErrorKind → NoCall → Type 0
-IsToldBy kind (no_call.Help text) = kind ≡ DisplayHelp
-IsToldBy kind (no_call.Refused text) = (kind ≢ DisplayHelp) × (kind ≢ OutOfMemory)
+IsToldBy kind (no_call.Shown text) = IsShown kind
+IsToldBy kind (no_call.Refused text) = (IsShown kind → ⊥) × (kind ≢ OutOfMemory)
 IsToldBy kind no_call.OutOfMemory = ⊤

@@ -7,15 +7,19 @@ pub enum Call<'a> {
     Replay,
     /// A check of the graph in the file of this name.
     Check(&'a str),
-    /// An evaluation of the graph in the file of this name.
-    Eval(&'a str),
+    /// An evaluation of the graph in the file of this name, for all its sinks, or for the one of a
+    /// name.
+    Eval {
+        graph: &'a str,
+        sink: Option<&'a str>,
+    },
 }
 
 /// Why the words give no call.
 #[derive(Debug, Drop)]
 pub enum NoCall {
-    /// Help is asked for. This is its text.
-    Help(String),
+    /// Help or the version is asked for. This is its text.
+    Shown(String),
     /// The words are refused. This is clap's text, which says why.
     Refused(String),
     /// Memory ran out.

@@ -1,13 +1,13 @@
 //! The words of the program, as clap reads them.
-ghost use Rattle.std.specs.Prelude.{◌≡◌, IfOk, IfErr, Some, false};
+ghost use Rattle.std.specs.Prelude.{◌≡◌, ◌↔◌, IfOk, IfErr, IsTrue, Some, false, option_map};
 ghost use Rattle.clap.specs.Words.{FailsBy, app_of, kind_of, rule_of, shape_of};
 ghost use Rattle.clap.specs.Words.{subcommand_rows_of};
 ghost use Rattle.clap.specs.declared.builder.command.Command.{out-Command};
-ghost use Rattle.phase_words.specs.CommandLine.{Asks, IsNoCall, IsToldBy};
-ghost use Rattle.phase_words.specs.CommandLine.{asked_as, asked_by, asked_in, asked_of, graph_rule};
-ghost use Rattle.phase_words.specs.CommandLine.{graph_shape, kinds_of, phase_app, texts};
+ghost use Rattle.phase_words.specs.CommandLine.{Asks, IsNoCall, IsShown, IsToldBy};
+ghost use Rattle.phase_words.specs.CommandLine.{asked_as, asked_by, asked_in, asked_of, eval_shape};
+ghost use Rattle.phase_words.specs.CommandLine.{graph_app, graph_rule, kinds_of, phase_app, sink_rule, texts};
 
-use crate::help::{ABOUT, CHECK, CHECK_END, END, EVAL, EVAL_END, GRAPH, REPLAY};
+use crate::help::{ABOUT, CHECK, CHECK_END, END, EVAL, EVAL_END, GRAPH, REPLAY, SINK, VERSION};
 use crate::{Call, NoCall};
 use clap::error::ErrorKind;
 use clap::{Arg, ArgMatches, Command, Error};
@@ -24,14 +24,25 @@ fn graph_word<'a>(alloc: Global) -> Arg<'a>
         .required(true)
 }
 
-/// A command whose one word is the name of a graph's file.
+/// The word behind `--sink`, which may be given: the name of a sink.
+fn sink_word<'a>(alloc: Global) -> Arg<'a>
+    ensures rule { rule_of result ≡ sink_rule }
+    ensures local { result.global ≡ false }
+{
+    Arg::new(alloc, "sink")
+        .long("sink")
+        .value_name("NAME")
+        .help(SINK)
+}
+
+/// A command with one word, the name of a graph's file.
 fn graph_command<'a>(
     alloc: Global,
     name: &'a str,
     about: &'a str,
     end: &'a str,
 ) -> Result<Command<'a>, AllocError>
-    ensures shape { IfOk result (λ c. shape_of c ≡ graph_shape name.now) }
+    ensures app { IfOk result (λ c. app_of c ≡ graph_app name.now) }
     ensures local { IfOk result (λ c. (out-Command c).has_globals ≡ false) }
 {
     Command::new(alloc, name)
@@ -40,18 +51,27 @@ fn graph_command<'a>(
         .arg(graph_word(alloc))
 }
 
+/// The command `eval`.
+fn eval_command<'a>(alloc: Global) -> Result<Command<'a>, AllocError>
+    ensures shape { IfOk result (λ c. shape_of c ≡ eval_shape) }
+    ensures local { IfOk result (λ c. (out-Command c).has_globals ≡ false) }
+{
+    graph_command(alloc, "eval", EVAL, EVAL_END)?.arg(sink_word(alloc))
+}
+
 /// The program's command line.
 fn command<'a>(alloc: Global) -> Result<Command<'a>, AllocError>
     ensures { IfOk result (λ c. app_of c ≡ phase_app) }
 {
     Command::new(alloc, "phase")
         .no_binary_name(true)
+        .version(VERSION)
         .about(ABOUT)
         .after_help(END)
         .bin_name("phase")?
         .subcommand(Command::new(alloc, "replay").about(REPLAY).after_help(END))?
         .subcommand(graph_command(alloc, "check", CHECK, CHECK_END)?)?
-        .subcommand(graph_command(alloc, "eval", EVAL, EVAL_END)?)
+        .subcommand(eval_command(alloc)?)
 }
 
 /// What the words ask for, by what clap found in them.
@@ -61,18 +81,23 @@ fn call_of<'a>(matches: &ArgMatches<'a>) -> Call<'a>
     let Some((name, own)) = matches.subcommand() else {
         return Call::Replay;
     };
-    call_named(name, own.get_str("graph").unwrap_or(""))
+    call_named(
+        name,
+        own.get_str("graph").unwrap_or(""),
+        own.get_str("sink"),
+    )
 }
 
-/// What a command with the name of a file asks for.
-fn call_named<'a>(name: &str, graph: &'a str) -> Call<'a>
-    ensures { asked_of result ≡ asked_as name.now (Some graph.now) }
+/// What a command with the name of a file, and that of a sink or none, asks for.
+fn call_named<'a>(name: &str, graph: &'a str, sink: Option<&'a str>) -> Call<'a>
+    ensures { asked_of result
+        ≡ asked_as name.now (Some graph.now) (option_map (λ s. s.now) sink.entry) }
 {
     if name == "check" {
         return Call::Check(graph);
     }
     if name == "eval" {
-        return Call::Eval(graph);
+        return Call::Eval { graph, sink };
     }
     Call::Replay
 }
@@ -87,6 +112,13 @@ fn parse<'a>(alloc: Global, words: &'a [String]) -> Result<Call<'a>, Error>
     Ok(call_of(&matches))
 }
 
+/// Whether an answer of this kind is what was asked for, help or the version, and no refusal.
+fn is_shown(kind: ErrorKind) -> bool
+    ensures { IsTrue result ↔ IsShown kind }
+{
+    kind == ErrorKind::DisplayHelp || kind == ErrorKind::DisplayVersion
+}
+
 /// What clap says in place of taking the words, with its text.
 fn no_call(alloc: Global, error: &Error) -> NoCall
     ensures { IsToldBy (kind_of error.now) result }
@@ -97,13 +129,13 @@ fn no_call(alloc: Global, error: &Error) -> NoCall
     }
     match error.to_string(alloc) {
         Err(_) => NoCall::OutOfMemory,
-        Ok(text) if kind == ErrorKind::DisplayHelp => NoCall::Help(text),
+        Ok(text) if is_shown(kind) => NoCall::Shown(text),
         Ok(text) => NoCall::Refused(text),
     }
 }
 
-/// Reads the words after the program's own name. Where they ask for help or are refused, the text
-/// is clap's.
+/// Reads the words after the program's own name. Where they ask for help or for the version, or are
+/// refused, the text is clap's.
 pub fn read_words<'a>(alloc: Global, words: &'a [String]) -> Result<Call<'a>, NoCall>
     ensures call { IfOk result (λ call. Asks (texts words.now) (asked_of call)) }
     ensures no_call { IfErr result (λ none. IsNoCall (texts words.now) none) }

@@ -7,6 +7,9 @@ also add up a value, or evaluates a graph of filters over phasers. A script is
 read from standard input, a call a line, and each line is answered by one line
 on standard output.";
 
+/// The version of the program and of its libraries.
+pub(crate) const VERSION: &str = "0.1.0";
+
 /// What `replay` does, in the list of commands.
 pub(crate) const REPLAY: &str = "Replays the script, as `phase` with no command does";
 
@@ -18,6 +21,9 @@ pub(crate) const EVAL: &str = "Writes the values of each sink of a graph";
 
 /// What the word behind `check` and `eval` is.
 pub(crate) const GRAPH: &str = "The file of the graph, of at most 1048576 bytes";
+
+/// What the word behind `--sink` is.
+pub(crate) const SINK: &str = "Write the values of this sink alone, each on a line";
 
 /// The end of the program's help, and of that of `replay`.
 pub(crate) const END: &str = "\
@@ -60,7 +66,9 @@ and the file `numbers` the lines 1, 2 and 3, `phase eval sums` writes
   1
   3
   5
+and `phase eval sums --sink out` the last three of these lines, which may be the
+samples of another source.
 
-Exit status: 0 done; 1 the graph or its samples are refused; 2 the words were
-not understood; 3 a value is out of range; 5 a read or a write failed, or memory
-ran out.";
+Exit status: 0 done; 1 the graph or its samples are refused, or no sink has the
+name; 2 the words were not understood; 3 a value is out of range; 5 a read or a
+write failed, or memory ran out.";

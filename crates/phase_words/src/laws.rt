@@ -1,6 +1,7 @@
 //! What clap makes of the words that the program's pages name.
-ghost use Rattle.std.specs.Prelude.{[], ◌∷◌, codes};
+ghost use Rattle.std.specs.Prelude.{[], ◌∷◌, Some, None, codes};
 ghost use Rattle.phase_words.specs.CommandLine.{AreRefused, AskCheck, AskEval, AskHelp, AskReplay};
+ghost use Rattle.phase_words.specs.CommandLine.{AskVersion};
 
 /// `phase` and `phase replay` ask for a replay.
 pub fn words_for_replay()
@@ -8,11 +9,16 @@ pub fn words_for_replay()
     ensures replay { AskReplay (codes "replay" ∷ []) }
 {}
 
-/// `phase check g` and `phase eval g` ask for a check and an evaluation of the graph in the file g.
+/// `phase check g` and `phase eval g` ask for a check and an evaluation of the graph in the file g,
+/// and `phase eval g --sink out` for its sink `out` alone.
 pub fn words_for_graphs()
     ensures check { AskCheck (codes "check" ∷ codes "g" ∷ []) (codes "g") }
-    ensures eval { AskEval (codes "eval" ∷ codes "g" ∷ []) (codes "g") }
-    ensures path { AskEval (codes "eval" ∷ codes "../a b.graph" ∷ []) (codes "../a b.graph") }
+    ensures eval { AskEval (codes "eval" ∷ codes "g" ∷ []) (codes "g") None }
+    ensures path { AskEval (codes "eval" ∷ codes "../a b.graph" ∷ []) (codes "../a b.graph") None }
+    ensures sink { AskEval (codes "eval" ∷ codes "g" ∷ codes "--sink" ∷ codes "out" ∷ [])
+        (codes "g") (Some (codes "out")) }
+    ensures sink_first { AskEval (codes "eval" ∷ codes "--sink=out" ∷ codes "g" ∷ [])
+        (codes "g") (Some (codes "out")) }
 {}
 
 /// `--help` and `-h` ask for help, alone and behind each command.
@@ -25,8 +31,15 @@ pub fn words_for_help()
     ensures eval_short { AskHelp (codes "eval" ∷ codes "-h" ∷ []) }
 {}
 
-/// A word that is no command, a word behind `replay`, a flag that is none, `run`, and `check` and
-/// `eval` with no file or with two are refused.
+/// `--version` and `-V` ask for the version. No command has one of its own.
+pub fn words_for_version()
+    ensures long { AskVersion (codes "--version" ∷ []) }
+    ensures short { AskVersion (codes "-V" ∷ []) }
+    ensures of_eval { AreRefused (codes "eval" ∷ codes "--version" ∷ []) }
+{}
+
+/// A word that is no command, a word behind `replay`, a flag that is none, `run`, a sink behind
+/// `check`, and `check` and `eval` with no file or with two are refused.
 pub fn words_refused()
     ensures command { AreRefused (codes "bogus" ∷ []) }
     ensures run { AreRefused (codes "run" ∷ codes "g" ∷ []) }
@@ -34,5 +47,6 @@ pub fn words_refused()
     ensures flag { AreRefused (codes "--bogus" ∷ []) }
     ensures empty { AreRefused ([] ∷ []) }
     ensures no_file { AreRefused (codes "eval" ∷ []) }
+    ensures sink_of_check { AreRefused (codes "check" ∷ codes "g" ∷ codes "--sink" ∷ codes "out" ∷ []) }
     ensures two_files { AreRefused (codes "check" ∷ codes "g" ∷ codes "h" ∷ []) }
 {}

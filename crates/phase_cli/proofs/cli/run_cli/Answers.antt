@@ -1,4 +1,4 @@
-use Rattle.std.proofs.Common.{inl, inr, refl, subst}
+use Rattle.std.proofs.Common.{inl, inr, refl, subst, ap₂, ℕ, List, Option}
 use Rattle.phase_words.specs.CommandLine.{texts, check, eval}
 use Rattle.graph_commands.specs.GraphRuns.{CheckEnds, EvalEnds}
 use Rattle.watched_io.specs.States.{reader_state, writer_state}
@@ -22,7 +22,7 @@ returns-in-Ok-Replay-clause-check g c =
 pub returns-in-Ok-Replay-clause-eval : goal.returns-in-Ok-Replay-clause-eval
 returns-in-Ok-Replay-clause-eval g c =
     let asks = asks-call (texts c.args.words.now) c.in-Ok-Replay.field-0 _ c.in-Ok-Replay.field-0-is c.in-Ok-Replay.ensures.call in
-    λ name other. absurd (not-eval _ name asks other)
+    λ name sink other. absurd (not-eval _ name sink asks other)
 
 pub returns-in-Ok-Replay-clause-answered : goal.returns-in-Ok-Replay-clause-answered
 returns-in-Ok-Replay-clause-answered g c =
@@ -58,7 +58,7 @@ returns-in-Ok-Check-clause-check g c =
 pub returns-in-Ok-Check-clause-eval : goal.returns-in-Ok-Check-clause-eval
 returns-in-Ok-Check-clause-eval g c =
     let asks = asks-call (texts c.args.words.now) c.in-Ok-Check.field-0 _ c.in-Ok-Check.field-0-is c.in-Ok-Check.ensures.call in
-    λ name other. absurd (not-both _ c.in-Ok-Check.graph.now name asks other)
+    λ name sink other. absurd (not-both _ c.in-Ok-Check.graph.now name sink asks other)
 
 pub returns-in-Ok-Check-clause-answered : goal.returns-in-Ok-Check-clause-answered
 returns-in-Ok-Check-clause-answered g c =
@@ -79,22 +79,23 @@ returns-in-Ok-Eval-clause-status g c =
 pub returns-in-Ok-Eval-clause-replay : goal.returns-in-Ok-Eval-clause-replay
 returns-in-Ok-Eval-clause-replay g c =
     let asks = asks-call (texts c.args.words.now) c.in-Ok-Eval.field-0 _ c.in-Ok-Eval.field-0-is c.in-Ok-Eval.ensures.call in
-    λ other. absurd (not-eval _ c.in-Ok-Eval.graph.now other asks)
+    λ other. absurd (not-eval _ c.in-Ok-Eval.graph.now _ other asks)
 
 pub returns-in-Ok-Eval-clause-check : goal.returns-in-Ok-Eval-clause-check
 returns-in-Ok-Eval-clause-check g c =
     let asks = asks-call (texts c.args.words.now) c.in-Ok-Eval.field-0 _ c.in-Ok-Eval.field-0-is c.in-Ok-Eval.ensures.call in
-    λ name other. absurd (not-both _ name c.in-Ok-Eval.graph.now other asks)
+    λ name other. absurd (not-both _ name c.in-Ok-Eval.graph.now _ other asks)
 
 pub returns-in-Ok-Eval-clause-eval : goal.returns-in-Ok-Eval-clause-eval
 returns-in-Ok-Eval-clause-eval g c =
     let asks = asks-call (texts c.args.words.now) c.in-Ok-Eval.field-0 _ c.in-Ok-Eval.field-0-is c.in-Ok-Eval.ensures.call in
-    λ name again.
-    inr (subst (λ name. EvalEnds (g.F.Files.file c.args.files.now) name c.eval_and_report.result
-    g.W.Write.contents c.args.output.now c.eval_and_report.new.output
-    (writer_state g.E.Write.contents c.args.faults.now)
+    λ name sink again.
+    let same = same-eval _ c.in-Ok-Eval.graph.now name _ sink asks again in
+    inr (subst (λ (both : List ℕ × Option (List ℕ)). EvalEnds (g.F.Files.file c.args.files.now) both.0
+    both.1 c.eval_and_report.result g.W.Write.contents c.args.output.now
+    c.eval_and_report.new.output (writer_state g.E.Write.contents c.args.faults.now)
     (writer_state g.E.Write.contents c.eval_and_report.new.faults))
-    (same-eval _ c.in-Ok-Eval.graph.now name asks again) c.eval_and_report.ensures.ends)
+    (ap₂ (λ n s. (n, s)) same.0 same.1) c.eval_and_report.ensures.ends)
 
 pub returns-in-Ok-Eval-clause-answered : goal.returns-in-Ok-Eval-clause-answered
 returns-in-Ok-Eval-clause-answered g c =
@@ -103,7 +104,7 @@ returns-in-Ok-Eval-clause-answered g c =
 pub returns-in-Ok-Eval-clause-unopened : goal.returns-in-Ok-Eval-clause-unopened
 returns-in-Ok-Eval-clause-unopened g c =
     let asks = asks-call (texts c.args.words.now) c.in-Ok-Eval.field-0 _ c.in-Ok-Eval.field-0-is c.in-Ok-Eval.ensures.call in
-    λ none. absurd (none c.in-Ok-Eval.graph.now (inr asks))
+    λ none. absurd (none c.in-Ok-Eval.graph.now (inr (_, asks)))
 
 -- ---- the words give no call
 
@@ -126,7 +127,7 @@ returns-in-Err-clause-check g c =
 
 pub returns-in-Err-clause-eval : goal.returns-in-Err-clause-eval
 returns-in-Err-clause-eval g c =
-    λ name asks.
+    λ name sink asks.
     let memory = taken-memory _ c.in-Err.none _ _ _ _ _ asks.taken c.in-Err.ensures.no_call c.answer.ensures.answer in
     inl (record { status_is = memory.0; unopened = refl; silent = memory.1.0; says = memory.1.1 })
 

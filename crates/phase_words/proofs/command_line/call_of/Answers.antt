@@ -1,5 +1,5 @@
 -- The command that was found, by its name and by what was found for its word.
-use Rattle.std.proofs.Common.{◌≡◌, ◌∙◌, [], Some, codes, unwrap_or, sym, ap}
+use Rattle.std.proofs.Common.{◌≡◌, ◌∙◌, [], Some, codes, option_map, unwrap_or, sym, ap, ap₂}
 use Rattle.clap.proofs.WalkLemmas.{first_value-rows}
 use Rattle.clap.specs.Words.{first_of, found_of, rows_of, subcommand_rows_of}
 use Rattle.phase_words.specs.CommandLine.{asked_as, asked_by}
@@ -18,4 +18,6 @@ returns c =
     ap (λ s. s.now) c.unwrap_or.ensures ∙ (now-unwrap_or c.get_str.result _
     ∙ ap (λ o. unwrap_or o []) (c.get_str.ensures
     ∙ first_value-rows (found_of c.in-Some.own.now) (codes "graph"))) in
-    c.call_named.ensures ∙ (ap (λ g. asked_as name (Some g)) graph ∙ sym (ap asked_by is))
+    let sink : option_map (λ s. s.now) c.get_str-2.result ≡ first_of (codes "sink") rows =
+    c.get_str-2.ensures ∙ first_value-rows (found_of c.in-Some.own.now) (codes "sink") in
+    c.call_named.ensures ∙ (ap₂ (λ g s. asked_as name (Some g) s) graph sink ∙ sym (ap asked_by is))

@@ -3,7 +3,7 @@ use Rattle.std.proofs.Common.{◌≡◌, ◌∙◌, ap, ap₂, codes}
 use Rattle.std.proofs.lemmas.Result.{IfOk-weaker}
 use Rattle.clap.specs.Words.{App, app_of, new_app, shape_of, with_subcommand}
 use Rattle.clap.specs.Simple.{app_of_fields, shape_of_fields}
-use Rattle.phase_words.specs.CommandLine.{phase_app, without_own_name}
+use Rattle.phase_words.specs.CommandLine.{phase_app, with_version, without_own_name}
 use Rattle.phase_words.proofs.command_line.command.Goals as goal
 
 pub returns : goal.returns
@@ -16,14 +16,15 @@ returns c =
     ap (λ f. f.has_globals) c.after_help-2.ensures
     ∙ (ap (λ f. f.has_globals) c.about-2.ensures ∙ c.new-2.ensures.local) in
     let check = c.in_ok-graph_command.ensures in
-    let eval = c.in_ok-graph_command-2.ensures in
+    let eval = c.in_ok-eval_command.ensures in
     let named = c.in_ok-bin_name in
-    let phase_is : app_of named.field-0 ≡ without_own_name (new_app (codes "phase")) =
+    let phase_is : app_of named.field-0 ≡ with_version (without_own_name (new_app (codes "phase"))) =
     ap app_of_fields named.ensures.0 ∙ (ap app_of_fields c.after_help.ensures
-    ∙ (ap app_of_fields c.about.ensures ∙ (ap app_of_fields c.no_binary_name.ensures
-    ∙ ap without_own_name c.new.ensures.app))) in
+    ∙ (ap app_of_fields c.about.ensures ∙ (ap app_of_fields c.version.ensures
+    ∙ (ap (λ f. with_version (app_of_fields f)) c.no_binary_name.ensures
+    ∙ ap (λ a. with_version (without_own_name a)) c.new.ensures.app)))) in
     let one = c.in_ok-subcommand.ensures.shape replay_local
     ∙ ap₂ with_subcommand phase_is replay_is in
-    let two = c.in_ok-subcommand-2.ensures.shape check.local ∙ ap₂ with_subcommand one check.shape in
+    let two = c.in_ok-subcommand-2.ensures.shape check.local ∙ ap₂ with_subcommand one (ap (λ (a : App). a.top) check.app) in
     IfOk-weaker c.subcommand-3.result _ _
     (λ r adds. adds.shape eval.local ∙ ap₂ with_subcommand two eval.shape) c.subcommand-3.ensures

@@ -15,3 +15,11 @@ returns-clause-eval c = record { taken = refl; command = refl }
 pub returns-clause-path : goal.returns-clause-path
 unfolding asked_in kinds_of phase_app clap_on_literals
 returns-clause-path c = record { taken = refl; command = refl }
+
+pub returns-clause-sink : goal.returns-clause-sink
+unfolding asked_in kinds_of phase_app clap_on_literals
+returns-clause-sink c = record { taken = refl; command = refl }
+
+pub returns-clause-sink_first : goal.returns-clause-sink_first
+unfolding asked_in kinds_of phase_app clap_on_literals
+returns-clause-sink_first c = record { taken = refl; command = refl }

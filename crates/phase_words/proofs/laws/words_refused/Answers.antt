@@ -55,3 +55,11 @@ kinds-two_files = refl
 pub returns-clause-two_files : goal.returns-clause-two_files
 returns-clause-two_files c =
     unknown_refused (codes "check" ∷ codes "g" ∷ codes "h" ∷ []) kinds-two_files
+
+kinds-sink_of_check : kinds_of (codes "check" ∷ codes "g" ∷ codes "--sink" ∷ codes "out" ∷ []) ≡ UnknownArgument ∷ []
+unfolding kinds_of phase_app clap_on_literals
+kinds-sink_of_check = refl
+
+pub returns-clause-sink_of_check : goal.returns-clause-sink_of_check
+returns-clause-sink_of_check c =
+    unknown_refused (codes "check" ∷ codes "g" ∷ codes "--sink" ∷ codes "out" ∷ []) kinds-sink_of_check

@@ -1,12 +1,9 @@
-use Rattle.std.proofs.Common.{◌+◌, ◌++◌, ◌∙◌, length, take, drop, get_or, pos, ap, rules, w64, FitsSigned}
-use Rattle.std.proofs.lemmas.Int.{to_z-of_z}
+use Rattle.std.proofs.Common.{length}
 use Rattle.std.specs.List.{flat_map}
-use Rattle.std.proofs.lemmas.List.{take_more}
-use Rattle.std.proofs.lemmas.Result.{err_from_is_err_and}
+use Rattle.std.proofs.lemmas.Result.{err_from_is_err_and, on_err_weaker, on_ok_weaker}
 use Rattle.stream_lists.specs.Texts.{value_text}
 use Rattle.graph_commands.specs.Puts.{heading_text}
-use Rattle.phase_status.proofs.Items.{flat_map-push, flat_map-rest}
-use Rattle.graph_commands.proofs.Putting.{Puts-append, prefix_before, prefix_behind, prefix_within}
+use Rattle.graph_commands.proofs.Putting.{Puts-append, prefix_before, prefix_behind}
 use Rattle.graph_commands.proofs.output_buffer.OutputBuffer.put_sink.Goals as goal
 
 -- of the heading a prefix was put
@@ -17,40 +14,19 @@ returns-in_err-put_heading-clause-err g c =
     (heading_text c.args.name.now (length c.args.values.now)) (flat_map value_text c.args.values.now)
     c.in_err-put_heading.ensures.err)
 
--- of a value a prefix was put
-pub returns-in_err-put_value-clause-err : goal.returns-in_err-put_value-clause-err
-returns-in_err-put_value-clause-err g c =
-    let p = err_from_is_err_and c.from_residual-in_err-put_value.result
-    c.from_residual-in_err-put_value.ensures.1 in
-    let values = c.args.values.now in
-    let i = c.loop-value.value-index in
-    let before = c.args.self.now in
-    let head = heading_text c.args.name.now (length values) in
-    let fits : FitsSigned w64 (get_or values i (pos 0)) = search rules in
-    let same = to_z-of_z w64 (get_or values i (pos 0)) fits in
-    let more = ap (λ xs. head ++ flat_map value_text xs) (take_more values i (pos 0) c.loop-value-test.true)
-    ∙ flat_map-push value_text head (take i values) (get_or values i (pos 0)) in
-    let whole = flat_map-rest value_text head values (i + 1)
-    ∙ ap (λ l. l ++ flat_map value_text (drop (i + 1) values)) more in
-    rw p.1 (prefix_within _ _ before
-    (head ++ flat_map value_text (take i values) ++ value_text (get_or values i (pos 0)))
-    (flat_map value_text (drop (i + 1) values)) _ whole
-    (prefix_behind _ _ _ before c.loop-value.self (head ++ flat_map value_text (take i values))
-    (value_text (get_or values i (pos 0))) c.loop-value.invariant.0 (rw same at c.in_err-put_value.ensures.err)))
+-- the heading and the values
+pub returns-clause-ok : goal.returns-clause-ok
+returns-clause-ok g c =
+    on_ok_weaker c.put_values.result
+    (Puts-append _ _ _ c.args.self.now c.put_heading.new.self _
+    (heading_text c.args.name.now (length c.args.values.now)) (flat_map value_text c.args.values.now)
+    c.in_ok-put_heading.ensures.ok)
+    c.put_values.ensures.ok
 
--- one more value was put
-pub loop-value-preserved : goal.loop-value-preserved
-loop-value-preserved g c =
-    let values = c.args.values.now in
-    let i = c.loop-value.value-index in
-    let before = c.args.self.now in
-    let head = heading_text c.args.name.now (length values) in
-    let fits : FitsSigned w64 (get_or values i (pos 0)) = search rules in
-    let same = to_z-of_z w64 (get_or values i (pos 0)) fits in
-    let more = ap (λ xs. head ++ flat_map value_text xs) (take_more values i (pos 0) c.loop-value-test.true)
-    ∙ flat_map-push value_text head (take i values) (get_or values i (pos 0)) in (
-      rw more (Puts-append _ _ _ before c.loop-value.self c.put_value.new.self
-          (head ++ flat_map value_text (take i values)) (value_text (get_or values i (pos 0)))
-          c.loop-value.invariant.0 (rw same at c.in_ok-put_value.ensures.ok)),
-      c.in_ok-put_value.ensures.kept ∙ c.loop-value.invariant.1,
-    )
+pub returns-clause-err : goal.returns-clause-err
+returns-clause-err g c =
+    on_err_weaker c.put_values.result
+    (prefix_behind _ _ _ c.args.self.now c.put_heading.new.self
+    (heading_text c.args.name.now (length c.args.values.now)) (flat_map value_text c.args.values.now)
+    c.in_ok-put_heading.ensures.ok)
+    c.put_values.ensures.err

@@ -1,14 +1,13 @@
-use Rattle.std.proofs.Common.{◌≡◌, ◌++◌, length, take}
+use Rattle.std.proofs.Common.{◌≡◌, take}
 use Rattle.std.specs.List.{flat_map}
 use Rattle.watched_io.specs.Watched.{has_failed_of, inner_of}
 use Rattle.stream_lists.specs.Texts.{value_text}
-use Rattle.graph_commands.specs.Puts.{Puts, heading_text}
-use Rattle.graph_commands.proofs.output_buffer.OutputBuffer.put_sink.Given as goal
+use Rattle.graph_commands.specs.Puts.{Puts}
+use Rattle.graph_commands.proofs.output_buffer.OutputBuffer.put_values.Given as goal
 
--- the heading and the values before this one were put
+-- the values before this one were put
 abbrev pub invariant-loop-value : goal.invariant-loop-value
 invariant-loop-value g l =
     Puts (g.W.Write.contents (inner_of l.fn.writer)) (g.W.Write.contents (inner_of l.writer))
-    l.fn.self l.self (heading_text l.name (length l.values)
-    ++ flat_map value_text (take l.value-index l.values))
+    l.fn.self l.self (flat_map value_text (take l.value-index l.values))
     × (has_failed_of l.writer ≡ has_failed_of l.fn.writer)
