@@ -156,6 +156,16 @@ receives job spots t holds numbers x long each root i lt =
       root = subst (λ k. IsRootMember job spots t k x) (sym e) root;
     }
 
+-- a seed has received nothing
+pub nothing_received : (job : Job) (spots : ℕ → Spot) (s : TaskState) → s.holds.items ≡ []
+    → s.numbers.items ≡ [] → HasReceived job spots s
+nothing_received job spots s no_holds no_numbers =
+    let none : length s.holds.items ≡ 0 = ap length no_holds in
+    record {
+      long = ap length no_numbers ∙ sym none;
+      each = λ i lt. absurd (omega arith);
+    }
+
 -- the lists of a seed with it
 pub has_received : (job : Job) (spots : ℕ → Spot) (t n : ℕ) (holds later : List Hold)
     (numbers more : List ℕ) (x : AnyMember) → later ≡ holds ++ On x ∷ []
