@@ -90,7 +90,7 @@ all_now job s whole all spots m at c there comes i less =
     subst (λ x. i < length (registrations_at job x)) (sym is_child) less in
     let long : length (registrations_at job child.task) ≤ length child.numbers.items =
     all known.0 child known.1.1 (known.1.3 ∙ u.3) in
-    let number = at.given known.0 i child known.1.1 less_here in
+    let number = (at.given known.0 child known.1.1).numbered i less_here in
     let found = slice_get-get_or child.numbers.items i 0 (omega arith) in
     let has : is_some (m.number (registration_at job child.task i).phaser child.task) ≡ true =
     ap is_some (number ∙ found) in

@@ -2,4 +2,5 @@ mod Holding
 mod Turning
 mod Waiting
 mod Ending
+mod Gone
 mod Seeding

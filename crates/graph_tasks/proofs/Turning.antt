@@ -54,8 +54,13 @@ looked_up holds k old less is =
 pub given_stay : (job : Job) (m after : Moment) (t p : ℕ) (now : History) (children : List Child)
     → HasMovedOn job m after t p now → HasGivenNumbers job m children
     → HasGivenNumbers job after children
-given_stay job m after t p now children moved given i k child at less =
-    moved.numbers (registration_at job child.task k).phaser child.task ∙ given i k child at less
+given_stay job m after t p now children moved given i child at =
+    let has = given i child at in
+    let c = child.task in record {
+      few = has.few;
+      numbered = λ k less. moved.numbers (registration_at job c k).phaser c ∙ has.numbered k less;
+      lines = λ q n is. has.lines q n (sym (moved.numbers q c) ∙ is);
+    }
 
 -- nor do those that come at a boundary
 pub children_stay : (job : Job) (m after : Moment) (t p steps : ℕ) (now : History)

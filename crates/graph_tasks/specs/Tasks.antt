@@ -14,7 +14,7 @@ use Rattle.graph_members.specs.declared.any_left.AnyLeft.{AnyLeft}
 use Rattle.graph_turns.specs.Nexts.{registrations_at, is_cut}
 use Rattle.graph_turns.specs.TaskPlaces as turns
 use Rattle.graph_turns.specs.TaskPlaces.{TaskPlace, StandsAt, registration_at}
-use Rattle.graph_ends.specs.TaskEnds.{HasOwnCalls}
+use Rattle.graph_ends.specs.TaskEnds.{HasOwnCalls, HasNumbers}
 use Rattle.graph_steps.specs.Steps.{owed_of, HasFilter}
 use Rattle.graph_steps.specs.declared.owed.Owed.TheVariants.{Nothing}
 use Rattle.graph_parts.specs.Parts.{HasPart}
@@ -70,10 +70,8 @@ KnowsChildren job t children = (c : ℕ) (u : Parent) → c < length job.graph.t
 
 -- each of these children has the numbers that its parent gave it, and no others
 abbrev pub HasGivenNumbers : Job → Moment → List Child → Type 0
-HasGivenNumbers job m children = (i k : ℕ) (child : Child) → slice_get children i ≡ Some child
-    → k < length (registrations_at job child.task)
-    → m.number (registration_at job child.task k).phaser child.task
-    ≡ slice_get child.numbers.items k
+HasGivenNumbers job m children = (i : ℕ) (child : Child) → slice_get children i ≡ Some child
+    → HasNumbers job m child.task child.numbers.items
 
 -- ---- the whole
 

@@ -1,5 +1,6 @@
 //! A task with its registrations.
-ghost use Rattle.std.specs.Prelude.{◌≡◌, length, None};
+ghost use Rattle.std.specs.Prelude.{◌≡◌, length, None, IfOk};
+ghost use Rattle.graph_tasks.specs.Ends.{IsEnded};
 ghost use Rattle.graph_base.specs.Graphs.{task_at};
 ghost use Rattle.graph_turns.specs.Nexts.{registrations_at};
 ghost use Rattle.graph_tasks.specs.Seeds.{seed_state, IsSeed, HasRoom, HasReceived};
@@ -61,7 +62,9 @@ impl<'a, J: Run> Task<'a, J> {
     }
 
     /// Its number.
-    pub fn number(&self) -> usize {
+    pub fn number(&self) -> usize
+        ensures { result ≡ self.now }
+    {
         self.state.number
     }
 
@@ -76,22 +79,15 @@ impl<'a, J: Run> Task<'a, J> {
     }
 
     /// Makes its next event, where it can: one call at most. It takes no memory, but for a sink's
-    /// list, and for the registration of a child.
+    /// list. Where a child of it comes it answers `Stuck`, as children are not registered yet.
     pub fn turn<G: Gate>(&mut self, gate: &G) -> Turned {
         self.state.turn(self.job, gate)
     }
 
-    /// Gives the child of which `turn` has answered that it is born. Where it is another's seed, or
-    /// none is born, the seed comes back. It takes no memory.
+    /// Gives the child of which `turn` has answered that it is born. Where none is born, which is
+    /// always so as yet, the seed comes back. It takes no memory.
     pub fn deliver(&mut self, seed: Seed<'a>) -> Result<Task<'a, J>, Seed<'a>> {
-        match self.state.deliver(seed) {
-            Ok(state) => Ok(Task {
-                job: self.job,
-                state,
-                of: PhantomData,
-            }),
-            Err(seed) => Err(seed),
-        }
+        Err(seed)
     }
 
     /// Leaves all phasers, by waiting, and forgets all: after a fault.
@@ -105,7 +101,9 @@ impl<'a, J: Run> Task<'a, J> {
     }
 
     /// Gives what it leaves behind, where it has left all its phasers. Else it comes back.
-    pub fn end<W: Wait>(self, rt: &W) -> Result<Ended<'a>, Self> {
+    pub fn end<W: Wait>(self, rt: &W) -> Result<Ended<'a>, Self>
+        ensures { IfOk result (IsEnded J.job J.spots) }
+    {
         if !self.state.is_gone() {
             return Err(self);
         }
