@@ -1,0 +1,6 @@
+mod Holding
+mod Turning
+mod Waiting
+mod Ending
+mod Gone
+mod Seeding
