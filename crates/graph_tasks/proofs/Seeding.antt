@@ -156,6 +156,16 @@ receives job spots t holds numbers x long each root i lt =
       root = subst (λ k. IsRootMember job spots t k x) (sym e) root;
     }
 
+-- a seed has received nothing
+pub nothing_received : (job : Job) (spots : ℕ → Spot) (s : TaskState) → s.holds.items ≡ []
+    → s.numbers.items ≡ [] → HasReceived job spots s
+nothing_received job spots s no_holds no_numbers =
+    let none : length s.holds.items ≡ 0 = ap length no_holds in
+    record {
+      long = ap length no_numbers ∙ sym none;
+      each = λ i lt. absurd (omega arith);
+    }
+
 -- the lists of a seed with it
 pub has_received : (job : Job) (spots : ℕ → Spot) (t n : ℕ) (holds later : List Hold)
     (numbers more : List ℕ) (x : AnyMember) → later ≡ holds ++ On x ∷ []
@@ -238,17 +248,26 @@ stands_first job spots s m is seed has all first own = record {
   filter = subst (HasFilter (task_at job.graph s.number) s.filter)
       (sym (first.nothing_taken 0)) seed.filter;
   lines = λ kind. seed.lines ∙ sym (first.nothing_taken 0);
-  given = λ i k child e lt.
+  given = λ i child e.
       (let unborn = seed.children.each i child e in
       let u = unborn.parent in
       let other = apart job s.number child.task u is unborn.there unborn.has unborn.by in
-      first.others (registration_at job child.task k).phaser child.task other
-      ∙ ap (λ xs. slice_get xs k) (sym unborn.none));
+      let no_numbers : length child.numbers.items ≡ 0 = ap length unborn.none in
+      record {
+        few = omega arith;
+        numbered = λ k lt.
+            first.others (registration_at job child.task k).phaser child.task other
+            ∙ ap (λ xs. slice_get xs k) (sym unborn.none);
+        lines = λ p n f. absurd (never n (sym (first.others p child.task other) ∙ f));
+      });
   at_end = λ over. absurd (differ (sym over ∙ seed.staying));
 }
   where
     differ : true ≡ false → ⊥
     differ e = cc
+
+    never : (n : ℕ) → None ≡ Some n → ⊥
+    never n e = cc
 
     none : {X : Type 0} (x : X) (i : ℕ) → slice_get [] i ≡ Some x → ⊥
     none x i e = cc

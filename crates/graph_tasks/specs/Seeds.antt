@@ -78,3 +78,10 @@ pub record HasReceived (job : Job) (spots : ℕ → Spot) (s : TaskState) : Type
   pub long : length s.numbers.items ≡ length s.holds.items
   pub each : (i : ℕ) → i < length s.holds.items
       → HasRegistration job spots s.number i s.holds.items s.numbers.items
+
+-- a root has received its first n registrations, and there is room for the others
+pub record IsReady (job : Job) (spots : ℕ → Spot) (n : ℕ) (s : TaskState) : Type 0 where
+  pub seed : IsSeed job s
+  pub room : HasRoom 9 s
+  pub received : HasReceived job spots s
+  pub many : length s.holds.items ≡ n

@@ -5,6 +5,7 @@
 mod child;
 mod children;
 mod ended;
+mod founding;
 mod gate;
 mod held;
 mod hold;

@@ -1,5 +1,5 @@
 //! Tasks before they are registered.
-ghost use Rattle.std.specs.Prelude.{◌≡◌, ◌+◌, ◌<◌, ℕ, [], length, IfOk};
+ghost use Rattle.std.specs.Prelude.{◌≡◌, ◌+◌, ◌<◌, ℕ, length, IfOk};
 ghost use Rattle.graph_members.specs.Members.{Spot};
 ghost use Rattle.graph_openings.specs.Openings.{IsRootMember};
 ghost use Rattle.graph_tasks.specs.Seeds.{seed_state, IsSeed, HasRoom, HasReceived};
@@ -34,8 +34,9 @@ impl<'a> Seed<'a> {
         ensures number { IfOk result (λ seed. (seed_state seed).number ≡ task) }
         ensures seed { IfOk result (λ seed. IsSeed job.now (seed_state seed)) }
         ensures room { IfOk result (λ seed. HasRoom 9 (seed_state seed)) }
-        ensures none { IfOk result (λ seed. ((seed_state seed).holds.items ≡ [])
-            × ((seed_state seed).numbers.items ≡ [])) }
+        ensures many { IfOk result (λ seed. length (seed_state seed).holds.items ≡ 0) }
+        ensures received { IfOk result (λ seed. (job : JobValue) (spots : ℕ → Spot)
+            → HasReceived job spots (seed_state seed)) }
     {
         let filter = first_filter(alloc, job, task)?;
         let children = children_of(alloc, job, task)?;
