@@ -2,7 +2,7 @@
 
 /// Called by a worker as it enters a step of a task, before the step's first event, once a step.
 /// Steps are numbered from 0.
-pub trait Gate: Sync {
+pub trait Gate {
     fn at(&self, task: usize, step: u64);
 }
 
