@@ -1,0 +1,7 @@
+mod Holding
+mod Turning
+mod Waiting
+mod Ending
+mod Gone
+mod Seeding
+mod Leaving

@@ -1,0 +1,117 @@
+//! A task with its registrations.
+ghost use Rattle.std.specs.Prelude.{◌≡◌, length, None, IfOk};
+ghost use Rattle.graph_tasks.specs.Ends.{IsEnded};
+ghost use Rattle.graph_base.specs.Graphs.{task_at};
+ghost use Rattle.graph_turns.specs.Nexts.{registrations_at};
+ghost use Rattle.graph_tasks.specs.Seeds.{seed_state, IsSeed, HasRoom, HasReceived};
+
+use crate::ended::Ended;
+use crate::gate::Gate;
+use crate::run::Run;
+use crate::seed::Seed;
+use crate::task_state::TaskState;
+use crate::turned::Turned;
+use graph_ends::laws::first_calls;
+use graph_parts::beginnings::roots_begin;
+use std::marker::{Model, PhantomData};
+use std::sync::Wait;
+use stream_lists::Job;
+
+/// A task of a run with its registrations: whoever has it makes its next event.
+///
+/// **End.** It cannot be thrown away. `end` and `dismiss` end it.
+pub struct Task<'a, J: Run> {
+    job: &'a Job,
+    state: TaskState<'a>,
+    of: PhantomData<J>,
+}
+
+impl<'a, J: Run> Model for Task<'a, J> {
+    ghost use Rattle.std.specs.Prelude.{◌≡◌, ℕ};
+    ghost use Rattle.graph_tasks.specs.Tasks.{IsTask};
+
+    ghost Value = { ℕ };
+
+    ghost view = { λ t. t.state.number };
+
+    ghost invariant = { λ t. (t.job.now ≡ J.job) × IsTask J.job J.spots t.state };
+}
+
+impl<'a, J: Run> Task<'a, J> {
+    /// Begins a task without a parent, which its founders have registered on all phasers of its
+    /// line. It takes no memory.
+    pub fn root(job: &'a Job, seed: Seed<'a>) -> Task<'a, J>
+        requires job { job.now ≡ J.job }
+        requires root { (task_at job.now.graph (seed_state seed).number).parent ≡ None }
+        requires seed { IsSeed job.now (seed_state seed) }
+        requires room { HasRoom 9 (seed_state seed) }
+        requires received { HasReceived job.now J.spots (seed_state seed) }
+        requires all { length (seed_state seed).holds.items
+            ≡ length (registrations_at job.now (seed_state seed).number) }
+        ensures { result ≡ (seed_state seed.entry).number }
+    {
+        let _few = job.graph().registrations(seed.number());
+        let _lines = job.graph().tasks();
+        roots_begin();
+        first_calls();
+        Task {
+            job,
+            state: seed.open(),
+            of: PhantomData,
+        }
+    }
+
+    /// Its number.
+    pub fn number(&self) -> usize
+        ensures { result ≡ self.now }
+    {
+        self.state.number
+    }
+
+    /// The phasers of its line, as bits: bit `p` for phaser number `p`.
+    pub fn phasers(&self) -> u64 {
+        let mut set = 0u64;
+        for k in 0..self.job.graph().registrations(self.state.number) {
+            let p = self.job.graph().registration(self.state.number, k).phaser;
+            set |= 1u64.wrapping_shl((p & 63) as u32);
+        }
+        set
+    }
+
+    /// Makes its next event, where it can: one call at most. It takes no memory, but for a sink's
+    /// list. Where a child of it comes it answers `Stuck`, as children are not registered yet.
+    pub fn turn<G: Gate>(&mut self, gate: &G) -> Turned {
+        self.state.turn(self.job, gate)
+    }
+
+    /// Gives the child of which `turn` has answered that it is born. Where none is born, which is
+    /// always so as yet, the seed comes back. It takes no memory.
+    pub fn deliver(&mut self, seed: Seed<'a>) -> Result<Task<'a, J>, Seed<'a>> {
+        Err(seed)
+    }
+
+    /// Leaves all phasers, by waiting, and forgets all: after a fault.
+    pub fn dismiss<W: Wait>(self, rt: &W) {
+        let Task {
+            job: _,
+            state,
+            of: _,
+        } = self;
+        state.dismiss(rt);
+    }
+
+    /// Gives what it leaves behind, where it has left all its phasers. Else it comes back.
+    pub fn end<W: Wait>(self, rt: &W) -> Result<Ended<'a>, Self>
+        ensures { IfOk result (IsEnded J.job J.spots) }
+    {
+        if !self.state.is_gone() {
+            return Err(self);
+        }
+        let Task {
+            job: _,
+            state,
+            of: _,
+        } = self;
+        Ok(state.end(rt))
+    }
+}
