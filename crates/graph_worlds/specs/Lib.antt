@@ -1,4 +1,5 @@
 pub mod Machines
 pub mod Parking
 pub mod Places
+pub mod Turning
 pub mod Worlds
