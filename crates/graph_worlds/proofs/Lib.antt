@@ -1,3 +1,6 @@
+pub mod Events
+pub mod Leaving
+pub mod Lively
 pub mod OpeningPhasers
 pub mod OpeningTasks
 pub mod Ending

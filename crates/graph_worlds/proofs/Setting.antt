@@ -2,7 +2,7 @@
 use Rattle.std.proofs.Common.{◌≡◌, ◌≢◌, ℕ, ◌<◌, ◌⊎◌, inl, inr, Bool, true, false, cond, eqb, eq-eqb, List, Option, Some, length, get_or, slice_get, set, refl, sym, ap, subst, ◌∙◌, arith}
 use Rattle.std.specs.Prelude.{Result, Ok, Err, OnOk}
 use Rattle.std.proofs.lemmas.List.{get_or-set_same, get_or-set_other, length-set}
-use Rattle.std.proofs.lemmas.Option.{slice_get-get_or, slice_get_within, get_or_from_slice_get, same_Some}
+use Rattle.std.proofs.lemmas.Option.{slice_get-get_or, slice_get_within, slice_get_read, get_or_from_slice_get, same_Some}
 use Rattle.std.proofs.lemmas.Bool.{eqb-true}
 use Rattle.phase_history.specs.Histories.{History}
 use Rattle.graph_base.specs.Graphs.{phaser_at}
@@ -66,3 +66,10 @@ set_core job history cores p core h has there stands = record {
 pub on_ok : {A R : Type 0} {P Q : Type 0} (r : Result A R) → (P → Q) → OnOk r P → OnOk r Q
 on_ok (Ok a) f p = f p
 on_ok (Err e) f p = p
+
+-- what was read of a list, twice
+pub read_same : {X : Type 0} (xs : List X) (i : ℕ) (a b : X) → i < length xs → a ≡ get_or xs i a
+    → b ≡ get_or xs i b → a ≡ b
+read_same xs i a b lt first second =
+    same_Some a b (sym (slice_get_read xs (length xs) i a refl lt first)
+    ∙ slice_get_read xs (length xs) i b refl lt second)

@@ -14,6 +14,7 @@ use graph_steps::{
 };
 use phase_accum::Outcome;
 use phase_core::{Got, RegisterRefusal};
+use graph_turns::laws;
 use std::alloc::AllocError;
 use stream_lists::Job;
 
@@ -31,6 +32,8 @@ impl Machine {
             return Ok(Made::Nothing);
         }
         let _samples = job.samples_of(t);
+        laws::turns_stay_reached();
+        laws::no_turn_is_refused();
         self.make_step(job, t, step)
     }
 
@@ -56,9 +59,10 @@ impl Machine {
         requires { IsNextIn job.now self.old t turns.leaves }
         ensures { HadTurn job.now self.old self.new t result }
     {
-        let left = self.state(job, t).left;
-        let number = self.state(job, t).numbers[left];
-        let last = left + 1 >= self.state(job, t).numbers.len();
+        let state = &self.tasks[t];
+        let left = state.left;
+        let number = state.numbers[left];
+        let last = left + 1 >= state.numbers.len();
         let phaser = job.graph().registration(t, left).phaser;
         let Ok(()) = self.drop_on(job, phaser, number) else {
             unreachable!()
