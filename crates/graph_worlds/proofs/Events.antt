@@ -21,7 +21,8 @@ use Rattle.graph_worlds.specs.Places.{IsTaskAt, place_of}
 use Rattle.graph_worlds.specs.Machines.{IsMachineAt, HasCores}
 use Rattle.graph_worlds.specs.declared.machine.Machine.{Machine}
 use Rattle.graph_worlds.specs.declared.task_state.TaskState.{TaskState}
-use Rattle.graph_worlds.proofs.Setting.{slice_get-set_same, slice_get-set_other}
+use Rattle.graph_worlds.proofs.Setting.{slice_get-set_same, slice_get-set_other, same_cores}
+use Rattle.graph_moves.specs.Turned.{with_at}
 
 -- what another task has taken
 pub taken_other : (job : Job) (m : Moment) (event : TaskEvent) (u k : ℕ) → u ≢ task_of event
@@ -104,3 +105,17 @@ after_own job m old new t event state at answer none there reached cores tasks h
           (subst (λ xs. slice_get xs u ≡ Some other) tasks found);
       lines = lines;
     }
+
+-- a machine of which nothing but a core was asked
+pub unchanged : (job : Job) (m : Moment) (old new : Machine) (p : ℕ) → IsMachineAt job m old
+    → HasCores job (with_at p (m.history p) m.history) new.cores.items → new.tasks ≡ old.tasks
+    → new.lines ≡ old.lines → IsMachineAt job m new
+unchanged job m old new p at cores tasks lines = record {
+  graph = at.graph;
+  reached = at.reached;
+  cores = same_cores job m.history p new.cores.items cores;
+  tasks_many = ap (λ v. length v.items) tasks ∙ at.tasks_many;
+  tasks = λ u state found. at.tasks u state
+      (subst (λ v. slice_get v.items u ≡ Some state) tasks found);
+  lines = ap (λ l. map sink_values l.items) lines ∙ at.lines;
+}

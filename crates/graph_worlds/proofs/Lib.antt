@@ -5,6 +5,9 @@ pub mod OpeningPhasers
 pub mod OpeningTasks
 pub mod Ending
 pub mod Setting
+pub mod Signals
 pub mod TaskLists
+pub mod WhatNext
+pub mod Outputs
 pub mod Reading
 pub mod Searching

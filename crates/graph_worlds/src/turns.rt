@@ -1,5 +1,8 @@
 //! The turn of a task, by what it does next.
-ghost use Rattle.std.specs.Prelude.{◌≡◌, ◌<◌, ℕ, length, IfOk, OnErr};
+ghost use Rattle.std.specs.Prelude.{◌≡◌, ◌<◌, ℕ, length, Ok, IfOk, OnErr};
+ghost use Rattle.stream_filters.specs.Range.{ranged};
+ghost use Rattle.graph_moments.specs.Moments.{Moment};
+ghost use Rattle.graph_turns.specs.Answers.{next_value};
 ghost use Rattle.graph_turns.specs.Nexts as turns;
 ghost use Rattle.graph_worlds.specs.Turning.{IsNextIn, HadTurn};
 
@@ -19,7 +22,7 @@ use std::alloc::AllocError;
 use stream_lists::Job;
 
 impl Machine {
-    ghost use Rattle.graph_worlds.specs.Machines.{IsMachine, next_by};
+    ghost use Rattle.graph_worlds.specs.Machines.{IsMachine, IsMachineAt, next_by};
 
     /// Gives a turn to task number `t`: it makes its next call.
     pub fn make(&mut self, job: &Job, t: usize) -> Result<Made, AllocError>
@@ -79,10 +82,11 @@ impl Machine {
         requires { IsNextIn job.now self.old t turns.samples }
         ensures { HadTurn job.now self.old self.new t result }
     {
-        let begun = self.state(job, t).begun;
-        let x = job.samples_of(t)[begun as usize];
         let (k, phaser) = output_of(job, t, 0);
-        let number = self.state(job, t).numbers[k];
+        let state = &self.tasks[t];
+        let begun = state.begun;
+        let number = state.numbers[k];
+        let x = job.samples_of(t)[begun as usize];
         let Ok(_) = self.signal_on(job, phaser, number, x) else {
             return Made::Blocked { phaser };
         };
@@ -98,24 +102,26 @@ impl Machine {
         requires { IsNextIn job.now self.old t (turns.signals output) }
         ensures { HadTurn job.now self.old self.new t result }
     {
-        let Owed::Value { value, .. } = self.state(job, t).owed else {
+        let state = &self.tasks[t];
+        let begun = state.begun;
+        let Owed::Value { value, .. } = state.owed else {
             unreachable!()
         };
         match value {
             Ok(x) => self.signal_value(job, t, output, x),
-            Err(_) => Made::OutOfRange {
-                step: self.state(job, t).begun - 1,
-            },
+            Err(_) => Made::OutOfRange { step: begun - 1 },
         }
     }
 
     /// A task signals this value, which is in range, on this output.
     fn signal_value(&mut self, job: &Job, t: usize, output: usize, x: i64) -> Made
-        requires { IsNextIn job.now self.old t (turns.signals output) }
+        requires next { IsNextIn job.now self.old t (turns.signals output) }
+        requires value { (m : Moment) → IsMachineAt job.now m self.old
+            → ranged (next_value job.now m t output) ≡ Ok x }
         ensures { HadTurn job.now self.old self.new t result }
     {
         let (k, phaser) = output_of(job, t, output);
-        let number = self.state(job, t).numbers[k];
+        let number = self.tasks[t].numbers[k];
         let Ok(_) = self.signal_on(job, phaser, number, x) else {
             return Made::Blocked { phaser };
         };
