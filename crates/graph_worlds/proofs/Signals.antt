@@ -603,3 +603,12 @@ blocked_sample job old new t number p x state r next found phaser numbered value
     answer m at =
         refused m at
         ∙ blocks (sample t 0 p number x) r (λ e. next.answered m at (refused m at ∙ e))
+
+pub sample_few : (job : Job) (machine : Machine) (m : Moment) (t : ℕ)
+    → IsNextIn job machine t turns.samples → IsMachineAt job m machine
+    → 0 < length (signalled_by (task_at job.graph t))
+sample_few job machine m t next at =
+    let is = next.is m at in
+    let there = (live-is job m t (live_next job m t turns.samples is (λ e. absurd (cc)))).there in
+    let one = source_ends job t at.graph there (samples_begins job m t is).kind in
+    omega arith
