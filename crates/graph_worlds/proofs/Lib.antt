@@ -6,6 +6,7 @@ pub mod OpeningTasks
 pub mod Ending
 pub mod Setting
 pub mod Signals
+pub mod SinkLines
 pub mod TaskLists
 pub mod WhatNext
 pub mod Outputs
