@@ -8,6 +8,7 @@ pub mod Setting
 pub mod Signals
 pub mod SinkLines
 pub mod TaskLists
+pub mod Waits
 pub mod WhatNext
 pub mod Outputs
 pub mod Reading
