@@ -53,7 +53,7 @@ map_same f g (x ∷ xs) same =
 -- ---- the sinks are in order
 
 -- each number of the list is above those before it
-Ascends : ℕ → List ℕ → Type 0
+abbrev Ascends : ℕ → List ℕ → Type 0
 Ascends from [] = Unit {0}
 Ascends from (x ∷ xs) = (from ≤ x) × Ascends (suc x) xs
 
@@ -118,7 +118,7 @@ one_line test n i t x before after found longer same =
     let f : ℕ → ℕ × List ℤ = λ u. (u, before u) in
     let lt = slice_get_within xs i t found in
     let read : get_or (map f xs) i (0, []) ≡ f t =
-    get_or-map f xs i 0 (0, []) lt ∙ ap f (get_or_from_slice_get xs i 0 t found) in
+    get_or-map f xs i 0 (0, []) lt ∙ ap f (get_or_from_slice_get xs i t 0 found) in
     ap (λ line. set (map f xs) i (one_more x line)) read
     ∙ ap (λ l. set (map f xs) i (t, l)) (sym longer)
     ∙ one_set f (λ u. (u, after u)) t 0 i xs (filter_ascends test 0 n) found
@@ -127,25 +127,24 @@ one_line test n i t x before after found longer same =
 -- the lines where another task has taken one
 pub no_line : (test : ℕ → Bool) (n t : ℕ) (before after : ℕ → List ℤ) → test t ≡ false
     → ((u : ℕ) → u ≢ t → before u ≡ after u)
-    → map (λ u. (u, before u)) (filter test (range_with_len 0 n))
-    ≡ map (λ u. (u, after u)) (filter test (range_with_len 0 n))
-no_line test n t before after none same = by 0 n
+    → map {B = ℕ × List ℤ} (λ u. (u, before u)) (filter test (range_with_len 0 n))
+    ≡ map {B = ℕ × List ℤ} (λ u. (u, after u)) (filter test (range_with_len 0 n))
+no_line test n t before after none same = go 0 n
   where
-    by : (from n : ℕ) → map (λ u. (u, before u)) (filter test (range_with_len from n))
-        ≡ map (λ u. (u, after u)) (filter test (range_with_len from n))
-    by from zero = refl
-    by from (suc n) = one (test from) refl (by (from + 1) n)
-      where
-        one : (b : Bool) → test from ≡ b
-            → map (λ u. (u, before u)) (filter test (range_with_len (from + 1) n))
-            ≡ map (λ u. (u, after u)) (filter test (range_with_len (from + 1) n))
-            → map (λ u. (u, before u)) (cond b (from ∷ filter test (range_with_len (from + 1) n))
-            (filter test (range_with_len (from + 1) n)))
-            ≡ map (λ u. (u, after u)) (cond b (from ∷ filter test (range_with_len (from + 1) n))
-            (filter test (range_with_len (from + 1) n)))
-        one true e rest =
-            let apart : from ≢ t = λ s. (let wrong : true ≡ false = sym e ∙ ap test s ∙ none in cc) in
-            ap (λ l. (from, l) ∷ map (λ u. (u, before u)) (filter test
-            (range_with_len (from + 1) n))) (same from apart)
-            ∙ ap (λ ls. (from, after from) ∷ ls) rest
-        one false e rest = rest
+    one : (from : ℕ) (rest : List ℕ) (b : Bool) → test from ≡ b
+        → map {B = ℕ × List ℤ} (λ u. (u, before u)) rest
+        ≡ map {B = ℕ × List ℤ} (λ u. (u, after u)) rest
+        → map {B = ℕ × List ℤ} (λ u. (u, before u)) (cond b (from ∷ rest) rest)
+        ≡ map {B = ℕ × List ℤ} (λ u. (u, after u)) (cond b (from ∷ rest) rest)
+    one from rest true e more =
+        let apart : from ≢ t = λ s. (let wrong : true ≡ false = sym e ∙ ap test s ∙ none in cc) in
+        ap (λ l. (from, l) ∷ map {B = ℕ × List ℤ} (λ u. (u, before u)) rest) (same from apart)
+        ∙ ap (λ ls. (from, after from) ∷ ls) more
+    one from rest false e more = more
+
+    go : (from n : ℕ)
+        → map {B = ℕ × List ℤ} (λ u. (u, before u)) (filter test (range_with_len from n))
+        ≡ map {B = ℕ × List ℤ} (λ u. (u, after u)) (filter test (range_with_len from n))
+    go from zero = refl
+    go from (suc n) =
+        one from (filter test (range_with_len (from + 1) n)) (test from) refl (go (from + 1) n)

@@ -1,7 +1,7 @@
 -- The turn of a task that waits.
 use Rattle.std.proofs.Common.{◌≡◌, ◌≢◌, ℕ, ℤ, List, zero, suc, ◌+◌, ◌<◌, ◌≤◌, Bool, true, false, cond, eqb, [], ◌∷◌, ◌++◌, Option, Some, None, length, get_or, slice_get, set, map, refl, sym, ap, subst, ◌∙◌, ◌⊎◌, inl, inr, arith}
 use Rattle.std.specs.Prelude.{Result, Ok, Err, nat_lt}
-use Rattle.std.proofs.lemmas.Bool.{eq-eqb, eqb-true}
+use Rattle.std.proofs.lemmas.Bool.{eq-eqb, eqb-true, ne_eqb}
 use Rattle.phase_accum.specs.declared.outcome.Outcome.{Outcome}
 use Rattle.phase_accum.specs.declared.outcome.Outcome.TheVariants as outcomes
 use Rattle.phase_base.specs.Limits.{Limits}
@@ -14,12 +14,13 @@ use Rattle.phase_history.specs.Histories.{History, wait_phase, done_of}
 use Rattle.phase_history.specs.Phases.{value_of_phase}
 use Rattle.phase_history.specs.Refusals.{wait_refusal}
 use Rattle.phase_history.specs.Replies.{wait_reply, refused_or, got_at}
-use Rattle.graph_base.specs.declared.line.Kind.TheVariants.{Source, Fir, Peer, Sink}
+use Rattle.graph_base.specs.declared.line.Kind.TheVariants.{Source, Fir, Split, Join, Peer, Sink}
+use Rattle.graph_base.specs.declared.line.Kind.{Kind}
 use Rattle.graph_base.specs.declared.place.Place.TheVariants as place
-use Rattle.graph_base.specs.Graphs.{task_at}
+use Rattle.graph_base.specs.Graphs.{Task, task_at, is_sink}
 use Rattle.graph_base.specs.TaskLines.{IsGraph}
 use Rattle.stream_lists.specs.Jobs.{Job}
-use Rattle.stream_lists.specs.Lists.{number, sinks_of}
+use Rattle.stream_lists.specs.Lists.{number, sinks_of, is_sink_at}
 use Rattle.stream_eval.specs.Results.{sink_values}
 use Rattle.graph_moments.specs.Moments.{Moment, limits_at, value_at, input_at, first_input}
 use Rattle.graph_moments.proofs.Tasks.{first_looks}
@@ -40,7 +41,7 @@ use Rattle.graph_turns.proofs.FirstWaits.{first_wait_follows}
 use Rattle.graph_steps.specs.Steps.{owed_of, HasFilter}
 use Rattle.graph_steps.specs.declared.owed.Owed.{Owed}
 use Rattle.graph_steps.specs.declared.owed.Owed.TheVariants as code
-use Rattle.graph_worlds.specs.Calls.{told_got}
+use Rattle.graph_worlds.specs.Calls.{told_got, with_line}
 use Rattle.graph_worlds.specs.Places.{IsTaskAt, place_of, HasTakenOne}
 use Rattle.graph_worlds.specs.Machines.{IsMachineAt, HasCores}
 use Rattle.graph_worlds.specs.Turning.{IsNextIn, HadTurn, Shows, told_of, called_on}
@@ -48,7 +49,7 @@ use Rattle.graph_worlds.specs.declared.machine.Machine.{Machine}
 use Rattle.graph_worlds.specs.declared.task_state.TaskState.{TaskState}
 use Rattle.graph_worlds.specs.declared.made.Made.TheVariants.{Event, Blocked}
 use Rattle.graph_worlds.specs.declared.turned.Turned.{Turned}
-use Rattle.graph_worlds.proofs.SinkLines.{map_same}
+use Rattle.graph_worlds.proofs.SinkLines.{map_same, one_line, no_line}
 use Rattle.graph_worlds.proofs.Ending.{number_of_input}
 use Rattle.graph_worlds.proofs.Lively.{live_next}
 use Rattle.graph_worlds.proofs.WhatNext.{InStep, Begins, waits_begins, exchanges_owes}
@@ -345,3 +346,190 @@ never_ended job old t n p state next found phaser numbered reply =
     let at = next.some.1 in
     next.answered m at (exchange_so job old m t n p state next at found phaser numbered
     ∙ ap (wait_answer (exchange_wait t p n)) (reply m at))
+
+-- ---- the first wait of a step
+
+-- what the task takes is on its first input where that is looked at by a filter or a sink
+first_is : (job : Job) (m : Moment) (t k n p : ℕ) (outcome : Outcome) → k ≡ 0
+    → (after_turn job (first_wait t k p n outcome) m).taken t 0
+    ≡ m.taken t 0 ++ number outcome ∷ []
+first_is job m t k n p outcome first =
+    subst (λ i. with_at t (with_at i (m.taken t i ++ number outcome ∷ []) (m.taken t)) m.taken t 0
+    ≡ m.taken t 0 ++ number outcome ∷ []) (sym first)
+    (ap (λ b. cond b (with_at 0 (m.taken t 0 ++ number outcome ∷ []) (m.taken t)) (m.taken t) 0)
+    (eq-eqb t t refl))
+
+first_other : (job : Job) (m : Moment) (t k n p : ℕ) (outcome : Outcome) (u : ℕ) → u ≢ t
+    → m.taken u 0 ≡ (after_turn job (first_wait t k p n outcome) m).taken u 0
+first_other job m t k n p outcome u apart =
+    sym (ap (λ b. cond b (with_at k (m.taken t k ++ number outcome ∷ []) (m.taken t)) (m.taken u) 0)
+    (ne_eqb u t apart))
+
+sink_kind : (kind : Kind) → is_sink kind ≡ true → kind ≡ Sink
+sink_kind Sink e = refl
+sink_kind Source e = absurd (cc)
+sink_kind Fir e = absurd (cc)
+sink_kind Split e = absurd (cc)
+sink_kind Join e = absurd (cc)
+sink_kind Peer e = absurd (cc)
+
+-- a filter's first input is its only one, as a sink's
+zero_first : (task : Task) (b k : ℕ) (kind : Kind) → task.kind ≡ kind → kind ≢ Join
+    → k ≡ first_input task b → k ≡ 0
+zero_first task b k kind is not first = first ∙ by kind is not
+  where
+    by : (kind : Kind) → task.kind ≡ kind → kind ≢ Join → first_input task b ≡ 0
+    by Source e never = rw e refl
+    by Fir e never = rw e refl
+    by Split e never = rw e refl
+    by Join e never = absurd (never refl)
+    by Peer e never = rw e refl
+    by Sink e never = rw e refl
+
+-- the place of a state that took one
+taken_place : (job : Job) (after : Moment) (t : ℕ) (x : ℤ) (taken : List ℤ)
+    (old new : TaskState) → HasTakenOne (task_at job.graph t) x old new
+    → HasFilter (task_at job.graph t) old.filter taken
+    → StandsAt job after t (record (place_of old) {
+      begun = suc old.begun;
+      owed = places.owed_after_wait (task_at job.graph t) old.begun taken x;
+    }) → StandsAt job after t (place_of new)
+taken_place job after t x taken old new took has stands =
+    let one : suc old.begun ≡ new.begun = suc_is old.begun new.begun took.begun in
+    subst (λ o. StandsAt job after t (record (place_of new) { owed = o })) (sym (took.owed taken has))
+    (subst (λ b. StandsAt job after t (record (place_of new) {
+      begun = b;
+      owed = places.owed_after_wait (task_at job.graph t) old.begun taken x;
+    })) one
+    (subst (λ l. StandsAt job after t (record (place_of new) {
+      left = l;
+      begun = suc old.begun;
+      owed = places.owed_after_wait (task_at job.graph t) old.begun taken x;
+    })) (sym took.left)
+    (subst (λ v. StandsAt job after t (record (place_of old) {
+      numbers = v.items;
+      begun = suc old.begun;
+      owed = places.owed_after_wait (task_at job.graph t) old.begun taken x;
+    })) (sym took.numbers) stands)))
+  where
+    suc_is : (a b : ℕ) → b ≡ a + 1 → suc a ≡ b
+    suc_is a b e = omega arith
+
+pub first_turn : (job : Job) (old new : Machine) (t k n p phase : ℕ) (outcome : Outcome)
+    (state took : TaskState) (sink : Option ℕ) (told : Turned)
+    → IsNextIn job old t (turns.waits k) → slice_get old.tasks.items t ≡ Some state
+    → p ≡ input_at (task_at job.graph t) k → n ≡ get_or state.numbers.items k 0
+    → HasTakenOne (task_at job.graph t) (number outcome) state took
+    → sink ≡ cond (is_sink_at job t) (Some state.sink) None
+    → ((m : Moment) → IsMachineAt job m old
+    → wait_reply (value_at job p) (limits_at job p) (m.history p) n ≡ Ok (got.Value phase outcome))
+    → ((m : Moment) → IsMachineAt job m old
+    → HasCores job (with_at p (Waited n 1 ∷ m.history p) m.history) new.cores.items)
+    → new.tasks.items ≡ set old.tasks.items t took
+    → map sink_values new.lines.items
+    ≡ with_line sink (number outcome) (map sink_values old.lines.items)
+    → told_of told ≡ told_got p phase outcome
+    → HadTurn job old new t (Event p told)
+first_turn job old new t k n p phase outcome state took sink told next found phaser numbered has sinks reply cores tasks lines tells =
+    record { shows = shows; after = after }
+  where
+    event : TaskEvent
+    event = first_wait t k p n outcome
+
+    answer : (m : Moment) → IsMachineAt job m old → answer_of_turn job m t ≡ makes event
+    answer m at =
+        first_so job old m t k n p state next at found phaser numbered
+        ∙ ap (wait_answer (first_wait t k p n)) (reply m at)
+
+    shows : (m : Moment) → IsMachineAt job m old
+        → Shows job m t (answer_of_turn job m t) (Event p told)
+    shows m at =
+        subst (λ a. Shows job m t a (Event p told)) (sym (answer m at)) (
+          refl,
+          told_is m p n phase outcome (phase_is (value_at job p) (limits_at job p) (m.history p) n
+              phase outcome (reply m at)) ∙ sym tells,
+        )
+
+    first : (m : Moment) → IsMachineAt job m old
+        → k ≡ first_input (task_at job.graph t) (m.begun t)
+    first m at = (waits_begins job m t k (next.is m at)).first
+
+    kept : (m : Moment) (at : IsMachineAt job m old)
+        → HasFilter (task_at job.graph t) took.filter ((after_turn job event m).taken t 0)
+    kept m at = λ fir.
+        subst (HasFilter (task_at job.graph t) took.filter)
+        (sym (first_is job m t k n p outcome (zero_first (task_at job.graph t) (m.begun t) k Fir fir
+        (λ e. absurd (cc)) (first m at))))
+        (has.filter (m.taken t 0) (at.tasks t state found).filter) fir
+
+    sink_lines : (m : Moment) (at : IsMachineAt job m old) (b : Bool) → is_sink_at job t ≡ b
+        → with_line (cond b (Some state.sink) None) (number outcome)
+        (map (λ u. (u, m.taken u 0)) (sinks_of job))
+        ≡ map (λ u. (u, (after_turn job event m).taken u 0)) (sinks_of job)
+    sink_lines m at true e =
+        let kind = sink_kind (task_at job.graph t).kind e in
+        one_line (is_sink_at job) (length job.graph.tasks) state.sink t (number outcome)
+        (λ u. m.taken u 0) (λ u. (after_turn job event m).taken u 0)
+        ((at.tasks t state found).sink kind)
+        (first_is job m t k n p outcome (zero_first (task_at job.graph t) (m.begun t) k Sink kind
+        (λ e. absurd (cc)) (first m at)))
+        (first_other job m t k n p outcome)
+    sink_lines m at false e =
+        no_line (is_sink_at job) (length job.graph.tasks) t (λ u. m.taken u 0)
+        (λ u. (after_turn job event m).taken u 0) e (first_other job m t k n p outcome)
+
+    after : (m : Moment) → IsMachineAt job m old
+        → IsMachineAt job (after_answer job (answer_of_turn job m t) m) new
+    after m at =
+        let it = at.tasks t state found in
+        let ran = (subst (λ a. IsReachable job (after_answer job a m)) (answer m at)
+        (next.stays m at)).ran in
+        let stands = taken_place job (after_turn job event m) t (number outcome) (m.taken t 0) state
+        took has it.filter (first_wait_follows job m t k p n outcome (place_of state) at.graph
+        at.reached ran (answer m at) it.stands) in
+        after_own job m old new t event took at (answer m at) refl
+        (first_waits_at job old m t k state next at found).there (next.stays m at) (cores m at) tasks
+        (record {
+          stands = stands;
+          room = subst (λ v. 9 ≤ v.capacity) (sym has.numbers) it.room;
+          filter = kept m at;
+          sink = λ kind. ap (slice_get (sinks_of job)) has.sink ∙ it.sink kind;
+        })
+        (lines
+        ∙ ap (with_line sink (number outcome)) at.lines
+        ∙ ap (λ o. with_line o (number outcome) (map (λ u. (u, m.taken u 0)) (sinks_of job))) sinks
+        ∙ sink_lines m at (is_sink_at job t) refl)
+
+-- a wait that the phaser would not take now
+pub blocked_first : (job : Job) (old new : Machine) (t k n p : ℕ) (state : TaskState)
+    (r : WaitRefusal) → IsNextIn job old t (turns.waits k)
+    → slice_get old.tasks.items t ≡ Some state → p ≡ input_at (task_at job.graph t) k
+    → n ≡ get_or state.numbers.items k 0
+    → ((m : Moment) → IsMachineAt job m old
+    → wait_reply (value_at job p) (limits_at job p) (m.history p) n ≡ Err r)
+    → ((m : Moment) → IsMachineAt job m old → IsMachineAt job m new)
+    → HadTurn job old new t (Blocked p)
+blocked_first job old new t k n p state r next found phaser numbered reply same =
+    blocked_turn job old new t p (turns.waits k) next (sym phaser) answer same
+  where
+    refused : (m : Moment) → IsMachineAt job m old
+        → answer_of_turn job m t ≡ wait_answer (first_wait t k p n) (Err r)
+    refused m at =
+        first_so job old m t k n p state next at found phaser numbered
+        ∙ ap (wait_answer (first_wait t k p n)) (reply m at)
+
+    answer : (m : Moment) → IsMachineAt job m old → answer_of_turn job m t ≡ is_blocked
+    answer m at =
+        refused m at ∙ blocks (first_wait t k p n) r (λ e. next.answered m at (refused m at ∙ e))
+
+pub first_never_ended : (job : Job) (old : Machine) (t k n p : ℕ) (state : TaskState)
+    → IsNextIn job old t (turns.waits k) → slice_get old.tasks.items t ≡ Some state
+    → p ≡ input_at (task_at job.graph t) k → n ≡ get_or state.numbers.items k 0
+    → ((m : Moment) → IsMachineAt job m old
+    → wait_reply (value_at job p) (limits_at job p) (m.history p) n ≡ Ok got.Ended) → ⊥
+first_never_ended job old t k n p state next found phaser numbered reply =
+    let m = next.some.0 in
+    let at = next.some.1 in
+    next.answered m at (first_so job old m t k n p state next at found phaser numbered
+    ∙ ap (wait_answer (first_wait t k p n)) (reply m at))
+
