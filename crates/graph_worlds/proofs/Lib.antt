@@ -3,6 +3,7 @@ pub mod Leaving
 pub mod Lively
 pub mod OpeningPhasers
 pub mod OpeningTasks
+pub mod Children
 pub mod Ending
 pub mod Setting
 pub mod Signals

@@ -1,6 +1,6 @@
 -- One element of a list is set: the others stay.
 use Rattle.std.proofs.Common.{◌≡◌, ◌≢◌, ℕ, ◌<◌, ◌⊎◌, inl, inr, Bool, true, false, cond, eqb, eq-eqb, List, Option, Some, length, get_or, slice_get, set, refl, sym, ap, subst, ◌∙◌, arith}
-use Rattle.std.specs.Prelude.{Result, Ok, Err, OnOk}
+use Rattle.std.specs.Prelude.{Result, Ok, Err, OnOk, IfErr}
 use Rattle.std.proofs.lemmas.List.{get_or-set_same, get_or-set_other, length-set}
 use Rattle.std.proofs.lemmas.Option.{slice_get-get_or, slice_get_within, slice_get_read, get_or_from_slice_get, same_Some}
 use Rattle.std.proofs.lemmas.Bool.{eqb-true}
@@ -105,3 +105,9 @@ pub lent_core : (job : Job) (history : ℕ → History) (cores : List AnyCore) (
 lent_core job history cores p core has there lent =
     let many = has.many in
     has.each p core (slice_get_read cores (length cores) p core refl (omega arith) lent)
+
+-- what holds where a call was refused may be weakened there
+pub if_err : {A R : Type 0} {P Q : R → Type 0} (r : Result A R) → ((e : R) → P e → Q e)
+    → IfErr r P → IfErr r Q
+if_err (Ok a) f p = p
+if_err (Err e) f p = f e p

@@ -1,6 +1,9 @@
 -- The turn of a task that waits.
 use Rattle.std.proofs.Common.{◌≡◌, ◌≢◌, ℕ, ℤ, List, zero, suc, ◌+◌, ◌<◌, ◌≤◌, Bool, true, false, cond, eqb, [], ◌∷◌, ◌++◌, Option, Some, None, length, get_or, slice_get, set, map, refl, sym, ap, subst, ◌∙◌, ◌⊎◌, inl, inr, arith}
-use Rattle.std.specs.Prelude.{Result, Ok, Err, nat_lt}
+use Rattle.std.specs.Prelude.{Result, Ok, Err, nat_lt, IfSome, OnErr}
+use Rattle.std.proofs.lemmas.List.{length-map}
+use Rattle.std.proofs.lemmas.Option.{slice_get_within}
+use Rattle.stream_eval.specs.declared.whole.Lines.{Lines}
 use Rattle.std.proofs.lemmas.Bool.{eq-eqb, eqb-true, ne_eqb}
 use Rattle.phase_accum.specs.declared.outcome.Outcome.{Outcome}
 use Rattle.phase_accum.specs.declared.outcome.Outcome.TheVariants as outcomes
@@ -533,3 +536,52 @@ first_never_ended job old t k n p state next found phaser numbered reply =
     next.answered m at (first_so job old m t k n p state next at found phaser numbered
     ∙ ap (wait_answer (first_wait t k p n)) (reply m at))
 
+
+-- ---- the machine with room for a line
+
+pub with_room : (job : Job) (m : Moment) (old new : Machine) → IsMachineAt job m old
+    → new.cores ≡ old.cores → new.tasks ≡ old.tasks
+    → map sink_values new.lines.items ≡ map sink_values old.lines.items → IsMachineAt job m new
+with_room job m old new at cores tasks lines = record {
+  graph = at.graph;
+  reached = at.reached;
+  cores = subst (λ c. HasCores job m.history c.items) (sym cores) at.cores;
+  tasks_many = ap (λ v. length v.items) tasks ∙ at.tasks_many;
+  tasks = λ u state found. at.tasks u state
+      (subst (λ v. slice_get v.items u ≡ Some state) tasks found);
+  lines = lines ∙ at.lines;
+}
+
+pub sink_there : (job : Job) (old : Machine) (m : Moment) (t : ℕ) (state : TaskState)
+    (sink : Option ℕ) → IsMachineAt job m old → slice_get old.tasks.items t ≡ Some state
+    → sink ≡ cond (is_sink_at job t) (Some state.sink) None
+    → IfSome sink (λ i. i < length old.lines.items)
+sink_there job old m t state sink at found is =
+    subst (λ o. IfSome o (λ i. i < length old.lines.items)) (sym is) (by (is_sink_at job t) refl)
+  where
+    by : (b : Bool) → is_sink_at job t ≡ b
+        → IfSome (cond b (Some state.sink) None) (λ i. i < length old.lines.items)
+    by true e =
+        let lt = slice_get_within (sinks_of job) state.sink t
+        ((at.tasks t state found).sink (sink_kind (task_at job.graph t).kind e)) in
+        let f : ℕ → ℕ × List ℤ = λ u. (u, m.taken u 0) in
+        let many : length (map sink_values old.lines.items) ≡ length (map f (sinks_of job)) =
+        ap length at.lines in
+        let one = length-map old.lines.items sink_values in
+        let two = length-map (sinks_of job) f in
+        omega arith
+    by false e = tt
+
+pub more_there : (old new : List Lines) (sink : Option ℕ)
+    → map sink_values new ≡ map sink_values old → IfSome sink (λ i. i < length old)
+    → IfSome sink (λ i. i < length new)
+more_there old new sink same there =
+    let many : length (map sink_values new) ≡ length (map sink_values old) = ap length same in
+    let one = length-map new sink_values in
+    let two = length-map old sink_values in
+    let long : length old ≡ length new = omega arith in
+    subst (λ n. IfSome sink (λ i. i < n)) long there
+
+pub always_err : {A R : Type 0} {P : Type 0} (r : Result A R) → P → OnErr r P
+always_err (Ok a) p = tt
+always_err (Err e) p = p

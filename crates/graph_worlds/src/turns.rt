@@ -1,10 +1,11 @@
 //! The turn of a task, by what it does next.
-ghost use Rattle.std.specs.Prelude.{◌≡◌, ◌<◌, ℕ, length, map, slice_get, Some, None, Ok, IfSome, IfOk, OnOk, OnErr};
+ghost use Rattle.std.specs.Prelude.{◌≡◌, ◌<◌, ℕ, true, length, map, slice_get, Some, None, Ok, IfSome, IfOk, OnOk, OnErr};
 ghost use Rattle.std.specs.Prelude.{if◌then◌else◌};
 ghost use Rattle.stream_filters.specs.Range.{ranged};
 ghost use Rattle.graph_moments.specs.Moments.{Moment};
 ghost use Rattle.graph_turns.specs.Answers.{next_value};
 ghost use Rattle.graph_turns.specs.Nexts as turns;
+ghost use Rattle.graph_turns.specs.Nexts.{is_live, number_on};
 ghost use Rattle.graph_worlds.specs.Turning.{IsNextIn, HadTurn, told_of};
 ghost use Rattle.graph_worlds.specs.Calls.{told_got, with_line, HasRoomIn};
 ghost use Rattle.stream_lists.specs.Lists.{is_sink_at};
@@ -27,7 +28,7 @@ use std::alloc::AllocError;
 use stream_lists::Job;
 
 impl Machine {
-    ghost use Rattle.graph_worlds.specs.Machines.{IsMachine, IsMachineAt, next_by};
+    ghost use Rattle.graph_worlds.specs.Machines.{IsMachine, IsMachineAt, IsLiveIn, next_by};
 
     /// Gives a turn to task number `t`: it makes its next call.
     pub fn make(&mut self, job: &Job, t: usize) -> Result<Made, AllocError>
@@ -238,30 +239,35 @@ impl Machine {
         ensures kept { OnErr result ((m : Moment) → IsMachineAt job.now m self.old
             → IsMachineAt job.now m self.new) }
     {
-        let made = self.state(job, c).numbers.len();
+        let made = self.tasks[c].numbers.len();
         let registration = job.graph().registration(c, made);
         let phaser = registration.phaser;
         let parent = self.number_on(job, t, phaser);
         let Some(number) = self.core(job, phaser).next_number() else {
-            unreachable!()
+            return Err(AllocError);
         };
         match self.register_on(job, phaser, parent, number, registration.mode) {
-            Ok(()) => (),
-            Err(RegisterRefusal::OutOfMemory) => return Err(AllocError),
+            Ok(()) => {
+                self.tasks[c].numbers.push_reserved(number);
+                Ok(Made::Event {
+                    phaser,
+                    told: Turned::Moved,
+                })
+            }
+            Err(RegisterRefusal::OutOfMemory) => Err(AllocError),
             Err(_) => unreachable!(),
         }
-        self.tasks[c].numbers.push_reserved(number);
-        Ok(Made::Event {
-            phaser,
-            told: Turned::Moved,
-        })
     }
 
-    /// The number of a task on a phaser of its line.
-    fn number_on(&self, job: &Job, t: usize, p: usize) -> u64 {
+    /// The number of a live task on a phaser, 0 where it has none.
+    fn number_on(&self, job: &Job, t: usize, p: usize) -> u64
+        requires { IsLiveIn job.now self.now t }
+        ensures { (m : Moment) → IsMachineAt job.now m self.now → is_live job.now m t ≡ true
+            → number_on m t p ≡ result }
+    {
         for k in 0..job.graph().registrations(t) {
             if job.graph().registration(t, k).phaser == p {
-                return self.state(job, t).numbers[k];
+                return self.tasks[t].numbers[k];
             }
         }
         0
