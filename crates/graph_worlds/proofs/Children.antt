@@ -41,6 +41,7 @@ use Rattle.graph_worlds.specs.declared.machine.Machine.{Machine}
 use Rattle.graph_worlds.specs.declared.task_state.TaskState.{TaskState}
 use Rattle.graph_worlds.specs.declared.made.Made.TheVariants.{Event}
 use Rattle.graph_worlds.specs.declared.turned.Turned.TheVariants.{Moved}
+use Rattle.graph_worlds.proofs.Ending.{all_numbered, number-at}
 use Rattle.graph_worlds.proofs.Lively.{live_next, phaser_there}
 use Rattle.graph_worlds.proofs.WhatNext.{Doing, owing, parent, leaving, stepping, doing, step_is, begins_is}
 use Rattle.graph_worlds.proofs.Events.{keeps_other, set_state}
@@ -289,3 +290,42 @@ no_number job m t p is ran there never = by (m.number p t) refl
         sym (get_or-map (λ r. r.phaser) rs at.0 no_registration 0 lt)
         ∙ ap (λ ps. get_or ps at.0 0) phasers ∙ at.2 in
         absurd (never at.0 lt here)
+
+pub number_is : (job : Job) (machine : Machine) (m : Moment) (t p k : ℕ) (state : TaskState)
+    (numbers : List ℕ) → IsMachineAt job m machine → is_live job m t ≡ true
+    → slice_get machine.tasks.items t ≡ Some state → numbers ≡ state.numbers.items
+    → k < length (registrations_at job t) → (registration_at job t k).phaser ≡ p
+    → (k < length numbers) × (number_on m t p ≡ get_or numbers k 0)
+number_is job machine m t p k state numbers at live found same few phaser =
+    let it = (at.tasks t state found).stands in
+    let all = all_numbered job m t (place_of state) it live in
+    let long : length numbers ≡ length state.numbers.items = ap length same in
+    let lt : k < length state.numbers.items = omega arith in (
+      omega arith,
+      ap (λ q. number_on m t q) (sym phaser)
+          ∙ ap (λ o. unwrap_or o 0) (number-at job m t k (place_of state) it lt)
+          ∙ sym (ap (λ ns. get_or ns k 0) same),
+    )
+
+pub room_for_child : (job : Job) (machine : Machine) (m : Moment) (t c : ℕ) (state : TaskState)
+    → IsNextIn job machine t (registers c) → IsMachineAt job m machine
+    → slice_get machine.tasks.items c ≡ Some state → length (registrations_at job c) ≤ 9
+    → length state.numbers.items + 1 ≤ state.numbers.capacity
+room_for_child job machine m t c state next at found few =
+    let room = (at.tasks c state found).room in
+    let less = (child_at job machine m t c state next at found).few in
+    omega arith
+
+-- a machine whose phaser took no child
+pub kept_cores : (job : Job) (m : Moment) (old new : Machine) → IsMachineAt job m old
+    → HasCores job m.history new.cores.items → new.tasks ≡ old.tasks → new.lines ≡ old.lines
+    → IsMachineAt job m new
+kept_cores job m old new at cores tasks lines = record {
+  graph = at.graph;
+  reached = at.reached;
+  cores = cores;
+  tasks_many = ap (λ v. length v.items) tasks ∙ at.tasks_many;
+  tasks = λ u state found. at.tasks u state
+      (subst (λ v. slice_get v.items u ≡ Some state) tasks found);
+  lines = ap (λ l. map sink_values l.items) lines ∙ at.lines;
+}

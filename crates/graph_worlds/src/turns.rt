@@ -239,6 +239,7 @@ impl Machine {
         ensures kept { OnErr result ((m : Moment) → IsMachineAt job.now m self.old
             → IsMachineAt job.now m self.new) }
     {
+        let _all = job.graph().registrations(c);
         let made = self.tasks[c].numbers.len();
         let registration = job.graph().registration(c, made);
         let phaser = registration.phaser;
@@ -246,16 +247,19 @@ impl Machine {
         let Some(number) = self.core(job, phaser).next_number() else {
             return Err(AllocError);
         };
-        match self.register_on(job, phaser, parent, number, registration.mode) {
+        let refusal = match self.register_on(job, phaser, parent, number, registration.mode) {
             Ok(()) => {
                 self.tasks[c].numbers.push_reserved(number);
-                Ok(Made::Event {
+                return Ok(Made::Event {
                     phaser,
                     told: Turned::Moved,
-                })
+                });
             }
-            Err(RegisterRefusal::OutOfMemory) => Err(AllocError),
-            Err(_) => unreachable!(),
+            Err(refusal) => refusal,
+        };
+        match refusal {
+            RegisterRefusal::OutOfMemory => Err(AllocError),
+            _ => unreachable!(),
         }
     }
 
