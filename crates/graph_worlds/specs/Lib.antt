@@ -2,4 +2,5 @@ pub mod Machines
 pub mod Parking
 pub mod Places
 pub mod Stalls
+pub mod Turning
 pub mod Worlds

@@ -1,7 +1,9 @@
 //! Runs of a graph on one thread, one event at a time.
 #![tactic(auto)]
 
+mod calls;
 mod machine;
+mod made;
 mod next;
 mod opened_cores;
 mod opened_tasks;
@@ -12,6 +14,7 @@ mod stalls;
 mod step;
 mod task_state;
 mod turned;
+mod turns;
 mod world;
 
 pub use step::Step;
