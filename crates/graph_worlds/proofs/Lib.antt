@@ -1,6 +1,7 @@
 pub mod OpeningPhasers
 pub mod OpeningTasks
 pub mod Ending
+pub mod InTurn
 pub mod Setting
 pub mod TaskLists
 pub mod Reading

@@ -1,6 +1,7 @@
 pub mod Machines
 pub mod Parking
 pub mod Places
+pub mod Runs
 pub mod Stalls
 pub mod Turning
 pub mod Worlds

@@ -10,6 +10,7 @@ mod opened_tasks;
 mod opening;
 mod parked;
 mod roots;
+mod runs;
 mod stalls;
 mod step;
 mod task_state;
@@ -17,6 +18,7 @@ mod turned;
 mod turns;
 mod world;
 
+pub use runs::{RunTurnsFault, run_turns};
 pub use step::Step;
 pub use turned::Turned;
 pub use world::World;
