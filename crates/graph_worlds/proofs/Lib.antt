@@ -1,9 +1,17 @@
+pub mod Events
+pub mod Leaving
+pub mod Lively
 pub mod OpeningPhasers
 pub mod OpeningTasks
 pub mod Ending
 pub mod InTurn
 pub mod Setting
+pub mod Signals
+pub mod SinkLines
 pub mod TaskLists
+pub mod Waits
+pub mod WhatNext
+pub mod Outputs
 pub mod Reading
 pub mod Searching
 pub mod Stalling

@@ -2,7 +2,7 @@
 use Rattle.std.proofs.Common.{◌≡◌, ◌≢◌, ℕ, ◌<◌, ◌⊎◌, inl, inr, Bool, true, false, cond, eqb, eq-eqb, List, Option, Some, length, get_or, slice_get, set, refl, sym, ap, subst, ◌∙◌, arith}
 use Rattle.std.specs.Prelude.{Result, Ok, Err, OnOk}
 use Rattle.std.proofs.lemmas.List.{get_or-set_same, get_or-set_other, length-set}
-use Rattle.std.proofs.lemmas.Option.{slice_get-get_or, slice_get_within, get_or_from_slice_get, same_Some}
+use Rattle.std.proofs.lemmas.Option.{slice_get-get_or, slice_get_within, slice_get_read, get_or_from_slice_get, same_Some}
 use Rattle.std.proofs.lemmas.Bool.{eqb-true}
 use Rattle.phase_history.specs.Histories.{History}
 use Rattle.graph_base.specs.Graphs.{phaser_at}
@@ -66,3 +66,42 @@ set_core job history cores p core h has there stands = record {
 pub on_ok : {A R : Type 0} {P Q : Type 0} (r : Result A R) → (P → Q) → OnOk r P → OnOk r Q
 on_ok (Ok a) f p = f p
 on_ok (Err e) f p = p
+
+-- what was read of a list, twice
+pub read_same : {X : Type 0} (xs : List X) (i : ℕ) (a b : X) → i < length xs → a ≡ get_or xs i a
+    → b ≡ get_or xs i b → a ≡ b
+read_same xs i a b lt first second =
+    same_Some a b (sym (slice_get_read xs (length xs) i a refl lt first)
+    ∙ slice_get_read xs (length xs) i b refl lt second)
+
+-- a core whose history is as it was
+pub same_cores : (job : Job) (history : ℕ → History) (p : ℕ) (cores : List AnyCore)
+    → HasCores job (with_at p (history p) history) cores → HasCores job history cores
+same_cores job history p cores has = record {
+  many = has.many;
+  each = λ q core found. subst (λ h. CoreStandsFor core (phaser_at job.graph q).op (limits_at job q) h)
+      (by q (eqb q p) refl) (has.each q core found);
+}
+  where
+    by : (q : ℕ) (b : Bool) → eqb q p ≡ b → with_at p (history p) history q ≡ history q
+    by q true e =
+        let same : q ≡ p = eqb-true q p e in
+        ap (λ b. cond b (history p) (history q)) e ∙ ap history (sym same)
+    by q false e = ap (λ b. cond b (history p) (history q)) e
+
+-- a list of which one element was set by what was read of it
+pub set_read : {X : Type 0} (f : X → X) (old now : List X) (i : ℕ) (first second : X) → now ≡ old
+    → i < length old → first ≡ get_or old i first → second ≡ get_or now i second
+    → set now i (f second) ≡ set old i (f first)
+set_read f old now i first second same lt one two =
+    let it : second ≡ first =
+    read_same old i second first lt (two ∙ ap (λ xs. get_or xs i second) same) one in
+    ap (λ xs. set xs i (f second)) same ∙ ap (λ x. set old i (f x)) it
+
+-- a core that was lent stands for the history of its phaser
+pub lent_core : (job : Job) (history : ℕ → History) (cores : List AnyCore) (p : ℕ) (core : AnyCore)
+    → HasCores job history cores → p < length job.graph.phasers → core ≡ get_or cores p core
+    → CoreStandsFor core (phaser_at job.graph p).op (limits_at job p) (history p)
+lent_core job history cores p core has there lent =
+    let many = has.many in
+    has.each p core (slice_get_read cores (length cores) p core refl (omega arith) lent)

@@ -1,3 +1,4 @@
+pub mod Calls
 pub mod Machines
 pub mod Parking
 pub mod Places

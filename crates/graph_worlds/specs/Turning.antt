@@ -1,14 +1,14 @@
 -- What a turn of a task does to a machine and to the lists of blocked tasks.
-use Rattle.std.specs.Prelude.{◌≡◌, ℕ, List, [], Option, Some, None, set, get_or}
-use Rattle.phase_accum.specs.Sends.{AreSends}
+use Rattle.std.specs.Prelude.{◌≡◌, ◌≢◌, ℕ, List, [], Option, Some, None, set, get_or}
 use Rattle.graph_base.specs.Graphs.{task_at}
 use Rattle.graph_base.specs.declared.place.Place.TheVariants as place
-use Rattle.stream_lists.specs.Jobs.{Job, samples_at}
+use Rattle.stream_lists.specs.Jobs.{Job}
 use Rattle.stream_lists.specs.Ranges.{Where}
 use Rattle.graph_moments.specs.Moments.{Moment, input_at}
 use Rattle.graph_turns.specs.TaskEvents as events
 use Rattle.graph_turns.specs.TaskEvents.{TaskEvent}
 use Rattle.graph_turns.specs.Nexts as turns
+use Rattle.graph_turns.specs.Reached.{IsReachable}
 use Rattle.graph_turns.specs.Answers as answers
 use Rattle.graph_turns.specs.Answers.{Answer, Told, answer_of_turn, after_answer, output_at}
 use Rattle.graph_worlds.specs.Parking.{with_task}
@@ -55,12 +55,14 @@ parked_after job t next answer parked = parked
 
 -- ---- a machine
 
--- at each moment of the machine this is what task t does next
+-- at each moment of the machine this is what task t does next, and its phaser does not refuse it
 pub record IsNextIn (job : Job) (machine : Machine) (t : ℕ) (next : turns.Next) : Type 0 where
   pub some : IsMachine job machine
   pub is : (m : Moment) → IsMachineAt job m machine → turns.next_of job m t ≡ next
-  -- the samples of a source can be sent
-  pub sends : AreSends (samples_at job t)
+  pub stays : (m : Moment) → IsMachineAt job m machine
+      → IsReachable job (after_answer job (answer_of_turn job m t) m)
+  pub answered : (m : Moment) → IsMachineAt job m machine
+      → answer_of_turn job m t ≢ answers.is_refused
 
 -- the code tells of this answer so
 abbrev pub Shows : Job → Moment → ℕ → Answer → Made → Type 0

@@ -68,7 +68,6 @@ impl Machine {
             (phaser_at job.now.graph p).single (m.history p)) m.history) self.new.cores.items }
         ensures tasks { self.new.tasks ≡ self.old.tasks }
         ensures lines { self.new.lines ≡ self.old.lines }
-        ensures err { OnErr result (self.new ≡ self.old) }
     {
         let single = job.graph().phaser(p).single;
         self.cores[p].signal_one(number, x, single)

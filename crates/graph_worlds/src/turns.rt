@@ -1,11 +1,19 @@
 //! The turn of a task, by what it does next.
-ghost use Rattle.std.specs.Prelude.{◌≡◌, ◌<◌, ℕ, length, IfOk, OnErr};
+ghost use Rattle.std.specs.Prelude.{◌≡◌, ◌<◌, ℕ, length, map, slice_get, Some, None, Ok, IfSome, IfOk, OnOk, OnErr};
+ghost use Rattle.std.specs.Prelude.{if◌then◌else◌};
+ghost use Rattle.stream_filters.specs.Range.{ranged};
+ghost use Rattle.graph_moments.specs.Moments.{Moment};
+ghost use Rattle.graph_turns.specs.Answers.{next_value};
 ghost use Rattle.graph_turns.specs.Nexts as turns;
-ghost use Rattle.graph_worlds.specs.Turning.{IsNextIn, HadTurn};
+ghost use Rattle.graph_worlds.specs.Turning.{IsNextIn, HadTurn, told_of};
+ghost use Rattle.graph_worlds.specs.Calls.{told_got, with_line, HasRoomIn};
+ghost use Rattle.stream_lists.specs.Lists.{is_sink_at};
+ghost use Rattle.stream_eval.specs.Results.{sink_values};
 
 use crate::machine::Machine;
 use crate::made::Made;
 use crate::step::Step;
+use crate::task_state::TaskState;
 use crate::turned::Turned;
 use graph_base::Place;
 use graph_steps::{
@@ -14,23 +22,27 @@ use graph_steps::{
 };
 use phase_accum::Outcome;
 use phase_core::{Got, RegisterRefusal};
+use graph_turns::laws;
 use std::alloc::AllocError;
 use stream_lists::Job;
 
 impl Machine {
-    ghost use Rattle.graph_worlds.specs.Machines.{IsMachine, next_by};
+    ghost use Rattle.graph_worlds.specs.Machines.{IsMachine, IsMachineAt, next_by};
 
     /// Gives a turn to task number `t`: it makes its next call.
     pub fn make(&mut self, job: &Job, t: usize) -> Result<Made, AllocError>
         requires { IsMachine job.now self.old }
         ensures made { IfOk result (λ made. HadTurn job.now self.old self.new t made) }
-        ensures err { OnErr result (self.new ≡ self.old) }
+        ensures kept { OnErr result ((m : Moment) → IsMachineAt job.now m self.old
+            → IsMachineAt job.now m self.new) }
     {
         let step = self.next(job, t);
         if step == Step::NotLive {
             return Ok(Made::Nothing);
         }
         let _samples = job.samples_of(t);
+        laws::turns_stay_reached();
+        laws::no_turn_is_refused();
         self.make_step(job, t, step)
     }
 
@@ -38,7 +50,8 @@ impl Machine {
     fn make_step(&mut self, job: &Job, t: usize, step: Step) -> Result<Made, AllocError>
         requires { IsNextIn job.now self.old t (next_by step) }
         ensures made { IfOk result (λ made. HadTurn job.now self.old self.new t made) }
-        ensures err { OnErr result (self.new ≡ self.old) }
+        ensures kept { OnErr result ((m : Moment) → IsMachineAt job.now m self.old
+            → IsMachineAt job.now m self.new) }
     {
         match step {
             Step::NotLive => Ok(Made::Nothing),
@@ -56,9 +69,10 @@ impl Machine {
         requires { IsNextIn job.now self.old t turns.leaves }
         ensures { HadTurn job.now self.old self.new t result }
     {
-        let left = self.state(job, t).left;
-        let number = self.state(job, t).numbers[left];
-        let last = left + 1 >= self.state(job, t).numbers.len();
+        let state = &self.tasks[t];
+        let left = state.left;
+        let number = state.numbers[left];
+        let last = left + 1 >= state.numbers.len();
         let phaser = job.graph().registration(t, left).phaser;
         let Ok(()) = self.drop_on(job, phaser, number) else {
             unreachable!()
@@ -75,10 +89,11 @@ impl Machine {
         requires { IsNextIn job.now self.old t turns.samples }
         ensures { HadTurn job.now self.old self.new t result }
     {
-        let begun = self.state(job, t).begun;
-        let x = job.samples_of(t)[begun as usize];
         let (k, phaser) = output_of(job, t, 0);
-        let number = self.state(job, t).numbers[k];
+        let state = &self.tasks[t];
+        let begun = state.begun;
+        let number = state.numbers[k];
+        let x = job.samples_of(t)[begun as usize];
         let Ok(_) = self.signal_on(job, phaser, number, x) else {
             return Made::Blocked { phaser };
         };
@@ -94,24 +109,26 @@ impl Machine {
         requires { IsNextIn job.now self.old t (turns.signals output) }
         ensures { HadTurn job.now self.old self.new t result }
     {
-        let Owed::Value { value, .. } = self.state(job, t).owed else {
+        let state = &self.tasks[t];
+        let begun = state.begun;
+        let Owed::Value { value, .. } = state.owed else {
             unreachable!()
         };
         match value {
             Ok(x) => self.signal_value(job, t, output, x),
-            Err(_) => Made::OutOfRange {
-                step: self.state(job, t).begun - 1,
-            },
+            Err(_) => Made::OutOfRange { step: begun - 1 },
         }
     }
 
     /// A task signals this value, which is in range, on this output.
     fn signal_value(&mut self, job: &Job, t: usize, output: usize, x: i64) -> Made
-        requires { IsNextIn job.now self.old t (turns.signals output) }
+        requires next { IsNextIn job.now self.old t (turns.signals output) }
+        requires value { (m : Moment) → IsMachineAt job.now m self.old
+            → ranged (next_value job.now m t output) ≡ Ok x }
         ensures { HadTurn job.now self.old self.new t result }
     {
         let (k, phaser) = output_of(job, t, output);
-        let number = self.state(job, t).numbers[k];
+        let number = self.tasks[t].numbers[k];
         let Ok(_) = self.signal_on(job, phaser, number, x) else {
             return Made::Blocked { phaser };
         };
@@ -123,42 +140,70 @@ impl Machine {
     }
 
     /// A task waits on this input for its next step.
-    fn wait_first(&mut self, job: &Job, t: usize, input: usize) -> Result<Made, AllocError>
-        requires { IsNextIn job.now self.old t (turns.waits input) }
+    fn wait_first(&mut self, job: &Job, t: usize, k: usize) -> Result<Made, AllocError>
+        requires { IsNextIn job.now self.old t (turns.waits k) }
         ensures made { IfOk result (λ made. HadTurn job.now self.old self.new t made) }
-        ensures err { OnErr result (self.new ≡ self.old) }
+        ensures kept { OnErr result ((m : Moment) → IsMachineAt job.now m self.old
+            → IsMachineAt job.now m self.new) }
     {
-        let phaser = input_of(job, t, input);
-        let number = self.state(job, t).numbers[input];
-        self.reserve_line(job, t)?;
-        let Ok(Got::Value { phase, outcome }) = self.wait_on(job, phaser, number) else {
-            return Ok(Made::Blocked { phaser });
-        };
-        self.take(job, t, number_taken(outcome));
-        Ok(Made::Event {
-            phaser,
-            told: told_wait(phaser, phase, outcome),
-        })
-    }
-
-    /// Room for one more value of a sink.
-    fn reserve_line(&mut self, job: &Job, t: usize) -> Result<(), AllocError> {
-        if is_sink(job, t) {
-            let sink = self.tasks[t].sink;
-            self.lines[sink].values.reserve(1)?;
+        let phaser = input_of(job, t, k);
+        let number = self.tasks[t].numbers[k];
+        let sink = self.sink_of(job, t);
+        if self.tasks[t].begun == u64::MAX {
+            return Err(AllocError);
         }
-        Ok(())
+        self.reserve_line(sink)?;
+        match self.wait_on(job, phaser, number) {
+            Ok(Got::Value { phase, outcome }) => {
+                let x = number_taken(outcome);
+                self.tasks[t].take(job, t, x);
+                self.keep_line(sink, x);
+                Ok(Made::Event {
+                    phaser,
+                    told: told_wait(phaser, phase, outcome),
+                })
+            }
+            Ok(Got::Ended) => unreachable!(),
+            Err(_) => Ok(Made::Blocked { phaser }),
+        }
     }
 
-    /// What a task keeps of the first wait of a step, which got `x`.
-    fn take(&mut self, job: &Job, t: usize, x: i64) {
-        let begun = self.tasks[t].begun;
-        let owed = owed_after_wait(job, t, begun, &mut self.tasks[t].filter, x);
-        self.tasks[t].owed = owed;
-        self.tasks[t].begun = begun + 1;
+    /// The place among the lines of a task that is a sink.
+    fn sink_of(&self, job: &Job, t: usize) -> Option<usize>
+        requires task { t < length job.now.graph.tasks }
+        requires state { t < length self.now.tasks.items }
+        ensures { (state : TaskState) → slice_get self.now.tasks.items t ≡ Some state
+            → result ≡ (if is_sink_at job.now t then Some state.sink else None) }
+    {
         if is_sink(job, t) {
-            let sink = self.tasks[t].sink;
-            self.lines[sink].values.push_reserved(x);
+            return Some(self.tasks[t].sink);
+        }
+        None
+    }
+
+    /// Asks for room for one more value of a sink.
+    fn reserve_line(&mut self, sink: Option<usize>) -> Result<(), AllocError>
+        requires { IfSome sink (λ i. i < length self.old.lines.items) }
+        ensures lines { map sink_values self.new.lines.items ≡ map sink_values self.old.lines.items }
+        ensures room { OnOk result (IfSome sink (HasRoomIn self.new.lines.items)) }
+        ensures cores { self.new.cores ≡ self.old.cores }
+        ensures tasks { self.new.tasks ≡ self.old.tasks }
+    {
+        let Some(i) = sink else { return Ok(()) };
+        self.lines[i].values.reserve(1)
+    }
+
+    /// Keeps a value of a sink, for which there is room.
+    fn keep_line(&mut self, sink: Option<usize>, x: i64)
+        requires there { IfSome sink (λ i. i < length self.old.lines.items) }
+        requires room { IfSome sink (HasRoomIn self.old.lines.items) }
+        ensures lines { map sink_values self.new.lines.items
+            ≡ with_line sink x (map sink_values self.old.lines.items) }
+        ensures cores { self.new.cores ≡ self.old.cores }
+        ensures tasks { self.new.tasks ≡ self.old.tasks }
+    {
+        if let Some(i) = sink {
+            self.lines[i].values.push_reserved(x);
         }
     }
 
@@ -167,18 +212,22 @@ impl Machine {
         requires { IsNextIn job.now self.old t turns.exchanges }
         ensures { HadTurn job.now self.old self.new t result }
     {
-        let Owed::Exchange { x } = self.state(job, t).owed else {
+        let phaser = input_of(job, t, 1);
+        let state = &self.tasks[t];
+        let number = state.numbers[1];
+        let Owed::Exchange { x } = state.owed else {
             unreachable!()
         };
-        let phaser = input_of(job, t, 1);
-        let number = self.state(job, t).numbers[1];
-        let Ok(Got::Value { phase, outcome }) = self.wait_on(job, phaser, number) else {
-            return Made::Blocked { phaser };
-        };
-        self.tasks[t].owed = owed_after_exchange(job, t, x, number_taken(outcome));
-        Made::Event {
-            phaser,
-            told: told_wait(phaser, phase, outcome),
+        match self.wait_on(job, phaser, number) {
+            Ok(Got::Value { phase, outcome }) => {
+                self.tasks[t].owed = owed_after_exchange(job, t, x, number_taken(outcome));
+                Made::Event {
+                    phaser,
+                    told: told_wait(phaser, phase, outcome),
+                }
+            }
+            Ok(Got::Ended) => unreachable!(),
+            Err(_) => Made::Blocked { phaser },
         }
     }
 
@@ -186,7 +235,8 @@ impl Machine {
     fn register_child(&mut self, job: &Job, t: usize, c: usize) -> Result<Made, AllocError>
         requires { IsNextIn job.now self.old t (turns.registers c) }
         ensures made { IfOk result (λ made. HadTurn job.now self.old self.new t made) }
-        ensures err { OnErr result (self.new ≡ self.old) }
+        ensures kept { OnErr result ((m : Moment) → IsMachineAt job.now m self.old
+            → IsMachineAt job.now m self.new) }
     {
         let made = self.state(job, c).numbers.len();
         let registration = job.graph().registration(c, made);
@@ -219,7 +269,9 @@ impl Machine {
 }
 
 /// What a turn tells of a wait that got this.
-fn told_wait(phaser: usize, phase: u64, outcome: Outcome) -> Turned {
+fn told_wait(phaser: usize, phase: u64, outcome: Outcome) -> Turned
+    ensures { told_of result ≡ told_got phaser phase outcome }
+{
     match outcome {
         Outcome::TooBig => Turned::TooBig {
             place: Place::Phaser(phaser),
