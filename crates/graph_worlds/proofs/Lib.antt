@@ -9,6 +9,7 @@ pub mod Setting
 pub mod Signals
 pub mod SinkLines
 pub mod TaskLists
+pub mod Tellings
 pub mod Waits
 pub mod WhatNext
 pub mod Outputs

@@ -4,5 +4,6 @@ pub mod Parking
 pub mod Places
 pub mod Runs
 pub mod Stalls
+pub mod Tellings
 pub mod Turning
 pub mod Worlds
