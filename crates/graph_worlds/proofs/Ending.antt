@@ -13,10 +13,12 @@ use Rattle.graph_base.specs.declared.line.Kind.TheVariants.{Source, Fir, Split, 
 use Rattle.stream_lists.specs.Jobs.{Job}
 use Rattle.graph_moments.specs.Moments.{Moment, HasRun, input_at, first_input}
 use Rattle.graph_turns.specs.Nexts.{is_live, is_cut, has_input_ended, has_run_out, has_signaller, number_on, has_left, registrations_at}
-use Rattle.graph_turns.specs.TaskPlaces.{TaskPlace, StandsAt, registration_at}
+use Rattle.graph_turns.specs.TaskPlaces.{TaskPlace, StandsAt, registration_at, registration_of_output}
 use Rattle.graph_turns.proofs.Signalling.{live-is, stays}
 use Rattle.graph_turns.proofs.Boundaries.{goes_on, or_false}
-use Rattle.graph_turns.proofs.Standing.{of_input, many}
+use Rattle.graph_turns.proofs.Standing.{of_input, of_output, many}
+use Rattle.graph_base.specs.Registrations.{signalled_by}
+use Rattle.graph_turns.specs.Answers.{output_at}
 use Rattle.graph_turns.proofs.Waiting.{Waiter, waiter}
 use Rattle.graph_worlds.specs.Machines.{is_over}
 use Rattle.graph_worlds.proofs.Reading.{complete}
@@ -151,3 +153,21 @@ no_source Split e = λ f. absurd (cc)
 no_source Join e = λ f. absurd (cc)
 no_source Peer e = λ f. absurd (cc)
 no_source Sink e = λ f. absurd (cc)
+
+-- the number of a live task on its output j
+pub number_of_output : (job : Job) (m : Moment) (t j : ℕ) (at : TaskPlace) → IsGraph job.graph
+    → StandsAt job m t at → is_live job m t ≡ true
+    → j < length (signalled_by (task_at job.graph t))
+    → (registration_of_output (task_at job.graph t) j < length at.numbers)
+    × (number_on m t (output_at job t j)
+    ≡ get_or at.numbers (registration_of_output (task_at job.graph t) j) 0)
+number_of_output job m t j at is stands live few =
+    let living = live-is job m t live in
+    let all = all_numbered job m t at stands live in
+    let k = registration_of_output (task_at job.graph t) j in
+    let out = of_output job t j is living.there few in
+    let less : k < length at.numbers = subst (λ n. k < n) (sym all) out.0 in (
+      less,
+      sym (ap (λ q. number_on m t q) out.1)
+          ∙ ap (λ o. unwrap_or o 0) (number-at job m t k at stands less),
+    )

@@ -5,12 +5,16 @@ pub mod OpeningPhasers
 pub mod OpeningTasks
 pub mod Children
 pub mod Ending
+pub mod InTurn
 pub mod Setting
 pub mod Signals
 pub mod SinkLines
 pub mod TaskLists
+pub mod Tellings
 pub mod Waits
 pub mod WhatNext
 pub mod Outputs
 pub mod Reading
 pub mod Searching
+pub mod Stalling
+pub mod Stepping

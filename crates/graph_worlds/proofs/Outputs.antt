@@ -30,4 +30,3 @@ number_of_output job m t j at is stands live few =
       sym (ap (λ q. number_on m t q) out.1)
           ∙ ap (λ o. unwrap_or o 0) (number-at job m t k at stands less),
     )
-

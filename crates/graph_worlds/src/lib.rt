@@ -10,12 +10,15 @@ mod opened_tasks;
 mod opening;
 mod parked;
 mod roots;
+mod runs;
+mod stalls;
 mod step;
 mod task_state;
 mod turned;
 mod turns;
 mod world;
 
+pub use runs::{RunTurnsFault, run_turns};
 pub use step::Step;
 pub use turned::Turned;
 pub use world::World;

@@ -1,4 +1,5 @@
 //! What the call of a turn did.
+ghost use Rattle.std.specs.Prelude.{◌≡◌};
 
 use crate::turned::Turned;
 use graph_base::Place;
@@ -17,8 +18,12 @@ pub enum Made {
 }
 
 impl Made {
+    ghost use Rattle.graph_worlds.specs.Tellings.{told_by};
+
     /// What a turn of this task tells.
-    pub fn told(self, task: usize) -> Turned {
+    pub fn told(self, task: usize) -> Turned
+        ensures { result ≡ told_by self task }
+    {
         match self {
             Made::Event { told, .. } => told,
             Made::Blocked { .. } => Turned::Blocked,

@@ -21,9 +21,9 @@ use graph_steps::{
     Owed, input_of, is_sink, number_taken, output_of, owed_after_exchange, owed_after_signal,
     owed_after_wait,
 };
+use graph_turns::laws;
 use phase_accum::Outcome;
 use phase_core::{Got, RegisterRefusal};
-use graph_turns::laws;
 use std::alloc::AllocError;
 use stream_lists::Job;
 

@@ -1,14 +1,13 @@
 //! A run of a graph on one thread.
-ghost use Rattle.std.specs.Prelude.{◌≡◌, ℕ, Some, None, [], get_or, map, IfOk, OnOk, OnErr};
+ghost use Rattle.std.specs.Prelude.{◌≡◌, ◌≢◌, ◌<◌, ℕ, Some, None, [], length, get_or, map, IfOk, OnOk, OnErr, false};
 ghost use Rattle.stream_eval.specs.Results.{sink_values};
 ghost use Rattle.stream_lists.specs.Lists.{sinks_of};
 ghost use Rattle.graph_moments.specs.Moments.{Moment};
 ghost use Rattle.graph_turns.specs.Beginnings.{opening};
 ghost use Rattle.graph_turns.specs.Nexts.{next_of};
-ghost use Rattle.graph_turns.specs.Answers.{turn_tells};
+ghost use Rattle.graph_turns.specs.Answers.{is_stalled, turn_tells};
 
 use crate::machine::Machine;
-use crate::made::Made;
 use crate::parked::Parked;
 use crate::step::Step;
 use crate::turned::Turned;
@@ -95,11 +94,31 @@ impl<'a> World<'a> {
         &self.machine.lines
     }
 
+    /// Lends the tasks that were blocked on a phaser since its last event. It takes no memory.
+    pub fn parked(&self, phaser: usize) -> &[usize]
+        requires { phaser < length self.now.job.graph.phasers }
+        ensures { result.now ≡ get_or self.now.parked phaser [] }
+    {
+        self.parked.on(phaser)
+    }
+
+    /// Tells whether no task can move: some task is live, and the turn of each live task would be
+    /// blocked. After a value out of range no run is stalled. It takes no memory.
+    ///
+    /// It looks at each task.
+    pub fn stalled(&self) -> bool
+        ensures stalled { (m : Moment) → IsWorldAt self.now m → self.now.met ≡ None
+            → is_stalled self.now.job m ≡ result }
+        ensures met { self.now.met ≢ None → result ≡ false }
+    {
+        self.met.is_none() && self.machine.is_stalled(self.job)
+    }
+
     /// Gives a turn to task number `task`: it makes its next call, or tells why it makes none. After
     /// a value out of range each turn tells it again, and does nothing.
     ///
-    /// A child's registration and a sink's wait may ask for memory. Where there is none, nothing has
-    /// changed, and the turn can be given again.
+    /// A child's registration and a sink's wait may ask for memory. Where there is none, the task has
+    /// made no call, and the turn can be given again.
     pub fn turn(&mut self, task: usize) -> Result<Turned, AllocError>
         ensures table { IfOk result (λ told. (m : Moment) → IsWorldAt self.old m
             → turn_tells self.old.job self.old.met m task ≡ Some (told_of told)) }
@@ -109,21 +128,17 @@ impl<'a> World<'a> {
         ensures parked { OnOk result ((m : Moment) → IsWorldAt self.old m
             → self.new.parked ≡ parked_by self.old m task) }
         ensures job { self.new.job ≡ self.old.job }
-        ensures err { OnErr result (self.new ≡ self.old) }
+        ensures kept { OnErr result ((m : Moment) → IsWorldAt self.old m → IsWorldAt self.new m) }
+        ensures err { OnErr result ((self.new.met ≡ self.old.met)
+            × (self.new.parked ≡ self.old.parked)) }
     {
         if let Some((place, phase)) = self.met {
             return Ok(Turned::TooBig { place, phase });
         }
         let made = self.machine.make(self.job, task)?;
-        match made {
-            Made::Event { phaser, .. } => self.parked.free(phaser),
-            Made::Blocked { phaser } => self.parked.park(phaser, task),
-            Made::OutOfRange { .. } | Made::Nothing => (),
-        }
+        self.parked.note(made, task);
         let told = made.told(task);
-        if let Turned::TooBig { place, phase } = told {
-            self.met = Some((place, phase));
-        }
+        self.met = told.too_big();
         Ok(told)
     }
 }

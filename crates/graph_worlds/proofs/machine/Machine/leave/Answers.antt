@@ -116,21 +116,27 @@ offset_bounds-deref-left c =
     let lt = has_state c.args.job.now c.args.self.now c.args.t leaves c.requires (λ e. (cc)) in
     let found = slice_get_read c.args.self.now.tasks.items (length c.args.self.now.tasks.items)
     c.args.t c.index-state.result.now refl lt c.index-state.ensures in
-    record { fits = (few_left c.args.job.now c.args.self.now c.args.t c.index-state.result.now c.deref.result.now
-    c.requires found c.deref.ensures c.deref.type_inv.1).1 }
+    record {
+      fits = (few_left c.args.job.now c.args.self.now c.args.t c.index-state.result.now c.deref.result.now
+          c.requires found c.deref.ensures c.deref.type_inv.1).1;
+    }
 
 pub overflow_add-last : goal.overflow_add-last
 overflow_add-last c =
     let lt = has_state c.args.job.now c.args.self.now c.args.t leaves c.requires (λ e. (cc)) in
     let found = slice_get_read c.args.self.now.tasks.items (length c.args.self.now.tasks.items)
     c.args.t c.index-state.result.now refl lt c.index-state.ensures in
-    record { fits = (few_left c.args.job.now c.args.self.now c.args.t c.index-state.result.now c.deref.result.now
-    c.requires found c.deref.ensures c.deref.type_inv.1).2 }
+    record {
+      fits = (few_left c.args.job.now c.args.self.now c.args.t c.index-state.result.now c.deref.result.now
+          c.requires found c.deref.ensures c.deref.type_inv.1).2;
+    }
 
 pub overflow_add-left : goal.overflow_add-left
 overflow_add-left c =
     let lt = has_state c.args.job.now c.args.self.now c.args.t leaves c.requires (λ e. (cc)) in
     let found = slice_get_read c.args.self.now.tasks.items (length c.args.self.now.tasks.items)
     c.args.t c.index-state.result.now refl lt c.index-state.ensures in
-    record { fits = (few_left c.args.job.now c.args.self.now c.args.t c.index-state.result.now c.deref.result.now
-    c.requires found c.deref.ensures c.deref.type_inv.1).2 }
+    record {
+      fits = (few_left c.args.job.now c.args.self.now c.args.t c.index-state.result.now c.deref.result.now
+          c.requires found c.deref.ensures c.deref.type_inv.1).2;
+    }
