@@ -536,7 +536,6 @@ first_never_ended job old t k n p state next found phaser numbered reply =
     next.answered m at (first_so job old m t k n p state next at found phaser numbered
     ∙ ap (wait_answer (first_wait t k p n)) (reply m at))
 
-
 -- ---- the machine with room for a line
 
 pub with_room : (job : Job) (m : Moment) (old new : Machine) → IsMachineAt job m old
