@@ -1,5 +1,5 @@
 -- The turn of a task that registers its child.
-use Rattle.std.proofs.Common.{◌≡◌, ◌≢◌, ℕ, List, suc, ◌+◌, ◌-◌, ◌^◌, ◌<◌, ◌≤◌, Bool, true, false, cond, eqb, [], ◌∷◌, ◌++◌, Option, Some, None, length, get_or, slice_get, set, map, is_some, refl, sym, ap, subst, ◌∙◌, ◌⊎◌, inl, inr, arith}
+use Rattle.std.proofs.Common.{◌≡◌, ◌≢◌, ℕ, List, ◌+◌, ◌-◌, ◌^◌, ◌<◌, ◌≤◌, Bool, true, false, cond, eqb, [], ◌∷◌, ◌++◌, Option, Some, None, length, get_or, slice_get, set, map, is_some, refl, sym, ap, subst, ◌∙◌, ◌⊎◌, inl, inr, arith}
 use Rattle.std.specs.Prelude.{unwrap_or, nat_lt}
 use Rattle.smallvec.specs.SmallVec.{SmallVec}
 use Rattle.phase_registry.specs.Rosters.{next_after}
@@ -8,13 +8,12 @@ use Rattle.graph_base.proofs.Registered.{registrations-phasers}
 use Rattle.graph_turns.specs.Reached.{IsReachable}
 use Rattle.std.proofs.lemmas.List.{length-set, length-map, get_or-map}
 use Rattle.std.proofs.lemmas.Bool.{cases_lt, eqb-true, eq-eqb}
-use Rattle.std.proofs.lemmas.Option.{slice_get-get_or, slice_get_past, same_Some}
+use Rattle.std.proofs.lemmas.Option.{slice_get-get_or, slice_get_past}
 use Rattle.phase_base.specs.declared.mode.Mode.{Mode}
 use Rattle.phase_history.specs.declared.event.Event.TheVariants.{Registered}
 use Rattle.phase_history.specs.declared.refusal.RegisterRefusal.{RegisterRefusal}
 use Rattle.phase_history.specs.Histories.{greatest_used}
 use Rattle.phase_history.specs.Refusals.{register_refusal}
-use Rattle.graph_base.specs.declared.registration.Registration.{Registration}
 use Rattle.graph_base.specs.Graphs.{task_at}
 use Rattle.graph_base.specs.Registrations.{no_registration}
 use Rattle.graph_base.specs.TaskLines.{IsGraph}
@@ -22,21 +21,18 @@ use Rattle.stream_lists.specs.Jobs.{Job}
 use Rattle.stream_eval.specs.Results.{sink_values}
 use Rattle.graph_moments.specs.Moments.{Moment, HasRun, first_input}
 use Rattle.graph_moves.specs.Turned.{with_at}
-use Rattle.graph_turns.specs.Nexts as turns
-use Rattle.graph_turns.specs.Nexts.{Next, is_live, is_due, next_of, number_on, first_due, first_missing, registrations_at, registers, signals, exchanges, samples, waits, leaves}
+use Rattle.graph_turns.specs.Nexts.{is_live, is_due, next_of, number_on, first_due, registrations_at, registers, signals, exchanges, samples, waits}
 use Rattle.graph_turns.specs.TaskEvents.{TaskEvent, child, after_turn}
-use Rattle.graph_turns.specs.Answers as answers
-use Rattle.graph_turns.specs.Answers.{makes, is_refused, answer_of_turn, after_answer, answer_to, accepted_answer, call_register}
-use Rattle.graph_turns.specs.TaskPlaces.{TaskPlace, StandsAt, registration_at, child_place, child_of}
+use Rattle.graph_turns.specs.Answers.{makes, answer_of_turn, after_answer, answer_to, accepted_answer, call_register}
+use Rattle.graph_turns.specs.TaskPlaces.{StandsAt, registration_at}
 use Rattle.graph_turns.proofs.Signalling.{live-is, found_below}
 use Rattle.graph_turns.proofs.Standing.{missing}
-use Rattle.graph_turns.proofs.Whose.{made_by}
 use Rattle.graph_turns.proofs.PlacesFollow.{child_follows, parent_follows}
 use Rattle.graph_turns.proofs.Registering.{due_child}
 use Rattle.graph_turns.proofs.Places.{on_ends}
 use Rattle.graph_worlds.specs.Places.{IsTaskAt, place_of}
 use Rattle.graph_worlds.specs.Machines.{IsMachineAt, HasCores}
-use Rattle.graph_worlds.specs.Turning.{IsNextIn, HadTurn, Shows, told_of}
+use Rattle.graph_worlds.specs.Turning.{IsNextIn, HadTurn, Shows}
 use Rattle.graph_worlds.specs.declared.machine.Machine.{Machine}
 use Rattle.graph_worlds.specs.declared.task_state.TaskState.{TaskState}
 use Rattle.graph_worlds.specs.declared.made.Made.TheVariants.{Event}

@@ -1,6 +1,6 @@
 -- A machine after one event of a turn: the phaser has the event's history, one task has its new
 -- state, and all others are as they were.
-use Rattle.std.proofs.Common.{◌≡◌, ◌≢◌, ℕ, ◌<◌, ◌⊎◌, inl, inr, Bool, true, false, cond, eqb, List, Option, Some, None, length, slice_get, set, map, refl, sym, ap, subst, ◌∙◌, arith}
+use Rattle.std.proofs.Common.{◌≡◌, ◌≢◌, ℕ, ◌<◌, Bool, true, false, eqb, List, Some, None, length, slice_get, set, map, refl, sym, ap, subst, ◌∙◌, arith}
 use Rattle.std.proofs.lemmas.Bool.{eqb-true, ne_eqb, eq-eqb}
 use Rattle.std.proofs.lemmas.List.{length-set}
 use Rattle.std.proofs.lemmas.Option.{slice_get_within}
@@ -13,7 +13,7 @@ use Rattle.graph_moments.specs.Moments.{Moment}
 use Rattle.graph_turns.specs.TaskEvents.{TaskEvent, sample, signal, first_wait, exchange_wait, leave, child, after_turn}
 use Rattle.graph_turns.specs.Answers.{makes, answer_of_turn, after_answer}
 use Rattle.graph_turns.specs.Reached.{IsReachable}
-use Rattle.graph_turns.specs.TaskPlaces.{StandsAt, child_of}
+use Rattle.graph_turns.specs.TaskPlaces.{child_of}
 use Rattle.graph_turns.proofs.Whose.{task_of, made_by}
 use Rattle.graph_turns.proofs.PlacesFollow.{others_follow}
 use Rattle.graph_steps.specs.Steps.{HasFilter}

@@ -1,8 +1,7 @@
 -- The turn of a task that leaves.
-use Rattle.std.proofs.Common.{◌≡◌, ◌≢◌, ℕ, List, suc, ◌+◌, ◌<◌, ◌≤◌, Bool, true, false, cond, Some, None, ◌∷◌, length, get_or, slice_get, nat_lt, set, map, refl, sym, ap, subst, ◌∙◌, arith}
+use Rattle.std.proofs.Common.{◌≡◌, ℕ, List, suc, ◌+◌, ◌<◌, cond, Some, None, ◌∷◌, length, get_or, slice_get, nat_lt, set, map, refl, sym, ap, subst, ◌∙◌, arith}
 use Rattle.phase_history.specs.declared.event.Event.TheVariants.{Dropped}
 use Rattle.phase_history.specs.Refusals.{drop_refusal}
-use Rattle.graph_base.specs.TaskLines.{IsGraph}
 use Rattle.stream_lists.specs.Jobs.{Job}
 use Rattle.stream_eval.specs.Results.{sink_values}
 use Rattle.graph_moments.specs.Moments.{Moment}

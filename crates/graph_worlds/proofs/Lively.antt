@@ -1,8 +1,8 @@
 -- What a task that is given a turn does next, by its state.
-use Rattle.std.proofs.Common.{◌≡◌, ◌≢◌, ℕ, List, ◌+◌, ◌*◌, ◌<◌, ◌≤◌, Bool, true, false, cond, Some, None, length, get_or, slice_get, refl, sym, ap, subst, ◌∙◌, arith}
+use Rattle.std.proofs.Common.{◌≡◌, ◌≢◌, ℕ, List, ◌+◌, ◌*◌, ◌<◌, Bool, true, false, cond, Some, length, get_or, slice_get, refl, sym, ap, ◌∙◌, arith}
 use Rattle.std.specs.Prelude.{unwrap_or}
 use Rattle.std.proofs.lemmas.Bool.{ltb-true}
-use Rattle.std.proofs.lemmas.Option.{slice_get-get_or, slice_get_read}
+use Rattle.std.proofs.lemmas.Option.{slice_get-get_or}
 use Rattle.phase_history.specs.Refusals.{drop_refusal}
 use Rattle.graph_base.specs.Registrations.{no_registration}
 use Rattle.graph_base.specs.TaskLines.{IsGraph}
@@ -14,7 +14,7 @@ use Rattle.graph_turns.specs.TaskEvents.{leave}
 use Rattle.graph_turns.specs.Answers.{answer_to, answer_of_turn, call_leave, accepted_answer}
 use Rattle.graph_turns.specs.TaskPlaces.{TaskPlace, StandsAt, registration_at}
 use Rattle.graph_turns.proofs.Signalling.{live-is}
-use Rattle.graph_turns.proofs.Standing.{kept, many}
+use Rattle.graph_turns.proofs.Standing.{kept}
 use Rattle.graph_turns.proofs.Registering.{is_for}
 use Rattle.graph_worlds.specs.Places.{place_of}
 use Rattle.graph_worlds.specs.Machines.{IsMachineAt}

@@ -1,5 +1,5 @@
 -- The turn of a task that signals.
-use Rattle.std.proofs.Common.{◌≡◌, ◌≢◌, ℕ, ℤ, List, zero, suc, ◌+◌, ◌<◌, ◌≤◌, Bool, true, false, cond, not, [], ◌∷◌, Option, Some, None, length, get_or, slice_get, set, map, pos, refl, sym, ap, subst, ◌∙◌, ◌⊎◌, inl, inr, arith}
+use Rattle.std.proofs.Common.{◌≡◌, ◌≢◌, ℕ, ℤ, List, zero, suc, ◌+◌, ◌<◌, ◌≤◌, Bool, true, false, cond, not, [], ◌∷◌, Option, Some, None, length, get_or, slice_get, set, map, pos, refl, sym, ap, subst, ◌∙◌, arith}
 use Rattle.std.specs.Prelude.{Result, Ok, Err, nat_le, unsigned_abs}
 use Rattle.stream_filters.specs.Range.{ranged}
 use Rattle.stream_filters.specs.declared.fault.TooBigValue.{TooBigValue}
@@ -10,10 +10,9 @@ use Rattle.phase_history.specs.declared.refusal.SignalRefusal.{SignalRefusal}
 use Rattle.phase_history.specs.declared.refusal.SignalRefusal.TheVariants as refusals
 use Rattle.phase_history.specs.Histories.{History, signal_phase}
 use Rattle.phase_history.specs.Refusals.{signal_refusal}
-use Rattle.phase_history.specs.Replies.{signal_reply, after_signal, refused_or}
+use Rattle.phase_history.specs.Replies.{signal_reply, refused_or}
 use Rattle.graph_base.specs.Graphs.{task_at, phaser_at}
 use Rattle.graph_base.specs.Registrations.{signalled_by}
-use Rattle.graph_base.specs.TaskLines.{IsGraph}
 use Rattle.stream_lists.specs.Jobs.{Job, samples_at}
 use Rattle.stream_lists.specs.Ranges.{is_out_of_range, are_made}
 use Rattle.stream_eval.specs.Results.{sink_values}
@@ -33,13 +32,12 @@ use Rattle.graph_turns.specs.Reached.{IsReachable}
 use Rattle.std.proofs.lemmas.Bool.{leb-false}
 use Rattle.graph_steps.specs.Steps.{owed_of}
 use Rattle.graph_steps.specs.declared.owed.Owed.{Owed}
-use Rattle.graph_worlds.specs.Places.{IsTaskAt, place_of}
+use Rattle.graph_worlds.specs.Places.{place_of}
 use Rattle.graph_worlds.specs.Machines.{IsMachineAt, HasCores}
-use Rattle.graph_worlds.specs.Turning.{IsNextIn, HadTurn, Shows, told_of, called_on}
+use Rattle.graph_worlds.specs.Turning.{IsNextIn, HadTurn, Shows, called_on}
 use Rattle.graph_worlds.specs.declared.machine.Machine.{Machine}
 use Rattle.graph_worlds.specs.declared.task_state.TaskState.{TaskState}
 use Rattle.graph_worlds.specs.declared.made.Made.TheVariants.{Event, Blocked, OutOfRange}
-use Rattle.graph_worlds.specs.declared.turned.Turned.{Turned}
 use Rattle.graph_worlds.specs.declared.turned.Turned.TheVariants.{Moved}
 use Rattle.std.proofs.lemmas.Bool.{eq-eqb}
 use Rattle.graph_base.specs.declared.line.Kind.{Kind}

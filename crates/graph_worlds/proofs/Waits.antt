@@ -1,5 +1,5 @@
 -- The turn of a task that waits.
-use Rattle.std.proofs.Common.{◌≡◌, ◌≢◌, ℕ, ℤ, List, zero, suc, ◌+◌, ◌<◌, ◌≤◌, Bool, true, false, cond, eqb, [], ◌∷◌, ◌++◌, Option, Some, None, length, get_or, slice_get, set, map, refl, sym, ap, subst, ◌∙◌, ◌⊎◌, inl, inr, arith}
+use Rattle.std.proofs.Common.{◌≡◌, ◌≢◌, ℕ, ℤ, List, suc, ◌+◌, ◌<◌, ◌≤◌, Bool, true, false, cond, eqb, [], ◌∷◌, ◌++◌, Option, Some, None, length, get_or, slice_get, set, map, refl, sym, ap, subst, ◌∙◌, arith}
 use Rattle.std.specs.Prelude.{Result, Ok, Err, nat_lt, IfSome, OnErr}
 use Rattle.std.proofs.lemmas.List.{length-map}
 use Rattle.std.proofs.lemmas.Option.{slice_get_within}
@@ -16,12 +16,11 @@ use Rattle.phase_history.specs.declared.refusal.WaitRefusal.TheVariants as refus
 use Rattle.phase_history.specs.Histories.{History, wait_phase, done_of}
 use Rattle.phase_history.specs.Phases.{value_of_phase}
 use Rattle.phase_history.specs.Refusals.{wait_refusal}
-use Rattle.phase_history.specs.Replies.{wait_reply, refused_or, got_at}
+use Rattle.phase_history.specs.Replies.{wait_reply, refused_or}
 use Rattle.graph_base.specs.declared.line.Kind.TheVariants.{Source, Fir, Split, Join, Peer, Sink}
 use Rattle.graph_base.specs.declared.line.Kind.{Kind}
 use Rattle.graph_base.specs.declared.place.Place.TheVariants as place
 use Rattle.graph_base.specs.Graphs.{Task, task_at, is_sink}
-use Rattle.graph_base.specs.TaskLines.{IsGraph}
 use Rattle.stream_lists.specs.Jobs.{Job}
 use Rattle.stream_lists.specs.Lists.{number, sinks_of, is_sink_at}
 use Rattle.stream_eval.specs.Results.{sink_values}
@@ -45,9 +44,9 @@ use Rattle.graph_steps.specs.Steps.{owed_of, HasFilter}
 use Rattle.graph_steps.specs.declared.owed.Owed.{Owed}
 use Rattle.graph_steps.specs.declared.owed.Owed.TheVariants as code
 use Rattle.graph_worlds.specs.Calls.{told_got, with_line}
-use Rattle.graph_worlds.specs.Places.{IsTaskAt, place_of, HasTakenOne}
+use Rattle.graph_worlds.specs.Places.{place_of, HasTakenOne}
 use Rattle.graph_worlds.specs.Machines.{IsMachineAt, HasCores}
-use Rattle.graph_worlds.specs.Turning.{IsNextIn, HadTurn, Shows, told_of, called_on}
+use Rattle.graph_worlds.specs.Turning.{IsNextIn, HadTurn, Shows, told_of}
 use Rattle.graph_worlds.specs.declared.machine.Machine.{Machine}
 use Rattle.graph_worlds.specs.declared.task_state.TaskState.{TaskState}
 use Rattle.graph_worlds.specs.declared.made.Made.TheVariants.{Event, Blocked}
@@ -55,7 +54,7 @@ use Rattle.graph_worlds.specs.declared.turned.Turned.{Turned}
 use Rattle.graph_worlds.proofs.SinkLines.{map_same, one_line, no_line}
 use Rattle.graph_worlds.proofs.Ending.{number_of_input}
 use Rattle.graph_worlds.proofs.Lively.{live_next}
-use Rattle.graph_worlds.proofs.WhatNext.{InStep, Begins, waits_begins, exchanges_owes}
+use Rattle.graph_worlds.proofs.WhatNext.{InStep, waits_begins, exchanges_owes}
 use Rattle.graph_worlds.proofs.Signals.{blocked_turn, with_owed}
 use Rattle.graph_worlds.proofs.Events.{after_own, unchanged}
 

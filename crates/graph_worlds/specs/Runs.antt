@@ -1,5 +1,5 @@
 -- Turns of a run from its opening, one after the other.
-use Rattle.std.specs.Prelude.{◌≡◌, ℕ, List, [], ◌∷◌, ◌++◌, Some, None}
+use Rattle.std.specs.Prelude.{◌≡◌, ℕ, List, ◌∷◌, ◌++◌, Some, None}
 use Rattle.stream_lists.specs.Jobs.{Job}
 use Rattle.stream_lists.specs.Ranges.{Where}
 use Rattle.graph_turns.specs.Answers.{TooBig, after_turns, turn_tells}

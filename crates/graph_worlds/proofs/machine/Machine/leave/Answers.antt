@@ -1,17 +1,14 @@
 -- The task leaves the phaser that stands behind those that it has left.
-use Rattle.std.proofs.Common.{◌≡◌, ◌<◌, ◌≤◌, ◌+◌, cond, Ok, Err, Some, None, length, get_or, set, slice_get, nat_lt, ap, sym, subst, ◌∙◌, refl, arith}
+use Rattle.std.proofs.Common.{◌≡◌, ◌<◌, ◌≤◌, ◌+◌, cond, length, get_or, ap, sym, subst, ◌∙◌, refl, arith}
 use Rattle.std.proofs.lemmas.Bool.{lt-ltb, le-ltb}
-use Rattle.std.proofs.lemmas.Option.{same_Some, slice_get_read}
+use Rattle.std.proofs.lemmas.Option.{slice_get_read}
 use Rattle.graph_base.specs.Graphs.{task_at}
 use Rattle.graph_base.specs.Registrations.{registrations_of, no_registration}
-use Rattle.graph_moments.specs.Moments.{Moment}
 use Rattle.graph_turns.specs.Nexts.{registrations_at, leaves}
-use Rattle.graph_turns.specs.TaskPlaces.{registration_at}
 use Rattle.graph_turns.specs.Answers as answers
 use Rattle.graph_worlds.specs.declared.turned.Turned.TheVariants.{Moved, Ended}
 use Rattle.graph_worlds.proofs.Lively.{has_state, leaves_now, few_left}
 use Rattle.graph_worlds.proofs.Leaving.{left_turn, refused_drop, left_tasks}
-use Rattle.graph_worlds.proofs.Setting.{read_same}
 use Rattle.graph_worlds.proofs.machine.Machine.leave.Goals as goal
 
 pub bounds-deref-left : goal.bounds-deref-left

@@ -1,12 +1,11 @@
 -- The loop goes through the registrations, and stops at the one on the phaser.
-use Rattle.std.proofs.Common.{◌≡◌, ◌≢◌, ◌<◌, ◌≤◌, ◌+◌, ℕ, length, get_or, refl, sym, ap, subst, ◌∙◌, arith}
+use Rattle.std.proofs.Common.{◌≡◌, ◌<◌, length, get_or, refl, sym, ap, ◌∙◌, arith}
 use Rattle.std.proofs.lemmas.Option.{slice_get_read}
 use Rattle.graph_base.specs.Graphs.{task_at}
 use Rattle.graph_base.specs.Registrations.{registrations_of, no_registration}
 use Rattle.graph_turns.specs.Nexts.{registrations_at}
 use Rattle.graph_turns.specs.TaskPlaces.{registration_at}
 use Rattle.graph_turns.proofs.Signalling.{live-is}
-use Rattle.graph_worlds.proofs.Searching.{one_more}
 use Rattle.graph_worlds.proofs.Children.{number_is, no_number}
 use Rattle.graph_worlds.proofs.machine.Machine.number_on.Goals as goal
 

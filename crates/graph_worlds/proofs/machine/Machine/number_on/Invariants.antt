@@ -1,4 +1,4 @@
-use Rattle.std.proofs.Common.{◌≡◌, ◌≢◌, ◌<◌, ℕ}
+use Rattle.std.proofs.Common.{◌≢◌, ◌<◌, ℕ}
 use Rattle.graph_turns.specs.TaskPlaces.{registration_at}
 use Rattle.graph_worlds.proofs.machine.Machine.number_on.Given as goal
 

@@ -1,5 +1,5 @@
 -- The core of the phaser is set, and the others stay.
-use Rattle.std.proofs.Common.{◌≡◌, ◌∷◌, Some, None}
+use Rattle.std.proofs.Common.{◌∷◌}
 use Rattle.phase_history.specs.declared.event.Event.TheVariants.{Registered}
 use Rattle.graph_base.specs.Graphs.{phaser_at}
 use Rattle.graph_moments.specs.Moments.{limits_at}

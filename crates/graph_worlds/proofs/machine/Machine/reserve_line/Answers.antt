@@ -1,5 +1,5 @@
 -- The values stay, and there is room behind them.
-use Rattle.std.proofs.Common.{ap, ◌∙◌}
+use Rattle.std.proofs.Common.{ap}
 use Rattle.graph_worlds.proofs.Setting.{on_ok}
 use Rattle.graph_worlds.proofs.SinkLines.{same_lines, room_in}
 use Rattle.graph_worlds.proofs.machine.Machine.reserve_line.Goals as goal

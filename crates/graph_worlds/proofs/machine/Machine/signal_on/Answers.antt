@@ -1,7 +1,6 @@
 -- The core of the phaser is set, and the others stay.
-use Rattle.std.proofs.Common.{◌≡◌, [], ◌∷◌, Option, ap, sym, ◌∙◌, subst}
+use Rattle.std.proofs.Common.{◌≡◌, [], ◌∷◌, ap, sym, ◌∙◌, subst}
 use Rattle.std.proofs.Common.{to_z-of_z}
-use Rattle.phase_accum.specs.declared.single.Single.{Single}
 use Rattle.phase_history.specs.Replies.{signal_reply, after_signal}
 use Rattle.graph_base.specs.Graphs.{phaser_at}
 use Rattle.graph_moments.specs.Moments.{limits_at}

@@ -1,5 +1,5 @@
 -- The next sample is signalled as the number that stands at the registration of the output.
-use Rattle.std.proofs.Common.{rules, ◌≡◌, ◌<◌, ◌≤◌, ◌+◌, ◌*◌, length, get_or, pos, refl, sym, ap, subst, ◌∙◌, arith, SFits, w64, to_z-of_z}
+use Rattle.std.proofs.Common.{rules, ◌≡◌, ◌<◌, ◌+◌, ◌*◌, length, get_or, pos, refl, sym, ap, subst, ◌∙◌, arith, SFits, w64, to_z-of_z}
 use Rattle.std.proofs.lemmas.Option.{slice_get_read}
 use Rattle.phase_accum.specs.Sends.{IsSend}
 use Rattle.graph_turns.specs.Nexts.{samples}

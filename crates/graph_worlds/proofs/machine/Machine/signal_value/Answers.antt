@@ -1,11 +1,9 @@
 -- The value is signalled as the number that stands at the registration of the output.
-use Rattle.std.proofs.Common.{◌≡◌, ◌<◌, ◌≤◌, ◌*◌, length, get_or, refl, sym, ap, subst, ◌∙◌, arith, to_z-of_z}
+use Rattle.std.proofs.Common.{◌≡◌, ◌<◌, ◌*◌, length, get_or, refl, sym, ap, subst, ◌∙◌, arith, to_z-of_z}
 use Rattle.std.proofs.lemmas.Option.{slice_get_read}
 use Rattle.phase_accum.specs.Sends.{IsSend}
-use Rattle.graph_base.specs.Graphs.{task_at}
 use Rattle.graph_turns.specs.Nexts.{signals}
 use Rattle.graph_turns.specs.Answers.{next_value}
-use Rattle.graph_turns.specs.TaskPlaces.{registration_of_output}
 use Rattle.graph_turns.proofs.Signalling.{sendable}
 use Rattle.graph_worlds.proofs.Lively.{has_state}
 use Rattle.graph_worlds.proofs.Setting.{set_read}

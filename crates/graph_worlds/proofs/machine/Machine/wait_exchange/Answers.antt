@@ -1,5 +1,5 @@
 -- A peer waits as the number that stands at its second registration.
-use Rattle.std.proofs.Common.{rules, SFits, w64, to_z, of_z, ◌≡◌, ◌<◌, ◌≤◌, ◌∷◌, length, get_or, refl, sym, ap, subst, ◌∙◌, arith, to_z-of_z}
+use Rattle.std.proofs.Common.{rules, SFits, w64, to_z, of_z, ◌≡◌, length, get_or, refl, ap, subst, ◌∙◌, arith, to_z-of_z}
 use Rattle.std.specs.Prelude.{Ok}
 use Rattle.std.proofs.lemmas.Option.{slice_get_read}
 use Rattle.phase_history.specs.Replies.{after_wait}
@@ -11,7 +11,7 @@ use Rattle.graph_worlds.specs.Machines.{HasCores}
 use Rattle.graph_worlds.proofs.Lively.{has_state}
 use Rattle.graph_worlds.proofs.Setting.{set_read}
 use Rattle.graph_worlds.proofs.Signals.{with_owed}
-use Rattle.graph_worlds.proofs.Waits.{exchange_few, exchange_waits_at, exchange_some, exchanged_turn, blocked_exchange, never_ended}
+use Rattle.graph_worlds.proofs.Waits.{exchange_waits_at, exchange_some, exchanged_turn, blocked_exchange, never_ended}
 use Rattle.graph_worlds.proofs.machine.Machine.wait_exchange.Goals as goal
 
 pub bounds-deref-1 : goal.bounds-deref-1

@@ -1,5 +1,5 @@
 -- A task waits as the number that stands at the registration of its input.
-use Rattle.std.proofs.Common.{rules, SFits, w64, ◌≡◌, ◌<◌, ◌≤◌, ◌∷◌, length, get_or, map, set, refl, sym, ap, subst, ◌∙◌, arith, to_z-of_z}
+use Rattle.std.proofs.Common.{rules, SFits, w64, ◌≡◌, length, get_or, map, set, refl, sym, ap, subst, ◌∙◌, arith, to_z-of_z}
 use Rattle.std.specs.Prelude.{Ok}
 use Rattle.std.proofs.lemmas.Option.{slice_get_read}
 use Rattle.phase_history.specs.Replies.{after_wait}
