@@ -23,7 +23,7 @@ returns-then-is_cut g c = λ spots task.
     (ap owed_of c.requires.owed) cut) task
 
 pub put_sample-requires-clause-step : goal.put_sample-requires-clause-step
-put_sample-requires-clause-step g c = λ lifetimes known.
+put_sample-requires-clause-step g c =
     let s = c.args.self.now in
     let job = c.args.job.now in
     let step : MayStep job s = record {
@@ -38,7 +38,7 @@ put_sample-requires-clause-step g c = λ lifetimes known.
     step
 
 pub first_wait-requires-clause-step : goal.first_wait-requires-clause-step
-first_wait-requires-clause-step g c = λ lifetimes known.
+first_wait-requires-clause-step g c =
     let s = c.args.self.now in
     let job = c.args.job.now in
     let step : MayStep job s = record {
