@@ -55,10 +55,11 @@ fn end_one<'a, J: Run, W: Wait>(
         → AreEnded J.job J.spots ends.new.items) }
 {
     let end = place.end(rt)?;
-    match ends.push(end) {
-        Ok(()) => Ok(()),
-        Err(_) => Err(Fault::OutOfMemory),
+    if ends.reserve(1).is_err() {
+        return Err(Fault::OutOfMemory);
     }
+    ends.push_reserved(end);
+    Ok(())
 }
 
 // Takes all tasks apart. Where one has not left, all the others leave, by waiting.
