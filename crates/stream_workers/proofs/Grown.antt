@@ -1,6 +1,6 @@
 -- Lists that grow by one, and that are lent.
-use Rattle.std.proofs.Common.{◌≡◌, ℕ, zero, suc, List, [], ◌∷◌, ◌++◌, length, Some, None, sym, subst, arith}
-use Rattle.std.specs.Prelude.{slice_get, take, Option, IfSome}
+use Rattle.std.proofs.Common.{◌≡◌, ℕ, zero, suc, List, [], ◌∷◌, ◌++◌, length, Some, None, sym, subst}
+use Rattle.std.specs.Prelude.{take, Option, IfSome}
 use Rattle.std.proofs.Math.Seq.{take-append_seam}
 use Rattle.graph_members.specs.Members.{Spot}
 use Rattle.graph_tasks.specs.declared.ended.Ended.{Ended}
