@@ -150,6 +150,7 @@ impl Machine {
         let phaser = input_of(job, t, k);
         let number = self.tasks[t].numbers[k];
         let sink = self.sink_of(job, t);
+        // No run comes to so many steps; one that did would be told as want of memory.
         if self.tasks[t].begun == u64::MAX {
             return Err(AllocError);
         }
@@ -244,6 +245,7 @@ impl Machine {
         let registration = job.graph().registration(c, made);
         let phaser = registration.phaser;
         let parent = self.number_on(job, t, phaser);
+        // No run uses so many numbers; one that did would be told as want of memory.
         let Some(number) = self.core(job, phaser).next_number() else {
             return Err(AllocError);
         };
