@@ -6,6 +6,7 @@ mod filters;
 mod lines;
 mod owed;
 mod steps;
+mod taken;
 
 pub use filters::first_filter;
 pub use lines::{
@@ -13,3 +14,4 @@ pub use lines::{
 };
 pub use owed::Owed;
 pub use steps::{owed_after_exchange, owed_after_signal, owed_after_wait};
+pub use taken::number_taken;

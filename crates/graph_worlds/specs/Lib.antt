@@ -1,5 +1,9 @@
+pub mod Calls
 pub mod Machines
 pub mod Parking
 pub mod Places
+pub mod Runs
 pub mod Stalls
+pub mod Tellings
+pub mod Turning
 pub mod Worlds

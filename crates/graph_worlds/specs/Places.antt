@@ -1,11 +1,11 @@
 -- The place that the fields of a task's state have.
-use Rattle.std.specs.Prelude.{◌≡◌, ℕ, ◌≤◌, Some, slice_get}
+use Rattle.std.specs.Prelude.{◌≡◌, ℕ, ℤ, List, [], ◌∷◌, ◌++◌, ◌+◌, ◌≤◌, Some, slice_get}
 use Rattle.graph_base.specs.declared.line.Kind.TheVariants.{Sink}
-use Rattle.graph_base.specs.Graphs.{task_at}
+use Rattle.graph_base.specs.Graphs.{Task, task_at}
 use Rattle.stream_lists.specs.Jobs.{Job}
 use Rattle.stream_lists.specs.Lists.{sinks_of}
 use Rattle.graph_moments.specs.Moments.{Moment}
-use Rattle.graph_turns.specs.TaskPlaces.{TaskPlace, StandsAt}
+use Rattle.graph_turns.specs.TaskPlaces.{TaskPlace, StandsAt, owed_after_wait}
 use Rattle.graph_steps.specs.Steps.{HasFilter, owed_of}
 use Rattle.graph_worlds.specs.declared.task_state.TaskState.{TaskState}
 
@@ -25,3 +25,14 @@ pub record IsTaskAt (job : Job) (m : Moment) (t : ℕ) (state : TaskState) : Typ
   pub room : 9 ≤ state.numbers.capacity
   pub filter : HasFilter (task_at job.graph t) state.filter (m.taken t 0)
   pub sink : (task_at job.graph t).kind ≡ Sink → slice_get (sinks_of job) state.sink ≡ Some t
+
+-- a state after its task took x by the first wait of a step
+pub record HasTakenOne (task : Task) (x : ℤ) (old new : TaskState) : Type 0 where
+  pub numbers : new.numbers ≡ old.numbers
+  pub left : new.left ≡ old.left
+  pub sink : new.sink ≡ old.sink
+  pub begun : new.begun ≡ old.begun + 1
+  pub owed : (taken : List ℤ) → HasFilter task old.filter taken
+      → owed_of new.owed ≡ owed_after_wait task old.begun taken x
+  pub filter : (taken : List ℤ) → HasFilter task old.filter taken
+      → HasFilter task new.filter (taken ++ x ∷ [])

@@ -1,7 +1,9 @@
 //! The tasks that were blocked on each phaser.
 ghost use Rattle.std.specs.Prelude.{◌≡◌, ◌<◌, [], length, get_or, set, ℕ, IfOk};
 ghost use Rattle.graph_worlds.specs.Parking.{IsTaskList, with_task};
+ghost use Rattle.graph_worlds.specs.Tellings.{IsOnPhaser, parked_with};
 
+use crate::made::Made;
 use smallvec::SmallVec;
 use std::alloc::{AllocError, Global};
 use std::marker::Model;
@@ -43,6 +45,19 @@ impl Parked {
         ensures { result.now ≡ get_or self.now phaser [] }
     {
         self.lists[phaser].as_slice()
+    }
+
+    /// Keeps what the call of a task did.
+    pub fn note(&mut self, made: Made, task: usize)
+        requires { IsOnPhaser made task (length self.old) }
+        ensures { self.new ≡ parked_with made task self.old }
+    {
+        match made {
+            Made::Event { phaser, .. } => self.free(phaser),
+            Made::Blocked { phaser } => self.park(phaser, task),
+            Made::OutOfRange { .. } => (),
+            Made::Nothing => (),
+        }
     }
 
     /// Puts a task behind the list of a phaser, where it does not stand there.

@@ -1,10 +1,12 @@
 //! How far a task has come.
-ghost use Rattle.std.specs.Prelude.{◌≡◌, ◌<◌, not, is_some, length};
+ghost use Rattle.std.specs.Prelude.{◌≡◌, ◌<◌, not, is_some, length, List, ℤ};
+ghost use Rattle.graph_base.specs.Graphs.{task_at};
+ghost use Rattle.graph_steps.specs.Steps.{HasFilter};
 ghost use Rattle.graph_moments.specs.Moments.{Moment};
 ghost use Rattle.graph_turns.specs.Nexts.{first_missing, is_live};
 ghost use Rattle.graph_turns.specs.TaskPlaces.{StandsAt};
 
-use graph_steps::Owed;
+use graph_steps::{Owed, owed_after_wait};
 use smallvec::SmallVec;
 use stream_filters::Fir;
 use stream_lists::Job;
@@ -27,7 +29,7 @@ pub struct TaskState {
 }
 
 impl TaskState {
-    ghost use Rattle.graph_worlds.specs.Places.{place_of};
+    ghost use Rattle.graph_worlds.specs.Places.{place_of, HasTakenOne};
 
     /// Whether task number `t` is registered on all phasers of its line.
     pub fn is_registered(&self, job: &Job, t: usize) -> bool
@@ -45,5 +47,17 @@ impl TaskState {
             → is_live job.now m t ≡ result }
     {
         self.is_registered(job, t) && self.left < self.numbers.len()
+    }
+
+    /// Takes `x` by the first wait of a step.
+    pub fn take(&mut self, job: &Job, t: usize, x: i64)
+        requires task { t < length job.now.graph.tasks }
+        requires begun { self.old.begun < 18446744073709551615 }
+        requires filter { (taken : List ℤ)
+            × HasFilter (task_at job.now.graph t) self.old.filter taken }
+        ensures { HasTakenOne (task_at job.now.graph t) x self.old self.new }
+    {
+        self.owed = owed_after_wait(job, t, self.begun, &mut self.filter, x);
+        self.begun += 1;
     }
 }

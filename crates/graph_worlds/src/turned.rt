@@ -1,4 +1,5 @@
 //! What a turn answers.
+ghost use Rattle.std.specs.Prelude.{◌≡◌, None};
 
 use graph_base::Place;
 
@@ -20,4 +21,18 @@ pub enum Turned {
         /// The phase or the step, from 0 on.
         phase: u64,
     },
+}
+
+impl Turned {
+    ghost use Rattle.graph_worlds.specs.Turning.{met_by};
+
+    /// Where a value is out of range.
+    pub(crate) fn too_big(self) -> Option<(Place, u64)>
+        ensures { result ≡ met_by None self }
+    {
+        match self {
+            Turned::TooBig { place, phase } => Some((place, phase)),
+            _ => None,
+        }
+    }
 }

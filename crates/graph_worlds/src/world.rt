@@ -1,15 +1,16 @@
 //! A run of a graph on one thread.
-ghost use Rattle.std.specs.Prelude.{◌≡◌, ◌≢◌, ◌<◌, ℕ, None, [], length, get_or, map, IfOk, false};
+ghost use Rattle.std.specs.Prelude.{◌≡◌, ◌≢◌, ◌<◌, ℕ, Some, None, [], length, get_or, map, IfOk, OnOk, OnErr, false};
 ghost use Rattle.stream_eval.specs.Results.{sink_values};
 ghost use Rattle.stream_lists.specs.Lists.{sinks_of};
 ghost use Rattle.graph_moments.specs.Moments.{Moment};
 ghost use Rattle.graph_turns.specs.Beginnings.{opening};
 ghost use Rattle.graph_turns.specs.Nexts.{next_of};
-ghost use Rattle.graph_turns.specs.Answers.{is_stalled};
+ghost use Rattle.graph_turns.specs.Answers.{is_stalled, turn_tells};
 
 use crate::machine::Machine;
 use crate::parked::Parked;
 use crate::step::Step;
+use crate::turned::Turned;
 use graph_base::Place;
 use std::alloc::{AllocError, Global};
 use std::marker::Model;
@@ -50,6 +51,7 @@ impl<'a> Model for World<'a> {
 impl<'a> World<'a> {
     ghost use Rattle.graph_worlds.specs.Machines.{next_by};
     ghost use Rattle.graph_worlds.specs.Worlds.{IsWorldAt};
+    ghost use Rattle.graph_worlds.specs.Turning.{told_of, met_by, after_turn_of, parked_by};
 
     /// Makes a run of a job at its opening: on each phaser a founder has registered the tasks
     /// without a parent, in the order of their lines, as 1, 2, .., and has left.
@@ -110,5 +112,33 @@ impl<'a> World<'a> {
         ensures met { self.now.met ≢ None → result ≡ false }
     {
         self.met.is_none() && self.machine.is_stalled(self.job)
+    }
+
+    /// Gives a turn to task number `task`: it makes its next call, or tells why it makes none. After
+    /// a value out of range each turn tells it again, and does nothing.
+    ///
+    /// A child's registration and a sink's wait may ask for memory. Where there is none, the task has
+    /// made no call, and the turn can be given again.
+    pub fn turn(&mut self, task: usize) -> Result<Turned, AllocError>
+        ensures table { IfOk result (λ told. (m : Moment) → IsWorldAt self.old m
+            → turn_tells self.old.job self.old.met m task ≡ Some (told_of told)) }
+        ensures after { OnOk result ((m : Moment) → IsWorldAt self.old m
+            → IsWorldAt self.new (after_turn_of self.old m task)) }
+        ensures met { IfOk result (λ told. self.new.met ≡ met_by self.old.met told) }
+        ensures parked { OnOk result ((m : Moment) → IsWorldAt self.old m
+            → self.new.parked ≡ parked_by self.old m task) }
+        ensures job { self.new.job ≡ self.old.job }
+        ensures kept { OnErr result ((m : Moment) → IsWorldAt self.old m → IsWorldAt self.new m) }
+        ensures err { OnErr result ((self.new.met ≡ self.old.met)
+            × (self.new.parked ≡ self.old.parked)) }
+    {
+        if let Some((place, phase)) = self.met {
+            return Ok(Turned::TooBig { place, phase });
+        }
+        let made = self.machine.make(self.job, task)?;
+        self.parked.note(made, task);
+        let told = made.told(task);
+        self.met = told.too_big();
+        Ok(told)
     }
 }

@@ -1,0 +1,34 @@
+-- The core of the phaser is set, and the others stay.
+use Rattle.std.proofs.Common.{◌∷◌}
+use Rattle.phase_history.specs.declared.event.Event.TheVariants.{Registered}
+use Rattle.graph_base.specs.Graphs.{phaser_at}
+use Rattle.graph_moments.specs.Moments.{limits_at}
+use Rattle.graph_worlds.proofs.Setting.{set_core, lent_core, on_ok, if_err}
+use Rattle.graph_worlds.proofs.machine.Machine.register_on.Goals as goal
+
+pub returns-clause-refused : goal.returns-clause-refused
+returns-clause-refused c =
+    if_err c.register.result (λ e told other m at.
+    told other (phaser_at c.args.job.now.graph c.args.p).op (limits_at c.args.job.now c.args.p)
+    (m.history c.args.p) (lent_core c.args.job.now m.history c.args.self.now.cores.items c.args.p
+    c.index_mut.result.now at.cores c.requires.phaser c.index_mut.ensures.value))
+    c.register.ensures.refused
+
+pub returns-clause-ok : goal.returns-clause-ok
+returns-clause-ok c =
+    on_ok c.register.result (λ told m at.
+    told (phaser_at c.args.job.now.graph c.args.p).op (limits_at c.args.job.now c.args.p)
+    (m.history c.args.p) (lent_core c.args.job.now m.history c.args.self.now.cores.items c.args.p
+    c.index_mut.result.now at.cores c.requires.phaser c.index_mut.ensures.value))
+    c.register.ensures.ok
+
+pub returns-clause-cores : goal.returns-clause-cores
+returns-clause-cores c =
+    on_ok c.register.result (λ told m at.
+    set_core c.args.job.now m.history c.args.self.now.cores.items c.args.p c.register.new.self
+    (Registered c.args.parent c.args.child c.args.mode ∷ m.history c.args.p) at.cores
+    c.requires.phaser
+    (told (phaser_at c.args.job.now.graph c.args.p).op (limits_at c.args.job.now c.args.p)
+    (m.history c.args.p) (lent_core c.args.job.now m.history c.args.self.now.cores.items c.args.p
+    c.index_mut.result.now at.cores c.requires.phaser c.index_mut.ensures.value)))
+    c.register.ensures.after

@@ -1,0 +1,294 @@
+//! The turn of a task, by what it does next.
+ghost use Rattle.std.specs.Prelude.{◌≡◌, ◌<◌, ℕ, true, length, map, slice_get, Some, None, Ok, IfSome, IfOk, OnOk, OnErr};
+ghost use Rattle.std.specs.Prelude.{if◌then◌else◌};
+ghost use Rattle.stream_filters.specs.Range.{ranged};
+ghost use Rattle.graph_moments.specs.Moments.{Moment};
+ghost use Rattle.graph_turns.specs.Answers.{next_value};
+ghost use Rattle.graph_turns.specs.Nexts as turns;
+ghost use Rattle.graph_turns.specs.Nexts.{is_live, number_on};
+ghost use Rattle.graph_worlds.specs.Turning.{IsNextIn, HadTurn, told_of};
+ghost use Rattle.graph_worlds.specs.Calls.{told_got, with_line, HasRoomIn};
+ghost use Rattle.stream_lists.specs.Lists.{is_sink_at};
+ghost use Rattle.stream_eval.specs.Results.{sink_values};
+
+use crate::machine::Machine;
+use crate::made::Made;
+use crate::step::Step;
+use crate::task_state::TaskState;
+use crate::turned::Turned;
+use graph_base::Place;
+use graph_steps::{
+    Owed, input_of, is_sink, number_taken, output_of, owed_after_exchange, owed_after_signal,
+    owed_after_wait,
+};
+use graph_turns::laws;
+use phase_accum::Outcome;
+use phase_core::{Got, RegisterRefusal};
+use std::alloc::AllocError;
+use stream_lists::Job;
+
+impl Machine {
+    ghost use Rattle.graph_worlds.specs.Machines.{IsMachine, IsMachineAt, IsLiveIn, next_by};
+
+    /// Gives a turn to task number `t`: it makes its next call.
+    pub fn make(&mut self, job: &Job, t: usize) -> Result<Made, AllocError>
+        requires { IsMachine job.now self.old }
+        ensures made { IfOk result (λ made. HadTurn job.now self.old self.new t made) }
+        ensures kept { OnErr result ((m : Moment) → IsMachineAt job.now m self.old
+            → IsMachineAt job.now m self.new) }
+    {
+        let step = self.next(job, t);
+        if step == Step::NotLive {
+            return Ok(Made::Nothing);
+        }
+        let _samples = job.samples_of(t);
+        laws::turns_stay_reached();
+        laws::no_turn_is_refused();
+        self.make_step(job, t, step)
+    }
+
+    /// A task makes this step.
+    fn make_step(&mut self, job: &Job, t: usize, step: Step) -> Result<Made, AllocError>
+        requires { IsNextIn job.now self.old t (next_by step) }
+        ensures made { IfOk result (λ made. HadTurn job.now self.old self.new t made) }
+        ensures kept { OnErr result ((m : Moment) → IsMachineAt job.now m self.old
+            → IsMachineAt job.now m self.new) }
+    {
+        match step {
+            Step::NotLive => Ok(Made::Nothing),
+            Step::Register { child } => self.register_child(job, t, child),
+            Step::Leave => Ok(self.leave(job, t)),
+            Step::Sample => Ok(self.signal_sample(job, t)),
+            Step::Signal { output } => Ok(self.signal_owed(job, t, output)),
+            Step::Wait { input } => self.wait_first(job, t, input),
+            Step::Exchange => Ok(self.wait_exchange(job, t)),
+        }
+    }
+
+    /// A task leaves the first phaser that it has not left.
+    fn leave(&mut self, job: &Job, t: usize) -> Made
+        requires { IsNextIn job.now self.old t turns.leaves }
+        ensures { HadTurn job.now self.old self.new t result }
+    {
+        let state = &self.tasks[t];
+        let left = state.left;
+        let number = state.numbers[left];
+        let last = left + 1 >= state.numbers.len();
+        let phaser = job.graph().registration(t, left).phaser;
+        let Ok(()) = self.drop_on(job, phaser, number) else {
+            unreachable!()
+        };
+        self.tasks[t].left = left + 1;
+        Made::Event {
+            phaser,
+            told: if last { Turned::Ended } else { Turned::Moved },
+        }
+    }
+
+    /// A source signals its next sample.
+    fn signal_sample(&mut self, job: &Job, t: usize) -> Made
+        requires { IsNextIn job.now self.old t turns.samples }
+        ensures { HadTurn job.now self.old self.new t result }
+    {
+        let (k, phaser) = output_of(job, t, 0);
+        let state = &self.tasks[t];
+        let begun = state.begun;
+        let number = state.numbers[k];
+        let x = job.samples_of(t)[begun as usize];
+        let Ok(_) = self.signal_on(job, phaser, number, x) else {
+            return Made::Blocked { phaser };
+        };
+        self.tasks[t].begun = begun + 1;
+        Made::Event {
+            phaser,
+            told: Turned::Moved,
+        }
+    }
+
+    /// A task signals what it owes on this output.
+    fn signal_owed(&mut self, job: &Job, t: usize, output: usize) -> Made
+        requires { IsNextIn job.now self.old t (turns.signals output) }
+        ensures { HadTurn job.now self.old self.new t result }
+    {
+        let state = &self.tasks[t];
+        let begun = state.begun;
+        let Owed::Value { value, .. } = state.owed else {
+            unreachable!()
+        };
+        match value {
+            Ok(x) => self.signal_value(job, t, output, x),
+            Err(_) => Made::OutOfRange { step: begun - 1 },
+        }
+    }
+
+    /// A task signals this value, which is in range, on this output.
+    fn signal_value(&mut self, job: &Job, t: usize, output: usize, x: i64) -> Made
+        requires next { IsNextIn job.now self.old t (turns.signals output) }
+        requires value { (m : Moment) → IsMachineAt job.now m self.old
+            → ranged (next_value job.now m t output) ≡ Ok x }
+        ensures { HadTurn job.now self.old self.new t result }
+    {
+        let (k, phaser) = output_of(job, t, output);
+        let number = self.tasks[t].numbers[k];
+        let Ok(_) = self.signal_on(job, phaser, number, x) else {
+            return Made::Blocked { phaser };
+        };
+        self.tasks[t].owed = owed_after_signal(job, t, output, x);
+        Made::Event {
+            phaser,
+            told: Turned::Moved,
+        }
+    }
+
+    /// A task waits on this input for its next step.
+    fn wait_first(&mut self, job: &Job, t: usize, k: usize) -> Result<Made, AllocError>
+        requires { IsNextIn job.now self.old t (turns.waits k) }
+        ensures made { IfOk result (λ made. HadTurn job.now self.old self.new t made) }
+        ensures kept { OnErr result ((m : Moment) → IsMachineAt job.now m self.old
+            → IsMachineAt job.now m self.new) }
+    {
+        let phaser = input_of(job, t, k);
+        let number = self.tasks[t].numbers[k];
+        let sink = self.sink_of(job, t);
+        // No run comes to so many steps; one that did would be told as want of memory.
+        if self.tasks[t].begun == u64::MAX {
+            return Err(AllocError);
+        }
+        self.reserve_line(sink)?;
+        match self.wait_on(job, phaser, number) {
+            Ok(Got::Value { phase, outcome }) => {
+                let x = number_taken(outcome);
+                self.tasks[t].take(job, t, x);
+                self.keep_line(sink, x);
+                Ok(Made::Event {
+                    phaser,
+                    told: told_wait(phaser, phase, outcome),
+                })
+            }
+            Ok(Got::Ended) => unreachable!(),
+            Err(_) => Ok(Made::Blocked { phaser }),
+        }
+    }
+
+    /// The place among the lines of a task that is a sink.
+    fn sink_of(&self, job: &Job, t: usize) -> Option<usize>
+        requires task { t < length job.now.graph.tasks }
+        requires state { t < length self.now.tasks.items }
+        ensures { (state : TaskState) → slice_get self.now.tasks.items t ≡ Some state
+            → result ≡ (if is_sink_at job.now t then Some state.sink else None) }
+    {
+        if is_sink(job, t) {
+            return Some(self.tasks[t].sink);
+        }
+        None
+    }
+
+    /// Asks for room for one more value of a sink.
+    fn reserve_line(&mut self, sink: Option<usize>) -> Result<(), AllocError>
+        requires { IfSome sink (λ i. i < length self.old.lines.items) }
+        ensures lines { map sink_values self.new.lines.items ≡ map sink_values self.old.lines.items }
+        ensures room { OnOk result (IfSome sink (HasRoomIn self.new.lines.items)) }
+        ensures cores { self.new.cores ≡ self.old.cores }
+        ensures tasks { self.new.tasks ≡ self.old.tasks }
+    {
+        let Some(i) = sink else { return Ok(()) };
+        self.lines[i].values.reserve(1)
+    }
+
+    /// Keeps a value of a sink, for which there is room.
+    fn keep_line(&mut self, sink: Option<usize>, x: i64)
+        requires there { IfSome sink (λ i. i < length self.old.lines.items) }
+        requires room { IfSome sink (HasRoomIn self.old.lines.items) }
+        ensures lines { map sink_values self.new.lines.items
+            ≡ with_line sink x (map sink_values self.old.lines.items) }
+        ensures cores { self.new.cores ≡ self.old.cores }
+        ensures tasks { self.new.tasks ≡ self.old.tasks }
+    {
+        if let Some(i) = sink {
+            self.lines[i].values.push_reserved(x);
+        }
+    }
+
+    /// A peer waits on E.
+    fn wait_exchange(&mut self, job: &Job, t: usize) -> Made
+        requires { IsNextIn job.now self.old t turns.exchanges }
+        ensures { HadTurn job.now self.old self.new t result }
+    {
+        let phaser = input_of(job, t, 1);
+        let state = &self.tasks[t];
+        let number = state.numbers[1];
+        let Owed::Exchange { x } = state.owed else {
+            unreachable!()
+        };
+        match self.wait_on(job, phaser, number) {
+            Ok(Got::Value { phase, outcome }) => {
+                self.tasks[t].owed = owed_after_exchange(job, t, x, number_taken(outcome));
+                Made::Event {
+                    phaser,
+                    told: told_wait(phaser, phase, outcome),
+                }
+            }
+            Ok(Got::Ended) => unreachable!(),
+            Err(_) => Made::Blocked { phaser },
+        }
+    }
+
+    /// A task registers its child on the next phaser of the child's line.
+    fn register_child(&mut self, job: &Job, t: usize, c: usize) -> Result<Made, AllocError>
+        requires { IsNextIn job.now self.old t (turns.registers c) }
+        ensures made { IfOk result (λ made. HadTurn job.now self.old self.new t made) }
+        ensures kept { OnErr result ((m : Moment) → IsMachineAt job.now m self.old
+            → IsMachineAt job.now m self.new) }
+    {
+        let _all = job.graph().registrations(c);
+        let made = self.tasks[c].numbers.len();
+        let registration = job.graph().registration(c, made);
+        let phaser = registration.phaser;
+        let parent = self.number_on(job, t, phaser);
+        // No run uses so many numbers; one that did would be told as want of memory.
+        let Some(number) = self.core(job, phaser).next_number() else {
+            return Err(AllocError);
+        };
+        let refusal = match self.register_on(job, phaser, parent, number, registration.mode) {
+            Ok(()) => {
+                self.tasks[c].numbers.push_reserved(number);
+                return Ok(Made::Event {
+                    phaser,
+                    told: Turned::Moved,
+                });
+            }
+            Err(refusal) => refusal,
+        };
+        match refusal {
+            RegisterRefusal::OutOfMemory => Err(AllocError),
+            _ => unreachable!(),
+        }
+    }
+
+    /// The number of a live task on a phaser, 0 where it has none.
+    fn number_on(&self, job: &Job, t: usize, p: usize) -> u64
+        requires { IsLiveIn job.now self.now t }
+        ensures { (m : Moment) → IsMachineAt job.now m self.now → is_live job.now m t ≡ true
+            → number_on m t p ≡ result }
+    {
+        for k in 0..job.graph().registrations(t) {
+            if job.graph().registration(t, k).phaser == p {
+                return self.tasks[t].numbers[k];
+            }
+        }
+        0
+    }
+}
+
+/// What a turn tells of a wait that got this.
+fn told_wait(phaser: usize, phase: u64, outcome: Outcome) -> Turned
+    ensures { told_of result ≡ told_got phaser phase outcome }
+{
+    match outcome {
+        Outcome::TooBig => Turned::TooBig {
+            place: Place::Phaser(phaser),
+            phase,
+        },
+        _ => Turned::Moved,
+    }
+}

@@ -1,0 +1,85 @@
+//! What the tasks of a run leave behind.
+ghost use Rattle.std.specs.Prelude.{◌≡◌, ◌+◌, [], length, IfOk, OnOk};
+ghost use Rattle.stream_workers.specs.Ended.{AreEnded};
+
+use crate::slot::{Place, Slot};
+use graph_tasks::{Ended, Gate, Run};
+use std::alloc::Global;
+use std::sync::Wait;
+use std::thread::Threads;
+use worker_pool::{Fault, Pool};
+
+/// Runs the tasks of a pool by so many workers, and gives what each leaves behind, the last task's
+/// first, and nothing for one that never came. Where there is a fault all leave their phasers, by
+/// waiting.
+pub fn run_slots<'a, J: Run + Send + Sync, G: Gate + Sync, R: Threads + Wait + Sync>(
+    rt: &R,
+    alloc: Global,
+    pool: Pool<Slot<'a, J, G>>,
+    tasks: usize,
+    workers: usize,
+) -> Result<Vec<Option<Ended<'a>>>, Fault>
+    ensures many { IfOk result (λ ends. length ends.items ≡ pool.entry) }
+    ensures ended { IfOk result (λ ends. AreEnded J.job J.spots ends.items) }
+{
+    let Ok(ends) = Vec::with_capacity(alloc, tasks) else {
+        dismiss_all(rt, pool);
+        return Err(Fault::OutOfMemory);
+    };
+    match pool.run(rt, workers) {
+        None => end_all(rt, pool, ends),
+        Some(fault) => {
+            dismiss_all(rt, pool);
+            Err(fault)
+        }
+    }
+}
+
+/// Lets all tasks leave, by waiting.
+pub fn dismiss_all<J: Run, G: Gate, W: Wait>(rt: &W, pool: Pool<Slot<'_, J, G>>) {
+    let mut pool = pool;
+    while let Some(Slot { place, gate: _ }) = pool.pop() {
+        place.dismiss(rt);
+    }
+    pool.destroy_empty();
+}
+
+// Takes a task apart, and puts what it leaves behind to the others.
+fn end_one<'a, J: Run, W: Wait>(
+    rt: &W,
+    place: Place<'a, J>,
+    ends: &mut Vec<Option<Ended<'a>>>,
+) -> Result<(), Fault>
+    ensures many { OnOk result (length ends.new.items ≡ length ends.old.items + 1) }
+    ensures ended { OnOk result (AreEnded J.job J.spots ends.old.items
+        → AreEnded J.job J.spots ends.new.items) }
+{
+    let end = place.end(rt)?;
+    if ends.reserve(1).is_err() {
+        return Err(Fault::OutOfMemory);
+    }
+    ends.push_reserved(end);
+    Ok(())
+}
+
+// Takes all tasks apart. Where one has not left, all the others leave, by waiting.
+fn end_all<'a, J: Run, G: Gate, W: Wait>(
+    rt: &W,
+    pool: Pool<Slot<'a, J, G>>,
+    ends: Vec<Option<Ended<'a>>>,
+) -> Result<Vec<Option<Ended<'a>>>, Fault>
+    requires none { ends.items ≡ [] }
+    ensures many { IfOk result (λ ends. length ends.items ≡ pool.entry) }
+    ensures ended { IfOk result (λ ends. AreEnded J.job J.spots ends.items) }
+{
+    let mut pool = pool;
+    let mut ends = ends;
+    while let Some(Slot { place, gate: _ }) = pool.pop() {
+        if let Err(fault) = end_one(rt, place, &mut ends) {
+            dismiss_all(rt, pool);
+            return Err(fault);
+        }
+    }
+    pool.destroy_empty();
+    Ok(ends)
+}

@@ -1,0 +1,127 @@
+//! A task of a graph in a pool of workers.
+ghost use Rattle.std.specs.Prelude.{◌≡◌, IfOk, IfSome};
+ghost use Rattle.graph_tasks.specs.Ends.{IsEnded};
+
+use graph_tasks::{Ended, Gate, Run, Seed, Task};
+use std::mem;
+use std::sync::Wait;
+use worker_pool::{Fault, Turned, Work};
+
+/// A task of a graph, or its place before it is born.
+///
+/// **End.** It cannot be thrown away. `dismiss` and `end` end it.
+pub enum Place<'a, J: Run> {
+    /// A task that was born.
+    Task(Task<'a, J>),
+    /// A child that its parent has not registered.
+    Seed(Seed<'a>),
+    /// A seed that was taken out.
+    Empty,
+}
+
+impl<'a, J: Run> Place<'a, J> {
+    /// Tells whether it is a task that was born.
+    pub fn is_task(&self) -> bool {
+        matches!(self, Place::Task(_))
+    }
+
+    // Takes what is in it.
+    fn take(&mut self) -> Place<'a, J>
+        ensures taken { result ≡ self.old }
+        ensures empty { self.new ≡ Place.Empty }
+    {
+        mem::replace(self, Place::Empty)
+    }
+
+    // Makes the task of a child that its parent has registered.
+    fn become_child(&mut self, parent: &mut Task<'a, J>) -> bool {
+        let (place, is_child) = match self.take() {
+            Place::Seed(seed) => match parent.deliver(seed) {
+                Ok(task) => (Place::Task(task), true),
+                Err(seed) => (Place::Seed(seed), false),
+            },
+            other => (other, false),
+        };
+        match mem::replace(self, place) {
+            Place::Empty => is_child,
+            _ => unreachable!(),
+        }
+    }
+
+    /// Leaves all phasers, by waiting, and forgets all.
+    pub fn dismiss<W: Wait>(self, rt: &W) {
+        match self {
+            Place::Task(task) => task.dismiss(rt),
+            Place::Seed(seed) => seed.dismiss(rt),
+            Place::Empty => {}
+        }
+    }
+
+    /// Gives what the task leaves behind, or nothing where it never came. `Err` tells that it has not
+    /// left all its phasers; then it leaves them, by waiting.
+    pub fn end<W: Wait>(self, rt: &W) -> Result<Option<Ended<'a>>, Fault>
+        ensures { IfOk result (λ end. IfSome end (IsEnded J.job J.spots)) }
+    {
+        match self {
+            Place::Task(task) => match task.end(rt) {
+                Ok(ended) => Ok(Some(ended)),
+                Err(task) => {
+                    task.dismiss(rt);
+                    Err(Fault::Stalled)
+                }
+            },
+            Place::Seed(seed) => {
+                seed.dismiss(rt);
+                Ok(None)
+            }
+            Place::Empty => Ok(None),
+        }
+    }
+}
+
+/// A task of a graph in a pool of workers, with the gate that it calls.
+///
+/// **End.** It cannot be thrown away, since its task cannot.
+pub struct Slot<'a, J: Run, G: Gate> {
+    pub place: Place<'a, J>,
+    pub gate: &'a G,
+}
+
+// How far a task came, for the workers.
+fn turned(turned: graph_tasks::Turned) -> Turned {
+    match turned {
+        graph_tasks::Turned::Moved(phaser) => Turned::Moved(phaser),
+        graph_tasks::Turned::Ready => Turned::Ready,
+        graph_tasks::Turned::Blocked(phaser) => Turned::Blocked(phaser),
+        graph_tasks::Turned::Busy => Turned::Busy,
+        graph_tasks::Turned::Born(child) => Turned::Born(child),
+        graph_tasks::Turned::Gone => Turned::Gone,
+        graph_tasks::Turned::TooBig => Turned::Failed(Fault::TooBig),
+        graph_tasks::Turned::OutOfMemory => Turned::Failed(Fault::OutOfMemory),
+        graph_tasks::Turned::Stuck => Turned::Failed(Fault::Stalled),
+    }
+}
+
+impl<'a, J: Run, G: Gate> Work for Slot<'a, J, G> {
+    fn phasers(&self) -> u64 {
+        match &self.place {
+            Place::Task(task) => task.phasers(),
+            _ => 0,
+        }
+    }
+
+    fn turn(&mut self) -> Turned {
+        let gate = self.gate;
+        match &mut self.place {
+            Place::Task(task) => turned(task.turn(gate)),
+            _ => Turned::Failed(Fault::Stalled),
+        }
+    }
+
+    fn bring(&mut self, child: &mut Slot<'a, J, G>) -> bool {
+        match &mut self.place {
+            Place::Task(task) => child.place.become_child(task),
+            _ => false,
+        }
+    }
+}
