@@ -1,0 +1,5 @@
+pub mod Added
+pub mod Agreed
+pub mod Ending
+pub mod Gathered
+pub mod TakingIn

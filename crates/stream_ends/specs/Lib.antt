@@ -1,0 +1,4 @@
+pub mod Agreeing
+pub mod Gatherings
+pub mod Joinings
+pub mod TaskLefts
