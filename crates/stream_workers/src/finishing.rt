@@ -3,15 +3,15 @@ ghost use Rattle.std.specs.Prelude.{◌≡◌, [], ℕ, Ok, Some, length, map, g
 ghost use Rattle.graph_ends.specs.TaskEnds.{HasLeftAt};
 ghost use Rattle.graph_members.specs.Members.{Spot};
 ghost use Rattle.graph_openings.specs.Openings.{HaveFoundersLeft};
-ghost use Rattle.graph_tasks.specs.Ends.{IsEnded, given_to as given_by};
+ghost use Rattle.graph_tasks.specs.Ends.{IsEnded};
 ghost use Rattle.graph_tasks.specs.declared.ended.Ended.{Ended as EndedValue};
-ghost use Rattle.stream_ends.specs.TaskLefts.{IsTaskLeft, AreFounders, given_to};
+ghost use Rattle.stream_ends.specs.TaskLefts.{IsTaskLeft};
 ghost use Rattle.stream_ends.specs.Joinings.{IsAt};
 ghost use Rattle.stream_ends.specs.declared.task_left.TaskLeft.{TaskLeft as TaskLeftValue};
 ghost use Rattle.stream_eval.specs.Results.{sink_values};
 ghost use Rattle.stream_lists.specs.Jobs.{Job as JobValue};
 ghost use Rattle.stream_lists.specs.Ranges.{answer_of};
-ghost use Rattle.stream_workers.specs.Finishings.{Follows};
+ghost use Rattle.stream_workers.specs.Finishings.{Follows, given_on};
 
 use graph_members::AnyLeft;
 use graph_openings::FounderLeft;
@@ -23,8 +23,7 @@ use stream_lists::Job;
 
 /// The numbers that a task gave to its children.
 fn given_of(alloc: Global, children: Vec<Child>) -> Result<Vec<Given>, AllocError>
-    ensures { IfOk result (λ given. (c : ℕ)
-        → given_to given.items c ≡ given_by children.items c) }
+    ensures { IfOk result (λ given. given.items ≡ map given_on children.items) }
 {
     let mut given = Vec::with_capacity(alloc, children.len())?;
     for child in children {
