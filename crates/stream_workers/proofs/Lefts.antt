@@ -1,15 +1,13 @@
 -- What a task and the founders leave behind is what the end asks for.
-use Rattle.std.proofs.Common.{◌≡◌, ℕ, ℤ, zero, suc, ◌+◌, ◌<◌, List, [], ◌∷◌, ◌++◌, Bool, true, false, length, map, Option, Some, None, eqb, refl, sym, ap, subst, ◌∙◌, arith}
+use Rattle.std.proofs.Common.{◌≡◌, ℕ, ℤ, zero, suc, ◌<◌, List, [], ◌∷◌, ◌++◌, length, map, Option, Some, None, refl, sym, ap, subst, ◌∙◌, arith}
 use Rattle.std.specs.Global.{Global}
 use Rattle.std.specs.Prelude.{Vec, slice_get, get_or, ◌==◌, if◌then◌else◌}
-use Rattle.std.proofs.lemmas.List.{length-append}
 use Rattle.phase_history.specs.Histories.{History}
 use Rattle.stream_lists.specs.Jobs.{Job}
 use Rattle.graph_members.specs.Members.{Spot}
 use Rattle.graph_members.specs.AnyMembers.{left_in}
 use Rattle.graph_members.specs.declared.any_left.AnyLeft.{AnyLeft}
 use Rattle.graph_moments.specs.Moments.{Moment}
-use Rattle.graph_turns.specs.TaskPlaces.{registration_at}
 use Rattle.graph_ends.specs.TaskEnds.{HasLeftAt, HasNumbers, HasFoundedAndLeft}
 use Rattle.graph_openings.specs.Openings.{HaveFoundersLeft}
 use Rattle.graph_openings.specs.declared.founder.FounderLeft.{FounderLeft}
@@ -17,7 +15,7 @@ use Rattle.graph_tasks.specs.Ends.{IsEnded, IsLeftOn, given_to as given_by}
 use Rattle.graph_tasks.specs.declared.child.Child.{Child}
 use Rattle.graph_tasks.specs.declared.ended.Ended.{Ended}
 use Rattle.stream_ends.specs.Joinings.{IsAt}
-use Rattle.stream_ends.specs.TaskLefts.{given_to, IsLeftOf, IsTaskLeft, IsFounderLeft, AreFounders}
+use Rattle.stream_ends.specs.TaskLefts.{given_to, IsLeftOf, IsTaskLeft, AreFounders}
 use Rattle.stream_ends.specs.declared.task_left.TaskLeft.{TaskLeft}
 use Rattle.stream_workers.specs.Finishings.{Follows}
 

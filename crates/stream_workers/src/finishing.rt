@@ -62,10 +62,7 @@ fn task_left<'a>(alloc: Global, ended: Ended<'a>) -> Result<TaskLeft<'a>, AllocE
 }
 
 /// The same of a task that may not have come.
-fn left_of<'a>(
-    alloc: Global,
-    ended: Option<Ended<'a>>,
-) -> Result<Option<TaskLeft<'a>>, AllocError>
+fn left_of<'a>(alloc: Global, ended: Option<Ended<'a>>) -> Result<Option<TaskLeft<'a>>, AllocError>
     ensures { IfOk result (λ left. (job : JobValue) (spots : ℕ → Spot)
         → Follows job spots ended.entry left) }
 {
@@ -109,7 +106,10 @@ fn founders_left<'a>(
     let mut lefts = Vec::with_capacity(alloc, founders.len())?;
     let mut gave = Vec::with_capacity(alloc, founders.len())?;
     for founder in founders {
-        let FounderLeft { left, gave: numbers } = founder;
+        let FounderLeft {
+            left,
+            gave: numbers,
+        } = founder;
         lefts.push(Some(left))?;
         gave.push(numbers)?;
     }

@@ -5,8 +5,8 @@ ghost use Rattle.stream_eval.specs.Results.{sink_values};
 ghost use Rattle.stream_lists.specs.Ranges.{answer_of, first_too_big};
 ghost use Rattle.graph_base.specs.declared.place.Place.{Place as PlaceValue};
 
-use crate::finishing::finish_run;
 use crate::behind::{Behind, run_on};
+use crate::finishing::finish_run;
 use graph_base::Place;
 use graph_members::{AnyPhaser, AnyReg};
 use graph_openings::open_phasers;
@@ -97,8 +97,8 @@ fn run_named<'a, J: Run + Send + Sync, G: Gate + Sync, R: Threads + Wait + Sync>
 /// sink in the order of the lines. The gate is called once a step, as a worker enters it.
 ///
 /// It takes memory for the phasers, the tasks and the sinks' values, and waits. `Stalled` is said
-/// where every task that is left waits for another, and nothing is promised of it; it is not
-/// promised that a run comes back.
+/// where every task that is left waits for another, and where a task has to register a child, which
+/// is not built yet; nothing is promised of it. It is not promised that a run comes back.
 pub fn run<R: Threads + Wait + Sync, G: Gate + Sync>(
     rt: &R,
     alloc: Global,

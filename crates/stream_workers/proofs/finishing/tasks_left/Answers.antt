@@ -1,5 +1,5 @@
 -- The one that is taken out has left, and is put behind the others.
-use Rattle.std.proofs.Common.{sym, subst, refl, arith, length, ap, ◌∙◌, ◌++◌, ◌∷◌, []}
+use Rattle.std.proofs.Common.{sym, subst, arith, length, ap, ◌∷◌, []}
 use Rattle.std.proofs.lemmas.List.{length-append}
 use Rattle.stream_workers.proofs.Lefts.{AllEnded, AllLeft, one_more, all_before}
 use Rattle.stream_workers.proofs.finishing.tasks_left.Goals as goal
@@ -11,11 +11,11 @@ loop-ended-preserved c =
     let one = length-append c.loop-ended.lefts.items (c.in_ok-left_of.field-0 ∷ []) in
     let rest = length-append c.pop.new.self.items (c.in-Some.ended ∷ []) in (
       (
-        let a = ap length taken in
-        let b = ap length put in
-        let all = c.loop-ended.invariant.0 in
-        omega arith
-      ),
+          let a = ap length taken in
+          let b = ap length put in
+          let all = c.loop-ended.invariant.0 in
+          omega arith
+          ),
       λ job spots ended.
           let before = c.loop-ended.invariant.1 job spots ended in
           let tasks =
