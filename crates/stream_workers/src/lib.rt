@@ -1,12 +1,25 @@
 //! Runs of a graph on worker threads, which meet only at phasers.
+//!
+//! `run` opens the phasers of a job's graph, lets their founders register the tasks, and goes on with
+//! the tasks by worker threads. Each task is with one worker at a time, and what is known of it crosses
+//! the workers' locks in its type. Where all have left, what they have seen of each phaser is joined,
+//! and the lists of the sinks are the answer.
+//!
+//! ```text
+//! let lines = run(&rt, alloc, &job, 4, &Open)?;      // the lists of the sinks
+//! ```
+//!
+//! Proved: that an answer `Ok` is the answer of the job, whatever the workers' turns were, and that
+//! `TooBig` names the first value out of range. Only tested: that a run comes back, and that `Stalled`
+//! and `OutOfMemory` are said only where they are so. Tasks that have a parent are not run yet.
 #![tactic(auto)]
 
+mod behind;
 mod endings;
+mod finishing;
 mod opening;
-mod run;
 mod slot;
+mod whole;
 
-pub use endings::run_slots;
-pub use opening::open_pool;
-pub use run::{Behind, run_on};
-pub use slot::{Place, Slot};
+pub use graph_tasks::{Gate, Open};
+pub use whole::{RunFault, run};

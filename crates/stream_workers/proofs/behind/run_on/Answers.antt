@@ -3,7 +3,7 @@ use Rattle.std.proofs.Common.{sym, ap, subst, ◌∙◌, length}
 use Rattle.std.specs.Prelude.{drop}
 use Rattle.graph_openings.specs.Openings.{AreFounders}
 use Rattle.stream_workers.proofs.Grown.{written}
-use Rattle.stream_workers.proofs.run.run_on.Goals as goal
+use Rattle.stream_workers.proofs.behind.run_on.Goals as goal
 
 pub returns-clause-founders : goal.returns-clause-founders
 returns-clause-founders g c =

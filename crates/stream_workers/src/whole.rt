@@ -1,0 +1,117 @@
+//! Whole runs of a graph on worker threads.
+ghost use Rattle.std.specs.Prelude.{◌≡◌, ℕ, Some, Ok, Err, map, IfOk};
+ghost use Rattle.graph_openings.specs.Openings.{ArePhasers, AreFoundersFrom, spot_at};
+ghost use Rattle.stream_eval.specs.Results.{sink_values};
+ghost use Rattle.stream_lists.specs.Ranges.{answer_of, first_too_big};
+ghost use Rattle.graph_base.specs.declared.place.Place.{Place as PlaceValue};
+
+use crate::behind::{Behind, run_on};
+use crate::finishing::finish_run;
+use graph_base::Place;
+use graph_members::{AnyPhaser, AnyReg};
+use graph_openings::open_phasers;
+use graph_tasks::{Gate, Run};
+use std::alloc::Global;
+use std::marker::Brand;
+use std::sync::Wait;
+use std::thread::Threads;
+use stream_eval::{EvalFault, Lines, eval};
+use stream_lists::Job;
+use thiserror::Error;
+use worker_pool::Fault;
+
+/// Why a run gives no lines.
+#[derive(Clone, Copy, Debug, PartialEq, Eq, Error)]
+pub enum RunFault {
+    /// A value is out of range: the first one in the order of the phasers' lines.
+    #[error("{place:?}: the value of phase or step {phase} is out of range")]
+    TooBig {
+        /// The phaser of the value, or the filter or peer that made it.
+        place: Place,
+        /// The phase on the phaser, or the step of the task.
+        phase: usize,
+    },
+    /// Every task that was not done waited for another.
+    #[error("stalled")]
+    Stalled,
+    /// There was no memory.
+    #[error("out of memory")]
+    OutOfMemory,
+}
+
+/// Which value of a job is the first that is out of range, where one was met.
+fn too_big(alloc: Global, job: &Job) -> RunFault
+    ensures { (place : PlaceValue) (n : ℕ) → result ≡ RunFault.TooBig place n
+        → first_too_big job.now ≡ Some (place, n) }
+{
+    match eval(alloc, job) {
+        Err(EvalFault::TooBig { place, phase }) => RunFault::TooBig { place, phase },
+        Err(EvalFault::OutOfMemory) => RunFault::OutOfMemory,
+        Ok(_) => RunFault::Stalled,
+    }
+}
+
+/// Why a run ended before all its tasks were done.
+fn fault_of(alloc: Global, job: &Job, fault: Fault) -> RunFault
+    ensures { (place : PlaceValue) (n : ℕ) → result ≡ RunFault.TooBig place n
+        → first_too_big job.now ≡ Some (place, n) }
+{
+    match fault {
+        Fault::TooBig => too_big(alloc, job),
+        Fault::Stalled => RunFault::Stalled,
+        Fault::OutOfMemory => RunFault::OutOfMemory,
+    }
+}
+
+/// Runs a job on these phasers to its end.
+fn run_named<'a, J: Run + Send + Sync, G: Gate + Sync, R: Threads + Wait + Sync>(
+    rt: &R,
+    alloc: Global,
+    job: &'a Job,
+    phasers: &'a [AnyPhaser],
+    regs: Vec<AnyReg>,
+    workers: usize,
+    gate: &'a G,
+) -> Result<Vec<Lines>, RunFault>
+    requires job { job.now ≡ J.job }
+    requires spots { spot_at phasers.now ≡ J.spots }
+    requires phasers { ArePhasers J.job phasers.now }
+    requires founders { AreFoundersFrom 0 phasers.now regs.items }
+    ensures done { IfOk result (λ lines. answer_of job.now ≡ Ok (map sink_values lines.items)) }
+    ensures too_big { (place : PlaceValue) (n : ℕ) → result ≡ Err (RunFault.TooBig place n)
+        → first_too_big job.now ≡ Some (place, n) }
+{
+    let behind = match run_on::<J, G, R>(rt, alloc, job, phasers, regs, workers, gate) {
+        Ok(behind) => behind,
+        Err(fault) => return Err(fault_of(alloc, job, fault)),
+    };
+    let Behind { founders, tasks } = behind;
+    match finish_run::<J>(alloc, job, founders, tasks) {
+        Ok(Some(lines)) => Ok(lines),
+        Ok(None) => Err(RunFault::Stalled),
+        Err(_) => Err(RunFault::OutOfMemory),
+    }
+}
+
+/// Runs a job by so many worker threads, of which the caller's is one, and gives the values of each
+/// sink in the order of the lines. The gate is called once a step, as a worker enters it.
+///
+/// It takes memory for the phasers, the tasks and the sinks' values, and waits. `Stalled` is said
+/// where every task that is left waits for another, and where a task has to register a child, which
+/// is not built yet; nothing is promised of it. It is not promised that a run comes back.
+pub fn run<R: Threads + Wait + Sync, G: Gate + Sync>(
+    rt: &R,
+    alloc: Global,
+    job: &Job,
+    workers: usize,
+    gate: &G,
+) -> Result<Vec<Lines>, RunFault>
+    ensures done { IfOk result (λ lines. answer_of job.now ≡ Ok (map sink_values lines.items)) }
+    ensures too_big { (place : PlaceValue) (n : ℕ) → result ≡ Err (RunFault.TooBig place n)
+        → first_too_big job.now ≡ Some (place, n) }
+{
+    let Ok((phasers, regs)) = open_phasers(rt, alloc, job) else {
+        return Err(RunFault::OutOfMemory);
+    };
+    run_named::<Brand, G, R>(rt, alloc, job, &phasers, regs, workers, gate)
+}
