@@ -356,7 +356,7 @@ made_so job machine m t j e state next at found owes value =
         it.lacks j few ∙ ap (λ o. length (m.put t j) + lacking (task_at job.graph t).kind o j) owes in
         let one : lacking (task_at job.graph t).kind (places.value j (Err e)) j ≡ 1 =
         rw (eq-eqb j j refl) refl in
-        let many = made_many job m t j at.graph at.reached.ran there few in
+        let many = made_many job m t j at.graph (at.reached.ran.tasks t there) there few in
         let all = made_puts (task_at job.graph t) (m.begun t) j made in
         let begun = it.begun in (
           out ∙ ap (λ b. cond b (answers.has_made (place.Task t, length (m.put t j))) is_refused) made,
