@@ -1,8 +1,10 @@
-//! Tests of runs on worker threads, by their public calls: of `worker_pool`. They stand in a crate of
-//! their own, since a crate is proved anew with its tests.
+//! Tests of runs on worker threads, by their public calls: of `worker_pool` and `stream_workers`. They
+//! stand in a crate of their own, since a crate is proved anew with its tests.
 #![tactic(auto)]
 
 #[cfg(test)]
 mod pools;
+#[cfg(test)]
+mod runs;
 #[cfg(test)]
 mod toys;
