@@ -51,24 +51,24 @@ fn a_filter(rt: HostRuntime) -> Result<(), Fail> {
     Ok(())
 }
 
-/// Whether an evaluation for the sink of a name ends with this status, output and line.
-fn evaluates_one(
+const SINKS: &str = "phaser X sum 4\nsource s s.csv -> X\nsink out X\nsink late X by out at 2\n\
+    sink never X by out at 4\n";
+
+/// Whether these words on the graph of three sinks end with this status, output and line.
+fn ends_with(
     alloc: Global,
-    graph: &str,
-    sink: &str,
+    words: &[&str],
     status: u8,
     output: &str,
     line: &str,
 ) -> Result<bool, Fail> {
     let samples = [("s.csv", "1\n2\n3\n4\n")];
     let mut files = Held {
-        graph,
+        graph: SINKS,
         samples: samples.as_slice(),
     };
-    let words = ["eval", "g", "--sink", sink];
     let mut out = Vec::new(alloc);
     let mut told = Vec::new(alloc);
-    let words = words.as_slice();
     let ended = status_of(alloc, words, Broken, &mut out, &mut told, &mut files)?;
     let is_told = told.as_slice() == line.as_bytes();
     Ok(ended == status && out.as_slice() == output.as_bytes() && is_told)
@@ -76,20 +76,33 @@ fn evaluates_one(
 
 #[test]
 fn one_sink_alone(rt: HostRuntime) -> Result<(), Fail> {
-    let two = "phaser X sum 4\nsource s s.csv -> X\nsink out X\nsink late X by out at 2\n\
-        sink never X by out at 4\n";
-    assert!(rt; evaluates_one(rt.alloc(), two, "out", 0, "1\n2\n3\n4\n", "")?);
-    assert!(rt; evaluates_one(rt.alloc(), two, "late", 0, "3\n4\n", "")?);
-    assert!(rt; evaluates_one(rt.alloc(), two, "never", 0, "", "")?);
-    for name in ["s", "X", "la", "later", "bogus", ""] {
-        let mut line = String::from_str(rt.alloc(), "phase: no sink ")?;
-        line.push_str(name)?;
-        line.push_str("\n")?;
-        assert!(rt;
-            evaluates_one(rt.alloc(), two, name, 1, "", line.as_str())?,
-            "at {name}"
-        );
-    }
+    let out = ["eval", "g", "--sink", "out"];
+    assert!(rt; ends_with(rt.alloc(), out.as_slice(), 0, "1\n2\n3\n4\n", "")?);
+    let late = ["eval", "g", "--sink=late"];
+    assert!(rt; ends_with(rt.alloc(), late.as_slice(), 0, "3\n4\n", "")?);
+    let never = ["eval", "--sink", "never", "g"];
+    assert!(rt; ends_with(rt.alloc(), never.as_slice(), 0, "", "")?);
+    Ok(())
+}
+
+#[test]
+fn a_name_that_no_sink_has(rt: HostRuntime) -> Result<(), Fail> {
+    let source = ["eval", "g", "--sink", "s"];
+    assert!(rt; ends_with(rt.alloc(), source.as_slice(), 1, "", "phase: no sink s\n")?);
+    let phaser = ["eval", "g", "--sink", "X"];
+    assert!(rt; ends_with(rt.alloc(), phaser.as_slice(), 1, "", "phase: no sink X\n")?);
+    let shorter = ["eval", "g", "--sink", "la"];
+    assert!(rt; ends_with(rt.alloc(), shorter.as_slice(), 1, "", "phase: no sink la\n")?);
+    let longer = ["eval", "g", "--sink", "later"];
+    assert!(rt;
+        ends_with(
+            rt.alloc(),
+            longer.as_slice(),
+            1,
+            "",
+            "phase: no sink later\n"
+        )?
+    );
     Ok(())
 }
 
