@@ -1,0 +1,139 @@
+-- What the code of a task keeps: a moment of the task's own, at which each of its registrations has
+-- just the history that it has seen.
+use Rattle.std.specs.Prelude.{◌≡◌, ℕ, ◌+◌, ◌<◌, ◌≤◌, List, [], ◌∷◌, length, get_or, slice_get, Some, None, true, false}
+use Rattle.graph_base.specs.declared.line.Parent.{Parent}
+use Rattle.graph_base.specs.declared.line.Kind.TheVariants.{Sink}
+use Rattle.graph_base.specs.Graphs.{task_at, phaser_at}
+use Rattle.graph_base.specs.TaskLines.{IsGraph}
+use Rattle.stream_lists.specs.Jobs.{Job, samples_at}
+use Rattle.graph_moments.specs.Moments.{Moment, HasEnded, limits_at}
+use Rattle.graph_members.specs.Members.{Spot, limits_on}
+use Rattle.graph_members.specs.AnyMembers.{member_in, member_op, left_in, left_op}
+use Rattle.graph_members.specs.declared.any_member.AnyMember.{AnyMember}
+use Rattle.graph_members.specs.declared.any_left.AnyLeft.{AnyLeft}
+use Rattle.graph_turns.specs.Nexts.{registrations_at, is_cut}
+use Rattle.graph_turns.specs.TaskPlaces as turns
+use Rattle.graph_turns.specs.TaskPlaces.{TaskPlace, StandsAt, registration_at}
+use Rattle.graph_steps.specs.Steps.{owed_of, HasFilter}
+use Rattle.graph_steps.specs.declared.owed.Owed.TheVariants.{Nothing}
+use Rattle.graph_parts.specs.Parts.{HasPart}
+use Rattle.graph_parts.specs.Places.{HasChildrenBy}
+use Rattle.graph_tasks.specs.declared.child.Child.{Child}
+use Rattle.graph_tasks.specs.declared.hold.Hold.{Hold}
+use Rattle.graph_tasks.specs.declared.hold.Hold.TheVariants.{On, Gone}
+use Rattle.graph_tasks.specs.declared.task_state.TaskState.{TaskState}
+
+-- ---- registrations
+
+-- at this moment a registration is that of task t on phaser p, and has seen the phaser's history
+pub record IsOn (job : Job) (spots : ℕ → Spot) (m : Moment) (t p : ℕ) (x : AnyMember) : Type
+    0 where
+  pub op : member_op x ≡ (phaser_at job.graph p).op
+  pub at : (member_in x).at ≡ spots p
+  pub limits : limits_on (spots p) ≡ limits_at job p
+  pub numbered : m.number p t ≡ Some (member_in x).number
+  pub seen : (member_in x).seen ≡ m.history p
+
+-- the same of a task that has left the phaser
+pub record HasLeftOn (job : Job) (spots : ℕ → Spot) (m : Moment) (t p : ℕ) (l : AnyLeft) : Type
+    0 where
+  pub op : left_op l ≡ (phaser_at job.graph p).op
+  pub at : (left_in l).at ≡ spots p
+  pub limits : limits_on (spots p) ≡ limits_at job p
+  pub number : ℕ
+  pub numbered : m.number p t ≡ Some number
+  pub numbers : (left_in l).numbers ≡ number ∷ []
+  pub seen : (left_in l).seen ≡ m.history p
+
+-- a hold has such a registration
+abbrev pub IsHeldOn : Job → (ℕ → Spot) → Moment → ℕ → ℕ → Hold → Type 0
+IsHeldOn job spots m t p (On x) = IsOn job spots m t p x
+IsHeldOn job spots m t p Gone = ⊥
+
+-- task t has these holds, and has left the first of its phasers
+pub record HasHolds (job : Job) (spots : ℕ → Spot) (m : Moment) (t : ℕ) (holds : List Hold)
+    (lefts : List AnyLeft) : Type 0 where
+  pub on : (i : ℕ) → i < length (registrations_at job t) → length lefts ≤ i
+      → IsHeldOn job spots m t (registration_at job t i).phaser (get_or holds i Gone)
+  pub off : (i : ℕ) (left : AnyLeft) → slice_get lefts i ≡ Some left
+      → HasLeftOn job spots m t (registration_at job t i).phaser left
+
+-- ---- children
+
+-- these are the children of task t
+abbrev pub KnowsChildren : Job → ℕ → List Child → Type 0
+KnowsChildren job t children = (c : ℕ) (u : Parent) → c < length job.graph.tasks
+    → (task_at job.graph c).parent ≡ Some u → u.task ≡ t
+    → (i : ℕ) × ((child : Child) × (slice_get children i ≡ Some child) × (child.task ≡ c)
+    × (child.at ≡ u.at))
+
+-- each of these children has the numbers that its parent gave it, and no others
+abbrev pub HasGivenNumbers : Job → Moment → List Child → Type 0
+HasGivenNumbers job m children = (i k : ℕ) (child : Child) → slice_get children i ≡ Some child
+    → k < length (registrations_at job child.task)
+    → m.number (registration_at job child.task k).phaser child.task
+    ≡ slice_get child.numbers.items k
+
+-- ---- the whole
+
+-- the place of a task in this state
+abbrev pub place_of : TaskState → TaskPlace
+place_of s = record {
+  numbers = s.numbers.items;
+  left = length s.lefts.items;
+  begun = s.begun;
+  owed = owed_of s.owed;
+}
+
+-- a task that makes no further step has ended: it owes nothing, and its children that come now are
+-- all there
+pub record IsAtEnd (job : Job) (m : Moment) (s : TaskState) : Type 0 where
+  pub ended : HasEnded job m s.number
+  pub nothing_owed : owed_of s.owed ≡ turns.nothing
+  pub children : HasChildrenBy job m s.number s.begun
+
+-- a task in this state at a moment of its own
+pub record IsTaskAt (job : Job) (spots : ℕ → Spot) (m : Moment) (s : TaskState) : Type 0 where
+  pub part : HasPart job m s.number
+  pub place : StandsAt job m s.number (place_of s)
+  pub holds : HasHolds job spots m s.number s.holds.items s.lefts.items
+  pub filter : HasFilter (task_at job.graph s.number) s.filter (m.taken s.number 0)
+  pub lines : (task_at job.graph s.number).kind ≡ Sink → s.lines.items ≡ m.taken s.number 0
+  pub given : HasGivenNumbers job m s.children.items
+  pub at_end : s.over ≡ true → IsAtEnd job m s
+
+-- what holds of a task always, whatever it met
+pub record IsWhole (job : Job) (s : TaskState) : Type 0 where
+  pub graph : IsGraph job.graph
+  pub there : s.number < length job.graph.tasks
+  pub samples : s.samples.now ≡ samples_at job s.number
+  pub numbers : length s.numbers.items ≡ length (registrations_at job s.number)
+  pub holds : length s.holds.items ≡ length (registrations_at job s.number)
+  pub children : KnowsChildren job s.number s.children.items
+  pub staying : s.over ≡ false → length s.lefts.items ≡ 0
+  -- what it has seen of each phaser finds room
+  pub room : length (registrations_at job s.number) ≤ s.lefts.cap
+
+-- the children of a task that come now are all there, whichever its moment
+abbrev pub HasChildrenNow : Job → TaskState → Type 0
+HasChildrenNow job s = (spots : ℕ → Spot) (m : Moment) → IsTaskAt job spots m s
+    → HasChildrenBy job m s.number s.begun
+
+-- a task of a run in this state: it stands at a moment, but where it met what ends all
+pub record IsTask (job : Job) (spots : ℕ → Spot) (s : TaskState) : Type 0 where
+  pub whole : IsWhole job s
+  pub stands : s.met ≡ false → (m : Moment) × IsTaskAt job spots m s
+
+-- a call of its code keeps it one of its run
+abbrev pub Keeps : Job → TaskState → TaskState → Type 0
+Keeps job old new = (spots : ℕ → Spot) → IsTask job spots old → IsTask job spots new
+
+-- a task at a boundary where no child comes first, and `until` allows a step
+pub record MayStep (job : Job) (s : TaskState) : Type 0 where
+  pub spots : ℕ → Spot
+  pub task : IsTask job spots s
+  pub met : s.met ≡ false
+  pub over : s.over ≡ false
+  pub owed : s.owed ≡ Nothing
+  pub uncut : is_cut (task_at job.graph s.number).until s.begun ≡ false
+  pub children : HasChildrenNow job s

@@ -1,0 +1,24 @@
+//! A task of a graph with its registrations, as it goes from thread to thread: whoever has it makes
+//! its next event. The first calls are `Seed::new`, `Task::root` and `Task::turn`.
+#![tactic(auto)]
+
+mod child;
+mod children;
+mod ended;
+mod gate;
+mod held;
+mod hold;
+mod run;
+mod seed;
+mod task;
+mod task_state;
+mod turn;
+mod turned;
+
+pub use child::Child;
+pub use ended::Ended;
+pub use gate::{Gate, Open};
+pub use run::Run;
+pub use seed::Seed;
+pub use task::Task;
+pub use turned::Turned;

@@ -1,0 +1,22 @@
+//! Which run a task belongs to.
+
+use std::marker::Brand;
+
+/// Which run a task belongs to: its job, and which phaser each of the graph's phasers is.
+pub trait Run {
+    ghost use Rattle.std.specs.Prelude.{ℕ};
+    ghost use Rattle.stream_lists.specs.Jobs.{Job};
+    ghost use Rattle.graph_members.specs.Members.{Spot};
+
+    ghost job: { Job };
+
+    ghost spots: { ℕ → Spot };
+}
+
+impl Run for Brand {
+    ghost use Rattle.graph_tasks.specs.Runs.{no_job, no_spot};
+
+    ghost job = { no_job };
+
+    ghost spots = { λ p. no_spot };
+}
