@@ -6,10 +6,11 @@ use Rattle.phase_history.specs.declared.event.Event.TheVariants.{Made, Registere
 use Rattle.phase_history.specs.Histories.{History, IsBeginning}
 use Rattle.phase_history.specs.Legal.{IsLegal}
 use Rattle.phase_history.specs.Others.{events_of}
+use Rattle.graph_base.specs.declared.line.Parent.{Parent}
 use Rattle.graph_base.specs.Graphs.{task_at}
 use Rattle.graph_base.specs.declared.registration.Registration.{Registration}
 use Rattle.stream_lists.specs.Jobs.{Job}
-use Rattle.graph_moments.specs.Moments.{Moment, limits_at}
+use Rattle.graph_moments.specs.Moments.{Moment, OnLine, limits_at}
 use Rattle.graph_moves.specs.Moves.{SameTask}
 use Rattle.graph_turns.specs.Beginnings.{opening}
 use Rattle.graph_turns.specs.Nexts.{comes_by, registrations_at}
@@ -113,3 +114,16 @@ pub record HasAddedChild (job : Job) (before after : Moment) (t c p a : ℕ) (nu
   pub other_numbers : (q u : ℕ) → (q ≢ p) ⊎ (u ≢ c) → after.number q u ≡ before.number q u
   pub offset : (u : ℕ) → after.offset u ≡ before.offset u
   pub begun : (u : ℕ) → after.begun u ≡ before.begun u
+
+-- ---- other tasks
+
+-- what a moment of task t's own says of others: each begins where it does at the opening of the
+-- run; the children of task t have numbers on the phasers of their lines alone; and no child of a
+-- task behind it has a number
+pub record KnowsOthers (job : Job) (m : Moment) (t : ℕ) : Type 0 where
+  pub offset : (u : ℕ) → m.offset u ≡ (opening job).offset u
+  pub lines : (p c n : ℕ) (u : Parent) → c < length job.graph.tasks
+      → (task_at job.graph c).parent ≡ Some u → u.task ≡ t → m.number p c ≡ Some n
+      → OnLine (task_at job.graph c) p
+  pub unborn : (p d : ℕ) (u : Parent) → d < length job.graph.tasks
+      → (task_at job.graph d).parent ≡ Some u → t < u.task → m.number p d ≡ None

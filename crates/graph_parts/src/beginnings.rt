@@ -6,13 +6,13 @@ ghost use Rattle.graph_base.specs.declared.line.Parent.{Parent};
 ghost use Rattle.graph_base.specs.Graphs.{task_at};
 ghost use Rattle.graph_base.specs.TaskLines.{IsGraph};
 ghost use Rattle.stream_lists.specs.Jobs.{Job};
-ghost use Rattle.graph_moments.specs.Moments.{Moment};
+ghost use Rattle.graph_moments.specs.Moments.{Moment, OnLine};
 ghost use Rattle.graph_turns.specs.Beginnings.{opening};
 ghost use Rattle.graph_turns.specs.Nexts.{registrations_at};
 ghost use Rattle.graph_turns.specs.TaskPlaces.{nothing, TaskPlace, StandsAt, registration_at};
-ghost use Rattle.graph_parts.specs.Parts.{HasPart, SeesOthers, SeesOwn};
+ghost use Rattle.graph_parts.specs.Parts.{HasPart, SeesOthers, SeesOwn, HasMovedOn};
 ghost use Rattle.graph_parts.specs.Places.{IsRootOn, IsFirstMoment, IsJoining, HasNewChild};
-ghost use Rattle.graph_parts.specs.Places.{HasSeenBoth, HasAddedChild};
+ghost use Rattle.graph_parts.specs.Places.{HasSeenBoth, HasAddedChild, KnowsOthers};
 
 use phase_history::Event;
 
@@ -54,4 +54,28 @@ pub fn children_begin()
         → (after : Moment)
         × HasAddedChild job m after t c (registration_at job c (length numbers)).phaser a numbers
         (Event.Registered n a (registration_at job c (length numbers)).mode ∷ before) }
+{}
+
+/// What a task's own moment says of other tasks stays by each of its calls, and is handed on to a
+/// child with the moment. So a child without a number on the phasers of its line has none, and may
+/// be registered by `children_begin`.
+pub fn others_are_known()
+    ensures first { (job : Job) (m : Moment) (t : ℕ) (numbers : List ℕ) (seen : ℕ → History)
+        → IsGraph job.graph → IsFirstMoment job m t numbers seen → KnowsOthers job m t }
+    ensures moved { (job : Job) (m after : Moment) (t p : ℕ) (now : History)
+        → HasMovedOn job m after t p now → KnowsOthers job m t → KnowsOthers job after t }
+    ensures begins { (job : Job) (m after : Moment) (t c : ℕ) → HasNewChild job m after t c []
+        → KnowsOthers job m t → KnowsOthers job after t }
+    ensures registers { (job : Job) (m after : Moment) (t c p a : ℕ) (u : Parent)
+        (numbers : List ℕ) (now : History) → (task_at job.graph c).parent ≡ Some u → u.task ≡ t
+        → OnLine (task_at job.graph c) p → HasAddedChild job m after t c p a numbers now
+        → KnowsOthers job m t → KnowsOthers job after t }
+    ensures child { (job : Job) (m : Moment) (t c : ℕ) (u : Parent) → IsGraph job.graph
+        → c < length job.graph.tasks → (task_at job.graph c).parent ≡ Some u → u.task ≡ t
+        → KnowsOthers job m t → KnowsOthers job m c }
+    ensures nowhere { (job : Job) (m : Moment) (t c : ℕ) (u : Parent) → IsGraph job.graph
+        → c < length job.graph.tasks → (task_at job.graph c).parent ≡ Some u → u.task ≡ t
+        → ((i : ℕ) → i < length (registrations_at job c)
+        → m.number (registration_at job c i).phaser c ≡ None)
+        → KnowsOthers job m t → (p : ℕ) → m.number p c ≡ None }
 {}
