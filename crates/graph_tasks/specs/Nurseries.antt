@@ -1,0 +1,40 @@
+-- A child while its parent registers it: the parent's moment serves both.
+use Rattle.std.specs.Prelude.{◌≡◌, ℕ, ◌<◌, List, length, get_or}
+use Rattle.phase_base.specs.declared.mode.Mode.{Mode}
+use Rattle.phase_history.specs.declared.event.Event.{Event}
+use Rattle.phase_history.specs.declared.event.Event.TheVariants.{Registered}
+use Rattle.phase_history.specs.Histories.{History}
+use Rattle.stream_lists.specs.Jobs.{Job}
+use Rattle.graph_moments.specs.Moments.{Moment}
+use Rattle.graph_members.specs.Members.{Spot}
+use Rattle.graph_members.specs.AnyMembers.{member_in, member_op}
+use Rattle.graph_members.specs.declared.any_member.AnyMember.{AnyMember}
+use Rattle.graph_turns.specs.TaskPlaces.{registration_at}
+use Rattle.graph_parts.specs.Places.{IsJoining}
+use Rattle.graph_ends.specs.TaskEnds.{HasOwnCalls}
+use Rattle.graph_tasks.specs.Holds.{HasMade}
+use Rattle.graph_tasks.specs.Tasks.{IsHeldOn}
+use Rattle.graph_tasks.specs.declared.hold.Hold.{Hold}
+use Rattle.graph_tasks.specs.declared.hold.Hold.TheVariants.{Gone}
+
+-- the registration of a child as this number
+abbrev pub registration_of : ℕ → Mode → ℕ → Event
+registration_of child mode n = Registered n child mode
+
+-- a registration has added a child on its phaser, which has seen what it has
+pub record HasAdded (mode : Mode) (old new child : AnyMember) : Type 0 where
+  pub before : History
+  pub made : HasMade (registration_of (member_in child).number mode) old new before
+  pub op : member_op child ≡ member_op old
+  pub at : (member_in child).at ≡ (member_in old).at
+  pub seen : (member_in child).seen ≡ (member_in new).seen
+
+-- at this moment, which is its parent's, task c has these numbers and these holds, on the first of
+-- its phasers
+pub record IsNursed (job : Job) (spots : ℕ → Spot) (m : Moment) (c : ℕ) (numbers : List ℕ)
+    (nursery : List Hold) : Type 0 where
+  pub joining : IsJoining job m c numbers
+  pub own : HasOwnCalls job m c
+  pub long : length nursery ≡ length numbers
+  pub on : (i : ℕ) → i < length numbers
+      → IsHeldOn job spots m c (registration_at job c i).phaser (get_or nursery i Gone)
