@@ -1,2 +1,6 @@
 mod Holding
 mod Turning
+mod Waiting
+mod Ending
+mod Gone
+mod Nursery

@@ -28,7 +28,7 @@ use Rattle.graph_parts.specs.Parts.{HasMovedOn, SeesOthers, SeesOwn}
 use Rattle.graph_parts.specs.Places.{HasNewChild, HasSeenBoth, HasAddedChild, KnowsOthers}
 use Rattle.graph_parts.proofs.ChildMoments.{with_child, child_is_new, both_see, child_is_added}
 use Rattle.graph_parts.proofs.Parts.{with_history}
-use Rattle.graph_ends.specs.TaskEnds.{IsChildOf, HasOwnCalls}
+use Rattle.graph_ends.specs.TaskEnds.{IsChildOf, HasNumbers, HasOwnCalls}
 use Rattle.graph_ends.proofs.CallsFollow.{calls_begin, calls_wait, calls_registered}
 use Rattle.graph_steps.specs.Steps.{owed_of, HasFilter}
 use Rattle.graph_steps.specs.declared.owed.Owed.TheVariants.{Nothing}
@@ -67,6 +67,16 @@ left_same job spots m after t q left number history off = record {
   numbered = number ∙ off.numbered;
   numbers = off.numbers;
   seen = off.seen ∙ sym history;
+}
+
+-- the numbers that a task has
+numbers_same : (job : Job) (m after : Moment) (t : ℕ) (numbers : List ℕ)
+    → ((q : ℕ) → after.number q t ≡ m.number q t) → HasNumbers job m t numbers
+    → HasNumbers job after t numbers
+numbers_same job m after t numbers same has = record {
+  few = has.few;
+  numbered = λ i lt. same (registration_at job t i).phaser ∙ has.numbered i lt;
+  lines = λ p n at. has.lines p n (sym (same p) ∙ at);
 }
 
 -- all holds of a task, where only registration k has another
@@ -142,7 +152,8 @@ nursery_begins job spots m s c whole at knows child boundary going nowhere =
         };
         filter = subst F (sym (new.same.taken 0)) at.filter;
         lines = λ sink. at.lines sink ∙ sym (new.same.taken 0);
-        given = λ i k kid found less. at.given i k kid found less;
+        given = λ i kid found.
+            numbers_same job m after kid.task kid.numbers.items (λ q. refl) (at.given i kid found);
         at_end = λ over. absurd (let no : false ≡ true = sym going ∙ over in cc);
       },
       record {
@@ -190,9 +201,9 @@ nursery_waits job spots m s c k p numbers nursery old new whole at nursed child 
             (on_after job spots m after t p now old new on goes.same moved refl);
         filter = subst F (sym (both.seen.same.taken 0)) at.filter;
         lines = λ sink. at.lines sink ∙ sym (both.seen.same.taken 0);
-        given = λ i j kid found less.
-            moved.numbers (registration_at job kid.task j).phaser kid.task
-            ∙ at.given i j kid found less;
+        given = λ i kid found.
+            numbers_same job m after kid.task kid.numbers.items (λ q. moved.numbers q kid.task)
+            (at.given i kid found);
         at_end = λ over. absurd (let no : false ≡ true = sym going ∙ over in cc);
       },
       record {
@@ -325,17 +336,24 @@ module _ (job : Job) (spots : ℕ → Spot) (m : Moment) (s : TaskState) (c k : 
     seen = added.seen ∙ added.made.seen ∙ sym has.here;
   }
 
-  -- the numbers of all children
+  -- the numbers of the child
+  numbers_after : HasNumbers job after c (numbers ++ a ∷ [])
+  numbers_after = record {
+    few = has.child.place.few;
+    numbered = λ i lt. has.child.place.numbered i lt;
+    lines = λ q x found. has.child.part.ran.lines q x found;
+  }
+
+  -- and of all children
   given_after : HasGivenNumbers job after kids.items
-  given_after i j kid found less =
+  given_after i kid found =
       by (same_or_apart i given.place (cases_lt i given.place) (cases_lt given.place i))
     where
       looked : slice_get (set s.children.items given.place given.kid) i ≡ Some kid
       looked = ap (λ l. slice_get l i) (sym given.is) ∙ found
 
       by : (i ≡ given.place) ⊎ (i ≢ given.place)
-          → after.number (registration_at job kid.task j).phaser kid.task
-          ≡ slice_get kid.numbers.items j
+          → HasNumbers job after kid.task kid.numbers.items
       by (inl same) =
           let is_kid : given.kid ≡ kid =
           same_Some given.kid kid
@@ -345,16 +363,15 @@ module _ (job : Job) (spots : ℕ → Spot) (m : Moment) (s : TaskState) (c k : 
           let task : kid.task ≡ c = ap (λ (x : Child). x.task) (sym is_kid) ∙ given.task in
           let items : kid.numbers.items ≡ numbers ++ a ∷ [] =
           ap (λ (x : Child). x.numbers.items) (sym is_kid) ∙ given.numbers_are in
-          let L : ℕ → Type 0 = λ x. j < length (registrations_at job x) in
-          ap (λ x. after.number (registration_at job x j).phaser x) task
-          ∙ has.child.place.numbered j (subst L task less)
-          ∙ ap (λ l. slice_get l j) (sym items)
+          let T : ℕ → Type 0 = λ x. HasNumbers job after x kid.numbers.items in
+          let N : List ℕ → Type 0 = λ l. HasNumbers job after c l in
+          subst T (sym task) (subst N (sym items) numbers_after)
       by (inr other) =
           let was : slice_get s.children.items i ≡ Some kid =
           sym (unwritten s.children.items given.place i given.kid other) ∙ looked in
           let task : kid.task ≢ c = λ same. other (given.one i kid was same) in
-          has.other_numbers (registration_at job kid.task j).phaser kid.task (inr task)
-          ∙ at.given i j kid was less
+          numbers_same job m after kid.task kid.numbers.items
+          (λ q. has.other_numbers q kid.task (inr task)) (at.given i kid was)
 
   pub nursery_registers : HasAddedChild job m after t c p a numbers now
       × IsTaskAt job spots after
@@ -430,6 +447,24 @@ start_made ns ms left begun owed a b c d =
     left_at : List ℕ → ℕ → ℕ → turns.Owed → turns.TaskPlace
     left_at ns l b o = record { numbers = ns; left = l; begun = b; owed = o }
 
+-- a child of a child has no number yet
+unnumbered : (job : Job) (m : Moment) (parent c d : ℕ) → IsGraph job.graph
+    → IsChildOf job c parent → IsChildOf job d c → KnowsOthers job m parent
+    → HasNumbers job m d []
+unnumbered job m parent c d is child grandchild knows = record {
+  few = omega arith;
+  numbered = λ i lt.
+      none (registration_at job d i).phaser ∙ sym (slice_get_past [] i (omega arith));
+  lines = λ p n at. absurd (let wrong : Some n ≡ None = sym at ∙ none p in cc);
+}
+  where
+    none : (p : ℕ) → m.number p d ≡ None
+    none p =
+        let low : child.parent.task < c = (parent_of job c child.parent is child.there child.has).above in
+        let above : child.parent.task ≡ parent = child.by in
+        let by : grandchild.parent.task ≡ c = grandchild.by in
+        knows.unborn p d grandchild.parent grandchild.there grandchild.has (omega arith)
+
 no_left : (i : ℕ) (left : AnyLeft) → slice_get [] i ≡ Some left → ⊥
 no_left i left found =
     let wrong : None ≡ Some left = sym (slice_get_past [] i (omega arith)) ∙ found in cc
@@ -467,16 +502,9 @@ child_goes_alone job spots m parent child numbers nursery is of_task knows nurse
       };
       filter = subst F (sym (nursed.joining.nothing_taken 0)) filter;
       lines = λ sink. no_lines ∙ sym (nursed.joining.nothing_taken 0);
-      given = λ i k kid found less.
+      given = λ i kid found.
           (let own = kids i kid found in
-          let of_kid : IsChildOf job kid.task child.number = own.1 in
-          let low : of_task.parent.task < child.number =
-          (parent_of job child.number of_task.parent is of_task.there of_task.has).above in
-          let above : of_task.parent.task ≡ parent = of_task.by in
-          let by : of_kid.parent.task ≡ child.number = of_kid.by in
-          knows.unborn (registration_at job kid.task k).phaser kid.task of_kid.parent of_kid.there
-          of_kid.has (omega arith)
-          ∙ sym (slice_get_past [] k (omega arith))
-          ∙ ap (λ l. slice_get l k) (sym own.0));
+          let N : List ℕ → Type 0 = λ l. HasNumbers job m kid.task l in
+          subst N (sym own.0) (unnumbered job m parent child.number kid.task is of_task own.1 knows));
       at_end = λ over. absurd (let no : false ≡ true = sym going ∙ over in cc);
     }

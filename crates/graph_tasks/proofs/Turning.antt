@@ -24,6 +24,8 @@ use Rattle.graph_turns.specs.TaskPlaces.{StandsAt, registration_at, registration
 use Rattle.graph_parts.specs.Parts.{HasPart, HasSeen, HasPut, HasMovedOn, IsNextValue, put_event}
 use Rattle.graph_parts.specs.Places.{HasChildrenBy, IsNumbered}
 use Rattle.graph_parts.proofs.Parts.{with_history, seen, puts_value}
+use Rattle.graph_ends.specs.TaskEnds.{HasOwnCalls}
+use Rattle.graph_ends.proofs.CallsFollow.{calls_seen, calls_put}
 use Rattle.graph_parts.proofs.FollowsPlace.{seen_follows, put_follows}
 use Rattle.graph_turns.proofs.Signalling.{owed}
 use Rattle.graph_turns.proofs.Standing.{of_output}
@@ -52,8 +54,13 @@ looked_up holds k old less is =
 pub given_stay : (job : Job) (m after : Moment) (t p : ℕ) (now : History) (children : List Child)
     → HasMovedOn job m after t p now → HasGivenNumbers job m children
     → HasGivenNumbers job after children
-given_stay job m after t p now children moved given i k child at less =
-    moved.numbers (registration_at job child.task k).phaser child.task ∙ given i k child at less
+given_stay job m after t p now children moved given i child at =
+    let has = given i child at in
+    let c = child.task in record {
+      few = has.few;
+      numbered = λ k less. moved.numbers (registration_at job c k).phaser c ∙ has.numbered k less;
+      lines = λ q n is. has.lines q n (sym (moved.numbers q c) ∙ is);
+    }
 
 -- nor do those that come at a boundary
 pub children_stay : (job : Job) (m after : Moment) (t p steps : ℕ) (now : History)
@@ -66,42 +73,36 @@ children_stay job m after t p steps now moved have c there comes i less =
 -- ---- others' events
 
 -- the state after others' events were seen on phaser p
-pub state_sees : (job : Job) (spots : ℕ → Spot) (m : Moment) (s : TaskState) (k p : ℕ)
+pub state_sees : (job : Job) (spots : ℕ → Spot) (m after : Moment) (s : TaskState) (k p : ℕ)
     (old new : AnyMember) (lines : Vec ℤ Global) (entered : Bool) → IsWhole job s
     → k < length (registrations_at job s.number) → length s.lefts.items ≤ k
     → (registration_at job s.number k).phaser ≡ p → lines.items ≡ s.lines.items
     → IsTaskAt job spots m s → IsOn job spots m s.number p old → HasSeenOthers old new
-    → (after : Moment)
-    × ((HasSeen job m after s.number p (member_in new).seen)
-    × IsTaskAt job spots after
-    (record s { lines = lines; entered = entered; holds = with_item s.holds k (On new) }))
-state_sees job spots m s k p old new lines entered whole few kept here same at on goes =
+    → HasSeen job m after s.number p (member_in new).seen
+    → IsTaskAt job spots after
+    (record s { lines = lines; entered = entered; holds = with_item s.holds k (On new) })
+state_sees job spots m after s k p old new lines entered whole few kept here same at on goes is_seen =
     let t = s.number in
     let now = (member_in new).seen in
-    let after = with_history p now m in
     let s_o = sees_others job spots m t p old new on goes in
-    let is_seen = seen job m t p (member_in old).number now s_o whole.graph whole.there at.part in (
-      after,
-      (
-        is_seen,
-        record {
-          part = is_seen.moved.part;
-          place = seen_follows job m after t p (place_of s) now at.place is_seen;
-          holds = holds_move job spots m after t k p now s.holds.items s.lefts.items (On new)
-              whole.graph whole.there few here whole.holds kept is_seen.moved at.holds
-              (on_after job spots m after t p now old new on goes.same is_seen.moved refl);
-          filter = subst (λ taken. HasFilter (task_at job.graph t) s.filter taken)
-              (sym (is_seen.same.taken 0)) at.filter;
-          lines = λ sink. same ∙ at.lines sink ∙ sym (is_seen.same.taken 0);
-          given = given_stay job m after t p now s.children.items is_seen.moved at.given;
-          at_end = λ over. let end = at.at_end over in record {
-            ended = is_seen.ended end.ended;
-            nothing_owed = end.nothing_owed;
-            children = children_stay job m after t p s.begun now is_seen.moved end.children;
-          };
-        },
-      ),
-    )
+    record {
+      part = is_seen.moved.part;
+      own = calls_seen job m after t p whole.graph whole.there (member_in old).number now s_o
+          is_seen at.own;
+      place = seen_follows job m after t p (place_of s) now at.place is_seen;
+      holds = holds_move job spots m after t k p now s.holds.items s.lefts.items (On new)
+          whole.graph whole.there few here whole.holds kept is_seen.moved at.holds
+          (on_after job spots m after t p now old new on goes.same is_seen.moved refl);
+      filter = subst (λ taken. HasFilter (task_at job.graph t) s.filter taken)
+          (sym (is_seen.same.taken 0)) at.filter;
+      lines = λ sink. same ∙ at.lines sink ∙ sym (is_seen.same.taken 0);
+      given = given_stay job m after t p now s.children.items is_seen.moved at.given;
+      at_end = λ over. let end = at.at_end over in record {
+        ended = is_seen.ended end.ended;
+        nothing_owed = end.nothing_owed;
+        children = children_stay job m after t p s.begun now is_seen.moved end.children;
+      };
+    }
 
 -- ---- the task's own events
 
@@ -111,7 +112,7 @@ pub state_moves : (job : Job) (spots : ℕ → Spot) (m after : Moment) (s : Tas
     (lines : Vec ℤ Global) (entered : Bool) → IsWhole job s
     → k < length (registrations_at job s.number) → length s.lefts.items ≤ k
     → (registration_at job s.number k).phaser ≡ p → s.over ≡ false → IsTaskAt job spots m s
-    → HasMovedOn job m after s.number p now
+    → HasMovedOn job m after s.number p now → HasOwnCalls job after s.number
     → StandsAt job after s.number
     (record { numbers = s.numbers.items; left = length s.lefts.items; begun = begun; owed = owed_of owed })
     → IsOn job spots after s.number p new
@@ -119,9 +120,10 @@ pub state_moves : (job : Job) (spots : ℕ → Spot) (m after : Moment) (s : Tas
     → ((task_at job.graph s.number).kind ≡ Sink → lines.items ≡ after.taken s.number 0)
     → IsTaskAt job spots after
     (record s { begun = begun; owed = owed; filter = filter; lines = lines; entered = entered; holds = with_item s.holds k (On new) })
-state_moves job spots m after s k p now new begun owed filter lines entered whole few kept here going at moved place on has taken =
+state_moves job spots m after s k p now new begun owed filter lines entered whole few kept here going at moved own place on has taken =
     let t = s.number in record {
       part = moved.part;
+      own = own;
       place = place;
       holds = holds_move job spots m after t k p now s.holds.items s.lefts.items (On new)
           whole.graph whole.there few here whole.holds kept moved at.holds on;
@@ -157,6 +159,7 @@ state_puts job spots m s j k p v old new owed whole few here out going owes then
       after,
       state_moves job spots m after s k p now new s.begun owed s.filter s.lines s.entered
           whole few (omega arith) here going at put.moved
+          (calls_put job m after t p whole.graph whole.there j n (m.begun t) v before sees put at.own)
           (subst (λ o. StandsAt job after t (record { numbers = s.numbers.items; left = length s.lefts.items; begun = s.begun; owed = o }))
           (sym then)
           (put_follows job m after t j p v (place_of s) now whole.graph whole.there at.part at.place left owed_is put))
@@ -179,6 +182,7 @@ whole_moves job s k begun new owed filter lines entered whole = record {
   numbers = whole.numbers;
   holds = length-set s.holds.items k new ∙ whole.holds;
   children = whole.children;
+  are_there = whole.are_there;
   staying = whole.staying;
   room = whole.room;
 }
@@ -217,12 +221,17 @@ task_sees job spots s k p old new lines entered few here kept looked same g task
       let at = (task.stands met).1 in
       let both = goes HasSeenOthers job spots m s.number p old new g
       (held job spots m s k p old task.whole at few here kept looked) in
-      let then = state_sees job spots m s k p both.0 both.1.0 lines entered task.whole few kept here same
-      at both.1.4 both.1.3 in (
-        then.0,
-        subst (λ h. IsTaskAt job spots then.0
+      let now = (member_in both.1.0).seen in
+      let after = with_history p now m in
+      let then = state_sees job spots m after s k p both.0 both.1.0 lines entered task.whole few kept here
+      same at both.1.4 both.1.3
+      (seen job m s.number p (member_in both.0).number now
+      (sees_others job spots m s.number p both.0 both.1.0 both.1.4 both.1.3)
+      task.whole.graph task.whole.there at.part) in (
+        after,
+        subst (λ h. IsTaskAt job spots after
             (record s { lines = lines; entered = entered; holds = with_item s.holds k h }))
-            (sym both.1.2) then.1.1,
+            (sym both.1.2) then,
       );
 }
 

@@ -14,6 +14,7 @@ use Rattle.graph_members.specs.declared.any_left.AnyLeft.{AnyLeft}
 use Rattle.graph_turns.specs.Nexts.{registrations_at, is_cut}
 use Rattle.graph_turns.specs.TaskPlaces as turns
 use Rattle.graph_turns.specs.TaskPlaces.{TaskPlace, StandsAt, registration_at}
+use Rattle.graph_ends.specs.TaskEnds.{HasOwnCalls, HasNumbers}
 use Rattle.graph_steps.specs.Steps.{owed_of, HasFilter}
 use Rattle.graph_steps.specs.declared.owed.Owed.TheVariants.{Nothing}
 use Rattle.graph_parts.specs.Parts.{HasPart}
@@ -69,10 +70,8 @@ KnowsChildren job t children = (c : ℕ) (u : Parent) → c < length job.graph.t
 
 -- each of these children has the numbers that its parent gave it, and no others
 abbrev pub HasGivenNumbers : Job → Moment → List Child → Type 0
-HasGivenNumbers job m children = (i k : ℕ) (child : Child) → slice_get children i ≡ Some child
-    → k < length (registrations_at job child.task)
-    → m.number (registration_at job child.task k).phaser child.task
-    ≡ slice_get child.numbers.items k
+HasGivenNumbers job m children = (i : ℕ) (child : Child) → slice_get children i ≡ Some child
+    → HasNumbers job m child.task child.numbers.items
 
 -- ---- the whole
 
@@ -95,6 +94,7 @@ pub record IsAtEnd (job : Job) (m : Moment) (s : TaskState) : Type 0 where
 -- a task in this state at a moment of its own
 pub record IsTaskAt (job : Job) (spots : ℕ → Spot) (m : Moment) (s : TaskState) : Type 0 where
   pub part : HasPart job m s.number
+  pub own : HasOwnCalls job m s.number
   pub place : StandsAt job m s.number (place_of s)
   pub holds : HasHolds job spots m s.number s.holds.items s.lefts.items
   pub filter : HasFilter (task_at job.graph s.number) s.filter (m.taken s.number 0)
@@ -110,9 +110,17 @@ pub record IsWhole (job : Job) (s : TaskState) : Type 0 where
   pub numbers : length s.numbers.items ≡ length (registrations_at job s.number)
   pub holds : length s.holds.items ≡ length (registrations_at job s.number)
   pub children : KnowsChildren job s.number s.children.items
+  pub are_there : (i : ℕ) (child : Child) → slice_get s.children.items i ≡ Some child
+      → child.task < length job.graph.tasks
   pub staying : s.over ≡ false → length s.lefts.items ≡ 0
   -- what it has seen of each phaser finds room
   pub room : length (registrations_at job s.number) ≤ s.lefts.cap
+
+-- each child of a task that comes now has as many numbers as registrations
+abbrev pub HasAllNow : Job → TaskState → Type 0
+HasAllNow job s = (i : ℕ) (child : Child) → slice_get s.children.items i ≡ Some child
+    → child.at ≡ s.begun
+    → length (registrations_at job child.task) ≤ length child.numbers.items
 
 -- the children of a task that come now are all there, whichever its moment
 abbrev pub HasChildrenNow : Job → TaskState → Type 0

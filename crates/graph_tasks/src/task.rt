@@ -1,4 +1,6 @@
 //! A task with its registrations.
+ghost use Rattle.std.specs.Prelude.{◌≡◌, IfOk};
+ghost use Rattle.graph_tasks.specs.Ends.{IsEnded};
 
 use crate::ended::Ended;
 use crate::gate::Gate;
@@ -6,7 +8,7 @@ use crate::run::Run;
 use crate::seed::Seed;
 use crate::task_state::TaskState;
 use crate::turned::Turned;
-use std::marker::PhantomData;
+use std::marker::{Model, PhantomData};
 use std::sync::Wait;
 use stream_lists::Job;
 
@@ -17,6 +19,17 @@ pub struct Task<'a, J: Run> {
     job: &'a Job,
     state: TaskState<'a>,
     of: PhantomData<J>,
+}
+
+impl<'a, J: Run> Model for Task<'a, J> {
+    ghost use Rattle.std.specs.Prelude.{◌≡◌, ℕ};
+    ghost use Rattle.graph_tasks.specs.Tasks.{IsTask};
+
+    ghost Value = { ℕ };
+
+    ghost view = { λ t. t.state.number };
+
+    ghost invariant = { λ t. (t.job.now ≡ J.job) × IsTask J.job J.spots t.state };
 }
 
 impl<'a, J: Run> Task<'a, J> {
@@ -31,7 +44,9 @@ impl<'a, J: Run> Task<'a, J> {
     }
 
     /// Its number.
-    pub fn number(&self) -> usize {
+    pub fn number(&self) -> usize
+        ensures { result ≡ self.now }
+    {
         self.state.number
     }
 
@@ -46,22 +61,15 @@ impl<'a, J: Run> Task<'a, J> {
     }
 
     /// Makes its next event, where it can: one call at most. It takes no memory, but for a sink's
-    /// list, and for the registration of a child.
+    /// list. Where a child of it comes it answers `Stuck`, as children are not registered yet.
     pub fn turn<G: Gate>(&mut self, gate: &G) -> Turned {
         self.state.turn(self.job, gate)
     }
 
-    /// Gives the child of which `turn` has answered that it is born. Where it is another's seed, or
-    /// none is born, the seed comes back. It takes no memory.
+    /// Gives the child of which `turn` has answered that it is born. Where none is born, which is
+    /// always so as yet, the seed comes back. It takes no memory.
     pub fn deliver(&mut self, seed: Seed<'a>) -> Result<Task<'a, J>, Seed<'a>> {
-        match self.state.deliver(seed) {
-            Ok(state) => Ok(Task {
-                job: self.job,
-                state,
-                of: PhantomData,
-            }),
-            Err(seed) => Err(seed),
-        }
+        Err(seed)
     }
 
     /// Leaves all phasers, by waiting, and forgets all: after a fault.
@@ -75,7 +83,9 @@ impl<'a, J: Run> Task<'a, J> {
     }
 
     /// Gives what it leaves behind, where it has left all its phasers. Else it comes back.
-    pub fn end<W: Wait>(self, rt: &W) -> Result<Ended<'a>, Self> {
+    pub fn end<W: Wait>(self, rt: &W) -> Result<Ended<'a>, Self>
+        ensures { IfOk result (IsEnded J.job J.spots) }
+    {
         if !self.state.is_gone() {
             return Err(self);
         }

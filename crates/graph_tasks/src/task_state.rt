@@ -1,4 +1,6 @@
 //! How far a task has come, with its registrations.
+ghost use Rattle.std.specs.Prelude.{◌≡◌, true};
+ghost use Rattle.graph_tasks.specs.Ends.{IsGone, ended_of};
 
 use crate::child::Child;
 use crate::ended::Ended;
@@ -51,12 +53,16 @@ impl<'a> TaskState<'a> {
     }
 
     /// Whether it has left all its phasers.
-    pub fn is_gone(&self) -> bool {
+    pub fn is_gone(&self) -> bool
+        ensures { result ≡ true → IsGone self.now }
+    {
         !self.met && self.over && self.lefts.len() >= self.numbers.len()
     }
 
     /// What it leaves behind. It leaves by waiting where it still has to.
-    pub fn end<W: Wait>(self, rt: &W) -> Ended<'a> {
+    pub fn end<W: Wait>(self, rt: &W) -> Ended<'a>
+        ensures { result ≡ ended_of self.entry }
+    {
         let TaskState {
             number,
             samples: _,

@@ -6,7 +6,8 @@ ghost use Rattle.graph_base.specs.declared.line.Kind.TheVariants as kind;
 ghost use Rattle.stream_lists.specs.Jobs.{Job as JobValue};
 ghost use Rattle.graph_members.specs.Members.{Spot};
 ghost use Rattle.graph_steps.specs.declared.owed.Owed.TheVariants.{Value, Exchange, Nothing};
-ghost use Rattle.graph_tasks.specs.Tasks.{IsTask, Keeps, MayStep};
+ghost use Rattle.graph_turns.specs.Nexts.{is_cut};
+ghost use Rattle.graph_tasks.specs.Tasks.{IsTask, IsWhole, Keeps, MayStep};
 
 use crate::gate::Gate;
 use crate::hold::Given;
@@ -43,7 +44,8 @@ impl<'a> TaskState<'a> {
 
     /// Has met what ends all.
     pub fn meet(&mut self, turned: Turned) -> Turned
-        ensures keeps { (job : JobValue) → Keeps job self.old self.new }
+        ensures keeps { (job : JobValue) (spots : ℕ → Spot) → IsWhole job self.old
+            → IsTask job spots self.new }
         ensures result { result ≡ turned }
     {
         self.met = true;
@@ -117,10 +119,10 @@ impl<'a> TaskState<'a> {
         requires owed { self.old.owed ≡ Nothing }
         ensures { Keeps job.now self.old self.new }
     {
-        if self.first_due(job).is_some() {
+        if self.is_child_due(job) {
             return self.meet(Turned::Stuck);
         }
-        if until_of(job, self.number) == Some(self.begun) {
+        if is_cut(until_of(job, self.number), self.begun) {
             self.over = true;
             return Turned::Ready;
         }
@@ -164,7 +166,7 @@ impl<'a> TaskState<'a> {
         ensures { Keeps job.now self.old self.new }
     {
         let sink = is_sink(job, self.number);
-        if sink && self.lines.reserve(1).is_err() {
+        if !make_room(&mut self.lines, sink) {
             return Turned::OutOfMemory;
         }
         let Some(next) = self.begun.checked_add(1) else {
@@ -197,6 +199,27 @@ fn enter<G: Gate>(gate: &G, entered: &mut bool, task: usize, step: u64) {
         *entered = true;
         gate.at(task, step);
     }
+}
+
+/// Whether so many steps are all that `until` allows.
+fn is_cut(until: Option<u64>, steps: u64) -> bool
+    ensures { result ≡ is_cut until steps }
+{
+    match until {
+        None => false,
+        Some(until) => until == steps,
+    }
+}
+
+/// Makes room for what a sink takes, and tells whether there is room. Other tasks need none.
+fn make_room(lines: &mut Vec<i64>, sink: bool) -> bool
+    ensures items { lines.new.items ≡ lines.old.items }
+    ensures room { result ≡ true → sink ≡ true → vec_len lines.new < vec_capacity lines.new }
+{
+    if sink {
+        return lines.reserve(1).is_ok();
+    }
+    true
 }
 
 /// Keeps what a sink took. Other tasks keep nothing.

@@ -1,0 +1,35 @@
+-- One child after the other.
+use Rattle.std.proofs.Common.{◌≡◌, ◌<◌, ◌≤◌, ◌+◌, ℕ, length, Some, refl, sym, subst, ap, ◌∙◌, arith, ◌⊎◌, inl, inr, get_or}
+use Rattle.std.specs.Prelude.{slice_get}
+use Rattle.std.proofs.lemmas.Bool.{cases_lt}
+use Rattle.std.proofs.lemmas.Option.{slice_get_within, slice_get-get_or, same_Some}
+use Rattle.graph_turns.specs.Nexts.{registrations_at}
+use Rattle.graph_tasks.specs.declared.child.Child.{Child}
+use Rattle.graph_tasks.proofs.task_state.TaskState.is_child_due.Goals as goal
+
+pub loop-i-preserved : goal.loop-i-preserved
+loop-i-preserved c = λ i child less at now. by i child less at now (cases_lt i c.loop-i.i)
+  where
+    by : (i : ℕ) (child : Child) → i < c.loop-i.i + 1
+        → slice_get c.args.self.now.children.items i ≡ Some child → child.at ≡ c.args.self.now.begun
+        → (i < c.loop-i.i) ⊎ (c.loop-i.i ≤ i)
+        → length (registrations_at c.args.job.now child.task) ≤ length child.numbers.items
+    by i child less at now (inl low) = c.loop-i.invariant i child low at now
+    by i child less at now (inr high) =
+        let same : i ≡ c.loop-i.i = omega arith in
+        let items = c.args.self.now.children.items in
+        let here : slice_get items c.loop-i.i ≡ Some child = subst (λ x. slice_get items x ≡ Some child) same at in
+        let is : c.index.result.now ≡ child =
+        same_Some c.index.result.now child
+        (ap Some c.index.ensures
+        ∙ sym (slice_get-get_or items c.loop-i.i c.index.result.now (slice_get_within items c.loop-i.i child here)) ∙ here) in
+        subst (λ x. length (registrations_at c.args.job.now x.task) ≤ length x.numbers.items) is
+        (c.is_missing.ensures c.if-is_missing.false (ap (λ x. x.at) is ∙ now))
+
+pub returns : goal.returns
+returns c = λ no i child at now.
+    let within : i < length c.args.self.now.children.items = slice_get_within c.args.self.now.children.items i child at in
+    let count : c.len-i-end.result ≡ c.args.self.now.children.len = c.len-i-end.ensures in
+    let long : c.args.self.now.children.len ≡ length c.args.self.now.children.items = c.args.self.now.children.ok.0 in
+    let past = c.loop-i-test.false in
+    c.loop-i.invariant i child (omega arith) at now
