@@ -15,7 +15,7 @@ use Rattle.graph_ends.specs.TaskEnds.{HasOwnCalls}
 use Rattle.graph_tasks.specs.Holds.{HasMade}
 use Rattle.graph_tasks.specs.Tasks.{IsHeldOn}
 use Rattle.graph_tasks.specs.declared.hold.Hold.{Hold}
-use Rattle.graph_tasks.specs.declared.hold.Hold.TheVariants.{Gone}
+use Rattle.graph_tasks.specs.declared.hold.Hold.TheVariants.{On, Gone}
 
 -- the registration of a child as this number
 abbrev pub registration_of : ℕ → Mode → ℕ → Event
@@ -28,6 +28,12 @@ pub record HasAdded (mode : Mode) (old new child : AnyMember) : Type 0 where
   pub op : member_op child ≡ member_op old
   pub at : (member_in child).at ≡ (member_in old).at
   pub seen : (member_in child).seen ≡ (member_in new).seen
+
+-- the registration of a hold has added a child
+abbrev pub AddsTo : Mode → Hold → Hold → AnyMember → Type 0
+AddsTo mode (On old) (On new) child = HasAdded mode old new child
+AddsTo mode (On old) Gone child = ⊥
+AddsTo mode Gone new child = ⊥
 
 -- at this moment, which is its parent's, task c has these numbers and these holds, on the first of
 -- its phasers
