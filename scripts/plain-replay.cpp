@@ -254,6 +254,43 @@ static bool signal_one(std::string_view text) {
     return say("ok ", s), true;
 }
 
+static bool block(std::string_view text) {
+    uint64_t task;
+    if (!nat(cut(text), task) || !has_more) return false;
+    int64_t values[16];
+    size_t count = 0;
+    for (bool is_more = true; is_more; is_more = has_more) {
+        if (count == 16) return false;
+        if (!integer(cut(text), values[count++])) return false;
+    }
+    Member *member;
+    if (refuse_task(task, member)) return true;
+    uint64_t s = member->s;
+    if (!signals(member->mode)) return say("no no-signal\n"), true;
+    if (member->held.count > 0) return say("no held\n"), true;
+    if (count > bound) return say("no bad-block\n"), true;
+    for (size_t i = 0; i < count; i++) {
+        if (waits(member->mode) && s + i == member->w + 1) return say("no signal-twice\n"), true;
+        if (s + i >= phases) return say("no spent\n"), true;
+        if (waiter_count == 0) continue;
+        if (s + i >= base_phase + bound) return say("no ahead\n"), true;
+        Slot &joined = slot(s + i);
+        if (joined.is_named && joined.named.fn != Fn::None) return say("no single-differs\n"), true;
+        if (joined.part.count + 1 > 65536) return say("no phase-full\n"), true;
+    }
+    for (size_t i = 0; i < count && waiter_count > 0; i++) {
+        Slot &joined = slot(s + i);
+        join(joined.part, Part{values[i], 1, false});
+        joined.is_named = true;
+        joined.signallers--;
+        slot(s + i + 1).signallers++;
+    }
+    member->s += count;
+    top_phase = std::max(top_phase, member->s);
+    if (waiter_count > 0) settle();
+    return say("ok ", s), true;
+}
+
 static int64_t applied(const Single &single, int64_t value) {
     switch (single.fn) {
         case Fn::Neg: return -value;
@@ -264,18 +301,27 @@ static int64_t applied(const Single &single, int64_t value) {
     }
 }
 
-static void say_value(uint64_t phase, const Slot &read) {
+// Whether a phase gave a value, or else the word for what it gave.
+static const char *value_of(const Slot &read, int64_t &given) {
     const Part &part = read.part;
     Wide value = part.count == 0 && op == Op::Product ? 1 : part.value;
-    if (part.count == 0 && op > Op::Product) say("empty ", phase);
-    else if (part.big || is_wide(value)) say("toobig ", phase);
-    else {
-        out += "value ";
-        out += std::to_string(phase);
+    if (part.count == 0 && op > Op::Product) return "empty";
+    if (part.big || is_wide(value)) return "toobig";
+    given = applied(read.named, (int64_t)value);
+    return nullptr;
+}
+
+static void say_value(uint64_t phase, const Slot &read) {
+    int64_t given = 0;
+    const char *word = value_of(read, given);
+    out += word ? word : "value";
+    out += ' ';
+    out += std::to_string(phase);
+    if (!word) {
         out += ' ';
-        out += std::to_string(applied(read.named, (int64_t)value));
-        out += '\n';
+        out += std::to_string(given);
     }
+    out += '\n';
 }
 
 static bool wait_one(std::string_view text) {
@@ -295,6 +341,34 @@ static bool wait_one(std::string_view text) {
         member->w++;
         give_up();
     }
+    return true;
+}
+
+static bool take_block(std::string_view text) {
+    uint64_t task, asked;
+    if (!nat(cut(text), task) || !has_more || !nat(text, asked) || asked < 1 || asked > 16) return false;
+    Member *member;
+    if (refuse_task(task, member)) return true;
+    uint64_t w = member->w;
+    if (!waits(member->mode)) return say("no no-wait\n"), true;
+    if (asked > bound) return say("no bad-block\n"), true;
+    if (signals(member->mode) && member->s == w) return say("no signal-first\n"), true;
+    if (w >= done_phase && signaller_count > 0) return say("no not-yet\n"), true;
+    if (w >= done_phase) return say("ended\n"), true;
+    uint64_t count = std::min(asked, done_phase - w);
+    out += "values ";
+    out += std::to_string(w);
+    for (uint64_t i = 0; i < count; i++) {
+        int64_t given = 0;
+        const char *word = value_of(slot(w + i), given);
+        out += ' ';
+        out += word ? std::string(word) : std::to_string(given);
+    }
+    out += '\n';
+    slot(w).waiters--;
+    slot(w + count).waiters++;
+    member->w += count;
+    give_up();
     return true;
 }
 
@@ -323,6 +397,8 @@ static bool obey(std::string_view line) {
     if (verb == "send") return send(line);
     if (verb == "signal") return signal_one(line);
     if (verb == "wait") return wait_one(line);
+    if (verb == "block") return block(line);
+    if (verb == "take") return take_block(line);
     if (verb == "add") return add(line);
     if (verb == "now") return now(line);
     if (verb == "drop") return drop(line);

@@ -4,3 +4,4 @@ mod Waiting
 mod Ending
 mod Gone
 mod Nursery
+mod Seeding

@@ -1,4 +1,10 @@
 //! Tasks before they are registered.
+ghost use Rattle.std.specs.Prelude.{◌≡◌, ◌+◌, ◌<◌, ℕ, [], length, IfOk};
+ghost use Rattle.graph_members.specs.Members.{Spot};
+ghost use Rattle.graph_openings.specs.Openings.{IsRootMember};
+ghost use Rattle.graph_tasks.specs.Seeds.{seed_state, IsSeed, HasRoom, HasReceived};
+ghost use Rattle.graph_tasks.specs.Seeds.{AreChildrenBelow, TellsChild};
+ghost use Rattle.stream_lists.specs.Jobs.{Job as JobValue};
 
 use crate::child::Child;
 use crate::hold::Hold;
@@ -15,7 +21,7 @@ use stream_lists::Job;
 ///
 /// **End.** It cannot be thrown away. `Task::root`, `Task::deliver` and `dismiss` end it.
 pub struct Seed<'a> {
-    state: TaskState<'a>,
+    pub(crate) state: TaskState<'a>,
 }
 
 impl<'a> Seed<'a> {
@@ -23,7 +29,14 @@ impl<'a> Seed<'a> {
     ///
     /// It takes memory for its registrations and for those of a child, for its children, and for
     /// the taps and the window of a filter.
-    pub fn new(alloc: Global, job: &'a Job, task: usize) -> Result<Seed<'a>, AllocError> {
+    pub fn new(alloc: Global, job: &'a Job, task: usize) -> Result<Seed<'a>, AllocError>
+        requires task { task < length job.now.graph.tasks }
+        ensures number { IfOk result (λ seed. (seed_state seed).number ≡ task) }
+        ensures seed { IfOk result (λ seed. IsSeed job.now (seed_state seed)) }
+        ensures room { IfOk result (λ seed. HasRoom 9 (seed_state seed)) }
+        ensures none { IfOk result (λ seed. ((seed_state seed).holds.items ≡ [])
+            × ((seed_state seed).numbers.items ≡ [])) }
+    {
         let filter = first_filter(alloc, job, task)?;
         let children = children_of(alloc, job, task)?;
         let lefts = Vec::with_capacity(alloc, 9)?;
@@ -54,12 +67,29 @@ impl<'a> Seed<'a> {
     }
 
     /// Its number.
-    pub fn number(&self) -> usize {
+    pub fn number(&self) -> usize
+        ensures { result ≡ (seed_state self.now).number }
+    {
         self.state.number
     }
 
     /// Has been registered on the next of its phasers. It takes no memory.
-    pub fn receive(&mut self, member: AnyMember<'a>) {
+    pub fn receive(&mut self, member: AnyMember<'a>)
+        requires room { HasRoom (length (seed_state self.old).holds.items + 1) (seed_state self.old) }
+        requires long { length (seed_state self.old).numbers.items
+            ≡ length (seed_state self.old).holds.items }
+        ensures seed { (job : JobValue) → IsSeed job (seed_state self.old)
+            → IsSeed job (seed_state self.new) }
+        ensures received { (job : JobValue) (spots : ℕ → Spot)
+            → HasReceived job spots (seed_state self.old)
+            → IsRootMember job spots (seed_state self.old).number
+            (length (seed_state self.old).holds.items) member.entry
+            → HasReceived job spots (seed_state self.new) }
+        ensures room { (n : ℕ) → HasRoom n (seed_state self.old) → HasRoom n (seed_state self.new) }
+        ensures many { length (seed_state self.new).holds.items
+            ≡ length (seed_state self.old).holds.items + 1 }
+        ensures number { (seed_state self.new).number ≡ (seed_state self.old).number }
+    {
         self.state.numbers.push_reserved(member.number());
         self.state.holds.push_reserved(Hold::On(member));
     }
@@ -71,22 +101,34 @@ impl<'a> Seed<'a> {
     }
 
     /// What is in it.
-    pub(crate) fn open(self) -> TaskState<'a> {
+    pub(crate) fn open(self) -> TaskState<'a>
+        ensures { result ≡ seed_state self.entry }
+    {
         let Seed { state } = self;
         state
     }
 }
 
+/// After how many steps of task number `task` its child number `c` comes, where it is its child.
+fn child_of(job: &Job, task: usize, c: usize) -> Option<u64>
+    requires { c < length job.now.graph.tasks }
+    ensures { TellsChild job.now task c result }
+{
+    let parent = parent_of(job, c)?;
+    (parent.task == task).then_some(parent.at)
+}
+
 /// The children of a task, none of whose registrations is made.
-fn children_of(alloc: Global, job: &Job, task: usize) -> Result<Vec<Child>, AllocError> {
+fn children_of(alloc: Global, job: &Job, task: usize) -> Result<Vec<Child>, AllocError>
+    ensures { IfOk result (λ children. AreChildrenBelow job.now task
+        (length job.now.graph.tasks) children.items) }
+{
     let mut children = Vec::new(alloc);
     for c in 0..job.graph().tasks() {
-        if let Some(parent) = parent_of(job, c)
-            && parent.task == task
-        {
+        if let Some(at) = child_of(job, task, c) {
             children.push(Child {
                 task: c,
-                at: parent.at,
+                at,
                 numbers: SmallVec::new(alloc),
             })?;
         }

@@ -1,6 +1,9 @@
 //! A task with its registrations.
-ghost use Rattle.std.specs.Prelude.{◌≡◌, IfOk};
+ghost use Rattle.std.specs.Prelude.{◌≡◌, length, None, IfOk};
 ghost use Rattle.graph_tasks.specs.Ends.{IsEnded};
+ghost use Rattle.graph_base.specs.Graphs.{task_at};
+ghost use Rattle.graph_turns.specs.Nexts.{registrations_at};
+ghost use Rattle.graph_tasks.specs.Seeds.{seed_state, IsSeed, HasRoom, HasReceived};
 
 use crate::ended::Ended;
 use crate::gate::Gate;
@@ -8,6 +11,8 @@ use crate::run::Run;
 use crate::seed::Seed;
 use crate::task_state::TaskState;
 use crate::turned::Turned;
+use graph_ends::laws::first_calls;
+use graph_parts::beginnings::roots_begin;
 use std::marker::{Model, PhantomData};
 use std::sync::Wait;
 use stream_lists::Job;
@@ -35,7 +40,20 @@ impl<'a, J: Run> Model for Task<'a, J> {
 impl<'a, J: Run> Task<'a, J> {
     /// Begins a task without a parent, which its founders have registered on all phasers of its
     /// line. It takes no memory.
-    pub fn root(job: &'a Job, seed: Seed<'a>) -> Task<'a, J> {
+    pub fn root(job: &'a Job, seed: Seed<'a>) -> Task<'a, J>
+        requires job { job.now ≡ J.job }
+        requires root { (task_at job.now.graph (seed_state seed).number).parent ≡ None }
+        requires seed { IsSeed job.now (seed_state seed) }
+        requires room { HasRoom 9 (seed_state seed) }
+        requires received { HasReceived job.now J.spots (seed_state seed) }
+        requires all { length (seed_state seed).holds.items
+            ≡ length (registrations_at job.now (seed_state seed).number) }
+        ensures { result ≡ (seed_state seed.entry).number }
+    {
+        let _few = job.graph().registrations(seed.number());
+        let _lines = job.graph().tasks();
+        roots_begin();
+        first_calls();
         Task {
             job,
             state: seed.open(),

@@ -18,21 +18,21 @@ pub record AreAnsweredAlike (state : ScriptState) (line other : List ℕ) : Type
   pub reply : reply_to state line ≡ reply_to state other
   pub after : after_line state line ≡ after_line state other
 
-pub long_lines_alike : (state : ScriptState) (line other : List ℕ) → 75 ≤ length line → 75 ≤ length other → AreAnsweredAlike state line other
+pub long_lines_alike : (state : ScriptState) (line other : List ℕ) → 362 ≤ length line → 362 ≤ length other → AreAnsweredAlike state line other
 long_lines_alike state line other h k =
     let p = long_line state line h in
     let q = long_line state other k in
     record { reply = p.0 ∙ sym q.0; after = p.1 ∙ sym q.1 }
 
 -- the kept prefix of a line is answered as the line is
-pub kept_alike : (state : ScriptState) (prefix : List ℕ) → AreAnsweredAlike state (without_cr (take 76 prefix)) (without_cr prefix)
-kept_alike state prefix = elim (cases_lt 76 (length prefix)) [
+pub kept_alike : (state : ScriptState) (prefix : List ℕ) → AreAnsweredAlike state (without_cr (take 363 prefix)) (without_cr prefix)
+kept_alike state prefix = elim (cases_lt 363 (length prefix)) [
   | inl long ↦
-      let cut : length (take 76 prefix) ≡ 76 = length-take-le 76 prefix (omega arith) in
-      long_lines_alike state (without_cr (take 76 prefix)) (without_cr prefix)
-      (omega (arith, length-without_cr (take 76 prefix)))
+      let cut : length (take 363 prefix) ≡ 363 = length-take-le 363 prefix (omega arith) in
+      long_lines_alike state (without_cr (take 363 prefix)) (without_cr prefix)
+      (omega (arith, length-without_cr (take 363 prefix)))
       (omega (arith, length-without_cr prefix))
-  | inr short ↦ let same : take 76 prefix ≡ prefix = take_all 76 prefix short in record {
+  | inr short ↦ let same : take 363 prefix ≡ prefix = take_all 363 prefix short in record {
     reply = ap (λ l. reply_to state (without_cr l)) same;
     after = ap (λ l. after_line state (without_cr l)) same;
   }

@@ -6,7 +6,7 @@ use Rattle.phase_session.specs.Scripts.{ScriptState, reply_to, after_line, reply
 use Rattle.phase_script.proofs.Grammar.{long_none}
 
 -- it is a bad line, and changes nothing
-pub long_line : (state : ScriptState) (line : List ℕ) → 75 ≤ length line
+pub long_line : (state : ScriptState) (line : List ℕ) → 362 ≤ length line
     → (reply_to state line ≡ codes "bad line\n") × (after_line state line ≡ state)
 unfolding reply_to after_line reply_text
 long_line state line long =

@@ -22,17 +22,17 @@ owes_all replayer script stands kept out = record {
   state = start;
   prefix = [];
   stands = stands;
-  kept = kept ∙ sym (take-nil 76);
+  kept = kept ∙ sym (take-nil 363);
   owed_is = ap (λ waiting. waiting ++ replies start (lines_after [] script)) (sym out);
 }
 
 -- where no byte of a line is kept, none has come
-length-kept : (kept prefix : List ℕ) → kept ≡ take 76 prefix → length kept ≡ min 76 (length prefix)
-length-kept kept prefix e = ap length e ∙ length-take 76 prefix
+length-kept : (kept prefix : List ℕ) → kept ≡ take 363 prefix → length kept ≡ min 363 (length prefix)
+length-kept kept prefix e = ap length e ∙ length-take 363 prefix
 
 -- bytes of a line are kept
 pub owes_more : (old new : Replayer) (bs later owed : List ℕ) → HasNoLf bs → new.session ≡ old.session → new.out ≡ old.out
-    → new.kept ≡ take 76 (old.kept ++ bs) → Owes old (bs ++ later) owed → Owes new later owed
+    → new.kept ≡ take 363 (old.kept ++ bs) → Owes old (bs ++ later) owed → Owes new later owed
 owes_more old new bs later owed none session out kept owes =
     let owed_is : owed ≡ old.out.items ++ replies owes.state (lines_after (owes.prefix ++ bs) later) =
     owes.owed_is ∙ ap (λ lines. old.out.items ++ replies owes.state lines) (lines_after-prefix owes.prefix bs later none) in
@@ -40,7 +40,7 @@ owes_more old new bs later owed none session out kept owes =
       state = owes.state;
       prefix = owes.prefix ++ bs;
       stands = subst (λ s. Stands s owes.state) (sym session) owes.stands;
-      kept = kept ∙ ap (λ k. take 76 (k ++ bs)) owes.kept ∙ take-kept_more 76 owes.prefix bs;
+      kept = kept ∙ ap (λ k. take 363 (k ++ bs)) owes.kept ∙ take-kept_more 363 owes.prefix bs;
       owed_is = rw out owed_is;
     }
 
@@ -61,7 +61,7 @@ owes_next old new state line whole later owed answers alike stands owed_is =
       state = after_line state whole;
       prefix = [];
       stands = subst (Stands new.session) alike.after (answers.after state stands);
-      kept = answers.begun ∙ sym (take-nil 76);
+      kept = answers.begun ∙ sym (take-nil 363);
       owed_is = rw (out, append_assoc) owed_is;
     }
 
@@ -69,7 +69,7 @@ owes_next old new state line whole later owed answers alike stands owed_is =
 pub owes_answered : (old new : Replayer) (line later owed : List ℕ) → line ≡ without_cr old.kept → Answers old new line
     → Owes old (10 ∷ later) owed → Owes new later owed
 owes_answered old new line later owed cut answers owes =
-    let same : without_cr (take 76 owes.prefix) ≡ line = sym (cut ∙ ap without_cr owes.kept) in
+    let same : without_cr (take 363 owes.prefix) ≡ line = sym (cut ∙ ap without_cr owes.kept) in
     let alike : AreAnsweredAlike owes.state line (without_cr owes.prefix) =
     subst (λ l. AreAnsweredAlike owes.state l (without_cr owes.prefix)) same (kept_alike owes.state owes.prefix) in
     owes_next old new owes.state line (without_cr owes.prefix) later owed answers alike owes.stands owes.owed_is

@@ -2,10 +2,11 @@
 ghost use Rattle.std.specs.Prelude.{◌≡◌, ◌≤◌, List, [], ◌++◌, ℕ, length, take, nat_eq};
 ghost use Rattle.phase_replay.specs.declared.kept.TheConstants.{KEPT_MAX};
 
+use phase_script::LINE_MAX;
 use std::marker::Model;
 
 /// The bytes of the longest line of the grammar, its CR, and a byte that shows a longer line.
-pub const KEPT_MAX: usize = 76;
+pub const KEPT_MAX: usize = LINE_MAX + 2;
 
 /// The first `KEPT_MAX` bytes of a line that may have any length.
 #[derive(Drop)]

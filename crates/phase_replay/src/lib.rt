@@ -9,7 +9,7 @@ pub mod laws;
 mod replayer;
 mod whole;
 
-pub use phase_script::{Command, Op, Refusal, Reply, ReplyLine, line, read};
+pub use phase_script::{Command, Op, Outcomes, Refusal, Reply, ReplyLine, Values, read};
 pub use phase_session::Session;
 pub use watched_io::{IoFault as ReplayFault, ReadFailed, Watched, WriteFailed};
 pub use whole::{PIECE_MAX, SCRIPT_MAX, replay};

@@ -9,7 +9,7 @@ ghost use Rattle.phase_session.specs.Session.{Stands};
 
 use crate::Session;
 use crate::kept::Kept;
-use phase_script::{lf_of, without_cr};
+use phase_script::{ReplyLine, lf_of, without_cr};
 use std::alloc::{AllocError, Global};
 use std::io::Write;
 use watched_io::{IoFault, Watched, WriteFailed};
@@ -17,8 +17,13 @@ use watched_io::{IoFault, Watched, WriteFailed};
 // As soon as so many bytes of replies wait, they go to the writer.
 const OUT_MAX: usize = 65536;
 
-// Answers a line behind the replies that wait.
-fn reply(session: &mut Session, line: &[u8], out: &mut Vec<u8>) -> Result<(), AllocError>
+// Answers a line behind the replies that wait. The reply is made in `reply`.
+fn answer_line(
+    session: &mut Session,
+    line: &[u8],
+    reply: &mut ReplyLine,
+    out: &mut Vec<u8>,
+) -> Result<(), AllocError>
     ensures reply { OnOk result ((state : ScriptState) → Stands session.old state
         → out.new.items ≡ out.old.items ++ reply_to state line.now) }
 
@@ -27,7 +32,7 @@ fn reply(session: &mut Session, line: &[u8], out: &mut Vec<u8>) -> Result<(), Al
 
     ensures err { OnErr result (out.new.items ≡ out.old.items) }
 {
-    let reply = session.line(line)?;
+    session.answer(line, reply)?;
     out.extend_from_slice(reply.bytes())?;
     Ok(())
 }
@@ -37,6 +42,7 @@ fn reply(session: &mut Session, line: &[u8], out: &mut Vec<u8>) -> Result<(), Al
 pub struct Replayer {
     session: Session,
     kept: Kept,
+    reply: ReplyLine,
     out: Vec<u8>,
 }
 
@@ -52,6 +58,7 @@ impl Replayer {
         Replayer {
             session: Session::new(alloc),
             kept: Kept::new(),
+            reply: ReplyLine::new(),
             out: Vec::new(alloc),
         }
     }
@@ -66,13 +73,19 @@ impl Replayer {
         ensures err { OnErr result (waiting_of self.new ≡ waiting_of self.old) }
     {
         if self.kept.is_empty() {
-            reply(&mut self.session, without_cr(end), &mut self.out)?;
+            answer_line(
+                &mut self.session,
+                without_cr(end),
+                &mut self.reply,
+                &mut self.out,
+            )?;
             return Ok(());
         }
         self.kept.extend(end);
-        reply(
+        answer_line(
             &mut self.session,
             without_cr(self.kept.bytes()),
+            &mut self.reply,
             &mut self.out,
         )?;
         self.kept.clear();

@@ -108,7 +108,7 @@ fn replay_pieces<R: Read, W: Write>(
 /// line, in order, written before the next read.
 ///
 /// A user at a terminal thus sees each reply at once. Bytes are read and written `PIECE_MAX` at a
-/// time, and of a line of any length no more than 76 bytes are kept. A fault stops the replay, and
+/// time, and of a line of any length no more than 363 bytes are kept. A fault stops the replay, and
 /// no call that failed is tried again; where memory runs out, the replies that wait are written
 /// first.
 pub fn replay<R: Read, W: Write>(

@@ -1,8 +1,10 @@
 -- The lines and their commands: what is read is a spelling, and each spelling is read.
-use Rattle.std.proofs.Common.{◌≡◌, ◌≢◌, ℕ, suc, ◌<◌, ◌≤◌, Bool, true, false, T, ◌==◌, if◌then◌else◌, List, [], ◌∷◌, ◌++◌, length, get_or, codes, decimal, bytes_eq, nat_abs, ℤ, IfSome, Option, Some, None, option_and_then, refl, sym, ◌∙◌, ap, subst, arith}
+use Rattle.std.proofs.Common.{◌≡◌, ◌≢◌, ℕ, suc, ◌<◌, ◌≤◌, Bool, true, false, T, ◌==◌, if◌then◌else◌, List, [], ◌∷◌, ◌++◌, length, get_or, codes, decimal, bytes_eq, ◌*◌, nat_abs, ℤ, IfSome, map, Option, Some, None, option_and_then, refl, sym, ◌∙◌, ap, subst, arith}
 use Rattle.std.specs.Prelude.{int_le}
-use Rattle.std.proofs.lemmas.Bool.{eqb-true, ne_eqb}
-use Rattle.std.proofs.lemmas.Option.{option_and_then_some, same_Some}
+use Rattle.std.specs.List.{All}
+use Rattle.std.proofs.lemmas.List.Elements.{All-nil, All-cons, All-head, All-tail}
+use Rattle.std.proofs.lemmas.Bool.{eqb-true, ne_eqb, and_parts, leb-true, le-leb}
+use Rattle.std.proofs.lemmas.Option.{cond_some, option_and_then_some, same_Some}
 use Rattle.std.proofs.lemmas.Slice.Eq.{bytes_eq-Decides}
 use Rattle.std.proofs.lemmas.List.{length-append, append-nil}
 use Rattle.std.specs.Fmt.{signed_decimal}
@@ -10,19 +12,19 @@ use Rattle.phase_script.proofs.Digits.{nat_found, nat_only, int_found, int_only,
 use Rattle.phase_base.specs.OperationWords.{operation_word, operation_of}
 use Rattle.phase_base.proofs.OperationWords.{operation-read}
 use Rattle.phase_script.specs.Numbers.{most, nat_of, int_of}
-use Rattle.phase_script.specs.Words.{word, rest}
+use Rattle.phase_script.specs.Words.{word, rest, words_of, longer_by}
 use Rattle.phase_base.specs.declared.mode.Mode.{Mode}
 use Rattle.phase_base.specs.declared.mode.Mode.TheVariants as mode
 use Rattle.phase_accum.specs.Ranges.{IsRange}
 use Rattle.phase_accum.specs.Singles.{CanBeNamed}
 use Rattle.phase_accum.specs.declared.single.Single.{Single}
 use Rattle.phase_accum.specs.declared.single.Single.TheVariants.{Neg, Abs, Halve, Clamp}
-use Rattle.phase_script.specs.Commands.{IsCommand, spelling, mode_text, single_text, maybe_single_text, mode_of, clamp_of, ends_of, clamp_after, single_of}
-use Rattle.phase_script.specs.Commands.{make_of, add_of, now_of, send_of, signal_of, signal_with, wait_of, drop_of, command_after, command_of}
+use Rattle.phase_script.specs.Commands.{IsCommand, IsBlock, spelling, values_text, mode_text, single_text, maybe_single_text, mode_of, clamp_of, ends_of, clamp_after, single_of}
+use Rattle.phase_script.specs.Commands.{make_of, add_of, now_of, send_of, signal_of, signal_with, ints_of, few_values, values_of, block_of, take_with, take_of, wait_of, drop_of, command_after, command_of}
 use Rattle.phase_base.specs.declared.operation.Op.{Op}
 use Rattle.phase_base.specs.declared.operation.Op.TheVariants.{Sum, Product, Least, Greatest, Any}
 use Rattle.phase_script.specs.declared.command.Command.{Command}
-use Rattle.phase_script.specs.declared.command.Command.TheVariants.{Make, Add, Now, Send, Signal, Wait, Drop}
+use Rattle.phase_script.specs.Commands.{WholeCommand, whole_command, maybe_whole, Make, Add, Now, Send, Signal, Block, Wait, Take, Drop}
 
 -- words
 
@@ -78,9 +80,24 @@ rest_free [] free = refl
 rest_free (b ∷ bs) free =
     rw (ne_eqb b 32 (free 0 (omega arith)), rest_free bs (λ i l. free (suc i) (omega arith))) refl
 
+-- the words of a text: its first, and those of the text behind the space
+
+abbrev pub words_behind : Option (List ℕ) → List (List ℕ)
+words_behind None = []
+words_behind (Some text) = words_of text
+
+pub words_at : (text : List ℕ) → words_of text ≡ word text ∷ words_behind (rest text)
+words_at [] = refl
+words_at (b ∷ bs) = elim (b == 32) as (λ t.
+    (if t then [] ∷ words_of bs else longer_by b (words_of bs))
+    ≡ (if t then [] else b ∷ word bs) ∷ words_behind (if t then Some bs else rest bs)) [
+      | true ↦ refl
+      | false ↦ ap (longer_by b) (words_at bs)
+    ]
+
 -- a line that is read is the spelling of a command
 
-abbrev Spells : List ℕ → Command → Type 0
+abbrev Spells : List ℕ → WholeCommand → Type 0
 Spells line c = IsCommand c × (line ≡ spelling c)
 
 chosen : {A P : Type 0} (verb name : List ℕ) (o p : Option A) (x : A)
@@ -162,7 +179,7 @@ single_found text single e =
     let found = clamp_found (word text) more single e4 in
     (found.0, rest_found text more is_more ∙ found.1)))))
 
-make_found : (text : List ℕ) (c : Command) → make_of text ≡ Some c
+make_found : (text : List ℕ) (c : WholeCommand) → make_of text ≡ Some c
     → Spells (codes "make" ++ 32 ∷ text) c
 unfolding make_of spelling
 make_found text c e =
@@ -176,7 +193,7 @@ make_found text c e =
     let third = nat_found last phases is_phases in
     let text_is = rest_found text numbers is_numbers in
     let numbers_is = rest_found numbers last is_last in
-    let P : Command → Type 0 = Spells (codes "make" ++ 32 ∷ text) in
+    let P : WholeCommand → Type 0 = Spells (codes "make" ++ 32 ∷ text) in
     subst P (same_Some _ c e5) (
       (second.1, third.1),
       ap (λ t. codes "make" ++ 32 ∷ t)
@@ -186,7 +203,7 @@ make_found text c e =
           ∙ ap (λ t. decimal bound ++ 32 ∷ t) third.0)),
     ))))))
 
-add_found : (text : List ℕ) (c : Command) → add_of text ≡ Some c
+add_found : (text : List ℕ) (c : WholeCommand) → add_of text ≡ Some c
     → Spells (codes "add" ++ 32 ∷ text) c
 unfolding add_of spelling
 add_found text c e =
@@ -200,7 +217,7 @@ add_found text c e =
     let third = mode_found last m is_mode in
     let text_is = rest_found text words is_words in
     let words_are = rest_found words last is_last in
-    let P : Command → Type 0 = Spells (codes "add" ++ 32 ∷ text) in
+    let P : WholeCommand → Type 0 = Spells (codes "add" ++ 32 ∷ text) in
     subst P (same_Some _ c e5) (
       (first.1, second.1),
       ap (λ t. codes "add" ++ 32 ∷ t)
@@ -210,7 +227,7 @@ add_found text c e =
           ∙ ap (λ t. decimal child ++ 32 ∷ t) third)),
     ))))))
 
-now_found : (text : List ℕ) (c : Command) → now_of text ≡ Some c
+now_found : (text : List ℕ) (c : WholeCommand) → now_of text ≡ Some c
     → Spells (codes "now" ++ 32 ∷ text) c
 unfolding now_of spelling
 now_found text c e =
@@ -220,7 +237,7 @@ now_found text c e =
     let first = nat_found (word text) parent is_parent in
     let second = nat_found last child is_child in
     let text_is = rest_found text last is_last in
-    let P : Command → Type 0 = Spells (codes "now" ++ 32 ∷ text) in
+    let P : WholeCommand → Type 0 = Spells (codes "now" ++ 32 ∷ text) in
     subst P (same_Some _ c e3) (
       (first.1, second.1),
       ap (λ t. codes "now" ++ 32 ∷ t)
@@ -228,7 +245,7 @@ now_found text c e =
           ∙ ap (λ t. decimal parent ++ 32 ∷ t) second.0),
     ))))
 
-send_found : (text : List ℕ) (c : Command) → send_of text ≡ Some c
+send_found : (text : List ℕ) (c : WholeCommand) → send_of text ≡ Some c
     → Spells (codes "send" ++ 32 ∷ text) c
 unfolding send_of spelling
 send_found text c e =
@@ -238,7 +255,7 @@ send_found text c e =
     let first = nat_found (word text) task is_task in
     let second = int_found last value is_value in
     let text_is = rest_found text last is_last in
-    let P : Command → Type 0 = Spells (codes "send" ++ 32 ∷ text) in
+    let P : WholeCommand → Type 0 = Spells (codes "send" ++ 32 ∷ text) in
     subst P (same_Some _ c e3) (
       (first.1, second.1),
       ap (λ t. codes "send" ++ 32 ∷ t)
@@ -246,12 +263,12 @@ send_found text c e =
           ∙ ap (λ t. decimal task ++ 32 ∷ t) second.0),
     ))))
 
-signal_with_found : (text : List ℕ) (task : ℕ) (o : Option (List ℕ)) (c : Command)
+signal_with_found : (text : List ℕ) (task : ℕ) (o : Option (List ℕ)) (c : WholeCommand)
     → rest text ≡ o → signal_with task o ≡ Some c → word text ≡ decimal task → task ≤ most
     → Spells (codes "signal" ++ 32 ∷ text) c
 unfolding signal_with spelling
 signal_with_found text task None c alone e first small =
-    let P : Command → Type 0 = Spells (codes "signal" ++ 32 ∷ text) in
+    let P : WholeCommand → Type 0 = Spells (codes "signal" ++ 32 ∷ text) in
     let text_is : text ≡ decimal task ++ [] = sym (word_alone text alone) ∙ first ∙ sym (append-nil (decimal task)) in
     subst P (same_Some _ c e) ((small, tt), ap (λ t. codes "signal" ++ 32 ∷ t) text_is)
 signal_with_found text task (Some more) c is_more e first small =
@@ -260,10 +277,10 @@ signal_with_found text task (Some more) c is_more e first small =
     let text_is : text ≡ decimal task ++ 32 ∷ single_text single =
     rest_found text more is_more ∙ ap (λ w. w ++ 32 ∷ more) first
     ∙ ap (λ t. decimal task ++ 32 ∷ t) found.1 in
-    let P : Command → Type 0 = Spells (codes "signal" ++ 32 ∷ text) in
+    let P : WholeCommand → Type 0 = Spells (codes "signal" ++ 32 ∷ text) in
     subst P (same_Some _ c e1) ((small, found.0), ap (λ t. codes "signal" ++ 32 ∷ t) text_is))
 
-signal_found : (text : List ℕ) (c : Command) → signal_of text ≡ Some c
+signal_found : (text : List ℕ) (c : WholeCommand) → signal_of text ≡ Some c
     → Spells (codes "signal" ++ 32 ∷ text) c
 unfolding signal_of
 signal_found text c e =
@@ -271,25 +288,136 @@ signal_found text c e =
     let first = nat_found (word text) task is_task in
     signal_with_found text task (rest text) c refl e1 first.0 first.1)
 
-wait_found : (text : List ℕ) (c : Command) → wait_of text ≡ Some c
+-- a text of words that are read is the values behind a space, less that space
+abbrev IsSmall : ℤ → Type 0
+IsSmall value = nat_abs value ≤ most
+
+abbrev AreSmall : List ℤ → Type 0
+AreSmall = All IsSmall
+
+-- what is left of values of which the first is read
+record Begun (first : List ℕ) (more : List (List ℕ)) (values : List ℤ) : Type 0 where
+  value : ℤ
+  others : List ℤ
+  is_value : int_of first ≡ Some value
+  are_others : ints_of more ≡ Some others
+  values_are : value ∷ others ≡ values
+
+begun : (first : List ℕ) (more : List (List ℕ)) (values : List ℤ) → ints_of (first ∷ more) ≡ Some values → Begun first more values
+unfolding ints_of
+begun first more values e =
+    option_and_then_some _ (int_of first) values e (λ value is_value e1.
+    option_and_then_some _ (ints_of more) values e1 (λ others are_others e2.
+    record { value = value; others = others; is_value = is_value; are_others = are_others; values_are = same_Some _ values e2 }))
+
+-- the values behind a first one, which are none or begin behind a space
+values_behind : (v : ℤ) (vs : List ℤ) (text : List ℕ) (r : Option (List ℕ)) → nat_abs v ≤ most → word text ≡ signed_decimal v
+    → rest text ≡ r → ints_of (words_behind r) ≡ Some vs
+    → ((more : List ℕ) → ints_of (words_of more) ≡ Some vs → AreSmall vs × (32 ∷ more ≡ values_text vs) × (1 ≤ length vs))
+    → AreSmall (v ∷ vs) × (32 ∷ text ≡ values_text (v ∷ vs)) × (1 ≤ length (v ∷ vs))
+unfolding ints_of
+values_behind v vs text None small first alone e found =
+    let none : [] ≡ vs = same_Some [] vs e in
+    let P : List ℤ → Type 0 = λ l. AreSmall (v ∷ l) × (32 ∷ text ≡ values_text (v ∷ l)) × (1 ≤ length (v ∷ l)) in
+    subst P none (
+      All-cons IsSmall v [] small (All-nil IsSmall),
+      ap (λ t. 32 ∷ t) (sym (word_alone text alone) ∙ first ∙ sym (append-nil (signed_decimal v))),
+      omega arith,
+    )
+values_behind v vs text (Some more) small first more_is e found =
+    let f = found more e in (
+      All-cons IsSmall v vs small f.0,
+      ap (λ t. 32 ∷ t) (rest_found text more more_is ∙ ap (λ w. w ++ 32 ∷ more) first ∙ ap (λ t. signed_decimal v ++ t) f.1),
+      omega arith,
+    )
+
+ints_found : (values : List ℤ) (text : List ℕ) → ints_of (words_of text) ≡ Some values
+    → AreSmall values × (32 ∷ text ≡ values_text values) × (1 ≤ length values)
+ints_found [] text e =
+    let b = begun (word text) (words_behind (rest text)) [] (ap ints_of (sym (words_at text)) ∙ e) in
+    absurd (let two : b.value ∷ b.others ≡ [] = b.values_are in cc)
+ints_found (v ∷ vs) text e =
+    let b = begun (word text) (words_behind (rest text)) (v ∷ vs) (ap ints_of (sym (words_at text)) ∙ e) in
+    let two : b.value ∷ b.others ≡ v ∷ vs = b.values_are in
+    let first : b.value ≡ v = cc in
+    let others : b.others ≡ vs = cc in
+    let is = int_found (word text) v (b.is_value ∙ ap Some first) in
+    values_behind v vs text (rest text) is.1 is.0 refl (b.are_others ∙ ap Some others) (λ more e. ints_found vs more e)
+
+values_found : (values : List ℤ) (text : List ℕ) → values_of text ≡ Some values
+    → IsBlock values × (32 ∷ text ≡ values_text values)
+unfolding values_of few_values
+values_found values text e =
+    option_and_then_some few_values (ints_of (words_of text)) values e (λ all are_all e1.
+    let tests = cond_some _ _ _ e1 in
+    let f = ints_found all text are_all in
+    let P : List ℤ → Type 0 = λ vs. IsBlock vs × (32 ∷ text ≡ values_text vs) in
+    subst P tests.1 (record { some = f.2; few = leb-true _ _ tests.0; small = f.0 }, f.1))
+
+block_found : (text : List ℕ) (c : WholeCommand) → block_of text ≡ Some c
+    → Spells (codes "block" ++ 32 ∷ text) c
+unfolding block_of spelling
+block_found text c e =
+    option_and_then_some _ (nat_of (word text)) c e (λ task is_task e1.
+    option_and_then_some _ (rest text) c e1 (λ words is_words e2.
+    option_and_then_some _ (values_of words) c e2 (λ values are_values e3.
+    let first = nat_found (word text) task is_task in
+    let second = values_found values words are_values in
+    let text_is = rest_found text words is_words in
+    let P : WholeCommand → Type 0 = Spells (codes "block" ++ 32 ∷ text) in
+    subst P (same_Some _ c e3) (
+      (first.1, second.0),
+      ap (λ t. codes "block" ++ 32 ∷ t)
+          (text_is ∙ ap (λ w. w ++ 32 ∷ words) first.0
+          ∙ ap (λ t. decimal task ++ t) second.1),
+    ))))
+
+take_with_found : (task phases : ℕ) (c : WholeCommand) → take_with task phases ≡ Some c
+    → (1 ≤ phases) × (phases ≤ 16) × (Take task phases ≡ c)
+unfolding take_with
+take_with_found task phases c e =
+    let tests = cond_some _ _ _ e in
+    let within = and_parts _ _ tests.0 in
+    (leb-true _ _ within.0, leb-true _ _ within.1, tests.1)
+
+take_found : (text : List ℕ) (c : WholeCommand) → take_of text ≡ Some c
+    → Spells (codes "take" ++ 32 ∷ text) c
+unfolding take_of spelling
+take_found text c e =
+    option_and_then_some _ (nat_of (word text)) c e (λ task is_task e1.
+    option_and_then_some _ (rest text) c e1 (λ last is_last e2.
+    option_and_then_some _ (nat_of last) c e2 (λ phases is_phases e3.
+    let first = nat_found (word text) task is_task in
+    let second = nat_found last phases is_phases in
+    let text_is = rest_found text last is_last in
+    let made = take_with_found task phases c e3 in
+    let P : WholeCommand → Type 0 = Spells (codes "take" ++ 32 ∷ text) in
+    subst P made.2 (
+      (first.1, made.0, made.1),
+      ap (λ t. codes "take" ++ 32 ∷ t)
+          (text_is ∙ ap (λ w. w ++ 32 ∷ last) first.0
+          ∙ ap (λ t. decimal task ++ 32 ∷ t) second.0),
+    ))))
+
+wait_found : (text : List ℕ) (c : WholeCommand) → wait_of text ≡ Some c
     → Spells (codes "wait" ++ 32 ∷ text) c
 unfolding wait_of spelling
 wait_found text c e =
     option_and_then_some _ (nat_of text) c e (λ task is_task e1.
     let first = nat_found text task is_task in
-    let P : Command → Type 0 = Spells (codes "wait" ++ 32 ∷ text) in
+    let P : WholeCommand → Type 0 = Spells (codes "wait" ++ 32 ∷ text) in
     subst P (same_Some _ c e1) (first.1, ap (λ t. codes "wait" ++ 32 ∷ t) first.0))
 
-drop_found : (text : List ℕ) (c : Command) → drop_of text ≡ Some c
+drop_found : (text : List ℕ) (c : WholeCommand) → drop_of text ≡ Some c
     → Spells (codes "drop" ++ 32 ∷ text) c
 unfolding drop_of spelling
 drop_found text c e =
     option_and_then_some _ (nat_of text) c e (λ task is_task e1.
     let first = nat_found text task is_task in
-    let P : Command → Type 0 = Spells (codes "drop" ++ 32 ∷ text) in
+    let P : WholeCommand → Type 0 = Spells (codes "drop" ++ 32 ∷ text) in
     subst P (same_Some _ c e1) (first.1, ap (λ t. codes "drop" ++ 32 ∷ t) first.0))
 
-after_found : (verb text : List ℕ) (c : Command) → command_after verb text ≡ Some c
+after_found : (verb text : List ℕ) (c : WholeCommand) → command_after verb text ≡ Some c
     → Spells (verb ++ 32 ∷ text) c
 unfolding command_after
 after_found verb text c e =
@@ -301,12 +429,14 @@ after_found verb text c e =
     chosen verb (codes "now") _ _ c e2 (λ same is. named _ same (now_found text c is)) (λ e3.
     chosen verb (codes "send") _ _ c e3 (λ same is. named _ same (send_found text c is)) (λ e4.
     chosen verb (codes "signal") _ _ c e4 (λ same is. named _ same (signal_found text c is)) (λ e5.
-    chosen verb (codes "wait") _ _ c e5 (λ same is. named _ same (wait_found text c is)) (λ e6.
-    chosen verb (codes "drop") _ _ c e6 (λ same is. named _ same (drop_found text c is))
-    (λ other. absurd (cc))))))))
+    chosen verb (codes "block") _ _ c e5 (λ same is. named _ same (block_found text c is)) (λ e6.
+    chosen verb (codes "wait") _ _ c e6 (λ same is. named _ same (wait_found text c is)) (λ e7.
+    chosen verb (codes "take") _ _ c e7 (λ same is. named _ same (take_found text c is)) (λ e8.
+    chosen verb (codes "drop") _ _ c e8 (λ same is. named _ same (drop_found text c is))
+    (λ other. absurd (cc))))))))))
 
 -- a line that is read is the spelling of its command, whose numbers are within their limits
-pub command_found : (line : List ℕ) (c : Command) → command_of line ≡ Some c
+pub command_found : (line : List ℕ) (c : WholeCommand) → command_of line ≡ Some c
     → IsCommand c × (line ≡ spelling c)
 unfolding command_of
 command_found line c e =
@@ -427,26 +557,83 @@ send_only task value small few =
       int_only value few,
     ) refl
 
+-- the words of values, of which the first stands in front
+pub words_of-values : (v : ℤ) (vs : List ℤ) → AreSmall (v ∷ vs)
+    → words_of (signed_decimal v ++ values_text vs) ≡ signed_decimal v ∷ map signed_decimal vs
+words_of-values v [] small =
+    let free = signed_has_no_space v (All-head IsSmall v [] small) in
+    ap words_of (append-nil (signed_decimal v)) ∙ words_at (signed_decimal v)
+    ∙ rw (word_free (signed_decimal v) free, rest_free (signed_decimal v) free) refl
+words_of-values v (u ∷ us) small =
+    let free = signed_has_no_space v (All-head IsSmall v (u ∷ us) small) in
+    let more = signed_decimal u ++ values_text us in
+    words_at (signed_decimal v ++ 32 ∷ more)
+    ∙ rw (word_prefix more (signed_decimal v) free, rest_prefix more (signed_decimal v) free)
+    (ap (λ words. signed_decimal v ∷ words) (words_of-values u us (All-tail IsSmall v (u ∷ us) small)))
+
+ints_only : (vs : List ℤ) → AreSmall vs → ints_of (map signed_decimal vs) ≡ Some vs
+unfolding ints_of
+ints_only [] small = refl
+ints_only (v ∷ vs) small = rw (int_only v (All-head IsSmall v vs small), ints_only vs (All-tail IsSmall v vs small)) refl
+
+values_only : (v : ℤ) (vs : List ℤ) → IsBlock (v ∷ vs) → values_of (signed_decimal v ++ values_text vs) ≡ Some (v ∷ vs)
+unfolding values_of few_values
+values_only v vs is = rw (words_of-values v vs is.small, ints_only (v ∷ vs) is.small, le-leb (length (v ∷ vs)) 16 is.few) refl
+
+block_only : (task : ℕ) (values : List ℤ) → task ≤ most → IsBlock values
+    → block_of (decimal task ++ values_text values) ≡ Some (Block task values)
+unfolding block_of
+block_only task [] small is = absurd (let some : 1 ≤ length {A = ℤ} [] = is.some in omega arith)
+block_only task (v ∷ vs) small is =
+    let free = decimal_has_no_space task small in
+    rw (
+      word_prefix (signed_decimal v ++ values_text vs) (decimal task) free,
+      nat_only task small,
+      rest_prefix (signed_decimal v ++ values_text vs) (decimal task) free,
+      values_only v vs is,
+    ) refl
+
+take_only : (task phases : ℕ) → task ≤ most → 1 ≤ phases → phases ≤ 16
+    → take_of (decimal task ++ 32 ∷ decimal phases) ≡ Some (Take task phases)
+unfolding take_of take_with
+take_only task phases small some few =
+    let free = decimal_has_no_space task small in
+    rw (
+      word_prefix (decimal phases) (decimal task) free,
+      nat_only task small,
+      rest_prefix (decimal phases) (decimal task) free,
+      nat_only phases (omega arith),
+      le-leb 1 phases some,
+      le-leb phases 16 few,
+    ) refl
+
 -- the spelling of a command within its limits is read as the command
-pub command_only : (c : Command) → IsCommand c → command_of (spelling c) ≡ Some c
+pub command_only : (c : WholeCommand) → IsCommand c → command_of (spelling c) ≡ Some c
 unfolding command_of command_after wait_of drop_of spelling
 command_only (Make operation bound phases) is = make_only operation bound phases is.0 is.1
 command_only (Add parent child m) is = add_only parent child m is.0 is.1
 command_only (Now parent child) is = now_only parent child is.0 is.1
 command_only (Send task value) is = send_only task value is.0 is.1
 command_only (Signal task single) is = signal_only task single is.0 is.1
+command_only (Block task values) is = block_only task values is.0 is.1
+command_only (Take task phases) is = take_only task phases is.0 is.1 is.2
 command_only (Wait task) is = rw (nat_only task is) refl
 command_only (Drop task) is = rw (nat_only task is) refl
 
 -- the two laws at what a reader answers
 
-pub found_at : (line : List ℕ) (o : Option Command) → o ≡ command_of line
+pub found_at : (line : List ℕ) (o : Option WholeCommand) → o ≡ command_of line
     → IfSome o (λ c. IsCommand c × (line ≡ spelling c))
 found_at line None e = tt
 found_at line (Some c) e = command_found line c (sym e)
 
-pub only_at : (line : List ℕ) (o : Option Command) → o ≡ command_of line
-    → (c : Command) → IsCommand c → line ≡ spelling c → o ≡ Some c
+pub found_whole : (values : List ℤ) (line : List ℕ) (o : Option Command) → maybe_whole values o ≡ command_of line
+    → IfSome o (λ c. IsCommand (whole_command values c) × (line ≡ spelling (whole_command values c)))
+found_whole values line None e = tt
+found_whole values line (Some c) e = found_at line (Some (whole_command values c)) e
+
+pub only_at : (line : List ℕ) (o : Option WholeCommand) → o ≡ command_of line
+    → (c : WholeCommand) → IsCommand c → line ≡ spelling c → o ≡ Some c
 only_at line o e c is same = e ∙ ap command_of same ∙ command_only c is
 
 -- how long a line can be
@@ -477,7 +664,12 @@ single_short (Some (Clamp range)) can =
       signed_short range.1 can.high_small,
     ))
 
-pub short_line : (c : Command) → IsCommand c → length (spelling c) ≤ 74
+values_short : (values : List ℤ) → AreSmall values → length (values_text values) ≤ 21 * length values
+values_short [] small = omega arith
+values_short (v ∷ vs) small =
+    omega (arith, length-append (signed_decimal v) (values_text vs), signed_short v (All-head IsSmall v vs small), values_short vs (All-tail IsSmall v vs small))
+
+pub short_line : (c : WholeCommand) → IsCommand c → length (spelling c) ≤ 361
 unfolding spelling
 short_line (Make operation bound phases) is =
     simp length-append (omega (
@@ -499,15 +691,19 @@ short_line (Now parent child) is =
     simp length-append (omega (arith, decimal_short parent is.0, decimal_short child is.1))
 short_line (Signal task single) is =
     simp length-append (omega (arith, decimal_short task is.0, single_short single is.1))
+short_line (Block task values) is =
+    simp length-append (omega (arith, decimal_short task is.0, values_short values is.1.small, is.1.few))
+short_line (Take task phases) is =
+    simp length-append (omega (arith, decimal_short task is.0, decimal_short phases (let p : phases ≤ 16 = is.2 in omega arith)))
 short_line (Wait task) is = omega (arith, decimal_short task is)
 short_line (Drop task) is = omega (arith, decimal_short task is)
 
-long_at : (line : List ℕ) (o : Option Command) → command_of line ≡ o → 75 ≤ length line → o ≡ None
+long_at : (line : List ℕ) (o : Option WholeCommand) → command_of line ≡ o → 361 < length line → o ≡ None
 long_at line None e long = refl
 long_at line (Some c) e long =
     let found = command_found line c e in
     absurd (omega (arith, ap (λ l. length l) found.1, short_line c found.0))
 
--- no line of the grammar has 75 bytes
-pub long_none : (line : List ℕ) → 75 ≤ length line → command_of line ≡ None
+-- no line of the grammar has more than 361 bytes
+pub long_none : (line : List ℕ) → 361 < length line → command_of line ≡ None
 long_none line long = long_at line (command_of line) refl long

@@ -1,3 +1,4 @@
+pub mod BlockValues
 pub mod CutAtLf
 pub mod Digits
 pub mod Grammar

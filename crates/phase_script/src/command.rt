@@ -3,7 +3,8 @@
 use phase_accum::Single;
 use phase_base::{Mode, Op};
 
-/// What a script line asks for. Task 0 is the founder.
+/// What a script line asks for. Task 0 is the founder. The values of a block stand beside it, in
+/// `Values`.
 #[derive(Clone, Copy, Debug, PartialEq, Eq)]
 pub enum Command {
     /// Makes the phaser. `bound` and `phases` are in phases.
@@ -33,9 +34,19 @@ pub enum Command {
         task: u64,
         single: Option<Single>,
     },
+    /// Signals as many of the task's next phases as there are values, each with its value as its
+    /// one send, and no single.
+    Block {
+        task: u64,
+    },
     /// Waits for the task's next phase.
     Wait {
         task: u64,
+    },
+    /// Waits for the task's next phases, as many as are complete, but no more than this.
+    Take {
+        task: u64,
+        phases: u64,
     },
     /// Drops the task's registration. The sends that it holds are given up.
     Drop {

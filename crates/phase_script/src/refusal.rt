@@ -20,8 +20,12 @@ pub enum Refusal {
     NoSignal,
     /// The task holds as many sends as it may.
     TooManySends,
+    /// The task holds sends, which no block takes along.
+    Held,
     /// A single is named, and the task's mode is not `Single`.
     NotSingle,
+    /// The block has more phases than the bound.
+    BadBlock,
     /// The task has to wait before it signals again.
     SignalTwice,
     /// No phase is left for the task to signal.
@@ -59,7 +63,9 @@ impl Refusal {
             Refusal::NoTask => b"no-task",
             Refusal::NoSignal => b"no-signal",
             Refusal::TooManySends => b"too-many-sends",
+            Refusal::Held => b"held",
             Refusal::NotSingle => b"not-single",
+            Refusal::BadBlock => b"bad-block",
             Refusal::SignalTwice => b"signal-twice",
             Refusal::Spent => b"spent",
             Refusal::Ahead => b"ahead",

@@ -2,7 +2,8 @@
 
 use crate::Refusal;
 
-/// The reply to a script line. Phases are counted from 0.
+/// The reply to a script line. Phases are counted from 0. What a block of phases gave stands beside
+/// it, in `Outcomes`.
 #[derive(Clone, Copy, Debug, PartialEq, Eq)]
 pub enum Reply {
     /// The command was done, and there is no more to say.
@@ -17,6 +18,8 @@ pub enum Reply {
     Empty { phase: u64 },
     /// The value of the phase that was waited for is out of range.
     TooBig { phase: u64 },
+    /// The phases that were waited for, this one and those behind it, gave the outcomes.
+    Values { phase: u64 },
     /// No further phase will be complete.
     Ended,
     /// The command was refused, and changed nothing.

@@ -1,14 +1,20 @@
 //! Reply lines as bytes.
 
-ghost use Rattle.std.specs.Prelude.{◌≡◌, ◌+◌, ◌≤◌, ◌++◌, List, ℕ, [], length, take};
-ghost use Rattle.phase_script.specs.ReplyLines.{reply_text, phase_text};
+ghost use Rattle.std.specs.Prelude.{◌≡◌, ◌+◌, ◌≤◌, ◌∷◌, ◌++◌, List, ℕ, [], length, take};
+ghost use Rattle.phase_script.specs.ReplyLines.{whole_reply, reply_text, phase_text, outcomes_text};
+ghost use Rattle.phase_script.specs.ReplyLines.{Value, Values, Refused};
+ghost use Rattle.phase_script.specs.declared.reply_line.TheConstants.{LENGTH_MAX};
 
-use crate::{Refusal, Reply};
+use crate::{Outcomes, Refusal, Reply};
 use itoa::Buffer;
+use phase_accum::Outcome;
 use std::marker::Model;
 
-// The longest reply line has a phase of 20 digits and a value of 20 bytes.
-const LENGTH_MAX: usize = 48;
+/// The bytes of the longest reply line, that to a `take` of `VALUES_MAX` phases.
+pub const REPLY_MAX: usize = 363;
+
+// A phase of any 64 bits has a digit more than one of a script.
+const LENGTH_MAX: usize = REPLY_MAX + 1;
 
 /// A reply line as bytes, with its LF.
 #[derive(Drop)]
@@ -22,11 +28,12 @@ impl Model for ReplyLine {
 
     ghost view = { λ l. take l.len l.buf };
 
-    ghost invariant = { λ l. l.len ≤ 48 };
+    ghost invariant = { λ l. l.len ≤ LENGTH_MAX };
 }
 
 impl ReplyLine {
-    fn new() -> ReplyLine
+    /// Makes a line of no byte. It takes no memory.
+    pub fn new() -> ReplyLine
         ensures { result ≡ [] }
     {
         ReplyLine {
@@ -36,7 +43,7 @@ impl ReplyLine {
     }
 
     fn push(&mut self, bytes: &[u8])
-        requires { length self.old + length bytes.now ≤ 48 }
+        requires { length self.old + length bytes.now ≤ LENGTH_MAX }
         ensures { self.new ≡ self.old ++ bytes.now }
     {
         let end = self.len + bytes.len();
@@ -44,47 +51,87 @@ impl ReplyLine {
         self.len = end;
     }
 
-    // The line of `bytes` alone.
-    fn of(bytes: &[u8]) -> ReplyLine
-        requires { length bytes.now ≤ 48 }
-        ensures { result ≡ bytes.now }
+    // Writes `bytes` in place of the line.
+    fn begin(&mut self, bytes: &[u8])
+        requires { length bytes.now ≤ LENGTH_MAX }
+        ensures { self.new ≡ bytes.now }
     {
-        let mut line = ReplyLine::new();
-        line.push(bytes);
-        line
+        self.len = 0;
+        self.push(bytes);
     }
 
-    fn of_phase(name: &[u8], phase: u64) -> ReplyLine
+    fn write_phase(&mut self, name: &[u8], phase: u64)
         requires { length name.now ≤ 20 }
-        ensures { result ≡ phase_text name.now phase }
+        ensures { self.new ≡ phase_text name.now phase }
     {
-        let mut line = ReplyLine::of(name);
-        line.push(b" ");
-        line.push(Buffer::new().format(phase).as_bytes());
-        line.push(b"\n");
-        line
+        self.begin(name);
+        self.push(b" ");
+        self.push(Buffer::new().format(phase).as_bytes());
+        self.push(b"\n");
     }
 
     #[tactic(auto, unfolding(crate::specs::ReplyLines::reply_text))]
-    fn of_value(phase: u64, value: i64) -> ReplyLine
-        ensures { result ≡ reply_text (Reply.Value phase value) }
+    fn write_value(&mut self, phase: u64, value: i64)
+        ensures { self.new ≡ reply_text (Value phase value) }
     {
-        let mut line = ReplyLine::of(b"value ");
-        line.push(Buffer::new().format(phase).as_bytes());
-        line.push(b" ");
-        line.push(Buffer::new().format(value).as_bytes());
-        line.push(b"\n");
-        line
+        self.begin(b"value ");
+        self.push(Buffer::new().format(phase).as_bytes());
+        self.push(b" ");
+        self.push(Buffer::new().format(value).as_bytes());
+        self.push(b"\n");
     }
 
     #[tactic(auto, unfolding(crate::specs::ReplyLines::reply_text))]
-    fn of_refusal(refusal: Refusal) -> ReplyLine
-        ensures { result ≡ reply_text (Reply.Refused refusal) }
+    fn write_refusal(&mut self, refusal: Refusal)
+        ensures { self.new ≡ reply_text (Refused refusal) }
     {
-        let mut line = ReplyLine::of(b"no ");
-        line.push(refusal.reason());
-        line.push(b"\n");
-        line
+        self.begin(b"no ");
+        self.push(refusal.reason());
+        self.push(b"\n");
+    }
+
+    // Puts a space and the word for what a phase gave behind the others.
+    fn push_outcome(&mut self, outcome: Outcome)
+        requires { length self.old + 21 ≤ LENGTH_MAX }
+        ensures bytes { self.new ≡ self.old ++ outcomes_text (outcome ∷ []) }
+        ensures short { length self.new ≤ length self.old + 21 }
+    {
+        self.push(b" ");
+        match outcome {
+            Outcome::Value(number) => self.push(Buffer::new().format(number).as_bytes()),
+            Outcome::Empty => self.push(b"empty"),
+            Outcome::TooBig => self.push(b"toobig"),
+        }
+    }
+
+    #[tactic(auto, unfolding(crate::specs::ReplyLines::reply_text))]
+    fn write_values(&mut self, phase: u64, outcomes: &Outcomes)
+        ensures { self.new ≡ reply_text (Values phase outcomes.now) }
+    {
+        self.begin(b"values ");
+        self.push(Buffer::new().format(phase).as_bytes());
+        for outcome in outcomes.as_slice() {
+            self.push_outcome(*outcome);
+        }
+        self.push(b"\n");
+    }
+
+    /// Writes the reply in place of the line, a `Values` with these outcomes. It takes no memory.
+    #[tactic(auto, unfolding(crate::specs::ReplyLines::reply_text))]
+    pub fn write(&mut self, reply: Reply, outcomes: &Outcomes)
+        ensures { self.new ≡ reply_text (whole_reply outcomes.now reply) }
+    {
+        match reply {
+            Reply::Accepted => self.begin(b"ok\n"),
+            Reply::Signalled { phase } | Reply::Joined { phase } => self.write_phase(b"ok", phase),
+            Reply::Value { phase, value } => self.write_value(phase, value),
+            Reply::Empty { phase } => self.write_phase(b"empty", phase),
+            Reply::TooBig { phase } => self.write_phase(b"toobig", phase),
+            Reply::Values { phase } => self.write_values(phase, outcomes),
+            Reply::Ended => self.begin(b"ended\n"),
+            Reply::Refused(refusal) => self.write_refusal(refusal),
+            Reply::BadLine => self.begin(b"bad line\n"),
+        }
     }
 
     /// Gives the bytes of the line, up to and with its LF.
@@ -92,22 +139,5 @@ impl ReplyLine {
         ensures { result.now ≡ self.now }
     {
         &self.buf[..self.len]
-    }
-}
-
-/// Writes the reply as a line. It takes no memory.
-#[tactic(auto, unfolding(crate::specs::ReplyLines::reply_text))]
-pub fn line(reply: Reply) -> ReplyLine
-    ensures { result ≡ reply_text reply }
-{
-    match reply {
-        Reply::Accepted => ReplyLine::of(b"ok\n"),
-        Reply::Signalled { phase } | Reply::Joined { phase } => ReplyLine::of_phase(b"ok", phase),
-        Reply::Value { phase, value } => ReplyLine::of_value(phase, value),
-        Reply::Empty { phase } => ReplyLine::of_phase(b"empty", phase),
-        Reply::TooBig { phase } => ReplyLine::of_phase(b"toobig", phase),
-        Reply::Ended => ReplyLine::of(b"ended\n"),
-        Reply::Refused(refusal) => ReplyLine::of_refusal(refusal),
-        Reply::BadLine => ReplyLine::of(b"bad line\n"),
     }
 }

@@ -3,42 +3,49 @@
 mod number;
 mod words;
 
-ghost use Rattle.std.specs.Prelude.{◌≡◌, ◌≤◌, nat_abs, IfSome};
+ghost use Rattle.std.specs.Prelude.{◌≡◌, ◌≤◌, List, ℤ, nat_abs, IfSome, Some, option_map};
 ghost use Rattle.phase_script.specs.Numbers.{most};
+ghost use Rattle.phase_script.specs.Commands.{WholeCommand, whole_command, maybe_whole};
 ghost use Rattle.phase_script.specs.Commands.{IsCommand, spelling, command_of, command_after};
 ghost use Rattle.phase_script.specs.Commands.{mode_of, single_of, clamp_after, ends_of};
 ghost use Rattle.phase_script.specs.Commands.{clamp_of, make_of, add_of, now_of, send_of, signal_of};
-ghost use Rattle.phase_script.specs.Commands.{wait_of, drop_of};
+ghost use Rattle.phase_script.specs.Commands.{block_of, values_of, wait_of, take_of, take_with, drop_of};
 
-use crate::Command;
+use crate::{Command, VALUES_MAX, Values};
 use number::{int, nat};
 use phase_accum::Single;
 use phase_base::{Mode, Op};
 use words::cut;
 
-/// Reads a script line, without its LF and CR, as the one command that it gives.
+/// The bytes of the longest line of the grammar, a `block` of `VALUES_MAX` values.
+pub const LINE_MAX: usize = 361;
+
+/// Reads a script line, without its LF and CR, as the one command that it gives. The values of a
+/// block come into `values`.
 ///
 /// The first word names the command, and one space stands between two words. A number has no
 /// needless zero and no plus. Any other line gives `None`. It takes no memory.
-pub fn read(line: &[u8]) -> Option<Command>
-    ensures exact { result ≡ command_of line.now }
-    ensures found { IfSome result (λ c. IsCommand c × (line.now ≡ spelling c)) }
-    ensures only { (c : Command) → IsCommand c → line.now ≡ spelling c → result ≡ Some c }
+pub fn read(line: &[u8], values: &mut Values) -> Option<Command>
+    ensures exact { maybe_whole values.new result ≡ command_of line.now }
+    ensures found { IfSome result (λ c. IsCommand (whole_command values.new c)
+        × (line.now ≡ spelling (whole_command values.new c))) }
+    ensures only { (c : WholeCommand) → IsCommand c → line.now ≡ spelling c
+        → maybe_whole values.new result ≡ Some c }
 {
-    command(line)
+    command(line, values)
 }
 
 #[tactic(auto, unfolding(crate::specs::Commands::command_of))]
-fn command(line: &[u8]) -> Option<Command>
-    ensures { result ≡ command_of line.now }
+fn command(line: &[u8], values: &mut Values) -> Option<Command>
+    ensures { maybe_whole values.new result ≡ command_of line.now }
 {
     let (verb, text) = cut(line);
-    command_with(verb, text?)
+    command_with(verb, text?, values)
 }
 
 #[tactic(auto, unfolding(crate::specs::Commands::command_after))]
-fn command_with(verb: &[u8], text: &[u8]) -> Option<Command>
-    ensures { result ≡ command_after verb.now text.now }
+fn command_with(verb: &[u8], text: &[u8], values: &mut Values) -> Option<Command>
+    ensures { maybe_whole values.new result ≡ command_after verb.now text.now }
 {
     if verb == b"make".as_slice() {
         make(text)
@@ -50,8 +57,12 @@ fn command_with(verb: &[u8], text: &[u8]) -> Option<Command>
         send(text)
     } else if verb == b"signal".as_slice() {
         signal(text)
+    } else if verb == b"block".as_slice() {
+        block(text, values)
     } else if verb == b"wait".as_slice() {
         wait(text)
+    } else if verb == b"take".as_slice() {
+        take(text)
     } else if verb == b"drop".as_slice() {
         drop_task(text)
     } else {
@@ -61,7 +72,7 @@ fn command_with(verb: &[u8], text: &[u8]) -> Option<Command>
 
 #[tactic(auto, unfolding(crate::specs::Commands::make_of))]
 fn make(text: &[u8]) -> Option<Command>
-    ensures { result ≡ make_of text.now }
+    ensures { (values : List ℤ) → maybe_whole values result ≡ make_of text.now }
 {
     let (name, numbers) = cut(text);
     let operation = Op::read(name)?;
@@ -77,7 +88,7 @@ fn make(text: &[u8]) -> Option<Command>
 
 #[tactic(auto, unfolding(crate::specs::Commands::add_of))]
 fn add(text: &[u8]) -> Option<Command>
-    ensures { result ≡ add_of text.now }
+    ensures { (values : List ℤ) → maybe_whole values result ≡ add_of text.now }
 {
     let (parent, words) = cut(text);
     let parent = nat(parent)?;
@@ -110,7 +121,7 @@ fn mode(name: &[u8]) -> Option<Mode>
 
 #[tactic(auto, unfolding(crate::specs::Commands::now_of))]
 fn now(text: &[u8]) -> Option<Command>
-    ensures { result ≡ now_of text.now }
+    ensures { (values : List ℤ) → maybe_whole values result ≡ now_of text.now }
 {
     let (parent, last) = cut(text);
     let parent = nat(parent)?;
@@ -120,7 +131,7 @@ fn now(text: &[u8]) -> Option<Command>
 
 #[tactic(auto, unfolding(crate::specs::Commands::send_of))]
 fn send(text: &[u8]) -> Option<Command>
-    ensures { result ≡ send_of text.now }
+    ensures { (values : List ℤ) → maybe_whole values result ≡ send_of text.now }
 {
     let (task, last) = cut(text);
     let task = nat(task)?;
@@ -130,7 +141,7 @@ fn send(text: &[u8]) -> Option<Command>
 
 #[tactic(auto, unfolding(crate::specs::Commands::signal_of, crate::specs::Commands::signal_with))]
 fn signal(text: &[u8]) -> Option<Command>
-    ensures { result ≡ signal_of text.now }
+    ensures { (values : List ℤ) → maybe_whole values result ≡ signal_of text.now }
 {
     let (task, last) = cut(text);
     let task = nat(task)?;
@@ -193,9 +204,49 @@ fn clamp_between(low: i64, high: i64) -> Option<Single>
     }
 }
 
+#[tactic(auto, unfolding(crate::specs::Commands::block_of))]
+fn block(text: &[u8], values: &mut Values) -> Option<Command>
+    ensures { maybe_whole values.new result ≡ block_of text.now }
+{
+    let (task, last) = cut(text);
+    let task = nat(task)?;
+    read_values(last?, values)?;
+    Some(Command::Block { task })
+}
+
+// Reads the words of the text as values, no more than `VALUES_MAX`.
+fn read_values(text: &[u8], values: &mut Values) -> Option<()>
+    ensures { option_map (λ _. values.new) result ≡ values_of text.now }
+{
+    values.clear();
+    let mut more = Some(text);
+    while let Some(words) = more {
+        if values.as_slice().len() == VALUES_MAX {
+            return None;
+        }
+        let (word, rest) = cut(words);
+        values.push(int(word)?);
+        more = rest;
+    }
+    Some(())
+}
+
+#[tactic(auto, unfolding(crate::specs::Commands::take_of, crate::specs::Commands::take_with))]
+fn take(text: &[u8]) -> Option<Command>
+    ensures { (values : List ℤ) → maybe_whole values result ≡ take_of text.now }
+{
+    let (task, last) = cut(text);
+    let task = nat(task)?;
+    let phases = nat(last?)?;
+    if phases < 1 || phases > VALUES_MAX as u64 {
+        return None;
+    }
+    Some(Command::Take { task, phases })
+}
+
 #[tactic(auto, unfolding(crate::specs::Commands::wait_of))]
 fn wait(text: &[u8]) -> Option<Command>
-    ensures { result ≡ wait_of text.now }
+    ensures { (values : List ℤ) → maybe_whole values result ≡ wait_of text.now }
 {
     let task = nat(text)?;
     Some(Command::Wait { task })
@@ -203,7 +254,7 @@ fn wait(text: &[u8]) -> Option<Command>
 
 #[tactic(auto, unfolding(crate::specs::Commands::drop_of))]
 fn drop_task(text: &[u8]) -> Option<Command>
-    ensures { result ≡ drop_of text.now }
+    ensures { (values : List ℤ) → maybe_whole values result ≡ drop_of text.now }
 {
     let task = nat(text)?;
     Some(Command::Drop { task })

@@ -3,20 +3,19 @@
 -- reply stands here as data.
 use Rattle.std.proofs.Common.{◌≡◌, List, ℕ, [], ◌∷◌, pos, negsuc, codes, refl}
 use Rattle.phase_script.specs.declared.refusal.Refusal.TheVariants as no
-use Rattle.phase_script.specs.declared.reply.Reply.{Reply}
-use Rattle.phase_script.specs.declared.reply.Reply.TheVariants.{Accepted, Signalled, Joined, Value, Empty, TooBig, Ended, Refused, BadLine}
+use Rattle.phase_script.specs.ReplyLines.{WholeReply, Accepted, Signalled, Joined, Value, Empty, TooBig, Ended, Refused, BadLine}
 use Rattle.phase_script.specs.Commands.{command_of, mode_of, ends_of, clamp_after, single_of, make_of, add_of, now_of, send_of, signal_of, signal_with, wait_of, drop_of, command_after}
 use Rattle.phase_script.specs.Numbers.{nat_of, int_of}
 use Rattle.phase_script.specs.Lines.{lines_of}
 use Rattle.phase_session.specs.Scripts.{ScriptState, start, reply_by, after_line, command_reply, after_command}
 
 -- the replies to the lines from a state on, as data
-abbrev replies_from : ScriptState → List (List ℕ) → List Reply
+abbrev replies_from : ScriptState → List (List ℕ) → List WholeReply
 replies_from state [] = []
 replies_from state (line ∷ lines) = reply_by state (command_of line) ∷ replies_from (after_line state line) lines
 
 -- the replies to a script, as data
-abbrev answers : List ℕ → List Reply
+abbrev answers : List ℕ → List WholeReply
 answers script = replies_from start (lines_of script)
 
 first_run : answers (codes "make sum 2 100\nsend 0 5\nsignal 0\nwait 0\n")

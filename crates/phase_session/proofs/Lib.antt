@@ -1,4 +1,5 @@
 mod Examples
+pub mod BlockSends
 pub mod Obeying
 pub mod Operations
 pub mod Scripted

@@ -19,13 +19,15 @@ use Rattle.phase_history.specs.declared.reply.Reply.TheVariants.{Accepted as Cal
 use Rattle.phase_history.specs.Replies.{reply_by, after_reply, signal_reply, refused_or}
 use Rattle.phase_core.specs.Cores.{CoreState, StandsFor}
 use Rattle.phase_script.specs.declared.refusal.Refusal.TheVariants as no
-use Rattle.phase_script.specs.declared.reply.Reply.{Reply}
-use Rattle.phase_script.specs.declared.reply.Reply.TheVariants.{Accepted}
 use Rattle.phase_script.specs.declared.command.Command.{Command}
-use Rattle.std.specs.Prelude.{IfOk, OnOk, OnErr, IsSome, is_some}
+use Rattle.phase_script.specs.declared.reply.Reply.{Reply}
+use Rattle.phase_script.specs.ReplyLines.{WholeReply, whole_reply, Tells, Accepted}
+use Rattle.phase_script.specs.Commands.{WholeCommand, whole_command}
+use Rattle.phase_accum.specs.declared.outcome.Outcome.{Outcome}
+use Rattle.std.specs.Prelude.{IfOk, OnOk, OnErr, IsSome, is_some, nat_lt}
 use Rattle.phase_session.specs.declared.script_phaser.ScriptPhaser.{ScriptPhaser}
 use Rattle.phase_session.specs.HeldSends.{Parcels, held_at, nothing}
-use Rattle.phase_session.specs.Scripts.{Held, held_by, held_signal, after_call, held_by_others, send_rows, send_reply, held_after_send, held_after_signal, held_after_drop, done_unless, phaser_reply, history_after, held_after, IsOkReply, MayWantMemory}
+use Rattle.phase_session.specs.Scripts.{Held, held_by, held_signal, after_call, held_by_others, send_rows, send_reply, held_after_send, held_after_signal, held_after_drop, done_unless, phaser_reply, history_after, held_after, IsOkReply, MayWantMemory, script_reply, signal_reason, one_each, block_rows, block_refusal, refused_or_reply, block_reply}
 use Rattle.phase_session.specs.Session.{PhaserStandsFor}
 
 -- ---- the sends of a task among those of all
@@ -138,7 +140,7 @@ pub phaser_sent : {A : Type 0} (op : Operation A) (old : ScriptPhaser A) (new : 
     → PhaserStandsFor op old limits h held → Some e ≡ entry_of old.core.members task → mode_signals e.mode ≡ true
     → StandsForSends op own (held_by held task ++ v ∷ [])
     → ((other : ℕ) → held_at op new other ≡ cond (eqb task other) own (held_at op old.held other))
-    → PhaserStandsFor op (record { core = old.core; held = new }) limits h (held_after_send (send_reply h held task) held task v)
+    → PhaserStandsFor op (record { core = old.core; held = new; sends = old.sends }) limits h (held_after_send (send_reply h held task) held task v)
 phaser_sent op old new own limits h held task e v stands found signals more puts =
     let found_h : entry_of (members_of h) task ≡ Some e = sym (found ∙ ap (λ ms. entry_of ms task) stands.core.members_are) in
     let one_more : length (held_by held task ++ v ∷ []) ≤ 65536 = more.part_is.few in
@@ -148,7 +150,7 @@ phaser_sent op old new own limits h held task e v stands found signals more puts
     ap (λ o. done_unless (refusal_at o no.NoTask (send_rows (length (held_by held task))))) found_h
     ∙ ap (λ b. done_unless (cond (not b) (Some no.NoSignal) (cond (leb 65536 (length (held_by held task))) (Some no.TooManySends) None))) signals
     ∙ ap (λ b. done_unless (cond b (Some no.TooManySends) None)) few in
-    let R : Reply → Type 0 = λ r. PhaserStandsFor op (record { core = old.core; held = new }) limits h (held_after_send r held task v) in
+    let R : WholeReply → Type 0 = λ r. PhaserStandsFor op (record { core = old.core; held = new; sends = old.sends }) limits h (held_after_send r held task v) in
     subst R (sym accepted) (record {
       limits_are = stands.limits_are;
       core = stands.core;
@@ -162,13 +164,13 @@ pub phaser_signalled : {A : Type 0} (op : Operation A) (old : ScriptPhaser A) (c
     → signal_reply old.core.limits h task (held_by held task ∷ []) single ≡ Ok phase
     → StandsFor op core (Signalled task (held_by held task ∷ []) single ∷ h)
     → ((other : ℕ) → held_at op new other ≡ cond (eqb task other) (nothing op) (held_at op old.held other))
-    → PhaserStandsFor op (record { core = core; held = new }) limits
+    → PhaserStandsFor op (record { core = core; held = new; sends = old.sends }) limits
     (after_call op.value limits h (held_signal held task single))
     (held_after_signal (signal_reply limits h task (held_by held task ∷ []) single) held task)
 phaser_signalled op old core new limits h held task phase single stands same ok after clears =
     let L : Limits → Type 0 = λ l. signal_reply l h task (held_by held task ∷ []) single ≡ Ok phase in
     let accepted : signal_reply limits h task (held_by held task ∷ []) single ≡ Ok phase = subst L stands.limits_are ok in
-    let R : Result ℕ SignalRefusal → Type 0 = λ r. PhaserStandsFor op (record { core = core; held = new }) limits
+    let R : Result ℕ SignalRefusal → Type 0 = λ r. PhaserStandsFor op (record { core = core; held = new; sends = old.sends }) limits
     (after_reply (held_signal held task single) (reply_by SignalledIn NotSignalled r) h) (held_after_signal r held task) in
     subst R (sym accepted) (record {
       limits_are = same ∙ stands.limits_are;
@@ -182,10 +184,10 @@ pub phaser_dropped : {A : Type 0} (op : Operation A) (old : ScriptPhaser A) (cor
     → PhaserStandsFor op old limits h held → core.limits ≡ old.core.limits
     → drop_refusal h task ≡ None → StandsFor op core (Dropped task ∷ h)
     → ((other : ℕ) → held_at op new other ≡ cond (eqb task other) (nothing op) (held_at op old.held other))
-    → PhaserStandsFor op (record { core = core; held = new }) limits
+    → PhaserStandsFor op (record { core = core; held = new; sends = old.sends }) limits
     (after_call op.value limits h (Drop task)) (held_after_drop (drop_refusal h task) held task)
 phaser_dropped op old core new limits h held task stands same accepted after clears =
-    let R : Option NoTask → Type 0 = λ r. PhaserStandsFor op (record { core = core; held = new }) limits
+    let R : Option NoTask → Type 0 = λ r. PhaserStandsFor op (record { core = core; held = new; sends = old.sends }) limits
     (after_reply (Drop task) (reply_by (λ answer. CallAccepted) NotDropped (refused_or r task)) h) (held_after_drop r held task) in
     subst R (sym accepted) (record {
       limits_are = same ∙ stands.limits_are;
@@ -195,49 +197,61 @@ phaser_dropped op old core new limits h held task stands same accepted after cle
 
 -- ---- a call for a command that is this one
 
-abbrev pub RepliesTo : {A : Type 0} → Operation A → ScriptPhaser A → Command → Reply → Type 0
+abbrev pub RepliesTo : {A : Type 0} → Operation A → ScriptPhaser A → WholeCommand → WholeReply → Type 0
 RepliesTo op old command reply = (limits : Limits) (h : History) (held : Held)
     → PhaserStandsFor op old limits h held → reply ≡ phaser_reply op.value limits h held command
 
-abbrev pub StandsAfter : {A : Type 0} → Operation A → ScriptPhaser A → ScriptPhaser A → Command → Type 0
+abbrev pub StandsAfter : {A : Type 0} → Operation A → ScriptPhaser A → ScriptPhaser A → WholeCommand → Type 0
 StandsAfter op old new command = (limits : Limits) (h : History) (held : Held)
     → PhaserStandsFor op old limits h held
     → PhaserStandsFor op new limits (history_after op.value limits h held command) (held_after limits h held command)
 
-abbrev pub IsOkAfter : {A : Type 0} → Operation A → ScriptPhaser A → Command → Type 0
+abbrev pub IsOkAfter : {A : Type 0} → Operation A → ScriptPhaser A → WholeCommand → Type 0
 IsOkAfter op old command = (limits : Limits) (h : History) (held : Held)
     → PhaserStandsFor op old limits h held → IsOkReply (phaser_reply op.value limits h held command)
 
-pub replies_if_ok : {A E : Type 0} (op : Operation A) (old : ScriptPhaser A) (r : Result Reply E) (command given : Command)
-    → command ≡ given → IfOk r (RepliesTo op old given) → IfOk r (RepliesTo op old command)
-replies_if_ok op old r command given is replies =
-    let P : Command → Type 0 = λ c. IfOk r (RepliesTo op old c) in subst P (sym is) replies
+-- what is told to a command that is this one, whatever outcomes stand beside
+abbrev pub TellsOf : {A : Type 0} → Operation A → ScriptPhaser A → WholeCommand → Reply → Type 0
+TellsOf op old command reply = (limits : Limits) (h : History) (held : Held)
+    → PhaserStandsFor op old limits h held → Tells reply (phaser_reply op.value limits h held command)
 
-pub stands_on_ok : {A E : Type 0} (op : Operation A) (old new : ScriptPhaser A) (r : Result Reply E) (command given : Command)
-    → command ≡ given → OnOk r (StandsAfter op old new given) → OnOk r (StandsAfter op old new command)
-stands_on_ok op old new r command given is stands =
-    let P : Command → Type 0 = λ c. OnOk r (StandsAfter op old new c) in subst P (sym is) stands
+pub replies : {A : Type 0} (op : Operation A) (old : ScriptPhaser A) (reply : WholeReply) (values : List ℤ) (command given : Command)
+    → command ≡ given → RepliesTo op old (whole_command values given) reply → RepliesTo op old (whole_command values command) reply
+replies op old reply values command given is same =
+    let P : Command → Type 0 = λ c. RepliesTo op old (whole_command values c) reply in subst P (sym is) same
 
-pub ok_on_err : {A E : Type 0} (op : Operation A) (old : ScriptPhaser A) (r : Result Reply E) (command given : Command)
-    → command ≡ given → OnErr r (IsOkAfter op old given) → OnErr r (IsOkAfter op old command)
-ok_on_err op old r command given is ok =
-    let P : Command → Type 0 = λ c. OnErr r (IsOkAfter op old c) in subst P (sym is) ok
+pub tells : {A : Type 0} (op : Operation A) (old : ScriptPhaser A) (reply : Reply) (outcomes : List Outcome) (values : List ℤ) (command given : Command)
+    → command ≡ given → TellsOf op old (whole_command values given) reply
+    → RepliesTo op old (whole_command values command) (whole_reply outcomes reply)
+tells op old reply outcomes values command given is same =
+    replies op old (whole_reply outcomes reply) values command given is (λ limits h held stands. same limits h held stands outcomes)
 
-pub asks_as : {R E : Type 0} (r : Result R E) (command given : Command)
-    → command ≡ given → MayWantMemory (Some given) → OnErr r (MayWantMemory (Some command))
-asks_as (Ok x) command given is may = tt
-asks_as (Err e) command given is may =
-    let P : Command → Type 0 = λ c. MayWantMemory (Some c) in subst P (sym is) may
+pub tells_if_ok : {A E : Type 0} (op : Operation A) (old : ScriptPhaser A) (r : Result Reply E) (outcomes : List Outcome) (values : List ℤ)
+    (command given : Command) → command ≡ given → IfOk r (TellsOf op old (whole_command values given))
+    → IfOk r (λ reply. RepliesTo op old (whole_command values command) (whole_reply outcomes reply))
+tells_if_ok op old (Ok reply) outcomes values command given is same = tells op old reply outcomes values command given is same
+tells_if_ok op old (Err e) outcomes values command given is same = tt
 
-pub replies : {A : Type 0} (op : Operation A) (old : ScriptPhaser A) (reply : Reply) (command given : Command)
-    → command ≡ given → RepliesTo op old given reply → RepliesTo op old command reply
-replies op old reply command given is same =
-    let P : Command → Type 0 = λ c. RepliesTo op old c reply in subst P (sym is) same
+pub stands_on_ok : {A E : Type 0} (op : Operation A) (old new : ScriptPhaser A) (r : Result Reply E) (values : List ℤ) (command given : Command)
+    → command ≡ given → OnOk r (StandsAfter op old new (whole_command values given)) → OnOk r (StandsAfter op old new (whole_command values command))
+stands_on_ok op old new r values command given is stands =
+    let P : Command → Type 0 = λ c. OnOk r (StandsAfter op old new (whole_command values c)) in subst P (sym is) stands
 
-pub stands_then : {A : Type 0} (op : Operation A) (old new : ScriptPhaser A) (command given : Command)
-    → command ≡ given → StandsAfter op old new given → StandsAfter op old new command
-stands_then op old new command given is stands =
-    let P : Command → Type 0 = λ c. StandsAfter op old new c in subst P (sym is) stands
+pub ok_on_err : {A E : Type 0} (op : Operation A) (old : ScriptPhaser A) (r : Result Reply E) (values : List ℤ) (command given : Command)
+    → command ≡ given → OnErr r (IsOkAfter op old (whole_command values given)) → OnErr r (IsOkAfter op old (whole_command values command))
+ok_on_err op old r values command given is ok =
+    let P : Command → Type 0 = λ c. OnErr r (IsOkAfter op old (whole_command values c)) in subst P (sym is) ok
+
+pub asks_as : {R E : Type 0} (r : Result R E) (values : List ℤ) (command given : Command)
+    → command ≡ given → MayWantMemory (Some (whole_command values given)) → OnErr r (MayWantMemory (Some (whole_command values command)))
+asks_as (Ok x) values command given is may = tt
+asks_as (Err e) values command given is may =
+    let P : Command → Type 0 = λ c. MayWantMemory (Some (whole_command values c)) in subst P (sym is) may
+
+pub stands_then : {A : Type 0} (op : Operation A) (old new : ScriptPhaser A) (values : List ℤ) (command given : Command)
+    → command ≡ given → StandsAfter op old new (whole_command values given) → StandsAfter op old new (whole_command values command)
+stands_then op old new values command given is stands =
+    let P : Command → Type 0 = λ c. StandsAfter op old new (whole_command values c) in subst P (sym is) stands
 
 -- a member's drop is accepted
 pub drop_is_accepted : {A : Type 0} (op : Operation A) (old : ScriptPhaser A) (limits : Limits) (h : History) (held : Held) (task : ℕ)
@@ -249,3 +263,21 @@ drop_is_accepted op old limits h held task stands member =
       | None ↦ λ e. absurd (cc)
       | Some entry ↦ λ e. refl
     ] there
+
+-- a block that a signaller with no sends makes is answered as its signal is
+pub block_refused : {A : Type 0} (op : Operation A) (old : ScriptPhaser A) (limits : Limits) (h : History) (held : Held) (task : ℕ) (values : List ℤ)
+    (e : Entry) (refusal : SignalRefusal)
+    → PhaserStandsFor op old limits h held → Some e ≡ entry_of old.core.members task → mode_signals e.mode ≡ true
+    → length (held_by held task) ≡ 0 → signal_reply old.core.limits h task (one_each values) None ≡ Err refusal
+    → signal_reason refusal ≡ block_reply op.value limits h held task values
+block_refused op old limits h held task values e refusal stands found signals none refused =
+    let found_h : entry_of (members_of h) task ≡ Some e = sym (found ∙ ap (λ ms. entry_of ms task) stands.core.members_are) in
+    let L : Limits → Type 0 = λ l. signal_reply l h task (one_each values) None ≡ Err refusal in
+    let allowed : block_refusal h held task ≡ None =
+    ap (λ o. refusal_at o no.NoTask (block_rows (held_by held task))) found_h
+    ∙ ap (λ b. cond (not b) (Some no.NoSignal) (cond (nat_lt 0 (length (held_by held task))) (Some no.Held) None)) signals
+    ∙ ap (λ n. cond (nat_lt 0 n) (Some no.Held) None) none in
+    sym (
+    ap (λ o. refused_or_reply o (script_reply (reply_by SignalledIn NotSignalled (signal_reply limits h task (one_each values) None)))) allowed
+    ∙ ap (λ r. script_reply (reply_by SignalledIn NotSignalled r)) (subst L stands.limits_are refused)
+    )

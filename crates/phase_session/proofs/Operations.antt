@@ -10,10 +10,11 @@ use Rattle.phase_accum.specs.Leasts.{least_operation}
 use Rattle.phase_accum.specs.Greatests.{greatest_operation}
 use Rattle.phase_accum.specs.Anys.{any_operation}
 use Rattle.phase_history.specs.Histories.{History}
-use Rattle.phase_script.specs.declared.command.Command.{Command}
+use Rattle.phase_script.specs.Commands.{WholeCommand}
 use Rattle.phase_base.specs.declared.operation.Op.{Op}
 use Rattle.phase_base.specs.declared.operation.Op.TheVariants.{Sum, Product, Least, Greatest, Any}
 use Rattle.phase_script.specs.declared.reply.Reply.{Reply}
+use Rattle.phase_script.specs.ReplyLines.{WholeReply, whole_reply}
 use Rattle.phase_session.specs.declared.script_phaser.ScriptPhaser.{ScriptPhaser}
 use Rattle.phase_session.specs.declared.any_phaser.AnyPhaser.{AnyPhaser}
 use Rattle.phase_session.specs.declared.any_phaser.AnyPhaser.TheVariants as phaser
@@ -44,16 +45,16 @@ on_err : {A E : Type 0} (P Q : Type 0) (r : Result A E) → (P → Q) → OnErr 
 on_err P Q (Ok x) f p = tt
 on_err P Q (Err e) f p = f p
 
-abbrev pub AnyReplies : AnyPhaser → Command → Reply → Type 0
+abbrev pub AnyReplies : AnyPhaser → WholeCommand → WholeReply → Type 0
 AnyReplies whole command reply = (operation : Op) (limits : Limits) (h : History) (held : Held)
     → AnyStandsFor whole operation limits h held → reply ≡ phaser_reply (value_by operation) limits h held command
 
-abbrev pub AnyStandsAfter : AnyPhaser → AnyPhaser → Command → Type 0
+abbrev pub AnyStandsAfter : AnyPhaser → AnyPhaser → WholeCommand → Type 0
 AnyStandsAfter old new command = (operation : Op) (limits : Limits) (h : History) (held : Held)
     → AnyStandsFor old operation limits h held
     → AnyStandsFor new operation limits (history_after (value_by operation) limits h held command) (held_after limits h held command)
 
-abbrev pub AnyIsOkAfter : AnyPhaser → Command → Type 0
+abbrev pub AnyIsOkAfter : AnyPhaser → WholeCommand → Type 0
 AnyIsOkAfter whole command = (operation : Op) (limits : Limits) (h : History) (held : Held)
     → AnyStandsFor whole operation limits h held → IsOkReply (phaser_reply (value_by operation) limits h held command)
 
@@ -62,15 +63,16 @@ same_value : {A : Type 0} (whole : AnyPhaser) (op : Operation A) (p : ScriptPhas
     → IsUnder whole op p v → v ≡ operation → op.value ≡ value_by operation
 same_value whole op p v operation u is = u.values ∙ ap value_by is
 
-pub replies_under : {A E : Type 0} (old : AnyPhaser) (op : Operation A) (p : ScriptPhaser A) (v : Op) (r : Result Reply E) (command : Command)
-    → IsUnder old op p v → IfOk r (RepliesTo op p command) → IfOk r (AnyReplies old command)
-replies_under old op p v r command u =
-    if_ok (RepliesTo op p command) (AnyReplies old command) r (λ reply replies operation limits h held stands.
+pub replies_under : {A E : Type 0} (old : AnyPhaser) (op : Operation A) (p : ScriptPhaser A) (v : Op) (r : Result Reply E) (outcomes : List Outcome) (command : WholeCommand)
+    → IsUnder old op p v → IfOk r (λ reply. RepliesTo op p command (whole_reply outcomes reply))
+    → IfOk r (λ reply. AnyReplies old command (whole_reply outcomes reply))
+replies_under old op p v r outcomes command u =
+    if_ok (λ reply. RepliesTo op p command (whole_reply outcomes reply)) (λ reply. AnyReplies old command (whole_reply outcomes reply)) r (λ reply replies operation limits h held stands.
     let d = u.down operation limits h held stands in
     replies limits h held d.1
     ∙ ap (λ (value : List ℤ → Outcome). phaser_reply value limits h held command) (same_value old op p v operation u d.0))
 
-pub stands_under : {A E : Type 0} (old new : AnyPhaser) (op : Operation A) (p q : ScriptPhaser A) (v : Op) (r : Result Reply E) (command : Command)
+pub stands_under : {A E : Type 0} (old new : AnyPhaser) (op : Operation A) (p q : ScriptPhaser A) (v : Op) (r : Result Reply E) (command : WholeCommand)
     → IsUnder old op p v → IsUnder new op q v → OnOk r (StandsAfter op p q command) → OnOk r (AnyStandsAfter old new command)
 stands_under old new op p q v r command u w =
     on_ok (StandsAfter op p q command) (AnyStandsAfter old new command) r (λ after operation limits h held stands.
@@ -79,7 +81,7 @@ stands_under old new op p q v r command u w =
     let O : Op → Type 0 = λ o. AnyStandsFor new o limits (history_after (value_by operation) limits h held command) (held_after limits h held command) in
     subst O d.0 (w.up limits _ _ (subst V (same_value old op p v operation u d.0) (after limits h held d.1))))
 
-pub ok_under : {A E : Type 0} (old : AnyPhaser) (op : Operation A) (p : ScriptPhaser A) (v : Op) (r : Result Reply E) (command : Command)
+pub ok_under : {A E : Type 0} (old : AnyPhaser) (op : Operation A) (p : ScriptPhaser A) (v : Op) (r : Result Reply E) (command : WholeCommand)
     → IsUnder old op p v → OnErr r (IsOkAfter op p command) → OnErr r (AnyIsOkAfter old command)
 ok_under old op p v r command u =
     on_err (IsOkAfter op p command) (AnyIsOkAfter old command) r (λ ok operation limits h held stands.

@@ -3,14 +3,15 @@ ghost use Rattle.std.specs.Prelude.{◌≡◌, [], ◌∷◌, IfOk, OnOk, OnErr}
 ghost use Rattle.phase_base.specs.Limits.{Limits};
 ghost use Rattle.phase_accum.specs.Values.{value_by};
 ghost use Rattle.phase_history.specs.Histories.{History};
-ghost use Rattle.phase_script.specs.Commands.{IsCommand};
+ghost use Rattle.phase_script.specs.Commands.{whole_command, IsCommand};
+ghost use Rattle.phase_script.specs.ReplyLines.{whole_reply};
 ghost use Rattle.phase_session.specs.Scripts.{Held, IsOkReply, MayWantMemory};
 ghost use Rattle.phase_session.specs.Scripts.{phaser_reply, history_after, held_after};
 
 use crate::script_phaser::ScriptPhaser;
 use phase_accum::{Any, Greatest, Least, Op, Product, Sum};
 use phase_base::Spec;
-use phase_script::{Command, Reply};
+use phase_script::{Command, Outcomes, Reply, Values};
 use std::alloc::{AllocError, Global};
 
 /// A phaser that a script made, by its operation.
@@ -40,29 +41,36 @@ impl AnyPhaser {
         }
     }
 
-    /// The reply to a command.
-    pub fn obey(&mut self, command: Command) -> Result<Reply, AllocError>
-        requires { IsCommand command }
+    /// The reply to a command with these values. What a block of phases gave comes into `outcomes`.
+    pub fn obey(
+        &mut self,
+        command: Command,
+        values: &Values,
+        outcomes: &mut Outcomes,
+    ) -> Result<Reply, AllocError>
+        requires { IsCommand (whole_command values.now command) }
         ensures reply { IfOk result (λ reply. (operation : Op) (limits : Limits)
             (h : History) (held : Held) → AnyStandsFor self.old operation limits h held
-            → reply ≡ phaser_reply (value_by operation) limits h held command) }
+            → whole_reply outcomes.new reply ≡ phaser_reply (value_by operation) limits h held
+            (whole_command values.now command)) }
         ensures after { OnOk result ((operation : Op) (limits : Limits) (h : History)
             (held : Held) → AnyStandsFor self.old operation limits h held
             → AnyStandsFor self.new operation limits
-            (history_after (value_by operation) limits h held command)
-            (held_after limits h held command)) }
+            (history_after (value_by operation) limits h held (whole_command values.now command))
+            (held_after limits h held (whole_command values.now command))) }
         ensures err { OnErr result (self.new ≡ self.old) }
         ensures memory { OnErr result ((operation : Op) (limits : Limits) (h : History)
             (held : Held) → AnyStandsFor self.old operation limits h held
-            → IsOkReply (phaser_reply (value_by operation) limits h held command)) }
-        ensures asks { OnErr result (MayWantMemory (Some command)) }
+            → IsOkReply (phaser_reply (value_by operation) limits h held
+            (whole_command values.now command))) }
+        ensures asks { OnErr result (MayWantMemory (Some (whole_command values.now command))) }
     {
         match self {
-            AnyPhaser::Sum(phaser) => phaser.obey(command),
-            AnyPhaser::Product(phaser) => phaser.obey(command),
-            AnyPhaser::Least(phaser) => phaser.obey(command),
-            AnyPhaser::Greatest(phaser) => phaser.obey(command),
-            AnyPhaser::Any(phaser) => phaser.obey(command),
+            AnyPhaser::Sum(phaser) => phaser.obey(command, values, outcomes),
+            AnyPhaser::Product(phaser) => phaser.obey(command, values, outcomes),
+            AnyPhaser::Least(phaser) => phaser.obey(command, values, outcomes),
+            AnyPhaser::Greatest(phaser) => phaser.obey(command, values, outcomes),
+            AnyPhaser::Any(phaser) => phaser.obey(command, values, outcomes),
         }
     }
 }

@@ -3,6 +3,7 @@
 #![tactic(auto)]
 
 mod any_phaser;
+mod block_sends;
 mod held_sends;
 mod script_phaser;
 mod session;

@@ -1,16 +1,83 @@
 //! A session: the lines of a script, one at a time.
-ghost use Rattle.std.specs.Prelude.{◌≡◌, ◌≤◌, ℕ, List, length, [], ◌∷◌, ◌++◌, OnOk, OnErr, IfOk, Some, None};
-ghost use Rattle.phase_script.specs.ReplyLines.{IsOneLine};
-ghost use Rattle.phase_script.specs.Commands.{command_of, IsCommand};
+ghost use Rattle.std.specs.Prelude.{◌≡◌, ◌≤◌, ℕ, ℤ, List, length, [], ◌∷◌, ◌++◌, OnOk, OnErr, IfOk, Some, None};
+ghost use Rattle.phase_script.specs.ReplyLines.{whole_reply, Tells, IsOneLine};
+ghost use Rattle.phase_script.specs.declared.reply_line.TheConstants.{REPLY_MAX};
+ghost use Rattle.phase_script.specs.Commands.{whole_command, command_of, IsCommand};
 ghost use Rattle.phase_session.specs.Scripts.{ScriptState, start, reply_to, after_line};
 ghost use Rattle.phase_session.specs.Scripts.{command_reply, after_command, state_after};
 ghost use Rattle.phase_session.specs.Scripts.{reply_by, IsOkReply, MayWantMemory};
+ghost use Rattle.phase_session.specs.Session.{MaybeStandsFor};
 
 use crate::any_phaser::AnyPhaser;
 use phase_base::{Spec, SpecFault};
-use phase_script::{Command, Refusal, Reply, ReplyLine};
+use phase_script::{Command, Outcomes, Refusal, Reply, ReplyLine, Values, read};
 use std::alloc::{AllocError, Global};
 use std::marker::Model;
+
+// The reply to a command with these values, where a phaser was made or none was yet. What a block of
+// phases gave comes into `outcomes`.
+#[tactic(auto, unfolding(crate::specs::Session::MaybeStandsFor, crate::specs::Scripts::command_reply, crate::specs::Scripts::after_command))]
+fn obey(
+    phaser: &mut Option<AnyPhaser>,
+    alloc: Global,
+    command: Command,
+    values: &Values,
+    outcomes: &mut Outcomes,
+) -> Result<Reply, AllocError>
+    requires { IsCommand (whole_command values.now command) }
+    ensures reply { IfOk result (λ reply. (state : ScriptState) → MaybeStandsFor phaser.old state
+        → whole_reply outcomes.new reply
+        ≡ command_reply state (whole_command values.now command)) }
+    ensures after { OnOk result ((state : ScriptState) → MaybeStandsFor phaser.old state
+        → MaybeStandsFor phaser.new (after_command state (whole_command values.now command))) }
+    ensures err { OnErr result (phaser.new ≡ phaser.old) }
+    ensures memory { OnErr result ((state : ScriptState) → MaybeStandsFor phaser.old state
+        → IsOkReply (command_reply state (whole_command values.now command))) }
+    ensures asks { OnErr result (MayWantMemory (Some (whole_command values.now command))) }
+{
+    let Some(made) = phaser else {
+        return begin(phaser, alloc, command);
+    };
+    made.obey(command, values, outcomes)
+}
+
+// The reply to a command where no phaser was made yet.
+#[tactic(auto, unfolding(crate::specs::Session::MaybeStandsFor, crate::specs::Scripts::command_reply, crate::specs::Scripts::after_command))]
+fn begin(
+    phaser: &mut Option<AnyPhaser>,
+    alloc: Global,
+    command: Command,
+) -> Result<Reply, AllocError>
+    requires { phaser.old ≡ None }
+    ensures reply { IfOk result (λ reply. (state : ScriptState) (values : List ℤ)
+        → MaybeStandsFor phaser.old state
+        → Tells reply (command_reply state (whole_command values command))) }
+    ensures after { OnOk result ((state : ScriptState) (values : List ℤ)
+        → MaybeStandsFor phaser.old state
+        → MaybeStandsFor phaser.new (after_command state (whole_command values command))) }
+    ensures err { OnErr result (phaser.new ≡ phaser.old) }
+    ensures memory { OnErr result ((state : ScriptState) (values : List ℤ)
+        → MaybeStandsFor phaser.old state
+        → IsOkReply (command_reply state (whole_command values command))) }
+    ensures asks { OnErr result ((values : List ℤ)
+        → MayWantMemory (Some (whole_command values command))) }
+{
+    let Command::Make {
+        operation,
+        bound,
+        phases,
+    } = command
+    else {
+        return Ok(Reply::Refused(Refusal::NoPhaser));
+    };
+    let spec = match Spec::new(bound, phases) {
+        Ok(spec) => spec,
+        Err(SpecFault::BadBound) => return Ok(Reply::Refused(Refusal::BadBound)),
+        Err(SpecFault::BadPhases) => return Ok(Reply::Refused(Refusal::BadPhases)),
+    };
+    *phaser = Some(AnyPhaser::new(alloc, operation, spec)?);
+    Ok(Reply::Accepted)
+}
 
 /// A script that is answered line by line. It holds at most one phaser, and the sends that the
 /// phaser's tasks hold.
@@ -25,6 +92,8 @@ use std::marker::Model;
 pub struct Session {
     alloc: Global,
     phaser: Option<AnyPhaser>,
+    values: Values,
+    outcomes: Outcomes,
 }
 
 impl Model for Session {
@@ -37,7 +106,7 @@ impl Model for Session {
     ghost invariant = { λ s. IsSession s.phaser };
 }
 
-#[tactic(auto, unfolding(crate::specs::Session::Stands, crate::specs::Session::MaybeStandsFor, crate::specs::Scripts::start, crate::specs::Scripts::reply_to, crate::specs::Scripts::after_line, crate::specs::Scripts::command_reply, crate::specs::Scripts::after_command))]
+#[tactic(auto, unfolding(crate::specs::Session::Stands, crate::specs::Session::MaybeStandsFor, crate::specs::Scripts::start, crate::specs::Scripts::reply_to, crate::specs::Scripts::after_line))]
 impl Session {
     ghost use Rattle.phase_session.specs.Session.{Stands, StandsForLines};
 
@@ -48,6 +117,8 @@ impl Session {
         Session {
             alloc,
             phaser: None,
+            values: Values::new(),
+            outcomes: Outcomes::new(),
         }
     }
 
@@ -65,10 +136,10 @@ impl Session {
         // Memory is wanted only where the line would be answered `ok`.
         ensures memory { OnErr result ((state : ScriptState) → Stands self.old state
             → IsOkReply (reply_by state (command_of line.now))) }
-        // Only a `make`, an `add` or a `send` wants it.
+        // Only a `make`, an `add`, a `now` or a `send` wants it.
         ensures asks { OnErr result (MayWantMemory (command_of line.now)) }
-        // A reply is one line, of at most 47 bytes.
-        ensures one_line { IfOk result (λ reply. IsOneLine reply × (length reply ≤ 47)) }
+        // A reply is one line, of at most 363 bytes.
+        ensures one_line { IfOk result (λ reply. IsOneLine reply × (length reply ≤ REPLY_MAX)) }
         // A session stands for some state, whatever was done with it before.
         ensures stands { (state : ScriptState) × Stands self.old state }
         // The same over the lines so far: the session then stands for them with this one.
@@ -76,58 +147,38 @@ impl Session {
             → StandsForLines self.old lines → (reply ≡ reply_to (state_after lines) line.now)
             × StandsForLines self.new (lines ++ line.now ∷ [])) }
     {
-        let _ = &self.alloc;
-        let Some(command) = phase_script::read(line) else {
-            return Ok(phase_script::line(Reply::BadLine));
-        };
-        let reply = self.obey(command)?;
-        Ok(phase_script::line(reply))
+        let mut reply = ReplyLine::new();
+        self.answer(line, &mut reply)?;
+        Ok(reply)
     }
 
-    // The reply to a command.
-    fn obey(&mut self, command: Command) -> Result<Reply, AllocError>
-        requires { IsCommand command }
-        ensures reply { IfOk result (λ reply. (state : ScriptState) → Stands self.old state
-            → reply ≡ command_reply state command) }
+    /// The same as `line`, with the reply in place of the line that `reply` had. Want of memory leaves
+    /// that line too.
+    #[tactic(auto, unfolding(crate::specs::Session::Stands, crate::specs::Scripts::reply_to, crate::specs::Scripts::after_line))]
+    pub fn answer(&mut self, line: &[u8], reply: &mut ReplyLine) -> Result<(), AllocError>
+        ensures reply { OnOk result ((state : ScriptState) → Stands self.old state
+            → reply.new ≡ reply_to state line.now) }
         ensures after { OnOk result ((state : ScriptState) → Stands self.old state
-            → Stands self.new (after_command state command)) }
-        ensures err { OnErr result (self.new ≡ self.old) }
+            → Stands self.new (after_line state line.now)) }
+        ensures err { OnErr result ((self.new ≡ self.old) × (reply.new ≡ reply.old)) }
         ensures memory { OnErr result ((state : ScriptState) → Stands self.old state
-            → IsOkReply (command_reply state command)) }
-        ensures asks { OnErr result (MayWantMemory (Some command)) }
+            → IsOkReply (reply_by state (command_of line.now))) }
+        ensures asks { OnErr result (MayWantMemory (command_of line.now)) }
+        ensures one_line { OnOk result (IsOneLine reply.new × (length reply.new ≤ REPLY_MAX)) }
+        ensures stands { (state : ScriptState) × Stands self.old state }
     {
-        let Some(phaser) = &mut self.phaser else {
-            return self.begin(command);
+        let Some(command) = read(line, &mut self.values) else {
+            reply.write(Reply::BadLine, &self.outcomes);
+            return Ok(());
         };
-        phaser.obey(command)
-    }
-
-    // The reply to a command where no phaser was made yet.
-    fn begin(&mut self, command: Command) -> Result<Reply, AllocError>
-        requires { self.old.phaser ≡ None }
-        ensures reply { IfOk result (λ reply. (state : ScriptState) → Stands self.old state
-            → reply ≡ command_reply state command) }
-        ensures after { OnOk result ((state : ScriptState) → Stands self.old state
-            → Stands self.new (after_command state command)) }
-        ensures err { OnErr result (self.new ≡ self.old) }
-        ensures memory { OnErr result ((state : ScriptState) → Stands self.old state
-            → IsOkReply (command_reply state command)) }
-        ensures asks { OnErr result (MayWantMemory (Some command)) }
-    {
-        let Command::Make {
-            operation,
-            bound,
-            phases,
-        } = command
-        else {
-            return Ok(Reply::Refused(Refusal::NoPhaser));
-        };
-        let spec = match Spec::new(bound, phases) {
-            Ok(spec) => spec,
-            Err(SpecFault::BadBound) => return Ok(Reply::Refused(Refusal::BadBound)),
-            Err(SpecFault::BadPhases) => return Ok(Reply::Refused(Refusal::BadPhases)),
-        };
-        self.phaser = Some(AnyPhaser::new(self.alloc, operation, spec)?);
-        Ok(Reply::Accepted)
+        let answer = obey(
+            &mut self.phaser,
+            self.alloc,
+            command,
+            &self.values,
+            &mut self.outcomes,
+        )?;
+        reply.write(answer, &self.outcomes);
+        Ok(())
     }
 }

@@ -1,7 +1,7 @@
 //! The grammar and the reply lines at chosen texts, which no clause names.
 use phase_accum::{Range, Single};
 use phase_base::Mode;
-use phase_script::{Command, Op, Refusal, Reply, line, read};
+use phase_script::{Command, Op, Outcomes, Refusal, Reply, ReplyLine, Values, read};
 use std::test::Fail;
 
 #[test]
@@ -26,7 +26,11 @@ fn loose_lines_are_not_read(rt: HostRuntime) {
         "drop 0 0",
         "make mean 2 100",
     ] {
-        assert_eq!(rt; read(text.as_bytes()), None, "at '{text}'");
+        assert_eq!(rt;
+            read(text.as_bytes(), &mut Values::new()),
+            None,
+            "at '{text}'"
+        );
     }
 }
 
@@ -94,7 +98,11 @@ fn commands_are_read(rt: HostRuntime) {
             },
         ),
     ] {
-        assert_eq!(rt; read(text.as_bytes()), Some(command), "at '{text}'");
+        assert_eq!(rt;
+            read(text.as_bytes(), &mut Values::new()),
+            Some(command),
+            "at '{text}'"
+        );
     }
 }
 
@@ -105,8 +113,18 @@ fn a_clamp_is_read(rt: HostRuntime) -> Result<(), Fail> {
         task: 0,
         single: Some(Single::Clamp(range)),
     };
-    assert_eq!(rt; read(b"signal 0 clamp -5 10"), Some(command));
+    assert_eq!(rt;
+        read(b"signal 0 clamp -5 10", &mut Values::new()),
+        Some(command)
+    );
     Ok(())
+}
+
+// The line that tells a reply with no outcomes.
+fn line(reply: Reply) -> ReplyLine {
+    let mut line = ReplyLine::new();
+    line.write(reply, &Outcomes::new());
+    line
 }
 
 #[test]
@@ -142,7 +160,9 @@ fn refusals_have_their_words(rt: HostRuntime) {
         (Refusal::NoTask, "no no-task\n"),
         (Refusal::NoSignal, "no no-signal\n"),
         (Refusal::TooManySends, "no too-many-sends\n"),
+        (Refusal::Held, "no held\n"),
         (Refusal::NotSingle, "no not-single\n"),
+        (Refusal::BadBlock, "no bad-block\n"),
         (Refusal::SignalTwice, "no signal-twice\n"),
         (Refusal::Spent, "no spent\n"),
         (Refusal::Ahead, "no ahead\n"),

@@ -5,10 +5,15 @@ use std::process::Abort;
 use std::test::Fail;
 
 /// Lines, each beside its reply.
-type Rows<'a> = &'a [(&'a str, &'a str)];
+pub type Rows<'a> = &'a [(&'a str, &'a str)];
 
-// Hands the lines to the session, each of which must have its reply.
-fn follow(rt: &impl Abort, session: &mut Session, name: &str, rows: Rows<'_>) -> Result<(), Fail> {
+/// Hands the lines to the session, each of which must have its reply.
+pub fn follow(
+    rt: &impl Abort,
+    session: &mut Session,
+    name: &str,
+    rows: Rows<'_>,
+) -> Result<(), Fail> {
     for (line, reply) in rows {
         let got = session.line(line.as_bytes())?;
         let text = got.bytes().strip_suffix(b"\n").unwrap_or(b"no line end");

@@ -22,7 +22,7 @@ fn answers(rt: &impl Abort, session: &mut Session, line: &str, reply: &str) -> R
 
 // How many bytes the reply to a line has, whatever was done with the session before.
 fn size_of_reply(session: &mut Session, line: &[u8]) -> Result<usize, AllocError>
-    ensures { IfOk result (λ size. size ≤ 47) }
+    ensures { IfOk result (λ size. size ≤ 363) }
 {
     let reply = session.line(line)?;
     Ok(reply.bytes().len())

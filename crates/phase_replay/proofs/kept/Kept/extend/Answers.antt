@@ -6,5 +6,5 @@ use Rattle.phase_replay.proofs.kept.Kept.extend.Goals as goal
 pub returns : goal.returns
 returns c =
     let seen : c.args.self.now ≡ take c.self.inside.len c.self.inside.buf = search rules in
-    kept_extended 76 c.args.self.now c.self.inside.buf c.args.bytes.now c.copy_from_slice.new.self _ c.self.inside.len c.min-count.result
+    kept_extended 363 c.args.self.now c.self.inside.buf c.args.bytes.now c.copy_from_slice.new.self _ c.self.inside.len c.min-count.result
     seen (omega arith) (omega arith) c.min-count.ensures c.copy_from_slice.ensures.after

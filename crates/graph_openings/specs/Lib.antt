@@ -1,0 +1,2 @@
+pub mod Founders
+pub mod Openings

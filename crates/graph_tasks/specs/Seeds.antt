@@ -1,0 +1,80 @@
+-- A task before it is registered, and what it has received of its founders.
+use Rattle.std.specs.Prelude.{◌≡◌, ◌≢◌, ℕ, ◌+◌, ◌<◌, ◌≤◌, List, [], length, slice_get, Option, Some, None, false}
+use Rattle.graph_base.specs.declared.line.Parent.{Parent}
+use Rattle.graph_base.specs.Graphs.{task_at}
+use Rattle.stream_lists.specs.Jobs.{Job, samples_at}
+use Rattle.graph_members.specs.Members.{Spot}
+use Rattle.graph_members.specs.AnyMembers.{member_in}
+use Rattle.graph_members.specs.declared.any_member.AnyMember.{AnyMember}
+use Rattle.graph_turns.specs.Nexts.{registrations_at}
+use Rattle.graph_steps.specs.Steps.{HasFilter}
+use Rattle.graph_steps.specs.declared.owed.Owed.TheVariants.{Nothing}
+use Rattle.graph_openings.specs.Openings.{IsRootMember}
+use Rattle.graph_tasks.specs.declared.child.Child.{Child}
+use Rattle.graph_tasks.specs.declared.hold.Hold.{Hold}
+use Rattle.graph_tasks.specs.declared.hold.Hold.TheVariants.{On}
+use Rattle.graph_tasks.specs.declared.seed.Seed.{Seed}
+use Rattle.graph_tasks.specs.declared.task_state.TaskState.{TaskState}
+
+-- ---- children
+
+-- a child of task t, none of whose registrations is made
+pub record IsUnborn (job : Job) (t : ℕ) (child : Child) : Type 0 where
+  pub there : child.task < length job.graph.tasks
+  pub parent : Parent
+  pub has : (task_at job.graph child.task).parent ≡ Some parent
+  pub by : parent.task ≡ t
+  pub at : child.at ≡ parent.at
+  pub none : child.numbers.items ≡ []
+
+-- the children of task t among the first n tasks
+pub record AreChildrenBelow (job : Job) (t n : ℕ) (children : List Child) : Type 0 where
+  pub each : (i : ℕ) (child : Child) → slice_get children i ≡ Some child → IsUnborn job t child
+  pub all : (c : ℕ) (u : Parent) → c < n → (task_at job.graph c).parent ≡ Some u → u.task ≡ t
+      → (i : ℕ) × ((child : Child) × (slice_get children i ≡ Some child) × (child.task ≡ c)
+      × (child.at ≡ u.at))
+
+-- whether task c is a child of task t, and after how many steps it comes
+abbrev pub TellsChild : Job → ℕ → ℕ → Option ℕ → Type 0
+TellsChild job t c (Some at) =
+    (u : Parent) × ((task_at job.graph c).parent ≡ Some u) × (u.task ≡ t) × (at ≡ u.at)
+TellsChild job t c None = (u : Parent) → (task_at job.graph c).parent ≡ Some u → u.task ≢ t
+
+-- ---- seeds
+
+-- what is in a seed
+abbrev pub seed_state : Seed → TaskState
+seed_state seed = seed.state
+
+-- the state of a task that has done nothing, and knows its children
+pub record IsSeed (job : Job) (s : TaskState) : Type 0 where
+  pub there : s.number < length job.graph.tasks
+  pub samples : s.samples.now ≡ samples_at job s.number
+  pub begun : s.begun ≡ 0
+  pub owed : s.owed ≡ Nothing
+  pub filter : HasFilter (task_at job.graph s.number) s.filter []
+  pub lines : s.lines.items ≡ []
+  pub lefts : s.lefts.items ≡ []
+  pub staying : s.over ≡ false
+  pub met_none : s.met ≡ false
+  pub children : AreChildrenBelow job s.number (length job.graph.tasks) s.children.items
+
+-- there is room for so many registrations
+pub record HasRoom (n : ℕ) (s : TaskState) : Type 0 where
+  pub holds : n ≤ s.holds.cap
+  pub numbers : n ≤ s.numbers.capacity
+  pub lefts : n ≤ s.lefts.cap
+
+-- registration i of a root, as its founder has made it
+pub record HasRegistration (job : Job) (spots : ℕ → Spot) (t i : ℕ) (holds : List Hold)
+    (numbers : List ℕ) : Type 0 where
+  pub member : AnyMember
+  pub hold : slice_get holds i ≡ Some (On member)
+  pub number : slice_get numbers i ≡ Some (member_in member).number
+  pub root : IsRootMember job spots t i member
+
+-- a root has received the first of its registrations
+pub record HasReceived (job : Job) (spots : ℕ → Spot) (s : TaskState) : Type 0 where
+  pub long : length s.numbers.items ≡ length s.holds.items
+  pub each : (i : ℕ) → i < length s.holds.items
+      → HasRegistration job spots s.number i s.holds.items s.numbers.items
