@@ -27,7 +27,9 @@ use Rattle.graph_turns.proofs.Reaching.{one_registration}
 use Rattle.graph_parts.specs.Parts.{HasMovedOn, SeesOthers, SeesOwn}
 use Rattle.graph_parts.specs.Places.{HasNewChild, HasSeenBoth, HasAddedChild, KnowsOthers}
 use Rattle.graph_parts.proofs.ChildMoments.{with_child, child_is_new, both_see, child_is_added}
+use Rattle.graph_parts.proofs.KnownOthers.{known_moved, known_begins, known_registers, known_child}
 use Rattle.graph_parts.proofs.Parts.{with_history}
+use Rattle.graph_turns.proofs.Registering.{is_for}
 use Rattle.graph_ends.specs.TaskEnds.{IsChildOf, HasNumbers, HasOwnCalls}
 use Rattle.graph_ends.proofs.CallsFollow.{calls_begin, calls_wait, calls_registered}
 use Rattle.graph_steps.specs.Steps.{owed_of, HasFilter}
@@ -123,24 +125,25 @@ holds_go job spots m after t k p holds lefts new is there few here long kept num
 -- ---- the child begins
 
 pub nursery_begins : (job : Job) (spots : ℕ → Spot) (m : Moment) (s : TaskState) (c : ℕ)
-    → IsWhole job s → IsTaskAt job spots m s → KnowsOthers job m s.number
+    → IsWhole job s → IsTaskAt job spots m s
     → (child : IsChildOf job c s.number) → s.begun ≡ child.parent.at → s.over ≡ false
     → ((p : ℕ) → m.number p c ≡ None)
     → HasNewChild job m (with_child c m) s.number c []
     × IsTaskAt job spots (with_child c m) s × IsNursed job spots (with_child c m) c [] []
-nursery_begins job spots m s c whole at knows child boundary going nowhere =
+nursery_begins job spots m s c whole at child boundary going nowhere =
     let t = s.number in
     let after = with_child c m in
     let new : HasNewChild job m after t c [] =
     child_is_new job m t c child.parent whole.graph whole.there child.there at.part child.has
     child.by nowhere in
     let calls = calls_begin job m after t c whole.graph whole.there child new
-    (at.place.begun ∙ boundary) (knows.offset c) nowhere at.own in
+    (at.place.begun ∙ boundary) (at.knows.offset c) nowhere at.own in
     let F : List ℤ → Type 0 = λ taken. HasFilter (task_at job.graph t) s.filter taken in (
       new,
       record {
         part = new.part;
         own = calls.0;
+        knows = known_begins job m after t c new at.knows;
         place = new.place (place_of s) at.place;
         holds = record {
           on = λ i lt le.
@@ -194,6 +197,7 @@ nursery_waits job spots m s c k p numbers nursery old new whole at nursed child 
       record {
         part = moved.part;
         own = calls.0;
+        knows = known_moved job m after t p now moved at.knows;
         place = both.place (place_of s) at.place;
         holds = holds_go job spots m after t k p s.holds.items s.lefts.items (On new) whole.graph
             whole.there few here whole.holds (omega arith) (λ q. moved.numbers q t)
@@ -261,7 +265,7 @@ pub record HasGivenOne (children kids : List Child) (c a : ℕ) (numbers : List 
 module _ (job : Job) (spots : ℕ → Spot) (m : Moment) (s : TaskState) (c k : ℕ)
     (numbers : List ℕ) (nursery : List Hold) (old new child : AnyMember)
     (kids : Vec Child Global) (whole : IsWhole job s) (at : IsTaskAt job spots m s)
-    (knows : KnowsOthers job m s.number) (nursed : IsNursed job spots m c numbers nursery)
+    (nursed : IsNursed job spots m c numbers nursery)
     (of_task : IsChildOf job c s.number) (boundary : s.begun ≡ of_task.parent.at)
     (going : s.over ≡ false) (owes : s.owed ≡ Nothing)
     (room : length numbers < length (registrations_at job c))
@@ -300,7 +304,7 @@ module _ (job : Job) (spots : ℕ → Spot) (m : Moment) (s : TaskState) (c k : 
   has =
       child_is_added job m t c n a of_task.parent (place_of s) numbers added.before whole.graph
       whole.there of_task.there at.part at.place (ap owed_of owes) boundary of_task.has of_task.by
-      (knows.offset c) (knows.offset t) nursed.joining room sees
+      (at.knows.offset c) (at.knows.offset t) nursed.joining room sees
 
   nowhere : m.number p c ≡ None
   nowhere =
@@ -384,6 +388,9 @@ module _ (job : Job) (spots : ℕ → Spot) (m : Moment) (s : TaskState) (c k : 
         record {
           part = has.part;
           own = calls.0;
+          knows = known_registers job m after t c p a of_task.parent numbers now of_task.has
+              of_task.by (is_for job c (length numbers) whole.graph of_task.there room).on_line has
+              at.knows;
           place = has.place (place_of s) at.place;
           holds = holds_go job spots m after t k p s.holds.items s.lefts.items (On new) whole.graph
               whole.there few here whole.holds (omega arith)
@@ -494,6 +501,8 @@ child_goes_alone job spots m parent child numbers nursery is of_task knows nurse
     record {
       part = nursed.joining.part;
       own = nursed.own;
+      knows = known_child job m parent child.number of_task.parent is of_task.there of_task.has
+          of_task.by knows;
       place = subst P place_is nursed.joining.place;
       holds = record {
         on = λ i lt le.

@@ -17,6 +17,7 @@ use Rattle.graph_steps.specs.Steps.{owed_of, HasFilter}
 use Rattle.graph_parts.specs.Places.{IsRootOn, IsFirstMoment}
 use Rattle.graph_ends.specs.TaskEnds.{HasOwnCalls}
 use Rattle.graph_openings.specs.Openings.{IsRootMember}
+use Rattle.graph_parts.proofs.KnownOthers.{known_first}
 use Rattle.graph_tasks.specs.declared.child.Child.{Child}
 use Rattle.graph_tasks.specs.declared.hold.Hold.{Hold}
 use Rattle.graph_tasks.specs.declared.hold.Hold.TheVariants.{On, Gone}
@@ -230,6 +231,7 @@ pub stands_first : (job : Job) (spots : ℕ → Spot) (s : TaskState) (m : Momen
 stands_first job spots s m is seed has all first own = record {
   part = first.part;
   own = own;
+  knows = known_first job m s.number s.numbers.items (seen_by s.holds.items) is first;
   place = place;
   holds = record {
     on = λ i lt le. held i lt;

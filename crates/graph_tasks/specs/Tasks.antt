@@ -18,7 +18,7 @@ use Rattle.graph_ends.specs.TaskEnds.{HasOwnCalls, HasNumbers}
 use Rattle.graph_steps.specs.Steps.{owed_of, HasFilter}
 use Rattle.graph_steps.specs.declared.owed.Owed.TheVariants.{Nothing}
 use Rattle.graph_parts.specs.Parts.{HasPart}
-use Rattle.graph_parts.specs.Places.{HasChildrenBy}
+use Rattle.graph_parts.specs.Places.{HasChildrenBy, KnowsOthers}
 use Rattle.graph_tasks.specs.declared.child.Child.{Child}
 use Rattle.graph_tasks.specs.declared.hold.Hold.{Hold}
 use Rattle.graph_tasks.specs.declared.hold.Hold.TheVariants.{On, Gone}
@@ -95,6 +95,7 @@ pub record IsAtEnd (job : Job) (m : Moment) (s : TaskState) : Type 0 where
 pub record IsTaskAt (job : Job) (spots : ℕ → Spot) (m : Moment) (s : TaskState) : Type 0 where
   pub part : HasPart job m s.number
   pub own : HasOwnCalls job m s.number
+  pub knows : KnowsOthers job m s.number
   pub place : StandsAt job m s.number (place_of s)
   pub holds : HasHolds job spots m s.number s.holds.items s.lefts.items
   pub filter : HasFilter (task_at job.graph s.number) s.filter (m.taken s.number 0)
