@@ -240,12 +240,17 @@ stands_first job spots s m is seed has all first own = record {
   filter = subst (HasFilter (task_at job.graph s.number) s.filter)
       (sym (first.nothing_taken 0)) seed.filter;
   lines = λ kind. seed.lines ∙ sym (first.nothing_taken 0);
-  given = λ i k child e lt.
+  given = λ i child e.
       (let unborn = seed.children.each i child e in
       let u = unborn.parent in
       let other = apart job s.number child.task u is unborn.there unborn.has unborn.by in
-      first.others (registration_at job child.task k).phaser child.task other
-      ∙ ap (λ xs. slice_get xs k) (sym unborn.none));
+      let none_yet : length child.numbers.items ≡ 0 = ap length unborn.none in
+      record {
+        few = omega arith;
+        numbered = λ k lt. first.others (registration_at job child.task k).phaser child.task other
+            ∙ ap (λ xs. slice_get xs k) (sym unborn.none);
+        lines = λ p n number. absurd (let no = sym (first.others p child.task other) ∙ number in cc);
+      });
   at_end = λ over. absurd (differ (sym over ∙ seed.staying));
 }
   where
