@@ -5,3 +5,4 @@ mod Ending
 mod Gone
 mod Nursery
 mod Seeding
+mod Nursing

@@ -232,13 +232,13 @@ nursery_waits job spots m s c k p numbers nursery old new whole at nursed child 
 -- ---- a registration
 
 -- the entry that was written, and the others
-written : {X : Type 0} (xs : List X) (k : ℕ) (x : X) → k < length xs
+pub written : {X : Type 0} (xs : List X) (k : ℕ) (x : X) → k < length xs
     → slice_get (set xs k x) k ≡ Some x
 written xs k x lt =
     let long : length (set xs k x) ≡ length xs = length-set xs k x in
     slice_get-get_or (set xs k x) k x (omega arith) ∙ ap Some (get_or-set_same xs k x x lt)
 
-unwritten : {X : Type 0} (xs : List X) (k i : ℕ) (x : X) → i ≢ k
+pub unwritten : {X : Type 0} (xs : List X) (k i : ℕ) (x : X) → i ≢ k
     → slice_get (set xs k x) i ≡ slice_get xs i
 unwritten xs k i x apart = by (cases_lt i (length xs))
   where

@@ -1,5 +1,5 @@
 -- A child while its parent registers it: the parent's moment serves both.
-use Rattle.std.specs.Prelude.{◌≡◌, ℕ, ◌<◌, List, length, get_or}
+use Rattle.std.specs.Prelude.{◌≡◌, ℕ, ◌<◌, List, length, get_or, slice_get, Some, false}
 use Rattle.phase_base.specs.declared.mode.Mode.{Mode}
 use Rattle.phase_history.specs.declared.event.Event.{Event}
 use Rattle.phase_history.specs.declared.event.Event.TheVariants.{Registered}
@@ -11,9 +11,12 @@ use Rattle.graph_members.specs.AnyMembers.{member_in, member_op}
 use Rattle.graph_members.specs.declared.any_member.AnyMember.{AnyMember}
 use Rattle.graph_turns.specs.TaskPlaces.{registration_at}
 use Rattle.graph_parts.specs.Places.{IsJoining}
-use Rattle.graph_ends.specs.TaskEnds.{HasOwnCalls}
+use Rattle.graph_ends.specs.TaskEnds.{HasOwnCalls, IsChildOf}
+use Rattle.graph_steps.specs.declared.owed.Owed.TheVariants.{Nothing}
 use Rattle.graph_tasks.specs.Holds.{HasMade}
-use Rattle.graph_tasks.specs.Tasks.{IsHeldOn}
+use Rattle.graph_tasks.specs.Tasks.{IsHeldOn, IsTaskAt}
+use Rattle.graph_tasks.specs.declared.child.Child.{Child}
+use Rattle.graph_tasks.specs.declared.task_state.TaskState.{TaskState}
 use Rattle.graph_tasks.specs.declared.hold.Hold.{Hold}
 use Rattle.graph_tasks.specs.declared.hold.Hold.TheVariants.{On, Gone}
 
@@ -44,3 +47,18 @@ pub record IsNursed (job : Job) (spots : ℕ → Spot) (m : Moment) (c : ℕ) (n
   pub long : length nursery ≡ length numbers
   pub on : (i : ℕ) → i < length numbers
       → IsHeldOn job spots m c (registration_at job c i).phaser (get_or nursery i Gone)
+
+-- a task in this state registers the child at place i among its children: it stands between two
+-- steps, and its moment is the child's as well
+pub record IsNursing (job : Job) (spots : ℕ → Spot) (s : TaskState) (i : ℕ) : Type 0 where
+  pub kid : Child
+  pub found : slice_get s.children.items i ≡ Some kid
+  pub child : IsChildOf job kid.task s.number
+  pub boundary : s.begun ≡ child.parent.at
+  pub going : s.over ≡ false
+  pub owes : s.owed ≡ Nothing
+  pub one : (j : ℕ) (other : Child) → slice_get s.children.items j ≡ Some other
+      → other.task ≡ kid.task → j ≡ i
+  pub moment : Moment
+  pub at : IsTaskAt job spots moment s
+  pub nursed : IsNursed job spots moment kid.task kid.numbers.items s.nursery.items

@@ -1,0 +1,162 @@
+-- A task that registers a child goes on doing so after each call.
+use Rattle.std.proofs.Common.{◌≡◌, ◌≢◌, ℕ, ◌+◌, ◌<◌, ◌≤◌, true, false, List, [], ◌∷◌, ◌++◌, Some, None, length, get_or, set, refl, sym, ap, subst, ◌∙◌, arith, ◌⊎◌, inl, inr}
+use Rattle.std.specs.Prelude.{slice_get, Vec}
+use Rattle.std.specs.Global.{Global}
+use Rattle.std.specs.Vec.{with_item}
+use Rattle.std.proofs.lemmas.Bool.{cases_lt}
+use Rattle.std.proofs.lemmas.List.{length-set}
+use Rattle.std.proofs.lemmas.Option.{slice_get_within, slice_get_past, same_Some}
+use Rattle.graph_base.specs.Graphs.{task_at}
+use Rattle.stream_lists.specs.Jobs.{Job}
+use Rattle.graph_moments.specs.Moments.{Moment}
+use Rattle.graph_moves.specs.Turned.{after_register}
+use Rattle.graph_members.specs.Members.{Spot}
+use Rattle.graph_members.specs.AnyMembers.{member_in}
+use Rattle.graph_members.specs.declared.any_member.AnyMember.{AnyMember}
+use Rattle.graph_turns.specs.Nexts.{registrations_at}
+use Rattle.graph_turns.specs.TaskPlaces.{registration_at}
+use Rattle.graph_parts.proofs.ChildMoments.{with_child}
+use Rattle.graph_parts.proofs.Parts.{with_history}
+use Rattle.graph_ends.specs.TaskEnds.{IsChildOf}
+use Rattle.graph_tasks.specs.Holds.{GoesOn, HasSeenOthers}
+use Rattle.graph_tasks.specs.Nurseries.{HasAdded, AddsTo, IsNursed, IsNursing}
+use Rattle.graph_tasks.specs.Tasks.{IsOn, IsHeldOn, IsTaskAt, IsWhole}
+use Rattle.graph_tasks.specs.declared.child.Child.{Child}
+use Rattle.graph_tasks.specs.declared.hold.Hold.{Hold}
+use Rattle.graph_tasks.specs.declared.hold.Hold.TheVariants.{On, Gone}
+use Rattle.graph_tasks.specs.declared.task_state.TaskState.{TaskState}
+use Rattle.graph_tasks.proofs.Turning.{held, goes}
+use Rattle.graph_tasks.proofs.Nursery.{nursery_waits, nursery_registers, HasGivenOne, written, unwritten}
+
+-- the child has no number yet on the phaser of its next registration
+next_absent : (job : Job) (spots : ℕ → Spot) (m : Moment) (c : ℕ) (numbers : List ℕ)
+    (nursery : List Hold) → IsNursed job spots m c numbers nursery
+    → length numbers < length (registrations_at job c)
+    → m.number (registration_at job c (length numbers)).phaser c ≡ None
+next_absent job spots m c numbers nursery nursed room =
+    nursed.joining.place.numbered (length numbers) room
+    ∙ slice_get_past numbers (length numbers) (omega arith)
+
+-- a call that registered nothing
+pub nursing_waits : (job : Job) (spots : ℕ → Spot) (s : TaskState) (i k : ℕ) (old new : Hold)
+    → IsWhole job s → (n : IsNursing job spots s i)
+    → length n.kid.numbers.items < length (registrations_at job n.kid.task)
+    → k < length (registrations_at job s.number)
+    → (registration_at job s.number k).phaser
+    ≡ (registration_at job n.kid.task (length n.kid.numbers.items)).phaser
+    → old ≡ get_or s.holds.items k old → GoesOn HasSeenOthers old new
+    → IsNursing job spots (record s { holds = with_item s.holds k new }) i
+nursing_waits job spots s i k old new whole n room few here looked g =
+    let p = (registration_at job n.kid.task (length n.kid.numbers.items)).phaser in
+    let none : length s.lefts.items ≡ 0 = whole.staying n.going in
+    let both = goes HasSeenOthers job spots n.moment s.number p old new g
+    (held job spots n.moment s k p old whole n.at few here (omega arith) looked) in
+    let y = both.1.0 in
+    let then = nursery_waits job spots n.moment s n.kid.task k p n.kid.numbers.items s.nursery.items
+    both.0 y whole n.at n.nursed n.child n.going few here
+    (next_absent job spots n.moment n.kid.task n.kid.numbers.items s.nursery.items n.nursed room)
+    both.1.4 both.1.3 in
+    let after = with_history p (member_in y).seen n.moment in
+    let T : Hold → Type 0 = λ h. IsTaskAt job spots after
+    (record s { holds = with_item s.holds k h }) in
+    record {
+      kid = n.kid;
+      found = n.found;
+      child = n.child;
+      boundary = n.boundary;
+      going = n.going;
+      owes = n.owes;
+      one = n.one;
+      moment = after;
+      at = subst T (sym both.1.2) then.1;
+      nursed = then.2;
+    }
+
+-- a call that registered the child once more
+pub nursing_adds : (job : Job) (spots : ℕ → Spot) (s : TaskState) (i k : ℕ) (old new : Hold)
+    (child : AnyMember) (kid : Child) (kids : Vec Child Global) (nursery : Vec Hold Global)
+    → IsWhole job s → (n : IsNursing job spots s i)
+    → length n.kid.numbers.items < length (registrations_at job n.kid.task)
+    → k < length (registrations_at job s.number)
+    → (registration_at job s.number k).phaser
+    ≡ (registration_at job n.kid.task (length n.kid.numbers.items)).phaser
+    → old ≡ get_or s.holds.items k old
+    → GoesOn (λ x y. HasAdded
+    (registration_at job n.kid.task (length n.kid.numbers.items)).mode x y child) old new
+    → kids.items ≡ set s.children.items i kid → kid.task ≡ n.kid.task
+    → kid.numbers.items ≡ n.kid.numbers.items ++ (member_in child).number ∷ []
+    → nursery.items ≡ s.nursery.items ++ On child ∷ []
+    → IsNursing job spots
+    (record s { holds = with_item s.holds k new; children = kids; nursery = nursery }) i
+nursing_adds job spots s i k old new child kid kids nursery whole n room few here looked g is_kids same_task same_numbers is_nursery =
+    let c = n.kid.task in
+    let numbers = n.kid.numbers.items in
+    let p = (registration_at job c (length numbers)).phaser in
+    let mode = (registration_at job c (length numbers)).mode in
+    let none : length s.lefts.items ≡ 0 = whole.staying n.going in
+    let both = goes (λ x y. HasAdded mode x y child) job spots n.moment s.number p old new g
+    (held job spots n.moment s k p old whole n.at few here (omega arith) looked) in
+    let x = both.0 in
+    let y = both.1.0 in
+    let added : HasAdded mode x y child = both.1.3 in
+    let at_place : i < length s.children.items = slice_get_within s.children.items i n.kid n.found in
+    let given : HasGivenOne s.children.items kids.items c (member_in child).number numbers = record {
+      place = i;
+      kid = kid;
+      few = at_place;
+      is = is_kids;
+      task = same_task;
+      numbers_are = same_numbers;
+      one = λ j other found same. n.one j other found same;
+    } in
+    let then = nursery_registers job spots n.moment s c k numbers s.nursery.items x y child kids
+    whole n.at n.nursed n.child n.boundary n.going n.owes room few here both.1.4 added given in
+    let after = after_register p (member_in x).number c (member_in child).number mode
+    (with_history p added.before n.moment) in
+    let T : Hold → Type 0 = λ h. IsTaskAt job spots after
+    (record s { holds = with_item s.holds k h; children = kids }) in
+    let task_now = subst T (sym both.1.2) then.1 in
+    let N : List Hold → Type 0 = λ l. IsNursed job spots after c
+    (numbers ++ (member_in child).number ∷ []) l in
+    let M : List ℕ → Type 0 = λ l. IsNursed job spots after c l nursery.items in
+    let C : ℕ → Type 0 = λ d. IsNursed job spots after d kid.numbers.items nursery.items in
+    let D : ℕ → Type 0 = λ d. (w : IsChildOf job d s.number) × (s.begun ≡ w.parent.at) in
+    let kid_child = subst D (sym same_task) (n.child, n.boundary) in
+    record {
+      kid = kid;
+      found = ap (λ l. slice_get l i) is_kids ∙ written s.children.items i kid at_place;
+      child = kid_child.0;
+      boundary = kid_child.1;
+      going = n.going;
+      owes = n.owes;
+      one = λ j other found same.
+          one_after j other found same (cases_lt j i) (cases_lt i j);
+      moment = after;
+      at = record {
+        part = task_now.part;
+        own = task_now.own;
+        knows = task_now.knows;
+        place = task_now.place;
+        holds = task_now.holds;
+        filter = task_now.filter;
+        lines = task_now.lines;
+        given = task_now.given;
+        at_end = λ over. absurd (let no : false ≡ true = sym n.going ∙ over in cc);
+      };
+      nursed = subst C (sym same_task)
+          (subst M (sym same_numbers) (subst N (sym is_nursery) then.2));
+    }
+  where
+    one_after : (j : ℕ) (other : Child) → slice_get kids.items j ≡ Some other
+        → other.task ≡ kid.task → (j < i) ⊎ (i ≤ j) → (i < j) ⊎ (j ≤ i) → j ≡ i
+    one_after j other found same (inl low) d =
+        n.one j other
+        (sym (unwritten s.children.items i j kid (λ e. omega arith))
+        ∙ ap (λ l. slice_get l j) (sym is_kids) ∙ found)
+        (same ∙ same_task)
+    one_after j other found same (inr le) (inl high) =
+        n.one j other
+        (sym (unwritten s.children.items i j kid (λ e. omega arith))
+        ∙ ap (λ l. slice_get l j) (sym is_kids) ∙ found)
+        (same ∙ same_task)
+    one_after j other found same (inr le) (inr ge) = omega arith
