@@ -1,5 +1,5 @@
 -- A child while its parent registers it: the parent's moment serves both.
-use Rattle.std.specs.Prelude.{◌≡◌, ℕ, ◌<◌, List, length, get_or, slice_get, Some, false}
+use Rattle.std.specs.Prelude.{◌≡◌, ℕ, ◌+◌, ◌<◌, ◌≤◌, List, [], ◌∷◌, ◌++◌, slice_set, length, get_or, slice_get, Some, false}
 use Rattle.phase_base.specs.declared.mode.Mode.{Mode}
 use Rattle.phase_history.specs.declared.event.Event.{Event}
 use Rattle.phase_history.specs.declared.event.Event.TheVariants.{Registered}
@@ -9,6 +9,7 @@ use Rattle.graph_moments.specs.Moments.{Moment}
 use Rattle.graph_members.specs.Members.{Spot}
 use Rattle.graph_members.specs.AnyMembers.{member_in, member_op}
 use Rattle.graph_members.specs.declared.any_member.AnyMember.{AnyMember}
+use Rattle.graph_turns.specs.Nexts.{registrations_at}
 use Rattle.graph_turns.specs.TaskPlaces.{registration_at}
 use Rattle.graph_parts.specs.Places.{IsJoining}
 use Rattle.graph_ends.specs.TaskEnds.{HasOwnCalls, IsChildOf}
@@ -47,6 +48,28 @@ pub record IsNursed (job : Job) (spots : ℕ → Spot) (m : Moment) (c : ℕ) (n
   pub long : length nursery ≡ length numbers
   pub on : (i : ℕ) → i < length numbers
       → IsHeldOn job spots m c (registration_at job c i).phaser (get_or nursery i Gone)
+
+-- registration k of task t is on phaser p
+pub record IsPlaceOn (job : Job) (t p k : ℕ) : Type 0 where
+  pub few : k < length (registrations_at job t)
+  pub here : (registration_at job t k).phaser ≡ p
+
+-- there is room for another registration of the child at this place
+pub record HasNurseryRoom (s : TaskState) (i : ℕ) : Type 0 where
+  pub numbers : (kid : Child) → slice_get s.children.items i ≡ Some kid
+      → length kid.numbers.items + 1 ≤ kid.numbers.capacity
+  pub nursery : length s.nursery.items < s.nursery.cap
+
+-- another registration of the child at this place is kept
+pub record HasNursed (i : ℕ) (child : AnyMember) (old new : TaskState) : Type 0 where
+  pub before : Child
+  pub kid : Child
+  pub found : slice_get old.children.items i ≡ Some before
+  pub kids : new.children.items ≡ slice_set old.children.items i kid
+  pub task : kid.task ≡ before.task
+  pub numbers : kid.numbers.items ≡ before.numbers.items ++ (member_in child).number ∷ []
+  pub nursery : new.nursery.items ≡ old.nursery.items ++ On child ∷ []
+  pub rest : new ≡ record old { children = new.children; nursery = new.nursery }
 
 -- a task in this state registers the child at place i among its children: it stands between two
 -- steps, and its moment is the child's as well

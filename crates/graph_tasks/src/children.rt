@@ -1,10 +1,13 @@
 //! The children that a task registers between two steps.
-ghost use Rattle.std.specs.Prelude.{◌≡◌, ◌<◌, ◌≤◌, length, true, false};
+ghost use Rattle.std.specs.Prelude.{◌≡◌, ◌<◌, ◌≤◌, length, true, false, IfSome};
 ghost use Rattle.graph_turns.specs.Nexts.{registrations_at};
 ghost use Rattle.graph_tasks.specs.Tasks.{IsWhole, HasAllNow};
+ghost use Rattle.graph_tasks.specs.Nurseries.{IsPlaceOn, HasNurseryRoom, HasNursed};
 
 use crate::child::Child;
+use crate::hold::Hold;
 use crate::task_state::TaskState;
+use graph_members::AnyMember;
 use stream_lists::Job;
 
 impl<'a> TaskState<'a> {
@@ -19,6 +22,26 @@ impl<'a> TaskState<'a> {
             }
         }
         false
+    }
+
+    /// Whether there is room for another registration of the child at place `i`.
+    fn has_room(&self, i: usize) -> bool
+        requires { i < length self.now.children.items }
+        ensures { result ≡ true → HasNurseryRoom self.now i }
+    {
+        let numbers = &self.children[i].numbers;
+        numbers.len() < numbers.capacity() && self.nursery.len() < self.nursery.capacity()
+    }
+
+    /// Keeps another registration of the child at place `i`.
+    fn nurse(&mut self, i: usize, member: AnyMember<'a>)
+        requires child { i < length self.old.children.items }
+        requires room { HasNurseryRoom self.old i }
+        ensures { HasNursed i member.entry self.old self.new }
+    {
+        let child = &mut self.children[i];
+        child.numbers.push_reserved(member.number());
+        self.nursery.push_reserved(Hold::On(member));
     }
 }
 
@@ -39,3 +62,17 @@ fn is_whole(job: &Job, child: &Child) -> bool
 {
     child.numbers.len() >= job.graph().registrations(child.task)
 }
+
+/// Which registration of task number `t` is on phaser `p`.
+fn place_on(job: &Job, t: usize, p: usize) -> Option<usize>
+    requires { t < length job.now.graph.tasks }
+    ensures { IfSome result (IsPlaceOn job.now t p) }
+{
+    for k in 0..job.graph().registrations(t) {
+        if job.graph().registration(t, k).phaser == p {
+            return Some(k);
+        }
+    }
+    None
+}
+
