@@ -6,6 +6,7 @@ use Rattle.std.specs.Vec.{with_item}
 use Rattle.std.proofs.lemmas.Bool.{cases_lt}
 use Rattle.std.proofs.lemmas.List.{length-set}
 use Rattle.std.proofs.lemmas.Option.{slice_get_within, slice_get_past, same_Some}
+use Rattle.phase_base.specs.declared.mode.Mode.{Mode}
 use Rattle.graph_base.specs.Graphs.{task_at}
 use Rattle.stream_lists.specs.Jobs.{Job}
 use Rattle.graph_moments.specs.Moments.{Moment}
@@ -36,6 +37,13 @@ next_absent : (job : Job) (spots : ℕ → Spot) (m : Moment) (c : ℕ) (numbers
 next_absent job spots m c numbers nursery nursed room =
     nursed.joining.place.numbered (length numbers) room
     ∙ slice_get_past numbers (length numbers) (omega arith)
+
+-- a hold that has added a child has gone on
+pub adds_goes : (mode : Mode) (old new : Hold) (child : AnyMember) → AddsTo mode old new child
+    → GoesOn (λ x y. HasAdded mode x y child) old new
+adds_goes mode (On old) (On new) child added = added
+adds_goes mode (On old) Gone child added = absurd added
+adds_goes mode Gone new child added = absurd added
 
 -- a call that registered nothing
 pub nursing_waits : (job : Job) (spots : ℕ → Spot) (s : TaskState) (i k : ℕ) (old new : Hold)
@@ -160,3 +168,71 @@ nursing_adds job spots s i k old new child kid kids nursery whole n room few her
         ∙ ap (λ l. slice_get l j) (sym is_kids) ∙ found)
         (same ∙ same_task)
     one_after j other found same (inr le) (inr ge) = omega arith
+
+-- ---- what holds always
+
+-- with other holds, and another state of one child
+pub whole_nurses : (job : Job) (s : TaskState) (i k : ℕ) (new : Hold) (kids : Vec Child Global)
+    (nursery : Vec Hold Global) (before kid : Child) → IsWhole job s
+    → slice_get s.children.items i ≡ Some before → kids.items ≡ set s.children.items i kid
+    → kid.task ≡ before.task → kid.at ≡ before.at
+    → IsWhole job (record s { holds = with_item s.holds k new; children = kids; nursery = nursery })
+whole_nurses job s i k new kids nursery before kid whole found is_kids task at = record {
+  graph = whole.graph;
+  there = whole.there;
+  samples = whole.samples;
+  numbers = whole.numbers;
+  holds = length-set s.holds.items k new ∙ whole.holds;
+  children = λ c u there has by.
+      (let known = whole.children c u there has by in
+      knows c u.at known.0 known.1.0 known.1.1 known.1.2 known.1.3
+      (cases_lt known.0 i) (cases_lt i known.0));
+  are_there = λ j other e. there j other e (cases_lt j i) (cases_lt i j);
+  staying = whole.staying;
+  room = whole.room;
+}
+  where
+    few : i < length s.children.items
+    few = slice_get_within s.children.items i before found
+
+    here : slice_get kids.items i ≡ Some kid
+    here = ap (λ l. slice_get l i) is_kids ∙ written s.children.items i kid few
+
+    elsewhere : (j : ℕ) → j ≢ i → slice_get kids.items j ≡ slice_get s.children.items j
+    elsewhere j apart =
+        ap (λ l. slice_get l j) is_kids ∙ unwritten s.children.items i j kid apart
+
+    knows : (c steps j : ℕ) (child : Child) → slice_get s.children.items j ≡ Some child
+        → child.task ≡ c → child.at ≡ steps → (j < i) ⊎ (i ≤ j) → (i < j) ⊎ (j ≤ i)
+        → (x : ℕ) × ((other : Child) × (slice_get kids.items x ≡ Some other) × (other.task ≡ c)
+        × (other.at ≡ steps))
+    knows c steps j child e is_c is_at (inl low) d =
+        (j, (child, elsewhere j (λ same. omega arith) ∙ e, is_c, is_at))
+    knows c steps j child e is_c is_at (inr le) (inl high) =
+        (j, (child, elsewhere j (λ same. omega arith) ∙ e, is_c, is_at))
+    knows c steps j child e is_c is_at (inr le) (inr ge) =
+        let same : j ≡ i = omega arith in
+        let was : child ≡ before =
+        same_Some child before (sym e ∙ ap (λ x. slice_get s.children.items x) same ∙ found) in (
+          i,
+          (
+            kid,
+            here,
+            task ∙ ap (λ (x : Child). x.task) (sym was) ∙ is_c,
+            at ∙ ap (λ (x : Child). x.at) (sym was) ∙ is_at,
+          ),
+        )
+
+    there : (j : ℕ) (other : Child) → slice_get kids.items j ≡ Some other → (j < i) ⊎ (i ≤ j)
+        → (i < j) ⊎ (j ≤ i) → other.task < length job.graph.tasks
+    there j other e (inl low) d =
+        whole.are_there j other (sym (elsewhere j (λ same. omega arith)) ∙ e)
+    there j other e (inr le) (inl high) =
+        whole.are_there j other (sym (elsewhere j (λ same. omega arith)) ∙ e)
+    there j other e (inr le) (inr ge) =
+        let same : j ≡ i = omega arith in
+        let is_kid : kid ≡ other =
+        same_Some kid other (sym here ∙ ap (λ x. slice_get kids.items x) (sym same) ∙ e) in
+        let L : ℕ → Type 0 = λ x. x < length job.graph.tasks in
+        subst L (sym task ∙ ap (λ (x : Child). x.task) is_kid) (whole.are_there i before found)
+

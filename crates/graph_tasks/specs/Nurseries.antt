@@ -9,6 +9,7 @@ use Rattle.graph_moments.specs.Moments.{Moment}
 use Rattle.graph_members.specs.Members.{Spot}
 use Rattle.graph_members.specs.AnyMembers.{member_in, member_op}
 use Rattle.graph_members.specs.declared.any_member.AnyMember.{AnyMember}
+use Rattle.graph_base.specs.declared.registration.Registration.{Registration}
 use Rattle.graph_turns.specs.Nexts.{registrations_at}
 use Rattle.graph_turns.specs.TaskPlaces.{registration_at}
 use Rattle.graph_parts.specs.Places.{IsJoining}
@@ -67,6 +68,7 @@ pub record HasNursed (i : ℕ) (child : AnyMember) (old new : TaskState) : Type 
   pub found : slice_get old.children.items i ≡ Some before
   pub kids : new.children.items ≡ slice_set old.children.items i kid
   pub task : kid.task ≡ before.task
+  pub at : kid.at ≡ before.at
   pub numbers : kid.numbers.items ≡ before.numbers.items ++ (member_in child).number ∷ []
   pub nursery : new.nursery.items ≡ old.nursery.items ++ On child ∷ []
   pub rest : new ≡ record old { children = new.children; nursery = new.nursery }
@@ -85,3 +87,11 @@ pub record IsNursing (job : Job) (spots : ℕ → Spot) (s : TaskState) (i : ℕ
   pub moment : Moment
   pub at : IsTaskAt job spots moment s
   pub nursed : IsNursed job spots moment kid.task kid.numbers.items s.nursery.items
+
+-- the next registration of the child is this one, and registration k of the task is on its phaser
+pub record IsNextOn (job : Job) (spots : ℕ → Spot) (s : TaskState) (i k : ℕ) (r : Registration)
+    : Type 0 where
+  pub nursing : IsNursing job spots s i
+  pub room : length nursing.kid.numbers.items < length (registrations_at job nursing.kid.task)
+  pub is : r ≡ registration_at job nursing.kid.task (length nursing.kid.numbers.items)
+  pub on : IsPlaceOn job s.number r.phaser k

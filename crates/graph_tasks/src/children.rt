@@ -1,12 +1,16 @@
 //! The children that a task registers between two steps.
-ghost use Rattle.std.specs.Prelude.{◌≡◌, ◌<◌, ◌≤◌, length, true, false, IfSome};
+ghost use Rattle.std.specs.Prelude.{◌≡◌, ◌<◌, ◌≤◌, ℕ, length, true, false, IfSome};
 ghost use Rattle.graph_turns.specs.Nexts.{registrations_at};
 ghost use Rattle.graph_tasks.specs.Tasks.{IsWhole, HasAllNow};
 ghost use Rattle.graph_tasks.specs.Nurseries.{IsPlaceOn, HasNurseryRoom, HasNursed};
+ghost use Rattle.graph_tasks.specs.Nurseries.{IsNextOn, IsNursing};
+ghost use Rattle.graph_members.specs.Members.{Spot};
 
 use crate::child::Child;
 use crate::hold::Hold;
 use crate::task_state::TaskState;
+use crate::turned::Turned;
+use graph_base::Registration;
 use graph_members::AnyMember;
 use stream_lists::Job;
 
@@ -22,6 +26,24 @@ impl<'a> TaskState<'a> {
             }
         }
         false
+    }
+
+    /// Makes the next registration of the child at place `i`, on registration `k` of its own.
+    fn add(&mut self, job: &Job, i: usize, k: usize, registration: Registration) -> Turned
+        requires whole { IsWhole job.now self.old }
+        requires room { HasNurseryRoom self.old i }
+        requires next { (spots : ℕ → Spot) × IsNextOn job.now spots self.old i k registration }
+        ensures whole { IsWhole job.now self.new }
+        ensures nursing { (spots : ℕ → Spot) → IsNextOn job.now spots self.old i k registration
+            → IsNursing job.now spots self.new i }
+    {
+        match self.holds[k].add(registration.mode) {
+            Ok(member) => {
+                self.nurse(i, member);
+                Turned::Moved(registration.phaser)
+            }
+            Err(held) => held.on(registration.phaser),
+        }
     }
 
     /// Whether there is room for another registration of the child at place `i`.
