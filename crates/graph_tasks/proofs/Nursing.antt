@@ -235,4 +235,3 @@ whole_nurses job s i k new kids nursery before kid whole found is_kids task at =
         same_Some kid other (sym here ∙ ap (λ x. slice_get kids.items x) (sym same) ∙ e) in
         let L : ℕ → Type 0 = λ x. x < length job.graph.tasks in
         subst L (sym task ∙ ap (λ (x : Child). x.task) is_kid) (whole.are_there i before found)
-

@@ -28,6 +28,32 @@ impl<'a> TaskState<'a> {
         false
     }
 
+    /// Makes the next registration of the child at place `i` among its children, which it is
+    /// registering.
+    pub fn register(&mut self, job: &Job, i: usize) -> Turned
+        requires whole { IsWhole job.now self.old }
+        requires nursing { (spots : ℕ → Spot) × IsNursing job.now spots self.old i }
+        ensures whole { IsWhole job.now self.new }
+        ensures nursing { (spots : ℕ → Spot) → IsNursing job.now spots self.old i
+            → self.new.met ≡ false → IsNursing job.now spots self.new i }
+    {
+        let child = self.children[i].task;
+        let made = self.children[i].numbers.len();
+        if made >= job.graph().registrations(child) {
+            return Turned::Born(child);
+        }
+        if !self.has_room(i) {
+            self.met = true;
+            return Turned::Stuck;
+        }
+        let registration = job.graph().registration(child, made);
+        let Some(k) = place_on(job, self.number, registration.phaser) else {
+            self.met = true;
+            return Turned::Stuck;
+        };
+        self.add(job, i, k, registration)
+    }
+
     /// Makes the next registration of the child at place `i`, on registration `k` of its own.
     fn add(&mut self, job: &Job, i: usize, k: usize, registration: Registration) -> Turned
         requires whole { IsWhole job.now self.old }
@@ -97,4 +123,3 @@ fn place_on(job: &Job, t: usize, p: usize) -> Option<usize>
     }
     None
 }
-
