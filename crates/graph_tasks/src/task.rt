@@ -23,18 +23,22 @@ use stream_lists::Job;
 pub struct Task<'a, J: Run> {
     job: &'a Job,
     state: TaskState<'a>,
+    /// The place, among its children, of the one that it is registering.
+    nursing: Option<usize>,
     of: PhantomData<J>,
 }
 
 impl<'a, J: Run> Model for Task<'a, J> {
     ghost use Rattle.std.specs.Prelude.{◌≡◌, ℕ};
+    ghost use Rattle.graph_tasks.specs.Nurseries.{IsWith};
     ghost use Rattle.graph_tasks.specs.Tasks.{IsTask};
 
     ghost Value = { ℕ };
 
     ghost view = { λ t. t.state.number };
 
-    ghost invariant = { λ t. (t.job.now ≡ J.job) × IsTask J.job J.spots t.state };
+    ghost invariant = { λ t. (t.job.now ≡ J.job) × IsTask J.job J.spots t.state
+        × IsWith J.job J.spots t.state t.nursing };
 }
 
 impl<'a, J: Run> Task<'a, J> {
@@ -57,6 +61,7 @@ impl<'a, J: Run> Task<'a, J> {
         Task {
             job,
             state: seed.open(),
+            nursing: None,
             of: PhantomData,
         }
     }
@@ -78,10 +83,25 @@ impl<'a, J: Run> Task<'a, J> {
         set
     }
 
-    /// Makes its next event, where it can: one call at most. It takes no memory, but for a sink's
-    /// list. Where a child of it comes it answers `Stuck`, as children are not registered yet.
+    /// Makes its next event, where it can: one call at most.
+    ///
+    /// Where a child comes it registers the child on the phasers of its line, one after the other,
+    /// and then answers `Born` until `deliver` has given the child. It takes memory for a sink's
+    /// list, and where it registers.
     pub fn turn<G: Gate>(&mut self, gate: &G) -> Turned {
-        self.state.turn(self.job, gate)
+        if self.state.met {
+            return Turned::Stuck;
+        }
+        if let Some(i) = self.nursing {
+            return self.state.register(self.job, i);
+        }
+        match self.state.due(self.job) {
+            Some(i) => {
+                self.nursing = self.state.begin(i);
+                Turned::Ready
+            }
+            None => self.state.turn(self.job, gate),
+        }
     }
 
     /// Gives the child of which `turn` has answered that it is born. Where none is born, which is
@@ -95,6 +115,7 @@ impl<'a, J: Run> Task<'a, J> {
         let Task {
             job: _,
             state,
+            nursing: _,
             of: _,
         } = self;
         state.dismiss(rt);
@@ -110,6 +131,7 @@ impl<'a, J: Run> Task<'a, J> {
         let Task {
             job: _,
             state,
+            nursing: _,
             of: _,
         } = self;
         Ok(state.end(rt))
