@@ -15,6 +15,7 @@ mod task;
 mod task_state;
 mod turn;
 mod turned;
+mod unborn;
 
 pub use child::Child;
 pub use ended::Ended;
@@ -23,3 +24,4 @@ pub use run::Run;
 pub use seed::Seed;
 pub use task::Task;
 pub use turned::Turned;
+pub use unborn::Unborn;
