@@ -3,5 +3,7 @@ mod Turning
 mod Waiting
 mod Ending
 mod Gone
+mod Nursery
 mod Seeding
+mod Nursing
 mod Leaving

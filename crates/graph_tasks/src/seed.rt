@@ -62,7 +62,6 @@ impl<'a> Seed<'a> {
                 met: false,
                 children,
                 nursery,
-                born: None,
             },
         })
     }

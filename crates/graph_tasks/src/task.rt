@@ -24,18 +24,22 @@ use stream_lists::Job;
 pub struct Task<'a, J: Run> {
     job: &'a Job,
     state: TaskState<'a>,
+    /// The place, among its children, of the one that it is registering.
+    nursing: Option<usize>,
     of: PhantomData<J>,
 }
 
 impl<'a, J: Run> Model for Task<'a, J> {
     ghost use Rattle.std.specs.Prelude.{◌≡◌, ℕ};
+    ghost use Rattle.graph_tasks.specs.Nurseries.{IsWith};
     ghost use Rattle.graph_tasks.specs.Tasks.{IsTask};
 
     ghost Value = { ℕ };
 
     ghost view = { λ t. t.state.number };
 
-    ghost invariant = { λ t. (t.job.now ≡ J.job) × IsTask J.job J.spots t.state };
+    ghost invariant = { λ t. (t.job.now ≡ J.job) × IsTask J.job J.spots t.state
+        × IsWith J.job J.spots t.state t.nursing };
 }
 
 impl<'a, J: Run> Task<'a, J> {
@@ -58,6 +62,7 @@ impl<'a, J: Run> Task<'a, J> {
         Task {
             job,
             state: seed.open(),
+            nursing: None,
             of: PhantomData,
         }
     }
@@ -79,10 +84,25 @@ impl<'a, J: Run> Task<'a, J> {
         set
     }
 
-    /// Makes its next event, where it can: one call at most. It takes no memory, but for a sink's
-    /// list. Where a child of it comes it answers `Stuck`, as children are not registered yet.
+    /// Makes its next event, where it can: one call at most.
+    ///
+    /// Where a child comes it registers the child on the phasers of its line, one after the other,
+    /// and then answers `Born` until `deliver` has given the child. It takes memory for a sink's
+    /// list, and where it registers.
     pub fn turn<G: Gate>(&mut self, gate: &G) -> Turned {
-        self.state.turn(self.job, gate)
+        if self.state.met {
+            return Turned::Stuck;
+        }
+        if let Some(i) = self.nursing {
+            return self.state.register(self.job, i);
+        }
+        match self.state.due(self.job) {
+            Some(i) => {
+                self.nursing = self.state.begin(i);
+                Turned::Ready
+            }
+            None => self.state.turn(self.job, gate),
+        }
     }
 
     /// Gives the child of this number, of which `turn` has answered that it is born, as a task of
@@ -100,6 +120,7 @@ impl<'a, J: Run> Task<'a, J> {
         let Task {
             job: _,
             state,
+            nursing: _,
             of: _,
         } = self;
         state.dismiss(rt);
@@ -115,6 +136,7 @@ impl<'a, J: Run> Task<'a, J> {
         let Task {
             job: _,
             state,
+            nursing: _,
             of: _,
         } = self;
         Ok(state.end(rt))

@@ -5,7 +5,7 @@ use Rattle.std.proofs.lemmas.Bool.{cases_lt}
 use Rattle.std.proofs.lemmas.Option.{slice_get_within, slice_get-get_or, same_Some}
 use Rattle.graph_turns.specs.Nexts.{registrations_at}
 use Rattle.graph_tasks.specs.declared.child.Child.{Child}
-use Rattle.graph_tasks.proofs.task_state.TaskState.is_child_due.Goals as goal
+use Rattle.graph_tasks.proofs.task_state.TaskState.first_missing.Goals as goal
 
 pub loop-i-preserved : goal.loop-i-preserved
 loop-i-preserved c = λ i child less at now. by i child less at now (cases_lt i c.loop-i.i)
