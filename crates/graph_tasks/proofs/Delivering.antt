@@ -5,13 +5,14 @@ use Rattle.stream_lists.specs.Jobs.{Job}
 use Rattle.graph_members.specs.Members.{Spot}
 use Rattle.graph_turns.specs.Nexts.{registrations_at}
 use Rattle.graph_ends.specs.TaskEnds.{IsChildOf}
-use Rattle.graph_tasks.specs.Tasks.{IsTask, IsTaskAt, IsTaskChild, IsWhole}
+use Rattle.graph_tasks.specs.Tasks.{IsTask, IsTaskAt, IsWhole}
 use Rattle.graph_tasks.specs.Seeds.{IsReady}
 use Rattle.graph_tasks.specs.Nurseries.{IsNursed, IsNursing}
 use Rattle.graph_tasks.specs.Deliveries.{IsBorn, HasDelivered}
 use Rattle.graph_tasks.specs.declared.child.Child.{Child}
 use Rattle.graph_tasks.specs.declared.task_state.TaskState.{TaskState}
 use Rattle.graph_tasks.proofs.Nursery.{child_goes_alone}
+use Rattle.graph_tasks.proofs.Seeding.{knows_children}
 
 -- a list without an entry
 none_in : {X : Type 0} (xs : List X) → length xs ≡ 0 → xs ≡ []
@@ -115,20 +116,7 @@ module _ (job : Job) (spots : ℕ → Spot) (i : ℕ) (seed old new child : Task
     samples = ready.seed.samples;
     numbers = ap length numbers_are ∙ count;
     holds = nursed.long ∙ count;
-    children = record {
-      each = λ j one e.
-          (let unborn = ready.seed.children.each j one e in record {
-            of_task = record {
-              there = unborn.there;
-              parent = unborn.parent;
-              has = unborn.has;
-              by = unborn.by;
-            };
-            at = unborn.at;
-          });
-      all = ready.seed.children.all;
-      apart = ready.seed.children.apart;
-    };
+    children = knows_children job seed.number seed.children.items ready.seed.children;
     staying = λ over. ap length ready.seed.lefts;
     room = let wide = ready.room.lefts in let few = born.few in omega arith;
   }

@@ -1,9 +1,10 @@
 //! A task of a graph with its registrations, as it goes from thread to thread: whoever has it makes
-//! its next event. The first calls are `Seed::new`, `Task::root` and `Task::turn`.
+//! its next event. The first calls are `Task::found`, `Unborn::new` and `Task::turn`.
 #![tactic(auto)]
 
 mod child;
 mod children;
+mod delivery;
 mod ended;
 mod founding;
 mod gate;

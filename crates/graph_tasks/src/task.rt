@@ -112,7 +112,19 @@ impl<'a, J: Run> Task<'a, J> {
         ensures back { IfErr result (λ back. back ≡ unborn.entry) }
         ensures same { self.new ≡ self.old }
     {
-        Err(unborn)
+        let Some(i) = self.nursing else {
+            return Err(unborn);
+        };
+        if !self.state.is_born(self.job, i, unborn.number()) {
+            return Err(unborn);
+        }
+        self.nursing = None;
+        Ok(Task {
+            job: self.job,
+            state: self.state.deliver(i, unborn.open()),
+            nursing: None,
+            of: PhantomData,
+        })
     }
 
     /// Leaves all phasers, by waiting, and forgets all: after a fault.
