@@ -1,5 +1,5 @@
 -- A child that is delivered stands at its parent's moment, and its parent goes on from there.
-use Rattle.std.proofs.Common.{◌≡◌, ℕ, ◌+◌, ◌≤◌, [], ◌++◌, length, refl, sym, ap, subst, ◌∙◌, arith}
+use Rattle.std.proofs.Common.{◌≡◌, ℕ, ◌+◌, ◌≤◌, List, [], ◌∷◌, ◌++◌, length, refl, sym, ap, subst, ◌∙◌, arith}
 use Rattle.std.proofs.lemmas.Option.{same_Some}
 use Rattle.stream_lists.specs.Jobs.{Job}
 use Rattle.graph_members.specs.Members.{Spot}
@@ -81,7 +81,9 @@ module _ (job : Job) (spots : ℕ → Spot) (i : ℕ) (seed old new child : Task
       nursing.nursed
 
   count : length kid.numbers.items ≡ length (registrations_at job seed.number)
-  count = let few = nursed.joining.place.few in omega arith
+  count =
+      let few : length kid.numbers.items ≤ length (registrations_at job seed.number) =
+      nursed.joining.place.few in let made = all_made in omega arith
 
   numbers_are : child.numbers.items ≡ kid.numbers.items
   numbers_are =
