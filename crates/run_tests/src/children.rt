@@ -1,53 +1,19 @@
 //! Runs of graphs with children on worker threads. What is expected was worked out by hand.
-use crate::runs::{WORKERS, job_of};
-use std::alloc::Global;
-use std::sync::Wait;
+use crate::runs::always;
 use std::test::Fail;
-use std::thread::Threads;
-use stream_eval::Lines;
-use stream_workers::{Open, run};
 
-/// Whether the sinks have these values, in the order of the lines.
-fn have(lines: &[Lines], values: &[&[i64]]) -> bool {
-    if lines.len() != values.len() {
-        return false;
-    }
-    for i in 0..lines.len() {
-        match (lines.get(i), values.get(i)) {
-            (Some(line), Some(values)) if line.values.as_slice() == *values => {}
-            _ => return false,
-        }
-    }
-    true
-}
+// How often a graph is run by each number of workers.
+const RUNS: u32 = 10;
 
-/// Whether a run of this graph gives its sinks these values, however many workers there are.
-fn gives<R: Threads + Wait + Sync>(
-    rt: &R,
-    alloc: Global,
-    graph: &str,
-    samples: &[&str],
-    values: &[&[i64]],
-) -> Result<bool, Fail> {
-    let job = job_of(alloc, graph, samples)?;
-    for workers in WORKERS {
-        let lines = run(rt, alloc, &job, workers, &Open)?;
-        if !have(&lines, values) {
-            return Ok(false);
-        }
-    }
-    Ok(true)
-}
-
-const FOUR: &str = "1\n2\n3\n4\n";
+const FOUR: [&str; 1] = ["1\n2\n3\n4\n"];
 
 const LATE: &str = "phaser X sum 4\nsource s s.csv -> X\nsink out X\n\
     sink late X by out at 2\nsink early X until 2\n";
 
 #[test]
 fn a_child_joins_where_its_parent_is(rt: HostRuntime) -> Result<(), Fail> {
-    let values: [&[i64]; 3] = [&[1, 2, 3, 4], &[3, 4], &[1, 2]];
-    assert!(rt; gives(&rt, rt.alloc(), LATE, &[FOUR], &values)?);
+    let wanted = "out 4\n1\n2\n3\n4\nlate 2\n3\n4\nearly 2\n1\n2\n";
+    assert!(rt; always(&rt, rt.alloc(), LATE, &FOUR, RUNS, wanted)?);
     Ok(())
 }
 
@@ -57,7 +23,8 @@ const HANDS_OVER: &str = "phaser X any 2\nsource A a.csv -> X\n\
 #[test]
 fn a_source_hands_over_to_its_child(rt: HostRuntime) -> Result<(), Fail> {
     let samples = ["1\n2\n3\n", "4\n5\n"];
-    assert!(rt; gives(&rt, rt.alloc(), HANDS_OVER, &samples, &[&[1, 2, 3, 4, 5]])?);
+    let wanted = "out 5\n1\n2\n3\n4\n5\n";
+    assert!(rt; always(&rt, rt.alloc(), HANDS_OVER, &samples, RUNS, wanted)?);
     Ok(())
 }
 
@@ -67,17 +34,18 @@ const SECOND_FILTER: &str = "phaser X sum 4\nphaser Y sum 4\nsource s s.csv -> X
 
 #[test]
 fn a_filter_adds_a_child(rt: HostRuntime) -> Result<(), Fail> {
-    assert!(rt; gives(&rt, rt.alloc(), SECOND_FILTER, &[FOUR], &[&[1, 3, 8, 7]])?);
+    let wanted = "out 4\n1\n3\n8\n7\n";
+    assert!(rt; always(&rt, rt.alloc(), SECOND_FILTER, &FOUR, RUNS, wanted)?);
     Ok(())
 }
 
-const THREE_SINKS: &str = "phaser X sum 4\nsource s s.csv -> X\nsink out X\n\
+const GRANDCHILD: &str = "phaser X sum 4\nsource s s.csv -> X\nsink out X\n\
     sink child X by out at 1\nsink grandchild X by child at 2\n";
 
 #[test]
 fn a_child_of_a_child(rt: HostRuntime) -> Result<(), Fail> {
-    let values: [&[i64]; 3] = [&[1, 2, 3, 4], &[2, 3, 4], &[4]];
-    assert!(rt; gives(&rt, rt.alloc(), THREE_SINKS, &[FOUR], &values)?);
+    let wanted = "out 4\n1\n2\n3\n4\nchild 3\n2\n3\n4\ngrandchild 1\n4\n";
+    assert!(rt; always(&rt, rt.alloc(), GRANDCHILD, &FOUR, RUNS, wanted)?);
     Ok(())
 }
 
@@ -86,17 +54,29 @@ const HEIR: &str = "phaser X sum 4\nsource s s.csv -> X\nsink early X until 2\n\
 
 #[test]
 fn a_child_as_its_parent_ends(rt: HostRuntime) -> Result<(), Fail> {
-    assert!(rt; gives(&rt, rt.alloc(), HEIR, &[FOUR], &[&[1, 2], &[3, 4]])?);
+    let wanted = "early 2\n1\n2\nheir 2\n3\n4\n";
+    assert!(rt; always(&rt, rt.alloc(), HEIR, &FOUR, RUNS, wanted)?);
     Ok(())
 }
 
-const TWINS: &str = "phaser X sum 1\nsource s s.csv -> X\nsink out X\n\
-    sink one X by out at 0\nsink two X by out at 0 until 1\n";
+const TWINS: &str = "phaser X sum 2\nsource s s.csv -> X\nsink out X\n\
+    sink one X by out at 1\nsink two X by out at 1 until 1\n";
 
 #[test]
 fn two_children_at_once(rt: HostRuntime) -> Result<(), Fail> {
-    let values: [&[i64]; 3] = [&[1, 2, 3, 4], &[1, 2, 3, 4], &[1]];
-    assert!(rt; gives(&rt, rt.alloc(), TWINS, &[FOUR], &values)?);
+    let wanted = "out 4\n1\n2\n3\n4\none 3\n2\n3\n4\ntwo 1\n2\n";
+    assert!(rt; always(&rt, rt.alloc(), TWINS, &FOUR, RUNS, wanted)?);
+    Ok(())
+}
+
+const AT_THE_START: &str = "phaser X sum 2\nsource s s.csv -> X\n\
+    source t t.csv -> X by s at 0\nsink out X\n";
+
+#[test]
+fn a_child_before_the_first_step(rt: HostRuntime) -> Result<(), Fail> {
+    let samples = ["1\n2\n3\n4\n", "10\n20\n"];
+    let wanted = "out 4\n11\n22\n3\n4\n";
+    assert!(rt; always(&rt, rt.alloc(), AT_THE_START, &samples, RUNS, wanted)?);
     Ok(())
 }
 
@@ -105,6 +85,7 @@ const NEVER: &str = "phaser X sum 4\nsource s s.csv -> X\nsink out X\n\
 
 #[test]
 fn a_child_that_never_comes(rt: HostRuntime) -> Result<(), Fail> {
-    assert!(rt; gives(&rt, rt.alloc(), NEVER, &[FOUR], &[&[1, 2, 3, 4]])?);
+    let wanted = "out 4\n1\n2\n3\n4\n";
+    assert!(rt; always(&rt, rt.alloc(), NEVER, &FOUR, RUNS, wanted)?);
     Ok(())
 }

@@ -10,10 +10,10 @@ use stream_eval::Lines;
 use stream_lists::Job;
 use stream_workers::{Gate, Open, RunFault, run};
 
-pub(crate) const WORKERS: [usize; 3] = [1, 2, 16];
+const WORKERS: [usize; 3] = [1, 2, 16];
 
 /// The job of a graph, on samples of these texts, one for each source.
-pub(crate) fn job_of(alloc: Global, graph: &str, samples: &[&str]) -> Result<Job, Fail> {
+fn job_of(alloc: Global, graph: &str, samples: &[&str]) -> Result<Job, Fail> {
     let graph = read_graph(alloc, graph.as_bytes())?;
     let mut lists = Vec::new(alloc);
     for text in samples {
