@@ -7,3 +7,4 @@ mod Nursery
 mod Seeding
 mod Nursing
 mod Leaving
+mod Delivering

@@ -1,5 +1,5 @@
 //! A task with its registrations.
-ghost use Rattle.std.specs.Prelude.{◌≡◌, length, None, IfOk};
+ghost use Rattle.std.specs.Prelude.{◌≡◌, length, None, IfErr, IfOk};
 ghost use Rattle.graph_tasks.specs.Ends.{IsEnded};
 ghost use Rattle.graph_base.specs.Graphs.{task_at};
 ghost use Rattle.graph_turns.specs.Nexts.{registrations_at};
@@ -11,6 +11,7 @@ use crate::run::Run;
 use crate::seed::Seed;
 use crate::task_state::TaskState;
 use crate::turned::Turned;
+use crate::unborn::Unborn;
 use graph_ends::laws::first_calls;
 use graph_parts::beginnings::roots_begin;
 use std::marker::{Model, PhantomData};
@@ -104,10 +105,26 @@ impl<'a, J: Run> Task<'a, J> {
         }
     }
 
-    /// Gives the child of which `turn` has answered that it is born. Where none is born, which is
-    /// always so as yet, the seed comes back. It takes no memory.
-    pub fn deliver(&mut self, seed: Seed<'a>) -> Result<Task<'a, J>, Seed<'a>> {
-        Err(seed)
+    /// Gives the child of this number, of which `turn` has answered that it is born, as a task of
+    /// its own. Else it comes back. It takes no memory.
+    pub fn deliver(&mut self, unborn: Unborn<'a, J>) -> Result<Task<'a, J>, Unborn<'a, J>>
+        ensures child { IfOk result (λ child. child ≡ unborn.entry) }
+        ensures back { IfErr result (λ back. back ≡ unborn.entry) }
+        ensures same { self.new ≡ self.old }
+    {
+        let Some(i) = self.nursing else {
+            return Err(unborn);
+        };
+        if !self.state.is_born(self.job, i, unborn.number()) {
+            return Err(unborn);
+        }
+        self.nursing = None;
+        Ok(Task {
+            job: self.job,
+            state: self.state.deliver(i, unborn.open()),
+            nursing: None,
+            of: PhantomData,
+        })
     }
 
     /// Leaves all phasers, by waiting, and forgets all: after a fault.
