@@ -1,10 +1,10 @@
 -- Words that are refused: one kind stands for them, or two, and none is a call for help or for the
 -- version.
-use Rattle.std.proofs.Common.{◌≡◌, ◌≢◌, ◌⊎◌, List, [], ◌∷◌, rules}
+use Rattle.std.proofs.Common.{◌≡◌, ◌≢◌, List, [], ◌∷◌, rules}
 use Rattle.std.proofs.Common.{inl, inr, sym, subst, ◌∙◌}
 use Rattle.clap.specs.Words.{IsAmong, Kinds, Text}
 use Rattle.clap.specs.declared.error.kind.ErrorKind.{ErrorKind}
-use Rattle.clap.specs.declared.error.kind.ErrorKind.TheVariants.{InvalidSubcommand, MissingRequiredArgument, UnknownArgument}
+use Rattle.clap.specs.declared.error.kind.ErrorKind.TheVariants.{InvalidSubcommand, InvalidValue, MissingRequiredArgument, UnknownArgument, ValueValidation}
 use Rattle.phase_words.specs.CommandLine.{AreRefused, IsShown, kinds_of}
 
 not_empty : (kind : ErrorKind) (kinds : Kinds) → kind ∷ kinds ≢ []
@@ -21,6 +21,14 @@ invalid_not_shown (inr e) = search rules
 missing_not_shown : IsShown MissingRequiredArgument → ⊥
 missing_not_shown (inl e) = search rules
 missing_not_shown (inr e) = search rules
+
+value_not_shown : IsShown InvalidValue → ⊥
+value_not_shown (inl e) = search rules
+value_not_shown (inr e) = search rules
+
+validation_not_shown : IsShown ValueValidation → ⊥
+validation_not_shown (inl e) = search rules
+validation_not_shown (inr e) = search rules
 
 -- a kind that is shown is not among one kind that is not, and not among two
 not_among_one : (one kind : ErrorKind) → (IsShown one → ⊥) → IsShown kind
@@ -48,6 +56,13 @@ unknown_refused words e = refused_by_one words UnknownArgument unknown_not_shown
 pub missing_refused : (words : List Text) → kinds_of words ≡ MissingRequiredArgument ∷ []
     → AreRefused words
 missing_refused words e = refused_by_one words MissingRequiredArgument missing_not_shown e
+
+pub value_refused : (words : List Text) → kinds_of words ≡ InvalidValue ∷ [] → AreRefused words
+value_refused words e = refused_by_one words InvalidValue value_not_shown e
+
+pub validation_refused : (words : List Text) → kinds_of words ≡ ValueValidation ∷ []
+    → AreRefused words
+validation_refused words e = refused_by_one words ValueValidation validation_not_shown e
 
 pub stray_refused : (words : List Text) → kinds_of words ≡ UnknownArgument ∷ InvalidSubcommand ∷ []
     → AreRefused words

@@ -1,14 +1,18 @@
 -- What the words of a command line ask for, by what clap makes of them. The program's own name is
 -- not among them.
-use Rattle.std.specs.Prelude.{◌≡◌, ◌≢◌, ◌⊎◌, true, List, [], ◌∷◌, Option, Some, None}
+use Rattle.std.specs.Prelude.{◌≡◌, ◌≢◌, ◌⊎◌, ℕ, true, List, [], ◌∷◌, Option, Some, None}
 use Rattle.std.specs.Prelude.{String, codes, if◌then◌else◌, map, option_map, string_bytes, unwrap_or, ⊤}
 use Rattle.std.specs.Str.{bytes_eq}
+use Rattle.std.specs.Str.Parse.{digits_value, without_leading_plus}
+use Rattle.clap.specs.ValueTests.{is_unsigned_in}
 use Rattle.clap.specs.Words.{App, IsAmong, Kinds, Row, Rule, Shape, Text, fault_of, first_of}
 use Rattle.clap.specs.Words.{new_app, new_rule, subcommand_of, with_rule, with_subcommand}
+use Rattle.clap.specs.declared.builder.value_parser.ValueParser.TheVariants as vp
 use Rattle.clap.specs.declared.error.kind.ErrorKind.{ErrorKind}
 use Rattle.clap.specs.declared.error.kind.ErrorKind.TheVariants.{DisplayHelp, DisplayVersion, OutOfMemory}
 use Rattle.phase_words.specs.declared.call.Call.{Call}
 use Rattle.phase_words.specs.declared.call.Call.TheVariants as call
+use Rattle.phase_words.specs.declared.call.TheConstants.{WORKERS, WORKERS_MAX}
 use Rattle.phase_words.specs.declared.call.NoCall.{NoCall}
 use Rattle.phase_words.specs.declared.call.NoCall.TheVariants as no_call
 
@@ -42,12 +46,24 @@ sink_rule = record (new_rule (codes "sink")) { long = Some (codes "sink"); value
 abbrev pub eval_shape : Shape
 eval_shape = (with_rule (graph_app (codes "eval")) sink_rule).top
 
--- the program, with its commands: `replay`, which takes no word, and `check` and `eval`
+-- the number of workers, which may be given behind `--workers`: from 1 to 16, in decimal digits
+abbrev pub workers_rule : Rule
+workers_rule = record (new_rule (codes "workers")) {
+  long = Some (codes "workers");
+  value_names = 1;
+  parser = Some (vp.Unsigned 1 WORKERS_MAX);
+}
+
+-- the command `run`
+abbrev pub run_shape : Shape
+run_shape = (with_rule (with_rule (graph_app (codes "run")) sink_rule) workers_rule).top
+
+-- the program, with its commands: `replay`, which takes no word, and `check`, `eval` and `run`
 unfoldable pub phase_app : App
 phase_app =
-    with_subcommand (with_subcommand (with_subcommand (with_version
+    with_subcommand (with_subcommand (with_subcommand (with_subcommand (with_version
     (without_own_name (new_app (codes "phase")))) (new_app (codes "replay")).top)
-    (graph_shape (codes "check"))) eval_shape
+    (graph_shape (codes "check"))) eval_shape) run_shape
 
 -- ---- what the words ask for
 
@@ -78,18 +94,30 @@ AreRefused words =
     (kinds_of words ≢ [])
     × ((kind : ErrorKind) → IsShown kind → IsAmong kind (kinds_of words) → ⊥)
 
--- what words that are taken ask for: a replay, a check of a graph's file, or its evaluation, for all
--- its sinks or for the one of a name
+-- what words that are taken ask for: a replay, a check of a graph's file, its evaluation, for all
+-- its sinks or for the one of a name, or the same by a run of so many workers
 pub data Asked : Type 0 where
   replay : Asked
   check : Text → Asked
   eval : Text → Option Text → Asked
+  run : Text → Option Text → ℕ → Asked
+
+-- how many workers a word names: as many as it says, from 1 to 16, and 4 where it says none of these
+abbrev pub workers_named : Text → ℕ
+workers_named word =
+    if is_unsigned_in 1 WORKERS_MAX word then digits_value 10 (without_leading_plus word) else WORKERS
+
+-- and 4 where there is no word
+abbrev pub workers_of : Option Text → ℕ
+workers_of None = WORKERS
+workers_of (Some word) = workers_named word
 
 -- by the command and the names that are given to it
-abbrev pub asked_as : Text → Option Text → Option Text → Asked
-asked_as name graph sink =
+abbrev pub asked_as : Text → Option Text → Option Text → ℕ → Asked
+asked_as name graph sink workers =
     if bytes_eq name (codes "check") then check (unwrap_or graph [])
     else if bytes_eq name (codes "eval") then eval (unwrap_or graph []) sink
+    else if bytes_eq name (codes "run") then run (unwrap_or graph []) sink workers
     else replay
 
 -- with no command a replay is asked for
@@ -97,6 +125,7 @@ abbrev pub asked_by : Option (Text × List Row) → Asked
 asked_by None = replay
 asked_by (Some command) =
     asked_as command.0 (first_of (codes "graph") command.1) (first_of (codes "sink") command.1)
+    (workers_of (first_of (codes "workers") command.1))
 
 -- what the words ask for, by the command that clap finds in them
 unfoldable pub asked_in : List Text → Asked
@@ -120,15 +149,23 @@ AskCheck words name = Asks words (check name)
 abbrev pub AskEval : List Text → Text → Option Text → Type 0
 AskEval words name sink = Asks words (eval name sink)
 
+-- the words ask for a run of the graph in the file of this name by so many workers, for all its
+-- sinks, or for the one of this name
+abbrev pub AskRun : List Text → Text → Option Text → ℕ → Type 0
+AskRun words name sink workers = Asks words (run name sink workers)
+
 -- the words ask for something of the graph in the file of this name
 abbrev pub AskGraph : List Text → Text → Type 0
-AskGraph words name = AskCheck words name ⊎ ((sink : Option Text) × AskEval words name sink)
+AskGraph words name = AskCheck words name
+    ⊎ (((sink : Option Text) × AskEval words name sink)
+    ⊎ ((sink : Option Text) × (workers : ℕ) × AskRun words name sink workers))
 
 -- what a call asks for
 abbrev pub asked_of : Call → Asked
 asked_of call.Replay = replay
 asked_of (call.Check name) = check name.now
 asked_of (call.Eval graph sink) = eval graph.now (option_map (λ s. s.now) sink)
+asked_of (call.Run graph sink workers) = run graph.now (option_map (λ s. s.now) sink) workers
 
 -- the words as texts
 abbrev pub texts : {Z : Type 0} → List (String Z) → List Text

@@ -1,5 +1,11 @@
 //! What the words ask for, as plain data.
 
+/// How many workers a run has where none are named.
+pub const WORKERS: usize = 4;
+
+/// The most workers that a run may have.
+pub const WORKERS_MAX: usize = 16;
+
 /// What the words ask for.
 #[derive(Clone, Copy, Debug, PartialEq, Eq)]
 pub enum Call<'a> {
@@ -12,6 +18,12 @@ pub enum Call<'a> {
     Eval {
         graph: &'a str,
         sink: Option<&'a str>,
+    },
+    /// The same by a run on so many worker threads, from 1 to `WORKERS_MAX`.
+    Run {
+        graph: &'a str,
+        sink: Option<&'a str>,
+        workers: usize,
     },
 }
 

@@ -3,9 +3,9 @@
 /// What the program is.
 pub(crate) const ABOUT: &str = "\
 Replays a script of calls on a phaser, a barrier on which the tasks of a phase
-also add up a value, or evaluates a graph of filters over phasers. A script is
-read from standard input, a call a line, and each line is answered by one line
-on standard output.";
+also add up a value, or evaluates a graph of filters over phasers, or runs it on
+worker threads. A script is read from standard input, a call a line, and each
+line is answered by one line on standard output.";
 
 /// The version of the program and of its libraries.
 pub(crate) const VERSION: &str = "0.1.0";
@@ -19,11 +19,18 @@ pub(crate) const CHECK: &str = "Reads a graph and the samples of its sources";
 /// What `eval` does.
 pub(crate) const EVAL: &str = "Writes the values of each sink of a graph";
 
-/// What the word behind `check` and `eval` is.
+/// What `run` does.
+pub(crate) const RUN: &str = "Writes the same values by a run on worker threads";
+
+/// What the word behind `check`, `eval` and `run` is.
 pub(crate) const GRAPH: &str = "The file of the graph, of at most 1048576 bytes";
 
 /// What the word behind `--sink` is.
 pub(crate) const SINK: &str = "Write the values of this sink alone, each on a line";
+
+/// What the word behind `--workers` is.
+pub(crate) const WORKERS_WORD: &str =
+    "How many worker threads, from 1 to 16: 4 where none are named";
 
 /// The end of the program's help, and of that of `replay`.
 pub(crate) const END: &str = "\
@@ -38,8 +45,8 @@ Example, with the reply to each line and what it means:
 A line that is no call is answered by `bad line`.
 
 Exit status: 0 done; 1 a graph or its samples are refused; 2 the words were not
-understood; 3 a value of a graph is out of range; 5 a read or a write failed, or
-memory ran out.";
+understood; 3 a value of a graph is out of range; 4 a run of a graph stalled; 5 a
+read or a write failed, or memory ran out.";
 
 /// The end of the help of `check`.
 pub(crate) const CHECK_END: &str = "\
@@ -72,3 +79,21 @@ samples of another source.
 Exit status: 0 done; 1 the graph or its samples are refused, or no sink has the
 name; 2 the words were not understood; 3 a value is out of range; 5 a read or a
 write failed, or memory ran out.";
+
+/// The end of the help of `run`.
+pub(crate) const RUN_END: &str = "\
+Example: where the file `sums` holds the five lines
+  phaser X sum 4
+  phaser Y sum 4
+  source s numbers -> X
+  fir f X -> Y shift 0 taps 1 1
+  sink out Y
+and the file `numbers` the lines 1, 2 and 3, `phase run sums` writes
+  out 3
+  1
+  3
+  5
+
+Exit status: 0 done; 1 the graph or its samples are refused, or no sink has the
+name; 2 the words were not understood; 3 a value is out of range; 4 every task
+that was left waited for another; 5 a read or a write failed, or memory ran out.";

@@ -8,5 +8,5 @@ mod command_line;
 mod help;
 pub mod laws;
 
-pub use call::{Call, NoCall};
+pub use call::{Call, NoCall, WORKERS, WORKERS_MAX};
 pub use command_line::read_words;

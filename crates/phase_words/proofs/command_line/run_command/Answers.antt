@@ -1,0 +1,23 @@
+-- The command of a graph's file, with two more words.
+use Rattle.std.proofs.Common.{◌||◌, ◌∙◌, ap, ap₂}
+use Rattle.std.proofs.lemmas.Result.{IfOk-weaker}
+use Rattle.clap.specs.Words.{App, with_rule}
+use Rattle.phase_words.proofs.command_line.run_command.Goals as goal
+
+pub returns-clause-shape : goal.returns-clause-shape
+returns-clause-shape c =
+    let of_graph = c.in_ok-graph_command.ensures in
+    let one = c.in_ok-arg.ensures.shape c.sink_word.ensures.local
+    ∙ ap₂ with_rule of_graph.app c.sink_word.ensures.rule in
+    IfOk-weaker c.arg-2.result _ _
+    (λ r adds. ap (λ (a : App). a.top) (adds.shape c.workers_word.ensures.local
+    ∙ ap₂ with_rule one c.workers_word.ensures.rule)) c.arg-2.ensures
+
+pub returns-clause-local : goal.returns-clause-local
+returns-clause-local c =
+    let one = c.in_ok-arg.ensures.globals
+    ∙ ap₂ (λ old global. old || global) c.in_ok-graph_command.ensures.local
+    c.sink_word.ensures.local in
+    IfOk-weaker c.arg-2.result _ _
+    (λ r adds. adds.globals ∙ ap₂ (λ old global. old || global) one
+    c.workers_word.ensures.local) c.arg-2.ensures
