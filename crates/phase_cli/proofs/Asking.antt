@@ -1,9 +1,9 @@
 -- What words ask for, and which statuses may come.
 use Rattle.std.proofs.Common.{◌≡◌, ◌≢◌, ◌⊎◌, inl, inr, ℕ, List, [], ◌∷◌, Option, None, refl, sym, ◌∙◌, ap, subst, rules, arith}
-use Rattle.phase_cli.specs.Ends.{IsAnswer, IsRun, IsStatus, MayEnd, MayEndAs}
+use Rattle.phase_cli.specs.Ends.{IsAnswer, IsStatus, MayEnd, MayEndAs}
 use Rattle.phase_status.specs.Statuses.{Reports}
 use Rattle.phase_words.proofs.NoCalls.{asked-help-not-taken, asked-version-not-taken, refusal-not-help, refusal-not-taken, refusal-not-version, shown-not-taken, taken-or-not}
-use Rattle.phase_words.specs.CommandLine.{AreRefused, AreTaken, Asked, Asks, AskHelp, AskVersion, IsNoCall, asked_in, asked_of, check, eval, replay, run}
+use Rattle.phase_words.specs.CommandLine.{AreRefused, AreTaken, Asked, Asks, AskHelp, AskVersion, IsNoCall, asked_in, asked_of, check, eval, replay}
 use Rattle.phase_words.specs.declared.call.Call.{Call}
 use Rattle.phase_words.specs.declared.call.NoCall.{NoCall}
 use Rattle.phase_words.specs.declared.call.NoCall.TheVariants as no_call
@@ -30,16 +30,6 @@ replay-not-eval name sink = λ e. search rules
 check-not-eval : (name other : List ℕ) (sink : Option (List ℕ)) → check name ≢ eval other sink
 check-not-eval name other sink = λ e. search rules
 
-replay-not-run : (name : List ℕ) (sink : Option (List ℕ)) (workers : ℕ) → replay ≢ run name sink workers
-replay-not-run name sink workers = λ e. search rules
-
-check-not-run : (name other : List ℕ) (sink : Option (List ℕ)) (workers : ℕ) → check name ≢ run other sink workers
-check-not-run name other sink workers = λ e. search rules
-
-eval-not-run : (name other : List ℕ) (asked sink : Option (List ℕ)) (workers : ℕ)
-    → eval name asked ≢ run other sink workers
-eval-not-run name other asked sink workers = λ e. search rules
-
 pub not-check : (words : List (List ℕ)) (name : List ℕ) → Asks words replay → Asks words (check name) → ⊥
 not-check words name p q = replay-not-check name (asks-one words replay (check name) p q)
 
@@ -52,34 +42,17 @@ pub not-both : (words : List (List ℕ)) (name other : List ℕ) (sink : Option 
 not-both words name other sink p q =
     check-not-eval name other sink (asks-one words (check name) (eval other sink) p q)
 
-pub replay-no-run : (words : List (List ℕ)) (name : List ℕ) (sink : Option (List ℕ)) (workers : ℕ)
-    → Asks words replay → Asks words (run name sink workers) → ⊥
-replay-no-run words name sink workers p q =
-    replay-not-run name sink workers (asks-one words replay (run name sink workers) p q)
-
-pub check-no-run : (words : List (List ℕ)) (name other : List ℕ) (sink : Option (List ℕ)) (workers : ℕ)
-    → Asks words (check name) → Asks words (run other sink workers) → ⊥
-check-no-run words name other sink workers p q =
-    check-not-run name other sink workers (asks-one words (check name) (run other sink workers) p q)
-
-pub eval-no-run : (words : List (List ℕ)) (name other : List ℕ) (asked sink : Option (List ℕ)) (workers : ℕ)
-    → Asks words (eval name asked) → Asks words (run other sink workers) → ⊥
-eval-no-run words name other asked sink workers p q =
-    eval-not-run name other asked sink workers (asks-one words (eval name asked) (run other sink workers) p q)
-
 -- the name that is asked for
 abbrev name_of : Asked → List ℕ
 name_of replay = []
 name_of (check name) = name
 name_of (eval name sink) = name
-name_of (run name sink workers) = name
 
 -- and the name of a sink
 abbrev sink_of : Asked → Option (List ℕ)
 sink_of replay = None
 sink_of (check name) = None
 sink_of (eval name sink) = sink
-sink_of (run name sink workers) = sink
 
 pub same-check : (words : List (List ℕ)) (name other : List ℕ) → Asks words (check name) → Asks words (check other) → name ≡ other
 same-check words name other p q = ap name_of (asks-one words (check name) (check other) p q)
@@ -88,12 +61,6 @@ pub same-eval : (words : List (List ℕ)) (name other : List ℕ) (sink also : O
     → Asks words (eval name sink) → Asks words (eval other also) → (name ≡ other) × (sink ≡ also)
 same-eval words name other sink also p q =
     let one = asks-one words (eval name sink) (eval other also) p q in
-    (ap name_of one, ap sink_of one)
-
-pub same-run : (words : List (List ℕ)) (name other : List ℕ) (sink also : Option (List ℕ)) (workers more : ℕ)
-    → Asks words (run name sink workers) → Asks words (run other also more) → (name ≡ other) × (sink ≡ also)
-same-run words name other sink also workers more p q =
-    let one = asks-one words (run name sink workers) (run other also more) p q in
     (ap name_of one, ap sink_of one)
 
 -- ---- statuses
@@ -120,7 +87,6 @@ five-as : (what : Asked) (status : ℕ) → status ≡ 5 → MayEndAs what statu
 five-as replay status five = inr five
 five-as (check name) status five = inr (inr five)
 five-as (eval name sink) status five = inr (inr (inr five))
-five-as (run name sink workers) status five = inr (inr (inr (inr five)))
 
 -- the status of words that ask for help
 help-ends : {W : Type 0} (words : List (List ℕ)) (none : NoCall) (status : ℕ) (old new : Watched W) (before after : WriterState)
@@ -175,24 +141,19 @@ refused-silent words no_call.OutOfMemory status old new before after why answer 
 
 any-as : (what : Asked) (status : ℕ) → MayEndAs what status → IsStatus status
 any-as replay status (inl zero) = inl zero
-any-as replay status (inr five) = inr (inr (inr (inr (inr five))))
+any-as replay status (inr five) = inr (inr (inr (inr five)))
 any-as (check name) status (inl zero) = inl zero
 any-as (check name) status (inr (inl one)) = inr (inl one)
-any-as (check name) status (inr (inr five)) = inr (inr (inr (inr (inr five))))
+any-as (check name) status (inr (inr five)) = inr (inr (inr (inr five)))
 any-as (eval name sink) status (inl zero) = inl zero
 any-as (eval name sink) status (inr (inl one)) = inr (inl one)
 any-as (eval name sink) status (inr (inr (inl three))) = inr (inr (inr (inl three)))
-any-as (eval name sink) status (inr (inr (inr five))) = inr (inr (inr (inr (inr five))))
-any-as (run name sink workers) status (inl zero) = inl zero
-any-as (run name sink workers) status (inr (inl one)) = inr (inl one)
-any-as (run name sink workers) status (inr (inr (inl three))) = inr (inr (inr (inl three)))
-any-as (run name sink workers) status (inr (inr (inr (inl four)))) = inr (inr (inr (inr (inl four))))
-any-as (run name sink workers) status (inr (inr (inr (inr five)))) = inr (inr (inr (inr (inr five))))
+any-as (eval name sink) status (inr (inr (inr five))) = inr (inr (inr (inr five)))
 
 any-untaken : (status : ℕ) → (status ≡ 0) ⊎ ((status ≡ 2) ⊎ (status ≡ 5)) → IsStatus status
 any-untaken status (inl zero) = inl zero
 any-untaken status (inr (inl two)) = inr (inr (inl two))
-any-untaken status (inr (inr five)) = inr (inr (inr (inr (inr five))))
+any-untaken status (inr (inr five)) = inr (inr (inr (inr five)))
 
 any-by : (words : List (List ℕ)) (status : ℕ) → MayEnd words status → AreTaken words ⊎ (AreTaken words → ⊥) → IsStatus status
 any-by words status ends (inl taken) = any-as (asked_in words) status (ends.asked (asked_in words) (record { taken = taken; command = refl }))
@@ -211,44 +172,7 @@ two-as (eval name sink) status two (inl zero) = omega (arith, two, zero)
 two-as (eval name sink) status two (inr (inl one)) = omega (arith, two, one)
 two-as (eval name sink) status two (inr (inr (inl three))) = omega (arith, two, three)
 two-as (eval name sink) status two (inr (inr (inr five))) = omega (arith, two, five)
-two-as (run name sink workers) status two (inl zero) = omega (arith, two, zero)
-two-as (run name sink workers) status two (inr (inl one)) = omega (arith, two, one)
-two-as (run name sink workers) status two (inr (inr (inl three))) = omega (arith, two, three)
-two-as (run name sink workers) status two (inr (inr (inr (inl four)))) = omega (arith, two, four)
-two-as (run name sink workers) status two (inr (inr (inr (inr five)))) = omega (arith, two, five)
 
 pub taken-not-two : (words : List (List ℕ)) (status : ℕ) → MayEnd words status → AreTaken words → status ≢ 2
 taken-not-two words status ends taken = λ two.
     two-as (asked_in words) status two (ends.asked (asked_in words) (record { taken = taken; command = refl }))
-
--- ---- no run of a graph stalled but one that was asked for
-
-four-as : (words : List (List ℕ)) (what : Asked) (status : ℕ) → Asks words what → MayEndAs what status → status ≡ 4
-    → IsRun words
-four-as words replay status asks (inl zero) four = absurd (omega (arith, four, zero))
-four-as words replay status asks (inr five) four = absurd (omega (arith, four, five))
-four-as words (check name) status asks (inl zero) four = absurd (omega (arith, four, zero))
-four-as words (check name) status asks (inr (inl one)) four = absurd (omega (arith, four, one))
-four-as words (check name) status asks (inr (inr five)) four = absurd (omega (arith, four, five))
-four-as words (eval name sink) status asks (inl zero) four = absurd (omega (arith, four, zero))
-four-as words (eval name sink) status asks (inr (inl one)) four = absurd (omega (arith, four, one))
-four-as words (eval name sink) status asks (inr (inr (inl three))) four = absurd (omega (arith, four, three))
-four-as words (eval name sink) status asks (inr (inr (inr five))) four = absurd (omega (arith, four, five))
-four-as words (run name sink workers) status asks ends four =
-    record { name = name; sink = sink; workers = workers; asks = asks }
-
-four-untaken : (words : List (List ℕ)) (status : ℕ) → (status ≡ 0) ⊎ ((status ≡ 2) ⊎ (status ≡ 5)) → status ≡ 4
-    → IsRun words
-four-untaken words status (inl zero) four = absurd (omega (arith, four, zero))
-four-untaken words status (inr (inl two)) four = absurd (omega (arith, four, two))
-four-untaken words status (inr (inr five)) four = absurd (omega (arith, four, five))
-
-four-by : (words : List (List ℕ)) (status : ℕ) → MayEnd words status → status ≡ 4
-    → AreTaken words ⊎ (AreTaken words → ⊥) → IsRun words
-four-by words status ends four (inl taken) =
-    let asks : Asks words (asked_in words) = record { taken = taken; command = refl } in
-    four-as words (asked_in words) status asks (ends.asked (asked_in words) asks) four
-four-by words status ends four (inr untaken) = four-untaken words status (ends.untaken untaken) four
-
-pub stalled-run : (words : List (List ℕ)) (status : ℕ) → MayEnd words status → status ≡ 4 → IsRun words
-stalled-run words status ends four = four-by words status ends four (taken-or-not words)

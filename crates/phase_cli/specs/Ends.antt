@@ -2,7 +2,7 @@
 use Rattle.std.specs.Prelude.{◌≡◌, ◌⊎◌, ℕ, List, Option}
 use Rattle.phase_replay.specs.Replay.{HasCause}
 use Rattle.phase_status.specs.Statuses.{Reports}
-use Rattle.phase_words.specs.CommandLine.{AreRefused, AreTaken, Asked, Asks, AskHelp, AskVersion, check, eval, replay, run}
+use Rattle.phase_words.specs.CommandLine.{AreRefused, AreTaken, Asked, Asks, AskHelp, AskVersion, check, eval, replay}
 use Rattle.phase_words.specs.declared.call.NoCall.{NoCall}
 use Rattle.phase_words.specs.declared.call.NoCall.TheVariants as no_call
 use Rattle.watched_io.specs.States.{ReaderState, WriterState, writer_state}
@@ -12,23 +12,13 @@ use Rattle.watched_io.specs.declared.watched.Watched.{Watched}
 
 -- the statuses of the program
 abbrev pub IsStatus : ℕ → Type 0
-IsStatus status = (status ≡ 0) ⊎ ((status ≡ 1) ⊎ ((status ≡ 2) ⊎ ((status ≡ 3) ⊎ ((status ≡ 4)
-    ⊎ (status ≡ 5)))))
+IsStatus status = (status ≡ 0) ⊎ ((status ≡ 1) ⊎ ((status ≡ 2) ⊎ ((status ≡ 3) ⊎ (status ≡ 5))))
 
 -- the statuses of what words that are taken ask for
 abbrev pub MayEndAs : Asked → ℕ → Type 0
 MayEndAs replay status = (status ≡ 0) ⊎ (status ≡ 5)
 MayEndAs (check _) status = (status ≡ 0) ⊎ ((status ≡ 1) ⊎ (status ≡ 5))
 MayEndAs (eval _ _) status = (status ≡ 0) ⊎ ((status ≡ 1) ⊎ ((status ≡ 3) ⊎ (status ≡ 5)))
-MayEndAs (run _ _ _) status = (status ≡ 0) ⊎ ((status ≡ 1) ⊎ ((status ≡ 3) ⊎ ((status ≡ 4)
-    ⊎ (status ≡ 5))))
-
--- the words ask for a run of a graph
-pub record IsRun (words : List (List ℕ)) : Type 0 where
-  pub name : List ℕ
-  pub sink : Option (List ℕ)
-  pub workers : ℕ
-  pub asks : Asks words (run name sink workers)
 
 -- the statuses that may come, by what the words ask for
 pub record MayEnd (words : List (List ℕ)) (status : ℕ) : Type 0 where

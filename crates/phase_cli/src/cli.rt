@@ -4,31 +4,24 @@ ghost use Rattle.graph_commands.specs.GraphRuns.{CheckEnds, EvalEnds};
 ghost use Rattle.phase_cli.specs.Ends.{AnswerEnds, AnswerStops, IsAnswer, IsUnbegun, MayEnd};
 ghost use Rattle.phase_cli.specs.Replays.{ReplayEnds};
 ghost use Rattle.phase_words.specs.CommandLine.{AreTaken, AskCheck, AskEval, AskGraph, AskReplay};
-ghost use Rattle.phase_words.specs.CommandLine.{AskRun};
 ghost use Rattle.phase_words.specs.CommandLine.{texts};
-ghost use Rattle.run_command.specs.Runs.{RunEnds};
 ghost use Rattle.watched_io.specs.States.{reader_state, writer_state};
 
 use crate::replayed::replay_and_report;
 use graph_commands::{check_and_report, eval_and_report};
 use phase_status::{refuse, report, show_help};
 use phase_words::{Call, NoCall, read_words};
-use run_command::run_and_report;
 use std::alloc::Global;
 use std::io::{Read, Write};
-use std::sync::Wait;
-use std::thread::Threads;
 use watched_io::{Files, IoFault, Watched};
 
 /// Runs the program on its words, without its own name, and answers its exit status: 0 where what
-/// was asked for is done, or help or the version was shown, 1 where a graph or its samples are
-/// refused, or no sink has the name that is asked for, 2 where the words are refused, 3 where a value
-/// of a graph is out of range, 4 where a run of a graph stalled, and 5 after a fault.
+/// was asked for is done, or help or the version was shown, 1 where a graph or its samples are refused, or no sink has the name that is
+/// asked for, 2 where the words are refused, 3 where a value of a graph is out of range, and 5 after a fault.
 ///
 /// A refusal's text goes to the fault stream, and so does a fault's line. Where that stream fails
-/// too, the status stands alone. Only a run of a graph waits.
-pub fn run_cli<H: Threads + Wait + Sync, R: Read, W: Write, E: Write, F: Files>(
-    rt: &H,
+/// too, the status stands alone.
+pub fn run_cli<R: Read, W: Write, E: Write, F: Files>(
     alloc: Global,
     words: &[String],
     input: &mut Watched<R>,
@@ -45,8 +38,8 @@ pub fn run_cli<H: Threads + Wait + Sync, R: Read, W: Write, E: Write, F: Files>(
         (writer_state W.contents output.old) (writer_state W.contents output.new)
         (writer_state E.contents faults.old) (writer_state E.contents faults.new) }
 
-    // What a check, an evaluation and a run of a graph wrote, whole or up to a fault, and why there is
-    // no other answer.
+    // What a check and an evaluation of a graph wrote, whole or up to a fault, and why there is no
+    // other answer.
     ensures check { (name : List ℕ) → AskCheck (texts words.now) name
         → IsUnbegun result files.old files.new output.old output.new
         (writer_state E.contents faults.old) (writer_state E.contents faults.new)
@@ -57,20 +50,14 @@ pub fn run_cli<H: Threads + Wait + Sync, R: Read, W: Write, E: Write, F: Files>(
         (writer_state E.contents faults.old) (writer_state E.contents faults.new)
         ⊎ EvalEnds (F.file files.old) name sink result W.contents output.old output.new
         (writer_state E.contents faults.old) (writer_state E.contents faults.new) }
-    ensures run { (name : List ℕ) (sink : Option (List ℕ)) (workers : ℕ)
-        → AskRun (texts words.now) name sink workers
-        → IsUnbegun result files.old files.new output.old output.new
-        (writer_state E.contents faults.old) (writer_state E.contents faults.new)
-        ⊎ RunEnds (F.file files.old) name sink result W.contents output.old output.new
-        (writer_state E.contents faults.old) (writer_state E.contents faults.new) }
 
     // How other words are answered.
     ensures answered { (AreTaken (texts words.now) → ⊥)
         → AnswerEnds (texts words.now) result W.contents output.old output.new
         (writer_state E.contents faults.old) (writer_state E.contents faults.new) }
 
-    // What is left alone: a replay alone reads the input, and a check, an evaluation and a run alone
-    // open files.
+    // What is left alone: a replay alone reads the input, and a check and an evaluation alone open
+    // files.
     ensures unread { (AskReplay (texts words.now) → ⊥) → input.new ≡ input.old }
     ensures unopened { ((name : List ℕ) → AskGraph (texts words.now) name → ⊥)
         → files.new ≡ files.old }
@@ -82,11 +69,6 @@ pub fn run_cli<H: Threads + Wait + Sync, R: Read, W: Write, E: Write, F: Files>(
         Ok(Call::Eval { graph, sink }) => {
             eval_and_report(alloc, graph, sink, output, faults, files)
         }
-        Ok(Call::Run {
-            graph,
-            sink,
-            workers,
-        }) => run_and_report(rt, alloc, graph, sink, workers, output, faults, files),
         Err(none) => answer(&none, output, faults),
     }
 }

@@ -1,64 +1,31 @@
-//! Checks, evaluations and runs of graphs, on files that are held in memory.
-use crate::tests::{Broken, Held, Outcome, ask, status_of};
+//! Checks and evaluations of graphs, on files that are held in memory.
+use crate::tests::{Broken, Held, run_graph, status_of};
 use std::alloc::Global;
 use std::test::Fail;
 use watched_io::{FileFault, Files};
 
-/// Whether this was written, and nothing else.
-fn wrote(done: &Outcome, wanted: &str) -> bool {
-    done.status == 0 && done.faults.is_empty() && done.output.as_slice() == wanted.as_bytes()
-}
-
-/// Whether a graph on these samples has this output, and the evaluation ends well.
+/// Whether a graph on these samples has this output, and the run ends well.
 fn evaluates(
-    rt: &HostRuntime,
+    alloc: Global,
     graph: &str,
     samples: &[(&str, &str)],
     wanted: &str,
 ) -> Result<bool, Fail> {
-    let eval = ask(rt, ["eval", "g"].as_slice(), Held { graph, samples })?;
-    Ok(wrote(&eval, wanted))
+    let done = run_graph(alloc, "eval", Held { graph, samples })?;
+    Ok(done.status == 0 && done.faults.is_empty() && done.output.as_slice() == wanted.as_bytes())
 }
 
-/// Whether its runs by 4 workers, by 1 and by 16 have this output.
-fn runs(
-    rt: &HostRuntime,
-    graph: &str,
-    samples: &[(&str, &str)],
-    wanted: &str,
-) -> Result<bool, Fail> {
-    let files = Held { graph, samples };
-    let four = ask(rt, ["run", "g"].as_slice(), files)?;
-    let one = ask(rt, ["run", "g", "--workers", "1"].as_slice(), files)?;
-    let most = ask(rt, ["run", "--workers=16", "g"].as_slice(), files)?;
-    Ok(wrote(&four, wanted) && wrote(&one, wanted) && wrote(&most, wanted))
-}
-
-/// Whether both have it.
-fn gives(
-    rt: &HostRuntime,
-    graph: &str,
-    samples: &[(&str, &str)],
-    wanted: &str,
-) -> Result<bool, Fail> {
-    Ok(evaluates(rt, graph, samples, wanted)? && runs(rt, graph, samples, wanted)?)
-}
-
-/// Whether an evaluation and a run of a graph end with this status and this line, and no output.
+/// Whether a graph on these samples ends with this status and this line, and no output.
 fn stops(
-    rt: &HostRuntime,
+    alloc: Global,
     graph: &str,
     samples: &[(&str, &str)],
     status: u8,
     line: &str,
 ) -> Result<bool, Fail> {
-    let mut is_told = true;
-    for command in ["eval", "run"] {
-        let done = ask(rt, [command, "g"].as_slice(), Held { graph, samples })?;
-        let is_said = done.faults.as_slice() == line.as_bytes();
-        is_told = is_told && is_said && done.status == status && done.output.is_empty();
-    }
-    Ok(is_told)
+    let done = run_graph(alloc, "eval", Held { graph, samples })?;
+    let is_told = done.faults.as_slice() == line.as_bytes();
+    Ok(done.status == status && is_told && done.output.is_empty())
 }
 
 const FIR: &str = "phaser X sum 4\nphaser Y sum 4\nsource s s.csv -> X\n\
@@ -67,14 +34,14 @@ const FIR: &str = "phaser X sum 4\nphaser Y sum 4\nsource s s.csv -> X\n\
 #[test]
 fn a_filter(rt: HostRuntime) -> Result<(), Fail> {
     let samples = [("s.csv", "-1\n-1\n0\n")];
-    assert!(rt; gives(&rt, FIR, samples.as_slice(), "out 3\n-1\n-1\n-1\n")?);
+    assert!(rt; evaluates(rt.alloc(), FIR, samples.as_slice(), "out 3\n-1\n-1\n-1\n")?);
     let empty = [("s.csv", "")];
-    assert!(rt; gives(&rt, FIR, empty.as_slice(), "out 0\n")?);
+    assert!(rt; evaluates(rt.alloc(), FIR, empty.as_slice(), "out 0\n")?);
     let held = Held {
         graph: FIR,
         samples: samples.as_slice(),
     };
-    let check = ask(&rt, ["check", "g"].as_slice(), held)?;
+    let check = run_graph(rt.alloc(), "check", held)?;
     assert_eq!(rt; check.status, 0);
     assert_eq!(rt;
         check.output.as_slice(),
@@ -89,7 +56,7 @@ const SINKS: &str = "phaser X sum 4\nsource s s.csv -> X\nsink out X\nsink late 
 
 /// Whether these words on the graph of three sinks end with this status, output and line.
 fn ends_with(
-    rt: &HostRuntime,
+    alloc: Global,
     words: &[&str],
     status: u8,
     output: &str,
@@ -100,9 +67,9 @@ fn ends_with(
         graph: SINKS,
         samples: samples.as_slice(),
     };
-    let mut out = Vec::new(rt.alloc());
-    let mut told = Vec::new(rt.alloc());
-    let ended = status_of(rt, words, Broken, &mut out, &mut told, &mut files)?;
+    let mut out = Vec::new(alloc);
+    let mut told = Vec::new(alloc);
+    let ended = status_of(alloc, words, Broken, &mut out, &mut told, &mut files)?;
     let is_told = told.as_slice() == line.as_bytes();
     Ok(ended == status && out.as_slice() == output.as_bytes() && is_told)
 }
@@ -110,69 +77,26 @@ fn ends_with(
 #[test]
 fn one_sink_alone(rt: HostRuntime) -> Result<(), Fail> {
     let out = ["eval", "g", "--sink", "out"];
-    assert!(rt; ends_with(&rt, out.as_slice(), 0, "1\n2\n3\n4\n", "")?);
+    assert!(rt; ends_with(rt.alloc(), out.as_slice(), 0, "1\n2\n3\n4\n", "")?);
     let late = ["eval", "g", "--sink=late"];
-    assert!(rt; ends_with(&rt, late.as_slice(), 0, "3\n4\n", "")?);
+    assert!(rt; ends_with(rt.alloc(), late.as_slice(), 0, "3\n4\n", "")?);
     let never = ["eval", "--sink", "never", "g"];
-    assert!(rt; ends_with(&rt, never.as_slice(), 0, "", "")?);
-    Ok(())
-}
-
-#[test]
-fn one_sink_of_a_run(rt: HostRuntime) -> Result<(), Fail> {
-    let graph = "phaser X sum 2\nphaser Y sum 2\nsource s s.csv -> X\n\
-        fir f X -> Y shift 0 taps 1 1\nsink out Y\nsink plain X\n";
-    let samples = [("s.csv", "1\n2\n3\n")];
-    let files = Held {
-        graph,
-        samples: samples.as_slice(),
-    };
-    let out = ask(&rt, ["run", "g", "--sink", "out"].as_slice(), files)?;
-    assert!(rt; wrote(&out, "1\n3\n5\n"));
-    let words = ["run", "g", "--workers=2", "--sink=plain"];
-    let plain = ask(&rt, words.as_slice(), files)?;
-    assert!(rt; wrote(&plain, "1\n2\n3\n"));
-    let none = ask(&rt, ["run", "g", "--sink", "s"].as_slice(), files)?;
-    assert_eq!(rt; none.status, 1);
-    assert!(rt; none.output.is_empty());
-    assert_eq!(rt; none.faults.as_slice(), b"phase: no sink s\n".as_slice());
-    Ok(())
-}
-
-#[test]
-fn numbers_of_workers_that_are_refused(rt: HostRuntime) -> Result<(), Fail> {
-    for workers in ["17", "0", "-1", "x", ""] {
-        let mut output = Vec::new(rt.alloc());
-        let mut faults = Vec::new(rt.alloc());
-        let mut files = Held {
-            graph: FIR,
-            samples: &[],
-        };
-        let words = ["run", "g", "--workers", workers];
-        let words = words.as_slice();
-        let status = status_of(&rt, words, Broken, &mut output, &mut faults, &mut files)?;
-        assert_eq!(rt; status, 2, "at {workers}");
-        assert!(rt; output.is_empty() && !faults.is_empty(), "at {workers}");
-    }
-    let no_file = ask(&rt, ["run"].as_slice(), Held { graph: FIR, samples: &[] })?;
-    assert_eq!(rt; no_file.status, 2);
-    let none = ask(&rt, ["run", "g", "--workers"].as_slice(), Held { graph: FIR, samples: &[] })?;
-    assert_eq!(rt; none.status, 2);
+    assert!(rt; ends_with(rt.alloc(), never.as_slice(), 0, "", "")?);
     Ok(())
 }
 
 #[test]
 fn a_name_that_no_sink_has(rt: HostRuntime) -> Result<(), Fail> {
     let source = ["eval", "g", "--sink", "s"];
-    assert!(rt; ends_with(&rt, source.as_slice(), 1, "", "phase: no sink s\n")?);
+    assert!(rt; ends_with(rt.alloc(), source.as_slice(), 1, "", "phase: no sink s\n")?);
     let phaser = ["eval", "g", "--sink", "X"];
-    assert!(rt; ends_with(&rt, phaser.as_slice(), 1, "", "phase: no sink X\n")?);
+    assert!(rt; ends_with(rt.alloc(), phaser.as_slice(), 1, "", "phase: no sink X\n")?);
     let shorter = ["eval", "g", "--sink", "la"];
-    assert!(rt; ends_with(&rt, shorter.as_slice(), 1, "", "phase: no sink la\n")?);
+    assert!(rt; ends_with(rt.alloc(), shorter.as_slice(), 1, "", "phase: no sink la\n")?);
     let longer = ["eval", "g", "--sink", "later"];
     assert!(rt;
         ends_with(
-            &rt,
+            rt.alloc(),
             longer.as_slice(),
             1,
             "",
@@ -184,12 +108,12 @@ fn a_name_that_no_sink_has(rt: HostRuntime) -> Result<(), Fail> {
 
 #[test]
 fn nothing_at_all(rt: HostRuntime) -> Result<(), Fail> {
-    assert!(rt; gives(&rt, "", &[], "")?);
+    assert!(rt; evaluates(rt.alloc(), "", &[], "")?);
     let held = Held {
         graph: "# no line\n\n",
         samples: &[],
     };
-    let check = ask(&rt, ["check", "g"].as_slice(), held)?;
+    let check = run_graph(rt.alloc(), "check", held)?;
     assert_eq!(rt;
         check.output.as_slice(),
         b"ok phasers 0 tasks 0\n".as_slice()
@@ -204,8 +128,8 @@ fn a_splitter_and_a_filter_on_one_bus(rt: HostRuntime) -> Result<(), Fail> {
         fir g X -> S shift 0 taps 1\nsink out S\n";
     let six = [("s.csv", "1\n2\n3\n4\n5\n6\n")];
     assert!(rt;
-        gives(
-            &rt,
+        evaluates(
+            rt.alloc(),
             graph,
             six.as_slice(),
             "out 6\n2\n5\n8\n4\n5\n6\n"
@@ -214,27 +138,12 @@ fn a_splitter_and_a_filter_on_one_bus(rt: HostRuntime) -> Result<(), Fail> {
     let seven = [("s.csv", "1\n2\n3\n4\n5\n6\n7\n")];
     assert!(rt;
         evaluates(
-            &rt,
+            rt.alloc(),
             graph,
             seven.as_slice(),
             "out 7\n2\n5\n8\n11\n5\n6\n7\n"
         )?
     );
-    // The splitter and the filter wait for each other, at whatever turns.
-    for workers in ["1", "2", "16"] {
-        let files = Held {
-            graph,
-            samples: seven.as_slice(),
-        };
-        let run = ask(&rt, ["run", "g", "--workers", workers].as_slice(), files)?;
-        assert_eq!(rt; run.status, 4, "at {workers}");
-        assert!(rt; run.output.is_empty(), "at {workers}");
-        assert_eq!(rt;
-            run.faults.as_slice(),
-            b"phase: stalled\n".as_slice(),
-            "at {workers}"
-        );
-    }
     Ok(())
 }
 
@@ -244,17 +153,17 @@ fn a_source_after_a_source(rt: HostRuntime) -> Result<(), Fail> {
     let three = "phaser X any 2\nsource A a.csv -> X\nsource B b.csv -> X by A at 3\nsink out X\n";
     assert!(rt;
         evaluates(
-            &rt,
+            rt.alloc(),
             three,
             samples.as_slice(),
             "out 5\n1\n2\n3\n4\n5\n"
         )?
     );
     let four = "phaser X any 2\nsource A a.csv -> X\nsource B b.csv -> X by A at 4\nsink out X\n";
-    assert!(rt; evaluates(&rt, four, samples.as_slice(), "out 3\n1\n2\n3\n")?);
+    assert!(rt; evaluates(rt.alloc(), four, samples.as_slice(), "out 3\n1\n2\n3\n")?);
     let two = "phaser X any 2\nsource A a.csv -> X\nsource B b.csv -> X by A at 2\nsink out X\n";
     let line = "phase: graph line 3: any-meets\n";
-    assert!(rt; stops(&rt, two, samples.as_slice(), 1, line)?);
+    assert!(rt; stops(rt.alloc(), two, samples.as_slice(), 1, line)?);
     Ok(())
 }
 
@@ -265,12 +174,12 @@ fn two_peers(rt: HostRuntime) -> Result<(), Fail> {
         source a a.csv -> X\nsource b b.csv -> Z\npeer p X <-> E -> P mul 2\n\
         peer q Z <-> E -> Q mul 2\nsink outp P\nsink outq Q\n";
     let wanted = "outp 2\n-9\n-18\noutq 3\n9\n18\n30\n";
-    assert!(rt; gives(&rt, plain, samples.as_slice(), wanted)?);
+    assert!(rt; evaluates(rt.alloc(), plain, samples.as_slice(), wanted)?);
     let single = "phaser X sum 2\nphaser Z sum 2\nphaser E sum 2 single neg\nphaser P sum 2\n\
         phaser Q sum 2\nsource a a.csv -> X\nsource b b.csv -> Z\npeer p X <-> E -> P mul 2\n\
         peer q Z <-> E -> Q mul 2\nsink outp P\nsink outq Q\n";
     let wanted = "outp 2\n13\n26\noutq 3\n31\n62\n90\n";
-    assert!(rt; gives(&rt, single, samples.as_slice(), wanted)?);
+    assert!(rt; evaluates(rt.alloc(), single, samples.as_slice(), wanted)?);
     Ok(())
 }
 
@@ -280,8 +189,8 @@ fn a_splitter_and_a_joiner(rt: HostRuntime) -> Result<(), Fail> {
         source s s.csv -> X\nsplit d X -> A B\njoin j A B -> Y\nsink out Y\n";
     let samples = [("s.csv", "1\n2\n3\n4\n5\n")];
     assert!(rt;
-        gives(
-            &rt,
+        evaluates(
+            rt.alloc(),
             graph,
             samples.as_slice(),
             "out 5\n1\n2\n3\n4\n5\n"
@@ -297,7 +206,7 @@ fn values_that_are_too_big(rt: HostRuntime) -> Result<(), Fail> {
         fir f X -> Y shift 0 taps 2\nsink out Y\n";
     assert!(rt;
         stops(
-            &rt,
+            rt.alloc(),
             twice,
             most.as_slice(),
             3,
@@ -307,12 +216,12 @@ fn values_that_are_too_big(rt: HostRuntime) -> Result<(), Fail> {
     let halved = "phaser X sum 4\nphaser Y sum 4\nsource s s.csv -> X\n\
         fir f X -> Y shift 1 taps 2\nsink out Y\n";
     let wanted = "out 1\n9223372036854775807\n";
-    assert!(rt; gives(&rt, halved, most.as_slice(), wanted)?);
+    assert!(rt; evaluates(rt.alloc(), halved, most.as_slice(), wanted)?);
     let two = "phaser X sum 2\nsource a s.csv -> X\nsource b b.csv -> X\nsink out X\n";
     let both = [("s.csv", "9223372036854775807\n"), ("b.csv", "1\n")];
     assert!(rt;
         stops(
-            &rt,
+            rt.alloc(),
             two,
             both.as_slice(),
             3,
@@ -328,14 +237,14 @@ fn late_and_early_sinks(rt: HostRuntime) -> Result<(), Fail> {
     let two = "phaser X sum 4\nsource s s.csv -> X\nsink out X\nsink late X by out at 2\n\
         sink early X until 2\n";
     let wanted = "out 4\n1\n2\n3\n4\nlate 2\n3\n4\nearly 2\n1\n2\n";
-    assert!(rt; evaluates(&rt, two, samples.as_slice(), wanted)?);
+    assert!(rt; evaluates(rt.alloc(), two, samples.as_slice(), wanted)?);
     let four = "phaser X sum 4\nsource s s.csv -> X\nsink out X\nsink late X by out at 4\n\
         sink early X until 2\n";
     let wanted = "out 4\n1\n2\n3\n4\nlate 0\nearly 2\n1\n2\n";
-    assert!(rt; evaluates(&rt, four, samples.as_slice(), wanted)?);
+    assert!(rt; evaluates(rt.alloc(), four, samples.as_slice(), wanted)?);
     let five = "phaser X sum 4\nsource s s.csv -> X\nsink out X\nsink late X by out at 5\n\
         sink early X until 2\n";
-    assert!(rt; evaluates(&rt, five, samples.as_slice(), wanted)?);
+    assert!(rt; evaluates(rt.alloc(), five, samples.as_slice(), wanted)?);
     Ok(())
 }
 
@@ -345,23 +254,23 @@ fn a_child_that_is_a_filter(rt: HostRuntime) -> Result<(), Fail> {
         fir f X -> Y shift 0 taps 1 1\nfir g X -> Y shift 0 taps 1 1 by f at 2 until 1\n\
         sink out Y\n";
     let samples = [("s.csv", "1\n2\n3\n4\n")];
-    assert!(rt; evaluates(&rt, graph, samples.as_slice(), "out 4\n1\n3\n8\n7\n")?);
+    assert!(rt; evaluates(rt.alloc(), graph, samples.as_slice(), "out 4\n1\n3\n8\n7\n")?);
     Ok(())
 }
 
 #[test]
 fn graphs_and_samples_that_are_refused(rt: HostRuntime) -> Result<(), Fail> {
     let limit = "phase: graph line 1: limit\n";
-    assert!(rt; stops(&rt, "phaser X sum 0\n", &[], 1, limit)?);
+    assert!(rt; stops(rt.alloc(), "phaser X sum 0\n", &[], 1, limit)?);
     let plain = [("a.csv", "1\n"), ("b.csv", "2\n")];
     let held =
         "phaser X sum 2\nphaser Y sum 2\nsource a a.csv -> X\nsource b b.csv -> Y by a at 1\n";
     let line = "phase: graph line 4: not-held\n";
-    assert!(rt; stops(&rt, held, plain.as_slice(), 1, line)?);
+    assert!(rt; stops(rt.alloc(), held, plain.as_slice(), 1, line)?);
     let bad = [("s.csv", "1\nx\n")];
     let line = "phase: samples of s: record 2\n";
-    assert!(rt; stops(&rt, FIR, bad.as_slice(), 1, line)?);
-    assert!(rt; stops(&rt, FIR, &[], 5, "phase: read fault\n")?);
+    assert!(rt; stops(rt.alloc(), FIR, bad.as_slice(), 1, line)?);
+    assert!(rt; stops(rt.alloc(), FIR, &[], 5, "phase: read fault\n")?);
     Ok(())
 }
 
@@ -370,7 +279,7 @@ fn a_bad_record_is_told_before_tasks_that_meet(rt: HostRuntime) -> Result<(), Fa
     let graph = "phaser X any 2\nsource A a.csv -> X\nsource B b.csv -> X\nsink out X\n";
     let samples = [("a.csv", "1\n"), ("b.csv", "5\n6\n7 \n")];
     let line = "phase: samples of B: record 3\n";
-    assert!(rt; stops(&rt, graph, samples.as_slice(), 1, line)?);
+    assert!(rt; stops(rt.alloc(), graph, samples.as_slice(), 1, line)?);
     Ok(())
 }
 
@@ -384,14 +293,14 @@ fn a_list_of_several_pieces(rt: HostRuntime) -> Result<(), Fail> {
     wanted.push_str(samples.as_str())?;
     let graph = "phaser X sum 1\nsource s s.csv -> X\nsink out X\n";
     let files = [("s.csv", samples.as_str())];
-    assert!(rt; gives(&rt, graph, files.as_slice(), wanted.as_str())?);
+    assert!(rt; evaluates(rt.alloc(), graph, files.as_slice(), wanted.as_str())?);
     Ok(())
 }
 
 #[test]
 fn a_writer_of_lists_that_fails(rt: HostRuntime) -> Result<(), Fail> {
     let samples = [("s.csv", "1\n2\n")];
-    for command in ["check", "eval", "run"] {
+    for command in ["check", "eval"] {
         let mut faults = Vec::new(rt.alloc());
         let mut files = Held {
             graph: FIR,
@@ -399,7 +308,7 @@ fn a_writer_of_lists_that_fails(rt: HostRuntime) -> Result<(), Fail> {
         };
         let words = [command, "g"];
         let words = words.as_slice();
-        let status = status_of(&rt, words, Broken, Broken, &mut faults, &mut files)?;
+        let status = status_of(rt.alloc(), words, Broken, Broken, &mut faults, &mut files)?;
         assert_eq!(rt; status, 5, "at {command}");
         assert_eq!(rt;
             faults.as_slice(),
@@ -428,7 +337,7 @@ impl Files for Noted<'_> {
 
 /// Whether a command on a graph asks for these files, in this order, and for no other.
 fn asks(
-    rt: &HostRuntime,
+    alloc: Global,
     words: &[&str],
     graph: &str,
     samples: &[(&str, &str)],
@@ -436,12 +345,12 @@ fn asks(
 ) -> Result<bool, Fail> {
     let mut files = Noted {
         files: Held { graph, samples },
-        asked: String::new(rt.alloc()),
+        asked: String::new(alloc),
     };
-    let mut output = Vec::new(rt.alloc());
-    let mut faults = Vec::new(rt.alloc());
+    let mut output = Vec::new(alloc);
+    let mut faults = Vec::new(alloc);
     let input = b"".as_slice();
-    status_of(rt, words, input, &mut output, &mut faults, &mut files)?;
+    status_of(alloc, words, input, &mut output, &mut faults, &mut files)?;
     Ok(files.asked.as_str() == wanted)
 }
 
@@ -457,28 +366,28 @@ fn each_file_is_asked_for_once_in_the_order_of_the_lines(rt: HostRuntime) -> Res
     let short = [("a.csv", "1\n2\n"), ("b.csv", "4\n5\n")];
     let short = short.as_slice();
     let twice = "phaser X sum 2\nsource A a.csv -> X\nsource B a.csv -> X\nsink out X\n";
-    for command in ["check", "eval", "run"] {
+    for command in ["check", "eval"] {
         let words = [command, "g"];
         let words = words.as_slice();
         let both = "g\na.csv\nb.csv\n";
         assert!(rt;
-            asks(&rt, words, TWO_FILES, samples, both)?,
+            asks(rt.alloc(), words, TWO_FILES, samples, both)?,
             "at {command}"
         );
         assert!(rt;
-            asks(&rt, words, TWO_FILES, short, both)?,
+            asks(rt.alloc(), words, TWO_FILES, short, both)?,
             "at {command}"
         );
         assert!(rt;
-            asks(&rt, words, last, samples, "g\nb.csv\na.csv\n")?,
+            asks(rt.alloc(), words, last, samples, "g\nb.csv\na.csv\n")?,
             "at {command}"
         );
         assert!(rt;
-            asks(&rt, words, twice, samples, "g\na.csv\na.csv\n")?,
+            asks(rt.alloc(), words, twice, samples, "g\na.csv\na.csv\n")?,
             "at {command}"
         );
         assert!(rt;
-            asks(&rt, words, "", samples, "g\n")?,
+            asks(rt.alloc(), words, "", samples, "g\n")?,
             "at {command}"
         );
     }
@@ -492,13 +401,13 @@ fn no_file_is_asked_for_behind_the_first_fault(rt: HostRuntime) -> Result<(), Fa
     let words = ["eval", "g"];
     let words = words.as_slice();
     let limit = "phaser X any 0\nsource A a.csv -> X\n";
-    assert!(rt; asks(&rt, words, limit, bad.as_slice(), "g\n")?);
-    assert!(rt; asks(&rt, words, TWO_FILES, bad.as_slice(), "g\na.csv\n")?);
-    assert!(rt; asks(&rt, words, TWO_FILES, lost.as_slice(), "g\na.csv\n")?);
+    assert!(rt; asks(rt.alloc(), words, limit, bad.as_slice(), "g\n")?);
+    assert!(rt; asks(rt.alloc(), words, TWO_FILES, bad.as_slice(), "g\na.csv\n")?);
+    assert!(rt; asks(rt.alloc(), words, TWO_FILES, lost.as_slice(), "g\na.csv\n")?);
     let other = ["eval", "h"];
     assert!(rt;
         asks(
-            &rt,
+            rt.alloc(),
             other.as_slice(),
             TWO_FILES,
             bad.as_slice(),

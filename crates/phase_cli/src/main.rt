@@ -1,5 +1,5 @@
 //! The program `phase`: it replays scripts of calls on a phaser, from its input to its output, and
-//! checks, evaluates and runs graphs of filters over phasers.
+//! checks and evaluates graphs of filters over phasers.
 #![tactic(auto)]
 
 mod cli;
@@ -24,7 +24,6 @@ fn main(rt: HostRuntime) -> ExitCode {
     let mut input = Watched::new(rt.stdin());
     let mut output = Watched::new(rt.stdout());
     let status = run_cli(
-        &rt,
         rt.alloc(),
         words.as_slice(),
         &mut input,

@@ -64,23 +64,22 @@ impl Files for Held<'_> {
 
 /// The status of a run over these streams and files.
 pub(crate) fn status_of<R: Read + Drop, W: Write + Drop, E: Write + Drop, F: Files>(
-    rt: &HostRuntime,
+    alloc: Global,
     words: &[&str],
     input: R,
     output: W,
     faults: E,
     files: &mut F,
 ) -> Result<u8, Fail> {
-    let mut texts = Vec::new(rt.alloc());
+    let mut texts = Vec::new(alloc);
     for word in words {
-        texts.push(String::from_str(rt.alloc(), word)?)?;
+        texts.push(String::from_str(alloc, word)?)?;
     }
     let mut input = Watched::new(input);
     let mut output = Watched::new(output);
     let mut faults = Watched::new(faults);
     let status = run_cli(
-        rt,
-        rt.alloc(),
+        alloc,
         texts.as_slice(),
         &mut input,
         &mut output,
@@ -99,10 +98,10 @@ pub(crate) struct Outcome {
 }
 
 /// A run over streams that never fail.
-fn run(rt: &HostRuntime, words: &[&str], script: &[u8]) -> Result<Outcome, Fail> {
-    let mut output = Vec::new(rt.alloc());
-    let mut faults = Vec::new(rt.alloc());
-    let status = status_of(rt, words, script, &mut output, &mut faults, &mut none())?;
+fn run(alloc: Global, words: &[&str], script: &[u8]) -> Result<Outcome, Fail> {
+    let mut output = Vec::new(alloc);
+    let mut faults = Vec::new(alloc);
+    let status = status_of(alloc, words, script, &mut output, &mut faults, &mut none())?;
     Ok(Outcome {
         status,
         output,
@@ -110,12 +109,20 @@ fn run(rt: &HostRuntime, words: &[&str], script: &[u8]) -> Result<Outcome, Fail>
     })
 }
 
-/// These words, with the graph `g` among the files.
-pub(crate) fn ask(rt: &HostRuntime, words: &[&str], files: Held<'_>) -> Result<Outcome, Fail> {
-    let mut output = Vec::new(rt.alloc());
-    let mut faults = Vec::new(rt.alloc());
+/// A run of a command on the graph `g`.
+pub(crate) fn run_graph(alloc: Global, command: &str, files: Held<'_>) -> Result<Outcome, Fail> {
+    let mut output = Vec::new(alloc);
+    let mut faults = Vec::new(alloc);
+    let words = [command, "g"];
     let mut files = files;
-    let status = status_of(rt, words, Broken, &mut output, &mut faults, &mut files)?;
+    let status = status_of(
+        alloc,
+        words.as_slice(),
+        Broken,
+        &mut output,
+        &mut faults,
+        &mut files,
+    )?;
     Ok(Outcome {
         status,
         output,
@@ -133,15 +140,15 @@ fn has(bytes: &Vec<u8>, text: &str) -> bool {
 
 #[test]
 fn other_words_are_refused_by_claps_text(rt: HostRuntime) -> Result<(), Fail> {
-    let bogus = run(&rt, ["bogus"].as_slice(), b"make sum 2 100\n")?;
+    let bogus = run(rt.alloc(), ["bogus"].as_slice(), b"make sum 2 100\n")?;
     assert_eq!(rt; bogus.status, 2);
     assert!(rt; bogus.output.is_empty());
     assert!(rt; has(&bogus.faults, "bogus"));
-    let extra = run(&rt, ["replay", "extra"].as_slice(), b"")?;
+    let extra = run(rt.alloc(), ["replay", "extra"].as_slice(), b"")?;
     assert_eq!(rt; extra.status, 2);
     assert!(rt; extra.output.is_empty());
     assert!(rt; has(&extra.faults, "extra"));
-    let stray = run(&rt, ["help", "bogus"].as_slice(), b"")?;
+    let stray = run(rt.alloc(), ["help", "bogus"].as_slice(), b"")?;
     assert_eq!(rt; stray.status, 2);
     Ok(())
 }
@@ -149,9 +156,9 @@ fn other_words_are_refused_by_claps_text(rt: HostRuntime) -> Result<(), Fail> {
 /// The whole help of the program.
 const HELP: &str = "\
 Replays a script of calls on a phaser, a barrier on which the tasks of a phase
-also add up a value, or evaluates a graph of filters over phasers, or runs it on
-worker threads. A script is read from standard input, a call a line, and each
-line is answered by one line on standard output.
+also add up a value, or evaluates a graph of filters over phasers. A script is
+read from standard input, a call a line, and each line is answered by one line
+on standard output.
 
 Usage: phase [COMMAND]
 
@@ -159,7 +166,6 @@ Commands:
   replay  Replays the script, as `phase` with no command does
   check   Reads a graph and the samples of its sources
   eval    Writes the values of each sink of a graph
-  run     Writes the same values by a run on worker threads
   help    Print this message or the help of the given subcommand(s)
 
 Options:
@@ -177,20 +183,20 @@ Example, with the reply to each line and what it means:
 A line that is no call is answered by `bad line`.
 
 Exit status: 0 done; 1 a graph or its samples are refused; 2 the words were not
-understood; 3 a value of a graph is out of range; 4 a run of a graph stalled; 5 a
-read or a write failed, or memory ran out.
+understood; 3 a value of a graph is out of range; 5 a read or a write failed, or
+memory ran out.
 ";
 
 #[test]
 fn help_goes_to_the_output(rt: HostRuntime) -> Result<(), Fail> {
     for word in ["--help", "-h", "help"] {
-        let help = run(&rt, [word].as_slice(), b"make sum 2 100\n")?;
+        let help = run(rt.alloc(), [word].as_slice(), b"make sum 2 100\n")?;
         assert_eq!(rt; help.status, 0, "at {word}");
         assert_eq!(rt; help.output.as_slice(), HELP.as_bytes(), "at {word}");
         assert!(rt; help.faults.is_empty(), "at {word}");
     }
     for words in [["replay", "--help"], ["help", "replay"]] {
-        let help = run(&rt, words.as_slice(), b"")?;
+        let help = run(rt.alloc(), words.as_slice(), b"")?;
         assert_eq!(rt; help.status, 0);
         assert!(rt; has(&help.output, "Usage: phase replay"));
         assert!(rt;
@@ -207,7 +213,7 @@ fn help_goes_to_the_output(rt: HostRuntime) -> Result<(), Fail> {
 #[test]
 fn the_version_goes_to_the_output(rt: HostRuntime) -> Result<(), Fail> {
     for word in ["--version", "-V"] {
-        let version = run(&rt, [word].as_slice(), b"make sum 2 100\n")?;
+        let version = run(rt.alloc(), [word].as_slice(), b"make sum 2 100\n")?;
         assert_eq!(rt; version.status, 0, "at {word}");
         assert_eq!(rt;
             version.output.as_slice(),
@@ -216,7 +222,7 @@ fn the_version_goes_to_the_output(rt: HostRuntime) -> Result<(), Fail> {
         );
         assert!(rt; version.faults.is_empty(), "at {word}");
     }
-    let of_eval = run(&rt, ["eval", "--version"].as_slice(), b"")?;
+    let of_eval = run(rt.alloc(), ["eval", "--version"].as_slice(), b"")?;
     assert_eq!(rt; of_eval.status, 2);
     assert!(rt; of_eval.output.is_empty());
     Ok(())
@@ -224,18 +230,14 @@ fn the_version_goes_to_the_output(rt: HostRuntime) -> Result<(), Fail> {
 
 #[test]
 fn help_of_graphs_has_an_example(rt: HostRuntime) -> Result<(), Fail> {
-    let check = run(&rt, ["check", "--help"].as_slice(), b"")?;
+    let check = run(rt.alloc(), ["check", "--help"].as_slice(), b"")?;
     assert_eq!(rt; check.status, 0);
     assert!(rt; has(&check.output, "Usage: phase check <GRAPH>"));
     assert!(rt; has(&check.output, "  ok phasers 1 tasks 2\n"));
-    let eval = run(&rt, ["help", "eval"].as_slice(), b"")?;
+    let eval = run(rt.alloc(), ["help", "eval"].as_slice(), b"")?;
     assert_eq!(rt; eval.status, 0);
     assert!(rt; has(&eval.output, "Usage: phase eval [OPTIONS] <GRAPH>"));
     assert!(rt; has(&eval.output, "  out 3\n  1\n  3\n  5\n"));
-    let of_run = run(&rt, ["run", "-h"].as_slice(), b"")?;
-    assert_eq!(rt; of_run.status, 0);
-    assert!(rt; has(&of_run.output, "Usage: phase run [OPTIONS] <GRAPH>"));
-    assert!(rt; has(&of_run.output, "--workers <N>"));
     Ok(())
 }
 
@@ -263,13 +265,13 @@ fn the_example_in_help_is_answered_so(rt: HostRuntime) -> Result<(), Fail> {
         "make sum 2 100\nadd 0 1 sig\nsend 0 3\nsend 1 4\nsignal 1\nsignal 0\nwait 0\n"
     );
     assert_eq!(rt; replies.as_str(), "ok\nok\nok\nok\nok 0\nok 0\nvalue 0 7\n");
-    assert!(rt; is_answered(&rt, script.as_str(), replies.as_str())?);
+    assert!(rt; is_answered(rt.alloc(), script.as_str(), replies.as_str())?);
     Ok(())
 }
 
 /// A script and its replies, where the run ends well and says nothing of a fault.
-fn is_answered(rt: &HostRuntime, script: &str, replies: &str) -> Result<bool, Fail> {
-    let done = run(rt, ["replay"].as_slice(), script.as_bytes())?;
+fn is_answered(alloc: Global, script: &str, replies: &str) -> Result<bool, Fail> {
+    let done = run(alloc, ["replay"].as_slice(), script.as_bytes())?;
     Ok(done.status == 0 && done.faults.is_empty() && done.output.as_slice() == replies.as_bytes())
 }
 
@@ -277,7 +279,7 @@ fn is_answered(rt: &HostRuntime, script: &str, replies: &str) -> Result<bool, Fa
 fn first_run(rt: HostRuntime) -> Result<(), Fail> {
     assert!(rt;
         is_answered(
-            &rt,
+            rt.alloc(),
             "make sum 2 100\nsend 0 5\nsignal 0\nwait 0\n",
             "ok\nok\nok 0\nvalue 0 5\n",
         )?
@@ -290,7 +292,7 @@ fn a_founder_alone(rt: HostRuntime) -> Result<(), Fail> {
     // Turns, and a sum that is exact before its range is checked.
     assert!(rt;
         is_answered(
-            &rt,
+            rt.alloc(),
             "make sum 2 4\nwait 0\nsend 0 9223372036854775807\nsend 0 1\n\
          send 0 -9223372036854775807\nsignal 0\nsignal 0\nwait 0\n",
             "ok\nno signal-first\nok\nok\nok\nok 0\nno signal-twice\nvalue 0 1\n",
@@ -299,7 +301,7 @@ fn a_founder_alone(rt: HostRuntime) -> Result<(), Fail> {
     // A sum past the range, a phase with no send, tasks that are not registered, the last phase.
     assert!(rt;
         is_answered(
-            &rt,
+            rt.alloc(),
             "make sum 2 2\nsend 0 9223372036854775807\nsend 0 1\nsignal 0\nwait 0\nsignal 0\n\
          wait 0\nsend 5 1\nsignal 5\nwait 5\nsignal 0\nmake sum 2 2\n",
             "ok\nok\nok\nok 0\ntoobig 0\nok 1\nvalue 1 0\nno no-task\nno no-task\nno no-task\n\
@@ -309,7 +311,7 @@ fn a_founder_alone(rt: HostRuntime) -> Result<(), Fail> {
     // Line ends, lines outside the grammar, and a last line without its line feed.
     assert!(rt;
         is_answered(
-            &rt,
+            rt.alloc(),
             "make sum 2 100\r\n wait 0\nwait  0\nwait 05\nsend 0 -0\nWait 0\n\nsignal 0",
             "ok\nbad line\nbad line\nbad line\nbad line\nbad line\nbad line\nok 0\n",
         )?
@@ -319,10 +321,10 @@ fn a_founder_alone(rt: HostRuntime) -> Result<(), Fail> {
 
 #[test]
 fn an_empty_script_has_no_reply(rt: HostRuntime) -> Result<(), Fail> {
-    let bare = run(&rt, &[], b"")?;
+    let bare = run(rt.alloc(), &[], b"")?;
     assert_eq!(rt; bare.status, 0);
     assert!(rt; bare.output.is_empty() && bare.faults.is_empty());
-    let named = run(&rt, ["replay"].as_slice(), b"")?;
+    let named = run(rt.alloc(), ["replay"].as_slice(), b"")?;
     assert_eq!(rt; named.status, 0);
     assert!(rt; named.output.is_empty() && named.faults.is_empty());
     Ok(())
@@ -333,7 +335,7 @@ fn a_reader_that_fails_is_a_read_fault(rt: HostRuntime) -> Result<(), Fail> {
     let mut output = Vec::new(rt.alloc());
     let mut faults = Vec::new(rt.alloc());
     let status = status_of(
-        &rt,
+        rt.alloc(),
         &[],
         Broken,
         &mut output,
@@ -351,7 +353,7 @@ fn a_writer_that_fails_is_a_write_fault(rt: HostRuntime) -> Result<(), Fail> {
     for words in [&[], ["--help"].as_slice()] {
         let mut faults = Vec::new(rt.alloc());
         let script = b"make sum 2 100\n".as_slice();
-        let status = status_of(&rt, words, script, Broken, &mut faults, &mut none())?;
+        let status = status_of(rt.alloc(), words, script, Broken, &mut faults, &mut none())?;
         assert_eq!(rt; status, 5);
         assert_eq!(rt; faults.as_slice(), b"phase: write fault\n".as_slice());
     }
@@ -361,10 +363,10 @@ fn a_writer_that_fails_is_a_write_fault(rt: HostRuntime) -> Result<(), Fail> {
 #[test]
 fn the_status_stands_where_the_fault_stream_fails(rt: HostRuntime) -> Result<(), Fail> {
     let mut output = Vec::new(rt.alloc());
-    let status = status_of(&rt, &[], Broken, &mut output, Broken, &mut none())?;
+    let status = status_of(rt.alloc(), &[], Broken, &mut output, Broken, &mut none())?;
     assert_eq!(rt; status, 5);
     let status = status_of(
-        &rt,
+        rt.alloc(),
         ["bogus"].as_slice(),
         Broken,
         &mut output,

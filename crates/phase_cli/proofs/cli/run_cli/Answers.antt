@@ -1,12 +1,11 @@
 use Rattle.std.proofs.Common.{inl, inr, refl, subst, ap₂, ℕ, List, Option}
-use Rattle.phase_words.specs.CommandLine.{texts, check, eval, run}
+use Rattle.phase_words.specs.CommandLine.{texts, check, eval}
 use Rattle.graph_commands.specs.GraphRuns.{CheckEnds, EvalEnds}
-use Rattle.run_command.specs.Runs.{RunEnds}
 use Rattle.watched_io.specs.States.{reader_state, writer_state}
-use Rattle.phase_cli.proofs.Asking.{asks-call, check-no-run, eval-no-run, may-end-answered, may-end-asked, not-both, not-check, not-eval, refused-silent, replay-no-run, same-check, same-eval, same-run, taken-memory}
+use Rattle.phase_cli.proofs.Asking.{asks-call, may-end-answered, may-end-asked, not-both, not-check, not-eval, refused-silent, same-check, same-eval, taken-memory}
 use Rattle.phase_cli.proofs.Nothing.{replay-unbegun}
 use Rattle.phase_cli.proofs.cli.run_cli.Goals as goal
-use Rattle.phase_cli.proofs.cli.run_cli.Goals.{In-Err, In-Ok-Check, In-Ok-Eval, In-Ok-Replay, In-Ok-Run}
+use Rattle.phase_cli.proofs.cli.run_cli.Goals.{In-Err, In-Ok-Check, In-Ok-Eval, In-Ok-Replay}
 
 -- ---- a replay was asked for
 
@@ -24,11 +23,6 @@ pub returns-in-Ok-Replay-clause-eval : goal.returns-in-Ok-Replay-clause-eval
 returns-in-Ok-Replay-clause-eval g c =
     let asks = asks-call (texts c.args.words.now) c.in-Ok-Replay.field-0 _ c.in-Ok-Replay.field-0-is c.in-Ok-Replay.ensures.call in
     λ name sink other. absurd (not-eval _ name sink asks other)
-
-pub returns-in-Ok-Replay-clause-run : goal.returns-in-Ok-Replay-clause-run
-returns-in-Ok-Replay-clause-run g c =
-    let asks = asks-call (texts c.args.words.now) c.in-Ok-Replay.field-0 _ c.in-Ok-Replay.field-0-is c.in-Ok-Replay.ensures.call in
-    λ name sink workers other. absurd (replay-no-run _ name sink workers asks other)
 
 pub returns-in-Ok-Replay-clause-answered : goal.returns-in-Ok-Replay-clause-answered
 returns-in-Ok-Replay-clause-answered g c =
@@ -65,11 +59,6 @@ pub returns-in-Ok-Check-clause-eval : goal.returns-in-Ok-Check-clause-eval
 returns-in-Ok-Check-clause-eval g c =
     let asks = asks-call (texts c.args.words.now) c.in-Ok-Check.field-0 _ c.in-Ok-Check.field-0-is c.in-Ok-Check.ensures.call in
     λ name sink other. absurd (not-both _ c.in-Ok-Check.graph.now name sink asks other)
-
-pub returns-in-Ok-Check-clause-run : goal.returns-in-Ok-Check-clause-run
-returns-in-Ok-Check-clause-run g c =
-    let asks = asks-call (texts c.args.words.now) c.in-Ok-Check.field-0 _ c.in-Ok-Check.field-0-is c.in-Ok-Check.ensures.call in
-    λ name sink workers other. absurd (check-no-run _ c.in-Ok-Check.graph.now name sink workers asks other)
 
 pub returns-in-Ok-Check-clause-answered : goal.returns-in-Ok-Check-clause-answered
 returns-in-Ok-Check-clause-answered g c =
@@ -108,11 +97,6 @@ returns-in-Ok-Eval-clause-eval g c =
     (writer_state g.E.Write.contents c.eval_and_report.new.faults))
     (ap₂ (λ n s. (n, s)) same.0 same.1) c.eval_and_report.ensures.ends)
 
-pub returns-in-Ok-Eval-clause-run : goal.returns-in-Ok-Eval-clause-run
-returns-in-Ok-Eval-clause-run g c =
-    let asks = asks-call (texts c.args.words.now) c.in-Ok-Eval.field-0 _ c.in-Ok-Eval.field-0-is c.in-Ok-Eval.ensures.call in
-    λ name sink workers other. absurd (eval-no-run _ c.in-Ok-Eval.graph.now name _ sink workers asks other)
-
 pub returns-in-Ok-Eval-clause-answered : goal.returns-in-Ok-Eval-clause-answered
 returns-in-Ok-Eval-clause-answered g c =
     λ untaken. absurd (untaken c.in-Ok-Eval.ensures.call.taken)
@@ -120,49 +104,7 @@ returns-in-Ok-Eval-clause-answered g c =
 pub returns-in-Ok-Eval-clause-unopened : goal.returns-in-Ok-Eval-clause-unopened
 returns-in-Ok-Eval-clause-unopened g c =
     let asks = asks-call (texts c.args.words.now) c.in-Ok-Eval.field-0 _ c.in-Ok-Eval.field-0-is c.in-Ok-Eval.ensures.call in
-    λ none. absurd (none c.in-Ok-Eval.graph.now (inr (inl (_, asks))))
-
--- ---- a run of a graph was asked for
-
-pub returns-in-Ok-Run-clause-status : goal.returns-in-Ok-Run-clause-status
-returns-in-Ok-Run-clause-status g c =
-    let asks = asks-call (texts c.args.words.now) c.in-Ok-Run.field-0 _ c.in-Ok-Run.field-0-is c.in-Ok-Run.ensures.call in
-    may-end-asked _ _ _ asks c.run_and_report.ensures.status
-
-pub returns-in-Ok-Run-clause-replay : goal.returns-in-Ok-Run-clause-replay
-returns-in-Ok-Run-clause-replay g c =
-    let asks = asks-call (texts c.args.words.now) c.in-Ok-Run.field-0 _ c.in-Ok-Run.field-0-is c.in-Ok-Run.ensures.call in
-    λ other. absurd (replay-no-run _ c.in-Ok-Run.graph.now _ _ other asks)
-
-pub returns-in-Ok-Run-clause-check : goal.returns-in-Ok-Run-clause-check
-returns-in-Ok-Run-clause-check g c =
-    let asks = asks-call (texts c.args.words.now) c.in-Ok-Run.field-0 _ c.in-Ok-Run.field-0-is c.in-Ok-Run.ensures.call in
-    λ name other. absurd (check-no-run _ name c.in-Ok-Run.graph.now _ _ other asks)
-
-pub returns-in-Ok-Run-clause-eval : goal.returns-in-Ok-Run-clause-eval
-returns-in-Ok-Run-clause-eval g c =
-    let asks = asks-call (texts c.args.words.now) c.in-Ok-Run.field-0 _ c.in-Ok-Run.field-0-is c.in-Ok-Run.ensures.call in
-    λ name sink other. absurd (eval-no-run _ name c.in-Ok-Run.graph.now sink _ _ other asks)
-
-pub returns-in-Ok-Run-clause-run : goal.returns-in-Ok-Run-clause-run
-returns-in-Ok-Run-clause-run g c =
-    let asks = asks-call (texts c.args.words.now) c.in-Ok-Run.field-0 _ c.in-Ok-Run.field-0-is c.in-Ok-Run.ensures.call in
-    λ name sink workers again.
-    let same = same-run _ c.in-Ok-Run.graph.now name _ sink _ workers asks again in
-    inr (subst (λ (both : List ℕ × Option (List ℕ)). RunEnds (g.F.Files.file c.args.files.now) both.0
-    both.1 c.run_and_report.result g.W.Write.contents c.args.output.now
-    c.run_and_report.new.output (writer_state g.E.Write.contents c.args.faults.now)
-    (writer_state g.E.Write.contents c.run_and_report.new.faults))
-    (ap₂ (λ n s. (n, s)) same.0 same.1) c.run_and_report.ensures.ends)
-
-pub returns-in-Ok-Run-clause-answered : goal.returns-in-Ok-Run-clause-answered
-returns-in-Ok-Run-clause-answered g c =
-    λ untaken. absurd (untaken c.in-Ok-Run.ensures.call.taken)
-
-pub returns-in-Ok-Run-clause-unopened : goal.returns-in-Ok-Run-clause-unopened
-returns-in-Ok-Run-clause-unopened g c =
-    let asks = asks-call (texts c.args.words.now) c.in-Ok-Run.field-0 _ c.in-Ok-Run.field-0-is c.in-Ok-Run.ensures.call in
-    λ none. absurd (none c.in-Ok-Run.graph.now (inr (inr (_, _, asks))))
+    λ none. absurd (none c.in-Ok-Eval.graph.now (inr (_, asks)))
 
 -- ---- the words give no call
 
@@ -186,12 +128,6 @@ returns-in-Err-clause-check g c =
 pub returns-in-Err-clause-eval : goal.returns-in-Err-clause-eval
 returns-in-Err-clause-eval g c =
     λ name sink asks.
-    let memory = taken-memory _ c.in-Err.none _ _ _ _ _ asks.taken c.in-Err.ensures.no_call c.answer.ensures.answer in
-    inl (record { status_is = memory.0; unopened = refl; silent = memory.1.0; says = memory.1.1 })
-
-pub returns-in-Err-clause-run : goal.returns-in-Err-clause-run
-returns-in-Err-clause-run g c =
-    λ name sink workers asks.
     let memory = taken-memory _ c.in-Err.none _ _ _ _ _ asks.taken c.in-Err.ensures.no_call c.answer.ensures.answer in
     inl (record { status_is = memory.0; unopened = refl; silent = memory.1.0; says = memory.1.1 })
 

@@ -1,4 +1,4 @@
-use Rattle.phase_cli.proofs.Asking.{any-status, stalled-run, taken-not-two}
+use Rattle.phase_cli.proofs.Asking.{any-status, taken-not-two}
 use Rattle.phase_cli.proofs.laws.statuses.Goals as goal
 
 pub returns-clause-any : goal.returns-clause-any
@@ -6,6 +6,3 @@ returns-clause-any c = any-status
 
 pub returns-clause-taken : goal.returns-clause-taken
 returns-clause-taken c = taken-not-two
-
-pub returns-clause-stalled : goal.returns-clause-stalled
-returns-clause-stalled c = stalled-run
