@@ -30,7 +30,6 @@ use Rattle.graph_turns.proofs.Signalling.{Live, live-is, number_there}
 use Rattle.graph_worlds.proofs.Lively.{live_next}
 use Rattle.graph_worlds.proofs.WhatNext.{Begins, waits_begins}
 
-
 -- ---- what one task has on one phaser
 
 -- what a task has taken from a phaser is no more than the phaser has phases
