@@ -40,7 +40,8 @@ both_got = Waited 2 2 ∷ one_block
 abbrev pub all_left : History
 all_left = Dropped 1 ∷ both_got
 
--- task 2, which has got nothing, registers task 3, which joins at the first phase that is not complete
+-- task 2, which has got nothing, registers task 3, which joins at the first phase that is not
+-- complete
 abbrev pub late_waiter : History
 late_waiter = RegisteredNow 2 3 ∷ one_block
 

@@ -1,5 +1,5 @@
-//! Each law of blocks and of late waiters, used at the histories of one phaser. These functions make
-//! no call and have no effect: what a law says of a history is the contract here.
+//! Each law of blocks and of late waiters, used at the histories of one phaser. These functions
+//! make no call and have no effect: what a law says of a history is the contract here.
 ghost use Rattle.std.specs.Prelude.{◌≡◌, ◌++◌, [], ◌∷◌, ℤ, List, None, Some, Ok, pos, take};
 ghost use Rattle.phase_accum.specs.Parcels.{Parcel, StandsForSends};
 ghost use Rattle.phase_accum.specs.Sums.{sum_operation};

@@ -30,8 +30,8 @@ pub record IsStep {K X R : Type 0} (allows : K → Allows) (terms : Terms K) (me
   pub known : result ≢ Err (Refused no_task)
   pub alone : OnlyUsed (me ∷ []) (known_of old).seen → result ≢ Err Busy
 
--- an accepted registration: the child's seat stands where the parent's does, in its own mode, and has
--- seen what the parent's has
+-- an accepted registration: the child's seat stands where the parent's does, in its own mode, and
+-- has seen what the parent's has
 pub record HasChild {K : Type 0} (allows : K → Allows) (terms : Terms K) (me child : ℕ)
     (mode : Mode) (entry start : Entry) (old new : History) (made : View) : Type 0 where
   pub registered : HasRegistered me child mode old new
@@ -47,8 +47,8 @@ pub record HasChildNow {K : Type 0} (allows : K → Allows) (terms : Terms K) (m
   pub seen : (known_of made).seen ≡ new
 
 module _ {T K : Type 0} where
-  -- for the code: a registration under the turn, by the number, the seat and the entry of the child, or
-  -- by the refusal
+  -- for the code: a registration under the turn, by the number, the seat and the entry of the
+  -- child, or by the refusal
   abbrev pub RegistersSeat : (K → Allows) → Place (Terms K) → Terms K → ℕ → Mode → Entry → History
       → History → Result (ℕ × Seat T (Terms K) View × Entry) RegisterRefusal → Type 0
   RegistersSeat allows place terms me mode entry old new (Ok made) = IsSeatAt place made.1

@@ -51,7 +51,8 @@ pub fn signal_lists<A: Accumulate, K: SignalRule>(
         → K.allows (locked_terms phaser.now).rule h me sends single }
     ensures seat { IsSeatAt (locked_place phaser.now) result.0 }
     ensures step { IsStep K.allows (locked_terms phaser.now) me SignalRefusal.NoTask
-        (entry_after_block (length lists.now)) (Tries (IsSameSeat seat result.0 × (result.1 ≡ entry))
+        (entry_after_block (length lists.now))
+        (Tries (IsSameSeat seat result.0 × (result.1 ≡ entry))
         (SignalsBlock A.operation (locked_limits phaser.now) me lists.now single
         (known_of (seat_view seat)).seen (known_of (seat_view result.0)).seen) result.2)
         entry result.1 (seat_view seat) (seat_view result.0) result.2 }
