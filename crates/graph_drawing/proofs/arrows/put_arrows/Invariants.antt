@@ -1,4 +1,4 @@
-use Rattle.std.proofs.Common.{◌≡◌, ◌++◌, take}
+use Rattle.std.proofs.Common.{◌≡◌, ◌++◌}
 use Rattle.std.specs.List.{flat_map, range_with_len}
 use Rattle.graph_drawing.specs.Drawings.{task_arrows}
 use Rattle.graph_drawing.proofs.arrows.put_arrows.Given as goal

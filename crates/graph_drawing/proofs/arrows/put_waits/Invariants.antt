@@ -1,5 +1,5 @@
 use Rattle.std.proofs.Common.{◌≡◌, ◌++◌, take}
-use Rattle.std.specs.List.{flat_map, range_with_len}
+use Rattle.std.specs.List.{flat_map}
 use Rattle.graph_drawing.specs.Drawings.{wait_arrow}
 use Rattle.graph_drawing.proofs.arrows.put_waits.Given as goal
 

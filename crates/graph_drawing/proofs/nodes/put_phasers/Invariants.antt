@@ -1,4 +1,4 @@
-use Rattle.std.proofs.Common.{◌≡◌, ◌++◌, take}
+use Rattle.std.proofs.Common.{◌≡◌, ◌++◌}
 use Rattle.std.specs.List.{flat_map, range_with_len}
 use Rattle.graph_drawing.specs.Drawings.{phaser_node}
 use Rattle.graph_drawing.proofs.nodes.put_phasers.Given as goal
