@@ -1,0 +1,5 @@
+//! A trial.
+#![tactic(auto)]
+
+#[cfg(test)]
+mod drawings;
