@@ -231,11 +231,13 @@ take_of text = do
   phases ← nat_of last
   take_with task phases
 
+-- the wait of the task in the text
 unfoldable pub wait_of : List ℕ → Option WholeCommand
 wait_of text = do
   task ← nat_of text
   Some (Wait task)
 
+-- the drop of the task in the text
 unfoldable pub drop_of : List ℕ → Option WholeCommand
 drop_of text = do
   task ← nat_of text
