@@ -3,6 +3,8 @@
 #![tactic(auto)]
 
 #[cfg(test)]
+mod children;
+#[cfg(test)]
 mod gates;
 #[cfg(test)]
 mod jobs;
