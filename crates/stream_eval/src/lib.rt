@@ -11,7 +11,6 @@ mod members;
 mod numbers;
 mod outputs;
 mod phases;
-mod reading;
 mod taken_phases;
 mod taken_values;
 mod whole;
