@@ -32,6 +32,7 @@ use Rattle.graph_moves.specs.Turned.{after_leave}
 use Rattle.graph_parts.specs.Parts.{HasPart, HasSeen, SeesOthers, SeesOwn, HasMovedOn, HasLeft}
 use Rattle.graph_parts.specs.Places.{HasChildrenBy, IsNumbered}
 use Rattle.graph_parts.proofs.Parts.{with_history, sees_end, left_phaser}
+use Rattle.graph_parts.proofs.KnownOthers.{known_moved}
 use Rattle.graph_parts.proofs.FollowsPlace.{left_follows}
 use Rattle.graph_parts.proofs.TellsNext.{staying_at, none_due_at, ended_no_input}
 use Rattle.graph_ends.proofs.CallsFollow.{calls_left}
@@ -82,7 +83,7 @@ came t steps (Some u) e = (u, refl, eqb-true u.task t (both_left (u.task == t) (
 pub all_now : (job : Job) (s : TaskState) → IsWhole job s → HasAllNow job s → HasChildrenNow job s
 all_now job s whole all spots m at c there comes i less =
     let u = came s.number s.begun (task_at job.graph c).parent comes in
-    let known = whole.children c u.0 there u.1 u.2 in
+    let known = whole.children.all c u.0 there u.1 u.2 in
     let child = known.1.0 in
     let q = (registration_at job c i).phaser in
     let is_child : child.task ≡ c = known.1.2 in
@@ -107,7 +108,6 @@ over_whole job s whole = record {
   numbers = whole.numbers;
   holds = whole.holds;
   children = whole.children;
-  are_there = whole.are_there;
   staying = λ no. absurd (let clash : true ≡ false = no in cc);
   room = whole.room;
 }
@@ -126,6 +126,7 @@ at_end job spots s met owes children ended task = record {
         record {
           part = at.part;
           own = at.own;
+          knows = at.knows;
           place = at.place;
           holds = at.holds;
           filter = at.filter;
@@ -190,7 +191,6 @@ runs_out job spots s k p old new lines entered met going owes never first input_
         numbers = whole.numbers;
         holds = length-set s.holds.items k new ∙ whole.holds;
         children = whole.children;
-        are_there = whole.are_there;
         staying = λ no. absurd (let clash : true ≡ false = no in cc);
         room = whole.room;
       };
@@ -199,6 +199,7 @@ runs_out job spots s k p old new lines entered met going owes never first input_
         record {
           part = then.part;
           own = then.own;
+          knows = then.knows;
           place = then.place;
           holds = subst (λ h. HasHolds job spots after t (set s.holds.items k h) s.lefts.items) (sym both.1.2) then.holds;
           filter = then.filter;
@@ -316,7 +317,6 @@ task_leaves job spots s p old new left lefts met over few here looked g more roo
         numbers = whole.numbers;
         holds = length-set s.holds.items k new ∙ whole.holds;
         children = whole.children;
-        are_there = whole.are_there;
         staying = λ no. absurd (let clash : true ≡ false = sym over ∙ no in cc);
         room = omega arith;
       };
@@ -325,6 +325,7 @@ task_leaves job spots s p old new left lefts met over few here looked g more roo
         record {
           part = gone.moved.part;
           own = calls_left job m after t p whole.graph whole.there n one.before sees gone at.own;
+          knows = known_moved job m after t p now gone.moved at.knows;
           place = subst (λ i. StandsAt job after t (record { numbers = s.numbers.items; left = i; begun = s.begun; owed = owed_of s.owed }))
               (sym count)
               (left_follows job m after t p n (place_of s) one.before whole.graph whole.there at.place
@@ -364,6 +365,7 @@ task_lines job spots s lines same task = record {
         record {
           part = at.part;
           own = at.own;
+          knows = at.knows;
           place = at.place;
           holds = at.holds;
           filter = at.filter;
@@ -387,7 +389,6 @@ task_lines job spots s lines same task = record {
       numbers = whole.numbers;
       holds = whole.holds;
       children = whole.children;
-      are_there = whole.are_there;
       staying = whole.staying;
       room = whole.room;
     }

@@ -93,7 +93,7 @@ gone_ended job spots s gone task =
         seen = λ i less. seen_all job spots m s.number s.holds.items s.lefts.items at.holds i (omega arith);
         lines = λ sink. sym (at.lines sink);
         given = λ c child.
-            (let known = whole.children c child.parent child.there child.has child.by in
+            (let known = whole.children.all c child.parent child.there child.has child.by in
             given_holds job m s.children.items c known.0 known.1.0 at.given known.1.1 known.1.2);
       };
       lefts = λ i n l number left.

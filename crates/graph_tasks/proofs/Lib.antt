@@ -3,5 +3,8 @@ mod Turning
 mod Waiting
 mod Ending
 mod Gone
+mod Nursery
 mod Seeding
+mod Nursing
 mod Leaving
+mod Delivering

@@ -17,11 +17,12 @@ use Rattle.graph_steps.specs.Steps.{owed_of, HasFilter}
 use Rattle.graph_parts.specs.Places.{IsRootOn, IsFirstMoment}
 use Rattle.graph_ends.specs.TaskEnds.{HasOwnCalls}
 use Rattle.graph_openings.specs.Openings.{IsRootMember}
+use Rattle.graph_parts.proofs.KnownOthers.{known_first}
 use Rattle.graph_tasks.specs.declared.child.Child.{Child}
 use Rattle.graph_tasks.specs.declared.hold.Hold.{Hold}
 use Rattle.graph_tasks.specs.declared.hold.Hold.TheVariants.{On, Gone}
 use Rattle.graph_tasks.specs.declared.task_state.TaskState.{TaskState}
-use Rattle.graph_tasks.specs.Tasks.{IsTask, IsTaskAt, IsWhole, KnowsChildren, HasGivenNumbers, HasHolds, IsHeldOn, place_of}
+use Rattle.graph_tasks.specs.Tasks.{IsTask, IsTaskAt, IsWhole, KnowsChildren, AreApart, HasGivenNumbers, HasHolds, IsHeldOn, place_of}
 use Rattle.graph_tasks.specs.Seeds.{IsUnborn, AreChildrenBelow, IsSeed, HasRoom, HasRegistration, HasReceived}
 
 -- ---- lists
@@ -65,7 +66,41 @@ pub no_children : (job : Job) (t : ℕ) → AreChildrenBelow job t 0 []
 no_children job t = record {
   each = λ i child e. absurd (cc);
   all = λ c u lt has by. absurd (omega arith);
+  below = λ i child e. absurd (cc);
+  apart = λ i j x y e f same. absurd (cc);
 }
+
+-- with one more behind those below it no two are the same
+apart-push : (children : List Child) (child : Child) (n : ℕ)
+    → ((i : ℕ) (x : Child) → slice_get children i ≡ Some x → x.task < n) → AreApart children
+    → child.task ≡ n → AreApart (children ++ child ∷ [])
+apart-push children child n under apart is i j x y e f same =
+    by (in_push children child i x e) (in_push children child j y f)
+  where
+    -- what is in the longer list
+    in_push : (xs : List Child) (new : Child) (k : ℕ) (z : Child)
+        → slice_get (xs ++ new ∷ []) k ≡ Some z
+        → (slice_get xs k ≡ Some z) ⊎ ((k ≡ length xs) × (z ≡ new))
+    in_push [] new zero z e = inr (refl, sym (same_some new z e))
+    in_push [] new (suc k) z e = absurd (cc)
+    in_push (w ∷ xs) new zero z e = inl e
+    in_push (w ∷ xs) new (suc k) z e = up (in_push xs new k z e)
+      where
+        up : (slice_get xs k ≡ Some z) ⊎ ((k ≡ length xs) × (z ≡ new))
+            → (slice_get xs k ≡ Some z) ⊎ ((suc k ≡ suc (length xs)) × (z ≡ new))
+        up (inl old) = inl old
+        up (inr last) = inr (ap suc last.0, last.1)
+
+    by : (slice_get children i ≡ Some x) ⊎ ((i ≡ length children) × (x ≡ child))
+        → (slice_get children j ≡ Some y) ⊎ ((j ≡ length children) × (y ≡ child)) → i ≡ j
+    by (inl old) (inl other) = apart i j x y old other same
+    by (inl old) (inr last) =
+        absurd (let low : x.task < n = under i x old in
+        let high : x.task ≡ n = same ∙ ap (λ (z : Child). z.task) last.1 ∙ is in omega arith)
+    by (inr last) (inl old) =
+        absurd (let low : y.task < n = under j y old in
+        let high : y.task ≡ n = sym same ∙ ap (λ (z : Child). z.task) last.1 ∙ is in omega arith)
+    by (inr last) (inr other) = last.0 ∙ sym other.0
 
 -- what is below the next number is below this one, or is it
 split : (c n : ℕ) → c ≤ n → (c < n) ⊎ (c ≡ n)
@@ -96,6 +131,9 @@ one_child job t n children child u are few is has by at none = record {
     none = none;
   });
   all = λ c v lt has_c by_v. more c v (below c n lt) has_c by_v;
+  below = each-push (λ (x : Child). x.task < n + 1) children child
+      (λ i x e. (let low : x.task < n = are.below i x e in omega arith)) (omega arith);
+  apart = apart-push children child n are.below are.apart is;
 }
   where
     more : (c : ℕ) (v : Parent) → (c < n) ⊎ (c ≡ n) → (task_at job.graph c).parent ≡ Some v
@@ -116,6 +154,8 @@ pub other_task : (job : Job) (t n : ℕ) (children : List Child) → AreChildren
 other_task job t n children are none = record {
   each = are.each;
   all = λ c v lt has by. more c v (below c n lt) has by;
+  below = λ i x e. (let low : x.task < n = are.below i x e in omega arith);
+  apart = are.apart;
 }
   where
     more : (c : ℕ) (v : Parent) → (c < n) ⊎ (c ≡ n) → (task_at job.graph c).parent ≡ Some v
@@ -240,6 +280,7 @@ pub stands_first : (job : Job) (spots : ℕ → Spot) (s : TaskState) (m : Momen
 stands_first job spots s m is seed has all first own = record {
   part = first.part;
   own = own;
+  knows = known_first job m s.number s.numbers.items (seen_by s.holds.items) is first;
   place = place;
   holds = record {
     on = λ i lt le. held i lt;
@@ -309,6 +350,25 @@ stands_first job spots s m is seed has all first own = record {
           seen = sym (first.history i few ∙ seen_at s.holds.items i r.member r.hold);
         })
 
+-- a seed knows its children
+pub knows_children : (job : Job) (t : ℕ) (children : List Child)
+    → AreChildrenBelow job t (length job.graph.tasks) children → KnowsChildren job t children
+knows_children job t children are = record {
+  each = λ i child e.
+      (let unborn = are.each i child e in
+      record {
+        of_task = record {
+          there = unborn.there;
+          parent = unborn.parent;
+          has = unborn.has;
+          by = unborn.by;
+        };
+        at = unborn.at;
+      });
+  all = are.all;
+  apart = are.apart;
+}
+
 -- what holds of it always
 pub is_whole : (job : Job) (spots : ℕ → Spot) (s : TaskState) → IsGraph job.graph → IsSeed job s
     → HasReceived job spots s → length s.holds.items ≡ length (registrations_at job s.number)
@@ -319,8 +379,7 @@ is_whole job spots s is seed has all room = record {
   samples = seed.samples;
   numbers = has.long ∙ all;
   holds = all;
-  children = λ c u few parent by. seed.children.all c u few parent by;
-  are_there = λ i child e. (seed.children.each i child e).there;
+  children = knows_children job s.number s.children.items seed.children;
   staying = λ over. ap length seed.lefts;
   room = room;
 }

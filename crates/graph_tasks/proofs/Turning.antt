@@ -26,6 +26,7 @@ use Rattle.graph_parts.specs.Places.{HasChildrenBy, IsNumbered}
 use Rattle.graph_parts.proofs.Parts.{with_history, seen, puts_value}
 use Rattle.graph_ends.specs.TaskEnds.{HasOwnCalls}
 use Rattle.graph_ends.proofs.CallsFollow.{calls_seen, calls_put}
+use Rattle.graph_parts.proofs.KnownOthers.{known_moved}
 use Rattle.graph_parts.proofs.FollowsPlace.{seen_follows, put_follows}
 use Rattle.graph_turns.proofs.Signalling.{owed}
 use Rattle.graph_turns.proofs.Standing.{of_output}
@@ -89,6 +90,7 @@ state_sees job spots m after s k p old new lines entered whole few kept here sam
       part = is_seen.moved.part;
       own = calls_seen job m after t p whole.graph whole.there (member_in old).number now s_o
           is_seen at.own;
+      knows = known_moved job m after t p now is_seen.moved at.knows;
       place = seen_follows job m after t p (place_of s) now at.place is_seen;
       holds = holds_move job spots m after t k p now s.holds.items s.lefts.items (On new)
           whole.graph whole.there few here whole.holds kept is_seen.moved at.holds
@@ -124,6 +126,7 @@ state_moves job spots m after s k p now new begun owed filter lines entered whol
     let t = s.number in record {
       part = moved.part;
       own = own;
+      knows = known_moved job m after t p now moved at.knows;
       place = place;
       holds = holds_move job spots m after t k p now s.holds.items s.lefts.items (On new)
           whole.graph whole.there few here whole.holds kept moved at.holds on;
@@ -182,7 +185,6 @@ whole_moves job s k begun new owed filter lines entered whole = record {
   numbers = whole.numbers;
   holds = length-set s.holds.items k new ∙ whole.holds;
   children = whole.children;
-  are_there = whole.are_there;
   staying = whole.staying;
   room = whole.room;
 }

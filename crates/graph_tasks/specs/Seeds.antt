@@ -10,6 +10,7 @@ use Rattle.graph_turns.specs.Nexts.{registrations_at}
 use Rattle.graph_steps.specs.Steps.{HasFilter}
 use Rattle.graph_steps.specs.declared.owed.Owed.TheVariants.{Nothing}
 use Rattle.graph_openings.specs.Openings.{IsRootMember}
+use Rattle.graph_tasks.specs.Tasks.{AreApart}
 use Rattle.graph_tasks.specs.declared.child.Child.{Child}
 use Rattle.graph_tasks.specs.declared.hold.Hold.{Hold}
 use Rattle.graph_tasks.specs.declared.hold.Hold.TheVariants.{On}
@@ -33,6 +34,8 @@ pub record AreChildrenBelow (job : Job) (t n : ℕ) (children : List Child) : Ty
   pub all : (c : ℕ) (u : Parent) → c < n → (task_at job.graph c).parent ≡ Some u → u.task ≡ t
       → (i : ℕ) × ((child : Child) × (slice_get children i ≡ Some child) × (child.task ≡ c)
       × (child.at ≡ u.at))
+  pub below : (i : ℕ) (child : Child) → slice_get children i ≡ Some child → child.task < n
+  pub apart : AreApart children
 
 -- whether task c is a child of task t, and after how many steps it comes
 abbrev pub TellsChild : Job → ℕ → ℕ → Option ℕ → Type 0

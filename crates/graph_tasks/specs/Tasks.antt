@@ -14,11 +14,11 @@ use Rattle.graph_members.specs.declared.any_left.AnyLeft.{AnyLeft}
 use Rattle.graph_turns.specs.Nexts.{registrations_at, is_cut}
 use Rattle.graph_turns.specs.TaskPlaces as turns
 use Rattle.graph_turns.specs.TaskPlaces.{TaskPlace, StandsAt, registration_at}
-use Rattle.graph_ends.specs.TaskEnds.{HasOwnCalls, HasNumbers}
+use Rattle.graph_ends.specs.TaskEnds.{HasOwnCalls, HasNumbers, IsChildOf}
 use Rattle.graph_steps.specs.Steps.{owed_of, HasFilter}
 use Rattle.graph_steps.specs.declared.owed.Owed.TheVariants.{Nothing}
 use Rattle.graph_parts.specs.Parts.{HasPart}
-use Rattle.graph_parts.specs.Places.{HasChildrenBy}
+use Rattle.graph_parts.specs.Places.{HasChildrenBy, KnowsOthers}
 use Rattle.graph_tasks.specs.declared.child.Child.{Child}
 use Rattle.graph_tasks.specs.declared.hold.Hold.{Hold}
 use Rattle.graph_tasks.specs.declared.hold.Hold.TheVariants.{On, Gone}
@@ -61,12 +61,24 @@ pub record HasHolds (job : Job) (spots : ℕ → Spot) (m : Moment) (t : ℕ) (h
 
 -- ---- children
 
--- these are the children of task t
-abbrev pub KnowsChildren : Job → ℕ → List Child → Type 0
-KnowsChildren job t children = (c : ℕ) (u : Parent) → c < length job.graph.tasks
-    → (task_at job.graph c).parent ≡ Some u → u.task ≡ t
-    → (i : ℕ) × ((child : Child) × (slice_get children i ≡ Some child) × (child.task ≡ c)
-    × (child.at ≡ u.at))
+-- a child of task t, and after how many of its steps it comes
+pub record IsTaskChild (job : Job) (t : ℕ) (child : Child) : Type 0 where
+  pub of_task : IsChildOf job child.task t
+  pub at : child.at ≡ of_task.parent.at
+
+-- no two of these children are the same task
+abbrev pub AreApart : List Child → Type 0
+AreApart children = (i j : ℕ) (x y : Child) → slice_get children i ≡ Some x
+    → slice_get children j ≡ Some y → x.task ≡ y.task → i ≡ j
+
+-- these are the children of task t, each of them once
+pub record KnowsChildren (job : Job) (t : ℕ) (children : List Child) : Type 0 where
+  pub each : (i : ℕ) (child : Child) → slice_get children i ≡ Some child → IsTaskChild job t child
+  pub all : (c : ℕ) (u : Parent) → c < length job.graph.tasks
+      → (task_at job.graph c).parent ≡ Some u → u.task ≡ t
+      → (i : ℕ) × ((child : Child) × (slice_get children i ≡ Some child) × (child.task ≡ c)
+      × (child.at ≡ u.at))
+  pub apart : AreApart children
 
 -- each of these children has the numbers that its parent gave it, and no others
 abbrev pub HasGivenNumbers : Job → Moment → List Child → Type 0
@@ -95,6 +107,7 @@ pub record IsAtEnd (job : Job) (m : Moment) (s : TaskState) : Type 0 where
 pub record IsTaskAt (job : Job) (spots : ℕ → Spot) (m : Moment) (s : TaskState) : Type 0 where
   pub part : HasPart job m s.number
   pub own : HasOwnCalls job m s.number
+  pub knows : KnowsOthers job m s.number
   pub place : StandsAt job m s.number (place_of s)
   pub holds : HasHolds job spots m s.number s.holds.items s.lefts.items
   pub filter : HasFilter (task_at job.graph s.number) s.filter (m.taken s.number 0)
@@ -110,8 +123,6 @@ pub record IsWhole (job : Job) (s : TaskState) : Type 0 where
   pub numbers : length s.numbers.items ≡ length (registrations_at job s.number)
   pub holds : length s.holds.items ≡ length (registrations_at job s.number)
   pub children : KnowsChildren job s.number s.children.items
-  pub are_there : (i : ℕ) (child : Child) → slice_get s.children.items i ≡ Some child
-      → child.task < length job.graph.tasks
   pub staying : s.over ≡ false → length s.lefts.items ≡ 0
   -- what it has seen of each phaser finds room
   pub room : length (registrations_at job s.number) ≤ s.lefts.cap
@@ -121,6 +132,23 @@ abbrev pub HasAllNow : Job → TaskState → Type 0
 HasAllNow job s = (i : ℕ) (child : Child) → slice_get s.children.items i ≡ Some child
     → child.at ≡ s.begun
     → length (registrations_at job child.task) ≤ length child.numbers.items
+
+-- no child of a task comes now, where it stands between two steps, that has not all its numbers
+abbrev pub HasNoneDue : Job → TaskState → Type 0
+HasNoneDue job s = s.over ≡ false → s.owed ≡ Nothing → HasAllNow job s
+
+-- the child at this place comes now, and has not all its numbers
+pub record IsMissing (job : Job) (s : TaskState) (i : ℕ) : Type 0 where
+  pub kid : Child
+  pub found : slice_get s.children.items i ≡ Some kid
+  pub now : kid.at ≡ s.begun
+  pub few : length kid.numbers.items < length (registrations_at job kid.task)
+
+-- the same where the task stands between two steps
+pub record IsDue (job : Job) (s : TaskState) (i : ℕ) : Type 0 where
+  pub going : s.over ≡ false
+  pub owes : s.owed ≡ Nothing
+  pub missing : IsMissing job s i
 
 -- the children of a task that come now are all there, whichever its moment
 abbrev pub HasChildrenNow : Job → TaskState → Type 0

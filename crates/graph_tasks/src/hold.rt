@@ -3,6 +3,7 @@ ghost use Rattle.std.specs.Prelude.{◌≡◌, IfErr, IfOk, OnErr, OnOk};
 ghost use Rattle.stream_lists.specs.Lists.{number};
 ghost use Rattle.graph_tasks.specs.Holds.{GoesOn, HasSignalled, HasGot, HasSeenOthers, Leaves};
 ghost use Rattle.graph_tasks.specs.Holds.{IsGivenAs};
+ghost use Rattle.graph_tasks.specs.Nurseries.{AddsTo};
 
 use crate::held::Held;
 use graph_members::{AnyLeft, AnyMember, PutRefusal};
@@ -68,7 +69,11 @@ impl<'a> Hold<'a> {
     }
 
     /// Registers a child.
-    pub fn add(&mut self, mode: Mode) -> Result<AnyMember<'a>, Held> {
+    pub fn add(&mut self, mode: Mode) -> Result<AnyMember<'a>, Held>
+        ensures ok { IfOk result (AddsTo mode self.old self.new) }
+        ensures err { OnErr result (GoesOn HasSeenOthers self.old self.new) }
+    {
+        laws::others_come();
         let Hold::On(member) = self else {
             return Err(Held::Stuck);
         };

@@ -1,9 +1,10 @@
 //! A task of a graph with its registrations, as it goes from thread to thread: whoever has it makes
-//! its next event. The first calls are `Seed::new`, `Task::root` and `Task::turn`.
+//! its next event. The first calls are `Task::found`, `Unborn::new` and `Task::turn`.
 #![tactic(auto)]
 
 mod child;
 mod children;
+mod delivery;
 mod ended;
 mod founding;
 mod gate;
@@ -15,6 +16,7 @@ mod task;
 mod task_state;
 mod turn;
 mod turned;
+mod unborn;
 
 pub use child::Child;
 pub use ended::Ended;
@@ -23,3 +25,4 @@ pub use run::Run;
 pub use seed::Seed;
 pub use task::Task;
 pub use turned::Turned;
+pub use unborn::Unborn;

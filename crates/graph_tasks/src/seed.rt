@@ -19,7 +19,7 @@ use stream_lists::Job;
 /// A task before it is registered on all phasers of its line, with all the memory that it will
 /// need, but for what a sink takes.
 ///
-/// **End.** It cannot be thrown away. `Task::root`, `Task::deliver` and `dismiss` end it.
+/// **End.** It cannot be thrown away. `Task::root` and `dismiss` end it.
 pub struct Seed<'a> {
     pub(crate) state: TaskState<'a>,
 }
@@ -62,7 +62,6 @@ impl<'a> Seed<'a> {
                 met: false,
                 children,
                 nursery,
-                born: None,
             },
         })
     }

@@ -1,5 +1,5 @@
 //! A task with its registrations.
-ghost use Rattle.std.specs.Prelude.{◌≡◌, length, None, IfOk};
+ghost use Rattle.std.specs.Prelude.{◌≡◌, length, None, IfErr, IfOk};
 ghost use Rattle.graph_tasks.specs.Ends.{IsEnded};
 ghost use Rattle.graph_base.specs.Graphs.{task_at};
 ghost use Rattle.graph_turns.specs.Nexts.{registrations_at};
@@ -11,6 +11,7 @@ use crate::run::Run;
 use crate::seed::Seed;
 use crate::task_state::TaskState;
 use crate::turned::Turned;
+use crate::unborn::Unborn;
 use graph_ends::laws::first_calls;
 use graph_parts::beginnings::roots_begin;
 use std::marker::{Model, PhantomData};
@@ -23,18 +24,22 @@ use stream_lists::Job;
 pub struct Task<'a, J: Run> {
     job: &'a Job,
     state: TaskState<'a>,
+    /// The place, among its children, of the one that it is registering.
+    nursing: Option<usize>,
     of: PhantomData<J>,
 }
 
 impl<'a, J: Run> Model for Task<'a, J> {
     ghost use Rattle.std.specs.Prelude.{◌≡◌, ℕ};
+    ghost use Rattle.graph_tasks.specs.Nurseries.{IsWith};
     ghost use Rattle.graph_tasks.specs.Tasks.{IsTask};
 
     ghost Value = { ℕ };
 
     ghost view = { λ t. t.state.number };
 
-    ghost invariant = { λ t. (t.job.now ≡ J.job) × IsTask J.job J.spots t.state };
+    ghost invariant = { λ t. (t.job.now ≡ J.job) × IsTask J.job J.spots t.state
+        × IsWith J.job J.spots t.state t.nursing };
 }
 
 impl<'a, J: Run> Task<'a, J> {
@@ -57,6 +62,7 @@ impl<'a, J: Run> Task<'a, J> {
         Task {
             job,
             state: seed.open(),
+            nursing: None,
             of: PhantomData,
         }
     }
@@ -78,16 +84,47 @@ impl<'a, J: Run> Task<'a, J> {
         set
     }
 
-    /// Makes its next event, where it can: one call at most. It takes no memory, but for a sink's
-    /// list. Where a child of it comes it answers `Stuck`, as children are not registered yet.
+    /// Makes its next event, where it can: one call at most.
+    ///
+    /// Where a child comes it registers the child on the phasers of its line, one after the other,
+    /// and then answers `Born` until `deliver` has given the child. It takes memory for a sink's
+    /// list, and where it registers.
     pub fn turn<G: Gate>(&mut self, gate: &G) -> Turned {
-        self.state.turn(self.job, gate)
+        if self.state.met {
+            return Turned::Stuck;
+        }
+        if let Some(i) = self.nursing {
+            return self.state.register(self.job, i);
+        }
+        match self.state.due(self.job) {
+            Some(i) => {
+                self.nursing = self.state.begin(i);
+                Turned::Ready
+            }
+            None => self.state.turn(self.job, gate),
+        }
     }
 
-    /// Gives the child of which `turn` has answered that it is born. Where none is born, which is
-    /// always so as yet, the seed comes back. It takes no memory.
-    pub fn deliver(&mut self, seed: Seed<'a>) -> Result<Task<'a, J>, Seed<'a>> {
-        Err(seed)
+    /// Gives the child of this number, of which `turn` has answered that it is born, as a task of
+    /// its own. Else it comes back. It takes no memory.
+    pub fn deliver(&mut self, unborn: Unborn<'a, J>) -> Result<Task<'a, J>, Unborn<'a, J>>
+        ensures child { IfOk result (λ child. child ≡ unborn.entry) }
+        ensures back { IfErr result (λ back. back ≡ unborn.entry) }
+        ensures same { self.new ≡ self.old }
+    {
+        let Some(i) = self.nursing else {
+            return Err(unborn);
+        };
+        if !self.state.is_born(self.job, i, unborn.number()) {
+            return Err(unborn);
+        }
+        self.nursing = None;
+        Ok(Task {
+            job: self.job,
+            state: self.state.deliver(i, unborn.open()),
+            nursing: None,
+            of: PhantomData,
+        })
     }
 
     /// Leaves all phasers, by waiting, and forgets all: after a fault.
@@ -95,6 +132,7 @@ impl<'a, J: Run> Task<'a, J> {
         let Task {
             job: _,
             state,
+            nursing: _,
             of: _,
         } = self;
         state.dismiss(rt);
@@ -110,6 +148,7 @@ impl<'a, J: Run> Task<'a, J> {
         let Task {
             job: _,
             state,
+            nursing: _,
             of: _,
         } = self;
         Ok(state.end(rt))

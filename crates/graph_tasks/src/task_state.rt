@@ -42,8 +42,6 @@ pub struct TaskState<'a> {
     pub children: Vec<Child>,
     /// What a child holds that is being registered.
     pub nursery: Vec<Hold<'a>>,
-    /// The child whose registrations are all made, until it is delivered.
-    pub born: Option<usize>,
 }
 
 impl<'a> TaskState<'a> {
@@ -78,7 +76,6 @@ impl<'a> TaskState<'a> {
             met: _,
             children,
             nursery,
-            born: _,
         } = self;
         dismiss_all(rt, holds);
         dismiss_all(rt, nursery);

@@ -7,7 +7,7 @@ ghost use Rattle.stream_lists.specs.Jobs.{Job as JobValue};
 ghost use Rattle.graph_members.specs.Members.{Spot};
 ghost use Rattle.graph_steps.specs.declared.owed.Owed.TheVariants.{Value, Exchange, Nothing};
 ghost use Rattle.graph_turns.specs.Nexts.{is_cut};
-ghost use Rattle.graph_tasks.specs.Tasks.{IsTask, IsWhole, Keeps, MayStep};
+ghost use Rattle.graph_tasks.specs.Tasks.{HasAllNow, HasNoneDue, IsTask, IsWhole, Keeps, MayStep};
 
 use crate::gate::Gate;
 use crate::hold::Given;
@@ -20,14 +20,13 @@ use graph_steps::{
 use stream_lists::Job;
 
 impl<'a> TaskState<'a> {
-    /// Makes the next event, where it can.
+    /// Makes the next event, where it can and no child comes first.
     pub fn turn<G: Gate>(&mut self, job: &Job, gate: &G) -> Turned
-        requires { (spots : ℕ → Spot) × IsTask job.now spots self.old }
+        requires task { (spots : ℕ → Spot) × IsTask job.now spots self.old }
+        requires met { self.old.met ≡ false }
+        requires children { HasNoneDue job.now self.old }
         ensures { Keeps job.now self.old self.new }
     {
-        if self.met {
-            return Turned::Stuck;
-        }
         if self.over {
             return self.leave_next(job);
         }
@@ -111,17 +110,15 @@ impl<'a> TaskState<'a> {
         }
     }
 
-    /// Goes on between two steps.
+    /// Goes on between two steps, where no child comes first.
     fn at_boundary<G: Gate>(&mut self, job: &Job, gate: &G) -> Turned
         requires task { (spots : ℕ → Spot) × IsTask job.now spots self.old }
         requires met { self.old.met ≡ false }
         requires over { self.old.over ≡ false }
         requires owed { self.old.owed ≡ Nothing }
+        requires children { HasAllNow job.now self.old }
         ensures { Keeps job.now self.old self.new }
     {
-        if self.is_child_due(job) {
-            return self.meet(Turned::Stuck);
-        }
         if is_cut(until_of(job, self.number), self.begun) {
             self.over = true;
             return Turned::Ready;

@@ -6,6 +6,7 @@ use Rattle.phase_registry.specs.Rosters.{next_after}
 use Rattle.graph_base.specs.declared.line.Kind.TheVariants.{Source}
 use Rattle.graph_base.proofs.Registered.{registrations-phasers}
 use Rattle.graph_turns.specs.Reached.{IsReachable}
+use Rattle.std.specs.List.{All}
 use Rattle.std.proofs.lemmas.List.{length-set, length-map, get_or-map}
 use Rattle.std.proofs.lemmas.Bool.{cases_lt, eqb-true, eq-eqb}
 use Rattle.std.proofs.lemmas.Option.{slice_get-get_or, slice_get_past}
@@ -31,7 +32,7 @@ use Rattle.graph_turns.proofs.PlacesFollow.{child_follows, parent_follows}
 use Rattle.graph_turns.proofs.Registering.{due_child}
 use Rattle.graph_turns.proofs.Places.{on_ends}
 use Rattle.graph_worlds.specs.Places.{IsTaskAt, place_of}
-use Rattle.graph_worlds.specs.Machines.{IsMachineAt, HasCores}
+use Rattle.graph_worlds.specs.Machines.{IsMachineAt, HasCores, HasRoom, UsesFew}
 use Rattle.graph_worlds.specs.Turning.{IsNextIn, HadTurn, Shows}
 use Rattle.graph_worlds.specs.declared.machine.Machine.{Machine}
 use Rattle.graph_worlds.specs.declared.task_state.TaskState.{TaskState}
@@ -244,12 +245,15 @@ child_turn job old new t c p n a mode state numbers next found phaser in_mode nu
         (here m at) (λ u s there apart read. other m at u s there apart read) in
         subst (λ x. IsMachineAt job (after_answer job x m) new) (sym (answer m at)) record {
           graph = at.graph;
+          apart = at.apart;
           reached = subst (λ x. IsReachable job (after_answer job x m)) (answer m at)
               (next.stays m at);
+          few = subst (λ x. UsesFew job (after_answer job x m)) (answer m at) (next.few m at);
           cores = cores m at;
           tasks_many = omega arith;
           tasks = λ u s read. all u s (subst (λ xs. slice_get xs u ≡ Some s) tasks read);
           lines = ap (λ l. map sink_values l.items) lines ∙ at.lines;
+          room = subst (λ l. All (HasRoom job) l.items) (sym lines) at.room;
         }
 
 -- a fresh number
@@ -311,17 +315,3 @@ room_for_child job machine m t c state next at found few =
     let room = (at.tasks c state found).room in
     let less = (child_at job machine m t c state next at found).few in
     omega arith
-
--- a machine whose phaser took no child
-pub kept_cores : (job : Job) (m : Moment) (old new : Machine) → IsMachineAt job m old
-    → HasCores job m.history new.cores.items → new.tasks ≡ old.tasks → new.lines ≡ old.lines
-    → IsMachineAt job m new
-kept_cores job m old new at cores tasks lines = record {
-  graph = at.graph;
-  reached = at.reached;
-  cores = cores;
-  tasks_many = ap (λ v. length v.items) tasks ∙ at.tasks_many;
-  tasks = λ u state found. at.tasks u state
-      (subst (λ v. slice_get v.items u ≡ Some state) tasks found);
-  lines = ap (λ l. map sink_values l.items) lines ∙ at.lines;
-}

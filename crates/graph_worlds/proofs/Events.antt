@@ -1,6 +1,7 @@
 -- A machine after one event of a turn: the phaser has the event's history, one task has its new
 -- state, and all others are as they were.
 use Rattle.std.proofs.Common.{◌≡◌, ◌≢◌, ℕ, ◌<◌, Bool, true, false, eqb, List, Some, None, length, slice_get, set, map, refl, sym, ap, subst, ◌∙◌, arith}
+use Rattle.std.specs.List.{All}
 use Rattle.std.proofs.lemmas.Bool.{eqb-true, ne_eqb, eq-eqb}
 use Rattle.std.proofs.lemmas.List.{length-set}
 use Rattle.std.proofs.lemmas.Option.{slice_get_within}
@@ -18,7 +19,7 @@ use Rattle.graph_turns.proofs.Whose.{task_of, made_by}
 use Rattle.graph_turns.proofs.PlacesFollow.{others_follow}
 use Rattle.graph_steps.specs.Steps.{HasFilter}
 use Rattle.graph_worlds.specs.Places.{IsTaskAt, place_of}
-use Rattle.graph_worlds.specs.Machines.{IsMachineAt, HasCores}
+use Rattle.graph_worlds.specs.Machines.{IsMachineAt, HasCores, HasRoom, UsesFew}
 use Rattle.graph_worlds.specs.declared.machine.Machine.{Machine}
 use Rattle.graph_worlds.specs.declared.task_state.TaskState.{TaskState}
 use Rattle.graph_worlds.proofs.Setting.{slice_get-set_same, slice_get-set_other, same_cores}
@@ -81,13 +82,15 @@ pub after_own : (job : Job) (m : Moment) (old new : Machine) (t : ℕ) (event : 
     (state : TaskState) → IsMachineAt job m old → answer_of_turn job m t ≡ makes event
     → child_of event ≡ None → t < length job.graph.tasks
     → IsReachable job (after_answer job (answer_of_turn job m t) m)
+    → UsesFew job (after_answer job (answer_of_turn job m t) m)
     → HasCores job (after_turn job event m).history new.cores.items
     → new.tasks.items ≡ set old.tasks.items t state
     → IsTaskAt job (after_turn job event m) t state
     → map sink_values new.lines.items
     ≡ map (λ u. (u, (after_turn job event m).taken u 0)) (sinks_of job)
+    → All (HasRoom job) new.lines.items
     → IsMachineAt job (after_answer job (answer_of_turn job m t) m) new
-after_own job m old new t event state at answer none there reached cores tasks here lines =
+after_own job m old new t event state at answer none there reached few cores tasks here lines room =
     let after = after_turn job event m in
     let long = length-set old.tasks.items t state in
     let many : length new.tasks.items ≡ length (set old.tasks.items t state) = ap length tasks in
@@ -98,12 +101,15 @@ after_own job m old new t event state at answer none there reached cores tasks h
     (at.tasks u other found)) in
     subst (λ a. IsMachineAt job (after_answer job a m) new) (sym answer) record {
       graph = at.graph;
+      apart = at.apart;
       reached = subst (λ a. IsReachable job (after_answer job a m)) answer reached;
+      few = subst (λ a. UsesFew job (after_answer job a m)) answer few;
       cores = cores;
       tasks_many = omega arith;
       tasks = λ u other found. all u other
           (subst (λ xs. slice_get xs u ≡ Some other) tasks found);
       lines = lines;
+      room = room;
     }
 
 -- a machine of which nothing but a core was asked
@@ -112,10 +118,13 @@ pub unchanged : (job : Job) (m : Moment) (old new : Machine) (p : ℕ) → IsMac
     → new.lines ≡ old.lines → IsMachineAt job m new
 unchanged job m old new p at cores tasks lines = record {
   graph = at.graph;
+  apart = at.apart;
   reached = at.reached;
+  few = at.few;
   cores = same_cores job m.history p new.cores.items cores;
   tasks_many = ap (λ v. length v.items) tasks ∙ at.tasks_many;
   tasks = λ u state found. at.tasks u state
       (subst (λ v. slice_get v.items u ≡ Some state) tasks found);
   lines = ap (λ l. map sink_values l.items) lines ∙ at.lines;
+  room = subst (λ l. All (HasRoom job) l.items) (sym lines) at.room;
 }

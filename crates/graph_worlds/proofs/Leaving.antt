@@ -1,5 +1,6 @@
 -- The turn of a task that leaves.
 use Rattle.std.proofs.Common.{◌≡◌, ℕ, List, suc, ◌+◌, ◌<◌, cond, Some, None, ◌∷◌, length, get_or, slice_get, nat_lt, set, map, refl, sym, ap, subst, ◌∙◌, arith}
+use Rattle.std.specs.List.{All}
 use Rattle.phase_history.specs.declared.event.Event.TheVariants.{Dropped}
 use Rattle.phase_history.specs.Refusals.{drop_refusal}
 use Rattle.stream_lists.specs.Jobs.{Job}
@@ -14,7 +15,7 @@ use Rattle.graph_turns.specs.Answers.{makes, answer_of_turn, after_answer, accep
 use Rattle.graph_turns.specs.TaskPlaces.{StandsAt, registration_at}
 use Rattle.graph_turns.proofs.PlacesFollow.{leave_follows}
 use Rattle.graph_worlds.specs.Places.{IsTaskAt, place_of}
-use Rattle.graph_worlds.specs.Machines.{IsMachineAt, HasCores}
+use Rattle.graph_worlds.specs.Machines.{IsMachineAt, HasCores, HasRoom}
 use Rattle.graph_worlds.specs.Turning.{IsNextIn, HadTurn, Shows, told_of}
 use Rattle.graph_worlds.specs.declared.machine.Machine.{Machine}
 use Rattle.graph_worlds.specs.declared.task_state.TaskState.{TaskState}
@@ -89,9 +90,10 @@ left_turn job old new t p number state told next found phaser numbered accepted 
     after m at =
         let it = is m at in
         after_own job m old new t (leave t p number) (left_once state) at (answer m at) refl
-        (place m at).there (next.stays m at) (cores m at) tasks
+        (place m at).there (next.stays m at) (next.few m at) (cores m at) tasks
         (record { stands = stands m at; room = it.room; filter = it.filter; sink = it.sink })
         (ap (λ l. map sink_values l.items) lines ∙ at.lines)
+        (subst (λ l. All (HasRoom job) l.items) (sym lines) at.room)
 
 -- what the drop of a task that leaves is answered
 leaves_so : (job : Job) (old : Machine) (t p number : ℕ) (state : TaskState)

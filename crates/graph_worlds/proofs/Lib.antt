@@ -3,7 +3,9 @@ pub mod Leaving
 pub mod Lively
 pub mod OpeningPhasers
 pub mod OpeningTasks
+pub mod Begun
 pub mod Children
+pub mod Numbering
 pub mod Ending
 pub mod InTurn
 pub mod Setting
@@ -15,6 +17,7 @@ pub mod Waits
 pub mod WhatNext
 pub mod Outputs
 pub mod Reading
+pub mod Rooms
 pub mod Searching
 pub mod Stalling
 pub mod Stepping

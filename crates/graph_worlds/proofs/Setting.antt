@@ -1,6 +1,9 @@
 -- One element of a list is set: the others stay.
-use Rattle.std.proofs.Common.{◌≡◌, ◌≢◌, ℕ, ◌<◌, Bool, true, false, cond, eqb, eq-eqb, List, Some, length, get_or, slice_get, set, refl, sym, ap, subst, ◌∙◌, arith}
-use Rattle.std.specs.Prelude.{Result, Ok, Err, OnOk, IfErr}
+use Rattle.std.proofs.Common.{◌≡◌, ◌≢◌, ℕ, zero, suc, ◌<◌, ◌≤◌, [], ◌∷◌, Bool, true, false, cond, eqb, eq-eqb, List, Some, length, get_or, slice_get, set, refl, sym, ap, subst, ◌∙◌, arith}
+use Rattle.std.specs.Prelude.{Result, Ok, Err, OnOk, OnErr, IfErr}
+use Rattle.std.specs.Vec.{with_item}
+use Rattle.std.specs.declared.vec.Vec.{Vec}
+use Rattle.std.proofs.Props.{props}
 use Rattle.std.proofs.lemmas.List.{get_or-set_same, get_or-set_other, length-set}
 use Rattle.std.proofs.lemmas.Option.{slice_get-get_or, slice_get_within, slice_get_read, get_or_from_slice_get, same_Some}
 use Rattle.std.proofs.lemmas.Bool.{eqb-true}
@@ -111,3 +114,44 @@ pub if_err : {A R : Type 0} {P Q : R → Type 0} (r : Result A R) → ((e : R) �
     → IfErr r P → IfErr r Q
 if_err (Ok a) f p = p
 if_err (Err e) f p = f e p
+
+-- ---- a vector of which an element was set to what it was
+
+-- a vector with other items, as many
+abbrev with_these : {X Z : Type 0} (v : Vec X Z) (xs : List X) → (v.len ≡ length xs) × (v.len ≤ v.cap)
+    → Vec X Z
+with_these v xs ok = record {
+  ptr = v.ptr;
+  len = v.len;
+  cap = v.cap;
+  alloc = v.alloc;
+  items = xs;
+  ok = ok;
+  small = v.small;
+}
+
+these_same : {X Z : Type 0} (v : Vec X Z) (xs ys : List X) → xs ≡ ys
+    → (one : (v.len ≡ length xs) × (v.len ≤ v.cap)) (two : (v.len ≡ length ys) × (v.len ≤ v.cap))
+    → with_these v xs one ≡ with_these v ys two
+these_same v xs ys same one =
+    subst (λ zs. (two : (v.len ≡ length zs) × (v.len ≤ v.cap))
+    → with_these v xs one ≡ with_these v zs two) same
+    (λ two. ap (with_these v xs) (is_fact one two))
+  where
+    is_fact : IsProp ((v.len ≡ length xs) × (v.len ≤ v.cap))
+    is_fact = Prim.hlevel props
+
+pub same_item : {X Z : Type 0} (v : Vec X Z) (i : ℕ) (x : X) → i < length v.items
+    → x ≡ get_or v.items i x → with_item v i x ≡ v
+same_item {X = X} v i x lt read =
+    these_same v (set v.items i x) v.items (set_same v.items i x lt read) _ v.ok
+  where
+    set_same : (xs : List X) (i : ℕ) (x : X) → i < length xs → x ≡ get_or xs i x → set xs i x ≡ xs
+    set_same [] i x lt e = refl
+    set_same (y ∷ xs) zero x lt e = ap (λ z. z ∷ xs) e
+    set_same (y ∷ xs) (suc i) x lt e = ap (λ zs. y ∷ zs) (set_same xs i x (omega arith) e)
+
+-- what holds where a call was refused may be weakened there
+pub on_err : {A R : Type 0} {P Q : Type 0} (r : Result A R) → (P → Q) → OnErr r P → OnErr r Q
+on_err (Ok a) f p = p
+on_err (Err e) f p = f p

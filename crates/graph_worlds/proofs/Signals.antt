@@ -29,11 +29,12 @@ use Rattle.graph_turns.proofs.Signalling.{owed, live-is, sendable}
 use Rattle.graph_turns.proofs.Stepping.{signal_follows, sample_follows}
 use Rattle.graph_turns.proofs.Calling.{source_ends}
 use Rattle.graph_turns.specs.Reached.{IsReachable}
+use Rattle.std.specs.List.{All}
 use Rattle.std.proofs.lemmas.Bool.{leb-false}
 use Rattle.graph_steps.specs.Steps.{owed_of}
 use Rattle.graph_steps.specs.declared.owed.Owed.{Owed}
 use Rattle.graph_worlds.specs.Places.{place_of}
-use Rattle.graph_worlds.specs.Machines.{IsMachineAt, HasCores}
+use Rattle.graph_worlds.specs.Machines.{IsMachineAt, HasCores, HasRoom}
 use Rattle.graph_worlds.specs.Turning.{IsNextIn, HadTurn, Shows, called_on}
 use Rattle.graph_worlds.specs.declared.machine.Machine.{Machine}
 use Rattle.graph_worlds.specs.declared.task_state.TaskState.{TaskState}
@@ -254,9 +255,10 @@ signalled_turn job old new t j number p phase x state owed next found phaser num
         (sym owes) (signal_follows job m t j p number x (place_of state) at.graph at.reached
         (answer m at) it.stands) in
         after_own job m old new t event (with_owed state owed) at (answer m at) refl
-        (signals_at job old m t j state next at found).there (next.stays m at) (cores m at) tasks
-        (record { stands = stands; room = it.room; filter = it.filter; sink = it.sink })
+        (signals_at job old m t j state next at found).there (next.stays m at) (next.few m at) (cores m at)
+        tasks (record { stands = stands; room = it.room; filter = it.filter; sink = it.sink })
         (ap (λ l. map sink_values l.items) lines ∙ at.lines)
+        (subst (λ l. All (HasRoom job) l.items) (sym lines) at.room)
 
 -- a signal that the phaser would not take now
 pub blocked_signal : (job : Job) (old new : Machine) (t j number p : ℕ) (x : ℤ)
@@ -570,9 +572,10 @@ sampled_turn job old new t number p phase x state next found phaser numbered val
         one (sample_follows job m t 0 p number x (place_of state) at.graph at.reached ran
         (answer m at) it.stands) in
         after_own job m old new t event (with_begun state (state.begun + 1)) at (answer m at) refl
-        (samples_at_place job old m t state next at found).there (next.stays m at) (cores m at) tasks
-        (record { stands = stands; room = it.room; filter = it.filter; sink = it.sink })
+        (samples_at_place job old m t state next at found).there (next.stays m at) (next.few m at) (cores m at)
+        tasks (record { stands = stands; room = it.room; filter = it.filter; sink = it.sink })
         (ap (λ l. map sink_values l.items) lines ∙ at.lines)
+        (subst (λ l. All (HasRoom job) l.items) (sym lines) at.room)
 
 pub blocked_sample : (job : Job) (old new : Machine) (t number p : ℕ) (x : ℤ)
     (state : TaskState) (r : SignalRefusal) → IsNextIn job old t turns.samples

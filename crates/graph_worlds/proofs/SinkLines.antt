@@ -16,15 +16,6 @@ pub same_lines : (lines : List Lines) (i : ℕ) (read new : Lines) → read ≡ 
 same_lines lines i read new is same =
     map-set_same sink_values lines i new read (same ∙ ap sink_values is)
 
-pub room_in : (lines : List Lines) (i : ℕ) (new : Lines) (sink : Option ℕ) → sink ≡ Some i
-    → IfSome sink (λ k. k < length lines) → vec_len new.values + 1 ≤ vec_capacity new.values
-    → IfSome sink (HasRoomIn (set lines i new))
-room_in lines i new sink is there fits =
-    subst (λ o. IfSome o (HasRoomIn (set lines i new))) (sym is)
-    (λ line found. subst (λ (l : Lines). vec_len l.values + 1 ≤ vec_capacity l.values)
-    (slice_get-set_same lines i new line (subst (λ o. IfSome o (λ k. k < length lines)) is there)
-    found) fits)
-
 pub room_for : (lines : List Lines) (i : ℕ) (read : Lines) (sink : Option ℕ) → sink ≡ Some i
     → IfSome sink (λ k. k < length lines) → IfSome sink (HasRoomIn lines)
     → read ≡ get_or lines i read → vec_len read.values + 1 ≤ vec_capacity read.values

@@ -1,6 +1,7 @@
 -- The turn of a task that waits.
 use Rattle.std.proofs.Common.{◌≡◌, ◌≢◌, ℕ, ℤ, List, suc, ◌+◌, ◌<◌, ◌≤◌, Bool, true, false, cond, eqb, [], ◌∷◌, ◌++◌, Option, Some, None, length, get_or, slice_get, set, map, refl, sym, ap, subst, ◌∙◌, arith}
 use Rattle.std.specs.Prelude.{Result, Ok, Err, nat_lt, IfSome, OnErr}
+use Rattle.std.specs.List.{All}
 use Rattle.std.proofs.lemmas.List.{length-map}
 use Rattle.std.proofs.lemmas.Option.{slice_get_within}
 use Rattle.stream_eval.specs.declared.whole.Lines.{Lines}
@@ -45,7 +46,7 @@ use Rattle.graph_steps.specs.declared.owed.Owed.{Owed}
 use Rattle.graph_steps.specs.declared.owed.Owed.TheVariants as code
 use Rattle.graph_worlds.specs.Calls.{told_got, with_line}
 use Rattle.graph_worlds.specs.Places.{place_of, HasTakenOne}
-use Rattle.graph_worlds.specs.Machines.{IsMachineAt, HasCores}
+use Rattle.graph_worlds.specs.Machines.{IsMachineAt, HasCores, HasRoom}
 use Rattle.graph_worlds.specs.Turning.{IsNextIn, HadTurn, Shows, told_of}
 use Rattle.graph_worlds.specs.declared.machine.Machine.{Machine}
 use Rattle.graph_worlds.specs.declared.task_state.TaskState.{TaskState}
@@ -304,7 +305,8 @@ exchanged_turn job old new t n p phase x outcome state owed told next found phas
         after_is (exchange_follows job m t p n outcome (place_of state) at.graph at.reached ran
         (answer m at) it.stands) in
         after_own job m old new t event (with_owed state owed) at (answer m at) refl
-        (exchange_waits_at job old m t state next at found).there (next.stays m at) (cores m at) tasks
+        (exchange_waits_at job old m t state next at found).there (next.stays m at) (next.few m at)
+        (cores m at) tasks
         (record {
           stands = stands;
           room = it.room;
@@ -314,6 +316,7 @@ exchanged_turn job old new t n p phase x outcome state owed told next found phas
         (ap (λ l. map sink_values l.items) lines ∙ at.lines
         ∙ map_same (λ u. (u, m.taken u 0)) (λ u. (u, (after_turn job event m).taken u 0))
         (sinks_of job) (λ u. ap (λ l. (u, l)) (sym (stays m u))))
+        (subst (λ l. All (HasRoom job) l.items) (sym lines) at.room)
 
 -- a wait that the phaser would not take now
 pub blocked_exchange : (job : Job) (old new : Machine) (t n p : ℕ) (state : TaskState)
@@ -367,7 +370,7 @@ first_other job m t k n p outcome u apart =
     sym (ap (λ b. cond b (with_at k (m.taken t k ++ number outcome ∷ []) (m.taken t)) (m.taken u) 0)
     (ne_eqb u t apart))
 
-sink_kind : (kind : Kind) → is_sink kind ≡ true → kind ≡ Sink
+pub sink_kind : (kind : Kind) → is_sink kind ≡ true → kind ≡ Sink
 sink_kind Sink e = refl
 sink_kind Source e = absurd (cc)
 sink_kind Fir e = absurd (cc)
@@ -417,6 +420,17 @@ taken_place job after t x taken old new took has stands =
     suc_is : (a b : ℕ) → b ≡ a + 1 → suc a ≡ b
     suc_is a b e = omega arith
 
+-- what the turn answers where the wait got a value
+pub first_answer : (job : Job) (old : Machine) (m : Moment) (t k n p phase : ℕ)
+    (outcome : Outcome) (state : TaskState) → IsNextIn job old t (turns.waits k)
+    → IsMachineAt job m old → slice_get old.tasks.items t ≡ Some state
+    → p ≡ input_at (task_at job.graph t) k → n ≡ get_or state.numbers.items k 0
+    → wait_reply (value_at job p) (limits_at job p) (m.history p) n ≡ Ok (got.Value phase outcome)
+    → answer_of_turn job m t ≡ makes (first_wait t k p n outcome)
+first_answer job old m t k n p phase outcome state next at found phaser numbered reply =
+    first_so job old m t k n p state next at found phaser numbered
+    ∙ ap (wait_answer (first_wait t k p n)) reply
+
 pub first_turn : (job : Job) (old new : Machine) (t k n p phase : ℕ) (outcome : Outcome)
     (state took : TaskState) (sink : Option ℕ) (told : Turned)
     → IsNextIn job old t (turns.waits k) → slice_get old.tasks.items t ≡ Some state
@@ -430,9 +444,10 @@ pub first_turn : (job : Job) (old new : Machine) (t k n p phase : ℕ) (outcome 
     → new.tasks.items ≡ set old.tasks.items t took
     → map sink_values new.lines.items
     ≡ with_line sink (number outcome) (map sink_values old.lines.items)
+    → (All (HasRoom job) old.lines.items → All (HasRoom job) new.lines.items)
     → told_of told ≡ told_got p phase outcome
     → HadTurn job old new t (Event p told)
-first_turn job old new t k n p phase outcome state took sink told next found phaser numbered has sinks reply cores tasks lines tells =
+first_turn job old new t k n p phase outcome state took sink told next found phaser numbered has sinks reply cores tasks lines room tells =
     record { shows = shows; after = after }
   where
     event : TaskEvent
@@ -440,8 +455,7 @@ first_turn job old new t k n p phase outcome state took sink told next found pha
 
     answer : (m : Moment) → IsMachineAt job m old → answer_of_turn job m t ≡ makes event
     answer m at =
-        first_so job old m t k n p state next at found phaser numbered
-        ∙ ap (wait_answer (first_wait t k p n)) (reply m at)
+        first_answer job old m t k n p phase outcome state next at found phaser numbered (reply m at)
 
     shows : (m : Moment) → IsMachineAt job m old
         → Shows job m t (answer_of_turn job m t) (Event p told)
@@ -490,7 +504,8 @@ first_turn job old new t k n p phase outcome state took sink told next found pha
         took has it.filter (first_wait_follows job m t k p n outcome (place_of state) at.graph
         at.reached ran (answer m at) it.stands) in
         after_own job m old new t event took at (answer m at) refl
-        (first_waits_at job old m t k state next at found).there (next.stays m at) (cores m at) tasks
+        (first_waits_at job old m t k state next at found).there (next.stays m at) (next.few m at)
+        (cores m at) tasks
         (record {
           stands = stands;
           room = subst (λ v. 9 ≤ v.capacity) (sym has.numbers) it.room;
@@ -501,6 +516,7 @@ first_turn job old new t k n p phase outcome state took sink told next found pha
         ∙ ap (with_line sink (number outcome)) at.lines
         ∙ ap (λ o. with_line o (number outcome) (map (λ u. (u, m.taken u 0)) (sinks_of job))) sinks
         ∙ sink_lines m at (is_sink_at job t) refl)
+        (room at.room)
 
 -- a wait that the phaser would not take now
 pub blocked_first : (job : Job) (old new : Machine) (t k n p : ℕ) (state : TaskState)
@@ -509,10 +525,12 @@ pub blocked_first : (job : Job) (old new : Machine) (t k n p : ℕ) (state : Tas
     → n ≡ get_or state.numbers.items k 0
     → ((m : Moment) → IsMachineAt job m old
     → wait_reply (value_at job p) (limits_at job p) (m.history p) n ≡ Err r)
-    → ((m : Moment) → IsMachineAt job m old → IsMachineAt job m new)
-    → HadTurn job old new t (Blocked p)
-blocked_first job old new t k n p state r next found phaser numbered reply same =
-    blocked_turn job old new t p (turns.waits k) next (sym phaser) answer same
+    → ((m : Moment) → IsMachineAt job m old
+    → HasCores job (with_at p (m.history p) m.history) new.cores.items)
+    → new.tasks ≡ old.tasks → new.lines ≡ old.lines → HadTurn job old new t (Blocked p)
+blocked_first job old new t k n p state r next found phaser numbered reply cores tasks lines =
+    blocked_turn job old new t p (turns.waits k) next (sym phaser) answer
+    (λ m at. unchanged job m old new p at (cores m at) tasks lines)
   where
     refused : (m : Moment) → IsMachineAt job m old
         → answer_of_turn job m t ≡ wait_answer (first_wait t k p n) (Err r)
@@ -535,20 +553,7 @@ first_never_ended job old t k n p state next found phaser numbered reply =
     next.answered m at (first_so job old m t k n p state next at found phaser numbered
     ∙ ap (wait_answer (first_wait t k p n)) (reply m at))
 
--- ---- the machine with room for a line
-
-pub with_room : (job : Job) (m : Moment) (old new : Machine) → IsMachineAt job m old
-    → new.cores ≡ old.cores → new.tasks ≡ old.tasks
-    → map sink_values new.lines.items ≡ map sink_values old.lines.items → IsMachineAt job m new
-with_room job m old new at cores tasks lines = record {
-  graph = at.graph;
-  reached = at.reached;
-  cores = subst (λ c. HasCores job m.history c.items) (sym cores) at.cores;
-  tasks_many = ap (λ v. length v.items) tasks ∙ at.tasks_many;
-  tasks = λ u state found. at.tasks u state
-      (subst (λ v. slice_get v.items u ≡ Some state) tasks found);
-  lines = lines ∙ at.lines;
-}
+-- ---- the line of a sink
 
 pub sink_there : (job : Job) (old : Machine) (m : Moment) (t : ℕ) (state : TaskState)
     (sink : Option ℕ) → IsMachineAt job m old → slice_get old.tasks.items t ≡ Some state
@@ -569,17 +574,3 @@ sink_there job old m t state sink at found is =
         let two = length-map (sinks_of job) f in
         omega arith
     by false e = tt
-
-pub more_there : (old new : List Lines) (sink : Option ℕ)
-    → map sink_values new ≡ map sink_values old → IfSome sink (λ i. i < length old)
-    → IfSome sink (λ i. i < length new)
-more_there old new sink same there =
-    let many : length (map sink_values new) ≡ length (map sink_values old) = ap length same in
-    let one = length-map new sink_values in
-    let two = length-map old sink_values in
-    let long : length old ≡ length new = omega arith in
-    subst (λ n. IfSome sink (λ i. i < n)) long there
-
-pub always_err : {A R : Type 0} {P : Type 0} (r : Result A R) → P → OnErr r P
-always_err (Ok a) p = tt
-always_err (Err e) p = p

@@ -1,11 +1,15 @@
 -- The moments that a machine stands for.
-use Rattle.std.specs.Prelude.{◌≡◌, ℕ, List, Bool, true, ◌||◌, Some, length, map, slice_get}
-use Rattle.phase_history.specs.Histories.{History}
+use Rattle.std.specs.Prelude.{◌≡◌, ℕ, zero, suc, ◌+◌, ◌<◌, ◌≤◌, List, Bool, true, ◌||◌, Option, Some, None, is_some, if◌then◌else◌, length, map, slice_get, vec_capacity}
+use Rattle.std.specs.List.{All}
+use Rattle.phase_history.specs.Histories.{History, greatest_used}
 use Rattle.graph_base.specs.Graphs.{phaser_at, task_at}
 use Rattle.graph_base.specs.TaskLines.{IsGraph}
 use Rattle.stream_lists.specs.Jobs.{Job}
 use Rattle.stream_lists.specs.Lists.{sinks_of}
+use Rattle.stream_lists.specs.Meetings.{meeting_line}
+use Rattle.stream_lists.specs.Spans.{span_in}
 use Rattle.stream_eval.specs.Results.{sink_values}
+use Rattle.stream_eval.specs.declared.whole.Lines.{Lines}
 use Rattle.graph_moments.specs.Moments.{Moment, limits_at}
 use Rattle.graph_cores.specs.Cores.{CoreStandsFor}
 use Rattle.graph_cores.specs.declared.any_core.AnyCore.{AnyCore}
@@ -23,16 +27,33 @@ pub record HasCores (job : Job) (history : ℕ → History) (cores : List AnyCor
   pub each : (p : ℕ) (core : AnyCore) → slice_get cores p ≡ Some core
       → CoreStandsFor core (phaser_at job.graph p).op (limits_at job p) (history p)
 
+-- how many of the first n tasks have a number
+abbrev pub numbered : (ℕ → Option ℕ) → ℕ → ℕ
+numbered number zero = 0
+numbered number (suc t) = numbered number t + (if is_some (number t) then 1 else 0)
+
+-- on each phaser no more numbers were used than tasks have one there, but for the founder's
+abbrev pub UsesFew : Job → Moment → Type 0
+UsesFew job m = (p : ℕ) → p < length job.graph.phasers
+    → greatest_used (m.history p) ≤ numbered (m.number p) (length job.graph.tasks)
+
+-- a sink's line has room for all that the sink takes in its steps
+abbrev pub HasRoom : Job → Lines → Type 0
+HasRoom job line = (span_in job line.task).steps ≤ vec_capacity line.values
+
 -- the machine stands at a moment that turns lead to: each core has the history of its phaser, each
 -- task is in its state, and the lines are what the sinks have taken
 pub record IsMachineAt (job : Job) (m : Moment) (machine : Machine) : Type 0 where
   pub graph : IsGraph job.graph
+  pub apart : meeting_line job ≡ None
   pub reached : IsReachable job m
+  pub few : UsesFew job m
   pub cores : HasCores job m.history machine.cores.items
   pub tasks_many : length machine.tasks.items ≡ length job.graph.tasks
   pub tasks : (t : ℕ) (state : TaskState) → slice_get machine.tasks.items t ≡ Some state
       → IsTaskAt job m t state
   pub lines : map sink_values machine.lines.items ≡ map (λ t. (t, m.taken t 0)) (sinks_of job)
+  pub room : All (HasRoom job) machine.lines.items
 
 -- the machine stands at some moment
 abbrev pub IsMachine : Job → Machine → Type 0

@@ -12,7 +12,7 @@ use Rattle.graph_turns.specs.Reached.{IsReachable}
 use Rattle.graph_turns.specs.Answers as answers
 use Rattle.graph_turns.specs.Answers.{Answer, Told, answer_of_turn, after_answer, output_at}
 use Rattle.graph_worlds.specs.Parking.{with_task}
-use Rattle.graph_worlds.specs.Machines.{IsMachine, IsMachineAt}
+use Rattle.graph_worlds.specs.Machines.{IsMachine, IsMachineAt, UsesFew}
 use Rattle.graph_worlds.specs.Worlds.{WorldState}
 use Rattle.graph_worlds.specs.declared.machine.Machine.{Machine}
 use Rattle.graph_worlds.specs.declared.made.Made.{Made}
@@ -61,8 +61,14 @@ pub record IsNextIn (job : Job) (machine : Machine) (t : ℕ) (next : turns.Next
   pub is : (m : Moment) → IsMachineAt job m machine → turns.next_of job m t ≡ next
   pub stays : (m : Moment) → IsMachineAt job m machine
       → IsReachable job (after_answer job (answer_of_turn job m t) m)
+  pub few : (m : Moment) → IsMachineAt job m machine
+      → UsesFew job (after_answer job (answer_of_turn job m t) m)
   pub answered : (m : Moment) → IsMachineAt job m machine
       → answer_of_turn job m t ≢ answers.is_refused
+
+-- what a task does next registers a child
+abbrev pub IsRegistration : turns.Next → Type 0
+IsRegistration next = (c : ℕ) × (next ≡ turns.registers c)
 
 -- the code tells of this answer so
 abbrev pub Shows : Job → Moment → ℕ → Answer → Made → Type 0

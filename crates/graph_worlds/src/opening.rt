@@ -1,8 +1,10 @@
 //! The opening of a run.
-ghost use Rattle.std.specs.Prelude.{◌≡◌, [], map, IfOk};
+ghost use Rattle.std.specs.Prelude.{◌≡◌, ◌<◌, [], length, map, IfOk};
+ghost use Rattle.std.specs.List.{All};
 ghost use Rattle.stream_eval.specs.Results.{sink_values};
 ghost use Rattle.stream_lists.specs.Lists.{sinks_of};
 ghost use Rattle.graph_turns.specs.Beginnings.{opening};
+ghost use Rattle.graph_worlds.specs.Machines.{HasRoom};
 
 use crate::machine::Machine;
 use crate::opened_cores::opened_cores;
@@ -12,17 +14,31 @@ use std::alloc::{AllocError, Global};
 use stream_eval::Lines;
 use stream_lists::Job;
 
-/// The sinks, in the order of their lines, which have taken nothing.
+/// A sink that has taken nothing, with room for all that it takes.
+fn opened_line(alloc: Global, job: &Job, t: usize) -> Result<Lines, AllocError>
+    requires { t < length job.now.graph.tasks }
+    ensures line { IfOk result (λ line. sink_values line ≡ (t, [])) }
+    ensures room { IfOk result (HasRoom job.now) }
+{
+    let Ok(steps) = usize::try_from(job.span(t).steps) else {
+        return Err(AllocError);
+    };
+    Ok(Lines {
+        task: t,
+        values: Vec::with_capacity(alloc, steps)?,
+    })
+}
+
+/// The sinks, in the order of their lines.
 fn opened_lines(alloc: Global, job: &Job) -> Result<Vec<Lines>, AllocError>
-    ensures { IfOk result (λ lines. map sink_values lines.items ≡ map (λ t. (t, [])) (sinks_of job.now)) }
+    ensures lines { IfOk result (λ lines.
+        map sink_values lines.items ≡ map (λ t. (t, [])) (sinks_of job.now)) }
+    ensures room { IfOk result (λ lines. All (HasRoom job.now) lines.items) }
 {
     let mut lines = Vec::with_capacity(alloc, job.graph().tasks())?;
     for t in 0..job.graph().tasks() {
         if is_sink(job, t) {
-            lines.push(Lines {
-                task: t,
-                values: Vec::new(alloc),
-            })?;
+            lines.push(opened_line(alloc, job, t)?)?;
         }
     }
     Ok(lines)
@@ -35,7 +51,7 @@ impl Machine {
     /// order of their lines.
     ///
     /// It takes memory for a slot of each phase that a phaser may have open, an entry for each
-    /// registration, and the window of each filter.
+    /// registration, the window of each filter, and all values of each sink.
     pub fn new(alloc: Global, job: &Job) -> Result<Machine, AllocError>
         ensures { IfOk result (λ machine. IsMachineAt job.now (opening job.now) machine) }
     {

@@ -1,13 +1,15 @@
 //! The turn of a task, by what it does next.
 ghost use Rattle.std.specs.Prelude.{◌≡◌, ◌<◌, ℕ, true, length, map, slice_get, Some, None, Ok, IfSome, IfOk, OnOk, OnErr};
 ghost use Rattle.std.specs.Prelude.{if◌then◌else◌};
+ghost use Rattle.std.specs.List.{All};
 ghost use Rattle.stream_filters.specs.Range.{ranged};
 ghost use Rattle.graph_moments.specs.Moments.{Moment};
 ghost use Rattle.graph_turns.specs.Answers.{next_value};
 ghost use Rattle.graph_turns.specs.Nexts as turns;
 ghost use Rattle.graph_turns.specs.Nexts.{is_live, number_on};
-ghost use Rattle.graph_worlds.specs.Turning.{IsNextIn, HadTurn, told_of};
+ghost use Rattle.graph_worlds.specs.Turning.{IsNextIn, IsRegistration, HadTurn, told_of};
 ghost use Rattle.graph_worlds.specs.Calls.{told_got, with_line, HasRoomIn};
+ghost use Rattle.stream_lists.specs.Jobs.{Job as JobValue};
 ghost use Rattle.stream_lists.specs.Lists.{is_sink_at};
 ghost use Rattle.stream_eval.specs.Results.{sink_values};
 
@@ -28,14 +30,15 @@ use std::alloc::AllocError;
 use stream_lists::Job;
 
 impl Machine {
-    ghost use Rattle.graph_worlds.specs.Machines.{IsMachine, IsMachineAt, IsLiveIn, next_by};
+    ghost use Rattle.graph_worlds.specs.Machines.{IsMachine, IsMachineAt, IsLiveIn, HasRoom, next_by};
 
     /// Gives a turn to task number `t`: it makes its next call.
     pub fn make(&mut self, job: &Job, t: usize) -> Result<Made, AllocError>
         requires { IsMachine job.now self.old }
         ensures made { IfOk result (λ made. HadTurn job.now self.old self.new t made) }
-        ensures kept { OnErr result ((m : Moment) → IsMachineAt job.now m self.old
-            → IsMachineAt job.now m self.new) }
+        ensures kept { OnErr result (self.new ≡ self.old) }
+        ensures memory { OnErr result ((m : Moment) → IsMachineAt job.now m self.old
+            → IsRegistration (turns.next_of job.now m t)) }
     {
         let step = self.next(job, t);
         if step == Step::NotLive {
@@ -51,8 +54,9 @@ impl Machine {
     fn make_step(&mut self, job: &Job, t: usize, step: Step) -> Result<Made, AllocError>
         requires { IsNextIn job.now self.old t (next_by step) }
         ensures made { IfOk result (λ made. HadTurn job.now self.old self.new t made) }
-        ensures kept { OnErr result ((m : Moment) → IsMachineAt job.now m self.old
-            → IsMachineAt job.now m self.new) }
+        ensures kept { OnErr result (self.new ≡ self.old) }
+        // A registration alone asks for memory.
+        ensures memory { OnErr result (IsRegistration (next_by step)) }
     {
         match step {
             Step::NotLive => Ok(Made::Nothing),
@@ -60,7 +64,7 @@ impl Machine {
             Step::Leave => Ok(self.leave(job, t)),
             Step::Sample => Ok(self.signal_sample(job, t)),
             Step::Signal { output } => Ok(self.signal_owed(job, t, output)),
-            Step::Wait { input } => self.wait_first(job, t, input),
+            Step::Wait { input } => Ok(self.wait_first(job, t, input)),
             Step::Exchange => Ok(self.wait_exchange(job, t)),
         }
     }
@@ -141,32 +145,25 @@ impl Machine {
     }
 
     /// A task waits on this input for its next step.
-    fn wait_first(&mut self, job: &Job, t: usize, k: usize) -> Result<Made, AllocError>
+    fn wait_first(&mut self, job: &Job, t: usize, k: usize) -> Made
         requires { IsNextIn job.now self.old t (turns.waits k) }
-        ensures made { IfOk result (λ made. HadTurn job.now self.old self.new t made) }
-        ensures kept { OnErr result ((m : Moment) → IsMachineAt job.now m self.old
-            → IsMachineAt job.now m self.new) }
+        ensures { HadTurn job.now self.old self.new t result }
     {
         let phaser = input_of(job, t, k);
         let number = self.tasks[t].numbers[k];
         let sink = self.sink_of(job, t);
-        // No run comes to so many steps; one that did would be told as want of memory.
-        if self.tasks[t].begun == u64::MAX {
-            return Err(AllocError);
-        }
-        self.reserve_line(sink)?;
         match self.wait_on(job, phaser, number) {
             Ok(Got::Value { phase, outcome }) => {
                 let x = number_taken(outcome);
                 self.tasks[t].take(job, t, x);
                 self.keep_line(sink, x);
-                Ok(Made::Event {
+                Made::Event {
                     phaser,
                     told: told_wait(phaser, phase, outcome),
-                })
+                }
             }
             Ok(Got::Ended) => unreachable!(),
-            Err(_) => Ok(Made::Blocked { phaser }),
+            Err(_) => Made::Blocked { phaser },
         }
     }
 
@@ -183,24 +180,14 @@ impl Machine {
         None
     }
 
-    /// Asks for room for one more value of a sink.
-    fn reserve_line(&mut self, sink: Option<usize>) -> Result<(), AllocError>
-        requires { IfSome sink (λ i. i < length self.old.lines.items) }
-        ensures lines { map sink_values self.new.lines.items ≡ map sink_values self.old.lines.items }
-        ensures room { OnOk result (IfSome sink (HasRoomIn self.new.lines.items)) }
-        ensures cores { self.new.cores ≡ self.old.cores }
-        ensures tasks { self.new.tasks ≡ self.old.tasks }
-    {
-        let Some(i) = sink else { return Ok(()) };
-        self.lines[i].values.reserve(1)
-    }
-
     /// Keeps a value of a sink, for which there is room.
     fn keep_line(&mut self, sink: Option<usize>, x: i64)
         requires there { IfSome sink (λ i. i < length self.old.lines.items) }
         requires room { IfSome sink (HasRoomIn self.old.lines.items) }
         ensures lines { map sink_values self.new.lines.items
             ≡ with_line sink x (map sink_values self.old.lines.items) }
+        ensures room { (job : JobValue) → All (HasRoom job) self.old.lines.items
+            → All (HasRoom job) self.new.lines.items }
         ensures cores { self.new.cores ≡ self.old.cores }
         ensures tasks { self.new.tasks ≡ self.old.tasks }
     {
@@ -237,17 +224,15 @@ impl Machine {
     fn register_child(&mut self, job: &Job, t: usize, c: usize) -> Result<Made, AllocError>
         requires { IsNextIn job.now self.old t (turns.registers c) }
         ensures made { IfOk result (λ made. HadTurn job.now self.old self.new t made) }
-        ensures kept { OnErr result ((m : Moment) → IsMachineAt job.now m self.old
-            → IsMachineAt job.now m self.new) }
+        ensures kept { OnErr result (self.new ≡ self.old) }
     {
         let _all = job.graph().registrations(c);
         let made = self.tasks[c].numbers.len();
         let registration = job.graph().registration(c, made);
         let phaser = registration.phaser;
         let parent = self.number_on(job, t, phaser);
-        // No run uses so many numbers; one that did would be told as want of memory.
         let Some(number) = self.core(job, phaser).next_number() else {
-            return Err(AllocError);
+            unreachable!()
         };
         let refusal = match self.register_on(job, phaser, parent, number, registration.mode) {
             Ok(()) => {

@@ -51,13 +51,14 @@ impl<'a> Model for World<'a> {
 impl<'a> World<'a> {
     ghost use Rattle.graph_worlds.specs.Machines.{next_by};
     ghost use Rattle.graph_worlds.specs.Worlds.{IsWorldAt};
-    ghost use Rattle.graph_worlds.specs.Turning.{told_of, met_by, after_turn_of, parked_by};
+    ghost use Rattle.graph_worlds.specs.Turning.{told_of, met_by, after_turn_of, parked_by, IsRegistration};
 
     /// Makes a run of a job at its opening: on each phaser a founder has registered the tasks
     /// without a parent, in the order of their lines, as 1, 2, .., and has left.
     ///
     /// It takes memory for a slot of each phase that a phaser may have open, an entry for each
-    /// registration, the window of each filter, and a list for each sink and each phaser.
+    /// registration, the window of each filter, a list for each phaser, and all values that each sink
+    /// takes where the run comes to its end, 8 bytes for a value.
     pub fn new(alloc: Global, job: &'a Job) -> Result<World<'a>, AllocError>
         ensures job { IfOk result (λ world. world.job ≡ job.now) }
         ensures opening { IfOk result (λ world. IsWorldAt world (opening job.now)) }
@@ -117,8 +118,8 @@ impl<'a> World<'a> {
     /// Gives a turn to task number `task`: it makes its next call, or tells why it makes none. After
     /// a value out of range each turn tells it again, and does nothing.
     ///
-    /// A child's registration and a sink's wait may ask for memory. Where there is none, the task has
-    /// made no call, and the turn can be given again.
+    /// A child's registration may ask for memory, and no other call does. Where there is none, the
+    /// world is as it was, and the turn can be given again.
     pub fn turn(&mut self, task: usize) -> Result<Turned, AllocError>
         ensures table { IfOk result (λ told. (m : Moment) → IsWorldAt self.old m
             → turn_tells self.old.job self.old.met m task ≡ Some (told_of told)) }
@@ -128,9 +129,9 @@ impl<'a> World<'a> {
         ensures parked { OnOk result ((m : Moment) → IsWorldAt self.old m
             → self.new.parked ≡ parked_by self.old m task) }
         ensures job { self.new.job ≡ self.old.job }
-        ensures kept { OnErr result ((m : Moment) → IsWorldAt self.old m → IsWorldAt self.new m) }
-        ensures err { OnErr result ((self.new.met ≡ self.old.met)
-            × (self.new.parked ≡ self.old.parked)) }
+        ensures err { OnErr result (self.new ≡ self.old) }
+        ensures memory { OnErr result ((m : Moment) → IsWorldAt self.old m
+            → IsRegistration (next_of self.old.job m task)) }
     {
         if let Some((place, phase)) = self.met {
             return Ok(Turned::TooBig { place, phase });

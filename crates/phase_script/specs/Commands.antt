@@ -143,7 +143,7 @@ single_of text =
     else if bytes_eq text (codes "halve") then Some Halve
     else (rest text >>= clamp_after (word text))
 
--- the command whose words after the first are in the text, for each first word
+-- a phaser with the operation, the bound and the phases in the text
 unfoldable pub make_of : List ℕ → Option WholeCommand
 make_of text = do
   operation ← operation_of (word text)
@@ -153,6 +153,7 @@ make_of text = do
   phases ← nat_of last
   Some (Make operation bound phases)
 
+-- a child of the task, under the number and in the mode in the text
 unfoldable pub add_of : List ℕ → Option WholeCommand
 add_of text = do
   parent ← nat_of (word text)
@@ -162,6 +163,7 @@ add_of text = do
   mode ← mode_of last
   Some (Add parent child mode)
 
+-- a child that waits from now on, under the number in the text
 unfoldable pub now_of : List ℕ → Option WholeCommand
 now_of text = do
   parent ← nat_of (word text)
@@ -169,6 +171,7 @@ now_of text = do
   child ← nat_of last
   Some (Now parent child)
 
+-- the send of the value in the text
 unfoldable pub send_of : List ℕ → Option WholeCommand
 send_of text = do
   task ← nat_of (word text)
@@ -183,6 +186,7 @@ signal_with task (Some text) = do
   single ← single_of text
   Some (Signal task (Some single))
 
+-- the signal of the task in the text
 unfoldable pub signal_of : List ℕ → Option WholeCommand
 signal_of text = do
   task ← nat_of (word text)
@@ -206,6 +210,7 @@ values_of text = do
   values ← ints_of (words_of text)
   few_values values
 
+-- the block of the task and the values in the text
 unfoldable pub block_of : List ℕ → Option WholeCommand
 block_of text = do
   task ← nat_of (word text)
@@ -218,6 +223,7 @@ unfoldable pub take_with : ℕ → ℕ → Option WholeCommand
 take_with task phases =
     if nat_le 1 phases && nat_le phases VALUES_MAX then Some (Take task phases) else None
 
+-- the take of the task and the phases in the text
 unfoldable pub take_of : List ℕ → Option WholeCommand
 take_of text = do
   task ← nat_of (word text)
@@ -225,11 +231,13 @@ take_of text = do
   phases ← nat_of last
   take_with task phases
 
+-- the wait of the task in the text
 unfoldable pub wait_of : List ℕ → Option WholeCommand
 wait_of text = do
   task ← nat_of text
   Some (Wait task)
 
+-- the drop of the task in the text
 unfoldable pub drop_of : List ℕ → Option WholeCommand
 drop_of text = do
   task ← nat_of text

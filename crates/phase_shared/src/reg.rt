@@ -20,9 +20,11 @@ use std::marker::Model;
 /// that it holds until its next signal; and, in proofs alone, the history that it has seen. Each
 /// call makes that history longer, by what the others did meanwhile and by its own event.
 ///
-/// **Calls.** Each call names the phaser that the registration is on. The calls that begin with
-/// `try_` answer at once, `Busy` where another registration is in the middle of a call. The others
-/// wait until they have an answer that more waiting would not change.
+/// **Calls.** A call on the phaser names it. The calls that take a `Wait` wait until they have an
+/// answer that more waiting would not change. The others answer at once, and those that begin with
+/// `try_` answer `Busy` where another registration is in the middle of a call.
+///
+/// **Memory.** `register`, `try_register`, `register_now` and `try_register_now` alone take memory.
 ///
 /// **End.** It cannot be thrown away. `leave` and `try_leave` end it, and give a `Past`.
 ///

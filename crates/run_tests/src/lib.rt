@@ -3,7 +3,15 @@
 #![tactic(auto)]
 
 #[cfg(test)]
+mod children;
+#[cfg(test)]
+mod gates;
+#[cfg(test)]
+mod jobs;
+#[cfg(test)]
 mod pools;
+#[cfg(test)]
+mod random_graphs;
 #[cfg(test)]
 mod runs;
 #[cfg(test)]

@@ -6,7 +6,7 @@ use crate::endings::dismiss_all;
 use crate::slot::{Place, Slot};
 use graph_openings::Founder;
 use graph_steps::parent_of;
-use graph_tasks::{Gate, Run, Seed, Task};
+use graph_tasks::{Gate, Run, Task, Unborn};
 use std::alloc::{AllocError, Global};
 use std::sync::Wait;
 use stream_lists::Job;
@@ -27,10 +27,7 @@ fn open_place<'a, J: Run, W: Wait>(
     ensures founders { AreFounders job.now J.spots founders.new }
 {
     let None = parent_of(job, t) else {
-        return match Seed::new(alloc, job, t) {
-            Ok(seed) => Ok(Place::Seed(seed)),
-            Err(fault) => Err(fault),
-        };
+        return Ok(Place::Unborn(Unborn::new(alloc, job, t)?));
     };
     match Task::found(rt, alloc, job, founders, t) {
         Ok(task) => Ok(Place::Task(task)),

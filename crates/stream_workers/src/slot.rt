@@ -2,7 +2,7 @@
 ghost use Rattle.std.specs.Prelude.{◌≡◌, IfOk, IfSome};
 ghost use Rattle.graph_tasks.specs.Ends.{IsEnded};
 
-use graph_tasks::{Ended, Gate, Run, Seed, Task};
+use graph_tasks::{Ended, Gate, Run, Task, Unborn};
 use std::mem;
 use std::sync::Wait;
 use worker_pool::{Fault, Turned, Work};
@@ -14,8 +14,8 @@ pub enum Place<'a, J: Run> {
     /// A task that was born.
     Task(Task<'a, J>),
     /// A child that its parent has not registered.
-    Seed(Seed<'a>),
-    /// A seed that was taken out.
+    Unborn(Unborn<'a, J>),
+    /// One that was taken out.
     Empty,
 }
 
@@ -36,9 +36,9 @@ impl<'a, J: Run> Place<'a, J> {
     // Makes the task of a child that its parent has registered.
     fn become_child(&mut self, parent: &mut Task<'a, J>) -> bool {
         let (place, is_child) = match self.take() {
-            Place::Seed(seed) => match parent.deliver(seed) {
+            Place::Unborn(unborn) => match parent.deliver(unborn) {
                 Ok(task) => (Place::Task(task), true),
-                Err(seed) => (Place::Seed(seed), false),
+                Err(unborn) => (Place::Unborn(unborn), false),
             },
             other => (other, false),
         };
@@ -52,7 +52,7 @@ impl<'a, J: Run> Place<'a, J> {
     pub fn dismiss<W: Wait>(self, rt: &W) {
         match self {
             Place::Task(task) => task.dismiss(rt),
-            Place::Seed(seed) => seed.dismiss(rt),
+            Place::Unborn(unborn) => unborn.dismiss(rt),
             Place::Empty => {}
         }
     }
@@ -70,8 +70,8 @@ impl<'a, J: Run> Place<'a, J> {
                     Err(Fault::Stalled)
                 }
             },
-            Place::Seed(seed) => {
-                seed.dismiss(rt);
+            Place::Unborn(unborn) => {
+                unborn.dismiss(rt);
                 Ok(None)
             }
             Place::Empty => Ok(None),

@@ -96,9 +96,9 @@ fn run_named<'a, J: Run + Send + Sync, G: Gate + Sync, R: Threads + Wait + Sync>
 /// Runs a job by so many worker threads, of which the caller's is one, and gives the values of each
 /// sink in the order of the lines. The gate is called once a step, as a worker enters it.
 ///
-/// It takes memory for the phasers, the tasks and the sinks' values, and waits. `Stalled` is said
-/// where every task that is left waits for another, and where a task has to register a child, which
-/// is not built yet; nothing is promised of it. It is not promised that a run comes back.
+/// It takes memory for the phasers, the tasks, their registrations and the sinks' values, and waits.
+/// `Stalled` is said where every task that is left waits for another; nothing is promised of it. It
+/// is not promised that a run comes back.
 pub fn run<R: Threads + Wait + Sync, G: Gate + Sync>(
     rt: &R,
     alloc: Global,

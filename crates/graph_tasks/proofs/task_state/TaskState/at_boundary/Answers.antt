@@ -1,4 +1,4 @@
--- No child comes first, and `until` allows a step.
+-- `until` allows a step or not.
 use Rattle.std.proofs.Common.{◌≡◌, true, false, ℕ, sym, subst, ap, ◌∙◌}
 use Rattle.graph_base.specs.Graphs.{task_at}
 use Rattle.graph_turns.specs.Nexts.{is_cut}
@@ -8,9 +8,6 @@ use Rattle.graph_tasks.specs.Tasks.{MayStep, place_of}
 use Rattle.graph_tasks.proofs.Ending.{at_end, all_now}
 use Rattle.graph_tasks.proofs.task_state.TaskState.at_boundary.Goals as goal
 
-pub returns-then-is_child_due : goal.returns-then-is_child_due
-returns-then-is_child_due g c = λ spots task. c.meet.ensures.keeps c.args.job.now spots task.whole
-
 pub returns-then-is_cut : goal.returns-then-is_cut
 returns-then-is_cut g c = λ spots task.
     let s = c.args.self.now in
@@ -18,7 +15,7 @@ returns-then-is_cut g c = λ spots task.
     let cut : is_cut (task_at job.graph s.number).until s.begun ≡ true =
     ap (λ u. is_cut u s.begun) (sym c.until_of.ensures) ∙ sym c.is_cut.ensures ∙ c.if-is_cut.true in
     at_end job spots s c.requires.met c.requires.owed
-    (all_now job s task.whole (c.is_child_due.ensures c.if-is_child_due.false))
+    (all_now job s task.whole c.requires.children)
     (λ m at. ended_cut job m s.number (place_of s) task.whole.there at.part at.place
     (ap owed_of c.requires.owed) cut) task
 
@@ -33,7 +30,7 @@ put_sample-requires-clause-step g c =
       over = c.requires.over;
       owed = c.requires.owed;
       uncut = ap (λ u. is_cut u s.begun) (sym c.until_of.ensures) ∙ sym c.is_cut.ensures ∙ c.if-is_cut.false;
-      children = all_now job s c.requires.task.1.whole (c.is_child_due.ensures c.if-is_child_due.false);
+      children = all_now job s c.requires.task.1.whole c.requires.children;
     } in
     step
 
@@ -48,6 +45,6 @@ first_wait-requires-clause-step g c =
       over = c.requires.over;
       owed = c.requires.owed;
       uncut = ap (λ u. is_cut u s.begun) (sym c.until_of.ensures) ∙ sym c.is_cut.ensures ∙ c.if-is_cut.false;
-      children = all_now job s c.requires.task.1.whole (c.is_child_due.ensures c.if-is_child_due.false);
+      children = all_now job s c.requires.task.1.whole c.requires.children;
     } in
     step

@@ -1,6 +1,9 @@
 -- No turn is refused, and turns lead to moments that are reached.
-use Rattle.std.proofs.Common.{subst}
+use Rattle.std.proofs.Common.{sym, subst}
 use Rattle.phase_accum.specs.Sends.{AreSends}
+use Rattle.graph_worlds.specs.Turning.{IsRegistration}
+use Rattle.graph_worlds.proofs.Numbering.{few_after}
+use Rattle.graph_worlds.proofs.Setting.{on_err}
 use Rattle.graph_worlds.proofs.machine.Machine.make.Goals as goal
 
 pub make_step-requires : goal.make_step-requires
@@ -11,6 +14,13 @@ make_step-requires c =
       some = c.requires;
       is = c.next-step.ensures;
       stays = λ m at. c.turns_stay_reached.ensures.turn job m c.args.t at.graph at.reached;
+      few = λ m at. few_after job m c.args.t at.graph at.reached at.few;
       answered = λ m at.
           c.no_turn_is_refused.ensures.answered job m c.args.t at.graph sends at.reached;
     }
+
+-- What is next at one moment is next at each.
+pub returns-clause-memory : goal.returns-clause-memory
+returns-clause-memory c =
+    on_err c.make_step.result (λ register m at.
+    subst IsRegistration (sym (c.next-step.ensures m at)) register) c.make_step.ensures.memory

@@ -11,7 +11,8 @@ use Rattle.phase_history.specs.Histories.{greatest_used}
 use Rattle.graph_worlds.specs.declared.task_state.TaskState.{TaskState}
 use Rattle.graph_worlds.proofs.Lively.{live_next}
 use Rattle.graph_worlds.proofs.Setting.{read_same, set_read}
-use Rattle.graph_worlds.proofs.Children.{child_below, child_at, child_turn, refused_child, next_is, room_for_child, kept_cores, with_numbers}
+use Rattle.graph_worlds.proofs.Children.{child_below, child_at, child_turn, refused_child, next_is, room_for_child, with_numbers}
+use Rattle.graph_worlds.proofs.Numbering.{number_left}
 use Rattle.graph_worlds.proofs.machine.Machine.register_child.Goals as goal
 
 pub registration-registration-requires-clause-number :
@@ -82,6 +83,27 @@ push_reserved-requires c =
 pub unreachable-requires : goal.unreachable-requires
 unreachable-requires c =
     let job = c.args.job.now in
+    let m = c.requires.some.0 in
+    let at = c.requires.some.1 in
+    let p = c.registration-registration.result.phaser in
+    let lt = child_below job c.args.self.now c.args.t c.args.c c.requires in
+    let found = slice_get_read c.args.self.now.tasks.items (length c.args.self.now.tasks.items)
+    c.args.c c.index.result.now refl lt c.index.ensures in
+    let reg : c.registration-registration.result
+    ≡ registration_at job c.args.c (length c.index.result.now.numbers.items) =
+    c.registration-registration.ensures
+    ∙ ap (λ g. get_or (registrations_of g (task_at g c.args.c)) c.len-made.result no_registration)
+    c.graph-2.ensures.graph ∙ ap (registration_at job c.args.c) c.len-made.ensures.value in
+    let there : p < length job.graph.phasers =
+    subst (λ q. q < length job.graph.phasers) (sym (ap (λ (r : Registration). r.phaser) reg))
+    (child_at job c.args.self.now m c.args.t c.args.c c.index.result.now c.requires at found).phaser in
+    number_left job m c.args.self.now p c.next_number.result at there
+    (c.next_number.ensures (phaser_at job.graph p).op (limits_at job p) (m.history p)
+    (c.core.ensures m at)) c.in_default.is
+
+pub unreachable-requires-in_default-refusal : goal.unreachable-requires-in_default-refusal
+unreachable-requires-in_default-refusal c =
+    let job = c.args.job.now in
     let lt = child_below job c.args.self.now c.args.t c.args.c c.requires in
     let found = slice_get_read c.args.self.now.tasks.items (length c.args.self.now.tasks.items)
     c.args.c c.index.result.now refl lt c.index.ensures in
@@ -138,8 +160,3 @@ returns-in-Ok-clause-made c =
     c.register_on.new.self.tasks.items c.args.c c.index.result.now c.index_mut.result.now tasks lt
     c.index.ensures c.index_mut.ensures.value)
     c.register_on.ensures.lines
-
-pub returns-clause-kept : goal.returns-clause-kept
-returns-clause-kept c = λ m at.
-    kept_cores c.args.job.now m c.args.self.now c.register_on.new.self at
-    (c.in-Err.ensures.kept m at) c.register_on.ensures.tasks c.register_on.ensures.lines

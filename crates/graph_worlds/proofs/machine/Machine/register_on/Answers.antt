@@ -1,9 +1,10 @@
 -- The core of the phaser is set, and the others stay.
-use Rattle.std.proofs.Common.{◌∷◌}
+use Rattle.std.proofs.Common.{◌∷◌, ◌≡◌, ◌<◌, length, sym, ap, ◌∙◌, arith}
+use Rattle.std.specs.Vec.{with_item}
 use Rattle.phase_history.specs.declared.event.Event.TheVariants.{Registered}
 use Rattle.graph_base.specs.Graphs.{phaser_at}
 use Rattle.graph_moments.specs.Moments.{limits_at}
-use Rattle.graph_worlds.proofs.Setting.{set_core, lent_core, on_ok, if_err}
+use Rattle.graph_worlds.proofs.Setting.{set_core, lent_core, on_ok, on_err, if_err, same_item}
 use Rattle.graph_worlds.proofs.machine.Machine.register_on.Goals as goal
 
 pub returns-clause-refused : goal.returns-clause-refused
@@ -32,3 +33,14 @@ returns-clause-cores c =
     (m.history c.args.p) (lent_core c.args.job.now m.history c.args.self.now.cores.items c.args.p
     c.index_mut.result.now at.cores c.requires.phaser c.index_mut.ensures.value)))
     c.register.ensures.after
+
+-- a core that took no child is as it was
+pub returns-clause-kept : goal.returns-clause-kept
+returns-clause-kept c =
+    on_err c.register.result (λ same.
+    ap (with_item c.args.self.now.cores c.args.p) same
+    ∙ same_item c.args.self.now.cores c.args.p c.index_mut.result.now
+    (let many : length c.args.self.now.cores.items ≡ length c.args.job.now.graph.phasers =
+    c.requires.machine.1.cores.many in
+    let there = c.requires.phaser in omega arith) c.index_mut.ensures.value)
+    c.register.ensures.err

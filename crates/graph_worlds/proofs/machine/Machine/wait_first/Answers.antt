@@ -1,6 +1,8 @@
 -- A task waits as the number that stands at the registration of its input.
-use Rattle.std.proofs.Common.{rules, SFits, w64, ◌≡◌, length, get_or, map, set, refl, sym, ap, subst, ◌∙◌, arith, to_z-of_z}
-use Rattle.std.specs.Prelude.{Ok}
+use Rattle.std.proofs.Common.{rules, SFits, w64, ◌≡◌, ◌<◌, ◌≤◌, length, get_or, map, set, refl, sym, ap, subst, ◌∙◌, arith, to_z-of_z}
+use Rattle.std.specs.Prelude.{Ok, IfSome}
+use Rattle.std.specs.List.{All}
+use Rattle.phase_base.specs.declared.limits.TheConstants.{PHASES_MAX}
 use Rattle.std.proofs.lemmas.Option.{slice_get_read}
 use Rattle.phase_history.specs.Replies.{after_wait}
 use Rattle.stream_eval.specs.Results.{sink_values}
@@ -10,13 +12,14 @@ use Rattle.graph_base.specs.Graphs.{task_at}
 use Rattle.graph_turns.specs.Nexts.{waits}
 use Rattle.graph_moves.specs.Turned.{with_at}
 use Rattle.graph_steps.specs.Steps.{HasFilter}
-use Rattle.graph_worlds.specs.Calls.{with_line}
+use Rattle.graph_worlds.specs.Calls.{with_line, HasRoomIn}
 use Rattle.graph_worlds.specs.Places.{HasTakenOne}
-use Rattle.graph_worlds.specs.Machines.{HasCores}
+use Rattle.graph_worlds.specs.Machines.{HasCores, HasRoom}
 use Rattle.graph_worlds.proofs.Lively.{has_state}
-use Rattle.graph_worlds.proofs.Events.{unchanged}
 use Rattle.graph_worlds.proofs.Setting.{read_same}
-use Rattle.graph_worlds.proofs.Waits.{first_waits_at, first_turn, blocked_first, first_never_ended, with_room, sink_there, more_there, always_err}
+use Rattle.graph_worlds.proofs.Begun.{begun_few}
+use Rattle.graph_worlds.proofs.Rooms.{sink_room}
+use Rattle.graph_worlds.proofs.Waits.{first_waits_at, first_answer, first_turn, blocked_first, first_never_ended, sink_there}
 use Rattle.graph_worlds.proofs.machine.Machine.wait_first.Goals as goal
 
 pub bounds-deref-k : goal.bounds-deref-k
@@ -30,34 +33,30 @@ bounds-deref-k c =
     ap length c.deref.ensures in
     omega arith
 
-pub reserve_line-requires : goal.reserve_line-requires
-reserve_line-requires c =
+pub take-requires-clause-begun : goal.take-requires-clause-begun
+take-requires-clause-begun c =
     let lt = has_state c.args.job.now c.args.self.now c.args.t (waits c.args.k) c.requires (λ e. (cc)) in
     let found = slice_get_read c.args.self.now.tasks.items (length c.args.self.now.tasks.items)
     c.args.t c.index.result.now refl lt c.index.ensures in
-    sink_there c.args.job.now c.args.self.now c.requires.some.0 c.args.t c.index.result.now
-    c.sink_of-sink.result c.requires.some.1 found (c.sink_of-sink.ensures c.index.result.now found)
-
-pub returns-in_err-reserve_line-clause-kept : goal.returns-in_err-reserve_line-clause-kept
-returns-in_err-reserve_line-clause-kept c =
-    always_err c.from_residual.result
-    (λ m at. with_room c.args.job.now m c.args.self.now c.reserve_line.new.self at
-    c.reserve_line.ensures.cores c.reserve_line.ensures.tasks c.reserve_line.ensures.lines)
-
-pub wait_on-requires-clause-machine : goal.wait_on-requires-clause-machine
-wait_on-requires-clause-machine c = (
-  c.requires.some.0,
-  with_room c.args.job.now c.requires.some.0 c.args.self.now c.reserve_line.new.self
-      c.requires.some.1 c.reserve_line.ensures.cores c.reserve_line.ensures.tasks
-      c.reserve_line.ensures.lines,
-)
+    let it = read_same c.args.self.now.tasks.items c.args.t c.index.result.now
+    c.index_mut.result.now lt c.index.ensures
+    (c.index_mut.ensures.value
+    ∙ ap (λ v. get_or v.items c.args.t c.index_mut.result.now) c.wait_on.ensures.tasks) in
+    let m = c.requires.some.0 in
+    let at = c.requires.some.1 in
+    let few : m.begun c.args.t ≤ PHASES_MAX =
+    begun_few c.args.job.now m c.args.t c.args.k at.graph at.reached.ran (c.requires.is m at) in
+    let same : m.begun c.args.t ≡ c.index.result.now.begun =
+    (at.tasks c.args.t c.index.result.now found).stands.begun in
+    let read : c.index.result.now.begun ≡ c.index_mut.result.now.begun = ap (λ s. s.begun) it in
+    omega arith
 
 pub take-requires-clause-filter : goal.take-requires-clause-filter
 take-requires-clause-filter c =
     let lt = has_state c.args.job.now c.args.self.now c.args.t (waits c.args.k) c.requires (λ e. (cc)) in
     let found = slice_get_read c.args.self.now.tasks.items (length c.args.self.now.tasks.items)
     c.args.t c.index.result.now refl lt c.index.ensures in
-    let tasks = ap (λ v. v.items) (c.wait_on.ensures.tasks ∙ c.reserve_line.ensures.tasks) in
+    let tasks = ap (λ v. v.items) c.wait_on.ensures.tasks in
     let it = read_same c.args.self.now.tasks.items c.args.t c.index.result.now
     c.index_mut.result.now lt c.index.ensures
     (c.index_mut.ensures.value ∙ ap (λ xs. get_or xs c.args.t c.index_mut.result.now) tasks) in
@@ -72,10 +71,26 @@ keep_line-requires-clause-there c =
     let lt = has_state c.args.job.now c.args.self.now c.args.t (waits c.args.k) c.requires (λ e. (cc)) in
     let found = slice_get_read c.args.self.now.tasks.items (length c.args.self.now.tasks.items)
     c.args.t c.index.result.now refl lt c.index.ensures in
-    more_there c.args.self.now.lines.items c.wait_on.new.self.lines.items c.sink_of-sink.result
-    (ap (λ l. map sink_values l.items) c.wait_on.ensures.lines ∙ c.reserve_line.ensures.lines)
+    subst (λ l. IfSome c.sink_of-sink.result (λ i. i < length l.items)) (sym c.wait_on.ensures.lines)
     (sink_there c.args.job.now c.args.self.now c.requires.some.0 c.args.t c.index.result.now
     c.sink_of-sink.result c.requires.some.1 found (c.sink_of-sink.ensures c.index.result.now found))
+
+pub keep_line-requires-clause-room : goal.keep_line-requires-clause-room
+keep_line-requires-clause-room c =
+    let lt = has_state c.args.job.now c.args.self.now c.args.t (waits c.args.k) c.requires (λ e. (cc)) in
+    let found = slice_get_read c.args.self.now.tasks.items (length c.args.self.now.tasks.items)
+    c.args.t c.index.result.now refl lt c.index.ensures in
+    let m = c.requires.some.0 in
+    let at = c.requires.some.1 in
+    subst (λ l. IfSome c.sink_of-sink.result (HasRoomIn l.items)) (sym c.wait_on.ensures.lines)
+    (sink_room c.args.job.now c.args.self.now m c.args.t c.args.k c.input_of-phaser.result
+    (get_or c.deref.result.now c.args.k 0) c.in-Ok-Value.outcome c.index.result.now
+    c.sink_of-sink.result c.requires at found (c.sink_of-sink.ensures c.index.result.now found)
+    (first_answer c.args.job.now c.args.self.now m c.args.t c.args.k
+    (get_or c.deref.result.now c.args.k 0) c.input_of-phaser.result c.in-Ok-Value.phase
+    c.in-Ok-Value.outcome c.index.result.now c.requires at found c.input_of-phaser.ensures.phaser
+    (ap (λ ns. get_or ns c.args.k 0) c.deref.ensures)
+    (c.in-Ok-Value.ensures.reply m at ∙ ap (λ g. Ok g) c.in-Ok-Value.field-0-is)))
 
 pub unreachable-requires : goal.unreachable-requires
 unreachable-requires c =
@@ -85,17 +100,14 @@ unreachable-requires c =
     first_never_ended c.args.job.now c.args.self.now c.args.t c.args.k
     (get_or c.deref.result.now c.args.k 0) c.input_of-phaser.result c.index.result.now c.requires
     found c.input_of-phaser.ensures.phaser (ap (λ ns. get_or ns c.args.k 0) c.deref.ensures)
-    (λ m at. c.in-Ok-Ended.ensures.reply m
-    (with_room c.args.job.now m c.args.self.now c.reserve_line.new.self at
-    c.reserve_line.ensures.cores c.reserve_line.ensures.tasks c.reserve_line.ensures.lines)
-    ∙ ap (λ g. Ok g) c.in-Ok-Ended.field-0-is)
+    (λ m at. c.in-Ok-Ended.ensures.reply m at ∙ ap (λ g. Ok g) c.in-Ok-Ended.field-0-is)
 
-pub returns-in-Ok-Value-clause-made : goal.returns-in-Ok-Value-clause-made
-returns-in-Ok-Value-clause-made c =
+pub returns-in-Ok-Value : goal.returns-in-Ok-Value
+returns-in-Ok-Value c =
     let lt = has_state c.args.job.now c.args.self.now c.args.t (waits c.args.k) c.requires (λ e. (cc)) in
     let found = slice_get_read c.args.self.now.tasks.items (length c.args.self.now.tasks.items)
     c.args.t c.index.result.now refl lt c.index.ensures in
-    let tasks = ap (λ v. v.items) (c.wait_on.ensures.tasks ∙ c.reserve_line.ensures.tasks) in
+    let tasks = ap (λ v. v.items) c.wait_on.ensures.tasks in
     let it = read_same c.args.self.now.tasks.items c.args.t c.index_mut.result.now
     c.index.result.now lt
     (c.index_mut.ensures.value ∙ ap (λ xs. get_or xs c.args.t c.index_mut.result.now) tasks)
@@ -112,10 +124,7 @@ returns-in-Ok-Value-clause-made c =
     (subst (λ x. HasTakenOne (task_at c.args.job.now.graph c.args.t) x c.index_mut.result.now
     c.take.new.self) number c.take.ensures))
     (c.sink_of-sink.ensures c.index.result.now found)
-    (λ m at. c.in-Ok-Value.ensures.reply m
-    (with_room c.args.job.now m c.args.self.now c.reserve_line.new.self at
-    c.reserve_line.ensures.cores c.reserve_line.ensures.tasks c.reserve_line.ensures.lines)
-    ∙ ap (λ g. Ok g) c.in-Ok-Value.field-0-is)
+    (λ m at. c.in-Ok-Value.ensures.reply m at ∙ ap (λ g. Ok g) c.in-Ok-Value.field-0-is)
     (λ m at. subst (λ v. HasCores c.args.job.now (with_at c.input_of-phaser.result
     (after_wait (Ok (got.Value c.in-Ok-Value.phase c.in-Ok-Value.outcome))
     (get_or c.deref.result.now c.args.k 0) (m.history c.input_of-phaser.result))
@@ -123,32 +132,25 @@ returns-in-Ok-Value-clause-made c =
     (subst (λ g. HasCores c.args.job.now (with_at c.input_of-phaser.result
     (after_wait (Ok g) (get_or c.deref.result.now c.args.k 0)
     (m.history c.input_of-phaser.result)) m.history) c.wait_on.new.self.cores.items)
-    c.in-Ok-Value.field-0-is (c.in-Ok-Value.ensures.cores m
-    (with_room c.args.job.now m c.args.self.now c.reserve_line.new.self at
-    c.reserve_line.ensures.cores c.reserve_line.ensures.tasks c.reserve_line.ensures.lines))))
+    c.in-Ok-Value.field-0-is (c.in-Ok-Value.ensures.cores m at)))
     (ap (λ v. v.items) c.keep_line.ensures.tasks
     ∙ ap (λ xs. set xs c.args.t c.take.new.self) tasks)
     (c.keep_line.ensures.lines
     ∙ ap (λ x. with_line c.sink_of-sink.result x (map sink_values c.wait_on.new.self.lines.items))
     number
     ∙ ap (with_line c.sink_of-sink.result (number_of c.in-Ok-Value.outcome))
-    (ap (λ l. map sink_values l.items) c.wait_on.ensures.lines ∙ c.reserve_line.ensures.lines))
+    (ap (λ l. map sink_values l.items) c.wait_on.ensures.lines))
+    (λ all. c.keep_line.ensures.room c.args.job.now
+    (subst (λ l. All (HasRoom c.args.job.now) l.items) (sym c.wait_on.ensures.lines) all))
     c.told_wait.ensures
 
-pub returns-in-Err-clause-made : goal.returns-in-Err-clause-made
-returns-in-Err-clause-made c =
+pub returns-in-Err : goal.returns-in-Err
+returns-in-Err c =
     let lt = has_state c.args.job.now c.args.self.now c.args.t (waits c.args.k) c.requires (λ e. (cc)) in
     let found = slice_get_read c.args.self.now.tasks.items (length c.args.self.now.tasks.items)
     c.args.t c.index.result.now refl lt c.index.ensures in
     blocked_first c.args.job.now c.args.self.now c.wait_on.new.self c.args.t c.args.k
     (get_or c.deref.result.now c.args.k 0) c.input_of-phaser.result c.index.result.now
     c.in-Err.field-0 c.requires found c.input_of-phaser.ensures.phaser
-    (ap (λ ns. get_or ns c.args.k 0) c.deref.ensures)
-    (λ m at. c.in-Err.ensures.reply m
-    (with_room c.args.job.now m c.args.self.now c.reserve_line.new.self at
-    c.reserve_line.ensures.cores c.reserve_line.ensures.tasks c.reserve_line.ensures.lines))
-    (λ m at.
-    let mid = with_room c.args.job.now m c.args.self.now c.reserve_line.new.self at
-    c.reserve_line.ensures.cores c.reserve_line.ensures.tasks c.reserve_line.ensures.lines in
-    unchanged c.args.job.now m c.reserve_line.new.self c.wait_on.new.self c.input_of-phaser.result
-    mid (c.in-Err.ensures.cores m mid) c.wait_on.ensures.tasks c.wait_on.ensures.lines)
+    (ap (λ ns. get_or ns c.args.k 0) c.deref.ensures) c.in-Err.ensures.reply c.in-Err.ensures.cores
+    c.wait_on.ensures.tasks c.wait_on.ensures.lines

@@ -1,7 +1,7 @@
 use Rattle.std.proofs.Common.{◌≤◌, length}
 use Rattle.std.specs.List.{All}
 use Rattle.phase_accum.specs.Sends.{AreSends}
-use Rattle.run_tests.proofs.runs.job_of.Given as goal
+use Rattle.run_tests.proofs.jobs.job_of.Given as goal
 
 -- the lists read so far are those of a job
 abbrev pub invariant-loop-text : goal.invariant-loop-text

@@ -1,7 +1,7 @@
 use Rattle.std.proofs.Common.{arith, ◌≤◌, length, ap}
 use Rattle.std.proofs.lemmas.List.Elements.{All-push}
 use Rattle.phase_accum.specs.Sends.{AreSends}
-use Rattle.run_tests.proofs.runs.job_of.Goals as goal
+use Rattle.run_tests.proofs.jobs.job_of.Goals as goal
 
 -- one more list
 pub loop-text-preserved : goal.loop-text-preserved

@@ -3,7 +3,7 @@ use Rattle.std.proofs.Common.{◌≡◌, ◌<◌, ◌≤◌, ℕ, length, Some}
 use Rattle.std.specs.Prelude.{slice_get}
 use Rattle.graph_turns.specs.Nexts.{registrations_at}
 use Rattle.graph_tasks.specs.declared.child.Child.{Child}
-use Rattle.graph_tasks.proofs.task_state.TaskState.is_child_due.Given as goal
+use Rattle.graph_tasks.proofs.task_state.TaskState.first_missing.Given as goal
 
 abbrev pub invariant-loop-i : goal.invariant-loop-i
 invariant-loop-i l = (i : ℕ) (child : Child) → i < l.i

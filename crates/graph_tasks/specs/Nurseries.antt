@@ -1,0 +1,100 @@
+-- A child while its parent registers it: the parent's moment serves both.
+use Rattle.std.specs.Prelude.{◌≡◌, ℕ, ◌+◌, ◌<◌, ◌≤◌, List, [], ◌∷◌, ◌++◌, slice_set, length, get_or, slice_get, Option, Some, None, false}
+use Rattle.phase_base.specs.declared.mode.Mode.{Mode}
+use Rattle.phase_history.specs.declared.event.Event.{Event}
+use Rattle.phase_history.specs.declared.event.Event.TheVariants.{Registered}
+use Rattle.phase_history.specs.Histories.{History}
+use Rattle.stream_lists.specs.Jobs.{Job}
+use Rattle.graph_moments.specs.Moments.{Moment}
+use Rattle.graph_members.specs.Members.{Spot}
+use Rattle.graph_members.specs.AnyMembers.{member_in, member_op}
+use Rattle.graph_members.specs.declared.any_member.AnyMember.{AnyMember}
+use Rattle.graph_base.specs.declared.registration.Registration.{Registration}
+use Rattle.graph_turns.specs.Nexts.{registrations_at}
+use Rattle.graph_turns.specs.TaskPlaces.{registration_at}
+use Rattle.graph_parts.specs.Places.{IsJoining}
+use Rattle.graph_ends.specs.TaskEnds.{HasOwnCalls, IsChildOf}
+use Rattle.graph_steps.specs.declared.owed.Owed.TheVariants.{Nothing}
+use Rattle.graph_tasks.specs.Holds.{HasMade}
+use Rattle.graph_tasks.specs.Tasks.{IsHeldOn, IsTaskAt}
+use Rattle.graph_tasks.specs.declared.child.Child.{Child}
+use Rattle.graph_tasks.specs.declared.task_state.TaskState.{TaskState}
+use Rattle.graph_tasks.specs.declared.hold.Hold.{Hold}
+use Rattle.graph_tasks.specs.declared.hold.Hold.TheVariants.{On, Gone}
+
+-- the registration of a child as this number
+abbrev pub registration_of : ℕ → Mode → ℕ → Event
+registration_of child mode n = Registered n child mode
+
+-- a registration has added a child on its phaser, which has seen what it has
+pub record HasAdded (mode : Mode) (old new child : AnyMember) : Type 0 where
+  pub before : History
+  pub made : HasMade (registration_of (member_in child).number mode) old new before
+  pub op : member_op child ≡ member_op old
+  pub at : (member_in child).at ≡ (member_in old).at
+  pub seen : (member_in child).seen ≡ (member_in new).seen
+
+-- the registration of a hold has added a child
+abbrev pub AddsTo : Mode → Hold → Hold → AnyMember → Type 0
+AddsTo mode (On old) (On new) child = HasAdded mode old new child
+AddsTo mode (On old) Gone child = ⊥
+AddsTo mode Gone new child = ⊥
+
+-- at this moment, which is its parent's, task c has these numbers and these holds, on the first of
+-- its phasers
+pub record IsNursed (job : Job) (spots : ℕ → Spot) (m : Moment) (c : ℕ) (numbers : List ℕ)
+    (nursery : List Hold) : Type 0 where
+  pub joining : IsJoining job m c numbers
+  pub own : HasOwnCalls job m c
+  pub long : length nursery ≡ length numbers
+  pub on : (i : ℕ) → i < length numbers
+      → IsHeldOn job spots m c (registration_at job c i).phaser (get_or nursery i Gone)
+
+-- registration k of task t is on phaser p
+pub record IsPlaceOn (job : Job) (t p k : ℕ) : Type 0 where
+  pub few : k < length (registrations_at job t)
+  pub here : (registration_at job t k).phaser ≡ p
+
+-- there is room for another registration of the child at this place
+pub record HasNurseryRoom (s : TaskState) (i : ℕ) : Type 0 where
+  pub numbers : (kid : Child) → slice_get s.children.items i ≡ Some kid
+      → length kid.numbers.items + 1 ≤ kid.numbers.capacity
+  pub nursery : length s.nursery.items < s.nursery.cap
+
+-- another registration of the child at this place is kept
+pub record HasNursed (i : ℕ) (child : AnyMember) (old new : TaskState) : Type 0 where
+  pub before : Child
+  pub kid : Child
+  pub found : slice_get old.children.items i ≡ Some before
+  pub kids : new.children.items ≡ slice_set old.children.items i kid
+  pub task : kid.task ≡ before.task
+  pub at : kid.at ≡ before.at
+  pub numbers : kid.numbers.items ≡ before.numbers.items ++ (member_in child).number ∷ []
+  pub nursery : new.nursery.items ≡ old.nursery.items ++ On child ∷ []
+  pub rest : new ≡ record old { children = new.children; nursery = new.nursery }
+
+-- a task in this state registers the child at place i among its children: it stands between two
+-- steps, and its moment is the child's as well
+pub record IsNursing (job : Job) (spots : ℕ → Spot) (s : TaskState) (i : ℕ) : Type 0 where
+  pub kid : Child
+  pub found : slice_get s.children.items i ≡ Some kid
+  pub child : IsChildOf job kid.task s.number
+  pub boundary : s.begun ≡ child.parent.at
+  pub going : s.over ≡ false
+  pub owes : s.owed ≡ Nothing
+  pub moment : Moment
+  pub at : IsTaskAt job spots moment s
+  pub nursed : IsNursed job spots moment kid.task kid.numbers.items s.nursery.items
+
+-- the next registration of the child is this one, and registration k of the task is on its phaser
+pub record IsNextOn (job : Job) (spots : ℕ → Spot) (s : TaskState) (i k : ℕ) (r : Registration)
+    : Type 0 where
+  pub nursing : IsNursing job spots s i
+  pub room : length nursing.kid.numbers.items < length (registrations_at job nursing.kid.task)
+  pub is : r ≡ registration_at job nursing.kid.task (length nursing.kid.numbers.items)
+  pub on : IsPlaceOn job s.number r.phaser k
+
+-- a task that registers the child at this place, where there is one
+abbrev pub IsWith : Job → (ℕ → Spot) → TaskState → Option ℕ → Type 0
+IsWith job spots s None = Unit {0}
+IsWith job spots s (Some i) = s.met ≡ false → IsNursing job spots s i
