@@ -21,3 +21,4 @@ pub mod Rooms
 pub mod Searching
 pub mod Stalling
 pub mod Stepping
+pub mod Staying

@@ -16,7 +16,8 @@ use Rattle.graph_turns.proofs.Signalling.{live-is}
 use Rattle.graph_turns.proofs.Turning.{turn_makes_next}
 use Rattle.graph_steps.proofs.Outputs.{output_there}
 use Rattle.graph_worlds.specs.Machines.{IsMachineAt}
-use Rattle.graph_worlds.specs.Turning.{Shows, HadTurn, phaser_of, called_on, parked_after, parked_by, told_of}
+use Rattle.graph_worlds.specs.Blocking.{called_on}
+use Rattle.graph_worlds.specs.Turning.{Shows, HadTurn, phaser_of, parked_after, parked_by, told_of}
 use Rattle.graph_worlds.specs.Parking.{with_task}
 use Rattle.graph_worlds.specs.Worlds.{WorldState}
 use Rattle.graph_worlds.specs.Tellings.{told_by, parked_with, IsOnPhaser}

@@ -1,7 +1,9 @@
+pub mod Blocking
 pub mod Calls
 pub mod Machines
 pub mod Parking
 pub mod Places
+pub mod Plans
 pub mod Runs
 pub mod Stalls
 pub mod Tellings

@@ -1,5 +1,5 @@
 //! Whether no task can move.
-ghost use Rattle.std.specs.Prelude.{◌≡◌, ◌<◌, ◌&&◌, ◌||◌, ℕ, true, nat_le, length, Some};
+ghost use Rattle.std.specs.Prelude.{◌≡◌, ◌<◌, ◌&&◌, ◌||◌, ℕ, true, false, nat_le, length, get_or, Some};
 ghost use Rattle.std.specs.List.{list_any, list_all, range_with_len};
 ghost use Rattle.phase_base.specs.Limits.{Limits};
 ghost use Rattle.phase_base.specs.Members.{least, wait_phases};
@@ -13,9 +13,13 @@ ghost use Rattle.graph_turns.specs.Nexts.{has_signaller, is_live, number_on, sig
 ghost use Rattle.graph_turns.specs.Answers.{is_stalled, is_still, output_at};
 ghost use Rattle.graph_steps.specs.Steps.{owed_of};
 ghost use Rattle.graph_worlds.specs.Stalls.{blocks_signal, blocks_wait, would_block, is_value_in_range};
+ghost use Rattle.graph_worlds.specs.Blocking.{AreBlocked};
 ghost use Rattle.graph_worlds.specs.Machines.{next_by};
+ghost use Rattle.graph_worlds.specs.Plans.{IsPlan};
 
 use crate::machine::Machine;
+use crate::parked::Parked;
+use crate::plan::Plan;
 use crate::step::Step;
 use graph_base::Op;
 use graph_cores::AnyCore;
@@ -27,12 +31,16 @@ impl Machine {
     ghost use Rattle.graph_worlds.specs.Machines.{IsMachineAt, IsMachine, IsLiveIn};
     ghost use Rattle.graph_worlds.specs.Stalls.{MakesNext};
 
-    /// Whether some task is live, and the turn of each live task would be blocked.
-    pub fn is_stalled(&self, job: &Job) -> bool
-        requires { IsMachine job.now self.now }
-        ensures { (m : Moment) → IsMachineAt job.now m self.now → is_stalled job.now m ≡ result }
+    /// Whether some task is live, and the turn of each live task would be blocked. It asks the
+    /// phasers for those tasks alone that stand in no list.
+    pub fn is_stalled(&self, job: &Job, plan: &Plan, parked: &Parked) -> bool
+        requires machine { IsMachine job.now self.now }
+        requires plan { IsPlan job.now plan.now }
+        ensures { (m : Moment) → IsMachineAt job.now m self.now → AreBlocked job.now m parked.now
+            → is_stalled job.now m ≡ result }
     {
-        self.has_live(job) && self.are_still(job)
+        let marks = parked.marks();
+        self.has_live(job) && self.are_still(job, plan, &marks)
     }
 
     /// Whether some task is live.
@@ -49,32 +57,37 @@ impl Machine {
         false
     }
 
-    /// Whether the turn of each live task would be blocked.
-    fn are_still(&self, job: &Job) -> bool
-        requires { IsMachine job.now self.now }
+    /// Whether the turn of each live task would be blocked, as that of each marked one is.
+    fn are_still(&self, job: &Job, plan: &Plan, marks: &[bool; 64]) -> bool
+        requires machine { IsMachine job.now self.now }
+        requires plan { IsPlan job.now plan.now }
         ensures { (m : Moment) → IsMachineAt job.now m self.now
+            → ((t : ℕ) → get_or marks.now t false ≡ true → is_still job.now m t ≡ true)
             → list_all (is_still job.now m) (range_with_len 0 (length job.now.graph.tasks))
             ≡ result }
     {
         for t in 0..job.graph().tasks() {
-            if !self.is_still(job, t) {
+            if !self.is_still(job, plan, t, marks[t]) {
                 return false;
             }
         }
         true
     }
 
-    /// Whether task number `t` is not live, or its turn would be blocked.
-    fn is_still(&self, job: &Job, t: usize) -> bool
+    /// Whether task number `t` is not live, or its turn would be blocked, as it is where the task is
+    /// marked.
+    fn is_still(&self, job: &Job, plan: &Plan, t: usize, marked: bool) -> bool
         requires machine { IsMachine job.now self.now }
+        requires plan { IsPlan job.now plan.now }
         requires task { t < length job.now.graph.tasks }
-        ensures { (m : Moment) → IsMachineAt job.now m self.now → is_still job.now m t ≡ result }
+        ensures { (m : Moment) → IsMachineAt job.now m self.now
+            → (marked ≡ true → is_still job.now m t ≡ true) → is_still job.now m t ≡ result }
     {
-        let _sends = job.samples_of(t);
-        if !self.state(job, t).is_live(job, t) {
+        let _sends = plan.samples(job, t);
+        if marked || !self.state(job, t).is_live(job, t) {
             return true;
         }
-        self.step_blocks(job, t, self.next(job, t))
+        self.step_blocks(job, t, self.next(job, plan, t))
     }
 
     /// Whether a live task's turn would be blocked, where this is what it does next.

@@ -9,6 +9,7 @@ ghost use Rattle.graph_turns.specs.Answers.{is_stalled, turn_tells};
 
 use crate::machine::Machine;
 use crate::parked::Parked;
+use crate::plan::Plan;
 use crate::step::Step;
 use crate::turned::Turned;
 use graph_base::Place;
@@ -24,6 +25,7 @@ use stream_lists::Job;
 #[derive(Drop)]
 pub struct World<'a> {
     job: &'a Job,
+    plan: Plan,
     machine: Machine,
     // where a value was out of range
     met: Option<(Place, u64)>,
@@ -32,8 +34,11 @@ pub struct World<'a> {
 
 impl<'a> Model for World<'a> {
     ghost use Rattle.std.specs.Prelude.{◌≡◌, length};
+    ghost use Rattle.graph_moments.specs.Moments.{Moment};
     ghost use Rattle.graph_worlds.specs.Worlds.{WorldState};
-    ghost use Rattle.graph_worlds.specs.Machines.{IsMachine};
+    ghost use Rattle.graph_worlds.specs.Blocking.{AreBlocked};
+    ghost use Rattle.graph_worlds.specs.Machines.{IsMachineAt};
+    ghost use Rattle.graph_worlds.specs.Plans.{IsPlan};
 
     ghost Value = { WorldState };
 
@@ -44,8 +49,9 @@ impl<'a> Model for World<'a> {
       parked = w.parked;
     } };
 
-    ghost invariant = { λ w. IsMachine w.job.now w.machine
-        × (length w.parked ≡ length w.job.now.graph.phasers) };
+    ghost invariant = { λ w. ((m : Moment) × IsMachineAt w.job.now m w.machine
+        × AreBlocked w.job.now m w.parked)
+        × (length w.parked ≡ length w.job.now.graph.phasers) × IsPlan w.job.now w.plan };
 }
 
 impl<'a> World<'a> {
@@ -65,10 +71,12 @@ impl<'a> World<'a> {
         ensures met { IfOk result (λ world. world.met ≡ None) }
         ensures parked { IfOk result (λ world. (p : ℕ) → get_or world.parked p [] ≡ []) }
     {
+        let plan = Plan::new(alloc, job)?;
         let machine = Machine::new(alloc, job)?;
         let parked = Parked::new(alloc, job.graph().phasers())?;
         Ok(World {
             job,
+            plan,
             machine,
             met: None,
             parked,
@@ -83,7 +91,7 @@ impl<'a> World<'a> {
         // A world stands for some moment, whatever was done with it before.
         ensures stands { (m : Moment) × IsWorldAt self.now m }
     {
-        self.machine.next(self.job, task)
+        self.machine.next(self.job, &self.plan, task)
     }
 
     /// Lends each sink's number and what it has taken so far, in the order of the lines. It takes no
@@ -106,13 +114,13 @@ impl<'a> World<'a> {
     /// Tells whether no task can move: some task is live, and the turn of each live task would be
     /// blocked. After a value out of range no run is stalled. It takes no memory.
     ///
-    /// It looks at each task.
+    /// It looks at each task, and asks the phasers for those alone that stand in no list of `parked`.
     pub fn stalled(&self) -> bool
         ensures stalled { (m : Moment) → IsWorldAt self.now m → self.now.met ≡ None
             → is_stalled self.now.job m ≡ result }
         ensures met { self.now.met ≢ None → result ≡ false }
     {
-        self.met.is_none() && self.machine.is_stalled(self.job)
+        self.met.is_none() && self.machine.is_stalled(self.job, &self.plan, &self.parked)
     }
 
     /// Gives a turn to task number `task`: it makes its next call, or tells why it makes none. After
@@ -136,7 +144,7 @@ impl<'a> World<'a> {
         if let Some((place, phase)) = self.met {
             return Ok(Turned::TooBig { place, phase });
         }
-        let made = self.machine.make(self.job, task)?;
+        let made = self.machine.make(self.job, &self.plan, task)?;
         self.parked.note(made, task);
         let told = made.told(task);
         self.met = told.too_big();
