@@ -14,8 +14,7 @@ use std::alloc::{AllocError, Global};
 use std::io::Write;
 use watched_io::{IoFault, Watched};
 
-/// Makes the drawing of a graph, as text for Graphviz. It takes memory for the text, at most 16 kB
-/// for each task.
+/// Makes the drawing of a graph, as text for Graphviz. It takes memory for the text.
 pub fn drawing_text(alloc: Global, graph: &Graph) -> Result<Vec<u8>, AllocError>
     ensures { IfOk result (λ text. text.items ≡ drawing graph.now) }
 {

@@ -83,12 +83,16 @@ fn each_kind_of_line_is_drawn(rt: HostRuntime) -> Result<(), Fail> {
 #[test]
 fn no_lines_are_a_drawing_of_nothing(rt: HostRuntime) -> Result<(), Fail> {
     let (text, written) = drawn(rt.alloc(), "# nothing\n")?;
-    assert_eq!(rt; text.as_slice(), b"digraph {\n    rankdir=LR;\n}\n".as_slice());
+    assert_eq!(rt;
+        text.as_slice(),
+        b"digraph {\n    rankdir=LR;\n}\n".as_slice()
+    );
     assert_eq!(rt; written.as_slice(), text.as_slice());
     Ok(())
 }
 
 /// A writer whose writes fail.
+#[derive(Drop)]
 struct Full;
 
 impl Write for Full {
@@ -105,7 +109,10 @@ impl Write for Full {
 fn a_failed_write_is_told(rt: HostRuntime) -> Result<(), Fail> {
     let graph = read_graph(rt.alloc(), b"phaser X sum 4")?;
     let mut writer = Watched::new(Full);
-    assert_eq!(rt; write_drawing(rt.alloc(), &mut writer, &graph), Err(IoFault::WriteFault));
+    assert_eq!(rt;
+        write_drawing(rt.alloc(), &mut writer, &graph),
+        Err(IoFault::WriteFault)
+    );
     assert!(rt; writer.has_failed());
     Ok(())
 }

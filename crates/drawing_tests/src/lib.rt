@@ -1,5 +1,0 @@
-//! A trial.
-#![tactic(auto)]
-
-#[cfg(test)]
-mod drawings;
