@@ -80,12 +80,23 @@ fn a_child_before_the_first_step(rt: HostRuntime) -> Result<(), Fail> {
     Ok(())
 }
 
+const AT_THE_END: &str = "phaser X sum 4\nsource s s.csv -> X\nsink out X\n\
+    sink last X by out at 4\n";
+
+#[test]
+fn a_child_at_the_end_of_a_stream(rt: HostRuntime) -> Result<(), Fail> {
+    let wanted = "out 4\n1\n2\n3\n4\nlast 0\n";
+    assert!(rt; always(&rt, rt.alloc(), AT_THE_END, &FOUR, RUNS, wanted)?);
+    Ok(())
+}
+
+// A sink that never begins has no values.
 const NEVER: &str = "phaser X sum 4\nsource s s.csv -> X\nsink out X\n\
     sink never X by out at 5\n";
 
 #[test]
 fn a_child_that_never_comes(rt: HostRuntime) -> Result<(), Fail> {
-    let wanted = "out 4\n1\n2\n3\n4\n";
+    let wanted = "out 4\n1\n2\n3\n4\nnever 0\n";
     assert!(rt; always(&rt, rt.alloc(), NEVER, &FOUR, RUNS, wanted)?);
     Ok(())
 }
