@@ -2,11 +2,10 @@
 use Rattle.std.proofs.Common.{◌≡◌, ◌≤◌, ◌<◌, ◌^◌, ℕ, Bool, true, false, List, [], Bor, Option, Some, None, option_map, unwrap_or, codes, if◌then◌else◌, refl, sym, subst, ap, ◌∙◌, arith}
 use Rattle.std.specs.Str.Parse.{IsNumeral, digits_value, without_leading_plus}
 use Rattle.clap.specs.ValueTests.{is_unsigned_in}
-use Rattle.std.specs.Str.{bytes_eq}
-use Rattle.clap.specs.Words.{Row, Text, first_of, subcommand_of}
+use Rattle.clap.specs.Words.{Text, first_of, matches_of}
 use Rattle.clap.specs.declared.builder.value_parser.ValueParser.TheVariants as vp
 use Rattle.clap.proofs.ValueTestLemmas.{Accepts-accepts, accepts-Accepts}
-use Rattle.phase_words.specs.CommandLine.{AskRun, Asked, asked_by, asked_in, check, eval, phase_app, replay, run, workers_named, workers_of}
+use Rattle.phase_words.specs.RunLine.{AskRun, Run, run_app, run_in, workers_named, workers_of}
 
 -- `parse` reads the word as a number
 abbrev pub Reads : Text → Type 0
@@ -62,34 +61,10 @@ of-within : (given : Option Text) → IsWithin (workers_of given)
 of-within None = (omega arith, omega arith)
 of-within (Some word) = named-within word
 
--- the workers of a run, and 4 elsewhere
-abbrev workers_in : Asked → ℕ
-workers_in (run name sink workers) = workers
-workers_in other = 4
-
--- by the three commands' names
-as-within : (is_check is_eval is_run : Bool) (graph : Text) (sink : Option Text) (workers : ℕ) → IsWithin workers
-    → IsWithin (workers_in (if is_check then check graph else if is_eval then eval graph sink
-    else if is_run then run graph sink workers else replay))
-as-within true is_eval is_run graph sink workers within = (omega arith, omega arith)
-as-within false true is_run graph sink workers within = (omega arith, omega arith)
-as-within false false true graph sink workers within = within
-as-within false false false graph sink workers within = (omega arith, omega arith)
-
-by-within : (found : Option (Text × List Row)) → IsWithin (workers_in (asked_by found))
-by-within None = (omega arith, omega arith)
-by-within (Some command) =
-    as-within (bytes_eq command.0 (codes "check")) (bytes_eq command.0 (codes "eval"))
-    (bytes_eq command.0 (codes "run")) (unwrap_or (first_of (codes "graph") command.1) [])
-    (first_of (codes "sink") command.1) (workers_of (first_of (codes "workers") command.1))
-    (of-within (first_of (codes "workers") command.1))
-
-in-within : (words : List Text) → IsWithin (workers_in (asked_in words))
-unfolding asked_in
-in-within words = by-within (subcommand_of phase_app words)
-
--- and what is asked for is a run by so many
+-- what words ask for is a run by so many
 pub run-within : (words : List Text) (name : Text) (sink : Option Text) (workers : ℕ)
     → AskRun words name sink workers → IsWithin workers
+unfolding run_in
 run-within words name sink workers asks =
-    subst (λ (what : Asked). IsWithin (workers_in what)) asks.command (in-within words)
+    subst (λ (what : Run). IsWithin what.workers) asks.run
+    (of-within (first_of (codes "workers") (matches_of run_app words)))

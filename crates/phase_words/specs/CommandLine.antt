@@ -1,18 +1,14 @@
 -- What the words of a command line ask for, by what clap makes of them. The program's own name is
 -- not among them.
-use Rattle.std.specs.Prelude.{◌≡◌, ◌≢◌, ◌⊎◌, ℕ, true, List, [], ◌∷◌, Option, Some, None}
+use Rattle.std.specs.Prelude.{◌≡◌, ◌≢◌, ◌⊎◌, true, List, [], ◌∷◌, Option, Some, None}
 use Rattle.std.specs.Prelude.{String, codes, if◌then◌else◌, map, option_map, string_bytes, unwrap_or, ⊤}
 use Rattle.std.specs.Str.{bytes_eq}
-use Rattle.std.specs.Str.Parse.{digits_value, without_leading_plus}
-use Rattle.clap.specs.ValueTests.{is_unsigned_in}
 use Rattle.clap.specs.Words.{App, IsAmong, Kinds, Row, Rule, Shape, Text, fault_of, first_of}
 use Rattle.clap.specs.Words.{new_app, new_rule, subcommand_of, with_rule, with_subcommand}
-use Rattle.clap.specs.declared.builder.value_parser.ValueParser.TheVariants as vp
 use Rattle.clap.specs.declared.error.kind.ErrorKind.{ErrorKind}
 use Rattle.clap.specs.declared.error.kind.ErrorKind.TheVariants.{DisplayHelp, DisplayVersion, OutOfMemory}
 use Rattle.phase_words.specs.declared.call.Call.{Call}
 use Rattle.phase_words.specs.declared.call.Call.TheVariants as call
-use Rattle.phase_words.specs.declared.call.TheConstants.{WORKERS, WORKERS_MAX}
 use Rattle.phase_words.specs.declared.call.NoCall.{NoCall}
 use Rattle.phase_words.specs.declared.call.NoCall.TheVariants as no_call
 
@@ -46,24 +42,12 @@ sink_rule = record (new_rule (codes "sink")) { long = Some (codes "sink"); value
 abbrev pub eval_shape : Shape
 eval_shape = (with_rule (graph_app (codes "eval")) sink_rule).top
 
--- the number of workers, which may be given behind `--workers`: from 1 to 16, in decimal digits
-abbrev pub workers_rule : Rule
-workers_rule = record (new_rule (codes "workers")) {
-  long = Some (codes "workers");
-  value_names = 1;
-  parser = Some (vp.Unsigned 1 WORKERS_MAX);
-}
-
--- the command `run`
-abbrev pub run_shape : Shape
-run_shape = (with_rule (with_rule (graph_app (codes "run")) sink_rule) workers_rule).top
-
--- the program, with its commands: `replay`, which takes no word, and `check`, `eval` and `run`
+-- the program, with its commands: `replay`, which takes no word, and `check` and `eval`
 unfoldable pub phase_app : App
 phase_app =
-    with_subcommand (with_subcommand (with_subcommand (with_subcommand (with_version
+    with_subcommand (with_subcommand (with_subcommand (with_version
     (without_own_name (new_app (codes "phase")))) (new_app (codes "replay")).top)
-    (graph_shape (codes "check"))) eval_shape) run_shape
+    (graph_shape (codes "check"))) eval_shape
 
 -- ---- what the words ask for
 
@@ -88,36 +72,26 @@ AskVersion words = kinds_of words ≡ DisplayVersion ∷ []
 abbrev pub IsShown : ErrorKind → Type 0
 IsShown kind = (kind ≡ DisplayHelp) ⊎ (kind ≡ DisplayVersion)
 
+-- answers of these kinds, of which there is one, ask for no help and no version
+abbrev pub Refuse : Kinds → Type 0
+Refuse kinds = (kinds ≢ []) × ((kind : ErrorKind) → IsShown kind → IsAmong kind kinds → ⊥)
+
 -- the words are refused: they are not taken, and ask for no help and no version
 abbrev pub AreRefused : List Text → Type 0
-AreRefused words =
-    (kinds_of words ≢ [])
-    × ((kind : ErrorKind) → IsShown kind → IsAmong kind (kinds_of words) → ⊥)
+AreRefused words = Refuse (kinds_of words)
 
--- what words that are taken ask for: a replay, a check of a graph's file, its evaluation, for all
--- its sinks or for the one of a name, or the same by a run of so many workers
+-- what words that are taken ask for: a replay, a check of a graph's file, or its evaluation, for all
+-- its sinks or for the one of a name
 pub data Asked : Type 0 where
   replay : Asked
   check : Text → Asked
   eval : Text → Option Text → Asked
-  run : Text → Option Text → ℕ → Asked
-
--- how many workers a word names: as many as it says, from 1 to 16, and 4 where it says none of these
-abbrev pub workers_named : Text → ℕ
-workers_named word =
-    if is_unsigned_in 1 WORKERS_MAX word then digits_value 10 (without_leading_plus word) else WORKERS
-
--- and 4 where there is no word
-abbrev pub workers_of : Option Text → ℕ
-workers_of None = WORKERS
-workers_of (Some word) = workers_named word
 
 -- by the command and the names that are given to it
-abbrev pub asked_as : Text → Option Text → Option Text → ℕ → Asked
-asked_as name graph sink workers =
+abbrev pub asked_as : Text → Option Text → Option Text → Asked
+asked_as name graph sink =
     if bytes_eq name (codes "check") then check (unwrap_or graph [])
     else if bytes_eq name (codes "eval") then eval (unwrap_or graph []) sink
-    else if bytes_eq name (codes "run") then run (unwrap_or graph []) sink workers
     else replay
 
 -- with no command a replay is asked for
@@ -125,7 +99,6 @@ abbrev pub asked_by : Option (Text × List Row) → Asked
 asked_by None = replay
 asked_by (Some command) =
     asked_as command.0 (first_of (codes "graph") command.1) (first_of (codes "sink") command.1)
-    (workers_of (first_of (codes "workers") command.1))
 
 -- what the words ask for, by the command that clap finds in them
 unfoldable pub asked_in : List Text → Asked
@@ -149,23 +122,15 @@ AskCheck words name = Asks words (check name)
 abbrev pub AskEval : List Text → Text → Option Text → Type 0
 AskEval words name sink = Asks words (eval name sink)
 
--- the words ask for a run of the graph in the file of this name by so many workers, for all its
--- sinks, or for the one of this name
-abbrev pub AskRun : List Text → Text → Option Text → ℕ → Type 0
-AskRun words name sink workers = Asks words (run name sink workers)
-
 -- the words ask for something of the graph in the file of this name
 abbrev pub AskGraph : List Text → Text → Type 0
-AskGraph words name = AskCheck words name
-    ⊎ (((sink : Option Text) × AskEval words name sink)
-    ⊎ ((sink : Option Text) × (workers : ℕ) × AskRun words name sink workers))
+AskGraph words name = AskCheck words name ⊎ ((sink : Option Text) × AskEval words name sink)
 
 -- what a call asks for
 abbrev pub asked_of : Call → Asked
 asked_of call.Replay = replay
 asked_of (call.Check name) = check name.now
 asked_of (call.Eval graph sink) = eval graph.now (option_map (λ s. s.now) sink)
-asked_of (call.Run graph sink workers) = run graph.now (option_map (λ s. s.now) sink) workers
 
 -- the words as texts
 abbrev pub texts : {Z : Type 0} → List (String Z) → List Text
@@ -174,23 +139,27 @@ texts words = map string_bytes words
 -- ---- why there is no call
 
 -- a kind of refusal, which is no call for help or for the version, is among the kinds
-pub record HasRefusal (words : List Text) : Type 0 where
+pub record HasRefusal (kinds : Kinds) : Type 0 where
   pub kind : ErrorKind
-  pub among : IsAmong kind (kinds_of words)
+  pub among : IsAmong kind kinds
   pub other : IsShown kind → ⊥
 
--- the words ask for help or for the version
-pub record HasShown (words : List Text) : Type 0 where
+-- a call for help or for the version is among them
+pub record HasShown (kinds : Kinds) : Type 0 where
   pub kind : ErrorKind
-  pub among : IsAmong kind (kinds_of words)
+  pub among : IsAmong kind kinds
   pub shown : IsShown kind
 
--- why the words give no call: they ask for help or for the version, or something in them is refused;
--- memory may run out over any words
+-- why words whose answers have these kinds give no call: they ask for help or for the version, or
+-- something in them is refused; memory may run out over any words
+abbrev pub ExplainsNone : Kinds → NoCall → Type 0
+ExplainsNone kinds (no_call.Shown text) = HasShown kinds
+ExplainsNone kinds (no_call.Refused text) = HasRefusal kinds
+ExplainsNone kinds no_call.OutOfMemory = ⊤
+
+-- why the words give no call
 abbrev pub IsNoCall : List Text → NoCall → Type 0
-IsNoCall words (no_call.Shown text) = HasShown words
-IsNoCall words (no_call.Refused text) = HasRefusal words
-IsNoCall words no_call.OutOfMemory = ⊤
+IsNoCall words none = ExplainsNone (kinds_of words) none
 
 -- how an error of this kind is told, with its text
 abbrev pub IsToldBy : ErrorKind → NoCall → Type 0

@@ -1,11 +1,5 @@
 //! What the words ask for, as plain data.
 
-/// How many workers a run has where none are named.
-pub const WORKERS: usize = 4;
-
-/// The most workers that a run may have.
-pub const WORKERS_MAX: usize = 16;
-
 /// What the words ask for.
 #[derive(Clone, Copy, Debug, PartialEq, Eq)]
 pub enum Call<'a> {
@@ -19,12 +13,21 @@ pub enum Call<'a> {
         graph: &'a str,
         sink: Option<&'a str>,
     },
-    /// The same by a run on so many worker threads, from 1 to `WORKERS_MAX`.
-    Run {
-        graph: &'a str,
-        sink: Option<&'a str>,
-        workers: usize,
-    },
+}
+
+/// How many workers a run has where none are named.
+pub const WORKERS: usize = 4;
+
+/// The most workers that a run may have.
+pub const WORKERS_MAX: usize = 16;
+
+/// What the words behind `phase run` ask for: a run of the graph in the file of a name, for all its
+/// sinks, or for the one of a name, by so many worker threads, from 1 to `WORKERS_MAX`.
+#[derive(Clone, Copy, Debug, PartialEq, Eq)]
+pub struct RunCall<'a> {
+    pub graph: &'a str,
+    pub sink: Option<&'a str>,
+    pub workers: usize,
 }
 
 /// Why the words give no call.

@@ -5,21 +5,16 @@ ghost use Rattle.clap.specs.Words.{subcommand_rows_of};
 ghost use Rattle.clap.specs.declared.builder.command.Command.{out-Command};
 ghost use Rattle.phase_words.specs.CommandLine.{Asks, IsNoCall, IsShown, IsToldBy};
 ghost use Rattle.phase_words.specs.CommandLine.{asked_as, asked_by, asked_in, asked_of, eval_shape};
-ghost use Rattle.phase_words.specs.CommandLine.{graph_app, graph_rule, kinds_of, phase_app, run_shape};
-ghost use Rattle.phase_words.specs.CommandLine.{sink_rule, texts, workers_of, workers_rule};
+ghost use Rattle.phase_words.specs.CommandLine.{graph_app, graph_rule, kinds_of, phase_app, sink_rule, texts};
 
-use crate::help::{
-    ABOUT, CHECK, CHECK_END, END, EVAL, EVAL_END, GRAPH, REPLAY, RUN, RUN_END, SINK, VERSION,
-    WORKERS_WORD,
-};
-use crate::{Call, NoCall, WORKERS, WORKERS_MAX};
-use clap::builder::ValueParser;
+use crate::help::{ABOUT, CHECK, CHECK_END, END, EVAL, EVAL_END, GRAPH, REPLAY, SINK, VERSION};
+use crate::{Call, NoCall};
 use clap::error::ErrorKind;
 use clap::{Arg, ArgMatches, Command, Error};
 use std::alloc::{AllocError, Global};
 
 /// The word behind `check`, `eval` and `run`, which has to be given: the name of a graph's file.
-fn graph_word<'a>(alloc: Global) -> Arg<'a>
+pub(crate) fn graph_word<'a>(alloc: Global) -> Arg<'a>
     ensures rule { rule_of result ≡ graph_rule }
     ensures local { result.global ≡ false }
 {
@@ -30,7 +25,7 @@ fn graph_word<'a>(alloc: Global) -> Arg<'a>
 }
 
 /// The word behind `--sink`, which may be given: the name of a sink.
-fn sink_word<'a>(alloc: Global) -> Arg<'a>
+pub(crate) fn sink_word<'a>(alloc: Global) -> Arg<'a>
     ensures rule { rule_of result ≡ sink_rule }
     ensures local { result.global ≡ false }
 {
@@ -38,18 +33,6 @@ fn sink_word<'a>(alloc: Global) -> Arg<'a>
         .long("sink")
         .value_name("NAME")
         .help(SINK)
-}
-
-/// The word behind `--workers`, which may be given: how many worker threads run a graph.
-fn workers_word<'a>(alloc: Global) -> Arg<'a>
-    ensures rule { rule_of result ≡ workers_rule }
-    ensures local { result.global ≡ false }
-{
-    Arg::new(alloc, "workers")
-        .long("workers")
-        .value_name("N")
-        .value_parser(ValueParser::unsigned(1, WORKERS_MAX as u64))
-        .help(WORKERS_WORD)
 }
 
 /// A command with one word, the name of a graph's file.
@@ -76,16 +59,6 @@ fn eval_command<'a>(alloc: Global) -> Result<Command<'a>, AllocError>
     graph_command(alloc, "eval", EVAL, EVAL_END)?.arg(sink_word(alloc))
 }
 
-/// The command `run`.
-fn run_command<'a>(alloc: Global) -> Result<Command<'a>, AllocError>
-    ensures shape { IfOk result (λ c. shape_of c ≡ run_shape) }
-    ensures local { IfOk result (λ c. (out-Command c).has_globals ≡ false) }
-{
-    graph_command(alloc, "run", RUN, RUN_END)?
-        .arg(sink_word(alloc))?
-        .arg(workers_word(alloc))
-}
-
 /// The program's command line.
 fn command<'a>(alloc: Global) -> Result<Command<'a>, AllocError>
     ensures { IfOk result (λ c. app_of c ≡ phase_app) }
@@ -98,8 +71,7 @@ fn command<'a>(alloc: Global) -> Result<Command<'a>, AllocError>
         .bin_name("phase")?
         .subcommand(Command::new(alloc, "replay").about(REPLAY).after_help(END))?
         .subcommand(graph_command(alloc, "check", CHECK, CHECK_END)?)?
-        .subcommand(eval_command(alloc)?)?
-        .subcommand(run_command(alloc)?)
+        .subcommand(eval_command(alloc)?)
 }
 
 /// What the words ask for, by what clap found in them.
@@ -113,40 +85,19 @@ fn call_of<'a>(matches: &ArgMatches<'a>) -> Call<'a>
         name,
         own.get_str("graph").unwrap_or(""),
         own.get_str("sink"),
-        workers_of(own.get_str("workers")),
     )
 }
 
-/// How many workers this word asks for, which clap has taken, or none where there is no word.
-fn workers_of(word: Option<&str>) -> usize
-    ensures { result ≡ workers_of (option_map (λ s. s.now) word.entry) }
-{
-    let Some(word) = word else {
-        return WORKERS;
-    };
-    match word.parse::<usize>() {
-        Ok(workers) if (1..=WORKERS_MAX).contains(&workers) => workers,
-        _ => WORKERS,
-    }
-}
-
-/// What a command with the name of a file, that of a sink or none, and a number of workers asks for.
-fn call_named<'a>(name: &str, graph: &'a str, sink: Option<&'a str>, workers: usize) -> Call<'a>
+/// What a command with the name of a file, and that of a sink or none, asks for.
+fn call_named<'a>(name: &str, graph: &'a str, sink: Option<&'a str>) -> Call<'a>
     ensures { asked_of result
-        ≡ asked_as name.now (Some graph.now) (option_map (λ s. s.now) sink.entry) workers }
+        ≡ asked_as name.now (Some graph.now) (option_map (λ s. s.now) sink.entry) }
 {
     if name == "check" {
         return Call::Check(graph);
     }
     if name == "eval" {
         return Call::Eval { graph, sink };
-    }
-    if name == "run" {
-        return Call::Run {
-            graph,
-            sink,
-            workers,
-        };
     }
     Call::Replay
 }
@@ -169,7 +120,7 @@ fn is_shown(kind: ErrorKind) -> bool
 }
 
 /// What clap says in place of taking the words, with its text.
-fn no_call(alloc: Global, error: &Error) -> NoCall
+pub(crate) fn no_call(alloc: Global, error: &Error) -> NoCall
     ensures { IsToldBy (kind_of error.now) result }
 {
     let kind = error.kind();

@@ -3,9 +3,9 @@
 /// What the program is.
 pub(crate) const ABOUT: &str = "\
 Replays a script of calls on a phaser, a barrier on which the tasks of a phase
-also add up a value, or evaluates a graph of filters over phasers, or runs it on
-worker threads. A script is read from standard input, a call a line, and each
-line is answered by one line on standard output.";
+also add up a value, or evaluates a graph of filters over phasers. A script is
+read from standard input, a call a line, and each line is answered by one line
+on standard output.";
 
 /// The version of the program and of its libraries.
 pub(crate) const VERSION: &str = "0.1.0";
@@ -19,18 +19,19 @@ pub(crate) const CHECK: &str = "Reads a graph and the samples of its sources";
 /// What `eval` does.
 pub(crate) const EVAL: &str = "Writes the values of each sink of a graph";
 
-/// What `run` does.
-pub(crate) const RUN: &str = "Writes the same values by a run on worker threads";
-
 /// What the word behind `check`, `eval` and `run` is.
 pub(crate) const GRAPH: &str = "The file of the graph, of at most 1048576 bytes";
 
 /// What the word behind `--sink` is.
 pub(crate) const SINK: &str = "Write the values of this sink alone, each on a line";
 
+/// What `phase run` does.
+pub(crate) const RUN: &str = "\
+Writes the values of each sink of a graph, by a run of its tasks on worker
+threads.";
+
 /// What the word behind `--workers` is.
-pub(crate) const WORKERS_WORD: &str =
-    "How many worker threads, from 1 to 16: 4 where none are named";
+pub(crate) const WORKERS_WORD: &str = "How many worker threads, from 1 to 16: 4 where none are named";
 
 /// The end of the program's help, and of that of `replay`.
 pub(crate) const END: &str = "\
@@ -44,9 +45,11 @@ Example, with the reply to each line and what it means:
   wait 0            value 0 7    phase 0 is complete, and its value is 7
 A line that is no call is answered by `bad line`.
 
+`phase run --help` tells of another program, which runs a graph on threads.
+
 Exit status: 0 done; 1 a graph or its samples are refused; 2 the words were not
-understood; 3 a value of a graph is out of range; 4 a run of a graph stalled; 5 a
-read or a write failed, or memory ran out.";
+understood; 3 a value of a graph is out of range; 5 a read or a write failed, or
+memory ran out.";
 
 /// The end of the help of `check`.
 pub(crate) const CHECK_END: &str = "\

@@ -1,7 +1,8 @@
 //! What clap makes of the words that the program's pages name.
 ghost use Rattle.std.specs.Prelude.{◌≤◌, ℕ, List, Option, [], ◌∷◌, Some, None, codes};
 ghost use Rattle.phase_words.specs.CommandLine.{AreRefused, AskCheck, AskEval, AskHelp, AskReplay};
-ghost use Rattle.phase_words.specs.CommandLine.{AskRun, AskVersion};
+ghost use Rattle.phase_words.specs.CommandLine.{AskVersion};
+ghost use Rattle.phase_words.specs.RunLine.{AreRunRefused, AskRun, AskRunHelp, AskRunVersion};
 
 /// `phase` and `phase replay` ask for a replay.
 pub fn words_for_replay()
@@ -21,18 +22,48 @@ pub fn words_for_graphs()
         (codes "g") (Some (codes "out")) }
 {}
 
+/// `--help` and `-h` ask for help, alone and behind each command.
+pub fn words_for_help()
+    ensures long { AskHelp (codes "--help" ∷ []) }
+    ensures short { AskHelp (codes "-h" ∷ []) }
+    ensures replay_long { AskHelp (codes "replay" ∷ codes "--help" ∷ []) }
+    ensures replay_short { AskHelp (codes "replay" ∷ codes "-h" ∷ []) }
+    ensures check_long { AskHelp (codes "check" ∷ codes "--help" ∷ []) }
+    ensures eval_short { AskHelp (codes "eval" ∷ codes "-h" ∷ []) }
+{}
+
+/// `--version` and `-V` ask for the version. No command has one of its own.
+pub fn words_for_version()
+    ensures long { AskVersion (codes "--version" ∷ []) }
+    ensures short { AskVersion (codes "-V" ∷ []) }
+    ensures of_eval { AreRefused (codes "eval" ∷ codes "--version" ∷ []) }
+{}
+
+/// A word that is no command, a word behind `replay`, a flag that is none, `run`, a sink behind
+/// `check`, and `check` and `eval` with no file or with two are refused.
+pub fn words_refused()
+    ensures command { AreRefused (codes "bogus" ∷ []) }
+    ensures run { AreRefused (codes "run" ∷ codes "g" ∷ []) }
+    ensures extra { AreRefused (codes "replay" ∷ codes "extra" ∷ []) }
+    ensures flag { AreRefused (codes "--bogus" ∷ []) }
+    ensures empty { AreRefused ([] ∷ []) }
+    ensures no_file { AreRefused (codes "eval" ∷ []) }
+    ensures sink_of_check { AreRefused (codes "check" ∷ codes "g" ∷ codes "--sink" ∷ codes "out" ∷ []) }
+    ensures two_files { AreRefused (codes "check" ∷ codes "g" ∷ codes "h" ∷ []) }
+{}
+
 /// `phase run g` asks for a run of the graph in the file g by 4 workers, and `--workers` names another
 /// number of them.
 pub fn words_for_runs()
-    ensures run { AskRun (codes "run" ∷ codes "g" ∷ []) (codes "g") None 4 }
-    ensures one { AskRun (codes "run" ∷ codes "g" ∷ codes "--workers" ∷ codes "1" ∷ [])
-        (codes "g") None 1 }
-    ensures most { AskRun (codes "run" ∷ codes "--workers=16" ∷ codes "g" ∷ [])
-        (codes "g") None 16 }
-    ensures sink { AskRun (codes "run" ∷ codes "g" ∷ codes "--sink" ∷ codes "out" ∷ [])
+    ensures run { AskRun (codes "g" ∷ []) (codes "g") None 4 }
+    ensures one { AskRun (codes "g" ∷ codes "--workers" ∷ codes "1" ∷ []) (codes "g") None 1 }
+    ensures most { AskRun (codes "--workers=16" ∷ codes "g" ∷ []) (codes "g") None 16 }
+    ensures sink { AskRun (codes "g" ∷ codes "--sink" ∷ codes "out" ∷ [])
         (codes "g") (Some (codes "out")) 4 }
-    ensures both { AskRun (codes "run" ∷ codes "--workers" ∷ codes "2" ∷ codes "g"
-        ∷ codes "--sink=out" ∷ []) (codes "g") (Some (codes "out")) 2 }
+    ensures both { AskRun (codes "--workers" ∷ codes "2" ∷ codes "g" ∷ codes "--sink=out" ∷ [])
+        (codes "g") (Some (codes "out")) 2 }
+    ensures help { AskRunHelp (codes "--help" ∷ []) }
+    ensures version { AskRunVersion (codes "-V" ∷ []) }
 {}
 
 /// Whatever the words are, a run that they ask for is one by 1 to 16 workers.
@@ -43,43 +74,14 @@ pub fn runs_have_workers()
         → AskRun words name sink workers → workers ≤ 16 }
 {}
 
-/// `--help` and `-h` ask for help, alone and behind each command.
-pub fn words_for_help()
-    ensures long { AskHelp (codes "--help" ∷ []) }
-    ensures short { AskHelp (codes "-h" ∷ []) }
-    ensures replay_long { AskHelp (codes "replay" ∷ codes "--help" ∷ []) }
-    ensures replay_short { AskHelp (codes "replay" ∷ codes "-h" ∷ []) }
-    ensures check_long { AskHelp (codes "check" ∷ codes "--help" ∷ []) }
-    ensures eval_short { AskHelp (codes "eval" ∷ codes "-h" ∷ []) }
-    ensures run_long { AskHelp (codes "run" ∷ codes "--help" ∷ []) }
-{}
-
-/// `--version` and `-V` ask for the version. No command has one of its own.
-pub fn words_for_version()
-    ensures long { AskVersion (codes "--version" ∷ []) }
-    ensures short { AskVersion (codes "-V" ∷ []) }
-    ensures of_eval { AreRefused (codes "eval" ∷ codes "--version" ∷ []) }
-{}
-
-/// A word that is no command, a word behind `replay`, a flag that is none, a sink behind `check`, and
-/// `check` and `eval` with no file or with two are refused.
-pub fn words_refused()
-    ensures command { AreRefused (codes "bogus" ∷ []) }
-    ensures extra { AreRefused (codes "replay" ∷ codes "extra" ∷ []) }
-    ensures flag { AreRefused (codes "--bogus" ∷ []) }
-    ensures empty { AreRefused ([] ∷ []) }
-    ensures no_file { AreRefused (codes "eval" ∷ []) }
-    ensures sink_of_check { AreRefused (codes "check" ∷ codes "g" ∷ codes "--sink" ∷ codes "out" ∷ []) }
-    ensures two_files { AreRefused (codes "check" ∷ codes "g" ∷ codes "h" ∷ []) }
-{}
-
-/// No number of workers but one from 1 to 16 is taken, nor any behind `eval`, and a run has a graph.
-pub fn workers_refused()
-    ensures seventeen { AreRefused (codes "run" ∷ codes "g" ∷ codes "--workers" ∷ codes "17" ∷ []) }
-    ensures zero { AreRefused (codes "run" ∷ codes "g" ∷ codes "--workers" ∷ codes "0" ∷ []) }
-    ensures minus { AreRefused (codes "run" ∷ codes "g" ∷ codes "--workers=-1" ∷ []) }
-    ensures no_number { AreRefused (codes "run" ∷ codes "g" ∷ codes "--workers" ∷ codes "x" ∷ []) }
-    ensures no_value { AreRefused (codes "run" ∷ codes "g" ∷ codes "--workers" ∷ []) }
-    ensures no_file { AreRefused (codes "run" ∷ codes "--workers" ∷ codes "2" ∷ []) }
-    ensures of_eval { AreRefused (codes "eval" ∷ codes "g" ∷ codes "--workers" ∷ codes "2" ∷ []) }
+/// A run has one graph, and no number of workers is taken but one from 1 to 16.
+pub fn words_refused_of_runs()
+    ensures seventeen { AreRunRefused (codes "g" ∷ codes "--workers" ∷ codes "17" ∷ []) }
+    ensures zero { AreRunRefused (codes "g" ∷ codes "--workers" ∷ codes "0" ∷ []) }
+    ensures minus { AreRunRefused (codes "g" ∷ codes "--workers=-1" ∷ []) }
+    ensures no_number { AreRunRefused (codes "g" ∷ codes "--workers" ∷ codes "x" ∷ []) }
+    ensures no_value { AreRunRefused (codes "g" ∷ codes "--workers" ∷ []) }
+    ensures no_word { AreRunRefused [] }
+    ensures no_file { AreRunRefused (codes "--workers" ∷ codes "2" ∷ []) }
+    ensures two_files { AreRunRefused (codes "g" ∷ codes "h" ∷ []) }
 {}

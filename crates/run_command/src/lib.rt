@@ -9,5 +9,7 @@
 #![tactic(auto)]
 
 mod graph_run;
+#[cfg(test)]
+mod tests;
 
 pub use graph_run::run_and_report;

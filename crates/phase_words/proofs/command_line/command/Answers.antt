@@ -17,7 +17,6 @@ returns c =
     ∙ (ap (λ f. f.has_globals) c.about-2.ensures ∙ c.new-2.ensures.local) in
     let check = c.in_ok-graph_command.ensures in
     let eval = c.in_ok-eval_command.ensures in
-    let run = c.in_ok-run_command.ensures in
     let named = c.in_ok-bin_name in
     let phase_is : app_of named.field-0 ≡ with_version (without_own_name (new_app (codes "phase"))) =
     ap app_of_fields named.ensures.0 ∙ (ap app_of_fields c.after_help.ensures
@@ -27,6 +26,5 @@ returns c =
     let one = c.in_ok-subcommand.ensures.shape replay_local
     ∙ ap₂ with_subcommand phase_is replay_is in
     let two = c.in_ok-subcommand-2.ensures.shape check.local ∙ ap₂ with_subcommand one (ap (λ (a : App). a.top) check.app) in
-    let three = c.in_ok-subcommand-3.ensures.shape eval.local ∙ ap₂ with_subcommand two eval.shape in
-    IfOk-weaker c.subcommand-4.result _ _
-    (λ r adds. adds.shape run.local ∙ ap₂ with_subcommand three run.shape) c.subcommand-4.ensures
+    IfOk-weaker c.subcommand-3.result _ _
+    (λ r adds. adds.shape eval.local ∙ ap₂ with_subcommand two eval.shape) c.subcommand-3.ensures

@@ -27,7 +27,3 @@ returns-clause-check_long c = refl
 pub returns-clause-eval_short : goal.returns-clause-eval_short
 unfolding kinds_of phase_app clap_on_literals
 returns-clause-eval_short c = refl
-
-pub returns-clause-run_long : goal.returns-clause-run_long
-unfolding kinds_of phase_app clap_on_literals
-returns-clause-run_long c = refl

@@ -34,6 +34,13 @@ kinds-empty = refl
 pub returns-clause-empty : goal.returns-clause-empty
 returns-clause-empty c = stray_refused ([] ∷ []) kinds-empty
 
+kinds-run : kinds_of (codes "run" ∷ codes "g" ∷ []) ≡ UnknownArgument ∷ InvalidSubcommand ∷ []
+unfolding kinds_of phase_app clap_on_literals
+kinds-run = refl
+
+pub returns-clause-run : goal.returns-clause-run
+returns-clause-run c = stray_refused (codes "run" ∷ codes "g" ∷ []) kinds-run
+
 kinds-no_file : kinds_of (codes "eval" ∷ []) ≡ MissingRequiredArgument ∷ []
 unfolding kinds_of phase_app clap_on_literals
 kinds-no_file = refl

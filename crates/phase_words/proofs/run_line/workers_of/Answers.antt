@@ -1,7 +1,7 @@
 -- The number that was read, or 4.
 use Rattle.std.proofs.Common.{rules}
 use Rattle.phase_words.proofs.Workers.{workers-read, workers-unread}
-use Rattle.phase_words.proofs.command_line.workers_of.Goals as goal
+use Rattle.phase_words.proofs.run_line.workers_of.Goals as goal
 
 pub returns-in-Ok : goal.returns-in-Ok
 returns-in-Ok c =
