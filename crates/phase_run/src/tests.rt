@@ -33,11 +33,7 @@ struct Outcome {
 }
 
 /// A run on these words.
-fn ask<H: Threads + Wait + Sync>(
-    rt: &H,
-    alloc: Global,
-    words: &[&str],
-) -> Result<Outcome, Fail> {
+fn ask<H: Threads + Wait + Sync>(rt: &H, alloc: Global, words: &[&str]) -> Result<Outcome, Fail> {
     let mut texts = Vec::new(alloc);
     for word in words {
         texts.push(String::from_str(alloc, word)?)?;
@@ -67,13 +63,20 @@ fn has(bytes: &Vec<u8>, text: &str) -> bool {
 fn the_sinks_have_their_values(rt: HostRuntime) -> Result<(), Fail> {
     let four = ask(&rt, rt.alloc(), ["g"].as_slice())?;
     assert_eq!(rt; four.status, 0);
-    assert_eq!(rt; four.output.as_slice(), b"out 3\n2\n5\n8\nplain 3\n1\n2\n3\n".as_slice());
+    assert_eq!(rt;
+        four.output.as_slice(),
+        b"out 3\n2\n5\n8\nplain 3\n1\n2\n3\n".as_slice()
+    );
     assert!(rt; four.faults.is_empty());
     let words = ["--workers", "16", "g", "--sink=out"];
     let most = ask(&rt, rt.alloc(), words.as_slice())?;
     assert_eq!(rt; most.status, 0);
     assert_eq!(rt; most.output.as_slice(), b"2\n5\n8\n".as_slice());
-    let none = ask(&rt, rt.alloc(), ["g", "--sink", "s", "--workers=1"].as_slice())?;
+    let none = ask(
+        &rt,
+        rt.alloc(),
+        ["g", "--sink", "s", "--workers=1"].as_slice(),
+    )?;
     assert_eq!(rt; none.status, 1);
     assert_eq!(rt; none.faults.as_slice(), b"phase: no sink s\n".as_slice());
     Ok(())
@@ -84,9 +87,15 @@ fn other_words_are_refused_by_claps_text(rt: HostRuntime) -> Result<(), Fail> {
     for workers in ["17", "0", "-1", "x", ""] {
         let refused = ask(&rt, rt.alloc(), ["g", "--workers", workers].as_slice())?;
         assert_eq!(rt; refused.status, 2, "at {workers}");
-        assert!(rt; refused.output.is_empty() && has(&refused.faults, "--workers"), "at {workers}");
+        assert!(rt;
+            refused.output.is_empty() && has(&refused.faults, "--workers"),
+            "at {workers}"
+        );
     }
-    assert_eq!(rt; ask(&rt, rt.alloc(), ["g", "--workers"].as_slice())?.status, 2);
+    assert_eq!(rt;
+        ask(&rt, rt.alloc(), ["g", "--workers"].as_slice())?.status,
+        2
+    );
     assert_eq!(rt; ask(&rt, rt.alloc(), ["g", "h"].as_slice())?.status, 2);
     assert_eq!(rt; ask(&rt, rt.alloc(), &[])?.status, 2);
     Ok(())

@@ -31,7 +31,8 @@ Writes the values of each sink of a graph, by a run of its tasks on worker
 threads.";
 
 /// What the word behind `--workers` is.
-pub(crate) const WORKERS_WORD: &str = "How many worker threads, from 1 to 16: 4 where none are named";
+pub(crate) const WORKERS_WORD: &str =
+    "How many worker threads, from 1 to 16: 4 where none are named";
 
 /// The end of the program's help, and of that of `replay`.
 pub(crate) const END: &str = "\

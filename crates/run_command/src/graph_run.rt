@@ -6,8 +6,10 @@ ghost use Rattle.phase_status.specs.Statuses.{Says};
 ghost use Rattle.run_command.specs.Runs.{RunEnds, stalled_line};
 ghost use Rattle.watched_io.specs.States.{writer_state};
 
-use graph_commands::{find_sink, read_job, report_job_fault, report_no_sink, report_too_big};
-use graph_commands::{report_written, write_sinks};
+use graph_commands::{
+    find_sink, read_job, report_job_fault, report_no_sink, report_too_big, report_written,
+    write_sinks,
+};
 use phase_status::{STALLED, report, say};
 use std::alloc::Global;
 use std::io::Write;

@@ -63,7 +63,16 @@ const FIR: &str = "phaser X sum 4\nphaser Y sum 4\nsource s s.csv -> X\n\
 fn the_sinks_have_their_values(rt: HostRuntime) -> Result<(), Fail> {
     let both = "out 3\n2\n5\n8\nplain 3\n1\n2\n3\n";
     assert!(rt; ends(&rt, rt.alloc(), FIR, "1\n2\n3\n", None, (0, both, ""))?);
-    assert!(rt; ends(&rt, rt.alloc(), FIR, "1\n2\n3\n", Some("out"), (0, "2\n5\n8\n", ""))?);
+    assert!(rt;
+        ends(
+            &rt,
+            rt.alloc(),
+            FIR,
+            "1\n2\n3\n",
+            Some("out"),
+            (0, "2\n5\n8\n", "")
+        )?
+    );
     let no_sink = (1, "", "phase: no sink s\n");
     assert!(rt; ends(&rt, rt.alloc(), FIR, "1\n2\n3\n", Some("s"), no_sink)?);
     Ok(())
@@ -72,7 +81,16 @@ fn the_sinks_have_their_values(rt: HostRuntime) -> Result<(), Fail> {
 #[test]
 fn what_gives_no_answer_is_told(rt: HostRuntime) -> Result<(), Fail> {
     let too_big = (3, "", "phase: too big at f 1\n");
-    assert!(rt; ends(&rt, rt.alloc(), FIR, "1\n9223372036854775807\n", None, too_big)?);
+    assert!(rt;
+        ends(
+            &rt,
+            rt.alloc(),
+            FIR,
+            "1\n9223372036854775807\n",
+            None,
+            too_big
+        )?
+    );
     let record = (1, "", "phase: samples of s: record 2\n");
     assert!(rt; ends(&rt, rt.alloc(), FIR, "1\nx\n", None, record)?);
     let line = (1, "", "phase: graph line 1: limit\n");
