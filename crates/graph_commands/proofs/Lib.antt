@@ -1,6 +1,6 @@
 mod Counted
-mod Ends
+pub mod Ends
 mod Needed
-mod Places
+pub mod Places
 mod Putting
 pub mod Finding

@@ -3,6 +3,8 @@
 //! `check_and_report` and `eval_and_report` run a command and answer the exit status. They read by
 //! `read_job` the job of a graph's file: its graph, and the samples in the files of its sources;
 //! `write_lines` writes what an evaluation gave each sink, and `write_values` what it gave one.
+//! `find_sink`, `write_sinks` and the calls that report an end are for another command that gives the
+//! same values.
 #![tactic(auto)]
 
 mod fault;
@@ -17,8 +19,10 @@ mod sinks;
 mod sources;
 
 pub use fault::JobFault;
+pub use graph_faults::{report_job_fault, report_no_sink, report_too_big};
 pub use graph_file::{GRAPH_MAX, read_graph_file};
-pub use graph_runs::{check_and_report, eval_and_report};
+pub use graph_runs::{check_and_report, eval_and_report, report_written, write_sinks};
 pub use job_file::read_job;
 pub use lines::{write_lines, write_values};
+pub use sinks::find_sink;
 pub use sources::read_sources;

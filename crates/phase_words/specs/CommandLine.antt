@@ -72,11 +72,13 @@ AskVersion words = kinds_of words ≡ DisplayVersion ∷ []
 abbrev pub IsShown : ErrorKind → Type 0
 IsShown kind = (kind ≡ DisplayHelp) ⊎ (kind ≡ DisplayVersion)
 
+-- answers of these kinds, of which there is one, ask for no help and no version
+abbrev pub Refuse : Kinds → Type 0
+Refuse kinds = (kinds ≢ []) × ((kind : ErrorKind) → IsShown kind → IsAmong kind kinds → ⊥)
+
 -- the words are refused: they are not taken, and ask for no help and no version
 abbrev pub AreRefused : List Text → Type 0
-AreRefused words =
-    (kinds_of words ≢ [])
-    × ((kind : ErrorKind) → IsShown kind → IsAmong kind (kinds_of words) → ⊥)
+AreRefused words = Refuse (kinds_of words)
 
 -- what words that are taken ask for: a replay, a check of a graph's file, or its evaluation, for all
 -- its sinks or for the one of a name
@@ -137,23 +139,27 @@ texts words = map string_bytes words
 -- ---- why there is no call
 
 -- a kind of refusal, which is no call for help or for the version, is among the kinds
-pub record HasRefusal (words : List Text) : Type 0 where
+pub record HasRefusal (kinds : Kinds) : Type 0 where
   pub kind : ErrorKind
-  pub among : IsAmong kind (kinds_of words)
+  pub among : IsAmong kind kinds
   pub other : IsShown kind → ⊥
 
--- the words ask for help or for the version
-pub record HasShown (words : List Text) : Type 0 where
+-- a call for help or for the version is among them
+pub record HasShown (kinds : Kinds) : Type 0 where
   pub kind : ErrorKind
-  pub among : IsAmong kind (kinds_of words)
+  pub among : IsAmong kind kinds
   pub shown : IsShown kind
 
--- why the words give no call: they ask for help or for the version, or something in them is refused;
--- memory may run out over any words
+-- why words whose answers have these kinds give no call: they ask for help or for the version, or
+-- something in them is refused; memory may run out over any words
+abbrev pub ExplainsNone : Kinds → NoCall → Type 0
+ExplainsNone kinds (no_call.Shown text) = HasShown kinds
+ExplainsNone kinds (no_call.Refused text) = HasRefusal kinds
+ExplainsNone kinds no_call.OutOfMemory = ⊤
+
+-- why the words give no call
 abbrev pub IsNoCall : List Text → NoCall → Type 0
-IsNoCall words (no_call.Shown text) = HasShown words
-IsNoCall words (no_call.Refused text) = HasRefusal words
-IsNoCall words no_call.OutOfMemory = ⊤
+IsNoCall words none = ExplainsNone (kinds_of words) none
 
 -- how an error of this kind is told, with its text
 abbrev pub IsToldBy : ErrorKind → NoCall → Type 0

@@ -13,8 +13,8 @@ use clap::error::ErrorKind;
 use clap::{Arg, ArgMatches, Command, Error};
 use std::alloc::{AllocError, Global};
 
-/// The word behind `check` and `eval`, which has to be given: the name of a graph's file.
-fn graph_word<'a>(alloc: Global) -> Arg<'a>
+/// The word behind `check`, `eval` and `run`, which has to be given: the name of a graph's file.
+pub(crate) fn graph_word<'a>(alloc: Global) -> Arg<'a>
     ensures rule { rule_of result ≡ graph_rule }
     ensures local { result.global ≡ false }
 {
@@ -25,7 +25,7 @@ fn graph_word<'a>(alloc: Global) -> Arg<'a>
 }
 
 /// The word behind `--sink`, which may be given: the name of a sink.
-fn sink_word<'a>(alloc: Global) -> Arg<'a>
+pub(crate) fn sink_word<'a>(alloc: Global) -> Arg<'a>
     ensures rule { rule_of result ≡ sink_rule }
     ensures local { result.global ≡ false }
 {
@@ -120,7 +120,7 @@ fn is_shown(kind: ErrorKind) -> bool
 }
 
 /// What clap says in place of taking the words, with its text.
-fn no_call(alloc: Global, error: &Error) -> NoCall
+pub(crate) fn no_call(alloc: Global, error: &Error) -> NoCall
     ensures { IsToldBy (kind_of error.now) result }
 {
     let kind = error.kind();
