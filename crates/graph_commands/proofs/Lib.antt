@@ -1,4 +1,5 @@
 mod Counted
+pub mod DrawingEnds
 pub mod Ends
 mod Needed
 pub mod Places

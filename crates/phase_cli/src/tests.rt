@@ -166,6 +166,7 @@ Commands:
   replay  Replays the script, as `phase` with no command does
   check   Reads a graph and the samples of its sources
   eval    Writes the values of each sink of a graph
+  draw    Writes a drawing of a graph, as text for Graphviz
   help    Print this message or the help of the given subcommand(s)
 
 Options:

@@ -1,5 +1,5 @@
 -- How many workers a word names, by the number that `parse` reads from it.
-use Rattle.std.proofs.Common.{◌≡◌, ◌≤◌, ◌<◌, ◌^◌, ℕ, Bool, true, false, List, [], Bor, Option, Some, None, option_map, unwrap_or, codes, if◌then◌else◌, refl, sym, subst, ap, ◌∙◌, arith}
+use Rattle.std.proofs.Common.{◌≡◌, ◌≤◌, ◌<◌, ◌^◌, ℕ, Bool, true, false, List, Bor, Option, Some, None, option_map, codes, refl, sym, subst, ap, ◌∙◌, arith}
 use Rattle.std.specs.Str.Parse.{IsNumeral, digits_value, without_leading_plus}
 use Rattle.clap.specs.ValueTests.{is_unsigned_in}
 use Rattle.clap.specs.Words.{Text, first_of, matches_of}

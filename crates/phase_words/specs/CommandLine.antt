@@ -42,12 +42,12 @@ sink_rule = record (new_rule (codes "sink")) { long = Some (codes "sink"); value
 abbrev pub eval_shape : Shape
 eval_shape = (with_rule (graph_app (codes "eval")) sink_rule).top
 
--- the program, with its commands: `replay`, which takes no word, and `check` and `eval`
+-- the program, with its commands: `replay`, which takes no word, and `check`, `eval` and `draw`
 unfoldable pub phase_app : App
 phase_app =
-    with_subcommand (with_subcommand (with_subcommand (with_version
+    with_subcommand (with_subcommand (with_subcommand (with_subcommand (with_version
     (without_own_name (new_app (codes "phase")))) (new_app (codes "replay")).top)
-    (graph_shape (codes "check"))) eval_shape
+    (graph_shape (codes "check"))) eval_shape) (graph_shape (codes "draw"))
 
 -- ---- what the words ask for
 
@@ -80,18 +80,20 @@ Refuse kinds = (kinds ≢ []) × ((kind : ErrorKind) → IsShown kind → IsAmon
 abbrev pub AreRefused : List Text → Type 0
 AreRefused words = Refuse (kinds_of words)
 
--- what words that are taken ask for: a replay, a check of a graph's file, or its evaluation, for all
--- its sinks or for the one of a name
+-- what words that are taken ask for: a replay, a check of a graph's file, its evaluation, for all
+-- its sinks or for the one of a name, or its drawing
 pub data Asked : Type 0 where
   replay : Asked
   check : Text → Asked
   eval : Text → Option Text → Asked
+  draw : Text → Asked
 
 -- by the command and the names that are given to it
 abbrev pub asked_as : Text → Option Text → Option Text → Asked
 asked_as name graph sink =
     if bytes_eq name (codes "check") then check (unwrap_or graph [])
     else if bytes_eq name (codes "eval") then eval (unwrap_or graph []) sink
+    else if bytes_eq name (codes "draw") then draw (unwrap_or graph [])
     else replay
 
 -- with no command a replay is asked for
@@ -122,15 +124,21 @@ AskCheck words name = Asks words (check name)
 abbrev pub AskEval : List Text → Text → Option Text → Type 0
 AskEval words name sink = Asks words (eval name sink)
 
+-- the words ask for a drawing of the graph in the file of this name
+abbrev pub AskDraw : List Text → Text → Type 0
+AskDraw words name = Asks words (draw name)
+
 -- the words ask for something of the graph in the file of this name
 abbrev pub AskGraph : List Text → Text → Type 0
-AskGraph words name = AskCheck words name ⊎ ((sink : Option Text) × AskEval words name sink)
+AskGraph words name =
+    AskCheck words name ⊎ (((sink : Option Text) × AskEval words name sink) ⊎ AskDraw words name)
 
 -- what a call asks for
 abbrev pub asked_of : Call → Asked
 asked_of call.Replay = replay
 asked_of (call.Check name) = check name.now
 asked_of (call.Eval graph sink) = eval graph.now (option_map (λ s. s.now) sink)
+asked_of (call.Draw name) = draw name.now
 
 -- the words as texts
 abbrev pub texts : {Z : Type 0} → List (String Z) → List Text

@@ -13,6 +13,8 @@ pub enum Call<'a> {
         graph: &'a str,
         sink: Option<&'a str>,
     },
+    /// A drawing of the graph in the file of this name.
+    Draw(&'a str),
 }
 
 /// How many workers a run has where none are named.

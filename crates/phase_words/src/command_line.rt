@@ -7,13 +7,16 @@ ghost use Rattle.phase_words.specs.CommandLine.{Asks, IsNoCall, IsShown, IsToldB
 ghost use Rattle.phase_words.specs.CommandLine.{asked_as, asked_by, asked_in, asked_of, eval_shape};
 ghost use Rattle.phase_words.specs.CommandLine.{graph_app, graph_rule, kinds_of, phase_app, sink_rule, texts};
 
-use crate::help::{ABOUT, CHECK, CHECK_END, END, EVAL, EVAL_END, GRAPH, REPLAY, SINK, VERSION};
+use crate::help::{
+    ABOUT, CHECK, CHECK_END, DRAW, DRAW_END, END, EVAL, EVAL_END, GRAPH, REPLAY, SINK, VERSION,
+};
 use crate::{Call, NoCall};
 use clap::error::ErrorKind;
 use clap::{Arg, ArgMatches, Command, Error};
 use std::alloc::{AllocError, Global};
 
-/// The word behind `check`, `eval` and `run`, which has to be given: the name of a graph's file.
+/// The word behind `check`, `eval`, `draw` and `run`, which has to be given: the name of a graph's
+/// file.
 pub(crate) fn graph_word<'a>(alloc: Global) -> Arg<'a>
     ensures rule { rule_of result ≡ graph_rule }
     ensures local { result.global ≡ false }
@@ -71,7 +74,8 @@ fn command<'a>(alloc: Global) -> Result<Command<'a>, AllocError>
         .bin_name("phase")?
         .subcommand(Command::new(alloc, "replay").about(REPLAY).after_help(END))?
         .subcommand(graph_command(alloc, "check", CHECK, CHECK_END)?)?
-        .subcommand(eval_command(alloc)?)
+        .subcommand(eval_command(alloc)?)?
+        .subcommand(graph_command(alloc, "draw", DRAW, DRAW_END)?)
 }
 
 /// What the words ask for, by what clap found in them.
@@ -98,6 +102,9 @@ fn call_named<'a>(name: &str, graph: &'a str, sink: Option<&'a str>) -> Call<'a>
     }
     if name == "eval" {
         return Call::Eval { graph, sink };
+    }
+    if name == "draw" {
+        return Call::Draw(graph);
     }
     Call::Replay
 }

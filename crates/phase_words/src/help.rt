@@ -19,7 +19,10 @@ pub(crate) const CHECK: &str = "Reads a graph and the samples of its sources";
 /// What `eval` does.
 pub(crate) const EVAL: &str = "Writes the values of each sink of a graph";
 
-/// What the word behind `check`, `eval` and `run` is.
+/// What `draw` does.
+pub(crate) const DRAW: &str = "Writes a drawing of a graph, as text for Graphviz";
+
+/// What the word behind `check`, `eval`, `draw` and `run` is.
 pub(crate) const GRAPH: &str = "The file of the graph, of at most 1048576 bytes";
 
 /// What the word behind `--sink` is.
@@ -83,6 +86,26 @@ samples of another source.
 Exit status: 0 done; 1 the graph or its samples are refused, or no sink has the
 name; 2 the words were not understood; 3 a value is out of range; 5 a read or a
 write failed, or memory ran out.";
+
+/// The end of the help of `draw`.
+pub(crate) const DRAW_END: &str = "\
+Example: where the file `sums` holds the three lines
+  phaser X sum 4
+  source s numbers -> X
+  sink out X
+`phase draw sums` writes
+  digraph {
+      rankdir=LR;
+      \"X\" [shape=ellipse, label=\"X\\nsum 4\"];
+      \"s\" [shape=box, label=\"s\\nsource\"];
+      \"out\" [shape=box, label=\"out\\nsink\"];
+      \"s\" -> \"X\";
+      \"X\" -> \"out\";
+  }
+No file of samples is read.
+
+Exit status: 0 done; 1 the graph is refused; 2 the words were not understood; 5 a
+read or a write failed, or memory ran out.";
 
 /// The end of the help of `run`.
 pub(crate) const RUN_END: &str = "\

@@ -1,7 +1,7 @@
 //! What clap makes of the words that the program's pages name.
 ghost use Rattle.std.specs.Prelude.{◌≤◌, ℕ, List, Option, [], ◌∷◌, Some, None, codes};
-ghost use Rattle.phase_words.specs.CommandLine.{AreRefused, AskCheck, AskEval, AskHelp, AskReplay};
-ghost use Rattle.phase_words.specs.CommandLine.{AskVersion};
+ghost use Rattle.phase_words.specs.CommandLine.{AreRefused, AskCheck, AskDraw, AskEval, AskHelp};
+ghost use Rattle.phase_words.specs.CommandLine.{AskReplay, AskVersion};
 ghost use Rattle.phase_words.specs.RunLine.{AreRunRefused, AskRun, AskRunHelp, AskRunVersion};
 
 /// `phase` and `phase replay` ask for a replay.
@@ -20,6 +20,16 @@ pub fn words_for_graphs()
         (codes "g") (Some (codes "out")) }
     ensures sink_first { AskEval (codes "eval" ∷ codes "--sink=out" ∷ codes "g" ∷ [])
         (codes "g") (Some (codes "out")) }
+{}
+
+/// `phase draw g` asks for a drawing of the graph in the file g. No file, two, and a sink are refused.
+pub fn words_for_drawings()
+    ensures draw { AskDraw (codes "draw" ∷ codes "g" ∷ []) (codes "g") }
+    ensures path { AskDraw (codes "draw" ∷ codes "../a b.graph" ∷ []) (codes "../a b.graph") }
+    ensures help { AskHelp (codes "draw" ∷ codes "--help" ∷ []) }
+    ensures no_file { AreRefused (codes "draw" ∷ []) }
+    ensures two_files { AreRefused (codes "draw" ∷ codes "g" ∷ codes "h" ∷ []) }
+    ensures sink { AreRefused (codes "draw" ∷ codes "g" ∷ codes "--sink" ∷ codes "out" ∷ []) }
 {}
 
 /// `--help` and `-h` ask for help, alone and behind each command.

@@ -1,8 +1,8 @@
 -- What was found for each word.
 use Rattle.std.proofs.Common.{◌≡◌, ◌∙◌, [], codes, option_map, unwrap_or, refl, ap}
 use Rattle.clap.proofs.WalkLemmas.{first_value-rows}
-use Rattle.clap.specs.Words.{Text, first_of, found_of, rows_of}
-use Rattle.phase_words.specs.RunLine.{Run, workers_of}
+use Rattle.clap.specs.Words.{first_of, found_of, rows_of}
+use Rattle.phase_words.specs.RunLine.{workers_of}
 use Rattle.phase_words.proofs.Called.{now-unwrap_or}
 use Rattle.phase_words.proofs.run_line.call_of.Goals as goal
 
