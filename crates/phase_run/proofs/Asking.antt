@@ -1,6 +1,5 @@
 -- What words ask for, and which statuses may come.
 use Rattle.std.proofs.Common.{◌≡◌, ◌≢◌, ◌⊎◌, inl, inr, ℕ, List, refl, arith}
-use Rattle.clap.specs.declared.error.kind.ErrorKind.TheVariants.{DisplayHelp, DisplayVersion}
 use Rattle.phase_run.specs.Ends.{AnswerEnds, AnswerStops, IsAnswer, IsStatus, MayEnd, MayEndAsRun}
 use Rattle.phase_status.specs.Statuses.{Reports}
 use Rattle.phase_words.proofs.NoCalls.{none-or-some, one-some, refusal-none-shown, refusal-some, shown-some}
@@ -17,8 +16,8 @@ use Rattle.watched_io.specs.declared.watched.Watched.{Watched}
 pub may-end-taken : (words : List (List ℕ)) (status : ℕ) → AreRunTaken words → MayEndAsRun status → MayEnd words status
 may-end-taken words status taken ends = record {
   taken = λ _. ends;
-  help = λ help. absurd (one-some (run_kinds_of words) DisplayHelp help taken);
-  version = λ version. absurd (one-some (run_kinds_of words) DisplayVersion version taken);
+  help = λ help. absurd (one-some (run_kinds_of words) _ help taken);
+  version = λ version. absurd (one-some (run_kinds_of words) _ version taken);
   refused = λ refused. absurd (refused.0 taken);
   untaken = λ none. absurd (none taken);
 }
@@ -37,14 +36,14 @@ help-ends : {W : Type 0} (words : List (List ℕ)) (none : NoCall) (status : ℕ
     → ExplainsNone (run_kinds_of words) none → IsAnswer none status old new before after → AskRunHelp words → (status ≡ 0) ⊎ (status ≡ 5)
 help-ends words (no_call.Shown text) status old new before after why answer help = answer
 help-ends words (no_call.Refused text) status old new before after why answer help =
-    absurd (refusal-none-shown (run_kinds_of words) DisplayHelp (inl refl) why help)
+    absurd (refusal-none-shown (run_kinds_of words) _ (inl refl) why help)
 help-ends words no_call.OutOfMemory status old new before after why answer help = inr answer.0
 
 version-ends : {W : Type 0} (words : List (List ℕ)) (none : NoCall) (status : ℕ) (old new : Watched W) (before after : WriterState)
     → ExplainsNone (run_kinds_of words) none → IsAnswer none status old new before after → AskRunVersion words → (status ≡ 0) ⊎ (status ≡ 5)
 version-ends words (no_call.Shown text) status old new before after why answer version = answer
 version-ends words (no_call.Refused text) status old new before after why answer version =
-    absurd (refusal-none-shown (run_kinds_of words) DisplayVersion (inr refl) why version)
+    absurd (refusal-none-shown (run_kinds_of words) _ (inr refl) why version)
 version-ends words no_call.OutOfMemory status old new before after why answer version = inr answer.0
 
 refused-ends : {W : Type 0} (words : List (List ℕ)) (none : NoCall) (status : ℕ) (old new : Watched W) (before after : WriterState)
