@@ -419,6 +419,7 @@ fn no_file_is_asked_for_behind_the_first_fault(rt: HostRuntime) -> Result<(), Fa
 
 /// A source with a child, and its drawing.
 const CHILD: &str = "phaser X sum 4\nsource s s.csv -> X\nsink out X\nsink late X by out at 2\n";
+
 const CHILD_DRAWN: &str = r#"digraph {
     rankdir=LR;
     "X" [shape=ellipse, label="X\nsum 4"];
@@ -444,7 +445,15 @@ fn a_drawing_asks_for_the_graph_alone(rt: HostRuntime) -> Result<(), Fail> {
     assert!(rt; drawn.faults.is_empty());
     let samples = [("s.csv", "1\n2\n")];
     let words = ["draw", "g"];
-    assert!(rt; asks(rt.alloc(), words.as_slice(), CHILD, samples.as_slice(), "g\n")?);
+    assert!(rt;
+        asks(
+            rt.alloc(),
+            words.as_slice(),
+            CHILD,
+            samples.as_slice(),
+            "g\n"
+        )?
+    );
     Ok(())
 }
 
