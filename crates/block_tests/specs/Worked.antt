@@ -45,10 +45,11 @@ all_left = Dropped 1 ∷ both_got
 abbrev pub late_waiter : History
 late_waiter = RegisteredNow 2 3 ∷ one_block
 
--- where task 2 stands then, and task 3
+-- where task 2 stands then
 abbrev pub waiter : Entry
 waiter = entry_at Wait 0 0
 
+-- where task 3 stands then
 abbrev pub late : Entry
 late = entry_at Wait 0 2
 
