@@ -1,6 +1,6 @@
 // Refuses the request for memory whose number the variable REFUSED tells, counted from 1. Load it
 // before the C library. Where REFUSED is 0 it refuses none, and at the end it writes to file
-// descriptor 9 how many there were.
+// descriptor 9 how many there were, and how many bytes they asked for.
 #define _GNU_SOURCE
 #include <dlfcn.h>
 #include <errno.h>
@@ -8,22 +8,24 @@
 #include <stdio.h>
 #include <stdlib.h>
 
-static unsigned long requests, refused;
+static unsigned long requests, bytes, refused;
 
 __attribute__((constructor)) static void begin(void) {
     const char *number = getenv("REFUSED");
     refused = number ? strtoul(number, NULL, 10) : 0;
     requests = 0;
+    bytes = 0;
 }
 
 __attribute__((destructor)) static void end(void) {
     if (refused == 0) {
-        dprintf(9, "%lu\n", requests);
+        dprintf(9, "%lu %lu\n", requests, bytes);
     }
 }
 
-static int is_refused(void) {
+static int is_refused(size_t size) {
     requests++;
+    bytes += size;
     if (refused == 0 || requests != refused) {
         return 0;
     }
@@ -36,7 +38,7 @@ void *malloc(size_t size) {
     if (!next) {
         next = (void *(*)(size_t))dlsym(RTLD_NEXT, "malloc");
     }
-    return is_refused() ? NULL : next(size);
+    return is_refused(size) ? NULL : next(size);
 }
 
 void *realloc(void *block, size_t size) {
@@ -44,5 +46,5 @@ void *realloc(void *block, size_t size) {
     if (!next) {
         next = (void *(*)(void *, size_t))dlsym(RTLD_NEXT, "realloc");
     }
-    return is_refused() ? NULL : next(block, size);
+    return is_refused(size) ? NULL : next(block, size);
 }
