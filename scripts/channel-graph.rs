@@ -1,5 +1,5 @@
-// Does in plain Rust what bench-graphs has the program do: a source, so many filters of 64 taps one behind the other and a
-// sink, each in a thread of its own, with a bounded channel of the standard library between two.
+// Does in plain Rust what bench-graphs has the program do: a source, so many filters of 64 taps one behind
+// the other and a sink, each in a thread of its own, with a bounded channel of the standard library between two.
 // usage: channel-graph FILTERS BOUND FILE
 use std::io::Write;
 use std::sync::mpsc::{Receiver, SyncSender, sync_channel};
@@ -24,7 +24,8 @@ impl Filter {
         self.newest = (self.newest + TAPS - 1) % TAPS;
         self.window[self.newest] = sample;
         let (older, newer) = self.window.split_at(self.newest);
-        let sum: i128 = newer.iter().chain(older).zip(&self.taps).map(|(&x, &tap)| i128::from(x) * i128::from(tap)).sum();
+        let window = newer.iter().chain(older);
+        let sum: i128 = window.zip(&self.taps).map(|(&x, &tap)| i128::from(x) * i128::from(tap)).sum();
         i64::try_from(sum >> SHIFT).expect("a value in range")
     }
 }
