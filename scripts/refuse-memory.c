@@ -1,14 +1,16 @@
 // Refuses the request for memory whose number the variable REFUSED tells, counted from 1. Load it
 // before the C library. Where REFUSED is 0 it refuses none, and at the end it writes to file
-// descriptor 9 how many there were.
+// descriptor 9 how many there were. Threads count together.
 #define _GNU_SOURCE
 #include <dlfcn.h>
 #include <errno.h>
+#include <stdatomic.h>
 #include <stddef.h>
 #include <stdio.h>
 #include <stdlib.h>
 
-static unsigned long requests, refused;
+static atomic_ulong requests;
+static unsigned long refused;
 
 __attribute__((constructor)) static void begin(void) {
     const char *number = getenv("REFUSED");
@@ -18,13 +20,13 @@ __attribute__((constructor)) static void begin(void) {
 
 __attribute__((destructor)) static void end(void) {
     if (refused == 0) {
-        dprintf(9, "%lu\n", requests);
+        dprintf(9, "%lu\n", (unsigned long)atomic_load(&requests));
     }
 }
 
 static int is_refused(void) {
-    requests++;
-    if (refused == 0 || requests != refused) {
+    unsigned long number = atomic_fetch_add(&requests, 1) + 1;
+    if (number != refused) {
         return 0;
     }
     errno = ENOMEM;

@@ -6,3 +6,5 @@
 mod block_tries;
 #[cfg(test)]
 mod blocks;
+#[cfg(test)]
+mod worked_laws;

@@ -19,10 +19,10 @@ use Rattle.stream_lists.specs.Jobs.{Job}
 use Rattle.stream_lists.specs.Ranges.{Fits, first_too_big}
 
 -- no fault is told with the status 0
-not_zero : (status n : ℕ) → status ≡ n → 0 < n → status ≡ 0 → ⊥
+pub not_zero : (status n : ℕ) → status ≡ n → 0 < n → status ≡ 0 → ⊥
 not_zero status n is some zero = omega (arith, is, some, zero)
 
-some_status : (found : JobFault) → 0 < job_status found
+pub some_status : (found : JobFault) → 0 < job_status found
 some_status (fault.Graph found) = omega arith
 some_status (fault.BadSample name number) = omega arith
 some_status fault.ReadFault = omega arith

@@ -1,6 +1,7 @@
 mod Counted
-mod Ends
+pub mod DrawingEnds
+pub mod Ends
 mod Needed
-mod Places
+pub mod Places
 mod Putting
 pub mod Finding

@@ -52,7 +52,7 @@ fn tell_bad_sample<E: Write>(name: &str, number: usize, faults: &mut Watched<E>)
 }
 
 /// Tells that no sink has this name, and answers the status 1.
-pub(crate) fn report_no_sink<E: Write>(name: &str, faults: &mut Watched<E>) -> u8
+pub fn report_no_sink<E: Write>(name: &str, faults: &mut Watched<E>) -> u8
     ensures status { result ≡ 1 }
     ensures line { Says (no_sink_line name.now)
         (writer_state E.contents faults.old) (writer_state E.contents faults.new) }
@@ -64,7 +64,7 @@ pub(crate) fn report_no_sink<E: Write>(name: &str, faults: &mut Watched<E>) -> u
 
 /// Tells why the files give no job, and answers the status: 1 where the graph or the samples are
 /// refused, and else 5.
-pub(crate) fn report_job_fault<E: Write>(fault: &JobFault, faults: &mut Watched<E>) -> u8
+pub fn report_job_fault<E: Write>(fault: &JobFault, faults: &mut Watched<E>) -> u8
     ensures status { result ≡ job_status fault.now }
     ensures line { Says (job_line fault.now)
         (writer_state E.contents faults.old) (writer_state E.contents faults.new) }
@@ -84,7 +84,7 @@ pub(crate) fn report_job_fault<E: Write>(fault: &JobFault, faults: &mut Watched<
 }
 
 /// Tells where a value is out of range, and answers the status 3.
-pub(crate) fn report_too_big<E: Write>(
+pub fn report_too_big<E: Write>(
     graph: &Graph,
     place: Place,
     number: usize,

@@ -1,6 +1,7 @@
 //! The graph of a file.
 ghost use Rattle.std.specs.Prelude.{◌≡◌, ℕ, List, IfOk, IfErr};
 ghost use Rattle.graph_commands.specs.FileJobs.{Explains, IsGraphOf};
+ghost use Rattle.graph_commands.specs.GraphDrawings.{ExplainsNoGraph};
 
 use crate::JobFault;
 use graph_lang::{Graph, GraphRefusal, read_graph};
@@ -19,6 +20,7 @@ pub fn read_graph_file<F: Files>(
 ) -> Result<Graph, JobFault>
     ensures ok { IfOk result (λ graph. IsGraphOf (F.file files.old) name.now graph) }
     ensures fault { IfErr result (λ fault. Explains (F.file files.old) name.now fault) }
+    ensures alone { IfErr result (λ fault. ExplainsNoGraph (F.file files.old) name.now fault) }
     ensures kept { (other : List ℕ) → F.file files.new other ≡ F.file files.old other }
 {
     let text = match files.read(alloc, name, GRAPH_MAX) {

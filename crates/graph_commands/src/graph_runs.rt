@@ -46,7 +46,7 @@ pub fn check_and_report<W: Write, E: Write, F: Files>(
 }
 
 /// Answers 0 where the output was written, and else tells that a write failed and answers 5.
-fn report_written<E: Write>(written: Result<(), WriteFailed>, faults: &mut Watched<E>) -> u8
+pub fn report_written<E: Write>(written: Result<(), WriteFailed>, faults: &mut Watched<E>) -> u8
     ensures done { OnOk written ((result ≡ 0) × (faults.new ≡ faults.old)) }
     ensures stops { OnErr written ((result ≡ 5) × Reports WriteFault
         (writer_state E.contents faults.old) (writer_state E.contents faults.new)) }
@@ -143,8 +143,9 @@ fn eval_job<W: Write, E: Write>(
     }
 }
 
-/// Writes the values of each sink of a job, or of one alone.
-fn write_sinks<W: Write>(
+/// Writes the values of each sink of a job, or of the one of this number alone. It takes no memory.
+/// After a failed write the writer has a prefix of them.
+pub fn write_sinks<W: Write>(
     writer: &mut Watched<W>,
     job: &Job,
     lines: &[Lines],

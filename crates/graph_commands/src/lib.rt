@@ -1,10 +1,14 @@
 //! The commands on graphs: what each reads, answers and writes, and how it ends.
 //!
-//! `check_and_report` and `eval_and_report` run a command and answer the exit status. They read by
-//! `read_job` the job of a graph's file: its graph, and the samples in the files of its sources;
+//! `check_and_report`, `eval_and_report` and `draw_and_report` run a command and answer the exit
+//! status. The first two read by `read_job` the job of a graph's file: its graph, and the samples in
+//! the files of its sources; the third reads the graph alone;
 //! `write_lines` writes what an evaluation gave each sink, and `write_values` what it gave one.
+//! `find_sink`, `write_sinks` and the calls that report an end are for another command that gives the
+//! same values.
 #![tactic(auto)]
 
+mod drawn;
 mod fault;
 mod graph_faults;
 mod graph_file;
@@ -16,9 +20,12 @@ mod output_buffer;
 mod sinks;
 mod sources;
 
+pub use drawn::draw_and_report;
 pub use fault::JobFault;
+pub use graph_faults::{report_job_fault, report_no_sink, report_too_big};
 pub use graph_file::{GRAPH_MAX, read_graph_file};
-pub use graph_runs::{check_and_report, eval_and_report};
+pub use graph_runs::{check_and_report, eval_and_report, report_written, write_sinks};
 pub use job_file::read_job;
 pub use lines::{write_lines, write_values};
+pub use sinks::find_sink;
 pub use sources::read_sources;

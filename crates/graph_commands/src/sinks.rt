@@ -12,8 +12,8 @@ use graph_base::{Kind, Place};
 use stream_eval::Lines;
 use stream_lists::Job;
 
-/// The number of the sink of this name, where a job has one.
-pub(crate) fn find_sink(job: &Job, name: &str) -> Option<usize>
+/// The number of the sink of this name, where a job has one. It takes no memory.
+pub fn find_sink(job: &Job, name: &str) -> Option<usize>
     ensures { result ≡ sink_named job.now name.now }
 {
     for t in 0..job.graph().tasks() {

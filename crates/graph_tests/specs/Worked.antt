@@ -71,6 +71,7 @@ worked_numbers =
 abbrev pub worked_offsets : List ℕ
 worked_offsets = 0 ∷ 0 ∷ 0 ∷ 0 ∷ 0 ∷ 1 ∷ []
 
+-- its opening
 abbrev pub worked_opening : Moment
 worked_opening = opened worked_histories worked_numbers worked_offsets
 
@@ -139,33 +140,39 @@ worked_order =
     0 ∷ 1 ∷ 1 ∷ 1 ∷ 1 ∷ 0 ∷ 1 ∷ 1 ∷ 0 ∷ 1 ∷ 1 ∷ 2 ∷ 2 ∷ 3 ∷ 2 ∷ 3 ∷ 4 ∷ 2 ∷ 4 ∷ 4 ∷ 3 ∷ 3 ∷ 5 ∷ 1
     ∷ 1 ∷ 1 ∷ 2 ∷ 2 ∷ 2 ∷ 3 ∷ 3 ∷ 3 ∷ 5 ∷ []
 
--- after the peer's events; before and after late is registered; before it leaves, and at the end
+-- the peer has put its last value, 14, on Y
 abbrev pub after_peer : Moment
 after_peer = after_all worked worked_opening peer_turns
 
+-- out has taken 10, and late is not registered yet
 abbrev pub before_late : Moment
 before_late = after_all worked after_peer lane_turns
 
+-- late is registered on Z
 abbrev pub with_late : Moment
 with_late = after_turn worked late_registers before_late
 
+-- late alone has still to leave
 abbrev pub before_end : Moment
 before_end = after_all worked with_late (late_turns ++ last_turns)
 
+-- all have left
 abbrev pub worked_end : Moment
 worked_end = after_turn worked late_leaves before_end
 
--- the first four moments after the opening: the source has signalled 5, the peer has taken it, has
--- put it on E, and has taken it there
+-- the first moment after the opening: the source has signalled 5
 abbrev pub after_sample : Moment
 after_sample = after_turn worked (sample 0 0 0 1 (pos 5)) worked_opening
 
+-- the peer has taken it from X
 abbrev pub after_first_wait : Moment
 after_first_wait = after_turn worked (first_wait 1 0 0 2 (Value (pos 5))) after_sample
 
+-- the peer has put it on E
 abbrev pub after_signal_on_e : Moment
 after_signal_on_e = after_turn worked (signal 1 0 1 1 (pos 5)) after_first_wait
 
+-- and has taken it there
 abbrev pub after_exchange : Moment
 after_exchange = after_turn worked (exchange_wait 1 1 1 (Value (pos 5))) after_signal_on_e
 

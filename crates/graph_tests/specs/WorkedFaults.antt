@@ -64,9 +64,11 @@ faulty_numbers =
     ∷ (None ∷ None ∷ None ∷ None ∷ Some 1 ∷ Some 2 ∷ [])
     ∷ []
 
+-- each begins at the opening
 abbrev pub faulty_offsets : List ℕ
 faulty_offsets = 0 ∷ 0 ∷ 0 ∷ 0 ∷ 0 ∷ 0 ∷ []
 
+-- its opening
 abbrev pub faulty_opening : Moment
 faulty_opening = opened faulty_histories faulty_numbers faulty_offsets
 
@@ -81,6 +83,7 @@ faulty_turns =
     ∷ first_wait 4 0 1 2 (Value greatest)
     ∷ []
 
+-- out has met the sum, and the filter has taken its value
 abbrev pub faulty_moment : Moment
 faulty_moment = after_all faulty faulty_opening faulty_turns
 

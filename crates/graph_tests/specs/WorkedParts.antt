@@ -19,23 +19,27 @@ peer_seen (suc (suc i)) = Registered 0 1 Sig ∷ Made 0 ∷ []
 abbrev pub x_before : History
 x_before = Signalled 1 ((pos 5 ∷ []) ∷ []) None ∷ Dropped 0 ∷ peer_seen 0
 
--- E before its signal, and after it: the founder has left
+-- E before its signal: the founder has left
 abbrev pub e_before : History
 e_before = Dropped 0 ∷ peer_seen 1
 
+-- E after its signal
 abbrev pub e_signalled : History
 e_signalled = Signalled 1 ((pos 5 ∷ []) ∷ []) None ∷ e_before
 
--- its place where it begins; where it owes 5 on E; its wait there; and 3 * 5 - 5 on Y
+-- its place where it begins
 abbrev pub peer_begins : TaskPlace
 peer_begins = at_start (2 ∷ 1 ∷ 1 ∷ [])
 
+-- where it owes 5 on E
 abbrev pub peer_owes_e : TaskPlace
 peer_owes_e = after_step (value 0 (Ok (pos 5))) peer_begins
 
+-- where it waits on E
 abbrev pub peer_exchanges : TaskPlace
 peer_exchanges = owing (exchange (pos 5)) peer_owes_e
 
+-- where it owes 3 * 5 - 5 on Y
 abbrev pub peer_owes_y : TaskPlace
 peer_owes_y = owing (value 1 (Ok (pos 10))) peer_exchanges
 

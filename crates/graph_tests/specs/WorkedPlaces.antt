@@ -6,16 +6,18 @@ use Rattle.graph_turns.specs.TaskEvents.{sample, first_wait, after_turn}
 use Rattle.graph_turns.specs.TaskPlaces.{TaskPlace, at_start}
 use Rattle.graph_tests.specs.Worked.{worked, worked_opening}
 
--- the source is on X as 1, and the peer on X as 2 and on E and Y as 1
+-- the source is on X as 1
 abbrev pub source_at : TaskPlace
 source_at = at_start (1 ∷ [])
 
+-- the peer is on X as 2, and on E and Y as 1
 abbrev pub peer_at : TaskPlace
 peer_at = at_start (2 ∷ 1 ∷ 1 ∷ [])
 
--- the source has signalled 5, and the peer has taken it
+-- the source has signalled 5
 abbrev pub after_sample : Moment
 after_sample = after_turn worked (sample 0 0 0 1 (pos 5)) worked_opening
 
+-- the peer has taken it
 abbrev pub after_peer_wait : Moment
 after_peer_wait = after_turn worked (first_wait 1 0 0 2 (Value (pos 5))) after_sample

@@ -140,10 +140,11 @@ crossed_graph = record {
 abbrev pub crossed : List ℤ → Job
 crossed samples = record { graph = crossed_graph; samples = samples ∷ [] }
 
--- six samples, and seven
+-- the samples 1 to 6
 abbrev pub six : List ℤ
 six = pos 1 ∷ pos 2 ∷ pos 3 ∷ pos 4 ∷ pos 5 ∷ pos 6 ∷ []
 
+-- the samples 1 to 7
 abbrev pub seven : List ℤ
 seven = pos 1 ∷ pos 2 ∷ pos 3 ∷ pos 4 ∷ pos 5 ∷ pos 6 ∷ pos 7 ∷ []
 

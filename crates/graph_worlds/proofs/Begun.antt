@@ -1,8 +1,8 @@
 -- A task that waits for its next step has begun no more steps than a phaser has phases.
-use Rattle.std.proofs.Common.{◌≡◌, ◌≢◌, ℕ, ◌+◌, ◌<◌, ◌≤◌, true, Option, Some, length, map, refl, sym, ap, subst, ◌∙◌, arith, inl, inr}
+use Rattle.std.proofs.Common.{◌≡◌, ℕ, ◌+◌, ◌<◌, ◌≤◌, Some, length, refl, ap, subst, ◌∙◌, arith, inl, inr}
 use Rattle.std.proofs.lemmas.List.{length-map}
 use Rattle.phase_base.specs.declared.limits.TheConstants.{PHASES_MAX}
-use Rattle.phase_history.specs.Histories.{History, done_of, top_of, phases_signalled, phases_waited}
+use Rattle.phase_history.specs.Histories.{done_of, top_of, phases_signalled, phases_waited}
 use Rattle.phase_history.specs.Phases.{received_by}
 use Rattle.phase_history.specs.Laws.{HasReceivedFrom}
 use Rattle.phase_history.specs.Sent.{sent_by}
@@ -13,16 +13,16 @@ use Rattle.phase_history.proofs.Steps.{done_below_top, sound_of}
 use Rattle.phase_history.proofs.Tops.{top_within}
 use Rattle.graph_base.specs.declared.line.Kind.{Kind}
 use Rattle.graph_base.specs.declared.line.Kind.TheVariants.{Source, Fir, Split, Join, Peer, Sink}
-use Rattle.graph_base.specs.Graphs.{Task, task_at}
+use Rattle.graph_base.specs.Graphs.{task_at}
 use Rattle.graph_base.specs.TaskLines.{IsGraph, HasEnds}
 use Rattle.stream_lists.specs.Jobs.{Job, place_in}
 use Rattle.stream_lists.specs.Lists.{number}
 use Rattle.stream_lists.specs.Spans.{signalled_by, takes_from, puts_on}
 use Rattle.graph_moments.specs.Agreeing.{one}
-use Rattle.graph_moments.specs.Moments.{Moment, HasRun, OnInput, OnOutput, PutOn, OnPhaser, TakenOn, input_at, limits_at, value_at, made_now}
+use Rattle.graph_moments.specs.Moments.{Moment, HasRun, OnInput, OnOutput, PutOn, OnPhaser, TakenOn, input_at, limits_at, value_at}
 use Rattle.graph_moments.proofs.OnLines.{on_phaser}
 use Rattle.graph_moments.proofs.Steps.{has_inputs}
-use Rattle.graph_turns.specs.Nexts.{next_of, waits, is_live, number_on}
+use Rattle.graph_turns.specs.Nexts.{next_of, waits, number_on}
 use Rattle.graph_turns.specs.Answers.{output_at}
 use Rattle.graph_turns.proofs.Boundaries.{all_put, made_many, all_taken}
 use Rattle.graph_turns.proofs.Places.{place_of_output}

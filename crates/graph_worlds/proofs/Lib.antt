@@ -21,3 +21,6 @@ pub mod Rooms
 pub mod Searching
 pub mod Stalling
 pub mod Stepping
+pub mod LeftAlone
+pub mod Staying
+pub mod BlockedLists

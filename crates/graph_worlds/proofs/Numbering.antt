@@ -1,11 +1,11 @@
 -- How many numbers were used on a phaser: one for each task that is registered there, and the
 -- founder's.
-use Rattle.std.proofs.Common.{◌≡◌, ◌≢◌, ℕ, zero, suc, ◌+◌, ◌-◌, ◌<◌, ◌≤◌, Bool, true, false, cond, eqb, List, [], ◌∷◌, ◌^◌, Option, Some, None, is_some, length, max, refl, sym, ap, subst, ◌∙◌, arith, ◌⊎◌, inl, inr, ℤ}
+use Rattle.std.proofs.Common.{◌≡◌, ◌≢◌, ℕ, zero, suc, ◌+◌, ◌-◌, ◌<◌, ◌≤◌, Bool, true, false, cond, eqb, [], ◌∷◌, ◌^◌, Option, Some, None, is_some, length, max, refl, sym, ap, ◌∙◌, arith, ◌⊎◌, inl, inr}
 use Rattle.std.specs.Prelude.{nat_lt}
 use Rattle.std.proofs.lemmas.Bool.{eqb-true, eq-eqb, cases_lt, lt-ltb}
 use Rattle.phase_base.specs.declared.mode.Mode.{Mode}
 use Rattle.phase_history.specs.declared.event.Event.{Event}
-use Rattle.phase_history.specs.declared.event.Event.TheVariants.{Registered, Signalled, Waited, Dropped}
+use Rattle.phase_history.specs.declared.event.Event.TheVariants.{Signalled, Waited, Dropped}
 use Rattle.phase_history.specs.Histories.{History, greatest_used}
 use Rattle.phase_registry.specs.Rosters.{next_after}
 use Rattle.graph_base.specs.declared.limits.TheConstants.{TASKS_MAX}

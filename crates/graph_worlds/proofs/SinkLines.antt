@@ -9,7 +9,6 @@ use Rattle.std.proofs.lemmas.Option.{slice_get_read, slice_get_within, get_or_fr
 use Rattle.stream_eval.specs.Results.{sink_values}
 use Rattle.stream_eval.specs.declared.whole.Lines.{Lines}
 use Rattle.graph_worlds.specs.Calls.{HasRoomIn, one_more, with_line}
-use Rattle.graph_worlds.proofs.Setting.{slice_get-set_same}
 
 pub same_lines : (lines : List Lines) (i : ℕ) (read new : Lines) → read ≡ get_or lines i read
     → sink_values new ≡ sink_values read → map sink_values (set lines i new) ≡ map sink_values lines

@@ -1,5 +1,5 @@
 -- Lists of tasks in memory.
-use Rattle.std.proofs.Common.{◌≡◌, ℕ, zero, suc, ◌+◌, ◌<◌, ◌≤◌, Bool, true, false, ◌||◌, eqb, List, [], ◌∷◌, ◌++◌, length, get_or, set, map, refl, sym, ap, subst, ◌∙◌, arith}
+use Rattle.std.proofs.Common.{◌≡◌, ℕ, zero, suc, ◌+◌, ◌<◌, ◌≤◌, Bool, true, false, ◌||◌, eqb, List, [], ◌∷◌, ◌++◌, length, get_or, set, map, replicate, refl, sym, ap, subst, ◌∙◌, arith}
 use Rattle.std.specs.List.{All, Any, list_any, IsDistinct}
 use Rattle.std.specs.Cmp.{nat_eq_equiv}
 use Rattle.std.proofs.lemmas.Bool.{eqb-true}
@@ -124,3 +124,10 @@ one_more_list old new list is items each p =
     ∙ ap (λ ls. get_or ls p []) (map_push (λ (l : SmallVec ℕ). l.items) old list)
     ∙ ap (λ x. get_or (map (λ (l : SmallVec ℕ). l.items) old ++ x ∷ []) p []) items
     ∙ one_more_empty (map (λ (l : SmallVec ℕ). l.items) old) each p
+
+-- of so many marks none is made at first
+pub none_marked : (n t : ℕ) → get_or (replicate n false) t false ≡ false
+none_marked zero zero = refl
+none_marked zero (suc t) = refl
+none_marked (suc n) zero = refl
+none_marked (suc n) (suc t) = none_marked n t

@@ -16,14 +16,16 @@ use Rattle.graph_turns.proofs.Signalling.{live-is}
 use Rattle.graph_turns.proofs.Turning.{turn_makes_next}
 use Rattle.graph_steps.proofs.Outputs.{output_there}
 use Rattle.graph_worlds.specs.Machines.{IsMachineAt}
-use Rattle.graph_worlds.specs.Turning.{Shows, HadTurn, phaser_of, called_on, parked_after, parked_by, told_of}
+use Rattle.graph_worlds.specs.Blocking.{called_on, AreBlocked}
+use Rattle.graph_worlds.specs.Turning.{Shows, HadTurn, after_turn_of, phaser_of, parked_after, parked_by, told_of}
 use Rattle.graph_worlds.specs.Parking.{with_task}
-use Rattle.graph_worlds.specs.Worlds.{WorldState}
+use Rattle.graph_worlds.specs.Worlds.{WorldState, IsWorldAt}
 use Rattle.graph_worlds.specs.Tellings.{told_by, parked_with, IsOnPhaser}
 use Rattle.graph_worlds.specs.declared.machine.Machine.{Machine}
 use Rattle.graph_worlds.specs.declared.made.Made.{Made}
 use Rattle.graph_worlds.specs.declared.made.Made.TheVariants as made
 use Rattle.graph_worlds.specs.declared.turned.Turned.{Turned}
+use Rattle.graph_worlds.proofs.BlockedLists.{blocked_after}
 use Rattle.graph_worlds.proofs.Lively.{live_next}
 use Rattle.graph_worlds.proofs.Stalling.{leave_moves, register_moves}
 use Rattle.graph_worlds.proofs.Stepping.{sample_output, signal_output, wait_input, exchange_input}
@@ -199,6 +201,35 @@ turn_parks_so world m t it parked none s same =
         → parked_by world m t
         ≡ parked_after world.job t (next_of world.job m t) (answer_of_turn world.job m t)
         world.parked
+    as_is world none = rw none refl
+
+-- the tasks in the lists are blocked after the turn
+pub turn_blocks_so : (job : Job) (old new : Machine) (m : Moment) (t : ℕ) (it : Made)
+    (parked after : List (List ℕ)) → HadTurn job old new t it → after ≡ parked_with it t parked
+    → IsMachineAt job m old → AreBlocked job m parked
+    → AreBlocked job (after_answer job (answer_of_turn job m t) m) after
+turn_blocks_so job old new m t it parked after had same at were =
+    subst (AreBlocked job (after_answer job (answer_of_turn job m t) m))
+    (sym (same ∙ parks_so job m t (answer_of_turn job m t) it parked (had.shows m at)))
+    (blocked_after job m old t parked at were)
+
+-- the world stands at the moment after the turn
+pub turn_stands_so : (world : WorldState) (new : Machine) (parked : List (List ℕ))
+    (met : Option Where) (m : Moment) (t : ℕ) (it : Made) → world.met ≡ None
+    → HadTurn world.job world.machine new t it → parked ≡ parked_with it t world.parked
+    → IsWorldAt world m
+    → IsWorldAt record { job = world.job; machine = new; met = met; parked = parked }
+    (after_turn_of world m t)
+turn_stands_so world new parked met m t it none had same at =
+    subst (IsWorldAt record { job = world.job; machine = new; met = met; parked = parked })
+    (sym (as_is world none)) record {
+      machine = had.after m at.machine;
+      parked = turn_blocks_so world.job world.machine new m t it world.parked parked had same
+          at.machine at.parked;
+    }
+  where
+    as_is : (world : WorldState) → world.met ≡ None
+        → after_turn_of world m t ≡ after_answer world.job (answer_of_turn world.job m t) m
     as_is world none = rw none refl
 
 -- there are as many lists as before

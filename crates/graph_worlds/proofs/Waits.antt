@@ -1,10 +1,9 @@
 -- The turn of a task that waits.
 use Rattle.std.proofs.Common.{◌≡◌, ◌≢◌, ℕ, ℤ, List, suc, ◌+◌, ◌<◌, ◌≤◌, Bool, true, false, cond, eqb, [], ◌∷◌, ◌++◌, Option, Some, None, length, get_or, slice_get, set, map, refl, sym, ap, subst, ◌∙◌, arith}
-use Rattle.std.specs.Prelude.{Result, Ok, Err, nat_lt, IfSome, OnErr}
+use Rattle.std.specs.Prelude.{Result, Ok, Err, nat_lt, IfSome}
 use Rattle.std.specs.List.{All}
 use Rattle.std.proofs.lemmas.List.{length-map}
 use Rattle.std.proofs.lemmas.Option.{slice_get_within}
-use Rattle.stream_eval.specs.declared.whole.Lines.{Lines}
 use Rattle.std.proofs.lemmas.Bool.{eq-eqb, eqb-true, ne_eqb}
 use Rattle.phase_accum.specs.declared.outcome.Outcome.{Outcome}
 use Rattle.phase_accum.specs.declared.outcome.Outcome.TheVariants as outcomes

@@ -1,3 +1,4 @@
+pub mod Blocking
 pub mod Calls
 pub mod Machines
 pub mod Parking

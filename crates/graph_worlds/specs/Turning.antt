@@ -1,16 +1,16 @@
 -- What a turn of a task does to a machine and to the lists of blocked tasks.
 use Rattle.std.specs.Prelude.{◌≡◌, ◌≢◌, ℕ, List, [], Option, Some, None, set, get_or}
-use Rattle.graph_base.specs.Graphs.{task_at}
 use Rattle.graph_base.specs.declared.place.Place.TheVariants as place
 use Rattle.stream_lists.specs.Jobs.{Job}
 use Rattle.stream_lists.specs.Ranges.{Where}
-use Rattle.graph_moments.specs.Moments.{Moment, input_at}
+use Rattle.graph_moments.specs.Moments.{Moment}
 use Rattle.graph_turns.specs.TaskEvents as events
 use Rattle.graph_turns.specs.TaskEvents.{TaskEvent}
 use Rattle.graph_turns.specs.Nexts as turns
 use Rattle.graph_turns.specs.Reached.{IsReachable}
 use Rattle.graph_turns.specs.Answers as answers
-use Rattle.graph_turns.specs.Answers.{Answer, Told, answer_of_turn, after_answer, output_at}
+use Rattle.graph_turns.specs.Answers.{Answer, Told, answer_of_turn, after_answer}
+use Rattle.graph_worlds.specs.Blocking.{called_on}
 use Rattle.graph_worlds.specs.Parking.{with_task}
 use Rattle.graph_worlds.specs.Machines.{IsMachine, IsMachineAt, UsesFew}
 use Rattle.graph_worlds.specs.Worlds.{WorldState}
@@ -36,14 +36,6 @@ phaser_of (events.first_wait t k p n outcome) = p
 phaser_of (events.exchange_wait t p n outcome) = p
 phaser_of (events.leave t p n) = p
 phaser_of (events.child t p n c a mode) = p
-
--- the phaser that task t would signal or wait on by what it does next
-abbrev pub called_on : Job → ℕ → turns.Next → ℕ
-called_on job t turns.samples = output_at job t 0
-called_on job t (turns.signals j) = output_at job t j
-called_on job t (turns.waits k) = input_at (task_at job.graph t) k
-called_on job t turns.exchanges = input_at (task_at job.graph t) 1
-called_on job t next = 0
 
 -- the lists of blocked tasks after an answer: a task that was blocked stands in the list of the
 -- phaser of its call, and an event on a phaser empties that one's list

@@ -5,6 +5,7 @@ use Rattle.stream_lists.specs.Ranges.{Where}
 use Rattle.graph_moments.specs.Moments.{Moment}
 use Rattle.graph_worlds.specs.declared.machine.Machine.{Machine}
 use Rattle.graph_worlds.specs.Machines.{IsMachineAt}
+use Rattle.graph_worlds.specs.Blocking.{AreBlocked}
 
 -- a job, the machine that runs it, where a value was out of range, and the tasks that were blocked
 -- on each phaser since its last event
@@ -14,6 +15,8 @@ pub record WorldState : Type 0 where
   pub met : Option Where
   pub parked : List (List ℕ)
 
--- the world stands at this moment of its job's run
-abbrev pub IsWorldAt : WorldState → Moment → Type 0
-IsWorldAt world m = IsMachineAt world.job m world.machine
+-- the world stands at this moment of its job's run: its machine does, and the tasks in its lists are
+-- blocked there
+pub record IsWorldAt (world : WorldState) (m : Moment) : Type 0 where
+  pub machine : IsMachineAt world.job m world.machine
+  pub parked : AreBlocked world.job m world.parked

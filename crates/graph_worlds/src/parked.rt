@@ -1,6 +1,7 @@
 //! The tasks that were blocked on each phaser.
-ghost use Rattle.std.specs.Prelude.{◌≡◌, ◌<◌, [], length, get_or, set, ℕ, IfOk};
-ghost use Rattle.graph_worlds.specs.Parking.{IsTaskList, with_task};
+ghost use Rattle.std.specs.Prelude.{◌≡◌, ◌<◌, ◌==◌, ◌⊎◌, [], length, get_or, set, ℕ, IfOk, true, false};
+ghost use Rattle.std.specs.List.{All, list_any};
+ghost use Rattle.graph_worlds.specs.Parking.{IsTaskList, StandsIn, with_task};
 ghost use Rattle.graph_worlds.specs.Tellings.{IsOnPhaser, parked_with};
 
 use crate::made::Made;
@@ -47,6 +48,17 @@ impl Parked {
         self.lists[phaser].as_slice()
     }
 
+    /// Marks the tasks that stand in a list.
+    pub fn marks(&self) -> [bool; 64]
+        ensures { (t : ℕ) → get_or result t false ≡ true → StandsIn self.now t }
+    {
+        let mut marks = [false; 64];
+        for list in &self.lists {
+            mark(&mut marks, list.as_slice());
+        }
+        marks
+    }
+
     /// Keeps what the call of a task did.
     pub fn note(&mut self, made: Made, task: usize)
         requires { IsOnPhaser made task (length self.old) }
@@ -75,6 +87,17 @@ impl Parked {
         ensures { self.new ≡ set self.old phaser [] }
     {
         self.lists[phaser].clear();
+    }
+}
+
+/// Marks these tasks.
+fn mark(marks: &mut [bool; 64], tasks: &[usize])
+    requires { All (λ t. t < 64) tasks.now }
+    ensures { (t : ℕ) → get_or marks.new t false ≡ true
+        → (get_or marks.old t false ≡ true) ⊎ (list_any (λ u. u == t) tasks.now ≡ true) }
+{
+    for task in tasks {
+        marks[*task] = true;
     }
 }
 

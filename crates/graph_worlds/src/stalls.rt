@@ -1,5 +1,5 @@
 //! Whether no task can move.
-ghost use Rattle.std.specs.Prelude.{◌≡◌, ◌<◌, ◌&&◌, ◌||◌, ℕ, true, nat_le, length, Some};
+ghost use Rattle.std.specs.Prelude.{◌≡◌, ◌<◌, ◌&&◌, ◌||◌, ℕ, true, false, nat_le, length, get_or, Some};
 ghost use Rattle.std.specs.List.{list_any, list_all, range_with_len};
 ghost use Rattle.phase_base.specs.Limits.{Limits};
 ghost use Rattle.phase_base.specs.Members.{least, wait_phases};
@@ -13,9 +13,11 @@ ghost use Rattle.graph_turns.specs.Nexts.{has_signaller, is_live, number_on, sig
 ghost use Rattle.graph_turns.specs.Answers.{is_stalled, is_still, output_at};
 ghost use Rattle.graph_steps.specs.Steps.{owed_of};
 ghost use Rattle.graph_worlds.specs.Stalls.{blocks_signal, blocks_wait, would_block, is_value_in_range};
+ghost use Rattle.graph_worlds.specs.Blocking.{AreBlocked};
 ghost use Rattle.graph_worlds.specs.Machines.{next_by};
 
 use crate::machine::Machine;
+use crate::parked::Parked;
 use crate::step::Step;
 use graph_base::Op;
 use graph_cores::AnyCore;
@@ -27,12 +29,14 @@ impl Machine {
     ghost use Rattle.graph_worlds.specs.Machines.{IsMachineAt, IsMachine, IsLiveIn};
     ghost use Rattle.graph_worlds.specs.Stalls.{MakesNext};
 
-    /// Whether some task is live, and the turn of each live task would be blocked.
-    pub fn is_stalled(&self, job: &Job) -> bool
+    /// Whether some task is live, and the turn of each live task would be blocked. It asks the
+    /// phasers for those tasks alone that stand in no list.
+    pub fn is_stalled(&self, job: &Job, parked: &Parked) -> bool
         requires { IsMachine job.now self.now }
-        ensures { (m : Moment) → IsMachineAt job.now m self.now → is_stalled job.now m ≡ result }
+        ensures { (m : Moment) → IsMachineAt job.now m self.now → AreBlocked job.now m parked.now
+            → is_stalled job.now m ≡ result }
     {
-        self.has_live(job) && self.are_still(job)
+        self.has_live(job) && self.are_still(job, &parked.marks())
     }
 
     /// Whether some task is live.
@@ -49,15 +53,16 @@ impl Machine {
         false
     }
 
-    /// Whether the turn of each live task would be blocked.
-    fn are_still(&self, job: &Job) -> bool
+    /// Whether the turn of each live task would be blocked, as that of each marked one is.
+    fn are_still(&self, job: &Job, marks: &[bool; 64]) -> bool
         requires { IsMachine job.now self.now }
         ensures { (m : Moment) → IsMachineAt job.now m self.now
+            → ((t : ℕ) → get_or marks.now t false ≡ true → is_still job.now m t ≡ true)
             → list_all (is_still job.now m) (range_with_len 0 (length job.now.graph.tasks))
             ≡ result }
     {
         for t in 0..job.graph().tasks() {
-            if !self.is_still(job, t) {
+            if !marks[t] && !self.is_still(job, t) {
                 return false;
             }
         }

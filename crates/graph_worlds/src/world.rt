@@ -32,8 +32,10 @@ pub struct World<'a> {
 
 impl<'a> Model for World<'a> {
     ghost use Rattle.std.specs.Prelude.{◌≡◌, length};
+    ghost use Rattle.graph_moments.specs.Moments.{Moment};
     ghost use Rattle.graph_worlds.specs.Worlds.{WorldState};
-    ghost use Rattle.graph_worlds.specs.Machines.{IsMachine};
+    ghost use Rattle.graph_worlds.specs.Blocking.{AreBlocked};
+    ghost use Rattle.graph_worlds.specs.Machines.{IsMachineAt};
 
     ghost Value = { WorldState };
 
@@ -44,7 +46,8 @@ impl<'a> Model for World<'a> {
       parked = w.parked;
     } };
 
-    ghost invariant = { λ w. IsMachine w.job.now w.machine
+    ghost invariant = { λ w. ((m : Moment) × IsMachineAt w.job.now m w.machine
+        × AreBlocked w.job.now m w.parked)
         × (length w.parked ≡ length w.job.now.graph.phasers) };
 }
 
@@ -106,13 +109,13 @@ impl<'a> World<'a> {
     /// Tells whether no task can move: some task is live, and the turn of each live task would be
     /// blocked. After a value out of range no run is stalled. It takes no memory.
     ///
-    /// It looks at each task.
+    /// It looks at each task, and asks the phasers for those alone that stand in no list of `parked`.
     pub fn stalled(&self) -> bool
         ensures stalled { (m : Moment) → IsWorldAt self.now m → self.now.met ≡ None
             → is_stalled self.now.job m ≡ result }
         ensures met { self.now.met ≢ None → result ≡ false }
     {
-        self.met.is_none() && self.machine.is_stalled(self.job)
+        self.met.is_none() && self.machine.is_stalled(self.job, &self.parked)
     }
 
     /// Gives a turn to task number `task`: it makes its next call, or tells why it makes none. After

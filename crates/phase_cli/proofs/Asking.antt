@@ -3,7 +3,7 @@ use Rattle.std.proofs.Common.{◌≡◌, ◌≢◌, ◌⊎◌, inl, inr, ℕ, Li
 use Rattle.phase_cli.specs.Ends.{IsAnswer, IsStatus, MayEnd, MayEndAs}
 use Rattle.phase_status.specs.Statuses.{Reports}
 use Rattle.phase_words.proofs.NoCalls.{asked-help-not-taken, asked-version-not-taken, refusal-not-help, refusal-not-taken, refusal-not-version, shown-not-taken, taken-or-not}
-use Rattle.phase_words.specs.CommandLine.{AreRefused, AreTaken, Asked, Asks, AskHelp, AskVersion, IsNoCall, asked_in, asked_of, check, eval, replay}
+use Rattle.phase_words.specs.CommandLine.{AreRefused, AreTaken, Asked, Asks, AskHelp, AskVersion, IsNoCall, asked_in, asked_of, check, draw, eval, replay}
 use Rattle.phase_words.specs.declared.call.Call.{Call}
 use Rattle.phase_words.specs.declared.call.NoCall.{NoCall}
 use Rattle.phase_words.specs.declared.call.NoCall.TheVariants as no_call
@@ -30,6 +30,15 @@ replay-not-eval name sink = λ e. search rules
 check-not-eval : (name other : List ℕ) (sink : Option (List ℕ)) → check name ≢ eval other sink
 check-not-eval name other sink = λ e. search rules
 
+replay-not-draw : (name : List ℕ) → replay ≢ draw name
+replay-not-draw name = λ e. search rules
+
+check-not-draw : (name other : List ℕ) → check name ≢ draw other
+check-not-draw name other = λ e. search rules
+
+eval-not-draw : (name : List ℕ) (sink : Option (List ℕ)) (other : List ℕ) → eval name sink ≢ draw other
+eval-not-draw name sink other = λ e. search rules
+
 pub not-check : (words : List (List ℕ)) (name : List ℕ) → Asks words replay → Asks words (check name) → ⊥
 not-check words name p q = replay-not-check name (asks-one words replay (check name) p q)
 
@@ -42,20 +51,38 @@ pub not-both : (words : List (List ℕ)) (name other : List ℕ) (sink : Option 
 not-both words name other sink p q =
     check-not-eval name other sink (asks-one words (check name) (eval other sink) p q)
 
+pub not-draw : (words : List (List ℕ)) (name : List ℕ) → Asks words replay → Asks words (draw name) → ⊥
+not-draw words name p q = replay-not-draw name (asks-one words replay (draw name) p q)
+
+pub not-checked-drawn : (words : List (List ℕ)) (name other : List ℕ) → Asks words (check name)
+    → Asks words (draw other) → ⊥
+not-checked-drawn words name other p q =
+    check-not-draw name other (asks-one words (check name) (draw other) p q)
+
+pub not-evaluated-drawn : (words : List (List ℕ)) (name : List ℕ) (sink : Option (List ℕ))
+    (other : List ℕ) → Asks words (eval name sink) → Asks words (draw other) → ⊥
+not-evaluated-drawn words name sink other p q =
+    eval-not-draw name sink other (asks-one words (eval name sink) (draw other) p q)
+
 -- the name that is asked for
 abbrev name_of : Asked → List ℕ
 name_of replay = []
 name_of (check name) = name
 name_of (eval name sink) = name
+name_of (draw name) = name
 
 -- and the name of a sink
 abbrev sink_of : Asked → Option (List ℕ)
 sink_of replay = None
 sink_of (check name) = None
 sink_of (eval name sink) = sink
+sink_of (draw name) = None
 
 pub same-check : (words : List (List ℕ)) (name other : List ℕ) → Asks words (check name) → Asks words (check other) → name ≡ other
 same-check words name other p q = ap name_of (asks-one words (check name) (check other) p q)
+
+pub same-draw : (words : List (List ℕ)) (name other : List ℕ) → Asks words (draw name) → Asks words (draw other) → name ≡ other
+same-draw words name other p q = ap name_of (asks-one words (draw name) (draw other) p q)
 
 pub same-eval : (words : List (List ℕ)) (name other : List ℕ) (sink also : Option (List ℕ))
     → Asks words (eval name sink) → Asks words (eval other also) → (name ≡ other) × (sink ≡ also)
@@ -87,6 +114,7 @@ five-as : (what : Asked) (status : ℕ) → status ≡ 5 → MayEndAs what statu
 five-as replay status five = inr five
 five-as (check name) status five = inr (inr five)
 five-as (eval name sink) status five = inr (inr (inr five))
+five-as (draw name) status five = inr (inr five)
 
 -- the status of words that ask for help
 help-ends : {W : Type 0} (words : List (List ℕ)) (none : NoCall) (status : ℕ) (old new : Watched W) (before after : WriterState)
@@ -149,6 +177,9 @@ any-as (eval name sink) status (inl zero) = inl zero
 any-as (eval name sink) status (inr (inl one)) = inr (inl one)
 any-as (eval name sink) status (inr (inr (inl three))) = inr (inr (inr (inl three)))
 any-as (eval name sink) status (inr (inr (inr five))) = inr (inr (inr (inr five)))
+any-as (draw name) status (inl zero) = inl zero
+any-as (draw name) status (inr (inl one)) = inr (inl one)
+any-as (draw name) status (inr (inr five)) = inr (inr (inr (inr five)))
 
 any-untaken : (status : ℕ) → (status ≡ 0) ⊎ ((status ≡ 2) ⊎ (status ≡ 5)) → IsStatus status
 any-untaken status (inl zero) = inl zero
@@ -172,6 +203,9 @@ two-as (eval name sink) status two (inl zero) = omega (arith, two, zero)
 two-as (eval name sink) status two (inr (inl one)) = omega (arith, two, one)
 two-as (eval name sink) status two (inr (inr (inl three))) = omega (arith, two, three)
 two-as (eval name sink) status two (inr (inr (inr five))) = omega (arith, two, five)
+two-as (draw name) status two (inl zero) = omega (arith, two, zero)
+two-as (draw name) status two (inr (inl one)) = omega (arith, two, one)
+two-as (draw name) status two (inr (inr five)) = omega (arith, two, five)
 
 pub taken-not-two : (words : List (List ℕ)) (status : ℕ) → MayEnd words status → AreTaken words → status ≢ 2
 taken-not-two words status ends taken = λ two.

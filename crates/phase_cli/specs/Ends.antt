@@ -2,7 +2,7 @@
 use Rattle.std.specs.Prelude.{◌≡◌, ◌⊎◌, ℕ, List, Option}
 use Rattle.phase_replay.specs.Replay.{HasCause}
 use Rattle.phase_status.specs.Statuses.{Reports}
-use Rattle.phase_words.specs.CommandLine.{AreRefused, AreTaken, Asked, Asks, AskHelp, AskVersion, check, eval, replay}
+use Rattle.phase_words.specs.CommandLine.{AreRefused, AreTaken, Asked, Asks, AskGraph, AskHelp, AskReplay, AskVersion, check, draw, eval, replay}
 use Rattle.phase_words.specs.declared.call.NoCall.{NoCall}
 use Rattle.phase_words.specs.declared.call.NoCall.TheVariants as no_call
 use Rattle.watched_io.specs.States.{ReaderState, WriterState, writer_state}
@@ -19,6 +19,7 @@ abbrev pub MayEndAs : Asked → ℕ → Type 0
 MayEndAs replay status = (status ≡ 0) ⊎ (status ≡ 5)
 MayEndAs (check _) status = (status ≡ 0) ⊎ ((status ≡ 1) ⊎ (status ≡ 5))
 MayEndAs (eval _ _) status = (status ≡ 0) ⊎ ((status ≡ 1) ⊎ ((status ≡ 3) ⊎ (status ≡ 5)))
+MayEndAs (draw _) status = (status ≡ 0) ⊎ ((status ≡ 1) ⊎ (status ≡ 5))
 
 -- the statuses that may come, by what the words ask for
 pub record MayEnd (words : List (List ℕ)) (status : ℕ) : Type 0 where
@@ -27,6 +28,12 @@ pub record MayEnd (words : List (List ℕ)) (status : ℕ) : Type 0 where
   pub version : AskVersion words → (status ≡ 0) ⊎ (status ≡ 5)
   pub refused : AreRefused words → (status ≡ 2) ⊎ (status ≡ 5)
   pub untaken : (AreTaken words → ⊥) → (status ≡ 0) ⊎ ((status ≡ 2) ⊎ (status ≡ 5))
+
+-- a replay alone reads the input, and words that ask for something of a graph alone open files
+pub record LeavesAlone {R F : Type 0} (words : List (List ℕ)) (input rest : Watched R)
+    (closed files : F) : Type 0 where
+  pub unread : (AskReplay words → ⊥) → rest ≡ input
+  pub unopened : ((name : List ℕ) → AskGraph words name → ⊥) → files ≡ closed
 
 -- memory ran out over the words: no file was opened, and nothing was written but the fault's line
 pub record IsUnbegun {F W : Type 0} (status : ℕ) (closed files : F) (old new : Watched W)

@@ -300,7 +300,7 @@ fn a_list_of_several_pieces(rt: HostRuntime) -> Result<(), Fail> {
 #[test]
 fn a_writer_of_lists_that_fails(rt: HostRuntime) -> Result<(), Fail> {
     let samples = [("s.csv", "1\n2\n")];
-    for command in ["check", "eval"] {
+    for command in ["check", "eval", "draw"] {
         let mut faults = Vec::new(rt.alloc());
         let mut files = Held {
             graph: FIR,
@@ -414,5 +414,61 @@ fn no_file_is_asked_for_behind_the_first_fault(rt: HostRuntime) -> Result<(), Fa
             "h\n"
         )?
     );
+    Ok(())
+}
+
+/// A source with a child, and its drawing.
+const CHILD: &str = "phaser X sum 4\nsource s s.csv -> X\nsink out X\nsink late X by out at 2\n";
+
+const CHILD_DRAWN: &str = r#"digraph {
+    rankdir=LR;
+    "X" [shape=ellipse, label="X\nsum 4"];
+    "s" [shape=box, label="s\nsource"];
+    "out" [shape=box, label="out\nsink"];
+    "late" [shape=box, label="late\nsink"];
+    "s" -> "X";
+    "X" -> "out";
+    "X" -> "late";
+    "late" -> "out" [style=dashed, label="at 2"];
+}
+"#;
+
+#[test]
+fn a_drawing_asks_for_the_graph_alone(rt: HostRuntime) -> Result<(), Fail> {
+    let held = Held {
+        graph: CHILD,
+        samples: &[],
+    };
+    let drawn = run_graph(rt.alloc(), "draw", held)?;
+    assert_eq!(rt; drawn.status, 0);
+    assert_eq!(rt; drawn.output.as_slice(), CHILD_DRAWN.as_bytes());
+    assert!(rt; drawn.faults.is_empty());
+    let samples = [("s.csv", "1\n2\n")];
+    let words = ["draw", "g"];
+    assert!(rt;
+        asks(
+            rt.alloc(),
+            words.as_slice(),
+            CHILD,
+            samples.as_slice(),
+            "g\n"
+        )?
+    );
+    Ok(())
+}
+
+#[test]
+fn a_graph_that_is_not_drawn(rt: HostRuntime) -> Result<(), Fail> {
+    let refused = Held {
+        graph: "sink out X\n",
+        samples: &[],
+    };
+    let told = run_graph(rt.alloc(), "draw", refused)?;
+    assert_eq!(rt; told.status, 1);
+    assert_eq!(rt;
+        told.faults.as_slice(),
+        b"phase: graph line 1: unknown\n".as_slice()
+    );
+    assert!(rt; told.output.is_empty());
     Ok(())
 }

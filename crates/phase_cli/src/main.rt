@@ -1,5 +1,5 @@
 //! The program `phase`: it replays scripts of calls on a phaser, from its input to its output, and
-//! checks and evaluates graphs of filters over phasers.
+//! checks, evaluates and draws graphs of filters over phasers.
 #![tactic(auto)]
 
 mod cli;

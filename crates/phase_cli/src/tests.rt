@@ -166,6 +166,7 @@ Commands:
   replay  Replays the script, as `phase` with no command does
   check   Reads a graph and the samples of its sources
   eval    Writes the values of each sink of a graph
+  draw    Writes a drawing of a graph, as text for Graphviz
   help    Print this message or the help of the given subcommand(s)
 
 Options:
@@ -181,6 +182,8 @@ Example, with the reply to each line and what it means:
   signal 0          ok 0         and so has task 0
   wait 0            value 0 7    phase 0 is complete, and its value is 7
 A line that is no call is answered by `bad line`.
+
+`phase run --help` tells of another program, which runs a graph on threads.
 
 Exit status: 0 done; 1 a graph or its samples are refused; 2 the words were not
 understood; 3 a value of a graph is out of range; 5 a read or a write failed, or

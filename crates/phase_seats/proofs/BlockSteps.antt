@@ -1,10 +1,9 @@
 -- Blocks of phases under the turn.
-use Rattle.std.proofs.Common.{◌≡◌, ℕ, ℤ, true, List, length, Option, Some, refl, ap, ◌∙◌}
-use Rattle.std.specs.Prelude.{Ok, Err, IfOk, IfErr, Result, is_some}
+use Rattle.std.proofs.Common.{◌≡◌, ℕ, ℤ, List, length, Option, Some, refl, ap, ◌∙◌}
+use Rattle.std.specs.Prelude.{Ok, Err, Result}
 use Rattle.std.specs.Result.{result_ok}
 use Rattle.phase_base.specs.Members.{entry_of, signalled, waited}
 use Rattle.phase_base.specs.declared.entry.Entry.{Entry}
-use Rattle.phase_accum.specs.Operations.{Operation}
 use Rattle.phase_accum.specs.declared.single.Single.{Single}
 use Rattle.phase_history.specs.declared.event.Event.TheVariants.{Signalled, Waited}
 use Rattle.phase_history.specs.declared.got.GotBlock.{GotBlock}
@@ -14,30 +13,9 @@ use Rattle.phase_history.specs.declared.refusal.WaitRefusal.{WaitRefusal}
 use Rattle.phase_history.specs.Histories.{History, members_of}
 use Rattle.phase_history.specs.Replies.{after_signal, after_wait_block}
 use Rattle.phase_history.proofs.MemberLemmas.{entry_of-changed_same}
-use Rattle.phase_core.specs.Cores.{CoreState, StandsFor}
-use Rattle.phase_seats.specs.declared.tried.Tried.TheVariants.{Busy, Refused}
 use Rattle.phase_seats.specs.Rule.{Allows, Keeps}
-use Rattle.phase_seats.specs.Calls.{Tries}
-use Rattle.phase_seats.specs.Blocks.{entry_after_block, entry_after_values, tried}
+use Rattle.phase_seats.specs.Blocks.{entry_after_block, entry_after_values}
 use Rattle.phase_seats.proofs.Giving.{OwnCame, own_event}
-
--- ---- an answer of the core, as a try tells it
-
-pub tries : {X R : Type 0} (same : Type 0) (call : Result X R → Type 0) (answer : Result X R) → call answer → Tries same call (tried answer)
-tries same call (Ok x) is = is
-tries same call (Err refusal) is = is
-
-pub result_ok-tried : {X R : Type 0} (answer : Result X R) → result_ok (tried answer) ≡ result_ok answer
-result_ok-tried (Ok x) = refl
-result_ok-tried (Err refusal) = refl
-
-pub tried_never_busy : {X R : Type 0} (answer : Result X R) → tried answer ≡ Err Busy → ⊥
-tried_never_busy (Ok x) is = cc
-tried_never_busy (Err refusal) is = cc
-
-pub refused_as : {X R : Type 0} (answer : Result X R) (refusal : R) → tried answer ≡ Err (Refused refusal) → answer ≡ Err refusal
-refused_as (Ok x) refusal is = absurd (cc)
-refused_as (Err other) refusal is = cc
 
 -- ---- a signal
 
@@ -81,15 +59,3 @@ pub member_waits_block : (me : ℕ) (h : History) (entry : Entry) (answer : Resu
 member_waits_block me h entry (Ok (block.Values phase count)) there = entry_of-changed_same me (waited count) entry (members_of h) there
 member_waits_block me h entry (Ok block.Ended) there = there
 member_waits_block me h entry (Err refusal) there = there
-
--- ---- a member
-
--- a task that stands somewhere in the core's history is one of the core's members
-pub viewed : {A : Type 0} (op : Operation A) (x : CoreState A) (h : History) (me : ℕ) (entry : Entry) → StandsFor op x h
-    → entry_of (members_of h) me ≡ Some entry → is_some (entry_of x.members me) ≡ true
-viewed op x h me entry stands there = ap (λ ms. is_some (entry_of ms me)) stands.members_are ∙ ap is_some there
-
--- what is known of an answer, of whichever kind it is
-pub either : {X R : Type 0} (P : Result X R → Type 0) (answer : Result X R) → IfOk answer (λ x. P (Ok x)) → IfErr answer (λ e. P (Err e)) → P answer
-either P (Ok x) ok err = ok
-either P (Err refusal) ok err = err

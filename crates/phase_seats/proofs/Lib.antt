@@ -1,6 +1,7 @@
 pub mod Keeping
 pub mod Giving
 pub mod Answering
+pub mod Stepping
 pub mod SignalSteps
 pub mod WaitSteps
 pub mod RegisterSteps

@@ -1,6 +1,6 @@
 -- Blocks of phases, which one step signals or waits for: what each step answers, and how the
 -- history that its task has seen goes on.
-use Rattle.std.specs.Prelude.{◌≡◌, ℕ, ◌+◌, ℤ, List, [], ◌∷◌, Option, Some, None, Result, Ok, Err, length}
+use Rattle.std.specs.Prelude.{◌≡◌, ℕ, ◌+◌, ℤ, List, [], ◌∷◌, Option, Some, None, Result, length}
 use Rattle.phase_base.specs.Limits.{Limits}
 use Rattle.phase_base.specs.declared.entry.Entry.{Entry}
 use Rattle.phase_accum.specs.Operations.{Operation}
@@ -16,8 +16,6 @@ use Rattle.phase_history.specs.Phases.{stream_of}
 use Rattle.phase_history.specs.Replies.{signal_reply, after_signal, wait_block_reply, after_wait_block}
 use Rattle.phase_history.specs.Others.{OthersCame}
 use Rattle.phase_core.specs.Blocks.{StandForLists, written}
-use Rattle.phase_seats.specs.declared.tried.Tried.{Tried}
-use Rattle.phase_seats.specs.declared.tried.Tried.TheVariants.{Refused}
 
 -- a signal of as many phases as there are parcels: events of others, and there the definition's
 -- answer, with lists of sends for which the parcels stand, one each; then the signal's event, where
@@ -65,8 +63,3 @@ entry_after_block n signalled entry =
 abbrev pub entry_after_values : Option GotBlock → Entry → Entry
 entry_after_values got entry =
     record entry { wait_phase = phase_after_values got entry.wait_phase }
-
--- for the code: an answer of a call under the turn, as a try tells it
-abbrev pub tried : {X R : Type 0} → Result X R → Result X (Tried R)
-tried (Ok answer) = Ok answer
-tried (Err refusal) = Err (Refused refusal)

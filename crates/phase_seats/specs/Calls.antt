@@ -34,6 +34,11 @@ abbrev pub Tries : {X R : Type 0} → Type 0 → (Result X R → Type 0) → Res
 Tries same call (Ok answer) = call (Ok answer)
 Tries same call (Err tried) = Refuses same (λ refusal. call (Err refusal)) tried
 
+-- for the code: an answer of a call under the turn, as a try tells it
+abbrev pub tried : {X R : Type 0} → Result X R → Result X (Tried R)
+tried (Ok answer) = Ok answer
+tried (Err refusal) = Err (Refused refusal)
+
 -- a signal: events of others, and there the definition's answer, with sends that the task holds;
 -- then the signal's event, where it was accepted
 pub record Signals {A : Type 0} (op : Operation A) (limits : Limits) (me : ℕ) (held : Parcel A)

@@ -134,9 +134,12 @@ impl Hints {
         }
     }
 
-    // Pauses while the phase is not complete.
-    pub fn pause_for_phase<R: Wait>(&self, rt: &R, phase: u64) {
-        self.done.pause(rt, phase.saturating_add(1));
+    // Pauses while the phase is not complete, before a wait for so many phases. A wait for none, or
+    // for more than the bound, is refused, and does not pause.
+    pub fn pause_for_phase<R: Wait>(&self, rt: &R, phase: u64, phases: u64) {
+        if phases != 0 && phases <= self.bound {
+            self.done.pause(rt, phase.saturating_add(1));
+        }
     }
 
     // Pauses while a signal of the phases below `next` is ahead.

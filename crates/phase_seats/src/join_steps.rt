@@ -1,12 +1,10 @@
 //! The step of a seat that registers a waiter which joins now.
-ghost use Rattle.std.specs.Prelude.{◌≡◌, ◌≢◌, [], ◌∷◌, Err, IfOk, IfErr};
 ghost use Rattle.turn_lock.specs.Seats.{IsSeatAt, IsSameSeat, seat_view};
-ghost use Rattle.phase_base.specs.declared.mode.Mode.TheVariants as mode;
-ghost use Rattle.phase_history.specs.Others.{OnlyUsed};
 ghost use Rattle.phase_seats.specs.Views.{known_of};
 ghost use Rattle.phase_seats.specs.Rule.{IsSeatOfTask};
-ghost use Rattle.phase_seats.specs.Calls.{Refuses, RefusesRegister};
-ghost use Rattle.phase_seats.specs.Joins.{HasRegisteredNow};
+ghost use Rattle.phase_seats.specs.Steps.{IsStep, RegistersSeatNow};
+ghost use Rattle.phase_seats.specs.Calls.{Tries};
+ghost use Rattle.phase_seats.specs.Entries.{entry_stays};
 ghost use Rattle.phase_seats.specs.LockedPhasers.{locked_place, locked_terms};
 
 use crate::ghost_steps::Same;
@@ -33,17 +31,11 @@ pub fn register_now<A: Accumulate, K: SignalRule>(
     requires seat { IsSeatAt (locked_place phaser.now) seat }
     requires at { IsSeatOfTask K.allows (locked_terms phaser.now) me entry (seat_view seat) }
     ensures seat { IsSeatAt (locked_place phaser.now) result.0 }
-    ensures at { IsSeatOfTask K.allows (locked_terms phaser.now) me entry (seat_view result.0) }
-    ensures child { IfOk result.1 (λ made. IsSeatAt (locked_place phaser.now) made.1
-        × IsSeatOfTask K.allows (locked_terms phaser.now) made.0 made.2 (seat_view made.1)
-        × ((known_of (seat_view made.1)).seen ≡ (known_of (seat_view result.0)).seen)) }
-    ensures ok { IfOk result.1 (λ made. HasRegisteredNow me made.0 entry made.2
-        (known_of (seat_view seat)).seen (known_of (seat_view result.0)).seen) }
-    ensures err { IfErr result.1 (Refuses (IsSameSeat seat result.0) (RefusesRegister me mode.Wait
-        (known_of (seat_view seat)).seen (known_of (seat_view result.0)).seen)) }
-    ensures known { result.1 ≢ Err (Tried.Refused RegisterRefusal.NoTask) }
-    ensures alone { OnlyUsed (me ∷ []) (known_of (seat_view seat)).seen
-        → result.1 ≢ Err Tried.Busy }
+    ensures step { let old = (known_of (seat_view seat)).seen in
+        IsStep K.allows (locked_terms phaser.now) me RegisterRefusal.NoTask entry_stays
+        (Tries (IsSameSeat seat result.0) (RegistersSeatNow K.allows (locked_place phaser.now)
+        (locked_terms phaser.now) me entry old (known_of (seat_view result.0)).seen) result.1)
+        entry entry (seat_view seat) (seat_view result.0) result.1 }
 {
     let mut turn = match enter(phaser, seat, me, entry) {
         Ok(turn) => turn,

@@ -43,9 +43,9 @@ impl<A: Accumulate, K: SignalRule> LockedPhaser<A, K> {
         Ok((LockedPhaser { lock, hints }, seat))
     }
 
-    /// Pauses while the phase is not complete, or for some time.
-    pub fn pause_for_phase<W: Wait>(&self, rt: &W, phase: u64) {
-        self.hints.pause_for_phase(rt, phase);
+    /// Pauses while the phase is not complete, or for some time, before a wait for so many phases.
+    pub fn pause_for_phase<W: Wait>(&self, rt: &W, phase: u64, phases: u64) {
+        self.hints.pause_for_phase(rt, phase, phases);
     }
 
     /// Pauses while a signal of the phases below `next` is ahead, or for some time.

@@ -1,5 +1,5 @@
 //! The steps of a seat at rest that speaks for one task. Each call of a registration is one.
-ghost use Rattle.std.specs.Prelude.{◌≡◌, ◌≢◌, ℤ, List, [], ◌∷◌, true, false, Ok, Err, IfOk, IfErr, IsOk, IsErr};
+ghost use Rattle.std.specs.Prelude.{◌≡◌, ℤ, List, [], ◌∷◌, true, false, IfOk, IfErr, IsOk, IsErr};
 ghost use Rattle.turn_lock.specs.Seats.{IsSeatAt, IsTurnAt, IsSameSeat};
 ghost use Rattle.turn_lock.specs.Seats.{seat_view, turn_number, turn_view, turn_value};
 ghost use Rattle.turn_lock.specs.Steps.{Gives};
@@ -12,11 +12,10 @@ ghost use Rattle.phase_seats.specs.Views.{known_of, joining, first_part, other_p
 ghost use Rattle.phase_seats.specs.Views.{SpeaksForOne, SpeaksForTwo};
 ghost use Rattle.phase_seats.specs.Rule.{HasOneHistory, AfterTake, IsGoodAt, IsSeatOfTask, LearnedAt, HaveMet};
 ghost use Rattle.phase_core.specs.Cores.{StandsFor};
-ghost use Rattle.phase_seats.specs.Steps.{IsStep, HasChild};
-ghost use Rattle.phase_seats.specs.Calls.{Tries, Waits, RefusesRegister};
-ghost use Rattle.phase_seats.specs.Calls.{Refuses, HasLeft, SignalsAndMayWait, number_after};
-ghost use Rattle.phase_seats.specs.Entries.{entry_after_wait, entry_after_both};
-ghost use Rattle.phase_seats.specs.Calls.{SignalsAndMayWait};
+ghost use Rattle.phase_seats.specs.Steps.{IsStep, RegistersSeat};
+ghost use Rattle.phase_seats.specs.Calls.{Tries, Waits, HasLeft, SignalsAndMayWait};
+ghost use Rattle.phase_seats.specs.Calls.{number_after, tried};
+ghost use Rattle.phase_seats.specs.Entries.{entry_stays, entry_after_wait, entry_after_both};
 ghost use Rattle.phase_seats.specs.LockedPhasers.{locked_place, locked_terms, locked_limits};
 
 use crate::ghost_steps::{OnGive, OnJoin, OnLook, OnSplit, OnTake, Plan, Same};
@@ -170,6 +169,16 @@ pub fn leave<A: Accumulate, K: SignalRule>(
     Ok(put_back::<A, K, Brand, _>(phaser, turn, moved, me))
 }
 
+// The answer of a call under the turn, as a try tells it.
+pub(crate) fn tried_of<X, R>(answer: Result<X, R>) -> Result<X, Tried<R>>
+    ensures { result ≡ tried answer }
+{
+    match answer {
+        Ok(answer) => Ok(answer),
+        Err(refusal) => Err(Tried::Refused(refusal)),
+    }
+}
+
 /// Waits.
 pub fn wait<A: Accumulate, K: SignalRule>(
     phaser: &LockedPhaser<A, K>,
@@ -197,10 +206,7 @@ pub fn wait<A: Accumulate, K: SignalRule>(
     };
     let moved = phaser.hints.publish(core);
     let seat = put_back::<A, K, Brand, _>(phaser, turn, moved, (me, answer));
-    match answer {
-        Ok(got) => (seat, entry, Ok(got)),
-        Err(refusal) => (seat, entry, Err(Tried::Refused(refusal))),
-    }
+    (seat, entry, tried_of(answer))
 }
 
 // The number of the next child. Where none is left it is the last one, which is refused.
@@ -224,15 +230,11 @@ pub fn register<A: Accumulate, K: SignalRule>(
     requires seat { IsSeatAt (locked_place phaser.now) seat }
     requires at { IsSeatOfTask K.allows (locked_terms phaser.now) me entry (seat_view seat) }
     ensures seat { IsSeatAt (locked_place phaser.now) result.0 }
-    ensures at { IsSeatOfTask K.allows (locked_terms phaser.now) me entry (seat_view result.0) }
-    ensures ok { IfOk result.1 (λ made. IsSeatAt (locked_place phaser.now) made.1
-        × HasChild K.allows (locked_terms phaser.now) me made.0 mode entry made.2
-        (seat_view seat) (seat_view result.0) (seat_view made.1)) }
-    ensures err { IfErr result.1 (Refuses (IsSameSeat seat result.0) (RefusesRegister me mode
-        (known_of (seat_view seat)).seen (known_of (seat_view result.0)).seen)) }
-    ensures known { result.1 ≢ Err (Tried.Refused RegisterRefusal.NoTask) }
-    ensures alone { OnlyUsed (me ∷ []) (known_of (seat_view seat)).seen
-        → result.1 ≢ Err Tried.Busy }
+    ensures step { let old = (known_of (seat_view seat)).seen in
+        IsStep K.allows (locked_terms phaser.now) me RegisterRefusal.NoTask entry_stays
+        (Tries (IsSameSeat seat result.0) (RegistersSeat K.allows (locked_place phaser.now)
+        (locked_terms phaser.now) me mode entry old (known_of (seat_view result.0)).seen) result.1)
+        entry entry (seat_view seat) (seat_view result.0) result.1 }
 {
     let mut turn = match enter(phaser, seat, me, entry) {
         Ok(turn) => turn,

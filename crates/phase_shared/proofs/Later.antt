@@ -92,14 +92,15 @@ pub record HasWaited {A K : Type 0} (old now : RegState A K) : Type 0 where
 module _ {A K X R : Type 0} (allows : K → Allows) (terms : Terms K) (no_task : R) (after : Option X → Entry → Entry) (old now new : RegState A K)
     (waited : HasWaited old now) where
   -- a try that is made again: the turn was another's, or it came too early
-  pub waits_on : (call : Result X R → Type 0) (early : R) (tried : Tried R) (result : Result X (Tried R)) → result ≡ Err tried
-      → (tried ≡ Busy) ⊎ (tried ≡ Refused early) → IsTry allows terms no_task after (Tries (new ≡ now) call result) now new result
+  pub waits_on_as : (same : Type 0) (call : Result X R → Type 0) (early : R) (tried : Tried R) (result : Result X (Tried R)) → result ≡ Err tried
+      → (tried ≡ Busy) ⊎ (tried ≡ Refused early) → IsTry allows terms no_task after (Tries same call result) now new result → (same → new ≡ now)
       → (call (Err early) → OthersCame (now.number ∷ []) now.seen new.seen) → ((e : Entry) → after None e ≡ e) → new.held ≡ now.held
       → HasWaited old new
-  waits_on call early tried result is again_for t came stands held =
+  waits_on_as same call early tried result is again_for t stays came stands held =
       let more : OthersCame (now.number ∷ []) now.seen new.seen =
-      again (new ≡ now) call early (OthersCame (now.number ∷ []) now.seen new.seen) tried again_for (subst (λ r. Tries (new ≡ now) call r) is t.call)
-      (λ same. subst (λ (h : History). OthersCame (now.number ∷ []) now.seen h) (sym (ap (λ (r : RegState A K). r.seen) same)) (OthersCame-refl (now.number ∷ []) now.seen))
+      again same call early (OthersCame (now.number ∷ []) now.seen new.seen) tried again_for (subst (λ r. Tries same call r) is t.call)
+      (λ still. subst (λ (h : History). OthersCame (now.number ∷ []) now.seen h) (sym (ap (λ (r : RegState A K). r.seen) (stays still)))
+      (OthersCame-refl (now.number ∷ []) now.seen))
       came in
       record {
         at = t.at.0 ∙ waited.at;
@@ -108,6 +109,14 @@ module _ {A K X R : Type 0} (allows : K → Allows) (terms : Terms K) (no_task :
         held = held ∙ waited.held;
         others = OthersCame-trans (old.number ∷ []) old.seen now.seen new.seen waited.others (subst (λ n. OthersCame (n ∷ []) now.seen new.seen) waited.number more);
       }
+
+  -- where nothing is lent beside it
+  pub waits_on : (call : Result X R → Type 0) (early : R) (tried : Tried R) (result : Result X (Tried R)) → result ≡ Err tried
+      → (tried ≡ Busy) ⊎ (tried ≡ Refused early) → IsTry allows terms no_task after (Tries (new ≡ now) call result) now new result
+      → (call (Err early) → OthersCame (now.number ∷ []) now.seen new.seen) → ((e : Entry) → after None e ≡ e) → new.held ≡ now.held
+      → HasWaited old new
+  waits_on call early tried result is again_for t came stands held =
+      waits_on_as (new ≡ now) call early tried result is again_for t (λ same. same) came stands held
 
   -- a try that is accepted is the answer of the call
   pub accepted : (answered answered' : Type 0) (result : Result X (Tried R)) (x : X) → result ≡ Ok x

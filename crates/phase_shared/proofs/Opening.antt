@@ -20,6 +20,7 @@ use Rattle.phase_seats.specs.declared.tried.Tried.{Tried}
 use Rattle.phase_seats.specs.declared.tried.Tried.TheVariants.{Busy, Refused}
 use Rattle.phase_seats.specs.Steps.{IsStep}
 use Rattle.phase_shared.specs.Calls.{IsTry, Tries}
+use Rattle.phase_shared.specs.Entries.{entry_stays}
 
 same_some : {A : Type 0} (x y : A) → Some x ≡ Some y → x ≡ y
 same_some x y e = cc
@@ -41,14 +42,14 @@ module _ {T K : Type 0} (allows : K → Allows) (table : TableId) (terms : Terms
       → IsReg allows (Some s) me entry
   closed entry s at station = record { terms = terms; named = ap (λ p. p.1) at; there = refl; station = station }
 
-  -- a registration whose seat came back, with the entry that it had
-  pub same_reg : {A : Type 0} (entry entry' : Entry) (held : Parcel A) (s s' : Seat T (Terms K) View) → IsSameSeat s s' → entry' ≡ entry
-      → reg_state (Some s') me entry' held ≡ reg_state (Some s) me entry held
-  same_reg entry entry' held s s' same is = λ i. record {
+  -- a registration whose seat came back, with the entry and the sends that it had
+  pub same_reg : {A : Type 0} (entry entry' : Entry) (held held' : Parcel A) (s s' : Seat T (Terms K) View) → IsSameSeat s s' → entry' ≡ entry → held' ≡ held
+      → reg_state (Some s') me entry' held' ≡ reg_state (Some s) me entry held
+  same_reg entry entry' held held' s s' same is held_is = λ i. record {
     at = same.0 i;
     number = me;
     entry = is i;
-    held = held;
+    held = held_is i;
     seen = (known_of (same.2 i)).seen;
   }
 
@@ -57,22 +58,19 @@ module _ {T K : Type 0} (allows : K → Allows) (table : TableId) (terms : Terms
       → o ≡ Some s → reg_state o me entry held ≡ reg → reg_state (Some s) me entry held ≡ reg
   reg_is entry held o s reg is seen = ap (λ p. reg_state p me entry held) (sym is) ∙ seen
 
-  -- a step of a registration's seat is a try of the registration. What is held stays where it is
-  -- refused
-  pub is_try : {A X R : Type 0} (no_task : R) (after : Option X → Entry → Entry) (call : RegState A K → History → Result X R → Type 0)
+  -- a step of a registration's seat is a try of the registration, where what stays of the one stays
+  -- of the other
+  pub is_try_as : {A X R : Type 0} (no_task : R) (after : Option X → Entry → Entry) (same : Type 0) (same' : RegState A K → Type 0)
+      (call : RegState A K → History → Result X R → Type 0)
       → (entry entry' : Entry) (held held' : Parcel A) (s s' : Seat T (Terms K) View) (reg : RegState A K) (result : Result X (Tried R))
       → reg_state (Some s) me entry held ≡ reg → reg.at ≡ (table, Some terms) → seat_place s' ≡ (table, Some terms)
-      → ((answer : Option X) (e : Entry) → (after answer e).mode ≡ e.mode) → (IsErr result → held' ≡ held)
-      → IsStep allows terms me no_task after
-      (Tries (IsSameSeat s s' × (entry' ≡ entry)) (call (reg_state (Some s) me entry held) (known_of (seat_view s')).seen) result)
+      → ((answer : Option X) (e : Entry) → (after answer e).mode ≡ e.mode) → (IsErr result → same → same' (reg_state (Some s) me entry held))
+      → IsStep allows terms me no_task after (Tries same (call (reg_state (Some s) me entry held) (known_of (seat_view s')).seen) result)
       entry entry' (seat_view s) (seat_view s') result
-      → IsTry allows terms no_task after (Tries (reg_state (Some s') me entry' held' ≡ reg) (call reg (known_of (seat_view s')).seen) result)
-      reg (reg_state (Some s') me entry' held') result
-  is_try {A} {X} {R} no_task after call entry entry' held held' s s' reg result is at at' mode stays step =
-      let old : RegState A K = reg_state (Some s) me entry held in
-      let new : RegState A K = reg_state (Some s') me entry' held' in
+      → IsTry allows terms no_task after (Tries (same' reg) (call reg (known_of (seat_view s')).seen) result) reg (reg_state (Some s') me entry' held') result
+  is_try_as {A} {X} {R} no_task after same same' call entry entry' held held' s s' reg result is at at' mode stays step =
       let seen = (known_of (seat_view s')).seen in
-      let P : RegState A K → Type 0 = λ r. Tries (new ≡ r) (call r seen) result in
+      let P : RegState A K → Type 0 = λ r. Tries (same' r) (call r seen) result in
       let Q : RegState A K → Type 0 = λ r. OnlyUsed (r.number ∷ []) r.seen in
       let entry_is : entry' ≡ after (result_ok result) reg.entry = step.entry_is ∙ ap (λ (r : RegState A K). after (result_ok result) r.entry) is in
       record {
@@ -85,15 +83,74 @@ module _ {T K : Type 0} (allows : K → Allows) (table : TableId) (terms : Terms
         alone = λ only. step.alone (subst Q (sym is) only);
       }
     where
-      tried : (result : Result X (Tried R)) → (IsErr result → held' ≡ held)
-          → Tries (IsSameSeat s s' × (entry' ≡ entry)) (call (reg_state (Some s) me entry held) (known_of (seat_view s')).seen) result
-          → Tries (reg_state (Some s') me entry' held' ≡ reg_state (Some s) me entry held) (call (reg_state (Some s) me entry held) (known_of (seat_view s')).seen) result
+      tried : (result : Result X (Tried R)) → (IsErr result → same → same' (reg_state (Some s) me entry held))
+          → Tries same (call (reg_state (Some s) me entry held) (known_of (seat_view s')).seen) result
+          → Tries (same' (reg_state (Some s) me entry held)) (call (reg_state (Some s) me entry held) (known_of (seat_view s')).seen) result
       tried (Ok answer) stays answered = answered
-      tried (Err Busy) stays same = λ i. record {
-        at = same.0.0 i;
-        number = me;
-        entry = same.1 i;
-        held = stays refl i;
-        seen = (known_of (same.0.2 i)).seen;
-      }
+      tried (Err Busy) stays still = stays refl still
       tried (Err (Refused refusal)) stays answered = answered
+
+  -- where nothing is lent beside it, it is as it was. What is held stays where the step is refused
+  pub is_try : {A X R : Type 0} (no_task : R) (after : Option X → Entry → Entry) (call : RegState A K → History → Result X R → Type 0)
+      → (entry entry' : Entry) (held held' : Parcel A) (s s' : Seat T (Terms K) View) (reg : RegState A K) (result : Result X (Tried R))
+      → reg_state (Some s) me entry held ≡ reg → reg.at ≡ (table, Some terms) → seat_place s' ≡ (table, Some terms)
+      → ((answer : Option X) (e : Entry) → (after answer e).mode ≡ e.mode) → (IsErr result → held' ≡ held)
+      → IsStep allows terms me no_task after
+      (Tries (IsSameSeat s s' × (entry' ≡ entry)) (call (reg_state (Some s) me entry held) (known_of (seat_view s')).seen) result)
+      entry entry' (seat_view s) (seat_view s') result
+      → IsTry allows terms no_task after (Tries (reg_state (Some s') me entry' held' ≡ reg) (call reg (known_of (seat_view s')).seen) result)
+      reg (reg_state (Some s') me entry' held') result
+  is_try {A} no_task after call entry entry' held held' s s' reg result is at at' mode stays step =
+      let same' : RegState A K → Type 0 = λ r. reg_state (Some s') me entry' held' ≡ r in
+      is_try_as no_task after (IsSameSeat s s' × (entry' ≡ entry)) same' call entry entry' held held' s s' reg result is at at' mode
+      (λ err same. same_reg entry entry' held held' s s' same.0 same.1 (stays err)) step
+
+  -- the same of a step that registers a child
+  pub is_try_of_parent : {A X R : Type 0} (no_task : R) (call : RegState A K → History → Result X R → Type 0)
+      → (entry : Entry) (held : Parcel A) (s s' : Seat T (Terms K) View) (reg : RegState A K) (result : Result X (Tried R))
+      → reg_state (Some s) me entry held ≡ reg → reg.at ≡ (table, Some terms) → seat_place s' ≡ (table, Some terms)
+      → IsStep allows terms me no_task entry_stays (Tries (IsSameSeat s s') (call (reg_state (Some s) me entry held) (known_of (seat_view s')).seen) result)
+      entry entry (seat_view s) (seat_view s') result
+      → IsTry allows terms no_task entry_stays (Tries (reg_state (Some s') me entry held ≡ reg) (call reg (known_of (seat_view s')).seen) result)
+      reg (reg_state (Some s') me entry held) result
+  is_try_of_parent {A} no_task call entry held s s' reg result is at at' step =
+      let same' : RegState A K → Type 0 = λ r. reg_state (Some s') me entry held ≡ r in
+      is_try_as no_task entry_stays (IsSameSeat s s') same' call entry entry held held s s' reg result is at at' (λ answer e. refl)
+      (λ err same. same_reg entry entry held held s s' same refl refl) step
+
+module _ {A K X Y R : Type 0} (allows : K → Allows) (terms : Terms K) (no_task : R) (answered answered' : Type 0) (old new : RegState A K)
+    (result : Result X (Tried R)) where
+  -- an accepted try whose answer is told in another way
+  pub told_as : (x : X) (y : Y) → result ≡ Ok x → IsTry {X = X} allows terms no_task entry_stays answered old new result → answered'
+      → IsTry {X = Y} allows terms no_task entry_stays answered' old new (Ok y)
+  told_as x y is t answer = record {
+    call = answer;
+    entry = t.entry;
+    mode = t.mode;
+    at = t.at;
+    good = t.good;
+    known = λ e. cc;
+    alone = λ only e. cc;
+  }
+
+  -- a refused one
+  pub refused_as : (tried : Tried R) → result ≡ Err tried → IsTry {X = X} allows terms no_task entry_stays answered old new result → answered'
+      → IsTry {X = Y} allows terms no_task entry_stays answered' old new (Err tried)
+  refused_as tried is t answer = record {
+    call = answer;
+    entry = t.entry;
+    mode = t.mode;
+    at = t.at;
+    good = t.good;
+    known = λ e. t.known (is ∙ ap Err (same_tried tried (Refused no_task) e));
+    alone = λ only e. t.alone only (is ∙ ap Err (same_tried tried Busy e));
+  }
+    where
+      same_tried : (x y : Tried R) → ◌≡◌ {A = Result Y (Tried R)} (Err x) (Err y) → x ≡ y
+      same_tried x y e = cc
+
+-- the refusal of a try whose accepted answer is told in another way
+pub same_refusal : {X Y R : Type 0} (same : Type 0) (call : Result X R → Type 0) (call' : Result Y R → Type 0)
+    → ((refusal : R) → call (Err refusal) → call' (Err refusal)) → (tried : Tried R) → Tries same call (Err tried) → Tries same call' (Err tried)
+same_refusal same call call' told Busy still = still
+same_refusal same call call' told (Refused refusal) answered = told refusal answered

@@ -115,7 +115,7 @@ impl<A: Accumulate, K: SignalRule> Reg<A, K> {
     {
         let backoff = Backoff::new();
         for _ in rt.forever() {
-            self.pause_for_phase(rt, phaser);
+            self.pause_for_phase(rt, phaser, 1);
             let tried = match self.try_wait(phaser) {
                 Ok(got) => return Ok(got),
                 Err(tried) => tried,
@@ -128,12 +128,13 @@ impl<A: Accumulate, K: SignalRule> Reg<A, K> {
         unreachable!()
     }
 
-    // Pauses while the phase of its next wait is not complete.
-    pub(crate) fn pause_for_phase<W: Wait>(&self, rt: &W, phaser: &Phaser<A, K>) {
+    // Pauses while the phase of its next wait is not complete. A wait that will be refused, by its
+    // mode, before its signal, or as a bad block of so many phases, does not pause.
+    pub(crate) fn pause_for_phase<W: Wait>(&self, rt: &W, phaser: &Phaser<A, K>, phases: u64) {
         let entry = self.entry;
         let signals_first = entry.mode.signals() && entry.signal_phase == entry.wait_phase;
         if entry.mode.waits() && !signals_first {
-            phaser.locked.pause_for_phase(rt, entry.wait_phase);
+            phaser.locked.pause_for_phase(rt, entry.wait_phase, phases);
         }
     }
 

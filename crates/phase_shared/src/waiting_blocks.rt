@@ -89,6 +89,8 @@ impl<A: Accumulate, K: SignalRule> Reg<A, K> {
     /// Waits for its phase and those behind it that are complete, as many as there are places, and
     /// writes their values; or answers that no more will come. The places behind the values stay.
     /// It waits until its phase is complete, or no signaller is registered. It takes no memory.
+    ///
+    /// No places, or more than the bound, are refused as `BadBlock` at once.
     pub fn wait_block<W: Wait>(
         &mut self,
         rt: &W,
@@ -106,7 +108,7 @@ impl<A: Accumulate, K: SignalRule> Reg<A, K> {
     {
         let backoff = Backoff::new();
         for _ in rt.forever() {
-            self.pause_for_phase(rt, phaser);
+            self.pause_for_phase(rt, phaser, out.len() as u64);
             let tried = match self.try_wait_block(phaser, out) {
                 Ok(got) => return Ok(got),
                 Err(tried) => tried,

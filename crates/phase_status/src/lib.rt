@@ -12,5 +12,5 @@ mod words;
 
 pub use parts::{say, write_parts};
 pub use shown::{refuse, show_help};
-pub use status::{DONE, FAILED, GRAPH_REFUSED, REFUSED, TOO_BIG, report};
+pub use status::{DONE, FAILED, GRAPH_REFUSED, REFUSED, STALLED, TOO_BIG, report};
 pub use words::{own_words, refuse_words};

@@ -18,6 +18,9 @@ pub const REFUSED: u8 = 2;
 /// A value of a graph is out of range.
 pub const TOO_BIG: u8 = 3;
 
+/// Every task of a run that was left waited for another.
+pub const STALLED: u8 = 4;
+
 /// A read or a write failed, a script or a file is too long, or memory ran out.
 pub const FAILED: u8 = 5;
 

@@ -1,8 +1,9 @@
 -- What clap found in the words, as what they ask for.
 use Rattle.std.proofs.Common.{◌≡◌, ◌∙◌, List, Bor, Option, Some, None, option_map, unwrap_or, ℕ, true, refl, ap, ap₂, rules}
 use Rattle.clap.proofs.OnLiterals.{clap_on_literals}
-use Rattle.clap.specs.Words.{App, Row, Text, is_simple, subcommand_of}
+use Rattle.clap.specs.Words.{App, Row, Text, is_simple, matches_of, subcommand_of}
 use Rattle.phase_words.specs.CommandLine.{asked_by, asked_in, phase_app}
+use Rattle.phase_words.specs.RunLine.{run_app, run_by, run_in}
 
 abbrev Found : Type 0
 Found = Text × List Row
@@ -49,3 +50,15 @@ unfolding asked_in
 asked_by-found app words found is_phase holds =
     ap asked_by (holds (ap is_simple is_phase ∙ is_simple-phase_app)
     ∙ ap (λ (a : App). subcommand_of a words) is_phase)
+
+is_simple-run_app : is_simple run_app ≡ true
+unfolding run_app clap_on_literals
+is_simple-run_app = refl
+
+-- and by the command line behind `phase run`
+pub run_by-found : (app : App) (words : List Text) (rows : List Row) → app ≡ run_app
+    → (is_simple app ≡ true → rows ≡ matches_of app words) → run_by rows ≡ run_in words
+unfolding run_in
+run_by-found app words rows is_run holds =
+    ap run_by (holds (ap is_simple is_run ∙ is_simple-run_app)
+    ∙ ap (λ (a : App). matches_of a words) is_run)

@@ -2,3 +2,4 @@ mod Called
 pub mod NoCalls
 mod Refused
 mod Simple
+mod Workers

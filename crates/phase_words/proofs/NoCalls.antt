@@ -4,7 +4,7 @@ use Rattle.clap.specs.Words.{HasKind, IsAmong, Kinds, Text, kind_of}
 use Rattle.clap.specs.declared.error.Error.{Error}
 use Rattle.clap.specs.declared.error.kind.ErrorKind.{ErrorKind}
 use Rattle.clap.specs.declared.error.kind.ErrorKind.TheVariants as kind
-use Rattle.phase_words.specs.CommandLine.{AreTaken, AskHelp, AskVersion, HasRefusal, HasShown, IsNoCall, IsShown, IsToldBy, kinds_of}
+use Rattle.phase_words.specs.CommandLine.{AreTaken, AskHelp, AskVersion, ExplainsNone, HasRefusal, HasShown, IsNoCall, IsShown, IsToldBy, kinds_of}
 use Rattle.phase_words.specs.declared.call.NoCall.{NoCall}
 use Rattle.phase_words.specs.declared.call.NoCall.TheVariants as no_call
 
@@ -16,50 +16,63 @@ memory-not-shown (inl e) = search rules
 memory-not-shown (inr e) = search rules
 
 -- what is told of an error is why the words give no call
+pub told-none : (kinds : Kinds) (error : Error) (none : NoCall) → HasKind kinds error
+    → IsToldBy (kind_of error) none → ExplainsNone kinds none
+told-none kinds error (no_call.Shown text) (inl memory) told =
+    absurd (memory-not-shown (subst (λ (k : ErrorKind). IsShown k) memory told))
+told-none kinds error (no_call.Shown text) (inr among) told =
+    record { kind = kind_of error; among = among; shown = told }
+told-none kinds error (no_call.Refused text) (inl memory) told = absurd (told.1 memory)
+told-none kinds error (no_call.Refused text) (inr among) told = record { kind = kind_of error; among = among; other = told.0 }
+told-none kinds error no_call.OutOfMemory has told = tt
+
 pub told-no_call : (words : List Text) (error : Error) (none : NoCall) → HasKind (kinds_of words) error
     → IsToldBy (kind_of error) none → IsNoCall words none
-told-no_call words error (no_call.Shown text) (inl memory) told =
-    absurd (memory-not-shown (subst (λ (k : ErrorKind). IsShown k) memory told))
-told-no_call words error (no_call.Shown text) (inr among) told =
-    record { kind = kind_of error; among = among; shown = told }
-told-no_call words error (no_call.Refused text) (inl memory) told = absurd (told.1 memory)
-told-no_call words error (no_call.Refused text) (inr among) told = record { kind = kind_of error; among = among; other = told.0 }
-told-no_call words error no_call.OutOfMemory has told = tt
+told-no_call words error none has told = told-none (kinds_of words) error none has told
 
 -- words with a kind of answer are not taken
-none-among : (words : List Text) (k : ErrorKind) → IsAmong k (kinds_of words) → AreTaken words → ⊥
-none-among words k among taken = subst (λ (kinds : Kinds). IsAmong k kinds) taken among
+none-among : (kinds : Kinds) (k : ErrorKind) → IsAmong k kinds → kinds ≡ [] → ⊥
+none-among kinds k among taken = subst (λ (kinds : Kinds). IsAmong k kinds) taken among
 
-pub shown-not-taken : (words : List Text) → HasShown words → AreTaken words → ⊥
-shown-not-taken words has taken = none-among words has.kind has.among taken
+pub shown-some : (kinds : Kinds) → HasShown kinds → kinds ≡ [] → ⊥
+shown-some kinds has taken = none-among kinds has.kind has.among taken
 
-pub refusal-not-taken : (words : List Text) → HasRefusal words → AreTaken words → ⊥
-refusal-not-taken words has taken = none-among words has.kind has.among taken
+pub refusal-some : (kinds : Kinds) → HasRefusal kinds → kinds ≡ [] → ⊥
+refusal-some kinds has taken = none-among kinds has.kind has.among taken
 
--- words that ask for help and for nothing else have no refusal
-pub refusal-not-help : (words : List Text) → HasRefusal words → AskHelp words → ⊥
-refusal-not-help words has help = elim (subst (λ (kinds : Kinds). IsAmong has.kind kinds) help has.among) [
-  | inl is ↦ has.other (inl is)
+pub shown-not-taken : (words : List Text) → HasShown (kinds_of words) → AreTaken words → ⊥
+shown-not-taken words has taken = shown-some (kinds_of words) has taken
+
+pub refusal-not-taken : (words : List Text) → HasRefusal (kinds_of words) → AreTaken words → ⊥
+refusal-not-taken words has taken = refusal-some (kinds_of words) has taken
+
+-- kinds of which one alone is shown have no refusal
+pub refusal-none-shown : (kinds : Kinds) (one : ErrorKind) → IsShown one → HasRefusal kinds → kinds ≡ one ∷ [] → ⊥
+refusal-none-shown kinds one shown has alone = elim (subst (λ (kinds : Kinds). IsAmong has.kind kinds) alone has.among) [
+  | inl is ↦ has.other (subst (λ (k : ErrorKind). IsShown k) (sym is) shown)
   | inr none ↦ none
 ]
 
--- and so it is with the version
-pub refusal-not-version : (words : List Text) → HasRefusal words → AskVersion words → ⊥
-refusal-not-version words has version = elim (subst (λ (kinds : Kinds). IsAmong has.kind kinds) version has.among) [
-  | inl is ↦ has.other (inr is)
-  | inr none ↦ none
-]
+pub refusal-not-help : (words : List Text) → HasRefusal (kinds_of words) → AskHelp words → ⊥
+refusal-not-help words has help = refusal-none-shown (kinds_of words) kind.DisplayHelp (inl refl) has help
+
+pub refusal-not-version : (words : List Text) → HasRefusal (kinds_of words) → AskVersion words → ⊥
+refusal-not-version words has version = refusal-none-shown (kinds_of words) kind.DisplayVersion (inr refl) has version
+
+-- and words of one kind of answer are not taken
+pub one-some : (kinds : Kinds) (one : ErrorKind) → kinds ≡ one ∷ [] → kinds ≡ [] → ⊥
+one-some kinds one alone taken = some-not-empty one [] (sym alone ∙ taken)
 
 pub asked-help-not-taken : (words : List Text) → AskHelp words → AreTaken words → ⊥
-asked-help-not-taken words help taken = some-not-empty kind.DisplayHelp [] (sym help ∙ taken)
+asked-help-not-taken words help taken = one-some (kinds_of words) kind.DisplayHelp help taken
 
 pub asked-version-not-taken : (words : List Text) → AskVersion words → AreTaken words → ⊥
-asked-version-not-taken words version taken = some-not-empty kind.DisplayVersion [] (sym version ∙ taken)
+asked-version-not-taken words version taken = one-some (kinds_of words) kind.DisplayVersion version taken
 
 -- words are taken or not
-taken-by : (words : List Text) (kinds : Kinds) → kinds_of words ≡ kinds → AreTaken words ⊎ (AreTaken words → ⊥)
-taken-by words [] e = inl e
-taken-by words (k ∷ ks) e = inr (λ taken. some-not-empty k ks (sym e ∙ taken))
+pub none-or-some : (kinds : Kinds) → (kinds ≡ []) ⊎ (kinds ≡ [] → ⊥)
+none-or-some [] = inl refl
+none-or-some (k ∷ ks) = inr (some-not-empty k ks)
 
 pub taken-or-not : (words : List Text) → AreTaken words ⊎ (AreTaken words → ⊥)
-taken-or-not words = taken-by words (kinds_of words) refl
+taken-or-not words = none-or-some (kinds_of words)

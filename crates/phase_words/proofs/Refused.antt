@@ -1,16 +1,16 @@
 -- Words that are refused: one kind stands for them, or two, and none is a call for help or for the
 -- version.
-use Rattle.std.proofs.Common.{◌≡◌, ◌≢◌, ◌⊎◌, List, [], ◌∷◌, rules}
+use Rattle.std.proofs.Common.{◌≡◌, ◌≢◌, List, [], ◌∷◌, rules}
 use Rattle.std.proofs.Common.{inl, inr, sym, subst, ◌∙◌}
 use Rattle.clap.specs.Words.{IsAmong, Kinds, Text}
 use Rattle.clap.specs.declared.error.kind.ErrorKind.{ErrorKind}
-use Rattle.clap.specs.declared.error.kind.ErrorKind.TheVariants.{InvalidSubcommand, MissingRequiredArgument, UnknownArgument}
-use Rattle.phase_words.specs.CommandLine.{AreRefused, IsShown, kinds_of}
+use Rattle.clap.specs.declared.error.kind.ErrorKind.TheVariants.{InvalidSubcommand, InvalidValue, MissingRequiredArgument, UnknownArgument, ValueValidation}
+use Rattle.phase_words.specs.CommandLine.{AreRefused, IsShown, Refuse, kinds_of}
 
 not_empty : (kind : ErrorKind) (kinds : Kinds) → kind ∷ kinds ≢ []
 not_empty kind kinds = λ e. search rules
 
-unknown_not_shown : IsShown UnknownArgument → ⊥
+pub unknown_not_shown : IsShown UnknownArgument → ⊥
 unknown_not_shown (inl e) = search rules
 unknown_not_shown (inr e) = search rules
 
@@ -18,9 +18,17 @@ invalid_not_shown : IsShown InvalidSubcommand → ⊥
 invalid_not_shown (inl e) = search rules
 invalid_not_shown (inr e) = search rules
 
-missing_not_shown : IsShown MissingRequiredArgument → ⊥
+pub missing_not_shown : IsShown MissingRequiredArgument → ⊥
 missing_not_shown (inl e) = search rules
 missing_not_shown (inr e) = search rules
+
+pub value_not_shown : IsShown InvalidValue → ⊥
+value_not_shown (inl e) = search rules
+value_not_shown (inr e) = search rules
+
+pub validation_not_shown : IsShown ValueValidation → ⊥
+validation_not_shown (inl e) = search rules
+validation_not_shown (inr e) = search rules
 
 -- a kind that is shown is not among one kind that is not, and not among two
 not_among_one : (one kind : ErrorKind) → (IsShown one → ⊥) → IsShown kind
@@ -33,21 +41,20 @@ not_among_two : (one two kind : ErrorKind) → (IsShown one → ⊥) → (IsShow
 not_among_two one two kind first second shown (inl is) = first (subst (λ (k : ErrorKind). IsShown k) is shown)
 not_among_two one two kind first second shown (inr rest) = not_among_one two kind second shown rest
 
--- words of one kind of refusal, and of two
-refused_by_one : (words : List Text) (one : ErrorKind) → (IsShown one → ⊥)
-    → kinds_of words ≡ one ∷ [] → AreRefused words
-refused_by_one words one refused e = (
+-- one kind of refusal refuses, and so do two
+pub refuse_by_one : (kinds : Kinds) (one : ErrorKind) → (IsShown one → ⊥) → kinds ≡ one ∷ [] → Refuse kinds
+refuse_by_one kinds one refused e = (
   λ empty. not_empty one [] (sym e ∙ empty),
   λ kind shown among.
       not_among_one one kind refused shown (subst (λ (kinds : Kinds). IsAmong kind kinds) e among),
 )
 
 pub unknown_refused : (words : List Text) → kinds_of words ≡ UnknownArgument ∷ [] → AreRefused words
-unknown_refused words e = refused_by_one words UnknownArgument unknown_not_shown e
+unknown_refused words e = refuse_by_one (kinds_of words) UnknownArgument unknown_not_shown e
 
 pub missing_refused : (words : List Text) → kinds_of words ≡ MissingRequiredArgument ∷ []
     → AreRefused words
-missing_refused words e = refused_by_one words MissingRequiredArgument missing_not_shown e
+missing_refused words e = refuse_by_one (kinds_of words) MissingRequiredArgument missing_not_shown e
 
 pub stray_refused : (words : List Text) → kinds_of words ≡ UnknownArgument ∷ InvalidSubcommand ∷ []
     → AreRefused words

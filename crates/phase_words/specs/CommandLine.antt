@@ -42,12 +42,12 @@ sink_rule = record (new_rule (codes "sink")) { long = Some (codes "sink"); value
 abbrev pub eval_shape : Shape
 eval_shape = (with_rule (graph_app (codes "eval")) sink_rule).top
 
--- the program, with its commands: `replay`, which takes no word, and `check` and `eval`
+-- the program, with its commands: `replay`, which takes no word, and `check`, `eval` and `draw`
 unfoldable pub phase_app : App
 phase_app =
-    with_subcommand (with_subcommand (with_subcommand (with_version
+    with_subcommand (with_subcommand (with_subcommand (with_subcommand (with_version
     (without_own_name (new_app (codes "phase")))) (new_app (codes "replay")).top)
-    (graph_shape (codes "check"))) eval_shape
+    (graph_shape (codes "check"))) eval_shape) (graph_shape (codes "draw"))
 
 -- ---- what the words ask for
 
@@ -72,24 +72,28 @@ AskVersion words = kinds_of words ≡ DisplayVersion ∷ []
 abbrev pub IsShown : ErrorKind → Type 0
 IsShown kind = (kind ≡ DisplayHelp) ⊎ (kind ≡ DisplayVersion)
 
+-- answers of these kinds, of which there is one, ask for no help and no version
+abbrev pub Refuse : Kinds → Type 0
+Refuse kinds = (kinds ≢ []) × ((kind : ErrorKind) → IsShown kind → IsAmong kind kinds → ⊥)
+
 -- the words are refused: they are not taken, and ask for no help and no version
 abbrev pub AreRefused : List Text → Type 0
-AreRefused words =
-    (kinds_of words ≢ [])
-    × ((kind : ErrorKind) → IsShown kind → IsAmong kind (kinds_of words) → ⊥)
+AreRefused words = Refuse (kinds_of words)
 
--- what words that are taken ask for: a replay, a check of a graph's file, or its evaluation, for all
--- its sinks or for the one of a name
+-- what words that are taken ask for: a replay, a check of a graph's file, its evaluation, for all
+-- its sinks or for the one of a name, or its drawing
 pub data Asked : Type 0 where
   replay : Asked
   check : Text → Asked
   eval : Text → Option Text → Asked
+  draw : Text → Asked
 
 -- by the command and the names that are given to it
 abbrev pub asked_as : Text → Option Text → Option Text → Asked
 asked_as name graph sink =
     if bytes_eq name (codes "check") then check (unwrap_or graph [])
     else if bytes_eq name (codes "eval") then eval (unwrap_or graph []) sink
+    else if bytes_eq name (codes "draw") then draw (unwrap_or graph [])
     else replay
 
 -- with no command a replay is asked for
@@ -120,15 +124,21 @@ AskCheck words name = Asks words (check name)
 abbrev pub AskEval : List Text → Text → Option Text → Type 0
 AskEval words name sink = Asks words (eval name sink)
 
+-- the words ask for a drawing of the graph in the file of this name
+abbrev pub AskDraw : List Text → Text → Type 0
+AskDraw words name = Asks words (draw name)
+
 -- the words ask for something of the graph in the file of this name
 abbrev pub AskGraph : List Text → Text → Type 0
-AskGraph words name = AskCheck words name ⊎ ((sink : Option Text) × AskEval words name sink)
+AskGraph words name =
+    AskCheck words name ⊎ (((sink : Option Text) × AskEval words name sink) ⊎ AskDraw words name)
 
 -- what a call asks for
 abbrev pub asked_of : Call → Asked
 asked_of call.Replay = replay
 asked_of (call.Check name) = check name.now
 asked_of (call.Eval graph sink) = eval graph.now (option_map (λ s. s.now) sink)
+asked_of (call.Draw name) = draw name.now
 
 -- the words as texts
 abbrev pub texts : {Z : Type 0} → List (String Z) → List Text
@@ -137,23 +147,27 @@ texts words = map string_bytes words
 -- ---- why there is no call
 
 -- a kind of refusal, which is no call for help or for the version, is among the kinds
-pub record HasRefusal (words : List Text) : Type 0 where
+pub record HasRefusal (kinds : Kinds) : Type 0 where
   pub kind : ErrorKind
-  pub among : IsAmong kind (kinds_of words)
+  pub among : IsAmong kind kinds
   pub other : IsShown kind → ⊥
 
--- the words ask for help or for the version
-pub record HasShown (words : List Text) : Type 0 where
+-- a call for help or for the version is among them
+pub record HasShown (kinds : Kinds) : Type 0 where
   pub kind : ErrorKind
-  pub among : IsAmong kind (kinds_of words)
+  pub among : IsAmong kind kinds
   pub shown : IsShown kind
 
--- why the words give no call: they ask for help or for the version, or something in them is refused;
--- memory may run out over any words
+-- why words whose answers have these kinds give no call: they ask for help or for the version, or
+-- something in them is refused; memory may run out over any words
+abbrev pub ExplainsNone : Kinds → NoCall → Type 0
+ExplainsNone kinds (no_call.Shown text) = HasShown kinds
+ExplainsNone kinds (no_call.Refused text) = HasRefusal kinds
+ExplainsNone kinds no_call.OutOfMemory = ⊤
+
+-- why the words give no call
 abbrev pub IsNoCall : List Text → NoCall → Type 0
-IsNoCall words (no_call.Shown text) = HasShown words
-IsNoCall words (no_call.Refused text) = HasRefusal words
-IsNoCall words no_call.OutOfMemory = ⊤
+IsNoCall words none = ExplainsNone (kinds_of words) none
 
 -- how an error of this kind is told, with its text
 abbrev pub IsToldBy : ErrorKind → NoCall → Type 0

@@ -13,6 +13,23 @@ pub enum Call<'a> {
         graph: &'a str,
         sink: Option<&'a str>,
     },
+    /// A drawing of the graph in the file of this name.
+    Draw(&'a str),
+}
+
+/// How many workers a run has where none are named.
+pub const WORKERS: usize = 4;
+
+/// The most workers that a run may have.
+pub const WORKERS_MAX: usize = 16;
+
+/// What the words behind `phase run` ask for: a run of the graph in the file of a name, for all its
+/// sinks, or for the one of a name, by so many worker threads, from 1 to `WORKERS_MAX`.
+#[derive(Clone, Copy, Debug, PartialEq, Eq)]
+pub struct RunCall<'a> {
+    pub graph: &'a str,
+    pub sink: Option<&'a str>,
+    pub workers: usize,
 }
 
 /// Why the words give no call.

@@ -7,14 +7,17 @@ ghost use Rattle.phase_words.specs.CommandLine.{Asks, IsNoCall, IsShown, IsToldB
 ghost use Rattle.phase_words.specs.CommandLine.{asked_as, asked_by, asked_in, asked_of, eval_shape};
 ghost use Rattle.phase_words.specs.CommandLine.{graph_app, graph_rule, kinds_of, phase_app, sink_rule, texts};
 
-use crate::help::{ABOUT, CHECK, CHECK_END, END, EVAL, EVAL_END, GRAPH, REPLAY, SINK, VERSION};
+use crate::help::{
+    ABOUT, CHECK, CHECK_END, DRAW, DRAW_END, END, EVAL, EVAL_END, GRAPH, REPLAY, SINK, VERSION,
+};
 use crate::{Call, NoCall};
 use clap::error::ErrorKind;
 use clap::{Arg, ArgMatches, Command, Error};
 use std::alloc::{AllocError, Global};
 
-/// The word behind `check` and `eval`, which has to be given: the name of a graph's file.
-fn graph_word<'a>(alloc: Global) -> Arg<'a>
+/// The word behind `check`, `eval`, `draw` and `run`, which has to be given: the name of a graph's
+/// file.
+pub(crate) fn graph_word<'a>(alloc: Global) -> Arg<'a>
     ensures rule { rule_of result ≡ graph_rule }
     ensures local { result.global ≡ false }
 {
@@ -25,7 +28,7 @@ fn graph_word<'a>(alloc: Global) -> Arg<'a>
 }
 
 /// The word behind `--sink`, which may be given: the name of a sink.
-fn sink_word<'a>(alloc: Global) -> Arg<'a>
+pub(crate) fn sink_word<'a>(alloc: Global) -> Arg<'a>
     ensures rule { rule_of result ≡ sink_rule }
     ensures local { result.global ≡ false }
 {
@@ -71,7 +74,8 @@ fn command<'a>(alloc: Global) -> Result<Command<'a>, AllocError>
         .bin_name("phase")?
         .subcommand(Command::new(alloc, "replay").about(REPLAY).after_help(END))?
         .subcommand(graph_command(alloc, "check", CHECK, CHECK_END)?)?
-        .subcommand(eval_command(alloc)?)
+        .subcommand(eval_command(alloc)?)?
+        .subcommand(graph_command(alloc, "draw", DRAW, DRAW_END)?)
 }
 
 /// What the words ask for, by what clap found in them.
@@ -99,6 +103,9 @@ fn call_named<'a>(name: &str, graph: &'a str, sink: Option<&'a str>) -> Call<'a>
     if name == "eval" {
         return Call::Eval { graph, sink };
     }
+    if name == "draw" {
+        return Call::Draw(graph);
+    }
     Call::Replay
 }
 
@@ -120,7 +127,7 @@ fn is_shown(kind: ErrorKind) -> bool
 }
 
 /// What clap says in place of taking the words, with its text.
-fn no_call(alloc: Global, error: &Error) -> NoCall
+pub(crate) fn no_call(alloc: Global, error: &Error) -> NoCall
     ensures { IsToldBy (kind_of error.now) result }
 {
     let kind = error.kind();

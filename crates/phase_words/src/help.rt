@@ -19,11 +19,23 @@ pub(crate) const CHECK: &str = "Reads a graph and the samples of its sources";
 /// What `eval` does.
 pub(crate) const EVAL: &str = "Writes the values of each sink of a graph";
 
-/// What the word behind `check` and `eval` is.
+/// What `draw` does.
+pub(crate) const DRAW: &str = "Writes a drawing of a graph, as text for Graphviz";
+
+/// What the word behind `check`, `eval`, `draw` and `run` is.
 pub(crate) const GRAPH: &str = "The file of the graph, of at most 1048576 bytes";
 
 /// What the word behind `--sink` is.
 pub(crate) const SINK: &str = "Write the values of this sink alone, each on a line";
+
+/// What `phase run` does.
+pub(crate) const RUN: &str = "\
+Writes the values of each sink of a graph, by a run of its tasks on worker
+threads.";
+
+/// What the word behind `--workers` is.
+pub(crate) const WORKERS_WORD: &str =
+    "How many worker threads, from 1 to 16: 4 where none are named";
 
 /// The end of the program's help, and of that of `replay`.
 pub(crate) const END: &str = "\
@@ -36,6 +48,8 @@ Example, with the reply to each line and what it means:
   signal 0          ok 0         and so has task 0
   wait 0            value 0 7    phase 0 is complete, and its value is 7
 A line that is no call is answered by `bad line`.
+
+`phase run --help` tells of another program, which runs a graph on threads.
 
 Exit status: 0 done; 1 a graph or its samples are refused; 2 the words were not
 understood; 3 a value of a graph is out of range; 5 a read or a write failed, or
@@ -72,3 +86,41 @@ samples of another source.
 Exit status: 0 done; 1 the graph or its samples are refused, or no sink has the
 name; 2 the words were not understood; 3 a value is out of range; 5 a read or a
 write failed, or memory ran out.";
+
+/// The end of the help of `draw`.
+pub(crate) const DRAW_END: &str = "\
+Example: where the file `sums` holds the three lines
+  phaser X sum 4
+  source s numbers -> X
+  sink out X
+`phase draw sums` writes
+  digraph {
+      rankdir=LR;
+      \"X\" [shape=ellipse, label=\"X\\nsum 4\"];
+      \"s\" [shape=box, label=\"s\\nsource\"];
+      \"out\" [shape=box, label=\"out\\nsink\"];
+      \"s\" -> \"X\";
+      \"X\" -> \"out\";
+  }
+No file of samples is read.
+
+Exit status: 0 done; 1 the graph is refused; 2 the words were not understood; 5 a
+read or a write failed, or memory ran out.";
+
+/// The end of the help of `run`.
+pub(crate) const RUN_END: &str = "\
+Example: where the file `sums` holds the five lines
+  phaser X sum 4
+  phaser Y sum 4
+  source s numbers -> X
+  fir f X -> Y shift 0 taps 1 1
+  sink out Y
+and the file `numbers` the lines 1, 2 and 3, `phase run sums` writes
+  out 3
+  1
+  3
+  5
+
+Exit status: 0 done; 1 the graph or its samples are refused, or no sink has the
+name; 2 the words were not understood; 3 a value is out of range; 4 every task
+that was left waited for another; 5 a read or a write failed, or memory ran out.";

@@ -1,7 +1,8 @@
 //! What clap makes of the words that the program's pages name.
-ghost use Rattle.std.specs.Prelude.{[], ◌∷◌, Some, None, codes};
-ghost use Rattle.phase_words.specs.CommandLine.{AreRefused, AskCheck, AskEval, AskHelp, AskReplay};
-ghost use Rattle.phase_words.specs.CommandLine.{AskVersion};
+ghost use Rattle.std.specs.Prelude.{◌≤◌, ℕ, List, Option, [], ◌∷◌, Some, None, codes};
+ghost use Rattle.phase_words.specs.CommandLine.{AreRefused, AskCheck, AskDraw, AskEval, AskHelp};
+ghost use Rattle.phase_words.specs.CommandLine.{AskReplay, AskVersion};
+ghost use Rattle.phase_words.specs.RunLine.{AreRunRefused, AskRun, AskRunHelp, AskRunVersion};
 
 /// `phase` and `phase replay` ask for a replay.
 pub fn words_for_replay()
@@ -19,6 +20,16 @@ pub fn words_for_graphs()
         (codes "g") (Some (codes "out")) }
     ensures sink_first { AskEval (codes "eval" ∷ codes "--sink=out" ∷ codes "g" ∷ [])
         (codes "g") (Some (codes "out")) }
+{}
+
+/// `phase draw g` asks for a drawing of the graph in the file g. No file, two, and a sink are refused.
+pub fn words_for_drawings()
+    ensures draw { AskDraw (codes "draw" ∷ codes "g" ∷ []) (codes "g") }
+    ensures path { AskDraw (codes "draw" ∷ codes "../a b.graph" ∷ []) (codes "../a b.graph") }
+    ensures help { AskHelp (codes "draw" ∷ codes "--help" ∷ []) }
+    ensures no_file { AreRefused (codes "draw" ∷ []) }
+    ensures two_files { AreRefused (codes "draw" ∷ codes "g" ∷ codes "h" ∷ []) }
+    ensures sink { AreRefused (codes "draw" ∷ codes "g" ∷ codes "--sink" ∷ codes "out" ∷ []) }
 {}
 
 /// `--help` and `-h` ask for help, alone and behind each command.
@@ -49,4 +60,38 @@ pub fn words_refused()
     ensures no_file { AreRefused (codes "eval" ∷ []) }
     ensures sink_of_check { AreRefused (codes "check" ∷ codes "g" ∷ codes "--sink" ∷ codes "out" ∷ []) }
     ensures two_files { AreRefused (codes "check" ∷ codes "g" ∷ codes "h" ∷ []) }
+{}
+
+/// `phase run g` asks for a run of the graph in the file g by 4 workers, and `--workers` names another
+/// number of them.
+pub fn words_for_runs()
+    ensures run { AskRun (codes "g" ∷ []) (codes "g") None 4 }
+    ensures one { AskRun (codes "g" ∷ codes "--workers" ∷ codes "1" ∷ []) (codes "g") None 1 }
+    ensures most { AskRun (codes "--workers=16" ∷ codes "g" ∷ []) (codes "g") None 16 }
+    ensures sink { AskRun (codes "g" ∷ codes "--sink" ∷ codes "out" ∷ [])
+        (codes "g") (Some (codes "out")) 4 }
+    ensures both { AskRun (codes "--workers" ∷ codes "2" ∷ codes "g" ∷ codes "--sink=out" ∷ [])
+        (codes "g") (Some (codes "out")) 2 }
+    ensures help { AskRunHelp (codes "--help" ∷ []) }
+    ensures version { AskRunVersion (codes "-V" ∷ []) }
+{}
+
+/// Whatever the words are, a run that they ask for is one by 1 to 16 workers.
+pub fn runs_have_workers()
+    ensures least { (words : List (List ℕ)) (name : List ℕ) (sink : Option (List ℕ)) (workers : ℕ)
+        → AskRun words name sink workers → 1 ≤ workers }
+    ensures most { (words : List (List ℕ)) (name : List ℕ) (sink : Option (List ℕ)) (workers : ℕ)
+        → AskRun words name sink workers → workers ≤ 16 }
+{}
+
+/// A run has one graph, and no number of workers is taken but one from 1 to 16.
+pub fn words_refused_of_runs()
+    ensures seventeen { AreRunRefused (codes "g" ∷ codes "--workers" ∷ codes "17" ∷ []) }
+    ensures zero { AreRunRefused (codes "g" ∷ codes "--workers" ∷ codes "0" ∷ []) }
+    ensures minus { AreRunRefused (codes "g" ∷ codes "--workers=-1" ∷ []) }
+    ensures no_number { AreRunRefused (codes "g" ∷ codes "--workers" ∷ codes "x" ∷ []) }
+    ensures no_value { AreRunRefused (codes "g" ∷ codes "--workers" ∷ []) }
+    ensures no_word { AreRunRefused [] }
+    ensures no_file { AreRunRefused (codes "--workers" ∷ codes "2" ∷ []) }
+    ensures two_files { AreRunRefused (codes "g" ∷ codes "h" ∷ []) }
 {}

@@ -1,3 +1,4 @@
+pub mod Commas
 mod Digits
 mod Fields
 mod Reading

@@ -4,6 +4,7 @@ ghost use Rattle.std.specs.Prelude.{IfOk, OnOk, IfSome, IfNone, IsErrOf, Err};
 ghost use Rattle.std.specs.Fmt.{signed_decimal};
 ghost use Rattle.csv.specs.Records.{fields_of};
 ghost use Rattle.phase_accum.specs.Sends.{IsSend, AreSends};
+ghost use Rattle.sample_text.specs.Parts.{IsThroughComma};
 ghost use Rattle.sample_text.specs.Samples.{AreSamples, IsBadSample};
 ghost use Rattle.sample_text.specs.Samples.{AreShortSamples, IsBadShortSample};
 ghost use Rattle.sample_text.specs.Samples.{ReadsSamples, ReadsBadSample};
@@ -14,6 +15,7 @@ ghost use Rattle.watched_io.specs.declared.text.TheConstants.{CHUNK_MAX};
 use crate::SampleFault;
 use crate::number::value_of;
 use csv::{ByteRecord, ReaderBuilder};
+use memchr::memchr;
 use std::alloc::Global;
 use std::io::Read;
 use watched_io::{Watched, read_text};
@@ -37,11 +39,35 @@ fn sample_of(row: &ByteRecord) -> Option<i64>
     }
 }
 
+/// The text up to its first comma and with it, or the whole text where it has none.
+fn through_comma(text: &[u8]) -> &[u8]
+    ensures part { IsThroughComma text.now result.now }
+{
+    match memchr(b',', text) {
+        Some(at) => &text[..at + 1],
+        None => text,
+    }
+}
+
 /// The samples of a text, whose records are of one number each.
 ///
 /// Records are those that `csv` reads with its default settings and no header row. It answers no
 /// `ReadFault`.
+///
+/// A record with a comma is no sample, so what stands behind the first one is not read, and takes no
+/// memory.
 pub fn samples_of(alloc: Global, text: &[u8]) -> Result<Vec<i64>, SampleFault>
+    ensures ok { IfOk result (λ values. AreSamples text.now values.items) }
+    ensures values { IfOk result (λ values. AreSends values.items
+        × (length values.items ≤ length text.now)) }
+    ensures bad { (n : ℕ) → IsErrOf result (SampleFault.BadSample n) → IsBadSample text.now n }
+    ensures read { IsErrOf result SampleFault.ReadFault → ⊥ }
+{
+    records_of(alloc, through_comma(text))
+}
+
+/// The values of all records of a text.
+fn records_of(alloc: Global, text: &[u8]) -> Result<Vec<i64>, SampleFault>
     ensures ok { IfOk result (λ values. AreSamples text.now values.items) }
     ensures values { IfOk result (λ values. AreSends values.items
         × (length values.items ≤ length text.now)) }

@@ -1,7 +1,6 @@
 -- Lists of values that can be sent.
-use Rattle.std.proofs.Common.{◌≡◌, ℕ, zero, suc, ◌+◌, ◌<◌, ◌≤◌, List, [], ◌∷◌, length, get_or, map, take, drop, ℤ, arith, Some, Bool, true, false}
-use Rattle.std.specs.Prelude.{if◌then◌else◌}
-use Rattle.std.specs.List.{All, range_with_len, position_from}
+use Rattle.std.proofs.Common.{ℕ, zero, suc, ◌+◌, List, [], ◌∷◌, get_or, map, take, drop, ℤ, arith}
+use Rattle.std.specs.List.{All, range_with_len}
 use Rattle.phase_accum.specs.Sends.{IsSend, AreSends}
 use Rattle.stream_lists.specs.Lists.{entry}
 

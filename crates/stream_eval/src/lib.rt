@@ -11,6 +11,7 @@ mod members;
 mod numbers;
 mod outputs;
 mod phases;
+mod reading;
 mod taken_phases;
 mod taken_values;
 mod whole;

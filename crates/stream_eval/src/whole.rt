@@ -8,6 +8,7 @@ ghost use Rattle.stream_eval.specs.Results.{sink_values};
 ghost use Rattle.stream_lists.specs.Inside.{items_of};
 ghost use Rattle.stream_lists.specs.Lists.{is_sink_at, lines_of, list_over, number, numbers_of, sink_over, sinks_of, value_by};
 ghost use Rattle.stream_eval.specs.Parts.{member_of};
+ghost use Rattle.stream_eval.specs.Reading.{list_kept};
 ghost use Rattle.stream_lists.specs.Ranges.{fault_over, first_too_big, Fits};
 ghost use Rattle.stream_lists.specs.Spans.{lengths_of, spans_of};
 
@@ -15,6 +16,7 @@ use crate::fault::EvalFault;
 use crate::members::members_on;
 use crate::numbers::reduced;
 use crate::phases::MemberList;
+use crate::reading::drop_read;
 use crate::taken_values::taken_at;
 use graph_base::{Kind, Op};
 use phase_accum::{Accumulate, Any, Greatest, Least, Product, Sum};
@@ -117,9 +119,11 @@ fn phaser_list(
     }
 }
 
-/// The numbers of all phasers' lists, or the first value out of range.
+/// The numbers of the phasers' lists that a sink reads, each at its phaser's place, or the first
+/// value out of range. A list is dropped after the last phaser that is composed from it.
 fn phaser_lists(alloc: Global, job: &Job) -> Result<Vec<Vec<i64>>, EvalFault>
-    ensures ok { IfOk result (λ lists. items_of lists.items ≡ numbers_of job.now) }
+    ensures ok { IfOk result (λ lists. (q : ℕ) → get_or (items_of lists.items) q []
+        ≡ list_kept job.now (length job.now.graph.phasers) (numbers_of job.now) q) }
     ensures sends { IfOk result (λ lists. All (λ list. AreSends list.items) lists.items) }
     ensures fits { IfOk result (λ lists. first_too_big job.now ≡ None) }
     ensures too_big { (place : PlaceValue) (n : ℕ) → result ≡ Err (EvalFault.TooBig place n)
@@ -136,6 +140,7 @@ fn phaser_lists(alloc: Global, job: &Job) -> Result<Vec<Vec<i64>>, EvalFault>
         let Ok(()) = lists.push(list) else {
             return Err(EvalFault::OutOfMemory);
         };
+        drop_read(alloc, job, p + 1, lists.as_mut_slice());
     }
     Ok(lists)
 }
@@ -192,9 +197,9 @@ fn all_lines(alloc: Global, job: &Job, lists: &[Vec<i64>]) -> Result<Vec<Lines>,
 /// or the first value out of range.
 ///
 /// The phasers are gone through in the order of their lines. For each one the outputs of the
-/// filters and peers that signal it are checked first, then each phase that some task takes. It
-/// takes memory for all lists; where one has more values than any memory holds, `OutOfMemory` comes
-/// when its turn comes.
+/// filters and peers that signal it are checked first, then each phase that some task takes. A list
+/// is dropped after the last phaser that is composed from it, and those that a sink reads at the
+/// end. Where one has more values than any memory holds, `OutOfMemory` comes when its turn comes.
 pub fn eval(alloc: Global, job: &Job) -> Result<Vec<Lines>, EvalFault>
     ensures ok { IfOk result (λ lines. map sink_values lines.items ≡ lines_of job.now) }
     ensures fits { IfOk result (λ lines. Fits job.now) }

@@ -10,6 +10,8 @@ mod children;
 #[cfg(test)]
 mod faults;
 #[cfg(test)]
+mod given;
+#[cfg(test)]
 mod jobs;
 #[cfg(test)]
 mod kinds;

@@ -34,8 +34,19 @@ fn with_turn(round: Round, turned: Turned) -> Round {
     }
 }
 
+/// The numbers of so many tasks, over and over.
+pub fn in_rotation(alloc: Global, tasks: usize, rounds: usize) -> Result<Vec<usize>, Fail> {
+    let mut turns = Vec::new(alloc);
+    for _ in 0..rounds {
+        for task in 0..tasks {
+            turns.push(task)?;
+        }
+    }
+    Ok(turns)
+}
+
 /// Gives each task a turn, in the order of their lines.
-fn one_round(world: &mut World<'_>, tasks: usize) -> Result<Round, AllocError>
+pub fn one_round(world: &mut World<'_>, tasks: usize) -> Result<Round, AllocError>
     ensures { world.new.job ≡ world.old.job }
 {
     let mut round = Round::Gone;

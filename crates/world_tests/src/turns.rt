@@ -1,30 +1,18 @@
 //! Turns in a given order.
 use crate::jobs::job_of;
-use crate::rounds::text_of;
+use crate::rounds::{in_rotation, text_of};
 use graph_base::Place;
 use graph_worlds::{RunTurnsFault, Turned, World, run_turns};
-use std::alloc::Global;
 use std::test::Fail;
 
 /// A filter.
 const FILTER: &str = "phaser X sum 4\nphaser Y sum 4\nsource s s.csv -> X\n\
     fir f X -> Y shift 2 taps 1 2 1\nsink out Y\n";
 
-/// The numbers 0, 1 and 2, over and over.
-fn in_rotation(alloc: Global, rounds: usize) -> Result<Vec<usize>, Fail> {
-    let mut turns = Vec::new(alloc);
-    for _ in 0..rounds {
-        for task in 0..3 {
-            turns.push(task)?;
-        }
-    }
-    Ok(turns)
-}
-
 #[test]
 fn turns_in_rotation_end_a_run(rt: HostRuntime) -> Result<(), Fail> {
     let job = job_of(rt.alloc(), FILTER, &["-1\n-1\n0\n"])?;
-    let world = run_turns(rt.alloc(), &job, &in_rotation(rt.alloc(), 10)?)?;
+    let world = run_turns(rt.alloc(), &job, &in_rotation(rt.alloc(), 3, 10)?)?;
     assert_eq!(rt;
         text_of(rt.alloc(), world.lines())?.as_str(),
         "2: -1 -1 -1\n"
@@ -74,7 +62,7 @@ const TWICE_THE_LAST: &str = "phaser X sum 4\nphaser Y sum 4\nsource s s.csv -> 
 fn given_turns_stop_at_a_value_out_of_range(rt: HostRuntime) -> Result<(), Fail> {
     let samples = "9223372036854775807\n9223372036854775807\n";
     let job = job_of(rt.alloc(), TWICE_THE_LAST, &[samples])?;
-    let fault = run_turns(rt.alloc(), &job, &in_rotation(rt.alloc(), 10)?).err();
+    let fault = run_turns(rt.alloc(), &job, &in_rotation(rt.alloc(), 3, 10)?).err();
     let told = RunTurnsFault::TooBig {
         place: Place::Task(1),
         phase: 1,

@@ -1,6 +1,6 @@
 -- A sink with no values stands behind those before it.
 use Rattle.std.proofs.Common.{ℕ, ℤ, List, [], ◌∷◌, ◌++◌, map, sym, ap, ◌∙◌}
-use Rattle.std.specs.List.{range_with_len, filter, All}
+use Rattle.std.specs.List.{range_with_len, filter}
 use Rattle.std.proofs.lemmas.List.{map_push}
 use Rattle.std.proofs.lemmas.List.Elements.{All-push}
 use Rattle.stream_eval.specs.Results.{sink_values}

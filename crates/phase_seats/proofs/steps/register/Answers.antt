@@ -1,209 +1,146 @@
-use Rattle.std.proofs.Common.{◌≡◌, [], ◌∷◌, Some, None, sym, subst, ap, refl, ◌∙◌}
-use Rattle.std.specs.Prelude.{is_some}
-use Rattle.phase_seats.specs.LockedPhasers.{locked_terms}
-use Rattle.turn_lock.specs.Seats.{seat_view, turn_view, turn_value, turn_number}
-use Rattle.phase_history.specs.Histories.{History, members_of, entry_at, signal_phase, wait_phase, greatest_used}
-use Rattle.phase_base.specs.Members.{entry_of}
-use Rattle.phase_history.specs.Refusals.{register_refusal}
+use Rattle.std.proofs.Common.{◌≡◌, [], ◌∷◌, None, true, false, refl, sym, ap, ◌∙◌, rules}
+use Rattle.turn_lock.specs.Seats.{seat_view, turn_view, turn_value, turn_number, IsSameSeat}
+use Rattle.phase_base.specs.declared.entry.Entry.{Entry}
+use Rattle.phase_history.specs.declared.event.Event.{Event}
 use Rattle.phase_history.specs.declared.event.Event.TheVariants.{Registered}
-use Rattle.phase_core.specs.Cores.{CoreState}
-use Rattle.phase_history.proofs.MemberLemmas.{entry_of-push_old}
-use Rattle.phase_seats.specs.Views.{resting, known_of, speaks_of, first_part, other_part}
-use Rattle.phase_seats.specs.Rule.{IsSeatOfTask, StandsWithin}
-use Rattle.phase_seats.specs.Calls.{RefusesRegister, number_after}
-use Rattle.phase_history.specs.declared.refusal.RegisterRefusal.{RegisterRefusal}
 use Rattle.phase_history.specs.declared.refusal.RegisterRefusal.TheVariants as register
-use Rattle.phase_history.proofs.Answered.{register_refusal-never}
+use Rattle.phase_history.specs.Histories.{History, entry_at}
+use Rattle.phase_history.specs.Refusals.{register_refusal}
+use Rattle.phase_core.specs.Cores.{StandsFor}
+use Rattle.phase_seats.specs.LockedPhasers.{locked_place, locked_terms}
+use Rattle.phase_seats.specs.Views.{resting, known_of}
+use Rattle.phase_seats.specs.Rule.{StandsWithin}
+use Rattle.phase_seats.specs.Entries.{entry_stays}
+use Rattle.phase_seats.specs.Steps.{RegistersSeat}
 use Rattle.phase_seats.specs.declared.view.View.{View}
-use Rattle.phase_seats.proofs.Giving.{gives_same, station, lent, after_call, AfterCall, told_entry}
-use Rattle.phase_seats.proofs.RegisterSteps.{NewChild, new_child, child_used, member_child, gives_child, refuses, child_is_next}
+use Rattle.phase_seats.proofs.Giving.{lent}
+use Rattle.phase_seats.proofs.Stepping.{kept_out}
+use Rattle.phase_seats.proofs.RegisterSteps.{NewMember, new_member, is_there, gives_new_member, for_both, speaks_for_both, parent_rests, parent_stays, child_rests, child_stands, gives_refused, refused_step, child_is_next}
 use Rattle.phase_seats.proofs.steps.register.Given.{Over}
-use Rattle.phase_seats.proofs.steps.register.Goals.{In-Some}
+use Rattle.phase_seats.proofs.steps.register.Goals.{After-view-found}
 use Rattle.phase_seats.proofs.steps.register.Goals as goal
 
 -- the phaser under the turn stood for what was seen
-stood : (g : Over) (c : In-Some g) → StandsWithin g.A.Accumulate.operation (locked_terms c.args.phaser.now).limits c.value-core.result.now c.in-Ok.ensures.took.now
+stood : (g : Over) (c : After-view-found g)
+    → StandsWithin g.A.Accumulate.operation (locked_terms c.args.phaser.now).limits c.value-core.result.now c.in-Ok.ensures.took.now
 stood g c =
     lent g.A.Accumulate.operation g.K.SignalRule.allows (locked_terms c.args.phaser.now) c.args.me (turn_value c.in-Ok.turn) c.value-core.result.now
     c.in-Ok.ensures.took.now c.value-core.ensures.value c.in-Ok.ensures.took.stands
 
--- the child's number is a new one
-born : (g : Over) (c : In-Some g) → NewChild c.in-Ok.ensures.took.now c.args.me c.child_of-child.result
-born g c =
-    let e = c.in-Ok.ensures.took in
-    new_child (locked_terms c.args.phaser.now).limits e.now c.args.me c.child_of-child.result c.args.mode c.args.entry e.good.legal e.used
-    (c.in_default.ensures.ok e.now (stood g c).stands)
+-- the event, and where the child stands
+abbrev event : (g : Over) (c : After-view-found g) → Event
+event g c = Registered c.args.me c.child_of-child.result c.args.mode
 
--- what the registration leaves there
-left : (g : Over) (c : In-Some g) → AfterCall g.A.Accumulate.operation g.K.SignalRule.allows (locked_terms c.args.phaser.now) c.args.me
-    (Registered c.args.me c.child_of-child.result c.args.mode ∷ c.in-Ok.ensures.took.now) c.register-answer.new.self
-left g c =
-    let e = c.in-Ok.ensures.took in
-    after_call g.A.Accumulate.operation g.K.SignalRule.allows (locked_terms c.args.phaser.now) c.args.me e.now
-    (Registered c.args.me c.child_of-child.result c.args.mode ∷ e.now) c.value-core.result.now c.register-answer.new.self (stood g c)
-    c.in_default.ensures.limits (c.in_default.ensures.after e.now (stood g c).stands) e.good.keeps
+abbrev begins : (g : Over) (c : After-view-found g) → Entry
+begins g c = entry_at c.args.mode c.args.entry.signal_phase c.args.entry.wait_phase
+
+module _ (g : Over) (c : After-view-found g) where
+  abbrev IsMade : Type 0
+  IsMade = NewMember g.A.Accumulate.operation g.K.SignalRule.allows (locked_terms c.args.phaser.now) c.args.me c.args.entry c.in-Ok.ensures.took.now (event g c)
+      c.child_of-child.result (begins g c) c.register-answer.new.self
+
+  -- what the registration leaves, where the core accepted it
+  made : ((h : History) → StandsFor g.A.Accumulate.operation c.value-core.result.now h → register_refusal h c.args.me c.child_of-child.result c.args.mode ≡ None)
+      → c.register-answer.new.self.limits ≡ c.value-core.result.now.limits
+      → ((h : History) → StandsFor g.A.Accumulate.operation c.value-core.result.now h → StandsFor g.A.Accumulate.operation c.register-answer.new.self (event g c ∷ h))
+      → IsMade
+  made ok limits after =
+      let e = c.in-Ok.ensures.took in
+      let before = stood g c in
+      new_member g.A.Accumulate.operation g.K.SignalRule.allows (locked_terms c.args.phaser.now) c.args.me c.args.entry e.now c.child_of-child.result c.args.mode
+      c.value-core.result.now c.register-answer.new.self before e.good e.used e.member (ok e.now before.stands) limits (after e.now before.stands)
 
 -- the child is a member now
 pub unreachable-requires : goal.unreachable-requires
 unreachable-requires g c =
-    let op = g.A.Accumulate.operation in
-    let allows = g.K.SignalRule.allows in
-    let terms = locked_terms c.args.phaser.now in
-    let turn = c.in-Ok.turn in
-    let me = c.args.me in
-    let mode = c.args.mode in
-    let child = c.child_of-child.result in
-    let e = c.in-Ok.ensures.took in
-    let old = c.value-core.result.now in
-    let before : StandsWithin op terms.limits old e.now = lent op allows terms me (turn_value turn) old e.now c.value-core.ensures.value e.stands in
-    let accepted : register_refusal e.now me child mode ≡ None = c.in_default.ensures.ok e.now before.stands in
-    let new : NewChild e.now me child = new_child terms.limits e.now me child mode c.args.entry e.good.legal e.used accepted in
-    let event = Registered me child mode in
-    let s : AfterCall op allows terms me (event ∷ e.now) c.register-answer.new.self =
-    after_call op allows terms me e.now (event ∷ e.now) old c.register-answer.new.self before c.in_default.ensures.limits
-    (c.in_default.ensures.after e.now before.stands) e.good.keeps in
-    c.in_default-found.not-Some (entry_at mode c.args.entry.signal_phase c.args.entry.wait_phase)
-    (c.view-found.ensures ∙ ap (λ ms. entry_of ms child) s.stands.stands.members_are
-    ∙ member_child terms.limits e.now me child mode c.args.entry e.good.legal new e.member)
+    let at = (goal.at.unreachable-requires g c).After-view-found in
+    c.in_default-found.not-Some (begins g at)
+    (is_there g.A.Accumulate.operation g.K.SignalRule.allows (locked_terms c.args.phaser.now) c.args.me c.args.entry c.in-Ok.ensures.took.now (event g at)
+    c.child_of-child.result (begins g at) c.register-answer.new.self (made g at c.in_default.ensures.ok c.in_default.ensures.limits c.in_default.ensures.after)
+    c.view-found.result c.view-found.ensures)
 
 pub put_back-both-requires-clause-rule : goal.put_back-both-requires-clause-rule
 put_back-both-requires-clause-rule g c =
-    let op = g.A.Accumulate.operation in
-    let allows = g.K.SignalRule.allows in
-    let terms = locked_terms c.args.phaser.now in
-    let turn = c.in-Ok.turn in
-    let me = c.args.me in
-    let mode = c.args.mode in
-    let child = c.child_of-child.result in
+    let at = (goal.at.put_back-both-requires-clause-rule g c).After-view-found in
     let e = c.in-Ok.ensures.took in
-    let new = born g (goal.at.put_back-both-requires-clause-rule g c).In-Some in
-    let event = Registered me child mode in
-    let s = left g (goal.at.put_back-both-requires-clause-rule g c).In-Some in
-    gives_child op allows terms me (turn_number turn) c.register-answer.new.self (turn_view turn) e.now event child (λ task. refl)
-    (child_used e.now me child mode) e.is e.used new s.good s.stands
-    (λ v w. w ≡ resting (event ∷ (known_of v).seen) (me ∷ child ∷ [])) refl
+    gives_new_member g.A.Accumulate.operation g.K.SignalRule.allows (locked_terms c.args.phaser.now) c.args.me c.args.entry e.now (event g at)
+    c.child_of-child.result (begins g at) c.register-answer.new.self (made g at c.in_default.ensures.ok c.in_default.ensures.limits c.in_default.ensures.after)
+    (turn_number c.in-Ok.turn) (turn_view c.in-Ok.turn) e.is e.used
 
 pub give-requires-clause-rule : goal.give-requires-clause-rule
 give-requires-clause-rule g c =
-    let op = g.A.Accumulate.operation in
-    let allows = g.K.SignalRule.allows in
-    let terms = locked_terms c.args.phaser.now in
-    let turn = c.in-Ok.turn in
-    let me = c.args.me in
     let e = c.in-Ok.ensures.took in
-    let old = c.value-core.result.now in
-    let before : StandsWithin op terms.limits old e.now = lent op allows terms me (turn_value turn) old e.now c.value-core.ensures.value e.stands in
-    let after : StandsWithin op terms.limits c.register-answer.new.self e.now = subst (λ (z : CoreState g.row.A.Denot). StandsWithin op terms.limits z e.now) (sym c.in-Err-answer.ensures.err) before in
-    gives_same op allows terms me (turn_number turn) c.register-answer.new.self (turn_view turn) e.now e.is e.used e.good after
+    gives_refused g.A.Accumulate.operation g.K.SignalRule.allows (locked_terms c.args.phaser.now) c.args.me c.args.entry (turn_number c.in-Ok.turn) e.now
+    (turn_view c.in-Ok.turn) c.value-core.result.now c.register-answer.new.self (stood g (goal.at.give-requires-clause-rule g c).After-view-found)
+    c.in-Err-answer.ensures.err e.is e.used e.good
 
 pub split-seat-requires-clause-two : goal.split-seat-requires-clause-two
 split-seat-requires-clause-two g c =
+    let at = (goal.at.split-seat-requires-clause-two g c).After-view-found in
     let e = c.in-Ok.ensures.took in
     let child = c.child_of-child.result in
-    let event = Registered c.args.me child c.args.mode in
-    let both : seat_view c.put_back-both.result ≡ resting (event ∷ e.now) (c.args.me ∷ child ∷ []) =
-    c.put_back-both.ensures.rule ∙ ap (λ (v : View). resting (event ∷ (known_of v).seen) (c.args.me ∷ child ∷ [])) e.is in
+    speaks_for_both c.args.me e.now (event g at) child (seat_view c.put_back-both.result)
+    (for_both c.args.me e.now (event g at) child (seat_view c.put_back-both.result) (turn_view c.in-Ok.turn) c.put_back-both.ensures.rule e.is)
+
+pub returns-clause-step : goal.returns-clause-step
+returns-clause-step g c =
+    let at = (goal.at.returns-clause-step g c).After-view-found in
+    let op = g.A.Accumulate.operation in
+    let allows = g.K.SignalRule.allows in
+    let terms = locked_terms c.args.phaser.now in
+    let me = c.args.me in
+    let child = c.child_of-child.result in
+    let e = c.in-Ok.ensures.took in
+    let before = stood g at in
+    let x = c.register-answer.new.self in
+    let b : IsMade g at = made g at c.in_default.ensures.ok c.in_default.ensures.limits c.in_default.ensures.after in
+    let both : seat_view c.put_back-both.result ≡ resting (event g at ∷ e.now) (me ∷ child ∷ []) =
+    for_both me e.now (event g at) child (seat_view c.put_back-both.result) (turn_view c.in-Ok.turn) c.put_back-both.ensures.rule e.is in
+    let left : seat_view c.split-seat.result.0 ≡ resting (event g at ∷ e.now) (me ∷ []) =
+    parent_rests me e.now (event g at) child (seat_view c.put_back-both.result) (seat_view c.split-seat.result.0) c.split-seat.ensures.left both in
+    let right : seat_view c.split-seat.result.1 ≡ resting (event g at ∷ e.now) (child ∷ []) =
+    child_rests me e.now (event g at) child (seat_view c.put_back-both.result) (seat_view c.split-seat.result.1) c.split-seat.ensures.right both in
+    let stands = child_stands op allows terms me c.args.entry e.now (event g at) child (begins g at) x b c.in-Some.start c.view-found.result
+    (seat_view c.split-seat.result.1) right c.view-found.ensures c.in-Some.is in
     record {
-      one = c.args.me;
-      other = child;
-      rests = both ∙ sym (ap (λ (v : View). resting (known_of v).seen (c.args.me ∷ child ∷ [])) both);
+      call = (
+        c.split-seat.ensures.seats.1,
+        record {
+          registered = record {
+            before = e.now;
+            others = e.others;
+            seen = ap (λ (v : View). (known_of v).seen) left;
+            reply = c.in_default.ensures.ok e.now before.stands;
+            next = child_is_next e.now child c.value-core.result.now.greatest before.stands.greatest_is c.child_of-child.ensures b.new.above;
+          };
+          at = stands.0;
+          seen = ap (λ (v : View). (known_of v).seen) right ∙ sym (ap (λ (v : View). (known_of v).seen) left);
+          start_is = stands.1;
+        },
+      );
+      at = parent_stays op allows terms me c.args.entry e.now (event g at) child (begins g at) x b (seat_view c.split-seat.result.0) left;
+      entry_is = refl;
+      known = search rules;
+      alone = search rules;
     }
 
-pub returns-clause-at : goal.returns-clause-at
-returns-clause-at g c =
-    let allows = g.K.SignalRule.allows in
-    let terms = locked_terms c.args.phaser.now in
-    let me = c.args.me in
-    let mode = c.args.mode in
-    let child = c.child_of-child.result in
+-- the core refused it
+pub returns-in-Err-answer-clause-step : goal.returns-in-Err-answer-clause-step
+returns-in-Err-answer-clause-step g c =
     let e = c.in-Ok.ensures.took in
-    let event = Registered me child mode in
-    let s = left g (goal.at.returns-clause-at g c).In-Some in
-    let h : History = event ∷ e.now in
-    let both : seat_view c.put_back-both.result ≡ resting h (me ∷ child ∷ []) =
-    c.put_back-both.ensures.rule ∙ ap (λ (v : View). resting (event ∷ (known_of v).seen) (me ∷ child ∷ [])) e.is in
-    let member : entry_of (members_of h) me ≡ Some c.args.entry =
-    entry_of-push_old (members_of e.now) child me (entry_at mode (signal_phase e.now me) (wait_phase e.now me)) c.args.entry e.member in
-    subst (λ (v : View). IsSeatOfTask allows terms me c.args.entry v) (sym (c.split-seat.ensures.left ∙ ap first_part both))
-    (record { rests = refl; member = member; good = s.good })
+    let before = stood g (goal.at.returns-in-Err-answer-clause-step g c).After-view-found in
+    let old = (known_of (seat_view c.args.seat)).seen in
+    let new = (known_of (seat_view c.give.result)).seen in
+    refused_step g.A.Accumulate.operation g.K.SignalRule.allows (locked_terms c.args.phaser.now) c.args.me c.args.entry e.now c.child_of-child.result
+    c.value-core.result.now.greatest c.args.mode c.in-Err-answer.refusal (IsSameSeat c.args.seat c.give.result)
+    (RegistersSeat g.K.SignalRule.allows (locked_place c.args.phaser.now) (locked_terms c.args.phaser.now) c.args.me c.args.mode c.args.entry old new)
+    (seat_view c.args.seat) (seat_view c.give.result) (turn_view c.in-Ok.turn) c.give.ensures.rule e.is e.good e.member e.others
+    before.stands.greatest_is c.child_of-child.ensures (λ other. c.in-Err-answer.ensures.refused other e.now before.stands)
+    (λ none. c.in-Err-answer.ensures.out_of_memory none e.now before.stands) (λ r. r)
 
-pub returns-clause-ok : goal.returns-clause-ok
-returns-clause-ok g c =
-    let op = g.A.Accumulate.operation in
-    let allows = g.K.SignalRule.allows in
-    let terms = locked_terms c.args.phaser.now in
-    let me = c.args.me in
-    let mode = c.args.mode in
-    let child = c.child_of-child.result in
-    let e = c.in-Ok.ensures.took in
-    let before = stood g (goal.at.returns-clause-ok g c).In-Some in
-    let new = born g (goal.at.returns-clause-ok g c).In-Some in
-    let event = Registered me child mode in
-    let s = left g (goal.at.returns-clause-ok g c).In-Some in
-    let h : History = event ∷ e.now in
-    let both : seat_view c.put_back-both.result ≡ resting h (me ∷ child ∷ []) =
-    c.put_back-both.ensures.rule ∙ ap (λ (v : View). resting (event ∷ (known_of v).seen) (me ∷ child ∷ [])) e.is in
-    let right = c.split-seat.ensures.right ∙ ap other_part both in
-    let left = c.split-seat.ensures.left ∙ ap first_part both in (
-      c.split-seat.ensures.seats.1,
-      record {
-        registered = record {
-          before = e.now;
-          others = e.others;
-          seen = ap (λ (v : View). (known_of v).seen) left;
-          reply = c.in_default.ensures.ok e.now before.stands;
-          next = child_is_next e.now child c.value-core.result.now.greatest before.stands.greatest_is c.child_of-child.ensures new.above;
-        };
-        at = station op allows terms child c.in-Some.start (seat_view c.split-seat.result.1) h c.register-answer.new.self c.view-found.result
-            right s.good s.stands c.view-found.ensures c.in-Some.is;
-        seen = ap (λ (v : View). (known_of v).seen) right ∙ sym (ap (λ (v : View). (known_of v).seen) left);
-        start_is = told_entry op allows terms child c.in-Some.start (entry_at mode c.args.entry.signal_phase c.args.entry.wait_phase) h
-            c.register-answer.new.self c.view-found.result s.stands c.view-found.ensures c.in-Some.is
-            (member_child terms.limits e.now me child mode c.args.entry e.good.legal new e.member);
-      },
-    )
-
-pub returns-in-Err-answer-clause-at : goal.returns-in-Err-answer-clause-at
-returns-in-Err-answer-clause-at g c =
-    let allows = g.K.SignalRule.allows in
-    let terms = locked_terms c.args.phaser.now in
-    let me = c.args.me in
-    let e = c.in-Ok.ensures.took in
-    subst (λ (v : View). IsSeatOfTask allows terms me c.args.entry v)
-    (sym (c.give.ensures.rule ∙ ap (λ (v : View). resting (known_of v).seen (speaks_of v)) e.is))
-    (record { rests = refl; member = e.member; good = e.good })
-
-pub returns-in-Err-answer-clause-err : goal.returns-in-Err-answer-clause-err
-returns-in-Err-answer-clause-err g c =
-    let op = g.A.Accumulate.operation in
-    let allows = g.K.SignalRule.allows in
-    let terms = locked_terms c.args.phaser.now in
-    let turn = c.in-Ok.turn in
-    let me = c.args.me in
-    let mode = c.args.mode in
-    let child = c.child_of-child.result in
-    let e = c.in-Ok.ensures.took in
-    let old = c.value-core.result.now in
-    let before : StandsWithin op terms.limits old e.now = lent op allows terms me (turn_value turn) old e.now c.value-core.ensures.value e.stands in
-    let seen : (known_of (seat_view c.give.result)).seen ≡ e.now = ap (λ (v : View). (known_of v).seen) c.give.ensures.rule ∙ ap (λ (v : View). (known_of v).seen) e.is in
-    let next : child ≡ number_after (greatest_used e.now) = c.child_of-child.ensures ∙ ap number_after before.stands.greatest_is in
-    subst (λ (h : History). RefusesRegister me mode (known_of (seat_view c.args.seat)).seen h c.in-Err-answer.refusal) (sym seen)
-    (refuses c.in-Err-answer.refusal me mode (known_of (seat_view c.args.seat)).seen e.now e.others
-    (λ other. ap (λ n. register_refusal e.now me n mode) (sym next) ∙ c.in-Err-answer.ensures.refused other e.now before.stands)
-    (λ none. ap (λ n. register_refusal e.now me n mode) (sym next) ∙ c.in-Err-answer.ensures.out_of_memory none e.now before.stands))
-
-not_memory : ◌≡◌ {A = RegisterRefusal} register.NoTask register.OutOfMemory → ⊥
-not_memory e = cc
-
-pub returns-in-Err-answer-clause-known : goal.returns-in-Err-answer-clause-known
-returns-in-Err-answer-clause-known g c none =
-    let op = g.A.Accumulate.operation in
-    let allows = g.K.SignalRule.allows in
-    let terms = locked_terms c.args.phaser.now in
-    let turn = c.in-Ok.turn in
-    let e = c.in-Ok.ensures.took in
-    let old = c.value-core.result.now in
-    let before : StandsWithin op terms.limits old e.now = lent op allows terms c.args.me (turn_value turn) old e.now c.value-core.ensures.value e.stands in
-    let is : c.in-Err-answer.refusal ≡ register.NoTask = cc in
-    register_refusal-never e.now c.args.me c.child_of-child.result c.args.mode (ap is_some e.member)
-    (c.in-Err-answer.ensures.refused (λ memory. not_memory (sym is ∙ memory)) e.now before.stands ∙ ap Some is)
+-- the turn was another's
+pub returns-in-Err-clause-step : goal.returns-in-Err-clause-step
+returns-in-Err-clause-step g c =
+    kept_out g.A.Accumulate.operation g.K.SignalRule.allows (locked_terms c.args.phaser.now) c.args.me register.NoTask entry_stays _ c.args.entry
+    (seat_view c.args.seat) (seat_view c.in-Err.seat) refl c.in-Err.ensures.err c.in-Err.ensures.still
+    (λ only. let z : false ≡ true = c.in-Err.ensures.alone only in cc)

@@ -26,5 +26,8 @@ returns c =
     let one = c.in_ok-subcommand.ensures.shape replay_local
     ∙ ap₂ with_subcommand phase_is replay_is in
     let two = c.in_ok-subcommand-2.ensures.shape check.local ∙ ap₂ with_subcommand one (ap (λ (a : App). a.top) check.app) in
-    IfOk-weaker c.subcommand-3.result _ _
-    (λ r adds. adds.shape eval.local ∙ ap₂ with_subcommand two eval.shape) c.subcommand-3.ensures
+    let three = c.in_ok-subcommand-3.ensures.shape eval.local ∙ ap₂ with_subcommand two eval.shape in
+    let draw = c.in_ok-graph_command-2.ensures in
+    IfOk-weaker c.subcommand-4.result _ _
+    (λ r adds. adds.shape draw.local ∙ ap₂ with_subcommand three (ap (λ (a : App). a.top) draw.app))
+    c.subcommand-4.ensures

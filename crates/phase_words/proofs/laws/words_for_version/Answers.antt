@@ -1,7 +1,7 @@
 -- clap's reading, computed.
 use Rattle.std.proofs.Common.{◌≡◌, [], ◌∷◌, codes, refl}
 use Rattle.clap.proofs.OnLiterals.{clap_on_literals}
-use Rattle.clap.specs.declared.error.kind.ErrorKind.TheVariants.{MissingRequiredArgument, UnknownArgument}
+use Rattle.clap.specs.declared.error.kind.ErrorKind.TheVariants.{UnknownArgument}
 use Rattle.phase_words.specs.CommandLine.{kinds_of, phase_app}
 use Rattle.phase_words.proofs.Refused.{unknown_refused}
 use Rattle.phase_words.proofs.laws.words_for_version.Goals as goal

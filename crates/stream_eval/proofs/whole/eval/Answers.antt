@@ -1,18 +1,23 @@
-use Rattle.std.proofs.Common.{rules, ◌≡◌, Err, map, ap, ◌∙◌}
+use Rattle.std.proofs.Common.{rules, ◌≡◌, [], Err, length, get_or, ap, ◌∙◌}
 use Rattle.std.proofs.lemmas.Result.{IfOk-weaker}
 use Rattle.stream_lists.specs.Spans.{spans_of}
-use Rattle.stream_lists.specs.Lists.{sink_over, sinks_of}
+use Rattle.stream_lists.specs.Lists.{numbers_of}
 use Rattle.stream_lists.specs.Inside.{items_of}
 use Rattle.stream_eval.specs.declared.fault.EvalFault.TheVariants as fault
+use Rattle.stream_eval.proofs.Agreeing.{kept-agree, sinks-same}
 use Rattle.stream_eval.proofs.whole.eval.Goals as goal
 
--- the lists are those of the definition
+-- the sinks take what they would of the definition's lists
 pub returns-clause-ok : goal.returns-clause-ok
 returns-clause-ok c =
+    let job = c.args.job.now in
+    let end = length job.graph.phasers in
+    let lent = ap items_of c.deref.ensures.value in
+    let agree = kept-agree job end (items_of c.deref.result.now) (numbers_of job)
+    (λ q. ap (λ xs. get_or xs q []) lent ∙ c.in-Ok.ensures.ok q) in
     IfOk-weaker c.all_lines.result _ _
-    (λ lines is. is ∙ ap (λ ls. map (sink_over c.args.job.now (spans_of c.args.job.now) ls)
-    (sinks_of c.args.job.now)) (ap items_of c.deref.ensures.value ∙ c.in-Ok.ensures.ok))
-    c.all_lines.ensures.ok
+    (λ lines is. is ∙ sinks-same job (spans_of job) end (items_of c.deref.result.now)
+    (numbers_of job) agree) c.all_lines.ensures.ok
 
 pub returns-clause-fits : goal.returns-clause-fits
 returns-clause-fits c =

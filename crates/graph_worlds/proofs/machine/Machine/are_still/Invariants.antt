@@ -1,5 +1,5 @@
 -- The turn of each live task so far would be blocked.
-use Rattle.std.proofs.Common.{◌≡◌, ℕ, ◌<◌, true}
+use Rattle.std.proofs.Common.{◌≡◌, ℕ, ◌<◌, true, false, get_or}
 use Rattle.graph_moments.specs.Moments.{Moment}
 use Rattle.graph_turns.specs.Answers.{is_still}
 use Rattle.graph_worlds.specs.Machines.{IsMachineAt}
@@ -7,4 +7,5 @@ use Rattle.graph_worlds.proofs.machine.Machine.are_still.Given as goal
 
 abbrev pub invariant-loop-t : goal.invariant-loop-t
 invariant-loop-t l = (m : Moment) → IsMachineAt l.job m l.self
+    → ((t : ℕ) → get_or l.marks t false ≡ true → is_still l.job m t ≡ true)
     → (d : ℕ) → d < l.t → is_still l.job m d ≡ true

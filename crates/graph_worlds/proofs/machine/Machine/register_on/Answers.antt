@@ -1,5 +1,5 @@
 -- The core of the phaser is set, and the others stay.
-use Rattle.std.proofs.Common.{◌∷◌, ◌≡◌, ◌<◌, length, sym, ap, ◌∙◌, arith}
+use Rattle.std.proofs.Common.{◌∷◌, ◌≡◌, length, ap, ◌∙◌, arith}
 use Rattle.std.specs.Vec.{with_item}
 use Rattle.phase_history.specs.declared.event.Event.TheVariants.{Registered}
 use Rattle.graph_base.specs.Graphs.{phaser_at}

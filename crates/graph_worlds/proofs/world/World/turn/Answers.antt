@@ -3,9 +3,9 @@ use Rattle.std.proofs.Common.{◌≡◌, Some, length, sym, ap, subst, ◌∙◌
 use Rattle.graph_moments.specs.Moments.{Moment}
 use Rattle.graph_turns.specs.Answers.{turn_tells, answer_of_turn, after_answer}
 use Rattle.graph_worlds.specs.Tellings.{IsOnPhaser}
-use Rattle.graph_worlds.specs.Turning.{told_of, parked_by}
+use Rattle.graph_worlds.specs.Turning.{after_turn_of, told_of, parked_by}
 use Rattle.graph_worlds.specs.Worlds.{WorldState, IsWorldAt}
-use Rattle.graph_worlds.proofs.Tellings.{made_there, turn_tells_so, turn_parks_so, parked_many}
+use Rattle.graph_worlds.proofs.Tellings.{made_there, turn_tells_so, turn_parks_so, turn_blocks_so, turn_stands_so, parked_many}
 use Rattle.graph_worlds.proofs.world.World.turn.Goals as goal
 
 pub note-requires : goal.note-requires
@@ -19,9 +19,15 @@ note-requires c =
 pub invariant_of-self-2 : goal.invariant_of-self-2
 invariant_of-self-2 c =
     let m = c.self.invariant.0.0 in
+    let job = c.self.inside.job.now in
     let at = c.self.invariant.0.1 in
-    let job = c.self.inside.job.now in (
-      (after_answer job (answer_of_turn job m c.args.task) m, c.in_ok-made.ensures.made.after m at),
+    let had = c.in_ok-made.ensures.made in (
+      (
+        after_answer job (answer_of_turn job m c.args.task) m,
+        had.after m at,
+        turn_blocks_so job c.self.inside.machine c.make.new.self m c.args.task c.in_ok-made.made
+            c.self.inside.parked c.note.new.self had c.note.ensures at c.self.invariant.0.2,
+      ),
       ap length c.note.ensures
           ∙ parked_many c.in_ok-made.made c.args.task c.self.inside.parked
           ∙ c.self.invariant.1,
@@ -33,7 +39,7 @@ returns-clause-table c =
     → turn_tells w.job w.met m c.args.task ≡ Some (told_of c.told-told.result) in
     subst P c.self.view_is (λ m at.
     turn_tells_so c.self.inside.job.now c.self.inside.met m c.args.task c.in_ok-made.made
-    c.told-told.result c.in_default.is (c.in_ok-made.ensures.made.shows m at) c.told-told.ensures)
+    c.told-told.result c.in_default.is (c.in_ok-made.ensures.made.shows m at.machine) c.told-told.ensures)
 
 pub returns-clause-parked : goal.returns-clause-parked
 returns-clause-parked c =
@@ -46,4 +52,22 @@ returns-clause-parked c =
       met = c.self.inside.met;
       parked = c.self.inside.parked;
     } m c.args.task c.in_ok-made.made c.note.new.self c.in_default.is
-    (c.in_ok-made.ensures.made.shows m at) c.note.ensures)
+    (c.in_ok-made.ensures.made.shows m at.machine) c.note.ensures)
+
+pub returns-clause-after : goal.returns-clause-after
+returns-clause-after c =
+    let P : WorldState → Type 0 = λ w. (m : Moment) → IsWorldAt w m
+    → IsWorldAt record {
+      job = c.self.inside.job.now;
+      machine = c.make.new.self;
+      met = c.too_big-self-inside.result;
+      parked = c.note.new.self;
+    } (after_turn_of w m c.args.task) in
+    subst P c.self.view_is (λ m at.
+    turn_stands_so record {
+      job = c.self.inside.job.now;
+      machine = c.self.inside.machine;
+      met = c.self.inside.met;
+      parked = c.self.inside.parked;
+    } c.make.new.self c.note.new.self c.too_big-self-inside.result m c.args.task c.in_ok-made.made
+    c.in_default.is c.in_ok-made.ensures.made c.note.ensures at)

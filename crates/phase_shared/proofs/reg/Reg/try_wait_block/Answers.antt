@@ -1,16 +1,10 @@
-use Rattle.std.proofs.Common.{◌≡◌, [], ◌∷◌, Some, true, false, sym, subst, ap, ◌∙◌}
-use Rattle.std.specs.Prelude.{is_some, Result}
-use Rattle.std.specs.Result.{result_ok}
-use Rattle.turn_lock.specs.Seats.{seat_view, IsSameSeat}
-use Rattle.phase_history.specs.Others.{OnlyUsed}
-use Rattle.phase_seats.specs.Views.{known_of}
-use Rattle.phase_shared.specs.Regs.{RegState, reg_state, phaser_place, phaser_terms, phaser_limits}
-use Rattle.phase_shared.specs.Calls.{Tries}
+use Rattle.std.proofs.Common.{◌≡◌, Some, true, false, refl, sym, ap, ◌∙◌}
+use Rattle.std.specs.Prelude.{is_some}
+use Rattle.turn_lock.specs.Seats.{IsSameSeat}
+use Rattle.phase_history.specs.declared.refusal.WaitRefusal.TheVariants.{NoTask}
+use Rattle.phase_shared.specs.Regs.{RegState, reg_state, phaser_place, phaser_terms}
 use Rattle.phase_shared.specs.Blocks.{WaitsBlock, entry_after_values}
-use Rattle.phase_history.specs.declared.got.GotBlock.{GotBlock}
-use Rattle.phase_history.specs.declared.refusal.WaitRefusal.{WaitRefusal}
-use Rattle.phase_seats.proofs.Answering.{Tries-map}
-use Rattle.phase_shared.proofs.Opening.{opened, closed, same_reg, reg_is}
+use Rattle.phase_shared.proofs.Opening.{opened, closed, same_reg, reg_is, is_try_as}
 use Rattle.phase_shared.proofs.reg.Reg.try_wait_block.Goals as goal
 
 pub unreachable-requires : goal.unreachable-requires
@@ -32,36 +26,25 @@ invariant_of-self g c =
     let p = phaser_place c.args.phaser.now in
     let terms = phaser_terms c.args.phaser.now in
     let inside = c.self.inside in
-    closed g.K.SignalRule.allows p.0 terms inside.number c.wait_block-seat.result.1 c.wait_block-seat.result.0 c.wait_block-seat.ensures.seat c.wait_block-seat.ensures.at
+    closed g.K.SignalRule.allows p.0 terms inside.number c.wait_block-seat.result.1 c.wait_block-seat.result.0 c.wait_block-seat.ensures.seat
+    c.wait_block-seat.ensures.step.at
 
 pub returns-clause-call : goal.returns-clause-call
 returns-clause-call g c =
     let p = phaser_place c.args.phaser.now in
+    let allows = g.K.SignalRule.allows in
     let terms = phaser_terms c.args.phaser.now in
     let inside = c.self.inside in
-    let is : reg_state (Some c.in-Some.seat) inside.number inside.entry inside.pending ≡ c.args.self.now =
-    reg_is g.K.SignalRule.allows p.0 terms inside.number inside.entry inside.pending inside.seat c.in-Some.seat c.args.self.now
-    (sym c.take.ensures.value ∙ c.in-Some.is) c.self.view_is in
-    let limits = phaser_limits c.args.phaser.now in
-    let value = g.A.Accumulate.operation.value in
     let s = c.in-Some.seat in
     let s' = c.wait_block-seat.result.0 in
     let entry' = c.wait_block-seat.result.1 in
     let out = c.wait_block-seat.new.out in
-    let call : Result GotBlock WaitRefusal → Type 0 = λ answer. WaitsBlock value limits inside.number (known_of (seat_view s)).seen (known_of (seat_view s')).seen c.args.out.now out answer in
-    let P : RegState g.row.A.Denot g.row.K.Denot → Type 0 = λ old. Tries ((reg_state (Some s') inside.number entry' inside.pending ≡ old) × (out ≡ c.args.out.now))
-    (WaitsBlock value limits old.number old.seen (known_of (seat_view s')).seen c.args.out.now out) c.wait_block-seat.result.2 in
-    let Q : RegState g.row.A.Denot g.row.K.Denot → Type 0 = λ r. OnlyUsed (r.number ∷ []) r.seen in
-    let entry = c.wait_block-seat.ensures.entry ∙ ap (λ r. entry_after_values (result_ok c.wait_block-seat.result.2) r.entry) is in
-    record {
-      call = subst P is (Tries-map (IsSameSeat s s' × (entry' ≡ inside.entry) × (out ≡ c.args.out.now))
-          ((reg_state (Some s') inside.number entry' inside.pending ≡ reg_state (Some s) inside.number inside.entry inside.pending) × (out ≡ c.args.out.now)) call call
-          (λ same. (same_reg g.K.SignalRule.allows p.0 terms inside.number inside.entry entry' inside.pending s s' same.0 same.1, same.2)) (λ answer w. w)
-          c.wait_block-seat.result.2 c.wait_block-seat.ensures.call);
-      entry = entry;
-      mode = ap (λ e. e.mode) entry;
-      at = (c.wait_block-seat.ensures.seat ∙ sym c.requires.at, ap (λ r. r.number) c.self.view_is);
-      good = c.wait_block-seat.ensures.at.good;
-      known = c.wait_block-seat.ensures.known;
-      alone = λ only. c.wait_block-seat.ensures.alone (subst Q (sym is) only);
-    }
+    let old_out = c.args.out.now in
+    let same' : RegState g.row.A.Denot g.row.K.Denot → Type 0 = λ r. (reg_state (Some s') inside.number entry' inside.pending ≡ r) × (out ≡ old_out) in
+    is_try_as allows p.0 terms inside.number NoTask entry_after_values (IsSameSeat s s' × (entry' ≡ inside.entry) × (out ≡ old_out)) same'
+    (λ old new answer. WaitsBlock g.A.Accumulate.operation.value terms.limits old.number old.seen new old_out out answer)
+    inside.entry entry' inside.pending inside.pending s s' c.args.self.now c.wait_block-seat.result.2
+    (reg_is allows p.0 terms inside.number inside.entry inside.pending inside.seat s c.args.self.now (sym c.take.ensures.value ∙ c.in-Some.is) c.self.view_is)
+    c.requires.at c.wait_block-seat.ensures.seat (λ answer e. refl)
+    (λ err same. (same_reg allows p.0 terms inside.number inside.entry entry' inside.pending inside.pending s s' same.0 same.1 refl, same.2))
+    c.wait_block-seat.ensures.step

@@ -1,6 +1,6 @@
 use Rattle.std.specs.Prelude.{ℤ, List, drop}
 use Rattle.phase_core.specs.Blocks.{StandForLists}
-use Rattle.phase_seats.proofs.block_steps.check_held.Given as goal
+use Rattle.phase_seats.proofs.block_steps.are_held.Given as goal
 
 -- where some lists stand for the rest, some stand for all
 abbrev pub invariant-loop-pending : goal.invariant-loop-pending

@@ -5,7 +5,7 @@ use Rattle.csv.specs.declared.parser.State.TheVariants as st
 use Rattle.csv.specs.declared.reader.Trim.TheVariants as trim
 use Rattle.phase_accum.specs.Sends.{AreSends}
 use Rattle.sample_text.specs.Samples.{row_of}
-use Rattle.sample_text.proofs.sample.samples_of.Given as goal
+use Rattle.sample_text.proofs.sample.records_of.Given as goal
 
 -- how many bytes are left, where they are known
 abbrev pub known_length : Option (List ℕ) → ℕ

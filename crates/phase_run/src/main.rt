@@ -1,0 +1,30 @@
+//! The program behind `phase run`: it runs a graph of filters over phasers on worker threads.
+#![tactic(auto)]
+
+mod cli;
+mod laws;
+#[cfg(test)]
+mod tests;
+
+use cli::run_cli;
+use phase_status::{own_words, refuse_words};
+use std::process::ExitCode;
+use watched_io::{DiskFiles, Watched};
+
+fn main(rt: HostRuntime) -> ExitCode {
+    let mut faults = Watched::new(rt.stderr());
+    let words = match own_words(&rt) {
+        Ok(words) => words,
+        Err(error) => return ExitCode::from(refuse_words(&error, &mut faults)),
+    };
+    let mut output = Watched::new(rt.stdout());
+    let status = run_cli(
+        &rt,
+        rt.alloc(),
+        words.as_slice(),
+        &mut output,
+        &mut faults,
+        &mut DiskFiles::new(&rt),
+    );
+    ExitCode::from(status)
+}

@@ -1,0 +1,89 @@
+-- What the words behind `phase run` ask for, by what clap makes of them.
+use Rattle.std.specs.Prelude.{◌≡◌, ℕ, List, [], ◌∷◌, Option, Some, None, codes, if◌then◌else◌, option_map, unwrap_or}
+use Rattle.std.specs.Str.Parse.{digits_value, without_leading_plus}
+use Rattle.clap.specs.ValueTests.{is_unsigned_in}
+use Rattle.clap.specs.Words.{App, Kinds, Row, Rule, Text, fault_of, first_of, matches_of, new_app, new_rule, with_rule}
+use Rattle.clap.specs.declared.builder.value_parser.ValueParser.TheVariants as vp
+use Rattle.clap.specs.declared.error.kind.ErrorKind.TheVariants.{DisplayHelp, DisplayVersion}
+use Rattle.phase_words.specs.CommandLine.{Refuse, graph_rule, sink_rule, with_version, without_own_name}
+use Rattle.phase_words.specs.declared.call.RunCall.{RunCall}
+use Rattle.phase_words.specs.declared.call.TheConstants.{WORKERS, WORKERS_MAX}
+
+-- ---- the command line
+
+-- the number of workers, which may be given behind `--workers`: from 1 to 16, in decimal digits
+abbrev pub workers_rule : Rule
+workers_rule = record (new_rule (codes "workers")) {
+  long = Some (codes "workers");
+  value_names = 1;
+  parser = Some (vp.Unsigned 1 WORKERS_MAX);
+}
+
+-- the words behind `phase run`: a graph's file, a sink and a number of workers
+unfoldable pub run_app : App
+run_app = with_rule (with_rule (with_rule (with_version
+    (without_own_name (new_app (codes "phase")))) graph_rule) sink_rule) workers_rule
+
+-- ---- what the words ask for
+
+-- the kinds of answer that clap may give in place of taking the words
+unfoldable pub run_kinds_of : List Text → Kinds
+run_kinds_of words = fault_of run_app words
+
+-- clap takes the words; they ask for help, for the version, or are refused
+abbrev pub AreRunTaken : List Text → Type 0
+AreRunTaken words = run_kinds_of words ≡ []
+
+abbrev pub AskRunHelp : List Text → Type 0
+AskRunHelp words = run_kinds_of words ≡ DisplayHelp ∷ []
+
+abbrev pub AskRunVersion : List Text → Type 0
+AskRunVersion words = run_kinds_of words ≡ DisplayVersion ∷ []
+
+abbrev pub AreRunRefused : List Text → Type 0
+AreRunRefused words = Refuse (run_kinds_of words)
+
+-- how many workers a word names: as many as it says, from 1 to 16, and 4 where it says none of these
+abbrev pub workers_named : Text → ℕ
+workers_named word =
+    if is_unsigned_in 1 WORKERS_MAX word then digits_value 10 (without_leading_plus word) else WORKERS
+
+-- and 4 where there is no word
+abbrev pub workers_of : Option Text → ℕ
+workers_of None = WORKERS
+workers_of (Some word) = workers_named word
+
+-- a run of the graph in the file of a name by so many workers, for all its sinks, or for the one of a
+-- name
+pub record Run : Type 0 where
+  pub graph : Text
+  pub sink : Option Text
+  pub workers : ℕ
+
+-- by what clap finds in the words
+abbrev pub run_by : List Row → Run
+run_by rows = record {
+  graph = unwrap_or (first_of (codes "graph") rows) [];
+  sink = first_of (codes "sink") rows;
+  workers = workers_of (first_of (codes "workers") rows);
+}
+
+unfoldable pub run_in : List Text → Run
+run_in words = run_by (matches_of run_app words)
+
+-- clap takes the words, and they ask for this run
+pub record AsksRun (words : List Text) (what : Run) : Type 0 where
+  pub taken : AreRunTaken words
+  pub run : run_in words ≡ what
+
+abbrev pub AskRun : List Text → Text → Option Text → ℕ → Type 0
+AskRun words name sink workers =
+    AsksRun words (record { graph = name; sink = sink; workers = workers })
+
+-- what a call asks for
+abbrev pub run_of : RunCall → Run
+run_of call = record {
+  graph = call.graph.now;
+  sink = option_map (λ s. s.now) call.sink;
+  workers = call.workers;
+}

@@ -1,0 +1,87 @@
+//! The words behind `phase run`, as clap reads them.
+ghost use Rattle.std.specs.Prelude.{◌≡◌, IfOk, IfErr, false, option_map};
+ghost use Rattle.clap.specs.Words.{FailsBy, app_of, found_of, rows_of, rule_of};
+ghost use Rattle.phase_words.specs.CommandLine.{ExplainsNone, texts};
+ghost use Rattle.phase_words.specs.RunLine.{AskRun, run_app, run_by, run_in, run_kinds_of, run_of};
+ghost use Rattle.phase_words.specs.RunLine.{workers_of, workers_rule};
+
+use crate::command_line::{graph_word, no_call, sink_word};
+use crate::help::{RUN, RUN_END, VERSION, WORKERS_WORD};
+use crate::{NoCall, RunCall, WORKERS, WORKERS_MAX};
+use clap::builder::ValueParser;
+use clap::{Arg, ArgMatches, Command, Error};
+use std::alloc::{AllocError, Global};
+
+/// The word behind `--workers`, which may be given: how many worker threads run a graph.
+fn workers_word<'a>(alloc: Global) -> Arg<'a>
+    ensures rule { rule_of result ≡ workers_rule }
+    ensures local { result.global ≡ false }
+{
+    Arg::new(alloc, "workers")
+        .long("workers")
+        .value_name("N")
+        .value_parser(ValueParser::unsigned(1, WORKERS_MAX as u64))
+        .help(WORKERS_WORD)
+}
+
+/// The command line behind `phase run`.
+fn run_command<'a>(alloc: Global) -> Result<Command<'a>, AllocError>
+    ensures { IfOk result (λ c. app_of c ≡ run_app) }
+{
+    Command::new(alloc, "phase")
+        .no_binary_name(true)
+        .version(VERSION)
+        .about(RUN)
+        .after_help(RUN_END)
+        .bin_name("phase run")?
+        .arg(graph_word(alloc))?
+        .arg(sink_word(alloc))?
+        .arg(workers_word(alloc))
+}
+
+/// What the words ask for, by what clap found in them.
+fn call_of<'a>(matches: &ArgMatches<'a>) -> RunCall<'a>
+    ensures { run_of result ≡ run_by (rows_of (found_of matches.now)) }
+{
+    RunCall {
+        graph: matches.get_str("graph").unwrap_or(""),
+        sink: matches.get_str("sink"),
+        workers: workers_of(matches.get_str("workers")),
+    }
+}
+
+/// How many workers this word asks for, which clap has taken, or none where there is no word.
+fn workers_of(word: Option<&str>) -> usize
+    ensures { result ≡ workers_of (option_map (λ s. s.now) word.entry) }
+{
+    let Some(word) = word else {
+        return WORKERS;
+    };
+    match word.parse::<usize>() {
+        Ok(workers) if (1..=WORKERS_MAX).contains(&workers) => workers,
+        _ => WORKERS,
+    }
+}
+
+/// Reads the words by clap.
+fn parse<'a>(alloc: Global, words: &'a [String]) -> Result<RunCall<'a>, Error>
+    ensures fails { FailsBy (run_kinds_of (texts words.now)) result }
+    ensures call { IfOk result (λ call. run_of call ≡ run_in (texts words.now)) }
+{
+    let command = run_command(alloc)?;
+    let matches = command.try_get_matches_from(words)?;
+    Ok(call_of(&matches))
+}
+
+/// Reads the words behind `phase run`. Where they ask for help or for the version, or are refused, the
+/// text is clap's.
+pub fn read_run_words<'a>(alloc: Global, words: &'a [String]) -> Result<RunCall<'a>, NoCall>
+    ensures call { IfOk result (λ call. AskRun (texts words.now) call.graph.now
+        (option_map (λ s. s.now) call.sink) call.workers) }
+    ensures no_call { IfErr result (λ none. ExplainsNone (run_kinds_of (texts words.now)) none) }
+{
+    match parse(alloc, words) {
+        Ok(call) => Ok(call),
+        Err(error) => Err(no_call(alloc, &error)),
+    }
+}

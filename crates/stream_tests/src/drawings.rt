@@ -1,0 +1,118 @@
+//! Worked drawings of graphs.
+
+use graph_drawing::{drawing_text, write_drawing};
+use graph_lang::read_graph;
+use std::alloc::Global;
+use std::io;
+use std::io::{ErrorKind, Write};
+use std::test::Fail;
+use watched_io::{IoFault, Watched};
+
+/// A graph with a task of each kind, a phaser with a single, and a child.
+const EVERY_KIND: &str = "\
+phaser X sum 4
+phaser E product 1 single neg
+phaser Y least 65536
+phaser Z greatest 2
+phaser U any 3
+phaser V sum 1
+phaser W sum 9
+source s s.csv -> X
+source c c.csv -> X by s at 12
+peer p X <-> E -> Y mul 2
+fir f Y -> Z shift 0 taps 1
+split d Z -> U V
+join j U V -> W
+sink o W
+";
+
+/// Its drawing.
+const PICTURE: &str = r#"digraph {
+    rankdir=LR;
+    "X" [shape=ellipse, label="X\nsum 4"];
+    "E" [shape=ellipse, label="E\nproduct 1"];
+    "Y" [shape=ellipse, label="Y\nleast 65536"];
+    "Z" [shape=ellipse, label="Z\ngreatest 2"];
+    "U" [shape=ellipse, label="U\nany 3"];
+    "V" [shape=ellipse, label="V\nsum 1"];
+    "W" [shape=ellipse, label="W\nsum 9"];
+    "s" [shape=box, label="s\nsource"];
+    "c" [shape=box, label="c\nsource"];
+    "p" [shape=box, label="p\npeer"];
+    "f" [shape=box, label="f\nfir"];
+    "d" [shape=box, label="d\nsplit"];
+    "j" [shape=box, label="j\njoin"];
+    "o" [shape=box, label="o\nsink"];
+    "s" -> "X";
+    "c" -> "X";
+    "c" -> "s" [style=dashed, label="at 12"];
+    "X" -> "p";
+    "E" -> "p";
+    "p" -> "E";
+    "p" -> "Y";
+    "Y" -> "f";
+    "f" -> "Z";
+    "Z" -> "d";
+    "d" -> "U";
+    "d" -> "V";
+    "U" -> "j";
+    "V" -> "j";
+    "j" -> "W";
+    "W" -> "o";
+}
+"#;
+
+/// The drawing of the graph that a text declares, and what is written of it.
+fn drawn(alloc: Global, text: &str) -> Result<(Vec<u8>, Vec<u8>), Fail> {
+    let graph = read_graph(alloc, text.as_bytes())?;
+    let mut output = Vec::new(alloc);
+    let mut writer = Watched::new(&mut output);
+    write_drawing(alloc, &mut writer, &graph)?;
+    drop(writer);
+    Ok((drawing_text(alloc, &graph)?, output))
+}
+
+#[test]
+fn each_kind_of_line_is_drawn(rt: HostRuntime) -> Result<(), Fail> {
+    let (text, written) = drawn(rt.alloc(), EVERY_KIND)?;
+    assert_eq!(rt; text.as_slice(), PICTURE.as_bytes());
+    assert_eq!(rt; written.as_slice(), PICTURE.as_bytes());
+    Ok(())
+}
+
+#[test]
+fn no_lines_are_a_drawing_of_nothing(rt: HostRuntime) -> Result<(), Fail> {
+    let (text, written) = drawn(rt.alloc(), "# nothing\n")?;
+    assert_eq!(rt;
+        text.as_slice(),
+        b"digraph {\n    rankdir=LR;\n}\n".as_slice()
+    );
+    assert_eq!(rt; written.as_slice(), text.as_slice());
+    Ok(())
+}
+
+/// A writer whose writes fail.
+#[derive(Drop)]
+struct Full;
+
+impl Write for Full {
+    fn write(&mut self, _buf: &[u8]) -> io::Result<usize> {
+        Err(io::Error::from(ErrorKind::Other))
+    }
+
+    fn flush(&mut self) -> io::Result<()> {
+        Ok(())
+    }
+}
+
+#[test]
+fn a_failed_write_is_told(rt: HostRuntime) -> Result<(), Fail> {
+    let graph = read_graph(rt.alloc(), b"phaser X sum 4")?;
+    let mut writer = Watched::new(Full);
+    assert_eq!(rt;
+        write_drawing(rt.alloc(), &mut writer, &graph),
+        Err(IoFault::WriteFault)
+    );
+    assert!(rt; writer.has_failed());
+    Ok(())
+}
