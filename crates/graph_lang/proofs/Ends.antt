@@ -8,7 +8,7 @@ use Rattle.graph_base.specs.declared.line.Kind.{Kind}
 use Rattle.graph_base.specs.declared.line.Parent.{Parent}
 use Rattle.graph_text.specs.Numbers.{is_nat, nat_value}
 use Rattle.graph_text.specs.Decls.{EndWords, ByWords, BodyWords, source, fir, split, join, peer, sink, IsBody, IsBy, AreEnds}
-use Rattle.graph_lang.specs.LineTasks.{inputs_of, outputs_of, task_line, kind_of_body, numbers_of, parent_of, taps_of, shift_of, factor_of}
+use Rattle.graph_lang.specs.WordValues.{inputs_of, outputs_of, task_line, kind_of_body, numbers_of, parent_of, taps_of, shift_of, factor_of}
 use Rattle.graph_lang.specs.Faults.{phasers_of}
 
 no_by : (by : Option ByWords) → by ≡ None → IfSome by IsBy

@@ -7,7 +7,7 @@ use Rattle.phase_base.specs.declared.operation.Op.{Op}
 use Rattle.graph_text.specs.Decls.{phaser, task, FunctionWords, BodyWords, EndWords}
 use Rattle.graph_base.specs.Graphs.{Graph, Task}
 use Rattle.graph_base.specs.Names.{place_of}
-use Rattle.graph_lang.specs.LineTasks.{task_line, files_in}
+use Rattle.graph_lang.specs.WordValues.{task_line, files_in}
 use Rattle.graph_lang.specs.Faults.{kind_of, later_kind, last_kind, phasers_of, is_past_limit, are_distinct, is_phaser, is_parent_known}
 use Rattle.graph_lang.specs.Faults.{is_phaser_within}
 use Rattle.graph_lang.specs.Reads.{with_line}

@@ -15,7 +15,7 @@ use Rattle.phase_base.specs.declared.operation.Op.{Op}
 use Rattle.graph_text.specs.Decls.{Decl, phaser, task, FunctionWords, neg, abs, halve, clamp, BodyWords, source, fir, split, join, peer, sink, EndWords, IsBody, IsWellFormed}
 use Rattle.graph_base.specs.Graphs.{Graph, no_graph, no_task, no_phaser, Task, IsPlace, is_same_place, task_at, sources_among, is_source}
 use Rattle.graph_base.specs.Names.{place_of}
-use Rattle.graph_lang.specs.LineTasks.{phaser_line, single_of, task_line, kind_of_body, files_in}
+use Rattle.graph_lang.specs.WordValues.{phaser_line, single_of, task_line, kind_of_body, files_in}
 use Rattle.graph_lang.specs.Faults.{kind_of, is_bound_within, is_function_within}
 use Rattle.graph_base.specs.TaskLines.{IsGraph, IsPhaserLine, IsTaskLine, AreRising}
 use Rattle.graph_lang.specs.Reads.{Reads, Steps, with_line, told, fault_at}

@@ -12,7 +12,7 @@ use Rattle.graph_text.specs.Decls.{Decl, phaser, task, FunctionWords, neg, abs, 
 use Rattle.graph_text.specs.Decls.{BodyWords, source, fir, split, join, peer, sink}
 use Rattle.graph_base.specs.Graphs.{Graph, Task, Named, task_at, phaser_at}
 use Rattle.graph_base.specs.Names.{place_of, phaser_named, task_named}
-use Rattle.graph_lang.specs.LineTasks.{inputs_of, outputs_of, task_line}
+use Rattle.graph_lang.specs.WordValues.{inputs_of, outputs_of, task_line}
 use Rattle.graph_base.specs.TaskLines.{has_children}
 use Rattle.graph_base.specs.declared.limits.TheConstants.{PHASERS_MAX, TASKS_MAX, ENDS_MAX, COUNT_MAX, FACTOR_MAX}
 use Rattle.graph_base.specs.declared.line.Kind.{Kind}

@@ -1,5 +1,5 @@
 pub mod Drafts
 pub mod Faults
-pub mod LineTasks
+pub mod WordValues
 pub mod Numbers
 pub mod Reads

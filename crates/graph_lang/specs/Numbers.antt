@@ -2,7 +2,7 @@
 use Rattle.std.specs.Prelude.{◌≡◌, option_map}
 use Rattle.graph_text.specs.Numbers.{nat_value}
 use Rattle.graph_text.specs.Decls.{BodyWords, EndWords}
-use Rattle.graph_lang.specs.LineTasks.{taps_of, shift_of, factor_of}
+use Rattle.graph_lang.specs.WordValues.{taps_of, shift_of, factor_of}
 use Rattle.graph_lang.specs.declared.within.Numbers.{Numbers}
 use Rattle.graph_lang.specs.declared.within.EndNumbers.{EndNumbers}
 

@@ -3,7 +3,7 @@ use Rattle.std.specs.Prelude.{ℕ, ◌≡◌, ◌+◌, true, false, List, [], �
 use Rattle.graph_text.specs.Texts.{is_ignored}
 use Rattle.graph_text.specs.Decls.{Decl, phaser, task, Declares}
 use Rattle.graph_base.specs.Graphs.{Graph, no_graph}
-use Rattle.graph_lang.specs.LineTasks.{phaser_line, task_line, files_in}
+use Rattle.graph_lang.specs.WordValues.{phaser_line, task_line, files_in}
 use Rattle.graph_lang.specs.Faults.{kind_of}
 use Rattle.graph_lang.specs.declared.fault.FaultKind.{FaultKind}
 use Rattle.graph_lang.specs.declared.fault.FaultKind.TheVariants.{Syntax}

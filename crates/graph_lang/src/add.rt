@@ -8,13 +8,13 @@ ghost use Rattle.graph_text.specs.Decls.{IsBody, IsBy};
 ghost use Rattle.graph_text.specs.Lines.{body_of, ends_of, by_of, word_of};
 ghost use Rattle.graph_base.specs.Kept.{task_of};
 ghost use Rattle.graph_base.specs.Names.{files_of, place_of};
-ghost use Rattle.graph_lang.specs.LineTasks.{files_in, task_line, inputs_of, outputs_of};
+ghost use Rattle.graph_lang.specs.WordValues.{files_in, task_line, inputs_of, outputs_of};
 ghost use Rattle.graph_lang.specs.Faults.{is_phaser, is_parent_known, phasers_of};
 ghost use Rattle.graph_lang.specs.Numbers.{AreNumbersOf, steps_in};
 
+use crate::body::{input_numbers, kind_of, output_numbers};
 use crate::draft::{Draft, add_name};
 use crate::parents::parent_of;
-use crate::phasers::{input_numbers, kind_of, output_numbers};
 use crate::within::{EndNumbers, Numbers};
 use graph_base::{Op, PhaserLine, Place, TaskLine};
 use graph_text::{Body, TaskWords, file_text, name_text};

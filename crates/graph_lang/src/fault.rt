@@ -1,5 +1,7 @@
 //! Faults of a graph's text.
+ghost use Rattle.std.specs.Prelude.{◌≡◌};
 
+use std::alloc::{AllocError, AllocFailed};
 use thiserror::Error;
 
 /// What is wrong with a line of a graph's text, in the order in which the kinds are checked.
@@ -52,4 +54,33 @@ pub enum GraphRefusal {
     /// There was no memory for the graph.
     #[error("there is no memory for the graph")]
     OutOfMemory,
+}
+
+impl From<AllocError> for GraphRefusal {
+    ghost use Rattle.std.specs.Prelude.{◌≡◌};
+    ghost use Rattle.graph_lang.specs.declared.fault.GraphRefusal.TheVariants.{OutOfMemory};
+
+    ghost from_gives = { λ _ e. e ≡ OutOfMemory };
+
+    fn from(_: AllocError) -> GraphRefusal {
+        GraphRefusal::OutOfMemory
+    }
+}
+
+impl<T: Drop> From<AllocFailed<T>> for GraphRefusal {
+    ghost use Rattle.std.specs.Prelude.{◌≡◌};
+    ghost use Rattle.graph_lang.specs.declared.fault.GraphRefusal.TheVariants.{OutOfMemory};
+
+    ghost from_gives = { λ _ e. e ≡ OutOfMemory };
+
+    fn from(_: AllocFailed<T>) -> GraphRefusal {
+        GraphRefusal::OutOfMemory
+    }
+}
+
+/// The refusal of a line.
+pub(crate) fn fault(line: u64, kind: FaultKind) -> GraphRefusal
+    ensures { result ≡ GraphRefusal.Fault (record { line = line; kind = kind }) }
+{
+    GraphRefusal::Fault(GraphFault { line, kind })
 }

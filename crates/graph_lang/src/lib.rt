@@ -4,12 +4,11 @@
 #![tactic(auto)]
 
 mod add;
-mod declare;
+mod body;
 mod draft;
 mod fault;
 pub mod laws;
 mod parents;
-mod phasers;
 mod read;
 mod within;
 

@@ -8,14 +8,14 @@ ghost use Rattle.graph_text.specs.Lines.{by_of};
 ghost use Rattle.graph_text.specs.Numbers.{nat_value};
 ghost use Rattle.graph_base.specs.Names.{names_of, place_of};
 ghost use Rattle.graph_base.specs.Kept.{task_of};
-ghost use Rattle.graph_lang.specs.LineTasks.{parent_of};
+ghost use Rattle.graph_lang.specs.WordValues.{parent_of};
 ghost use Rattle.graph_base.specs.TaskLines.{has_children};
 ghost use Rattle.graph_lang.specs.Faults.{is_parent_known, is_in_order, may_be_parent};
 ghost use Rattle.graph_lang.specs.Faults.{is_held, holds_for, is_plain, last_kind, are_distinct};
 
+use crate::body::{are_among, are_distinct, are_in_order, is_exchange_below};
 use crate::draft::{Draft, place_of, task_named};
 use crate::fault::FaultKind;
-use crate::phasers::{are_among, are_distinct, are_in_order, is_exchange_below};
 use graph_base::{Kind, Parent, Place, TaskLine};
 use graph_text::{By, name_text};
 use indexmap::IndexMap;

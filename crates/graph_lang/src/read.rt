@@ -4,14 +4,14 @@ ghost use Rattle.graph_text.specs.Decls.{IsWellFormed};
 ghost use Rattle.graph_text.specs.Lines.{decl_of, single_of, body_of, ends_of};
 ghost use Rattle.graph_text.specs.Texts.{lines_of};
 ghost use Rattle.graph_text.specs.declared.line.Line.TheVariants as line;
-ghost use Rattle.graph_lang.specs.LineTasks.{phaser_line};
+ghost use Rattle.graph_lang.specs.WordValues.{phaser_line};
 ghost use Rattle.graph_lang.specs.Faults.{kind_of, is_past_limit};
 ghost use Rattle.graph_lang.specs.Numbers.{AreNumbersOf, steps_in};
 ghost use Rattle.graph_lang.specs.Reads.{TellsDecl, Steps, TellsFault, Tells};
 
-use crate::declare::{fault, phaser_words};
+use crate::body::phaser_words;
 use crate::draft::{Draft, place_of};
-use crate::fault::{FaultKind, GraphRefusal};
+use crate::fault::{FaultKind, GraphRefusal, fault};
 use crate::within::{EndNumbers, Numbers, numbers_of, phaser_line, steps_of};
 use graph_base::{Graph, PHASERS_MAX, PhaserLine, TASKS_MAX};
 use graph_text::{

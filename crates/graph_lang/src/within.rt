@@ -8,8 +8,8 @@ ghost use Rattle.graph_text.specs.Numbers.{is_nat, is_int, nat_value, int_value}
 ghost use Rattle.graph_text.specs.Decls.{IsFunction, IsBody, AreEnds, IsBy, may_have_parent};
 ghost use Rattle.graph_text.specs.Lines.{single_of as function_words, function_of, body_of};
 ghost use Rattle.graph_text.specs.Lines.{ends_of, by_of, word_of};
-ghost use Rattle.graph_lang.specs.LineTasks.{single_of, phaser_line};
-ghost use Rattle.graph_lang.specs.LineTasks.{taps_of, shift_of, factor_of};
+ghost use Rattle.graph_lang.specs.WordValues.{single_of, phaser_line};
+ghost use Rattle.graph_lang.specs.WordValues.{taps_of, shift_of, factor_of};
 ghost use Rattle.graph_lang.specs.Numbers.{AreNumbersOf, steps_in};
 ghost use Rattle.graph_lang.specs.Faults.{is_function_within, is_bound_within, is_body_within};
 ghost use Rattle.graph_lang.specs.Faults.{is_tap_within, is_number_of_ends, is_count_within};

@@ -1,7 +1,7 @@
 use Rattle.std.proofs.Common.{rules, ◌≡◌, Some, sym, ap, ◌∙◌}
 use Rattle.std.proofs.lemmas.Option.{cond_some}
 use Rattle.graph_text.specs.Lines.{function_of}
-use Rattle.graph_lang.specs.LineTasks.{single_of}
+use Rattle.graph_lang.specs.WordValues.{single_of}
 use Rattle.graph_lang.specs.Faults.{is_function_within}
 use Rattle.graph_lang.proofs.within.single_in.Goals as goal
 

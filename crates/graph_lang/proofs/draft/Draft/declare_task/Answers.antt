@@ -4,7 +4,7 @@ use Rattle.graph_text.specs.Decls.{task}
 use Rattle.graph_text.specs.Lines.{body_of, ends_of}
 use Rattle.graph_base.specs.Kept.{task_of}
 use Rattle.graph_base.specs.Names.{place_of}
-use Rattle.graph_lang.specs.LineTasks.{task_line}
+use Rattle.graph_lang.specs.WordValues.{task_line}
 use Rattle.graph_lang.specs.Faults.{is_past_limit, are_distinct}
 use Rattle.graph_lang.specs.Reads.{told}
 use Rattle.graph_lang.proofs.Sound.{not-past, past, task-limit, task-twice, task-unknown, task-last, with-task}

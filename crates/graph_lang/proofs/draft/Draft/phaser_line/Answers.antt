@@ -5,7 +5,7 @@ use Rattle.graph_text.specs.Lines.{single_of}
 use Rattle.graph_base.specs.Graphs.{Graph}
 use Rattle.graph_base.specs.Names.{place_of}
 use Rattle.graph_base.specs.declared.limits.TheConstants.{PHASERS_MAX}
-use Rattle.graph_lang.specs.LineTasks.{phaser_line}
+use Rattle.graph_lang.specs.WordValues.{phaser_line}
 use Rattle.graph_lang.specs.Faults.{is_phaser_within}
 use Rattle.graph_lang.specs.declared.fault.FaultKind.TheVariants.{Twice}
 use Rattle.graph_lang.proofs.Sound.{none-if, phaser-limit, phaser-named}

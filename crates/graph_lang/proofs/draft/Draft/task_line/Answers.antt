@@ -5,7 +5,7 @@ use Rattle.std.proofs.lemmas.List.Folds.{list_all-append}
 use Rattle.graph_text.specs.Lines.{body_of, ends_of, by_of}
 use Rattle.graph_base.specs.Graphs.{Graph, Named}
 use Rattle.graph_base.specs.Names.{names_of}
-use Rattle.graph_lang.specs.LineTasks.{inputs_of, outputs_of, numbers_of, parent_of}
+use Rattle.graph_lang.specs.WordValues.{inputs_of, outputs_of, numbers_of, parent_of}
 use Rattle.graph_lang.specs.Faults.{is_phaser, is_parent_known, phasers_of}
 use Rattle.graph_lang.proofs.Ends.{task-built}
 use Rattle.graph_lang.proofs.Sound.{none-if, no-room}

@@ -1,4 +1,4 @@
-//! The phasers of a task's line.
+//! What a task's line says behind its name: what the task does, and on which phasers.
 ghost use Rattle.std.specs.Prelude.{◌≡◌, ◌++◌, ◌==◌, nat_lt, IsTrue, IfOk, IfSome, is_some, map};
 ghost use Rattle.std.specs.Str.{bytes_eq};
 ghost use Rattle.std.specs.List.{list_all, list_any};
@@ -6,7 +6,7 @@ ghost use Rattle.graph_text.specs.Plain.{plain};
 ghost use Rattle.graph_words.specs.Words.{is_name};
 ghost use Rattle.graph_text.specs.Lines.{body_of};
 ghost use Rattle.graph_base.specs.Names.{names_of, phaser_named};
-ghost use Rattle.graph_lang.specs.LineTasks.{inputs_of, outputs_of, numbers_of, kind_of_body};
+ghost use Rattle.graph_lang.specs.WordValues.{inputs_of, outputs_of, numbers_of, kind_of_body};
 ghost use Rattle.graph_lang.specs.Faults.{are_distinct, is_phaser, is_among, phasers_of};
 ghost use Rattle.graph_lang.specs.Faults.{is_exchange_below};
 
@@ -62,6 +62,19 @@ pub(crate) fn output_words<'a>(
         Body::Peer(_, _, output, _) => Vec::from_slice(alloc, &[output]),
         Body::Sink(_) => Ok(Vec::new(alloc)),
     }
+}
+
+/// The words of all phasers of a task's line.
+pub(crate) fn phaser_words<'a>(
+    alloc: Global,
+    body: Body<'_, 'a>,
+) -> Result<Vec<&'a [u8]>, AllocError>
+    ensures { IfOk result (λ words. plain words.items ≡ phasers_of (body_of body.entry)) }
+{
+    let mut words = input_words(alloc, body)?;
+    let outputs = output_words(alloc, body)?;
+    words.extend_from_slice(&outputs)?;
+    Ok(words)
 }
 
 /// Whether the word is one of these.

@@ -3,9 +3,9 @@ use Rattle.std.specs.List.{list_all}
 use Rattle.graph_text.specs.Plain.{plain}
 use Rattle.graph_words.specs.Words.{is_name}
 use Rattle.graph_base.specs.Names.{names_of}
-use Rattle.graph_lang.specs.LineTasks.{numbers_of}
+use Rattle.graph_lang.specs.WordValues.{numbers_of}
 use Rattle.graph_lang.specs.Faults.{is_phaser}
-use Rattle.graph_lang.proofs.phasers.numbers_of.Given as goal
+use Rattle.graph_lang.proofs.body.numbers_of.Given as goal
 
 -- the words that are left are names, the others were of phasers, and their numbers are there
 abbrev pub invariant-loop-word : goal.invariant-loop-word

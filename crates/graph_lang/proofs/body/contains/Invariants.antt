@@ -2,7 +2,7 @@ use Rattle.std.proofs.Common.{◌≡◌, drop}
 use Rattle.std.specs.List.{list_any}
 use Rattle.std.specs.Str.{bytes_eq}
 use Rattle.graph_text.specs.Plain.{plain}
-use Rattle.graph_lang.proofs.phasers.contains.Given as goal
+use Rattle.graph_lang.proofs.body.contains.Given as goal
 
 -- the words that are left decide
 abbrev pub invariant-loop-other : goal.invariant-loop-other

@@ -2,7 +2,7 @@ use Rattle.std.proofs.Common.{◌∙◌, sym, arith, Bor, []}
 use Rattle.std.specs.Str.{bytes_eq}
 use Rattle.graph_words.specs.Words.{Word}
 use Rattle.graph_lang.proofs.Alls.{words-found, words-missed, words-none}
-use Rattle.graph_lang.proofs.phasers.contains.Goals as goal
+use Rattle.graph_lang.proofs.body.contains.Goals as goal
 
 abbrev nowhere : Bor Word
 nowhere = record { ref_ptr = (0, 0); now = [] }

@@ -1,11 +1,11 @@
 use Rattle.std.proofs.Common.{◌≡◌, ◌∙◌, sym, ap, Bor, [], ◌++◌, ◌∷◌, take, get_or, Some, is_some, refl}
 use Rattle.graph_words.specs.Words.{Word, is_name}
 use Rattle.graph_base.specs.Names.{names_of, phaser_named}
-use Rattle.graph_lang.specs.LineTasks.{or_zero, numbers_of}
+use Rattle.graph_lang.specs.WordValues.{or_zero, numbers_of}
 use Rattle.graph_lang.specs.Faults.{is_phaser}
 use Rattle.graph_text.specs.Plain.{plain}
 use Rattle.graph_lang.proofs.Alls.{words-first, words-pass, words-more}
-use Rattle.graph_lang.proofs.phasers.numbers_of.Goals as goal
+use Rattle.graph_lang.proofs.body.numbers_of.Goals as goal
 
 abbrev nowhere : Bor Word
 nowhere = record { ref_ptr = (0, 0); now = [] }
