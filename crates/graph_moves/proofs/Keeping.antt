@@ -20,7 +20,10 @@ use Rattle.graph_moves.specs.Moves.{HasGrown, HasMoved, Signals, Waits, Leaves}
 use Rattle.graph_moments.proofs.Numbers.{in_numbers}
 use Rattle.graph_moments.proofs.OnLines.{on_phaser}
 use Rattle.graph_moves.proofs.Framed.{task_later, part_came}
-use Rattle.graph_moves.proofs.OwnEvents.{eq_case, history_by, own_signal, own_wait, own_leave}
+use Rattle.graph_moves.proofs.OwnEvents.{eq_case, history_by}
+use Rattle.graph_moves.proofs.OwnSignals.{own_signal}
+use Rattle.graph_moves.proofs.OwnWaits.{own_wait}
+use Rattle.graph_moves.proofs.OwnLeaves.{own_leave}
 
 -- what an event of number n leaves of a phaser's history
 pub record Leaves_history (job : Job) (p n : ℕ) (event : Event) (h : History) : Type 0 where

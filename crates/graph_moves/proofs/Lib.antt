@@ -6,5 +6,8 @@ pub mod Keeping
 pub mod Nexts
 pub mod Opened
 pub mod OwnEvents
+pub mod OwnLeaves
+pub mod OwnSignals
+pub mod OwnWaits
 pub mod Registering
 pub mod Turned

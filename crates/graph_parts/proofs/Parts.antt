@@ -28,7 +28,10 @@ use Rattle.graph_moments.specs.Moments.{Moment, TaskRan, OnLine, OnInput, TakenO
 use Rattle.graph_moves.specs.Moves.{SameTask, HasGrown, OthersMoved, PartStays, IsStaying, MayBegin, HasMoved, Signals, Waits, NoneDue}
 use Rattle.graph_moves.specs.Turned.{with_at, after_signal, after_wait, after_leave}
 use Rattle.graph_moves.proofs.Framed.{part_came, task_later, ended_later}
-use Rattle.graph_moves.proofs.OwnEvents.{eq_case, own_signal, own_wait, own_leave}
+use Rattle.graph_moves.proofs.OwnEvents.{eq_case}
+use Rattle.graph_moves.proofs.OwnSignals.{own_signal}
+use Rattle.graph_moves.proofs.OwnWaits.{own_wait}
+use Rattle.graph_moves.proofs.OwnLeaves.{own_leave}
 use Rattle.graph_moves.proofs.Turned.{next_signal_is, next_sample_is, first_wait_is, exchange_wait_is, next_leave_is}
 use Rattle.graph_parts.specs.Parts.{HasPart, SeesOthers, SeesOwn, IsNextValue, IsNextOfSamples, BeginsStep, IsExchange, HasMovedOn, HasSeen, HasPut, HasGot, HasLeft}
 

@@ -1,5 +1,7 @@
 -- Phaser by phaser of its line.
-use Rattle.graph_moves.proofs.OwnEvents.{own_signal, own_wait, own_leave}
+use Rattle.graph_moves.proofs.OwnSignals.{own_signal}
+use Rattle.graph_moves.proofs.OwnWaits.{own_wait}
+use Rattle.graph_moves.proofs.OwnLeaves.{own_leave}
 use Rattle.graph_moves.proofs.ChildBegins.{child_begins}
 use Rattle.graph_moves.proofs.Registering.{own_register}
 use Rattle.graph_moves.proofs.laws.own_events_keep.Goals as goal
