@@ -1,0 +1,31 @@
+//! Jobs of graphs and samples that are written as text: what tests of graphs begin with. It stands
+//! in a crate of its own, since four crates of tests call it.
+#![tactic(auto)]
+
+use graph_lang::read_graph;
+use sample_text::{TEXT_MAX, samples_of};
+use std::alloc::{AllocError, Global};
+use std::test::Fail;
+use stream_lists::{Job, JobRefusal};
+
+/// The job of a graph, on samples of these texts, one for each source, or why there is none.
+///
+/// A text that is none fails the test.
+pub fn job_of(
+    alloc: Global,
+    graph: &str,
+    samples: &[&str],
+) -> Result<Result<Job, JobRefusal>, Fail> {
+    let graph = read_graph(alloc, graph.as_bytes())?;
+    let mut lists = Vec::new(alloc);
+    for text in samples {
+        if text.len() > TEXT_MAX {
+            return Err(Fail::from(AllocError));
+        }
+        lists.push(samples_of(alloc, text.as_bytes())?)?;
+    }
+    if lists.len() != graph.sources() {
+        return Err(Fail::from(AllocError));
+    }
+    Ok(Job::new(alloc, graph, lists))
+}
