@@ -7,11 +7,11 @@ use Rattle.graph_turns.specs.Nexts.{registrations_at}
 use Rattle.graph_ends.specs.TaskEnds.{IsChildOf}
 use Rattle.graph_tasks.specs.Tasks.{IsTask, IsTaskAt, IsWhole}
 use Rattle.graph_tasks.specs.Seeds.{IsReady}
-use Rattle.graph_tasks.specs.Nurseries.{IsNursed, IsNursing}
-use Rattle.graph_tasks.specs.Deliveries.{IsBorn, HasDelivered}
+use Rattle.graph_tasks.specs.Registering.{HasFirstHolds, IsRegistering}
+use Rattle.graph_tasks.specs.Deliveries.{IsRegisteredChild, HasDelivered}
 use Rattle.graph_tasks.specs.declared.child.Child.{Child}
 use Rattle.graph_tasks.specs.declared.task_state.TaskState.{TaskState}
-use Rattle.graph_tasks.proofs.Nursery.{child_goes_alone}
+use Rattle.graph_tasks.proofs.ChildHolds.{child_goes_alone}
 use Rattle.graph_tasks.proofs.Seeding.{knows_children}
 
 -- a list without an entry
@@ -60,54 +60,54 @@ goes_on job spots i seed old new child task has = subst (IsTask job spots) (sym 
 
 -- the child is a task of the run
 module _ (job : Job) (spots : ℕ → Spot) (i : ℕ) (seed old new child : TaskState)
-    (whole : IsWhole job old) (nursing : IsNursing job spots old i)
-    (born : IsBorn job old i seed.number) (ready : IsReady job spots 0 seed)
+    (whole : IsWhole job old) (registering : IsRegistering job spots old i)
+    (registered : IsRegisteredChild job old i seed.number) (ready : IsReady job spots 0 seed)
     (has : HasDelivered i seed old new child) where
   abbrev kid : Child
-  kid = nursing.kid
+  kid = registering.kid
 
   task_is : kid.task ≡ seed.number
   task_is =
-      ap (λ (x : Child). x.task) (same_Some kid born.kid (sym nursing.found ∙ born.found)) ∙ born.task
+      ap (λ (x : Child). x.task) (same_Some kid registered.kid (sym registering.found ∙ registered.found)) ∙ registered.task
 
   all_made : length (registrations_at job seed.number) ≤ length kid.numbers.items
   all_made =
       subst (λ (x : Child). length (registrations_at job seed.number) ≤ length x.numbers.items)
-      (same_Some born.kid kid (sym born.found ∙ nursing.found)) born.all
+      (same_Some registered.kid kid (sym registered.found ∙ registering.found)) registered.all
 
-  nursed : IsNursed job spots nursing.moment seed.number kid.numbers.items old.nursery.items
-  nursed =
-      subst (λ c. IsNursed job spots nursing.moment c kid.numbers.items old.nursery.items) task_is
-      nursing.nursed
+  first_holds : HasFirstHolds job spots registering.moment seed.number kid.numbers.items old.child_holds.items
+  first_holds =
+      subst (λ c. HasFirstHolds job spots registering.moment c kid.numbers.items old.child_holds.items) task_is
+      registering.first_holds
 
   count : length kid.numbers.items ≡ length (registrations_at job seed.number)
   count =
       let few : length kid.numbers.items ≤ length (registrations_at job seed.number) =
-      nursed.joining.place.few in let made = all_made in omega arith
+      first_holds.joining.place.few in let made = all_made in omega arith
 
   numbers_are : child.numbers.items ≡ kid.numbers.items
   numbers_are =
       let none : length seed.numbers.items ≡ 0 = ready.received.long ∙ ready.many in
       has.numbers ∙ ap (λ ns. ns ++ has.kid.numbers.items) (none_in seed.numbers.items none)
-      ∙ ap (λ (x : Child). x.numbers.items) (same_Some has.kid kid (sym has.found ∙ nursing.found))
+      ∙ ap (λ (x : Child). x.numbers.items) (same_Some has.kid kid (sym has.found ∙ registering.found))
 
   abbrev made : TaskState
-  made = record seed { numbers = child.numbers; holds = old.nursery }
+  made = record seed { numbers = child.numbers; holds = old.child_holds }
 
-  at : IsTaskAt job spots nursing.moment made
+  at : IsTaskAt job spots registering.moment made
   at =
-      child_goes_alone job spots nursing.moment old.number made kid.numbers.items
-      old.nursery.items whole.graph (subst (λ c. IsChildOf job c old.number) task_is nursing.child)
-      nursing.at.knows nursed count numbers_are refl ready.seed.lefts ready.seed.begun
+      child_goes_alone job spots registering.moment old.number made kid.numbers.items
+      old.child_holds.items whole.graph (subst (λ c. IsChildOf job c old.number) task_is registering.child)
+      registering.at.knows first_holds count numbers_are refl ready.seed.lefts ready.seed.begun
       ready.seed.owed ready.seed.staying ready.seed.lines ready.seed.filter
       (λ j one e.
-      let unborn = ready.seed.children.each j one e in (
-        unborn.none,
+      let unregistered = ready.seed.children.each j one e in (
+        unregistered.none,
         record {
-          there = unborn.there;
-          parent = unborn.parent;
-          has = unborn.has;
-          by = unborn.by;
+          there = unregistered.there;
+          parent = unregistered.parent;
+          has = unregistered.has;
+          by = unregistered.by;
         },
       ))
 
@@ -117,13 +117,13 @@ module _ (job : Job) (spots : ℕ → Spot) (i : ℕ) (seed old new child : Task
     there = ready.seed.there;
     samples = ready.seed.samples;
     numbers = ap length numbers_are ∙ count;
-    holds = nursed.long ∙ count;
+    holds = first_holds.long ∙ count;
     children = knows_children job seed.number seed.children.items ready.seed.children;
     staying = λ over. ap length ready.seed.lefts;
-    room = let wide = ready.room.lefts in let few = born.few in omega arith;
+    room = let wide = ready.room.lefts in let few = registered.few in omega arith;
   }
 
   pub is_delivered : IsTask job spots child
   is_delivered =
       subst (IsTask job spots) (sym has.child_is)
-      (record { whole = made_whole; stands = λ met. (nursing.moment, at) })
+      (record { whole = made_whole; stands = λ met. (registering.moment, at) })

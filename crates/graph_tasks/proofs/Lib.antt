@@ -3,8 +3,8 @@ mod Turning
 mod Waiting
 mod Ending
 mod Gone
-mod Nursery
+mod ChildHolds
 mod Seeding
-mod Nursing
+mod StillRegistering
 mod Leaving
 mod Delivering

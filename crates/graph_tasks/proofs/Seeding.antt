@@ -23,7 +23,7 @@ use Rattle.graph_tasks.specs.declared.hold.Hold.{Hold}
 use Rattle.graph_tasks.specs.declared.hold.Hold.TheVariants.{On, Gone}
 use Rattle.graph_tasks.specs.declared.task_state.TaskState.{TaskState}
 use Rattle.graph_tasks.specs.Tasks.{IsTask, IsTaskAt, IsWhole, KnowsChildren, AreApart, HasGivenNumbers, HasHolds, IsHeldOn, place_of}
-use Rattle.graph_tasks.specs.Seeds.{IsUnborn, AreChildrenBelow, IsSeed, HasRoom, HasRegistration, HasReceived}
+use Rattle.graph_tasks.specs.Seeds.{HasNoRegistration, AreChildrenBelow, IsSeed, HasRoom, HasRegistration, HasReceived}
 
 -- ---- lists
 
@@ -122,7 +122,7 @@ pub one_child : (job : Job) (t n : ℕ) (children : List Child) (child : Child) 
     → (task_at job.graph n).parent ≡ Some u → u.task ≡ t → child.at ≡ u.at
     → child.numbers.items ≡ [] → AreChildrenBelow job t (n + 1) (children ++ child ∷ [])
 one_child job t n children child u are few is has by at none = record {
-  each = each-push (IsUnborn job t) children child are.each (record {
+  each = each-push (HasNoRegistration job t) children child are.each (record {
     there = subst (λ c. c < length job.graph.tasks) (sym is) few;
     parent = u;
     has = ap (λ c. (task_at job.graph c).parent) is ∙ has;
@@ -290,15 +290,15 @@ stands_first job spots s m is seed has all first own = record {
       (sym (first.nothing_taken 0)) seed.filter;
   lines = λ kind. seed.lines ∙ sym (first.nothing_taken 0);
   given = λ i child e.
-      (let unborn = seed.children.each i child e in
-      let u = unborn.parent in
-      let other = apart job s.number child.task u is unborn.there unborn.has unborn.by in
-      let no_numbers : length child.numbers.items ≡ 0 = ap length unborn.none in
+      (let unregistered = seed.children.each i child e in
+      let u = unregistered.parent in
+      let other = apart job s.number child.task u is unregistered.there unregistered.has unregistered.by in
+      let no_numbers : length child.numbers.items ≡ 0 = ap length unregistered.none in
       record {
         few = omega arith;
         numbered = λ k lt.
             first.others (registration_at job child.task k).phaser child.task other
-            ∙ ap (λ xs. slice_get xs k) (sym unborn.none);
+            ∙ ap (λ xs. slice_get xs k) (sym unregistered.none);
         lines = λ p n f. absurd (never n (sym (first.others p child.task other) ∙ f));
       });
   at_end = λ over. absurd (differ (sym over ∙ seed.staying));
@@ -355,15 +355,15 @@ pub knows_children : (job : Job) (t : ℕ) (children : List Child)
     → AreChildrenBelow job t (length job.graph.tasks) children → KnowsChildren job t children
 knows_children job t children are = record {
   each = λ i child e.
-      (let unborn = are.each i child e in
+      (let unregistered = are.each i child e in
       record {
         of_task = record {
-          there = unborn.there;
-          parent = unborn.parent;
-          has = unborn.has;
-          by = unborn.by;
+          there = unregistered.there;
+          parent = unregistered.parent;
+          has = unregistered.has;
+          by = unregistered.by;
         };
-        at = unborn.at;
+        at = unregistered.at;
       });
   all = are.all;
   apart = are.apart;

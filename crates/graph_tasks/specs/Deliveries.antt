@@ -6,7 +6,7 @@ use Rattle.graph_tasks.specs.declared.child.Child.{Child}
 use Rattle.graph_tasks.specs.declared.task_state.TaskState.{TaskState}
 
 -- the child at this place is task c, and has all its registrations, which are at most nine
-pub record IsBorn (job : Job) (s : TaskState) (i c : ℕ) : Type 0 where
+pub record IsRegisteredChild (job : Job) (s : TaskState) (i c : ℕ) : Type 0 where
   pub kid : Child
   pub found : slice_get s.children.items i ≡ Some kid
   pub task : kid.task ≡ c
@@ -19,5 +19,5 @@ pub record HasDelivered (i : ℕ) (seed old new child : TaskState) : Type 0 wher
   pub kid : Child
   pub found : slice_get old.children.items i ≡ Some kid
   pub numbers : child.numbers.items ≡ seed.numbers.items ++ kid.numbers.items
-  pub child_is : child ≡ record seed { numbers = child.numbers; holds = old.nursery }
-  pub parent_is : new ≡ record old { nursery = seed.holds }
+  pub child_is : child ≡ record seed { numbers = child.numbers; holds = old.child_holds }
+  pub parent_is : new ≡ record old { child_holds = seed.holds }

@@ -20,7 +20,7 @@ use Rattle.graph_tasks.specs.declared.task_state.TaskState.{TaskState}
 -- ---- children
 
 -- a child of task t, none of whose registrations is made
-pub record IsUnborn (job : Job) (t : ℕ) (child : Child) : Type 0 where
+pub record HasNoRegistration (job : Job) (t : ℕ) (child : Child) : Type 0 where
   pub there : child.task < length job.graph.tasks
   pub parent : Parent
   pub has : (task_at job.graph child.task).parent ≡ Some parent
@@ -30,7 +30,7 @@ pub record IsUnborn (job : Job) (t : ℕ) (child : Child) : Type 0 where
 
 -- the children of task t among the first n tasks
 pub record AreChildrenBelow (job : Job) (t n : ℕ) (children : List Child) : Type 0 where
-  pub each : (i : ℕ) (child : Child) → slice_get children i ≡ Some child → IsUnborn job t child
+  pub each : (i : ℕ) (child : Child) → slice_get children i ≡ Some child → HasNoRegistration job t child
   pub all : (c : ℕ) (u : Parent) → c < n → (task_at job.graph c).parent ≡ Some u → u.task ≡ t
       → (i : ℕ) × ((child : Child) × (slice_get children i ≡ Some child) × (child.task ≡ c)
       × (child.at ≡ u.at))

@@ -3,8 +3,8 @@ ghost use Rattle.std.specs.Prelude.{◌≡◌, ◌<◌, ◌≤◌, ℕ, length, 
 ghost use Rattle.stream_lists.specs.Jobs.{Job as JobValue};
 ghost use Rattle.graph_members.specs.Members.{Spot};
 ghost use Rattle.graph_turns.specs.Nexts.{registrations_at};
-ghost use Rattle.graph_tasks.specs.Nurseries.{IsPlaceOn, HasNurseryRoom, HasNursed};
-ghost use Rattle.graph_tasks.specs.Nurseries.{IsNextOn, IsNursing, IsWith};
+ghost use Rattle.graph_tasks.specs.Registering.{IsPlaceOn, HasChildRoom, HasKept};
+ghost use Rattle.graph_tasks.specs.Registering.{IsNextOn, IsRegistering, IsWith};
 ghost use Rattle.graph_tasks.specs.Tasks.{HasAllNow, HasNoneDue, IsDue, IsMissing, IsTask, IsWhole};
 
 use crate::child::Child;
@@ -58,7 +58,7 @@ impl<'a> TaskState<'a> {
         ensures with { (job : JobValue) (spots : ℕ → Spot) → IsTask job spots self.old
             → IsDue job self.old i → IsWith job spots self.new result }
     {
-        if self.children[i].numbers.is_empty() && self.nursery.is_empty() {
+        if self.children[i].numbers.is_empty() && self.child_holds.is_empty() {
             return Some(i);
         }
         self.met = true;
@@ -66,19 +66,19 @@ impl<'a> TaskState<'a> {
     }
 
     /// Makes the next registration of the child at place `i` among its children, which it is
-    /// registering. Where all are made it answers `Born`, without an event.
+    /// registering. Where all are made it answers `Registered`, without an event.
     pub fn register(&mut self, job: &Job, i: usize) -> Turned
         requires whole { IsWhole job.now self.old }
         requires met { self.old.met ≡ false }
-        requires nursing { (spots : ℕ → Spot) × IsNursing job.now spots self.old i }
+        requires registering { (spots : ℕ → Spot) × IsRegistering job.now spots self.old i }
         ensures whole { IsWhole job.now self.new }
-        ensures nursing { (spots : ℕ → Spot) → IsNursing job.now spots self.old i
-            → self.new.met ≡ false → IsNursing job.now spots self.new i }
+        ensures registering { (spots : ℕ → Spot) → IsRegistering job.now spots self.old i
+            → self.new.met ≡ false → IsRegistering job.now spots self.new i }
     {
         let child = self.children[i].task;
         let made = self.children[i].numbers.len();
         if made >= job.graph().registrations(child) {
-            return Turned::Born(child);
+            return Turned::Registered(child);
         }
         if !self.has_room(i) {
             self.met = true;
@@ -95,15 +95,15 @@ impl<'a> TaskState<'a> {
     /// Makes the next registration of the child at place `i`, on registration `k` of its own.
     fn add(&mut self, job: &Job, i: usize, k: usize, registration: Registration) -> Turned
         requires whole { IsWhole job.now self.old }
-        requires room { HasNurseryRoom self.old i }
+        requires room { HasChildRoom self.old i }
         requires next { (spots : ℕ → Spot) × IsNextOn job.now spots self.old i k registration }
         ensures whole { IsWhole job.now self.new }
-        ensures nursing { (spots : ℕ → Spot) → IsNextOn job.now spots self.old i k registration
-            → IsNursing job.now spots self.new i }
+        ensures registering { (spots : ℕ → Spot) → IsNextOn job.now spots self.old i k registration
+            → IsRegistering job.now spots self.new i }
     {
         match self.holds[k].add(registration.mode) {
             Ok(member) => {
-                self.nurse(i, member);
+                self.keep(i, member);
                 Turned::Moved(registration.phaser)
             }
             Err(held) => held.on(registration.phaser),
@@ -113,21 +113,21 @@ impl<'a> TaskState<'a> {
     /// Whether there is room for another registration of the child at place `i`.
     fn has_room(&self, i: usize) -> bool
         requires { i < length self.now.children.items }
-        ensures { result ≡ true → HasNurseryRoom self.now i }
+        ensures { result ≡ true → HasChildRoom self.now i }
     {
         let numbers = &self.children[i].numbers;
-        numbers.len() < numbers.capacity() && self.nursery.len() < self.nursery.capacity()
+        numbers.len() < numbers.capacity() && self.child_holds.len() < self.child_holds.capacity()
     }
 
     /// Keeps another registration of the child at place `i`.
-    fn nurse(&mut self, i: usize, member: AnyMember<'a>)
+    fn keep(&mut self, i: usize, member: AnyMember<'a>)
         requires child { i < length self.old.children.items }
-        requires room { HasNurseryRoom self.old i }
-        ensures { HasNursed i member.entry self.old self.new }
+        requires room { HasChildRoom self.old i }
+        ensures { HasKept i member.entry self.old self.new }
     {
         let child = &mut self.children[i];
         child.numbers.push_reserved(member.number());
-        self.nursery.push_reserved(Hold::On(member));
+        self.child_holds.push_reserved(Hold::On(member));
     }
 }
 

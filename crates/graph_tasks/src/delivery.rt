@@ -1,7 +1,7 @@
 //! A child whose registrations are all made goes on as a task of its own.
 ghost use Rattle.std.specs.Prelude.{◌≡◌, ◌+◌, ◌<◌, ◌≤◌, length, slice_get, Some, true, false};
 ghost use Rattle.graph_tasks.specs.Tasks.{IsWhole};
-ghost use Rattle.graph_tasks.specs.Deliveries.{IsBorn, HasDelivered};
+ghost use Rattle.graph_tasks.specs.Deliveries.{IsRegisteredChild, HasDelivered};
 ghost use Rattle.graph_tasks.specs.declared.child.Child.{Child as ChildValue};
 
 use crate::task_state::TaskState;
@@ -11,10 +11,10 @@ use stream_lists::Job;
 impl<'a> TaskState<'a> {
     /// Whether the child at place `i` among its children is task number `task`, and has all its
     /// registrations. Of a task that met what ends all it is said of none.
-    pub fn is_born(&self, job: &Job, i: usize, task: usize) -> bool
+    pub fn is_registered(&self, job: &Job, i: usize, task: usize) -> bool
         requires { IsWhole job.now self.now }
         ensures met { result ≡ true → self.now.met ≡ false }
-        ensures born { result ≡ true → IsBorn job.now self.now i task }
+        ensures registered { result ≡ true → IsRegisteredChild job.now self.now i task }
     {
         let Some(child) = self.children.get(i) else {
             return false;
@@ -37,7 +37,7 @@ impl<'a> TaskState<'a> {
         if child.numbers.extend_from_slice(numbers).is_err() {
             unreachable!()
         }
-        mem::swap(&mut self.nursery, &mut child.holds);
+        mem::swap(&mut self.child_holds, &mut child.holds);
         child
     }
 }

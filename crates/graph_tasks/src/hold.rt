@@ -3,7 +3,7 @@ ghost use Rattle.std.specs.Prelude.{◌≡◌, IfErr, IfOk, OnErr, OnOk};
 ghost use Rattle.stream_lists.specs.Lists.{number};
 ghost use Rattle.graph_tasks.specs.Holds.{GoesOn, HasSignalled, HasGot, HasSeenOthers, Leaves};
 ghost use Rattle.graph_tasks.specs.Holds.{IsGivenAs};
-ghost use Rattle.graph_tasks.specs.Nurseries.{AddsTo};
+ghost use Rattle.graph_tasks.specs.Registering.{AddsTo};
 
 use crate::held::Held;
 use graph_members::{AnyLeft, AnyMember, PutRefusal};

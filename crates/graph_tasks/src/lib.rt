@@ -1,5 +1,5 @@
 //! A task of a graph with its registrations, as it goes from thread to thread: whoever has it makes
-//! its next event. The first calls are `Task::found`, `Unborn::new` and `Task::turn`.
+//! its next event. The first calls are `Task::found`, `Unregistered::new` and `Task::turn`.
 #![tactic(auto)]
 
 mod child;
@@ -16,7 +16,7 @@ mod task;
 mod task_state;
 mod turn;
 mod turned;
-mod unborn;
+mod unregistered;
 
 pub use child::Child;
 pub use ended::Ended;
@@ -25,4 +25,4 @@ pub use run::Run;
 pub use seed::Seed;
 pub use task::Task;
 pub use turned::Turned;
-pub use unborn::Unborn;
+pub use unregistered::Unregistered;

@@ -42,7 +42,7 @@ impl<'a> Seed<'a> {
         let children = children_of(alloc, job, task)?;
         let lefts = Vec::with_capacity(alloc, 9)?;
         let holds = Vec::with_capacity(alloc, 9)?;
-        let Ok(nursery) = Vec::with_capacity(alloc, 9) else {
+        let Ok(child_holds) = Vec::with_capacity(alloc, 9) else {
             holds.destroy_empty();
             return Err(AllocError);
         };
@@ -61,7 +61,7 @@ impl<'a> Seed<'a> {
                 entered: false,
                 met: false,
                 children,
-                nursery,
+                child_holds,
             },
         })
     }

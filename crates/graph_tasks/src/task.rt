@@ -11,7 +11,7 @@ use crate::run::Run;
 use crate::seed::Seed;
 use crate::task_state::TaskState;
 use crate::turned::Turned;
-use crate::unborn::Unborn;
+use crate::unregistered::Unregistered;
 use graph_ends::laws::first_calls;
 use graph_parts::beginnings::roots_begin;
 use std::marker::{Model, PhantomData};
@@ -25,13 +25,13 @@ pub struct Task<'a, J: Run> {
     job: &'a Job,
     state: TaskState<'a>,
     /// The place, among its children, of the one that it is registering.
-    nursing: Option<usize>,
+    registering: Option<usize>,
     of: PhantomData<J>,
 }
 
 impl<'a, J: Run> Model for Task<'a, J> {
     ghost use Rattle.std.specs.Prelude.{◌≡◌, ℕ};
-    ghost use Rattle.graph_tasks.specs.Nurseries.{IsWith};
+    ghost use Rattle.graph_tasks.specs.Registering.{IsWith};
     ghost use Rattle.graph_tasks.specs.Tasks.{IsTask};
 
     ghost Value = { ℕ };
@@ -39,7 +39,7 @@ impl<'a, J: Run> Model for Task<'a, J> {
     ghost view = { λ t. t.state.number };
 
     ghost invariant = { λ t. (t.job.now ≡ J.job) × IsTask J.job J.spots t.state
-        × IsWith J.job J.spots t.state t.nursing };
+        × IsWith J.job J.spots t.state t.registering };
 }
 
 impl<'a, J: Run> Task<'a, J> {
@@ -62,7 +62,7 @@ impl<'a, J: Run> Task<'a, J> {
         Task {
             job,
             state: seed.open(),
-            nursing: None,
+            registering: None,
             of: PhantomData,
         }
     }
@@ -87,42 +87,45 @@ impl<'a, J: Run> Task<'a, J> {
     /// Makes its next event, where it can: one call at most.
     ///
     /// Where a child comes it registers the child on the phasers of its line, one after the other,
-    /// and then answers `Born` until `deliver` has given the child. It takes memory for a sink's
-    /// list, and where it registers.
+    /// and then answers `Registered` until `deliver` has given the child. It takes memory for a
+    /// sink's list, and where it registers.
     pub fn turn<G: Gate>(&mut self, gate: &G) -> Turned {
         if self.state.met {
             return Turned::Stuck;
         }
-        if let Some(i) = self.nursing {
+        if let Some(i) = self.registering {
             return self.state.register(self.job, i);
         }
         match self.state.due(self.job) {
             Some(i) => {
-                self.nursing = self.state.begin(i);
+                self.registering = self.state.begin(i);
                 Turned::Ready
             }
             None => self.state.turn(self.job, gate),
         }
     }
 
-    /// Gives the child of this number, of which `turn` has answered that it is born, as a task of
-    /// its own. Else it comes back. It takes no memory.
-    pub fn deliver(&mut self, unborn: Unborn<'a, J>) -> Result<Task<'a, J>, Unborn<'a, J>>
-        ensures child { IfOk result (λ child. child ≡ unborn.entry) }
-        ensures back { IfErr result (λ back. back ≡ unborn.entry) }
+    /// Gives the child of this number, of which `turn` has answered that it is registered, as a
+    /// task of its own. Else it comes back. It takes no memory.
+    pub fn deliver(
+        &mut self,
+        unregistered: Unregistered<'a, J>,
+    ) -> Result<Task<'a, J>, Unregistered<'a, J>>
+        ensures child { IfOk result (λ child. child ≡ unregistered.entry) }
+        ensures back { IfErr result (λ back. back ≡ unregistered.entry) }
         ensures same { self.new ≡ self.old }
     {
-        let Some(i) = self.nursing else {
-            return Err(unborn);
+        let Some(i) = self.registering else {
+            return Err(unregistered);
         };
-        if !self.state.is_born(self.job, i, unborn.number()) {
-            return Err(unborn);
+        if !self.state.is_registered(self.job, i, unregistered.number()) {
+            return Err(unregistered);
         }
-        self.nursing = None;
+        self.registering = None;
         Ok(Task {
             job: self.job,
-            state: self.state.deliver(i, unborn.open()),
-            nursing: None,
+            state: self.state.deliver(i, unregistered.open()),
+            registering: None,
             of: PhantomData,
         })
     }
@@ -132,7 +135,7 @@ impl<'a, J: Run> Task<'a, J> {
         let Task {
             job: _,
             state,
-            nursing: _,
+            registering: _,
             of: _,
         } = self;
         state.dismiss(rt);
@@ -148,7 +151,7 @@ impl<'a, J: Run> Task<'a, J> {
         let Task {
             job: _,
             state,
-            nursing: _,
+            registering: _,
             of: _,
         } = self;
         Ok(state.end(rt))

@@ -40,8 +40,8 @@ pub struct TaskState<'a> {
     pub met: bool,
     /// Its children, in the order of the lines.
     pub children: Vec<Child>,
-    /// What a child holds that is being registered.
-    pub nursery: Vec<Hold<'a>>,
+    /// What a child that is being registered holds of its phasers.
+    pub child_holds: Vec<Hold<'a>>,
 }
 
 impl<'a> TaskState<'a> {
@@ -75,10 +75,10 @@ impl<'a> TaskState<'a> {
             entered: _,
             met: _,
             children,
-            nursery,
+            child_holds,
         } = self;
         dismiss_all(rt, holds);
-        dismiss_all(rt, nursery);
+        dismiss_all(rt, child_holds);
         Ended {
             number,
             begun,

@@ -12,7 +12,7 @@ pub enum Turned {
     /// Another was in the middle of a call.
     Busy,
     /// It has made the last registration of this child, and `deliver` gives the child.
-    Born(usize),
+    Registered(usize),
     /// It has left all its phasers.
     Gone,
     /// It met a value that is out of range, and makes no further event.

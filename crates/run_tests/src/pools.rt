@@ -19,7 +19,7 @@ fn run_two<'a, R: Threads + Wait + Sync>(
     let mut pool = Pool::with_room(alloc, 2).ok()?;
     pool.push(first).ok()?;
     match second {
-        Toy::Child { .. } => pool.push_unborn(second).ok()?,
+        Toy::Child { .. } => pool.push_child(second).ok()?,
         second => pool.push(second).ok()?,
     }
     Some(pool.run(rt, workers))
@@ -117,7 +117,7 @@ fn one_that_is_held_lets_the_other_go_on(rt: HostRuntime) -> Result<(), Fail> {
 }
 
 #[test]
-fn a_child_is_born(rt: HostRuntime) -> Result<(), Fail> {
+fn a_child_comes(rt: HostRuntime) -> Result<(), Fail> {
     for workers in WORKERS {
         let at = Place::new(1, 1);
         let parent = Toy::Parent { child: 1, left: 3 };
@@ -128,9 +128,9 @@ fn a_child_is_born(rt: HostRuntime) -> Result<(), Fail> {
     Ok(())
 }
 
-// A child that is not brought to life is not gone on with, and one that there is not is a fault.
+// A child that does not come is not gone on with, and one that there is not is a fault.
 #[test]
-fn children_that_are_not_born(rt: HostRuntime) -> Result<(), Fail> {
+fn children_that_do_not_come(rt: HostRuntime) -> Result<(), Fail> {
     for workers in WORKERS {
         let at = Place::new(1, 1);
         let child = Toy::Child { at: &at, left: 0 };
@@ -182,7 +182,7 @@ fn take_all<'a>(pool: &mut Pool<Toy<'a>>) -> usize {
 fn a_pool_has_64_tasks_at_most(rt: HostRuntime) -> Result<(), Fail> {
     let mut pool = Pool::with_room(rt.alloc(), 64)?;
     assert_eq!(rt; fill(&mut pool), 64);
-    assert!(rt; pool.push_unborn(Toy::Done).is_err());
+    assert!(rt; pool.push_child(Toy::Done).is_err());
     assert_eq!(rt; pool.run(&rt, 3), None);
     assert_eq!(rt; take_all(&mut pool), 64);
     Ok(())

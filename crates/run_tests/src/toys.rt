@@ -98,12 +98,12 @@ pub enum Toy<'a> {
         has_put: bool,
         until: u64,
     },
-    /// Goes on for so many turns, and then its child of this number is born.
+    /// Goes on for so many turns, and then its child of this number comes.
     Parent {
         child: usize,
         left: u64,
     },
-    /// Was not born. Then it goes on as a sink.
+    /// Has not come yet. Then it goes on as a sink.
     Child {
         at: &'a Place,
         left: u64,
@@ -159,7 +159,7 @@ impl<'a> Toy<'a> {
     fn parent(&mut self, child: usize, left: u64) -> Turned {
         if left == 0 {
             *self = Toy::Done;
-            return Turned::Born(child);
+            return Turned::Child(child);
         }
         *self = Toy::Parent {
             child,

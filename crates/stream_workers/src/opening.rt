@@ -6,7 +6,7 @@ use crate::endings::dismiss_all;
 use crate::slot::{Place, Slot};
 use graph_openings::Founder;
 use graph_steps::parent_of;
-use graph_tasks::{Gate, Run, Task, Unborn};
+use graph_tasks::{Gate, Run, Task, Unregistered};
 use std::alloc::{AllocError, Global};
 use std::sync::Wait;
 use stream_lists::Job;
@@ -27,7 +27,7 @@ fn open_place<'a, J: Run, W: Wait>(
     ensures founders { AreFounders job.now J.spots founders.new }
 {
     let None = parent_of(job, t) else {
-        return Ok(Place::Unborn(Unborn::new(alloc, job, t)?));
+        return Ok(Place::Unregistered(Unregistered::new(alloc, job, t)?));
     };
     match Task::found(rt, alloc, job, founders, t) {
         Ok(task) => Ok(Place::Task(task)),
@@ -44,12 +44,12 @@ fn put_in<'a, J: Run, G: Gate, W: Wait>(
 ) -> Result<(), AllocError>
     ensures { OnOk result (pool.new ≡ pool.old + 1) }
 {
-    let is_born = place.is_task();
+    let is_task = place.is_task();
     let slot = Slot { place, gate };
-    let put = if is_born {
+    let put = if is_task {
         pool.push(slot)
     } else {
-        pool.push_unborn(slot)
+        pool.push_child(slot)
     };
     match put {
         Ok(()) => Ok(()),

@@ -2,25 +2,25 @@
 ghost use Rattle.std.specs.Prelude.{◌≡◌, IfOk, IfSome};
 ghost use Rattle.graph_tasks.specs.Ends.{IsEnded};
 
-use graph_tasks::{Ended, Gate, Run, Task, Unborn};
+use graph_tasks::{Ended, Gate, Run, Task, Unregistered};
 use std::mem;
 use std::sync::Wait;
 use worker_pool::{Fault, Turned, Work};
 
-/// A task of a graph, or its place before it is born.
+/// A task of a graph, or its place before it is registered.
 ///
 /// **End.** It cannot be thrown away. `dismiss` and `end` end it.
 pub enum Place<'a, J: Run> {
-    /// A task that was born.
+    /// A task that was registered.
     Task(Task<'a, J>),
     /// A child that its parent has not registered.
-    Unborn(Unborn<'a, J>),
+    Unregistered(Unregistered<'a, J>),
     /// One that was taken out.
     Empty,
 }
 
 impl<'a, J: Run> Place<'a, J> {
-    /// Tells whether it is a task that was born.
+    /// Tells whether it is a task that was registered.
     pub fn is_task(&self) -> bool {
         matches!(self, Place::Task(_))
     }
@@ -36,9 +36,9 @@ impl<'a, J: Run> Place<'a, J> {
     // Makes the task of a child that its parent has registered.
     fn become_child(&mut self, parent: &mut Task<'a, J>) -> bool {
         let (place, is_child) = match self.take() {
-            Place::Unborn(unborn) => match parent.deliver(unborn) {
+            Place::Unregistered(child) => match parent.deliver(child) {
                 Ok(task) => (Place::Task(task), true),
-                Err(unborn) => (Place::Unborn(unborn), false),
+                Err(child) => (Place::Unregistered(child), false),
             },
             other => (other, false),
         };
@@ -52,7 +52,7 @@ impl<'a, J: Run> Place<'a, J> {
     pub fn dismiss<W: Wait>(self, rt: &W) {
         match self {
             Place::Task(task) => task.dismiss(rt),
-            Place::Unborn(unborn) => unborn.dismiss(rt),
+            Place::Unregistered(child) => child.dismiss(rt),
             Place::Empty => {}
         }
     }
@@ -70,8 +70,8 @@ impl<'a, J: Run> Place<'a, J> {
                     Err(Fault::Stalled)
                 }
             },
-            Place::Unborn(unborn) => {
-                unborn.dismiss(rt);
+            Place::Unregistered(child) => {
+                child.dismiss(rt);
                 Ok(None)
             }
             Place::Empty => Ok(None),
@@ -94,7 +94,7 @@ fn turned(turned: graph_tasks::Turned) -> Turned {
         graph_tasks::Turned::Ready => Turned::Ready,
         graph_tasks::Turned::Blocked(phaser) => Turned::Blocked(phaser),
         graph_tasks::Turned::Busy => Turned::Busy,
-        graph_tasks::Turned::Born(child) => Turned::Born(child),
+        graph_tasks::Turned::Registered(child) => Turned::Child(child),
         graph_tasks::Turned::Gone => Turned::Gone,
         graph_tasks::Turned::TooBig => Turned::Failed(Fault::TooBig),
         graph_tasks::Turned::OutOfMemory => Turned::Failed(Fault::OutOfMemory),

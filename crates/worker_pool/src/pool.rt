@@ -66,14 +66,14 @@ impl<T: Work> Pool<T> {
     {
         let number = self.tasks.len();
         let phasers = NumberSet::from_bits(task.phasers());
-        self.push_unborn(task)?;
+        self.push_child(task)?;
         self.sets.get_mut().admit(number, phasers);
         Ok(())
     }
 
-    /// Puts in a task that goes on once another has brought it to life. It comes back where there are
-    /// 64, or no memory.
-    pub fn push_unborn(&mut self, task: T) -> Result<(), T>
+    /// Puts in a child: a task that goes on once another has made a task of it. It comes back where
+    /// there are 64, or no memory.
+    pub fn push_child(&mut self, task: T) -> Result<(), T>
         ensures ok { OnOk result (self.new ≡ self.old + 1) }
         ensures err { OnErr result (self.new ≡ self.old) }
     {
@@ -188,7 +188,7 @@ impl<T: Work> Pool<T> {
         };
         let mut task = task.lock(rt);
         let mut went = go_on(&mut *task);
-        if let Turned::Born(child) = went.turned {
+        if let Turned::Child(child) = went.turned {
             if child == number || !self.bring(rt, &mut *task, child) {
                 return stuck();
             }
@@ -197,7 +197,7 @@ impl<T: Work> Pool<T> {
         went
     }
 
-    // Makes a task of the child that is born.
+    // Makes a task of the child that comes.
     fn bring<W: Wait>(&self, rt: &W, parent: &mut T, child: usize) -> bool {
         let Some(task) = self.tasks.get(child) else {
             return false;

@@ -197,7 +197,7 @@ impl TaskSets {
         match went.turned {
             Turned::Blocked(phaser) if is_refused_still => self.park(task, phaser),
             Turned::Blocked(_) | Turned::Moved(_) | Turned::Ready => self.ready.insert(task),
-            Turned::Busy | Turned::Born(_) => self.ready.insert(task),
+            Turned::Busy | Turned::Child(_) => self.ready.insert(task),
             Turned::Gone => {}
             Turned::Failed(fault) => self.fail(fault),
         }

@@ -11,7 +11,7 @@ pub trait Work {
     /// Goes on by one turn.
     fn turn(&mut self) -> Turned;
 
-    /// Makes a task of its child of which it has just answered that it is born. Answers false where
+    /// Makes a task of its child, of which it has just answered that it comes. Answers false where
     /// there is no such child.
     fn bring(&mut self, child: &mut Self) -> bool;
 }
@@ -27,8 +27,8 @@ pub enum Turned {
     Blocked(usize),
     /// Another was in the middle of a call on the same phaser.
     Busy,
-    /// Its child of this number may be brought to life.
-    Born(usize),
+    /// Its child of this number comes: `bring` may make a task of it.
+    Child(usize),
     /// It is done.
     Gone,
     /// It cannot go on, for this reason.

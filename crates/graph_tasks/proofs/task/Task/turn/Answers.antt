@@ -1,9 +1,9 @@
 -- The turn keeps the task one of its run, with the child that it is registering.
 use Rattle.std.proofs.Common.{◌≡◌, ℕ, Option, Some, None, false, sym, subst}
 use Rattle.stream_lists.specs.Jobs.{Job}
-use Rattle.graph_tasks.specs.Nurseries.{IsNursing, IsWith}
+use Rattle.graph_tasks.specs.Registering.{IsRegistering, IsWith}
 use Rattle.graph_tasks.specs.Tasks.{IsDue, IsTask, IsWhole}
-use Rattle.graph_tasks.proofs.Nursing.{nursing_task}
+use Rattle.graph_tasks.proofs.StillRegistering.{registering_task}
 use Rattle.graph_tasks.proofs.task.Task.turn.Goals as goal
 
 pub invariant_of-self : goal.invariant_of-self
@@ -15,14 +15,14 @@ invariant_of-self g c =
     let new = c.register.new.self in
     let With : Option ℕ → Type 0 = λ o. IsWith g.J.Run.job spots s o in
     let After : Option ℕ → Type 0 = λ o. IsWith g.J.Run.job spots new o in
-    let Before : Job → Type 0 = λ job. IsNursing job spots s i in
-    let Now : Job → Type 0 = λ job. IsNursing job spots new i in
+    let Before : Job → Type 0 = λ job. IsRegistering job spots s i in
+    let Now : Job → Type 0 = λ job. IsRegistering job spots new i in
     let Whole : Job → Type 0 = λ job. IsWhole job new in
-    let before : IsNursing g.J.Run.job spots s i = subst With c.in-Some.is c.self.invariant.2 c.if-self.false in
-    let now : new.met ≡ false → IsNursing g.J.Run.job spots new i =
-    λ met. subst Now is (c.register.ensures.nursing spots (subst Before (sym is) before) met) in (
+    let before : IsRegistering g.J.Run.job spots s i = subst With c.in-Some.is c.self.invariant.2 c.if-self.false in
+    let now : new.met ≡ false → IsRegistering g.J.Run.job spots new i =
+    λ met. subst Now is (c.register.ensures.registering spots (subst Before (sym is) before) met) in (
       is,
-      nursing_task g.J.Run.job spots new i (subst Whole is c.register.ensures.whole) now,
+      registering_task g.J.Run.job spots new i (subst Whole is c.register.ensures.whole) now,
       subst After (sym c.in-Some.is) now,
     )
 

@@ -6,12 +6,12 @@ use Rattle.graph_base.specs.Registrations.{registrations_of, no_registration}
 use Rattle.graph_members.specs.Members.{Spot}
 use Rattle.graph_turns.specs.Nexts.{registrations_at}
 use Rattle.graph_turns.specs.TaskPlaces.{registration_at}
-use Rattle.graph_tasks.specs.Nurseries.{IsNextOn, IsNursing}
+use Rattle.graph_tasks.specs.Registering.{IsNextOn, IsRegistering}
 use Rattle.graph_tasks.specs.declared.child.Child.{Child}
 use Rattle.graph_tasks.proofs.task_state.TaskState.register.Goals as goal
 
 next_on : (c : goal.After-add-arg-1) (spots : ℕ → Spot)
-    → IsNursing c.args.job.now spots c.args.self.now c.args.i
+    → IsRegistering c.args.job.now spots c.args.self.now c.args.i
     → IsNextOn c.args.job.now spots c.args.self.now c.args.i c.in-Some.k
     c.registration-registration.result
 next_on c spots n =
@@ -31,7 +31,7 @@ next_on c spots n =
     ∙ ap (λ (x : Child). length (registrations_at c.args.job.now x.task)) first in
     let less : c.len-made.result < c.registrations.result = c.if-made-registrations.false in
     record {
-      nursing = n;
+      registering = n;
       room = omega arith;
       is = c.registration-registration.ensures
           ∙ ap (λ g. get_or (registrations_of g (task_at g c.index.result.now.task)) c.len-made.result no_registration) c.graph-2.ensures.graph
@@ -41,7 +41,7 @@ next_on c spots n =
     }
 
 pub add-requires-clause-next : goal.add-requires-clause-next
-add-requires-clause-next c = (c.requires.nursing.0, next_on c c.requires.nursing.0 c.requires.nursing.1)
+add-requires-clause-next c = (c.requires.registering.0, next_on c c.requires.registering.0 c.requires.registering.1)
 
-pub returns-clause-nursing : goal.returns-clause-nursing
-returns-clause-nursing c = λ spots n met. c.add.ensures.nursing spots (next_on c.before spots n)
+pub returns-clause-registering : goal.returns-clause-registering
+returns-clause-registering c = λ spots n met. c.add.ensures.registering spots (next_on c.before spots n)

@@ -1,4 +1,4 @@
--- A task registers a child: what its state and the child's nursery are after each call.
+-- A task registers a child: what its state and the child's child_holds are after each call.
 use Rattle.std.proofs.Common.{◌≡◌, ◌≢◌, ℕ, zero, suc, ◌+◌, ◌<◌, ◌≤◌, ◌-◌, ℤ, true, false, List, [], ◌∷◌, ◌++◌, Option, Some, None, length, get_or, set, refl, sym, ap, subst, ◌∙◌, arith, ◌⊎◌, inl, inr}
 use Rattle.std.specs.Prelude.{slice_get, Vec}
 use Rattle.std.specs.Global.{Global}
@@ -35,7 +35,7 @@ use Rattle.graph_ends.proofs.CallsFollow.{calls_begin, calls_wait, calls_registe
 use Rattle.graph_steps.specs.Steps.{owed_of, HasFilter}
 use Rattle.graph_steps.specs.declared.owed.Owed.TheVariants.{Nothing}
 use Rattle.graph_tasks.specs.Holds.{HasSeenOthers}
-use Rattle.graph_tasks.specs.Nurseries.{HasAdded, IsNursed, registration_of}
+use Rattle.graph_tasks.specs.Registering.{HasAdded, HasFirstHolds, registration_of}
 use Rattle.graph_tasks.specs.Tasks.{IsOn, HasLeftOn, IsHeldOn, HasHolds, HasGivenNumbers, IsTaskAt, IsWhole, place_of}
 use Rattle.graph_tasks.specs.declared.child.Child.{Child}
 use Rattle.graph_tasks.specs.declared.hold.Hold.{Hold}
@@ -124,13 +124,13 @@ holds_go job spots m after t k p holds lefts new is there few here long kept num
 
 -- ---- the child begins
 
-pub nursery_begins : (job : Job) (spots : ℕ → Spot) (m : Moment) (s : TaskState) (c : ℕ)
+pub first_holds_begin : (job : Job) (spots : ℕ → Spot) (m : Moment) (s : TaskState) (c : ℕ)
     → IsWhole job s → IsTaskAt job spots m s
     → (child : IsChildOf job c s.number) → s.begun ≡ child.parent.at → s.over ≡ false
     → ((p : ℕ) → m.number p c ≡ None)
     → HasNewChild job m (with_child c m) s.number c []
-    × IsTaskAt job spots (with_child c m) s × IsNursed job spots (with_child c m) c [] []
-nursery_begins job spots m s c whole at child boundary going nowhere =
+    × IsTaskAt job spots (with_child c m) s × HasFirstHolds job spots (with_child c m) c [] []
+first_holds_begin job spots m s c whole at child boundary going nowhere =
     let t = s.number in
     let after = with_child c m in
     let new : HasNewChild job m after t c [] =
@@ -169,9 +169,9 @@ nursery_begins job spots m s c whole at child boundary going nowhere =
 
 -- ---- others' events
 
-pub nursery_waits : (job : Job) (spots : ℕ → Spot) (m : Moment) (s : TaskState) (c k p : ℕ)
-    (numbers : List ℕ) (nursery : List Hold) (old new : AnyMember) → IsWhole job s
-    → IsTaskAt job spots m s → IsNursed job spots m c numbers nursery
+pub first_holds_wait : (job : Job) (spots : ℕ → Spot) (m : Moment) (s : TaskState) (c k p : ℕ)
+    (numbers : List ℕ) (child_holds : List Hold) (old new : AnyMember) → IsWhole job s
+    → IsTaskAt job spots m s → HasFirstHolds job spots m c numbers child_holds
     → IsChildOf job c s.number → s.over ≡ false → k < length (registrations_at job s.number)
     → (registration_at job s.number k).phaser ≡ p → m.number p c ≡ None
     → IsOn job spots m s.number p old → HasSeenOthers old new
@@ -179,8 +179,8 @@ pub nursery_waits : (job : Job) (spots : ℕ → Spot) (m : Moment) (s : TaskSta
     (member_in new).seen
     × IsTaskAt job spots (with_history p (member_in new).seen m)
     (record s { holds = with_item s.holds k (On new) })
-    × IsNursed job spots (with_history p (member_in new).seen m) c numbers nursery
-nursery_waits job spots m s c k p numbers nursery old new whole at nursed child going few here nowhere on goes =
+    × HasFirstHolds job spots (with_history p (member_in new).seen m) c numbers child_holds
+first_holds_wait job spots m s c k p numbers child_holds old new whole at first_holds child going few here nowhere on goes =
     let t = s.number in
     let now = (member_in new).seen in
     let after = with_history p now m in
@@ -188,10 +188,10 @@ nursery_waits job spots m s c k p numbers nursery old new whole at nursed child 
     let sees = sees_others job spots m t p old new on goes in
     let both : HasSeenBoth job m after t c p numbers now =
     both_see job m t c p (member_in old).number child.parent numbers now whole.graph whole.there
-    child.there at.part nursed.joining child.has child.by nowhere sees in
+    child.there at.part first_holds.joining child.has child.by nowhere sees in
     let moved = both.seen.moved in
     let calls = calls_wait job m after t c whole.graph whole.there child p (member_in old).number
-    numbers now sees nowhere both at.own nursed.own in
+    numbers now sees nowhere both at.own first_holds.own in
     let F : List ℤ → Type 0 = λ taken. HasFilter (task_at job.graph t) s.filter taken in (
       both,
       record {
@@ -213,20 +213,20 @@ nursery_waits job spots m s c k p numbers nursery old new whole at nursed child 
       record {
         joining = both.child;
         own = calls.1;
-        long = nursed.long;
+        long = first_holds.long;
         on = λ i lt.
             (let q = (registration_at job c i).phaser in
-            held_same job spots m after c q (get_or nursery i Gone) (moved.numbers q c)
-            (moved.elsewhere q (apart i lt)) (nursed.on i lt));
+            held_same job spots m after c q (get_or child_holds i Gone) (moved.numbers q c)
+            (moved.elsewhere q (apart i lt)) (first_holds.on i lt));
       },
     )
   where
     -- the child has a number on the phasers of the first of its registrations
     apart : (i : ℕ) → i < length numbers → (registration_at job c i).phaser ≢ p
     apart i lt same =
-        let le : length numbers ≤ length (registrations_at job c) = nursed.joining.place.few in
+        let le : length numbers ≤ length (registrations_at job c) = first_holds.joining.place.few in
         (let wrong : Some (get_or numbers i 0) ≡ None =
-        sym (slice_get-get_or numbers i 0 lt) ∙ sym (nursed.joining.place.numbered i (omega arith))
+        sym (slice_get-get_or numbers i 0 lt) ∙ sym (first_holds.joining.place.numbered i (omega arith))
         ∙ ap (λ q. m.number q c) same ∙ nowhere in cc)
 
 -- ---- a registration
@@ -263,9 +263,9 @@ pub record HasGivenOne (children kids : List Child) (c a : ℕ) (numbers : List 
       → i ≡ place
 
 module _ (job : Job) (spots : ℕ → Spot) (m : Moment) (s : TaskState) (c k : ℕ)
-    (numbers : List ℕ) (nursery : List Hold) (old new child : AnyMember)
+    (numbers : List ℕ) (child_holds : List Hold) (old new child : AnyMember)
     (kids : Vec Child Global) (whole : IsWhole job s) (at : IsTaskAt job spots m s)
-    (nursed : IsNursed job spots m c numbers nursery)
+    (first_holds : HasFirstHolds job spots m c numbers child_holds)
     (of_task : IsChildOf job c s.number) (boundary : s.begun ≡ of_task.parent.at)
     (going : s.over ≡ false) (owes : s.owed ≡ Nothing)
     (room : length numbers < length (registrations_at job c))
@@ -304,18 +304,18 @@ module _ (job : Job) (spots : ℕ → Spot) (m : Moment) (s : TaskState) (c k : 
   has =
       child_is_added job m t c n a of_task.parent (place_of s) numbers added.before whole.graph
       whole.there of_task.there at.part at.place (ap owed_of owes) boundary of_task.has of_task.by
-      (at.knows.offset c) (at.knows.offset t) nursed.joining room sees
+      (at.knows.offset c) (at.knows.offset t) first_holds.joining room sees
 
   nowhere : m.number p c ≡ None
   nowhere =
-      nursed.joining.place.numbered (length numbers) room
+      first_holds.joining.place.numbered (length numbers) room
       ∙ slice_get_past numbers (length numbers) (omega arith)
 
   calls : HasOwnCalls job after t × HasOwnCalls job after c
   calls =
       calls_registered job m after t c whole.graph whole.there of_task p n a
       (registration_at job c (length numbers)).mode numbers added.before sees nowhere has at.own
-      nursed.own
+      first_holds.own
 
   apart : t ≢ c
   apart = λ same. (let wrong : Some n ≡ None =
@@ -377,11 +377,11 @@ module _ (job : Job) (spots : ℕ → Spot) (m : Moment) (s : TaskState) (c k : 
           numbers_same job m after kid.task kid.numbers.items
           (λ q. has.other_numbers q kid.task (inr task)) (at.given i kid was)
 
-  pub nursery_registers : HasAddedChild job m after t c p a numbers now
+  pub first_holds_register : HasAddedChild job m after t c p a numbers now
       × IsTaskAt job spots after
       (record s { holds = with_item s.holds k (On new); children = kids })
-      × IsNursed job spots after c (numbers ++ a ∷ []) (nursery ++ On child ∷ [])
-  nursery_registers =
+      × HasFirstHolds job spots after c (numbers ++ a ∷ []) (child_holds ++ On child ∷ [])
+  first_holds_register =
       let none : length s.lefts.items ≡ 0 = whole.staying going in
       let F : List ℤ → Type 0 = λ taken. HasFilter (task_at job.graph t) s.filter taken in (
         has,
@@ -403,7 +403,7 @@ module _ (job : Job) (spots : ℕ → Spot) (m : Moment) (s : TaskState) (c k : 
         record {
           joining = has.child;
           own = calls.1;
-          long = length-append nursery (On child ∷ []) ∙ ap (λ x. x + 1) nursed.long
+          long = length-append child_holds (On child ∷ []) ∙ ap (λ x. x + 1) first_holds.long
               ∙ sym (length-append numbers (a ∷ []));
           on = λ i lt. held_of i lt (cases_lt i (length numbers));
         },
@@ -412,30 +412,30 @@ module _ (job : Job) (spots : ℕ → Spot) (m : Moment) (s : TaskState) (c k : 
       held_of : (i : ℕ) → i < length (numbers ++ a ∷ [])
           → (i < length numbers) ⊎ (length numbers ≤ i)
           → IsHeldOn job spots after c (registration_at job c i).phaser
-          (get_or (nursery ++ On child ∷ []) i Gone)
+          (get_or (child_holds ++ On child ∷ []) i Gone)
       held_of i lt (inl low) =
           let q = (registration_at job c i).phaser in
-          let long : length nursery ≡ length numbers = nursed.long in
+          let long : length child_holds ≡ length numbers = first_holds.long in
           let other : q ≢ p =
           λ same. (let wrong : i ≡ length numbers =
           one_registration job c i (length numbers) whole.graph of_task.there (omega arith) room
           same in omega arith) in
           let H : Hold → Type 0 = λ h. IsHeldOn job spots after c q h in
-          subst H (sym (get_or_append_left nursery (On child ∷ []) Gone i (omega arith)))
-          (held_same job spots m after c q (get_or nursery i Gone)
-          (has.other_numbers q c (inl other)) (has.elsewhere q other) (nursed.on i low))
+          subst H (sym (get_or_append_left child_holds (On child ∷ []) Gone i (omega arith)))
+          (held_same job spots m after c q (get_or child_holds i Gone)
+          (has.other_numbers q c (inl other)) (has.elsewhere q other) (first_holds.on i low))
       held_of i lt (inr le) =
           let sum : length (numbers ++ a ∷ []) ≡ length numbers + 1 =
           length-append numbers (a ∷ []) in
-          let long : length nursery ≡ length numbers = nursed.long in
+          let long : length child_holds ≡ length numbers = first_holds.long in
           let same : i ≡ length numbers = omega arith in
-          let low : length nursery ≤ i = omega arith in
-          let off : i - length nursery ≡ 0 = omega arith in
+          let low : length child_holds ≤ i = omega arith in
+          let off : i - length child_holds ≡ 0 = omega arith in
           let H : Hold → Type 0 =
           λ h. IsHeldOn job spots after c (registration_at job c i).phaser h in
           let Q : ℕ → Type 0 =
           λ x. IsHeldOn job spots after c (registration_at job c x).phaser (On child) in
-          subst H (sym (get_or-append_right nursery (On child ∷ []) (length nursery) i Gone refl low
+          subst H (sym (get_or-append_right child_holds (On child ∷ []) (length child_holds) i Gone refl low
           ∙ ap (λ x. get_or (On child ∷ []) x Gone) off))
           (subst Q (sym same) on_child)
 
@@ -479,17 +479,17 @@ no_left i left found =
 -- a child with all its numbers stands at its parent's moment, in the state of one that has done
 -- nothing
 pub child_goes_alone : (job : Job) (spots : ℕ → Spot) (m : Moment) (parent : ℕ) (child : TaskState)
-    (numbers : List ℕ) (nursery : List Hold) → IsGraph job.graph
+    (numbers : List ℕ) (child_holds : List Hold) → IsGraph job.graph
     → IsChildOf job child.number parent → KnowsOthers job m parent
-    → IsNursed job spots m child.number numbers nursery
+    → HasFirstHolds job spots m child.number numbers child_holds
     → length numbers ≡ length (registrations_at job child.number)
-    → child.numbers.items ≡ numbers → child.holds.items ≡ nursery → child.lefts.items ≡ []
+    → child.numbers.items ≡ numbers → child.holds.items ≡ child_holds → child.lefts.items ≡ []
     → child.begun ≡ 0 → child.owed ≡ Nothing → child.over ≡ false → child.lines.items ≡ []
     → HasFilter (task_at job.graph child.number) child.filter []
     → ((i : ℕ) (kid : Child) → slice_get child.children.items i ≡ Some kid
     → (kid.numbers.items ≡ []) × IsChildOf job kid.task child.number)
     → IsTaskAt job spots m child
-child_goes_alone job spots m parent child numbers nursery is of_task knows nursed all same_numbers same_holds no_lefts begun owes going no_lines filter kids =
+child_goes_alone job spots m parent child numbers child_holds is of_task knows first_holds all same_numbers same_holds no_lefts begun owes going no_lines filter kids =
     let d = child.number in
     let P : turns.TaskPlace → Type 0 = λ x. StandsAt job m d x in
     let place_is = start_made numbers child.numbers.items (length child.lefts.items) child.begun
@@ -499,18 +499,18 @@ child_goes_alone job spots m parent child numbers nursery is of_task knows nurse
     λ l i. IsHeldOn job spots m d (registration_at job d i).phaser (get_or l i Gone) in
     let L : AnyLeft → ℕ → List AnyLeft → Type 0 = λ left i l. slice_get l i ≡ Some left in
     record {
-      part = nursed.joining.part;
-      own = nursed.own;
+      part = first_holds.joining.part;
+      own = first_holds.own;
       knows = known_child job m parent child.number of_task.parent is of_task.there of_task.has
           of_task.by knows;
-      place = subst P place_is nursed.joining.place;
+      place = subst P place_is first_holds.joining.place;
       holds = record {
         on = λ i lt le.
-            subst (λ l. H l i) (sym same_holds) (nursed.on i (omega arith));
+            subst (λ l. H l i) (sym same_holds) (first_holds.on i (omega arith));
         off = λ i left found. absurd (no_left i left (subst (λ l. L left i l) no_lefts found));
       };
-      filter = subst F (sym (nursed.joining.nothing_taken 0)) filter;
-      lines = λ sink. no_lines ∙ sym (nursed.joining.nothing_taken 0);
+      filter = subst F (sym (first_holds.joining.nothing_taken 0)) filter;
+      lines = λ sink. no_lines ∙ sym (first_holds.joining.nothing_taken 0);
       given = λ i kid found.
           (let own = kids i kid found in
           let N : List ℕ → Type 0 = λ l. HasNumbers job m kid.task l in

@@ -21,22 +21,22 @@ use Rattle.graph_parts.proofs.KnownOthers.{known_nowhere}
 use Rattle.graph_parts.proofs.Parts.{with_history}
 use Rattle.graph_ends.specs.TaskEnds.{IsChildOf}
 use Rattle.graph_tasks.specs.Holds.{GoesOn, HasSeenOthers}
-use Rattle.graph_tasks.specs.Nurseries.{HasAdded, AddsTo, IsNursed, IsNursing}
+use Rattle.graph_tasks.specs.Registering.{HasAdded, AddsTo, HasFirstHolds, IsRegistering}
 use Rattle.graph_tasks.specs.Tasks.{IsOn, IsHeldOn, IsDue, IsTask, IsTaskAt, IsTaskChild, IsWhole}
 use Rattle.graph_tasks.specs.declared.child.Child.{Child}
 use Rattle.graph_tasks.specs.declared.hold.Hold.{Hold}
 use Rattle.graph_tasks.specs.declared.hold.Hold.TheVariants.{On, Gone}
 use Rattle.graph_tasks.specs.declared.task_state.TaskState.{TaskState}
 use Rattle.graph_tasks.proofs.Turning.{held, goes}
-use Rattle.graph_tasks.proofs.Nursery.{nursery_begins, nursery_waits, nursery_registers, HasGivenOne, written, unwritten}
+use Rattle.graph_tasks.proofs.ChildHolds.{first_holds_begin, first_holds_wait, first_holds_register, HasGivenOne, written, unwritten}
 
 -- ---- a child begins
 
 -- a child of which nothing is registered has no number
-pub nursing_begins : (job : Job) (spots : ℕ → Spot) (s : TaskState) (i : ℕ) → s.met ≡ false
-    → (due : IsDue job s i) → due.missing.kid.numbers.items ≡ [] → s.nursery.items ≡ []
-    → IsTask job spots s → IsNursing job spots s i
-nursing_begins job spots s i met due none empty task =
+pub registering_begins : (job : Job) (spots : ℕ → Spot) (s : TaskState) (i : ℕ) → s.met ≡ false
+    → (due : IsDue job s i) → due.missing.kid.numbers.items ≡ [] → s.child_holds.items ≡ []
+    → IsTask job spots s → IsRegistering job spots s i
+registering_begins job spots s i met due none empty task =
     let kid = due.missing.kid in
     let c = kid.task in
     let whole = task.whole in
@@ -50,9 +50,9 @@ nursing_begins job spots s i met due none empty task =
     known_nowhere job m s.number c child.parent whole.graph child.there child.has child.by
     (λ k few. has.numbered k few ∙ ap (λ l. slice_get l k) none
     ∙ slice_get_past [] k (omega arith)) at.knows in
-    let then = nursery_begins job spots m s c whole at child boundary due.going nowhere in
-    let N : List ℕ → Type 0 = λ l. IsNursed job spots (with_child c m) c l [] in
-    let H : List Hold → Type 0 = λ l. IsNursed job spots (with_child c m) c kid.numbers.items l in
+    let then = first_holds_begin job spots m s c whole at child boundary due.going nowhere in
+    let N : List ℕ → Type 0 = λ l. HasFirstHolds job spots (with_child c m) c l [] in
+    let H : List Hold → Type 0 = λ l. HasFirstHolds job spots (with_child c m) c kid.numbers.items l in
     record {
       kid = kid;
       found = due.missing.found;
@@ -62,18 +62,18 @@ nursing_begins job spots s i met due none empty task =
       owes = due.owes;
       moment = with_child c m;
       at = then.1;
-      nursed = subst H (sym empty) (subst N (sym none) then.2);
+      first_holds = subst H (sym empty) (subst N (sym none) then.2);
     }
 
 -- ---- registrations
 
 -- the child has no number yet on the phaser of its next registration
 next_absent : (job : Job) (spots : ℕ → Spot) (m : Moment) (c : ℕ) (numbers : List ℕ)
-    (nursery : List Hold) → IsNursed job spots m c numbers nursery
+    (child_holds : List Hold) → HasFirstHolds job spots m c numbers child_holds
     → length numbers < length (registrations_at job c)
     → m.number (registration_at job c (length numbers)).phaser c ≡ None
-next_absent job spots m c numbers nursery nursed room =
-    nursed.joining.place.numbered (length numbers) room
+next_absent job spots m c numbers child_holds first_holds room =
+    first_holds.joining.place.numbered (length numbers) room
     ∙ slice_get_past numbers (length numbers) (omega arith)
 
 -- a hold that has added a child has gone on
@@ -84,23 +84,23 @@ adds_goes mode (On old) Gone child added = absurd added
 adds_goes mode Gone new child added = absurd added
 
 -- a call that registered nothing
-pub nursing_waits : (job : Job) (spots : ℕ → Spot) (s : TaskState) (i k : ℕ) (old new : Hold)
-    → IsWhole job s → (n : IsNursing job spots s i)
+pub registering_waits : (job : Job) (spots : ℕ → Spot) (s : TaskState) (i k : ℕ) (old new : Hold)
+    → IsWhole job s → (n : IsRegistering job spots s i)
     → length n.kid.numbers.items < length (registrations_at job n.kid.task)
     → k < length (registrations_at job s.number)
     → (registration_at job s.number k).phaser
     ≡ (registration_at job n.kid.task (length n.kid.numbers.items)).phaser
     → old ≡ get_or s.holds.items k old → GoesOn HasSeenOthers old new
-    → IsNursing job spots (record s { holds = with_item s.holds k new }) i
-nursing_waits job spots s i k old new whole n room few here looked g =
+    → IsRegistering job spots (record s { holds = with_item s.holds k new }) i
+registering_waits job spots s i k old new whole n room few here looked g =
     let p = (registration_at job n.kid.task (length n.kid.numbers.items)).phaser in
     let none : length s.lefts.items ≡ 0 = whole.staying n.going in
     let both = goes HasSeenOthers job spots n.moment s.number p old new g
     (held job spots n.moment s k p old whole n.at few here (omega arith) looked) in
     let y = both.1.0 in
-    let then = nursery_waits job spots n.moment s n.kid.task k p n.kid.numbers.items s.nursery.items
-    both.0 y whole n.at n.nursed n.child n.going few here
-    (next_absent job spots n.moment n.kid.task n.kid.numbers.items s.nursery.items n.nursed room)
+    let then = first_holds_wait job spots n.moment s n.kid.task k p n.kid.numbers.items s.child_holds.items
+    both.0 y whole n.at n.first_holds n.child n.going few here
+    (next_absent job spots n.moment n.kid.task n.kid.numbers.items s.child_holds.items n.first_holds room)
     both.1.4 both.1.3 in
     let after = with_history p (member_in y).seen n.moment in
     let T : Hold → Type 0 = λ h. IsTaskAt job spots after
@@ -114,13 +114,13 @@ nursing_waits job spots s i k old new whole n room few here looked g =
       owes = n.owes;
       moment = after;
       at = subst T (sym both.1.2) then.1;
-      nursed = then.2;
+      first_holds = then.2;
     }
 
 -- a call that registered the child once more
-pub nursing_adds : (job : Job) (spots : ℕ → Spot) (s : TaskState) (i k : ℕ) (old new : Hold)
-    (child : AnyMember) (kid : Child) (kids : Vec Child Global) (nursery : Vec Hold Global)
-    → IsWhole job s → (n : IsNursing job spots s i)
+pub registering_adds : (job : Job) (spots : ℕ → Spot) (s : TaskState) (i k : ℕ) (old new : Hold)
+    (child : AnyMember) (kid : Child) (kids : Vec Child Global) (child_holds : Vec Hold Global)
+    → IsWhole job s → (n : IsRegistering job spots s i)
     → length n.kid.numbers.items < length (registrations_at job n.kid.task)
     → k < length (registrations_at job s.number)
     → (registration_at job s.number k).phaser
@@ -130,10 +130,10 @@ pub nursing_adds : (job : Job) (spots : ℕ → Spot) (s : TaskState) (i k : ℕ
     (registration_at job n.kid.task (length n.kid.numbers.items)).mode x y child) old new
     → kids.items ≡ set s.children.items i kid → kid.task ≡ n.kid.task
     → kid.numbers.items ≡ n.kid.numbers.items ++ (member_in child).number ∷ []
-    → nursery.items ≡ s.nursery.items ++ On child ∷ []
-    → IsNursing job spots
-    (record s { holds = with_item s.holds k new; children = kids; nursery = nursery }) i
-nursing_adds job spots s i k old new child kid kids nursery whole n room few here looked g is_kids same_task same_numbers is_nursery =
+    → child_holds.items ≡ s.child_holds.items ++ On child ∷ []
+    → IsRegistering job spots
+    (record s { holds = with_item s.holds k new; children = kids; child_holds = child_holds }) i
+registering_adds job spots s i k old new child kid kids child_holds whole n room few here looked g is_kids same_task same_numbers are_child_holds =
     let c = n.kid.task in
     let numbers = n.kid.numbers.items in
     let p = (registration_at job c (length numbers)).phaser in
@@ -155,17 +155,17 @@ nursing_adds job spots s i k old new child kid kids nursery whole n room few her
       one = λ j other found same.
           whole.children.apart j i other n.kid found n.found same;
     } in
-    let then = nursery_registers job spots n.moment s c k numbers s.nursery.items x y child kids
-    whole n.at n.nursed n.child n.boundary n.going n.owes room few here both.1.4 added given in
+    let then = first_holds_register job spots n.moment s c k numbers s.child_holds.items x y child kids
+    whole n.at n.first_holds n.child n.boundary n.going n.owes room few here both.1.4 added given in
     let after = after_register p (member_in x).number c (member_in child).number mode
     (with_history p added.before n.moment) in
     let T : Hold → Type 0 = λ h. IsTaskAt job spots after
     (record s { holds = with_item s.holds k h; children = kids }) in
     let task_now = subst T (sym both.1.2) then.1 in
-    let N : List Hold → Type 0 = λ l. IsNursed job spots after c
+    let N : List Hold → Type 0 = λ l. HasFirstHolds job spots after c
     (numbers ++ (member_in child).number ∷ []) l in
-    let M : List ℕ → Type 0 = λ l. IsNursed job spots after c l nursery.items in
-    let C : ℕ → Type 0 = λ d. IsNursed job spots after d kid.numbers.items nursery.items in
+    let M : List ℕ → Type 0 = λ l. HasFirstHolds job spots after c l child_holds.items in
+    let C : ℕ → Type 0 = λ d. HasFirstHolds job spots after d kid.numbers.items child_holds.items in
     let D : ℕ → Type 0 = λ d. (w : IsChildOf job d s.number) × (s.begun ≡ w.parent.at) in
     let kid_child = subst D (sym same_task) (n.child, n.boundary) in
     record {
@@ -187,19 +187,19 @@ nursing_adds job spots s i k old new child kid kids nursery whole n room few her
         given = task_now.given;
         at_end = λ over. absurd (let no : false ≡ true = sym n.going ∙ over in cc);
       };
-      nursed = subst C (sym same_task)
-          (subst M (sym same_numbers) (subst N (sym is_nursery) then.2));
+      first_holds = subst C (sym same_task)
+          (subst M (sym same_numbers) (subst N (sym are_child_holds) then.2));
     }
 
 -- ---- what holds always
 
 -- with other holds, and another state of one child
-pub whole_nurses : (job : Job) (s : TaskState) (i k : ℕ) (new : Hold) (kids : Vec Child Global)
-    (nursery : Vec Hold Global) (before kid : Child) → IsWhole job s
+pub whole_keeps : (job : Job) (s : TaskState) (i k : ℕ) (new : Hold) (kids : Vec Child Global)
+    (child_holds : Vec Hold Global) (before kid : Child) → IsWhole job s
     → slice_get s.children.items i ≡ Some before → kids.items ≡ set s.children.items i kid
     → kid.task ≡ before.task → kid.at ≡ before.at
-    → IsWhole job (record s { holds = with_item s.holds k new; children = kids; nursery = nursery })
-whole_nurses job s i k new kids nursery before kid whole found is_kids task at = record {
+    → IsWhole job (record s { holds = with_item s.holds k new; children = kids; child_holds = child_holds })
+whole_keeps job s i k new kids child_holds before kid whole found is_kids task at = record {
   graph = whole.graph;
   there = whole.there;
   samples = whole.samples;
@@ -285,9 +285,9 @@ whole_nurses job s i k new kids nursery before kid whole found is_kids task at =
 -- ---- tasks
 
 -- a task that registers a child is one of its run
-pub nursing_task : (job : Job) (spots : ℕ → Spot) (s : TaskState) (i : ℕ) → IsWhole job s
-    → (s.met ≡ false → IsNursing job spots s i) → IsTask job spots s
-nursing_task job spots s i whole n = record {
+pub registering_task : (job : Job) (spots : ℕ → Spot) (s : TaskState) (i : ℕ) → IsWhole job s
+    → (s.met ≡ false → IsRegistering job spots s i) → IsTask job spots s
+registering_task job spots s i whole n = record {
   whole = whole;
-  stands = λ met. (let nursing = n met in (nursing.moment, nursing.at));
+  stands = λ met. (let registering = n met in (registering.moment, registering.at));
 }

@@ -14,12 +14,12 @@ use stream_lists::Job;
 /// for what a sink takes. In contracts it is its number.
 ///
 /// **End.** It cannot be thrown away. `Task::deliver` and `dismiss` end it.
-pub struct Unborn<'a, J: Run> {
+pub struct Unregistered<'a, J: Run> {
     seed: Seed<'a>,
     of: PhantomData<J>,
 }
 
-impl<'a, J: Run> Model for Unborn<'a, J> {
+impl<'a, J: Run> Model for Unregistered<'a, J> {
     ghost use Rattle.std.specs.Prelude.{ℕ};
     ghost use Rattle.graph_tasks.specs.Seeds.{seed_state, IsReady};
 
@@ -30,18 +30,18 @@ impl<'a, J: Run> Model for Unborn<'a, J> {
     ghost invariant = { λ u. IsReady J.job J.spots 0 (seed_state u.seed) };
 }
 
-impl<'a, J: Run> Unborn<'a, J> {
+impl<'a, J: Run> Unregistered<'a, J> {
     /// Makes that of task number `task`.
     ///
     /// It takes memory for its registrations and for those of a child, for its children, and for
     /// the taps and the window of a filter.
-    pub fn new(alloc: Global, job: &'a Job, task: usize) -> Result<Unborn<'a, J>, AllocError>
+    pub fn new(alloc: Global, job: &'a Job, task: usize) -> Result<Unregistered<'a, J>, AllocError>
         requires job { job.now ≡ J.job }
         requires task { task < length job.now.graph.tasks }
-        ensures { IfOk result (λ unborn. unborn ≡ task) }
+        ensures { IfOk result (λ unregistered. unregistered ≡ task) }
     {
         let seed = Seed::new(alloc, job, task)?;
-        Ok(Unborn {
+        Ok(Unregistered {
             seed,
             of: PhantomData,
         })
@@ -56,7 +56,7 @@ impl<'a, J: Run> Unborn<'a, J> {
 
     /// Ends it. It is registered nowhere.
     pub fn dismiss<W: Wait>(self, rt: &W) {
-        let Unborn { seed, of: _ } = self;
+        let Unregistered { seed, of: _ } = self;
         seed.dismiss(rt);
     }
 
@@ -65,7 +65,7 @@ impl<'a, J: Run> Unborn<'a, J> {
         ensures number { result.number ≡ self.entry }
         ensures ready { IsReady J.job J.spots 0 result }
     {
-        let Unborn { seed, of: _ } = self;
+        let Unregistered { seed, of: _ } = self;
         seed.open()
     }
 }

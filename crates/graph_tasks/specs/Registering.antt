@@ -42,13 +42,13 @@ AddsTo mode Gone new child = ⊥
 
 -- at this moment, which is its parent's, task c has these numbers and these holds, on the first of
 -- its phasers
-pub record IsNursed (job : Job) (spots : ℕ → Spot) (m : Moment) (c : ℕ) (numbers : List ℕ)
-    (nursery : List Hold) : Type 0 where
+pub record HasFirstHolds (job : Job) (spots : ℕ → Spot) (m : Moment) (c : ℕ) (numbers : List ℕ)
+    (child_holds : List Hold) : Type 0 where
   pub joining : IsJoining job m c numbers
   pub own : HasOwnCalls job m c
-  pub long : length nursery ≡ length numbers
+  pub long : length child_holds ≡ length numbers
   pub on : (i : ℕ) → i < length numbers
-      → IsHeldOn job spots m c (registration_at job c i).phaser (get_or nursery i Gone)
+      → IsHeldOn job spots m c (registration_at job c i).phaser (get_or child_holds i Gone)
 
 -- registration k of task t is on phaser p
 pub record IsPlaceOn (job : Job) (t p k : ℕ) : Type 0 where
@@ -56,13 +56,13 @@ pub record IsPlaceOn (job : Job) (t p k : ℕ) : Type 0 where
   pub here : (registration_at job t k).phaser ≡ p
 
 -- there is room for another registration of the child at this place
-pub record HasNurseryRoom (s : TaskState) (i : ℕ) : Type 0 where
+pub record HasChildRoom (s : TaskState) (i : ℕ) : Type 0 where
   pub numbers : (kid : Child) → slice_get s.children.items i ≡ Some kid
       → length kid.numbers.items + 1 ≤ kid.numbers.capacity
-  pub nursery : length s.nursery.items < s.nursery.cap
+  pub child_holds : length s.child_holds.items < s.child_holds.cap
 
 -- another registration of the child at this place is kept
-pub record HasNursed (i : ℕ) (child : AnyMember) (old new : TaskState) : Type 0 where
+pub record HasKept (i : ℕ) (child : AnyMember) (old new : TaskState) : Type 0 where
   pub before : Child
   pub kid : Child
   pub found : slice_get old.children.items i ≡ Some before
@@ -70,12 +70,12 @@ pub record HasNursed (i : ℕ) (child : AnyMember) (old new : TaskState) : Type 
   pub task : kid.task ≡ before.task
   pub at : kid.at ≡ before.at
   pub numbers : kid.numbers.items ≡ before.numbers.items ++ (member_in child).number ∷ []
-  pub nursery : new.nursery.items ≡ old.nursery.items ++ On child ∷ []
-  pub rest : new ≡ record old { children = new.children; nursery = new.nursery }
+  pub child_holds : new.child_holds.items ≡ old.child_holds.items ++ On child ∷ []
+  pub rest : new ≡ record old { children = new.children; child_holds = new.child_holds }
 
 -- a task in this state registers the child at place i among its children: it stands between two
 -- steps, and its moment is the child's as well
-pub record IsNursing (job : Job) (spots : ℕ → Spot) (s : TaskState) (i : ℕ) : Type 0 where
+pub record IsRegistering (job : Job) (spots : ℕ → Spot) (s : TaskState) (i : ℕ) : Type 0 where
   pub kid : Child
   pub found : slice_get s.children.items i ≡ Some kid
   pub child : IsChildOf job kid.task s.number
@@ -84,17 +84,17 @@ pub record IsNursing (job : Job) (spots : ℕ → Spot) (s : TaskState) (i : ℕ
   pub owes : s.owed ≡ Nothing
   pub moment : Moment
   pub at : IsTaskAt job spots moment s
-  pub nursed : IsNursed job spots moment kid.task kid.numbers.items s.nursery.items
+  pub first_holds : HasFirstHolds job spots moment kid.task kid.numbers.items s.child_holds.items
 
 -- the next registration of the child is this one, and registration k of the task is on its phaser
 pub record IsNextOn (job : Job) (spots : ℕ → Spot) (s : TaskState) (i k : ℕ) (r : Registration)
     : Type 0 where
-  pub nursing : IsNursing job spots s i
-  pub room : length nursing.kid.numbers.items < length (registrations_at job nursing.kid.task)
-  pub is : r ≡ registration_at job nursing.kid.task (length nursing.kid.numbers.items)
+  pub registering : IsRegistering job spots s i
+  pub room : length registering.kid.numbers.items < length (registrations_at job registering.kid.task)
+  pub is : r ≡ registration_at job registering.kid.task (length registering.kid.numbers.items)
   pub on : IsPlaceOn job s.number r.phaser k
 
 -- a task that registers the child at this place, where there is one
 abbrev pub IsWith : Job → (ℕ → Spot) → TaskState → Option ℕ → Type 0
 IsWith job spots s None = Unit {0}
-IsWith job spots s (Some i) = s.met ≡ false → IsNursing job spots s i
+IsWith job spots s (Some i) = s.met ≡ false → IsRegistering job spots s i

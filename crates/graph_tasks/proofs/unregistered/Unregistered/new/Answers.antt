@@ -1,7 +1,7 @@
 -- A seed is registered nowhere.
 use Rattle.std.proofs.Common.{subst}
 use Rattle.graph_tasks.specs.Seeds.{IsSeed}
-use Rattle.graph_tasks.proofs.unborn.Unborn.new.Goals as goal
+use Rattle.graph_tasks.proofs.unregistered.Unregistered.new.Goals as goal
 
 pub invariant_of-result : goal.invariant_of-result
 invariant_of-result g c =

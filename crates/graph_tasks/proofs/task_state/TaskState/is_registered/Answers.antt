@@ -6,7 +6,7 @@ use Rattle.std.proofs.lemmas.Option.{slice_get-get_or}
 use Rattle.graph_base.specs.Graphs.{Graph, task_at}
 use Rattle.graph_base.specs.Registrations.{registrations_of}
 use Rattle.graph_turns.specs.Nexts.{registrations_at}
-use Rattle.graph_tasks.proofs.task_state.TaskState.is_born.Goals as goal
+use Rattle.graph_tasks.proofs.task_state.TaskState.is_registered.Goals as goal
 
 pub registrations-requires : goal.registrations-requires
 registrations-requires c =
@@ -19,8 +19,8 @@ registrations-requires c =
     subst (λ (graph : Graph). c.in-Some.child.now.task < length graph.tasks) (sym c.graph.ensures.graph)
     (c.requires.children.each c.args.i c.in-Some.child.now found).of_task.there
 
-pub returns-clause-born : goal.returns-clause-born
-returns-clause-born c = λ yes.
+pub returns-clause-registered : goal.returns-clause-registered
+returns-clause-registered c = λ yes.
     let l = c.in-Some.ensures.lookup.3 in
     let items = c.deref.result.now in
     let found : slice_get c.args.self.now.children.items c.args.i ≡ Some c.in-Some.child.now =
