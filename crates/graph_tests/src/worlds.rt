@@ -1,9 +1,7 @@
 //! Runs of a graph at their opening: what each task does next, and what the sinks have. What is
 //! expected was worked out by hand.
-use graph_lang::read_graph;
 use graph_worlds::{Step, World};
-use sample_text::samples_of;
-use std::alloc::{AllocError, Global};
+use std::alloc::Global;
 use std::test::Fail;
 use stream_lists::Job;
 
@@ -18,13 +16,7 @@ const AT_ONCE: &str = "phaser X sum 1\nsource s s.csv -> X until 0\nsink out X\n
 
 /// The job of a graph with one source, on samples of this text.
 fn job_of(alloc: Global, graph: &str, samples: &str) -> Result<Job, Fail> {
-    let graph = read_graph(alloc, graph.as_bytes())?;
-    if samples.len() > 67_108_864 || graph.sources() != 1 {
-        return Err(Fail::from(AllocError));
-    }
-    let mut lists = Vec::new(alloc);
-    lists.push(samples_of(alloc, samples.as_bytes())?)?;
-    Ok(Job::new(alloc, graph, lists)?)
+    Ok(test_jobs::job_of(alloc, graph, &[samples])??)
 }
 
 #[test]

@@ -1,7 +1,5 @@
 //! Jobs of graphs that are given as text, and what their runs end with, as text.
 use graph_base::{Graph, Place};
-use graph_lang::read_graph;
-use sample_text::samples_of;
 use std::alloc::{AllocError, Global};
 use std::sync::Wait;
 use std::test::Fail;
@@ -15,18 +13,7 @@ pub const WORKERS: [usize; 3] = [1, 2, 16];
 
 /// The job of a graph, on samples of these texts, one for each source.
 pub fn job_of(alloc: Global, graph: &str, samples: &[&str]) -> Result<Job, Fail> {
-    let graph = read_graph(alloc, graph.as_bytes())?;
-    let mut lists = Vec::new(alloc);
-    for text in samples {
-        if text.len() > 67_108_864 {
-            return Err(Fail::from(AllocError));
-        }
-        lists.push(samples_of(alloc, text.as_bytes())?)?;
-    }
-    if lists.len() != graph.sources() {
-        return Err(Fail::from(AllocError));
-    }
-    Ok(Job::new(alloc, graph, lists)?)
+    Ok(test_jobs::job_of(alloc, graph, samples)??)
 }
 
 // The name of a place that the graph has.

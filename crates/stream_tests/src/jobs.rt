@@ -1,26 +1,10 @@
 //! Jobs that are made and evaluated: which value out of range is told, who meets whom, and lists of
 //! any length. What is expected was worked out by hand.
-use graph_lang::{Place, read_graph};
-use sample_text::samples_of;
+use graph_lang::Place;
 use std::alloc::{AllocError, Global};
 use std::test::Fail;
-use stream_job::{EvalFault, Job, JobRefusal, eval};
-
-/// The job of a graph, on samples of these texts, one for each source.
-fn job_of(alloc: Global, graph: &str, samples: &[&str]) -> Result<Result<Job, JobRefusal>, Fail> {
-    let graph = read_graph(alloc, graph.as_bytes())?;
-    let mut lists = Vec::new(alloc);
-    for text in samples {
-        if text.len() > 67_108_864 {
-            return Err(Fail::from(AllocError));
-        }
-        lists.push(samples_of(alloc, text.as_bytes())?)?;
-    }
-    if lists.len() != graph.sources() {
-        return Err(Fail::from(AllocError));
-    }
-    Ok(Job::new(alloc, graph, lists))
-}
+use stream_job::{EvalFault, JobRefusal, eval};
+use test_jobs::job_of;
 
 /// What the only sink of a graph gets, on samples of these texts.
 fn only_sink(
