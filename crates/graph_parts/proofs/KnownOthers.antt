@@ -35,7 +35,7 @@ known_first job m t numbers seen is first = record {
       (let less : u.task < c = below job c u is there parent in
       let none : m.number p c ≡ None = first.others p c (λ same. omega arith) in
       absurd (let wrong : Some n ≡ None = sym at ∙ none in cc));
-  unborn = λ p d u there parent behind.
+  unregistered = λ p d u there parent behind.
       (let less : u.task < d = below job d u is there parent in
       first.others p d (λ same. omega arith));
 }
@@ -48,8 +48,8 @@ known_same job m after t numbers offset known = record {
   offset = λ u. offset u ∙ known.offset u;
   lines = λ p c n u there parent of_t at.
       known.lines p c n u there parent of_t (sym (numbers p c) ∙ at);
-  unborn = λ p d u there parent behind.
-      numbers p d ∙ known.unborn p d u there parent behind;
+  unregistered = λ p d u there parent behind.
+      numbers p d ∙ known.unregistered p d u there parent behind;
 }
 
 pub known_moved : (job : Job) (m after : Moment) (t p : ℕ) (now : History)
@@ -69,9 +69,9 @@ pub known_registers : (job : Job) (m after : Moment) (t c p a : ℕ) (u : Parent
 known_registers job m after t c p a u numbers now parent of_t on added known = record {
   offset = λ x. added.offset x ∙ known.offset x;
   lines = λ q d n w there e by at. lines q d n w there e by at (eq_case q p) (eq_case d c);
-  unborn = λ q d w there e behind.
+  unregistered = λ q d w there e behind.
       added.other_numbers q d (inr (λ same. apart d w e behind same))
-      ∙ known.unborn q d w there e behind;
+      ∙ known.unregistered q d w there e behind;
 }
   where
     apart : (d : ℕ) (w : Parent) → (task_at job.graph d).parent ≡ Some w → t < w.task → d ≡ c → ⊥
@@ -99,10 +99,10 @@ known_child job m t c u is there parent of_t known = record {
   offset = known.offset;
   lines = λ p d n w there_d e by at.
       (let low : u.task < c = less in
-      let none : m.number p d ≡ None = known.unborn p d w there_d e (omega arith) in
+      let none : m.number p d ≡ None = known.unregistered p d w there_d e (omega arith) in
       absurd (let wrong : Some n ≡ None = sym at ∙ none in cc));
-  unborn = λ p d w there_d e behind.
-      (let low : u.task < c = less in known.unborn p d w there_d e (omega arith));
+  unregistered = λ p d w there_d e behind.
+      (let low : u.task < c = less in known.unregistered p d w there_d e (omega arith));
 }
   where
     less : u.task < c

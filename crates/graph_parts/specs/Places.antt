@@ -125,5 +125,5 @@ pub record KnowsOthers (job : Job) (m : Moment) (t : ℕ) : Type 0 where
   pub lines : (p c n : ℕ) (u : Parent) → c < length job.graph.tasks
       → (task_at job.graph c).parent ≡ Some u → u.task ≡ t → m.number p c ≡ Some n
       → OnLine (task_at job.graph c) p
-  pub unborn : (p d : ℕ) (u : Parent) → d < length job.graph.tasks
+  pub unregistered : (p d : ℕ) (u : Parent) → d < length job.graph.tasks
       → (task_at job.graph d).parent ≡ Some u → t < u.task → m.number p d ≡ None

@@ -470,7 +470,7 @@ unnumbered job m parent c d is child grandchild knows = record {
         let low : child.parent.task < c = (parent_of job c child.parent is child.there child.has).above in
         let above : child.parent.task ≡ parent = child.by in
         let by : grandchild.parent.task ≡ c = grandchild.by in
-        knows.unborn p d grandchild.parent grandchild.there grandchild.has (omega arith)
+        knows.unregistered p d grandchild.parent grandchild.there grandchild.has (omega arith)
 
 no_left : (i : ℕ) (left : AnyLeft) → slice_get [] i ≡ Some left → ⊥
 no_left i left found =

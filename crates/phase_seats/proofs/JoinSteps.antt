@@ -45,7 +45,7 @@ new_member_now op allows terms me entry now child old x before good used member 
     record {
       own = λ task. refl;
       new = new;
-      born = child_used_now now me child;
+      joined = child_used_now now me child;
       good = s.good;
       stands = s.stands;
       member = entry_of-push_old (members_of now) child me (entry_at Wait (signal_phase now me) (done_of now)) entry member;

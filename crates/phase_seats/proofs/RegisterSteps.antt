@@ -88,7 +88,7 @@ module _ {A K : Type 0} (op : Operation A) (allows : K → Allows) (terms : Term
       → IsGoodAt allows terms (event ∷ now) → StandsWithin op terms.limits y (event ∷ now)
       → (goes : View → View → Type 0) → goes (turning now (me ∷ [])) (resting (event ∷ now) (me ∷ child ∷ []))
       → Gives (HasOneHistory op allows) terms number w y (λ v z u. goes v u)
-  gives_child number y w now event child by born is used new good stands goes told =
+  gives_child number y w now event child by joined is used new good stands goes told =
       let out : eqb child me ≡ false = ne_eqb child me new.apart in
       subst (λ (z : View). Gives (HasOneHistory op allows) terms number z y (λ v q u. goes v u)) (sym is)
       (λ views k at. (
@@ -100,7 +100,7 @@ module _ {A K : Type 0} (op : Operation A) (allows : K → Allows) (terms : Term
             (λ (m : me ≡ task). subst (λ (n : ℕ). IsUsed (event ∷ now) n × ((is_in n (me ∷ []) ≡ true) ⊎ (IsUsed now n → ⊥))) m
             (IsUsed-longer terms.limits now (event ∷ now) me good.legal (record { later = event ∷ []; is = refl }) used, inl (is_in_self me [])))
             (λ (m : child ≡ task). subst (λ (n : ℕ). IsUsed (event ∷ now) n × ((is_in n (me ∷ []) ≡ true) ⊎ (IsUsed now n → ⊥))) m
-            (born, inr new.unused))
+            (joined, inr new.unused))
             (in_two me child task has)) views k at,
         told,
       ))
@@ -146,7 +146,7 @@ module _ {A K : Type 0} (op : Operation A) (allows : K → Allows) (terms : Term
   pub record NewMember (now : History) (event : Event) (child : ℕ) (start : Entry) (x : CoreState A) : Type 0 where
     pub own : (task : ℕ) → is_by task event ≡ eqb me task
     pub new : NewChild now me child
-    pub born : IsUsed (event ∷ now) child
+    pub joined : IsUsed (event ∷ now) child
     pub good : IsGoodAt allows terms (event ∷ now)
     pub stands : StandsWithin op terms.limits x (event ∷ now)
     pub member : entry_of (members_of (event ∷ now)) me ≡ Some entry
@@ -164,7 +164,7 @@ module _ {A K : Type 0} (op : Operation A) (allows : K → Allows) (terms : Term
       record {
         own = λ task. refl;
         new = new;
-        born = child_used now me child mode;
+        joined = child_used now me child mode;
         good = s.good;
         stands = s.stands;
         member = entry_of-push_old (members_of now) child me (entry_at mode (signal_phase now me) (wait_phase now me)) entry member;
@@ -180,7 +180,7 @@ module _ {A K : Type 0} (op : Operation A) (allows : K → Allows) (terms : Term
     pub gives_new_member : (number : ℕ) (w : View) → w ≡ turning now (me ∷ []) → IsUsed now me
         → Gives (HasOneHistory op allows) terms number w x (λ v z u. u ≡ resting (event ∷ (known_of v).seen) (me ∷ child ∷ []))
     gives_new_member number w is used =
-        gives_child op allows terms me number x w now event child b.own b.born is used b.new b.good b.stands
+        gives_child op allows terms me number x w now event child b.own b.joined is used b.new b.good b.stands
         (λ v u. u ≡ resting (event ∷ (known_of v).seen) (me ∷ child ∷ [])) refl
 
     -- the parent's seat
