@@ -3,7 +3,7 @@
 use graph_lang::Place;
 use std::alloc::{AllocError, Global};
 use std::test::Fail;
-use stream_job::{EvalFault, JobRefusal, eval};
+use stream_job::{EvalFault, Job, JobRefusal, eval};
 use test_jobs::job_of;
 
 /// What the only sink of a graph gets, on samples of these texts.
