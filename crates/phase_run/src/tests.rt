@@ -14,13 +14,18 @@ const FIR: &str = "phaser X sum 4\nphaser Y sum 4\nsource s s.csv -> X\n\
 struct Held;
 
 impl Files for Held {
-    fn read(&mut self, alloc: Global, name: &str, _limit: usize) -> Result<Vec<u8>, FileFault> {
+    fn read(&mut self, alloc: Global, name: &str, limit: usize) -> Result<Vec<u8>, FileFault> {
         let text = match name {
-            "g" => FIR,
-            "s.csv" => "1\n2\n3\n",
-            _ => return Err(FileFault::ReadFault),
+            "g" => Some(FIR),
+            "s.csv" => Some("1\n2\n3\n"),
+            _ => None,
         };
-        Vec::from_slice(alloc, text.as_bytes()).map_err(|_| FileFault::OutOfMemory)
+        match text {
+            Some(text) if text.len() <= limit => {
+                Vec::from_slice(alloc, text.as_bytes()).map_err(|_| FileFault::OutOfMemory)
+            }
+            _ => Err(FileFault::ReadFault),
+        }
     }
 }
 

@@ -14,13 +14,18 @@ struct Held<'a> {
 }
 
 impl Files for Held<'_> {
-    fn read(&mut self, alloc: Global, name: &str, _limit: usize) -> Result<Vec<u8>, FileFault> {
+    fn read(&mut self, alloc: Global, name: &str, limit: usize) -> Result<Vec<u8>, FileFault> {
         let text = match name {
-            "g" => self.graph,
-            "s.csv" => self.samples,
-            _ => return Err(FileFault::ReadFault),
+            "g" => Some(self.graph),
+            "s.csv" => Some(self.samples),
+            _ => None,
         };
-        Vec::from_slice(alloc, text.as_bytes()).map_err(|_| FileFault::OutOfMemory)
+        match text {
+            Some(text) if text.len() <= limit => {
+                Vec::from_slice(alloc, text.as_bytes()).map_err(|_| FileFault::OutOfMemory)
+            }
+            _ => Err(FileFault::ReadFault),
+        }
     }
 }
 
