@@ -4,6 +4,7 @@ pub mod Lively
 pub mod OpeningPhasers
 pub mod OpeningTasks
 pub mod Begun
+pub mod ChildLists
 pub mod Children
 pub mod Numbering
 pub mod Ending

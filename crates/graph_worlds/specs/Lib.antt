@@ -3,6 +3,7 @@ pub mod Calls
 pub mod Machines
 pub mod Parking
 pub mod Places
+pub mod Plans
 pub mod Runs
 pub mod Stalls
 pub mod Tellings

@@ -9,6 +9,7 @@ mod opened_cores;
 mod opened_tasks;
 mod opening;
 mod parked;
+mod plan;
 mod roots;
 mod runs;
 mod stalls;

@@ -6,11 +6,13 @@ ghost use Rattle.phase_history.specs.Histories.{History, members_of, done_of};
 ghost use Rattle.graph_cores.specs.Cores.{CoreStandsFor};
 ghost use Rattle.graph_base.specs.Graphs.{phaser_at, task_at};
 ghost use Rattle.graph_worlds.specs.Machines.{next_by};
+ghost use Rattle.graph_worlds.specs.Plans.{IsPlan};
 ghost use Rattle.graph_moments.specs.Moments.{Moment, limits_at};
 ghost use Rattle.graph_turns.specs.Nexts.{next_of, at_boundary, without_child, is_live, is_due};
 ghost use Rattle.graph_turns.specs.Nexts.{comes_by, first_due, has_signaller, is_cut, next_step};
 
 use crate::machine::Machine;
+use crate::plan::Plan;
 use crate::step::Step;
 use crate::task_state::TaskState;
 use graph_base::{Op, Parent};
@@ -44,8 +46,9 @@ impl Machine {
     }
 
     /// What task number `t` does next.
-    pub fn next(&self, job: &Job, t: usize) -> Step
-        requires { IsMachine job.now self.now }
+    pub fn next(&self, job: &Job, plan: &Plan, t: usize) -> Step
+        requires machine { IsMachine job.now self.now }
+        requires plan { IsPlan job.now plan.now }
         ensures { (m : Moment) → IsMachineAt job.now m self.now
             → next_of job.now m t ≡ next_by result }
     {
@@ -55,31 +58,33 @@ impl Machine {
         match self.tasks[t].owed {
             Owed::Value { output, .. } => Step::Signal { output },
             Owed::Exchange { .. } => Step::Exchange,
-            Owed::Nothing => self.at_boundary(job, t),
+            Owed::Nothing => self.at_boundary(job, plan, t),
         }
     }
 
     /// What a live task that owes nothing does next.
-    fn at_boundary(&self, job: &Job, t: usize) -> Step
-        requires { IsLiveIn job.now self.now t }
+    fn at_boundary(&self, job: &Job, plan: &Plan, t: usize) -> Step
+        requires live { IsLiveIn job.now self.now t }
+        requires plan { IsPlan job.now plan.now }
         ensures { (m : Moment) → IsMachineAt job.now m self.now → is_live job.now m t ≡ true
             → at_boundary job.now m t (first_due job.now m t) ≡ next_by result }
     {
-        match self.first_due(job, t) {
+        match self.first_due(job, plan, t) {
             Some(child) => Step::Register { child },
-            None => self.without_child(job, t),
+            None => self.without_child(job, plan, t),
         }
     }
 
-    /// The first child of a task that is due.
-    fn first_due(&self, job: &Job, t: usize) -> Option<usize>
+    /// The first child of a task that is due. It looks at the task's children alone.
+    fn first_due(&self, job: &Job, plan: &Plan, t: usize) -> Option<usize>
         requires machine { IsMachine job.now self.now }
+        requires plan { IsPlan job.now plan.now }
         requires task { t < length job.now.graph.tasks }
         ensures { (m : Moment) → IsMachineAt job.now m self.now → first_due job.now m t ≡ result }
     {
-        for c in 0..job.graph().tasks() {
-            if self.is_due(job, t, c) {
-                return Some(c);
+        for c in plan.children(job, t) {
+            if self.is_due(job, t, *c) {
+                return Some(*c);
             }
         }
         None
@@ -97,20 +102,22 @@ impl Machine {
     }
 
     /// What a live task does next where no child is due.
-    fn without_child(&self, job: &Job, t: usize) -> Step
-        requires { IsLiveIn job.now self.now t }
+    fn without_child(&self, job: &Job, plan: &Plan, t: usize) -> Step
+        requires live { IsLiveIn job.now self.now t }
+        requires plan { IsPlan job.now plan.now }
         ensures { (m : Moment) → IsMachineAt job.now m self.now → is_live job.now m t ≡ true
             → without_child job.now m t ≡ next_by result }
     {
-        if self.is_over(job, t) {
+        if self.is_over(job, plan, t) {
             return Step::Leave;
         }
         next_step(job, t, self.state(job, t).begun)
     }
 
     /// Whether a live task makes no further step: by `until`, or as its input has ended.
-    fn is_over(&self, job: &Job, t: usize) -> bool
-        requires { IsLiveIn job.now self.now t }
+    fn is_over(&self, job: &Job, plan: &Plan, t: usize) -> bool
+        requires live { IsLiveIn job.now self.now t }
+        requires plan { IsPlan job.now plan.now }
         ensures { (m : Moment) → IsMachineAt job.now m self.now → is_live job.now m t ≡ true
             → is_over job.now m t ≡ result }
     {
@@ -119,7 +126,7 @@ impl Machine {
             return true;
         }
         if is_source(kind_of(job, t)) {
-            return job.samples_of(t).len() as u64 <= state.begun;
+            return plan.samples(job, t).len() as u64 <= state.begun;
         }
         let k = first_input_of(job, t, state.begun);
         has_run_out(self.core(job, input_of(job, t, k)), state.numbers[k])

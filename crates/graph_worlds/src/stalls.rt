@@ -15,9 +15,11 @@ ghost use Rattle.graph_steps.specs.Steps.{owed_of};
 ghost use Rattle.graph_worlds.specs.Stalls.{blocks_signal, blocks_wait, would_block, is_value_in_range};
 ghost use Rattle.graph_worlds.specs.Blocking.{AreBlocked};
 ghost use Rattle.graph_worlds.specs.Machines.{next_by};
+ghost use Rattle.graph_worlds.specs.Plans.{IsPlan};
 
 use crate::machine::Machine;
 use crate::parked::Parked;
+use crate::plan::Plan;
 use crate::step::Step;
 use graph_base::Op;
 use graph_cores::AnyCore;
@@ -31,12 +33,13 @@ impl Machine {
 
     /// Whether some task is live, and the turn of each live task would be blocked. It asks the
     /// phasers for those tasks alone that stand in no list.
-    pub fn is_stalled(&self, job: &Job, parked: &Parked) -> bool
-        requires { IsMachine job.now self.now }
+    pub fn is_stalled(&self, job: &Job, plan: &Plan, parked: &Parked) -> bool
+        requires machine { IsMachine job.now self.now }
+        requires plan { IsPlan job.now plan.now }
         ensures { (m : Moment) → IsMachineAt job.now m self.now → AreBlocked job.now m parked.now
             → is_stalled job.now m ≡ result }
     {
-        self.has_live(job) && self.are_still(job, &parked.marks())
+        self.has_live(job) && self.are_still(job, plan, &parked.marks())
     }
 
     /// Whether some task is live.
@@ -54,15 +57,16 @@ impl Machine {
     }
 
     /// Whether the turn of each live task would be blocked, as that of each marked one is.
-    fn are_still(&self, job: &Job, marks: &[bool; 64]) -> bool
-        requires { IsMachine job.now self.now }
+    fn are_still(&self, job: &Job, plan: &Plan, marks: &[bool; 64]) -> bool
+        requires machine { IsMachine job.now self.now }
+        requires plan { IsPlan job.now plan.now }
         ensures { (m : Moment) → IsMachineAt job.now m self.now
             → ((t : ℕ) → get_or marks.now t false ≡ true → is_still job.now m t ≡ true)
             → list_all (is_still job.now m) (range_with_len 0 (length job.now.graph.tasks))
             ≡ result }
     {
         for t in 0..job.graph().tasks() {
-            if !marks[t] && !self.is_still(job, t) {
+            if !marks[t] && !self.is_still(job, plan, t) {
                 return false;
             }
         }
@@ -70,16 +74,17 @@ impl Machine {
     }
 
     /// Whether task number `t` is not live, or its turn would be blocked.
-    fn is_still(&self, job: &Job, t: usize) -> bool
+    fn is_still(&self, job: &Job, plan: &Plan, t: usize) -> bool
         requires machine { IsMachine job.now self.now }
+        requires plan { IsPlan job.now plan.now }
         requires task { t < length job.now.graph.tasks }
         ensures { (m : Moment) → IsMachineAt job.now m self.now → is_still job.now m t ≡ result }
     {
-        let _sends = job.samples_of(t);
+        let _sends = plan.samples(job, t);
         if !self.state(job, t).is_live(job, t) {
             return true;
         }
-        self.step_blocks(job, t, self.next(job, t))
+        self.step_blocks(job, t, self.next(job, plan, t))
     }
 
     /// Whether a live task's turn would be blocked, where this is what it does next.

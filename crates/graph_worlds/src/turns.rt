@@ -9,12 +9,14 @@ ghost use Rattle.graph_turns.specs.Nexts as turns;
 ghost use Rattle.graph_turns.specs.Nexts.{is_live, number_on};
 ghost use Rattle.graph_worlds.specs.Turning.{IsNextIn, IsRegistration, HadTurn, told_of};
 ghost use Rattle.graph_worlds.specs.Calls.{told_got, with_line, HasRoomIn};
+ghost use Rattle.graph_worlds.specs.Plans.{IsPlan};
 ghost use Rattle.stream_lists.specs.Jobs.{Job as JobValue};
 ghost use Rattle.stream_lists.specs.Lists.{is_sink_at};
 ghost use Rattle.stream_eval.specs.Results.{sink_values};
 
 use crate::machine::Machine;
 use crate::made::Made;
+use crate::plan::Plan;
 use crate::step::Step;
 use crate::task_state::TaskState;
 use crate::turned::Turned;
@@ -33,26 +35,34 @@ impl Machine {
     ghost use Rattle.graph_worlds.specs.Machines.{IsMachine, IsMachineAt, IsLiveIn, HasRoom, next_by};
 
     /// Gives a turn to task number `t`: it makes its next call.
-    pub fn make(&mut self, job: &Job, t: usize) -> Result<Made, AllocError>
-        requires { IsMachine job.now self.old }
+    pub fn make(&mut self, job: &Job, plan: &Plan, t: usize) -> Result<Made, AllocError>
+        requires machine { IsMachine job.now self.old }
+        requires plan { IsPlan job.now plan.now }
         ensures made { IfOk result (λ made. HadTurn job.now self.old self.new t made) }
         ensures kept { OnErr result (self.new ≡ self.old) }
         ensures memory { OnErr result ((m : Moment) → IsMachineAt job.now m self.old
             → IsRegistration (turns.next_of job.now m t)) }
     {
-        let step = self.next(job, t);
+        let step = self.next(job, plan, t);
         if step == Step::NotLive {
             return Ok(Made::Nothing);
         }
-        let _samples = job.samples_of(t);
+        let _samples = plan.samples(job, t);
         laws::turns_stay_reached();
         laws::no_turn_is_refused();
-        self.make_step(job, t, step)
+        self.make_step(job, plan, t, step)
     }
 
     /// A task makes this step.
-    fn make_step(&mut self, job: &Job, t: usize, step: Step) -> Result<Made, AllocError>
-        requires { IsNextIn job.now self.old t (next_by step) }
+    fn make_step(
+        &mut self,
+        job: &Job,
+        plan: &Plan,
+        t: usize,
+        step: Step,
+    ) -> Result<Made, AllocError>
+        requires next { IsNextIn job.now self.old t (next_by step) }
+        requires plan { IsPlan job.now plan.now }
         ensures made { IfOk result (λ made. HadTurn job.now self.old self.new t made) }
         ensures kept { OnErr result (self.new ≡ self.old) }
         // A registration alone asks for memory.
@@ -62,7 +72,7 @@ impl Machine {
             Step::NotLive => Ok(Made::Nothing),
             Step::Register { child } => self.register_child(job, t, child),
             Step::Leave => Ok(self.leave(job, t)),
-            Step::Sample => Ok(self.signal_sample(job, t)),
+            Step::Sample => Ok(self.signal_sample(job, plan, t)),
             Step::Signal { output } => Ok(self.signal_owed(job, t, output)),
             Step::Wait { input } => Ok(self.wait_first(job, t, input)),
             Step::Exchange => Ok(self.wait_exchange(job, t)),
@@ -90,15 +100,16 @@ impl Machine {
     }
 
     /// A source signals its next sample.
-    fn signal_sample(&mut self, job: &Job, t: usize) -> Made
-        requires { IsNextIn job.now self.old t turns.samples }
+    fn signal_sample(&mut self, job: &Job, plan: &Plan, t: usize) -> Made
+        requires next { IsNextIn job.now self.old t turns.samples }
+        requires plan { IsPlan job.now plan.now }
         ensures { HadTurn job.now self.old self.new t result }
     {
         let (k, phaser) = output_of(job, t, 0);
         let state = &self.tasks[t];
         let begun = state.begun;
         let number = state.numbers[k];
-        let x = job.samples_of(t)[begun as usize];
+        let x = plan.samples(job, t)[begun as usize];
         let Ok(_) = self.signal_on(job, phaser, number, x) else {
             return Made::Blocked { phaser };
         };

@@ -9,6 +9,7 @@ ghost use Rattle.graph_turns.specs.Answers.{is_stalled, turn_tells};
 
 use crate::machine::Machine;
 use crate::parked::Parked;
+use crate::plan::Plan;
 use crate::step::Step;
 use crate::turned::Turned;
 use graph_base::Place;
@@ -24,6 +25,7 @@ use stream_lists::Job;
 #[derive(Drop)]
 pub struct World<'a> {
     job: &'a Job,
+    plan: Plan,
     machine: Machine,
     // where a value was out of range
     met: Option<(Place, u64)>,
@@ -36,6 +38,7 @@ impl<'a> Model for World<'a> {
     ghost use Rattle.graph_worlds.specs.Worlds.{WorldState};
     ghost use Rattle.graph_worlds.specs.Blocking.{AreBlocked};
     ghost use Rattle.graph_worlds.specs.Machines.{IsMachineAt};
+    ghost use Rattle.graph_worlds.specs.Plans.{IsPlan};
 
     ghost Value = { WorldState };
 
@@ -48,7 +51,7 @@ impl<'a> Model for World<'a> {
 
     ghost invariant = { λ w. ((m : Moment) × IsMachineAt w.job.now m w.machine
         × AreBlocked w.job.now m w.parked)
-        × (length w.parked ≡ length w.job.now.graph.phasers) };
+        × (length w.parked ≡ length w.job.now.graph.phasers) × IsPlan w.job.now w.plan };
 }
 
 impl<'a> World<'a> {
@@ -60,18 +63,21 @@ impl<'a> World<'a> {
     /// without a parent, in the order of their lines, as 1, 2, .., and has left.
     ///
     /// It takes memory for a slot of each phase that a phaser may have open, an entry for each
-    /// registration, the window of each filter, a list for each phaser, and all values that each sink
-    /// takes where the run comes to its end, 8 bytes for a value.
+    /// registration, the window of each filter, a list for each phaser and one of each task's
+    /// children, and all values that each sink takes where the run comes to its end, 8 bytes for a
+    /// value.
     pub fn new(alloc: Global, job: &'a Job) -> Result<World<'a>, AllocError>
         ensures job { IfOk result (λ world. world.job ≡ job.now) }
         ensures opening { IfOk result (λ world. IsWorldAt world (opening job.now)) }
         ensures met { IfOk result (λ world. world.met ≡ None) }
         ensures parked { IfOk result (λ world. (p : ℕ) → get_or world.parked p [] ≡ []) }
     {
+        let plan = Plan::new(alloc, job)?;
         let machine = Machine::new(alloc, job)?;
         let parked = Parked::new(alloc, job.graph().phasers())?;
         Ok(World {
             job,
+            plan,
             machine,
             met: None,
             parked,
@@ -86,7 +92,7 @@ impl<'a> World<'a> {
         // A world stands for some moment, whatever was done with it before.
         ensures stands { (m : Moment) × IsWorldAt self.now m }
     {
-        self.machine.next(self.job, task)
+        self.machine.next(self.job, &self.plan, task)
     }
 
     /// Lends each sink's number and what it has taken so far, in the order of the lines. It takes no
@@ -115,7 +121,7 @@ impl<'a> World<'a> {
             → is_stalled self.now.job m ≡ result }
         ensures met { self.now.met ≢ None → result ≡ false }
     {
-        self.met.is_none() && self.machine.is_stalled(self.job, &self.parked)
+        self.met.is_none() && self.machine.is_stalled(self.job, &self.plan, &self.parked)
     }
 
     /// Gives a turn to task number `task`: it makes its next call, or tells why it makes none. After
@@ -139,7 +145,7 @@ impl<'a> World<'a> {
         if let Some((place, phase)) = self.met {
             return Ok(Turned::TooBig { place, phase });
         }
-        let made = self.machine.make(self.job, task)?;
+        let made = self.machine.make(self.job, &self.plan, task)?;
         self.parked.note(made, task);
         let told = made.told(task);
         self.met = told.too_big();

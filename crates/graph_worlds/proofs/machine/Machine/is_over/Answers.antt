@@ -27,14 +27,14 @@ returns-then-state-gt0 c = λ m at live.
 
 pub bounds-deref-k : goal.bounds-deref-k
 bounds-deref-k c =
-    let at = c.requires.1 in
+    let at = c.requires.live.1 in
     let none : is_source (task_at c.args.job.now.graph c.args.t).kind ≡ false =
     ap is_source (sym c.kind_of.ensures) ∙ sym c.is_source.ensures ∙ c.if-is_source.false in
     let few = c.first_input_of-k.ensures.within
     (no_source (task_at c.args.job.now.graph c.args.t).kind none) in
-    let in_numbers = (number_of_input c.args.job.now c.requires.0 c.args.t c.first_input_of-k.result
-    (place_of c.state-state.result.now) at.graph (c.state-state.ensures c.requires.0 at).stands
-    c.requires.2 few).0 in
+    let in_numbers = (number_of_input c.args.job.now c.requires.live.0 c.args.t c.first_input_of-k.result
+    (place_of c.state-state.result.now) at.graph (c.state-state.ensures c.requires.live.0 at).stands
+    c.requires.live.2 few).0 in
     let same : length c.deref.result.now ≡ length c.state-state.result.now.numbers.items =
     ap length c.deref.ensures in
     omega arith

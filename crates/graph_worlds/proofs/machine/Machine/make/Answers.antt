@@ -6,12 +6,12 @@ use Rattle.graph_worlds.proofs.Numbering.{few_after}
 use Rattle.graph_worlds.proofs.Setting.{on_err}
 use Rattle.graph_worlds.proofs.machine.Machine.make.Goals as goal
 
-pub make_step-requires : goal.make_step-requires
-make_step-requires c =
+pub make_step-requires-clause-next : goal.make_step-requires-clause-next
+make_step-requires-clause-next c =
     let job = c.args.job.now in
-    let sends = subst AreSends c.samples_of-samples.ensures.value c.samples_of-samples.ensures.sends in
+    let sends = subst AreSends c.samples-samples.ensures.value c.samples-samples.ensures.sends in
     record {
-      some = c.requires;
+      some = c.requires.machine;
       is = c.next-step.ensures;
       stays = λ m at. c.turns_stay_reached.ensures.turn job m c.args.t at.graph at.reached;
       few = λ m at. few_after job m c.args.t at.graph at.reached at.few;

@@ -1,0 +1,30 @@
+-- What the turns of a task ask of the lines of its graph.
+use Rattle.std.specs.Prelude.{◌≡◌, ℕ, Bool, false, ◌==◌, List, Option, Some, None, length, slice_get}
+use Rattle.std.specs.List.{filter, range_with_len}
+use Rattle.graph_base.specs.declared.line.Parent.{Parent}
+use Rattle.graph_base.specs.Graphs.{source_number, task_at}
+use Rattle.stream_lists.specs.Jobs.{Job}
+use Rattle.graph_worlds.specs.declared.plan.Plan.{Plan}
+use Rattle.graph_worlds.specs.declared.plan.TaskPlan.{TaskPlan}
+
+-- whether a line's parent is task t
+abbrev pub is_child_of : ℕ → Option Parent → Bool
+is_child_of t None = false
+is_child_of t (Some parent) = parent.task == t
+
+-- the children of task t, in the order of the lines
+abbrev pub children_of : Job → ℕ → List ℕ
+children_of job t =
+    filter (λ c. is_child_of t (task_at job.graph c).parent)
+    (range_with_len 0 (length job.graph.tasks))
+
+-- of task t
+pub record IsTaskPlan (job : Job) (t : ℕ) (plan : TaskPlan) : Type 0 where
+  pub children : plan.children.items ≡ children_of job t
+  pub source : plan.source ≡ source_number job.graph.tasks t
+
+-- of each task of a job
+pub record IsPlan (job : Job) (plan : Plan) : Type 0 where
+  pub many : length plan.tasks.items ≡ length job.graph.tasks
+  pub each : (t : ℕ) (one : TaskPlan) → slice_get plan.tasks.items t ≡ Some one
+      → IsTaskPlan job t one
