@@ -10,7 +10,7 @@ use Rattle.phase_accum.specs.declared.single.Single.{Single}
 use Rattle.graph_base.specs.TaskLines.{HasEnds, IsTaskLine}
 use Rattle.graph_base.specs.Registrations.{HasItsMode, as_input, as_output, as_exchange, ends_of, registrations_of, no_registration, signalled_by, inputs_among, outputs_among}
 use Rattle.graph_base.specs.declared.line.Kind.{Kind}
-use Rattle.graph_base.specs.declared.line.Kind.TheVariants.{Source, Fir, Split, Join, Peer, Sink}
+use Rattle.graph_base.specs.declared.line.Kind.TheVariants.{Source, Fir, Negate, Split, Join, Peer, Sink}
 use Rattle.graph_base.specs.declared.registration.Registration.{Registration}
 
 -- ---- of a task that is no peer
@@ -21,6 +21,7 @@ registrations-plain graph task other = by task.kind refl
     by : (kind : Kind) → task.kind ≡ kind → registrations_of graph task ≡ ends_of task
     by Source e = rw e refl
     by Fir e = rw e refl
+    by Negate e = rw e refl
     by Split e = rw e refl
     by Join e = rw e refl
     by Peer e = absurd (other e)
@@ -94,6 +95,7 @@ length-registrations graph task ends = by task.kind refl
         → length (registrations_of graph task) ≡ length task.inputs + length task.outputs
     by Source e = many (λ peer. absurd (let no = sym e ∙ peer in cc))
     by Fir e = many (λ peer. absurd (let no = sym e ∙ peer in cc))
+    by Negate e = many (λ peer. absurd (let no = sym e ∙ peer in cc))
     by Split e = many (λ peer. absurd (let no = sym e ∙ peer in cc))
     by Join e = many (λ peer. absurd (let no = sym e ∙ peer in cc))
     by Peer e =
@@ -114,6 +116,7 @@ few-registrations task ends = by task.kind refl
     by : (kind : Kind) → task.kind ≡ kind → length task.inputs + length task.outputs ≤ 9
     by Source e = let is = subst Ends e ends in omega (arith, is)
     by Fir e = let is = subst Ends e ends in omega (arith, is)
+    by Negate e = let is = subst Ends e ends in omega (arith, is)
     by Split e = let is = subst Ends e ends in omega (arith, is)
     by Join e = let is = subst Ends e ends in omega (arith, is)
     by Peer e = let is = subst Ends e ends in omega (arith, is)
@@ -182,6 +185,7 @@ module _ (graph : Graph) (t : ℕ) (task : Task) (line : IsTaskLine graph t task
           → map phaser_of (registrations_of graph task) ≡ task.inputs ++ task.outputs
       by Source e = plain (rw e refl)
       by Fir e = plain (rw e refl)
+      by Negate e = plain (rw e refl)
       by Split e = plain (rw e refl)
       by Join e = plain (rw e refl)
       by Peer e =
@@ -210,6 +214,7 @@ module _ (graph : Graph) (t : ℕ) (task : Task) (line : IsTaskLine graph t task
           → inputs_among (registrations_of graph task) ≡ enumerate_from 0 task.inputs
       by Source e = plain (rw e refl)
       by Fir e = plain (rw e refl)
+      by Negate e = plain (rw e refl)
       by Split e = plain (rw e refl)
       by Join e = plain (rw e refl)
       by Peer e =
@@ -237,6 +242,7 @@ module _ (graph : Graph) (t : ℕ) (task : Task) (line : IsTaskLine graph t task
           → outputs_among (registrations_of graph task) ≡ enumerate_from 0 (signalled_by task)
       by Source e = plain (rw e refl) (rw e refl)
       by Fir e = plain (rw e refl) (rw e refl)
+      by Negate e = plain (rw e refl) (rw e refl)
       by Split e = plain (rw e refl) (rw e refl)
       by Join e = plain (rw e refl) (rw e refl)
       by Peer e = rw e refl
@@ -276,6 +282,7 @@ registrations-modes graph task = by task.kind refl
     by : (kind : Kind) → task.kind ≡ kind → All HasItsMode (registrations_of graph task)
     by Source e = plain (rw e refl)
     by Fir e = plain (rw e refl)
+    by Negate e = plain (rw e refl)
     by Split e = plain (rw e refl)
     by Join e = plain (rw e refl)
     by Peer e =

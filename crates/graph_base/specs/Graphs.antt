@@ -3,7 +3,7 @@ use Rattle.std.specs.Prelude.{ℕ, ◌<◌, ◌==◌, List, [], ◌∷◌, lengt
 use Rattle.std.specs.List.{count_by}
 use Rattle.phase_base.specs.declared.operation.Op.TheVariants.{Sum}
 use Rattle.graph_base.specs.declared.line.Kind.{Kind}
-use Rattle.graph_base.specs.declared.line.Kind.TheVariants.{Source, Fir, Split, Join, Peer, Sink}
+use Rattle.graph_base.specs.declared.line.Kind.TheVariants.{Source, Fir, Negate, Split, Join, Peer, Sink}
 use Rattle.graph_base.specs.declared.line.Parent.{Parent}
 use Rattle.graph_base.specs.declared.line.PhaserLine.{PhaserLine}
 use Rattle.graph_base.specs.declared.place.Place.{Place}
@@ -93,6 +93,7 @@ IsPlace graph (place.Task t) = t < length graph.tasks
 abbrev pub is_source : Kind → Bool
 is_source Source = true
 is_source Fir = false
+is_source Negate = false
 is_source Split = false
 is_source Join = false
 is_source Peer = false
@@ -102,6 +103,7 @@ is_source Sink = false
 abbrev pub is_sink : Kind → Bool
 is_sink Source = false
 is_sink Fir = false
+is_sink Negate = false
 is_sink Split = false
 is_sink Join = false
 is_sink Peer = false

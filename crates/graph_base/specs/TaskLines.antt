@@ -10,7 +10,7 @@ use Rattle.graph_base.specs.Graphs.{task_at, phaser_at, name_at, sources_of}
 use Rattle.graph_base.specs.Names.{place_of}
 use Rattle.graph_base.specs.declared.limits.TheConstants.{PHASERS_MAX, TASKS_MAX, ENDS_MAX, COUNT_MAX, FACTOR_MAX}
 use Rattle.graph_base.specs.declared.line.Kind.{Kind}
-use Rattle.graph_base.specs.declared.line.Kind.TheVariants.{Source, Fir, Split, Join, Peer, Sink}
+use Rattle.graph_base.specs.declared.line.Kind.TheVariants.{Source, Fir, Negate, Split, Join, Peer, Sink}
 use Rattle.graph_base.specs.declared.line.Parent.{Parent}
 use Rattle.graph_base.specs.declared.line.PhaserLine.{PhaserLine}
 use Rattle.graph_base.specs.declared.place.Place.{Place}
@@ -19,6 +19,7 @@ use Rattle.graph_base.specs.declared.place.Place.{Place}
 abbrev pub HasEnds : Kind → ℕ → ℕ → Type 0
 HasEnds Source inputs outputs = (inputs ≡ 0) × (outputs ≡ 1)
 HasEnds Fir inputs outputs = (inputs ≡ 1) × (outputs ≡ 1)
+HasEnds Negate inputs outputs = (inputs ≡ 1) × (outputs ≡ 1)
 HasEnds Split inputs outputs = (inputs ≡ 1) × (2 ≤ outputs) × (outputs ≤ ENDS_MAX)
 HasEnds Join inputs outputs = (2 ≤ inputs) × (inputs ≤ ENDS_MAX) × (outputs ≡ 1)
 HasEnds Peer inputs outputs = (inputs ≡ 2) × (outputs ≡ 1)
@@ -43,6 +44,7 @@ HasFactor kind mul = mul ≡ pos 0
 abbrev pub has_children : Kind → Bool
 has_children Source = true
 has_children Fir = true
+has_children Negate = true
 has_children Split = false
 has_children Join = false
 has_children Peer = false

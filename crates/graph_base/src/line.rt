@@ -10,6 +10,8 @@ pub enum Kind {
     Source,
     /// Waits for its input, and signals its output with a weighted sum of the last samples.
     Fir,
+    /// Waits for its input, and signals its output with the negative of each value.
+    Negate,
     /// Waits for its input, and signals its outputs in turn.
     Split,
     /// Waits for its inputs in turn, and signals its output.

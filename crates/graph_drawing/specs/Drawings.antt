@@ -5,7 +5,7 @@ use Rattle.phase_base.specs.OperationWords.{operation_word}
 use Rattle.graph_base.specs.Graphs.{Graph, name_at, phaser_at, task_at}
 use Rattle.graph_base.specs.Registrations.{signalled_by}
 use Rattle.graph_base.specs.declared.line.Kind.{Kind}
-use Rattle.graph_base.specs.declared.line.Kind.TheVariants.{Source, Fir, Split, Join, Peer, Sink}
+use Rattle.graph_base.specs.declared.line.Kind.TheVariants.{Source, Fir, Negate, Split, Join, Peer, Sink}
 use Rattle.graph_base.specs.declared.line.Parent.{Parent}
 use Rattle.graph_base.specs.declared.place.Place.TheVariants as place
 
@@ -17,6 +17,7 @@ joined parts = flat_map (λ part. part) parts
 abbrev pub kind_word : Kind → List ℕ
 kind_word Source = codes "source"
 kind_word Fir = codes "fir"
+kind_word Negate = codes "negate"
 kind_word Split = codes "split"
 kind_word Join = codes "join"
 kind_word Peer = codes "peer"

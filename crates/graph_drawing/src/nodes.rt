@@ -29,6 +29,7 @@ fn kind_word(kind: Kind) -> &'static str
     match kind {
         Kind::Source => "source",
         Kind::Fir => "fir",
+        Kind::Negate => "negate",
         Kind::Split => "split",
         Kind::Join => "join",
         Kind::Peer => "peer",

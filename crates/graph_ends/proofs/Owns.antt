@@ -7,7 +7,7 @@ use Rattle.std.proofs.lemmas.List.{length-map, get_or-map, length-append}
 use Rattle.phase_history.specs.Histories.{has_dropped}
 use Rattle.phase_history.specs.Others.{IsUsed}
 use Rattle.graph_base.specs.declared.line.Kind.{Kind}
-use Rattle.graph_base.specs.declared.line.Kind.TheVariants.{Source, Fir, Split, Join, Peer, Sink}
+use Rattle.graph_base.specs.declared.line.Kind.TheVariants.{Source, Fir, Negate, Split, Join, Peer, Sink}
 use Rattle.graph_base.specs.Graphs.{task_at}
 use Rattle.graph_base.specs.Registrations.{no_registration}
 use Rattle.graph_base.specs.TaskLines.{IsGraph, HasEnds}
@@ -70,6 +70,7 @@ has_some job t is there =
     some_end : (kind : Kind) (ins outs : ℕ) → HasEnds kind ins outs → 1 ≤ ins + outs
     some_end Source ins outs e = (let one : outs ≡ 1 = e.1 in omega arith)
     some_end Fir ins outs e = (let one : outs ≡ 1 = e.1 in omega arith)
+    some_end Negate ins outs e = (let one : outs ≡ 1 = e.1 in omega arith)
     some_end Split ins outs e = (let one : ins ≡ 1 = e.0 in omega arith)
     some_end Join ins outs e = (let one : outs ≡ 1 = e.2 in omega arith)
     some_end Peer ins outs e = (let one : outs ≡ 1 = e.1 in omega arith)

@@ -9,7 +9,7 @@ use Rattle.phase_history.proofs.OthersEvents.{IsBeginning-others}
 use Rattle.graph_base.specs.Graphs.{task_at, is_sink}
 use Rattle.graph_base.specs.TaskLines.{IsGraph}
 use Rattle.graph_base.specs.declared.line.Kind.{Kind}
-use Rattle.graph_base.specs.declared.line.Kind.TheVariants.{Source, Fir, Split, Join, Peer, Sink}
+use Rattle.graph_base.specs.declared.line.Kind.TheVariants.{Source, Fir, Negate, Split, Join, Peer, Sink}
 use Rattle.graph_base.specs.declared.line.Parent.{Parent}
 use Rattle.stream_lists.specs.Jobs.{Job}
 use Rattle.stream_lists.specs.Lists.{sinks_of, is_sink_at}
@@ -238,6 +238,7 @@ module _ (job : Job) (ends : Ends) (is : IsGraph job.graph) (r : IsRunEnd job en
 sink_is : (kind : Kind) → is_sink kind ≡ true → kind ≡ Sink
 sink_is Source e = absurd (cc)
 sink_is Fir e = absurd (cc)
+sink_is Negate e = absurd (cc)
 sink_is Split e = absurd (cc)
 sink_is Join e = absurd (cc)
 sink_is Peer e = absurd (cc)

@@ -7,7 +7,7 @@ use Rattle.graph_base.specs.Graphs.{Named}
 use Rattle.graph_base.specs.declared.line.Kind.{Kind}
 use Rattle.graph_base.specs.declared.line.Parent.{Parent}
 use Rattle.graph_text.specs.Numbers.{is_nat, nat_value}
-use Rattle.graph_text.specs.Decls.{EndWords, ByWords, BodyWords, source, fir, split, join, peer, sink, IsBody, IsBy, AreEnds}
+use Rattle.graph_text.specs.Decls.{EndWords, ByWords, BodyWords, source, fir, negate, split, join, peer, sink, IsBody, IsBy, AreEnds}
 use Rattle.graph_lang.specs.WordValues.{inputs_of, outputs_of, task_line, kind_of_body, numbers_of, parent_of, taps_of, shift_of, factor_of}
 use Rattle.graph_lang.specs.Faults.{phasers_of}
 
@@ -29,6 +29,7 @@ ends-until false ends are = are.1
 pub inputs-names : (body : BodyWords) → IsBody body → list_all is_name (inputs_of body) ≡ true
 inputs-names (source file output) is = refl
 inputs-names (fir input output shift taps) is = rw is.0 refl
+inputs-names (negate input output) is = rw is.0 refl
 inputs-names (split input outputs) is = rw is.0 refl
 inputs-names (join inputs output) is = is.0.1
 inputs-names (peer input exchange output factor) is = rw (is.0, is.1) refl
@@ -37,6 +38,7 @@ inputs-names (sink input) is = rw is refl
 pub outputs-names : (body : BodyWords) → IsBody body → list_all is_name (outputs_of body) ≡ true
 outputs-names (source file output) is = rw is.1 refl
 outputs-names (fir input output shift taps) is = rw is.1 refl
+outputs-names (negate input output) is = rw is.1 refl
 outputs-names (split input outputs) is = is.1.1
 outputs-names (join inputs output) is = rw is.1 refl
 outputs-names (peer input exchange output factor) is = rw is.2 refl

@@ -10,7 +10,7 @@ use Rattle.std.proofs.lemmas.List.Folds.{list_all-append}
 use Rattle.std.proofs.lemmas.Slice.Eq.{bytes_eq-Decides}
 use Rattle.graph_words.specs.Words.{Word}
 use Rattle.graph_text.specs.Numbers.{nat_value, int_value}
-use Rattle.graph_text.specs.Decls.{task, BodyWords, source, fir, split, join, peer, sink, ByWords, EndWords, IsBody, AreEnds, may_have_parent}
+use Rattle.graph_text.specs.Decls.{task, BodyWords, source, fir, negate, split, join, peer, sink, ByWords, EndWords, IsBody, AreEnds, may_have_parent}
 use Rattle.stream_filters.specs.declared.fir.TheConstants.{TAPS_MAX, TAP_MAX, SHIFT_MAX}
 use Rattle.graph_base.specs.Graphs.{Graph, Task, Named, IsPlace, task_at, phaser_at}
 use Rattle.graph_base.specs.Names.{place_of, phaser_number, task_number, phaser_named, task_named}
@@ -203,6 +203,7 @@ count-ends : (before : List Named) (body : BodyWords) → is_body_within body �
     (length (numbers_of before (outputs_of body)))
 count-ends names (source file output) e = (refl, refl)
 count-ends names (fir input output shift taps) e = (refl, refl)
+count-ends names (negate input output) e = (refl, refl)
 count-ends names (split input outputs) e =
     let within = both (nat_le 2 (length outputs)) (nat_le (length outputs) ENDS_MAX) e in
     let same = length-map outputs (number_in names) in (
@@ -224,6 +225,7 @@ exchange-below : (k : Kind) (inputs : List ℕ) → is_exchange_below k inputs �
     → IsExchangeBelow k inputs
 exchange-below kind.Source inputs e = tt
 exchange-below kind.Fir inputs e = tt
+exchange-below kind.Negate inputs e = tt
 exchange-below kind.Split inputs e = tt
 exchange-below kind.Join inputs e = tt
 exchange-below kind.Peer inputs e = ltb-true (get_or inputs 0 0) (get_or inputs 1 0) e
@@ -248,6 +250,7 @@ has-taps (fir input output shift taps) is e =
           (λ tap. leb-true (unsigned_abs (int_value tap)) TAP_MAX) taps counts.1);
       shift_small = leb-true (nat_value shift) SHIFT_MAX limits.0;
     }
+has-taps (negate input output) is e = (refl, refl)
 has-taps (split input outputs) is e = (refl, refl)
 has-taps (join inputs output) is e = (refl, refl)
 has-taps (peer input exchange output factor) is e = (refl, refl)
@@ -257,6 +260,7 @@ has-factor : (body : BodyWords) → is_body_within body ≡ true
     → HasFactor (kind_of_body body) (factor_of body)
 has-factor (source file output) e = refl
 has-factor (fir input output shift taps) e = refl
+has-factor (negate input output) e = refl
 has-factor (split input outputs) e = refl
 has-factor (join inputs output) e = refl
 has-factor (peer input exchange output factor) e =
@@ -273,6 +277,7 @@ has-until (Some steps) e = leb-true (nat_value steps) COUNT_MAX e
 parents-are : (body : BodyWords) → may_have_parent body ≡ has_children (kind_of_body body)
 parents-are (source file output) = refl
 parents-are (fir input output shift taps) = refl
+parents-are (negate input output) = refl
 parents-are (split input outputs) = refl
 parents-are (join inputs output) = refl
 parents-are (peer input exchange output factor) = refl

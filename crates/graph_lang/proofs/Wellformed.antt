@@ -12,7 +12,7 @@ use Rattle.phase_accum.specs.Singles.{CanBeNamed}
 use Rattle.graph_words.specs.Words.{Word, is_name, is_file}
 use Rattle.graph_text.specs.Numbers.{nat_value, int_value}
 use Rattle.phase_base.specs.declared.operation.Op.{Op}
-use Rattle.graph_text.specs.Decls.{Decl, phaser, task, FunctionWords, neg, abs, halve, clamp, BodyWords, source, fir, split, join, peer, sink, EndWords, IsBody, IsWellFormed}
+use Rattle.graph_text.specs.Decls.{Decl, phaser, task, FunctionWords, neg, abs, halve, clamp, BodyWords, source, fir, negate, split, join, peer, sink, EndWords, IsBody, IsWellFormed}
 use Rattle.graph_base.specs.Graphs.{Graph, no_graph, no_task, no_phaser, Task, IsPlace, is_same_place, task_at, sources_among, is_source}
 use Rattle.graph_base.specs.Names.{place_of}
 use Rattle.graph_lang.specs.WordValues.{phaser_line, single_of, task_line, kind_of_body, files_in}
@@ -224,6 +224,7 @@ files-more : (body : BodyWords)
     → length (files_in body) ≡ cond (is_source (kind_of_body body)) 1 0
 files-more (source file output) = refl
 files-more (fir input output shift taps) = refl
+files-more (negate input output) = refl
 files-more (split input outputs) = refl
 files-more (join inputs output) = refl
 files-more (peer input exchange output factor) = refl
@@ -234,6 +235,7 @@ files-are : (body : BodyWords) → IsBody body → All (λ file. is_file file �
 files-are (source file output) is =
     All-cons (λ file. is_file file ≡ true) file [] is.0 (All-nil (λ file. is_file file ≡ true))
 files-are (fir input output shift taps) is = All-nil (λ file. is_file file ≡ true)
+files-are (negate input output) is = All-nil (λ file. is_file file ≡ true)
 files-are (split input outputs) is = All-nil (λ file. is_file file ≡ true)
 files-are (join inputs output) is = All-nil (λ file. is_file file ≡ true)
 files-are (peer input exchange output factor) is = All-nil (λ file. is_file file ≡ true)

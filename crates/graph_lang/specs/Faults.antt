@@ -9,7 +9,7 @@ use Rattle.phase_accum.specs.Sends.{value_max}
 use Rattle.graph_words.specs.Words.{Word}
 use Rattle.graph_text.specs.Numbers.{nat_value, int_value}
 use Rattle.graph_text.specs.Decls.{Decl, phaser, task, FunctionWords, neg, abs, halve, clamp, ByWords, EndWords}
-use Rattle.graph_text.specs.Decls.{BodyWords, source, fir, split, join, peer, sink}
+use Rattle.graph_text.specs.Decls.{BodyWords, source, fir, negate, split, join, peer, sink}
 use Rattle.graph_base.specs.Graphs.{Graph, Task, Named, task_at, phaser_at}
 use Rattle.graph_base.specs.Names.{place_of, phaser_named, task_named}
 use Rattle.graph_lang.specs.WordValues.{inputs_of, outputs_of, task_line}
@@ -55,6 +55,7 @@ is_body_within (source file output) = true
 is_body_within (fir input output shift taps) =
     nat_le (nat_value shift) SHIFT_MAX && nat_le (length taps) TAPS_MAX
     && list_all is_tap_within taps
+is_body_within (negate input output) = true
 is_body_within (split input outputs) = is_number_of_ends (length outputs)
 is_body_within (join inputs output) = is_number_of_ends (length inputs)
 is_body_within (peer input exchange output factor) =

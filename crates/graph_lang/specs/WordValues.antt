@@ -5,7 +5,7 @@ use Rattle.phase_accum.specs.declared.single.Single.TheVariants.{Neg, Abs, Halve
 use Rattle.graph_words.specs.Words.{Word}
 use Rattle.graph_text.specs.Numbers.{nat_value, int_value}
 use Rattle.graph_text.specs.Decls.{FunctionWords, neg, abs, halve, clamp, ByWords, EndWords}
-use Rattle.graph_text.specs.Decls.{BodyWords, source, fir, split, join, peer, sink}
+use Rattle.graph_text.specs.Decls.{BodyWords, source, fir, negate, split, join, peer, sink}
 use Rattle.graph_base.specs.Graphs.{Task, Named}
 use Rattle.graph_base.specs.Names.{phaser_named, task_named}
 use Rattle.phase_base.specs.declared.operation.Op.{Op}
@@ -42,6 +42,7 @@ phaser_line operation bound single = record {
 abbrev pub kind_of_body : BodyWords → Kind
 kind_of_body (source file output) = kind.Source
 kind_of_body (fir input output shift taps) = kind.Fir
+kind_of_body (negate input output) = kind.Negate
 kind_of_body (split input outputs) = kind.Split
 kind_of_body (join inputs output) = kind.Join
 kind_of_body (peer input exchange output factor) = kind.Peer
@@ -51,6 +52,7 @@ kind_of_body (sink input) = kind.Sink
 abbrev pub inputs_of : BodyWords → List Word
 inputs_of (source file output) = []
 inputs_of (fir input output shift taps) = input ∷ []
+inputs_of (negate input output) = input ∷ []
 inputs_of (split input outputs) = input ∷ []
 inputs_of (join inputs output) = inputs
 inputs_of (peer input exchange output factor) = input ∷ exchange ∷ []
@@ -60,6 +62,7 @@ inputs_of (sink input) = input ∷ []
 abbrev pub outputs_of : BodyWords → List Word
 outputs_of (source file output) = output ∷ []
 outputs_of (fir input output shift taps) = output ∷ []
+outputs_of (negate input output) = output ∷ []
 outputs_of (split input outputs) = outputs
 outputs_of (join inputs output) = output ∷ []
 outputs_of (peer input exchange output factor) = output ∷ []

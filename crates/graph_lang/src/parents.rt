@@ -46,7 +46,7 @@ pub(crate) fn parent_of(
 fn has_children(kind: Kind) -> bool
     ensures { result ≡ has_children kind }
 {
-    matches!(kind, Kind::Source | Kind::Fir | Kind::Sink)
+    matches!(kind, Kind::Source | Kind::Fir | Kind::Negate | Kind::Sink)
 }
 
 /// Whether each output of a task stands below each of its inputs; of a peer also E below X.

@@ -1,7 +1,7 @@
 -- The phasers on a task's line are phasers of the graph.
 use Rattle.std.proofs.Common.{◌≡◌, ℕ, zero, suc, ◌<◌, List, [], ◌∷◌, Some, length, get_or, refl, sym, ap, subst, arith, inl, inr}
 use Rattle.graph_base.specs.declared.line.Kind.{Kind}
-use Rattle.graph_base.specs.declared.line.Kind.TheVariants.{Source, Fir, Split, Join, Peer, Sink}
+use Rattle.graph_base.specs.declared.line.Kind.TheVariants.{Source, Fir, Negate, Split, Join, Peer, Sink}
 use Rattle.graph_base.specs.Graphs.{task_at}
 use Rattle.graph_base.specs.TaskLines.{IsGraph, HasEnds}
 use Rattle.stream_lists.specs.Jobs.{Job, place_in}
@@ -38,6 +38,7 @@ signalled_within job t p j is there place =
         → get_or (signalled_by (task_at job.graph t)) j 0 < length job.graph.phasers
     by Source e lt = plain (rw e refl) lt
     by Fir e lt = plain (rw e refl) lt
+    by Negate e lt = plain (rw e refl) lt
     by Split e lt = plain (rw e refl) lt
     by Join e lt = plain (rw e refl) lt
     by Sink e lt = plain (rw e refl) lt

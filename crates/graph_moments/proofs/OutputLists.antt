@@ -1,14 +1,16 @@
 -- The output lists: over less that was taken they begin what they are over more.
 use Rattle.std.proofs.Common.{◌≡◌, ℕ, zero, suc, ◌+◌, ◌*◌, ◌/◌, ◌%◌, ◌<◌, ◌≤◌, true, false, List, [], ℤ, pos, length, map, get_or, take, refl, sym, ap, subst, ◌∙◌, arith}
-use Rattle.std.specs.Prelude.{nat_lt, ◌*ℤ◌, ◌-ℤ◌}
+use Rattle.std.specs.Prelude.{nat_lt, neg_ℤ, ◌*ℤ◌, ◌-ℤ◌}
 use Rattle.std.specs.List.{range_with_len}
 use mathlib.Core.List.{IsPrefix}
+use Rattle.std.proofs.lemmas.List.{map-append}
 use Rattle.std.proofs.lemmas.List.FromFn.{length-map-range_with_len, get_or-map-range_with_len}
 use Rattle.std.proofs.lemmas.Bool.{le-leb}
 use Rattle.std.proofs.lemmas.Nat.{mod_below}
 use Rattle.stream_filters.specs.Filter.{outputs, output_at, output_after}
+use Rattle.stream_filters.specs.Negative.{negatives}
 use Rattle.graph_base.specs.declared.line.Kind.{Kind}
-use Rattle.graph_base.specs.declared.line.Kind.TheVariants.{Source, Fir, Split, Join, Peer, Sink}
+use Rattle.graph_base.specs.declared.line.Kind.TheVariants.{Source, Fir, Negate, Split, Join, Peer, Sink}
 use Rattle.graph_base.specs.Graphs.{Task}
 use Rattle.graph_base.specs.TaskLines.{HasEnds, has_children}
 use Rattle.stream_lists.specs.Spans.{turns_below, takes_from, puts_on, signalled_by, LooksAt}
@@ -45,6 +47,10 @@ fir_begins taps shift xs ys a =
     ranges_begin (output_at taps shift xs) (output_at taps shift ys) (length xs) (length ys)
     (prefix_length xs ys a)
     (λ i lt. ap (λ l. output_after taps shift l) (take_of_prefix (suc i) xs ys a (omega arith)))
+
+negatives_begin : (xs ys : List ℤ) → IsPrefix xs ys → IsPrefix (negatives xs) (negatives ys)
+negatives_begin xs ys a =
+    (map neg_ℤ a.0, sym (map-append neg_ℤ xs a.0) ∙ ap (λ l. map neg_ℤ l) a.1)
 
 every_begins : (m j : ℕ) (xs ys : List ℤ) → j < m → IsPrefix xs ys
     → IsPrefix (every m j xs) (every m j ys)
@@ -124,6 +130,10 @@ outputs_begin samples task now all b steps j put ends lt le long_now long_all ea
         (outputs task.taps task.shift (get_or all 0 [])) (rw e refl) (rw e refl)
         (fir_begins task.taps task.shift (get_or now 0 []) (get_or all 0 [])
         (one (λ s. (let no : Fir ≡ Source = sym e ∙ s in cc)) (rw e tt)))
+    by Negate i e at =
+        after (negatives (get_or now 0 [])) (negatives (get_or all 0 [])) (rw e refl) (rw e refl)
+        (negatives_begin (get_or now 0 []) (get_or all 0 [])
+        (one (λ s. (let no : Negate ≡ Source = sym e ∙ s in cc)) (rw e tt)))
     by Split i e at =
         let S : Kind → Type 0 = λ kind. j < length (signalled_by (record task { kind = kind })) in
         let few : j < length task.outputs = subst S e lt in
@@ -187,6 +197,7 @@ puts-few task b j ends plain = by task.kind refl
     by : (kind : Kind) → task.kind ≡ kind → puts_on task b j ≡ b
     by Source e = rw e refl
     by Fir e = rw e refl
+    by Negate e = rw e refl
     by Sink e = rw e refl
     by Join e = rw e refl
     by Peer e = rw e refl

@@ -6,7 +6,7 @@ use Rattle.std.proofs.lemmas.List.FromFn.{length-map-range_with_len}
 use Rattle.phase_history.specs.Histories.{done_of, HasNoSignaller}
 use Rattle.phase_history.specs.Phases.{stream_of, value_of_phase}
 use Rattle.graph_base.specs.declared.line.Kind.{Kind}
-use Rattle.graph_base.specs.declared.line.Kind.TheVariants.{Source, Fir, Split, Join, Peer, Sink}
+use Rattle.graph_base.specs.declared.line.Kind.TheVariants.{Source, Fir, Negate, Split, Join, Peer, Sink}
 use Rattle.graph_base.specs.declared.line.Parent.{Parent}
 use Rattle.graph_base.specs.Graphs.{Task, task_at, is_sink}
 use Rattle.graph_base.specs.TaskLines.{IsParent, HasEnds}
@@ -238,6 +238,7 @@ map-filtered f g test a (suc n) same =
 sink_is : (kind : Kind) → is_sink kind ≡ true → kind ≡ Sink
 sink_is Source e = absurd (cc)
 sink_is Fir e = absurd (cc)
+sink_is Negate e = absurd (cc)
 sink_is Split e = absurd (cc)
 sink_is Join e = absurd (cc)
 sink_is Peer e = absurd (cc)

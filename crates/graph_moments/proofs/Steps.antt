@@ -5,7 +5,7 @@ use Rattle.std.proofs.lemmas.List.FromFn.{length-map-range_with_len, get_or-map-
 use Rattle.std.proofs.lemmas.Nat.{mod_below}
 use Rattle.std.proofs.lemmas.Option.{same_Some}
 use Rattle.graph_base.specs.declared.line.Kind.{Kind}
-use Rattle.graph_base.specs.declared.line.Kind.TheVariants.{Source, Fir, Split, Join, Peer, Sink}
+use Rattle.graph_base.specs.declared.line.Kind.TheVariants.{Source, Fir, Negate, Split, Join, Peer, Sink}
 use Rattle.graph_base.specs.Graphs.{Task}
 use Rattle.graph_base.specs.TaskLines.{HasEnds}
 use Rattle.stream_lists.specs.Spans.{turns_below, takes_from, run_out, first_run_out, enough_for, cut_at, LooksAt}
@@ -96,6 +96,7 @@ pub has_inputs : (kind : Kind) (inputs outputs : ℕ) → HasEnds kind inputs ou
     → (kind ≡ Source → ⊥) → 0 < inputs
 has_inputs Source inputs outputs ends not = absurd (not refl)
 has_inputs Fir inputs outputs ends not = omega (arith, ends.0)
+has_inputs Negate inputs outputs ends not = omega (arith, ends.0)
 has_inputs Split inputs outputs ends not = omega (arith, ends.0)
 has_inputs Join inputs outputs ends not = omega (arith, ends.0)
 has_inputs Peer inputs outputs ends not = omega (arith, ends.0)
@@ -130,6 +131,8 @@ enough-above task samples values b ends long has each = by task.kind refl
         omega arith
     by Fir e =
         first (λ s. (let no : Fir ≡ Source = sym e ∙ s in cc)) (rw e tt) (rw e refl) (rw e refl)
+    by Negate e =
+        first (λ s. (let no : Negate ≡ Source = sym e ∙ s in cc)) (rw e tt) (rw e refl) (rw e refl)
     by Split e =
         first (λ s. (let no : Split ≡ Source = sym e ∙ s in cc)) (rw e tt) (rw e refl) (rw e refl)
     by Peer e =
@@ -170,6 +173,7 @@ enough-below task samples values b ends long not le = by task.kind refl
     by : (kind : Kind) → task.kind ≡ kind → enough_for task samples values ≤ b
     by Source e = absurd (not e)
     by Fir e = first (rw e refl) (rw e refl) (rw e refl)
+    by Negate e = first (rw e refl) (rw e refl) (rw e refl)
     by Split e = first (rw e refl) (rw e refl) (rw e refl)
     by Peer e = first (rw e refl) (rw e refl) (rw e refl)
     by Sink e = first (rw e refl) (rw e refl) (rw e refl)
@@ -198,6 +202,7 @@ takes-mono task a b k lt le = by task.kind refl
     by : (kind : Kind) → task.kind ≡ kind → takes_from task a k ≤ takes_from task b k
     by Source e = rw e le
     by Fir e = rw e le
+    by Negate e = rw e le
     by Split e = rw e le
     by Peer e = rw e le
     by Sink e = rw e le
@@ -215,6 +220,9 @@ taken_count task b k n ends lt looks has = by task.kind k refl refl
     by Fir i e at =
         let P : Kind → Type 0 = λ kind. HasTaken (record task { kind = kind }) b k n in
         (let r : n ≡ takes_from (record task { kind = Fir }) b k = subst P e has in r ∙ rw e refl)
+    by Negate i e at =
+        let P : Kind → Type 0 = λ kind. HasTaken (record task { kind = kind }) b k n in
+        (let r : n ≡ takes_from (record task { kind = Negate }) b k = subst P e has in r ∙ rw e refl)
     by Split i e at =
         let P : Kind → Type 0 = λ kind. HasTaken (record task { kind = kind }) b k n in
         (let r : n ≡ takes_from (record task { kind = Split }) b k = subst P e has in r ∙ rw e refl)
@@ -247,6 +255,7 @@ taken_most task b k n ends lt has = by task.kind k refl refl
     by : (kind : Kind) (i : ℕ) → task.kind ≡ kind → k ≡ i → n ≤ takes_from task b k
     by Source i e at = exact (rw e tt)
     by Fir i e at = exact (rw e tt)
+    by Negate i e at = exact (rw e tt)
     by Split i e at = exact (rw e tt)
     by Join i e at = exact (rw e tt)
     by Sink i e at = exact (rw e tt)

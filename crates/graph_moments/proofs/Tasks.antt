@@ -13,7 +13,7 @@ use Rattle.phase_history.specs.Laws.{HasReceivedFrom}
 use Rattle.phase_history.proofs.Left.{received_law}
 use Rattle.phase_history.proofs.Streams.{prefix_of_values}
 use Rattle.graph_base.specs.declared.line.Kind.{Kind}
-use Rattle.graph_base.specs.declared.line.Kind.TheVariants.{Source, Fir, Split, Join, Peer, Sink}
+use Rattle.graph_base.specs.declared.line.Kind.TheVariants.{Source, Fir, Negate, Split, Join, Peer, Sink}
 use Rattle.graph_base.specs.declared.line.Parent.{Parent}
 use Rattle.graph_base.specs.Graphs.{Task, task_at}
 use Rattle.graph_base.specs.TaskLines.{IsGraph, IsTaskLine, HasEnds}
@@ -148,6 +148,7 @@ first_looks task b ends not = by task.kind refl
         → (first_input task b < length task.inputs) × LooksAt task.kind 0 (first_input task b)
     by Source e = absurd (not e)
     by Fir e = rw e (some, tt)
+    by Negate e = rw e (some, tt)
     by Split e = rw e (some, tt)
     by Join e = rw e (mod_below b (length task.inputs) some, tt)
     by Peer e = rw e (some, refl)
@@ -261,6 +262,7 @@ pub exchanged_as : (kind : Kind) (j put a b : ℕ) → (kind ≡ Peer → a ≡ 
     → HasExchanged kind j put b
 exchanged_as Source j put a b same x = tt
 exchanged_as Fir j put a b same x = tt
+exchanged_as Negate j put a b same x = tt
 exchanged_as Split j put a b same x = tt
 exchanged_as Join j put a b same x = tt
 exchanged_as Sink j put a b same x = tt

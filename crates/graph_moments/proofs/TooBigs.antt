@@ -19,7 +19,7 @@ use Rattle.phase_history.specs.Legal.{AreLists}
 use Rattle.phase_history.proofs.Left.{received_law}
 use Rattle.phase_history.proofs.Sendable.{sent_are_lists}
 use Rattle.graph_base.specs.declared.line.Kind.{Kind}
-use Rattle.graph_base.specs.declared.line.Kind.TheVariants.{Source, Fir, Split, Join, Peer, Sink}
+use Rattle.graph_base.specs.declared.line.Kind.TheVariants.{Source, Fir, Negate, Split, Join, Peer, Sink}
 use Rattle.graph_base.specs.Graphs.{task_at, phaser_at}
 use Rattle.graph_base.specs.TaskLines.{IsGraph, IsTaskLine, HasEnds}
 use Rattle.stream_lists.specs.Jobs.{Job, samples_at, place_in}
@@ -173,6 +173,7 @@ taken_all job m t k ready ran over there lt registered =
         → takes_from (task_at job.graph t) (m.begun t) k ≤ length (m.taken t k)
     by e Source i is at = exact (rw is tt)
     by e Fir i is at = exact (rw is tt)
+    by e Negate i is at = exact (rw is tt)
     by e Split i is at = exact (rw is tt)
     by e Join i is at = exact (rw is tt)
     by e Sink i is at = exact (rw is tt)

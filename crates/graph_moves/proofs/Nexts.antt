@@ -3,7 +3,7 @@ use Rattle.std.proofs.Common.{◌≡◌, ℕ, zero, suc, ◌+◌, ◌-◌, ◌*�
 use Rattle.std.proofs.lemmas.Bool.{cases_lt}
 use Rattle.std.proofs.lemmas.Nat.{mod_below, div-add-mod', div-mul-add}
 use Rattle.graph_base.specs.declared.line.Kind.{Kind}
-use Rattle.graph_base.specs.declared.line.Kind.TheVariants.{Source, Fir, Split, Join, Peer, Sink}
+use Rattle.graph_base.specs.declared.line.Kind.TheVariants.{Source, Fir, Negate, Split, Join, Peer, Sink}
 use Rattle.graph_base.specs.Graphs.{Task}
 use Rattle.graph_base.specs.TaskLines.{HasEnds}
 use Rattle.stream_lists.specs.Spans.{turns_below, takes_from}
@@ -72,6 +72,8 @@ has_taken-next task b k n ends lt first count = by task.kind refl
     by Source e = has_taken_source task (suc b) k (suc n) e
     by Fir e =
         let c : takes_from task b k ≡ b = rw e refl in let r : suc n ≡ suc b = omega arith in rw e r
+    by Negate e =
+        let c : takes_from task b k ≡ b = rw e refl in let r : suc n ≡ suc b = omega arith in rw e r
     by Split e =
         let c : takes_from task b k ≡ b = rw e refl in let r : suc n ≡ suc b = omega arith in rw e r
     by Sink e =
@@ -102,6 +104,10 @@ has_taken-stay task b k n ends lt not count = by task.kind k refl refl
     by : (kind : Kind) (i : ℕ) → task.kind ≡ kind → k ≡ i → HasTaken task (suc b) k n
     by Source i e at = has_taken_source task (suc b) k n e
     by Fir i e at =
+        (let H : Kind → Type 0 = λ kind. HasEnds kind (length task.inputs) (length task.outputs) in
+        let both : (length task.inputs ≡ 1) × (length task.outputs ≡ 1) = subst H e ends in
+        absurd (one_input both.0 (rw e refl)))
+    by Negate i e at =
         (let H : Kind → Type 0 = λ kind. HasEnds kind (length task.inputs) (length task.outputs) in
         let both : (length task.inputs ≡ 1) × (length task.outputs ≡ 1) = subst H e ends in
         absurd (one_input both.0 (rw e refl)))

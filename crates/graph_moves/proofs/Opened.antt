@@ -20,7 +20,7 @@ use Rattle.phase_history.proofs.Refused.{Registers as MayRegister, registers_fro
 use Rattle.phase_history.proofs.Steps.{member_entry_is}
 use Rattle.phase_history.proofs.Used.{start_from}
 use Rattle.graph_base.specs.declared.line.Kind.{Kind}
-use Rattle.graph_base.specs.declared.line.Kind.TheVariants.{Source, Fir, Split, Join, Peer, Sink}
+use Rattle.graph_base.specs.declared.line.Kind.TheVariants.{Source, Fir, Negate, Split, Join, Peer, Sink}
 use Rattle.graph_base.specs.declared.line.Parent.{Parent}
 use Rattle.graph_base.specs.Graphs.{Task, task_at, phaser_at}
 use Rattle.graph_base.specs.TaskLines.{IsGraph}
@@ -170,6 +170,7 @@ taken_none task k lt = by task.kind k refl refl
     by : (kind : Kind) (i : ℕ) → task.kind ≡ kind → k ≡ i → HasTaken task 0 k 0
     by Source i e at = rw e tt
     by Fir i e at = rw e refl
+    by Negate i e at = rw e refl
     by Split i e at = rw e refl
     by Sink i e at = rw e refl
     by Join i e at =
@@ -190,6 +191,7 @@ taken_none task k lt = by task.kind k refl refl
 samples_none : (kind : Kind) (n : ℕ) → HasSamples kind 0 n
 samples_none Source n = omega arith
 samples_none Fir n = tt
+samples_none Negate n = tt
 samples_none Split n = tt
 samples_none Join n = tt
 samples_none Peer n = tt
@@ -198,6 +200,7 @@ samples_none Sink n = tt
 exchanged_none : (kind : Kind) (j n : ℕ) → HasExchanged kind j 0 n
 exchanged_none Source j n = tt
 exchanged_none Fir j n = tt
+exchanged_none Negate j n = tt
 exchanged_none Split j n = tt
 exchanged_none Join j n = tt
 exchanged_none Sink j n = tt

@@ -11,7 +11,7 @@ use Rattle.phase_history.specs.Histories.{has_dropped, start_of}
 use Rattle.phase_history.specs.Phases.{received_by}
 use Rattle.phase_history.specs.Sent.{sent_by, IsSilent}
 use Rattle.graph_base.specs.declared.line.Kind.{Kind}
-use Rattle.graph_base.specs.declared.line.Kind.TheVariants.{Source, Fir, Split, Join, Peer, Sink}
+use Rattle.graph_base.specs.declared.line.Kind.TheVariants.{Source, Fir, Negate, Split, Join, Peer, Sink}
 use Rattle.graph_base.specs.declared.line.Parent.{Parent}
 use Rattle.graph_base.specs.Graphs.{task_at}
 use Rattle.graph_base.specs.TaskLines.{IsGraph, IsTaskLine, HasEnds}
@@ -33,6 +33,7 @@ exchanged_more : (kind : Kind) (j put a b : ℕ) → a ≤ b → HasExchanged ki
     → HasExchanged kind j put b
 exchanged_more Source j put a b le x = tt
 exchanged_more Fir j put a b le x = tt
+exchanged_more Negate j put a b le x = tt
 exchanged_more Split j put a b le x = tt
 exchanged_more Join j put a b le x = tt
 exchanged_more Sink j put a b le x = tt

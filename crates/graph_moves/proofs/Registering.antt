@@ -20,7 +20,7 @@ use Rattle.phase_history.proofs.Refused.{Registers as MayRegister, registers_fro
 use Rattle.phase_history.proofs.Sendings.{length-sent_by}
 use Rattle.phase_history.proofs.Steps.{member_entry_is}
 use Rattle.graph_base.specs.declared.line.Kind.{Kind}
-use Rattle.graph_base.specs.declared.line.Kind.TheVariants.{Source, Fir, Split, Join, Peer, Sink}
+use Rattle.graph_base.specs.declared.line.Kind.TheVariants.{Source, Fir, Negate, Split, Join, Peer, Sink}
 use Rattle.graph_base.specs.declared.line.Parent.{Parent}
 use Rattle.graph_base.specs.Graphs.{task_at}
 use Rattle.graph_base.specs.TaskLines.{IsGraph, IsTaskLine, has_children, is_distinct}
@@ -93,6 +93,7 @@ read_not_signalled job t k j line plain lt place =
         → get_or (signalled_by (task_at job.graph t)) j 0 ≡ input_at (task_at job.graph t) k → ⊥
     by Source e = outs (rw e refl)
     by Fir e = outs (rw e refl)
+    by Negate e = outs (rw e refl)
     by Sink e = outs (rw e refl)
     by Split e = outs (rw e refl)
     by Join e = outs (rw e refl)

@@ -8,7 +8,7 @@ use Rattle.stream_filters.specs.Range.{ranged}
 use Rattle.stream_filters.specs.declared.fault.TooBigValue.{TooBigValue}
 use Rattle.phase_history.specs.Histories.{has_dropped}
 use Rattle.graph_base.specs.declared.line.Kind.{Kind}
-use Rattle.graph_base.specs.declared.line.Kind.TheVariants.{Source, Fir, Split, Join, Peer, Sink}
+use Rattle.graph_base.specs.declared.line.Kind.TheVariants.{Source, Fir, Negate, Split, Join, Peer, Sink}
 use Rattle.graph_base.specs.Graphs.{task_at}
 use Rattle.graph_base.specs.Registrations.{no_registration}
 use Rattle.graph_base.specs.TaskLines.{IsGraph}
@@ -212,6 +212,7 @@ next_sample_at job m t at is there part stands none owed_is source less uncut ch
 no_samples : (kind : Kind) (b n : ℕ) → (kind ≡ Source → ⊥) → HasSamples kind b n
 no_samples Source b n never = absurd (never refl)
 no_samples Fir b n never = tt
+no_samples Negate b n never = tt
 no_samples Split b n never = tt
 no_samples Join b n never = tt
 no_samples Peer b n never = tt

@@ -8,7 +8,7 @@ use crate::filters::filtered;
 use crate::lines::{kind_of, output_in_turn};
 use crate::owed::Owed;
 use graph_base::Kind;
-use stream_filters::{Fir, Peer};
+use stream_filters::{Fir, Negate, Peer};
 use stream_lists::Job;
 
 /// Tells what task number `t` owes after the first wait of a step, which got `x`. It began `begun`
@@ -25,6 +25,10 @@ pub fn owed_after_wait(job: &Job, t: usize, begun: u64, filter: &mut Option<Fir>
         Kind::Fir => Owed::Value {
             output: 0,
             value: filtered(job, t, filter, x),
+        },
+        Kind::Negate => Owed::Value {
+            output: 0,
+            value: Negate::answer(x),
         },
         Kind::Split => Owed::Value {
             output: output_in_turn(job, t, begun),

@@ -9,9 +9,9 @@ use Rattle.phase_base.specs.OperationWords.{operation_word}
 use Rattle.phase_base.specs.declared.operation.Op.{Op}
 use Rattle.phase_base.specs.declared.operation.Op.TheVariants.{Sum, Product, Least, Greatest, Any}
 use Rattle.graph_text.specs.Numbers.{is_nat, is_int}
-use Rattle.graph_text.specs.Decls.{Decl, phaser, task, FunctionWords, neg, abs, halve, clamp, ByWords, EndWords, BodyWords, source, fir, split, join, peer, sink}
+use Rattle.graph_text.specs.Decls.{Decl, phaser, task, FunctionWords, neg, abs, halve, clamp, ByWords, EndWords, BodyWords, source, fir, negate, split, join, peer, sink}
 use Rattle.graph_text.specs.Decls.{spelling, function_words, single_words, by_words, until_words, end_words, kind_word, body_words, IsFunction, IsBody, AreEnds, AreSome, IsWellFormed, may_have_parent, Spells}
-use Rattle.graph_text.specs.Reading.{word_at, after, begins, front, rest, some_at, operation_at, clamp_at, function_named, function_at, single_at, by_at, until_at, ends_at, source_at, fir_at, split_at, join_at, peer_at, sink_at, body_at, phaser_at, task_at, line_at}
+use Rattle.graph_text.specs.Reading.{word_at, after, begins, front, rest, some_at, operation_at, clamp_at, function_named, function_at, single_at, by_at, until_at, ends_at, source_at, fir_at, negate_at, split_at, join_at, peer_at, sink_at, body_at, phaser_at, task_at, line_at}
 
 -- ---- words
 
@@ -117,10 +117,11 @@ ends_stop test no_by no_until (Some by) until = no_by
 
 body_again : (body : BodyWords) (ws : List Word) → IsBody body → Stops is_int ws → Stops is_name ws
     → body_at (kind_word body) (body_words body ++ ws) ≡ Some (body, ws)
-unfolding body_at source_at fir_at split_at join_at peer_at sink_at after word_at
+unfolding body_at source_at fir_at negate_at split_at join_at peer_at sink_at after word_at
 body_again (source file output) ws is ints names = rw (is.0, is.1) refl
 body_again (fir input output shift taps) ws is ints names =
     rw (is.0, is.1, is.2, some_again is_int taps ws is.3 ints) refl
+body_again (negate input output) ws is ints names = rw (is.0, is.1) refl
 body_again (split input outputs) ws is ints names =
     rw (is.0, some_again is_name outputs ws is.1 names) refl
 body_again (join inputs output) ws is ints names =
@@ -136,6 +137,7 @@ body_again (sink input) ws is ints names = rw is refl
 is_no_phaser : (body : BodyWords) → bytes_eq (kind_word body) (codes "phaser") ≡ false
 is_no_phaser (source file output) = refl
 is_no_phaser (fir input output shift taps) = refl
+is_no_phaser (negate input output) = refl
 is_no_phaser (split input outputs) = refl
 is_no_phaser (join inputs output) = refl
 is_no_phaser (peer input exchange output factor) = refl

@@ -13,7 +13,7 @@ use Rattle.phase_base.proofs.OperationWords.{operation-read}
 use Rattle.graph_text.specs.Numbers.{is_nat, is_int}
 use Rattle.graph_text.specs.Decls.{Decl, phaser, task, FunctionWords, neg, abs, halve, ByWords, EndWords, BodyWords}
 use Rattle.graph_text.specs.Decls.{function_words, single_words, by_words, until_words, end_words, kind_word, body_words, IsFunction, IsBody, IsBy, AreEnds, AreSome, may_have_parent, Spells}
-use Rattle.graph_text.specs.Reading.{Found, ◌>>=◌, word_at, after, begins, front, rest, some_at, operation_at, clamp_at, function_named, function_at, single_at, by_at, until_at, ends_at, source_at, fir_at, split_at, join_at, peer_at, sink_at, body_at, phaser_at, task_at, line_at}
+use Rattle.graph_text.specs.Reading.{Found, ◌>>=◌, word_at, after, begins, front, rest, some_at, operation_at, clamp_at, function_named, function_at, single_at, by_at, until_at, ends_at, source_at, fir_at, negate_at, split_at, join_at, peer_at, sink_at, body_at, phaser_at, task_at, line_at}
 
 -- ---- words
 
@@ -289,6 +289,22 @@ fir_takes ws x e =
           (followed (codes "taps") tapped taps.1))))),
     )
 
+negate_takes : (ws : List Word) (x : Found BodyWords) → negate_at ws ≡ Some x
+    → TakesBody (codes "negate") ws (Some x)
+unfolding negate_at TakesBody
+negate_takes ws x e =
+    let i = steps _ (word_at is_name ws) x e in
+    let s = steps _ (after (codes "->") i.0.1) x i.2 in
+    let o = steps _ (word_at is_name s.0) x s.2 in
+    let input = word_takes is_name ws i.0 i.1 in
+    let sent = after_takes (codes "->") i.0.1 s.0 s.1 in
+    let output = word_takes is_name s.0 o.0 o.1 in
+    subst (TakesBody (codes "negate") ws) o.2 (
+      (input.0, output.0),
+      refl,
+      followed i.0.0 input.1 (followed (codes "->") sent output.1),
+    )
+
 split_takes : (ws : List Word) (x : Found BodyWords) → split_at ws ≡ Some x
     → TakesBody (codes "split") ws (Some x)
 unfolding split_at TakesBody
@@ -375,10 +391,11 @@ unfolding body_at
 body_takes kind ws x e =
     by_kind kind (codes "source") ws x _ _ (source_takes ws x)
     (by_kind kind (codes "fir") ws x _ _ (fir_takes ws x)
+    (by_kind kind (codes "negate") ws x _ _ (negate_takes ws x)
     (by_kind kind (codes "split") ws x _ _ (split_takes ws x)
     (by_kind kind (codes "join") ws x _ _ (join_takes ws x)
     (by_kind kind (codes "peer") ws x _ _ (peer_takes ws x)
-    (by_kind kind (codes "sink") ws x _ _ (sink_takes ws x) (λ none. absurd (cc))))))) e
+    (by_kind kind (codes "sink") ws x _ _ (sink_takes ws x) (λ none. absurd (cc)))))))) e
 
 -- ---- a line
 

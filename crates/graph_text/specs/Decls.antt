@@ -31,6 +31,7 @@ pub record EndWords : Type 0 where
 pub data BodyWords : Type 0 where
   source : (file output : Word) → BodyWords
   fir : (input output shift : Word) (taps : List Word) → BodyWords
+  negate : (input output : Word) → BodyWords
   split : (input : Word) (outputs : List Word) → BodyWords
   join : (inputs : List Word) (output : Word) → BodyWords
   peer : (input exchange output factor : Word) → BodyWords
@@ -73,6 +74,7 @@ end_words ends = by_words ends.by ++ until_words ends.until
 abbrev pub kind_word : BodyWords → Word
 kind_word (source file output) = codes "source"
 kind_word (fir input output shift taps) = codes "fir"
+kind_word (negate input output) = codes "negate"
 kind_word (split input outputs) = codes "split"
 kind_word (join inputs output) = codes "join"
 kind_word (peer input exchange output factor) = codes "peer"
@@ -83,6 +85,7 @@ abbrev pub body_words : BodyWords → List Word
 body_words (source file output) = file ∷ codes "->" ∷ output ∷ []
 body_words (fir input output shift taps) =
     input ∷ codes "->" ∷ output ∷ codes "shift" ∷ shift ∷ codes "taps" ∷ taps
+body_words (negate input output) = input ∷ codes "->" ∷ output ∷ []
 body_words (split input outputs) = input ∷ codes "->" ∷ outputs
 body_words (join inputs output) = inputs ++ codes "->" ∷ output ∷ []
 body_words (peer input exchange output factor) =
@@ -108,6 +111,7 @@ IsFunction (clamp low high) = IsTrue (is_int low) × IsTrue (is_int high)
 abbrev pub may_have_parent : BodyWords → Bool
 may_have_parent (source file output) = true
 may_have_parent (fir input output shift taps) = true
+may_have_parent (negate input output) = true
 may_have_parent (split input outputs) = false
 may_have_parent (join inputs output) = false
 may_have_parent (peer input exchange output factor) = false
@@ -122,6 +126,7 @@ abbrev pub IsBody : BodyWords → Type 0
 IsBody (source file output) = IsTrue (is_file file) × IsTrue (is_name output)
 IsBody (fir input output shift taps) = IsTrue (is_name input) × IsTrue (is_name output)
     × IsTrue (is_nat shift) × AreSome is_int taps
+IsBody (negate input output) = IsTrue (is_name input) × IsTrue (is_name output)
 IsBody (split input outputs) = IsTrue (is_name input) × AreSome is_name outputs
 IsBody (join inputs output) = AreSome is_name inputs × IsTrue (is_name output)
 IsBody (peer input exchange output factor) = IsTrue (is_name input) × IsTrue (is_name exchange)

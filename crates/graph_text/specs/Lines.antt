@@ -5,7 +5,7 @@ use Rattle.graph_words.specs.Words.{Word}
 use Rattle.graph_text.specs.Plain.{plain as words_in}
 use Rattle.phase_base.specs.declared.operation.Op.{Op}
 use Rattle.graph_text.specs.Decls.{Decl, phaser, task, FunctionWords, neg, abs, halve, clamp, ByWords, EndWords}
-use Rattle.graph_text.specs.Decls.{BodyWords, source, fir, split, join, peer, sink}
+use Rattle.graph_text.specs.Decls.{BodyWords, source, fir, negate, split, join, peer, sink}
 use Rattle.graph_text.specs.Reading.{Found}
 use Rattle.graph_text.specs.declared.line.By.{By}
 use Rattle.graph_text.specs.declared.line.Ends.{Ends}
@@ -47,6 +47,7 @@ abbrev pub body_of : Body → BodyWords
 body_of (body.Source file output) = source file.now output.now
 body_of (body.Fir input output shift taps) =
     fir input.now output.now shift.now (words_in taps.now)
+body_of (body.Negate input output) = negate input.now output.now
 body_of (body.Split input outputs) = split input.now (words_in outputs.now)
 body_of (body.Join inputs output) = join (words_in inputs.now) output.now
 body_of (body.Peer input exchange output factor) =

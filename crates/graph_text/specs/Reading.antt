@@ -7,7 +7,7 @@ use Rattle.phase_base.specs.OperationWords.{operation_of}
 use Rattle.phase_base.specs.declared.operation.Op.{Op}
 use Rattle.graph_text.specs.Numbers.{is_nat, is_int}
 use Rattle.graph_text.specs.Decls.{Decl, phaser, task, FunctionWords, neg, abs, halve, clamp, ByWords, EndWords}
-use Rattle.graph_text.specs.Decls.{BodyWords, source, fir, split, join, peer, sink, may_have_parent}
+use Rattle.graph_text.specs.Decls.{BodyWords, source, fir, negate, split, join, peer, sink, may_have_parent}
 
 -- what follows, where there is something before it
 infixl 10 ◌>>=◌
@@ -139,6 +139,14 @@ fir_at words = do
   taps ← some_at is_int tapped
   Some (fir input.0 output.0 shift.0 taps.0, taps.1)
 
+-- what a negation does
+unfoldable pub negate_at : List Word → Option (Found BodyWords)
+negate_at words = do
+  input ← word_at is_name words
+  sent ← after (codes "->") input.1
+  output ← word_at is_name sent
+  Some (negate input.0 output.0, output.1)
+
 -- what a splitter does
 unfoldable pub split_at : List Word → Option (Found BodyWords)
 split_at words = do
@@ -178,6 +186,7 @@ unfoldable pub body_at : Word → List Word → Option (Found BodyWords)
 body_at kind words =
     if bytes_eq kind (codes "source") then source_at words
     else if bytes_eq kind (codes "fir") then fir_at words
+    else if bytes_eq kind (codes "negate") then negate_at words
     else if bytes_eq kind (codes "split") then split_at words
     else if bytes_eq kind (codes "join") then join_at words
     else if bytes_eq kind (codes "peer") then peer_at words

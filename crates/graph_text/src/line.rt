@@ -55,6 +55,8 @@ pub enum Body<'w, 'a> {
     Source(&'a [u8], &'a [u8]),
     /// `X -> Y shift N taps T1 T2 ..`: the input, the output, the shift and the taps.
     Fir(&'a [u8], &'a [u8], &'a [u8], &'w [&'a [u8]]),
+    /// `X -> Y`: the input, and the output.
+    Negate(&'a [u8], &'a [u8]),
     /// `X -> Y0 Y1 ..`: the input, and the outputs.
     Split(&'a [u8], &'w [&'a [u8]]),
     /// `X0 X1 .. -> Y`: the inputs, and the output.

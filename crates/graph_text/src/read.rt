@@ -11,7 +11,7 @@ ghost use Rattle.graph_text.specs.Lines.{decl_of};
 ghost use Rattle.graph_text.specs.Reading.{word_at, after, begins, front, some_at, operation_at};
 ghost use Rattle.graph_text.specs.Reading.{clamp_at, function_named, function_at};
 ghost use Rattle.graph_text.specs.Reading.{single_at, by_at, until_at, ends_at, source_at, fir_at};
-ghost use Rattle.graph_text.specs.Reading.{split_at, join_at, peer_at, sink_at, body_at};
+ghost use Rattle.graph_text.specs.Reading.{negate_at, split_at, join_at, peer_at, sink_at, body_at};
 ghost use Rattle.graph_text.specs.Reading.{phaser_at, task_at, line_at};
 
 use crate::line::{Body, By, Ends, Function, Line, PhaserWords, TaskWords};
@@ -282,6 +282,17 @@ fn fir_at<'w, 'a>(words: &'w [&'a [u8]]) -> Option<(Body<'w, 'a>, &'w [&'a [u8]]
     Some((Body::Fir(input, output, shift, taps), rest))
 }
 
+/// `X -> Y`, and the words after it.
+#[tactic(auto, unfolding(crate::specs::Reading::negate_at))]
+fn negate_at<'w, 'a>(words: &'w [&'a [u8]]) -> Option<(Body<'w, 'a>, &'w [&'a [u8]])>
+    ensures { option_map found_body result ≡ negate_at (plain words.now) }
+{
+    let (input, rest) = name_at(words)?;
+    let rest = after(b"->", rest)?;
+    let (output, rest) = name_at(rest)?;
+    Some((Body::Negate(input, output), rest))
+}
+
 /// `X -> Y0 Y1 ..`, and the words after it.
 #[tactic(auto, unfolding(crate::specs::Reading::split_at))]
 fn split_at<'w, 'a>(words: &'w [&'a [u8]]) -> Option<(Body<'w, 'a>, &'w [&'a [u8]])>
@@ -337,6 +348,8 @@ fn body_at<'w, 'a>(kind: &[u8], words: &'w [&'a [u8]]) -> Option<(Body<'w, 'a>, 
         source_at(words)
     } else if kind == b"fir".as_slice() {
         fir_at(words)
+    } else if kind == b"negate".as_slice() {
+        negate_at(words)
     } else if kind == b"split".as_slice() {
         split_at(words)
     } else if kind == b"join".as_slice() {
@@ -354,7 +367,7 @@ fn body_at<'w, 'a>(kind: &[u8], words: &'w [&'a [u8]]) -> Option<(Body<'w, 'a>, 
 fn may_have_parent(body: Body<'_, '_>) -> bool
     ensures { result ≡ may_have_parent (body_of body.entry) }
 {
-    matches!(body, Body::Source(..) | Body::Fir(..) | Body::Sink(..))
+    matches!(body, Body::Source(..) | Body::Fir(..) | Body::Negate(..) | Body::Sink(..))
 }
 
 // ---- a line

@@ -5,7 +5,7 @@ use Rattle.std.proofs.lemmas.Bool.{ltb-false, leb-false, le-leb, eq-eqb, cases_l
 use Rattle.phase_base.specs.Members.{signal_phases, least}
 use Rattle.phase_history.specs.Histories.{members_of, done_of}
 use Rattle.graph_base.specs.declared.line.Kind.{Kind}
-use Rattle.graph_base.specs.declared.line.Kind.TheVariants.{Source, Fir, Split, Join, Peer, Sink}
+use Rattle.graph_base.specs.declared.line.Kind.TheVariants.{Source, Fir, Negate, Split, Join, Peer, Sink}
 use Rattle.graph_base.specs.Graphs.{task_at}
 use Rattle.graph_base.specs.TaskLines.{IsGraph, HasEnds}
 use Rattle.graph_base.proofs.Registered.{registrations-phasers}
@@ -98,6 +98,7 @@ all_taken job m t is ran there none k lt = by (task_at job.graph t).kind k refl 
         → length (m.taken t k) ≡ takes_from (task_at job.graph t) (m.begun t) k
     by Source i e at = exact (rw e tt)
     by Fir i e at = exact (rw e tt)
+    by Negate i e at = exact (rw e tt)
     by Split i e at = exact (rw e tt)
     by Join i e at = exact (rw e tt)
     by Sink i e at = exact (rw e tt)
@@ -176,6 +177,7 @@ more_samples job m t Source e =
     leb-false (length (samples_at job t)) (m.begun t) e in
     omega arith
 more_samples job m t Fir e = tt
+more_samples job m t Negate e = tt
 more_samples job m t Split e = tt
 more_samples job m t Join e = tt
 more_samples job m t Peer e = tt
@@ -211,6 +213,7 @@ ended_true : (job : Job) (m : Moment) (t : ℕ) (kind : Kind) → (kind ≡ Sour
     → has_input_ended job m t kind ≡ true
 ended_true job m t Source never e = absurd (never refl)
 ended_true job m t Fir never e = e
+ended_true job m t Negate never e = e
 ended_true job m t Split never e = e
 ended_true job m t Join never e = e
 ended_true job m t Peer never e = e

@@ -13,7 +13,7 @@ use Rattle.phase_history.specs.Refusals.{wait_refusal, drop_refusal}
 use Rattle.phase_history.specs.Replies.{wait_reply, refused_or, got_at}
 use Rattle.phase_history.proofs.LawProofs.{answers_law, reply_tells}
 use Rattle.graph_base.specs.declared.line.Kind.{Kind}
-use Rattle.graph_base.specs.declared.line.Kind.TheVariants.{Source, Fir, Split, Join, Peer, Sink}
+use Rattle.graph_base.specs.declared.line.Kind.TheVariants.{Source, Fir, Negate, Split, Join, Peer, Sink}
 use Rattle.graph_base.specs.declared.registration.Registration.{Registration}
 use Rattle.graph_base.specs.Graphs.{task_at}
 use Rattle.graph_base.specs.Registrations.{no_registration}
@@ -135,6 +135,7 @@ waits_as_peer Peer (suc j) put taken e = (refl, leb-true taken put e)
 waits_as_peer Peer zero put taken e = absurd (cc)
 waits_as_peer Source j put taken e = absurd (cc)
 waits_as_peer Fir j put taken e = absurd (cc)
+waits_as_peer Negate j put taken e = absurd (cc)
 waits_as_peer Split j put taken e = absurd (cc)
 waits_as_peer Join j put taken e = absurd (cc)
 waits_as_peer Sink j put taken e = absurd (cc)
@@ -265,6 +266,7 @@ may_end job m t e =
     input Source e over =
         no_sample e (leb-true (length (samples_at job t)) (m.begun t) over)
     input Fir e over = out (other Fir e (λ s. (cc))) over
+    input Negate e over = out (other Negate e (λ s. (cc))) over
     input Split e over = out (other Split e (λ s. (cc))) over
     input Join e over = out (other Join e (λ s. (cc))) over
     input Peer e over = out (other Peer e (λ s. (cc))) over

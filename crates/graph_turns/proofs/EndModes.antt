@@ -4,7 +4,7 @@ use Rattle.phase_base.specs.Modes.{mode_signals, mode_waits, is_single}
 use Rattle.phase_base.specs.declared.mode.Mode.{Mode}
 use Rattle.phase_base.specs.declared.mode.Mode.TheVariants as mode
 use Rattle.graph_base.specs.declared.line.Kind.{Kind}
-use Rattle.graph_base.specs.declared.line.Kind.TheVariants.{Source, Fir, Split, Join, Peer, Sink}
+use Rattle.graph_base.specs.declared.line.Kind.TheVariants.{Source, Fir, Negate, Split, Join, Peer, Sink}
 use Rattle.graph_base.specs.declared.registration.Registration.{Registration}
 use Rattle.graph_base.specs.Graphs.{task_at, phaser_at}
 use Rattle.graph_base.specs.Registrations.{as_input, as_output, as_exchange, exchange_mode, no_registration}
@@ -178,6 +178,7 @@ signal_mode job t j is there lt = by (task_at job.graph t).kind refl
         → SignalMode job t j (output_at job t j)
     by Source e = plain (apart Source e (λ s. (cc))) (rw e refl)
     by Fir e = plain (apart Fir e (λ s. (cc))) (rw e refl)
+    by Negate e = plain (apart Negate e (λ s. (cc))) (rw e refl)
     by Split e = plain (apart Split e (λ s. (cc))) (rw e refl)
     by Join e = plain (apart Join e (λ s. (cc))) (rw e refl)
     by Sink e = plain (apart Sink e (λ s. (cc))) (rw e refl)
@@ -237,6 +238,7 @@ wait_mode job t k is there lt = by (task_at job.graph t).kind refl
         → WaitMode job t k (input_at (task_at job.graph t) k)
     by Source e = plain Source e (λ s. (cc))
     by Fir e = plain Fir e (λ s. (cc))
+    by Negate e = plain Negate e (λ s. (cc))
     by Split e = plain Split e (λ s. (cc))
     by Join e = plain Join e (λ s. (cc))
     by Sink e = plain Sink e (λ s. (cc))

@@ -1,13 +1,14 @@
 -- The place of a task after the first wait of a step.
 use Rattle.std.proofs.Common.{◌≡◌, ◌≢◌, ℕ, zero, suc, ◌+◌, ◌-◌, ◌*◌, ◌/◌, ◌%◌, ◌<◌, ◌≤◌, Bool, true, false, cond, eqb, List, [], ◌∷◌, ◌++◌, length, get_or, ℤ, pos, refl, sym, ap, subst, ◌∙◌, arith}
-use Rattle.std.specs.Prelude.{Result, Ok, nat_le, unsigned_abs}
+use Rattle.std.specs.Prelude.{Result, Ok, neg_ℤ, nat_le, unsigned_abs}
 use Rattle.std.specs.List.{range_with_len}
 use Rattle.std.proofs.lemmas.Bool.{eq-eqb, eqb-true, ne_eqb, not-false}
 use Rattle.std.proofs.lemmas.Nat.{mod_below, div-add-mod', div-mul-add}
-use Rattle.std.proofs.lemmas.List.{get_or-append_right, length-append, length-map}
+use Rattle.std.proofs.lemmas.List.{get_or-append_right, length-append, length-map, map-append}
 use Rattle.std.proofs.lemmas.List.FromFn.{get_or-map-range_with_len, length-range_with_len}
 use Rattle.stream_filters.specs.Range.{ranged}
 use Rattle.stream_filters.specs.Filter.{outputs, output_after}
+use Rattle.stream_filters.specs.Negative.{negatives}
 use Rattle.stream_filters.proofs.Outputs.{outputs-push}
 use Rattle.stream_filters.specs.declared.fault.TooBigValue.{TooBigValue}
 use Rattle.phase_history.specs.declared.event.Event.TheVariants.{Waited}
@@ -15,7 +16,7 @@ use Rattle.phase_accum.specs.declared.outcome.Outcome.{Outcome}
 use Rattle.phase_accum.specs.Sends.{value_max}
 use Rattle.phase_history.specs.Legal.{IsLegal}
 use Rattle.graph_base.specs.declared.line.Kind.{Kind}
-use Rattle.graph_base.specs.declared.line.Kind.TheVariants.{Source, Fir, Split, Join, Peer, Sink}
+use Rattle.graph_base.specs.declared.line.Kind.TheVariants.{Source, Fir, Negate, Split, Join, Peer, Sink}
 use Rattle.graph_base.specs.Graphs.{task_at}
 use Rattle.graph_base.specs.TaskLines.{IsGraph, HasEnds}
 use Rattle.stream_lists.specs.Jobs.{Job}
@@ -199,6 +200,51 @@ fir_owes job m after t k outcome w e =
           (none_below task.kind (ranged v)) (λ a b. rw e refl)
           (ap (λ l. get_or l (length (made_now job m t 0)) (pos 0)) made
           ∙ behind (outputs task.taps task.shift (m.taken t 0)) v (length (made_now job m t 0))
+          (ap length before)) refl,
+      lacks,
+    )
+
+negate_owes : (job : Job) (m after : Moment) (t k : ℕ) (outcome : Outcome)
+    → FirstWait job m after t k outcome → (task_at job.graph t).kind ≡ Negate
+    → LeavesOwed job after t (value 0 (ranged (neg_ℤ (number outcome))))
+negate_owes job m after t k outcome w e =
+    let task = task_at job.graph t in
+    let v = neg_ℤ (number outcome) in
+    let H : Kind → Type 0 = λ kind. HasEnds kind (length task.inputs) (length task.outputs) in
+    let ends : (length task.inputs ≡ 1) × (length task.outputs ≡ 1) =
+    subst H e (w.is.tasks t w.there).ends in
+    let inputs : length task.inputs ≡ 1 = ends.0 in
+    let outs : signalled_by task ≡ task.outputs = rw e refl in
+    let many : length (signalled_by task) ≡ 1 = ap length outs ∙ ends.1 in
+    let few : k < length task.inputs = w.few in
+    let zero_k : k ≡ 0 = omega arith in
+    let now_is : get_or (taken_now after task t) 0 [] ≡ m.taken t 0 ++ number outcome ∷ [] =
+    ap (λ i. get_or (taken_now after task t) i []) (sym zero_k)
+    ∙ now_taken job m after t k outcome w
+    ∙ ap (λ i. m.taken t i ++ number outcome ∷ []) zero_k in
+    let was : get_or (taken_now m task t) 0 [] ≡ m.taken t 0 =
+    now_at m task t 0 (omega arith) in
+    let made : made_now job after t 0 ≡ negatives (m.taken t 0) ++ v ∷ [] =
+    (let is : made_now job after t 0 ≡ negatives (get_or (taken_now after task t) 0 []) =
+    rw e refl in
+    is ∙ ap (λ l. negatives l) now_is
+    ∙ map-append neg_ℤ (m.taken t 0) (number outcome ∷ [])) in
+    let before : made_now job m t 0 ≡ negatives (m.taken t 0) =
+    (let is : made_now job m t 0 ≡ negatives (get_or (taken_now m task t) 0 []) = rw e refl in
+    is ∙ ap (λ l. negatives l) was) in
+    let lacks : Lacks job after t (value 0 (ranged v)) =
+    wait_lacks job m after t k outcome (value 0 (ranged v)) w
+    (λ i lt.
+    (let at : i ≡ 0 = single_output i (length (signalled_by task)) many lt in
+    let next : puts_on task (suc (m.begun t)) i ≡ suc (m.begun t) = rw e refl in
+    let last : puts_on task (m.begun t) i ≡ m.begun t = rw e refl in
+    let one : lacking task.kind (value 0 (ranged v)) i ≡ 1 =
+    ap (λ j. lacking task.kind (value 0 (ranged v)) j) at in
+    omega arith)) in (
+      wait_owes job m after t k 0 outcome v (ranged v) w lacks (omega arith)
+          (none_below task.kind (ranged v)) (λ a b. rw e refl)
+          (ap (λ l. get_or l (length (made_now job m t 0)) (pos 0)) made
+          ∙ behind (negatives (m.taken t 0)) v (length (made_now job m t 0))
           (ap length before)) refl,
       lacks,
     )
@@ -448,6 +494,10 @@ wait_leaves job m after t k outcome w = by (task_at job.graph t).kind refl
         (number outcome) ≡ value 0 (ranged (output_after (task_at job.graph t).taps
         (task_at job.graph t).shift (m.taken t 0 ++ number outcome ∷ []))) = rw e refl in
         subst Left (sym left) (fir_owes job m after t k outcome w e)
+    by Negate e =
+        let left : owed_after_wait (task_at job.graph t) (m.begun t) (m.taken t 0)
+        (number outcome) ≡ value 0 (ranged (neg_ℤ (number outcome))) = rw e refl in
+        subst Left (sym left) (negate_owes job m after t k outcome w e)
     by Split e =
         let left : owed_after_wait (task_at job.graph t) (m.begun t) (m.taken t 0)
         (number outcome)

@@ -3,7 +3,7 @@ use Rattle.std.proofs.Common.{◌≡◌, ℕ, ◌+◌, Bool, true, false, ◌||�
 use Rattle.phase_history.specs.Histories.{greatest_used}
 use Rattle.phase_history.specs.Refusals.{register_refusal, drop_refusal}
 use Rattle.graph_base.specs.declared.line.Kind.{Kind}
-use Rattle.graph_base.specs.declared.line.Kind.TheVariants.{Source, Fir, Split, Join, Peer, Sink}
+use Rattle.graph_base.specs.declared.line.Kind.TheVariants.{Source, Fir, Negate, Split, Join, Peer, Sink}
 use Rattle.graph_base.specs.declared.registration.Registration.{Registration}
 use Rattle.graph_base.specs.Graphs.{task_at}
 use Rattle.stream_lists.specs.Jobs.{Job, samples_at}
@@ -78,6 +78,7 @@ step_owes : (job : Job) (m : Moment) (t : ℕ) (event : TaskEvent) → first_owe
     → OwesFor job m event
 step_owes job m t event none Source e = sample_owes job m t event none e
 step_owes job m t event none Fir e = wait_owes job m t _ event none e
+step_owes job m t event none Negate e = wait_owes job m t _ event none e
 step_owes job m t event none Split e = wait_owes job m t _ event none e
 step_owes job m t event none Join e = wait_owes job m t _ event none e
 step_owes job m t event none Peer e = wait_owes job m t _ event none e

@@ -4,7 +4,7 @@ use Rattle.std.specs.List.{find, range_with_len}
 use Rattle.std.proofs.lemmas.Bool.{cases_lt, lt-ltb, le-ltb}
 use Rattle.std.proofs.lemmas.Nat.{div-mul-add}
 use Rattle.graph_base.specs.declared.line.Kind.{Kind}
-use Rattle.graph_base.specs.declared.line.Kind.TheVariants.{Source, Fir, Split, Join, Peer, Sink}
+use Rattle.graph_base.specs.declared.line.Kind.TheVariants.{Source, Fir, Negate, Split, Join, Peer, Sink}
 use Rattle.graph_base.specs.Graphs.{Task, task_at}
 use Rattle.graph_base.specs.TaskLines.{IsGraph}
 use Rattle.stream_lists.specs.Jobs.{Job}
@@ -92,6 +92,7 @@ none_put task j lt = by task.kind refl
     by : (kind : Kind) → task.kind ≡ kind → puts_on task 0 j ≡ 0
     by Source e = rw e refl
     by Fir e = rw e refl
+    by Negate e = rw e refl
     by Join e = rw e refl
     by Peer e = rw e refl
     by Sink e = rw e refl

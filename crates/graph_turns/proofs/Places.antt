@@ -10,7 +10,7 @@ use Rattle.graph_base.specs.Graphs.{Graph, Task, task_at}
 use Rattle.graph_base.specs.TaskLines.{IsTaskLine, HasEnds, is_distinct}
 use Rattle.graph_base.specs.Registrations.{no_registration}
 use Rattle.graph_base.specs.declared.line.Kind.{Kind}
-use Rattle.graph_base.specs.declared.line.Kind.TheVariants.{Source, Fir, Split, Join, Peer, Sink}
+use Rattle.graph_base.specs.declared.line.Kind.TheVariants.{Source, Fir, Negate, Split, Join, Peer, Sink}
 use Rattle.stream_lists.specs.Jobs.{Job, place_in}
 use Rattle.stream_lists.specs.Spans.{signalled_by}
 use Rattle.stream_laws.proofs.Ordered.{place-at, place-distinct}
@@ -47,6 +47,7 @@ distinct-signalled graph t task line = by task.kind refl
     by : (kind : Kind) → task.kind ≡ kind → is_distinct (signalled_by task) ≡ true
     by Source e = plain (rw e refl)
     by Fir e = plain (rw e refl)
+    by Negate e = plain (rw e refl)
     by Split e = plain (rw e refl)
     by Join e = plain (rw e refl)
     by Sink e = plain (rw e refl)
@@ -149,6 +150,7 @@ on_ends graph t task p line (inl out) = by task.kind refl
     by : (kind : Kind) → task.kind ≡ kind → Found
     by Source e = plain (rw e refl)
     by Fir e = plain (rw e refl)
+    by Negate e = plain (rw e refl)
     by Split e = plain (rw e refl)
     by Join e = plain (rw e refl)
     by Sink e = plain (rw e refl)

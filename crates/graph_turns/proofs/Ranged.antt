@@ -21,7 +21,7 @@ use Rattle.phase_history.specs.Legal.{IsLegal}
 use Rattle.phase_history.proofs.InRange.{value_of_phase-in_range}
 use Rattle.phase_history.proofs.Left.{received_law}
 use Rattle.graph_base.specs.declared.line.Kind.{Kind}
-use Rattle.graph_base.specs.declared.line.Kind.TheVariants.{Source, Fir, Split, Join, Peer, Sink}
+use Rattle.graph_base.specs.declared.line.Kind.TheVariants.{Source, Fir, Negate, Split, Join, Peer, Sink}
 use Rattle.graph_base.specs.Graphs.{Task, task_at, phaser_at}
 use Rattle.graph_base.specs.TaskLines.{IsGraph}
 use Rattle.stream_lists.specs.Jobs.{Job, samples_at}
@@ -188,6 +188,7 @@ made_ranged job m t j is ran there samples plain = by (task_at job.graph t).kind
         subst Are (sym same)
         (take_ranged (m.begun t) (samples_at job t) (sends_ranged (samples_at job t) samples))
     by Fir e = absurd (clash Fir e refl)
+    by Negate e = absurd (clash Negate e refl)
     by Split e =
         let xs = get_or (taken_now m (task_at job.graph t) t) 0 [] in
         let same : made_now job m t j ≡ every (length (task_at job.graph t).outputs) j xs =

@@ -6,7 +6,7 @@ use Rattle.phase_base.specs.Modes.{mode_signals, mode_waits}
 use Rattle.phase_history.specs.Histories.{greatest_used}
 use Rattle.phase_history.specs.Refusals.{register_refusal}
 use Rattle.graph_base.specs.declared.line.Kind.{Kind}
-use Rattle.graph_base.specs.declared.line.Kind.TheVariants.{Source, Fir, Split, Join, Peer, Sink}
+use Rattle.graph_base.specs.declared.line.Kind.TheVariants.{Source, Fir, Negate, Split, Join, Peer, Sink}
 use Rattle.graph_base.specs.declared.line.Parent.{Parent}
 use Rattle.graph_base.specs.declared.registration.Registration.{Registration}
 use Rattle.phase_accum.specs.declared.single.Single.{Single}
@@ -46,6 +46,7 @@ comes-is t b (Some u) e =
 pub no_peer : (kind : Kind) → has_children kind ≡ true → kind ≢ Peer
 no_peer Source e = λ p. (cc)
 no_peer Fir e = λ p. (cc)
+no_peer Negate e = λ p. (cc)
 no_peer Sink e = λ p. (cc)
 no_peer Split e = absurd (cc)
 no_peer Join e = absurd (cc)
@@ -59,6 +60,7 @@ plain_outputs job c plain = by (task_at job.graph c).kind refl
         → signalled_by (task_at job.graph c) ≡ (task_at job.graph c).outputs
     by Source e = rw e refl
     by Fir e = rw e refl
+    by Negate e = rw e refl
     by Split e = rw e refl
     by Join e = rw e refl
     by Sink e = rw e refl
@@ -72,6 +74,7 @@ plain_takes job t b k plain = by (task_at job.graph t).kind refl
         → takes_from (task_at job.graph t) b k ≡ b
     by Source e = rw e refl
     by Fir e = rw e refl
+    by Negate e = rw e refl
     by Split e = rw e refl
     by Peer e = rw e refl
     by Sink e = rw e refl
@@ -270,6 +273,7 @@ is_for job c i is there lt = by (task_at job.graph c).kind refl
         → IsFor job c (get_or (registrations_at job c) i no_registration)
     by Source f = for_plain job c i is there (λ p. (let no = sym f ∙ p in cc)) lt
     by Fir f = for_plain job c i is there (λ p. (let no = sym f ∙ p in cc)) lt
+    by Negate f = for_plain job c i is there (λ p. (let no = sym f ∙ p in cc)) lt
     by Split f = for_plain job c i is there (λ p. (let no = sym f ∙ p in cc)) lt
     by Join f = for_plain job c i is there (λ p. (let no = sym f ∙ p in cc)) lt
     by Sink f = for_plain job c i is there (λ p. (let no = sym f ∙ p in cc)) lt

@@ -10,7 +10,7 @@ use Rattle.phase_history.specs.declared.refusal.SignalRefusal.TheVariants as ref
 use Rattle.phase_history.specs.Histories.{has_dropped}
 use Rattle.phase_history.specs.Refusals.{signal_refusal}
 use Rattle.graph_base.specs.declared.line.Kind.{Kind}
-use Rattle.graph_base.specs.declared.line.Kind.TheVariants.{Source, Fir, Split, Join, Peer, Sink}
+use Rattle.graph_base.specs.declared.line.Kind.TheVariants.{Source, Fir, Negate, Split, Join, Peer, Sink}
 use Rattle.graph_base.specs.declared.place.Place.TheVariants as place
 use Rattle.graph_base.specs.Graphs.{task_at, phaser_at}
 use Rattle.graph_base.specs.TaskLines.{IsGraph}
@@ -139,6 +139,7 @@ pub may_put : (kind : Kind) (j put taken : ℕ) → waits_first kind j put taken
     → HasExchanged kind j (suc put) taken
 may_put Source j put taken e = tt
 may_put Fir j put taken e = tt
+may_put Negate j put taken e = tt
 may_put Split j put taken e = tt
 may_put Join j put taken e = tt
 may_put Sink j put taken e = tt

@@ -9,7 +9,7 @@ use Rattle.graph_base.proofs.Registered.{registrations-phasers}
 use Rattle.graph_base.specs.Graphs.{Task, task_at}
 use Rattle.graph_base.specs.Registrations.{no_registration, signalled_by}
 use Rattle.graph_base.specs.declared.line.Kind.{Kind}
-use Rattle.graph_base.specs.declared.line.Kind.TheVariants.{Source, Fir, Split, Join, Peer, Sink}
+use Rattle.graph_base.specs.declared.line.Kind.TheVariants.{Source, Fir, Negate, Split, Join, Peer, Sink}
 use Rattle.stream_lists.specs.Jobs.{Job}
 use Rattle.graph_moments.specs.Moments.{Moment, input_at}
 use Rattle.graph_turns.specs.Nexts.{registrations_at, first_missing, first_kept, has_registered, has_left}
@@ -149,6 +149,7 @@ of_output job t j is there lt = by (task_at job.graph t).kind refl
     by : (kind : Kind) → task.kind ≡ kind → Found
     by Source e = plain (rw e refl) (rw e refl)
     by Fir e = plain (rw e refl) (rw e refl)
+    by Negate e = plain (rw e refl) (rw e refl)
     by Split e = plain (rw e refl) (rw e refl)
     by Join e = plain (rw e refl) (rw e refl)
     by Sink e = plain (rw e refl) (rw e refl)

@@ -6,7 +6,7 @@ use Rattle.std.proofs.lemmas.Option.{same_Some}
 use Rattle.std.proofs.lemmas.List.{length-append}
 use Rattle.phase_history.specs.declared.event.Event.TheVariants.{Signalled}
 use Rattle.graph_base.specs.declared.line.Kind.{Kind}
-use Rattle.graph_base.specs.declared.line.Kind.TheVariants.{Source, Fir, Split, Join, Peer, Sink}
+use Rattle.graph_base.specs.declared.line.Kind.TheVariants.{Source, Fir, Negate, Split, Join, Peer, Sink}
 use Rattle.graph_base.specs.Graphs.{task_at, phaser_at}
 use Rattle.graph_base.specs.TaskLines.{IsGraph}
 use Rattle.stream_lists.specs.Jobs.{Job}
@@ -344,6 +344,9 @@ puts_stand job m after t j v w at is there ran in_turn puts keeps steps next owe
         (λ x apart. (let other : eqb x j ≡ false = ne_eqb x j apart in rw other refl)) (rw e refl)
     by Fir i e same =
         alone Fir e (λ x apart. (let other : eqb x j ≡ false = ne_eqb x j apart in rw other refl))
+        (rw e refl)
+    by Negate i e same =
+        alone Negate e (λ x apart. (let other : eqb x j ≡ false = ne_eqb x j apart in rw other refl))
         (rw e refl)
     by Split i e same =
         alone Split e

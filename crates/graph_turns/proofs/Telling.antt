@@ -10,7 +10,7 @@ use Rattle.phase_history.specs.Histories.{members_of, done_of, HasNoSignaller}
 use Rattle.phase_history.specs.Replies.{wait_reply}
 use Rattle.phase_history.proofs.Signallers.{all_dropped}
 use Rattle.graph_base.specs.declared.line.Kind.{Kind}
-use Rattle.graph_base.specs.declared.line.Kind.TheVariants.{Source, Fir, Split, Join, Peer, Sink}
+use Rattle.graph_base.specs.declared.line.Kind.TheVariants.{Source, Fir, Negate, Split, Join, Peer, Sink}
 use Rattle.graph_base.specs.Graphs.{task_at}
 use Rattle.graph_base.specs.TaskLines.{IsGraph}
 use Rattle.stream_lists.specs.Jobs.{Job, samples_at, place_in}
@@ -232,6 +232,8 @@ step_told job m t is samples reached live uncut more = by (task_at job.graph t).
     by Source e = samples_told job m t is samples reached live e uncut more
     by Fir e =
         waits_told job m t is reached live (no_source Fir e (λ s. (cc))) uncut more (ended Fir e)
+    by Negate e =
+        waits_told job m t is reached live (no_source Negate e (λ s. (cc))) uncut more (ended Negate e)
     by Split e =
         waits_told job m t is reached live (no_source Split e (λ s. (cc))) uncut more
         (ended Split e)

@@ -1,7 +1,7 @@
 -- A turn makes an event that is the task's next one.
 use Rattle.std.proofs.Common.{◌≡◌, ℕ, Bool, true, false, ◌||◌, cond, Option, Some, None, length, refl, sym, ◌∙◌}
 use Rattle.graph_base.specs.declared.line.Kind.{Kind}
-use Rattle.graph_base.specs.declared.line.Kind.TheVariants.{Source, Fir, Split, Join, Peer, Sink}
+use Rattle.graph_base.specs.declared.line.Kind.TheVariants.{Source, Fir, Negate, Split, Join, Peer, Sink}
 use Rattle.graph_base.specs.Graphs.{task_at}
 use Rattle.graph_base.specs.TaskLines.{IsGraph}
 use Rattle.stream_lists.specs.Jobs.{Job}
@@ -48,6 +48,9 @@ stepping job m t event is ran live none due uncut more answer =
     by Source e answer = sample_next job m t event is ran live e none due uncut more answer
     by Fir e answer =
         first_wait_next job m t event is ran live (other Fir e (λ s. (cc))) none due uncut more
+        answer
+    by Negate e answer =
+        first_wait_next job m t event is ran live (other Negate e (λ s. (cc))) none due uncut more
         answer
     by Split e answer =
         first_wait_next job m t event is ran live (other Split e (λ s. (cc))) none due uncut more

@@ -1,11 +1,11 @@
 -- Where the code of a task stands: on which phasers it is registered and which of them it has left,
 -- how many steps it has begun, and what its begun steps owe. It changes by events as a function.
-use Rattle.std.specs.Prelude.{◌≡◌, ℕ, zero, suc, ◌+◌, ◌<◌, ◌≤◌, ◌%◌, ℤ, pos, ◌*ℤ◌, ◌-ℤ◌, List, [], ◌∷◌, ◌++◌, length, get_or, slice_get, Option, Some, None, Result, Ok, nat_lt, ◌==◌, if◌then◌else◌}
+use Rattle.std.specs.Prelude.{◌≡◌, ℕ, zero, suc, ◌+◌, ◌<◌, ◌≤◌, ◌%◌, ℤ, pos, neg_ℤ, ◌*ℤ◌, ◌-ℤ◌, List, [], ◌∷◌, ◌++◌, length, get_or, slice_get, Option, Some, None, Result, Ok, nat_lt, ◌==◌, if◌then◌else◌}
 use Rattle.stream_filters.specs.declared.fault.TooBigValue.{TooBigValue}
 use Rattle.stream_filters.specs.Range.{ranged}
 use Rattle.stream_filters.specs.Filter.{output_after}
 use Rattle.graph_base.specs.declared.line.Kind.{Kind}
-use Rattle.graph_base.specs.declared.line.Kind.TheVariants.{Source, Fir, Split, Join, Peer, Sink}
+use Rattle.graph_base.specs.declared.line.Kind.TheVariants.{Source, Fir, Negate, Split, Join, Peer, Sink}
 use Rattle.graph_base.specs.declared.registration.Registration.{Registration}
 use Rattle.graph_base.specs.Graphs.{Task, task_at}
 use Rattle.graph_base.specs.Registrations.{no_registration, signalled_by}
@@ -93,6 +93,7 @@ owed_after_wait task begun taken x = of task.kind
   where
     of : Kind → Owed
     of Fir = value 0 (ranged (output_after task.taps task.shift (taken ++ x ∷ [])))
+    of Negate = value 0 (ranged (neg_ℤ x))
     of Split = value (begun % length task.outputs) (Ok x)
     of Join = value 0 (Ok x)
     of Peer = value 0 (Ok x)

@@ -5,8 +5,8 @@ use Rattle.graph_words.specs.Words.{Word, is_name, is_file, is_word_byte}
 
 -- the words of the grammar
 abbrev reserved : List Word
-reserved = codes "phaser" ∷ codes "source" ∷ codes "fir" ∷ codes "split" ∷ codes "join"
-    ∷ codes "peer" ∷ codes "sink" ∷ codes "by" ∷ codes "at" ∷ codes "until" ∷ codes "shift"
+reserved = codes "phaser" ∷ codes "source" ∷ codes "fir" ∷ codes "negate" ∷ codes "split"
+    ∷ codes "join" ∷ codes "peer" ∷ codes "sink" ∷ codes "by" ∷ codes "at" ∷ codes "until" ∷ codes "shift"
     ∷ codes "taps" ∷ codes "mul" ∷ codes "single" ∷ []
 
 -- none is a name

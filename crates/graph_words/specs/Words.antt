@@ -27,7 +27,8 @@ is_name_byte b = is_letter b || is_digit b || (b == 95)
 -- the first word of a line
 abbrev pub is_kind_word : Word → Bool
 is_kind_word word = bytes_eq word (codes "phaser") || bytes_eq word (codes "source")
-    || bytes_eq word (codes "fir") || bytes_eq word (codes "split") || bytes_eq word (codes "join")
+    || bytes_eq word (codes "fir") || bytes_eq word (codes "negate")
+    || bytes_eq word (codes "split") || bytes_eq word (codes "join")
     || bytes_eq word (codes "peer") || bytes_eq word (codes "sink")
 
 -- a word that says what the next one is

@@ -39,6 +39,7 @@ fn is_kind_word(word: &[u8]) -> bool
     word == b"phaser".as_slice()
         || word == b"source".as_slice()
         || word == b"fir".as_slice()
+        || word == b"negate".as_slice()
         || word == b"split".as_slice()
         || word == b"join".as_slice()
         || word == b"peer".as_slice()

@@ -12,7 +12,7 @@ use Rattle.phase_history.proofs.Signallers.{below_top}
 use Rattle.phase_history.proofs.Steps.{done_below_top, sound_of}
 use Rattle.phase_history.proofs.Tops.{top_within}
 use Rattle.graph_base.specs.declared.line.Kind.{Kind}
-use Rattle.graph_base.specs.declared.line.Kind.TheVariants.{Source, Fir, Split, Join, Peer, Sink}
+use Rattle.graph_base.specs.declared.line.Kind.TheVariants.{Source, Fir, Negate, Split, Join, Peer, Sink}
 use Rattle.graph_base.specs.Graphs.{task_at}
 use Rattle.graph_base.specs.TaskLines.{IsGraph, HasEnds}
 use Rattle.stream_lists.specs.Jobs.{Job, place_in}
@@ -136,6 +136,7 @@ begun_few job m t k is ran next =
     by : (kind : Kind) → (task_at job.graph t).kind ≡ kind → m.begun t ≤ PHASES_MAX
     by Source e = absurd (b.kind e)
     by Fir e = took (rw e refl)
+    by Negate e = took (rw e refl)
     by Split e = took (rw e refl)
     by Join e = joined e
     by Peer e = took (rw e refl)

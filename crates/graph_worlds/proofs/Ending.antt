@@ -9,7 +9,7 @@ use Rattle.phase_history.specs.Histories.{members_of, has_dropped, done_of}
 use Rattle.graph_base.specs.Graphs.{task_at, is_source}
 use Rattle.graph_base.specs.TaskLines.{IsGraph}
 use Rattle.graph_base.specs.declared.line.Kind.{Kind}
-use Rattle.graph_base.specs.declared.line.Kind.TheVariants.{Source, Fir, Split, Join, Peer, Sink}
+use Rattle.graph_base.specs.declared.line.Kind.TheVariants.{Source, Fir, Negate, Split, Join, Peer, Sink}
 use Rattle.stream_lists.specs.Jobs.{Job}
 use Rattle.graph_moments.specs.Moments.{Moment, HasRun, input_at, first_input}
 use Rattle.graph_turns.specs.Nexts.{is_live, is_cut, has_input_ended, has_run_out, has_signaller, number_on, has_left, registrations_at}
@@ -71,6 +71,7 @@ pub ended_by_input : (job : Job) (m : Moment) (t : ℕ) (kind : Kind) → kind �
     ≡ has_run_out m (task_at job.graph t) t (first_input (task_at job.graph t) (m.begun t))
 ended_by_input job m t Source never = absurd (never refl)
 ended_by_input job m t Fir never = refl
+ended_by_input job m t Negate never = refl
 ended_by_input job m t Split never = refl
 ended_by_input job m t Join never = refl
 ended_by_input job m t Peer never = refl
@@ -150,6 +151,7 @@ cut_is job m t at stands until same =
 pub no_source : (kind : Kind) → is_source kind ≡ false → kind ≢ Source
 no_source Source e = absurd (cc)
 no_source Fir e = λ f. absurd (cc)
+no_source Negate e = λ f. absurd (cc)
 no_source Split e = λ f. absurd (cc)
 no_source Join e = λ f. absurd (cc)
 no_source Peer e = λ f. absurd (cc)

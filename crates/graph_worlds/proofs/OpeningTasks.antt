@@ -7,7 +7,7 @@ use Rattle.std.proofs.lemmas.Option.{slice_get-get_or}
 use Rattle.phase_history.specs.Histories.{greatest_used}
 use Rattle.phase_history.specs.Histories.{has_dropped}
 use Rattle.graph_base.specs.declared.line.Kind.{Kind}
-use Rattle.graph_base.specs.declared.line.Kind.TheVariants.{Source, Fir, Split, Join, Peer, Sink}
+use Rattle.graph_base.specs.declared.line.Kind.TheVariants.{Source, Fir, Negate, Split, Join, Peer, Sink}
 use Rattle.graph_base.specs.declared.registration.Registration.{Registration}
 use Rattle.graph_base.specs.Graphs.{Task, task_at}
 use Rattle.graph_base.specs.Registrations.{no_registration}
@@ -93,6 +93,7 @@ puts_none task j lt = by task.kind refl
     by : (kind : Kind) → task.kind ≡ kind → puts_on task 0 j ≡ 0
     by Source e = rw e refl
     by Fir e = rw e refl
+    by Negate e = rw e refl
     by Join e = rw e refl
     by Peer e = rw e refl
     by Sink e = rw e refl

@@ -43,7 +43,7 @@ use Rattle.graph_worlds.specs.declared.made.Made.TheVariants.{Event, Blocked, Ou
 use Rattle.graph_worlds.specs.declared.turned.Turned.TheVariants.{Moved}
 use Rattle.std.proofs.lemmas.Bool.{eq-eqb}
 use Rattle.graph_base.specs.declared.line.Kind.{Kind}
-use Rattle.graph_base.specs.declared.line.Kind.TheVariants.{Source, Fir, Split, Join, Peer, Sink}
+use Rattle.graph_base.specs.declared.line.Kind.TheVariants.{Source, Fir, Negate, Split, Join, Peer, Sink}
 use Rattle.graph_base.specs.Graphs.{Task}
 use Rattle.stream_lists.specs.Spans.{puts_on}
 use Rattle.graph_moments.specs.Moments.{made_now}
@@ -315,6 +315,7 @@ made_puts task b j e = by task.kind j refl e
     by : (kind : Kind) (j : ℕ) → task.kind ≡ kind → are_made kind j ≡ true → puts_on task b j ≡ b
     by Source j k e = absurd (cc)
     by Fir j k e = rw k refl
+    by Negate j k e = rw k refl
     by Split j k e = absurd (cc)
     by Join j k e = absurd (cc)
     by Peer zero k e = absurd (cc)

@@ -6,7 +6,7 @@ use Rattle.phase_history.specs.Histories.{History, done_of}
 use Rattle.phase_history.specs.Refusals.{signal_refusal}
 use Rattle.phase_history.specs.Replies.{wait_reply}
 use Rattle.graph_base.specs.declared.line.Kind.{Kind}
-use Rattle.graph_base.specs.declared.line.Kind.TheVariants.{Source, Fir, Split, Join, Peer, Sink}
+use Rattle.graph_base.specs.declared.line.Kind.TheVariants.{Source, Fir, Negate, Split, Join, Peer, Sink}
 use Rattle.graph_base.specs.declared.place.Place.TheVariants as place
 use Rattle.graph_base.specs.Graphs.{task_at, phaser_at}
 use Rattle.stream_lists.specs.Jobs.{Job, samples_at}
@@ -95,6 +95,7 @@ more_same job before after u q left apart = by (task_at job.graph u).kind refl
         → has_input_ended job after u kind ≡ has_input_ended job before u kind
     by Source e = ap (nat_le (length (samples_at job u))) left.same.begun
     by Fir e = first (no_source Fir e (λ s. absurd (cc)))
+    by Negate e = first (no_source Negate e (λ s. absurd (cc)))
     by Split e = first (no_source Split e (λ s. absurd (cc)))
     by Join e = first (no_source Join e (λ s. absurd (cc)))
     by Peer e = first (no_source Peer e (λ s. absurd (cc)))

@@ -1,7 +1,7 @@
 -- What a task's next step tells of the task.
 use Rattle.std.proofs.Common.{◌≡◌, ◌≢◌, ℕ, ◌<◌, Bool, true, false, ◌||◌, cond, Option, Some, None, length, refl, sym, subst, ◌∙◌, arith}
 use Rattle.graph_base.specs.declared.line.Kind.{Kind}
-use Rattle.graph_base.specs.declared.line.Kind.TheVariants.{Source, Fir, Split, Join, Peer, Sink}
+use Rattle.graph_base.specs.declared.line.Kind.TheVariants.{Source, Fir, Negate, Split, Join, Peer, Sink}
 use Rattle.graph_base.specs.Graphs.{task_at}
 use Rattle.graph_base.specs.Registrations.{signalled_by}
 use Rattle.graph_base.specs.TaskLines.{IsGraph}
@@ -36,6 +36,9 @@ stepping : (job : Job) (m : Moment) (t : ℕ) (next : Next) → (kind : Kind)
     → next_step (task_at job.graph t) (m.begun t) kind ≡ next → IsSo job m t next
 stepping job m t next Source e is = so job m t samples next is e
 stepping job m t next Fir e is =
+    so job m t (waits (first_input (task_at job.graph t) (m.begun t))) next is
+    ((λ source. (let wrong = sym e ∙ source in cc)), refl)
+stepping job m t next Negate e is =
     so job m t (waits (first_input (task_at job.graph t) (m.begun t))) next is
     ((λ source. (let wrong = sym e ∙ source in cc)), refl)
 stepping job m t next Split e is =

@@ -17,7 +17,7 @@ use Rattle.phase_history.specs.Histories.{History, wait_phase, done_of}
 use Rattle.phase_history.specs.Phases.{value_of_phase}
 use Rattle.phase_history.specs.Refusals.{wait_refusal}
 use Rattle.phase_history.specs.Replies.{wait_reply, refused_or}
-use Rattle.graph_base.specs.declared.line.Kind.TheVariants.{Source, Fir, Split, Join, Peer, Sink}
+use Rattle.graph_base.specs.declared.line.Kind.TheVariants.{Source, Fir, Negate, Split, Join, Peer, Sink}
 use Rattle.graph_base.specs.declared.line.Kind.{Kind}
 use Rattle.graph_base.specs.declared.place.Place.TheVariants as place
 use Rattle.graph_base.specs.Graphs.{Task, task_at, is_sink}
@@ -373,6 +373,7 @@ pub sink_kind : (kind : Kind) → is_sink kind ≡ true → kind ≡ Sink
 sink_kind Sink e = refl
 sink_kind Source e = absurd (cc)
 sink_kind Fir e = absurd (cc)
+sink_kind Negate e = absurd (cc)
 sink_kind Split e = absurd (cc)
 sink_kind Join e = absurd (cc)
 sink_kind Peer e = absurd (cc)
@@ -385,6 +386,7 @@ zero_first task b k kind is not first = first ∙ by kind is not
     by : (kind : Kind) → task.kind ≡ kind → kind ≢ Join → first_input task b ≡ 0
     by Source e never = rw e refl
     by Fir e never = rw e refl
+    by Negate e never = rw e refl
     by Split e never = rw e refl
     by Join e never = absurd (never refl)
     by Peer e never = rw e refl

@@ -1,7 +1,7 @@
 -- What a task does next tells how it stands.
 use Rattle.std.proofs.Common.{◌≡◌, ◌≢◌, ℕ, Bool, true, false, cond, ◌||◌, Option, Some, None, length, refl, sym, ap, ◌∙◌, ◌⊎◌, inl, inr}
 use Rattle.graph_base.specs.declared.line.Kind.{Kind}
-use Rattle.graph_base.specs.declared.line.Kind.TheVariants.{Source, Fir, Split, Join, Peer, Sink}
+use Rattle.graph_base.specs.declared.line.Kind.TheVariants.{Source, Fir, Negate, Split, Join, Peer, Sink}
 use Rattle.graph_base.specs.Graphs.{task_at}
 use Rattle.stream_lists.specs.Jobs.{Job}
 use Rattle.graph_moments.specs.Moments.{Moment, first_input}
@@ -90,6 +90,7 @@ begins_is job m t next is = by (task_at job.graph t).kind refl is
         × (waits (first_input (task_at job.graph t) (m.begun t)) ≡ next))
     by Source e is = inl (e, is)
     by Fir e is = inr (other Fir e (λ s. absurd (cc)), is)
+    by Negate e is = inr (other Negate e (λ s. absurd (cc)), is)
     by Split e is = inr (other Split e (λ s. absurd (cc)), is)
     by Join e is = inr (other Join e (λ s. absurd (cc)), is)
     by Peer e is = inr (other Peer e (λ s. absurd (cc)), is)

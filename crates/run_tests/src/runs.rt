@@ -37,6 +37,16 @@ fn a_filter(rt: HostRuntime) -> Result<(), Fail> {
     Ok(())
 }
 
+const NEGATIONS: &str = "phaser X sum 4\nphaser Y sum 4\nsource s s.csv -> X\n\
+    negate n X -> Y\nnegate m X -> Y by n at 1\nsink out Y\n";
+
+#[test]
+fn negations(rt: HostRuntime) -> Result<(), Fail> {
+    let wanted = "out 3\n-5\n-6\n2\n";
+    assert!(rt; always(&rt, rt.alloc(), NEGATIONS, &["5\n3\n-1\n"], 1, wanted)?);
+    Ok(())
+}
+
 const BUS: &str = "phaser X sum 1\nsource a a.csv -> X\nsource b b.csv -> X\nsink out X\n";
 
 #[test]

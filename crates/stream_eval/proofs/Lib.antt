@@ -5,5 +5,6 @@ pub mod Dropped
 pub mod FirSteps
 pub mod Made
 pub mod Mixing
+pub mod Negating
 pub mod Sendable
 pub mod Sends

@@ -3,11 +3,12 @@ ghost use Rattle.std.specs.Prelude.{◌≡◌, ◌<◌, ◌≤◌, ℕ, [], leng
 ghost use Rattle.std.specs.List.{All, position_from};
 ghost use Rattle.phase_accum.specs.Sends.{AreSends};
 ghost use Rattle.stream_filters.specs.Filter.{AreTaps, outputs};
+ghost use Rattle.stream_filters.specs.Negative.{negatives};
 ghost use Rattle.stream_lists.specs.Lists.{entry, every, in_turn, mixed};
 ghost use Rattle.stream_lists.specs.Ranges.{is_out_of_range};
 
 use std::alloc::{AllocError, Global};
-use stream_filters::{Fir, Peer};
+use stream_filters::{Fir, Negate, Peer};
 
 /// Why no list was made.
 #[derive(Clone, Copy, Debug, PartialEq, Eq)]
@@ -43,6 +44,29 @@ pub fn fir_list(
     };
     for (step, x) in samples.iter().enumerate() {
         let Ok(y) = fir.step(*x) else {
+            return Err(ListFault::TooBig(step));
+        };
+        let Ok(()) = list.push(y) else {
+            return Err(ListFault::OutOfMemory);
+        };
+    }
+    Ok(list)
+}
+
+/// Makes the negative of each of these samples, or finds the first step at which it is out of range.
+pub fn negative_list(alloc: Global, samples: &[i64]) -> Result<Vec<i64>, ListFault>
+    ensures ok { IfOk result (λ list. list.items ≡ negatives samples.now) }
+    ensures sends { IfOk result (λ list. AreSends list.items) }
+    ensures in_range { IfOk result (λ list.
+        position_from is_out_of_range 0 (negatives samples.now) ≡ None) }
+    ensures too_big { (step : ℕ) → result ≡ Err (ListFault.TooBig step)
+        → position_from is_out_of_range 0 (negatives samples.now) ≡ Some step }
+{
+    let Ok(mut list) = Vec::with_capacity(alloc, samples.len()) else {
+        return Err(ListFault::OutOfMemory);
+    };
+    for (step, x) in samples.iter().enumerate() {
+        let Ok(y) = Negate::answer(*x) else {
             return Err(ListFault::TooBig(step));
         };
         let Ok(()) = list.push(y) else {

@@ -8,7 +8,7 @@ ghost use Rattle.stream_lists.specs.Lists.{mixed, output_list};
 ghost use Rattle.stream_lists.specs.Ranges.{is_out_of_range, list_fault};
 ghost use Rattle.graph_base.specs.declared.line.Kind.TheVariants.{Split};
 
-use crate::list::{ListFault, every_list, fir_list, in_turn_list, mixed_list};
+use crate::list::{ListFault, every_list, fir_list, in_turn_list, mixed_list, negative_list};
 use crate::taken_values::part_of;
 use graph_base::{Kind, TaskLine};
 use std::alloc::Global;
@@ -93,6 +93,7 @@ pub(crate) fn list_put(
     match task.kind {
         Kind::Source => copy_of(alloc, samples, steps),
         Kind::Fir => fir_list(alloc, &task.taps, task.shift, list_of(taken, 0)),
+        Kind::Negate => negative_list(alloc, list_of(taken, 0)),
         Kind::Split => every_list(alloc, task.outputs.len(), j, list_of(taken, 0)).map_err(
             |_fault| ListFault::OutOfMemory,
         ),

@@ -7,6 +7,7 @@
 mod fault;
 mod fir;
 pub mod laws;
+mod negate;
 mod peer;
 mod range;
 mod sums;
@@ -14,6 +15,7 @@ mod turns;
 
 pub use fault::{FirFault, TooBigValue};
 pub use fir::{Fir, SHIFT_MAX, TAP_MAX, TAPS_MAX};
+pub use negate::Negate;
 pub use peer::Peer;
 pub use range::{VALUE_MAX, VALUE_MIN};
 pub use turns::{Join, Split};

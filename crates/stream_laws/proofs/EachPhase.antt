@@ -9,7 +9,7 @@ use Rattle.std.proofs.lemmas.List.FromFn.{length-map-range_with_len}
 use Rattle.graph_base.specs.Graphs.{Task, task_at, phaser_at}
 use Rattle.graph_base.specs.TaskLines.{IsGraph, IsTaskLine, IsParent, has_children}
 use Rattle.graph_base.specs.declared.line.Kind.{Kind}
-use Rattle.graph_base.specs.declared.line.Kind.TheVariants.{Source, Fir, Split, Join, Peer, Sink}
+use Rattle.graph_base.specs.declared.line.Kind.TheVariants.{Source, Fir, Negate, Split, Join, Peer, Sink}
 use Rattle.phase_base.specs.declared.operation.Op.TheVariants.{Any}
 use Rattle.graph_base.specs.declared.line.Parent.{Parent}
 use Rattle.stream_lists.specs.Jobs.{Job, samples_at, place_in}
@@ -119,6 +119,7 @@ one_a_step task steps j may = by task.kind refl
     by : (kind : Kind) → task.kind ≡ kind → puts_on task steps j ≡ steps
     by Source e = rw e refl
     by Fir e = rw e refl
+    by Negate e = rw e refl
     by Sink e = rw e refl
     by Join e = rw e refl
     by Peer e = rw e refl

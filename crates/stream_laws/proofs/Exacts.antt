@@ -13,7 +13,7 @@ use Rattle.graph_base.specs.TaskLines.{IsGraph, IsTaskLine, HasEnds, is_distinct
 use Rattle.phase_base.specs.declared.operation.Op.{Op}
 use Rattle.phase_base.specs.declared.operation.Op.TheVariants.{Sum, Product, Least, Greatest, Any}
 use Rattle.graph_base.specs.declared.line.Kind.{Kind}
-use Rattle.graph_base.specs.declared.line.Kind.TheVariants.{Source, Fir, Split, Join, Peer, Sink}
+use Rattle.graph_base.specs.declared.line.Kind.TheVariants.{Source, Fir, Negate, Split, Join, Peer, Sink}
 use Rattle.stream_lists.specs.Jobs.{Job, samples_at, place_in}
 use Rattle.stream_lists.specs.Spans.{signalled_by, takes_from, offset_of, span_at, spans_of, lengths_of, span_in}
 use Rattle.stream_lists.specs.Lists.{entry, taken_from, output_on, member_at, member_by, members_of, sends_in, value_by, number, phase_in, list_over, list_of_phaser, numbers_of, is_sink_at, sink_over, lines_of}
@@ -313,6 +313,7 @@ sink_kind : (kind : Kind) → is_sink kind ≡ true → kind ≡ Sink
 sink_kind Sink e = refl
 sink_kind Source e = absurd (cc)
 sink_kind Fir e = absurd (cc)
+sink_kind Negate e = absurd (cc)
 sink_kind Split e = absurd (cc)
 sink_kind Join e = absurd (cc)
 sink_kind Peer e = absurd (cc)

@@ -11,7 +11,7 @@ use Rattle.phase_accum.specs.declared.outcome.Outcome.TheVariants.{Value, Empty,
 use Rattle.graph_base.specs.Graphs.{Task, task_at, phaser_at}
 use Rattle.graph_base.specs.TaskLines.{IsGraph, IsTaskLine, HasEnds}
 use Rattle.graph_base.specs.declared.line.Kind.{Kind}
-use Rattle.graph_base.specs.declared.line.Kind.TheVariants.{Source, Fir, Split, Join, Peer, Sink}
+use Rattle.graph_base.specs.declared.line.Kind.TheVariants.{Source, Fir, Negate, Split, Join, Peer, Sink}
 use Rattle.graph_base.specs.declared.place.Place.TheVariants as place
 use Rattle.stream_lists.specs.Jobs.{Job, samples_at, place_in}
 use Rattle.stream_lists.specs.Spans.{spans_of, lengths_of, span_in, signalled_by, takes_from}
@@ -229,6 +229,19 @@ made_on job t j is makes = by (task_at job.graph t).kind j refl refl
     by Join i e at = absurd (never Join e refl)
     by Sink i e at = absurd (never Sink e refl)
     by Fir i e at =
+        let Ends : Kind → Type 0 = λ kind.
+        HasEnds kind (length task.inputs) (length task.outputs) in
+        let both : (length task.inputs ≡ 1) × (length task.outputs ≡ 1) = subst Ends e line.ends in
+        let same : signalled_by task ≡ task.outputs = rw e refl in
+        let few : j < length task.outputs = subst (λ qs. j < length qs) same makes.output in
+        let one : length task.outputs ≡ 1 = both.1 in
+        let first : j ≡ 0 = omega arith in (
+          get_or task.outputs 0 0,
+          line.outputs 0 0 (omega arith),
+          ap (λ qs. place_in qs (get_or task.outputs 0 0)) same
+              ∙ (first_place task.outputs (omega arith) ∙ ap (λ k. Some k) (sym first)),
+        )
+    by Negate i e at =
         let Ends : Kind → Type 0 = λ kind.
         HasEnds kind (length task.inputs) (length task.outputs) in
         let both : (length task.inputs ≡ 1) × (length task.outputs ≡ 1) = subst Ends e line.ends in

@@ -1,12 +1,12 @@
 -- How many values a task takes and puts out, over the lists of all phasers.
 use Rattle.std.proofs.Common.{◌≡◌, ℕ, ◌+◌, ◌-◌, ◌<◌, ◌≤◌, Bool, true, false, List, [], length, get_or, take, drop, ℤ, Some, None, refl, sym, ap, subst, ◌∙◌, arith}
-use Rattle.std.specs.Prelude.{Option, nat_lt, if◌then◌else◌}
+use Rattle.std.specs.Prelude.{Option, nat_lt, neg_ℤ, if◌then◌else◌}
 use Rattle.std.proofs.lemmas.List.{length-map, length-take-le, length-drop}
 use Rattle.std.proofs.lemmas.List.FromFn.{length-map-range_with_len}
 use Rattle.graph_base.specs.Graphs.{Task, task_at}
 use Rattle.graph_base.specs.TaskLines.{IsGraph, IsTaskLine, HasEnds}
 use Rattle.graph_base.specs.declared.line.Kind.{Kind}
-use Rattle.graph_base.specs.declared.line.Kind.TheVariants.{Source, Fir, Split, Join, Peer, Sink}
+use Rattle.graph_base.specs.declared.line.Kind.TheVariants.{Source, Fir, Negate, Split, Join, Peer, Sink}
 use Rattle.stream_lists.specs.Jobs.{Job, samples_at, place_in}
 use Rattle.stream_lists.specs.Spans.{signalled_by, LooksAt, puts_on, takes_from, turns_below, offset_of, cut_at, span_at, spans_of, lengths_of, span_in, enough_for, values_from, greatest, end_on, end_of}
 use Rattle.stream_lists.specs.Lists.{turn_at, mixed, mixed_at, taken_by, output_list, output_on, member_at, member_by, list_over, number, numbers_of, end_of_member, ends_on}
@@ -58,6 +58,7 @@ one_enough task samples values one = by task.kind refl
     by Source e = absurd (let b : false ≡ true = sym (ap takes_one e) ∙ one in cc)
     by Join e = absurd (let b : false ≡ true = sym (ap takes_one e) ∙ one in cc)
     by Fir e = rw e refl
+    by Negate e = rw e refl
     by Split e = rw e refl
     by Peer e = rw e refl
     by Sink e = rw e refl
@@ -70,6 +71,7 @@ one_each task steps k one = by task.kind refl
     by Join e = absurd (let b : false ≡ true = sym (ap takes_one e) ∙ one in cc)
     by Source e = rw e refl
     by Fir e = rw e refl
+    by Negate e = rw e refl
     by Split e = rw e refl
     by Peer e = rw e refl
     by Sink e = rw e refl
@@ -79,6 +81,7 @@ has_input : (kind : Kind) (inputs outputs : ℕ) → HasEnds kind inputs outputs
 has_input Source inputs outputs ends one = absurd (cc)
 has_input Join inputs outputs ends one = absurd (cc)
 has_input Fir inputs outputs ends one = omega (arith, ends.0)
+has_input Negate inputs outputs ends one = omega (arith, ends.0)
 has_input Split inputs outputs ends one = omega (arith, ends.0)
 has_input Peer inputs outputs ends one = omega (arith, ends.0)
 has_input Sink inputs outputs ends one = omega (arith, ends.0)
@@ -142,6 +145,7 @@ length-output samples taken task steps j ends lt enough one = by task.kind refl
     by Fir e =
         rw e (length-map-range_with_len _ 0 (length (get_or taken 0 []))
         ∙ one (ap takes_one e))
+    by Negate e = rw e (length-map (get_or taken 0 []) neg_ℤ ∙ one (ap takes_one e))
     by Split e =
         rw e (length-map-range_with_len _ 0
         (turns_below (length task.outputs) j (length (get_or taken 0 [])))
@@ -159,6 +163,7 @@ length-output samples taken task steps j ends lt enough one = by task.kind refl
 looks_first : (kind : Kind) → LooksAt kind 0 0
 looks_first Source = tt
 looks_first Fir = tt
+looks_first Negate = tt
 looks_first Split = tt
 looks_first Join = tt
 looks_first Peer = refl

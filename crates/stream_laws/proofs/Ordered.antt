@@ -7,7 +7,7 @@ use Rattle.std.proofs.lemmas.Option.{same_Some}
 use Rattle.graph_base.specs.Graphs.{Graph, Task, task_at}
 use Rattle.graph_base.specs.TaskLines.{IsGraph, IsTaskLine, IsParent, HasEnds, IsExchangeBelow, has_children, is_distinct}
 use Rattle.graph_base.specs.declared.line.Kind.{Kind}
-use Rattle.graph_base.specs.declared.line.Kind.TheVariants.{Source, Fir, Split, Join, Peer, Sink}
+use Rattle.graph_base.specs.declared.line.Kind.TheVariants.{Source, Fir, Negate, Split, Join, Peer, Sink}
 use Rattle.graph_base.specs.declared.line.Parent.{Parent}
 use Rattle.stream_lists.specs.Jobs.{place_in}
 use Rattle.stream_lists.specs.Spans.{signalled_by, LooksAt}
@@ -120,6 +120,7 @@ AreSameAt d task xs ys At = (k : ℕ) → k < length task.inputs → At k
 pub looks-first : (kind : Kind) (j k : ℕ) → LooksAt kind 0 k → LooksAt kind j k
 looks-first Source j k e = tt
 looks-first Fir j k e = tt
+looks-first Negate j k e = tt
 looks-first Split j k e = tt
 looks-first Join j k e = tt
 looks-first Peer zero k e = e
@@ -164,6 +165,7 @@ looked_above graph t task j k p line place lt looks = by task.kind refl
     by : (kind : Kind) → task.kind ≡ kind → get_or task.inputs k 0 < p
     by Source e = plain (rw e refl)
     by Fir e = plain (rw e refl)
+    by Negate e = plain (rw e refl)
     by Split e = plain (rw e refl)
     by Join e = plain (rw e refl)
     by Sink e = plain (rw e refl)
@@ -192,6 +194,7 @@ plain_ends task e = by task.kind refl
     by : (kind : Kind) → task.kind ≡ kind → signalled_by task ≡ task.outputs
     by Source k = rw k refl
     by Fir k = rw k refl
+    by Negate k = rw k refl
     by Sink k = rw k refl
     by Split k = rw k refl
     by Join k = rw k refl

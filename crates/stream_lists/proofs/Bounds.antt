@@ -14,7 +14,7 @@ use Rattle.std.proofs.Math.Nat.{add-mul}
 use Rattle.graph_base.specs.Graphs.{Graph, Task, task_at, source_number}
 use Rattle.graph_base.specs.TaskLines.{IsGraph, IsTaskLine, IsParent, HasEnds, has_children, is_distinct}
 use Rattle.graph_base.specs.declared.line.Kind.{Kind}
-use Rattle.graph_base.specs.declared.line.Kind.TheVariants.{Source, Fir, Split, Join, Peer, Sink}
+use Rattle.graph_base.specs.declared.line.Kind.TheVariants.{Source, Fir, Negate, Split, Join, Peer, Sink}
 use Rattle.graph_base.specs.declared.line.Parent.{Parent}
 use Rattle.stream_lists.specs.Jobs.{Job, samples_at}
 use Rattle.stream_lists.specs.Spans.{nowhere, turns_below, puts_on, run_out, first_run_out, enough_for, cut_at, offset_of, values_from, span_at, span_of, spans_up_to, spans_over, end_on, end_of, length_on, lengths_up_to}
@@ -221,6 +221,7 @@ enough_reach task samples offset n t lengths are ends distinct few root at = by 
         let is : enough_for task samples (values_from task lengths offset) ≡ samples = rw e refl in
         omega arith
     by Fir e = first (rw e refl)
+    by Negate e = first (rw e refl)
     by Split e = first (rw e refl)
     by Peer e = first (rw e refl)
     by Sink e = first (rw e refl)
@@ -361,6 +362,7 @@ puts-most task steps j ends = by task.kind refl
     by : (kind : Kind) → task.kind ≡ kind → puts_on task steps j ≤ steps
     by Source e = same (rw e refl)
     by Fir e = same (rw e refl)
+    by Negate e = same (rw e refl)
     by Join e = same (rw e refl)
     by Peer e = same (rw e refl)
     by Sink e = same (rw e refl)

@@ -7,12 +7,13 @@ use Rattle.phase_accum.specs.declared.outcome.Outcome.TheVariants.{Value, Empty,
 use Rattle.phase_accum.specs.Values.{applied}
 pub use Rattle.phase_accum.specs.Values.{value_by}
 use Rattle.stream_filters.specs.Filter.{outputs}
+use Rattle.stream_filters.specs.Negative.{negatives}
 use Rattle.graph_base.specs.Graphs.{Task, task_at, phaser_at, is_sink}
 use Rattle.stream_lists.specs.Jobs.{Job, samples_at, place_in}
 use Rattle.stream_lists.specs.Spans.{nowhere, turns_below, signalled_by, takes_from, spans_of, lengths_of}
 use Rattle.stream_lists.specs.declared.span.Span.{Span}
 use Rattle.graph_base.specs.declared.line.Kind.{Kind}
-use Rattle.graph_base.specs.declared.line.Kind.TheVariants.{Source, Fir, Split, Join, Peer, Sink}
+use Rattle.graph_base.specs.declared.line.Kind.TheVariants.{Source, Fir, Negate, Split, Join, Peer, Sink}
 
 -- ---- what a task puts out
 
@@ -59,6 +60,7 @@ output_list samples taken task steps j = of task.kind
     of : Kind → List ℤ
     of Source = take steps samples
     of Fir = outputs task.taps task.shift (get_or taken 0 [])
+    of Negate = negatives (get_or taken 0 [])
     of Split = every (length task.outputs) j (get_or taken 0 [])
     of Join = in_turn taken steps
     of Peer =

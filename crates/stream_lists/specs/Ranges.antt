@@ -11,7 +11,7 @@ use Rattle.stream_lists.specs.Spans.{nowhere, signalled_by, takes_from, spans_of
 use Rattle.stream_lists.specs.Lists.{Member, members_of, output_on, sends_in, value_by, numbers_above, lines_of}
 use Rattle.stream_lists.specs.declared.span.Span.{Span}
 use Rattle.graph_base.specs.declared.line.Kind.{Kind}
-use Rattle.graph_base.specs.declared.line.Kind.TheVariants.{Source, Fir, Split, Join, Peer, Sink}
+use Rattle.graph_base.specs.declared.line.Kind.TheVariants.{Source, Fir, Negate, Split, Join, Peer, Sink}
 use Rattle.graph_base.specs.declared.place.Place.{Place}
 use Rattle.graph_base.specs.declared.place.Place.TheVariants as place
 
@@ -35,6 +35,7 @@ is_out_of_range z = not (nat_le (unsigned_abs z) value_max)
 -- peer's on Y
 abbrev pub are_made : Kind → ℕ → Bool
 are_made Fir j = true
+are_made Negate j = true
 are_made Peer j = nat_lt 0 j
 are_made Source j = false
 are_made Split j = false

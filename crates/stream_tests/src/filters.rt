@@ -1,7 +1,7 @@
 //! Filters, splitters, joiners and peers step by step.
 use std::alloc::AllocError;
 use std::test::*;
-use stream_filters::{Fir, FirFault, Join, Peer, Split, TooBigValue, VALUE_MAX, VALUE_MIN};
+use stream_filters::{Fir, FirFault, Join, Negate, Peer, Split, TooBigValue, VALUE_MAX, VALUE_MIN};
 
 /// The filter, or that memory ran out.
 fn made(fir: Result<Fir, FirFault>) -> Result<Fir, AllocError> {
@@ -14,6 +14,14 @@ fn rounds_down_and_not_towards_zero(rt: HostRuntime) -> Result<(), Fail> {
     assert_eq!(rt; fir.step(-1), Ok(-1));
     assert_eq!(rt; fir.step(-1), Ok(-1));
     assert_eq!(rt; fir.step(0), Ok(-1));
+    Ok(())
+}
+
+#[test]
+fn a_negation_answers_the_negative(rt: HostRuntime) -> Result<(), Fail> {
+    assert_eq!(rt; Negate::answer(7), Ok(-7));
+    assert_eq!(rt; Negate::answer(VALUE_MIN), Ok(VALUE_MAX));
+    assert_eq!(rt; Negate::answer(i64::MIN), Err(TooBigValue));
     Ok(())
 }
 

@@ -20,6 +20,30 @@ fn no_samples_give_no_values(rt: HostRuntime) -> Result<(), Fail> {
     Ok(())
 }
 
+/// A negation, and one that it registers after its first step.
+const NEGATIONS: &str = "phaser X sum 4\nphaser Y sum 4\nsource s s.csv -> X\n\
+    negate n X -> Y\nnegate m X -> Y by n at 1\nsink out Y\n";
+
+#[test]
+fn a_negation_negates_each_value(rt: HostRuntime) -> Result<(), Fail> {
+    let samples = ["5\n-9223372036854775807\n0\n"];
+    let alone = "phaser X sum 4\nphaser Y sum 4\nsource s s.csv -> X\nnegate n X -> Y\nsink out Y\n";
+    let lines = lines_of(rt.alloc(), alone, &samples)?;
+    assert_eq!(rt; lines.as_str(), "2: -5 9223372036854775807 0\n");
+    let listed = evaluated(rt.alloc(), alone, &samples)?;
+    assert_eq!(rt; listed.as_str(), "2: -5 9223372036854775807 0\n");
+    Ok(())
+}
+
+#[test]
+fn a_negation_registers_another(rt: HostRuntime) -> Result<(), Fail> {
+    let lines = lines_of(rt.alloc(), NEGATIONS, &["5\n3\n-1\n"])?;
+    assert_eq!(rt; lines.as_str(), "3: -5 -6 2\n");
+    let listed = evaluated(rt.alloc(), NEGATIONS, &["5\n3\n-1\n"])?;
+    assert_eq!(rt; listed.as_str(), "3: -5 -6 2\n");
+    Ok(())
+}
+
 /// A splitter, of whose outputs one has a filter that signals with a filter of the splitter's input.
 const TO_ONE_BUS: &str = "phaser X sum 1\nphaser A sum 1\nphaser B sum 1\nphaser S sum 1\n\
     source s s.csv -> X\nsplit d X -> A B\nfir f A -> S shift 0 taps 1\n\
