@@ -11,7 +11,8 @@ use Rattle.phase_history.specs.declared.refusal.SignalRefusal.TheVariants.{NoSig
 use Rattle.phase_history.specs.declared.refusal.WaitRefusal.TheVariants.{NotYet}
 use Rattle.phase_history.specs.Histories.{History}
 use Rattle.phase_history.specs.Legal.{IsLegal}
-use Rattle.phase_history.specs.Others.{OthersCame, is_in, events_of}
+use Rattle.phase_history.specs.Others.{OthersCame, events_of}
+use Rattle.phase_base.specs.Lists.{is_in}
 use Rattle.phase_history.specs.Replies.{signal_reply}
 use Rattle.phase_core.specs.Blocks.{StandForLists}
 use Rattle.phase_shared.specs.Calls.{Signals}

@@ -8,7 +8,8 @@ use Rattle.phase_history.specs.declared.event.Event.TheVariants.{Registered, Sig
 use Rattle.phase_history.specs.Histories.{IsBeginning, founder, entry_at, has_dropped}
 use Rattle.phase_history.specs.Phases.{list_in_phase}
 use Rattle.phase_history.specs.Legal.{IsLegal}
-use Rattle.phase_history.specs.Others.{is_in, is_by, IsUsed, OnlyUsed, OthersCame, children_in, events_of}
+use Rattle.phase_history.specs.Others.{is_by, IsUsed, OnlyUsed, OthersCame, children_in, events_of}
+use Rattle.phase_base.specs.Lists.{is_in}
 use Rattle.phase_history.specs.Sent.{sent_in, OnlySignalled, OneHasSent}
 use Rattle.core_tests.specs.Worked.{worked_limits, founded, one_child, one_signal, two_signals, one_wait, all_left, all_got, everyone_left, half_turn, late_child}
 

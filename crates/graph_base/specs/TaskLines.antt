@@ -2,6 +2,7 @@
 use Rattle.std.specs.Prelude.{ℕ, ◌≡◌, ◌<◌, ◌≤◌, List, [], ◌∷◌, ◌++◌, ◌==◌, ◌&&◌, not, length, get_or, ℤ, pos, unsigned_abs, Some, None, IfSome, IsTrue, Bool, true, false}
 use Rattle.std.specs.List.{All, Contains, list_any}
 use Rattle.phase_base.specs.Limits.{IsBound}
+use Rattle.phase_base.specs.Lists.{is_distinct}
 use Rattle.phase_accum.specs.Singles.{CanBeNamed}
 use Rattle.stream_filters.specs.Filter.{AreTaps}
 use Rattle.graph_words.specs.Words.{Word, is_name, is_file}
@@ -47,11 +48,6 @@ has_children Split = false
 has_children Join = false
 has_children Peer = false
 has_children Sink = true
-
--- whether no number stands twice in the list
-abbrev pub is_distinct : List ℕ → Bool
-is_distinct [] = true
-is_distinct (p ∷ ps) = not (list_any (λ q. q == p) ps) && is_distinct ps
 
 -- each of these numbers is among those
 abbrev pub AreAmong : List ℕ → List ℕ → Type 0

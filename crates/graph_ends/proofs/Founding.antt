@@ -11,7 +11,8 @@ use Rattle.phase_accum.specs.declared.single.Single.{Single}
 use Rattle.phase_history.specs.declared.event.Event.TheVariants.{Made, Registered, RegisteredNow, Signalled, Waited, Dropped}
 use Rattle.phase_history.specs.Histories.{History, IsBeginning, founder, has_dropped, start_of}
 use Rattle.phase_history.specs.Legal.{IsLegal}
-use Rattle.phase_history.specs.Others.{events_of, children_in, is_in, OthersCame, phases_of_signal}
+use Rattle.phase_history.specs.Others.{events_of, children_in, OthersCame, phases_of_signal}
+use Rattle.phase_base.specs.Lists.{is_in}
 use Rattle.phase_history.specs.Sent.{NamesAll, IsSilent}
 use Rattle.phase_history.proofs.Beginnings.{IsBeginning-trans}
 use Rattle.phase_history.proofs.OthersEvents.{IsBeginning-others, events_of-others, phases_signalled-events}

@@ -5,7 +5,8 @@ use Rattle.std.proofs.lemmas.Bool.{eqb-true, eq-eqb}
 use Rattle.phase_base.specs.declared.entry.Entry.{Entry}
 use Rattle.phase_history.specs.Histories.{History, IsBeginning, has_dropped, start_of, HasNoSignaller}
 use Rattle.phase_history.specs.declared.event.Event.TheVariants.{Made}
-use Rattle.phase_history.specs.Others.{is_in, events_of, children_in, IsUsed, OnlyUsed, OthersCame}
+use Rattle.phase_history.specs.Others.{events_of, children_in, IsUsed, OnlyUsed, OthersCame}
+use Rattle.phase_base.specs.Lists.{is_in}
 use Rattle.phase_history.specs.Sent.{NamesAll, IsSilent}
 use Rattle.phase_history.proofs.Beginnings.{IsBeginning-trans}
 use Rattle.phase_history.proofs.Descent.{OnlyUsed-descent}

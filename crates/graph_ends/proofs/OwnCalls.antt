@@ -10,7 +10,8 @@ use Rattle.phase_history.specs.declared.event.Event.{Event}
 use Rattle.phase_history.specs.declared.event.Event.TheVariants.{Registered, Waited, Dropped}
 use Rattle.phase_history.specs.Histories.{History}
 use Rattle.phase_history.specs.Phases.{received_by}
-use Rattle.phase_history.specs.Others.{events_of, children_in, is_in, OthersCame}
+use Rattle.phase_history.specs.Others.{events_of, children_in, OthersCame}
+use Rattle.phase_base.specs.Lists.{is_in}
 use Rattle.phase_history.specs.Sent.{NamesAll}
 use Rattle.phase_history.proofs.OthersEvents.{received_by-others}
 use Rattle.graph_base.specs.declared.line.Parent.{Parent}

@@ -5,7 +5,8 @@ use Rattle.std.specs.List.{All}
 use Rattle.phase_history.specs.declared.event.Event.TheVariants.{Made, Signalled}
 use Rattle.phase_history.specs.Histories.{History, IsBeginning, has_dropped}
 use Rattle.phase_history.specs.Phases.{received_by}
-use Rattle.phase_history.specs.Others.{events_of, children_in, is_in}
+use Rattle.phase_history.specs.Others.{events_of, children_in}
+use Rattle.phase_base.specs.Lists.{is_in}
 use Rattle.phase_history.specs.Sent.{NamesAll}
 use Rattle.graph_base.specs.declared.line.Kind.TheVariants.{Sink}
 use Rattle.graph_base.specs.declared.line.Parent.{Parent}

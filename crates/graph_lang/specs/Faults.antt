@@ -1,5 +1,6 @@
 -- The kinds of fault of a line that is in the grammar, and their order.
 use Rattle.std.specs.Prelude.{ℕ, ◌==◌, Bool, true, false, ◌&&◌, ◌||◌, not, nat_lt, nat_le, List, [], ◌∷◌, ◌++◌, length, get_or, Option, Some, None, is_some, if◌then◌else◌, unsigned_abs}
+use Rattle.phase_base.specs.Lists.{first_row}
 use Rattle.std.specs.List.{list_all, list_any}
 use Rattle.std.specs.Option.{option_map_or}
 use Rattle.std.specs.Int.Signed.{le_z}
@@ -167,11 +168,6 @@ is_not_held before (task name body ends) =
     not (is_held before (task_line before.names 0 body ends))
 
 -- ---- the order of the kinds
-
--- what stands beside the first `true`
-abbrev pub first_row : {R : Type 0} → List (Bool × R) → Option R
-first_row [] = None
-first_row (row ∷ rows) = if row.0 then Some row.1 else first_row rows
 
 -- the first kind of fault of a line, after the lines above it
 abbrev pub kind_of : Graph → Decl → Option FaultKind

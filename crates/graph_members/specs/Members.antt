@@ -14,7 +14,8 @@ use Rattle.phase_accum.specs.declared.single.Single.{Single}
 use Rattle.phase_history.specs.declared.refusal.RegisterRefusal.{RegisterRefusal}
 use Rattle.phase_history.specs.Histories.{History, members_of}
 use Rattle.phase_history.specs.Legal.{IsLegal}
-use Rattle.phase_history.specs.Others.{OthersCame, OnlyUsed, is_distinct}
+use Rattle.phase_history.specs.Others.{OthersCame, OnlyUsed}
+use Rattle.phase_base.specs.Lists.{is_distinct}
 use Rattle.phase_seats.specs.declared.rule.Terms.{Terms}
 use Rattle.phase_seats.specs.declared.rule.NoRule.{NoRule}
 use Rattle.phase_shared.specs.Calls.{HasRegistered, RefusesRegister, Leaves}

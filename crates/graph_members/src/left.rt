@@ -1,7 +1,7 @@
 //! What members that left have seen.
 ghost use Rattle.std.specs.Prelude.{◌≡◌, true};
 ghost use Rattle.phase_history.specs.Legal.{IsLegal};
-ghost use Rattle.phase_history.specs.Others.{is_distinct};
+ghost use Rattle.phase_base.specs.Lists.{is_distinct};
 ghost use Rattle.graph_members.specs.Members.{limits_on, HasJoined};
 
 use phase_accum::Accumulate;

@@ -12,7 +12,7 @@ use Rattle.phase_history.specs.Legal.{IsLegal}
 use Rattle.phase_history.proofs.Steps.{done_below_top, sound_of}
 use Rattle.stream_lists.specs.Lists.{Member, send_in, sends_in, end_of_member}
 use Rattle.stream_lists.specs.Spans.{greatest}
-use Rattle.phase_history.specs.Others.{is_in}
+use Rattle.phase_base.specs.Lists.{is_in}
 use Rattle.phase_history.specs.Sent.{sent_by, sent_in, gathered, IsSilent, ReachesTop}
 use Rattle.phase_history.proofs.Sendings.{length-sent_by, sent_in-none, SentInTurn, SentInTurn-of}
 use Rattle.phase_history.proofs.Signallers.{holds_open, all_dropped, done_at_top, ReachesTop-of, below_top}

@@ -10,7 +10,7 @@ use Rattle.phase_accum.specs.Exchanges.{Exchanges}
 use Rattle.phase_accum.proofs.Orders.{Exchanges-sum, Exchanges-product, Exchanges-least, Exchanges-greatest}
 use Rattle.phase_history.specs.Histories.{History}
 use Rattle.phase_history.specs.Phases.{sends_of_phase}
-use Rattle.phase_history.specs.Others.{is_in}
+use Rattle.phase_base.specs.Lists.{is_in}
 use Rattle.phase_history.specs.Sent.{sent_in, gathered, OnlySignalled, OneHasSent}
 use Rattle.phase_history.proofs.Gathered.{sends_are_gathered}
 use Rattle.phase_history.proofs.OneSender.{gathered_alone}

@@ -5,7 +5,7 @@ use Rattle.std.proofs.lemmas.Bool.{eq-eqb}
 use Rattle.phase_accum.specs.Values.{applied}
 use Rattle.phase_history.specs.Histories.{History, done_of, top_of}
 use Rattle.phase_history.specs.Phases.{sends_of_phase, single_of_phase, value_of_phase}
-use Rattle.phase_history.specs.Others.{is_in}
+use Rattle.phase_base.specs.Lists.{is_in}
 use Rattle.phase_history.specs.Sent.{gathered, IsSilent}
 use Rattle.phase_history.proofs.Steps.{done_below_top, sound_of}
 use Rattle.phase_history.proofs.Sendings.{single_of_phase-all}

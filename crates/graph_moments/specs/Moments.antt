@@ -13,7 +13,8 @@ use Rattle.phase_history.specs.declared.event.Event.TheVariants.{Waited}
 use Rattle.phase_history.specs.Histories.{History, done_of, start_of, has_dropped, wait_phase, HasNoSignaller}
 use Rattle.phase_history.specs.Phases.{received_by, stream_of}
 use Rattle.phase_history.specs.Legal.{IsLegal}
-use Rattle.phase_history.specs.Others.{is_in, IsUsed}
+use Rattle.phase_history.specs.Others.{IsUsed}
+use Rattle.phase_base.specs.Lists.{is_in}
 use Rattle.phase_history.specs.Sent.{sent_by, NamesAll, IsSilent}
 use Rattle.graph_base.specs.declared.line.Kind.{Kind}
 use Rattle.graph_base.specs.declared.line.Kind.TheVariants.{Source, Join, Peer}

@@ -9,7 +9,8 @@ use Rattle.phase_history.specs.declared.event.Event.TheVariants.{Registered}
 use Rattle.phase_history.specs.Histories.{History, IsBeginning, entry_at, signal_phase, wait_phase, greatest_used, start_of}
 use Rattle.phase_history.specs.Laws.{HasNoEvents}
 use Rattle.phase_history.specs.Legal.{IsLegal}
-use Rattle.phase_history.specs.Others.{is_in, IsUsed}
+use Rattle.phase_history.specs.Others.{IsUsed}
+use Rattle.phase_base.specs.Lists.{is_in}
 use Rattle.phase_history.specs.Sent.{NamesAll, IsSilent}
 use Rattle.phase_history.proofs.LawProofs.{above_law}
 use Rattle.phase_history.proofs.Refused.{registers_from}

@@ -6,7 +6,8 @@ use Rattle.std.proofs.lemmas.List.FromFn.{length-map-range_with_len}
 use Rattle.phase_base.specs.declared.entry.Entry.{Entry}
 use Rattle.phase_history.specs.Histories.{History, done_of, has_dropped, start_of, phases_signalled}
 use Rattle.phase_history.specs.Phases.{received_by, stream_of, value_of_phase}
-use Rattle.phase_history.specs.Others.{is_in, OthersCame}
+use Rattle.phase_history.specs.Others.{OthersCame}
+use Rattle.phase_base.specs.Lists.{is_in}
 use Rattle.phase_history.specs.Sent.{sent_by, IsSilent}
 use Rattle.phase_history.proofs.OthersEvents.{sent_by-others, has_dropped-others, received_by-others, phases_signalled-others}
 use Rattle.phase_history.proofs.Used.{start_of-longer}

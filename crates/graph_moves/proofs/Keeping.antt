@@ -6,7 +6,8 @@ use Rattle.phase_history.specs.declared.event.Event.{Event}
 use Rattle.phase_history.specs.declared.event.Event.TheVariants.{Signalled, Waited, Dropped}
 use Rattle.phase_history.specs.Histories.{History, IsBeginning, start_of}
 use Rattle.phase_history.specs.Legal.{IsLegal}
-use Rattle.phase_history.specs.Others.{is_by, is_in, IsUsed, OthersCame}
+use Rattle.phase_history.specs.Others.{is_by, IsUsed, OthersCame}
+use Rattle.phase_base.specs.Lists.{is_in}
 use Rattle.phase_history.specs.Sent.{NamesAll, IsSilent}
 use Rattle.phase_history.proofs.OthersEvents.{OthersCame-refl, OthersCame-event, phases_signalled-others}
 use Rattle.phase_history.proofs.Used.{IsUsed-longer}

@@ -23,7 +23,8 @@ use Rattle.graph_base.specs.declared.line.Kind.{Kind}
 use Rattle.graph_base.specs.declared.line.Kind.TheVariants.{Source, Fir, Split, Join, Peer, Sink}
 use Rattle.graph_base.specs.declared.line.Parent.{Parent}
 use Rattle.graph_base.specs.Graphs.{task_at}
-use Rattle.graph_base.specs.TaskLines.{IsGraph, IsTaskLine, has_children, is_distinct}
+use Rattle.graph_base.specs.TaskLines.{IsGraph, IsTaskLine, has_children}
+use Rattle.phase_base.specs.Lists.{is_distinct}
 use Rattle.stream_lists.specs.Jobs.{Job, place_in}
 use Rattle.stream_lists.specs.Spans.{signalled_by}
 use Rattle.stream_lists.specs.Lists.{number}

@@ -4,7 +4,8 @@ use Rattle.phase_base.specs.declared.mode.Mode.{Mode}
 use Rattle.phase_history.specs.declared.event.Event.TheVariants.{Made, Registered, RegisteredNow, Signalled, Waited, Dropped}
 use Rattle.phase_history.specs.declared.event.Event.{Event}
 use Rattle.phase_history.specs.Histories.{History}
-use Rattle.phase_history.specs.Others.{events_of, children_in, is_in, OthersCame}
+use Rattle.phase_history.specs.Others.{events_of, children_in, OthersCame}
+use Rattle.phase_base.specs.Lists.{is_in}
 use Rattle.phase_history.proofs.Beginnings.{IsBeginning-trans}
 use Rattle.phase_history.proofs.OthersEvents.{IsBeginning-others, events_of-others}
 use Rattle.phase_history.specs.declared.refusal.RegisterRefusal.{RegisterRefusal}

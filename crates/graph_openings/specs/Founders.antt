@@ -6,7 +6,8 @@ use Rattle.phase_base.specs.declared.operation.Op.{Op}
 use Rattle.phase_history.specs.declared.event.Event.TheVariants.{Made, Registered}
 use Rattle.phase_history.specs.Histories.{History, IsBeginning}
 use Rattle.phase_history.specs.Legal.{IsLegal}
-use Rattle.phase_history.specs.Others.{events_of, children_in, is_in}
+use Rattle.phase_history.specs.Others.{events_of, children_in}
+use Rattle.phase_base.specs.Lists.{is_in}
 use Rattle.graph_members.specs.Members.{Spot, limits_on, MemberState}
 use Rattle.graph_members.specs.AnyMembers.{member_in, member_op, left_in, left_op}
 use Rattle.graph_members.specs.declared.any_member.AnyMember.{AnyMember}

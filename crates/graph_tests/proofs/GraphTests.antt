@@ -16,7 +16,8 @@ use Rattle.graph_base.specs.declared.place.Place.{Place}
 use Rattle.graph_base.specs.declared.place.Place.TheVariants as at_place
 use Rattle.graph_base.specs.Graphs.{Graph, Task, Named, IsPlace, name_at, task_at, phaser_at, sources_of}
 use Rattle.graph_base.specs.Names.{place_of}
-use Rattle.graph_base.specs.TaskLines.{IsGraph, IsTaskLine, IsPhaserLine, IsParent, AreNames, AreRising, AreAmong, HasEnds, HasTaps, HasFactor, IsExchangeBelow, has_children, is_distinct}
+use Rattle.graph_base.specs.TaskLines.{IsGraph, IsTaskLine, IsPhaserLine, IsParent, AreNames, AreRising, AreAmong, HasEnds, HasTaps, HasFactor, IsExchangeBelow, has_children}
+use Rattle.phase_base.specs.Lists.{is_distinct}
 use Rattle.graph_tests.proofs.Tests as test
 use Rattle.graph_tests.proofs.Tests.{Test, Both, never, always, giving, both, either, each, when_some, where_so}
 

@@ -3,7 +3,7 @@ use Rattle.std.proofs.Common.{◌≡◌, ◌≢◌, ℕ, ◌<◌, ◌||◌, Bool
 use Rattle.std.proofs.lemmas.List.{append_assoc}
 use Rattle.phase_history.specs.declared.event.Event.{Event}
 use Rattle.phase_history.specs.Histories.{History, IsBeginning}
-use Rattle.phase_history.specs.Others.{is_in}
+use Rattle.phase_base.specs.Lists.{is_in}
 use Rattle.graph_base.specs.TaskLines.{IsGraph}
 use Rattle.stream_lists.specs.Jobs.{Job}
 use Rattle.graph_moments.specs.Moments.{Moment, HasRun}

@@ -1,6 +1,7 @@
 -- The lines of a text, and the words of a line.
 use Rattle.std.specs.Prelude.{ℕ, ◌-◌, ◌==◌, ◌||◌, Bool, true, not, if◌then◌else◌, List, [], ◌∷◌, length, map, take, filter, slice_index}
 use Rattle.std.specs.List.{slice_split, list_all}
+use Rattle.phase_base.specs.Lists.{without_cr}
 use Rattle.graph_words.specs.Words.{Word, is_word_byte}
 
 -- whether a byte ends a line
@@ -10,11 +11,6 @@ is_line_feed b = b == 10
 -- a space or a tab
 abbrev pub is_blank : ℕ → Bool
 is_blank b = (b == 32) || (b == 9)
-
--- one carriage return at the end is taken away
-abbrev pub without_cr : List ℕ → List ℕ
-without_cr line =
-    if slice_index line (length line - 1) == 13 then take (length line - 1) line else line
 
 -- the lines of a text, from the first on. What follows the last line feed is one more line: where
 -- it is empty it has no words

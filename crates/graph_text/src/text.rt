@@ -1,7 +1,8 @@
 //! The lines of a text, and the words of a line.
 ghost use Rattle.std.specs.Prelude.{◌≡◌, IfOk, map};
 ghost use Rattle.std.specs.List.{slice_split};
-ghost use Rattle.graph_text.specs.Texts.{is_line_feed, is_blank, without_cr, words_of, are_printable};
+ghost use Rattle.graph_text.specs.Texts.{is_line_feed, is_blank, words_of, are_printable};
+ghost use Rattle.phase_base.specs.Lists.{without_cr};
 ghost use Rattle.graph_text.specs.Texts.{begins_comment};
 ghost use Rattle.graph_text.specs.Plain.{plain};
 

@@ -9,7 +9,7 @@ use Rattle.phase_base.specs.declared.mode.Mode.{Mode}
 use Rattle.phase_history.specs.Histories.{History, members_of, start_of, has_dropped, phases_signalled, phases_waited, IsAlive}
 use Rattle.phase_history.specs.Phases.{sends_of_phase, received_by}
 use Rattle.phase_history.specs.Legal.{IsLegal}
-use Rattle.phase_history.specs.Others.{is_in}
+use Rattle.phase_base.specs.Lists.{is_in}
 use Rattle.phase_history.specs.Sent.{sent_by, sent_in, gathered, IsSilent}
 use Rattle.phase_history.proofs.Alive.{alive_law}
 use Rattle.phase_history.proofs.Gathered.{sends_are_gathered}

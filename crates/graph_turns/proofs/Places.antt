@@ -7,7 +7,8 @@ use Rattle.std.proofs.lemmas.Option.{same_Some}
 use Rattle.std.proofs.lemmas.List.{append-nil, length-map, get_or-map, length-append}
 use Rattle.std.proofs.lemmas.List.{get_or-append_right, get_or_append_left}
 use Rattle.graph_base.specs.Graphs.{Graph, Task, task_at}
-use Rattle.graph_base.specs.TaskLines.{IsTaskLine, HasEnds, is_distinct}
+use Rattle.graph_base.specs.TaskLines.{IsTaskLine, HasEnds}
+use Rattle.phase_base.specs.Lists.{is_distinct}
 use Rattle.graph_base.specs.Registrations.{no_registration}
 use Rattle.graph_base.specs.declared.line.Kind.{Kind}
 use Rattle.graph_base.specs.declared.line.Kind.TheVariants.{Source, Fir, Split, Join, Peer, Sink}

@@ -17,7 +17,8 @@ use Rattle.graph_base.specs.declared.line.Parent.{Parent}
 use Rattle.graph_base.specs.declared.registration.Registration.{Registration}
 use Rattle.graph_base.specs.Graphs.{task_at, phaser_at}
 use Rattle.graph_base.specs.Registrations.{no_registration}
-use Rattle.graph_base.specs.TaskLines.{IsGraph, is_distinct}
+use Rattle.graph_base.specs.TaskLines.{IsGraph}
+use Rattle.phase_base.specs.Lists.{is_distinct}
 use Rattle.graph_base.proofs.Registered.{registrations-phasers}
 use Rattle.stream_lists.specs.Jobs.{Job, place_in}
 use Rattle.stream_lists.proofs.Growing.{filter_map-same}

@@ -21,7 +21,8 @@ use Rattle.phase_history.specs.declared.refusal.WaitRefusal.TheVariants as wait
 use Rattle.phase_history.specs.declared.refusal.RegisterRefusal.TheVariants as register
 use Rattle.phase_history.specs.Histories.{History, members_of, done_of, signal_phase, wait_phase, greatest_used}
 use Rattle.phase_history.specs.Phases.{sends_of_phase, named_in_phase, first_named, is_among}
-use Rattle.phase_history.specs.Refusals.{signal_refusal, register_refusal, first_row, is_ahead, is_bad_block}
+use Rattle.phase_history.specs.Refusals.{signal_refusal, register_refusal, is_ahead, is_bad_block}
+use Rattle.phase_base.specs.Lists.{first_row}
 use Rattle.phase_history.specs.Replies.{wait_reply, refused_or, got_at}
 use Rattle.phase_history.specs.Sent.{NamesAll}
 use Rattle.phase_history.proofs.Steps.{member_entry_is}

@@ -15,7 +15,8 @@ use Rattle.phase_history.specs.declared.refusal.SignalRefusal.TheVariants as sig
 use Rattle.phase_history.specs.declared.refusal.WaitRefusal.TheVariants as wait
 use Rattle.phase_history.specs.Histories.{History, positions_of, members_of, done_of, wait_phase}
 use Rattle.phase_history.specs.Phases.{sends_of_phase, named_in_phase}
-use Rattle.phase_history.specs.Refusals.{first_row, refusal_at, signal_rows, wait_rows, signal_refusal, is_ahead, is_bad_block, differs}
+use Rattle.phase_history.specs.Refusals.{refusal_at, signal_rows, wait_rows, signal_refusal, is_ahead, is_bad_block, differs}
+use Rattle.phase_base.specs.Lists.{first_row}
 use Rattle.phase_history.specs.Replies.{wait_reply, refused_or, got_at}
 use Rattle.phase_history.specs.Refusals.{register_refusal, drop_refusal}
 use Rattle.phase_accum.specs.Sends.{AreSends, value_max}

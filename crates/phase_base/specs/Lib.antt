@@ -1,4 +1,5 @@
 pub mod Limits
+pub mod Lists
 pub mod Members
 pub mod Modes
 pub mod OperationWords

@@ -12,7 +12,8 @@ use Rattle.phase_accum.specs.Operations.{Operation}
 use Rattle.phase_history.specs.declared.event.Event.TheVariants.{Registered}
 use Rattle.phase_history.specs.declared.refusal.RegisterRefusal.TheVariants as register
 use Rattle.phase_history.specs.Histories.{History, entry_at, greatest_used}
-use Rattle.phase_history.specs.Refusals.{register_refusal, refusal_at, register_rows, first_row}
+use Rattle.phase_history.specs.Refusals.{register_refusal, refusal_at, register_rows}
+use Rattle.phase_base.specs.Lists.{first_row}
 use Rattle.phase_history.proofs.MemberLemmas.{holds_signals, holds_waits}
 use Rattle.phase_history.proofs.Refused.{Registers as MayRegister, registers_from}
 use Rattle.phase_registry.specs.declared.refusal.AddRefusal.TheVariants as add

@@ -14,7 +14,8 @@ use Rattle.phase_history.specs.declared.refusal.WaitRefusal.TheVariants as wait
 use Rattle.phase_base.specs.Members.{entry_of, signal_phases, least}
 use Rattle.phase_history.specs.Histories.{History, members_of, done_of, wait_phase, signal_phase}
 use Rattle.phase_history.specs.Phases.{value_of_phase}
-use Rattle.phase_history.specs.Refusals.{first_row, refusal_at, wait_refusal, plain_wait_rows, wait_rows_at}
+use Rattle.phase_history.specs.Refusals.{refusal_at, wait_refusal, plain_wait_rows, wait_rows_at}
+use Rattle.phase_base.specs.Lists.{first_row}
 use Rattle.phase_history.specs.Replies.{wait_reply, refused_or, got_at}
 use Rattle.phase_history.specs.Legal.{IsLegal}
 use Rattle.phase_history.proofs.Steps.{member_entry_is}

@@ -13,7 +13,8 @@ use Rattle.phase_accum.specs.Parcels.{Parcel}
 use Rattle.phase_history.specs.declared.refusal.SignalRefusal.{SignalRefusal}
 use Rattle.phase_history.specs.declared.refusal.SignalRefusal.TheVariants as signal
 use Rattle.phase_history.specs.Histories.{History, members_of, top_of, done_of, greatest_used}
-use Rattle.phase_history.specs.Refusals.{first_row, signal_rows, signal_rows_before, list_rows, signal_refusal, refusal_at}
+use Rattle.phase_history.specs.Refusals.{signal_rows, signal_rows_before, list_rows, signal_refusal, refusal_at}
+use Rattle.phase_base.specs.Lists.{first_row}
 use Rattle.phase_history.proofs.Refused.{no_row}
 use Rattle.phase_history.proofs.BlockAnswers.{or_false}
 use Rattle.phase_history.proofs.Tops.{top_within}

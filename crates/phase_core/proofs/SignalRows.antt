@@ -17,7 +17,8 @@ use Rattle.phase_history.specs.declared.refusal.SignalRefusal.{SignalRefusal}
 use Rattle.phase_history.specs.declared.refusal.SignalRefusal.TheVariants as signal
 use Rattle.phase_history.specs.Histories.{History, signal_phase, members_of, top_of}
 use Rattle.phase_history.specs.Phases.{sends_of_phase, named_in_phase}
-use Rattle.phase_history.specs.Refusals.{first_row, signal_refusal, is_ahead, phase_rows, list_rows}
+use Rattle.phase_history.specs.Refusals.{signal_refusal, is_ahead, phase_rows, list_rows}
+use Rattle.phase_base.specs.Lists.{first_row}
 use Rattle.phase_history.specs.Replies.{signal_reply, refused_or}
 use Rattle.phase_history.proofs.Refused.{no_row}
 use Rattle.phase_registry.specs.Rosters.{Roster}

@@ -13,7 +13,8 @@ use Rattle.phase_history.specs.declared.got.Got.TheVariants as got
 use Rattle.phase_history.specs.declared.refusal.WaitRefusal.{WaitRefusal}
 use Rattle.phase_history.specs.Histories.{History, done_of, members_of, wait_phase}
 use Rattle.phase_history.specs.Phases.{value_of_phase, stream_of}
-use Rattle.phase_history.specs.Refusals.{first_row, wait_refusal, plain_wait_rows, refusal_at, wait_rows_at}
+use Rattle.phase_history.specs.Refusals.{wait_refusal, plain_wait_rows, refusal_at, wait_rows_at}
+use Rattle.phase_base.specs.Lists.{first_row}
 use Rattle.phase_history.specs.Replies.{wait_reply, refused_or, got_at, wait_block_reply, got_block_at}
 use Rattle.phase_history.proofs.MemberLemmas.{signal_phases-waited}
 use Rattle.phase_registry.specs.Rosters.{Roster, roster}

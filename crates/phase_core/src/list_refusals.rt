@@ -1,6 +1,7 @@
 //! The refusals that the signals of a block meet in their phases.
 ghost use Rattle.std.specs.Prelude.{◌≡◌, ◌+◌, ◌≤◌, ℤ, List, None, IsSome, length};
-ghost use Rattle.phase_history.specs.Refusals.{first_row, phase_rows};
+ghost use Rattle.phase_history.specs.Refusals.{phase_rows};
+ghost use Rattle.phase_base.specs.Lists.{first_row};
 ghost use Rattle.phase_ring.specs.Rings.{slot_at};
 ghost use Rattle.phase_core.specs.Blocks.{StandForLists, block_rows, count_at, named_at, IsOpen};
 

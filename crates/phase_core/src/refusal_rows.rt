@@ -1,6 +1,7 @@
 //! The refusals of a signal and of a wait by a task with a given entry.
 ghost use Rattle.std.specs.Prelude.{◌≡◌, None, []};
-ghost use Rattle.phase_history.specs.Refusals.{first_row, signal_rows_before, phase_rows, wait_rows_at};
+ghost use Rattle.phase_history.specs.Refusals.{signal_rows_before, phase_rows, wait_rows_at};
+ghost use Rattle.phase_base.specs.Lists.{first_row};
 ghost use Rattle.phase_core.specs.Rows.{refusal_of};
 
 use phase_accum::Single;

@@ -16,7 +16,8 @@ use Rattle.phase_history.specs.declared.refusal.SignalRefusal.TheVariants as sig
 use Rattle.phase_history.specs.declared.refusal.WaitRefusal.TheVariants as wait
 use Rattle.phase_history.specs.Histories.{History, HasNoSignaller, IsAlive, members_of, positions_of, done_of, wait_phase, greatest_used}
 use Rattle.phase_history.specs.Phases.{value_of_phase}
-use Rattle.phase_history.specs.Refusals.{first_row, refusal_at, register_rows, register_refusal, list_rows, signal_rows, signal_refusal, wait_rows, wait_refusal, drop_refusal}
+use Rattle.phase_history.specs.Refusals.{refusal_at, register_rows, register_refusal, list_rows, signal_rows, signal_refusal, wait_rows, wait_refusal, drop_refusal}
+use Rattle.phase_base.specs.Lists.{first_row}
 use Rattle.phase_history.specs.Replies.{wait_reply, got_at, refused_or}
 use Rattle.phase_history.proofs.Each.{Each}
 use Rattle.phase_history.proofs.Refused.{Passes, passes_from}

@@ -15,7 +15,8 @@ use Rattle.phase_history.specs.declared.refusal.SignalRefusal.TheVariants as sig
 use Rattle.phase_base.specs.Members.{entry_of, wait_phases, least, signalled}
 use Rattle.phase_history.specs.Histories.{History, members_of, signal_phase}
 use Rattle.phase_history.specs.Phases.{sends_of_phase, named_in_phase, first_named, is_among}
-use Rattle.phase_history.specs.Refusals.{first_row, refusal_at, list_rows, phase_rows, is_bad_block, signal_rows, signal_rows_before, signal_refusal}
+use Rattle.phase_history.specs.Refusals.{refusal_at, list_rows, phase_rows, is_bad_block, signal_rows, signal_rows_before, signal_refusal}
+use Rattle.phase_base.specs.Lists.{first_row}
 use Rattle.phase_history.specs.Blocks.{one_by_one_refusal}
 use Rattle.phase_history.proofs.MemberLemmas.{entry_of-changed_same, wait_phases-signalled}
 use Rattle.phase_history.proofs.Steps.{member_entry_is}

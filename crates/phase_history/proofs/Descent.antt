@@ -9,7 +9,8 @@ use Rattle.phase_history.specs.declared.event.Event.TheVariants.{Made, Registere
 use Rattle.phase_base.specs.declared.mode.Mode.TheVariants.{Wait}
 use Rattle.phase_history.specs.Histories.{History, founder, entry_at, signal_phase, wait_phase, done_of, start_of}
 use Rattle.phase_history.specs.Legal.{IsLegal, IsAccepted}
-use Rattle.phase_history.specs.Others.{is_by, events_of, children_in, OnlyUsed, is_in}
+use Rattle.phase_history.specs.Others.{is_by, events_of, children_in, OnlyUsed}
+use Rattle.phase_base.specs.Lists.{is_in}
 use Rattle.phase_history.proofs.Streams.{legal_rest}
 use Rattle.phase_history.proofs.Used.{IsUsed-member, IsAlive-by}
 

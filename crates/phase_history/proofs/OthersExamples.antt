@@ -9,7 +9,8 @@ use Rattle.phase_history.specs.declared.event.Event.TheVariants.{Made, Registere
 use Rattle.phase_history.specs.declared.refusal.NoTask.{NoTask}
 use Rattle.phase_history.specs.Histories.{History, founder, entry_at, phases_signalled, phases_waited}
 use Rattle.phase_history.specs.Replies.{after_register, after_drop}
-use Rattle.phase_history.specs.Others.{is_by, events_of, children_in, phases_of_signal, phases_of_wait, IsUsed, OnlyUsed, is_in, is_distinct, OthersCame}
+use Rattle.phase_history.specs.Others.{is_by, events_of, children_in, phases_of_signal, phases_of_wait, IsUsed, OnlyUsed, OthersCame}
+use Rattle.phase_base.specs.Lists.{is_distinct, is_in}
 
 -- a list of one send
 abbrev pub one : ℕ → List ℤ

@@ -9,7 +9,8 @@ use Rattle.phase_accum.specs.declared.single.Single.{Single}
 use Rattle.phase_base.specs.Members.{entry_of}
 use Rattle.phase_history.specs.Histories.{History, positions_of, members_of, greatest_used}
 use Rattle.phase_history.proofs.Each.{Each}
-use Rattle.phase_history.specs.Refusals.{first_row, refusal_at, register_rows, register_refusal, signal_rows, signal_refusal, wait_rows, wait_refusal}
+use Rattle.phase_history.specs.Refusals.{refusal_at, register_rows, register_refusal, signal_rows, signal_refusal, wait_rows, wait_refusal}
+use Rattle.phase_base.specs.Lists.{first_row}
 
 -- the table answers nothing where none of its rows applies
 pub no_row : {R : Type 0} (rows : List (Bool × R)) → first_row rows ≡ None → Each (λ (row : Bool × R). row.0 ≡ false) rows

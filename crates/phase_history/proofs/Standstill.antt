@@ -15,7 +15,8 @@ use Rattle.phase_base.specs.Members.{Members, entry_of, changed_at, signal_phase
 use Rattle.phase_history.specs.Histories.{History, IsAlive, signal_phase, positions_of, members_of, top_of, done_of, greatest_used}
 use Rattle.phase_history.specs.declared.refusal.SignalRefusal.TheVariants as signal
 use Rattle.phase_history.specs.declared.refusal.WaitRefusal.TheVariants as wait
-use Rattle.phase_history.specs.Refusals.{first_row, refusal_at, is_ahead, differs, list_rows, signal_rows, wait_rows, signal_refusal, wait_refusal}
+use Rattle.phase_history.specs.Refusals.{refusal_at, is_ahead, differs, list_rows, signal_rows, wait_rows, signal_refusal, wait_refusal}
+use Rattle.phase_base.specs.Lists.{first_row}
 use Rattle.phase_history.specs.Laws.{MaySignal, MayWait, GoesOn, GoesOnPlainly}
 use Rattle.phase_history.specs.Sent.{NamesAll}
 use Rattle.phase_history.specs.Phases.{sends_of_phase, named_in_phase, list_in_phase, first_named}

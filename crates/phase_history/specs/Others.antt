@@ -1,6 +1,7 @@
 -- Whose an event is, and how a history grows while some tasks make no call.
-use Rattle.std.specs.Prelude.{◌≡◌, ℕ, List, [], ◌∷◌, ◌++◌, Bool, true, false, not, ◌||◌, ◌&&◌, ◌==◌, IsSome, length}
+use Rattle.std.specs.Prelude.{◌≡◌, ℕ, List, [], ◌∷◌, ◌++◌, Bool, true, false, ◌==◌, IsSome, length}
 use Rattle.std.specs.List.{filter}
+use Rattle.phase_base.specs.Lists.{is_in}
 use Rattle.phase_history.specs.declared.event.Event.{Event}
 use Rattle.phase_history.specs.declared.event.Event.TheVariants.{Made, Registered, RegisteredNow, Signalled, Waited, Dropped}
 use Rattle.phase_history.specs.Histories.{History, start_of}
@@ -39,16 +40,6 @@ phases_of_wait event = 0
 -- the number was given to a task, which made the phaser or was registered
 abbrev pub IsUsed : History → ℕ → Type 0
 IsUsed h task = IsSome (start_of h task)
-
--- whether the number stands in the list
-abbrev pub is_in : ℕ → List ℕ → Bool
-is_in task [] = false
-is_in task (other ∷ others) = (other == task) || is_in task others
-
--- whether no number stands in the list twice
-abbrev pub is_distinct : List ℕ → Bool
-is_distinct [] = true
-is_distinct (task ∷ tasks) = not (is_in task tasks) && is_distinct tasks
 
 -- no number was used but these
 abbrev pub OnlyUsed : List ℕ → History → Type 0

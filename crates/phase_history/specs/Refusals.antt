@@ -2,6 +2,7 @@
 -- row that applies is the answer.
 use Rattle.std.specs.Prelude.{ℕ, ℤ, ◌+◌, List, [], ◌∷◌, ◌++◌, Option, Some, None, Bool, false, not, ◌&&◌, ◌||◌, length, is_some, if◌then◌else◌, ◌==◌, nat_le, nat_lt}
 use Rattle.phase_base.specs.Limits.{Limits}
+use Rattle.phase_base.specs.Lists.{first_row}
 use Rattle.phase_base.specs.declared.limits.TheConstants.{MEMBERS_MAX, SENDS_MAX}
 use Rattle.phase_base.specs.Modes.{holds, mode_signals, mode_waits, is_single}
 use Rattle.phase_base.specs.declared.mode.Mode.{Mode}
@@ -19,11 +20,6 @@ use Rattle.phase_history.specs.declared.refusal.WaitRefusal.TheVariants as wait
 use Rattle.phase_base.specs.Members.{Members, entry_of, signal_phases, wait_phases, least, signalled}
 use Rattle.phase_history.specs.Histories.{History, Positions, positions_of, members_of, done_at, greatest_used}
 use Rattle.phase_history.specs.Phases.{sends_of_phase, named_in_phase}
-
--- the answer of a table: its first row that applies
-abbrev pub first_row : {R : Type 0} → List (Bool × R) → Option R
-first_row [] = None
-first_row (row ∷ rows) = if row.0 then Some row.1 else first_row rows
 
 -- the refusal of a call by a task: that it is no member, or what its entry's rows answer
 abbrev pub refusal_at : {R : Type 0} → Option Entry → R → (Entry → List (Bool × R)) → Option R
@@ -84,12 +80,6 @@ abbrev pub signal_rows : Limits → History → List (List ℤ) → Option Singl
     → List (Bool × SignalRefusal)
 signal_rows limits h lists single entry =
     signal_rows_before limits (length lists) single entry (list_rows limits h lists single entry)
-
--- for the code: a plain signal of n sends, by what its phase has
-abbrev pub plain_signal_rows : Limits → Option ℕ → ℕ → Option (Option Single) → ℕ → Option Single
-    → Entry → List (Bool × SignalRefusal)
-plain_signal_rows limits slowest count named n single entry =
-    signal_rows_before limits 1 single entry (phase_rows limits slowest count named n single entry)
 
 -- a wait for at most n phases, by the task's entry
 abbrev pub wait_rows_at : Limits → ℕ → Bool → ℕ → Entry → List (Bool × WaitRefusal)

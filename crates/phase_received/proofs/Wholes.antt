@@ -12,7 +12,8 @@ use Rattle.phase_history.specs.declared.event.Event.TheVariants.{Dropped}
 use Rattle.phase_history.specs.Histories.{History, IsBeginning, IsWaiter, HasNoSignaller, members_of, founder, done_of, start_of, wait_phase}
 use Rattle.phase_history.specs.Phases.{received_by, stream_of}
 use Rattle.phase_history.specs.Legal.{IsLegal}
-use Rattle.phase_history.specs.Others.{OthersCame, is_in}
+use Rattle.phase_history.specs.Others.{OthersCame}
+use Rattle.phase_base.specs.Lists.{is_in}
 use Rattle.phase_history.specs.Laws.{HasReceived}
 use Rattle.phase_history.proofs.Each.{Each, Each-of_picked}
 use Rattle.phase_history.proofs.MemberLemmas.{Each-entry}

@@ -7,7 +7,8 @@ ghost use Rattle.phase_base.specs.declared.entry.Entry.{Entry};
 ghost use Rattle.phase_accum.specs.declared.outcome.Outcome.{Outcome};
 ghost use Rattle.phase_history.specs.Histories.{History, members_of};
 ghost use Rattle.phase_history.specs.Legal.{IsLegal};
-ghost use Rattle.phase_history.specs.Others.{OthersCame, is_in};
+ghost use Rattle.phase_history.specs.Others.{OthersCame};
+ghost use Rattle.phase_base.specs.Lists.{is_in};
 ghost use Rattle.phase_received.specs.Whole.{HasSeenEnd, HasWhole};
 
 /// A registered task that has seen the end has received exactly the stream from its start on, and still has

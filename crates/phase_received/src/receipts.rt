@@ -1,6 +1,7 @@
 //! A past with what each registration that went into it got.
 ghost use Rattle.std.specs.Prelude.{◌≡◌, ◌∷◌, ◌++◌, [], map, true, IfOk, IfErr};
-ghost use Rattle.phase_history.specs.Others.{OthersCame, is_distinct};
+ghost use Rattle.phase_history.specs.Others.{OthersCame};
+ghost use Rattle.phase_base.specs.Lists.{is_distinct};
 ghost use Rattle.phase_shared.specs.Rule.{IsGoodAt};
 ghost use Rattle.phase_shared.specs.Regs.{phaser_place, phaser_terms};
 ghost use Rattle.phase_received.specs.Received.{all_received};

@@ -1,7 +1,8 @@
 -- The lines of a script by its LFs alone, beside the definition that reads it byte by byte.
 use Rattle.std.specs.Prelude.{◌≡◌, ◌≢◌, ℕ, List, [], ◌∷◌, ◌++◌, map}
 use Rattle.std.specs.List.{All, flat_map}
-use Rattle.phase_script.specs.Lines.{without_cr, last_line, lines_of}
+use Rattle.phase_script.specs.Lines.{last_line, lines_of}
+use Rattle.phase_base.specs.Lists.{without_cr}
 
 -- no byte is an LF
 abbrev pub HasNoLf : List ℕ → Type 0

@@ -1,11 +1,6 @@
 -- The lines of a script: its pieces that end at an LF, and a last piece with none, if not empty.
 use Rattle.std.specs.Prelude.{ℕ, ◌-◌, ◌==◌, if◌then◌else◌, List, [], ◌∷◌, ◌++◌, length, take, slice_index}
-
--- the piece less one CR at its end
-abbrev pub without_cr : List ℕ → List ℕ
-without_cr piece = if slice_index piece (length piece - 1) == 13
-    then take (length piece - 1) piece
-    else piece
+use Rattle.phase_base.specs.Lists.{without_cr}
 
 -- a last piece is a line where it is not empty
 abbrev pub last_line : List ℕ → List (List ℕ)

@@ -13,7 +13,8 @@ use Rattle.phase_history.specs.Legal.{IsLegal}
 use Rattle.phase_seats.specs.declared.view.Knowledge.{Knowledge}
 use Rattle.phase_seats.specs.declared.view.View.{View}
 use Rattle.phase_seats.specs.declared.view.View.TheVariants.{Resting, Turning, Joining, Spent}
-use Rattle.phase_history.specs.Others.{IsUsed, is_in, is_distinct, events_of, OnlyUsed, OthersCame}
+use Rattle.phase_history.specs.Others.{IsUsed, events_of, OnlyUsed, OthersCame}
+use Rattle.phase_base.specs.Lists.{is_distinct, is_in}
 use Rattle.phase_seats.specs.Views.{knowledge, resting, turning, speaks_of, is_turning}
 use Rattle.phase_seats.specs.Rule.{Allows, IsGood, IsSound, Kept, Took, Learned, HasOneHistory, StandsWithin, founding}
 use Rattle.phase_accum.specs.Operations.{Operation}

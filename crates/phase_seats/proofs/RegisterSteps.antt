@@ -23,7 +23,8 @@ use Rattle.phase_history.proofs.Refused.{registers_from}
 use Rattle.phase_history.proofs.Answered.{register_refusal-never}
 use Rattle.phase_seats.specs.declared.view.View.{View}
 use Rattle.phase_seats.specs.declared.rule.Terms.{Terms}
-use Rattle.phase_history.specs.Others.{IsUsed, is_by, is_in}
+use Rattle.phase_history.specs.Others.{IsUsed, is_by}
+use Rattle.phase_base.specs.Lists.{is_in}
 use Rattle.phase_seats.specs.Views.{knowledge, resting, turning, known_of, speaks_of, first_part, other_part, SpeaksForTwo}
 use Rattle.phase_seats.specs.Rule.{Allows, IsGoodAt, HasOneHistory, StandsWithin, IsSeatOfTask}
 use Rattle.phase_seats.specs.Calls.{Tries, number_after, next_child, RefusesRegister}

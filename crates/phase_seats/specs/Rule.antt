@@ -15,7 +15,8 @@ use Rattle.phase_seats.specs.declared.view.Knowledge.{Knowledge}
 use Rattle.phase_seats.specs.declared.view.View.{View}
 use Rattle.phase_seats.specs.declared.view.View.TheVariants.{Resting, Turning, Joining, Spent}
 use Rattle.phase_seats.specs.declared.rule.Terms.{Terms}
-use Rattle.phase_history.specs.Others.{OthersCame, IsUsed, is_in, is_distinct}
+use Rattle.phase_history.specs.Others.{OthersCame, IsUsed}
+use Rattle.phase_base.specs.Lists.{is_distinct, is_in}
 use Rattle.phase_seats.specs.Views.{resting, turning, speaks_of, known_of, second_of, Fits}
 
 -- which signals are allowed after a history

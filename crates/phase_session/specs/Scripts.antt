@@ -24,7 +24,8 @@ use Rattle.phase_history.specs.declared.refusal.WaitRefusal.TheVariants as wait
 use Rattle.phase_history.specs.Histories.{History, members_of}
 use Rattle.phase_history.specs.declared.reply.Reply.{Reply as CallReply}
 use Rattle.phase_history.specs.declared.reply.Reply.TheVariants as call_reply
-use Rattle.phase_history.specs.Refusals.{first_row, refusal_at, drop_refusal}
+use Rattle.phase_history.specs.Refusals.{refusal_at, drop_refusal}
+use Rattle.phase_base.specs.Lists.{first_row}
 use Rattle.phase_history.specs.Phases.{stream_of}
 use Rattle.phase_history.specs.Replies.{reply_to as reply_to_call, after_reply, signal_reply}
 use Rattle.phase_base.specs.declared.operation.Op.{Op}

@@ -19,7 +19,8 @@ use Rattle.phase_history.specs.declared.refusal.WaitRefusal.TheVariants as wait
 use Rattle.phase_history.specs.Histories.{History, members_of, positions_of, done_at}
 use Rattle.phase_history.specs.Legal.{IsLegal}
 use Rattle.phase_core.proofs.Replies.{limits_of}
-use Rattle.phase_history.specs.Refusals.{first_row, refusal_at, wait_rows, wait_refusal, is_bad_block}
+use Rattle.phase_history.specs.Refusals.{refusal_at, wait_rows, wait_refusal, is_bad_block}
+use Rattle.phase_base.specs.Lists.{first_row}
 use Rattle.phase_history.specs.Others.{OthersCame}
 use Rattle.phase_history.proofs.LawProofs.{turns_law}
 use Rattle.phase_history.proofs.MemberLemmas.{entry_of-changed_same}

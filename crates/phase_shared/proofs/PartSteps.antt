@@ -22,7 +22,8 @@ use Rattle.phase_history.specs.declared.refusal.WaitRefusal.{WaitRefusal}
 use Rattle.phase_history.specs.Histories.{History, HasNoSignaller, members_of, founder, signal_phase, wait_phase, done_of, start_of, entry_at, has_dropped}
 use Rattle.phase_history.specs.Phases.{received_by}
 use Rattle.phase_history.specs.Legal.{IsLegal}
-use Rattle.phase_history.specs.Others.{OthersCame, is_in}
+use Rattle.phase_history.specs.Others.{OthersCame}
+use Rattle.phase_base.specs.Lists.{is_in}
 use Rattle.phase_history.specs.Laws.{HasNoEvents}
 use Rattle.phase_history.specs.Sent.{sent_by}
 use Rattle.phase_history.proofs.LawProofs.{above_law, answers_law}

@@ -6,7 +6,7 @@ use Rattle.phase_base.specs.Limits.{Limits}
 use Rattle.phase_base.specs.declared.entry.Entry.{Entry}
 use Rattle.phase_accum.specs.Parcels.{Parcel}
 use Rattle.phase_history.specs.Histories.{History}
-use Rattle.phase_history.specs.Others.{is_distinct}
+use Rattle.phase_base.specs.Lists.{is_distinct}
 use Rattle.phase_seats.specs.declared.view.View.{View}
 use Rattle.phase_seats.specs.declared.view.View.TheVariants.{Spent}
 use Rattle.phase_seats.specs.Views.{resting, known_of}

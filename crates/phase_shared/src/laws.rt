@@ -17,7 +17,8 @@ ghost use Rattle.phase_history.specs.Histories.{History, HasNoSignaller, members
 ghost use Rattle.phase_history.specs.Histories.{wait_phase, start_of, entry_at, has_dropped};
 ghost use Rattle.phase_history.specs.Phases.{received_by};
 ghost use Rattle.phase_history.specs.Legal.{IsLegal};
-ghost use Rattle.phase_history.specs.Others.{OthersCame, is_in};
+ghost use Rattle.phase_history.specs.Others.{OthersCame};
+ghost use Rattle.phase_base.specs.Lists.{is_in};
 ghost use Rattle.phase_shared.specs.declared.next.Next.{Next};
 ghost use Rattle.phase_shared.specs.Calls.{Signals, Waits, HasRegistered, RefusesRegister, Leaves};
 ghost use Rattle.phase_shared.specs.Nexts.{GoesNext, RefusesNext};

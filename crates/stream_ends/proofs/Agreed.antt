@@ -4,7 +4,7 @@ use lib.Pointwise.{pointwise}
 use Rattle.std.specs.Prelude.{IfSome, nat_eq}
 use Rattle.std.proofs.lemmas.Bool.{eqb-true, cases_lt, and_parts}
 use Rattle.std.proofs.lemmas.Option.{same_Some}
-use Rattle.phase_history.specs.Others.{is_in}
+use Rattle.phase_base.specs.Lists.{is_in}
 use Rattle.graph_base.specs.declared.line.Parent.{Parent}
 use Rattle.graph_base.specs.Graphs.{task_at}
 use Rattle.stream_lists.specs.Jobs.{Job}

@@ -3,7 +3,8 @@ use Rattle.std.proofs.Common.{◌≡◌, ℕ, zero, suc, ◌<◌, ◌≤◌, Boo
 use Rattle.std.proofs.lemmas.Bool.{cases_lt, eqb-true}
 use Rattle.std.proofs.lemmas.Option.{same_Some, slice_get_past}
 use Rattle.phase_history.specs.Histories.{History}
-use Rattle.phase_history.specs.Others.{is_in, OthersCame}
+use Rattle.phase_history.specs.Others.{OthersCame}
+use Rattle.phase_base.specs.Lists.{is_in}
 use Rattle.phase_history.proofs.OthersEvents.{OthersCame-trans, OthersCame-fewer}
 use Rattle.stream_lists.specs.Jobs.{Job}
 use Rattle.graph_ends.proofs.Founding.{in_one}

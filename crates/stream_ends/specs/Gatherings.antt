@@ -1,7 +1,8 @@
 -- What the tasks up to some line, and the founders, have seen, put together.
 use Rattle.std.specs.Prelude.{◌≡◌, ℕ, ◌<◌, List, [], ◌∷◌, length, slice_get, Option, Some, None, true, false}
 use Rattle.phase_history.specs.Histories.{History}
-use Rattle.phase_history.specs.Others.{is_in, OthersCame}
+use Rattle.phase_history.specs.Others.{OthersCame}
+use Rattle.phase_base.specs.Lists.{is_in}
 use Rattle.stream_lists.specs.Jobs.{Job}
 use Rattle.graph_moments.specs.Moments.{Moment}
 use Rattle.graph_members.specs.AnyMembers.{left_in}

@@ -1,7 +1,8 @@
 -- What members that left have seen, put together phaser by phaser.
 use Rattle.std.specs.Prelude.{◌≡◌, ◌≢◌, ℕ, List, length, slice_get, Option, Some, true, false}
 use Rattle.phase_history.specs.Legal.{IsLegal}
-use Rattle.phase_history.specs.Others.{is_in, OthersCame}
+use Rattle.phase_history.specs.Others.{OthersCame}
+use Rattle.phase_base.specs.Lists.{is_in}
 use Rattle.graph_members.specs.Members.{HasJoined, limits_on}
 use Rattle.graph_members.specs.AnyMembers.{left_in, left_op}
 use Rattle.graph_members.specs.declared.any_left.AnyLeft.{AnyLeft}

@@ -9,7 +9,8 @@ use Rattle.phase_accum.specs.declared.outcome.Outcome.TheVariants.{Value, Empty,
 use Rattle.phase_accum.specs.declared.single.Single.{Single}
 use Rattle.phase_accum.specs.Values.{applied, ranged, sum_of, product_of, value_max}
 use Rattle.graph_base.specs.Graphs.{Task, task_at, phaser_at, is_sink}
-use Rattle.graph_base.specs.TaskLines.{IsGraph, IsTaskLine, HasEnds, is_distinct}
+use Rattle.graph_base.specs.TaskLines.{IsGraph, IsTaskLine, HasEnds}
+use Rattle.phase_base.specs.Lists.{is_distinct}
 use Rattle.phase_base.specs.declared.operation.Op.{Op}
 use Rattle.phase_base.specs.declared.operation.Op.TheVariants.{Sum, Product, Least, Greatest, Any}
 use Rattle.graph_base.specs.declared.line.Kind.{Kind}

@@ -4,7 +4,7 @@ ghost use Rattle.std.specs.List.{All};
 ghost use Rattle.phase_base.specs.Members.{entry_of};
 ghost use Rattle.phase_history.specs.Histories.{members_of, entry_at};
 ghost use Rattle.phase_history.specs.Legal.{IsLegal};
-ghost use Rattle.phase_history.specs.Others.{is_distinct};
+ghost use Rattle.phase_base.specs.Lists.{is_distinct};
 ghost use Rattle.phase_shared.specs.Regs.{phaser_place, phaser_limits};
 
 use phase_accum::Sum;

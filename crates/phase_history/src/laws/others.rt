@@ -19,7 +19,8 @@ ghost use Rattle.phase_history.specs.Refusals.{register_refusal, register_now_re
 ghost use Rattle.phase_history.specs.Refusals.{signal_refusal, wait_refusal, drop_refusal};
 ghost use Rattle.phase_history.specs.Replies.{wait_reply};
 ghost use Rattle.phase_history.specs.Others.{is_by, events_of, phases_of_signal, phases_of_wait};
-ghost use Rattle.phase_history.specs.Others.{IsUsed, OnlyUsed, is_in, children_in, OthersCame};
+ghost use Rattle.phase_history.specs.Others.{IsUsed, OnlyUsed, children_in, OthersCame};
+ghost use Rattle.phase_base.specs.Lists.{is_in};
 
 use crate::got::Got;
 use crate::refusal::{RegisterRefusal, SignalRefusal, WaitRefusal};

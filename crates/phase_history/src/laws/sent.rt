@@ -11,7 +11,8 @@ ghost use Rattle.phase_history.specs.Histories.{History, members_of, done_of, to
 ghost use Rattle.phase_history.specs.Histories.{HasNoSignaller, has_dropped, phases_signalled};
 ghost use Rattle.phase_history.specs.Phases.{sends_of_phase, named_in_phase, single_of_phase};
 ghost use Rattle.phase_history.specs.Legal.{AreLists, IsLegal};
-ghost use Rattle.phase_history.specs.Others.{is_in, is_distinct, IsUsed, OthersCame};
+ghost use Rattle.phase_history.specs.Others.{IsUsed, OthersCame};
+ghost use Rattle.phase_base.specs.Lists.{is_distinct, is_in};
 ghost use Rattle.phase_history.specs.Sent.{sent_by, sent_in, gathered};
 ghost use Rattle.phase_history.specs.Sent.{OnlySignalled, OneHasSent, NamesAll, IsSilent, ReachesTop};
 

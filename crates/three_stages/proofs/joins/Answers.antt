@@ -1,7 +1,7 @@
 -- The sink made no more calls, and no phase came after the end.
 use Rattle.std.proofs.Common.{sym, ap, ◌∙◌}
 use Rattle.phase_accum.specs.Values.{sum_value}
-use Rattle.phase_history.specs.Others.{is_in}
+use Rattle.phase_base.specs.Lists.{is_in}
 use Rattle.phase_shared.specs.Regs.{phaser_limits}
 use Rattle.three_stages.proofs.Joined.{is_in-append}
 use Rattle.three_stages.proofs.joins.Goals as goal

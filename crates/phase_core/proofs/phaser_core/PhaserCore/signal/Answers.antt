@@ -3,7 +3,7 @@ use Rattle.std.proofs.Common.{◌≡◌, ◌<◌, [], ◌∷◌, Some, None, Ok,
 use Rattle.phase_base.specs.Members.{entry_of, wait_phases, least, changed_at, signalled}
 use Rattle.phase_history.specs.declared.event.Event.TheVariants.{Signalled}
 use Rattle.phase_history.specs.Histories.{signal_phase}
-use Rattle.phase_history.specs.Refusals.{first_row}
+use Rattle.phase_base.specs.Lists.{first_row}
 use Rattle.phase_history.specs.Replies.{signal_reply, refused_or}
 use Rattle.phase_core.specs.Cores.{CoreState, StandsFor, core_of}
 use Rattle.phase_core.specs.Blocks.{StandForLists, block_rows}

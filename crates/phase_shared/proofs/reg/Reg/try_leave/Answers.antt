@@ -1,7 +1,8 @@
 use Rattle.std.proofs.Common.{◌≡◌, [], ◌∷◌, Some, true, false, sym, subst, ap, ◌∙◌}
 use Rattle.std.specs.Prelude.{is_some}
 use Rattle.phase_history.specs.Histories.{History}
-use Rattle.phase_history.specs.Others.{OnlyUsed, is_distinct}
+use Rattle.phase_history.specs.Others.{OnlyUsed}
+use Rattle.phase_base.specs.Lists.{is_distinct}
 use Rattle.phase_seats.specs.Views.{known_of}
 use Rattle.phase_seats.specs.Views.{resting}
 use Rattle.phase_seats.specs.Rule.{IsGoodAt, IsSeatOfTask}
