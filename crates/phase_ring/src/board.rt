@@ -8,6 +8,8 @@ ghost use Rattle.phase_ring.specs.Rings.{standing, sents, slot_at, cleared, Keep
 ghost use Rattle.phase_ring.specs.Standings.{is, other, takes_part, phase_for, counted};
 ghost use Rattle.phase_ring.specs.Boards.{IsBoard};
 ghost use Rattle.phase_ring.specs.Blocks.{block_joined, block_values, BlockFits};
+ghost use Rattle.phase_ring.specs.Calls.{MayGoOn, MaySignal, MayWait, IsSettled, KeepsBounds};
+ghost use Rattle.phase_ring.specs.Calls.{HasMoved, HasSignalled, HasWaited, HasLeft};
 
 use crate::role::Role;
 use crate::slot_ring::SlotRing;
@@ -64,8 +66,7 @@ impl<A: Accumulate> Board<A> {
         ensures same { sents self.new.ring ≡ sents self.old.ring }
         ensures standing { (role : Role) (p : ℕ)
             → standing self.new.ring role p ≡ standing self.old.ring role p }
-        ensures stops { (self.new.done ≡ self.new.top)
-            ⊎ (0 < standing self.new.ring Signaller self.new.done) }
+        ensures stops { IsSettled self.new }
     {
         while self.done < self.top && self.ring.standing(self.done, Role::Signaller) == 0 {
             self.ring.seal(self.done);
@@ -78,9 +79,7 @@ impl<A: Accumulate> Board<A> {
         requires kept { IsBoard A.operation self.old }
         requires waiter { (p : ℕ) × (0 < standing self.old.ring Waiter p) }
         ensures kept { IsBoard A.operation self.new }
-        ensures limits { self.new.limits ≡ self.old.limits }
-        ensures done { self.new.done ≡ self.old.done }
-        ensures top { self.new.top ≡ self.old.top }
+        ensures keeps { KeepsBounds self.old self.new }
         ensures standing { (role : Role) (p : ℕ)
             → standing self.new.ring role p ≡ standing self.old.ring role p }
         ensures slots { KeepsSlots self.old.ring self.new.ring }
@@ -94,21 +93,13 @@ impl<A: Accumulate> Board<A> {
     /// Moves a signaller on from a phase to a later one, at most the top.
     fn go_on(&mut self, from: u64, to: u64)
         requires kept { IsBoard A.operation self.old }
-        requires low { self.old.done ≤ from }
-        requires later { from < to }
-        requires high { to ≤ self.old.top }
-        requires stands { 0 < standing self.old.ring Signaller from }
-        requires few { standing self.old.ring Signaller to < MEMBERS_MAX }
+        requires may { MayGoOn from to self.old }
         ensures kept { IsBoard A.operation self.new }
         ensures limits { self.new.limits ≡ self.old.limits }
         ensures top { self.new.top ≡ self.old.top }
         ensures same { sents self.new.ring ≡ sents self.old.ring }
-        ensures moved { (p : ℕ) → standing self.new.ring Signaller p + is from p
-            ≡ standing self.old.ring Signaller p + is to p }
-        ensures others { (p : ℕ)
-            → standing self.new.ring Waiter p ≡ standing self.old.ring Waiter p }
-        ensures stops { (self.new.done ≡ self.new.top)
-            ⊎ (0 < standing self.new.ring Signaller self.new.done) }
+        ensures moved { HasMoved Signaller from to self.old.ring self.new.ring }
+        ensures stops { IsSettled self.new }
     {
         self.ring.leave(from, Role::Signaller);
         self.ring.enter(to, Role::Signaller);
@@ -118,24 +109,13 @@ impl<A: Accumulate> Board<A> {
     /// Joins a signal to its phase, which does not refuse it, and moves its task on to the next one.
     pub fn signal(&mut self, phase: u64, pending: &Pending<A>, single: &Option<Single>)
         requires kept { IsBoard A.operation self.old }
-        requires low { self.old.done ≤ phase }
-        requires ahead { phase < self.old.ring.base + self.old.limits.bound }
-        requires stands { 0 < standing self.old.ring Signaller phase }
-        requires few { standing self.old.ring Signaller (phase + 1) < MEMBERS_MAX }
-        requires far { phase < PHASES_MAX }
+        requires may { MaySignal phase (phase + 1) self.old }
         requires fits { BlockFits self.old.ring phase (pending.now ∷ []) single.now }
         ensures kept { IsBoard A.operation self.new }
-        ensures limits { self.new.limits ≡ self.old.limits }
-        ensures top { self.new.top ≡ max self.old.top (phase + 1) }
+        ensures signalled { HasSignalled phase (phase + 1) self.old self.new }
         ensures slots { sents self.new.ring ≡ sents
             (block_joined A.operation phase (pending.now ∷ []) single.now self.old.ring) }
-        ensures moved { (p : ℕ) → standing self.new.ring Signaller p + is phase p
-            ≡ standing self.old.ring Signaller p + is (phase + 1) p }
-        ensures others { (p : ℕ)
-            → standing self.new.ring Waiter p ≡ standing self.old.ring Waiter p }
-        ensures base { self.new.ring.base ≡ self.old.ring.base }
-        ensures stops { (self.new.done ≡ self.new.top)
-            ⊎ (0 < standing self.new.ring Signaller self.new.done) }
+        ensures stops { IsSettled self.new }
     {
         self.ring.join(phase, pending, single);
         self.top = self.top.max(phase + 1);
@@ -146,25 +126,13 @@ impl<A: Accumulate> Board<A> {
     /// one, and moves their task on to the phase behind them.
     pub fn signal_block(&mut self, phase: u64, lists: &[Pending<A>], single: &Option<Single>)
         requires kept { IsBoard A.operation self.old }
-        requires some { 0 < length lists.now }
-        requires low { self.old.done ≤ phase }
-        requires ahead { phase + length lists.now ≤ self.old.ring.base + self.old.limits.bound }
-        requires stands { 0 < standing self.old.ring Signaller phase }
-        requires few { standing self.old.ring Signaller (phase + length lists.now) < MEMBERS_MAX }
-        requires far { phase + length lists.now ≤ PHASES_MAX }
+        requires may { MaySignal phase (phase + length lists.now) self.old }
         requires fits { BlockFits self.old.ring phase lists.now single.now }
         ensures kept { IsBoard A.operation self.new }
-        ensures limits { self.new.limits ≡ self.old.limits }
-        ensures top { self.new.top ≡ max self.old.top (phase + length lists.now) }
+        ensures signalled { HasSignalled phase (phase + length lists.now) self.old self.new }
         ensures slots { sents self.new.ring
             ≡ sents (block_joined A.operation phase lists.now single.now self.old.ring) }
-        ensures moved { (p : ℕ) → standing self.new.ring Signaller p + is phase p
-            ≡ standing self.old.ring Signaller p + is (phase + length lists.now) p }
-        ensures others { (p : ℕ)
-            → standing self.new.ring Waiter p ≡ standing self.old.ring Waiter p }
-        ensures base { self.new.ring.base ≡ self.old.ring.base }
-        ensures stops { (self.new.done ≡ self.new.top)
-            ⊎ (0 < standing self.new.ring Signaller self.new.done) }
+        ensures stops { IsSettled self.new }
     {
         let mut next = phase;
         for pending in lists {
@@ -179,20 +147,12 @@ impl<A: Accumulate> Board<A> {
     /// one.
     pub fn wait(&mut self, phase: u64) -> Outcome
         requires kept { IsBoard A.operation self.old }
-        requires complete { phase < self.old.done }
-        requires stands { 0 < standing self.old.ring Waiter phase }
-        requires few { standing self.old.ring Waiter (phase + 1) < MEMBERS_MAX }
+        requires may { MayWait phase (phase + 1) self.old }
         ensures value { (slot : Slot A) → slot_at self.old.ring phase ≡ Some slot
             → result ≡ slot_value A.operation slot }
         ensures kept { IsBoard A.operation self.new }
-        ensures limits { self.new.limits ≡ self.old.limits }
-        ensures done { self.new.done ≡ self.old.done }
-        ensures top { self.new.top ≡ self.old.top }
+        ensures waited { HasWaited phase (phase + 1) self.old self.new }
         ensures slots { KeepsSlots (sents self.old.ring) (sents self.new.ring) }
-        ensures moved { (p : ℕ) → standing self.new.ring Waiter p + is phase p
-            ≡ standing self.old.ring Waiter p + is (phase + 1) p }
-        ensures others { (p : ℕ)
-            → standing self.new.ring Signaller p ≡ standing self.old.ring Signaller p }
         ensures stops { 0 < standing self.new.ring Waiter self.new.ring.base }
     {
         let outcome = self.ring.value(phase);
@@ -206,22 +166,13 @@ impl<A: Accumulate> Board<A> {
     /// moves the waiter on to the phase behind them. The places behind the values stay.
     pub fn wait_block(&mut self, phase: u64, count: usize, out: &mut [Outcome])
         requires kept { IsBoard A.operation self.old }
-        requires some { 0 < count }
+        requires may { MayWait phase (phase + count) self.old }
         requires room { count ≤ length out.old }
-        requires complete { phase + count ≤ self.old.done }
-        requires stands { 0 < standing self.old.ring Waiter phase }
-        requires few { standing self.old.ring Waiter (phase + count) < MEMBERS_MAX }
         ensures out { out.new
             ≡ block_values A.operation self.old.ring phase count ++ drop count out.old }
         ensures kept { IsBoard A.operation self.new }
-        ensures limits { self.new.limits ≡ self.old.limits }
-        ensures done { self.new.done ≡ self.old.done }
-        ensures top { self.new.top ≡ self.old.top }
+        ensures waited { HasWaited phase (phase + count) self.old self.new }
         ensures slots { KeepsSlots (sents self.old.ring) (sents self.new.ring) }
-        ensures moved { (p : ℕ) → standing self.new.ring Waiter p + is phase p
-            ≡ standing self.old.ring Waiter p + is (phase + count) p }
-        ensures others { (p : ℕ)
-            → standing self.new.ring Signaller p ≡ standing self.old.ring Signaller p }
         ensures stops { 0 < standing self.new.ring Waiter self.new.ring.base }
     {
         for i in 0..count {
@@ -260,9 +211,7 @@ impl<A: Accumulate> Board<A> {
             → 0 < standing self.old.ring role (phase_for role entry) }
         requires few { standing self.old.ring role (phase_for role entry) < MEMBERS_MAX }
         ensures kept { IsBoard A.operation self.new }
-        ensures limits { self.new.limits ≡ self.old.limits }
-        ensures done { self.new.done ≡ self.old.done }
-        ensures top { self.new.top ≡ self.old.top }
+        ensures keeps { KeepsBounds self.old self.new }
         ensures same { sents self.new.ring ≡ sents self.old.ring }
         ensures standing { (p : ℕ) → standing self.new.ring role p
             ≡ standing self.old.ring role p + counted role entry p }
@@ -280,9 +229,7 @@ impl<A: Accumulate> Board<A> {
         requires stands { takes_part role entry ≡ true
             → 0 < standing self.old.ring role (phase_for role entry) }
         ensures kept { IsBoard A.operation self.new }
-        ensures limits { self.new.limits ≡ self.old.limits }
-        ensures done { self.new.done ≡ self.old.done }
-        ensures top { self.new.top ≡ self.old.top }
+        ensures keeps { KeepsBounds self.old self.new }
         ensures same { sents self.new.ring ≡ sents self.old.ring }
         ensures standing { (p : ℕ) → standing self.new.ring role p + counted role entry p
             ≡ standing self.old.ring role p }
@@ -301,9 +248,7 @@ impl<A: Accumulate> Board<A> {
             → 0 < standing self.old.ring role (phase_for role entry) }
         requires few { (role : Role) (p : ℕ) → standing self.old.ring role p < MEMBERS_MAX }
         ensures kept { IsBoard A.operation self.new }
-        ensures limits { self.new.limits ≡ self.old.limits }
-        ensures done { self.new.done ≡ self.old.done }
-        ensures top { self.new.top ≡ self.old.top }
+        ensures keeps { KeepsBounds self.old self.new }
         ensures same { sents self.new.ring ≡ sents self.old.ring }
         ensures standing { (role : Role) (p : ℕ) → standing self.new.ring role p
             ≡ standing self.old.ring role p + counted role entry p }
@@ -317,9 +262,7 @@ impl<A: Accumulate> Board<A> {
         requires kept { IsBoard A.operation self.old }
         requires few { standing self.old.ring Waiter self.old.done < MEMBERS_MAX }
         ensures kept { IsBoard A.operation self.new }
-        ensures limits { self.new.limits ≡ self.old.limits }
-        ensures done { self.new.done ≡ self.old.done }
-        ensures top { self.new.top ≡ self.old.top }
+        ensures keeps { KeepsBounds self.old self.new }
         ensures same { sents self.new.ring ≡ sents self.old.ring }
         ensures standing { (p : ℕ) → standing self.new.ring Waiter p
             ≡ standing self.old.ring Waiter p + is self.old.done p }
@@ -336,14 +279,9 @@ impl<A: Accumulate> Board<A> {
             → 0 < standing self.old.ring role (phase_for role entry) }
         requires waiter { (p : ℕ) × (counted Waiter entry p < standing self.old.ring Waiter p) }
         ensures kept { IsBoard A.operation self.new }
-        ensures limits { self.new.limits ≡ self.old.limits }
-        ensures top { self.new.top ≡ self.old.top }
+        ensures left { HasLeft entry self.old self.new }
         ensures slots { KeepsSlots (sents self.old.ring) (sents self.new.ring) }
-        ensures standing { (role : Role) (p : ℕ)
-            → standing self.new.ring role p + counted role entry p
-            ≡ standing self.old.ring role p }
-        ensures settled { (self.new.done ≡ self.new.top)
-            ⊎ (0 < standing self.new.ring Signaller self.new.done) }
+        ensures settled { IsSettled self.new }
         ensures stops { 0 < standing self.new.ring Waiter self.new.ring.base }
     {
         self.leave_as(Role::Signaller, entry);

@@ -205,8 +205,8 @@ returns-then-waiters-eq0-clause-after g c h sends given holds =
     block_alone_on op reg c.signalled.new.self b c.raise_top.new.self h c.args.task e held sent c.args.single
     stands alone found none (holds, tt) c.check_single.ensures reg_is o.limits o.ring top_is
 
-pub signal-requires-clause-kept : goal.signal-requires-clause-kept
-signal-requires-clause-kept g c =
+pub signal-requires : goal.signal-requires
+signal-requires g c =
     let op = g.A.Accumulate.operation in
     let reg = c.self.inside.registry in
     let b = c.self.inside.board in
@@ -223,128 +223,21 @@ signal-requires-clause-kept g c =
     let some : 0 < length held = (let s = p.some in omega arith) in
     let t = block_taken op reg b c.args.task e held c.args.single c.waiters.result c.least_wait-slowest.result c.self.invariant.boarded c.waiters.ensures c.if-waiters-eq0.false
     slow found few p.signals some row in
-    t.boarded.kept
-
-pub signal-requires-clause-low : goal.signal-requires-clause-low
-signal-requires-clause-low g c =
-    let op = g.A.Accumulate.operation in
-    let reg = c.self.inside.registry in
-    let b = c.self.inside.board in
-    let e = c.in-Some.entry in
-    let held = c.args.pending ∷ [] in
-    let found : entry_of reg.members c.args.task ≡ Some e = sym c.in-Some.ensures.entry in
-    let few = c.in-Some.ensures.few in
-    let W : CoreState g.row.A.Denot → Type 0 = λ k. c.least_wait-slowest.result ≡ least (wait_phases k.members) in
-    let slow : c.least_wait-slowest.result ≡ least (wait_phases reg.members) = subst W (sym c.self.view_is) c.least_wait-slowest.ensures in
-    let first = c.in_default-block_refusal.ensures in
-    let p = block_passed b.limits (length held) c.args.single e first in
-    let row : first_row (block_rows b.limits c.least_wait-slowest.result b.ring held c.args.single e) ≡ None =
-    sym c.list_refusal.ensures ∙ c.in_default-list_refusal.is in
-    let some : 0 < length held = (let s = p.some in omega arith) in
-    let t = block_taken op reg b c.args.task e held c.args.single c.waiters.result c.least_wait-slowest.result c.self.invariant.boarded c.waiters.ensures c.if-waiters-eq0.false
-    slow found few p.signals some row in
-    t.ready.low
-
-pub signal-requires-clause-ahead : goal.signal-requires-clause-ahead
-signal-requires-clause-ahead g c =
-    let op = g.A.Accumulate.operation in
-    let reg = c.self.inside.registry in
-    let b = c.self.inside.board in
-    let e = c.in-Some.entry in
-    let held = c.args.pending ∷ [] in
-    let found : entry_of reg.members c.args.task ≡ Some e = sym c.in-Some.ensures.entry in
-    let few = c.in-Some.ensures.few in
-    let W : CoreState g.row.A.Denot → Type 0 = λ k. c.least_wait-slowest.result ≡ least (wait_phases k.members) in
-    let slow : c.least_wait-slowest.result ≡ least (wait_phases reg.members) = subst W (sym c.self.view_is) c.least_wait-slowest.ensures in
-    let first = c.in_default-block_refusal.ensures in
-    let p = block_passed b.limits (length held) c.args.single e first in
-    let row : first_row (block_rows b.limits c.least_wait-slowest.result b.ring held c.args.single e) ≡ None =
-    sym c.list_refusal.ensures ∙ c.in_default-list_refusal.is in
-    let some : 0 < length held = (let s = p.some in omega arith) in
-    let t = block_taken op reg b c.args.task e held c.args.single c.waiters.result c.least_wait-slowest.result c.self.invariant.boarded c.waiters.ensures c.if-waiters-eq0.false
-    slow found few p.signals some row in
-    let near = t.near in
-    omega arith
-
-pub signal-requires-clause-stands : goal.signal-requires-clause-stands
-signal-requires-clause-stands g c =
-    let op = g.A.Accumulate.operation in
-    let reg = c.self.inside.registry in
-    let b = c.self.inside.board in
-    let e = c.in-Some.entry in
-    let held = c.args.pending ∷ [] in
-    let found : entry_of reg.members c.args.task ≡ Some e = sym c.in-Some.ensures.entry in
-    let few = c.in-Some.ensures.few in
-    let W : CoreState g.row.A.Denot → Type 0 = λ k. c.least_wait-slowest.result ≡ least (wait_phases k.members) in
-    let slow : c.least_wait-slowest.result ≡ least (wait_phases reg.members) = subst W (sym c.self.view_is) c.least_wait-slowest.ensures in
-    let first = c.in_default-block_refusal.ensures in
-    let p = block_passed b.limits (length held) c.args.single e first in
-    let row : first_row (block_rows b.limits c.least_wait-slowest.result b.ring held c.args.single e) ≡ None =
-    sym c.list_refusal.ensures ∙ c.in_default-list_refusal.is in
-    let some : 0 < length held = (let s = p.some in omega arith) in
-    let t = block_taken op reg b c.args.task e held c.args.single c.waiters.result c.least_wait-slowest.result c.self.invariant.boarded c.waiters.ensures c.if-waiters-eq0.false
-    slow found few p.signals some row in
-    t.ready.stands
-
-pub signal-requires-clause-few : goal.signal-requires-clause-few
-signal-requires-clause-few g c =
-    let op = g.A.Accumulate.operation in
-    let reg = c.self.inside.registry in
-    let b = c.self.inside.board in
-    let e = c.in-Some.entry in
-    let held = c.args.pending ∷ [] in
-    let found : entry_of reg.members c.args.task ≡ Some e = sym c.in-Some.ensures.entry in
-    let few = c.in-Some.ensures.few in
-    let W : CoreState g.row.A.Denot → Type 0 = λ k. c.least_wait-slowest.result ≡ least (wait_phases k.members) in
-    let slow : c.least_wait-slowest.result ≡ least (wait_phases reg.members) = subst W (sym c.self.view_is) c.least_wait-slowest.ensures in
-    let first = c.in_default-block_refusal.ensures in
-    let p = block_passed b.limits (length held) c.args.single e first in
-    let row : first_row (block_rows b.limits c.least_wait-slowest.result b.ring held c.args.single e) ≡ None =
-    sym c.list_refusal.ensures ∙ c.in_default-list_refusal.is in
-    let some : 0 < length held = (let s = p.some in omega arith) in
-    let t = block_taken op reg b c.args.task e held c.args.single c.waiters.result c.least_wait-slowest.result c.self.invariant.boarded c.waiters.ensures c.if-waiters-eq0.false
-    slow found few p.signals some row in
-    t.ready.few
-
-pub signal-requires-clause-fits : goal.signal-requires-clause-fits
-signal-requires-clause-fits g c =
-    let op = g.A.Accumulate.operation in
-    let reg = c.self.inside.registry in
-    let b = c.self.inside.board in
-    let e = c.in-Some.entry in
-    let held = c.args.pending ∷ [] in
-    let found : entry_of reg.members c.args.task ≡ Some e = sym c.in-Some.ensures.entry in
-    let few = c.in-Some.ensures.few in
-    let W : CoreState g.row.A.Denot → Type 0 = λ k. c.least_wait-slowest.result ≡ least (wait_phases k.members) in
-    let slow : c.least_wait-slowest.result ≡ least (wait_phases reg.members) = subst W (sym c.self.view_is) c.least_wait-slowest.ensures in
-    let first = c.in_default-block_refusal.ensures in
-    let p = block_passed b.limits (length held) c.args.single e first in
-    let row : first_row (block_rows b.limits c.least_wait-slowest.result b.ring held c.args.single e) ≡ None =
-    sym c.list_refusal.ensures ∙ c.in_default-list_refusal.is in
-    let some : 0 < length held = (let s = p.some in omega arith) in
-    let t = block_taken op reg b c.args.task e held c.args.single c.waiters.result c.least_wait-slowest.result c.self.invariant.boarded c.waiters.ensures c.if-waiters-eq0.false
-    slow found few p.signals some row in
-    t.fits
-
-pub signal-requires-clause-far : goal.signal-requires-clause-far
-signal-requires-clause-far g c =
-    let op = g.A.Accumulate.operation in
-    let reg = c.self.inside.registry in
-    let b = c.self.inside.board in
-    let e = c.in-Some.entry in
-    let held = c.args.pending ∷ [] in
-    let found : entry_of reg.members c.args.task ≡ Some e = sym c.in-Some.ensures.entry in
-    let few = c.in-Some.ensures.few in
-    let W : CoreState g.row.A.Denot → Type 0 = λ k. c.least_wait-slowest.result ≡ least (wait_phases k.members) in
-    let slow : c.least_wait-slowest.result ≡ least (wait_phases reg.members) = subst W (sym c.self.view_is) c.least_wait-slowest.ensures in
-    let first = c.in_default-block_refusal.ensures in
-    let p = block_passed b.limits (length held) c.args.single e first in
-    let row : first_row (block_rows b.limits c.least_wait-slowest.result b.ring held c.args.single e) ≡ None =
-    sym c.list_refusal.ensures ∙ c.in_default-list_refusal.is in
-    let some : 0 < length held = (let s = p.some in omega arith) in
     let within = block_far b.limits c.least_wait-slowest.result b.ring held c.args.single e some row in
     let most = phases_most c.self.invariant.stands in
-    omega arith
+    let near = t.near in
+    record {
+      kept = t.boarded.kept;
+      may = record {
+        low = t.ready.low;
+        later = omega arith;
+        ahead = omega arith;
+        far = omega arith;
+        stands = t.ready.stands;
+        few = t.ready.few;
+      };
+      fits = t.fits;
+    }
 
 pub signalled-requires-2-clause-below : goal.signalled-requires-2-clause-below
 signalled-requires-2-clause-below g c =
@@ -394,9 +287,9 @@ invariant_of-self-2 g c =
     record {
       history = Signalled c.args.task sends c.args.single ∷ h;
       stands = signal_stands op g.met.A.Accumulate.laws reg c.signalled-2.new.self b c.signal.new.self h c.args.task e held sends c.args.single
-          stands t.boarded found t.base t.near none holds c.check_single.ensures t.fits reg_is o.limits o.top o.slots;
-      boarded = inr (block_boarded op reg c.signalled-2.new.self b c.signal.new.self c.args.task (length held) e t.boarded found p.signals reg_is o.base
-          o.moved o.others o.kept o.stops);
+          stands t.boarded found t.base t.near none holds c.check_single.ensures t.fits reg_is o.signalled.limits o.signalled.top o.slots;
+      boarded = inr (block_boarded op reg c.signalled-2.new.self b c.signal.new.self c.args.task (length held) e t.boarded found p.signals reg_is o.signalled.base
+          o.signalled.moves.moved o.signalled.moves.others o.kept o.stops);
       used = used_after reg c.signalled-2.new.self (changed_at c.args.task (signalled (length held)) reg.members) c.self.invariant.used reg_is;
     }
 
@@ -446,4 +339,4 @@ returns-clause-after g c h sends given holds =
     let o = c.signal.ensures in
     let reg_is = c.signalled-2.ensures in
     signal_stands op g.met.A.Accumulate.laws reg c.signalled-2.new.self b c.signal.new.self h c.args.task e held sent c.args.single
-    stands t.boarded found t.base t.near none (holds, tt) c.check_single.ensures t.fits reg_is o.limits o.top o.slots
+    stands t.boarded found t.base t.near none (holds, tt) c.check_single.ensures t.fits reg_is o.signalled.limits o.signalled.top o.slots

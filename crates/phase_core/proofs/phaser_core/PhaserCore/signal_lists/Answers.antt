@@ -218,8 +218,8 @@ returns-then-waiters-eq0-clause-after g c h sends given holds =
     block_alone_on op reg c.signalled.new.self b c.raise_top.new.self h c.args.task e held sends c.args.single
     stands alone found none holds c.check_single.ensures reg_is o.limits o.ring top_is
 
-pub signal_block-requires-clause-kept : goal.signal_block-requires-clause-kept
-signal_block-requires-clause-kept g c =
+pub signal_block-requires : goal.signal_block-requires
+signal_block-requires g c =
     let op = g.A.Accumulate.operation in
     let reg = c.self.inside.registry in
     let b = c.self.inside.board in
@@ -236,127 +236,21 @@ signal_block-requires-clause-kept g c =
     let some : 0 < length held = (let s = p.some in omega arith) in
     let t = block_taken op reg b c.args.task e held c.args.single c.waiters.result c.least_wait-slowest.result c.self.invariant.boarded c.waiters.ensures c.if-waiters-eq0.false
     slow found few p.signals some row in
-    t.boarded.kept
-
-pub signal_block-requires-clause-low : goal.signal_block-requires-clause-low
-signal_block-requires-clause-low g c =
-    let op = g.A.Accumulate.operation in
-    let reg = c.self.inside.registry in
-    let b = c.self.inside.board in
-    let e = c.in-Some.entry in
-    let held = c.args.lists.now in
-    let found : entry_of reg.members c.args.task ≡ Some e = sym c.in-Some.ensures.entry in
-    let few = c.in-Some.ensures.few in
-    let W : CoreState g.row.A.Denot → Type 0 = λ k. c.least_wait-slowest.result ≡ least (wait_phases k.members) in
-    let slow : c.least_wait-slowest.result ≡ least (wait_phases reg.members) = subst W (sym c.self.view_is) c.least_wait-slowest.ensures in
-    let first = c.in_default-block_refusal.ensures in
-    let p = block_passed b.limits (length held) c.args.single e first in
-    let row : first_row (block_rows b.limits c.least_wait-slowest.result b.ring held c.args.single e) ≡ None =
-    sym c.lists_refusal-refusal.ensures.rows ∙ c.in_default-refusal.is in
-    let some : 0 < length held = (let s = p.some in omega arith) in
-    let t = block_taken op reg b c.args.task e held c.args.single c.waiters.result c.least_wait-slowest.result c.self.invariant.boarded c.waiters.ensures c.if-waiters-eq0.false
-    slow found few p.signals some row in
-    t.ready.low
-
-pub signal_block-requires-clause-ahead : goal.signal_block-requires-clause-ahead
-signal_block-requires-clause-ahead g c =
-    let op = g.A.Accumulate.operation in
-    let reg = c.self.inside.registry in
-    let b = c.self.inside.board in
-    let e = c.in-Some.entry in
-    let held = c.args.lists.now in
-    let found : entry_of reg.members c.args.task ≡ Some e = sym c.in-Some.ensures.entry in
-    let few = c.in-Some.ensures.few in
-    let W : CoreState g.row.A.Denot → Type 0 = λ k. c.least_wait-slowest.result ≡ least (wait_phases k.members) in
-    let slow : c.least_wait-slowest.result ≡ least (wait_phases reg.members) = subst W (sym c.self.view_is) c.least_wait-slowest.ensures in
-    let first = c.in_default-block_refusal.ensures in
-    let p = block_passed b.limits (length held) c.args.single e first in
-    let row : first_row (block_rows b.limits c.least_wait-slowest.result b.ring held c.args.single e) ≡ None =
-    sym c.lists_refusal-refusal.ensures.rows ∙ c.in_default-refusal.is in
-    let some : 0 < length held = (let s = p.some in omega arith) in
-    let t = block_taken op reg b c.args.task e held c.args.single c.waiters.result c.least_wait-slowest.result c.self.invariant.boarded c.waiters.ensures c.if-waiters-eq0.false
-    slow found few p.signals some row in
-    t.near
-
-pub signal_block-requires-clause-stands : goal.signal_block-requires-clause-stands
-signal_block-requires-clause-stands g c =
-    let op = g.A.Accumulate.operation in
-    let reg = c.self.inside.registry in
-    let b = c.self.inside.board in
-    let e = c.in-Some.entry in
-    let held = c.args.lists.now in
-    let found : entry_of reg.members c.args.task ≡ Some e = sym c.in-Some.ensures.entry in
-    let few = c.in-Some.ensures.few in
-    let W : CoreState g.row.A.Denot → Type 0 = λ k. c.least_wait-slowest.result ≡ least (wait_phases k.members) in
-    let slow : c.least_wait-slowest.result ≡ least (wait_phases reg.members) = subst W (sym c.self.view_is) c.least_wait-slowest.ensures in
-    let first = c.in_default-block_refusal.ensures in
-    let p = block_passed b.limits (length held) c.args.single e first in
-    let row : first_row (block_rows b.limits c.least_wait-slowest.result b.ring held c.args.single e) ≡ None =
-    sym c.lists_refusal-refusal.ensures.rows ∙ c.in_default-refusal.is in
-    let some : 0 < length held = (let s = p.some in omega arith) in
-    let t = block_taken op reg b c.args.task e held c.args.single c.waiters.result c.least_wait-slowest.result c.self.invariant.boarded c.waiters.ensures c.if-waiters-eq0.false
-    slow found few p.signals some row in
-    t.ready.stands
-
-pub signal_block-requires-clause-few : goal.signal_block-requires-clause-few
-signal_block-requires-clause-few g c =
-    let op = g.A.Accumulate.operation in
-    let reg = c.self.inside.registry in
-    let b = c.self.inside.board in
-    let e = c.in-Some.entry in
-    let held = c.args.lists.now in
-    let found : entry_of reg.members c.args.task ≡ Some e = sym c.in-Some.ensures.entry in
-    let few = c.in-Some.ensures.few in
-    let W : CoreState g.row.A.Denot → Type 0 = λ k. c.least_wait-slowest.result ≡ least (wait_phases k.members) in
-    let slow : c.least_wait-slowest.result ≡ least (wait_phases reg.members) = subst W (sym c.self.view_is) c.least_wait-slowest.ensures in
-    let first = c.in_default-block_refusal.ensures in
-    let p = block_passed b.limits (length held) c.args.single e first in
-    let row : first_row (block_rows b.limits c.least_wait-slowest.result b.ring held c.args.single e) ≡ None =
-    sym c.lists_refusal-refusal.ensures.rows ∙ c.in_default-refusal.is in
-    let some : 0 < length held = (let s = p.some in omega arith) in
-    let t = block_taken op reg b c.args.task e held c.args.single c.waiters.result c.least_wait-slowest.result c.self.invariant.boarded c.waiters.ensures c.if-waiters-eq0.false
-    slow found few p.signals some row in
-    t.ready.few
-
-pub signal_block-requires-clause-fits : goal.signal_block-requires-clause-fits
-signal_block-requires-clause-fits g c =
-    let op = g.A.Accumulate.operation in
-    let reg = c.self.inside.registry in
-    let b = c.self.inside.board in
-    let e = c.in-Some.entry in
-    let held = c.args.lists.now in
-    let found : entry_of reg.members c.args.task ≡ Some e = sym c.in-Some.ensures.entry in
-    let few = c.in-Some.ensures.few in
-    let W : CoreState g.row.A.Denot → Type 0 = λ k. c.least_wait-slowest.result ≡ least (wait_phases k.members) in
-    let slow : c.least_wait-slowest.result ≡ least (wait_phases reg.members) = subst W (sym c.self.view_is) c.least_wait-slowest.ensures in
-    let first = c.in_default-block_refusal.ensures in
-    let p = block_passed b.limits (length held) c.args.single e first in
-    let row : first_row (block_rows b.limits c.least_wait-slowest.result b.ring held c.args.single e) ≡ None =
-    sym c.lists_refusal-refusal.ensures.rows ∙ c.in_default-refusal.is in
-    let some : 0 < length held = (let s = p.some in omega arith) in
-    let t = block_taken op reg b c.args.task e held c.args.single c.waiters.result c.least_wait-slowest.result c.self.invariant.boarded c.waiters.ensures c.if-waiters-eq0.false
-    slow found few p.signals some row in
-    t.fits
-
-pub signal_block-requires-clause-far : goal.signal_block-requires-clause-far
-signal_block-requires-clause-far g c =
-    let op = g.A.Accumulate.operation in
-    let reg = c.self.inside.registry in
-    let b = c.self.inside.board in
-    let e = c.in-Some.entry in
-    let held = c.args.lists.now in
-    let found : entry_of reg.members c.args.task ≡ Some e = sym c.in-Some.ensures.entry in
-    let few = c.in-Some.ensures.few in
-    let W : CoreState g.row.A.Denot → Type 0 = λ k. c.least_wait-slowest.result ≡ least (wait_phases k.members) in
-    let slow : c.least_wait-slowest.result ≡ least (wait_phases reg.members) = subst W (sym c.self.view_is) c.least_wait-slowest.ensures in
-    let first = c.in_default-block_refusal.ensures in
-    let p = block_passed b.limits (length held) c.args.single e first in
-    let row : first_row (block_rows b.limits c.least_wait-slowest.result b.ring held c.args.single e) ≡ None =
-    sym c.lists_refusal-refusal.ensures.rows ∙ c.in_default-refusal.is in
-    let some : 0 < length held = (let s = p.some in omega arith) in
     let within = block_far b.limits c.least_wait-slowest.result b.ring held c.args.single e some row in
     let most = phases_most c.self.invariant.stands in
-    omega arith
+    let near = t.near in
+    record {
+      kept = t.boarded.kept;
+      may = record {
+        low = t.ready.low;
+        later = omega arith;
+        ahead = omega arith;
+        far = omega arith;
+        stands = t.ready.stands;
+        few = t.ready.few;
+      };
+      fits = t.fits;
+    }
 
 pub signalled-requires-2-clause-below : goal.signalled-requires-2-clause-below
 signalled-requires-2-clause-below g c =
@@ -407,9 +301,9 @@ invariant_of-self-2 g c =
     record {
       history = Signalled c.args.task sends c.args.single ∷ h;
       stands = signal_stands op g.met.A.Accumulate.laws reg c.signalled-2.new.self b c.signal_block.new.self h c.args.task e held sends c.args.single
-          stands t.boarded found t.base t.near none holds c.check_single.ensures t.fits reg_is o.limits o.top o.slots;
-      boarded = inr (block_boarded op reg c.signalled-2.new.self b c.signal_block.new.self c.args.task (length held) e t.boarded found p.signals reg_is o.base
-          o.moved o.others o.kept o.stops);
+          stands t.boarded found t.base t.near none holds c.check_single.ensures t.fits reg_is o.signalled.limits o.signalled.top o.slots;
+      boarded = inr (block_boarded op reg c.signalled-2.new.self b c.signal_block.new.self c.args.task (length held) e t.boarded found p.signals reg_is o.signalled.base
+          o.signalled.moves.moved o.signalled.moves.others o.kept o.stops);
       used = used_after reg c.signalled-2.new.self (changed_at c.args.task (signalled (length held)) reg.members) c.self.invariant.used reg_is;
     }
 
@@ -457,4 +351,4 @@ returns-clause-after g c h sends given holds =
     let o = c.signal_block.ensures in
     let reg_is = c.signalled-2.ensures in
     signal_stands op g.met.A.Accumulate.laws reg c.signalled-2.new.self b c.signal_block.new.self h c.args.task e held sends c.args.single
-    stands t.boarded found t.base t.near none holds c.check_single.ensures t.fits reg_is o.limits o.top o.slots
+    stands t.boarded found t.base t.near none holds c.check_single.ensures t.fits reg_is o.signalled.limits o.signalled.top o.slots

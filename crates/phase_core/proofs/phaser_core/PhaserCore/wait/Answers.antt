@@ -47,8 +47,8 @@ returns-then-done-phase-clause-reply g c h given =
     let L : CoreState g.row.A.Denot → Type 0 = λ k. wait_reply op.value k.limits h c.args.task ≡ Ok got.Ended in
     subst L c.self.view_is (waits_ended op reg b h c.args.task e w stands c.if-done-phase.true r.1)
 
-pub wait-outcome-requires-clause-kept : goal.wait-outcome-requires-clause-kept
-wait-outcome-requires-clause-kept g c =
+pub wait-outcome-requires : goal.wait-outcome-requires
+wait-outcome-requires g c =
     let op = g.A.Accumulate.operation in
     let reg = c.self.inside.registry in
     let b = c.self.inside.board in
@@ -56,29 +56,11 @@ wait-outcome-requires-clause-kept g c =
     let found : entry_of reg.members c.args.task ≡ Some e = sym c.in-Some.ensures.entry in
     let waits : mode_waits e.mode ≡ true = sym c.waits.ensures ∙ c.if-not-waits.false in
     let w = waiting op reg b c.args.task e c.self.invariant.boarded found c.in-Some.ensures.few waits in
-    w.boarded.kept
-
-pub wait-outcome-requires-clause-stands : goal.wait-outcome-requires-clause-stands
-wait-outcome-requires-clause-stands g c =
-    let op = g.A.Accumulate.operation in
-    let reg = c.self.inside.registry in
-    let b = c.self.inside.board in
-    let e = c.in-Some.entry in
-    let found : entry_of reg.members c.args.task ≡ Some e = sym c.in-Some.ensures.entry in
-    let waits : mode_waits e.mode ≡ true = sym c.waits.ensures ∙ c.if-not-waits.false in
-    let w = waiting op reg b c.args.task e c.self.invariant.boarded found c.in-Some.ensures.few waits in
-    w.ready.stands
-
-pub wait-outcome-requires-clause-few : goal.wait-outcome-requires-clause-few
-wait-outcome-requires-clause-few g c =
-    let op = g.A.Accumulate.operation in
-    let reg = c.self.inside.registry in
-    let b = c.self.inside.board in
-    let e = c.in-Some.entry in
-    let found : entry_of reg.members c.args.task ≡ Some e = sym c.in-Some.ensures.entry in
-    let waits : mode_waits e.mode ≡ true = sym c.waits.ensures ∙ c.if-not-waits.false in
-    let w = waiting op reg b c.args.task e c.self.invariant.boarded found c.in-Some.ensures.few waits in
-    w.ready.few
+    let before : e.wait_phase < b.done = c.if-done-phase.false in
+    record {
+      kept = w.boarded.kept;
+      may = record { later = omega arith; complete = omega arith; stands = w.ready.stands; few = w.ready.few };
+    }
 
 pub invariant_of-self : goal.invariant_of-self
 invariant_of-self g c =
@@ -94,14 +76,14 @@ invariant_of-self g c =
     subst H (sym c.self.view_is) c.has_signaller-has_signaller.ensures in
     let o = c.wait-outcome.ensures in
     let boarded = boarded_waited op reg c.waited.new.self b c.wait-outcome.new.self c.args.task 1 e w.boarded found waits c.waited.ensures
-    o.done o.top o.moved o.others o.kept o.stops in
+    o.waited.keeps.done o.waited.keeps.top o.waited.moves.moved o.waited.moves.others o.kept o.stops in
     let h = c.self.invariant.history in
     let stands = c.self.invariant.stands in
     let r = waits_reply op reg b h c.args.task e c.has_signaller-has_signaller.result None w stands found has c.in_default-wait_refusal.ensures in
     record {
       history = Waited c.args.task 1 ∷ h;
       stands = stands_waited op reg c.waited.new.self b c.wait-outcome.new.self h c.args.task 1 e w stands found boarded r.0 (let before : e.wait_phase < b.done = c.if-done-phase.false in omega arith)
-          c.waited.ensures o.limits o.top o.slots;
+          c.waited.ensures o.waited.keeps.limits o.waited.keeps.top o.slots;
       boarded = inr boarded;
       used = used_after reg c.waited.new.self (changed_at c.args.task (waited 1) reg.members) c.self.invariant.used c.waited.ensures;
     }
@@ -139,11 +121,11 @@ returns-clause-after g c h given =
     subst H (sym c.self.view_is) c.has_signaller-has_signaller.ensures in
     let o = c.wait-outcome.ensures in
     let boarded = boarded_waited op reg c.waited.new.self b c.wait-outcome.new.self c.args.task 1 e w.boarded found waits c.waited.ensures
-    o.done o.top o.moved o.others o.kept o.stops in
+    o.waited.keeps.done o.waited.keeps.top o.waited.moves.moved o.waited.moves.others o.kept o.stops in
     let stands : StandsFor op (core_of reg b) h = rw c.self.view_is given in
     let r = waits_reply op reg b h c.args.task e c.has_signaller-has_signaller.result None w stands found has c.in_default-wait_refusal.ensures in
     stands_waited op reg c.waited.new.self b c.wait-outcome.new.self h c.args.task 1 e w stands found boarded r.0 (let before : e.wait_phase < b.done = c.if-done-phase.false in omega arith)
-    c.waited.ensures o.limits o.top o.slots
+    c.waited.ensures o.waited.keeps.limits o.waited.keeps.top o.slots
 
 -- what it answers is a value of some legal history
 pub returns-clause-range : goal.returns-clause-range

@@ -51,38 +51,8 @@ returns-then-done-phase-clause-reply g c h given =
     let L : CoreState g.row.A.Denot → Type 0 = λ k. wait_block_reply k.limits h c.args.task n ≡ Ok got.Ended in
     subst L c.self.view_is (r.1 ∙ ap (λ x. Ok x) (got_block_ended h e.wait_phase n b.done (done_of_boarded op reg b h stands w.boarded) c.if-done-phase.true))
 
-pub wait_block-requires-clause-kept : goal.wait_block-requires-clause-kept
-wait_block-requires-clause-kept g c =
-    let op = g.A.Accumulate.operation in
-    let reg = c.self.inside.registry in
-    let b = c.self.inside.board in
-    let e = c.in-Some.entry in
-    let n = length c.args.out.now in
-    let found : entry_of reg.members c.args.task ≡ Some e = sym c.in-Some.ensures.entry in
-    let waits : mode_waits e.mode ≡ true = sym c.waits.ensures ∙ c.if-not-waits.false in
-    let w = waiting op reg b c.args.task e c.self.invariant.boarded found c.in-Some.ensures.few waits in
-    let H : CoreState g.row.A.Denot → Type 0 = λ k. c.has_signaller-has_signaller.result ≡ is_some (least (signal_phases k.members)) in
-    let has : c.has_signaller-has_signaller.result ≡ is_some (least (signal_phases reg.members)) =
-    subst H (sym c.self.view_is) c.has_signaller-has_signaller.ensures in
-    w.boarded.kept
-
-pub wait_block-requires-clause-stands : goal.wait_block-requires-clause-stands
-wait_block-requires-clause-stands g c =
-    let op = g.A.Accumulate.operation in
-    let reg = c.self.inside.registry in
-    let b = c.self.inside.board in
-    let e = c.in-Some.entry in
-    let n = length c.args.out.now in
-    let found : entry_of reg.members c.args.task ≡ Some e = sym c.in-Some.ensures.entry in
-    let waits : mode_waits e.mode ≡ true = sym c.waits.ensures ∙ c.if-not-waits.false in
-    let w = waiting op reg b c.args.task e c.self.invariant.boarded found c.in-Some.ensures.few waits in
-    let H : CoreState g.row.A.Denot → Type 0 = λ k. c.has_signaller-has_signaller.result ≡ is_some (least (signal_phases k.members)) in
-    let has : c.has_signaller-has_signaller.result ≡ is_some (least (signal_phases reg.members)) =
-    subst H (sym c.self.view_is) c.has_signaller-has_signaller.ensures in
-    w.ready.stands
-
-pub wait_block-requires-clause-some : goal.wait_block-requires-clause-some
-wait_block-requires-clause-some g c =
+pub wait_block-requires : goal.wait_block-requires
+wait_block-requires g c =
     let op = g.A.Accumulate.operation in
     let reg = c.self.inside.registry in
     let b = c.self.inside.board in
@@ -101,29 +71,16 @@ wait_block-requires-clause-some g c =
     let count = c.min-count.result in
     let count_is : count ≡ min n (b.done - e.wait_phase) = c.min-count.ensures in
     let before : e.wait_phase < b.done = c.if-done-phase.false in
-    omega arith
-
-pub wait_block-requires-clause-few : goal.wait_block-requires-clause-few
-wait_block-requires-clause-few g c =
-    let op = g.A.Accumulate.operation in
-    let reg = c.self.inside.registry in
-    let b = c.self.inside.board in
-    let e = c.in-Some.entry in
-    let n = length c.args.out.now in
-    let found : entry_of reg.members c.args.task ≡ Some e = sym c.in-Some.ensures.entry in
-    let waits : mode_waits e.mode ≡ true = sym c.waits.ensures ∙ c.if-not-waits.false in
-    let w = waiting op reg b c.args.task e c.self.invariant.boarded found c.in-Some.ensures.few waits in
-    let H : CoreState g.row.A.Denot → Type 0 = λ k. c.has_signaller-has_signaller.result ≡ is_some (least (signal_phases k.members)) in
-    let has : c.has_signaller-has_signaller.result ≡ is_some (least (signal_phases reg.members)) =
-    subst H (sym c.self.view_is) c.has_signaller-has_signaller.ensures in
-    let h = c.self.invariant.history in
-    let stands = c.self.invariant.stands in
-    let r = wait_block_is op reg b h c.args.task n e c.has_signaller-has_signaller.result None w stands found has c.in_default-refusal.ensures in
-    let asked = asked_some b.limits h c.args.task n r.0 in
-    let count = c.min-count.result in
-    let count_is : count ≡ min n (b.done - e.wait_phase) = c.min-count.ensures in
-    let before : e.wait_phase < b.done = c.if-done-phase.false in
-    few_by op reg b c.args.task count e w.boarded found c.in-Some.ensures.few waits (omega arith)
+    record {
+      kept = w.boarded.kept;
+      may = record {
+        later = omega arith;
+        complete = omega arith;
+        stands = w.ready.stands;
+        few = few_by op reg b c.args.task count e w.boarded found c.in-Some.ensures.few waits (omega arith);
+      };
+      room = omega arith;
+    }
 
 pub invariant_of-self : goal.invariant_of-self
 invariant_of-self g c =
@@ -147,12 +104,12 @@ invariant_of-self g c =
     let before : e.wait_phase < b.done = c.if-done-phase.false in
     let o = c.wait_block.ensures in
     let boarded = boarded_waited op reg c.waited.new.self b c.wait_block.new.self c.args.task count e w.boarded found waits c.waited.ensures
-    o.done o.top o.moved o.others o.kept o.stops in
+    o.waited.keeps.done o.waited.keeps.top o.waited.moves.moved o.waited.moves.others o.kept o.stops in
     let fewer = wait_refusal-fewer b.limits h c.args.task n count r.0 (omega arith) (omega arith) in
     record {
       history = Waited c.args.task count ∷ h;
       stands = stands_waited op reg c.waited.new.self b c.wait_block.new.self h c.args.task count e w stands found boarded fewer (omega arith)
-          c.waited.ensures o.limits o.top o.slots;
+          c.waited.ensures o.waited.keeps.limits o.waited.keeps.top o.slots;
       boarded = inr boarded;
       used = used_after reg c.waited.new.self (changed_at c.args.task (waited count) reg.members) c.self.invariant.used c.waited.ensures;
     }
@@ -201,10 +158,10 @@ returns-clause-after g c h given =
     let before : e.wait_phase < b.done = c.if-done-phase.false in
     let o = c.wait_block.ensures in
     let boarded = boarded_waited op reg c.waited.new.self b c.wait_block.new.self c.args.task count e w.boarded found waits c.waited.ensures
-    o.done o.top o.moved o.others o.kept o.stops in
+    o.waited.keeps.done o.waited.keeps.top o.waited.moves.moved o.waited.moves.others o.kept o.stops in
     let fewer = wait_refusal-fewer b.limits h c.args.task n count r.0 (omega arith) (omega arith) in
     stands_waited op reg c.waited.new.self b c.wait_block.new.self h c.args.task count e w stands found boarded fewer (omega arith)
-    c.waited.ensures o.limits o.top o.slots
+    c.waited.ensures o.waited.keeps.limits o.waited.keeps.top o.slots
 
 pub returns-clause-out : goal.returns-clause-out
 returns-clause-out g c h given =

@@ -1,5 +1,5 @@
 -- A task that takes part in the role stands where others stand already.
-use Rattle.std.proofs.Common.{◌≡◌, true, sym, ◌∙◌}
+use Rattle.std.proofs.Common.{◌≡◌, true, refl, sym, ◌∙◌}
 use Rattle.phase_ring.specs.Standings.{takes_part}
 use Rattle.phase_ring.proofs.Kept.{entered}
 use Rattle.phase_ring.proofs.board.Board.enter_as.Goals as goal
@@ -31,3 +31,9 @@ returns-then-is_of-clause-others g c =
     let takes : takes_part c.args.role c.args.entry ≡ true = sym c.is_of.ensures ∙ c.if-is_of.true in
     (entered g.A.Accumulate.operation old.ring c.enter.new.self old.limits.bound old.done old.top c.phase_of.result c.args.role c.args.entry
     c.phase_of.ensures takes c.requires.kept c.requires.stands c.enter.ensures).0.others
+
+pub returns-then-is_of-clause-keeps : goal.returns-then-is_of-clause-keeps
+returns-then-is_of-clause-keeps g c = record { limits = refl; done = refl; top = refl }
+
+pub returns-else-is_of-clause-keeps : goal.returns-else-is_of-clause-keeps
+returns-else-is_of-clause-keeps g c = record { limits = refl; done = refl; top = refl }

@@ -31,3 +31,7 @@ loop-self-preserved g c =
           subst K (sym new) (λ p slot low found. KeepsSlots-released op now.ring p slot low (c.loop-self.invariant.4 p slot (omega arith) found))),
       c.loop-self.invariant.5,
     )
+
+pub returns-after-loop-self-clause-keeps : goal.returns-after-loop-self-clause-keeps
+returns-after-loop-self-clause-keeps g c =
+    record { limits = c.loop-self.invariant.5; done = c.loop-self.invariant.1; top = c.loop-self.invariant.2 }

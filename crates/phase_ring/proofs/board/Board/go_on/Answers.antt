@@ -1,67 +1,57 @@
 -- The signaller leaves its phase and enters the later one, and then done moves up.
-use Rattle.std.proofs.Common.{◌≡◌, ℕ, ◌+◌, ◌-◌, ◌<◌, ◌≤◌, List, [], ◌∷◌, Some, length, max, drop, refl, sym, ap, subst, ◌∙◌, arith}
+use Rattle.std.proofs.Common.{◌≡◌, ℕ, ◌+◌, ◌<◌, ◌≤◌, ◌∙◌, arith}
 use Rattle.phase_ring.specs.declared.role.Role.TheVariants.{Signaller, Waiter}
-use Rattle.phase_ring.specs.Rings.{Ring, standing, sents}
-use Rattle.phase_ring.specs.Boards.{IsKept}
-use Rattle.phase_ring.specs.Blocks.{block_joined}
-use Rattle.phase_ring.proofs.Slots.{sealed-high}
+use Rattle.phase_ring.specs.Rings.{standing}
 use Rattle.phase_ring.proofs.Blocks.{signaller-within, signaller_leaving, signaller_entering}
 use Rattle.phase_ring.proofs.board.Board.go_on.Goals as goal
 
-pub leave-requires-clause-within : goal.leave-requires-clause-within
-leave-requires-clause-within g c =
+pub leave-requires : goal.leave-requires
+leave-requires g c =
     let op = g.A.Accumulate.operation in
     let old = c.args.self.now in
-    let later = c.requires.later in
-    let high = c.requires.high in
-    signaller-within op old.ring old.limits.bound old.done old.top c.args.from c.requires.kept c.requires.low (omega arith)
+    let may = c.requires.may in
+    let later = may.later in
+    let high = may.high in
+    record {
+      within = signaller-within op old.ring old.limits.bound old.done old.top c.args.from c.requires.kept may.low (omega arith);
+      some = may.stands;
+    }
 
-pub enter-requires-clause-within : goal.enter-requires-clause-within
-enter-requires-clause-within g c =
+pub enter-requires : goal.enter-requires
+enter-requires g c =
     let op = g.A.Accumulate.operation in
     let old = c.args.self.now in
-    let l = signaller_leaving op old.ring c.leave.new.self old.limits.bound old.done old.top c.args.from c.args.to c.requires.kept c.requires.low c.requires.later c.requires.high c.leave.ensures in
-    l.next
-
-pub enter-requires-clause-few : goal.enter-requires-clause-few
-enter-requires-clause-few g c =
-    let op = g.A.Accumulate.operation in
-    let old = c.args.self.now in
-    let l = signaller_leaving op old.ring c.leave.new.self old.limits.bound old.done old.top c.args.from c.args.to c.requires.kept c.requires.low c.requires.later c.requires.high c.leave.ensures in
+    let may = c.requires.may in
+    let l = signaller_leaving op old.ring c.leave.new.self old.limits.bound old.done old.top c.args.from c.args.to c.requires.kept may.low may.later may.high c.leave.ensures in
     let room = l.room in
-    let few = c.requires.few in
-    omega arith
+    let few = may.few in
+    record { within = l.next; few = omega arith }
 
 pub settle-requires : goal.settle-requires
 settle-requires g c =
     let op = g.A.Accumulate.operation in
     let old = c.args.self.now in
-    let l = signaller_leaving op old.ring c.leave.new.self old.limits.bound old.done old.top c.args.from c.args.to c.requires.kept c.requires.low c.requires.later c.requires.high c.leave.ensures in
-    let e = signaller_entering op old.ring c.leave.new.self c.enter.new.self old.limits.bound old.done old.top c.args.from c.args.to l c.requires.low c.requires.later c.requires.high c.requires.stands c.enter.ensures in
+    let may = c.requires.may in
+    let l = signaller_leaving op old.ring c.leave.new.self old.limits.bound old.done old.top c.args.from c.args.to c.requires.kept may.low may.later may.high c.leave.ensures in
+    let e = signaller_entering op old.ring c.leave.new.self c.enter.new.self old.limits.bound old.done old.top c.args.from c.args.to l may.low may.later may.high may.stands c.enter.ensures in
     e.kept
 
-pub returns-clause-same : goal.returns-clause-same
-returns-clause-same g c =
+pub returns : goal.returns
+returns g c =
     let op = g.A.Accumulate.operation in
     let old = c.args.self.now in
-    let l = signaller_leaving op old.ring c.leave.new.self old.limits.bound old.done old.top c.args.from c.args.to c.requires.kept c.requires.low c.requires.later c.requires.high c.leave.ensures in
-    let e = signaller_entering op old.ring c.leave.new.self c.enter.new.self old.limits.bound old.done old.top c.args.from c.args.to l c.requires.low c.requires.later c.requires.high c.requires.stands c.enter.ensures in
-    c.settle.ensures.same ∙ e.sents_same
-
-pub returns-clause-moved : goal.returns-clause-moved
-returns-clause-moved g c p =
-    let op = g.A.Accumulate.operation in
-    let old = c.args.self.now in
-    let l = signaller_leaving op old.ring c.leave.new.self old.limits.bound old.done old.top c.args.from c.args.to c.requires.kept c.requires.low c.requires.later c.requires.high c.leave.ensures in
-    let e = signaller_entering op old.ring c.leave.new.self c.enter.new.self old.limits.bound old.done old.top c.args.from c.args.to l c.requires.low c.requires.later c.requires.high c.requires.stands c.enter.ensures in
-    let a = c.settle.ensures.standing Signaller p in
-    let b = e.moved p in
-    omega arith
-
-pub returns-clause-others : goal.returns-clause-others
-returns-clause-others g c p =
-    let op = g.A.Accumulate.operation in
-    let old = c.args.self.now in
-    let l = signaller_leaving op old.ring c.leave.new.self old.limits.bound old.done old.top c.args.from c.args.to c.requires.kept c.requires.low c.requires.later c.requires.high c.leave.ensures in
-    let e = signaller_entering op old.ring c.leave.new.self c.enter.new.self old.limits.bound old.done old.top c.args.from c.args.to l c.requires.low c.requires.later c.requires.high c.requires.stands c.enter.ensures in
-    c.settle.ensures.standing Waiter p ∙ e.others p
+    let may = c.requires.may in
+    let l = signaller_leaving op old.ring c.leave.new.self old.limits.bound old.done old.top c.args.from c.args.to c.requires.kept may.low may.later may.high c.leave.ensures in
+    let e = signaller_entering op old.ring c.leave.new.self c.enter.new.self old.limits.bound old.done old.top c.args.from c.args.to l may.low may.later may.high may.stands c.enter.ensures in
+    let s = c.settle.ensures in
+    record {
+      kept = s.kept;
+      limits = s.limits;
+      top = s.top;
+      same = s.same ∙ e.sents_same;
+      moved = record {
+        moved = λ p. (let a = s.standing Signaller p in let b = e.moved p in omega arith);
+        others = λ p. s.standing Waiter p ∙ e.others p;
+      };
+      stops = s.stops;
+    }
