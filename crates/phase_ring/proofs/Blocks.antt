@@ -7,14 +7,12 @@ use Rattle.std.proofs.lemmas.List.{drop_more}
 use Rattle.std.proofs.lemmas.List.FromFn.{length-map-range_with_len, map-range_with_len_more}
 use Rattle.phase_accum.specs.declared.outcome.Outcome.{Outcome}
 use Rattle.std.proofs.lemmas.Bool.{cases_eq, cases_lt, ltb-false}
-use Rattle.std.proofs.lemmas.Option.{same_Some}
 use Rattle.phase_accum.specs.declared.single.Single.{Single}
 use Rattle.phase_accum.specs.Singles.{differs}
 use Rattle.phase_base.specs.declared.limits.TheConstants.{PHASES_MAX, SENDS_MAX}
 use Rattle.phase_accum.specs.Operations.{Operation}
 use Rattle.phase_accum.specs.Parcels.{Parcel}
 use Rattle.phase_ring.specs.declared.slot.Slot.{Slot}
-use Rattle.phase_ring.specs.declared.slot.MergeRefusal.{MergeRefusal}
 use Rattle.phase_ring.specs.declared.slot.MergeRefusal.TheVariants.{SingleDiffers, PhaseFull}
 use Rattle.phase_ring.specs.declared.role.Role.{Role}
 use Rattle.phase_ring.specs.declared.role.Role.TheVariants.{Signaller, Waiter}
@@ -24,7 +22,7 @@ use Rattle.phase_ring.specs.Standings.{is, other}
 use Rattle.phase_ring.specs.Boards.{IsKept}
 use Rattle.phase_ring.specs.Blocks.{joined_in, block_joined, BlockFits, value_in, value_at}
 use Rattle.phase_ring.proofs.Kept.{standing-within}
-use Rattle.phase_ring.proofs.Slots.{IsPlace, slot_at-some, slot_at-with_other, standing-with_same, merges}
+use Rattle.phase_ring.proofs.Slots.{slot_at-some, slot_at-with_other, standing-with_same, merges}
 use Rattle.phase_ring.proofs.Moves.{Moves, is-same, is-other, leaves, enters}
 
 -- a phase that refuses nothing gets not too many sends

@@ -32,6 +32,6 @@ loop-self-preserved g c =
       c.loop-self.invariant.5,
     )
 
-pub returns-after-loop-self-clause-keeps : goal.returns-after-loop-self-clause-keeps
-returns-after-loop-self-clause-keeps g c =
+pub returns-clause-keeps : goal.returns-clause-keeps
+returns-clause-keeps g c =
     record { limits = c.loop-self.invariant.5; done = c.loop-self.invariant.1; top = c.loop-self.invariant.2 }

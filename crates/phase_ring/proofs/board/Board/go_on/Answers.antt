@@ -1,7 +1,6 @@
 -- The signaller leaves its phase and enters the later one, and then done moves up.
-use Rattle.std.proofs.Common.{◌≡◌, ℕ, ◌+◌, ◌<◌, ◌≤◌, ◌∙◌, arith}
+use Rattle.std.proofs.Common.{◌∙◌, arith}
 use Rattle.phase_ring.specs.declared.role.Role.TheVariants.{Signaller, Waiter}
-use Rattle.phase_ring.specs.Rings.{standing}
 use Rattle.phase_ring.proofs.Blocks.{signaller-within, signaller_leaving, signaller_entering}
 use Rattle.phase_ring.proofs.board.Board.go_on.Goals as goal
 

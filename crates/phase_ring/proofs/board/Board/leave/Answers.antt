@@ -1,5 +1,5 @@
 -- Only who stands where, and which slots are sealed, changes before the base moves up.
-use Rattle.std.proofs.Common.{◌≡◌, ◌+◌, ◌<◌, ◌∙◌, ap, sym, arith, ⊎_elim, inl, inr}
+use Rattle.std.proofs.Common.{◌≡◌, ◌+◌, ◌∙◌, ap, sym, arith, ⊎_elim, inl, inr}
 use Rattle.phase_ring.specs.declared.role.Role.TheVariants.{Signaller, Waiter}
 use Rattle.phase_ring.specs.Rings.{standing}
 use Rattle.phase_ring.specs.Standings.{counted}

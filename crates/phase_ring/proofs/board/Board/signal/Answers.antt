@@ -1,7 +1,7 @@
 -- The sends join their phase, and the task goes on to the next one.
-use Rattle.std.proofs.Common.{◌≡◌, ℕ, ◌+◌, ◌<◌, ◌≤◌, List, [], ◌∷◌, max, sym, ap, subst, ◌∙◌, arith}
+use Rattle.std.proofs.Common.{ℕ, ◌+◌, ◌<◌, [], ◌∷◌, sym, ap, subst, ◌∙◌, arith}
 use Rattle.phase_ring.specs.declared.role.Role.TheVariants.{Signaller, Waiter}
-use Rattle.phase_ring.specs.Rings.{Ring, standing, sents}
+use Rattle.phase_ring.specs.Rings.{Ring, sents}
 use Rattle.phase_ring.specs.Boards.{IsKept}
 use Rattle.phase_ring.specs.Blocks.{block_joined}
 use Rattle.phase_ring.proofs.Slots.{sealed-high}

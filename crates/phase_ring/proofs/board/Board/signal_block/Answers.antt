@@ -1,5 +1,5 @@
 -- Each parcel joins its phase, the task goes on to the phase behind them, and then done moves up.
-use Rattle.std.proofs.Common.{◌≡◌, ℕ, ◌+◌, ◌-◌, ◌<◌, ◌≤◌, List, [], ◌∷◌, Some, length, max, drop, refl, sym, ap, subst, ◌∙◌, arith}
+use Rattle.std.proofs.Common.{◌≡◌, ℕ, ◌+◌, ◌<◌, ◌≤◌, length, max, drop, refl, sym, ap, subst, ◌∙◌, arith}
 use Rattle.phase_base.specs.Limits.{Limits}
 use Rattle.phase_base.specs.declared.limits.TheConstants.{MEMBERS_MAX}
 use Rattle.phase_ring.specs.declared.role.Role.TheVariants.{Signaller, Waiter}

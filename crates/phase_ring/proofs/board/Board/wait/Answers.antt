@@ -1,5 +1,5 @@
 -- The waiter goes on to the next phase, and then the base moves up.
-use Rattle.std.proofs.Common.{◌≡◌, ◌+◌, ◌<◌, ◌≤◌, ◌∙◌, arith}
+use Rattle.std.proofs.Common.{◌+◌, ◌<◌, ◌∙◌, arith}
 use Rattle.phase_ring.specs.declared.role.Role.TheVariants.{Signaller, Waiter}
 use Rattle.phase_ring.proofs.Blocks.{waiter_leaving, waiter_entering, waits-there}
 use Rattle.phase_ring.proofs.Slots.{sealed-low}

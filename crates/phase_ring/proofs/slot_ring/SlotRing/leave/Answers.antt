@@ -1,5 +1,5 @@
 -- Only who stands at one slot changes, and its sends do not.
-use Rattle.std.proofs.Common.{◌+◌, ◌-◌, sym, subst}
+use Rattle.std.proofs.Common.{◌-◌, sym, subst}
 use Rattle.phase_ring.specs.declared.slot.Slot.{Slot}
 use Rattle.phase_ring.specs.Slots.{IsHeld}
 use Rattle.phase_ring.proofs.Held.{IsHeld-get, IsRing-set, IsHeld-standing}
