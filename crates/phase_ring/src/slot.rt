@@ -2,6 +2,7 @@
 ghost use Rattle.std.specs.Prelude.{◌≡◌, ◌+◌, ◌≤◌};
 ghost use Rattle.phase_accum.specs.Singles.{differs};
 
+use crate::named::Named;
 use crate::role::Role;
 use phase_accum::{self, Accumulate, Outcome, Pending, Single};
 use phase_base::SENDS_MAX;
@@ -33,7 +34,7 @@ pub struct Slot<A: Copy> {
     /// The number of the sends.
     pub count: u64,
     /// What the first signal named: nothing yet where there is none, no single, or one.
-    pub named: Option<Option<Single>>,
+    pub named: Named,
     /// Whether the phase is complete.
     pub sealed: bool,
     /// How many signallers stand at the phase.
@@ -50,7 +51,7 @@ impl<A: Copy> Slot<A> {
         requires { self.now.count ≤ SENDS_MAX }
         ensures { result ≡ merge_refusal self.now count single.now }
     {
-        if is_other(self.named, *single) {
+        if is_other(self.named.get(), *single) {
             return Some(MergeRefusal::SingleDiffers);
         }
         (count > SENDS_MAX - self.count).then_some(MergeRefusal::PhaseFull)
@@ -95,7 +96,7 @@ impl<A: Accumulate> Slot<A> {
         Slot {
             part: A::unit(),
             count: 0,
-            named: None,
+            named: Named::of(None),
             sealed: false,
             signallers: 0,
             waiters: 0,
@@ -111,7 +112,7 @@ impl<A: Accumulate> Slot<A> {
     {
         self.part = A::join(self.part, pending.part());
         self.count += pending.count();
-        self.named = self.named.or(Some(*single));
+        self.named = Named::of(self.named.get().or(Some(*single)));
     }
 
     /// Tells the value of the sends, with the single applied where one was named.
@@ -120,7 +121,7 @@ impl<A: Accumulate> Slot<A> {
         ensures { result ≡ slot_value A.operation self.now }
     {
         let outcome = self.part.finish();
-        match self.named.flatten() {
+        match self.named.get().flatten() {
             Some(single) => phase_accum::apply(single, outcome),
             None => outcome,
         }
