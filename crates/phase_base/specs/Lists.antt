@@ -1,5 +1,5 @@
 -- Plain words on lists, of which several crates speak.
-use Rattle.std.specs.Prelude.{ℕ, ◌-◌, ◌×◌, List, [], ◌∷◌, Option, Some, None, Bool, true, not, ◌&&◌, ◌==◌, length, take, slice_index, if◌then◌else◌}
+use Rattle.std.specs.Prelude.{ℕ, ◌-◌, List, [], ◌∷◌, Option, Some, None, Bool, true, not, ◌&&◌, ◌==◌, length, take, slice_index, if◌then◌else◌}
 use Rattle.std.specs.List.{list_any}
 
 -- the answer of a table: its first row that applies
