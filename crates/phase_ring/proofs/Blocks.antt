@@ -1,5 +1,5 @@
 -- Sends that join phases in a row.
-use Rattle.std.proofs.Common.{◌≡◌, ℕ, ◌+◌, ◌-◌, ◌<◌, ◌≤◌, true, false, cond, ltb, Bool, zero, suc, drop, slice_index_or, map, ◌++◌, append_assoc, List, [], ◌∷◌, Option, Some, None, max, length, refl, sym, ◌∙◌, ap, subst, arith, ⊎_elim}
+use Rattle.std.proofs.Common.{◌≡◌, ℕ, ℤ, ◌+◌, ◌-◌, ◌<◌, ◌≤◌, true, false, cond, ltb, Bool, zero, suc, drop, slice_index_or, map, ◌++◌, append_assoc, List, [], ◌∷◌, Option, Some, None, max, length, refl, sym, ◌∙◌, ap, subst, arith, ⊎_elim}
 use Rattle.std.specs.Prelude.{slice_set}
 use Rattle.std.specs.List.{range_with_len}
 use Rattle.std.proofs.Math.Seq.{set-append_seam}
@@ -10,14 +10,14 @@ use Rattle.std.proofs.lemmas.Bool.{cases_eq, cases_lt, ltb-false}
 use Rattle.phase_accum.specs.declared.single.Single.{Single}
 use Rattle.phase_accum.specs.Singles.{differs}
 use Rattle.phase_base.specs.declared.limits.TheConstants.{PHASES_MAX, SENDS_MAX}
-use Rattle.phase_accum.specs.Operations.{Operation}
-use Rattle.phase_accum.specs.Parcels.{Parcel}
+use Rattle.phase_accum.specs.Operations.{Operation, AccumulateLaws}
+use Rattle.phase_accum.specs.Parcels.{Parcel, StandsForSends}
 use Rattle.phase_ring.specs.declared.slot.Slot.{Slot}
 use Rattle.phase_ring.specs.declared.slot.MergeRefusal.TheVariants.{SingleDiffers, PhaseFull}
 use Rattle.phase_ring.specs.declared.role.Role.{Role}
 use Rattle.phase_ring.specs.declared.role.Role.TheVariants.{Signaller, Waiter}
 use Rattle.phase_ring.specs.Rings.{Ring, IsWithin, slot_at, with_slot, standing, sents}
-use Rattle.phase_ring.specs.Slots.{with_standing, standing_of, joined, merge_refusal, slot_value}
+use Rattle.phase_ring.specs.Slots.{with_standing, standing_of, joined, first_of, merge_refusal, slot_value, IsUnused}
 use Rattle.phase_ring.specs.Standings.{is, other}
 use Rattle.phase_ring.specs.Boards.{IsKept}
 use Rattle.phase_ring.specs.Blocks.{joined_in, block_joined, BlockFits, value_in, value_at}
@@ -34,6 +34,20 @@ few_joined slot n single none =
     second true two e = absurd (cc)
     second false true e = absurd (cc)
     second false false e = refl
+
+-- the first sends of a phase are all that its slot has then
+pub joined_first : {A : Type 0} (op : Operation A) (slot : Slot A) (held : Parcel A) (single : Option Single) (sends : List ℤ) → AccumulateLaws op
+    → IsUnused op slot → StandsForSends op held sends
+    → (x : A) (n : ℕ) (named : Option (Option Single)) → x ≡ held.part → n ≡ held.count → named ≡ Some single
+    → record slot { part = x; count = n; named = named } ≡ joined op held single slot
+joined_first {A} op slot held single sends laws unused stands x n named x_is n_is named_is =
+    let part : x ≡ op.join slot.part held.part =
+    x_is ∙ sym (laws.left_unit held.part sends stands.part_is) ∙ ap (λ y. op.join y held.part) (sym unused.part_is) in
+    let count : n ≡ slot.count + held.count = (let z : slot.count ≡ 0 = unused.count_is in omega arith) in
+    let first : named ≡ first_of slot.named single = named_is ∙ ap (λ o. first_of o single) (sym unused.named_is) in
+    ap (λ (y : A). record slot { part = y; count = n; named = named }) part
+    ∙ ap (λ (m : ℕ). record slot { part = op.join slot.part held.part; count = m; named = named }) count
+    ∙ ap (λ (o : Option (Option Single)). record slot { part = op.join slot.part held.part; count = slot.count + held.count; named = o }) first
 
 -- later phases refuse nothing more where sends have joined an earlier one
 pub fits-later : {A : Type 0} (r : Ring A) (q p : ℕ) (x : Slot A) (rest : List (Parcel A)) (single : Option Single) → r.base ≤ q → q < p
@@ -75,6 +89,11 @@ joins_within op r0 r bound done top q rest single want j low ahead =
     let c : length r.slots ≡ bound + 1 = j.kept.long in
     let b : r.base ≡ r0.base = j.base_same in
     (record { low = omega arith; high = omega arith }, omega arith)
+
+-- from the top on no signal has joined it
+pub joins_unused : {A : Type 0} (op : Operation A) (r0 r : Ring A) (bound done top q : ℕ) (rest : List (Parcel A)) (single : Option Single) (want : Ring A)
+    → Joining op r0 r bound done top q rest single want → IsWithin r q → top ≤ q → (slot : Slot A) → slot_at r q ≡ Some slot → IsUnused op slot
+joins_unused op r0 r bound done top q rest single want j w above slot found = j.kept.unused q slot w.low found (omega arith)
 
 pub joins_next : {A : Type 0} (op : Operation A) (r0 r new : Ring A) (bound done top q : ℕ) (held : Parcel A) (rest : List (Parcel A)) (single : Option Single) (want : Ring A)
     → Joining op r0 r bound done top q (held ∷ rest) single want → done ≤ q → q < r0.base + bound → q < PHASES_MAX

@@ -1,10 +1,11 @@
 //! A ring with the first phase that is not complete, and the top.
-ghost use Rattle.std.specs.Prelude.{◌≡◌, ℕ, ◌<◌, ◌≤◌, ◌+◌, ◌⊎◌, max, true, OnOk, OnErr, IfOk, IfErr, Some, None, [], ◌∷◌, length, drop, ◌++◌};
+ghost use Rattle.std.specs.Prelude.{◌≡◌, ℕ, ◌<◌, ◌≤◌, ◌+◌, ◌⊎◌, max, true, false, OnOk, OnErr, IfOk, IfErr, Some, None, [], ◌∷◌, length, drop, ◌++◌};
 ghost use Rattle.phase_ring.specs.declared.slot.Slot.{Slot};
 ghost use Rattle.phase_ring.specs.declared.role.Role.{Role};
 ghost use Rattle.phase_ring.specs.declared.role.Role.TheVariants.{Signaller, Waiter};
-ghost use Rattle.phase_ring.specs.Slots.{slot_value};
-ghost use Rattle.phase_ring.specs.Rings.{standing, sents, slot_at, cleared, KeepsSlots};
+ghost use Rattle.phase_ring.specs.Slots.{slot_value, joined, merge_refusal, IsUnused};
+ghost use Rattle.phase_ring.specs.Rings.{standing, sents, slot_at, with_slot, is_sealed, cleared};
+ghost use Rattle.phase_ring.specs.Rings.{IsWithin, KeepsSlots};
 ghost use Rattle.phase_ring.specs.Standings.{is, other, takes_part, phase_for, counted};
 ghost use Rattle.phase_ring.specs.Boards.{IsBoard};
 ghost use Rattle.phase_ring.specs.Blocks.{block_joined, block_values, BlockFits};
@@ -106,6 +107,28 @@ impl<A: Accumulate> Board<A> {
         self.settle();
     }
 
+    // Joins sends to a phase that does not refuse them. No signal has joined the phases from the top
+    // on: there it only writes.
+    fn join(&mut self, phase: u64, pending: &Pending<A>, single: &Option<Single>)
+        requires within { IsWithin self.old.ring phase }
+        requires below { phase + 1 < self.old.ring.base + length self.old.ring.slots }
+        requires incomplete { is_sealed self.old.ring phase ≡ false }
+        requires fits { (slot : Slot A) → slot_at self.old.ring phase ≡ Some slot
+            → merge_refusal slot pending.now.count single.now ≡ None }
+        requires unused { self.old.top ≤ phase → (slot : Slot A)
+            → slot_at self.old.ring phase ≡ Some slot → IsUnused A.operation slot }
+        ensures keeps { KeepsBounds self.old self.new }
+        ensures slot { (slot : Slot A) → slot_at self.old.ring phase ≡ Some slot
+            → let more = joined A.operation pending.now single.now slot in
+            self.new.ring ≡ with_slot phase more self.old.ring }
+    {
+        if phase >= self.top {
+            self.ring.join_first(phase, pending, single);
+            return;
+        }
+        self.ring.join(phase, pending, single);
+    }
+
     /// Joins a signal to its phase, which does not refuse it, and moves its task on to the next one.
     pub fn signal(&mut self, phase: u64, pending: &Pending<A>, single: &Option<Single>)
         requires kept { IsBoard A.operation self.old }
@@ -117,7 +140,7 @@ impl<A: Accumulate> Board<A> {
             (block_joined A.operation phase (pending.now ∷ []) single.now self.old.ring) }
         ensures stops { IsSettled self.new }
     {
-        self.ring.join(phase, pending, single);
+        self.join(phase, pending, single);
         self.top = self.top.max(phase + 1);
         self.go_on(phase, phase + 1);
     }
@@ -136,7 +159,7 @@ impl<A: Accumulate> Board<A> {
     {
         let mut next = phase;
         for pending in lists {
-            self.ring.join(next, pending, single);
+            self.join(next, pending, single);
             next += 1;
         }
         self.top = self.top.max(next);

@@ -86,7 +86,7 @@ impl<A: Copy> Slot<A> {
 }
 
 impl<A: Accumulate> Slot<A> {
-    ghost use Rattle.phase_ring.specs.Slots.{empty_slot, joined, slot_value, IsHeld};
+    ghost use Rattle.phase_ring.specs.Slots.{empty_slot, joined, slot_value, IsHeld, IsUnused};
 
     /// The slot of a phase that no signal has joined, and at which nobody stands.
     pub fn empty() -> Slot<A>
@@ -113,6 +113,17 @@ impl<A: Accumulate> Slot<A> {
         self.part = A::join(self.part, pending.part());
         self.count += pending.count();
         self.named = Named::of(self.named.get().or(Some(*single)));
+    }
+
+    // Joins the first sends of the phase. It only writes.
+    pub(crate) fn join_first(&mut self, pending: &Pending<A>, single: &Option<Single>)
+        requires { IsUnused A.operation self.old }
+        ensures value { self.new ≡ joined A.operation pending.now single.now self.old }
+        ensures held { IsHeld A.operation self.new }
+    {
+        self.part = pending.part();
+        self.count = pending.count();
+        self.named = Named::of(Some(*single));
     }
 
     /// Tells the value of the sends, with the single applied where one was named.

@@ -3,7 +3,7 @@ ghost use Rattle.std.specs.Prelude.{◌≡◌, ◌+◌, ◌-◌, ◌^◌, ◌<�
 ghost use Rattle.circular_buffer.specs.Buffer.{buffer};
 ghost use Rattle.phase_ring.specs.declared.slot.Slot.{Slot};
 ghost use Rattle.phase_ring.specs.declared.role.Role.TheVariants.{Waiter};
-ghost use Rattle.phase_ring.specs.Slots.{empty_slot, IsHeld};
+ghost use Rattle.phase_ring.specs.Slots.{empty_slot, IsHeld, IsUnused};
 ghost use Rattle.phase_ring.specs.Slots.{with_standing, standing_of, joined, sealed, slot_value, merge_refusal};
 ghost use Rattle.phase_ring.specs.Rings.{Ring, standing, IsWithin, slot_at, with_slot, is_sealed};
 ghost use Rattle.phase_ring.specs.Rings.{fresh_ring, released, cleared};
@@ -146,6 +146,22 @@ impl<A: Accumulate> SlotRing<A> {
     {
         match self.slots.get_mut((phase - self.base) as usize) {
             Some(slot) => slot.join(pending, single),
+            None => unreachable!(),
+        }
+    }
+
+    // Joins the first sends of a phase that no signal has joined. It reads nothing of its slot.
+    pub(crate) fn join_first(&mut self, phase: u64, pending: &Pending<A>, single: &Option<Single>)
+        requires within { IsWithin self.old phase }
+        requires below { phase + 1 < self.old.base + length self.old.slots }
+        requires unused { (slot : Slot A) → slot_at self.old phase ≡ Some slot
+            → IsUnused A.operation slot }
+        ensures { (slot : Slot A) → slot_at self.old phase ≡ Some slot
+            → let more = joined A.operation pending.now single.now slot in
+            self.new ≡ with_slot phase more self.old }
+    {
+        match self.slots.get_mut((phase - self.base) as usize) {
+            Some(slot) => slot.join_first(pending, single),
             None => unreachable!(),
         }
     }

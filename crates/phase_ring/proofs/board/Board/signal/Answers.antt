@@ -1,11 +1,12 @@
 -- The sends join their phase, and the task goes on to the next one.
-use Rattle.std.proofs.Common.{ℕ, ◌+◌, ◌<◌, [], ◌∷◌, sym, ap, subst, ◌∙◌, arith}
+use Rattle.std.proofs.Common.{ℕ, ◌+◌, ◌<◌, [], ◌∷◌, max, sym, ap, subst, ◌∙◌, arith}
+use Rattle.phase_base.specs.Limits.{Limits}
 use Rattle.phase_ring.specs.declared.role.Role.TheVariants.{Signaller, Waiter}
 use Rattle.phase_ring.specs.Rings.{Ring, sents}
 use Rattle.phase_ring.specs.Boards.{IsKept}
 use Rattle.phase_ring.specs.Blocks.{block_joined}
 use Rattle.phase_ring.proofs.Slots.{sealed-high}
-use Rattle.phase_ring.proofs.Blocks.{joins_first, joins_within, joins_next}
+use Rattle.phase_ring.proofs.Blocks.{joins_first, joins_within, joins_unused, joins_next}
 use Rattle.phase_ring.proofs.board.Board.signal.Goals as goal
 
 pub join-requires : goal.join-requires
@@ -22,6 +23,7 @@ join-requires g c =
       below = w.1;
       incomplete = sealed-high op old.ring old.limits.bound old.done old.top c.args.phase c.requires.kept w.0 may.low;
       fits = c.requires.fits.0;
+      unused = λ above. joins_unused op old.ring old.ring old.limits.bound old.done old.top c.args.phase (c.args.pending.now ∷ []) c.args.single.now want first w.0 above;
     }
 
 pub overflow_add-phase : goal.overflow_add-phase
@@ -43,13 +45,18 @@ go_on-requires g c =
     let far = may.far in
     let want = block_joined op c.args.phase (c.args.pending.now ∷ []) c.args.single.now old.ring in
     let first = joins_first op old.ring old.limits.bound old.done old.top c.args.phase (c.args.pending.now ∷ []) c.args.single.now c.requires.kept may.stands c.requires.fits in
-    let j = joins_next op old.ring old.ring c.join.new.self old.limits.bound old.done old.top c.args.phase c.args.pending.now [] c.args.single.now want first may.low ahead (omega arith) c.join.ensures in
-    let K : ℕ → Type 0 = λ t. IsKept op c.join.new.self old.limits.bound old.done t in
+    let j = joins_next op old.ring old.ring c.join.new.self.ring old.limits.bound old.done old.top c.args.phase c.args.pending.now [] c.args.single.now want first may.low ahead (omega arith) c.join.ensures.slot in
+    let now = c.join.new.self in
+    let same = c.join.ensures.keeps in
+    let later = may.later in
     let top = c.max-self.ensures in
+    let L : Limits → Type 0 = λ l. IsKept op now.ring l.bound now.done c.max-self.result in
+    let D : ℕ → Type 0 = λ d. IsKept op now.ring old.limits.bound d c.max-self.result in
+    let T : ℕ → Type 0 = λ t. IsKept op now.ring old.limits.bound old.done t in
     record {
-      kept = subst K (sym c.max-self.ensures) j.kept;
+      kept = subst L (sym same.limits) (subst D (sym same.done) (subst T (sym (top ∙ ap (λ t. max t (c.args.phase + 1)) same.top)) j.kept));
       may = record {
-        low = may.low;
+        low = (let low = may.low in let d = same.done in omega arith);
         later = may.later;
         high = omega arith;
         stands = (let s = j.stands Signaller c.args.phase in let h = may.stands in omega arith);
@@ -66,14 +73,14 @@ returns g c =
     let far = may.far in
     let want = block_joined op c.args.phase (c.args.pending.now ∷ []) c.args.single.now old.ring in
     let first = joins_first op old.ring old.limits.bound old.done old.top c.args.phase (c.args.pending.now ∷ []) c.args.single.now c.requires.kept may.stands c.requires.fits in
-    let j = joins_next op old.ring old.ring c.join.new.self old.limits.bound old.done old.top c.args.phase c.args.pending.now [] c.args.single.now want first may.low ahead (omega arith) c.join.ensures in
+    let j = joins_next op old.ring old.ring c.join.new.self.ring old.limits.bound old.done old.top c.args.phase c.args.pending.now [] c.args.single.now want first may.low ahead (omega arith) c.join.ensures.slot in
     let o = c.go_on.ensures in
     record {
       kept = o.kept;
       signalled = record {
-        limits = o.limits;
+        limits = o.limits ∙ c.join.ensures.keeps.limits;
         base = ap (λ (r : Ring g.row.A.Denot). r.base) o.same ∙ j.base_same;
-        top = o.top ∙ c.max-self.ensures;
+        top = (let a = o.top in let b = c.max-self.ensures in let d = c.join.ensures.keeps.top in omega arith);
         moves = record {
           moved = λ p. (let a = o.moved.moved p in let d = j.stands Signaller p in omega arith);
           others = λ p. o.moved.others p ∙ j.stands Waiter p;

@@ -8,7 +8,7 @@ use Rattle.phase_ring.specs.Boards.{IsKept}
 use Rattle.phase_ring.specs.Standings.{is}
 use Rattle.phase_ring.specs.Blocks.{block_joined}
 use Rattle.phase_ring.proofs.Slots.{sealed-high}
-use Rattle.phase_ring.proofs.Blocks.{joins_first, joins_within, joins_here, joins_next, joins_last}
+use Rattle.phase_ring.proofs.Blocks.{joins_first, joins_within, joins_unused, joins_here, joins_next, joins_last}
 use Rattle.phase_ring.proofs.board.Board.signal_block.Goals as goal
 
 pub loop-pending-init : goal.loop-pending-init
@@ -42,6 +42,8 @@ join-requires g c =
       below = within.1;
       incomplete = sealed-high op c.loop-pending.self.ring old.limits.bound old.done (max old.top c.loop-pending.next) c.loop-pending.next here.kept within.0 (omega arith);
       fits = here.fits.0;
+      unused = λ above. joins_unused op old.ring c.loop-pending.self.ring old.limits.bound old.done old.top c.loop-pending.next _ c.args.single.now _ here within.0
+          (let same : c.loop-pending.self.top ≡ old.top = c.loop-pending.invariant.3 in let a : c.loop-pending.self.top ≤ c.loop-pending.next = above in omega arith);
     }
 
 pub overflow_add-next : goal.overflow_add-next
@@ -66,14 +68,14 @@ loop-pending-preserved g c =
     let here = joins_here op old.ring c.loop-pending.self.ring old.limits.bound old.done old.top c.loop-pending.next c.loop-pending.pending-index c.args.lists.now
     c.pending-item.result c.args.single.now (block_joined op c.args.phase c.args.lists.now c.args.single.now old.ring) inv.joining inside c.pending-item.is in (
       record {
-        joining = joins_next op old.ring c.loop-pending.self.ring c.join.new.self old.limits.bound old.done old.top c.loop-pending.next c.pending-item.result
+        joining = joins_next op old.ring c.loop-pending.self.ring c.join.new.self.ring old.limits.bound old.done old.top c.loop-pending.next c.pending-item.result
             (drop (c.loop-pending.pending-index + 1) c.args.lists.now) c.args.single.now (block_joined op c.args.phase c.args.lists.now c.args.single.now old.ring)
-            here (omega arith) (omega arith) (omega arith) c.join.ensures;
+            here (omega arith) (omega arith) (omega arith) c.join.ensures.slot;
         next_is = omega arith;
       },
-      c.loop-pending.invariant.1,
-      c.loop-pending.invariant.2,
-      c.loop-pending.invariant.3,
+      c.join.ensures.keeps.limits ∙ c.loop-pending.invariant.1,
+      c.join.ensures.keeps.done ∙ c.loop-pending.invariant.2,
+      c.join.ensures.keeps.top ∙ c.loop-pending.invariant.3,
     )
 
 pub go_on-requires : goal.go_on-requires
