@@ -3,7 +3,7 @@
 use Rattle.std.proofs.Common.{◌≡◌, ℕ, ℤ, ◌+◌, ◌<◌, ◌≤◌, Bool, true, false, ◌&&◌, cond, eqb, ltb, leb, List, [], ◌∷◌, ◌++◌, Option, Some, None, Err, length, refl, sym, ap, subst, ◌∙◌, arith, zero, suc, drop, slice_index_or, ⊎_elim}
 use Rattle.std.specs.Prelude.{is_some, IsSome}
 use Rattle.std.specs.Option.{option_map}
-use Rattle.std.proofs.lemmas.Bool.{leb-false, cases_lt}
+use Rattle.std.proofs.lemmas.Bool.{leb-false, le-ltb, cases_lt}
 use Rattle.phase_base.specs.Limits.{Limits}
 use Rattle.phase_base.specs.Modes.{mode_waits}
 use Rattle.phase_base.specs.declared.entry.Entry.{Entry}
@@ -23,7 +23,7 @@ use Rattle.phase_history.specs.Replies.{signal_reply, refused_or}
 use Rattle.phase_history.proofs.Refused.{no_row}
 use Rattle.phase_registry.specs.Rosters.{Roster}
 use Rattle.phase_ring.specs.declared.slot.Slot.{Slot}
-use Rattle.phase_ring.specs.Slots.{merge_refusal}
+use Rattle.phase_ring.specs.Slots.{merge_refusal, IsUnused}
 use Rattle.phase_ring.specs.Rings.{Ring, slot_at, IsWithin}
 use Rattle.phase_ring.specs.declared.slot.MergeRefusal.{MergeRefusal}
 use Rattle.phase_ring.specs.declared.slot.MergeRefusal.TheVariants as merge
@@ -247,17 +247,18 @@ block_fits {A} limits b r (held ∷ more) single e none =
     nothing None e = refl
     nothing (Some x) e = absurd (cc)
 
--- ---- a phase whose ring refuses
+-- ---- a phase in which no earlier row applies
 
-pub refused_in_phase : {A : Type 0} (op : Operation A) (limits : Limits) (slowest : Option ℕ) (r : Ring A) (done top : ℕ) (e : Entry) (held : Parcel A) (single : Option Single)
-    (early : Option SignalRefusal) (m : MergeRefusal)
+-- the ring answers
+pub phase_by_ring : {A : Type 0} (op : Operation A) (limits : Limits) (slowest : Option ℕ) (r : Ring A) (done top : ℕ) (e : Entry) (held : Parcel A) (single : Option Single)
+    (early : Option SignalRefusal) (m : Option MergeRefusal)
     → IsOpen op r limits.bound done top slowest e.signal_phase → early ≡ first_row (phase_rows limits slowest 0 None 0 None e) → early ≡ None
-    → ((slot : Slot A) → slot_at r e.signal_phase ≡ Some slot → merge_refusal slot held.count single ≡ Some m)
-    → Some (refusal_of m) ≡ first_row (phase_rows limits slowest (count_at (slot_at r e.signal_phase)) (named_at (slot_at r e.signal_phase)) held.count single e)
-refused_in_phase {A} op limits slowest r done top e held single early m opened row none refused =
+    → ((slot : Slot A) → slot_at r e.signal_phase ≡ Some slot → merge_refusal slot held.count single ≡ m)
+    → option_map refusal_of m ≡ first_row (phase_rows limits slowest (count_at (slot_at r e.signal_phase)) (named_at (slot_at r e.signal_phase)) held.count single e)
+phase_by_ring {A} op limits slowest r done top e held single early m opened row none answers =
     let o = slot_at r e.signal_phase in
     let G : Option ℕ → Type 0 = λ x. early ≡ first_row (phase_rows limits x 0 None 0 None e)
-    → Some (refusal_of m) ≡ first_row (phase_rows limits x (count_at o) (named_at o) held.count single e) in
+    → option_map refusal_of m ≡ first_row (phase_rows limits x (count_at o) (named_at o) held.count single e) in
     subst G (sym opened.slowest_is) (λ row'.
     let behind : e.signal_phase < r.base + limits.bound = leb-false _ _ (below_of limits (Some r.base) 0 None 0 None e (sym row' ∙ none)).1 in
     let base = opened.kept.base_done in
@@ -267,7 +268,15 @@ refused_in_phase {A} op limits slowest r done top e held single early m opened r
     let slot = slot_at-some r e.signal_phase w in
     sym (phase_split limits (Some r.base) (count_at o) (named_at o) held.count single e early row'
     ∙ ap (λ x. first_or x (first_row (late_rows (Some r.base) (count_at o) (named_at o) held.count single))) none
-    ∙ late_by_ring r.base held.count o slot.0 single (Some m) slot.1 (refused slot.0 slot.1))) row
+    ∙ late_by_ring r.base held.count o slot.0 single m slot.1 (answers slot.0 slot.1))) row
+
+-- a slot that no signal has joined refuses nothing
+pub unused_takes : {A : Type 0} (op : Operation A) (slot : Slot A) (n : ℕ) (single : Option Single) → IsUnused op slot → n ≤ SENDS_MAX
+    → merge_refusal slot n single ≡ None
+unused_takes op slot n single unused few =
+    let fits : slot.count + n ≤ SENDS_MAX = (let z : slot.count ≡ 0 = unused.count_is in omega arith) in
+    ap (λ o. cond (differs o single) (Some merge.SingleDiffers) (cond (ltb SENDS_MAX (slot.count + n)) (Some merge.PhaseFull) None)) unused.named_is
+    ∙ ap (λ b. cond b (Some merge.PhaseFull) None) (le-ltb SENDS_MAX (slot.count + n) fits)
 
 -- ---- the loop over a block's parcels
 

@@ -34,10 +34,13 @@ pub fn list_refusal<A: Accumulate>(
     let Some(_slowest) = slowest else {
         return None;
     };
-    match board
-        .ring
-        .can_merge(entry.signal_phase, pending.count(), *single)
-    {
+    // No signal has joined a phase from the top on, and no task holds more sends than a phase may
+    // have. So the slot is not looked at.
+    let held = pending.count();
+    if entry.signal_phase >= board.top {
+        return None;
+    }
+    match board.ring.can_merge(entry.signal_phase, held, *single) {
         Ok(()) => None,
         Err(refusal) => Some(refusal_rows::phase_refusal(refusal)),
     }

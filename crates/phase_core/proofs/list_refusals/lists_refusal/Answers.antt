@@ -19,9 +19,10 @@ list_refusal-refusal-requires g c some =
 pub returns-then-is_some-clause-rows : goal.returns-then-is_some-clause-rows
 returns-then-is_some-clause-rows g c =
     let b = c.args.board.now in
+    let w = first_row (block_rows b.limits c.args.slowest b.ring c.args.lists.now c.args.single.now c.args.entry) in
     let all = rows_at b.limits c.args.slowest b.ring c.args.lists.now c.pending-item.result c.args.single.now c.loop-pending.at c.loop-pending.pending-index
-    c.list_refusal-refusal.result _ c.loop-pending.invariant.left c.loop-pending-test.true c.pending-item.is c.list_refusal-refusal.ensures in
-    sym (first_or-some c.list_refusal-refusal.result _ (sym c.is_some.ensures ∙ c.if-is_some.true)) ∙ all
+    c.list_refusal-refusal.result w c.loop-pending.invariant.left c.loop-pending-test.true c.pending-item.is c.list_refusal-refusal.ensures in
+    ◌∙◌ {c = w} (sym (first_or-some c.list_refusal-refusal.result _ (sym c.is_some.ensures ∙ c.if-is_some.true))) all
 
 pub loop-pending-preserved : goal.loop-pending-preserved
 loop-pending-preserved g c =
@@ -29,11 +30,12 @@ loop-pending-preserved g c =
     let i = c.loop-pending.invariant in
     let is = i.phase_is in
     let none = none-of c.list_refusal-refusal.result (sym c.is_some.ensures ∙ c.if-is_some.false) in
+    let w = first_row (block_rows b.limits c.args.slowest b.ring c.args.lists.now c.args.single.now c.args.entry) in
     let all = rows_at b.limits c.args.slowest b.ring c.args.lists.now c.pending-item.result c.args.single.now c.loop-pending.at c.loop-pending.pending-index
-    c.list_refusal-refusal.result _ i.left c.loop-pending-test.true c.pending-item.is c.list_refusal-refusal.ensures in
+    c.list_refusal-refusal.result w i.left c.loop-pending-test.true c.pending-item.is c.list_refusal-refusal.ensures in
     record {
       phase_is = omega arith;
-      left = first_or-past c.list_refusal-refusal.result _ _ none all;
+      left = first_or-past c.list_refusal-refusal.result _ w none all;
       held = held_next g.A.Accumulate.operation c.args.lists.now c.pending-item.result c.part-part.ensures.held.0 c.loop-pending.pending-index _ i.held
           c.loop-pending-test.true c.pending-item.is c.part-part.ensures.held.1;
     }
