@@ -20,7 +20,7 @@ use Rattle.phase_base.specs.declared.operation.Op.TheVariants.{Sum, Product, Lea
 use Rattle.graph_base.specs.Graphs.{task_at, phaser_at}
 use Rattle.graph_base.specs.TaskLines.{IsGraph}
 use Rattle.stream_lists.specs.Jobs.{Job, place_in}
-use Rattle.stream_lists.specs.Spans.{signalled_by, puts_on, spans_of, end_of, span_in}
+use Rattle.stream_lists.specs.Spans.{signalled_by, puts_on, spans_of, end_of, span_in, schedule_of}
 use Rattle.stream_lists.specs.Lists.{Member, send_in, member_at, member_by, value_by, numbers_of, output_on}
 use Rattle.stream_lists.specs.Meetings.{is_any, overlap, meet_on, meets_on, meets_above, meeting_line}
 use Rattle.stream_laws.proofs.Ordered.{place-at}
@@ -128,13 +128,13 @@ sends_within n member v e = by (cases_lt n member.0)
 -- a task that sends in phase n signals it
 pub signals_at : (job : Job) (p t n : ℕ) (member : Member) (v : ℤ) → IsGraph job.graph
     → t < length job.graph.tasks
-    → member_at job (spans_of job) (numbers_of job) p t ≡ Some member → send_in n member ≡ Some v
+    → member_at job (schedule_of job) (numbers_of job) p t ≡ Some member → send_in n member ≡ Some v
     → ((span_in job t).offset ≤ n) × (n < end_of job.graph (spans_of job) p t)
 signals_at job p t n member v is there at sends =
     by (place_in (signalled_by (task_at job.graph t)) p) refl at
   where
     by : (place : Option ℕ) → place_in (signalled_by (task_at job.graph t)) p ≡ place
-        → member_by job (spans_of job) (numbers_of job) t place ≡ Some member
+        → member_by job (schedule_of job) (numbers_of job) t place ≡ Some member
         → ((span_in job t).offset ≤ n) × (n < end_of job.graph (spans_of job) p t)
     by None e found = absurd (cc)
     by (Some j) e found = live_case ((span_in job t).live) refl found
@@ -142,20 +142,20 @@ signals_at job p t n member v is there at sends =
         live_case : (b : Bool) → (span_in job t).live ≡ b
             → (if b then Some (
               (span_in job t).offset,
-              output_on job (spans_of job) (numbers_of job) t
+              output_on job (schedule_of job) (numbers_of job) t
                   j,
             ) else None) ≡ Some member
             → ((span_in job t).offset ≤ n) × (n < end_of job.graph (spans_of job) p t)
         live_case false dead found = absurd (cc)
         live_case true live found =
             let out : Member =
-            ((span_in job t).offset, output_on job (spans_of job) (numbers_of job) t j) in
+            ((span_in job t).offset, output_on job (schedule_of job) (numbers_of job) t j) in
             let same : out ≡ member = same_Some _ _ found in
             let w : ((span_in job t).offset ≤ n)
             × (n < (span_in job t).offset + length
-            (output_on job (spans_of job) (numbers_of job) t j)) =
+            (output_on job (schedule_of job) (numbers_of job) t j)) =
             sends_within n out v (ap (λ x. send_in n x) same ∙ sends) in
-            let long : length (output_on job (spans_of job) (numbers_of job) t j)
+            let long : length (output_on job (schedule_of job) (numbers_of job) t j)
             ≡ puts_on (task_at job.graph t) (span_in job t).steps j =
             outputs_long job t j is there (place-at (signalled_by (task_at job.graph t)) p j e).0 in
             let ends : end_of job.graph (spans_of job) p t
@@ -164,7 +164,7 @@ signals_at job p t n member v is there at sends =
             let low : (span_in job t).offset ≤ n = w.0 in
             let high : n
             < (span_in job t).offset + length
-            (output_on job (spans_of job) (numbers_of job) t j) = w.1 in
+            (output_on job (schedule_of job) (numbers_of job) t j) = w.1 in
             (low, omega arith)
 
 pub in_range : (t a n : ℕ) → is_in t (range_with_len a n) ≡ true → t < a + n
@@ -180,7 +180,7 @@ in_range t a (suc n) e =
 
 pub are_gathered : (job : Job) (m : Moment) (p : ℕ) → IsReady job → p < length job.graph.phasers
     → PhaserRan job m p
-    → AllAgree (m.history p) (m.number p) (member_at job (spans_of job) (numbers_of job) p)
+    → AllAgree (m.history p) (m.number p) (member_at job (schedule_of job) (numbers_of job) p)
     (range_with_len 0 (length job.graph.tasks))
     → AreGathered job m p
 are_gathered job m p ready pp ran agree n below = by (op_case (phaser_at job.graph p).op)
@@ -203,17 +203,17 @@ are_gathered job m p ready pp ran agree n below = by (op_case (phaser_at job.gra
         let there : f.0 < 0 + length job.graph.tasks =
         in_range f.0 0 (length job.graph.tasks) f.1 in
         let A : Option ℕ → Type 0 =
-        λ o. Agrees (m.history p) o (member_at job (spans_of job) (numbers_of job) p f.0) in
+        λ o. Agrees (m.history p) o (member_at job (schedule_of job) (numbers_of job) p f.0) in
         let a_is : Agrees (m.history p) (Some a)
-        (member_at job (spans_of job) (numbers_of job) p f.0) =
+        (member_at job (schedule_of job) (numbers_of job) p f.0) =
         subst A f.2
-        (agrees_at (m.history p) (m.number p) (member_at job (spans_of job) (numbers_of job) p)
+        (agrees_at (m.history p) (m.number p) (member_at job (schedule_of job) (numbers_of job) p)
         (range_with_len 0 (length job.graph.tasks)) f.0 f.1 agree) in
-        member_case f.0 (omega arith) (member_at job (spans_of job) (numbers_of job) p f.0) refl
+        member_case f.0 (omega arith) (member_at job (schedule_of job) (numbers_of job) p f.0) refl
         a_is
       where
         member_case : (t : ℕ) → t < length job.graph.tasks → (o : Option Member)
-            → member_at job (spans_of job) (numbers_of job) p t ≡ o
+            → member_at job (schedule_of job) (numbers_of job) p t ≡ o
             → Agrees (m.history p) (Some a) o
             → (t < length job.graph.tasks) × ((span_in job t).offset ≤ n)
             × (n < end_of job.graph (spans_of job) p t)

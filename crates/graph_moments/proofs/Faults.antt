@@ -7,7 +7,7 @@ use Rattle.phase_accum.specs.Sends.{IsSend, AreSends, value_max}
 use Rattle.graph_base.specs.Graphs.{task_at}
 use Rattle.graph_base.specs.TaskLines.{IsGraph}
 use Rattle.stream_lists.specs.Jobs.{Job, place_in}
-use Rattle.stream_lists.specs.Spans.{spans_of, lengths_of, span_in, signalled_by}
+use Rattle.stream_lists.specs.Spans.{lengths_of, span_in, signalled_by, schedule_of}
 use Rattle.stream_lists.specs.Lists.{members_of, sends_in, numbers_of, output_on, list_of_phaser}
 use Rattle.stream_lists.specs.Ranges.{is_out_of_range, are_made, task_takes, is_taken, is_too_big, is_fault, first_too_big}
 use Rattle.stream_laws.specs.Entries.{AreInRange}
@@ -34,16 +34,16 @@ send_fits v is =
 -- a phase of phaser p that is too big and that some task takes
 pub phase_faults : (job : Job) (p n : ℕ) → IsGraph job.graph → p < length job.graph.phasers
     → n < get_or (lengths_of job) p 0
-    → is_fault (value_at job p) job (spans_of job)
-    (members_of job (spans_of job) (numbers_of job) p) p n ≡ true
+    → is_fault (value_at job p) job (schedule_of job)
+    (members_of job (schedule_of job) (numbers_of job) p) p n ≡ true
     → first_too_big job ≢ None
 phase_faults job p n is pp lt e fits =
     let value =
-    value_at job p (sends_in (members_of job (spans_of job) (numbers_of job) p) n) in
+    value_at job p (sends_in (members_of job (schedule_of job) (numbers_of job) p) n) in
     let all : AreInRange job = in_range job is fits in
-    let parts = and_parts (is_too_big value) (is_taken job (spans_of job) p n) e in
+    let parts = and_parts (is_too_big value) (is_taken job (schedule_of job) p n) e in
     let taker =
-    any-from (task_takes job (spans_of job) p n) 0 (length job.graph.tasks) parts.1 in
+    any-from (task_takes job (schedule_of job) p n) 0 (length job.graph.tasks) parts.1 in
     let there : taker.0 < 0 + length job.graph.tasks = taker.1 in
     let long : length (list_of_phaser job p) ≡ get_or (lengths_of job) p 0 = length-list job p in
     all.phases p n taker.0 pp (omega arith) (takes_parts job p n taker.0 (omega arith) taker.2)
@@ -54,11 +54,12 @@ pub output_faults_at : (job : Job) (p t j i : ℕ) → IsGraph job.graph
     → p < length job.graph.phasers → t < length job.graph.tasks
     → place_in (signalled_by (task_at job.graph t)) p ≡ Some j → (span_in job t).live ≡ true
     → are_made (task_at job.graph t).kind j ≡ true
-    → i < length (output_on job (spans_of job) (numbers_of job) t j)
-    → is_out_of_range (get_or (output_on job (spans_of job) (numbers_of job) t j) i (pos 0)) ≡ true
+    → i < length (output_on job (schedule_of job) (numbers_of job) t j)
+    → is_out_of_range (get_or (output_on job (schedule_of job) (numbers_of job) t j) i (pos 0))
+    ≡ true
     → first_too_big job ≢ None
 output_faults_at job p t j i is pp there place live made lt e fits =
-    let list = output_on job (spans_of job) (numbers_of job) t j in
+    let list = output_on job (schedule_of job) (numbers_of job) t j in
     let all : AreInRange job = in_range job is fits in
     let sends : AreSends list = all.outputs t j (record {
       there = there;

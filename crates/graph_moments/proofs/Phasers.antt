@@ -12,7 +12,7 @@ use Rattle.phase_history.proofs.Sendings.{single_of_phase-all}
 use Rattle.graph_base.specs.Graphs.{task_at, phaser_at}
 use Rattle.graph_base.specs.TaskLines.{IsGraph}
 use Rattle.stream_lists.specs.Jobs.{Job, place_in}
-use Rattle.stream_lists.specs.Spans.{signalled_by, spans_of, lengths_of, greatest, span_in}
+use Rattle.stream_lists.specs.Spans.{signalled_by, lengths_of, greatest, span_in, schedule_of}
 use Rattle.stream_lists.specs.Lists.{Member, members_of, member_at, member_by, phase_in, numbers_of, output_on, ends_on}
 use Rattle.stream_laws.proofs.ListLengths.{lengths_end}
 use Rattle.graph_moments.specs.Agreeing.{IsAwaited, Agrees}
@@ -31,17 +31,17 @@ At job m p t None (Some n) = IsSilent (m.history p) n
 At job m p t (Some j) None =
     (span_in job t).live ≡ true
     → IsAwaited (m.history p)
-    ((span_in job t).offset, output_on job (spans_of job) (numbers_of job) t j)
+    ((span_in job t).offset, output_on job (schedule_of job) (numbers_of job) t j)
 At job m p t (Some j) (Some n) = OnOutput job m t j p n × Stands job m t × PutsOut job m t j
 
 pub agrees_from : (job : Job) (m : Moment) (p t : ℕ) (place number : Option ℕ)
     → At job m p t place number
-    → Agrees (m.history p) number (member_by job (spans_of job) (numbers_of job) t place)
+    → Agrees (m.history p) number (member_by job (schedule_of job) (numbers_of job) t place)
 agrees_from job m p t None None at = tt
 agrees_from job m p t None (Some n) at = at
 agrees_from job m p t (Some j) None at =
     let out : ℕ × List ℤ =
-    ((span_in job t).offset, output_on job (spans_of job) (numbers_of job) t j) in
+    ((span_in job t).offset, output_on job (schedule_of job) (numbers_of job) t j) in
     elim ((span_in job t).live) as (λ b. ((span_in job t).live ≡ b)
     → Agrees (m.history p) None (cond b (Some out) None)) [
       | true ↦ λ live. at live
@@ -52,7 +52,7 @@ agrees_from job m p t (Some j) (Some n) at =
     let s = at.1 in
     let o = at.2 in
     let out : ℕ × List ℤ =
-    ((span_in job t).offset, output_on job (spans_of job) (numbers_of job) t j) in
+    ((span_in job t).offset, output_on job (schedule_of job) (numbers_of job) t j) in
     let P : Bool → Type 0 = λ b. Agrees (m.history p) (Some n) (cond b (Some out) None) in
     subst P (sym s.live) (record {
       start = on.start;
@@ -64,7 +64,7 @@ agrees_from job m p t (Some j) (Some n) at =
       rest = o.begins.0;
       first = o.begins.1;
       whole = λ left.
-          nothing_more (m.put t j) o.begins.0 (output_on job (spans_of job) (numbers_of job) t j)
+          nothing_more (m.put t j) o.begins.0 (output_on job (schedule_of job) (numbers_of job) t j)
           o.begins.1 (o.ended (on.left left));
     })
 
@@ -75,7 +75,7 @@ EachAt job m p ts =
     → At job m p t (place_in (signalled_by (task_at job.graph t)) p) (m.number p t)
 
 pub all_agree : (job : Job) (m : Moment) (p : ℕ) (ts : List ℕ) → EachAt job m p ts
-    → AllAgree (m.history p) (m.number p) (member_at job (spans_of job) (numbers_of job) p) ts
+    → AllAgree (m.history p) (m.number p) (member_at job (schedule_of job) (numbers_of job) p) ts
 all_agree job m p [] each = tt
 all_agree job m p (t ∷ ts) each =
     let here : eqb t t ≡ true = eq-eqb t t refl in (
@@ -120,15 +120,15 @@ composes_from job m p is pp ran same each = record {
     ts = range_with_len 0 (length job.graph.tasks)
 
     member : ℕ → Option Member
-    member t = member_at job (spans_of job) (numbers_of job) p t
+    member t = member_at job (schedule_of job) (numbers_of job) p t
 
-    agree : AllAgree (m.history p) (m.number p) (member_at job (spans_of job) (numbers_of job) p)
+    agree : AllAgree (m.history p) (m.number p) (member_at job (schedule_of job) (numbers_of job) p)
         (range_with_len 0 (length job.graph.tasks))
     agree = all_agree job m p (range_with_len 0 (length job.graph.tasks)) each
 
     values : (n : ℕ) → n < done_of (m.history p)
         → value_of_phase (value_at job p) (m.history p) n
-        ≡ phase_in (value_at job p) job p (members_of job (spans_of job) (numbers_of job) p) n
+        ≡ phase_in (value_at job p) job p (members_of job (schedule_of job) (numbers_of job) p) n
     values n below =
         let value = value_at job p in
         let top : done_of (m.history p) ≤ top_of (m.history p) =
@@ -142,5 +142,5 @@ composes_from job m p is pp ran same each = record {
         (same n below
         ∙ ap value
         (gathered_is (limits_at job p) (m.history p) (m.number p)
-        (member_at job (spans_of job) (numbers_of job) p)
+        (member_at job (schedule_of job) (numbers_of job) p)
         (range_with_len 0 (length job.graph.tasks)) n ran.legal below agree))

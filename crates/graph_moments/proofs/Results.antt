@@ -12,7 +12,7 @@ use Rattle.graph_base.specs.Graphs.{Task, task_at, is_sink}
 use Rattle.graph_base.specs.TaskLines.{IsParent, HasEnds}
 use Rattle.stream_lists.specs.declared.span.Span.{Span}
 use Rattle.stream_lists.specs.Jobs.{Job, samples_at, place_in}
-use Rattle.stream_lists.specs.Spans.{spans_of, lengths_of, span_at, span_in, offset_of, takes_from, signalled_by, LooksAt}
+use Rattle.stream_lists.specs.Spans.{spans_of, lengths_of, span_at, span_in, offset_of, takes_from, signalled_by, LooksAt, schedule_of}
 use Rattle.stream_lists.specs.Lists.{numbers_of, list_over, phase_in, members_of, taken_from, sink_over, sinks_of, is_sink_at, lines_of}
 use Rattle.stream_lists.proofs.SpansAbove.{spans_all}
 use Rattle.stream_laws.proofs.Ordered.{parent_waits}
@@ -27,7 +27,7 @@ use Rattle.graph_moments.proofs.Whole.{composes, over_ended, stands_all, reads_a
 pub streams_begin : (job : Job) (m : Moment) (p : ℕ) → IsReady job → HasRun job m
     → p < length job.graph.phasers
     → IsPrefix (stream_of (value_at job p) (m.history p))
-    (list_over job (spans_of job) (lengths_of job) (numbers_of job) p)
+    (list_over job (schedule_of job) (numbers_of job) p)
 streams_begin job m p ready ran pp = stream_begins job m p (composes job m ready ran p pp)
 
 -- and is all of it where no task signals any more
@@ -35,18 +35,18 @@ pub streams_whole : (job : Job) (m : Moment) (p : ℕ) → IsReady job → HasRu
     → p < length job.graph.phasers
     → HasNoSignaller (m.history p)
     → stream_of (value_at job p) (m.history p)
-    ≡ list_over job (spans_of job) (lengths_of job) (numbers_of job) p
+    ≡ list_over job (schedule_of job) (numbers_of job) p
 streams_whole job m p ready ran pp quiet =
     let c : Composes job m p = composes job m ready ran p pp in
     let stream = stream_of (value_at job p) (m.history p) in
-    let list = list_over job (spans_of job) (lengths_of job) (numbers_of job) p in
+    let list = list_over job (schedule_of job) (numbers_of job) p in
     let low : get_or (lengths_of job) p 0 ≤ done_of (m.history p) = c.whole quiet in
     let a : length stream ≡ done_of (m.history p) =
     length-map-range_with_len (value_of_phase (value_at job p) (m.history p)) 0
     (done_of (m.history p)) in
     let b : length list ≡ get_or (lengths_of job) p 0 =
     length-map-range_with_len
-    (phase_in (value_at job p) job p (members_of job (spans_of job) (numbers_of job) p)) 0
+    (phase_in (value_at job p) job p (members_of job (schedule_of job) (numbers_of job) p)) 0
     (get_or (lengths_of job) p 0) in
     prefix_whole stream list (stream_begins job m p c) (omega arith)
 
@@ -247,7 +247,7 @@ sink_is Sink e = refl
 pub lines_are : (job : Job) (m : Moment) → IsReady job → HasRun job m → IsOver job m
     → lines_of job ≡ map (λ t. (t, m.taken t 0)) (sinks_of job)
 lines_are job m ready ran over =
-    map-filtered (sink_over job (spans_of job) (numbers_of job)) (λ t. (t, m.taken t 0))
+    map-filtered (sink_over job (schedule_of job) (numbers_of job)) (λ t. (t, m.taken t 0))
     (is_sink_at job) 0 (length job.graph.tasks)
     (λ t lt e. (let there : t < length job.graph.tasks = omega arith in
     ap (λ values. (t, values))

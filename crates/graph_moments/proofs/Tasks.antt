@@ -19,7 +19,7 @@ use Rattle.graph_base.specs.Graphs.{Task, task_at}
 use Rattle.graph_base.specs.TaskLines.{IsGraph, IsTaskLine, HasEnds}
 use Rattle.stream_lists.specs.declared.span.Span.{Span}
 use Rattle.stream_lists.specs.Jobs.{Job, samples_at}
-use Rattle.stream_lists.specs.Spans.{spans_of, lengths_of, span_at, span_in, offset_of, cut_at, enough_for, values_from, takes_from, signalled_by, puts_on, LooksAt}
+use Rattle.stream_lists.specs.Spans.{spans_of, lengths_of, span_at, span_in, offset_of, cut_at, enough_for, values_from, takes_from, signalled_by, puts_on, LooksAt, schedule_of}
 use Rattle.stream_lists.specs.Lists.{members_of, number, numbers_of, list_over, phase_in, output_on, taken_by, taken_from}
 use Rattle.stream_laws.proofs.ListsAbove.{numbers_all}
 use Rattle.stream_laws.proofs.ListLengths.{length-numbers, outputs_long}
@@ -69,10 +69,10 @@ map_number-drop (suc n) (x ∷ xs) = map_number-drop n xs
 -- the stream of a phaser that composes its list begins that list
 pub stream_begins : (job : Job) (m : Moment) (p : ℕ) → Composes job m p
     → IsPrefix (stream_of (value_at job p) (m.history p))
-    (list_over job (spans_of job) (lengths_of job) (numbers_of job) p)
+    (list_over job (schedule_of job) (numbers_of job) p)
 stream_begins job m p c =
     prefix_of_values (value_of_phase (value_at job p) (m.history p))
-    (phase_in (value_at job p) job p (members_of job (spans_of job) (numbers_of job) p))
+    (phase_in (value_at job p) job p (members_of job (schedule_of job) (numbers_of job) p))
     (done_of (m.history p)) (get_or (lengths_of job) p 0) Empty c.within
     (λ n below. sym (c.values n below))
 
@@ -93,7 +93,7 @@ has_read job m t k n is px ran c on =
     received_law value (limits_at job x) h n on.start ran.legal on.start_is on.waits in
     let w = on.start.wait_phase in
     let k_waited = phases_waited h n in
-    let list = list_over job (spans_of job) (lengths_of job) (numbers_of job) x in
+    let list = list_over job (schedule_of job) (numbers_of job) x in
     let complete : w + k_waited ≤ done_of h = got.complete in
     let long : length (stream_of value h) ≡ done_of h =
     length-map-range_with_len (value_of_phase value h) 0 (done_of h) in
@@ -322,7 +322,7 @@ pub made_begins : (job : Job) (m : Moment) (t j : ℕ) (put : List ℤ) → IsGr
     → HasRead job m t k)
     → HasExchanged (task_at job.graph t).kind j (length put) (length (m.taken t 1))
     → IsPrefix put (made_now job m t j)
-    → IsPrefix put (output_on job (spans_of job) (numbers_of job) t j)
+    → IsPrefix put (output_on job (schedule_of job) (numbers_of job) t j)
 made_begins job m t j put is there ran stands lt reads exchanged begins =
     let task = task_at job.graph t in
     let line : IsTaskLine job.graph t task = is.tasks t there in
@@ -357,7 +357,7 @@ pub puts_from : (job : Job) (m : Moment) (t j : ℕ) → IsGraph job.graph → t
 puts_from job m t j is there ran stands lt reads =
     let task = task_at job.graph t in
     let line : IsTaskLine job.graph t task = is.tasks t there in
-    let begins : IsPrefix (m.put t j) (output_on job (spans_of job) (numbers_of job) t j) =
+    let begins : IsPrefix (m.put t j) (output_on job (schedule_of job) (numbers_of job) t j) =
     made_begins job m t j (m.put t j) is there ran stands lt reads (ran.exchanged j)
     (ran.puts j lt) in
     record {
@@ -368,10 +368,10 @@ puts_from job m t j is there ran stands lt reads =
           length_made (samples_at job t) task (taken_now m task t) (m.begun t) j line.ends lt
           ran.samples (λ k below looks. now_counts job m t line ran k below looks) in
           let put : length (m.put t j) ≡ length (made_now job m t j) = ap length (e.all_put j lt) in
-          let all : length (output_on job (spans_of job) (numbers_of job) t j)
+          let all : length (output_on job (schedule_of job) (numbers_of job) t j)
           ≡ puts_on task (span_in job t).steps j = outputs_long job t j is there lt in
           let steps : puts_on task (m.begun t) j ≡ puts_on task (span_in job t).steps j =
           ap (λ n. puts_on task n j) same in
-          prefix_whole (m.put t j) (output_on job (spans_of job) (numbers_of job) t j) begins
+          prefix_whole (m.put t j) (output_on job (schedule_of job) (numbers_of job) t j) begins
           (omega arith));
     }

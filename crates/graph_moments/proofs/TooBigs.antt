@@ -23,7 +23,7 @@ use Rattle.graph_base.specs.declared.line.Kind.TheVariants.{Source, Fir, Split, 
 use Rattle.graph_base.specs.Graphs.{task_at, phaser_at}
 use Rattle.graph_base.specs.TaskLines.{IsGraph, IsTaskLine, HasEnds}
 use Rattle.stream_lists.specs.Jobs.{Job, samples_at, place_in}
-use Rattle.stream_lists.specs.Spans.{spans_of, lengths_of, span_in, takes_from, signalled_by, puts_on, LooksAt}
+use Rattle.stream_lists.specs.Spans.{lengths_of, span_in, takes_from, signalled_by, puts_on, LooksAt, schedule_of}
 use Rattle.stream_lists.specs.Lists.{members_of, sends_in, numbers_of, output_on, phase_in, sinks_of, number}
 use Rattle.stream_lists.specs.Ranges.{Where, is_out_of_range, are_made, takes_phase, task_takes, is_taken, is_too_big, first_too_big, Fits, answer_of}
 use Rattle.stream_laws.proofs.Ordered.{place-at, place_of_input}
@@ -76,18 +76,18 @@ met_is_fault job m t k n ready ran there lt registered low high complete met =
     let more : takes_from task (m.begun t) k ≤ takes_from task span.steps k =
     takes-mono task (m.begun t) span.steps k lt steps in
     let big : is_too_big
-    (value_at job x (sends_in (members_of job (spans_of job) (numbers_of job) x) n)) ≡ true =
+    (value_at job x (sends_in (members_of job (schedule_of job) (numbers_of job) x) n)) ≡ true =
     single_leaves (phaser_at job.graph x).single _ (sym (c.values n complete) ∙ met) in
     let begins : leb span.offset n ≡ true = le-leb span.offset n (omega arith) in
     let ends : leb (suc n) (span.offset + takes_from task span.steps k) ≡ true =
     le-leb (suc n) (span.offset + takes_from task span.steps k) (omega arith) in
-    let takes : task_takes job (spans_of job) x n t ≡ true =
+    let takes : task_takes job (schedule_of job) x n t ≡ true =
     ap (λ o. takes_phase task span n o) (place_of_input job.graph t k ready.graph there lt)
     ∙ and_from (span.live && leb span.offset n)
     (leb (suc n) (span.offset + takes_from task span.steps k))
     (and_from span.live (leb span.offset n) s.live begins) ends in
-    let taken : is_taken job (spans_of job) x n ≡ true =
-    any-at (task_takes job (spans_of job) x n) 0 (length job.graph.tasks) t (omega arith)
+    let taken : is_taken job (schedule_of job) x n ≡ true =
+    any-at (task_takes job (schedule_of job) x n) 0 (length job.graph.tasks) t (omega arith)
     (omega arith) takes in
     let within : done_of (m.history x) ≤ get_or (lengths_of job) x 0 = c.within in
     (omega arith, and_from _ _ big taken)
@@ -106,7 +106,7 @@ pub made_is_fault : (job : Job) (m : Moment) (t j p i : ℕ) → IsReady job →
     → IsFaultAt job (place.Task t, i)
 made_is_fault job m t j p i ready ran there pp registered placed made lt exchanged big =
     let s : Stands job m t = stands_all job m ready ran t there registered in
-    let all = output_on job (spans_of job) (numbers_of job) t j in
+    let all = output_on job (schedule_of job) (numbers_of job) t j in
     let front = take (suc i) (made_now job m t j) in
     let long : length front ≡ suc i = take_full (suc i) (made_now job m t j) (omega arith) in
     let X : ℕ → Type 0 = λ n. HasExchanged (task_at job.graph t).kind j n (length (m.taken t 1)) in
@@ -232,7 +232,7 @@ all_fit job m ready ran over none = record {
     output : (p t j : ℕ) → p < length job.graph.phasers → t < length job.graph.tasks
         → place_in (signalled_by (task_at job.graph t)) p ≡ Some j → (span_in job t).live ≡ true
         → (o : Option ℕ) → m.number p t ≡ o
-        → AreSends (output_on job (spans_of job) (numbers_of job) t j)
+        → AreSends (output_on job (schedule_of job) (numbers_of job) t j)
     output p t j pp there place live None absent =
         absurd (came_out job m ready ran over t p j there pp place absent live)
     output p t j pp there place live (Some n) some =
@@ -243,7 +243,7 @@ all_fit job m ready ran over none = record {
         let o : PutsOut job m t j =
         puts_all job m ready ran t j there (p, n, some)
         (place-at (signalled_by (task_at job.graph t)) p j place).0 in
-        let whole : m.put t j ≡ output_on job (spans_of job) (numbers_of job) t j =
+        let whole : m.put t j ≡ output_on job (schedule_of job) (numbers_of job) t j =
         o.ended (over_ended job m ready ran over t there (p, n, some)) in
         let S : List (List ℤ) → Type 0 = λ l. AreLists l in
         let T : List ℤ → Type 0 = λ l. AreSends l in
@@ -254,7 +254,7 @@ all_fit job m ready ran over none = record {
     phase : (p t n : ℕ) → p < length job.graph.phasers → t < length job.graph.tasks
         → Takes job p n t
         → is_too_big
-        (value_at job p (sends_in (members_of job (spans_of job) (numbers_of job) p) n)) ≡ false
+        (value_at job p (sends_in (members_of job (schedule_of job) (numbers_of job) p) n)) ≡ false
     phase p t n pp there takes =
         let task = task_at job.graph t in
         let here = place-at task.inputs p takes.input takes.waits in
@@ -267,7 +267,7 @@ all_fit job m ready ran over none = record {
             → n < (span_in job t).offset + takes_from (task_at job.graph t) (span_in job t).steps k
             → (o : Option ℕ) → m.number (input_at (task_at job.graph t) k) t ≡ o
             → is_too_big
-            (value_at job p (sends_in (members_of job (spans_of job) (numbers_of job) p) n))
+            (value_at job p (sends_in (members_of job (schedule_of job) (numbers_of job) p) n))
             ≡ false
         number_case k lt is live low high None absent =
             absurd (came_in job m ready ran over (suc t) t k (omega arith) there lt absent live)
@@ -314,11 +314,11 @@ all_fit job m ready ran over none = record {
             none x t a px there some i Empty (omega arith) in
             let c : Composes job m x = composes job m ready ran x px in
             let composed : value_of_phase value h n
-            ≡ phase_in value job x (members_of job (spans_of job) (numbers_of job) x) n =
+            ≡ phase_in value job x (members_of job (schedule_of job) (numbers_of job) x) n =
             c.values n (omega arith) in
             let B : ℕ → Type 0 =
             λ q. is_too_big
-            (value_at job q (sends_in (members_of job (spans_of job) (numbers_of job) q) n))
+            (value_at job q (sends_in (members_of job (schedule_of job) (numbers_of job) q) n))
             ≡ false in
             subst B is
             (not_too_big (phaser_at job.graph x).single _

@@ -13,7 +13,7 @@ use Rattle.graph_base.specs.Graphs.{Task, task_at}
 use Rattle.graph_base.specs.TaskLines.{IsGraph, IsTaskLine, IsParent, has_children}
 use Rattle.stream_lists.specs.declared.span.Span.{Span}
 use Rattle.stream_lists.specs.Jobs.{Job, samples_at, place_in}
-use Rattle.stream_lists.specs.Spans.{signalled_by, spans_of, lengths_of, span_at, span_in, offset_of, puts_on, LooksAt}
+use Rattle.stream_lists.specs.Spans.{signalled_by, spans_of, lengths_of, span_at, span_in, offset_of, puts_on, LooksAt, schedule_of}
 use Rattle.stream_lists.specs.Lists.{numbers_of, output_on}
 use Rattle.stream_laws.proofs.Ordered.{looks-first, looked_above, place-at, parent_signals}
 use Rattle.stream_lists.proofs.SpansAbove.{parent-is, spans_all}
@@ -282,7 +282,7 @@ compose_one job m ready ran p pp above =
         subst A some (subst P is ((ran.tasks t there).outputs p pp))
     at t there (Some j) is None none = λ live.
         awaited job m ready ran p pp standing (suc t) t j (omega arith) there is none live
-        (output_on job (spans_of job) (numbers_of job) t j)
+        (output_on job (schedule_of job) (numbers_of job) t j)
     at t there (Some j) is (Some n) some =
         let P : Option ℕ → Type 0 = λ o. OnPhaser job m t p o in
         let A : Option ℕ → Type 0 = λ o. PutOn job m t j p o in

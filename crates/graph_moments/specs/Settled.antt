@@ -7,7 +7,7 @@ use Rattle.graph_base.specs.Graphs.{task_at}
 use Rattle.graph_base.specs.TaskLines.{IsGraph}
 use Rattle.graph_base.specs.declared.place.Place.TheVariants as place
 use Rattle.stream_lists.specs.Jobs.{Job, samples_at, place_in}
-use Rattle.stream_lists.specs.Spans.{spans_of, lengths_of, span_in, signalled_by}
+use Rattle.stream_lists.specs.Spans.{lengths_of, span_in, signalled_by, schedule_of}
 use Rattle.stream_lists.specs.Lists.{members_of, phase_in, numbers_of, output_on}
 use Rattle.stream_lists.specs.Meetings.{meeting_line}
 use Rattle.stream_lists.specs.Ranges.{Where, is_fault, are_made, is_out_of_range}
@@ -18,7 +18,7 @@ use Rattle.graph_moments.specs.Moments.{Moment, MayEnd, HasEnded, input_at, valu
 pub record Composes (job : Job) (m : Moment) (p : ℕ) : Type 0 where
   pub values : (n : ℕ) → n < done_of (m.history p)
       → value_of_phase (value_at job p) (m.history p) n
-      ≡ phase_in (value_at job p) job p (members_of job (spans_of job) (numbers_of job) p) n
+      ≡ phase_in (value_at job p) job p (members_of job (schedule_of job) (numbers_of job) p) n
   pub within : done_of (m.history p) ≤ get_or (lengths_of job) p 0
   pub whole : HasNoSignaller (m.history p) → get_or (lengths_of job) p 0 ≤ done_of (m.history p)
 
@@ -42,8 +42,8 @@ pub record Stands (job : Job) (m : Moment) (t : ℕ) : Type 0 where
 -- what it has put on output number j begins its output list there, and is all of it where it has
 -- ended
 pub record PutsOut (job : Job) (m : Moment) (t j : ℕ) : Type 0 where
-  pub begins : IsPrefix (m.put t j) (output_on job (spans_of job) (numbers_of job) t j)
-  pub ended : HasEnded job m t → m.put t j ≡ output_on job (spans_of job) (numbers_of job) t j
+  pub begins : IsPrefix (m.put t j) (output_on job (schedule_of job) (numbers_of job) t j)
+  pub ended : HasEnded job m t → m.put t j ≡ output_on job (schedule_of job) (numbers_of job) t j
 
 -- a job whose graph was read, where no two tasks signal in one phase of a phaser with `any`
 pub record IsReady (job : Job) : Type 0 where
@@ -56,13 +56,13 @@ pub record IsReady (job : Job) : Type 0 where
 abbrev pub IsFaultAt : Job → Where → Type 0
 IsFaultAt job (place.Phaser p, n) =
     (n < get_or (lengths_of job) p 0)
-    × (is_fault (value_at job p) job (spans_of job)
-    (members_of job (spans_of job) (numbers_of job) p) p n ≡ true)
+    × (is_fault (value_at job p) job (schedule_of job)
+    (members_of job (schedule_of job) (numbers_of job) p) p n ≡ true)
 IsFaultAt job (place.Task t, i) =
     (p : ℕ) × (j : ℕ) × (place_in (signalled_by (task_at job.graph t)) p ≡ Some j)
     × ((span_in job t).live ≡ true) × (are_made (task_at job.graph t).kind j ≡ true)
-    × (i < length (output_on job (spans_of job) (numbers_of job) t j))
-    × (is_out_of_range (get_or (output_on job (spans_of job) (numbers_of job) t j) i (pos 0))
+    × (i < length (output_on job (schedule_of job) (numbers_of job) t j))
+    × (is_out_of_range (get_or (output_on job (schedule_of job) (numbers_of job) t j) i (pos 0))
     ≡ true)
 
 -- the place is on a line of the graph

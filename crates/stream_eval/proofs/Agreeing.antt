@@ -10,7 +10,7 @@ use Rattle.std.proofs.lemmas.List.Folds.{list_any_at}
 use Rattle.std.proofs.lemmas.List.FromFn.{length-range_with_len, get_or-range_with_len}
 use Rattle.graph_base.specs.Graphs.{task_at, phaser_at}
 use Rattle.stream_lists.specs.Jobs.{Job, samples_at, place_in}
-use Rattle.stream_lists.specs.Spans.{nowhere, signalled_by, takes_from, spans_of, lengths_of}
+use Rattle.stream_lists.specs.Spans.{nowhere, signalled_by, takes_from, Schedule, schedule_of}
 use Rattle.stream_lists.specs.Lists.{is_sink_at, list_over, member_at, member_by, members_of, number, numbers_up_to, output_list, output_on, phase_in, sink_over, sinks_of, taken_by, taken_from, value_by}
 use Rattle.stream_lists.specs.Ranges.{Where, fault_over, first_fault, first_some, list_fault, output_fault, output_fault_of, output_faults, phase_fault_of}
 use Rattle.stream_lists.specs.declared.span.Span.{Span}
@@ -129,70 +129,71 @@ taken-same job p t j span xs ys agree there below at =
     (λ k lt. ap (λ list. take (takes_from task span.steps k) (drop span.offset list))
     (agree (get_or task.inputs k 0) (reads-input job p t j k there below at (omega (arith, lt)))))
 
-output-same : (job : Job) (spans : List Span) (p t j : ℕ) (xs ys : List (List ℤ))
+output-same : (job : Job) (schedule : Schedule) (p t j : ℕ) (xs ys : List (List ℤ))
     → AgreeFrom job p xs ys → t < length job.graph.tasks → p < length job.graph.phasers
     → place_in (signalled_by (task_at job.graph t)) p ≡ Some j
-    → output_on job spans xs t j ≡ output_on job spans ys t j
-output-same job spans p t j xs ys agree there below at =
-    let span = get_or spans t nowhere in
+    → output_on job schedule xs t j ≡ output_on job schedule ys t j
+output-same job schedule p t j xs ys agree there below at =
+    let span = get_or schedule.spans t nowhere in
     ap (λ taken. output_list (samples_at job t) taken (task_at job.graph t) span.steps j)
     (taken-same job p t j span xs ys agree there below at)
 
-members-same : (job : Job) (spans : List Span) (p : ℕ) (xs ys : List (List ℤ))
+members-same : (job : Job) (schedule : Schedule) (p : ℕ) (xs ys : List (List ℤ))
     → AgreeFrom job p xs ys → p < length job.graph.phasers
-    → members_of job spans xs p ≡ members_of job spans ys p
-members-same job spans p xs ys agree below =
-    filter_map-same (member_at job spans xs p) (member_at job spans ys p) 0 (length job.graph.tasks)
+    → members_of job schedule xs p ≡ members_of job schedule ys p
+members-same job schedule p xs ys agree below =
+    filter_map-same (member_at job schedule xs p) (member_at job schedule ys p) 0
+    (length job.graph.tasks)
     (λ t lt. by t (omega (arith, lt)) (place_in (signalled_by (task_at job.graph t)) p) refl)
   where
     by : (t : ℕ) → t < length job.graph.tasks → (at : Option ℕ)
         → place_in (signalled_by (task_at job.graph t)) p ≡ at
-        → member_by job spans xs t at ≡ member_by job spans ys t at
+        → member_by job schedule xs t at ≡ member_by job schedule ys t at
     by t there None at = refl
     by t there (Some j) at =
-        let span = get_or spans t nowhere in
+        let span = get_or schedule.spans t nowhere in
         ap (λ (list : List ℤ). if span.live then Some (span.offset, list) else None)
-        (output-same job spans p t j xs ys agree there below at)
+        (output-same job schedule p t j xs ys agree there below at)
 
-faults-same : (job : Job) (spans : List Span) (p : ℕ) (xs ys : List (List ℤ))
+faults-same : (job : Job) (schedule : Schedule) (p : ℕ) (xs ys : List (List ℤ))
     → AgreeFrom job p xs ys → p < length job.graph.phasers
-    → output_faults job spans xs p ≡ output_faults job spans ys p
-faults-same job spans p xs ys agree below =
-    map-same (output_fault_of job spans xs p) (output_fault_of job spans ys p) 0
+    → output_faults job schedule xs p ≡ output_faults job schedule ys p
+faults-same job schedule p xs ys agree below =
+    map-same (output_fault_of job schedule xs p) (output_fault_of job schedule ys p) 0
     (length job.graph.tasks)
     (λ t lt. ap (option_map (λ step. (place.Task t, step)))
     (by t (omega (arith, lt)) (place_in (signalled_by (task_at job.graph t)) p) refl))
   where
     by : (t : ℕ) → t < length job.graph.tasks → (at : Option ℕ)
         → place_in (signalled_by (task_at job.graph t)) p ≡ at
-        → output_fault job spans xs t at ≡ output_fault job spans ys t at
+        → output_fault job schedule xs t at ≡ output_fault job schedule ys t at
     by t there None at = refl
     by t there (Some j) at =
-        ap (λ (list : List ℤ). if (get_or spans t nowhere).live
+        ap (λ (list : List ℤ). if (get_or schedule.spans t nowhere).live
         then list_fault (task_at job.graph t).kind j list else None)
-        (output-same job spans p t j xs ys agree there below at)
+        (output-same job schedule p t j xs ys agree there below at)
 
 -- the list of phaser p
-pub list_over-same : (job : Job) (spans : List Span) (lengths : List ℕ) (p : ℕ)
+pub list_over-same : (job : Job) (schedule : Schedule) (p : ℕ)
     (xs ys : List (List ℤ)) → AgreeFrom job p xs ys → p < length job.graph.phasers
-    → list_over job spans lengths xs p ≡ list_over job spans lengths ys p
-list_over-same job spans lengths p xs ys agree below =
+    → list_over job schedule xs p ≡ list_over job schedule ys p
+list_over-same job schedule p xs ys agree below =
     ap (λ members. map (phase_in (value_by (phaser_at job.graph p).op) job p members)
-    (range_with_len 0 (get_or lengths p 0)))
-    (members-same job spans p xs ys agree below)
+    (range_with_len 0 (get_or schedule.lengths p 0)))
+    (members-same job schedule p xs ys agree below)
 
 -- and the first value out of range on it
-pub fault_over-same : (job : Job) (spans : List Span) (lengths : List ℕ) (p : ℕ)
+pub fault_over-same : (job : Job) (schedule : Schedule) (p : ℕ)
     (xs ys : List (List ℤ)) → AgreeFrom job p xs ys → p < length job.graph.phasers
-    → fault_over job spans lengths xs p ≡ fault_over job spans lengths ys p
-fault_over-same job spans lengths p xs ys agree below =
-    ap (λ (faults : List (Option Where)). first_some (faults ++ phase_fault_of job spans lengths xs p
+    → fault_over job schedule xs p ≡ fault_over job schedule ys p
+fault_over-same job schedule p xs ys agree below =
+    ap (λ (faults : List (Option Where)). first_some (faults ++ phase_fault_of job schedule xs p
     ∷ []))
-    (faults-same job spans p xs ys agree below)
-    ∙ ap (λ members. first_some (output_faults job spans ys p
+    (faults-same job schedule p xs ys agree below)
+    ∙ ap (λ members. first_some (output_faults job schedule ys p
     ++ option_map (λ n. (place.Phaser p, n)) (first_fault (value_by (phaser_at job.graph p).op) job
-    spans members p (get_or lengths p 0)) ∷ []))
-    (members-same job spans p xs ys agree below)
+    schedule members p (get_or schedule.lengths p 0)) ∷ []))
+    (members-same job schedule p xs ys agree below)
 
 -- ---- the lists that are kept
 
@@ -237,31 +238,31 @@ kept-push job p lists above list long high below agree q = by (is_read_from job 
 
 -- the next list, after which those are dropped that are no more read
 pub kept-next : (job : Job) (p : ℕ) (lists next : List (List ℤ)) (list : List ℤ)
-    → AgreeFrom job p lists (numbers_up_to job (spans_of job) (lengths_of job) p)
+    → AgreeFrom job p lists (numbers_up_to job (schedule_of job) p)
     → length lists ≡ p → p < length job.graph.phasers
-    → list ≡ map number (list_over job (spans_of job) (lengths_of job) lists p)
+    → list ≡ map number (list_over job (schedule_of job) lists p)
     → ((q : ℕ) → get_or next q [] ≡ list_kept job (p + 1) (lists ++ list ∷ []) q)
     → (q : ℕ) → get_or next q []
-    ≡ list_kept job (p + 1) (numbers_up_to job (spans_of job) (lengths_of job) (p + 1)) q
+    ≡ list_kept job (p + 1) (numbers_up_to job (schedule_of job) (p + 1)) q
 kept-next job p lists next list agree long below is each q =
     each q
     ∙ (kept-push job p lists above list long high below agree q
     ∙ ap (λ xs. list_kept job (p + 1) xs q) (sym whole))
   where
     made : List (List ℤ) → ℕ → List ℤ
-    made xs r = map number (list_over job (spans_of job) (lengths_of job) xs r)
+    made xs r = map number (list_over job (schedule_of job) xs r)
 
     above : List (List ℤ)
-    above = numbers_up_to job (spans_of job) (lengths_of job) p
+    above = numbers_up_to job (schedule_of job) p
 
     high : length above ≡ p
     high = length-grown made p
 
     same : list ≡ made above p
     same = is ∙ ap (map number)
-        (list_over-same job (spans_of job) (lengths_of job) p lists above agree below)
+        (list_over-same job (schedule_of job) p lists above agree below)
 
-    whole : numbers_up_to job (spans_of job) (lengths_of job) (p + 1) ≡ above ++ list ∷ []
+    whole : numbers_up_to job (schedule_of job) (p + 1) ≡ above ++ list ∷ []
     whole = fold-range_more (λ xs r. xs ++ made xs r ∷ []) [] p
         ∙ ap (λ xs. above ++ xs ∷ []) (sym same)
 
@@ -284,13 +285,14 @@ map-filter-same test f g a (suc n) same =
     by false e rest = rw e rest
 
 -- what they take is the same
-pub sinks-same : (job : Job) (spans : List Span) (p : ℕ) (xs ys : List (List ℤ))
+pub sinks-same : (job : Job) (schedule : Schedule) (p : ℕ) (xs ys : List (List ℤ))
     → AgreeFrom job p xs ys
-    → map (sink_over job spans xs) (sinks_of job) ≡ map (sink_over job spans ys) (sinks_of job)
-sinks-same job spans p xs ys agree =
-    map-filter-same (is_sink_at job) (sink_over job spans xs) (sink_over job spans ys) 0
+    → map (sink_over job schedule xs) (sinks_of job)
+    ≡ map (sink_over job schedule ys) (sinks_of job)
+sinks-same job schedule p xs ys agree =
+    map-filter-same (is_sink_at job) (sink_over job schedule xs) (sink_over job schedule ys) 0
     (length job.graph.tasks)
     (λ t lt sink. (let task = task_at job.graph t in
-    let span = get_or spans t nowhere in
+    let span = get_or schedule.spans t nowhere in
     ap (λ list. (t, take (takes_from task span.steps 0) (drop span.offset list)))
     (agree (get_or task.inputs 0 0) (reads-sink job p t (omega (arith, lt)) sink))))

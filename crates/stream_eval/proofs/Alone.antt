@@ -15,7 +15,7 @@ use Rattle.phase_base.specs.declared.operation.Op.TheVariants.{Sum, Product, Lea
 use Rattle.stream_lists.specs.Jobs.{Job}
 use Rattle.stream_lists.specs.Lists.{Member, entry, number, number_in, sends_in, value_by}
 use Rattle.stream_lists.specs.Ranges.{first_fault, is_fault}
-use Rattle.stream_lists.specs.Spans.{lengths_of, spans_of}
+use Rattle.stream_lists.specs.Spans.{lengths_of, schedule_of}
 use Rattle.stream_eval.proofs.Made.{AreSends-at}
 use Rattle.stream_eval.proofs.Sends.{beyond, one, send_one}
 
@@ -110,18 +110,19 @@ pub fault-alone : (job : Job) (p : ℕ) (value : List ℤ → Outcome) (members 
     (vs : List ℤ)
     → value ≡ value_by (phaser_at job.graph p).op
     → members ≡ (0, vs) ∷ [] → length vs ≡ get_or (lengths_of job) p 0 → AreSends vs
-    → first_fault value job (spans_of job) members p (get_or (lengths_of job) p 0) ≡ None
+    → first_fault value job (schedule_of job) members p (get_or (lengths_of job) p 0) ≡ None
 fault-alone job p value members vs value_is alone long sends =
-    ap (λ v. first_fault v job (spans_of job) members p (get_or (lengths_of job) p 0)) value_is
-    ∙ (ap (λ ms. first_fault op job (spans_of job) ms p (get_or (lengths_of job) p 0)) alone
-    ∙ (ap (λ m. first_fault op job (spans_of job) ((0, vs) ∷ []) p m) (sym long)
-    ∙ find-none (is_fault op job (spans_of job) ((0, vs) ∷ []) p) 0 (length vs) each))
+    ap (λ v. first_fault v job (schedule_of job) members p (get_or (lengths_of job) p 0)) value_is
+    ∙ (ap (λ ms. first_fault op job (schedule_of job) ms p (get_or (lengths_of job) p 0)) alone
+    ∙ (ap (λ m. first_fault op job (schedule_of job) ((0, vs) ∷ []) p m) (sym long)
+    ∙ find-none (is_fault op job (schedule_of job) ((0, vs) ∷ []) p) 0 (length vs) each))
   where
     op : List ℤ → Outcome
     op = value_by (phaser_at job.graph p).op
 
-    each : (n : ℕ) → n < length vs → is_fault op job (spans_of job) ((0, vs) ∷ []) p (0 + n) ≡ false
+    each : (n : ℕ) → n < length vs
+        → is_fault op job (schedule_of job) ((0, vs) ∷ []) p (0 + n) ≡ false
     each n lt =
         let same : 0 + n ≡ n = omega arith in
-        ap (is_fault op job (spans_of job) ((0, vs) ∷ []) p) same
+        ap (is_fault op job (schedule_of job) ((0, vs) ∷ []) p) same
         ∙ rw (value-alone (phaser_at job.graph p).op vs n sends lt) refl

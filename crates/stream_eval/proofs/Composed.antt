@@ -8,7 +8,7 @@ use Rattle.std.proofs.lemmas.List.{map_push}
 use Rattle.std.proofs.lemmas.List.FromFn.{map-range_with_len_more}
 use Rattle.graph_base.specs.Graphs.{phaser_at}
 use Rattle.stream_lists.specs.Jobs.{Job}
-use Rattle.stream_lists.specs.Spans.{spans_of, lengths_of}
+use Rattle.stream_lists.specs.Spans.{lengths_of, schedule_of}
 use Rattle.stream_lists.specs.Lists.{Member, members_of, value_by, list_over, number, number_in, phase_in, numbers_up_to}
 use Rattle.stream_lists.specs.Ranges.{Where, output_fault_of, phase_fault_of, is_fault, first_some, fault_over, fault_on}
 use Rattle.phase_accum.specs.declared.outcome.Outcome.{Outcome}
@@ -19,55 +19,57 @@ use Rattle.stream_lists.proofs.Firsts.{fold-range_more, first-append_some, first
 -- the lists with one more
 pub items-push : (job : Job) (lists : List (Vec ℤ Global)) (above : List (List ℤ))
     (list : Vec ℤ Global) (p : ℕ)
-    → above ≡ items_of lists → items_of lists ≡ numbers_up_to job (spans_of job) (lengths_of job) p
-    → list.items ≡ map number (list_over job (spans_of job) (lengths_of job) above p)
-    → items_of (lists ++ list ∷ []) ≡ numbers_up_to job (spans_of job) (lengths_of job) (p + 1)
+    → above ≡ items_of lists → items_of lists ≡ numbers_up_to job (schedule_of job) p
+    → list.items ≡ map number (list_over job (schedule_of job) above p)
+    → items_of (lists ++ list ∷ []) ≡ numbers_up_to job (schedule_of job) (p + 1)
 items-push job lists above list p same is list_is =
     map_push (λ v. v.items) lists list
     ∙ (ap (λ v. items_of lists ++ v ∷ [])
-    (list_is ∙ ap (λ a. map number (list_over job (spans_of job) (lengths_of job) a p))
+    (list_is ∙ ap (λ a. map number (list_over job (schedule_of job) a p))
     (same ∙ is))
     ∙ (ap (λ ls. ls ++ map number
-    (list_over job (spans_of job) (lengths_of job)
-    (numbers_up_to job (spans_of job) (lengths_of job) p) p) ∷ []) is
+    (list_over job (schedule_of job)
+    (numbers_up_to job (schedule_of job) p) p) ∷ []) is
     ∙ sym (fold-range_more (λ a q. a ++ map number
-    (list_over job (spans_of job) (lengths_of job) a q) ∷ []) [] p)))
+    (list_over job (schedule_of job) a q) ∷ []) [] p)))
 
 -- the fault that was looked for is the phaser's
 pub fault-is : (job : Job) (lists : List (Vec ℤ Global)) (above : List (List ℤ)) (p : ℕ) (found : _)
-    → above ≡ items_of lists → items_of lists ≡ numbers_up_to job (spans_of job) (lengths_of job) p
-    → fault_over job (spans_of job) (lengths_of job) above p ≡ found → fault_on job p ≡ found
+    → above ≡ items_of lists → items_of lists ≡ numbers_up_to job (schedule_of job) p
+    → fault_over job (schedule_of job) above p ≡ found → fault_on job p ≡ found
 fault-is job lists above p found same is e =
-    ap (λ a. fault_over job (spans_of job) (lengths_of job) a p) (sym (same ∙ is)) ∙ e
+    ap (λ a. fault_over job (schedule_of job) a p) (sym (same ∙ is)) ∙ e
 
 -- the members' outputs are looked at before the phases
 pub fault-member : (job : Job) (above : List (List ℤ)) (p : ℕ) (w : Where)
-    → first_some (map (output_fault_of job (spans_of job) above p)
+    → first_some (map (output_fault_of job (schedule_of job) above p)
     (range_with_len 0 (length job.graph.tasks))) ≡ Some w
-    → fault_over job (spans_of job) (lengths_of job) above p ≡ Some w
+    → fault_over job (schedule_of job) above p ≡ Some w
 fault-member job above p w e = first-append_some
-    (map (output_fault_of job (spans_of job) above p) (range_with_len 0 (length job.graph.tasks)))
-    (phase_fault_of job (spans_of job) (lengths_of job) above p ∷ []) w e
+    (map (output_fault_of job (schedule_of job) above p)
+    (range_with_len 0 (length job.graph.tasks)))
+    (phase_fault_of job (schedule_of job) above p ∷ []) w e
 
 -- and where none of them is out of range, the phases decide
 pub fault-phase : (job : Job) (above : List (List ℤ)) (p : ℕ) (members : List Member)
     (value : List ℤ → Outcome) (found : Option ℕ)
-    → first_some (map (output_fault_of job (spans_of job) above p)
+    → first_some (map (output_fault_of job (schedule_of job) above p)
     (range_with_len 0 (length job.graph.tasks))) ≡ None
-    → members ≡ members_of job (spans_of job) above p → value ≡ value_by (phaser_at job.graph p).op
-    → find (is_fault value job (spans_of job) members p)
+    → members ≡ members_of job (schedule_of job) above p
+    → value ≡ value_by (phaser_at job.graph p).op
+    → find (is_fault value job (schedule_of job) members p)
     (range_with_len 0 (get_or (lengths_of job) p 0)) ≡ found
-    → fault_over job (spans_of job) (lengths_of job) above p
+    → fault_over job (schedule_of job) above p
     ≡ option_map (λ n. (place.Phaser p, n)) found
 fault-phase job above p members value found none same value_is e =
-    first-append_none (map (output_fault_of job (spans_of job) above p)
+    first-append_none (map (output_fault_of job (schedule_of job) above p)
     (range_with_len 0 (length job.graph.tasks)))
-    (phase_fault_of job (spans_of job) (lengths_of job) above p ∷ []) none
-    ∙ (one (phase_fault_of job (spans_of job) (lengths_of job) above p)
+    (phase_fault_of job (schedule_of job) above p ∷ []) none
+    ∙ (one (phase_fault_of job (schedule_of job) above p)
     ∙ ap (option_map (λ n. (place.Phaser p, n)))
-    (ap (λ ms. find (is_fault (value_by (phaser_at job.graph p).op) job (spans_of job) ms p)
+    (ap (λ ms. find (is_fault (value_by (phaser_at job.graph p).op) job (schedule_of job) ms p)
     (range_with_len 0 (get_or (lengths_of job) p 0))) (sym same)
-    ∙ (ap (λ v. find (is_fault v job (spans_of job) members p)
+    ∙ (ap (λ v. find (is_fault v job (schedule_of job) members p)
     (range_with_len 0 (get_or (lengths_of job) p 0))) (sym value_is) ∙ e)))
   where
     one : (o : Option Where) → first_some (o ∷ []) ≡ o
@@ -94,12 +96,13 @@ map-number value job p members (n ∷ ns) =
 -- the numbers of a phaser's list
 pub list-over : (job : Job) (above : List (List ℤ)) (p : ℕ) (members : List Member)
     (value : List ℤ → Outcome) (list : List ℤ)
-    → members ≡ members_of job (spans_of job) above p → value ≡ value_by (phaser_at job.graph p).op
+    → members ≡ members_of job (schedule_of job) above p
+    → value ≡ value_by (phaser_at job.graph p).op
     → list ≡ map (number_in value job p members) (range_with_len 0 (get_or (lengths_of job) p 0))
-    → list ≡ map number (list_over job (spans_of job) (lengths_of job) above p)
+    → list ≡ map number (list_over job (schedule_of job) above p)
 list-over job above p members value list same value_is is =
     let phases = range_with_len 0 (get_or (lengths_of job) p 0) in
-    let all = members_of job (spans_of job) above p in
+    let all = members_of job (schedule_of job) above p in
     is
     ∙ (ap (λ ms. map (number_in value job p ms) phases) same
     ∙ (ap (λ v. map (number_in v job p all) phases) value_is

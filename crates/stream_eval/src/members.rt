@@ -11,7 +11,7 @@ ghost use Rattle.stream_lists.specs.Inside.{items_of};
 ghost use Rattle.stream_lists.specs.Lists.{member_at, members_of, output_on};
 ghost use Rattle.stream_eval.specs.Parts.{member_of, member_option};
 ghost use Rattle.stream_lists.specs.Ranges.{first_some, made_fault, output_fault_of, output_faults};
-ghost use Rattle.stream_lists.specs.Spans.{spans_of};
+ghost use Rattle.stream_lists.specs.Spans.{schedule_of};
 
 use crate::fault::EvalFault;
 use crate::list::ListFault;
@@ -36,12 +36,12 @@ fn output_of(
         → j < length (task_at job.now.graph t).outputs }
     requires sends { All (λ list. AreSends list.items) above.now }
     ensures ok { IfOk result (λ list.
-        list.items ≡ output_on job.now (spans_of job.now) (items_of above.now) t j) }
+        list.items ≡ output_on job.now (schedule_of job.now) (items_of above.now) t j) }
     ensures sends { IfOk result (λ list. AreSends list.items) }
     ensures fits { IfOk result (λ list.
-        made_fault job.now (spans_of job.now) (items_of above.now) t j ≡ None) }
+        made_fault job.now (schedule_of job.now) (items_of above.now) t j ≡ None) }
     ensures too_big { (n : ℕ) → result ≡ Err (ListFault.TooBig n)
-        → made_fault job.now (spans_of job.now) (items_of above.now) t j ≡ Some n }
+        → made_fault job.now (schedule_of job.now) (items_of above.now) t j ≡ Some n }
 {
     let task = job.graph().task(t);
     let span = job.span(t);
@@ -62,12 +62,12 @@ fn as_member(
     requires task { t < length job.now.graph.tasks }
     requires sends { All (λ list. AreSends list.items) above.now }
     ensures ok { IfOk result (λ found. member_option found
-        ≡ member_at job.now (spans_of job.now) (items_of above.now) p t) }
+        ≡ member_at job.now (schedule_of job.now) (items_of above.now) p t) }
     ensures sends { IfOk result (λ found. IfSome found (λ list. AreSends list.values.items)) }
     ensures fits { IfOk result (λ found.
-        output_fault_of job.now (spans_of job.now) (items_of above.now) p t ≡ None) }
+        output_fault_of job.now (schedule_of job.now) (items_of above.now) p t ≡ None) }
     ensures too_big { (place : PlaceValue) (n : ℕ) → result ≡ Err (EvalFault.TooBig place n)
-        → output_fault_of job.now (spans_of job.now) (items_of above.now) p t ≡ Some (place, n) }
+        → output_fault_of job.now (schedule_of job.now) (items_of above.now) p t ≡ Some (place, n) }
 {
     let span = job.span(t);
     if !span.live {
@@ -99,14 +99,14 @@ pub(crate) fn members_on(
 ) -> Result<Vec<MemberList>, EvalFault>
     requires sends { All (λ list. AreSends list.items) above.now }
     ensures ok { IfOk result (λ members. map member_of members.items
-        ≡ members_of job.now (spans_of job.now) (items_of above.now) p) }
+        ≡ members_of job.now (schedule_of job.now) (items_of above.now) p) }
     ensures sends { IfOk result (λ members.
         All (λ list. AreSends list.values.items) members.items) }
     ensures few { IfOk result (λ members. length members.items ≤ 64) }
     ensures fits { IfOk result (λ members.
-        first_some (output_faults job.now (spans_of job.now) (items_of above.now) p) ≡ None) }
+        first_some (output_faults job.now (schedule_of job.now) (items_of above.now) p) ≡ None) }
     ensures too_big { (place : PlaceValue) (n : ℕ) → result ≡ Err (EvalFault.TooBig place n)
-        → first_some (output_faults job.now (spans_of job.now) (items_of above.now) p)
+        → first_some (output_faults job.now (schedule_of job.now) (items_of above.now) p)
         ≡ Some (place, n) }
 {
     let Ok(mut members) = Vec::with_capacity(alloc, job.graph().tasks()) else {

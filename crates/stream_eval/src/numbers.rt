@@ -8,7 +8,7 @@ ghost use Rattle.graph_base.specs.declared.place.Place.{Place as PlaceValue};
 ghost use Rattle.stream_lists.specs.Lists.{Member, number, number_in};
 ghost use Rattle.stream_eval.specs.Parts.{HasParts, member_of};
 ghost use Rattle.stream_lists.specs.Ranges.{first_fault};
-ghost use Rattle.stream_lists.specs.Spans.{lengths_of, spans_of};
+ghost use Rattle.stream_lists.specs.Spans.{lengths_of, schedule_of};
 
 use crate::fault::EvalFault;
 use crate::list::held_count;
@@ -47,12 +47,12 @@ fn numbers<A: Accumulate>(
         (range_with_len 0 (length parts.now))) }
     ensures sends { IfOk result (λ list. AreSends list.items) }
     ensures fits { (members : List Member) → HasParts A.operation parts.now members
-        → IfOk result (λ list. first_fault A.operation.value job.now (spans_of job.now) members p
+        → IfOk result (λ list. first_fault A.operation.value job.now (schedule_of job.now) members p
         (length parts.now) ≡ None) }
     ensures too_big { (place : PlaceValue) (n : ℕ) → result ≡ Err (EvalFault.TooBig place n)
         → (members : List Member) → HasParts A.operation parts.now members
         → (place ≡ PlaceValue.Phaser p)
-        × (first_fault A.operation.value job.now (spans_of job.now) members p (length parts.now)
+        × (first_fault A.operation.value job.now (schedule_of job.now) members p (length parts.now)
         ≡ Some n) }
 {
     let Ok(mut list) = Vec::with_capacity(alloc, parts.len()) else {
@@ -87,11 +87,11 @@ pub(crate) fn reduced<A: Accumulate>(
         ≡ map (number_in A.operation.value job.now p (map member_of members.now))
         (range_with_len 0 (get_or (lengths_of job.now) p 0))) }
     ensures sends { IfOk result (λ list. AreSends list.items) }
-    ensures fits { IfOk result (λ list. first_fault A.operation.value job.now (spans_of job.now)
+    ensures fits { IfOk result (λ list. first_fault A.operation.value job.now (schedule_of job.now)
         (map member_of members.now) p (get_or (lengths_of job.now) p 0) ≡ None) }
     ensures too_big { (place : PlaceValue) (n : ℕ) → result ≡ Err (EvalFault.TooBig place n)
         → (place ≡ PlaceValue.Phaser p)
-        × (first_fault A.operation.value job.now (spans_of job.now)
+        × (first_fault A.operation.value job.now (schedule_of job.now)
         (map member_of members.now) p (get_or (lengths_of job.now) p 0) ≡ Some n) }
 {
     let Some(phases) = held_count(job.length(p)) else {

@@ -10,7 +10,7 @@ ghost use Rattle.stream_lists.specs.Lists.{is_sink_at, lines_of, list_over, numb
 ghost use Rattle.stream_eval.specs.Parts.{member_of};
 ghost use Rattle.stream_eval.specs.Reading.{list_kept};
 ghost use Rattle.stream_lists.specs.Ranges.{fault_over, first_too_big, Fits};
-ghost use Rattle.stream_lists.specs.Spans.{lengths_of, spans_of};
+ghost use Rattle.stream_lists.specs.Spans.{lengths_of, schedule_of};
 
 use crate::fault::EvalFault;
 use crate::members::members_on;
@@ -70,13 +70,13 @@ fn list_by<A: Accumulate>(
     requires value { A.operation.value ≡ value_by (phaser_at job.now.graph p).op }
     requires sends { All (λ list. AreSends list.items) above.now }
     ensures ok { IfOk result (λ list. list.items
-        ≡ map number (list_over job.now (spans_of job.now) (lengths_of job.now)
+        ≡ map number (list_over job.now (schedule_of job.now)
         (items_of above.now) p)) }
     ensures sends { IfOk result (λ list. AreSends list.items) }
-    ensures fits { IfOk result (λ list. fault_over job.now (spans_of job.now) (lengths_of job.now)
+    ensures fits { IfOk result (λ list. fault_over job.now (schedule_of job.now)
         (items_of above.now) p ≡ None) }
     ensures too_big { (place : PlaceValue) (n : ℕ) → result ≡ Err (EvalFault.TooBig place n)
-        → fault_over job.now (spans_of job.now) (lengths_of job.now) (items_of above.now) p
+        → fault_over job.now (schedule_of job.now) (items_of above.now) p
         ≡ Some (place, n) }
 {
     let members = match members_on(alloc, job, above, p) {
@@ -101,13 +101,13 @@ fn phaser_list(
     requires phaser { p < length job.now.graph.phasers }
     requires sends { All (λ list. AreSends list.items) above.now }
     ensures ok { IfOk result (λ list. list.items
-        ≡ map number (list_over job.now (spans_of job.now) (lengths_of job.now)
+        ≡ map number (list_over job.now (schedule_of job.now)
         (items_of above.now) p)) }
     ensures sends { IfOk result (λ list. AreSends list.items) }
-    ensures fits { IfOk result (λ list. fault_over job.now (spans_of job.now) (lengths_of job.now)
+    ensures fits { IfOk result (λ list. fault_over job.now (schedule_of job.now)
         (items_of above.now) p ≡ None) }
     ensures too_big { (place : PlaceValue) (n : ℕ) → result ≡ Err (EvalFault.TooBig place n)
-        → fault_over job.now (spans_of job.now) (lengths_of job.now) (items_of above.now) p
+        → fault_over job.now (schedule_of job.now) (items_of above.now) p
         ≡ Some (place, n) }
 {
     match job.graph().phaser(p).op {
@@ -158,7 +158,7 @@ fn sink_lines(alloc: Global, job: &Job, lists: &[Vec<i64>], t: usize) -> Result<
     requires task { t < length job.now.graph.tasks }
     requires sends { All (λ list. AreSends list.items) lists.now }
     ensures ok { IfOk result (λ lines. sink_values lines
-        ≡ sink_over job.now (spans_of job.now) (items_of lists.now) t) }
+        ≡ sink_over job.now (schedule_of job.now) (items_of lists.now) t) }
     ensures no_place { (place : PlaceValue) (n : ℕ)
         → result ≡ Err (EvalFault.TooBig place n) → ⊥ }
 {
@@ -172,7 +172,7 @@ fn sink_lines(alloc: Global, job: &Job, lists: &[Vec<i64>], t: usize) -> Result<
 fn all_lines(alloc: Global, job: &Job, lists: &[Vec<i64>]) -> Result<Vec<Lines>, EvalFault>
     requires sends { All (λ list. AreSends list.items) lists.now }
     ensures ok { IfOk result (λ lines. map sink_values lines.items
-        ≡ map (sink_over job.now (spans_of job.now) (items_of lists.now)) (sinks_of job.now)) }
+        ≡ map (sink_over job.now (schedule_of job.now) (items_of lists.now)) (sinks_of job.now)) }
     ensures no_place { (place : PlaceValue) (n : ℕ)
         → result ≡ Err (EvalFault.TooBig place n) → ⊥ }
 {

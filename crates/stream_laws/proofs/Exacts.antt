@@ -16,7 +16,7 @@ use Rattle.phase_base.specs.declared.operation.Op.TheVariants.{Sum, Product, Lea
 use Rattle.graph_base.specs.declared.line.Kind.{Kind}
 use Rattle.graph_base.specs.declared.line.Kind.TheVariants.{Source, Fir, Split, Join, Peer, Sink}
 use Rattle.stream_lists.specs.Jobs.{Job, samples_at, place_in}
-use Rattle.stream_lists.specs.Spans.{signalled_by, takes_from, offset_of, span_at, spans_of, lengths_of, span_in}
+use Rattle.stream_lists.specs.Spans.{signalled_by, takes_from, offset_of, span_at, spans_of, lengths_of, span_in, schedule_of}
 use Rattle.stream_lists.specs.Lists.{entry, taken_from, output_on, member_at, member_by, members_of, sends_in, value_by, number, phase_in, list_over, list_of_phaser, numbers_of, is_sink_at, sink_over, lines_of}
 use Rattle.stream_lists.specs.Ranges.{Fits}
 use Rattle.stream_laws.specs.Entries.{Takes, AreInRange}
@@ -139,14 +139,14 @@ place_of_input job t k is there lt =
 -- ---- the lists
 
 pub exact_all : (job : Job) (p : ℕ) → IsGraph job.graph → p < length job.graph.phasers
-    → get_or (exact_lists job) p [] ≡ exact_over job (spans_of job) (lengths_of job)
+    → get_or (exact_lists job) p [] ≡ exact_over job (schedule_of job)
     (exact_lists job) p
 exact_all job p is below =
-    grown-whole (exact_over job (spans_of job) (lengths_of job)) (length job.graph.phasers) p []
+    grown-whole (exact_over job (schedule_of job)) (length job.graph.phasers) p []
     below
     (λ xs ys same. ap (λ members. map (exact_in job p members)
     (range_with_len 0 (get_or (lengths_of job) p 0)))
-    (same_members job (spans_of job) p xs ys is same))
+    (same_members job (schedule_of job) p xs ys is same))
 
 length-exact : (job : Job) (p : ℕ) → IsGraph job.graph → p < length job.graph.phasers
     → length (get_or (exact_lists job) p []) ≡ get_or (lengths_of job) p 0
@@ -188,8 +188,8 @@ takes_same job t k is there live lt same =
 puts_same : (job : Job) (p t j : ℕ) → IsGraph job.graph → t < length job.graph.tasks
     → (span_in job t).live ≡ true → place_in (signalled_by (task_at job.graph t)) p ≡ Some j
     → ((q : ℕ) → q < p → SameWhereTaken job q)
-    → output_on job (spans_of job) (numbers_of job) t j
-    ≡ output_on job (spans_of job) (exact_lists job) t j
+    → output_on job (schedule_of job) (numbers_of job) t j
+    ≡ output_on job (schedule_of job) (exact_lists job) t j
 puts_same job p t j is there live at above =
     let task = task_at job.graph t in
     output_by_taken (samples_at job t) task (span_in job t) (numbers_of job) (exact_lists job) j
@@ -204,22 +204,22 @@ where_live true offset xs ys same = ap (λ (list : List ℤ). Some (offset, list
 
 members_same : (job : Job) (p : ℕ) → IsGraph job.graph
     → ((q : ℕ) → q < p → SameWhereTaken job q)
-    → members_of job (spans_of job) (numbers_of job) p
-    ≡ members_of job (spans_of job) (exact_lists job) p
+    → members_of job (schedule_of job) (numbers_of job) p
+    ≡ members_of job (schedule_of job) (exact_lists job) p
 members_same job p is above =
-    filter_map-same (member_at job (spans_of job) (numbers_of job) p)
-    (member_at job (spans_of job) (exact_lists job) p) 0 (length job.graph.tasks)
+    filter_map-same (member_at job (schedule_of job) (numbers_of job) p)
+    (member_at job (schedule_of job) (exact_lists job) p) 0 (length job.graph.tasks)
     (λ t less. by t (omega arith) (place_in (signalled_by (task_at job.graph t)) p) refl)
   where
     by : (t : ℕ) → t < length job.graph.tasks → (o : Option ℕ)
         → place_in (signalled_by (task_at job.graph t)) p ≡ o
-        → member_by job (spans_of job) (numbers_of job) t o
-        ≡ member_by job (spans_of job) (exact_lists job) t o
+        → member_by job (schedule_of job) (numbers_of job) t o
+        ≡ member_by job (schedule_of job) (exact_lists job) t o
     by t there None at = refl
     by t there (Some j) at =
         where_live (span_in job t).live (span_in job t).offset
-        (output_on job (spans_of job) (numbers_of job) t j)
-        (output_on job (spans_of job) (exact_lists job) t j)
+        (output_on job (schedule_of job) (numbers_of job) t j)
+        (output_on job (schedule_of job) (exact_lists job) t j)
         (λ live. puts_same job p t j is there live at above)
 
 -- the next phaser
@@ -230,15 +230,15 @@ same_next job p is all below above n t takes lt =
     let op = (phaser_at job.graph p).op in
     let single = (phaser_at job.graph p).single in
     let count = get_or (lengths_of job) p 0 in
-    let members = members_of job (spans_of job) (numbers_of job) p in
-    let exact = members_of job (spans_of job) (exact_lists job) p in
+    let members = members_of job (schedule_of job) (numbers_of job) p in
+    let exact = members_of job (schedule_of job) (exact_lists job) p in
     let phase = phase_in (value_by op) job p members in
-    let long : length (list_over job (spans_of job) (lengths_of job) (numbers_of job) p) ≡ count =
+    let long : length (list_over job (schedule_of job) (numbers_of job) p) ≡ count =
     length-map-range_with_len _ 0 count in
     let long_list : length (list_of_phaser job p) ≡ count = length-list job p in
     let at : 0 + n ≡ n = omega arith in
     ap (λ l. entry l n) (numbers_all job p is below)
-    ∙ (get_or-map number (list_over job (spans_of job) (lengths_of job) (numbers_of job) p) n Empty
+    ∙ (get_or-map number (list_over job (schedule_of job) (numbers_of job) p) n Empty
     (pos 0) (omega arith)
     ∙ (ap number (get_or-map-range_with_len phase 0 count n n Empty lt at)
     ∙ (same_number op single (sends_in members n) (all.phases p n t below (omega arith) takes)
@@ -272,8 +272,8 @@ exact_taken job p n t is fits below lt takes =
 
 pub exact_outputs : (job : Job) (t j : ℕ) → IsGraph job.graph → Fits job
     → t < length job.graph.tasks → (span_in job t).live ≡ true
-    → output_on job (spans_of job) (numbers_of job) t j
-    ≡ output_on job (spans_of job) (exact_lists job) t j
+    → output_on job (schedule_of job) (numbers_of job) t j
+    ≡ output_on job (schedule_of job) (exact_lists job) t j
 exact_outputs job t j is fits there live =
     let task = task_at job.graph t in
     let line : IsTaskLine job.graph t task = is.tasks t there in
@@ -284,7 +284,7 @@ exact_outputs job t j is fits there live =
 
 pub exact_members : (job : Job) (p : ℕ) → IsGraph job.graph → Fits job
     → p < length job.graph.phasers
-    → list_of_phaser job p ≡ list_over job (spans_of job) (lengths_of job) (exact_lists job) p
+    → list_of_phaser job p ≡ list_over job (schedule_of job) (exact_lists job) p
 exact_members job p is fits below =
     lists_above job p is below
     ∙ ap (λ members. map (phase_in (value_by (phaser_at job.graph p).op) job p members)
@@ -332,8 +332,8 @@ no_step job t is there dead =
 
 sink_same : (job : Job) (t : ℕ) → IsGraph job.graph → Fits job → t < length job.graph.tasks
     → is_sink_at job t ≡ true
-    → sink_over job (spans_of job) (numbers_of job) t
-    ≡ sink_over job (spans_of job) (exact_lists job) t
+    → sink_over job (schedule_of job) (numbers_of job) t
+    ≡ sink_over job (schedule_of job) (exact_lists job) t
 sink_same job t is fits there e = ap (λ (list : List ℤ). (t, list)) (by (span_in job t).live refl)
   where
     task : Task
@@ -364,6 +364,6 @@ sink_same job t is fits there e = ap (λ (list : List ℤ). (t, list)) (by (span
 pub exact_lines_are : (job : Job) → IsGraph job.graph → Fits job
     → lines_of job ≡ exact_lines job
 exact_lines_are job is fits =
-    same_picked (sink_over job (spans_of job) (numbers_of job))
-    (sink_over job (spans_of job) (exact_lists job)) (is_sink_at job) 0 (length job.graph.tasks)
+    same_picked (sink_over job (schedule_of job) (numbers_of job))
+    (sink_over job (schedule_of job) (exact_lists job)) (is_sink_at job) 0 (length job.graph.tasks)
     (λ t lt e. sink_same job t is fits (omega arith) e)

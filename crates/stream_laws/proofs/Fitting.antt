@@ -14,7 +14,7 @@ use Rattle.graph_base.specs.declared.line.Kind.{Kind}
 use Rattle.graph_base.specs.declared.line.Kind.TheVariants.{Source, Fir, Split, Join, Peer, Sink}
 use Rattle.graph_base.specs.declared.place.Place.TheVariants as place
 use Rattle.stream_lists.specs.Jobs.{Job, samples_at, place_in}
-use Rattle.stream_lists.specs.Spans.{spans_of, lengths_of, span_in, signalled_by, takes_from}
+use Rattle.stream_lists.specs.Spans.{lengths_of, span_in, signalled_by, takes_from, schedule_of}
 use Rattle.stream_lists.specs.Lists.{members_of, sends_in, value_by, list_over, list_of_phaser, number, numbers_of, numbers_above, output_on}
 use Rattle.stream_lists.specs.Ranges.{first_some, is_out_of_range, are_made, made_fault, output_fault, output_fault_of, output_faults, takes_phase, task_takes, is_taken, is_too_big, is_fault, first_fault, phase_fault_of, fault_on, Fits}
 use Rattle.stream_laws.specs.Entries.{output_values, sends_at, Takes, Makes, AreInRange}
@@ -133,19 +133,19 @@ all_sends n (x ∷ xs) e = by (is_out_of_range x) refl e (λ f. all_sends (n + 1
 above_same : (job : Job) (p : ℕ) → p < length job.graph.phasers
     → AreSameBelow [] p (numbers_above job p) (numbers_of job)
 above_same job p below =
-    grown-same (λ above q. map number (list_over job (spans_of job) (lengths_of job) above q)) [] p
+    grown-same (λ above q. map number (list_over job (schedule_of job) above q)) [] p
     (length job.graph.phasers) (omega arith)
 
 members_same : (job : Job) (p : ℕ) → IsGraph job.graph → p < length job.graph.phasers
-    → members_of job (spans_of job) (numbers_above job p) p
-    ≡ members_of job (spans_of job) (numbers_of job) p
+    → members_of job (schedule_of job) (numbers_above job p) p
+    ≡ members_of job (schedule_of job) (numbers_of job) p
 members_same job p is below =
-    same_members job (spans_of job) p (numbers_above job p) (numbers_of job) is
+    same_members job (schedule_of job) p (numbers_above job p) (numbers_of job) is
     (above_same job p below)
 
 outputs_same : (job : Job) (p t j : ℕ) → IsGraph job.graph → p < length job.graph.phasers
     → t < length job.graph.tasks → place_in (signalled_by (task_at job.graph t)) p ≡ Some j
-    → output_on job (spans_of job) (numbers_above job p) t j ≡ output_values job t j
+    → output_on job (schedule_of job) (numbers_above job p) t j ≡ output_values job t j
 outputs_same job p t j is below there at =
     let task = task_at job.graph t in
     same_output (samples_at job t) task (span_in job t) (numbers_above job p) (numbers_of job) j
@@ -156,7 +156,7 @@ outputs_same job p t j is below there at =
 -- ---- what is taken
 
 pub takes_parts : (job : Job) (p n t : ℕ) → t < length job.graph.tasks
-    → task_takes job (spans_of job) p n t ≡ true → Takes job p n t
+    → task_takes job (schedule_of job) p n t ≡ true → Takes job p n t
 takes_parts job p n t there e = by (place_in (task_at job.graph t).inputs p) refl e
   where
     by : (o : Option ℕ) → place_in (task_at job.graph t).inputs p ≡ o
@@ -177,7 +177,7 @@ takes_parts job p n t there e = by (place_in (task_at job.graph t).inputs p) ref
         }
 
 takes_test : (job : Job) (p n t : ℕ) → Takes job p n t
-    → task_takes job (spans_of job) p n t ≡ true
+    → task_takes job (schedule_of job) p n t ≡ true
 takes_test job p n t takes =
     let span = span_in job t in
     let task = task_at job.graph t in
@@ -268,17 +268,17 @@ fits_outputs job t j is fits makes =
     let on = made_on job t j is makes in
     let p = on.0 in
     let above = numbers_above job p in
-    let apart = none-apart (output_faults job (spans_of job) above p)
-    (phase_fault_of job (spans_of job) (lengths_of job) above p) (no_fault_on job p fits on.1) in
-    let mine = none-at (output_fault_of job (spans_of job) above p) 0 (length job.graph.tasks) t
+    let apart = none-apart (output_faults job (schedule_of job) above p)
+    (phase_fault_of job (schedule_of job) above p) (no_fault_on job p fits on.1) in
+    let mine = none-at (output_fault_of job (schedule_of job) above p) 0 (length job.graph.tasks) t
     apart.0 (omega arith) (omega (arith, makes.there)) in
-    let placed : output_fault job (spans_of job) above t (Some j) ≡ None =
-    ap (output_fault job (spans_of job) above t) (sym on.2)
+    let placed : output_fault job (schedule_of job) above t (Some j) ≡ None =
+    ap (output_fault job (schedule_of job) above t) (sym on.2)
     ∙ none-map (λ step. (place.Task t, step)) _ mine in
-    let live : made_fault job (spans_of job) above t j ≡ None =
-    ap (λ b. if b then made_fault job (spans_of job) above t j else None) (sym makes.live)
+    let live : made_fault job (schedule_of job) above t j ≡ None =
+    ap (λ b. if b then made_fault job (schedule_of job) above t j else None) (sym makes.live)
     ∙ placed in
-    let list = output_on job (spans_of job) above t j in
+    let list = output_on job (schedule_of job) above t j in
     let none : position_from is_out_of_range 0 list ≡ None =
     ap (λ b. if b then position_from is_out_of_range 0 list else None) (sym makes.made) ∙ live in
     all_sends 0 (output_values job t j)
@@ -293,17 +293,17 @@ fits_phases job p n t is fits below lt takes e =
     let above = numbers_above job p in
     let there : t < length job.graph.tasks = takes.there in
     let long : length (list_of_phaser job p) ≡ get_or (lengths_of job) p 0 = length-list job p in
-    let apart = none-apart (output_faults job (spans_of job) above p)
-    (phase_fault_of job (spans_of job) (lengths_of job) above p) (no_fault_on job p fits below) in
+    let apart = none-apart (output_faults job (schedule_of job) above p)
+    (phase_fault_of job (schedule_of job) above p) (no_fault_on job p fits below) in
     let none = none-map (λ n. (place.Phaser p, n)) _ apart.1 in
-    let passes = find_none (is_fault value job (spans_of job)
-    (members_of job (spans_of job) above p) p) 0 (get_or (lengths_of job) p 0) n none
+    let passes = find_none (is_fault value job (schedule_of job)
+    (members_of job (schedule_of job) above p) p) 0 (get_or (lengths_of job) p 0) n none
     (omega arith) (omega arith) in
-    let big : is_too_big (value (sends_in (members_of job (spans_of job) above p) n)) ≡ true =
+    let big : is_too_big (value (sends_in (members_of job (schedule_of job) above p) n)) ≡ true =
     ap (λ ms. is_too_big (value (sends_in ms n))) (members_same job p is below)
     ∙ ap is_too_big e in
-    let taken : is_taken job (spans_of job) p n ≡ true =
-    any-at (task_takes job (spans_of job) p n) 0 (length job.graph.tasks) t (omega arith)
+    let taken : is_taken job (schedule_of job) p n ≡ true =
+    any-at (task_takes job (schedule_of job) p n) 0 (length job.graph.tasks) t (omega arith)
     (omega arith) (takes_test job p n t takes) in
     let b : true ≡ false = sym (and_from _ _ big taken) ∙ passes in cc
 
@@ -324,20 +324,20 @@ fits_from job is all =
     first-none (fault_on job) 0 (length job.graph.phasers) (λ p lt. at p (omega arith))
   where
     output : (p : ℕ) → p < length job.graph.phasers → (t : ℕ) → t < length job.graph.tasks
-        → output_fault_of job (spans_of job) (numbers_above job p) p t ≡ None
+        → output_fault_of job (schedule_of job) (numbers_above job p) p t ≡ None
     output p below t there =
         map-none (λ step. (place.Task t, step)) _
         (by (place_in (signalled_by (task_at job.graph t)) p) refl)
       where
         by : (o : Option ℕ) → place_in (signalled_by (task_at job.graph t)) p ≡ o
-            → output_fault job (spans_of job) (numbers_above job p) t o ≡ None
+            → output_fault job (schedule_of job) (numbers_above job p) t o ≡ None
         by None e = refl
         by (Some j) e = live_case (span_in job t).live refl
           where
             made_case : (b : Bool)
                 → are_made (task_at job.graph t).kind j ≡ b → (span_in job t).live ≡ true
                 → (if b then position_from is_out_of_range 0
-                (output_on job (spans_of job) (numbers_above job p) t j) else None) ≡ None
+                (output_on job (schedule_of job) (numbers_above job p) t j) else None) ≡ None
             made_case false made live = refl
             made_case true made live =
                 ap (λ l. position_from is_out_of_range 0 l)
@@ -350,24 +350,24 @@ fits_from job is all =
                 }))
 
             live_case : (b : Bool) → (span_in job t).live ≡ b
-                → (if b then made_fault job (spans_of job) (numbers_above job p) t j else None)
+                → (if b then made_fault job (schedule_of job) (numbers_above job p) t j else None)
                 ≡ None
             live_case false dead = refl
             live_case true live =
                 made_case (are_made (task_at job.graph t).kind j) refl live
 
     phase : (p : ℕ) → p < length job.graph.phasers
-        → phase_fault_of job (spans_of job) (lengths_of job) (numbers_above job p) p ≡ None
+        → phase_fault_of job (schedule_of job) (numbers_above job p) p ≡ None
     phase p below =
         map-none (λ n. (place.Phaser p, n)) _
-        (ap (λ ms. first_fault (value_by (phaser_at job.graph p).op) job (spans_of job) ms p
+        (ap (λ ms. first_fault (value_by (phaser_at job.graph p).op) job (schedule_of job) ms p
         (get_or (lengths_of job) p 0)) (members_same job p is below)
-        ∙ find-none (is_fault (value_by (phaser_at job.graph p).op) job (spans_of job)
-        (members_of job (spans_of job) (numbers_of job) p) p) 0 (get_or (lengths_of job) p 0)
+        ∙ find-none (is_fault (value_by (phaser_at job.graph p).op) job (schedule_of job)
+        (members_of job (schedule_of job) (numbers_of job) p) p) 0 (get_or (lengths_of job) p 0)
         (λ n lt. (let long : length (list_of_phaser job p) ≡ get_or (lengths_of job) p 0 =
         length-list job p in
-        and_none _ (is_taken job (spans_of job) p n)
-        (λ taken. (let f = any-from (task_takes job (spans_of job) p n) 0
+        and_none _ (is_taken job (schedule_of job) p n)
+        (λ taken. (let f = any-from (task_takes job (schedule_of job) p n) 0
         (length job.graph.tasks) taken in
         let there : f.0 < 0 + length job.graph.tasks = f.1 in
         not_big _ (all.phases p n f.0 below (omega arith)
@@ -375,8 +375,8 @@ fits_from job is all =
 
     at : (p : ℕ) → p < length job.graph.phasers → fault_on job p ≡ None
     at p below =
-        first-last (output_faults job (spans_of job) (numbers_above job p) p) _
-        (first-none (output_fault_of job (spans_of job) (numbers_above job p) p) 0
+        first-last (output_faults job (schedule_of job) (numbers_above job p) p) _
+        (first-none (output_fault_of job (schedule_of job) (numbers_above job p) p) 0
         (length job.graph.tasks) (λ t lt. output p below t (omega arith)))
         (phase p below)
 

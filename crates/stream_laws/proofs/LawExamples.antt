@@ -7,7 +7,7 @@ use Rattle.graph_base.specs.declared.line.Kind.TheVariants.{Peer}
 use Rattle.stream_lists.specs.Jobs.{Job, samples_at, place_in}
 use Rattle.stream_laws.specs.Exact.{exact_lines, exact_lists}
 use Rattle.stream_lists.specs.Ranges.{answer_of}
-use Rattle.stream_lists.specs.Spans.{nowhere, signalled_by, LooksAt, puts_on, lengths_of, spans_of, span_at, span_in, span_of}
+use Rattle.stream_lists.specs.Spans.{nowhere, signalled_by, LooksAt, puts_on, lengths_of, spans_of, span_at, span_in, span_of, schedule_of}
 use Rattle.stream_lists.specs.Lists.{list_of_phaser, list_over, members_of, numbers_of, numbers_above, output_list, output_on, ends_on}
 use Rattle.stream_laws.proofs.Examples.{minus, plain, source, fir, sink, added_by, stops_at, job_of, these}
 use Rattle.stream_laws.proofs.Examples.{nothing, split_to_one_bus_7, any_hands_over_2, any_hands_over_3, any_hands_over_4, peers, peers_with_single, too_big_phase}
@@ -98,7 +98,7 @@ peers-above = refl
 peers-list : list_of_phaser peers 2 ≡ map Value (these (11 ∷ 22 ∷ 30 ∷ []))
 peers-list = refl
 
-peers-all : list_over peers (spans_of peers) (lengths_of peers) (numbers_of peers) 2
+peers-all : list_over peers (schedule_of peers) (numbers_of peers) 2
     ≡ map Value (these (11 ∷ 22 ∷ 30 ∷ []))
 peers-all = refl
 
@@ -125,25 +125,25 @@ output_above =
 output_above-list : list_of_phaser output_above 0 ≡ Value (pos 10) ∷ []
 output_above-list = refl
 
-output_above-all : list_over output_above (spans_of output_above) (lengths_of output_above)
+output_above-all : list_over output_above (schedule_of output_above)
     (numbers_of output_above) 0 ≡ Value (pos 11) ∷ []
 output_above-all = refl
 
 -- who puts what on a peer's E, over the lists above it and over all
-peers-members : members_of peers (spans_of peers) (numbers_above peers 2) 2
+peers-members : members_of peers (schedule_of peers) (numbers_above peers 2) 2
     ≡ (0, these (1 ∷ 2 ∷ [])) ∷ (0, these (10 ∷ 20 ∷ 30 ∷ [])) ∷ []
 peers-members = refl
 
-peers-all_members : members_of peers (spans_of peers) (numbers_of peers) 2
+peers-all_members : members_of peers (schedule_of peers) (numbers_of peers) 2
     ≡ (0, these (1 ∷ 2 ∷ [])) ∷ (0, these (10 ∷ 20 ∷ 30 ∷ [])) ∷ []
 peers-all_members = refl
 
 -- where the filter's input stands below, over the lists above its output it puts nothing there
-output_above-members : members_of output_above (spans_of output_above)
+output_above-members : members_of output_above (schedule_of output_above)
     (numbers_above output_above 0) 0 ≡ (0, these (10 ∷ [])) ∷ (0, []) ∷ []
 output_above-members = refl
 
-output_above-all_members : members_of output_above (spans_of output_above)
+output_above-all_members : members_of output_above (schedule_of output_above)
     (numbers_of output_above) 0 ≡ (0, these (10 ∷ [])) ∷ (0, these (1 ∷ 2 ∷ 3 ∷ [])) ∷ []
 output_above-all_members = refl
 
@@ -191,11 +191,11 @@ hands_over_4-ends = refl
 split-steps : (span_in split_to_one_bus_7 1).steps ≡ 7
 split-steps = refl
 
-split-first : output_on split_to_one_bus_7 (spans_of split_to_one_bus_7)
+split-first : output_on split_to_one_bus_7 (schedule_of split_to_one_bus_7)
     (numbers_of split_to_one_bus_7) 1 0 ≡ these (1 ∷ 3 ∷ 5 ∷ 7 ∷ [])
 split-first = refl
 
-split-second : output_on split_to_one_bus_7 (spans_of split_to_one_bus_7)
+split-second : output_on split_to_one_bus_7 (schedule_of split_to_one_bus_7)
     (numbers_of split_to_one_bus_7) 1 1 ≡ these (2 ∷ 4 ∷ 6 ∷ [])
 split-second = refl
 
@@ -206,7 +206,7 @@ split-ends = refl
 sink-puts : puts_on (task_at split_to_one_bus_7.graph 4) (span_in split_to_one_bus_7 4).steps 0 ≡ 7
 sink-puts = refl
 
-sink-output : output_on split_to_one_bus_7 (spans_of split_to_one_bus_7)
+sink-output : output_on split_to_one_bus_7 (schedule_of split_to_one_bus_7)
     (numbers_of split_to_one_bus_7) 4 0 ≡ []
 sink-output = refl
 

@@ -8,7 +8,7 @@ use Rattle.graph_base.specs.TaskLines.{IsGraph, IsTaskLine, HasEnds}
 use Rattle.graph_base.specs.declared.line.Kind.{Kind}
 use Rattle.graph_base.specs.declared.line.Kind.TheVariants.{Source, Fir, Split, Join, Peer, Sink}
 use Rattle.stream_lists.specs.Jobs.{Job, samples_at, place_in}
-use Rattle.stream_lists.specs.Spans.{signalled_by, LooksAt, puts_on, takes_from, turns_below, offset_of, cut_at, span_at, spans_of, lengths_of, span_in, enough_for, values_from, greatest, end_on, end_of}
+use Rattle.stream_lists.specs.Spans.{signalled_by, LooksAt, puts_on, takes_from, turns_below, offset_of, cut_at, span_at, spans_of, lengths_of, span_in, enough_for, values_from, greatest, end_on, end_of, schedule_of}
 use Rattle.stream_lists.specs.Lists.{turn_at, mixed, mixed_at, taken_by, output_list, output_on, member_at, member_by, list_over, number, numbers_of, end_of_member, ends_on}
 use Rattle.stream_lists.specs.declared.span.Span.{Span}
 use Rattle.stream_lists.proofs.Growing.{map-same}
@@ -88,7 +88,7 @@ pub length-numbers : (job : Job) (p : ℕ) → IsGraph job.graph → p < length 
     → length (get_or (numbers_of job) p []) ≡ get_or (lengths_of job) p 0
 length-numbers job p is below =
     ap length (numbers_all job p is below)
-    ∙ (length-map (list_over job (spans_of job) (lengths_of job) (numbers_of job) p) number
+    ∙ (length-map (list_over job (schedule_of job) (numbers_of job) p) number
     ∙ length-map-range_with_len _ 0 (get_or (lengths_of job) p 0))
 
 -- such a task takes a value of its first input in each step
@@ -184,7 +184,7 @@ source_enough task samples values e = rw e refl
 -- a task puts as many values on each output as its steps say
 pub outputs_long : (job : Job) (t j : ℕ) → IsGraph job.graph → t < length job.graph.tasks
     → j < length (signalled_by (task_at job.graph t))
-    → length (output_on job (spans_of job) (numbers_of job) t j)
+    → length (output_on job (schedule_of job) (numbers_of job) t j)
     ≡ puts_on (task_at job.graph t) (span_in job t).steps j
 outputs_long job t j is there lt =
     let task = task_at job.graph t in
@@ -210,7 +210,7 @@ pub lengths_end : (job : Job) (p : ℕ) → IsGraph job.graph → p < length job
 lengths_end job p is below =
     lengths_all job p is below
     ∙ ap greatest (map-same (end_of job.graph (spans_of job) p)
-    (λ t. end_of_member (member_at job (spans_of job) (numbers_of job) p t))
+    (λ t. end_of_member (member_at job (schedule_of job) (numbers_of job) p t))
     0 (length job.graph.tasks)
     (λ t less. (let there : t < length job.graph.tasks = omega arith in
     by t there (place_in (signalled_by (task_at job.graph t)) p) refl)))
@@ -218,10 +218,10 @@ lengths_end job p is below =
     by : (t : ℕ) → t < length job.graph.tasks → (place : Option ℕ)
         → place_in (signalled_by (task_at job.graph t)) p ≡ place
         → end_on (task_at job.graph t) (span_in job t) place
-        ≡ end_of_member (member_by job (spans_of job) (numbers_of job) t place)
+        ≡ end_of_member (member_by job (schedule_of job) (numbers_of job) t place)
     by t there None at = refl
     by t there (Some j) at =
         let span = span_in job t in
         same_end span.live span.offset (puts_on (task_at job.graph t) span.steps j)
-        (output_on job (spans_of job) (numbers_of job) t j)
+        (output_on job (schedule_of job) (numbers_of job) t j)
         (outputs_long job t j is there (place-at (signalled_by (task_at job.graph t)) p j at).0)

@@ -8,7 +8,7 @@ use Rattle.graph_base.specs.TaskLines.{IsGraph, IsTaskLine, HasEnds}
 use Rattle.graph_base.specs.declared.line.Kind.{Kind}
 use Rattle.graph_base.specs.declared.line.Kind.TheVariants.{Source, Fir, Split, Join, Peer, Sink}
 use Rattle.stream_lists.specs.Jobs.{Job, samples_at, place_in}
-use Rattle.stream_lists.specs.Spans.{nowhere, signalled_by, LooksAt, takes_from, spans_of, lengths_of}
+use Rattle.stream_lists.specs.Spans.{nowhere, signalled_by, LooksAt, takes_from, spans_of, Schedule, schedule_of}
 use Rattle.stream_lists.specs.Lists.{member_at, member_by, members_of, output_list, output_on, taken_by, taken_from, phase_in, value_by, number, list_over, list_of_phaser, numbers_above, numbers_of}
 use Rattle.stream_lists.specs.declared.span.Span.{Span}
 use Rattle.stream_lists.proofs.Growing.{AreSameBelow, grown-same, grown-whole, map-same, filter_map-same}
@@ -90,65 +90,66 @@ same_output samples task span xs ys j ends same =
     (same k lt looks))
 
 -- the members of phaser p are the same over lists that are the same below p
-pub same_members : (job : Job) (spans : List Span) (p : ℕ) (xs ys : List (List ℤ))
+pub same_members : (job : Job) (schedule : Schedule) (p : ℕ) (xs ys : List (List ℤ))
     → IsGraph job.graph → AreSameBelow [] p xs ys
-    → members_of job spans xs p ≡ members_of job spans ys p
-same_members job spans p xs ys is same =
-    filter_map-same (member_at job spans xs p) (member_at job spans ys p) 0 (length job.graph.tasks)
+    → members_of job schedule xs p ≡ members_of job schedule ys p
+same_members job schedule p xs ys is same =
+    filter_map-same (member_at job schedule xs p) (member_at job schedule ys p) 0
+    (length job.graph.tasks)
     (λ t less. (let there : t < length job.graph.tasks = omega arith in
     by t (is.tasks t there) (place_in (signalled_by (task_at job.graph t)) p) refl))
   where
     by : (t : ℕ) → IsTaskLine job.graph t (task_at job.graph t) → (place : Option ℕ)
         → place_in (signalled_by (task_at job.graph t)) p ≡ place
-        → member_by job spans xs t place ≡ member_by job spans ys t place
+        → member_by job schedule xs t place ≡ member_by job schedule ys t place
     by t line None at = refl
     by t line (Some j) at =
         let task = task_at job.graph t in
-        let span = get_or spans t nowhere in
+        let span = get_or schedule.spans t nowhere in
         ap (λ (list : List ℤ). if span.live then Some (span.offset, list) else None)
         (same_output (samples_at job t) task span xs ys j line.ends
         (λ k lt looks. same (get_or task.inputs k 0)
         (looked_above job.graph t task j k p line at lt looks)))
 
 -- its phases too
-pub same_phases : (job : Job) (spans : List Span) (lengths : List ℕ) (p : ℕ) (xs ys : List (List ℤ))
+pub same_phases : (job : Job) (schedule : Schedule) (p : ℕ) (xs ys : List (List ℤ))
     → IsGraph job.graph → AreSameBelow [] p xs ys
-    → list_over job spans lengths xs p ≡ list_over job spans lengths ys p
-same_phases job spans lengths p xs ys is same =
+    → list_over job schedule xs p ≡ list_over job schedule ys p
+same_phases job schedule p xs ys is same =
     ap (λ members. map (phase_in (value_by (phaser_at job.graph p).op) job p members)
-    (range_with_len 0 (get_or lengths p 0)))
-    (same_members job spans p xs ys is same)
+    (range_with_len 0 (get_or schedule.lengths p 0)))
+    (same_members job schedule p xs ys is same)
 
 -- the numbers of each phaser's list, over those of the phasers above it
 abbrev numbers_over : Job → List (List ℤ) → ℕ → List ℤ
-numbers_over job above p = map number (list_over job (spans_of job) (lengths_of job) above p)
+numbers_over job above p = map number (list_over job (schedule_of job) above p)
 
 pub lists_above : (job : Job) (p : ℕ) → IsGraph job.graph → p < length job.graph.phasers
-    → list_of_phaser job p ≡ list_over job (spans_of job) (lengths_of job) (numbers_of job) p
+    → list_of_phaser job p ≡ list_over job (schedule_of job) (numbers_of job) p
 lists_above job p is below =
-    same_phases job (spans_of job) (lengths_of job) p (numbers_above job p) (numbers_of job) is
+    same_phases job (schedule_of job) p (numbers_above job p) (numbers_of job) is
     (grown-same (numbers_over job) [] p (length job.graph.phasers) (omega arith))
 
 pub numbers_all : (job : Job) (p : ℕ) → IsGraph job.graph → p < length job.graph.phasers
     → get_or (numbers_of job) p []
-    ≡ map number (list_over job (spans_of job) (lengths_of job) (numbers_of job) p)
+    ≡ map number (list_over job (schedule_of job) (numbers_of job) p)
 numbers_all job p is below =
     grown-whole (numbers_over job) (length job.graph.phasers) p [] below
     (λ xs ys same. ap (map number)
-    (same_phases job (spans_of job) (lengths_of job) p xs ys is same))
+    (same_phases job (schedule_of job) p xs ys is same))
 
 -- who puts what on a phaser too
 pub members_above : (job : Job) (p : ℕ) → IsGraph job.graph → p < length job.graph.phasers
-    → members_of job (spans_of job) (numbers_above job p) p
-    ≡ members_of job (spans_of job) (numbers_of job) p
+    → members_of job (schedule_of job) (numbers_above job p) p
+    ≡ members_of job (schedule_of job) (numbers_of job) p
 members_above job p is below =
-    same_members job (spans_of job) p (numbers_above job p) (numbers_of job) is
+    same_members job (schedule_of job) p (numbers_above job p) (numbers_of job) is
     (grown-same (numbers_over job) [] p (length job.graph.phasers) (omega arith))
 
 pub outputs_above : (job : Job) (t j p : ℕ) → IsGraph job.graph → t < length job.graph.tasks
     → p < length job.graph.phasers → place_in (signalled_by (task_at job.graph t)) p ≡ Some j
-    → output_on job (spans_of job) (numbers_above job p) t j
-    ≡ output_on job (spans_of job) (numbers_of job) t j
+    → output_on job (schedule_of job) (numbers_above job p) t j
+    ≡ output_on job (schedule_of job) (numbers_of job) t j
 outputs_above job t j p is there below place =
     let task = task_at job.graph t in
     let line = is.tasks t there in

@@ -5,17 +5,17 @@ use Rattle.phase_accum.specs.Sends.{AreSends}
 use Rattle.phase_accum.specs.declared.outcome.Outcome.TheVariants.{TooBig}
 use Rattle.graph_base.specs.Graphs.{task_at, phaser_at}
 use Rattle.stream_lists.specs.Jobs.{Job, place_in}
-use Rattle.stream_lists.specs.Spans.{signalled_by, takes_from, spans_of, span_in}
+use Rattle.stream_lists.specs.Spans.{signalled_by, takes_from, span_in, schedule_of}
 use Rattle.stream_lists.specs.Lists.{members_of, output_on, sends_in, value_by, numbers_of, list_of_phaser}
 use Rattle.stream_lists.specs.Ranges.{are_made}
 
 -- what task number t puts on its output number j
 abbrev pub output_values : Job → ℕ → ℕ → List ℤ
-output_values job t j = output_on job (spans_of job) (numbers_of job) t j
+output_values job t j = output_on job (schedule_of job) (numbers_of job) t j
 
 -- what is sent in phase n of phaser p, in the order of the lines
 abbrev pub sends_at : Job → ℕ → ℕ → List ℤ
-sends_at job p n = sends_in (members_of job (spans_of job) (numbers_of job) p) n
+sends_at job p n = sends_in (members_of job (schedule_of job) (numbers_of job) p) n
 
 -- task number t has a value in phase n of phaser p: it is live and signals p, begins in phase n or
 -- before, and its values on p reach past n

@@ -7,9 +7,8 @@ use Rattle.graph_base.specs.Graphs.{phaser_at}
 use Rattle.phase_base.specs.declared.operation.Op.{Op}
 use Rattle.phase_base.specs.declared.operation.Op.TheVariants.{Sum, Product, Least, Greatest, Any}
 use Rattle.stream_lists.specs.Jobs.{Job}
-use Rattle.stream_lists.specs.Spans.{spans_of, lengths_of}
 use Rattle.stream_lists.specs.Lists.{Member, members_of, sends_in, sink_over, sinks_of}
-use Rattle.stream_lists.specs.declared.span.Span.{Span}
+use Rattle.stream_lists.specs.Spans.{Schedule, schedule_of}
 
 -- numbers reduced by an operation. Of no numbers the least, the greatest and the first are none
 abbrev pub exact_by : Op → List ℤ → Option ℤ
@@ -35,19 +34,20 @@ exact_in job p members n =
     (exact_by (phaser_at job.graph p).op (sends_in members n))
 
 -- the list of phaser p, over those of the phasers above it
-abbrev pub exact_over : Job → List Span → List ℕ → List (List ℤ) → ℕ → List ℤ
-exact_over job spans lengths above p =
-    map (exact_in job p (members_of job spans above p)) (range_with_len 0 (get_or lengths p 0))
+abbrev pub exact_over : Job → Schedule → List (List ℤ) → ℕ → List ℤ
+exact_over job schedule above p =
+    map (exact_in job p (members_of job schedule above p))
+    (range_with_len 0 (get_or schedule.lengths p 0))
 
 -- the lists of the first n phasers
-abbrev pub exact_up_to : Job → List Span → List ℕ → ℕ → List (List ℤ)
-exact_up_to job spans lengths n =
-    fold (λ above p. above ++ exact_over job spans lengths above p ∷ []) [] (range_with_len 0 n)
+abbrev pub exact_up_to : Job → Schedule → ℕ → List (List ℤ)
+exact_up_to job schedule n =
+    fold (λ above p. above ++ exact_over job schedule above p ∷ []) [] (range_with_len 0 n)
 
 -- the lists of all phasers
 abbrev pub exact_lists : Job → List (List ℤ)
-exact_lists job = exact_up_to job (spans_of job) (lengths_of job) (length job.graph.phasers)
+exact_lists job = exact_up_to job (schedule_of job) (length job.graph.phasers)
 
 -- each sink with its values, in the order of the lines
 abbrev pub exact_lines : Job → List (ℕ × List ℤ)
-exact_lines job = map (sink_over job (spans_of job) (exact_lists job)) (sinks_of job)
+exact_lines job = map (sink_over job (schedule_of job) (exact_lists job)) (sinks_of job)

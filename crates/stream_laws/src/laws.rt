@@ -14,7 +14,7 @@ ghost use Rattle.stream_lists.specs.Lists.{numbers_above, numbers_of, output_lis
 ghost use Rattle.stream_lists.specs.Meetings.{meet_on, meeting_line};
 ghost use Rattle.stream_lists.specs.Ranges.{Fits};
 ghost use Rattle.stream_lists.specs.Spans.{greatest, lengths_of, LooksAt, puts_on, signalled_by, takes_from};
-ghost use Rattle.stream_lists.specs.Spans.{span_in, span_of, spans_of, spans_up_to};
+ghost use Rattle.stream_lists.specs.Spans.{span_in, span_of, spans_of, spans_up_to, schedule_of};
 
 /// A phaser has a place among those of a line where it stands there, and each input of a task stands
 /// at its own. A parent signals what its child signals, and waits for what its child waits for.
@@ -57,21 +57,21 @@ pub fn spans_above_decide()
 /// over the lists of all phasers it is the same.
 pub fn lists_above_decide()
     ensures lists { (job : Job) (p : ℕ) → IsGraph job.graph → p < length job.graph.phasers
-        → list_of_phaser job p ≡ list_over job (spans_of job) (lengths_of job) (numbers_of job) p }
+        → list_of_phaser job p ≡ list_over job (schedule_of job) (numbers_of job) p }
     ensures numbers { (job : Job) (p : ℕ) → IsGraph job.graph → p < length job.graph.phasers
         → get_or (numbers_of job) p []
-        ≡ map number (list_over job (spans_of job) (lengths_of job) (numbers_of job) p) }
+        ≡ map number (list_over job (schedule_of job) (numbers_of job) p) }
 {}
 
 /// The lists of the phasers above a phaser decide what each task puts on it, and so its members.
 pub fn members_above_decide()
     ensures members { (job : Job) (p : ℕ) → IsGraph job.graph → p < length job.graph.phasers
-        → members_of job (spans_of job) (numbers_above job p) p
-        ≡ members_of job (spans_of job) (numbers_of job) p }
+        → members_of job (schedule_of job) (numbers_above job p) p
+        ≡ members_of job (schedule_of job) (numbers_of job) p }
     ensures output { (job : Job) (t j p : ℕ) → IsGraph job.graph → t < length job.graph.tasks
         → p < length job.graph.phasers → place_in (signalled_by (task_at job.graph t)) p ≡ Some j
-        → output_on job (spans_of job) (numbers_above job p) t j
-        ≡ output_on job (spans_of job) (numbers_of job) t j }
+        → output_on job (schedule_of job) (numbers_above job p) t j
+        ≡ output_on job (schedule_of job) (numbers_of job) t j }
 {}
 
 /// So many steps of a task put as many values on each of its outputs as they say, where the samples
@@ -87,7 +87,7 @@ pub fn lengths_are_ends()
         → length (output_list samples taken task steps j) ≡ puts_on task steps j }
     ensures outputs { (job : Job) (t j : ℕ) → IsGraph job.graph → t < length job.graph.tasks
         → j < length (signalled_by (task_at job.graph t))
-        → length (output_on job (spans_of job) (numbers_of job) t j)
+        → length (output_on job (schedule_of job) (numbers_of job) t j)
         ≡ puts_on (task_at job.graph t) (span_in job t).steps j }
     ensures lengths { (job : Job) (p : ℕ) → IsGraph job.graph → p < length job.graph.phasers
         → get_or (lengths_of job) p 0 ≡ greatest (ends_on job p) }
@@ -126,11 +126,11 @@ pub fn fits_is_all_in_range()
 pub fn exact_where_it_fits()
     ensures outputs { (job : Job) (t j : ℕ) → IsGraph job.graph → Fits job
         → t < length job.graph.tasks → (span_in job t).live ≡ true
-        → output_on job (spans_of job) (numbers_of job) t j
-        ≡ output_on job (spans_of job) (exact_lists job) t j }
+        → output_on job (schedule_of job) (numbers_of job) t j
+        ≡ output_on job (schedule_of job) (exact_lists job) t j }
     ensures lists { (job : Job) (p : ℕ) → IsGraph job.graph → Fits job
         → p < length job.graph.phasers → list_of_phaser job p
-        ≡ list_over job (spans_of job) (lengths_of job) (exact_lists job) p }
+        ≡ list_over job (schedule_of job) (exact_lists job) p }
     ensures taken { (job : Job) (p n t : ℕ) → IsGraph job.graph → Fits job
         → p < length job.graph.phasers → n < length (list_of_phaser job p) → Takes job p n t
         → number (get_or (list_of_phaser job p) n Empty) ≡ entry (get_or (exact_lists job) p []) n }

@@ -9,7 +9,7 @@ pub use Rattle.phase_accum.specs.Values.{value_by}
 use Rattle.stream_filters.specs.Filter.{outputs}
 use Rattle.graph_base.specs.Graphs.{Task, task_at, phaser_at, is_sink}
 use Rattle.stream_lists.specs.Jobs.{Job, samples_at, place_in}
-use Rattle.stream_lists.specs.Spans.{nowhere, turns_below, signalled_by, takes_from, spans_of, lengths_of}
+use Rattle.stream_lists.specs.Spans.{nowhere, turns_below, signalled_by, takes_from, Schedule, schedule_of}
 use Rattle.stream_lists.specs.declared.span.Span.{Span}
 use Rattle.graph_base.specs.declared.line.Kind.{Kind}
 use Rattle.graph_base.specs.declared.line.Kind.TheVariants.{Source, Fir, Split, Join, Peer, Sink}
@@ -73,28 +73,28 @@ abbrev pub Member : Type 0
 Member = ℕ × List ℤ
 
 -- what task number t puts on its output number j
-abbrev pub output_on : Job → List Span → List (List ℤ) → ℕ → ℕ → List ℤ
-output_on job spans lists t j =
+abbrev pub output_on : Job → Schedule → List (List ℤ) → ℕ → ℕ → List ℤ
+output_on job schedule lists t j =
     let task = task_at job.graph t in
-    let span = get_or spans t nowhere in
+    let span = get_or schedule.spans t nowhere in
     output_list (samples_at job t) (taken_by lists task span) task span.steps j
 
 -- a live task is a member of the phaser that is its output number j
-abbrev pub member_by : Job → List Span → List (List ℤ) → ℕ → Option ℕ → Option Member
-member_by job spans lists t None = None
-member_by job spans lists t (Some j) =
-    let span = get_or spans t nowhere in
-    if span.live then Some (span.offset, output_on job spans lists t j) else None
+abbrev pub member_by : Job → Schedule → List (List ℤ) → ℕ → Option ℕ → Option Member
+member_by job schedule lists t None = None
+member_by job schedule lists t (Some j) =
+    let span = get_or schedule.spans t nowhere in
+    if span.live then Some (span.offset, output_on job schedule lists t j) else None
 
 -- task number t as a member of phaser p
-abbrev pub member_at : Job → List Span → List (List ℤ) → ℕ → ℕ → Option Member
-member_at job spans lists p t =
-    member_by job spans lists t (place_in (signalled_by (task_at job.graph t)) p)
+abbrev pub member_at : Job → Schedule → List (List ℤ) → ℕ → ℕ → Option Member
+member_at job schedule lists p t =
+    member_by job schedule lists t (place_in (signalled_by (task_at job.graph t)) p)
 
 -- the members of phaser p, in the order of the lines
-abbrev pub members_of : Job → List Span → List (List ℤ) → ℕ → List Member
-members_of job spans lists p =
-    filter_map (member_at job spans lists p) (range_with_len 0 (length job.graph.tasks))
+abbrev pub members_of : Job → Schedule → List (List ℤ) → ℕ → List Member
+members_of job schedule lists p =
+    filter_map (member_at job schedule lists p) (range_with_len 0 (length job.graph.tasks))
 
 -- what a member sends in phase n
 abbrev pub send_in : ℕ → Member → Option ℤ
@@ -123,28 +123,28 @@ abbrev pub number_in : (List ℤ → Outcome) → Job → ℕ → List Member �
 number_in value job p members n = number (phase_in value job p members n)
 
 -- the phases of a phaser, over the numbers of the lists of the phasers above
-abbrev pub list_over : Job → List Span → List ℕ → List (List ℤ) → ℕ → List Outcome
-list_over job spans lengths above p =
-    map (phase_in (value_by (phaser_at job.graph p).op) job p (members_of job spans above p))
-    (range_with_len 0 (get_or lengths p 0))
+abbrev pub list_over : Job → Schedule → List (List ℤ) → ℕ → List Outcome
+list_over job schedule above p =
+    map (phase_in (value_by (phaser_at job.graph p).op) job p (members_of job schedule above p))
+    (range_with_len 0 (get_or schedule.lengths p 0))
 
 -- the numbers of the lists of the first n phasers
-abbrev pub numbers_up_to : Job → List Span → List ℕ → ℕ → List (List ℤ)
-numbers_up_to job spans lengths n =
-    fold (λ above p. above ++ map number (list_over job spans lengths above p) ∷ [])
+abbrev pub numbers_up_to : Job → Schedule → ℕ → List (List ℤ)
+numbers_up_to job schedule n =
+    fold (λ above p. above ++ map number (list_over job schedule above p) ∷ [])
     [] (range_with_len 0 n)
 
 -- the numbers of all phasers' lists
 abbrev pub numbers_of : Job → List (List ℤ)
-numbers_of job = numbers_up_to job (spans_of job) (lengths_of job) (length job.graph.phasers)
+numbers_of job = numbers_up_to job (schedule_of job) (length job.graph.phasers)
 
 -- the numbers of the lists of the phasers above phaser p
 abbrev pub numbers_above : Job → ℕ → List (List ℤ)
-numbers_above job p = numbers_up_to job (spans_of job) (lengths_of job) p
+numbers_above job p = numbers_up_to job (schedule_of job) p
 
 -- the list of phaser p
 abbrev pub list_of_phaser : Job → ℕ → List Outcome
-list_of_phaser job p = list_over job (spans_of job) (lengths_of job) (numbers_above job p) p
+list_of_phaser job p = list_over job (schedule_of job) (numbers_above job p) p
 
 -- ---- the sinks
 
@@ -157,13 +157,13 @@ abbrev pub sinks_of : Job → List ℕ
 sinks_of job = filter (is_sink_at job) (range_with_len 0 (length job.graph.tasks))
 
 -- a sink with its values, over the numbers of the phasers' lists: none where it is not live
-abbrev pub sink_over : Job → List Span → List (List ℤ) → ℕ → ℕ × List ℤ
-sink_over job spans lists t =
-    (t, taken_from lists (task_at job.graph t) (get_or spans t nowhere) 0)
+abbrev pub sink_over : Job → Schedule → List (List ℤ) → ℕ → ℕ × List ℤ
+sink_over job schedule lists t =
+    (t, taken_from lists (task_at job.graph t) (get_or schedule.spans t nowhere) 0)
 
 -- each sink with its values, in the order of the lines
 abbrev pub lines_of : Job → List (ℕ × List ℤ)
-lines_of job = map (sink_over job (spans_of job) (numbers_of job)) (sinks_of job)
+lines_of job = map (sink_over job (schedule_of job) (numbers_of job)) (sinks_of job)
 
 -- ---- where the lists end
 
@@ -175,5 +175,5 @@ end_of_member (Some member) = member.0 + length member.1
 -- where each task ends on phaser p, by its values
 abbrev pub ends_on : Job → ℕ → List ℕ
 ends_on job p =
-    map (λ t. end_of_member (member_at job (spans_of job) (numbers_of job) p t))
+    map (λ t. end_of_member (member_at job (schedule_of job) (numbers_of job) p t))
     (range_with_len 0 (length job.graph.tasks))

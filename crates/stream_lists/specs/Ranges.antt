@@ -7,7 +7,7 @@ use Rattle.phase_accum.specs.declared.outcome.Outcome.TheVariants.{Value, Empty,
 use Rattle.phase_accum.specs.Sends.{value_max}
 use Rattle.graph_base.specs.Graphs.{Task, task_at, phaser_at}
 use Rattle.stream_lists.specs.Jobs.{Job, place_in}
-use Rattle.stream_lists.specs.Spans.{nowhere, signalled_by, takes_from, spans_of, lengths_of}
+use Rattle.stream_lists.specs.Spans.{nowhere, signalled_by, takes_from, Schedule, schedule_of}
 use Rattle.stream_lists.specs.Lists.{Member, members_of, output_on, sends_in, value_by, numbers_above, lines_of}
 use Rattle.stream_lists.specs.declared.span.Span.{Span}
 use Rattle.graph_base.specs.declared.line.Kind.{Kind}
@@ -47,21 +47,21 @@ abbrev pub list_fault : Kind → ℕ → List ℤ → Option ℕ
 list_fault kind j list = if are_made kind j then position_from is_out_of_range 0 list else None
 
 -- the first step at which what task number t makes on its output number j is out of range
-abbrev pub made_fault : Job → List Span → List (List ℤ) → ℕ → ℕ → Option ℕ
-made_fault job spans lists t j =
-    list_fault (task_at job.graph t).kind j (output_on job spans lists t j)
+abbrev pub made_fault : Job → Schedule → List (List ℤ) → ℕ → ℕ → Option ℕ
+made_fault job schedule lists t j =
+    list_fault (task_at job.graph t).kind j (output_on job schedule lists t j)
 
 -- the same of a live task, on the phaser that is its output number j
-abbrev pub output_fault : Job → List Span → List (List ℤ) → ℕ → Option ℕ → Option ℕ
-output_fault job spans lists t None = None
-output_fault job spans lists t (Some j) =
-    if (get_or spans t nowhere).live then made_fault job spans lists t j else None
+abbrev pub output_fault : Job → Schedule → List (List ℤ) → ℕ → Option ℕ → Option ℕ
+output_fault job schedule lists t None = None
+output_fault job schedule lists t (Some j) =
+    if (get_or schedule.spans t nowhere).live then made_fault job schedule lists t j else None
 
 -- where what task number t makes on phaser p is first out of range
-abbrev pub output_fault_of : Job → List Span → List (List ℤ) → ℕ → ℕ → Option Where
-output_fault_of job spans lists p t =
+abbrev pub output_fault_of : Job → Schedule → List (List ℤ) → ℕ → ℕ → Option Where
+output_fault_of job schedule lists p t =
     option_map (λ step. (place.Task t, step))
-    (output_fault job spans lists t (place_in (signalled_by (task_at job.graph t)) p))
+    (output_fault job schedule lists t (place_in (signalled_by (task_at job.graph t)) p))
 
 -- ---- the phases that some task takes
 
@@ -72,15 +72,15 @@ takes_phase task span n (Some k) =
     span.live && nat_le span.offset n && nat_lt n (span.offset + takes_from task span.steps k)
 
 -- whether task t takes phase n of phaser p
-abbrev pub task_takes : Job → List Span → ℕ → ℕ → ℕ → Bool
-task_takes job spans p n t =
+abbrev pub task_takes : Job → Schedule → ℕ → ℕ → ℕ → Bool
+task_takes job schedule p n t =
     let task = task_at job.graph t in
-    takes_phase task (get_or spans t nowhere) n (place_in task.inputs p)
+    takes_phase task (get_or schedule.spans t nowhere) n (place_in task.inputs p)
 
 -- whether some task takes phase n of phaser p
-abbrev pub is_taken : Job → List Span → ℕ → ℕ → Bool
-is_taken job spans p n =
-    list_any (task_takes job spans p n) (range_with_len 0 (length job.graph.tasks))
+abbrev pub is_taken : Job → Schedule → ℕ → ℕ → Bool
+is_taken job schedule p n =
+    list_any (task_takes job schedule p n) (range_with_len 0 (length job.graph.tasks))
 
 -- whether the value of a phase is out of range
 abbrev pub is_too_big : Outcome → Bool
@@ -89,38 +89,39 @@ is_too_big (Value v) = false
 is_too_big Empty = false
 
 -- whether the value of phase n of phaser p, with these members, is too big and some task takes it
-abbrev pub is_fault : (List ℤ → Outcome) → Job → List Span → List Member → ℕ → ℕ → Bool
-is_fault value job spans members p n =
-    is_too_big (value (sends_in members n)) && is_taken job spans p n
+abbrev pub is_fault : (List ℤ → Outcome) → Job → Schedule → List Member → ℕ → ℕ → Bool
+is_fault value job schedule members p n =
+    is_too_big (value (sends_in members n)) && is_taken job schedule p n
 
 -- the first of so many phases of phaser p whose value is too big and that some task takes
-abbrev pub first_fault : (List ℤ → Outcome) → Job → List Span → List Member → ℕ → ℕ → Option ℕ
-first_fault value job spans members p count =
-    find (is_fault value job spans members p) (range_with_len 0 count)
+abbrev pub first_fault : (List ℤ → Outcome) → Job → Schedule → List Member → ℕ → ℕ → Option ℕ
+first_fault value job schedule members p count =
+    find (is_fault value job schedule members p) (range_with_len 0 count)
 
 -- the same of all its phases, over the numbers of the lists of the phasers above
-abbrev pub phase_fault_of : Job → List Span → List ℕ → List (List ℤ) → ℕ → Option Where
-phase_fault_of job spans lengths above p =
+abbrev pub phase_fault_of : Job → Schedule → List (List ℤ) → ℕ → Option Where
+phase_fault_of job schedule above p =
     let value = value_by (phaser_at job.graph p).op in
     option_map (λ n. (place.Phaser p, n))
-    (first_fault value job spans (members_of job spans above p) p (get_or lengths p 0))
+    (first_fault value job schedule (members_of job schedule above p) p
+    (get_or schedule.lengths p 0))
 
 -- ---- the order
 
 -- what each task makes on phaser p, in the order of the lines
-abbrev pub output_faults : Job → List Span → List (List ℤ) → ℕ → List (Option Where)
-output_faults job spans above p =
-    map (output_fault_of job spans above p) (range_with_len 0 (length job.graph.tasks))
+abbrev pub output_faults : Job → Schedule → List (List ℤ) → ℕ → List (Option Where)
+output_faults job schedule above p =
+    map (output_fault_of job schedule above p) (range_with_len 0 (length job.graph.tasks))
 
 -- the first value out of range on phaser p, over the numbers of the lists of the phasers above:
 -- the outputs of its members come before its phases
-abbrev pub fault_over : Job → List Span → List ℕ → List (List ℤ) → ℕ → Option Where
-fault_over job spans lengths above p =
-    first_some (output_faults job spans above p ++ phase_fault_of job spans lengths above p ∷ [])
+abbrev pub fault_over : Job → Schedule → List (List ℤ) → ℕ → Option Where
+fault_over job schedule above p =
+    first_some (output_faults job schedule above p ++ phase_fault_of job schedule above p ∷ [])
 
 -- the first value out of range on phaser p
 abbrev pub fault_on : Job → ℕ → Option Where
-fault_on job p = fault_over job (spans_of job) (lengths_of job) (numbers_above job p) p
+fault_on job p = fault_over job (schedule_of job) (numbers_above job p) p
 
 -- the first value out of range of all
 abbrev pub first_too_big : Job → Option Where

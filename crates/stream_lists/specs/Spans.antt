@@ -145,3 +145,15 @@ spans_of job = spans_over job (lengths_of job)
 -- the span of task number t
 abbrev pub span_in : Job → ℕ → Span
 span_in job t = get_or (spans_of job) t nowhere
+
+-- ---- both
+
+-- the schedule of a graph: how far each task comes, and how long the list of each phaser is. A
+-- task's firings are its steps, from the phase of its offset on
+pub record Schedule : Type 0 where
+  pub spans : List Span
+  pub lengths : List ℕ
+
+-- the schedule that a job's lines and numbers of samples give
+abbrev pub schedule_of : Job → Schedule
+schedule_of job = record { spans = spans_of job; lengths = lengths_of job }

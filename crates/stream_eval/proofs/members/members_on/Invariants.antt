@@ -1,10 +1,10 @@
 use Rattle.std.proofs.Common.{◌≡◌, ◌-◌, ◌≤◌, length, map}
 use Rattle.std.specs.List.{range_with_len, All, filter_map}
 use Rattle.phase_accum.specs.Sends.{AreSends}
-use Rattle.stream_lists.specs.Spans.{spans_of}
 use Rattle.stream_lists.specs.Lists.{member_at}
 use Rattle.stream_lists.specs.Ranges.{first_some, output_fault_of}
 use Rattle.stream_lists.specs.Inside.{items_of}
+use Rattle.stream_lists.specs.Spans.{schedule_of}
 use Rattle.stream_eval.specs.Parts.{member_of}
 use Rattle.stream_eval.proofs.members.members_on.Given as goal
 
@@ -12,10 +12,11 @@ use Rattle.stream_eval.proofs.members.members_on.Given as goal
 abbrev pub invariant-loop-t : goal.invariant-loop-t
 invariant-loop-t l =
     (map member_of l.members.items
-    ≡ filter_map (member_at l.job (spans_of l.job) (items_of l.above) l.p) (range_with_len 0 l.t))
+    ≡ filter_map (member_at l.job (schedule_of l.job) (items_of l.above) l.p)
+    (range_with_len 0 l.t))
     × All (λ part. AreSends part.values.items) l.members.items
     × (length l.members.items ≤ l.t)
-    × (first_some (map (output_fault_of l.job (spans_of l.job) (items_of l.above) l.p)
+    × (first_some (map (output_fault_of l.job (schedule_of l.job) (items_of l.above) l.p)
     (range_with_len 0 (length l.job.graph.tasks)))
-    ≡ first_some (map (output_fault_of l.job (spans_of l.job) (items_of l.above) l.p)
+    ≡ first_some (map (output_fault_of l.job (schedule_of l.job) (items_of l.above) l.p)
     (range_with_len l.t (length l.job.graph.tasks - l.t))))

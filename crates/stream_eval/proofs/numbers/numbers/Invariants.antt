@@ -1,9 +1,9 @@
 use Rattle.std.proofs.Common.{◌≡◌, ◌-◌, List, length, map}
 use Rattle.std.specs.List.{range_with_len, find}
 use Rattle.phase_accum.specs.Sends.{AreSends}
-use Rattle.stream_lists.specs.Spans.{spans_of}
 use Rattle.stream_lists.specs.Lists.{Member, number_in}
 use Rattle.stream_lists.specs.Ranges.{is_fault, first_fault}
+use Rattle.stream_lists.specs.Spans.{schedule_of}
 use Rattle.stream_eval.specs.Parts.{HasParts}
 use Rattle.stream_eval.proofs.numbers.numbers.Given as goal
 
@@ -15,6 +15,6 @@ invariant-loop-n g l =
     (range_with_len 0 l.n))
     × AreSends l.list.items
     × ((members : List Member) → HasParts g.A.Accumulate.operation l.parts members
-    → first_fault g.A.Accumulate.operation.value l.job (spans_of l.job) members l.p (length l.parts)
-    ≡ find (is_fault g.A.Accumulate.operation.value l.job (spans_of l.job) members l.p)
+    → first_fault g.A.Accumulate.operation.value l.job (schedule_of l.job) members l.p (length l.parts)
+    ≡ find (is_fault g.A.Accumulate.operation.value l.job (schedule_of l.job) members l.p)
     (range_with_len l.n (length l.parts - l.n)))

@@ -1,9 +1,9 @@
 use Rattle.std.proofs.Common.{◌≡◌, length, subst, ◌∙◌, sym, ap, map, Some, None}
 use Rattle.std.specs.List.{range_with_len}
 use Rattle.std.specs.Prelude.{IfOk}
-use Rattle.stream_lists.specs.Spans.{spans_of}
 use Rattle.stream_lists.specs.Lists.{number_in}
 use Rattle.stream_lists.specs.Ranges.{first_fault}
+use Rattle.stream_lists.specs.Spans.{schedule_of}
 use Rattle.stream_eval.specs.Parts.{member_of, HasParts}
 use Rattle.stream_eval.proofs.numbers.reduced.Goals as goal
 
@@ -29,7 +29,7 @@ returns-clause-fits g c =
     let as_many = ap length c.deref.ensures.value ∙ (c.in-Ok.ensures.length
     ∙ (c.in-Some.ensures ∙ c.length.ensures.length)) in
     subst (λ m. IfOk c.numbers.result (λ list.
-    first_fault op.value c.args.job.now (spans_of c.args.job.now) members c.args.p m ≡ None))
+    first_fault op.value c.args.job.now (schedule_of c.args.job.now) members c.args.p m ≡ None))
     as_many (c.numbers.ensures.fits members has)
 
 pub returns-clause-too_big : goal.returns-clause-too_big
@@ -42,7 +42,7 @@ returns-clause-too_big g c place n e =
     ∙ (c.in-Some.ensures ∙ c.length.ensures.length)) in
     let found = c.numbers.ensures.too_big place n e members has in (
       found.0,
-      subst (λ m. first_fault op.value c.args.job.now (spans_of c.args.job.now) members c.args.p m
+      subst (λ m. first_fault op.value c.args.job.now (schedule_of c.args.job.now) members c.args.p m
           ≡ Some n)
           as_many found.1,
     )

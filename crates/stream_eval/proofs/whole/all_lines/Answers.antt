@@ -1,11 +1,11 @@
 use Rattle.std.proofs.Common.{◌++◌, ◌∷◌, [], map, ap, sym, ◌∙◌}
 use Rattle.std.proofs.lemmas.List.{map_push}
 use Rattle.std.specs.List.{range_with_len, filter}
-use Rattle.stream_lists.specs.Spans.{spans_of}
 use Rattle.stream_lists.specs.Lists.{sink_over, is_sink_at}
 use Rattle.stream_eval.specs.Results.{sink_values}
 use Rattle.stream_lists.specs.Inside.{items_of}
 use Rattle.stream_lists.proofs.Firsts.{filter-skip, filter-take}
+use Rattle.stream_lists.specs.Spans.{schedule_of}
 use Rattle.stream_eval.proofs.whole.all_lines.Goals as goal
 use Rattle.stream_eval.proofs.whole.all_lines.Goals.{then-is_sink_line+in-Ok-sink_lines+in-Ok-push, else-is_sink_line}
 
@@ -17,21 +17,21 @@ loop-t-preserved c =
           rw (w.lines-is, w.in-Ok-push.ensures.items)
           (map_push sink_values c.loop-t.lines.items w.in-Ok-sink_lines.one
           ∙ (ap (λ xs. xs ++ sink_values w.in-Ok-sink_lines.one ∷ []) c.loop-t.invariant
-          ∙ (ap (λ v. map (sink_over c.args.job.now (spans_of c.args.job.now)
+          ∙ (ap (λ v. map (sink_over c.args.job.now (schedule_of c.args.job.now)
           (items_of c.args.lists.now))
           (filter (is_sink_at c.args.job.now) (range_with_len 0 c.loop-t.t)) ++ v ∷ [])
           w.in-Ok-sink_lines.ensures.ok
-          ∙ (sym (map_push (sink_over c.args.job.now (spans_of c.args.job.now)
+          ∙ (sym (map_push (sink_over c.args.job.now (schedule_of c.args.job.now)
           (items_of c.args.lists.now))
           (filter (is_sink_at c.args.job.now) (range_with_len 0 c.loop-t.t)) c.loop-t.t)
-          ∙ ap (map (sink_over c.args.job.now (spans_of c.args.job.now)
+          ∙ ap (map (sink_over c.args.job.now (schedule_of c.args.job.now)
           (items_of c.args.lists.now)))
           (sym (filter-take (is_sink_at c.args.job.now) c.loop-t.t
           (sym c.is_sink_line.ensures ∙ w.if-is_sink_line.true)))))))
       | else-is_sink_line w ↦
           rw w.lines-is
           (c.loop-t.invariant ∙ ap
-          (map (sink_over c.args.job.now (spans_of c.args.job.now) (items_of c.args.lists.now)))
+          (map (sink_over c.args.job.now (schedule_of c.args.job.now) (items_of c.args.lists.now)))
           (sym (filter-skip (is_sink_at c.args.job.now) c.loop-t.t
           (sym c.is_sink_line.ensures ∙ w.if-is_sink_line.false))))
     ]

@@ -1,8 +1,8 @@
 use Rattle.std.proofs.Common.{rules, ◌≡◌, [], Err, length, get_or, ap, ◌∙◌}
 use Rattle.std.proofs.lemmas.Result.{IfOk-weaker}
-use Rattle.stream_lists.specs.Spans.{spans_of}
 use Rattle.stream_lists.specs.Lists.{numbers_of}
 use Rattle.stream_lists.specs.Inside.{items_of}
+use Rattle.stream_lists.specs.Spans.{schedule_of}
 use Rattle.stream_eval.specs.declared.fault.EvalFault.TheVariants as fault
 use Rattle.stream_eval.proofs.Agreeing.{kept-agree, sinks-same}
 use Rattle.stream_eval.proofs.whole.eval.Goals as goal
@@ -16,7 +16,7 @@ returns-clause-ok c =
     let agree = kept-agree job end (items_of c.deref.result.now) (numbers_of job)
     (λ q. ap (λ xs. get_or xs q []) lent ∙ c.in-Ok.ensures.ok q) in
     IfOk-weaker c.all_lines.result _ _
-    (λ lines is. is ∙ sinks-same job (spans_of job) end (items_of c.deref.result.now)
+    (λ lines is. is ∙ sinks-same job (schedule_of job) end (items_of c.deref.result.now)
     (numbers_of job) agree) c.all_lines.ensures.ok
 
 pub returns-clause-fits : goal.returns-clause-fits

@@ -3,10 +3,10 @@ use Rattle.std.proofs.lemmas.List.{length_push, length-map, map_push}
 use Rattle.graph_base.specs.Graphs.{Graph}
 use Rattle.stream_lists.specs.Inside.{items_of}
 use Rattle.stream_lists.specs.Lists.{numbers_up_to}
-use Rattle.stream_lists.specs.Spans.{spans_of, lengths_of}
 use Rattle.stream_lists.specs.Ranges.{fault_on}
 use Rattle.stream_eval.specs.declared.fault.EvalFault.TheVariants as fault
 use Rattle.stream_lists.proofs.Firsts.{first-pass, first-here}
+use Rattle.stream_lists.specs.Spans.{schedule_of}
 use Rattle.stream_eval.proofs.Agreeing.{kept-agree, kept-next, fault_over-same}
 use Rattle.stream_eval.proofs.Dropped.{written-back}
 use Rattle.stream_eval.specs.Reading.{list_kept}
@@ -21,12 +21,12 @@ returns-in-Err-clause-too_big c place n e =
     (arith, count, c.loop-p-test.true, c.phasers-p-end.ensures.count) in
     let same : c.in-Err.fault ≡ fault.TooBig place n = grind (arith, e) in
     let here = c.phaser_list.ensures.too_big place n (c.in-Err.is ∙ ap Err same) in
-    let above = numbers_up_to job (spans_of job) (lengths_of job) c.loop-p.p in
+    let above = numbers_up_to job (schedule_of job) c.loop-p.p in
     let lent = ap items_of c.as_slice.ensures.value in
     let agree = kept-agree job c.loop-p.p (items_of c.as_slice.result.now) above
     (λ q. ap (λ xs. get_or xs q []) lent ∙ c.loop-p.invariant.kept q) in
     c.loop-p.invariant.none_yet ∙ first-here (fault_on job) _ c.loop-p.p (place, n) within
-    (sym (fault_over-same job (spans_of job) (lengths_of job) c.loop-p.p _ above agree within) ∙ here)
+    (sym (fault_over-same job (schedule_of job) c.loop-p.p _ above agree within) ∙ here)
 
 -- and none where it has a list
 pub loop-p-preserved : goal.loop-p-preserved
@@ -35,7 +35,7 @@ loop-p-preserved c =
     let count = ap (λ (graph : Graph). length graph.phasers) c.graph-2.ensures.graph in
     let within : c.loop-p.p < length job.graph.phasers = omega
     (arith, count, c.loop-p-test.true, c.phasers-p-end.ensures.count) in
-    let above = numbers_up_to job (spans_of job) (lengths_of job) c.loop-p.p in
+    let above = numbers_up_to job (schedule_of job) c.loop-p.p in
     let lent = c.as_slice.ensures.value in
     let agree = kept-agree job c.loop-p.p (items_of c.as_slice.result.now) above
     (λ q. ap (λ xs. get_or (items_of xs) q []) lent ∙ c.loop-p.invariant.kept q) in
@@ -62,6 +62,6 @@ loop-p-preserved c =
       );
       sends = c.drop_read.ensures.sends;
       none_yet = c.loop-p.invariant.none_yet ∙ first-pass (fault_on job) _ c.loop-p.p within
-          (sym (fault_over-same job (spans_of job) (lengths_of job) c.loop-p.p _ above agree within)
+          (sym (fault_over-same job (schedule_of job) c.loop-p.p _ above agree within)
           ∙ c.in-Ok-phaser_list.ensures.fits);
     }
