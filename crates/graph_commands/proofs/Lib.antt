@@ -4,4 +4,5 @@ pub mod Ends
 mod Needed
 pub mod Places
 mod Putting
+mod TextExamples
 pub mod Finding

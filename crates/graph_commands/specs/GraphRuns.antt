@@ -12,7 +12,7 @@ use Rattle.graph_base.specs.declared.place.Place.TheVariants as place
 use Rattle.stream_lists.specs.Jobs.{Job}
 use Rattle.stream_lists.specs.Lists.{is_sink_at, lines_of}
 use Rattle.stream_lists.specs.Ranges.{Fits, first_too_big}
-use Rattle.stream_lists.specs.Texts.{text_of, value_text}
+use Rattle.graph_commands.specs.OutputTexts.{text_of, value_text}
 use Rattle.graph_commands.specs.FileJobs.{Explains, IsJobOf, Known}
 use Rattle.graph_commands.specs.declared.fault.JobFault.{JobFault}
 use Rattle.graph_commands.specs.declared.fault.JobFault.TheVariants as fault

@@ -1,4 +1,5 @@
 pub mod FileJobs
 pub mod GraphDrawings
 pub mod GraphRuns
+pub mod OutputTexts
 pub mod Puts

@@ -7,14 +7,11 @@ use Rattle.phase_base.specs.declared.operation.Op.TheVariants.{Sum, Product, Lea
 use Rattle.graph_base.specs.declared.line.Kind.TheVariants.{Source, Fir, Split, Join, Peer}
 use Rattle.graph_base.specs.declared.place.Place.TheVariants as place
 use Rattle.graph_base.specs.declared.line.PhaserLine.{PhaserLine}
-use Rattle.graph_base.specs.Graphs.{Graph, Task, no_graph, no_task}
+use Rattle.graph_base.specs.Graphs.{Task, no_graph, no_task}
 use Rattle.stream_lists.specs.Jobs.{Job}
 use Rattle.stream_lists.specs.Ranges.{answer_of}
 use Rattle.stream_lists.specs.Meetings.{meet_on, meeting_line}
 use Rattle.stream_lists.specs.Spans.{spans_of}
-use Rattle.stream_lists.specs.Texts.{text_of}
-use Rattle.std.specs.Prelude.{codes}
-use Rattle.std.specs.Fmt.{digits}
 
 -- ---- how the examples are written
 
@@ -79,10 +76,6 @@ these ns = map pos ns
 -- 2^63 - 1
 abbrev pub largest : ℤ
 largest = pos 9223372036854775807
-
--- a graph whose one task is a sink of this name
-abbrev with_sink : List ℕ → Graph
-with_sink name = record no_graph { names = (name, place.Task 0) ∷ []; tasks = sink 1 0 ∷ [] }
 
 -- ---- the worked graphs
 
@@ -446,20 +439,6 @@ child_filter-line = refl
 
 child_filter-answer : answer_of child_filter ≡ Ok ((3, these (1 ∷ 3 ∷ 8 ∷ 7 ∷ [])) ∷ [])
 child_filter-answer = refl
-
--- ---- the output text
-
-text-rounds_down : text_of (with_sink (codes "out")) ((0, minus 1 ∷ minus 1 ∷ minus 1 ∷ []) ∷ [])
-    ≡ codes "out 3\n-1\n-1\n-1\n"
-unfolding digits
-text-rounds_down = refl
-
-text-no_samples : text_of (with_sink (codes "out")) ((0, []) ∷ []) ≡ codes "out 0\n"
-unfolding digits
-text-no_samples = refl
-
-text-nothing : text_of no_graph [] ≡ []
-text-nothing = refl
 
 -- ---- more graphs, worked out by hand
 

@@ -4,4 +4,3 @@ pub mod Lists
 pub mod Meetings
 pub mod Ranges
 pub mod Spans
-pub mod Texts

@@ -2,7 +2,7 @@ use Rattle.std.proofs.Common.{◌≡◌, ◌+◌, ◌++◌, ◌∷◌, [], ◌�
 use Rattle.std.proofs.lemmas.List.{take_more, take_all}
 use Rattle.std.proofs.lemmas.Result.{err_from_is_err_and, on_err_weaker}
 use Rattle.stream_eval.specs.Results.{sink_values}
-use Rattle.stream_lists.specs.Texts.{sink_text, text_of}
+use Rattle.graph_commands.specs.OutputTexts.{sink_text, text_of}
 use Rattle.graph_base.specs.Graphs.{name_at}
 use Rattle.graph_base.specs.declared.place.Place.TheVariants as place
 use Rattle.phase_status.proofs.Items.{flat_map-map-push, flat_map-map-rest}

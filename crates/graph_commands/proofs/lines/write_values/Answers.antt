@@ -1,7 +1,7 @@
 use Rattle.std.proofs.Common.{[]}
 use Rattle.std.specs.List.{flat_map}
 use Rattle.std.proofs.lemmas.Result.{on_err_weaker}
-use Rattle.stream_lists.specs.Texts.{value_text}
+use Rattle.graph_commands.specs.OutputTexts.{value_text}
 use Rattle.graph_commands.proofs.Putting.{prefix_of_put}
 use Rattle.graph_commands.proofs.lines.write_values.Goals as goal
 

@@ -3,7 +3,7 @@ use Rattle.std.proofs.lemmas.Int.{to_z-of_z}
 use Rattle.std.specs.List.{flat_map}
 use Rattle.std.proofs.lemmas.List.{take_more}
 use Rattle.std.proofs.lemmas.Result.{err_from_is_err_and}
-use Rattle.stream_lists.specs.Texts.{value_text}
+use Rattle.graph_commands.specs.OutputTexts.{value_text}
 use Rattle.phase_status.proofs.Items.{flat_map-push, flat_map-rest}
 use Rattle.graph_commands.proofs.Putting.{Puts-append, prefix_behind, prefix_within}
 use Rattle.graph_commands.proofs.output_buffer.OutputBuffer.put_values.Goals as goal
