@@ -12,6 +12,7 @@ ghost use Rattle.phase_seats.specs.Blocks.{SignalsBlock, WaitsBlock};
 ghost use Rattle.phase_seats.specs.Blocks.{entry_after_block, entry_after_values};
 ghost use Rattle.phase_seats.specs.LockedPhasers.{locked_place, locked_terms, locked_limits};
 
+use crate::hints::Hints;
 use crate::locked::LockedPhaser;
 use crate::rule::SignalRule;
 use crate::steps::{enter, put_back, tried_of};
@@ -67,9 +68,9 @@ pub fn signal_lists<A: Accumulate, K: SignalRule>(
     let Some(entry) = core.view(me) else {
         unreachable!()
     };
-    let moved = phaser.hints.publish(core);
+    let reached = Hints::look(core);
     let told = (me, lists, &single, answer);
-    let seat = put_back::<A, K, Brand, _>(phaser, turn, moved, told);
+    let seat = put_back::<A, K, Brand, _>(phaser, turn, reached, told);
     (seat, entry, tried_of(answer))
 }
 
@@ -104,7 +105,7 @@ pub fn wait_block<A: Accumulate, K: SignalRule>(
     let Some(entry) = core.view(me) else {
         unreachable!()
     };
-    let moved = phaser.hints.publish(core);
-    let seat = put_back::<A, K, Brand, _>(phaser, turn, moved, (me, answer));
+    let reached = Hints::look(core);
+    let seat = put_back::<A, K, Brand, _>(phaser, turn, reached, (me, answer));
     (seat, entry, tried_of(answer))
 }

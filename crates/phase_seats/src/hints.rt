@@ -34,16 +34,12 @@ impl Hint {
         }
     }
 
-    // Tells whether the number is a new one. Only the task that has the turn publishes.
-    fn publish(&self, number: u64) -> bool {
-        if self.number.load(SeqCst) == number {
-            return false;
+    // Raises the number, where it is lower, and wakes those that sleep on it.
+    fn raise(&self, number: u64) {
+        if self.is_at(number) {
+            return;
         }
-        self.number.store(number, SeqCst);
-        true
-    }
-
-    fn wake(&self) {
+        let _ = self.number.fetch_max(number, SeqCst);
         if self.sleepers.load(SeqCst) != 0 {
             self.number.wake_all();
         }
@@ -67,7 +63,7 @@ impl Hint {
             }
             thread::yield_now();
         }
-        // Who publishes looks for sleepers afterwards, so it sees this one, or this one its number.
+        // Who raises it looks for sleepers afterwards, so it sees this one, or this one its number.
         self.sleepers.fetch_add(1, SeqCst);
         let found = self.number.load(SeqCst);
         if found < least {
@@ -79,19 +75,19 @@ impl Hint {
     }
 }
 
-// Which of the hints an event moved.
+// How far a phaser is.
 #[derive(Clone, Copy)]
-pub struct Moved {
-    done: bool,
-    base: bool,
+pub struct Reached {
+    // The phases below it are complete.
+    done: u64,
+    // Every waiter got the phases below it.
+    base: u64,
 }
 
-// How far the phaser was when a turn last ended.
+// How far the phaser was when a turn last ended. Neither number ever falls.
 #[derive(Drop)]
 pub struct Hints {
-    // The phases below it are complete.
     done: CachePadded<Hint>,
-    // Every waiter got the phases below it.
     base: CachePadded<Hint>,
     bound: u64,
 }
@@ -105,12 +101,12 @@ impl Hints {
         }
     }
 
-    // Tells how far the phaser is, under the turn, for the others to see.
-    pub fn publish<A: Accumulate>(&self, core: &PhaserCore<A>) -> Moved {
+    // Tells how far the phaser is, under the turn.
+    pub fn look<A: Accumulate>(core: &PhaserCore<A>) -> Reached {
         let Some(base) = core.least_wait() else {
-            return Moved {
-                done: false,
-                base: self.base.publish(ENDED),
+            return Reached {
+                done: 0,
+                base: ENDED,
             };
         };
         let done = if core.has_signaller() {
@@ -118,20 +114,14 @@ impl Hints {
         } else {
             ENDED
         };
-        Moved {
-            done: self.done.publish(done),
-            base: self.base.publish(base),
-        }
+        Reached { done, base }
     }
 
-    // Wakes those that wait for what moved, after the turn.
-    pub fn wake(&self, moved: Moved) {
-        if moved.done {
-            self.done.wake();
-        }
-        if moved.base {
-            self.base.wake();
-        }
+    // Tells the others how far the phaser is, after the turn: who hears of it while another has the
+    // turn would try in vain.
+    pub fn tell(&self, reached: Reached) {
+        self.done.raise(reached.done);
+        self.base.raise(reached.base);
     }
 
     // Pauses while the phase is not complete, before a wait for so many phases. A wait for none, or

@@ -8,6 +8,7 @@ ghost use Rattle.phase_seats.specs.Entries.{entry_stays};
 ghost use Rattle.phase_seats.specs.LockedPhasers.{locked_place, locked_terms};
 
 use crate::ghost_steps::Same;
+use crate::hints::Hints;
 use crate::locked::LockedPhaser;
 use crate::rule::SignalRule;
 use crate::steps::{child_of, enter, put_back, split};
@@ -45,12 +46,12 @@ pub fn register_now<A: Accumulate, K: SignalRule>(
     let child = child_of(core);
     let answer = core.register_now(me, child);
     let found = core.view(child);
-    let moved = phaser.hints.publish(core);
+    let reached = Hints::look(core);
     if let Err(refusal) = answer {
         return (phaser.lock.give::<Same>(turn), Err(Tried::Refused(refusal)));
     }
     let Some(start) = found else { unreachable!() };
-    let both = put_back::<A, K, Brand, _>(phaser, turn, moved, (me, child));
+    let both = put_back::<A, K, Brand, _>(phaser, turn, reached, (me, child));
     let (seat, other) = split(phaser, both);
     (seat, Ok((child, other, start)))
 }

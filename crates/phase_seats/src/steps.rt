@@ -19,7 +19,7 @@ ghost use Rattle.phase_seats.specs.Entries.{entry_stays, entry_after_wait, entry
 ghost use Rattle.phase_seats.specs.LockedPhasers.{locked_place, locked_terms, locked_limits};
 
 use crate::ghost_steps::{OnGive, OnJoin, OnLook, OnSplit, OnTake, Plan, Same};
-use crate::hints::Moved;
+use crate::hints::{Hints, Reached};
 use crate::locked::LockedPhaser;
 use crate::rule::SignalRule;
 use crate::tried::Tried;
@@ -57,7 +57,7 @@ pub(crate) fn enter<A: Accumulate, K: SignalRule>(
 pub(crate) fn put_back<A: Accumulate, K: SignalRule, E: Plan, X: Copy>(
     phaser: &LockedPhaser<A, K>,
     turn: PhaserTurn<A, K>,
-    moved: Moved,
+    reached: Reached,
     told: X,
 ) -> PhaserSeat<A, K>
     requires turn { IsTurnAt (locked_place phaser.now) turn }
@@ -68,7 +68,7 @@ pub(crate) fn put_back<A: Accumulate, K: SignalRule, E: Plan, X: Copy>(
 {
     let _ = told;
     let seat = phaser.lock.give::<OnGive<E>>(turn);
-    phaser.hints.wake(moved);
+    phaser.hints.tell(reached);
     seat
 }
 
@@ -137,9 +137,9 @@ pub fn signal<A: Accumulate, K: SignalRule>(
     let Some(entry) = core.view(me) else {
         unreachable!()
     };
-    let moved = phaser.hints.publish(core);
+    let reached = Hints::look(core);
     let told = (me, &pending, &single, waited);
-    let seat = put_back::<A, K, Brand, _>(phaser, turn, moved, told);
+    let seat = put_back::<A, K, Brand, _>(phaser, turn, reached, told);
     (seat, entry, Ok((phase, waited.ok())))
 }
 
@@ -165,8 +165,8 @@ pub fn leave<A: Accumulate, K: SignalRule>(
     let core = turn.value();
     let answer = core.drop_task(me);
     let Ok(()) = answer else { unreachable!() };
-    let moved = phaser.hints.publish(core);
-    Ok(put_back::<A, K, Brand, _>(phaser, turn, moved, me))
+    let reached = Hints::look(core);
+    Ok(put_back::<A, K, Brand, _>(phaser, turn, reached, me))
 }
 
 // The answer of a call under the turn, as a try tells it.
@@ -204,8 +204,8 @@ pub fn wait<A: Accumulate, K: SignalRule>(
     let Some(entry) = core.view(me) else {
         unreachable!()
     };
-    let moved = phaser.hints.publish(core);
-    let seat = put_back::<A, K, Brand, _>(phaser, turn, moved, (me, answer));
+    let reached = Hints::look(core);
+    let seat = put_back::<A, K, Brand, _>(phaser, turn, reached, (me, answer));
     (seat, entry, tried_of(answer))
 }
 
@@ -244,12 +244,12 @@ pub fn register<A: Accumulate, K: SignalRule>(
     let child = child_of(core);
     let answer = core.register(me, child, mode);
     let found = core.view(child);
-    let moved = phaser.hints.publish(core);
+    let reached = Hints::look(core);
     if let Err(refusal) = answer {
         return (phaser.lock.give::<Same>(turn), Err(Tried::Refused(refusal)));
     }
     let Some(start) = found else { unreachable!() };
-    let both = put_back::<A, K, Brand, _>(phaser, turn, moved, (me, child, mode));
+    let both = put_back::<A, K, Brand, _>(phaser, turn, reached, (me, child, mode));
     let (seat, other) = split(phaser, both);
     (seat, Ok((child, other, start)))
 }
