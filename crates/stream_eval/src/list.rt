@@ -5,6 +5,7 @@ ghost use Rattle.phase_accum.specs.Sends.{AreSends};
 ghost use Rattle.stream_filters.specs.Filter.{AreTaps, outputs};
 ghost use Rattle.stream_lists.specs.Lists.{entry, every, in_turn, mixed};
 ghost use Rattle.stream_lists.specs.Ranges.{is_out_of_range};
+ghost use Rattle.stream_eval.specs.declared.list.ListFault.TheVariants as fault;
 
 use std::alloc::{AllocError, Global};
 use stream_filters::{Fir, Peer};
@@ -16,6 +17,14 @@ pub enum ListFault {
     TooBig(usize),
     /// There was no memory.
     OutOfMemory,
+}
+
+impl From<AllocError> for ListFault {
+    ghost from_gives = { λ _ given. given ≡ fault.OutOfMemory };
+
+    fn from(_error: AllocError) -> ListFault {
+        ListFault::OutOfMemory
+    }
 }
 
 /// Makes the outputs of a filter at each of these samples, or finds the first step at which one is

@@ -1,12 +1,11 @@
 //! What a task makes of what it took.
-ghost use Rattle.std.specs.Prelude.{◌≡◌, ◌≤◌, ◌<◌, ℕ, nat_lt, if◌then◌else◌, [], take, length, map, get_or, IfOk, None, Some, Err};
+ghost use Rattle.std.specs.Prelude.{◌≡◌, ◌≤◌, ℕ, nat_lt, if◌then◌else◌, [], take, length, map, get_or, IfOk, None, Some, Err};
 ghost use Rattle.std.specs.List.{All, position_from};
 ghost use Rattle.phase_accum.specs.Sends.{AreSends};
 ghost use Rattle.graph_base.specs.Kept.{task_of};
-ghost use Rattle.graph_base.specs.TaskLines.{HasEnds, HasTaps};
 ghost use Rattle.stream_lists.specs.Lists.{mixed, output_list};
 ghost use Rattle.stream_lists.specs.Ranges.{is_out_of_range, list_fault};
-ghost use Rattle.graph_base.specs.declared.line.Kind.TheVariants.{Split};
+ghost use Rattle.stream_eval.specs.Parts.{MayPut};
 
 use crate::list::{ListFault, every_list, fir_list, in_turn_list, mixed_list};
 use crate::taken_values::part_of;
@@ -20,7 +19,7 @@ fn whole_copy(alloc: Global, list: &[i64]) -> Result<Vec<i64>, ListFault>
     ensures sends { IfOk result (λ copy. AreSends copy.items) }
     ensures no_step { (n : ℕ) → result ≡ Err (ListFault.TooBig n) → ⊥ }
 {
-    Vec::from_slice(alloc, list).map_err(|_fault| ListFault::OutOfMemory)
+    Ok(Vec::from_slice(alloc, list)?)
 }
 
 /// A copy of the first values.
@@ -76,9 +75,7 @@ pub(crate) fn list_put(
     steps: u128,
     j: usize,
 ) -> Result<Vec<i64>, ListFault>
-    requires ends { HasEnds task.now.kind (length taken.now) (length task.now.outputs.items) }
-    requires turn { task.now.kind ≡ Split → j < length task.now.outputs.items }
-    requires taps { HasTaps task.now.kind task.now.taps.items task.now.shift }
+    requires task { MayPut task.now (length taken.now) j }
     requires samples { AreSends samples.now }
     requires sends { All (λ list. AreSends list.now) taken.now }
     ensures ok { IfOk result (λ list. list.items ≡ output_list samples.now
@@ -93,10 +90,8 @@ pub(crate) fn list_put(
     match task.kind {
         Kind::Source => copy_of(alloc, samples, steps),
         Kind::Fir => fir_list(alloc, &task.taps, task.shift, list_of(taken, 0)),
-        Kind::Split => every_list(alloc, task.outputs.len(), j, list_of(taken, 0)).map_err(
-            |_fault| ListFault::OutOfMemory,
-        ),
-        Kind::Join => { in_turn_list(alloc, taken, steps).map_err(|_fault| ListFault::OutOfMemory) }
+        Kind::Split => Ok(every_list(alloc, task.outputs.len(), j, list_of(taken, 0))?),
+        Kind::Join => Ok(in_turn_list(alloc, taken, steps)?),
         Kind::Peer => peer_list(alloc, task.mul, list_of(taken, 0), list_of(taken, 1), j),
         Kind::Sink => Ok(Vec::new(alloc)),
     }

@@ -70,11 +70,10 @@ fn list_by<A: Accumulate>(
     requires value { A.operation.value ≡ value_by (phaser_at job.now.graph p).op }
     requires sends { All (λ list. AreSends list.items) above.now }
     ensures ok { IfOk result (λ list. list.items
-        ≡ map number (list_over job.now (schedule_of job.now)
-        (items_of above.now) p)) }
+        ≡ map number (list_over job.now (schedule_of job.now) (items_of above.now) p)) }
     ensures sends { IfOk result (λ list. AreSends list.items) }
-    ensures fits { IfOk result (λ list. fault_over job.now (schedule_of job.now)
-        (items_of above.now) p ≡ None) }
+    ensures fits { IfOk result (λ list.
+        fault_over job.now (schedule_of job.now) (items_of above.now) p ≡ None) }
     ensures too_big { (place : PlaceValue) (n : ℕ) → result ≡ Err (EvalFault.TooBig place n)
         → fault_over job.now (schedule_of job.now) (items_of above.now) p
         ≡ Some (place, n) }
@@ -101,11 +100,10 @@ fn phaser_list(
     requires phaser { p < length job.now.graph.phasers }
     requires sends { All (λ list. AreSends list.items) above.now }
     ensures ok { IfOk result (λ list. list.items
-        ≡ map number (list_over job.now (schedule_of job.now)
-        (items_of above.now) p)) }
+        ≡ map number (list_over job.now (schedule_of job.now) (items_of above.now) p)) }
     ensures sends { IfOk result (λ list. AreSends list.items) }
-    ensures fits { IfOk result (λ list. fault_over job.now (schedule_of job.now)
-        (items_of above.now) p ≡ None) }
+    ensures fits { IfOk result (λ list.
+        fault_over job.now (schedule_of job.now) (items_of above.now) p ≡ None) }
     ensures too_big { (place : PlaceValue) (n : ℕ) → result ≡ Err (EvalFault.TooBig place n)
         → fault_over job.now (schedule_of job.now) (items_of above.now) p
         ≡ Some (place, n) }
