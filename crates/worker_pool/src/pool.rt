@@ -117,7 +117,7 @@ impl<T: Work> Pool<T> {
         tasks.destroy_empty();
     }
 
-    /// Takes a task, or waits a while for one.
+    /// Waits for a task: yields for a while, and then sleeps.
     pub(crate) fn wait<W: Wait>(&self, rt: &W) -> Next {
         for _ in 0..YIELDS {
             if self.bell.has_work() {
@@ -128,7 +128,18 @@ impl<T: Work> Pool<T> {
             }
             thread::yield_now();
         }
-        self.sleep(rt)
+        self.sleep_on(rt)
+    }
+
+    // Sleeps until there is a task to take.
+    fn sleep_on<W: Wait>(&self, rt: &W) -> Next {
+        for _ in rt.forever() {
+            match self.sleep(rt) {
+                Next::Wait => {}
+                next => return next,
+            }
+        }
+        unreachable!()
     }
 
     /// Takes a task.
