@@ -1,6 +1,7 @@
 //! Runs of graphs with children on worker threads. What is expected was worked out by hand.
 use crate::runs::always;
 use std::test::Fail;
+use stream_lists::JobRefusal;
 
 // How often a graph is run by each number of workers.
 const RUNS: u32 = 10;
@@ -29,8 +30,24 @@ fn a_source_hands_over_to_its_child(rt: HostRuntime) -> Result<(), Fail> {
 }
 
 // f puts 1, 3, 5, 7. g takes the sample 3 alone, as the first that it meets, and puts 3 beside 5.
-const SECOND_FILTER: &str = "phaser X sum 4\nphaser Y sum 4\nsource s s.csv -> X\n\
+pub const SECOND_FILTER: &str = "phaser X sum 4\nphaser Y sum 4\nsource s s.csv -> X\n\
     fir f X -> Y shift 0 taps 1 1\nfir g X -> Y shift 0 taps 1 1 by f at 2 until 1\nsink out Y\n";
+
+// With `at` 4 the child would come after A's last step, and does not; with `at` 2 the two would signal
+// in one phase.
+#[test]
+fn a_source_that_hands_over_late_or_early(rt: HostRuntime) -> Result<(), Fail> {
+    let samples = ["1\n2\n3\n", "4\n5\n"];
+    let late = "phaser X any 2\nsource A a.csv -> X\n\
+        source B b.csv -> X by A at 4\nsink out X\n";
+    let wanted = "out 3\n1\n2\n3\n";
+    assert!(rt; always(&rt, rt.alloc(), late, &samples, RUNS, wanted)?);
+    let early = "phaser X any 2\nsource A a.csv -> X\n\
+        source B b.csv -> X by A at 2\nsink out X\n";
+    let refused = test_jobs::job_of(rt.alloc(), early, &samples)?;
+    assert!(rt; matches!(refused, Err(JobRefusal::AnyMeets { line: 3 })));
+    Ok(())
+}
 
 #[test]
 fn a_filter_adds_a_child(rt: HostRuntime) -> Result<(), Fail> {

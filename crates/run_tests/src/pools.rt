@@ -116,6 +116,29 @@ fn one_that_is_held_lets_the_other_go_on(rt: HostRuntime) -> Result<(), Fail> {
     Ok(())
 }
 
+// One waits at a place at which the other has put, and told it, since the one was taken: it is not left
+// to wait.
+#[test]
+fn one_that_waits_too_late_goes_on(rt: HostRuntime) -> Result<(), Fail> {
+    for workers in [2, 16] {
+        let at = Place::new(1, 1);
+        let go = Place::new(3, 1);
+        let late = Toy::Late {
+            at: &at,
+            go: &go,
+            has_looked: false,
+        };
+        let tells = Toy::Tells {
+            at: &at,
+            go: &go,
+            turns: 0,
+        };
+        let end = run_two(&rt, rt.alloc(), late, tells, workers);
+        assert_eq!(rt; end, Some(None));
+    }
+    Ok(())
+}
+
 #[test]
 fn a_child_comes(rt: HostRuntime) -> Result<(), Fail> {
     for workers in WORKERS {

@@ -98,6 +98,19 @@ pub enum Toy<'a> {
         has_put: bool,
         until: u64,
     },
+    /// Is held until one was put at the second place, and then waits at the first. It is done when
+    /// it is taken again.
+    Late {
+        at: &'a Place,
+        go: &'a Place,
+        has_looked: bool,
+    },
+    /// Puts one at the first place and waits at the second. When it is taken again, it puts one there.
+    Tells {
+        at: &'a Place,
+        go: &'a Place,
+        turns: u64,
+    },
     /// Goes on for so many turns, and then its child of this number comes.
     Parent {
         child: usize,
@@ -156,6 +169,40 @@ impl<'a> Toy<'a> {
         at.put()
     }
 
+    // Waits at one place once it has seen what was put at the other.
+    fn late(&mut self, at: &'a Place, go: &'a Place, has_looked: bool) -> Turned {
+        if has_looked {
+            *self = Toy::Done;
+            return Turned::Gone;
+        }
+        *self = Toy::Late {
+            at,
+            go,
+            has_looked: true,
+        };
+        match seen_by(go, 1) {
+            Turned::Ready => Turned::Blocked(at.number),
+            turned => turned,
+        }
+    }
+
+    // Puts one at one place, waits, and puts one at the other.
+    fn tells(&mut self, at: &'a Place, go: &'a Place, turns: u64) -> Turned {
+        *self = match turns {
+            0 | 1 => Toy::Tells {
+                at,
+                go,
+                turns: turns.wrapping_add(1),
+            },
+            _ => Toy::Done,
+        };
+        match turns {
+            0 => at.put(),
+            1 => Turned::Blocked(go.number),
+            _ => go.put(),
+        }
+    }
+
     fn parent(&mut self, child: usize, left: u64) -> Turned {
         if left == 0 {
             *self = Toy::Done;
@@ -196,6 +243,8 @@ impl<'a> Work for Toy<'a> {
             | Toy::Sink { at, .. }
             | Toy::Held { at, .. }
             | Toy::Meets { at, .. }
+            | Toy::Late { at, .. }
+            | Toy::Tells { go: at, .. }
             | Toy::Child { at, .. } => 1u64.wrapping_shl((at.number & 63) as u32),
             _ => 0,
         }
@@ -208,6 +257,8 @@ impl<'a> Work for Toy<'a> {
             Toy::Sink { at, .. } => self.moved(at.take()),
             Toy::Held { at, until } => self.held(at, until),
             Toy::Meets { at, has_put, until } => self.meets(at, has_put, until),
+            Toy::Late { at, go, has_looked } => self.late(at, go, has_looked),
+            Toy::Tells { at, go, turns } => self.tells(at, go, turns),
             Toy::Parent { child, left } => self.parent(child, left),
             Toy::Child { .. } => Turned::Failed(Fault::OutOfMemory),
             Toy::Endless => Turned::Ready,

@@ -117,7 +117,7 @@ impl<T: Work> Pool<T> {
         tasks.destroy_empty();
     }
 
-    /// Takes a task, or waits a while for one.
+    /// Waits for a task: yields for a while, and then sleeps.
     pub(crate) fn wait<W: Wait>(&self, rt: &W) -> Next {
         for _ in 0..YIELDS {
             if self.bell.has_work() {
@@ -128,7 +128,18 @@ impl<T: Work> Pool<T> {
             }
             thread::yield_now();
         }
-        self.sleep(rt)
+        self.sleep_on(rt)
+    }
+
+    // Sleeps until there is a task to take.
+    fn sleep_on<W: Wait>(&self, rt: &W) -> Next {
+        for _ in rt.forever() {
+            match self.sleep(rt) {
+                Next::Wait => {}
+                next => return next,
+            }
+        }
+        unreachable!()
     }
 
     /// Takes a task.
@@ -139,30 +150,32 @@ impl<T: Work> Pool<T> {
         next
     }
 
-    // Sleeps where there is no task to take, and takes any when it was not called meanwhile.
+    // Sleeps where there is no task to take. Where it was not called meanwhile, those who have been at
+    // work all the while may be held.
     fn sleep<W: Wait>(&self, rt: &W) -> Next {
         let rings = self.bell.rings();
-        let next = self.take_or_sleep(rt);
+        let (next, takes) = self.take_or_sleep(rt);
         let Next::Wait = next else {
             return next;
         };
         self.bell.sleep(rt, rings);
-        self.sets.lock(rt).woke();
-        if self.bell.rings() == rings {
-            self.take(rt, Choice::Any)
+        let choice = if self.bell.rings() == rings {
+            Choice::Beside(takes)
         } else {
-            self.take(rt, Choice::Apart)
-        }
+            Choice::Apart
+        };
+        self.sets.lock(rt).woke();
+        self.take(rt, choice)
     }
 
-    // Notes that the worker sleeps, where there is no task to take.
-    fn take_or_sleep<W: Wait>(&self, rt: &W) -> Next {
+    // Notes that the worker sleeps, where there is no task to take, and tells how often tasks were
+    // taken.
+    fn take_or_sleep<W: Wait>(&self, rt: &W) -> (Next, u64) {
         let mut sets = self.sets.lock(rt);
-        let next = sets.take(Choice::Apart);
-        if let Next::Wait = next {
-            sets.sleeps();
+        match sets.take(Choice::Apart) {
+            Next::Wait => (Next::Wait, sets.sleeps()),
+            next => (next, 0),
         }
-        next
     }
 
     /// Puts a task back, and takes the next.

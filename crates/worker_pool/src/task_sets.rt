@@ -30,10 +30,11 @@ pub struct Taken {
 pub enum Choice {
     /// One that may go on, none of whose phasers is in use by another worker.
     Apart,
-    /// Where there is none, any that may go on; where there is none either, one that waits for an
-    /// event, while a worker is at work that may have made one: it tells of its events only when it
-    /// puts its task back.
-    Any,
+    /// Where there is none, one whose phasers are in use by workers alone that have had their tasks
+    /// since before so many takes: they may be held. Where there is none either, such a one that
+    /// waits for an event, while a worker is held that may have made one: it tells of its events only
+    /// when it puts its task back.
+    Beside(u64),
 }
 
 /// How far a worker came with a task.
@@ -60,6 +61,9 @@ pub struct TaskSets {
     // how often events were told, and for each phaser the last time
     told: u64,
     last_told: [u64; 64],
+    // how often tasks were taken, and for each task the last time
+    takes: u64,
+    last_taken: [u64; 64],
     // the number of the task after the one that was taken last
     from: u32,
     // how many workers sleep, and the turns since one was called
@@ -80,6 +84,8 @@ impl TaskSets {
             waits_on: [0; 64],
             told: 0,
             last_told: [0; 64],
+            takes: 0,
+            last_taken: [0; 64],
             from: 0,
             asleep: 0,
             turns: 0,
@@ -124,6 +130,8 @@ impl TaskSets {
         self.ready.remove(task);
         self.waiting.remove(task);
         self.working.insert(task);
+        self.takes = self.takes.wrapping_add(1);
+        self.last_taken[task & 63] = self.takes;
         self.from = (task & 63) as u32 + 1;
         Next::Take(Taken {
             task,
@@ -137,27 +145,32 @@ impl TaskSets {
     }
 
     fn choose(&self, choice: Choice) -> Option<usize> {
-        let apart = self.first_apart();
+        let apart = self.first_apart(self.ready, 0);
         match choice {
             Choice::Apart => apart,
-            Choice::Any => apart
-                .or(self.ready.first_from(self.from))
-                .or(self.first_to_try()),
+            Choice::Beside(takes) => apart
+                .or(self.first_apart(self.ready, takes))
+                .or(self.first_to_try(takes)),
         }
     }
 
-    // The first that waits, where a worker may have made an event that it has not told.
-    fn first_to_try(&self) -> Option<usize> {
-        if self.working == self.trying {
-            return None;
+    // The first that waits, where a worker that is held may have made an event that it has not told.
+    fn first_to_try(&self, takes: u64) -> Option<usize> {
+        let mut rest = self.working;
+        for _ in 0..64 {
+            let task = rest.first_from(0)?;
+            if self.last_taken[task & 63] <= takes && !self.trying.contains(task) {
+                return self.first_apart(self.waiting, takes);
+            }
+            rest.remove(task);
         }
-        self.waiting.first_from(self.from)
+        None
     }
 
-    // The first that may go on, none of whose phasers is in use.
-    fn first_apart(&self) -> Option<usize> {
-        let in_use = self.in_use();
-        let mut rest = self.ready;
+    // The first of these, none of whose phasers is in use since so many takes.
+    fn first_apart(&self, tasks: NumberSet, takes: u64) -> Option<usize> {
+        let in_use = self.in_use(takes);
+        let mut rest = tasks;
         for _ in 0..64 {
             let task = rest.first_from(self.from)?;
             if !self.phasers[task & 63].meets(in_use) {
@@ -168,15 +181,17 @@ impl TaskSets {
         None
     }
 
-    // The phasers of the tasks that are with workers.
-    fn in_use(&self) -> NumberSet {
+    // The phasers of the tasks that workers took after so many takes.
+    fn in_use(&self, takes: u64) -> NumberSet {
         let mut phasers = NumberSet::new();
         let mut rest = self.working;
         for _ in 0..64 {
             let Some(task) = rest.first_from(0) else {
                 break;
             };
-            phasers.insert_all(self.phasers[task & 63]);
+            if self.last_taken[task & 63] > takes {
+                phasers.insert_all(self.phasers[task & 63]);
+            }
             rest.remove(task);
         }
         phasers
@@ -248,12 +263,13 @@ impl TaskSets {
 
     /// Tells whether there is a task to take beside those that are with workers.
     pub fn has_apart(&self) -> bool {
-        self.first_apart().is_some()
+        self.first_apart(self.ready, 0).is_some()
     }
 
-    /// Notes that a worker goes to sleep.
-    pub fn sleeps(&mut self) {
+    /// Notes that a worker goes to sleep, and tells how often tasks were taken.
+    pub fn sleeps(&mut self) -> u64 {
         self.asleep = self.asleep.saturating_add(1);
+        self.takes
     }
 
     /// Notes that a worker woke.
