@@ -9,7 +9,7 @@ use Rattle.std.proofs.lemmas.List.Elements.{All-set}
 use Rattle.phase_accum.specs.Sends.{AreSends}
 use Rattle.stream_lists.specs.Inside.{items_of}
 use Rattle.stream_lists.specs.Jobs.{Job}
-use Rattle.stream_eval.specs.Reading.{is_read_from, list_kept}
+use Rattle.stream_eval.specs.Inside.{is_read_from, list_kept}
 
 -- the lists before number q are gone through, and the others are as they were
 pub record GoneThrough (job : Job) (p : ℕ) (old lists : List (Vec ℤ Global)) (q : ℕ) : Type 0 where

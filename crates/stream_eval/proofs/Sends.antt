@@ -12,7 +12,7 @@ use Rattle.phase_accum.specs.Sends.{IsSend}
 use Rattle.phase_accum.specs.Operations.{Operation, IsPartOf, MayJoin, AccumulateLaws}
 use Rattle.phase_accum.proofs.Parts.{IsPartOf-nil, IsPartOf-one, IsPartOf-join}
 use Rattle.stream_lists.specs.Lists.{Member, send_in, sends_in}
-use Rattle.stream_eval.specs.Parts.{HasParts}
+use Rattle.stream_eval.specs.Inside.{HasParts}
 use Rattle.phase_accum.specs.declared.outcome.Outcome.{Outcome}
 
 -- the first i values of a member

@@ -1,3 +1,2 @@
-pub mod Parts
-pub mod Reading
+pub mod Inside
 pub mod Results

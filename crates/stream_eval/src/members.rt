@@ -9,7 +9,7 @@ ghost use Rattle.graph_base.specs.declared.place.Place.{Place as PlaceValue};
 ghost use Rattle.graph_base.specs.TaskLines.{HasEnds};
 ghost use Rattle.stream_lists.specs.Inside.{items_of};
 ghost use Rattle.stream_lists.specs.Lists.{member_at, members_of, output_on};
-ghost use Rattle.stream_eval.specs.Parts.{member_of, member_option};
+ghost use Rattle.stream_eval.specs.Inside.{member_of, member_option};
 ghost use Rattle.stream_lists.specs.Ranges.{first_some, made_fault, output_fault_of, output_faults};
 ghost use Rattle.stream_lists.specs.Spans.{schedule_of};
 
@@ -18,7 +18,7 @@ use crate::list::ListFault;
 use crate::outputs::list_put;
 use crate::phases::MemberList;
 use crate::taken_values::taken_lists;
-use graph_base::Place;
+use graph_base::{Place, TASKS_MAX};
 use std::alloc::Global;
 use stream_lists::{Job, output_number};
 
@@ -102,7 +102,7 @@ pub(crate) fn members_on(
         ≡ members_of job.now (schedule_of job.now) (items_of above.now) p) }
     ensures sends { IfOk result (λ members.
         All (λ list. AreSends list.values.items) members.items) }
-    ensures few { IfOk result (λ members. length members.items ≤ 64) }
+    ensures few { IfOk result (λ members. length members.items ≤ TASKS_MAX) }
     ensures fits { IfOk result (λ members.
         first_some (output_faults job.now (schedule_of job.now) (items_of above.now) p) ≡ None) }
     ensures too_big { (place : PlaceValue) (n : ℕ) → result ≡ Err (EvalFault.TooBig place n)

@@ -6,7 +6,7 @@ ghost use Rattle.phase_accum.specs.Values.{applied, IsInRange};
 ghost use Rattle.graph_base.specs.Graphs.{phaser_at};
 ghost use Rattle.graph_base.specs.declared.place.Place.{Place as PlaceValue};
 ghost use Rattle.stream_lists.specs.Lists.{Member, number, number_in};
-ghost use Rattle.stream_eval.specs.Parts.{HasParts, member_of};
+ghost use Rattle.stream_eval.specs.Inside.{HasParts, member_of};
 ghost use Rattle.stream_lists.specs.Ranges.{first_fault};
 ghost use Rattle.stream_lists.specs.Spans.{lengths_of, schedule_of};
 
@@ -14,7 +14,7 @@ use crate::fault::EvalFault;
 use crate::list::held_count;
 use crate::phases::{MemberList, parts_of};
 use crate::taken_phases::is_faulty;
-use graph_base::Place;
+use graph_base::{Place, TASKS_MAX};
 use phase_accum::{Accumulate, Outcome, apply};
 use std::alloc::Global;
 use stream_lists::{Job, number_of};
@@ -82,7 +82,7 @@ pub(crate) fn reduced<A: Accumulate>(
 ) -> Result<Vec<i64>, EvalFault>
     requires phaser { p < length job.now.graph.phasers }
     requires sends { All (λ list. AreSends list.values.items) members.now }
-    requires few { length members.now ≤ 64 }
+    requires few { length members.now ≤ TASKS_MAX }
     ensures ok { IfOk result (λ list. list.items
         ≡ map (number_in A.operation.value job.now p (map member_of members.now))
         (range_with_len 0 (get_or (lengths_of job.now) p 0))) }

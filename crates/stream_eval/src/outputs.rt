@@ -5,7 +5,7 @@ ghost use Rattle.phase_accum.specs.Sends.{AreSends};
 ghost use Rattle.graph_base.specs.Kept.{task_of};
 ghost use Rattle.stream_lists.specs.Lists.{mixed, output_list};
 ghost use Rattle.stream_lists.specs.Ranges.{is_out_of_range, list_fault};
-ghost use Rattle.stream_eval.specs.Parts.{MayPut};
+ghost use Rattle.stream_eval.specs.Inside.{MayPut};
 
 use crate::list::{ListFault, every_list, fir_list, in_turn_list, mixed_list};
 use crate::taken_values::part_of;

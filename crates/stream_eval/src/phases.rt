@@ -4,8 +4,9 @@ ghost use Rattle.phase_base.specs.declared.limits.TheConstants.{SENDS_MAX};
 ghost use Rattle.phase_accum.specs.Sends.{AreSends};
 ghost use Rattle.std.specs.List.{All};
 ghost use Rattle.stream_lists.specs.Lists.{Member};
-ghost use Rattle.stream_eval.specs.Parts.{HasParts, member_of};
+ghost use Rattle.stream_eval.specs.Inside.{HasParts, member_of};
 
+use graph_base::TASKS_MAX;
 use phase_accum::Accumulate;
 use std::alloc::{AllocError, Global};
 
@@ -55,7 +56,7 @@ pub fn parts_of<A: Accumulate>(
     phases: usize,
 ) -> Result<Vec<A>, AllocError>
     requires sends { All (λ member. AreSends member.values.items) members.now }
-    requires few { length members.now ≤ 64 }
+    requires few { length members.now ≤ TASKS_MAX }
     ensures parts { IfOk result (λ parts.
         HasParts A.operation parts.items (map member_of members.now)) }
     ensures length { IfOk result (λ parts. length parts.items ≡ phases) }

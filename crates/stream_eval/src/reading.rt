@@ -2,7 +2,7 @@
 ghost use Rattle.std.specs.Prelude.{◌≡◌, ◌<◌, ℕ, [], length, get_or};
 ghost use Rattle.std.specs.List.{All};
 ghost use Rattle.phase_accum.specs.Sends.{AreSends};
-ghost use Rattle.stream_eval.specs.Reading.{is_read_from, list_kept, reads_from, signals_from, signals_on, sinks_on, waits_on};
+ghost use Rattle.stream_eval.specs.Inside.{is_read_from, list_kept, reads_from, signals_from, signals_on, sinks_on, waits_on};
 ghost use Rattle.stream_lists.specs.Inside.{items_of};
 
 use graph_base::Kind;

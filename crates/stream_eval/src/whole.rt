@@ -7,8 +7,7 @@ ghost use Rattle.graph_base.specs.declared.place.Place.{Place as PlaceValue};
 ghost use Rattle.stream_eval.specs.Results.{sink_values};
 ghost use Rattle.stream_lists.specs.Inside.{items_of};
 ghost use Rattle.stream_lists.specs.Lists.{is_sink_at, lines_of, list_over, number, numbers_of, sink_over, sinks_of, value_by};
-ghost use Rattle.stream_eval.specs.Parts.{member_of};
-ghost use Rattle.stream_eval.specs.Reading.{list_kept};
+ghost use Rattle.stream_eval.specs.Inside.{member_of, list_kept};
 ghost use Rattle.stream_lists.specs.Ranges.{fault_over, first_too_big, Fits};
 ghost use Rattle.stream_lists.specs.Spans.{lengths_of, schedule_of};
 

@@ -5,7 +5,7 @@ use Rattle.phase_accum.specs.Sends.{AreSends}
 use Rattle.graph_base.specs.Graphs.{Graph}
 use Rattle.stream_lists.specs.Lists.{member_at}
 use Rattle.stream_lists.specs.Inside.{items_of}
-use Rattle.stream_eval.specs.Parts.{member_of, member_option}
+use Rattle.stream_eval.specs.Inside.{member_of, member_option}
 use Rattle.stream_lists.specs.Ranges.{output_fault_of}
 use Rattle.stream_eval.specs.declared.fault.EvalFault.TheVariants as fault
 use Rattle.stream_lists.proofs.Firsts.{first-pass, first-here, filter_map-skip, filter_map-take}

@@ -5,7 +5,7 @@ use Rattle.stream_lists.specs.Lists.{member_at}
 use Rattle.stream_lists.specs.Ranges.{first_some, output_fault_of}
 use Rattle.stream_lists.specs.Inside.{items_of}
 use Rattle.stream_lists.specs.Spans.{schedule_of}
-use Rattle.stream_eval.specs.Parts.{member_of}
+use Rattle.stream_eval.specs.Inside.{member_of}
 use Rattle.stream_eval.proofs.members.members_on.Given as goal
 
 -- the members among the tasks before this one, whose values are in range

@@ -9,7 +9,7 @@ use Rattle.stream_lists.proofs.Firsts.{first-pass, first-here}
 use Rattle.stream_lists.specs.Spans.{schedule_of}
 use Rattle.stream_eval.proofs.Agreeing.{kept-agree, kept-next, fault_over-same}
 use Rattle.stream_eval.proofs.Dropped.{written-back}
-use Rattle.stream_eval.specs.Reading.{list_kept}
+use Rattle.stream_eval.specs.Inside.{list_kept}
 use Rattle.stream_eval.proofs.whole.phaser_lists.Goals as goal
 
 -- the first fault is this phaser's

@@ -5,7 +5,7 @@ use Rattle.stream_lists.specs.Lists.{numbers_up_to}
 use Rattle.stream_lists.specs.Ranges.{first_some, fault_on}
 use Rattle.stream_lists.specs.Inside.{items_of}
 use Rattle.stream_lists.specs.Spans.{schedule_of}
-use Rattle.stream_eval.specs.Reading.{list_kept}
+use Rattle.stream_eval.specs.Inside.{list_kept}
 use Rattle.stream_eval.proofs.whole.phaser_lists.Given as goal
 
 -- the lists of the phasers before this one that are still read, whose values are in range
