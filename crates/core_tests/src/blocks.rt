@@ -1,7 +1,7 @@
 //! Blocks of phases, and waiters that join now, as calls on a phaser under sum.
-use phase_accum::{Outcome, Pending, SendFault, Sum};
+use phase_accum::{Outcome, Pending, SendFault, Single, Sum};
 use phase_base::{Mode, Spec};
-use phase_core::{GotBlock, PhaserCore, RegisterRefusal, SignalRefusal, WaitRefusal};
+use phase_core::{Got, GotBlock, PhaserCore, RegisterRefusal, SignalRefusal, WaitRefusal};
 use std::alloc::Global;
 use std::test::Fail;
 
@@ -159,6 +159,47 @@ fn a_value_of_a_block_may_be_too_big(rt: HostRuntime) -> Result<(), Fail> {
     let mut out = [UNWRITTEN; 2];
     assert_eq!(rt; core.wait_block(3, &mut out), values(0, 2));
     assert_eq!(rt; out, [Outcome::TooBig, Outcome::Value(3)]);
+    Ok(())
+}
+
+#[test]
+fn a_block_joins_phases_that_were_signalled_and_new_ones(rt: HostRuntime) -> Result<(), Fail> {
+    let mut core = founded(rt.alloc(), 4, 100)?;
+    core.register(0, 1, Mode::Sig)?;
+    core.register(0, 2, Mode::Sig)?;
+    core.register(0, 3, Mode::Wait)?;
+    core.drop_task(0)?;
+    let mut out = [UNWRITTEN; 2];
+    assert_eq!(rt; signal(rt.alloc(), &mut core, 1, &[1, 2])?, Ok(0));
+    assert_eq!(rt; signal(rt.alloc(), &mut core, 2, &[10, 20, 30, 40])?, Ok(0));
+    assert_eq!(rt; core.wait_block(3, &mut out), values(0, 2));
+    assert_eq!(rt; out, [Outcome::Value(11), Outcome::Value(22)]);
+    // Phases 5 and 6 have the slots of phases 0 and 1.
+    assert_eq!(rt; signal(rt.alloc(), &mut core, 1, &[3, 4, 5, 6])?, Ok(2));
+    assert_eq!(rt; core.wait_block(3, &mut out), values(2, 2));
+    assert_eq!(rt; out, [Outcome::Value(33), Outcome::Value(44)]);
+    assert_eq!(rt; signal(rt.alloc(), &mut core, 2, &[50, 60, 70])?, Ok(4));
+    assert_eq!(rt; signal(rt.alloc(), &mut core, 1, &[7])?, Ok(6));
+    assert_eq!(rt; core.wait_block(3, &mut out), values(4, 2));
+    assert_eq!(rt; out, [Outcome::Value(55), Outcome::Value(66)]);
+    assert_eq!(rt; core.wait_block(3, &mut out), values(6, 1));
+    assert_eq!(rt; out, [Outcome::Value(77), Outcome::Value(66)]);
+    Ok(())
+}
+
+#[test]
+fn the_first_signal_of_a_phase_names_its_single(rt: HostRuntime) -> Result<(), Fail> {
+    let mut core = founded(rt.alloc(), 2, 100)?;
+    core.register(0, 1, Mode::Single)?;
+    let neg = Some(Single::Neg);
+    assert_eq!(rt; core.signal(0, pending_of(5)?, neg), Ok(0));
+    assert_eq!(rt;
+        core.signal(1, pending_of(6)?, None),
+        Err((SignalRefusal::SingleDiffers, pending_of(6)?))
+    );
+    assert_eq!(rt; core.signal(1, pending_of(6)?, neg), Ok(0));
+    let outcome = Outcome::Value(-11);
+    assert_eq!(rt; core.wait(1), Ok(Got::Value { phase: 0, outcome }));
     Ok(())
 }
 
