@@ -139,6 +139,51 @@ fn one_that_waits_too_late_goes_on(rt: HostRuntime) -> Result<(), Fail> {
     Ok(())
 }
 
+// Runs three tasks. None where there was no memory.
+fn run_three<'a, R: Threads + Wait + Sync>(
+    rt: &R,
+    alloc: Global,
+    first: Toy<'a>,
+    second: Toy<'a>,
+    third: Toy<'a>,
+    workers: usize,
+) -> Option<Option<Fault>> {
+    let mut pool = Pool::with_room(alloc, 3).ok()?;
+    pool.push(first).ok()?;
+    pool.push(second).ok()?;
+    pool.push(third).ok()?;
+    Some(pool.run(rt, workers))
+}
+
+// The first is held until the second goes on, though nothing was told at its place, and the second then
+// until the third does.
+#[test]
+fn one_that_was_tried_and_is_held(rt: HostRuntime) -> Result<(), Fail> {
+    for workers in [2, 16] {
+        let at = Place::new(2, 1);
+        let go = Place::new(3, 1);
+        let other = Place::new(5, 1);
+        let first = Toy::Late {
+            at: &at,
+            go: &at,
+            has_looked: false,
+        };
+        let second = Toy::Tried {
+            at: &at,
+            go: &go,
+            turns: 0,
+        };
+        let third = Toy::Tells {
+            at: &other,
+            go: &go,
+            turns: 0,
+        };
+        let end = run_three(&rt, rt.alloc(), first, second, third, workers);
+        assert_eq!(rt; end, Some(None));
+    }
+    Ok(())
+}
+
 #[test]
 fn a_child_comes(rt: HostRuntime) -> Result<(), Fail> {
     for workers in WORKERS {

@@ -111,6 +111,13 @@ pub enum Toy<'a> {
         go: &'a Place,
         turns: u64,
     },
+    /// Waits at the first place. When it is taken again, it puts one there and is held until one was
+    /// put at the second.
+    Tried {
+        at: &'a Place,
+        go: &'a Place,
+        turns: u64,
+    },
     /// Goes on for so many turns, and then its child of this number comes.
     Parent {
         child: usize,
@@ -203,6 +210,23 @@ impl<'a> Toy<'a> {
         }
     }
 
+    // Waits at one place, puts one there, and is held until one was put at the other.
+    fn tried(&mut self, at: &'a Place, go: &'a Place, turns: u64) -> Turned {
+        *self = match turns {
+            0 | 1 => Toy::Tried {
+                at,
+                go,
+                turns: turns.wrapping_add(1),
+            },
+            _ => Toy::Done,
+        };
+        match turns {
+            0 => Turned::Blocked(at.number),
+            1 => at.put(),
+            _ => seen_by(go, 1),
+        }
+    }
+
     fn parent(&mut self, child: usize, left: u64) -> Turned {
         if left == 0 {
             *self = Toy::Done;
@@ -245,6 +269,7 @@ impl<'a> Work for Toy<'a> {
             | Toy::Meets { at, .. }
             | Toy::Late { at, .. }
             | Toy::Tells { go: at, .. }
+            | Toy::Tried { go: at, .. }
             | Toy::Child { at, .. } => 1u64.wrapping_shl((at.number & 63) as u32),
             _ => 0,
         }
@@ -259,6 +284,7 @@ impl<'a> Work for Toy<'a> {
             Toy::Meets { at, has_put, until } => self.meets(at, has_put, until),
             Toy::Late { at, go, has_looked } => self.late(at, go, has_looked),
             Toy::Tells { at, go, turns } => self.tells(at, go, turns),
+            Toy::Tried { at, go, turns } => self.tried(at, go, turns),
             Toy::Parent { child, left } => self.parent(child, left),
             Toy::Child { .. } => Turned::Failed(Fault::OutOfMemory),
             Toy::Endless => Turned::Ready,

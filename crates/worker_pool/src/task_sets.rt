@@ -53,8 +53,6 @@ pub struct TaskSets {
     ready: NumberSet,
     waiting: NumberSet,
     working: NumberSet,
-    // those with a worker that tries again, though nothing was told
-    trying: NumberSet,
     // the phasers of each task, and the one that it waits on
     phasers: [NumberSet; 64],
     waits_on: [usize; 64],
@@ -79,7 +77,6 @@ impl TaskSets {
             ready: NumberSet::new(),
             waiting: NumberSet::new(),
             working: NumberSet::new(),
-            trying: NumberSet::new(),
             phasers: [NumberSet::new(); 64],
             waits_on: [0; 64],
             told: 0,
@@ -124,9 +121,6 @@ impl TaskSets {
         let Some(task) = self.choose(choice) else {
             return Next::Wait;
         };
-        if self.waiting.contains(task) {
-            self.trying.insert(task);
-        }
         self.ready.remove(task);
         self.waiting.remove(task);
         self.working.insert(task);
@@ -156,15 +150,26 @@ impl TaskSets {
 
     // The first that waits, where a worker that is held may have made an event that it has not told.
     fn first_to_try(&self, takes: u64) -> Option<usize> {
+        if self.has_held(takes) {
+            self.first_apart(self.waiting, takes)
+        } else {
+            None
+        }
+    }
+
+    // Whether a worker has had its task since before so many takes.
+    fn has_held(&self, takes: u64) -> bool {
         let mut rest = self.working;
         for _ in 0..64 {
-            let task = rest.first_from(0)?;
-            if self.last_taken[task & 63] <= takes && !self.trying.contains(task) {
-                return self.first_apart(self.waiting, takes);
+            let Some(task) = rest.first_from(0) else {
+                return false;
+            };
+            if self.last_taken[task & 63] <= takes {
+                return true;
             }
             rest.remove(task);
         }
-        None
+        false
     }
 
     // The first of these, none of whose phasers is in use since so many takes.
@@ -201,7 +206,6 @@ impl TaskSets {
     pub fn put_back(&mut self, taken: Taken, went: Went) {
         let task = taken.task;
         self.working.remove(task);
-        self.trying.remove(task);
         self.turns = self.turns.saturating_add(went.turns);
         // An event that the task made itself came before it was refused.
         let is_refused_still = match went.turned {
