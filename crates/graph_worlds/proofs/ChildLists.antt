@@ -1,6 +1,8 @@
 -- Searches among the children of a task.
-use Rattle.std.proofs.Common.{◌≡◌, ℕ, ◌+◌, ◌<◌, List, [], ◌∷◌, Bool, true, false, ◌&&◌, Option, Some, None, length, get_or, refl, sym, ◌∙◌, arith}
+use Rattle.std.proofs.Common.{◌≡◌, ◌≢◌, ℕ, ◌+◌, ◌<◌, ◌≤◌, List, [], ◌∷◌, Bool, true, false, ◌&&◌, eqb, Option, Some, None, is_some, length, get_or, set, slice_get, refl, sym, ap, subst, ◌∙◌, arith}
 use Rattle.std.specs.List.{filter, find, range_with_len}
+use Rattle.std.proofs.Math.Bool.{and-false}
+use Rattle.std.proofs.lemmas.Bool.{eqb-true, eq-eqb}
 use Rattle.std.proofs.lemmas.List.Elements.{All-filter, All-get_or, All-from_get_or}
 use Rattle.std.proofs.lemmas.List.FromFn.{get_or-range_with_len, length-range_with_len}
 use Rattle.std.proofs.lemmas.Option.{slice_get-get_or, slice_get_past}
@@ -8,9 +10,12 @@ use Rattle.graph_base.specs.declared.line.Parent.{Parent}
 use Rattle.graph_base.specs.Graphs.{task_at}
 use Rattle.stream_lists.specs.Jobs.{Job}
 use Rattle.graph_moments.specs.Moments.{Moment}
-use Rattle.graph_turns.specs.Nexts.{comes_by, first_due, is_due}
+use Rattle.graph_turns.specs.Nexts.{comes_by, first_due, first_missing, is_due}
 use Rattle.graph_turns.proofs.Standing.{find-at}
-use Rattle.graph_worlds.specs.Plans.{children_of, is_child_of}
+use Rattle.graph_worlds.specs.Plans.{IsTaskPlan, NoneComes, children_of, is_child_of}
+use Rattle.graph_worlds.specs.declared.plan.TaskPlan.{TaskPlan}
+use Rattle.graph_worlds.proofs.Searching.{find_none_in_range}
+use Rattle.graph_worlds.proofs.Setting.{slice_get-set_same, slice_get-set_other}
 
 -- what a test finds it finds among those that pass another, where all that it passes do
 find-filter : (test pass : ℕ → Bool) (xs : List ℕ) → ((x : ℕ) → test x ≡ true → pass x ≡ true)
@@ -83,3 +88,54 @@ child_there job t i lt =
         let is : get_or (range_with_len 0 n) i 0 ≡ 0 + i =
         get_or-range_with_len 0 n i 0 (omega arith) in
         omega arith
+
+-- ---- where none comes
+
+-- a task of which no child comes after so many steps
+pub none_comes_at : (job : Job) (t from to steps : ℕ) → NoneComes job t from to → from ≤ steps
+    → steps < to → (c : ℕ) → c < length job.graph.tasks
+    → comes_by t steps (task_at job.graph c).parent ≡ false
+none_comes_at job t from to steps none le lt c there = by (task_at job.graph c).parent refl
+  where
+    by : (parent : Option Parent) → (task_at job.graph c).parent ≡ parent
+        → comes_by t steps parent ≡ false
+    by None e = refl
+    by (Some it) e = at (eqb it.task t) refl (eqb it.at steps) refl
+      where
+        at : (b : Bool) → eqb it.task t ≡ b → (d : Bool) → eqb it.at steps ≡ d
+            → (eqb it.task t && eqb it.at steps) ≡ false
+        at false of d is = ap (λ b. b && eqb it.at steps) of
+        at true of false is = ap (λ b. eqb it.task t && b) is ∙ and-false (eqb it.task t)
+        at true of true is =
+            let same : it.at ≡ steps = eqb-true it.at steps is in
+            let late = none c there it e (eqb-true it.task t of) (omega arith) in
+            absurd (omega arith)
+
+-- none is due there
+pub none_due_at : (job : Job) (m : Moment) (t steps : ℕ) → m.begun t ≡ steps
+    → ((c : ℕ) → c < length job.graph.tasks
+    → comes_by t steps (task_at job.graph c).parent ≡ false)
+    → first_due job m t ≡ None
+none_due_at job m t steps begun none =
+    find_none_in_range (is_due job m t) (length job.graph.tasks)
+    (λ c lt. ap (λ b. b && is_some (first_missing job m c))
+    (ap (λ s. comes_by t s (task_at job.graph c).parent) begun ∙ none c lt))
+
+-- a plan of which one task's was set
+pub set_plan : (job : Job) (plans : List TaskPlan) (t : ℕ) (one : TaskPlan)
+    → length plans ≡ length job.graph.tasks → t < length plans → IsTaskPlan job t one
+    → ((u : ℕ) (other : TaskPlan) → slice_get plans u ≡ Some other → IsTaskPlan job u other)
+    → (u : ℕ) (other : TaskPlan) → slice_get (set plans t one) u ≡ Some other
+    → IsTaskPlan job u other
+set_plan job plans t one many lt is each u other found = by (eqb u t) refl
+  where
+    by : (b : Bool) → eqb u t ≡ b → IsTaskPlan job u other
+    by true e =
+        let same : t ≡ u = sym (eqb-true u t e) in
+        let it : one ≡ other =
+        slice_get-set_same plans t one other lt
+        (subst (λ n. slice_get (set plans t one) n ≡ Some other) (sym same) found) in
+        subst (IsTaskPlan job u) it (subst (λ n. IsTaskPlan job n one) same is)
+    by false e =
+        let apart : u ≢ t = λ same. (let no = sym (eq-eqb u t same) ∙ e in cc) in
+        each u other (slice_get-set_other plans t u one other apart found)
