@@ -47,5 +47,5 @@ returns c = λ m stands.
 
 pub returns-then-is_quiet : goal.returns-then-is_quiet
 returns-then-is_quiet c = λ m stands.
-    none_due_at c.args.job.now m c.args.t c.state-state.result.now.begun
+    none_due_at c.args.job.now m c.args.t c.state.result.now.begun
     (c.state.ensures m stands).stands.begun (c.is_quiet.ensures c.if-is_quiet.true)
