@@ -1,7 +1,6 @@
 -- Searches among the children of a task.
-use Rattle.std.proofs.Common.{◌≡◌, ◌≢◌, ℕ, ◌+◌, ◌<◌, ◌≤◌, List, [], ◌∷◌, Bool, true, false, ◌&&◌, eqb, Option, Some, None, is_some, length, get_or, set, slice_get, refl, sym, ap, subst, ◌∙◌, arith}
+use Rattle.std.proofs.Common.{◌≡◌, ◌≢◌, ℕ, ◌+◌, ◌<◌, List, [], ◌∷◌, Bool, true, false, ◌&&◌, eqb, Option, Some, None, is_some, length, get_or, set, slice_get, refl, sym, ap, subst, ◌∙◌, arith}
 use Rattle.std.specs.List.{filter, find, range_with_len}
-use Rattle.std.proofs.Math.Bool.{and-false}
 use Rattle.std.proofs.lemmas.Bool.{eqb-true, eq-eqb}
 use Rattle.std.proofs.lemmas.List.Elements.{All-filter, All-get_or, All-from_get_or}
 use Rattle.std.proofs.lemmas.List.FromFn.{get_or-range_with_len, length-range_with_len}
@@ -12,7 +11,7 @@ use Rattle.stream_lists.specs.Jobs.{Job}
 use Rattle.graph_moments.specs.Moments.{Moment}
 use Rattle.graph_turns.specs.Nexts.{comes_by, first_due, first_missing, is_due}
 use Rattle.graph_turns.proofs.Standing.{find-at}
-use Rattle.graph_worlds.specs.Plans.{IsTaskPlan, NoneComes, children_of, is_child_of}
+use Rattle.graph_worlds.specs.Plans.{IsTaskPlan, children_of, is_child_of}
 use Rattle.graph_worlds.specs.declared.plan.TaskPlan.{TaskPlan}
 use Rattle.graph_worlds.proofs.Searching.{find_none_in_range}
 use Rattle.graph_worlds.proofs.Setting.{slice_get-set_same, slice_get-set_other}
@@ -90,26 +89,6 @@ child_there job t i lt =
         omega arith
 
 -- ---- where none comes
-
--- a task of which no child comes after so many steps
-pub none_comes_at : (job : Job) (t from to steps : ℕ) → NoneComes job t from to → from ≤ steps
-    → steps < to → (c : ℕ) → c < length job.graph.tasks
-    → comes_by t steps (task_at job.graph c).parent ≡ false
-none_comes_at job t from to steps none le lt c there = by (task_at job.graph c).parent refl
-  where
-    by : (parent : Option Parent) → (task_at job.graph c).parent ≡ parent
-        → comes_by t steps parent ≡ false
-    by None e = refl
-    by (Some it) e = at (eqb it.task t) refl (eqb it.at steps) refl
-      where
-        at : (b : Bool) → eqb it.task t ≡ b → (d : Bool) → eqb it.at steps ≡ d
-            → (eqb it.task t && eqb it.at steps) ≡ false
-        at false of d is = ap (λ b. b && eqb it.at steps) of
-        at true of false is = ap (λ b. eqb it.task t && b) is ∙ and-false (eqb it.task t)
-        at true of true is =
-            let same : it.at ≡ steps = eqb-true it.at steps is in
-            let late = none c there it e (eqb-true it.task t of) (omega arith) in
-            absurd (omega arith)
 
 -- none is due there
 pub none_due_at : (job : Job) (m : Moment) (t steps : ℕ) → m.begun t ≡ steps

@@ -1,5 +1,5 @@
 -- A new list is empty, and has no marks.
-use Rattle.std.proofs.Common.{◌≡◌, arith}
+use Rattle.std.proofs.Common.{arith}
 use Rattle.graph_worlds.proofs.TaskLists.{empty_list}
 use Rattle.graph_worlds.proofs.task_list.TaskList.new.Goals as goal
 
