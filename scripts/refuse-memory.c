@@ -1,6 +1,6 @@
 // Refuses the request for memory whose number the variable REFUSED tells, counted from 1. Load it
 // before the C library. Where REFUSED is 0 it refuses none, and at the end it writes to file
-// descriptor 9 how many there were. Threads count together.
+// descriptor 9 how many there were, and how many bytes they asked for. Threads count together.
 #define _GNU_SOURCE
 #include <dlfcn.h>
 #include <errno.h>
@@ -9,7 +9,7 @@
 #include <stdio.h>
 #include <stdlib.h>
 
-static atomic_ulong requests;
+static atomic_ulong requests, bytes;
 static unsigned long refused;
 
 __attribute__((constructor)) static void begin(void) {
@@ -20,11 +20,12 @@ __attribute__((constructor)) static void begin(void) {
 
 __attribute__((destructor)) static void end(void) {
     if (refused == 0) {
-        dprintf(9, "%lu\n", (unsigned long)atomic_load(&requests));
+        dprintf(9, "%lu %lu\n", (unsigned long)atomic_load(&requests), (unsigned long)atomic_load(&bytes));
     }
 }
 
-static int is_refused(void) {
+static int is_refused(size_t size) {
+    atomic_fetch_add(&bytes, size);
     unsigned long number = atomic_fetch_add(&requests, 1) + 1;
     if (number != refused) {
         return 0;
@@ -38,7 +39,7 @@ void *malloc(size_t size) {
     if (!next) {
         next = (void *(*)(size_t))dlsym(RTLD_NEXT, "malloc");
     }
-    return is_refused() ? NULL : next(size);
+    return is_refused(size) ? NULL : next(size);
 }
 
 void *realloc(void *block, size_t size) {
@@ -46,5 +47,5 @@ void *realloc(void *block, size_t size) {
     if (!next) {
         next = (void *(*)(void *, size_t))dlsym(RTLD_NEXT, "realloc");
     }
-    return is_refused() ? NULL : next(block, size);
+    return is_refused(size) ? NULL : next(block, size);
 }

@@ -1,6 +1,7 @@
 -- Searches among the children of a task.
-use Rattle.std.proofs.Common.{◌≡◌, ℕ, ◌+◌, ◌<◌, List, [], ◌∷◌, Bool, true, false, ◌&&◌, Option, Some, None, length, get_or, refl, sym, ◌∙◌, arith}
+use Rattle.std.proofs.Common.{◌≡◌, ◌≢◌, ℕ, ◌+◌, ◌<◌, List, [], ◌∷◌, Bool, true, false, ◌&&◌, eqb, Option, Some, None, is_some, length, get_or, set, slice_get, refl, sym, ap, subst, ◌∙◌, arith}
 use Rattle.std.specs.List.{filter, find, range_with_len}
+use Rattle.std.proofs.lemmas.Bool.{eqb-true, eq-eqb}
 use Rattle.std.proofs.lemmas.List.Elements.{All-filter, All-get_or, All-from_get_or}
 use Rattle.std.proofs.lemmas.List.FromFn.{get_or-range_with_len, length-range_with_len}
 use Rattle.std.proofs.lemmas.Option.{slice_get-get_or, slice_get_past}
@@ -8,9 +9,12 @@ use Rattle.graph_base.specs.declared.line.Parent.{Parent}
 use Rattle.graph_base.specs.Graphs.{task_at}
 use Rattle.stream_lists.specs.Jobs.{Job}
 use Rattle.graph_moments.specs.Moments.{Moment}
-use Rattle.graph_turns.specs.Nexts.{comes_by, first_due, is_due}
+use Rattle.graph_turns.specs.Nexts.{comes_by, first_due, first_missing, is_due}
 use Rattle.graph_turns.proofs.Standing.{find-at}
-use Rattle.graph_worlds.specs.Plans.{children_of, is_child_of}
+use Rattle.graph_worlds.specs.Plans.{IsTaskPlan, children_of, is_child_of}
+use Rattle.graph_worlds.specs.declared.plan.TaskPlan.{TaskPlan}
+use Rattle.graph_worlds.proofs.Searching.{find_none_in_range}
+use Rattle.graph_worlds.proofs.Setting.{slice_get-set_same, slice_get-set_other}
 
 -- what a test finds it finds among those that pass another, where all that it passes do
 find-filter : (test pass : ℕ → Bool) (xs : List ℕ) → ((x : ℕ) → test x ≡ true → pass x ≡ true)
@@ -83,3 +87,34 @@ child_there job t i lt =
         let is : get_or (range_with_len 0 n) i 0 ≡ 0 + i =
         get_or-range_with_len 0 n i 0 (omega arith) in
         omega arith
+
+-- ---- where none comes
+
+-- none is due there
+pub none_due_at : (job : Job) (m : Moment) (t steps : ℕ) → m.begun t ≡ steps
+    → ((c : ℕ) → c < length job.graph.tasks
+    → comes_by t steps (task_at job.graph c).parent ≡ false)
+    → first_due job m t ≡ None
+none_due_at job m t steps begun none =
+    find_none_in_range (is_due job m t) (length job.graph.tasks)
+    (λ c lt. ap (λ b. b && is_some (first_missing job m c))
+    (ap (λ s. comes_by t s (task_at job.graph c).parent) begun ∙ none c lt))
+
+-- a plan of which one task's was set
+pub set_plan : (job : Job) (plans : List TaskPlan) (t : ℕ) (one : TaskPlan)
+    → length plans ≡ length job.graph.tasks → t < length plans → IsTaskPlan job t one
+    → ((u : ℕ) (other : TaskPlan) → slice_get plans u ≡ Some other → IsTaskPlan job u other)
+    → (u : ℕ) (other : TaskPlan) → slice_get (set plans t one) u ≡ Some other
+    → IsTaskPlan job u other
+set_plan job plans t one many lt is each u other found = by (eqb u t) refl
+  where
+    by : (b : Bool) → eqb u t ≡ b → IsTaskPlan job u other
+    by true e =
+        let same : t ≡ u = sym (eqb-true u t e) in
+        let it : one ≡ other =
+        slice_get-set_same plans t one other lt
+        (subst (λ n. slice_get (set plans t one) n ≡ Some other) (sym same) found) in
+        subst (IsTaskPlan job u) it (subst (λ n. IsTaskPlan job n one) same is)
+    by false e =
+        let apart : u ≢ t = λ same. (let no = sym (eq-eqb u t same) ∙ e in cc) in
+        each u other (slice_get-set_other plans t u one other apart found)

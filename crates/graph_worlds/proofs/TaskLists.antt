@@ -1,15 +1,16 @@
 -- Lists of tasks in memory.
-use Rattle.std.proofs.Common.{◌≡◌, ℕ, zero, suc, ◌+◌, ◌<◌, ◌≤◌, Bool, true, false, ◌||◌, eqb, List, [], ◌∷◌, ◌++◌, length, get_or, set, map, replicate, refl, sym, ap, subst, ◌∙◌, arith}
+use Rattle.std.proofs.Common.{◌≡◌, ℕ, zero, suc, ◌+◌, ◌<◌, ◌≤◌, Bool, true, false, ◌||◌, eqb, List, [], ◌∷◌, ◌++◌, length, get_or, set, replicate, refl, sym, ap, subst, ◌∙◌, arith}
 use Rattle.std.specs.List.{All, Any, list_any, IsDistinct}
 use Rattle.std.specs.Cmp.{nat_eq_equiv}
-use Rattle.std.proofs.lemmas.Bool.{eqb-true}
-use Rattle.std.proofs.lemmas.List.{map-set, length-append, length-map, get_or-map, map_push}
+use Rattle.std.proofs.lemmas.Bool.{eqb-true, eq-eqb}
+use Rattle.std.proofs.lemmas.List.{get_or-set_same, get_or-set_other, length-append, length-set}
 use Rattle.std.proofs.lemmas.List.Elements.{All-push}
-use Rattle.std.proofs.lemmas.List.Folds.{Any-from_list_any}
+use Rattle.std.proofs.lemmas.List.Folds.{Any-from_list_any, list_any-append}
 use Rattle.std.proofs.lemmas.Map.Keys.{IsDistinct-push}
 use Rattle.std.proofs.lemmas.Map.Steps.{length-le_from_distinct_below}
+use Rattle.std.proofs.Math.Bool.{or-false, or-true}
 use Rattle.smallvec.specs.SmallVec.{SmallVec}
-use Rattle.graph_worlds.specs.Parking.{IsTaskList}
+use Rattle.graph_worlds.specs.TaskLists.{IsTaskList}
 
 -- a test that asks the other way round
 any_flip : (t : ℕ) (list : List ℕ) → list_any (λ u. eqb u t) list ≡ list_any (eqb t) list
@@ -35,7 +36,7 @@ unfolding IsDistinct
 no_two eq = tt
 
 -- one more task
-pub one_more_task : (list : List ℕ) (t : ℕ) → IsDistinct eqb list → All (λ u. u < 64) list → t < 64
+one_more_task : (list : List ℕ) (t : ℕ) → IsDistinct eqb list → All (λ u. u < 64) list → t < 64
     → list_any (λ u. eqb u t) list ≡ false
     → IsDistinct eqb (list ++ t ∷ []) × All (λ u. u < 64) (list ++ t ∷ [])
 one_more_task list t distinct below lt none = (
@@ -44,23 +45,63 @@ one_more_task list t distinct below lt none = (
 )
 
 -- a list of tasks in which one of them does not stand has room for it
-pub room_for_one : (list : SmallVec ℕ) (t : ℕ) → IsTaskList list → t < 64
-    → list_any (λ u. eqb u t) list.items ≡ false → length list.items + 1 ≤ list.capacity
-room_for_one list t is lt none =
-    let both = one_more_task list.items t is.distinct is.tasks lt none in
+pub room_for_one : (list : SmallVec ℕ) (stands : List Bool) (t : ℕ) → IsTaskList list stands
+    → t < 64 → list_any (λ u. eqb u t) list.items ≡ false → length list.items + 1 ≤ list.capacity
+room_for_one list stands t is lt none =
+    let both = one_more_task list.items t is.distinct is.below lt none in
     let many = few (list.items ++ t ∷ []) both.0 both.1 in
     let long = length-append list.items (t ∷ []) in
     let room = is.room in
     omega arith
 
--- the lists of all phasers where one of them was set
-pub set_list : (lists : List (SmallVec ℕ)) (p : ℕ) (list : SmallVec ℕ) (items : List ℕ)
-    → list.items ≡ items
-    → map (λ (l : SmallVec ℕ). l.items) (set lists p list)
-    ≡ set (map (λ (l : SmallVec ℕ). l.items) lists) p items
-set_list lists p list items is =
-    map-set (λ (l : SmallVec ℕ). l.items) lists p list
-    ∙ ap (set (map (λ (l : SmallVec ℕ). l.items) lists) p) is
+-- an empty list
+pub empty_list : (list : SmallVec ℕ) (stands : List Bool) → list.items ≡ [] → 64 ≤ list.capacity
+    → ((t : ℕ) → get_or stands t false ≡ false) → length stands ≡ 64 → IsTaskList list stands
+empty_list list stands items room none many = record {
+  room = room;
+  distinct = subst (IsDistinct eqb) (sym items) (no_two eqb);
+  below = subst (All (λ t. t < 64)) (sym items) (λ k d lt. absurd (omega arith));
+  many = many;
+  marked = λ t. none t ∙ sym (ap (list_any (λ u. eqb u t)) items);
+}
+
+-- who stands in a list with one more task
+stands_with : (t u : ℕ) (list : List ℕ)
+    → list_any (λ x. eqb x u) (list ++ t ∷ []) ≡ (list_any (λ x. eqb x u) list || eqb t u)
+stands_with t u list =
+    list_any-append (λ x. eqb x u) list (t ∷ [])
+    ∙ ap (λ b. list_any (λ x. eqb x u) list || b) (or-false (eqb t u))
+
+-- a list that took one more task, which is marked
+pub longer_list : (old new : SmallVec ℕ) (stands : List Bool) (t : ℕ) → IsTaskList old stands
+    → t < 64 → list_any (λ u. eqb u t) old.items ≡ false
+    → new.items ≡ old.items ++ t ∷ [] → new.capacity ≡ old.capacity
+    → IsTaskList new (set stands t true)
+longer_list old new stands t is lt none items capacity =
+    let both = one_more_task old.items t is.distinct is.below lt none in
+    let room = is.room in
+    record {
+      room = omega arith;
+      distinct = subst (IsDistinct eqb) (sym items) both.0;
+      below = subst (All (λ u. u < 64)) (sym items) both.1;
+      many = length-set stands t true ∙ is.many;
+      marked = λ u. by u (eqb u t) refl
+          ∙ sym (ap (list_any (λ x. eqb x u)) items ∙ stands_with t u old.items);
+    }
+  where
+    by : (u : ℕ) (b : Bool) → eqb u t ≡ b
+        → get_or (set stands t true) u false ≡ (list_any (λ x. eqb x u) old.items || eqb t u)
+    by u true e =
+        let same : u ≡ t = eqb-true u t e in
+        ap (λ x. get_or (set stands t true) x false) same
+        ∙ get_or-set_same stands t true false (let many = is.many in omega arith)
+        ∙ sym (ap (λ b. list_any (λ x. eqb x u) old.items || b)
+        (eq-eqb t u (sym same)) ∙ or-true (list_any (λ x. eqb x u) old.items))
+    by u false e =
+        get_or-set_other stands t u true false (λ same. (let no = sym (eq-eqb u t same) ∙ e in cc))
+        ∙ is.marked u
+        ∙ sym (ap (λ b. list_any (λ x. eqb x u) old.items || b) (nat_eq_equiv.symm t u ∙ e)
+        ∙ or-false (list_any (λ x. eqb x u) old.items))
 
 -- an empty list more: each is empty still
 pub one_more_empty : (lists : List (List ℕ)) → ((p : ℕ) → get_or lists p [] ≡ [])
@@ -69,61 +110,6 @@ one_more_empty [] each zero = refl
 one_more_empty [] each (suc p) = refl
 one_more_empty (x ∷ lists) each zero = each zero
 one_more_empty (x ∷ lists) each (suc p) = one_more_empty lists (λ q. each (suc q)) p
-
--- the list of a phaser that was lent
-pub lent_list : (lists : List (SmallVec ℕ)) (all : List (List ℕ)) (p : ℕ) (list : SmallVec ℕ)
-    → map (λ (l : SmallVec ℕ). l.items) lists ≡ all → p < length all → All IsTaskList lists
-    → list ≡ get_or lists p list → IsTaskList list × (list.items ≡ get_or all p [])
-lent_list lists all p list view lt is value =
-    let many : length lists ≡ length all =
-    sym (length-map lists (λ (l : SmallVec ℕ). l.items)) ∙ ap length view in (
-      subst IsTaskList (sym value) (is p list (omega arith)),
-      ap (λ (l : SmallVec ℕ). l.items) value
-          ∙ sym (get_or-map (λ (l : SmallVec ℕ). l.items) lists p list [] (omega arith))
-          ∙ ap (λ xs. get_or xs p []) view,
-    )
-
--- a list that was emptied
-pub empty_list : (old new : SmallVec ℕ) → IsTaskList old → new.items ≡ [] → new.capacity ≡ old.capacity
-    → IsTaskList new
-empty_list old new is items capacity =
-    let room = is.room in
-    record {
-      room = omega arith;
-      distinct = subst (IsDistinct eqb) (sym items) (no_two eqb);
-      tasks = subst (All (λ t. t < 64)) (sym items) (λ k d lt. absurd (omega arith));
-    }
-
--- a list that took one more task
-pub longer_list : (old new : SmallVec ℕ) (t : ℕ) → IsTaskList old → t < 64
-    → list_any (λ u. eqb u t) old.items ≡ false → new.items ≡ old.items ++ t ∷ []
-    → new.capacity ≡ old.capacity → IsTaskList new
-longer_list old new t is lt none items capacity =
-    let both = one_more_task old.items t is.distinct is.tasks lt none in
-    let room = is.room in
-    record {
-      room = omega arith;
-      distinct = subst (IsDistinct eqb) (sym items) both.0;
-      tasks = subst (All (λ u. u < 64)) (sym items) both.1;
-    }
-
--- a list that was made
-pub new_list : (list : SmallVec ℕ) → list.items ≡ [] → list.capacity ≡ 64 → IsTaskList list
-new_list list items capacity = record {
-  room = omega arith;
-  distinct = subst (IsDistinct eqb) (sym items) (no_two eqb);
-  tasks = subst (All (λ t. t < 64)) (sym items) (λ k d lt. absurd (omega arith));
-}
-
--- behind empty lists
-pub one_more_list : (old new : List (SmallVec ℕ)) (list : SmallVec ℕ) → new ≡ old ++ list ∷ []
-    → list.items ≡ [] → ((p : ℕ) → get_or (map (λ (l : SmallVec ℕ). l.items) old) p [] ≡ [])
-    → (p : ℕ) → get_or (map (λ (l : SmallVec ℕ). l.items) new) p [] ≡ []
-one_more_list old new list is items each p =
-    ap (λ ls. get_or (map (λ (l : SmallVec ℕ). l.items) ls) p []) is
-    ∙ ap (λ ls. get_or ls p []) (map_push (λ (l : SmallVec ℕ). l.items) old list)
-    ∙ ap (λ x. get_or (map (λ (l : SmallVec ℕ). l.items) old ++ x ∷ []) p []) items
-    ∙ one_more_empty (map (λ (l : SmallVec ℕ). l.items) old) each p
 
 -- of so many marks none is made at first
 pub none_marked : (n t : ℕ) → get_or (replicate n false) t false ≡ false

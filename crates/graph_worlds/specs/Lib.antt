@@ -6,6 +6,7 @@ pub mod Places
 pub mod Plans
 pub mod Runs
 pub mod Stalls
+pub mod TaskLists
 pub mod Tellings
 pub mod Turning
 pub mod Worlds

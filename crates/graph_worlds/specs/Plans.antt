@@ -1,5 +1,5 @@
 -- What the turns of a task ask of the lines of its graph.
-use Rattle.std.specs.Prelude.{◌≡◌, ℕ, Bool, false, ◌==◌, List, Option, Some, None, length, slice_get}
+use Rattle.std.specs.Prelude.{◌≡◌, ℕ, ◌<◌, ◌≤◌, Bool, false, ◌==◌, List, Option, Some, None, length, slice_get}
 use Rattle.std.specs.List.{filter, range_with_len}
 use Rattle.graph_base.specs.declared.line.Parent.{Parent}
 use Rattle.graph_base.specs.Graphs.{source_number, task_at}
@@ -18,10 +18,18 @@ children_of job t =
     filter (λ c. is_child_of t (task_at job.graph c).parent)
     (range_with_len 0 (length job.graph.tasks))
 
+-- from so many steps of task t on, and before `to`, no child of it comes
+abbrev pub NoneComes : Job → ℕ → ℕ → ℕ → Type 0
+NoneComes job t from to =
+    (c : ℕ) → c < length job.graph.tasks → (parent : Parent)
+    → (task_at job.graph c).parent ≡ Some parent → parent.task ≡ t → from ≤ parent.at
+    → to ≤ parent.at
+
 -- of task t
 pub record IsTaskPlan (job : Job) (t : ℕ) (plan : TaskPlan) : Type 0 where
   pub children : plan.children.items ≡ children_of job t
   pub source : plan.source ≡ source_number job.graph.tasks t
+  pub none : NoneComes job t plan.from plan.to
 
 -- of each task of a job
 pub record IsPlan (job : Job) (plan : Plan) : Type 0 where

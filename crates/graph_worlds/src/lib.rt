@@ -14,6 +14,7 @@ mod roots;
 mod runs;
 mod stalls;
 mod step;
+mod task_list;
 mod task_state;
 mod turned;
 mod turns;

@@ -75,13 +75,17 @@ impl Machine {
         }
     }
 
-    /// The first child of a task that is due. It looks at the task's children alone.
+    /// The first child of a task that is due. It looks at the task's children alone, and only where
+    /// one of them may come after so many steps.
     fn first_due(&self, job: &Job, plan: &Plan, t: usize) -> Option<usize>
         requires machine { IsMachine job.now self.now }
         requires plan { IsPlan job.now plan.now }
         requires task { t < length job.now.graph.tasks }
         ensures { (m : Moment) → IsMachineAt job.now m self.now → first_due job.now m t ≡ result }
     {
+        if plan.is_quiet(job, t, self.state(job, t).begun) {
+            return None;
+        }
         for c in plan.children(job, t) {
             if self.is_due(job, t, *c) {
                 return Some(*c);

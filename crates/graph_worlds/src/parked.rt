@@ -1,30 +1,26 @@
 //! The tasks that were blocked on each phaser.
 ghost use Rattle.std.specs.Prelude.{◌≡◌, ◌<◌, ◌==◌, ◌⊎◌, [], length, get_or, set, ℕ, IfOk, true, false};
 ghost use Rattle.std.specs.List.{All, list_any};
-ghost use Rattle.graph_worlds.specs.Parking.{IsTaskList, StandsIn, with_task};
+ghost use Rattle.graph_worlds.specs.Parking.{StandsIn, with_task};
 ghost use Rattle.graph_worlds.specs.Tellings.{IsOnPhaser, parked_with};
 
 use crate::made::Made;
-use smallvec::SmallVec;
+use crate::task_list::{TaskList, no_marks};
 use std::alloc::{AllocError, Global};
 use std::marker::Model;
 
 /// For each phaser a list of the tasks that were blocked there since its last event.
 #[derive(Drop)]
 pub struct Parked {
-    lists: Vec<SmallVec<usize, 64>>,
+    lists: Vec<TaskList>,
 }
 
 impl Model for Parked {
     ghost use Rattle.std.specs.Prelude.{List, ℕ};
-    ghost use Rattle.std.specs.List.{All};
-    ghost use Rattle.graph_worlds.specs.Parking.{IsTaskList, parked_view};
 
     ghost Value = { List (List ℕ) };
 
-    ghost view = { parked_view };
-
-    ghost invariant = { λ p. All IsTaskList p.lists.items };
+    ghost view = { λ p. p.lists.items };
 }
 
 impl Parked {
@@ -35,7 +31,7 @@ impl Parked {
     {
         let mut lists = Vec::with_capacity(alloc, phasers)?;
         for _ in 0..phasers {
-            lists.push(SmallVec::new(alloc))?;
+            lists.push(TaskList::new(alloc))?;
         }
         Ok(Parked { lists })
     }
@@ -52,7 +48,7 @@ impl Parked {
     pub fn marks(&self) -> [bool; 64]
         ensures { (t : ℕ) → get_or result t false ≡ true → StandsIn self.now t }
     {
-        let mut marks = [false; 64];
+        let mut marks = no_marks();
         for list in &self.lists {
             mark(&mut marks, list.as_slice());
         }
@@ -78,7 +74,7 @@ impl Parked {
         requires task { task < 64 }
         ensures { self.new ≡ set self.old phaser (with_task task (get_or self.old phaser [])) }
     {
-        park_in(&mut self.lists[phaser], task);
+        self.lists[phaser].add(task);
     }
 
     /// Empties the list of a phaser.
@@ -98,17 +94,5 @@ fn mark(marks: &mut [bool; 64], tasks: &[usize])
 {
     for task in tasks {
         marks[*task] = true;
-    }
-}
-
-/// Puts a task behind a list, where it does not stand there.
-fn park_in(list: &mut SmallVec<usize, 64>, task: usize)
-    requires list { IsTaskList list.old }
-    requires task { task < 64 }
-    ensures items { list.new.items ≡ with_task task list.old.items }
-    ensures list { IsTaskList list.new }
-{
-    if !list.as_slice().contains(&task) {
-        list.push_reserved(task);
     }
 }

@@ -147,6 +147,7 @@ impl<'a> World<'a> {
         }
         let made = self.machine.make(self.job, &self.plan, task)?;
         self.parked.note(made, task);
+        self.plan.pass(self.job, &self.machine.tasks, task);
         let told = made.told(task);
         self.met = told.too_big();
         Ok(told)

@@ -2,7 +2,7 @@
 use Rattle.std.proofs.Common.{◌≡◌, ◌<◌, length, get_or, Some, ap, sym, subst, ◌∙◌, arith, true, false}
 use Rattle.graph_turns.specs.Nexts.{is_due}
 use Rattle.graph_worlds.specs.Plans.{children_of}
-use Rattle.graph_worlds.proofs.ChildLists.{first_of_children, no_child_due, child_there}
+use Rattle.graph_worlds.proofs.ChildLists.{first_of_children, no_child_due, child_there, none_due_at}
 use Rattle.graph_worlds.proofs.Searching.{one_more}
 use Rattle.graph_worlds.proofs.machine.Machine.first_due.Goals as goal
 
@@ -44,3 +44,8 @@ returns c = λ m stands.
     let past = c.loop-c-test.false in
     no_child_due c.args.job.now m c.args.t
     (λ d lt. c.loop-c.invariant m stands d (omega arith))
+
+pub returns-then-is_quiet : goal.returns-then-is_quiet
+returns-then-is_quiet c = λ m stands.
+    none_due_at c.args.job.now m c.args.t c.state.result.now.begun
+    (c.state.ensures m stands).stands.begun (c.is_quiet.ensures c.if-is_quiet.true)

@@ -14,6 +14,8 @@ loop-t-preserved c =
     let one : TaskPlan = record {
       children = c.in_ok-children_of.field-0;
       source = c.sources_above.result;
+      from = 0;
+      to = c.next_child.result;
     } in
     let items : c.push.new.self.items ≡ tasks ++ one ∷ [] = c.in_ok-push.ensures.items in
     let many = c.loop-t.invariant.0 in
@@ -21,7 +23,11 @@ loop-t-preserved c =
     let long : length c.push.new.self.items ≡ length (tasks ++ one ∷ []) = ap length items in
     let here : IsTaskPlan job (length tasks) one =
     subst (λ u. IsTaskPlan job u one) (sym many)
-    (record { children = c.in_ok-children_of.ensures; source = c.sources_above.ensures }) in
+    (record {
+      children = c.in_ok-children_of.ensures;
+      source = c.sources_above.ensures;
+      none = c.next_child.ensures;
+    }) in
     let all = each-push (IsTaskPlan job) tasks one c.loop-t.invariant.1 here in (
       omega arith,
       λ u it e. all u it (ap (λ l. slice_get l u) (sym items) ∙ e),

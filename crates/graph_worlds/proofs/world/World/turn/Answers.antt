@@ -31,7 +31,7 @@ invariant_of-self-2 c =
       ap length c.note.ensures
           ∙ parked_many c.in_ok-made.made c.args.task c.self.inside.parked
           ∙ c.self.invariant.1,
-      c.self.invariant.2,
+      c.pass.ensures,
     )
 
 pub returns-clause-table : goal.returns-clause-table

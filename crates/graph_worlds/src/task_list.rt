@@ -1,0 +1,74 @@
+//! Lists of tasks.
+ghost use Rattle.std.specs.Prelude.{◌≡◌, ◌<◌, ℕ, [], get_or, length, false};
+ghost use Rattle.std.specs.List.{All};
+ghost use Rattle.graph_worlds.specs.Parking.{with_task};
+
+use smallvec::SmallVec;
+use std::alloc::Global;
+use std::marker::Model;
+
+/// Tasks of a graph in the order in which they came, each once.
+#[derive(Drop)]
+pub struct TaskList {
+    tasks: SmallVec<usize, 64>,
+    // of each task, whether it stands in the list
+    stands: [bool; 64],
+}
+
+impl Model for TaskList {
+    ghost use Rattle.std.specs.Prelude.{List, ℕ};
+    ghost use Rattle.graph_worlds.specs.TaskLists.{IsTaskList};
+
+    ghost Value = { List ℕ };
+
+    ghost view = { λ l. l.tasks.items };
+
+    ghost invariant = { λ l. IsTaskList l.tasks l.stands };
+}
+
+impl TaskList {
+    /// Makes an empty list, with room for all tasks of a graph. It takes no memory.
+    pub fn new(alloc: Global) -> TaskList
+        ensures { result ≡ [] }
+    {
+        TaskList {
+            tasks: SmallVec::new(alloc),
+            stands: no_marks(),
+        }
+    }
+
+    /// The tasks, in their order.
+    pub fn as_slice(&self) -> &[usize]
+        ensures tasks { result.now ≡ self.now }
+        ensures below { All (λ t. t < 64) result.now }
+    {
+        self.tasks.as_slice()
+    }
+
+    /// Puts a task behind the others, where it does not stand there.
+    pub fn add(&mut self, task: usize)
+        requires { task < 64 }
+        ensures { self.new ≡ with_task task self.old }
+    {
+        if !self.stands[task] {
+            self.stands[task] = true;
+            self.tasks.push_reserved(task);
+        }
+    }
+
+    /// Takes all tasks out.
+    pub fn clear(&mut self)
+        ensures { self.new ≡ [] }
+    {
+        self.tasks.clear();
+        self.stands = no_marks();
+    }
+}
+
+/// For each task of a graph a mark, none of them made.
+pub fn no_marks() -> [bool; 64]
+    ensures none { (t : ℕ) → get_or result t false ≡ false }
+    ensures many { length result ≡ 64 }
+{
+    [false; 64]
+}
