@@ -237,10 +237,12 @@ fn help_of_graphs_has_an_example(rt: HostRuntime) -> Result<(), Fail> {
     assert_eq!(rt; check.status, 0);
     assert!(rt; has(&check.output, "Usage: phase check <GRAPH>"));
     assert!(rt; has(&check.output, "  ok phasers 1 tasks 2\n"));
+    assert!(rt; has(&check.output, "opened from the current folder"));
     let eval = run(rt.alloc(), ["help", "eval"].as_slice(), b"")?;
     assert_eq!(rt; eval.status, 0);
     assert!(rt; has(&eval.output, "Usage: phase eval [OPTIONS] <GRAPH>"));
     assert!(rt; has(&eval.output, "  out 3\n  1\n  3\n  5\n"));
+    assert!(rt; has(&eval.output, "opened from the current folder"));
     Ok(())
 }
 

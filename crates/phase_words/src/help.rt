@@ -64,6 +64,8 @@ Example: where the file `sums` holds the three lines
 and the file `numbers` the lines 1, 2 and 3, `phase check sums` writes
   ok phasers 1 tasks 2
 
+Files are opened from the current folder, by their names as they are written.
+
 Exit status: 0 done; 1 the graph or its samples are refused; 2 the words were
 not understood; 5 a read or a write failed, or memory ran out.";
 
@@ -82,6 +84,8 @@ and the file `numbers` the lines 1, 2 and 3, `phase eval sums` writes
   5
 and `phase eval sums --sink out` the last three of these lines, which may be the
 samples of another source.
+
+Files are opened from the current folder, by their names as they are written.
 
 Exit status: 0 done; 1 the graph or its samples are refused, or no sink has the
 name; 2 the words were not understood; 3 a value is out of range; 5 a read or a
@@ -120,6 +124,8 @@ and the file `numbers` the lines 1, 2 and 3, `phase run sums` writes
   1
   3
   5
+
+Files are opened from the current folder, by their names as they are written.
 
 Exit status: 0 done; 1 the graph or its samples are refused, or no sink has the
 name; 2 the words were not understood; 3 a value is out of range; 4 every task
