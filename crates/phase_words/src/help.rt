@@ -28,6 +28,9 @@ pub(crate) const GRAPH: &str = "The file of the graph, of at most 1048576 bytes"
 /// What the word behind `--sink` is.
 pub(crate) const SINK: &str = "Write the values of this sink alone, each on a line";
 
+/// What the word `--explain` is.
+pub(crate) const EXPLAIN: &str = "Say more of a fault, behind its line";
+
 /// What `phase run` does.
 pub(crate) const RUN: &str = "\
 Writes the values of each sink of a graph, by a run of its tasks on worker
