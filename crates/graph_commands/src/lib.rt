@@ -29,7 +29,8 @@ pub use fault::JobFault;
 pub use graph_faults::{report_job_fault, report_no_sink, report_too_big};
 pub use graph_file::{GRAPH_MAX, read_graph_file};
 pub use graph_runs::{
-    check_and_explain, check_and_report, eval_and_explain, eval_and_report, report_written, write_sinks,
+    check_and_explain, check_and_report, eval_and_explain, eval_and_report, report_written,
+    write_sinks,
 };
 pub use job_file::read_job;
 pub use lines::{write_lines, write_values};

@@ -32,6 +32,7 @@ leaves-asked words what input rest closed files asks leaves = record {
     unread-by (draw name) asks leaves other = leaves
     unread-by (check_explained name) asks leaves other = leaves
     unread-by (eval_explained name sink) asks leaves other = leaves
+
     unopened-by : (what : Asked) → Asks words what → LeavesBy (graph_asked what) input rest closed files
         → ((name : List ℕ) → AskGraph words name → ⊥) → files ≡ closed
     unopened-by replay asks leaves other = leaves

@@ -9,7 +9,8 @@ ghost use Rattle.watched_io.specs.States.{reader_state, writer_state};
 
 use crate::replayed::replay_and_report;
 use graph_commands::{
-    Refuses, check_and_explain, check_and_report, draw_and_report, eval_and_explain, eval_and_report,
+    Refuses, check_and_explain, check_and_report, draw_and_report, eval_and_explain,
+    eval_and_report,
 };
 use phase_status::{refuse, report, show_help};
 use phase_words::{Call, Explain, NoCall, read_words};

@@ -40,14 +40,7 @@ fn explained(
         samples: samples.as_slice(),
     };
     let mut files = Telling { held, refused };
-    let status = status_of(
-        alloc,
-        words,
-        Broken,
-        &mut output,
-        &mut faults,
-        &mut files,
-    )?;
+    let status = status_of(alloc, words, Broken, &mut output, &mut faults, &mut files)?;
     Ok(Outcome {
         status,
         output,
@@ -131,7 +124,10 @@ fn the_word_that_ends_the_grammar_is_marked(rt: HostRuntime) -> Result<(), Fail>
         ),
     ];
     for (graph, kind, line, under, wanted) in rows {
-        assert!(rt; marks(rt.alloc(), graph, (kind, line, under, wanted))?, "at {graph}");
+        assert!(rt;
+            marks(rt.alloc(), graph, (kind, line, under, wanted))?,
+            "at {graph}"
+        );
     }
     Ok(())
 }
@@ -176,7 +172,10 @@ fn a_number_past_its_limit_is_marked(rt: HostRuntime) -> Result<(), Fail> {
         ),
     ];
     for (graph, kind, line, under, wanted) in rows {
-        assert!(rt; marks(rt.alloc(), graph, (kind, line, under, wanted))?, "at {graph}");
+        assert!(rt;
+            marks(rt.alloc(), graph, (kind, line, under, wanted))?,
+            "at {graph}"
+        );
     }
     Ok(())
 }
@@ -214,7 +213,10 @@ fn a_name_that_is_there_or_missing_is_marked(rt: HostRuntime) -> Result<(), Fail
         ),
     ];
     for (graph, kind, line, under, wanted) in rows {
-        assert!(rt; marks(rt.alloc(), graph, (kind, line, under, wanted))?, "at {graph}");
+        assert!(rt;
+            marks(rt.alloc(), graph, (kind, line, under, wanted))?,
+            "at {graph}"
+        );
     }
     Ok(())
 }
@@ -268,7 +270,10 @@ fn a_phaser_or_a_parent_that_does_not_do_is_marked(rt: HostRuntime) -> Result<()
         ),
     ];
     for (graph, kind, line, under, wanted) in rows {
-        assert!(rt; marks(rt.alloc(), graph, (kind, line, under, wanted))?, "at {graph}");
+        assert!(rt;
+            marks(rt.alloc(), graph, (kind, line, under, wanted))?,
+            "at {graph}"
+        );
     }
     Ok(())
 }
@@ -289,14 +294,20 @@ fn a_record_that_is_no_sample_is_explained(rt: HostRuntime) -> Result<(), Fail> 
 #[test]
 fn a_file_that_was_refused_is_named(rt: HostRuntime) -> Result<(), Fail> {
     let rows = [
-        (Refusal::Missing, "phase: read fault\n  h: there is no such file\n"),
+        (
+            Refusal::Missing,
+            "phase: read fault\n  h: there is no such file\n",
+        ),
         (Refusal::Folder, "phase: read fault\n  h: it is a folder\n"),
         (
             Refusal::NotAllowed,
             "phase: read fault\n  h: there is no permission to read it\n",
         ),
         (Refusal::TooLong, "phase: read fault\n  h: it is too long\n"),
-        (Refusal::Other, "phase: read fault\n  h: it cannot be read\n"),
+        (
+            Refusal::Other,
+            "phase: read fault\n  h: it cannot be read\n",
+        ),
     ];
     let words = ["check", "h", "--explain"];
     for (why, wanted) in rows {
@@ -321,7 +332,10 @@ fn what_is_no_fault_of_the_files_has_its_line_alone(rt: HostRuntime) -> Result<(
     assert!(rt; done.faults.is_empty());
     let checked = explained(alloc, CHECK.as_slice(), ONE, "1\n2\n", None)?;
     assert_eq!(rt; checked.status, 0);
-    assert_eq!(rt; checked.output.as_slice(), b"ok phasers 1 tasks 2\n".as_slice());
+    assert_eq!(rt;
+        checked.output.as_slice(),
+        b"ok phasers 1 tasks 2\n".as_slice()
+    );
     let words = ["eval", "g", "--explain", "--sink", "s"];
     let lost = explained(alloc, words.as_slice(), ONE, "1\n2\n", None)?;
     assert_eq!(rt; lost.status, 1);

@@ -102,7 +102,10 @@ fn a_run_that_explains(rt: HostRuntime) -> Result<(), Fail> {
     assert_eq!(rt; done.output.as_slice(), b"2\n5\n8\n".as_slice());
     let lost = ask(&rt, rt.alloc(), ["h", "--explain"].as_slice())?;
     assert_eq!(rt; lost.status, 5);
-    assert_eq!(rt; lost.faults.as_slice(), b"phase: read fault\n  h: there is no such file\n".as_slice());
+    assert_eq!(rt;
+        lost.faults.as_slice(),
+        b"phase: read fault\n  h: there is no such file\n".as_slice()
+    );
     Ok(())
 }
 

@@ -15,7 +15,10 @@ pub enum Call<'a> {
     /// A replay of the script on standard input.
     Replay,
     /// A check of the graph in the file of this name.
-    Check { graph: &'a str, explain: Explain },
+    Check {
+        graph: &'a str,
+        explain: Explain,
+    },
     /// An evaluation of the graph in the file of this name, for all its sinks, or for the one of a
     /// name.
     Eval {

@@ -127,12 +127,7 @@ pub(crate) fn explain_of(value: Option<&str>) -> Explain
 }
 
 /// What a command with the name of a file, and that of a sink or none, asks for.
-fn call_named<'a>(
-    name: &str,
-    graph: &'a str,
-    sink: Option<&'a str>,
-    explain: Explain,
-) -> Call<'a>
+fn call_named<'a>(name: &str, graph: &'a str, sink: Option<&'a str>, explain: Explain) -> Call<'a>
     ensures { asked_of result
         ≡ asked_as name.now (Some graph.now) (option_map (λ s. s.now) sink.entry) explain }
 {
