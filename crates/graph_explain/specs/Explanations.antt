@@ -1,6 +1,7 @@
 -- What a person is told of the first fault of a graph's text: the faulty line, a mark under a place of
 -- it, and what was expected there.
-use Rattle.std.specs.Prelude.{◌≡◌, ◌⊎◌, ◌≤◌, ◌+◌, ◌==◌, ◌++◌, ℕ, List, [], length, map, take, replicate, codes, Some, if◌then◌else◌, slice_get}
+use Rattle.std.specs.Prelude.{◌≡◌, ◌⊎◌, ◌≤◌, ◌+◌, ◌==◌, ℕ, List, [], ◌∷◌, length, map, take, replicate, codes, Some, if◌then◌else◌, slice_get}
+use Rattle.std.specs.List.{concat}
 use Rattle.graph_lang.specs.declared.fault.GraphFault.{GraphFault}
 use Rattle.graph_text.specs.Texts.{is_printable, lines_of}
 
@@ -14,9 +15,10 @@ blank_under b = if b == 9 then 9 else 32
 
 -- the line, under it as many marks from a place on, and what was expected there
 abbrev pub marked_text : List ℕ → ℕ → ℕ → List ℕ → List ℕ
-marked_text line start count wanted =
-    codes "  " ++ map shown line ++ codes "\n  " ++ map blank_under (take start line)
-    ++ replicate count 94 ++ codes "\n  expected: " ++ wanted ++ codes "\n"
+marked_text line start count wanted = concat (
+    codes "  " ∷ map shown line ∷ codes "\n  "
+    ∷ map blank_under (take start line) ∷ replicate count 94
+    ∷ codes "\n  expected: " ∷ wanted ∷ codes "\n" ∷ [])
 
 -- the text explains a fault of this line: some place of the line is marked
 pub record Marks (line more : List ℕ) : Type 0 where

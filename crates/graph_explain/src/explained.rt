@@ -1,5 +1,6 @@
 //! The explanation of a graph's fault.
 ghost use Rattle.std.specs.Prelude.{◌≡◌, ◌⊎◌, ◌≤◌, [], length, map, take, replicate, IfOk};
+ghost use Rattle.std.specs.List.{flat_map};
 ghost use Rattle.graph_explain.specs.Explanations.{ExplainsLine, Marks, blank_under, marked_text, shown};
 
 use crate::above::Above;
@@ -33,6 +34,17 @@ fn blanks_under(alloc: Global, line: &[u8]) -> Result<Vec<u8>, AllocError>
         .collect(alloc)
 }
 
+/// The parts, one behind the other.
+fn joined(alloc: Global, parts: &[&[u8]]) -> Result<Vec<u8>, AllocError>
+    ensures { IfOk result (λ text. text.items ≡ flat_map (λ part. part.now) parts.now) }
+{
+    let mut text = Vec::new(alloc);
+    for part in parts {
+        text.extend_from_slice(*part)?;
+    }
+    Ok(text)
+}
+
 /// A line, under it as many marks from a place on, and what was expected there.
 fn marked(
     alloc: Global,
@@ -44,17 +56,20 @@ fn marked(
     requires { start ≤ length line.now }
     ensures { IfOk result (λ text. text.items ≡ marked_text line.now start count wanted.now) }
 {
-    let mut text = Vec::new(alloc);
-    text.extend_from_slice(b"  ")?;
-    text.extend_from_slice(&shown_line(alloc, line)?)?;
-    text.extend_from_slice(b"\n  ")?;
-    text.extend_from_slice(&blanks_under(alloc, &line[..start])?)?;
+    let shown = shown_line(alloc, line)?;
+    let blanks = blanks_under(alloc, &line[..start])?;
     let marks = vec![in alloc; b'^'; count]?;
-    text.extend_from_slice(&marks)?;
-    text.extend_from_slice(b"\n  expected: ")?;
-    text.extend_from_slice(wanted.as_bytes())?;
-    text.extend_from_slice(b"\n")?;
-    Ok(text)
+    let parts: [&[u8]; 8] = [
+        b"  ",
+        &shown,
+        b"\n  ",
+        &blanks,
+        &marks,
+        b"\n  expected: ",
+        wanted.as_bytes(),
+        b"\n",
+    ];
+    joined(alloc, parts.as_slice())
 }
 
 /// Where word number `k` of a line begins, or the line's end where it has no such word.
