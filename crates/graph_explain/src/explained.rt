@@ -139,10 +139,9 @@ pub fn explanation(alloc: Global, text: &[u8], fault: GraphFault) -> Result<Vec<
     ensures { IfOk result (λ more. (more.items ≡ []) ⊎ ExplainsLine text.now fault more.items) }
 {
     let lines = lines_of(alloc, text)?;
-    for index in 0..lines.len() {
-        if index as u64 + 1 == fault.line {
-            return line_explained(alloc, &lines[..index], without_cr(lines[index]), fault.kind);
-        }
+    if fault.line == 0 || fault.line > lines.len() as u64 {
+        return Ok(Vec::new(alloc));
     }
-    Ok(Vec::new(alloc))
+    let index = (fault.line - 1) as usize;
+    line_explained(alloc, &lines[..index], without_cr(lines[index]), fault.kind)
 }

@@ -118,7 +118,12 @@ impl<'w, 'a> Reading<'w, 'a> {
         if !Part::Sign("by").fits(self.next()) {
             return self.read_until("`by`, `until`, or the end of the line");
         }
-        if !self.follow(&[Part::Sign("by"), Part::Parent, Part::Sign("at"), Part::Steps])? {
+        if !self.follow(&[
+            Part::Sign("by"),
+            Part::Parent,
+            Part::Sign("at"),
+            Part::Steps,
+        ])? {
             return Ok(());
         }
         self.read_until("`until`, or the end of the line")

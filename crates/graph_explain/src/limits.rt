@@ -34,7 +34,11 @@ pub(crate) fn limit_passed(part: Part, word: &[u8]) -> Option<&'static str> {
         Part::Bound => (1, BOUND_MAX, "a bound from 1 to 65536"),
         Part::Shift => (0, u64::from(SHIFT_MAX), "a shift of at most 62"),
         Part::Taps => (0, TAP_MAX, "a tap of a magnitude of at most 2147483647"),
-        Part::Factor => (0, FACTOR_MAX, "a factor of a magnitude of at most 2147483647"),
+        Part::Factor => (
+            0,
+            FACTOR_MAX,
+            "a factor of a magnitude of at most 2147483647",
+        ),
         Part::Steps => (0, COUNT_MAX, "at most 4611686018427387904 steps"),
         Part::Low | Part::High => (0, CLAMP_MAX, "a magnitude of at most 9223372036854775807"),
         _ => return None,

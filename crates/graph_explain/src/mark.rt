@@ -28,7 +28,10 @@ pub(crate) fn mark_of(kind: FaultKind, reading: &Reading<'_, '_>, above: &Above<
         FaultKind::Twice => twice_mark(found, above),
         FaultKind::Unknown => unknown_mark(found, above),
         FaultKind::OutBeforeIn => order_mark(found, above),
-        FaultKind::BadParent => parent_mark(found, "a source, a filter or a sink, which have children"),
+        FaultKind::BadParent => parent_mark(
+            found,
+            "a source, a filter or a sink, which have children",
+        ),
         FaultKind::NotHeld => held_mark(found, above),
         FaultKind::AnyMeets => meeting_mark(found),
     }
