@@ -1,7 +1,7 @@
 -- Why there is no job of a graph's text, and its status.
-use Rattle.std.proofs.Common.{◌≡◌, ◌⊎◌, inl, inr, ℕ, List, Ok, Err}
+use Rattle.std.proofs.Common.{◌≡◌, ◌⊎◌, inl, inr, ℕ, List, Ok, Err, sym, subst}
 use Rattle.graph_base.specs.Graphs.{Graph, no_graph}
-use Rattle.graph_commands.specs.Explained.{IsTextOf}
+use Rattle.graph_commands.specs.Explained.{IsFurther, IsTextOf, Tells}
 use Rattle.graph_commands.specs.FileJobs.{IsFaultOf, IsGraphOf, Known}
 use Rattle.graph_commands.specs.GraphRuns.{job_status}
 use Rattle.graph_commands.specs.declared.fault.JobFault.{JobFault}
@@ -27,3 +27,9 @@ pub fault-of-text : (known : Known) (name text : List ℕ) (found : GraphFault) 
     → Reads 1 no_graph (lines_of text) (Err found) → IsFaultOf known name found
 fault-of-text known name text found of reads =
     record { text = text; bytes = of.bytes; short = of.short; reads = reads }
+
+-- what explains a fault is said further of it
+pub further-of : (text more : List ℕ) (found known : JobFault) → found ≡ known → Tells text known more
+    → IsFurther text found more
+further-of text more found known is tells =
+    inr (subst (λ (found : JobFault). Tells text found more) (sym is) tells)

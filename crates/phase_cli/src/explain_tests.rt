@@ -50,21 +50,34 @@ fn explained(
 
 const CHECK: [&str; 3] = ["check", "g", "--explain"];
 
-/// Whether the fault of a graph is told by a line of this end, and explained by this line, these marks
-/// and what is expected.
+/// The line of a graph's fault.
+fn fault_line(alloc: Global, kind: &str) -> Result<String, Fail> {
+    let mut line = String::from_str(alloc, "phase: graph line ")?;
+    line.push_str(kind)?;
+    line.push_str("\n")?;
+    Ok(line)
+}
+
+/// Whether these words on a graph end with status 1, and write this to the fault stream alone.
+fn tells(alloc: Global, words: &[&str], graph: &str, wanted: &str) -> Result<bool, Fail> {
+    let told = explained(alloc, words, graph, "1\n", None)?;
+    let is_so = told.faults.as_slice() == wanted.as_bytes();
+    Ok(is_so && told.status == 1 && told.output.is_empty())
+}
+
+/// Whether the fault of a graph is told by a line of this end, alone where nobody asks for more, and is
+/// explained by this line, these marks and what is expected.
 fn marks(alloc: Global, graph: &str, rows: (&str, &str, &str, &str)) -> Result<bool, Fail> {
-    let mut wanted = String::from_str(alloc, "phase: graph line ")?;
-    wanted.push_str(rows.0)?;
-    wanted.push_str("\n  ")?;
+    let mut wanted = fault_line(alloc, rows.0)?;
+    let is_alone = tells(alloc, ["check", "g"].as_slice(), graph, wanted.as_str())?;
+    wanted.push_str("  ")?;
     wanted.push_str(rows.1)?;
     wanted.push_str("\n  ")?;
     wanted.push_str(rows.2)?;
     wanted.push_str("\n  expected: ")?;
     wanted.push_str(rows.3)?;
     wanted.push_str("\n")?;
-    let told = explained(alloc, CHECK.as_slice(), graph, "1\n", None)?;
-    let is_so = told.faults.as_slice() == wanted.as_str().as_bytes();
-    Ok(is_so && told.status == 1 && told.output.is_empty())
+    Ok(is_alone && tells(alloc, CHECK.as_slice(), graph, wanted.as_str())?)
 }
 
 const NAME: &str = "a name: a letter, then letters, digits and _, at most 32 in all";

@@ -1,5 +1,8 @@
-use Rattle.std.proofs.Common.{inl}
+use Rattle.std.proofs.Common.{inl, subst, Err}
 use Rattle.std.proofs.lemmas.Result.{IfErr-weaker, IfOk-weaker}
+use Rattle.graph_lang.specs.Reads.{Tells}
+use Rattle.graph_lang.specs.declared.fault.GraphRefusal.{GraphRefusal}
+use Rattle.graph_text.specs.Texts.{lines_of}
 use Rattle.graph_commands.specs.declared.graph_file.TheConstants.{GRAPH_MAX}
 use Rattle.graph_commands.proofs.Explaining.{fault-of-text, graph-of-text}
 use Rattle.graph_commands.proofs.Needed.{needed-text}
@@ -21,7 +24,9 @@ returns-in-Ok-clause-fault g c =
 -- the text has a fault
 pub returns-in-Err-Fault-clause-fault : goal.returns-in-Err-Fault-clause-fault
 returns-in-Err-Fault-clause-fault g c =
-    λ name of. inl (fault-of-text _ name c.args.text.now c.in-Err-Fault.fault of c.in-Err-Fault.ensures)
+    let reads = subst (λ (refusal : GraphRefusal). Tells (lines_of c.args.text.now) (Err refusal))
+    c.in-Err-Fault.field-0-is c.in-Err-Fault.ensures in
+    λ name of. inl (rw c.in-Err-Fault.fault-is (fault-of-text _ name c.args.text.now c.in-Err-Fault.fault of reads))
 
 -- memory ran out over the graph
 pub returns-in-Err-OutOfMemory-clause-fault : goal.returns-in-Err-OutOfMemory-clause-fault

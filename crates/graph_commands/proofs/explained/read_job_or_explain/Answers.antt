@@ -18,24 +18,23 @@ returns-in-Ok-job_of_text-clause-ok g c =
     (c.in-Ok-job_of_text.ensures.ok name of)
 
 -- its text gives none
-pub returns-in-Err-job_of_text-clause-err : goal.returns-in-Err-job_of_text-clause-err
-returns-in-Err-job_of_text-clause-err g c =
+pub returns-in-Ok-clause-err : goal.returns-in-Ok-clause-err
+returns-in-Ok-clause-err g c =
     let name = c.args.name.now in
     let same = known-same (g.F.Files.file c.read.new.self) (g.F.Files.file c.args.files.now)
     c.in-Ok.ensures.kept in
-    let here : IsTextOf (g.F.Files.file c.args.files.now) name c.deref.result.now = rw c.deref.ensures.value
+    let of : IsTextOf (g.F.Files.file c.read.new.self) name c.deref.result.now = rw c.deref.ensures.value
+    (subst (λ (known : Known). IsTextOf known name c.in-Ok.text.items) (sym same)
+    (record { bytes = c.in-Ok.ensures.bytes; short = c.in-Ok.ensures.short })) in
+    let here : IsTextOf (g.F.Files.file c.args.files.now) name c.deref-in-Err.result.now =
+    rw c.deref-in-Err.ensures.value
     (record { bytes = c.in-Ok.ensures.bytes; short = c.in-Ok.ensures.short }) in
-    let of = subst (λ (known : Known). IsTextOf known name c.deref.result.now) (sym same) here in
     record {
-      found = c.in-Err-job_of_text.fault;
-      explains = subst (λ (known : Known). Explains known name c.in-Err-job_of_text.fault) same
-          (c.in-Err-job_of_text.ensures.fault name of);
+      found = c.in-Err.fault;
+      explains = subst (λ (known : Known). Explains known name c.in-Err.fault) same
+          (c.in-Err.ensures.fault name of);
       status_is = c.report_explained.ensures.status;
-      text = c.deref.result.now;
+      text = c.deref-in-Err.result.now;
       text_of = λ _. here;
       explained = c.report_explained.ensures.told;
     }
-
-pub returns-in-Err-job_of_text-clause-status : goal.returns-in-Err-job_of_text-clause-status
-returns-in-Err-job_of_text-clause-status g c =
-    one-or-five c.in-Err-job_of_text.fault c.report_explained.result c.report_explained.ensures.status
