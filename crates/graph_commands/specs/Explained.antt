@@ -10,7 +10,7 @@ use Rattle.graph_explain.specs.Explanations.{ExplainsLine}
 use Rattle.phase_status.specs.Statuses.{Says}
 use Rattle.std.specs.declared.option.Option.{Option}
 use Rattle.watched_io.specs.Files.{HasBytes}
-use Rattle.watched_io.specs.States.{WriterState, writer_state}
+use Rattle.watched_io.specs.States.{WriterState}
 use Rattle.watched_io.specs.declared.watched.Watched.{Watched}
 
 -- the text is that of the file of this name
