@@ -1,3 +1,4 @@
+pub mod Explained
 pub mod FileJobs
 pub mod GraphDrawings
 pub mod GraphRuns

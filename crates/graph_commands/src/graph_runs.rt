@@ -1,6 +1,7 @@
 //! A check and an evaluation of a graph, and the reports of their faults.
 ghost use Rattle.std.specs.Prelude.{◌≡◌, ◌⊎◌, ℕ, List, Option, true, OnOk, OnErr, map, option_map};
 ghost use Rattle.std.specs.Io.KnownBytes.{Appends};
+ghost use Rattle.graph_commands.specs.Explained.{CheckEndsExplained, EvalEndsExplained};
 ghost use Rattle.graph_commands.specs.FileJobs.{IsJobOf, Known};
 ghost use Rattle.graph_commands.specs.GraphRuns.{AsksSink, CheckEnds, EvalEnds, check_line};
 ghost use Rattle.graph_commands.specs.GraphRuns.{sinks_text};
@@ -12,9 +13,10 @@ ghost use Rattle.watched_io.specs.Prefix.{AppendsPrefix};
 ghost use Rattle.watched_io.specs.States.{writer_state};
 ghost use Rattle.watched_io.specs.Watched.{has_failed_of, inner_of};
 
+use crate::explained::read_job_or_explain;
 use crate::graph_faults::{report_job_fault, report_no_sink, report_too_big};
 use crate::sinks::{find_sink, values_of};
-use crate::{read_job, write_lines, write_values};
+use crate::{Refuses, read_job, write_lines, write_values};
 use graph_lang::Graph;
 use itoa::Buffer;
 use phase_status::{DONE, report, write_parts};
@@ -42,6 +44,27 @@ pub fn check_and_report<W: Write, E: Write, F: Files>(
     match read_job(alloc, files, name) {
         Ok(job) => report_written(write_counts(job.graph(), output), faults),
         Err(fault) => report_job_fault(&fault, faults),
+    }
+}
+
+/// As `check_and_report`, and the line of a refusal or a fault of the files is explained to a person
+/// behind it.
+pub fn check_and_explain<W: Write, E: Write, F: Files + Refuses>(
+    alloc: Global,
+    name: &str,
+    output: &mut Watched<W>,
+    faults: &mut Watched<E>,
+    files: &mut F,
+) -> u8
+    ensures status { (result ≡ 0) ⊎ ((result ≡ 1) ⊎ (result ≡ 5)) }
+    ensures ends { CheckEndsExplained (F.file files.old) name.now result W.contents
+        output.old output.new
+        (writer_state E.contents faults.old) (writer_state E.contents faults.new) }
+    ensures quiet { result ≡ 0 → faults.new ≡ faults.old }
+{
+    match read_job_or_explain(alloc, files, name, faults) {
+        Ok(read) => report_written(write_counts(read.graph(), output), faults),
+        Err(status) => status,
     }
 }
 
@@ -93,6 +116,28 @@ pub fn eval_and_report<W: Write, E: Write, F: Files>(
     match read_job(alloc, files, name) {
         Ok(job) => eval_asked(alloc, &job, sink, output, faults),
         Err(fault) => report_job_fault(&fault, faults),
+    }
+}
+
+/// As `eval_and_report`, and the line of a refusal or a fault of the files is explained to a person
+/// behind it.
+pub fn eval_and_explain<W: Write, E: Write, F: Files + Refuses>(
+    alloc: Global,
+    name: &str,
+    sink: Option<&str>,
+    output: &mut Watched<W>,
+    faults: &mut Watched<E>,
+    files: &mut F,
+) -> u8
+    ensures status { (result ≡ 0) ⊎ ((result ≡ 1) ⊎ ((result ≡ 3) ⊎ (result ≡ 5))) }
+    ensures ends { EvalEndsExplained (F.file files.old) name.now
+        (option_map (λ s. s.now) sink.entry) result W.contents output.old output.new
+        (writer_state E.contents faults.old) (writer_state E.contents faults.new) }
+    ensures quiet { result ≡ 0 → faults.new ≡ faults.old }
+{
+    match read_job_or_explain(alloc, files, name, faults) {
+        Ok(read) => eval_asked(alloc, &read, sink, output, faults),
+        Err(status) => status,
     }
 }
 

@@ -1,11 +1,11 @@
 //! The job of a graph's file.
 ghost use Rattle.std.specs.Prelude.{◌≡◌, ℕ, List, IfOk, IfErr};
-ghost use Rattle.graph_commands.specs.FileJobs.{Explains, IsJobOf};
+ghost use Rattle.graph_commands.specs.FileJobs.{Explains, IsGraphOf, IsJobOf};
 
 use crate::JobFault;
 use crate::graph_file::read_graph_file;
 use crate::sources::read_sources;
-use graph_lang::{FaultKind, GraphFault};
+use graph_lang::{FaultKind, Graph, GraphFault};
 use std::alloc::Global;
 use stream_lists::{Job, JobRefusal};
 use watched_io::Files;
@@ -19,10 +19,25 @@ pub fn read_job<F: Files>(alloc: Global, files: &mut F, name: &str) -> Result<Jo
     ensures fault { IfErr result (λ fault. Explains (F.file files.old) name.now fault) }
     ensures kept { (other : List ℕ) → F.file files.new other ≡ F.file files.old other }
 {
-    let graph = match read_graph_file(alloc, files, name) {
-        Ok(graph) => graph,
-        Err(fault) => return Err(fault),
-    };
+    match read_graph_file(alloc, files, name) {
+        Ok(graph) => job_of_graph(alloc, files, graph),
+        Err(fault) => Err(fault),
+    }
+}
+
+/// Makes the job of a graph that was read: reads the samples of its sources, each read and checked
+/// before the next.
+pub(crate) fn job_of_graph<F: Files>(
+    alloc: Global,
+    files: &mut F,
+    graph: Graph,
+) -> Result<Job, JobFault>
+    ensures ok { IfOk result (λ job. (name : List ℕ)
+        → IsGraphOf (F.file files.old) name graph → IsJobOf (F.file files.old) name job) }
+    ensures fault { IfErr result (λ fault. (name : List ℕ)
+        → IsGraphOf (F.file files.old) name graph → Explains (F.file files.old) name fault) }
+    ensures kept { (other : List ℕ) → F.file files.new other ≡ F.file files.old other }
+{
     let samples = match read_sources(alloc, files, &graph) {
         Ok(samples) => samples,
         Err(fault) => return Err(fault),

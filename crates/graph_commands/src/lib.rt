@@ -4,11 +4,13 @@
 //! status. The first two read by `read_job` the job of a graph's file: its graph, and the samples in
 //! the files of its sources; the third reads the graph alone;
 //! `write_lines` writes what an evaluation gave each sink, and `write_values` what it gave one.
-//! `find_sink`, `write_sinks` and the calls that report an end are for another command that gives the
+//! `check_and_explain` and `eval_and_explain` do the same, and explain a fault of the files behind its
+//! line. `find_sink`, `write_sinks` and the calls that report an end are for another command that gives the
 //! same values.
 #![tactic(auto)]
 
 mod drawn;
+mod explained;
 mod fault;
 mod graph_faults;
 mod graph_file;
@@ -17,15 +19,21 @@ mod job_file;
 pub mod laws;
 mod lines;
 mod output_buffer;
+mod refused;
 mod sinks;
 mod sources;
 
 pub use drawn::draw_and_report;
+pub use explained::read_job_or_explain;
 pub use fault::JobFault;
 pub use graph_faults::{report_job_fault, report_no_sink, report_too_big};
 pub use graph_file::{GRAPH_MAX, read_graph_file};
-pub use graph_runs::{check_and_report, eval_and_report, report_written, write_sinks};
+pub use graph_runs::{
+    check_and_explain, check_and_report, eval_and_explain, eval_and_report, report_written,
+    write_sinks,
+};
 pub use job_file::read_job;
 pub use lines::{write_lines, write_values};
+pub use refused::{Refusal, Refuses, TellingFiles};
 pub use sinks::find_sink;
 pub use sources::read_sources;

@@ -1,10 +1,9 @@
 -- What words ask for, and which statuses may come.
-use Rattle.std.proofs.Common.{◌≡◌, ◌≢◌, ◌⊎◌, inl, inr, ℕ, List, [], ◌∷◌, Option, None, refl, sym, ◌∙◌, ap, subst, rules, arith}
-use Rattle.phase_cli.specs.Ends.{IsAnswer, IsStatus, MayEnd, MayEndAs}
+use Rattle.std.proofs.Common.{◌≡◌, ◌≢◌, ◌⊎◌, inl, inr, ℕ, List, refl, sym, ◌∙◌, subst, arith}
+use Rattle.phase_cli.specs.Ends.{IsAnswer, IsStatus, LeavesAlone, LeavesBy, MayEnd, MayEndAs}
 use Rattle.phase_status.specs.Statuses.{Reports}
 use Rattle.phase_words.proofs.NoCalls.{asked-help-not-taken, asked-version-not-taken, refusal-not-help, refusal-not-taken, refusal-not-version, shown-not-taken, taken-or-not}
-use Rattle.phase_words.specs.CommandLine.{AreRefused, AreTaken, Asked, Asks, AskHelp, AskVersion, IsNoCall, asked_in, asked_of, check, draw, eval, replay}
-use Rattle.phase_words.specs.declared.call.Call.{Call}
+use Rattle.phase_words.specs.CommandLine.{AreRefused, AreTaken, Asked, Asks, AskGraph, AskHelp, AskVersion, IsNoCall, asked_in, check, check_explained, draw, eval, eval_explained, graph_asked, replay}
 use Rattle.phase_words.specs.declared.call.NoCall.{NoCall}
 use Rattle.phase_words.specs.declared.call.NoCall.TheVariants as no_call
 use Rattle.watched_io.specs.States.{WriterState}
@@ -13,82 +12,35 @@ use Rattle.watched_io.specs.declared.watched.Watched.{Watched}
 
 -- ---- what words ask for
 
--- words give one call, and ask for what it asks for
-pub asks-call : (words : List (List ℕ)) (given call : Call) → given ≡ call → Asks words (asked_of given) → Asks words (asked_of call)
-asks-call words given call same asks = subst (λ (call : Call). Asks words (asked_of call)) same asks
-
 -- words ask for one thing
 pub asks-one : (words : List (List ℕ)) (one other : Asked) → Asks words one → Asks words other → one ≡ other
 asks-one words one other p q = sym p.command ∙ q.command
 
-replay-not-check : (name : List ℕ) → replay ≢ check name
-replay-not-check name = λ e. search rules
+-- a replay alone reads the input, and what goes by a graph alone opens files
+pub leaves-asked : {R F : Type 0} (words : List (List ℕ)) (what : Asked) (input rest : Watched R) (closed files : F)
+    → Asks words what → LeavesBy (graph_asked what) input rest closed files → LeavesAlone words input rest closed files
+leaves-asked words what input rest closed files asks leaves = record {
+  unread = λ other. unread-by what asks leaves other;
+  unopened = λ other. unopened-by what asks leaves other;
+}
+  where
+    unread-by : (what : Asked) → Asks words what → LeavesBy (graph_asked what) input rest closed files
+        → (Asks words replay → ⊥) → rest ≡ input
+    unread-by replay asks leaves other = absurd (other asks)
+    unread-by (check name) asks leaves other = leaves
+    unread-by (eval name sink) asks leaves other = leaves
+    unread-by (draw name) asks leaves other = leaves
+    unread-by (check_explained name) asks leaves other = leaves
+    unread-by (eval_explained name sink) asks leaves other = leaves
 
-replay-not-eval : (name : List ℕ) (sink : Option (List ℕ)) → replay ≢ eval name sink
-replay-not-eval name sink = λ e. search rules
-
-check-not-eval : (name other : List ℕ) (sink : Option (List ℕ)) → check name ≢ eval other sink
-check-not-eval name other sink = λ e. search rules
-
-replay-not-draw : (name : List ℕ) → replay ≢ draw name
-replay-not-draw name = λ e. search rules
-
-check-not-draw : (name other : List ℕ) → check name ≢ draw other
-check-not-draw name other = λ e. search rules
-
-eval-not-draw : (name : List ℕ) (sink : Option (List ℕ)) (other : List ℕ) → eval name sink ≢ draw other
-eval-not-draw name sink other = λ e. search rules
-
-pub not-check : (words : List (List ℕ)) (name : List ℕ) → Asks words replay → Asks words (check name) → ⊥
-not-check words name p q = replay-not-check name (asks-one words replay (check name) p q)
-
-pub not-eval : (words : List (List ℕ)) (name : List ℕ) (sink : Option (List ℕ)) → Asks words replay
-    → Asks words (eval name sink) → ⊥
-not-eval words name sink p q = replay-not-eval name sink (asks-one words replay (eval name sink) p q)
-
-pub not-both : (words : List (List ℕ)) (name other : List ℕ) (sink : Option (List ℕ))
-    → Asks words (check name) → Asks words (eval other sink) → ⊥
-not-both words name other sink p q =
-    check-not-eval name other sink (asks-one words (check name) (eval other sink) p q)
-
-pub not-draw : (words : List (List ℕ)) (name : List ℕ) → Asks words replay → Asks words (draw name) → ⊥
-not-draw words name p q = replay-not-draw name (asks-one words replay (draw name) p q)
-
-pub not-checked-drawn : (words : List (List ℕ)) (name other : List ℕ) → Asks words (check name)
-    → Asks words (draw other) → ⊥
-not-checked-drawn words name other p q =
-    check-not-draw name other (asks-one words (check name) (draw other) p q)
-
-pub not-evaluated-drawn : (words : List (List ℕ)) (name : List ℕ) (sink : Option (List ℕ))
-    (other : List ℕ) → Asks words (eval name sink) → Asks words (draw other) → ⊥
-not-evaluated-drawn words name sink other p q =
-    eval-not-draw name sink other (asks-one words (eval name sink) (draw other) p q)
-
--- the name that is asked for
-abbrev name_of : Asked → List ℕ
-name_of replay = []
-name_of (check name) = name
-name_of (eval name sink) = name
-name_of (draw name) = name
-
--- and the name of a sink
-abbrev sink_of : Asked → Option (List ℕ)
-sink_of replay = None
-sink_of (check name) = None
-sink_of (eval name sink) = sink
-sink_of (draw name) = None
-
-pub same-check : (words : List (List ℕ)) (name other : List ℕ) → Asks words (check name) → Asks words (check other) → name ≡ other
-same-check words name other p q = ap name_of (asks-one words (check name) (check other) p q)
-
-pub same-draw : (words : List (List ℕ)) (name other : List ℕ) → Asks words (draw name) → Asks words (draw other) → name ≡ other
-same-draw words name other p q = ap name_of (asks-one words (draw name) (draw other) p q)
-
-pub same-eval : (words : List (List ℕ)) (name other : List ℕ) (sink also : Option (List ℕ))
-    → Asks words (eval name sink) → Asks words (eval other also) → (name ≡ other) × (sink ≡ also)
-same-eval words name other sink also p q =
-    let one = asks-one words (eval name sink) (eval other also) p q in
-    (ap name_of one, ap sink_of one)
+    unopened-by : (what : Asked) → Asks words what → LeavesBy (graph_asked what) input rest closed files
+        → ((name : List ℕ) → AskGraph words name → ⊥) → files ≡ closed
+    unopened-by replay asks leaves other = leaves
+    unopened-by (check name) asks leaves other = absurd (other name (record { what = check name; asks = asks; named = refl }))
+    unopened-by (eval name sink) asks leaves other = absurd (other name (record { what = eval name sink; asks = asks; named = refl }))
+    unopened-by (draw name) asks leaves other = absurd (other name (record { what = draw name; asks = asks; named = refl }))
+    unopened-by (check_explained name) asks leaves other = absurd (other name (record { what = check_explained name; asks = asks; named = refl }))
+    unopened-by (eval_explained name sink) asks leaves other = absurd (other name (record { what = eval_explained name sink; asks = asks; named = refl }))
 
 -- ---- statuses
 
@@ -115,6 +67,8 @@ five-as replay status five = inr five
 five-as (check name) status five = inr (inr five)
 five-as (eval name sink) status five = inr (inr (inr five))
 five-as (draw name) status five = inr (inr five)
+five-as (check_explained name) status five = inr (inr five)
+five-as (eval_explained name sink) status five = inr (inr (inr five))
 
 -- the status of words that ask for help
 help-ends : {W : Type 0} (words : List (List ℕ)) (none : NoCall) (status : ℕ) (old new : Watched W) (before after : WriterState)
@@ -180,6 +134,8 @@ any-as (eval name sink) status (inr (inr (inr five))) = inr (inr (inr (inr five)
 any-as (draw name) status (inl zero) = inl zero
 any-as (draw name) status (inr (inl one)) = inr (inl one)
 any-as (draw name) status (inr (inr five)) = inr (inr (inr (inr five)))
+any-as (check_explained name) status ends = any-as (check name) status ends
+any-as (eval_explained name sink) status ends = any-as (eval name sink) status ends
 
 any-untaken : (status : ℕ) → (status ≡ 0) ⊎ ((status ≡ 2) ⊎ (status ≡ 5)) → IsStatus status
 any-untaken status (inl zero) = inl zero
@@ -206,6 +162,8 @@ two-as (eval name sink) status two (inr (inr (inr five))) = omega (arith, two, f
 two-as (draw name) status two (inl zero) = omega (arith, two, zero)
 two-as (draw name) status two (inr (inl one)) = omega (arith, two, one)
 two-as (draw name) status two (inr (inr five)) = omega (arith, two, five)
+two-as (check_explained name) status two ends = two-as (check name) status two ends
+two-as (eval_explained name sink) status two ends = two-as (eval name sink) status two ends
 
 pub taken-not-two : (words : List (List ℕ)) (status : ℕ) → MayEnd words status → AreTaken words → status ≢ 2
 taken-not-two words status ends taken = λ two.

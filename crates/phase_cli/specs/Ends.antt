@@ -1,8 +1,13 @@
 -- How a run of the program may end, by what its words ask for.
-use Rattle.std.specs.Prelude.{◌≡◌, ◌⊎◌, ℕ, List, Option}
+use Rattle.std.specs.Prelude.{◌≡◌, ◌⊎◌, ℕ, List, Option, Some, None}
+use Rattle.graph_commands.specs.Explained.{CheckEndsExplained, EvalEndsExplained}
+use Rattle.graph_commands.specs.FileJobs.{Known}
+use Rattle.graph_commands.specs.GraphDrawings.{DrawEnds}
+use Rattle.graph_commands.specs.GraphRuns.{CheckEnds, EvalEnds}
+use Rattle.phase_cli.specs.Replays.{ReplayEnds}
 use Rattle.phase_replay.specs.Replay.{HasCause}
 use Rattle.phase_status.specs.Statuses.{Reports}
-use Rattle.phase_words.specs.CommandLine.{AreRefused, AreTaken, Asked, Asks, AskGraph, AskHelp, AskReplay, AskVersion, check, draw, eval, replay}
+use Rattle.phase_words.specs.CommandLine.{AreRefused, AreTaken, Asked, Asks, AskGraph, AskHelp, AskReplay, AskVersion, check, check_explained, draw, eval, eval_explained, graph_asked, replay}
 use Rattle.phase_words.specs.declared.call.NoCall.{NoCall}
 use Rattle.phase_words.specs.declared.call.NoCall.TheVariants as no_call
 use Rattle.watched_io.specs.States.{ReaderState, WriterState, writer_state}
@@ -20,6 +25,8 @@ MayEndAs replay status = (status ≡ 0) ⊎ (status ≡ 5)
 MayEndAs (check _) status = (status ≡ 0) ⊎ ((status ≡ 1) ⊎ (status ≡ 5))
 MayEndAs (eval _ _) status = (status ≡ 0) ⊎ ((status ≡ 1) ⊎ ((status ≡ 3) ⊎ (status ≡ 5)))
 MayEndAs (draw _) status = (status ≡ 0) ⊎ ((status ≡ 1) ⊎ (status ≡ 5))
+MayEndAs (check_explained _) status = (status ≡ 0) ⊎ ((status ≡ 1) ⊎ (status ≡ 5))
+MayEndAs (eval_explained _ _) status = (status ≡ 0) ⊎ ((status ≡ 1) ⊎ ((status ≡ 3) ⊎ (status ≡ 5)))
 
 -- the statuses that may come, by what the words ask for
 pub record MayEnd (words : List (List ℕ)) (status : ℕ) : Type 0 where
@@ -28,6 +35,28 @@ pub record MayEnd (words : List (List ℕ)) (status : ℕ) : Type 0 where
   pub version : AskVersion words → (status ≡ 0) ⊎ (status ≡ 5)
   pub refused : AreRefused words → (status ≡ 2) ⊎ (status ≡ 5)
   pub untaken : (AreTaken words → ⊥) → (status ≡ 0) ⊎ ((status ≡ 2) ⊎ (status ≡ 5))
+
+-- how what words ask for ends: what a replay, a check, an evaluation and a drawing write, whole or up
+-- to a fault, and why there is no other answer
+abbrev pub EndsAs : {W : Type 0} → Asked → Known → (W → Option (List ℕ)) → ℕ
+    → ReaderState → ReaderState → Watched W → Watched W → WriterState → WriterState → Type 0
+EndsAs replay known contents status input rest old new before after =
+    ReplayEnds status input rest (writer_state contents old) (writer_state contents new) before after
+EndsAs (check name) known contents status input rest old new before after =
+    CheckEnds known name status contents old new before after
+EndsAs (eval name sink) known contents status input rest old new before after =
+    EvalEnds known name sink status contents old new before after
+EndsAs (draw name) known contents status input rest old new before after =
+    DrawEnds known name status contents old new before after
+EndsAs (check_explained name) known contents status input rest old new before after =
+    CheckEndsExplained known name status contents old new before after
+EndsAs (eval_explained name sink) known contents status input rest old new before after =
+    EvalEndsExplained known name sink status contents old new before after
+
+-- what is left alone: the files by a replay, and the input by what goes by a graph
+abbrev pub LeavesBy : {R F : Type 0} → Option (List ℕ) → Watched R → Watched R → F → F → Type 0
+LeavesBy None input rest closed files = files ≡ closed
+LeavesBy (Some name) input rest closed files = rest ≡ input
 
 -- a replay alone reads the input, and words that ask for something of a graph alone open files
 pub record LeavesAlone {R F : Type 0} (words : List (List ℕ)) (input rest : Watched R)

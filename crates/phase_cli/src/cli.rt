@@ -1,17 +1,19 @@
 //! A run of the program over any input and outputs.
-ghost use Rattle.std.specs.Prelude.{◌≡◌, ◌≢◌, ◌⊎◌, ℕ, List, Option};
-ghost use Rattle.graph_commands.specs.GraphDrawings.{DrawEnds};
-ghost use Rattle.graph_commands.specs.GraphRuns.{CheckEnds, EvalEnds};
-ghost use Rattle.phase_cli.specs.Ends.{AnswerEnds, AnswerStops, IsAnswer, IsUnbegun, LeavesAlone, MayEnd};
+ghost use Rattle.std.specs.Prelude.{◌≡◌, ◌⊎◌};
+ghost use Rattle.phase_cli.specs.Ends.{AnswerEnds, AnswerStops, EndsAs, IsAnswer, IsUnbegun};
+ghost use Rattle.phase_cli.specs.Ends.{LeavesAlone, LeavesBy, MayEnd, MayEndAs};
 ghost use Rattle.phase_cli.specs.Replays.{ReplayEnds};
-ghost use Rattle.phase_words.specs.CommandLine.{AreTaken, AskCheck, AskDraw, AskEval, AskReplay};
-ghost use Rattle.phase_words.specs.CommandLine.{texts};
+ghost use Rattle.phase_words.specs.CommandLine.{AreTaken, AskReplay, Asked, Asks, asked_of};
+ghost use Rattle.phase_words.specs.CommandLine.{graph_asked, texts};
 ghost use Rattle.watched_io.specs.States.{reader_state, writer_state};
 
 use crate::replayed::replay_and_report;
-use graph_commands::{check_and_report, draw_and_report, eval_and_report};
+use graph_commands::{
+    Refuses, check_and_explain, check_and_report, draw_and_report, eval_and_explain,
+    eval_and_report,
+};
 use phase_status::{refuse, report, show_help};
-use phase_words::{Call, NoCall, read_words};
+use phase_words::{Call, Explain, NoCall, read_words};
 use std::alloc::Global;
 use std::io::{Read, Write};
 use watched_io::{Files, IoFault, Watched};
@@ -23,7 +25,7 @@ use watched_io::{Files, IoFault, Watched};
 ///
 /// A refusal's text goes to the fault stream, and so does a fault's line. Where that stream fails
 /// too, the status stands alone.
-pub fn run_cli<R: Read, W: Write, E: Write, F: Files>(
+pub fn run_cli<R: Read, W: Write, E: Write, F: Files + Refuses>(
     alloc: Global,
     words: &[String],
     input: &mut Watched<R>,
@@ -40,22 +42,14 @@ pub fn run_cli<R: Read, W: Write, E: Write, F: Files>(
         (writer_state W.contents output.old) (writer_state W.contents output.new)
         (writer_state E.contents faults.old) (writer_state E.contents faults.new) }
 
-    // What a check, an evaluation and a drawing of a graph wrote, whole or up to a fault, and why
-    // there is no other answer.
-    ensures check { (name : List ℕ) → AskCheck (texts words.now) name
+    // What a check, an evaluation and a drawing of a graph wrote, whole or up to a fault, why there is
+    // no other answer, and what is said further where a fault is explained.
+    ensures asked { (what : Asked) → Asks (texts words.now) what
         → IsUnbegun result files.old files.new output.old output.new
         (writer_state E.contents faults.old) (writer_state E.contents faults.new)
-        ⊎ CheckEnds (F.file files.old) name result W.contents output.old output.new
-        (writer_state E.contents faults.old) (writer_state E.contents faults.new) }
-    ensures eval { (name : List ℕ) (sink : Option (List ℕ)) → AskEval (texts words.now) name sink
-        → IsUnbegun result files.old files.new output.old output.new
-        (writer_state E.contents faults.old) (writer_state E.contents faults.new)
-        ⊎ EvalEnds (F.file files.old) name sink result W.contents output.old output.new
-        (writer_state E.contents faults.old) (writer_state E.contents faults.new) }
-    ensures draw { (name : List ℕ) → AskDraw (texts words.now) name
-        → IsUnbegun result files.old files.new output.old output.new
-        (writer_state E.contents faults.old) (writer_state E.contents faults.new)
-        ⊎ DrawEnds (F.file files.old) name result W.contents output.old output.new
+        ⊎ EndsAs what (F.file files.old) W.contents result
+        (reader_state R.remaining input.old) (reader_state R.remaining input.new)
+        output.old output.new
         (writer_state E.contents faults.old) (writer_state E.contents faults.new) }
 
     // How other words are answered.
@@ -69,13 +63,50 @@ pub fn run_cli<R: Read, W: Write, E: Write, F: Files>(
     ensures quiet { result ≡ 0 → faults.new ≡ faults.old }
 {
     match read_words(alloc, words) {
-        Ok(Call::Replay) => replay_and_report(alloc, input, output, faults),
-        Ok(Call::Check(graph)) => check_and_report(alloc, graph, output, faults, files),
-        Ok(Call::Eval { graph, sink }) => {
-            eval_and_report(alloc, graph, sink, output, faults, files)
-        }
-        Ok(Call::Draw(graph)) => draw_and_report(alloc, graph, output, faults, files),
+        Ok(call) => run_call(alloc, call, input, output, faults, files),
         Err(none) => answer(&none, output, faults),
+    }
+}
+
+/// Does what a call asks for, and answers the exit status.
+fn run_call<R: Read, W: Write, E: Write, F: Files + Refuses>(
+    alloc: Global,
+    call: Call<'_>,
+    input: &mut Watched<R>,
+    output: &mut Watched<W>,
+    faults: &mut Watched<E>,
+    files: &mut F,
+) -> u8
+    ensures status { MayEndAs (asked_of call.entry) result }
+    ensures ends { EndsAs (asked_of call.entry) (F.file files.old) W.contents result
+        (reader_state R.remaining input.old) (reader_state R.remaining input.new)
+        output.old output.new
+        (writer_state E.contents faults.old) (writer_state E.contents faults.new) }
+    ensures left { LeavesBy (graph_asked (asked_of call.entry)) input.old input.new
+        files.old files.new }
+    ensures quiet { result ≡ 0 → faults.new ≡ faults.old }
+{
+    match call {
+        Call::Replay => replay_and_report(alloc, input, output, faults),
+        Call::Check {
+            graph,
+            explain: Explain::No,
+        } => check_and_report(alloc, graph, output, faults, files),
+        Call::Check {
+            graph,
+            explain: Explain::Yes,
+        } => check_and_explain(alloc, graph, output, faults, files),
+        Call::Eval {
+            graph,
+            sink,
+            explain: Explain::No,
+        } => eval_and_report(alloc, graph, sink, output, faults, files),
+        Call::Eval {
+            graph,
+            sink,
+            explain: Explain::Yes,
+        } => eval_and_explain(alloc, graph, sink, output, faults, files),
+        Call::Draw(graph) => draw_and_report(alloc, graph, output, faults, files),
     }
 }
 

@@ -1,5 +1,6 @@
 //! Checks and evaluations of graphs, on files that are held in memory.
 use crate::tests::{Broken, Held, run_graph, status_of};
+use graph_commands::{Refusal, Refuses};
 use std::alloc::Global;
 use std::test::Fail;
 use watched_io::{FileFault, Files};
@@ -332,6 +333,12 @@ impl Files for Noted<'_> {
             return Err(FileFault::OutOfMemory);
         }
         self.files.read(alloc, name, limit)
+    }
+}
+
+impl Refuses for Noted<'_> {
+    fn refused(&self) -> Option<(&str, Refusal)> {
+        None
     }
 }
 

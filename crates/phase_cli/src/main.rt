@@ -4,6 +4,8 @@
 
 mod cli;
 #[cfg(test)]
+mod explain_tests;
+#[cfg(test)]
 mod graph_tests;
 mod laws;
 mod replayed;
@@ -11,9 +13,10 @@ mod replayed;
 mod tests;
 
 use cli::run_cli;
+use graph_commands::TellingFiles;
 use phase_status::{own_words, refuse_words};
 use std::process::ExitCode;
-use watched_io::{DiskFiles, Watched};
+use watched_io::Watched;
 
 fn main(rt: HostRuntime) -> ExitCode {
     let mut faults = Watched::new(rt.stderr());
@@ -29,7 +32,7 @@ fn main(rt: HostRuntime) -> ExitCode {
         &mut input,
         &mut output,
         &mut faults,
-        &mut DiskFiles::new(&rt),
+        &mut TellingFiles::new(&rt),
     );
     ExitCode::from(status)
 }

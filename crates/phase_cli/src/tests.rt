@@ -1,5 +1,6 @@
 //! Runs of the program whose text no clause says, and calls that have to succeed.
 use crate::cli::run_cli;
+use graph_commands::{Refusal, Refuses};
 use phase_status::refuse_words;
 use std::alloc::Global;
 use std::io;
@@ -62,8 +63,14 @@ impl Files for Held<'_> {
     }
 }
 
+impl Refuses for Held<'_> {
+    fn refused(&self) -> Option<(&str, Refusal)> {
+        None
+    }
+}
+
 /// The status of a run over these streams and files.
-pub(crate) fn status_of<R: Read + Drop, W: Write + Drop, E: Write + Drop, F: Files>(
+pub(crate) fn status_of<R: Read + Drop, W: Write + Drop, E: Write + Drop, F: Files + Refuses>(
     alloc: Global,
     words: &[&str],
     input: R,
@@ -235,12 +242,14 @@ fn the_version_goes_to_the_output(rt: HostRuntime) -> Result<(), Fail> {
 fn help_of_graphs_has_an_example(rt: HostRuntime) -> Result<(), Fail> {
     let check = run(rt.alloc(), ["check", "--help"].as_slice(), b"")?;
     assert_eq!(rt; check.status, 0);
-    assert!(rt; has(&check.output, "Usage: phase check <GRAPH>"));
+    assert!(rt; has(&check.output, "Usage: phase check [OPTIONS] <GRAPH>"));
     assert!(rt; has(&check.output, "  ok phasers 1 tasks 2\n"));
+    assert!(rt; has(&check.output, "opened from the current folder"));
     let eval = run(rt.alloc(), ["help", "eval"].as_slice(), b"")?;
     assert_eq!(rt; eval.status, 0);
     assert!(rt; has(&eval.output, "Usage: phase eval [OPTIONS] <GRAPH>"));
     assert!(rt; has(&eval.output, "  out 3\n  1\n  3\n  5\n"));
+    assert!(rt; has(&eval.output, "opened from the current folder"));
     Ok(())
 }
 

@@ -1,9 +1,13 @@
 -- How a run of the program may end, by what its words ask for.
-use Rattle.std.specs.Prelude.{◌≡◌, ◌⊎◌, ℕ, true, List}
+use Rattle.std.specs.Prelude.{◌≡◌, ◌⊎◌, ℕ, true, List, Option}
+use Rattle.graph_commands.specs.FileJobs.{Known}
 use Rattle.phase_status.specs.Statuses.{Reports}
-use Rattle.phase_words.specs.RunLine.{AreRunRefused, AreRunTaken, AskRunHelp, AskRunVersion}
+use Rattle.phase_words.specs.RunLine.{AreRunRefused, AreRunTaken, AskRunHelp, AskRunVersion, Run}
+use Rattle.phase_words.specs.declared.call.Explain.{Explain}
+use Rattle.phase_words.specs.declared.call.Explain.TheVariants.{No, Yes}
 use Rattle.phase_words.specs.declared.call.NoCall.{NoCall}
 use Rattle.phase_words.specs.declared.call.NoCall.TheVariants as no_call
+use Rattle.run_command.specs.Runs.{RunEnds, RunEndsExplained}
 use Rattle.watched_io.specs.States.{WriterState}
 use Rattle.watched_io.specs.Watched.{has_failed_of}
 use Rattle.watched_io.specs.declared.fault.IoFault.TheVariants.{OutOfMemory, WriteFault}
@@ -24,6 +28,14 @@ pub record MayEnd (words : List (List ℕ)) (status : ℕ) : Type 0 where
   pub version : AskRunVersion words → (status ≡ 0) ⊎ (status ≡ 5)
   pub refused : AreRunRefused words → (status ≡ 2) ⊎ (status ≡ 5)
   pub untaken : (AreRunTaken words → ⊥) → (status ≡ 0) ⊎ ((status ≡ 2) ⊎ (status ≡ 5))
+
+-- how a run ends, by whether a fault is explained
+abbrev pub RunEndsBy : {W : Type 0} → Explain → Known → List ℕ → Option (List ℕ) → ℕ
+    → (W → Option (List ℕ)) → Watched W → Watched W → WriterState → WriterState → Type 0
+RunEndsBy No known name asked status contents old new before after =
+    RunEnds known name asked status contents old new before after
+RunEndsBy Yes known name asked status contents old new before after =
+    RunEndsExplained known name asked status contents old new before after
 
 -- memory ran out over the words: no file was opened, and nothing was written but the fault's line
 pub record IsUnbegun {F W : Type 0} (status : ℕ) (closed files : F) (old new : Watched W)

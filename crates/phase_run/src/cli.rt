@@ -1,14 +1,16 @@
 //! A run of the program over any outputs and files.
 ghost use Rattle.std.specs.Prelude.{◌≡◌, ◌⊎◌, ℕ, List, Option};
 ghost use Rattle.phase_run.specs.Ends.{AnswerEnds, AnswerStops, IsAnswer, IsUnbegun, MayEnd};
+ghost use Rattle.phase_run.specs.Ends.{MayEndAsRun, RunEndsBy};
 ghost use Rattle.phase_words.specs.CommandLine.{texts};
-ghost use Rattle.phase_words.specs.RunLine.{AreRunTaken, AskRun};
-ghost use Rattle.run_command.specs.Runs.{RunEnds};
+ghost use Rattle.phase_words.specs.RunLine.{AreRunTaken, AskRun, AskRunExplained, run_of};
+ghost use Rattle.run_command.specs.Runs.{RunEnds, RunEndsExplained};
 ghost use Rattle.watched_io.specs.States.{writer_state};
 
+use graph_commands::Refuses;
 use phase_status::{refuse, report, show_help};
-use phase_words::{NoCall, read_run_words};
-use run_command::run_and_report;
+use phase_words::{Explain, NoCall, RunCall, read_run_words};
+use run_command::{run_and_explain, run_and_report};
 use std::alloc::Global;
 use std::io::Write;
 use std::sync::Wait;
@@ -22,7 +24,7 @@ use watched_io::{Files, IoFault, Watched};
 ///
 /// A refusal's text goes to the fault stream, and so does a fault's line. Where that stream fails
 /// too, the status stands alone. A run waits, and it is not promised that it comes back.
-pub fn run_cli<H: Threads + Wait + Sync, W: Write, E: Write, F: Files>(
+pub fn run_cli<H: Threads + Wait + Sync, W: Write, E: Write, F: Files + Refuses>(
     rt: &H,
     alloc: Global,
     words: &[String],
@@ -41,6 +43,14 @@ pub fn run_cli<H: Threads + Wait + Sync, W: Write, E: Write, F: Files>(
         ⊎ RunEnds (F.file files.old) name sink result W.contents output.old output.new
         (writer_state E.contents faults.old) (writer_state E.contents faults.new) }
 
+    // And where the words ask that a fault is explained.
+    ensures explained { (name : List ℕ) (sink : Option (List ℕ)) (workers : ℕ)
+        → AskRunExplained (texts words.now) name sink workers
+        → IsUnbegun result files.old files.new output.old output.new
+        (writer_state E.contents faults.old) (writer_state E.contents faults.new)
+        ⊎ RunEndsExplained (F.file files.old) name sink result W.contents output.old output.new
+        (writer_state E.contents faults.old) (writer_state E.contents faults.new) }
+
     // How other words are answered, and that they open no file.
     ensures answered { (AreRunTaken (texts words.now) → ⊥)
         → AnswerEnds (texts words.now) result output.old output.new
@@ -49,17 +59,35 @@ pub fn run_cli<H: Threads + Wait + Sync, W: Write, E: Write, F: Files>(
     ensures quiet { result ≡ 0 → faults.new ≡ faults.old }
 {
     match read_run_words(alloc, words) {
-        Ok(call) => run_and_report(
-            rt,
-            alloc,
-            call.graph,
-            call.sink,
-            call.workers,
-            output,
-            faults,
-            files,
-        ),
+        Ok(call) => run_call(rt, alloc, call, output, faults, files),
         Err(none) => answer(&none, output, faults),
+    }
+}
+
+/// Runs a graph as a call asks for it, and answers the exit status.
+fn run_call<H: Threads + Wait + Sync, W: Write, E: Write, F: Files + Refuses>(
+    rt: &H,
+    alloc: Global,
+    call: RunCall<'_>,
+    output: &mut Watched<W>,
+    faults: &mut Watched<E>,
+    files: &mut F,
+) -> u8
+    ensures status { MayEndAsRun result }
+    ensures ends { RunEndsBy (run_of call.entry).explain (F.file files.old)
+        (run_of call.entry).graph (run_of call.entry).sink result W.contents output.old output.new
+        (writer_state E.contents faults.old) (writer_state E.contents faults.new) }
+    ensures quiet { result ≡ 0 → faults.new ≡ faults.old }
+{
+    let RunCall {
+        graph,
+        sink,
+        workers,
+        explain,
+    } = call;
+    match explain {
+        Explain::No => run_and_report(rt, alloc, graph, sink, workers, output, faults, files),
+        Explain::Yes => run_and_explain(rt, alloc, graph, sink, workers, output, faults, files),
     }
 }
 

@@ -7,9 +7,10 @@ mod laws;
 mod tests;
 
 use cli::run_cli;
+use graph_commands::TellingFiles;
 use phase_status::{own_words, refuse_words};
 use std::process::ExitCode;
-use watched_io::{DiskFiles, Watched};
+use watched_io::Watched;
 
 fn main(rt: HostRuntime) -> ExitCode {
     let mut faults = Watched::new(rt.stderr());
@@ -24,7 +25,7 @@ fn main(rt: HostRuntime) -> ExitCode {
         words.as_slice(),
         &mut output,
         &mut faults,
-        &mut DiskFiles::new(&rt),
+        &mut TellingFiles::new(&rt),
     );
     ExitCode::from(status)
 }

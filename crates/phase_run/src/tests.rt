@@ -1,5 +1,6 @@
 //! Runs of the program by its words, on files that are held in memory.
 use crate::cli::run_cli;
+use graph_commands::{Refusal, Refuses};
 use std::alloc::Global;
 use std::sync::Wait;
 use std::test::Fail;
@@ -26,6 +27,12 @@ impl Files for Held {
             }
             _ => Err(FileFault::ReadFault),
         }
+    }
+}
+
+impl Refuses for Held {
+    fn refused(&self) -> Option<(&str, Refusal)> {
+        Some(("h", Refusal::Missing))
     }
 }
 
@@ -84,6 +91,21 @@ fn the_sinks_have_their_values(rt: HostRuntime) -> Result<(), Fail> {
     )?;
     assert_eq!(rt; none.status, 1);
     assert_eq!(rt; none.faults.as_slice(), b"phase: no sink s\n".as_slice());
+    Ok(())
+}
+
+#[test]
+fn a_run_that_explains(rt: HostRuntime) -> Result<(), Fail> {
+    let words = ["--explain", "g", "--sink", "out"];
+    let done = ask(&rt, rt.alloc(), words.as_slice())?;
+    assert_eq!(rt; done.status, 0);
+    assert_eq!(rt; done.output.as_slice(), b"2\n5\n8\n".as_slice());
+    let lost = ask(&rt, rt.alloc(), ["h", "--explain"].as_slice())?;
+    assert_eq!(rt; lost.status, 5);
+    assert_eq!(rt;
+        lost.faults.as_slice(),
+        b"phase: read fault\n  h: there is no such file\n".as_slice()
+    );
     Ok(())
 }
 

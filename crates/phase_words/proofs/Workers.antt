@@ -5,7 +5,7 @@ use Rattle.clap.specs.ValueTests.{is_unsigned_in}
 use Rattle.clap.specs.Words.{Text, first_of, matches_of}
 use Rattle.clap.specs.declared.builder.value_parser.ValueParser.TheVariants as vp
 use Rattle.clap.proofs.ValueTestLemmas.{Accepts-accepts, accepts-Accepts}
-use Rattle.phase_words.specs.RunLine.{AskRun, Run, run_app, run_in, workers_named, workers_of}
+use Rattle.phase_words.specs.RunLine.{AsksRun, Run, run_app, run_in, workers_named, workers_of}
 
 -- `parse` reads the word as a number
 abbrev pub Reads : Text → Type 0
@@ -62,9 +62,8 @@ of-within None = (omega arith, omega arith)
 of-within (Some word) = named-within word
 
 -- what words ask for is a run by so many
-pub run-within : (words : List Text) (name : Text) (sink : Option Text) (workers : ℕ)
-    → AskRun words name sink workers → IsWithin workers
+pub run-within : (words : List Text) (what : Run) → AsksRun words what → IsWithin what.workers
 unfolding run_in
-run-within words name sink workers asks =
+run-within words what asks =
     subst (λ (what : Run). IsWithin what.workers) asks.run
     (of-within (first_of (codes "workers") (matches_of run_app words)))

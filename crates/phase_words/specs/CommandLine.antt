@@ -5,10 +5,13 @@ use Rattle.std.specs.Prelude.{String, codes, if◌then◌else◌, map, option_ma
 use Rattle.std.specs.Str.{bytes_eq}
 use Rattle.clap.specs.Words.{App, IsAmong, Kinds, Row, Rule, Shape, Text, fault_of, first_of}
 use Rattle.clap.specs.Words.{new_app, new_rule, subcommand_of, with_rule, with_subcommand}
+use Rattle.clap.specs.declared.builder.action.ArgAction.TheVariants.{SetTrue}
 use Rattle.clap.specs.declared.error.kind.ErrorKind.{ErrorKind}
 use Rattle.clap.specs.declared.error.kind.ErrorKind.TheVariants.{DisplayHelp, DisplayVersion, OutOfMemory}
 use Rattle.phase_words.specs.declared.call.Call.{Call}
 use Rattle.phase_words.specs.declared.call.Call.TheVariants as call
+use Rattle.phase_words.specs.declared.call.Explain.{Explain}
+use Rattle.phase_words.specs.declared.call.Explain.TheVariants.{No, Yes}
 use Rattle.phase_words.specs.declared.call.NoCall.{NoCall}
 use Rattle.phase_words.specs.declared.call.NoCall.TheVariants as no_call
 
@@ -38,16 +41,25 @@ graph_shape name = (graph_app name).top
 abbrev pub sink_rule : Rule
 sink_rule = record (new_rule (codes "sink")) { long = Some (codes "sink"); value_names = 1 }
 
+-- the word `--explain`, which may be given
+abbrev pub explain_rule : Rule
+explain_rule =
+    record (new_rule (codes "explain")) { long = Some (codes "explain"); action = Some SetTrue }
+
+-- the command `check`
+abbrev pub check_shape : Shape
+check_shape = (with_rule (graph_app (codes "check")) explain_rule).top
+
 -- the command `eval`
 abbrev pub eval_shape : Shape
-eval_shape = (with_rule (graph_app (codes "eval")) sink_rule).top
+eval_shape = (with_rule (with_rule (graph_app (codes "eval")) sink_rule) explain_rule).top
 
 -- the program, with its commands: `replay`, which takes no word, and `check`, `eval` and `draw`
 unfoldable pub phase_app : App
 phase_app =
     with_subcommand (with_subcommand (with_subcommand (with_subcommand (with_version
     (without_own_name (new_app (codes "phase")))) (new_app (codes "replay")).top)
-    (graph_shape (codes "check"))) eval_shape) (graph_shape (codes "draw"))
+    check_shape) eval_shape) (graph_shape (codes "draw"))
 
 -- ---- what the words ask for
 
@@ -81,18 +93,35 @@ abbrev pub AreRefused : List Text → Type 0
 AreRefused words = Refuse (kinds_of words)
 
 -- what words that are taken ask for: a replay, a check of a graph's file, its evaluation, for all
--- its sinks or for the one of a name, or its drawing
+-- its sinks or for the one of a name, or its drawing; of a check and an evaluation also that a fault
+-- is explained
 pub data Asked : Type 0 where
   replay : Asked
   check : Text → Asked
   eval : Text → Option Text → Asked
   draw : Text → Asked
+  check_explained : Text → Asked
+  eval_explained : Text → Option Text → Asked
 
--- by the command and the names that are given to it
-abbrev pub asked_as : Text → Option Text → Option Text → Asked
-asked_as name graph sink =
-    if bytes_eq name (codes "check") then check (unwrap_or graph [])
-    else if bytes_eq name (codes "eval") then eval (unwrap_or graph []) sink
+-- whether `--explain` stands there, by the value that clap gives it, or none
+abbrev pub explain_of : Option Text → Explain
+explain_of None = No
+explain_of (Some value) = if bytes_eq value (codes "true") then Yes else No
+
+-- a check, and an evaluation, with an explanation or without
+abbrev pub check_by : Explain → Text → Asked
+check_by No name = check name
+check_by Yes name = check_explained name
+
+abbrev pub eval_by : Explain → Text → Option Text → Asked
+eval_by No name sink = eval name sink
+eval_by Yes name sink = eval_explained name sink
+
+-- by the command and the words that are given to it
+abbrev pub asked_as : Text → Option Text → Option Text → Explain → Asked
+asked_as name graph sink explain =
+    if bytes_eq name (codes "check") then check_by explain (unwrap_or graph [])
+    else if bytes_eq name (codes "eval") then eval_by explain (unwrap_or graph []) sink
     else if bytes_eq name (codes "draw") then draw (unwrap_or graph [])
     else replay
 
@@ -101,6 +130,7 @@ abbrev pub asked_by : Option (Text × List Row) → Asked
 asked_by None = replay
 asked_by (Some command) =
     asked_as command.0 (first_of (codes "graph") command.1) (first_of (codes "sink") command.1)
+    (explain_of (first_of (codes "explain") command.1))
 
 -- what the words ask for, by the command that clap finds in them
 unfoldable pub asked_in : List Text → Asked
@@ -128,16 +158,34 @@ AskEval words name sink = Asks words (eval name sink)
 abbrev pub AskDraw : List Text → Text → Type 0
 AskDraw words name = Asks words (draw name)
 
+-- the words ask for a check, and for an evaluation, and for an explanation of a fault
+abbrev pub AskCheckExplained : List Text → Text → Type 0
+AskCheckExplained words name = Asks words (check_explained name)
+
+abbrev pub AskEvalExplained : List Text → Text → Option Text → Type 0
+AskEvalExplained words name sink = Asks words (eval_explained name sink)
+
+-- the name of the graph's file of which something is asked for
+abbrev pub graph_asked : Asked → Option Text
+graph_asked replay = None
+graph_asked (check name) = Some name
+graph_asked (eval name sink) = Some name
+graph_asked (draw name) = Some name
+graph_asked (check_explained name) = Some name
+graph_asked (eval_explained name sink) = Some name
+
 -- the words ask for something of the graph in the file of this name
-abbrev pub AskGraph : List Text → Text → Type 0
-AskGraph words name =
-    AskCheck words name ⊎ (((sink : Option Text) × AskEval words name sink) ⊎ AskDraw words name)
+pub record AskGraph (words : List Text) (name : Text) : Type 0 where
+  pub what : Asked
+  pub asks : Asks words what
+  pub named : graph_asked what ≡ Some name
 
 -- what a call asks for
 abbrev pub asked_of : Call → Asked
 asked_of call.Replay = replay
-asked_of (call.Check name) = check name.now
-asked_of (call.Eval graph sink) = eval graph.now (option_map (λ s. s.now) sink)
+asked_of (call.Check graph explain) = check_by explain graph.now
+asked_of (call.Eval graph sink explain) =
+    eval_by explain graph.now (option_map (λ s. s.now) sink)
 asked_of (call.Draw name) = draw name.now
 
 -- the words as texts

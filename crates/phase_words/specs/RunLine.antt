@@ -5,7 +5,9 @@ use Rattle.clap.specs.ValueTests.{is_unsigned_in}
 use Rattle.clap.specs.Words.{App, Kinds, Row, Rule, Text, fault_of, first_of, matches_of, new_app, new_rule, with_rule}
 use Rattle.clap.specs.declared.builder.value_parser.ValueParser.TheVariants as vp
 use Rattle.clap.specs.declared.error.kind.ErrorKind.TheVariants.{DisplayHelp, DisplayVersion}
-use Rattle.phase_words.specs.CommandLine.{Refuse, graph_rule, sink_rule, with_version, without_own_name}
+use Rattle.phase_words.specs.CommandLine.{Refuse, explain_of, explain_rule, graph_rule, sink_rule, with_version, without_own_name}
+use Rattle.phase_words.specs.declared.call.Explain.{Explain}
+use Rattle.phase_words.specs.declared.call.Explain.TheVariants.{No, Yes}
 use Rattle.phase_words.specs.declared.call.RunCall.{RunCall}
 use Rattle.phase_words.specs.declared.call.TheConstants.{WORKERS, WORKERS_MAX}
 
@@ -19,10 +21,10 @@ workers_rule = record (new_rule (codes "workers")) {
   parser = Some (vp.Unsigned 1 WORKERS_MAX);
 }
 
--- the words behind `phase run`: a graph's file, a sink and a number of workers
+-- the words behind `phase run`: a graph's file, a sink, a number of workers and `--explain`
 unfoldable pub run_app : App
-run_app = with_rule (with_rule (with_rule (with_version
-    (without_own_name (new_app (codes "phase")))) graph_rule) sink_rule) workers_rule
+run_app = with_rule (with_rule (with_rule (with_rule (with_version
+    (without_own_name (new_app (codes "phase")))) graph_rule) sink_rule) workers_rule) explain_rule
 
 -- ---- what the words ask for
 
@@ -54,11 +56,12 @@ workers_of None = WORKERS
 workers_of (Some word) = workers_named word
 
 -- a run of the graph in the file of a name by so many workers, for all its sinks, or for the one of a
--- name
+-- name, with an explanation of a fault or without
 pub record Run : Type 0 where
   pub graph : Text
   pub sink : Option Text
   pub workers : ℕ
+  pub explain : Explain
 
 -- by what clap finds in the words
 abbrev pub run_by : List Row → Run
@@ -66,6 +69,7 @@ run_by rows = record {
   graph = unwrap_or (first_of (codes "graph") rows) [];
   sink = first_of (codes "sink") rows;
   workers = workers_of (first_of (codes "workers") rows);
+  explain = explain_of (first_of (codes "explain") rows);
 }
 
 unfoldable pub run_in : List Text → Run
@@ -78,7 +82,11 @@ pub record AsksRun (words : List Text) (what : Run) : Type 0 where
 
 abbrev pub AskRun : List Text → Text → Option Text → ℕ → Type 0
 AskRun words name sink workers =
-    AsksRun words (record { graph = name; sink = sink; workers = workers })
+    AsksRun words (record { graph = name; sink = sink; workers = workers; explain = No })
+
+abbrev pub AskRunExplained : List Text → Text → Option Text → ℕ → Type 0
+AskRunExplained words name sink workers =
+    AsksRun words (record { graph = name; sink = sink; workers = workers; explain = Yes })
 
 -- what a call asks for
 abbrev pub run_of : RunCall → Run
@@ -86,4 +94,5 @@ run_of call = record {
   graph = call.graph.now;
   sink = option_map (λ s. s.now) call.sink;
   workers = call.workers;
+  explain = call.explain;
 }

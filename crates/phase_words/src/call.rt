@@ -1,17 +1,30 @@
 //! What the words ask for, as plain data.
 
+/// Whether a fault is explained, behind its line.
+#[derive(Clone, Copy, Debug, PartialEq, Eq)]
+pub enum Explain {
+    /// The fault's line stands alone.
+    No,
+    /// Lines for a person stand behind it.
+    Yes,
+}
+
 /// What the words ask for.
 #[derive(Clone, Copy, Debug, PartialEq, Eq)]
 pub enum Call<'a> {
     /// A replay of the script on standard input.
     Replay,
     /// A check of the graph in the file of this name.
-    Check(&'a str),
+    Check {
+        graph: &'a str,
+        explain: Explain,
+    },
     /// An evaluation of the graph in the file of this name, for all its sinks, or for the one of a
     /// name.
     Eval {
         graph: &'a str,
         sink: Option<&'a str>,
+        explain: Explain,
     },
     /// A drawing of the graph in the file of this name.
     Draw(&'a str),
@@ -30,6 +43,7 @@ pub struct RunCall<'a> {
     pub graph: &'a str,
     pub sink: Option<&'a str>,
     pub workers: usize,
+    pub explain: Explain,
 }
 
 /// Why the words give no call.

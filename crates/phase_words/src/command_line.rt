@@ -4,15 +4,17 @@ ghost use Rattle.clap.specs.Words.{FailsBy, app_of, kind_of, rule_of, shape_of};
 ghost use Rattle.clap.specs.Words.{subcommand_rows_of};
 ghost use Rattle.clap.specs.declared.builder.command.Command.{out-Command};
 ghost use Rattle.phase_words.specs.CommandLine.{Asks, IsNoCall, IsShown, IsToldBy};
-ghost use Rattle.phase_words.specs.CommandLine.{asked_as, asked_by, asked_in, asked_of, eval_shape};
-ghost use Rattle.phase_words.specs.CommandLine.{graph_app, graph_rule, kinds_of, phase_app, sink_rule, texts};
+ghost use Rattle.phase_words.specs.CommandLine.{asked_as, asked_by, asked_in, asked_of, check_shape};
+ghost use Rattle.phase_words.specs.CommandLine.{eval_shape, explain_of, explain_rule, graph_app, graph_rule};
+ghost use Rattle.phase_words.specs.CommandLine.{kinds_of, phase_app, sink_rule, texts};
 
 use crate::help::{
-    ABOUT, CHECK, CHECK_END, DRAW, DRAW_END, END, EVAL, EVAL_END, GRAPH, REPLAY, SINK, VERSION,
+    ABOUT, CHECK, CHECK_END, DRAW, DRAW_END, END, EVAL, EVAL_END, EXPLAIN, GRAPH, REPLAY, SINK,
+    VERSION,
 };
-use crate::{Call, NoCall};
+use crate::{Call, Explain, NoCall};
 use clap::error::ErrorKind;
-use clap::{Arg, ArgMatches, Command, Error};
+use clap::{Arg, ArgAction, ArgMatches, Command, Error};
 use std::alloc::{AllocError, Global};
 
 /// The word behind `check`, `eval`, `draw` and `run`, which has to be given: the name of a graph's
@@ -38,6 +40,17 @@ pub(crate) fn sink_word<'a>(alloc: Global) -> Arg<'a>
         .help(SINK)
 }
 
+/// The word `--explain`, which may be given.
+pub(crate) fn explain_word<'a>(alloc: Global) -> Arg<'a>
+    ensures rule { rule_of result ≡ explain_rule }
+    ensures local { result.global ≡ false }
+{
+    Arg::new(alloc, "explain")
+        .long("explain")
+        .action(ArgAction::SetTrue)
+        .help(EXPLAIN)
+}
+
 /// A command with one word, the name of a graph's file.
 fn graph_command<'a>(
     alloc: Global,
@@ -54,12 +67,22 @@ fn graph_command<'a>(
         .arg(graph_word(alloc))
 }
 
+/// The command `check`.
+fn check_command<'a>(alloc: Global) -> Result<Command<'a>, AllocError>
+    ensures shape { IfOk result (λ c. shape_of c ≡ check_shape) }
+    ensures local { IfOk result (λ c. (out-Command c).has_globals ≡ false) }
+{
+    graph_command(alloc, "check", CHECK, CHECK_END)?.arg(explain_word(alloc))
+}
+
 /// The command `eval`.
 fn eval_command<'a>(alloc: Global) -> Result<Command<'a>, AllocError>
     ensures shape { IfOk result (λ c. shape_of c ≡ eval_shape) }
     ensures local { IfOk result (λ c. (out-Command c).has_globals ≡ false) }
 {
-    graph_command(alloc, "eval", EVAL, EVAL_END)?.arg(sink_word(alloc))
+    graph_command(alloc, "eval", EVAL, EVAL_END)?
+        .arg(sink_word(alloc))?
+        .arg(explain_word(alloc))
 }
 
 /// The program's command line.
@@ -73,7 +96,7 @@ fn command<'a>(alloc: Global) -> Result<Command<'a>, AllocError>
         .after_help(END)
         .bin_name("phase")?
         .subcommand(Command::new(alloc, "replay").about(REPLAY).after_help(END))?
-        .subcommand(graph_command(alloc, "check", CHECK, CHECK_END)?)?
+        .subcommand(check_command(alloc)?)?
         .subcommand(eval_command(alloc)?)?
         .subcommand(graph_command(alloc, "draw", DRAW, DRAW_END)?)
 }
@@ -89,19 +112,34 @@ fn call_of<'a>(matches: &ArgMatches<'a>) -> Call<'a>
         name,
         own.get_str("graph").unwrap_or(""),
         own.get_str("sink"),
+        explain_of(own.get_str("explain")),
     )
 }
 
+/// Whether the value that clap gives `--explain`, or none, is that of a flag that stands there.
+pub(crate) fn explain_of(value: Option<&str>) -> Explain
+    ensures { result ≡ explain_of (option_map (λ s. s.now) value.entry) }
+{
+    match value {
+        Some(value) if value == "true" => Explain::Yes,
+        _ => Explain::No,
+    }
+}
+
 /// What a command with the name of a file, and that of a sink or none, asks for.
-fn call_named<'a>(name: &str, graph: &'a str, sink: Option<&'a str>) -> Call<'a>
+fn call_named<'a>(name: &str, graph: &'a str, sink: Option<&'a str>, explain: Explain) -> Call<'a>
     ensures { asked_of result
-        ≡ asked_as name.now (Some graph.now) (option_map (λ s. s.now) sink.entry) }
+        ≡ asked_as name.now (Some graph.now) (option_map (λ s. s.now) sink.entry) explain }
 {
     if name == "check" {
-        return Call::Check(graph);
+        return Call::Check { graph, explain };
     }
     if name == "eval" {
-        return Call::Eval { graph, sink };
+        return Call::Eval {
+            graph,
+            sink,
+            explain,
+        };
     }
     if name == "draw" {
         return Call::Draw(graph);

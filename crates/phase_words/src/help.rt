@@ -28,6 +28,9 @@ pub(crate) const GRAPH: &str = "The file of the graph, of at most 1048576 bytes"
 /// What the word behind `--sink` is.
 pub(crate) const SINK: &str = "Write the values of this sink alone, each on a line";
 
+/// What the word `--explain` is.
+pub(crate) const EXPLAIN: &str = "Say more of a fault, behind its line";
+
 /// What `phase run` does.
 pub(crate) const RUN: &str = "\
 Writes the values of each sink of a graph, by a run of its tasks on worker
@@ -64,6 +67,8 @@ Example: where the file `sums` holds the three lines
 and the file `numbers` the lines 1, 2 and 3, `phase check sums` writes
   ok phasers 1 tasks 2
 
+Files are opened from the current folder, by their names as they are written.
+
 Exit status: 0 done; 1 the graph or its samples are refused; 2 the words were
 not understood; 5 a read or a write failed, or memory ran out.";
 
@@ -82,6 +87,8 @@ and the file `numbers` the lines 1, 2 and 3, `phase eval sums` writes
   5
 and `phase eval sums --sink out` the last three of these lines, which may be the
 samples of another source.
+
+Files are opened from the current folder, by their names as they are written.
 
 Exit status: 0 done; 1 the graph or its samples are refused, or no sink has the
 name; 2 the words were not understood; 3 a value is out of range; 5 a read or a
@@ -120,6 +127,8 @@ and the file `numbers` the lines 1, 2 and 3, `phase run sums` writes
   1
   3
   5
+
+Files are opened from the current folder, by their names as they are written.
 
 Exit status: 0 done; 1 the graph or its samples are refused, or no sink has the
 name; 2 the words were not understood; 3 a value is out of range; 4 every task

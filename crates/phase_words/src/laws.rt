@@ -1,8 +1,9 @@
 //! What clap makes of the words that the program's pages name.
 ghost use Rattle.std.specs.Prelude.{◌≤◌, ℕ, List, Option, [], ◌∷◌, Some, None, codes};
 ghost use Rattle.phase_words.specs.CommandLine.{AreRefused, AskCheck, AskDraw, AskEval, AskHelp};
-ghost use Rattle.phase_words.specs.CommandLine.{AskReplay, AskVersion};
-ghost use Rattle.phase_words.specs.RunLine.{AreRunRefused, AskRun, AskRunHelp, AskRunVersion};
+ghost use Rattle.phase_words.specs.CommandLine.{AskCheckExplained, AskEvalExplained, AskReplay, AskVersion};
+ghost use Rattle.phase_words.specs.RunLine.{AreRunRefused, AskRun, AskRunExplained, AskRunHelp};
+ghost use Rattle.phase_words.specs.RunLine.{AskRunVersion, AsksRun, Run};
 
 /// `phase` and `phase replay` ask for a replay.
 pub fn words_for_replay()
@@ -30,6 +31,20 @@ pub fn words_for_drawings()
     ensures no_file { AreRefused (codes "draw" ∷ []) }
     ensures two_files { AreRefused (codes "draw" ∷ codes "g" ∷ codes "h" ∷ []) }
     ensures sink { AreRefused (codes "draw" ∷ codes "g" ∷ codes "--sink" ∷ codes "out" ∷ []) }
+{}
+
+/// `--explain` asks of a check, of an evaluation and of a run that a fault is explained; a drawing
+/// has none.
+pub fn words_for_explanations()
+    ensures check { AskCheckExplained (codes "check" ∷ codes "g" ∷ codes "--explain" ∷ []) (codes "g") }
+    ensures first { AskCheckExplained (codes "check" ∷ codes "--explain" ∷ codes "g" ∷ []) (codes "g") }
+    ensures eval { AskEvalExplained (codes "eval" ∷ codes "g" ∷ codes "--explain" ∷ [])
+        (codes "g") None }
+    ensures sink { AskEvalExplained
+        (codes "eval" ∷ codes "--explain" ∷ codes "g" ∷ codes "--sink" ∷ codes "out" ∷ [])
+        (codes "g") (Some (codes "out")) }
+    ensures run { AskRunExplained (codes "g" ∷ codes "--explain" ∷ []) (codes "g") None 4 }
+    ensures draw { AreRefused (codes "draw" ∷ codes "g" ∷ codes "--explain" ∷ []) }
 {}
 
 /// `--help` and `-h` ask for help, alone and behind each command.
@@ -82,6 +97,8 @@ pub fn runs_have_workers()
         → AskRun words name sink workers → 1 ≤ workers }
     ensures most { (words : List (List ℕ)) (name : List ℕ) (sink : Option (List ℕ)) (workers : ℕ)
         → AskRun words name sink workers → workers ≤ 16 }
+    ensures any { (words : List (List ℕ)) (what : Run) → AsksRun words what
+        → (1 ≤ what.workers) × (what.workers ≤ 16) }
 {}
 
 /// A run has one graph, and no number of workers is taken but one from 1 to 16.

@@ -9,6 +9,6 @@ mod help;
 pub mod laws;
 mod run_line;
 
-pub use call::{Call, NoCall, RunCall, WORKERS, WORKERS_MAX};
+pub use call::{Call, Explain, NoCall, RunCall, WORKERS, WORKERS_MAX};
 pub use command_line::read_words;
 pub use run_line::read_run_words;

@@ -2,10 +2,10 @@
 ghost use Rattle.std.specs.Prelude.{◌≡◌, IfOk, IfErr, false, option_map};
 ghost use Rattle.clap.specs.Words.{FailsBy, app_of, found_of, rows_of, rule_of};
 ghost use Rattle.phase_words.specs.CommandLine.{ExplainsNone, texts};
-ghost use Rattle.phase_words.specs.RunLine.{AskRun, run_app, run_by, run_in, run_kinds_of, run_of};
+ghost use Rattle.phase_words.specs.RunLine.{AsksRun, run_app, run_by, run_in, run_kinds_of, run_of};
 ghost use Rattle.phase_words.specs.RunLine.{workers_of, workers_rule};
 
-use crate::command_line::{graph_word, no_call, sink_word};
+use crate::command_line::{explain_of, explain_word, graph_word, no_call, sink_word};
 use crate::help::{RUN, RUN_END, VERSION, WORKERS_WORD};
 use crate::{NoCall, RunCall, WORKERS, WORKERS_MAX};
 use clap::builder::ValueParser;
@@ -36,7 +36,8 @@ fn run_command<'a>(alloc: Global) -> Result<Command<'a>, AllocError>
         .bin_name("phase run")?
         .arg(graph_word(alloc))?
         .arg(sink_word(alloc))?
-        .arg(workers_word(alloc))
+        .arg(workers_word(alloc))?
+        .arg(explain_word(alloc))
 }
 
 /// What the words ask for, by what clap found in them.
@@ -47,6 +48,7 @@ fn call_of<'a>(matches: &ArgMatches<'a>) -> RunCall<'a>
         graph: matches.get_str("graph").unwrap_or(""),
         sink: matches.get_str("sink"),
         workers: workers_of(matches.get_str("workers")),
+        explain: explain_of(matches.get_str("explain")),
     }
 }
 
@@ -76,8 +78,7 @@ fn parse<'a>(alloc: Global, words: &'a [String]) -> Result<RunCall<'a>, Error>
 /// Reads the words behind `phase run`. Where they ask for help or for the version, or are refused, the
 /// text is clap's.
 pub fn read_run_words<'a>(alloc: Global, words: &'a [String]) -> Result<RunCall<'a>, NoCall>
-    ensures call { IfOk result (λ call. AskRun (texts words.now) call.graph.now
-        (option_map (λ s. s.now) call.sink) call.workers) }
+    ensures call { IfOk result (λ call. AsksRun (texts words.now) (run_of call)) }
     ensures no_call { IfErr result (λ none. ExplainsNone (run_kinds_of (texts words.now)) none) }
 {
     match parse(alloc, words) {

@@ -1,6 +1,7 @@
 -- How a run of a graph ends: its status, and what stands on its streams then.
 use Rattle.std.specs.Prelude.{◌≡◌, ◌≢◌, ◌⊎◌, ℕ, List, codes}
 use Rattle.std.specs.declared.option.Option.{Option}
+use Rattle.graph_commands.specs.Explained.{IsNoJobExplained}
 use Rattle.graph_commands.specs.FileJobs.{IsJobOf, Known}
 use Rattle.graph_commands.specs.GraphRuns.{Evaluates, EvaluatesPrefix, IsNoJob, IsNoSink, IsTooBig, IsUnwritten}
 use Rattle.phase_status.specs.Statuses.{Says}
@@ -41,3 +42,10 @@ pub record RunEnds {W : Type 0} (known : Known) (name : List ℕ) (asked : Optio
   pub done : status ≡ 0
       → Evaluates known name asked (writer_state contents old) (writer_state contents new)
   pub stops : status ≢ 0 → RunStops known name asked status contents old new before after
+
+-- how a run ends that explains: as one that does not, or the files tell no job
+abbrev pub RunEndsExplained : {W : Type 0} → Known → List ℕ → Option (List ℕ) → ℕ
+    → (W → Option (List ℕ)) → Watched W → Watched W → WriterState → WriterState → Type 0
+RunEndsExplained known name asked status contents old new before after =
+    RunEnds known name asked status contents old new before after
+    ⊎ IsNoJobExplained known name status old new before after

@@ -3,12 +3,12 @@ ghost use Rattle.std.specs.Prelude.{◌≡◌, ◌⊎◌, ℕ, List, Option, opt
 ghost use Rattle.graph_commands.specs.FileJobs.{IsJobOf, Known};
 ghost use Rattle.graph_commands.specs.GraphRuns.{AsksSink};
 ghost use Rattle.phase_status.specs.Statuses.{Says};
-ghost use Rattle.run_command.specs.Runs.{RunEnds, stalled_line};
+ghost use Rattle.run_command.specs.Runs.{RunEnds, RunEndsExplained, stalled_line};
 ghost use Rattle.watched_io.specs.States.{writer_state};
 
 use graph_commands::{
-    find_sink, read_job, report_job_fault, report_no_sink, report_too_big, report_written,
-    write_sinks,
+    Refuses, find_sink, read_job, read_job_or_explain, report_job_fault, report_no_sink,
+    report_too_big, report_written, write_sinks,
 };
 use phase_status::{STALLED, report, say};
 use std::alloc::Global;
@@ -46,6 +46,31 @@ pub fn run_and_report<H: Threads + Wait + Sync, W: Write, E: Write, F: Files>(
     match read_job(alloc, files, name) {
         Ok(job) => run_asked(rt, alloc, &job, sink, workers, output, faults),
         Err(fault) => report_job_fault(&fault, faults),
+    }
+}
+
+/// As `run_and_report`, and the line of a refusal or a fault of the files is explained to a person
+/// behind it.
+pub fn run_and_explain<H: Threads + Wait + Sync, W: Write, E: Write, F: Files + Refuses>(
+    rt: &H,
+    alloc: Global,
+    name: &str,
+    sink: Option<&str>,
+    workers: usize,
+    output: &mut Watched<W>,
+    faults: &mut Watched<E>,
+    files: &mut F,
+) -> u8
+    ensures status { (result ≡ 0) ⊎ ((result ≡ 1) ⊎ ((result ≡ 3) ⊎ ((result ≡ 4)
+        ⊎ (result ≡ 5)))) }
+    ensures ends { RunEndsExplained (F.file files.old) name.now
+        (option_map (λ s. s.now) sink.entry) result W.contents output.old output.new
+        (writer_state E.contents faults.old) (writer_state E.contents faults.new) }
+    ensures quiet { result ≡ 0 → faults.new ≡ faults.old }
+{
+    match read_job_or_explain(alloc, files, name, faults) {
+        Ok(read) => run_asked(rt, alloc, &read, sink, workers, output, faults),
+        Err(status) => status,
     }
 }
 

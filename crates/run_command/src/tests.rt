@@ -1,5 +1,6 @@
 //! Runs of graphs on files that are held in memory. What is expected was worked out by hand.
-use crate::run_and_report;
+use crate::{run_and_explain, run_and_report};
+use graph_commands::{Refusal, Refuses};
 use std::alloc::Global;
 use std::sync::Wait;
 use std::test::Fail;
@@ -26,6 +27,12 @@ impl Files for Held<'_> {
             }
             _ => Err(FileFault::ReadFault),
         }
+    }
+}
+
+impl Refuses for Held<'_> {
+    fn refused(&self) -> Option<(&str, Refusal)> {
+        None
     }
 }
 
@@ -112,5 +119,42 @@ fn a_splitter_and_a_filter_stall_on_one_bus(rt: HostRuntime) -> Result<(), Fail>
     assert!(rt; ends(&rt, rt.alloc(), bus, "1\n2\n3\n4\n5\n6\n", None, six)?);
     let seven = (4, "", "phase: stalled\n");
     assert!(rt; ends(&rt, rt.alloc(), bus, "1\n2\n3\n4\n5\n6\n7\n", None, seven)?);
+    Ok(())
+}
+
+#[test]
+fn a_fault_of_the_files_is_explained(rt: HostRuntime) -> Result<(), Fail> {
+    let alloc = rt.alloc();
+    let rows = [
+        (
+            "phaser X sum 0\n",
+            1,
+            "phase: graph line 1: limit\n  phaser X sum 0\n               ^\n  \
+            expected: a bound from 1 to 65536\n",
+        ),
+        (FIR, 0, ""),
+    ];
+    for (graph, wanted, line) in rows {
+        let mut text = Vec::new(alloc);
+        let mut told = Vec::new(alloc);
+        let mut output = Watched::new(&mut text);
+        let mut faults = Watched::new(&mut told);
+        let mut files = Held {
+            graph,
+            samples: "1\n2\n3\n",
+        };
+        let status = run_and_explain(
+            &rt,
+            alloc,
+            "g",
+            None,
+            2,
+            &mut output,
+            &mut faults,
+            &mut files,
+        );
+        assert_eq!(rt; status, wanted);
+        assert_eq!(rt; told.as_slice(), line.as_bytes());
+    }
     Ok(())
 }

@@ -1,8 +1,8 @@
 use Rattle.std.proofs.Common.{inl, inr, refl, sym, subst, ap, ◌∙◌, ℕ, List, Option}
 use Rattle.phase_words.specs.CommandLine.{texts}
 use Rattle.phase_words.specs.RunLine.{Run}
-use Rattle.run_command.specs.Runs.{RunEnds}
 use Rattle.watched_io.specs.States.{writer_state}
+use Rattle.phase_run.specs.Ends.{RunEndsBy}
 use Rattle.phase_run.proofs.Asking.{may-end-answered, may-end-taken, refused-silent, taken-memory}
 use Rattle.phase_run.proofs.cli.run_cli.Goals as goal
 
@@ -10,17 +10,27 @@ use Rattle.phase_run.proofs.cli.run_cli.Goals as goal
 
 pub returns-in-Ok-clause-status : goal.returns-in-Ok-clause-status
 returns-in-Ok-clause-status g c =
-    may-end-taken _ _ c.in-Ok.ensures.call.taken c.run_and_report.ensures.status
+    may-end-taken _ _ c.in-Ok.ensures.call.taken c.run_call.ensures.status
 
 pub returns-in-Ok-clause-run : goal.returns-in-Ok-clause-run
 returns-in-Ok-clause-run g c =
     λ name sink workers asks.
     let same = sym c.in-Ok.ensures.call.run ∙ asks.run in
-    inr (subst (λ (what : Run). RunEnds (g.F.Files.file c.args.files.now) what.graph
-    what.sink c.run_and_report.result g.W.Write.contents c.args.output.now
-    c.run_and_report.new.output (writer_state g.E.Write.contents c.args.faults.now)
-    (writer_state g.E.Write.contents c.run_and_report.new.faults))
-    same c.run_and_report.ensures.ends)
+    inr (subst (λ (what : Run). RunEndsBy what.explain (g.F.Files.file c.args.files.now) what.graph
+    what.sink c.run_call.result g.W.Write.contents c.args.output.now
+    c.run_call.new.output (writer_state g.E.Write.contents c.args.faults.now)
+    (writer_state g.E.Write.contents c.run_call.new.faults))
+    same c.run_call.ensures.ends)
+
+pub returns-in-Ok-clause-explained : goal.returns-in-Ok-clause-explained
+returns-in-Ok-clause-explained g c =
+    λ name sink workers asks.
+    let same = sym c.in-Ok.ensures.call.run ∙ asks.run in
+    inr (subst (λ (what : Run). RunEndsBy what.explain (g.F.Files.file c.args.files.now) what.graph
+    what.sink c.run_call.result g.W.Write.contents c.args.output.now
+    c.run_call.new.output (writer_state g.E.Write.contents c.args.faults.now)
+    (writer_state g.E.Write.contents c.run_call.new.faults))
+    same c.run_call.ensures.ends)
 
 pub returns-in-Ok-clause-answered : goal.returns-in-Ok-clause-answered
 returns-in-Ok-clause-answered g c = λ untaken. absurd (untaken c.in-Ok.ensures.call.taken)
@@ -36,6 +46,12 @@ returns-in-Err-clause-status g c =
 
 pub returns-in-Err-clause-run : goal.returns-in-Err-clause-run
 returns-in-Err-clause-run g c =
+    λ name sink workers asks.
+    let memory = taken-memory _ c.in-Err.none _ _ _ _ _ asks.taken c.in-Err.ensures.no_call c.answer.ensures.answer in
+    inl (record { status_is = memory.0; unopened = refl; silent = memory.1.0; says = memory.1.1 })
+
+pub returns-in-Err-clause-explained : goal.returns-in-Err-clause-explained
+returns-in-Err-clause-explained g c =
     λ name sink workers asks.
     let memory = taken-memory _ c.in-Err.none _ _ _ _ _ asks.taken c.in-Err.ensures.no_call c.answer.ensures.answer in
     inl (record { status_is = memory.0; unopened = refl; silent = memory.1.0; says = memory.1.1 })

@@ -2,7 +2,7 @@
 use Rattle.std.proofs.Common.{◌≡◌, ◌∙◌, [], Some, codes, option_map, unwrap_or, sym, ap, ap₂}
 use Rattle.clap.proofs.WalkLemmas.{first_value-rows}
 use Rattle.clap.specs.Words.{first_of, found_of, rows_of, subcommand_rows_of}
-use Rattle.phase_words.specs.CommandLine.{asked_as, asked_by}
+use Rattle.phase_words.specs.CommandLine.{asked_as, asked_by, explain_of}
 use Rattle.phase_words.proofs.Called.{found-both, found-name, now-unwrap_or}
 use Rattle.phase_words.proofs.command_line.call_of.Goals as goal
 
@@ -20,4 +20,9 @@ returns c =
     ∙ first_value-rows (found_of c.in-Some.own.now) (codes "graph"))) in
     let sink : option_map (λ s. s.now) c.get_str-2.result ≡ first_of (codes "sink") rows =
     c.get_str-2.ensures ∙ first_value-rows (found_of c.in-Some.own.now) (codes "sink") in
-    c.call_named.ensures ∙ (ap₂ (λ g s. asked_as name (Some g) s) graph sink ∙ sym (ap asked_by is))
+    let explain : c.explain_of.result ≡ explain_of (first_of (codes "explain") rows) =
+    c.explain_of.ensures ∙ ap explain_of (c.get_str-3.ensures
+    ∙ first_value-rows (found_of c.in-Some.own.now) (codes "explain")) in
+    c.call_named.ensures ∙ (ap₂ (λ g s. asked_as name (Some g) s c.explain_of.result) graph sink
+    ∙ (ap (λ e. asked_as name (first_of (codes "graph") rows) (first_of (codes "sink") rows) e) explain
+    ∙ sym (ap asked_by is)))

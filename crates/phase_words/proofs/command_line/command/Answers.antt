@@ -15,7 +15,7 @@ returns c =
     let replay_local =
     ap (λ f. f.has_globals) c.after_help-2.ensures
     ∙ (ap (λ f. f.has_globals) c.about-2.ensures ∙ c.new-2.ensures.local) in
-    let check = c.in_ok-graph_command.ensures in
+    let check = c.in_ok-check_command.ensures in
     let eval = c.in_ok-eval_command.ensures in
     let named = c.in_ok-bin_name in
     let phase_is : app_of named.field-0 ≡ with_version (without_own_name (new_app (codes "phase"))) =
@@ -25,9 +25,9 @@ returns c =
     ∙ ap (λ a. with_version (without_own_name a)) c.new.ensures.app)))) in
     let one = c.in_ok-subcommand.ensures.shape replay_local
     ∙ ap₂ with_subcommand phase_is replay_is in
-    let two = c.in_ok-subcommand-2.ensures.shape check.local ∙ ap₂ with_subcommand one (ap (λ (a : App). a.top) check.app) in
+    let two = c.in_ok-subcommand-2.ensures.shape check.local ∙ ap₂ with_subcommand one check.shape in
     let three = c.in_ok-subcommand-3.ensures.shape eval.local ∙ ap₂ with_subcommand two eval.shape in
-    let draw = c.in_ok-graph_command-2.ensures in
+    let draw = c.in_ok-graph_command.ensures in
     IfOk-weaker c.subcommand-4.result _ _
     (λ r adds. adds.shape draw.local ∙ ap₂ with_subcommand three (ap (λ (a : App). a.top) draw.app))
     c.subcommand-4.ensures

@@ -2,6 +2,7 @@
 use Rattle.std.proofs.Common.{◌≡◌, ◌∙◌, [], codes, option_map, unwrap_or, refl, ap}
 use Rattle.clap.proofs.WalkLemmas.{first_value-rows}
 use Rattle.clap.specs.Words.{first_of, found_of, rows_of}
+use Rattle.phase_words.specs.CommandLine.{explain_of}
 use Rattle.phase_words.specs.RunLine.{workers_of}
 use Rattle.phase_words.proofs.Called.{now-unwrap_or}
 use Rattle.phase_words.proofs.run_line.call_of.Goals as goal
@@ -18,4 +19,7 @@ returns c =
     let workers : c.workers_of.result ≡ workers_of (first_of (codes "workers") rows) =
     c.workers_of.ensures ∙ ap workers_of (c.get_str-3.ensures
     ∙ first_value-rows found (codes "workers")) in
-    rw (graph, sink, workers) refl
+    let explain : c.explain_of.result ≡ explain_of (first_of (codes "explain") rows) =
+    c.explain_of.ensures ∙ ap explain_of (c.get_str-4.ensures
+    ∙ first_value-rows found (codes "explain")) in
+    rw (graph, sink, workers, explain) refl

@@ -20,6 +20,8 @@ returns c =
     ∙ ap₂ with_rule phase_is c.graph_word.ensures.rule in
     let two = c.in_ok-arg-2.ensures.shape c.sink_word.ensures.local
     ∙ ap₂ with_rule one c.sink_word.ensures.rule in
-    IfOk-weaker c.arg-3.result _ _
-    (λ r adds. adds.shape c.workers_word.ensures.local
-    ∙ ap₂ with_rule two c.workers_word.ensures.rule) c.arg-3.ensures
+    let three = c.in_ok-arg-3.ensures.shape c.workers_word.ensures.local
+    ∙ ap₂ with_rule two c.workers_word.ensures.rule in
+    IfOk-weaker c.arg-4.result _ _
+    (λ r adds. adds.shape c.explain_word.ensures.local
+    ∙ ap₂ with_rule three c.explain_word.ensures.rule) c.arg-4.ensures

@@ -1,0 +1,39 @@
+use Rattle.std.proofs.Common.{sym, subst}
+use Rattle.graph_commands.specs.Explained.{IsTextOf}
+use Rattle.graph_commands.specs.FileJobs.{Explains, IsJobOf, Known}
+use Rattle.graph_commands.proofs.Counted.{known-same}
+use Rattle.graph_commands.proofs.explained.read_job_or_explain.Goals as goal
+
+-- the file was read, and its text gives a job
+pub returns-in-Ok-job_of_text-clause-ok : goal.returns-in-Ok-job_of_text-clause-ok
+returns-in-Ok-job_of_text-clause-ok g c =
+    let name = c.args.name.now in
+    let same = known-same (g.F.Files.file c.read.new.self) (g.F.Files.file c.args.files.now)
+    c.in-Ok.ensures.kept in
+    let of : IsTextOf (g.F.Files.file c.read.new.self) name c.deref.result.now = rw c.deref.ensures.value
+    (subst (λ (known : Known). IsTextOf known name c.in-Ok.text.items) (sym same)
+    (record { bytes = c.in-Ok.ensures.bytes; short = c.in-Ok.ensures.short })) in
+    subst (λ (known : Known). IsJobOf known name c.in-Ok-job_of_text.job) same
+    (c.in-Ok-job_of_text.ensures.ok name of)
+
+-- its text gives none
+pub returns-in-Ok-clause-err : goal.returns-in-Ok-clause-err
+returns-in-Ok-clause-err g c =
+    let name = c.args.name.now in
+    let same = known-same (g.F.Files.file c.read.new.self) (g.F.Files.file c.args.files.now)
+    c.in-Ok.ensures.kept in
+    let of : IsTextOf (g.F.Files.file c.read.new.self) name c.deref.result.now = rw c.deref.ensures.value
+    (subst (λ (known : Known). IsTextOf known name c.in-Ok.text.items) (sym same)
+    (record { bytes = c.in-Ok.ensures.bytes; short = c.in-Ok.ensures.short })) in
+    let here : IsTextOf (g.F.Files.file c.args.files.now) name c.deref-in-Err.result.now =
+    rw c.deref-in-Err.ensures.value
+    (record { bytes = c.in-Ok.ensures.bytes; short = c.in-Ok.ensures.short }) in
+    record {
+      found = c.in-Err.fault;
+      explains = subst (λ (known : Known). Explains known name c.in-Err.fault) same
+          (c.in-Err.ensures.fault name of);
+      status_is = c.report_explained.ensures.status;
+      text = c.deref-in-Err.result.now;
+      text_of = λ _. here;
+      explained = c.report_explained.ensures.told;
+    }

@@ -1,0 +1,89 @@
+-- What is told of a graph's file that gives no job, where it is explained: the line of the fault, as it
+-- is told without an explanation, and then what is said further.
+use Rattle.std.specs.Prelude.{◌≡◌, ◌⊎◌, ◌≤◌, ◌++◌, ℕ, List, [], length, codes, ⊤}
+use Rattle.graph_commands.specs.FileJobs.{Explains, Known}
+use Rattle.graph_commands.specs.GraphRuns.{CheckEnds, EvalEnds, job_line, job_status}
+use Rattle.graph_commands.specs.declared.fault.JobFault.{JobFault}
+use Rattle.graph_commands.specs.declared.fault.JobFault.TheVariants as fault
+use Rattle.graph_commands.specs.declared.graph_file.TheConstants.{GRAPH_MAX}
+use Rattle.graph_explain.specs.Explanations.{ExplainsLine}
+use Rattle.phase_status.specs.Statuses.{Says}
+use Rattle.std.specs.declared.option.Option.{Option}
+use Rattle.watched_io.specs.Files.{HasBytes}
+use Rattle.watched_io.specs.States.{WriterState}
+use Rattle.watched_io.specs.declared.watched.Watched.{Watched}
+
+-- the text is that of the file of this name
+pub record IsTextOf (known : Known) (name text : List ℕ) : Type 0 where
+  pub bytes : HasBytes (known name) text
+  pub short : length text ≤ GRAPH_MAX
+
+-- ---- what is said further
+
+-- what a sample is
+abbrev pub record_wanted : List ℕ
+record_wanted =
+    codes "  expected: one whole number, from -9223372036854775807 to 9223372036854775807\n"
+
+-- the name of a file, and why it was refused
+pub record TellsRefusal (more : List ℕ) : Type 0 where
+  pub file : List ℕ
+  pub why : List ℕ
+  pub is : more ≡ codes "  " ++ file ++ codes ": " ++ why ++ codes "\n"
+
+-- the text explains a fault; of the graph, by the line of that
+abbrev pub Tells : List ℕ → JobFault → List ℕ → Type 0
+Tells text (fault.Graph found) more = ExplainsLine text found more
+Tells text (fault.BadSample name number) more = more ≡ record_wanted
+Tells text fault.ReadFault more = TellsRefusal more
+Tells text fault.OutOfMemory more = ⊥
+
+-- what is said further explains the fault; it is nothing where memory ran out or nothing is known
+abbrev pub IsFurther : List ℕ → JobFault → List ℕ → Type 0
+IsFurther text found more = (more ≡ []) ⊎ Tells text found more
+
+-- the line of a fault was told, and then what is said further
+pub record Explained (text : List ℕ) (found : JobFault) (before after : WriterState) : Type 0 where
+  pub told : WriterState
+  pub says : Says (job_line found) before told
+  pub more : List ℕ
+  pub more_is : IsFurther text found more
+  pub further : Says more told after
+
+-- ---- why there is no job
+
+-- the fault is one of the graph's text
+abbrev pub IsOfText : JobFault → Type 0
+IsOfText (fault.Graph found) = ⊤
+IsOfText (fault.BadSample name number) = ⊥
+IsOfText fault.ReadFault = ⊥
+IsOfText fault.OutOfMemory = ⊥
+
+-- the files tell no job, or memory ran out; its line was told, and then an explanation
+pub record ExplainsNoJob (known : Known) (name : List ℕ) (status : ℕ)
+    (before after : WriterState) : Type 0 where
+  pub found : JobFault
+  pub explains : Explains known name found
+  pub status_is : status ≡ job_status found
+  pub text : List ℕ
+  pub text_of : IsOfText found → IsTextOf known name text
+  pub explained : Explained text found before after
+
+-- and nothing was written to the output
+pub record IsNoJobExplained {W : Type 0} (known : Known) (name : List ℕ) (status : ℕ)
+    (old new : Watched W) (before after : WriterState) : Type 0 where
+  pub no_job : ExplainsNoJob known name status before after
+  pub silent : new ≡ old
+
+-- how a check and an evaluation end that explain: as without that, or the files tell no job
+abbrev pub CheckEndsExplained : {W : Type 0} → Known → List ℕ → ℕ → (W → Option (List ℕ))
+    → Watched W → Watched W → WriterState → WriterState → Type 0
+CheckEndsExplained known name status contents old new before after =
+    CheckEnds known name status contents old new before after
+    ⊎ IsNoJobExplained known name status old new before after
+
+abbrev pub EvalEndsExplained : {W : Type 0} → Known → List ℕ → Option (List ℕ) → ℕ
+    → (W → Option (List ℕ)) → Watched W → Watched W → WriterState → WriterState → Type 0
+EvalEndsExplained known name asked status contents old new before after =
+    EvalEnds known name asked status contents old new before after
+    ⊎ IsNoJobExplained known name status old new before after

@@ -1,0 +1,156 @@
+//! The job of a graph's file, or why there is none, told and explained.
+ghost use Rattle.std.specs.Prelude.{◌≡◌, ◌⊎◌, ℕ, List, [], IfOk, IfErr, OnOk};
+ghost use Rattle.graph_commands.specs.Explained.{Explained, ExplainsNoJob, IsFurther, IsTextOf, TellsRefusal};
+ghost use Rattle.graph_commands.specs.Explained.{record_wanted};
+ghost use Rattle.graph_commands.specs.FileJobs.{Explains, IsJobOf};
+ghost use Rattle.graph_commands.specs.GraphRuns.{job_status};
+ghost use Rattle.phase_status.specs.Statuses.{Says};
+ghost use Rattle.watched_io.specs.States.{writer_state};
+
+use crate::graph_faults::report_job_fault;
+use crate::job_file::job_of_graph;
+use crate::{GRAPH_MAX, JobFault, Refusal, Refuses};
+use graph_explain::explanation;
+use graph_lang::{GraphRefusal, read_graph};
+use std::alloc::{AllocError, Global};
+use std::io::Write;
+use stream_lists::Job;
+use watched_io::{FileFault, Files, Watched};
+
+/// Makes the job of a graph's file, as `read_job` does. Where there is none it tells why, and then
+/// explains it to a person, and answers the status: 1 where the graph or the samples are refused, and
+/// else 5.
+///
+/// A fault of the graph is explained by its line, a mark under the word that is at fault, and what was
+/// expected there; a record that is no sample by what a sample is; a file that was refused by its name
+/// and why, as far as the files tell. Where memory runs out nothing more is said.
+pub fn read_job_or_explain<E: Write, F: Files + Refuses>(
+    alloc: Global,
+    files: &mut F,
+    name: &str,
+    faults: &mut Watched<E>,
+) -> Result<Job, u8>
+    ensures ok { IfOk result (λ job. IsJobOf (F.file files.old) name.now job) }
+    ensures quiet { OnOk result (faults.new ≡ faults.old) }
+    ensures err { IfErr result (λ status. ExplainsNoJob (F.file files.old) name.now status
+        (writer_state E.contents faults.old) (writer_state E.contents faults.new)) }
+    ensures status { IfErr result (λ status. (status ≡ 1) ⊎ (status ≡ 5)) }
+{
+    match files.read(alloc, name, GRAPH_MAX) {
+        Ok(text) => match job_of_text(alloc, files, &text) {
+            Ok(job) => Ok(job),
+            Err(fault) => Err(report_explained(alloc, &text, &fault, files, faults)),
+        },
+        Err(FileFault::ReadFault) => {
+            Err(report_explained(alloc, &[], &JobFault::ReadFault, files, faults))
+        }
+        Err(FileFault::OutOfMemory) => {
+            Err(report_explained(alloc, &[], &JobFault::OutOfMemory, files, faults))
+        }
+    }
+}
+
+/// Makes the job of a graph's text.
+fn job_of_text<F: Files>(alloc: Global, files: &mut F, text: &[u8]) -> Result<Job, JobFault>
+    ensures ok { IfOk result (λ job. (name : List ℕ)
+        → IsTextOf (F.file files.old) name text.now → IsJobOf (F.file files.old) name job) }
+    ensures fault { IfErr result (λ fault. (name : List ℕ)
+        → IsTextOf (F.file files.old) name text.now → Explains (F.file files.old) name fault) }
+{
+    match read_graph(alloc, text) {
+        Ok(graph) => job_of_graph(alloc, files, graph),
+        Err(GraphRefusal::Fault(fault)) => Err(JobFault::Graph(fault)),
+        Err(GraphRefusal::OutOfMemory) => Err(JobFault::OutOfMemory),
+    }
+}
+
+/// Tells why there is no job, and explains it, by the graph's text where that was read; and answers the
+/// status.
+fn report_explained<E: Write, F: Refuses>(
+    alloc: Global,
+    text: &[u8],
+    fault: &JobFault,
+    files: &F,
+    faults: &mut Watched<E>,
+) -> u8
+    ensures status { result ≡ job_status fault.now }
+    ensures told { Explained text.now fault.now
+        (writer_state E.contents faults.old) (writer_state E.contents faults.new) }
+{
+    let status = report_job_fault(fault, faults);
+    let more = further(alloc, text, fault, files);
+    tell_bytes(&more, faults);
+    status
+}
+
+/// Tells these bytes. Where a write fails there is nobody to be told.
+fn tell_bytes<E: Write>(bytes: &[u8], faults: &mut Watched<E>)
+    ensures { Says bytes.now
+        (writer_state E.contents faults.old) (writer_state E.contents faults.new) }
+{
+    let _ = faults.send(bytes);
+}
+
+/// What is said of a fault further: nothing where memory runs out.
+fn further<F: Refuses>(alloc: Global, text: &[u8], fault: &JobFault, files: &F) -> Vec<u8>
+    ensures { IsFurther text.now fault.now result.items }
+{
+    match try_further(alloc, text, fault, files) {
+        Ok(more) => more,
+        Err(_) => Vec::new(alloc),
+    }
+}
+
+/// What is said of a fault further.
+fn try_further<F: Refuses>(
+    alloc: Global,
+    text: &[u8],
+    fault: &JobFault,
+    files: &F,
+) -> Result<Vec<u8>, AllocError>
+    ensures { IfOk result (λ more. IsFurther text.now fault.now more.items) }
+{
+    match fault {
+        JobFault::Graph(found) => explanation(alloc, text, *found),
+        JobFault::BadSample { .. } => record_explained(alloc),
+        JobFault::ReadFault => match files.refused() {
+            Some((name, why)) => refusal_explained(alloc, name, why),
+            None => Ok(Vec::new(alloc)),
+        },
+        JobFault::OutOfMemory => Ok(Vec::new(alloc)),
+    }
+}
+
+/// What a sample is.
+fn record_explained(alloc: Global) -> Result<Vec<u8>, AllocError>
+    ensures { IfOk result (λ more. more.items ≡ record_wanted) }
+{
+    Vec::from_slice(
+        alloc,
+        b"  expected: one whole number, from -9223372036854775807 to 9223372036854775807\n",
+    )
+}
+
+/// The name of a file, and why it was refused.
+fn refusal_explained(alloc: Global, name: &str, why: Refusal) -> Result<Vec<u8>, AllocError>
+    ensures { IfOk result (λ more. TellsRefusal more.items) }
+{
+    let mut more = Vec::new(alloc);
+    more.extend_from_slice(b"  ")?;
+    more.extend_from_slice(name.as_bytes())?;
+    more.extend_from_slice(b": ")?;
+    more.extend_from_slice(told_of(why).as_bytes())?;
+    more.extend_from_slice(b"\n")?;
+    Ok(more)
+}
+
+/// Why a file was refused, for a person.
+fn told_of(why: Refusal) -> &'static str {
+    match why {
+        Refusal::Missing => "there is no such file",
+        Refusal::Folder => "it is a folder",
+        Refusal::NotAllowed => "there is no permission to read it",
+        Refusal::TooLong => "it is too long",
+        Refusal::Other => "it cannot be read",
+    }
+}

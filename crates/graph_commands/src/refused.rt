@@ -1,0 +1,94 @@
+//! Files that tell a person why they refuse one.
+ghost use Rattle.std.specs.Prelude.{◌≡◌, ◌≤◌, length, IfOk};
+
+use std::alloc::Global;
+use std::fs::File;
+use std::io::ErrorKind;
+use watched_io::{DiskFiles, FileFault, Files};
+
+/// Why a file was refused, as far as the system tells. It is said to a person, and nothing is proved
+/// of it.
+#[derive(Clone, Copy, Debug, PartialEq, Eq, Hash)]
+pub enum Refusal {
+    /// There is none of this name.
+    Missing,
+    /// It is a folder.
+    Folder,
+    /// It may not be read.
+    NotAllowed,
+    /// It has more bytes than the limit.
+    TooLong,
+    /// It could not be opened, or a read failed, for another reason.
+    Other,
+}
+
+/// Files that tell which one they refused, and why.
+pub trait Refuses {
+    /// The name of the file that was refused last, and why, where that is kept. Nothing is promised of
+    /// it.
+    fn refused(&self) -> Option<(&str, Refusal)>;
+}
+
+/// The files of the disk, as `DiskFiles` reads them, and why one was refused.
+#[derive(Drop)]
+pub struct TellingFiles<'a, R> {
+    rt: &'a R,
+    files: DiskFiles<'a, R>,
+    refused: Option<(String, Refusal)>,
+}
+
+impl<'a, R> TellingFiles<'a, R> {
+    /// Reads files by this runtime.
+    pub fn new(rt: &'a R) -> TellingFiles<'a, R> {
+        TellingFiles {
+            rt,
+            files: DiskFiles::new(rt),
+            refused: None,
+        }
+    }
+}
+
+/// Why the system refused an opening.
+fn why_unopened(kind: ErrorKind) -> Refusal {
+    match kind {
+        ErrorKind::NotFound => Refusal::Missing,
+        ErrorKind::PermissionDenied => Refusal::NotAllowed,
+        _ => Refusal::Other,
+    }
+}
+
+/// Asks the system why a file of a name was refused. No byte of it is read.
+fn why_refused<R: std::rt::Files>(rt: &R, name: &str, limit: usize) -> Refusal {
+    match rt.metadata(name) {
+        Ok(found) if found.is_dir() => Refusal::Folder,
+        Ok(found) if found.len() > limit as u64 => Refusal::TooLong,
+        Ok(_) => match File::open(rt, name) {
+            Ok(_) => Refusal::Other,
+            Err(error) => why_unopened(error.kind()),
+        },
+        Err(error) => why_unopened(error.kind()),
+    }
+}
+
+impl<R: std::rt::Files> Files for TellingFiles<'_, R> {
+    fn read(&mut self, alloc: Global, name: &str, limit: usize) -> Result<Vec<u8>, FileFault> {
+        let read = self.files.read(alloc, name, limit);
+        if let Err(FileFault::ReadFault) = &read {
+            let why = why_refused(self.rt, name, limit);
+            self.refused = match String::from_str(alloc, name) {
+                Ok(name) => Some((name, why)),
+                Err(_) => None,
+            };
+        }
+        read
+    }
+}
+
+impl<R> Refuses for TellingFiles<'_, R> {
+    fn refused(&self) -> Option<(&str, Refusal)> {
+        match &self.refused {
+            Some((name, why)) => Some((name.as_str(), *why)),
+            None => None,
+        }
+    }
+}

@@ -1,0 +1,36 @@
+-- clap's reading, computed.
+use Rattle.std.proofs.Common.{◌≡◌, [], ◌∷◌, codes, refl}
+use Rattle.clap.proofs.OnLiterals.{clap_on_literals}
+use Rattle.clap.specs.declared.error.kind.ErrorKind.TheVariants.{UnknownArgument}
+use Rattle.phase_words.specs.CommandLine.{asked_in, kinds_of, phase_app}
+use Rattle.phase_words.specs.RunLine.{run_app, run_in, run_kinds_of}
+use Rattle.phase_words.proofs.Refused.{unknown_refused}
+use Rattle.phase_words.proofs.laws.words_for_explanations.Goals as goal
+
+pub returns-clause-check : goal.returns-clause-check
+unfolding asked_in kinds_of phase_app clap_on_literals
+returns-clause-check c = record { taken = refl; command = refl }
+
+pub returns-clause-first : goal.returns-clause-first
+unfolding asked_in kinds_of phase_app clap_on_literals
+returns-clause-first c = record { taken = refl; command = refl }
+
+pub returns-clause-eval : goal.returns-clause-eval
+unfolding asked_in kinds_of phase_app clap_on_literals
+returns-clause-eval c = record { taken = refl; command = refl }
+
+pub returns-clause-sink : goal.returns-clause-sink
+unfolding asked_in kinds_of phase_app clap_on_literals
+returns-clause-sink c = record { taken = refl; command = refl }
+
+pub returns-clause-run : goal.returns-clause-run
+unfolding run_in run_kinds_of run_app clap_on_literals
+returns-clause-run c = record { taken = refl; run = refl }
+
+kinds-draw : kinds_of (codes "draw" ∷ codes "g" ∷ codes "--explain" ∷ []) ≡ UnknownArgument ∷ []
+unfolding kinds_of phase_app clap_on_literals
+kinds-draw = refl
+
+pub returns-clause-draw : goal.returns-clause-draw
+returns-clause-draw c =
+    unknown_refused (codes "draw" ∷ codes "g" ∷ codes "--explain" ∷ []) kinds-draw
