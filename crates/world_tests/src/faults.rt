@@ -1,19 +1,20 @@
 //! Runs that come to a value out of range, and turns of tasks that are not there.
-use crate::jobs::job_of;
+use crate::jobs::{at_bound, job_of};
 use crate::rounds::{Round, last_round, ran};
 use graph_base::Place;
 use graph_worlds::{Turned, World};
 use std::test::Fail;
 
 /// A filter that doubles.
-const DOUBLES: &str = "phaser X sum 4\nphaser Y sum 4\nsource s s.csv -> X\n\
+const DOUBLES: &str = "phaser X sum ?\nphaser Y sum ?\nsource s s.csv -> X\n\
     fir f X -> Y shift 0 taps 2\nsink out Y\n";
 
 const LARGEST: &str = "9223372036854775807\n";
 
 #[test]
 fn an_output_out_of_range_is_told(rt: HostRuntime) -> Result<(), Fail> {
-    let (round, lines) = ran(rt.alloc(), DOUBLES, &[LARGEST])?;
+    let graph = at_bound(rt.alloc(), DOUBLES, 4)?;
+    let (round, lines) = ran(rt.alloc(), &graph, &[LARGEST])?;
     let told = Round::TooBig {
         place: Place::Task(1),
         phase: 0,
@@ -52,27 +53,33 @@ fn a_phase_out_of_range_is_told_where_it_is_taken(rt: HostRuntime) -> Result<(),
 
 #[test]
 fn after_a_value_out_of_range_each_turn_tells_it(rt: HostRuntime) -> Result<(), Fail> {
-    let job = job_of(rt.alloc(), DOUBLES, &["9223372036854775807\n3\n"])?;
-    let mut world = World::new(rt.alloc(), &job)?;
-    let _round = last_round(&mut world, job.graph().tasks())?;
-    for task in [0, 1, 2, 3, 18446744073709551615] {
-        let told = Turned::TooBig {
-            place: Place::Task(1),
-            phase: 0,
-        };
-        assert_eq!(rt; world.turn(task)?, told);
+    let told = Turned::TooBig {
+        place: Place::Task(1),
+        phase: 0,
+    };
+    for bound in [1, 64] {
+        let graph = at_bound(rt.alloc(), DOUBLES, bound)?;
+        let job = job_of(rt.alloc(), &graph, &["9223372036854775807\n3\n"])?;
+        let mut world = World::new(rt.alloc(), &job)?;
+        let _round = last_round(&mut world, job.graph().tasks())?;
+        for task in [0, 1, 2, 3, 18446744073709551615] {
+            assert_eq!(rt; world.turn(task)?, told, "bound {bound}");
+        }
+        assert!(rt; !world.stalled());
     }
-    assert!(rt; !world.stalled());
     Ok(())
 }
 
 #[test]
 fn a_task_that_is_not_there_is_gone(rt: HostRuntime) -> Result<(), Fail> {
-    let job = job_of(rt.alloc(), DOUBLES, &["1\n"])?;
-    let mut world = World::new(rt.alloc(), &job)?;
-    for task in [3, 4, 64, 18446744073709551615] {
-        assert_eq!(rt; world.turn(task)?, Turned::Gone);
+    for bound in [1, 64] {
+        let graph = at_bound(rt.alloc(), DOUBLES, bound)?;
+        let job = job_of(rt.alloc(), &graph, &["1\n"])?;
+        let mut world = World::new(rt.alloc(), &job)?;
+        for task in [3, 4, 64, 18446744073709551615] {
+            assert_eq!(rt; world.turn(task)?, Turned::Gone, "bound {bound}");
+        }
+        assert_eq!(rt; world.turn(0)?, Turned::Moved);
     }
-    assert_eq!(rt; world.turn(0)?, Turned::Moved);
     Ok(())
 }

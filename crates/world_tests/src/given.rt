@@ -1,22 +1,10 @@
 //! Runs by given turns in rotation, each under two bounds.
-use crate::jobs::job_of;
+use crate::jobs::{at_bound, job_of};
 use crate::rounds::{Round, in_rotation, one_round, text_of};
 use graph_base::Place;
 use graph_worlds::{RunTurnsFault, run_turns};
 use std::alloc::Global;
 use std::test::Fail;
-
-/// A graph's text, with this bound for each `?`.
-fn at_bound(alloc: Global, graph: &str, bound: u64) -> Result<String, Fail> {
-    let mut text = String::new(alloc);
-    for (i, part) in graph.split('?').enumerate() {
-        if i > 0 {
-            text.push_str(&format!(in alloc; "{bound}")?)?;
-        }
-        text.push_str(part)?;
-    }
-    Ok(text)
-}
 
 /// What the sinks have after forty turns of each task, by which all have left. Or what a further
 /// round comes to.

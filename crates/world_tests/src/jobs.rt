@@ -7,3 +7,15 @@ use stream_lists::Job;
 pub fn job_of(alloc: Global, graph: &str, samples: &[&str]) -> Result<Job, Fail> {
     Ok(test_jobs::job_of(alloc, graph, samples)??)
 }
+
+/// A graph's text, with this bound for each `?`.
+pub fn at_bound(alloc: Global, graph: &str, bound: u64) -> Result<String, Fail> {
+    let mut text = String::new(alloc);
+    for (i, part) in graph.split('?').enumerate() {
+        if i > 0 {
+            text.push_str(&format!(in alloc; "{bound}")?)?;
+        }
+        text.push_str(part)?;
+    }
+    Ok(text)
+}
