@@ -121,21 +121,25 @@ refused-silent words no_call.OutOfMemory status old new before after why answer 
 
 -- ---- no other status comes
 
+any-read : (status : ℕ) → (status ≡ 0) ⊎ ((status ≡ 1) ⊎ (status ≡ 5)) → IsStatus status
+any-read status (inl zero) = inl zero
+any-read status (inr (inl one)) = inr (inl one)
+any-read status (inr (inr five)) = inr (inr (inr (inr five)))
+
+any-evaluated : (status : ℕ) → (status ≡ 0) ⊎ ((status ≡ 1) ⊎ ((status ≡ 3) ⊎ (status ≡ 5))) → IsStatus status
+any-evaluated status (inl zero) = inl zero
+any-evaluated status (inr (inl one)) = inr (inl one)
+any-evaluated status (inr (inr (inl three))) = inr (inr (inr (inl three)))
+any-evaluated status (inr (inr (inr five))) = inr (inr (inr (inr five)))
+
 any-as : (what : Asked) (status : ℕ) → MayEndAs what status → IsStatus status
 any-as replay status (inl zero) = inl zero
 any-as replay status (inr five) = inr (inr (inr (inr five)))
-any-as (check name) status (inl zero) = inl zero
-any-as (check name) status (inr (inl one)) = inr (inl one)
-any-as (check name) status (inr (inr five)) = inr (inr (inr (inr five)))
-any-as (eval name sink) status (inl zero) = inl zero
-any-as (eval name sink) status (inr (inl one)) = inr (inl one)
-any-as (eval name sink) status (inr (inr (inl three))) = inr (inr (inr (inl three)))
-any-as (eval name sink) status (inr (inr (inr five))) = inr (inr (inr (inr five)))
-any-as (draw name) status (inl zero) = inl zero
-any-as (draw name) status (inr (inl one)) = inr (inl one)
-any-as (draw name) status (inr (inr five)) = inr (inr (inr (inr five)))
-any-as (check_explained name) status ends = any-as (check name) status ends
-any-as (eval_explained name sink) status ends = any-as (eval name sink) status ends
+any-as (check name) status ends = any-read status ends
+any-as (eval name sink) status ends = any-evaluated status ends
+any-as (draw name) status ends = any-read status ends
+any-as (check_explained name) status ends = any-read status ends
+any-as (eval_explained name sink) status ends = any-evaluated status ends
 
 any-untaken : (status : ℕ) → (status ≡ 0) ⊎ ((status ≡ 2) ⊎ (status ≡ 5)) → IsStatus status
 any-untaken status (inl zero) = inl zero
@@ -149,21 +153,25 @@ any-by words status ends (inr untaken) = any-untaken status (ends.untaken untake
 pub any-status : (words : List (List ℕ)) (status : ℕ) → MayEnd words status → IsStatus status
 any-status words status ends = any-by words status ends (taken-or-not words)
 
+two-read : (status : ℕ) → status ≡ 2 → (status ≡ 0) ⊎ ((status ≡ 1) ⊎ (status ≡ 5)) → ⊥
+two-read status two (inl zero) = omega (arith, two, zero)
+two-read status two (inr (inl one)) = omega (arith, two, one)
+two-read status two (inr (inr five)) = omega (arith, two, five)
+
+two-evaluated : (status : ℕ) → status ≡ 2 → (status ≡ 0) ⊎ ((status ≡ 1) ⊎ ((status ≡ 3) ⊎ (status ≡ 5))) → ⊥
+two-evaluated status two (inl zero) = omega (arith, two, zero)
+two-evaluated status two (inr (inl one)) = omega (arith, two, one)
+two-evaluated status two (inr (inr (inl three))) = omega (arith, two, three)
+two-evaluated status two (inr (inr (inr five))) = omega (arith, two, five)
+
 two-as : (what : Asked) (status : ℕ) → status ≡ 2 → MayEndAs what status → ⊥
 two-as replay status two (inl zero) = omega (arith, two, zero)
 two-as replay status two (inr five) = omega (arith, two, five)
-two-as (check name) status two (inl zero) = omega (arith, two, zero)
-two-as (check name) status two (inr (inl one)) = omega (arith, two, one)
-two-as (check name) status two (inr (inr five)) = omega (arith, two, five)
-two-as (eval name sink) status two (inl zero) = omega (arith, two, zero)
-two-as (eval name sink) status two (inr (inl one)) = omega (arith, two, one)
-two-as (eval name sink) status two (inr (inr (inl three))) = omega (arith, two, three)
-two-as (eval name sink) status two (inr (inr (inr five))) = omega (arith, two, five)
-two-as (draw name) status two (inl zero) = omega (arith, two, zero)
-two-as (draw name) status two (inr (inl one)) = omega (arith, two, one)
-two-as (draw name) status two (inr (inr five)) = omega (arith, two, five)
-two-as (check_explained name) status two ends = two-as (check name) status two ends
-two-as (eval_explained name sink) status two ends = two-as (eval name sink) status two ends
+two-as (check name) status two ends = two-read status two ends
+two-as (eval name sink) status two ends = two-evaluated status two ends
+two-as (draw name) status two ends = two-read status two ends
+two-as (check_explained name) status two ends = two-read status two ends
+two-as (eval_explained name sink) status two ends = two-evaluated status two ends
 
 pub taken-not-two : (words : List (List ℕ)) (status : ℕ) → MayEnd words status → AreTaken words → status ≢ 2
 taken-not-two words status ends taken = λ two.
