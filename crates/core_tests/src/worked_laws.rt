@@ -38,7 +38,7 @@ ghost use Rattle.core_tests.specs.Worked.{two_signals, one_wait, all_left, all_g
 ghost use Rattle.core_tests.specs.Worked.{half_turn, late_child, one_list, two_lists};
 
 use phase_accum::{Sum, laws as values};
-use phase_core::laws;
+use phase_laws::laws;
 
 /// What tasks have received, and that it is in range.
 fn received_streams()

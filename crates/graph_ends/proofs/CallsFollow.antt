@@ -12,7 +12,7 @@ use Rattle.phase_history.specs.Legal.{IsLegal}
 use Rattle.phase_history.specs.Others.{events_of}
 use Rattle.phase_history.proofs.Received.{start_of-above}
 use Rattle.phase_history.proofs.Refused.{Registers, registers_from}
-use Rattle.phase_history.proofs.Used.{events_of-unused, start_from, start_used, IsUsed-member}
+use Rattle.phase_laws.proofs.Used.{events_of-unused, start_from, start_used, IsUsed-member}
 use Rattle.graph_base.specs.declared.line.Parent.{Parent}
 use Rattle.graph_base.specs.Graphs.{task_at}
 use Rattle.graph_base.specs.TaskLines.{IsGraph}

@@ -14,9 +14,9 @@ use Rattle.phase_history.specs.Legal.{IsLegal}
 use Rattle.phase_history.specs.Others.{events_of, children_in, OthersCame, phases_of_signal}
 use Rattle.phase_base.specs.Lists.{is_in}
 use Rattle.phase_history.specs.Sent.{NamesAll, IsSilent}
-use Rattle.phase_history.proofs.Beginnings.{IsBeginning-trans}
-use Rattle.phase_history.proofs.OthersEvents.{IsBeginning-others, events_of-others, phases_signalled-events}
-use Rattle.phase_history.proofs.Used.{start_of-longer}
+use Rattle.phase_laws.proofs.Beginnings.{IsBeginning-trans}
+use Rattle.phase_laws.proofs.OthersEvents.{IsBeginning-others, events_of-others, phases_signalled-events}
+use Rattle.phase_laws.proofs.Used.{start_of-longer}
 use Rattle.graph_ends.specs.TaskEnds.{HasNoSignal, HasFounded}
 
 pub in_one : (n : ℕ) → is_in n (n ∷ []) ≡ true

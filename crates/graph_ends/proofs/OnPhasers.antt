@@ -8,12 +8,12 @@ use Rattle.phase_history.specs.declared.event.Event.TheVariants.{Made}
 use Rattle.phase_history.specs.Others.{events_of, children_in, IsUsed, OnlyUsed, OthersCame}
 use Rattle.phase_base.specs.Lists.{is_in}
 use Rattle.phase_history.specs.Sent.{NamesAll, IsSilent}
-use Rattle.phase_history.proofs.Beginnings.{IsBeginning-trans}
-use Rattle.phase_history.proofs.Descent.{OnlyUsed-descent}
-use Rattle.phase_history.proofs.OthersEvents.{IsBeginning-others}
-use Rattle.phase_history.proofs.Sendings.{IsSilent-unused}
-use Rattle.phase_history.proofs.Signallers.{quiet_from}
-use Rattle.phase_history.proofs.Used.{IsUsed-longer, events_of-unused}
+use Rattle.phase_laws.proofs.Beginnings.{IsBeginning-trans}
+use Rattle.phase_laws.proofs.Descent.{OnlyUsed-descent}
+use Rattle.phase_laws.proofs.OthersEvents.{IsBeginning-others}
+use Rattle.phase_laws.proofs.Sendings.{IsSilent-unused}
+use Rattle.phase_laws.proofs.Signallers.{quiet_from}
+use Rattle.phase_laws.proofs.Used.{IsUsed-longer, events_of-unused}
 use Rattle.phase_history.specs.Legal.{IsLegal}
 use Rattle.graph_base.specs.Graphs.{phaser_at}
 use Rattle.graph_base.specs.TaskLines.{IsGraph}

@@ -13,7 +13,7 @@ use Rattle.phase_history.specs.Phases.{received_by}
 use Rattle.phase_history.specs.Others.{events_of, children_in, OthersCame}
 use Rattle.phase_base.specs.Lists.{is_in}
 use Rattle.phase_history.specs.Sent.{NamesAll}
-use Rattle.phase_history.proofs.OthersEvents.{received_by-others}
+use Rattle.phase_laws.proofs.OthersEvents.{received_by-others}
 use Rattle.graph_base.specs.declared.line.Parent.{Parent}
 use Rattle.graph_base.specs.Graphs.{task_at, phaser_at}
 use Rattle.stream_lists.specs.Jobs.{Job}

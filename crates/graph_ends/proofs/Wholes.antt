@@ -4,8 +4,8 @@ use Rattle.std.specs.List.{filter, range_with_len, All}
 use Rattle.std.proofs.lemmas.Option.{same_Some}
 use Rattle.phase_accum.specs.declared.outcome.Outcome.{Outcome}
 use Rattle.phase_history.specs.Others.{OthersCame}
-use Rattle.phase_history.proofs.Beginnings.{IsBeginning-refl}
-use Rattle.phase_history.proofs.OthersEvents.{IsBeginning-others}
+use Rattle.phase_laws.proofs.Beginnings.{IsBeginning-refl}
+use Rattle.phase_laws.proofs.OthersEvents.{IsBeginning-others}
 use Rattle.graph_base.specs.Graphs.{task_at, is_sink}
 use Rattle.graph_base.specs.TaskLines.{IsGraph}
 use Rattle.graph_base.specs.declared.line.Kind.{Kind}

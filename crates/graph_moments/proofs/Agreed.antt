@@ -14,8 +14,8 @@ use Rattle.stream_lists.specs.Lists.{Member, send_in, sends_in, end_of_member}
 use Rattle.stream_lists.specs.Spans.{greatest}
 use Rattle.phase_base.specs.Lists.{is_in}
 use Rattle.phase_history.specs.Sent.{sent_by, sent_in, gathered, IsSilent, ReachesTop}
-use Rattle.phase_history.proofs.Sendings.{length-sent_by, sent_in-none, SentInTurn, SentInTurn-of}
-use Rattle.phase_history.proofs.Signallers.{holds_open, all_dropped, done_at_top, ReachesTop-of, below_top}
+use Rattle.phase_laws.proofs.Sendings.{length-sent_by, sent_in-none, SentInTurn, SentInTurn-of}
+use Rattle.phase_laws.proofs.Signallers.{holds_open, all_dropped, done_at_top, ReachesTop-of, below_top}
 use Rattle.graph_moments.specs.Agreeing.{one, HasPut, Agrees}
 
 -- one value a list, by place

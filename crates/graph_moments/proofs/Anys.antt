@@ -12,9 +12,9 @@ use Rattle.phase_history.specs.Histories.{History}
 use Rattle.phase_history.specs.Phases.{sends_of_phase}
 use Rattle.phase_base.specs.Lists.{is_in}
 use Rattle.phase_history.specs.Sent.{sent_in, gathered, OnlySignalled, OneHasSent}
-use Rattle.phase_history.proofs.Gathered.{sends_are_gathered}
-use Rattle.phase_history.proofs.OneSender.{gathered_alone}
-use Rattle.phase_history.proofs.Sendings.{sent_in-none}
+use Rattle.phase_laws.proofs.Gathered.{sends_are_gathered}
+use Rattle.phase_laws.proofs.OneSender.{gathered_alone}
+use Rattle.phase_laws.proofs.Sendings.{sent_in-none}
 use Rattle.phase_base.specs.declared.operation.Op.{Op}
 use Rattle.phase_base.specs.declared.operation.Op.TheVariants.{Sum, Product, Least, Greatest, Any}
 use Rattle.graph_base.specs.Graphs.{task_at, phaser_at}

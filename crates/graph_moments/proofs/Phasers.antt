@@ -8,7 +8,7 @@ use Rattle.phase_history.specs.Phases.{sends_of_phase, single_of_phase, value_of
 use Rattle.phase_base.specs.Lists.{is_in}
 use Rattle.phase_history.specs.Sent.{gathered, IsSilent}
 use Rattle.phase_history.proofs.Steps.{done_below_top, sound_of}
-use Rattle.phase_history.proofs.Sendings.{single_of_phase-all}
+use Rattle.phase_laws.proofs.Sendings.{single_of_phase-all}
 use Rattle.graph_base.specs.Graphs.{task_at, phaser_at}
 use Rattle.graph_base.specs.TaskLines.{IsGraph}
 use Rattle.stream_lists.specs.Jobs.{Job, place_in}

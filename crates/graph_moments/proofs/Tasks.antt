@@ -10,7 +10,7 @@ use Rattle.phase_accum.specs.declared.outcome.Outcome.TheVariants.{Empty}
 use Rattle.phase_history.specs.Histories.{done_of, phases_waited}
 use Rattle.phase_history.specs.Phases.{value_of_phase, stream_of}
 use Rattle.phase_history.specs.Laws.{HasReceivedFrom}
-use Rattle.phase_history.proofs.Left.{received_law}
+use Rattle.phase_laws.proofs.Left.{received_law}
 use Rattle.phase_history.proofs.Streams.{prefix_of_values}
 use Rattle.graph_base.specs.declared.line.Kind.{Kind}
 use Rattle.graph_base.specs.declared.line.Kind.TheVariants.{Source, Fir, Split, Join, Peer, Sink}

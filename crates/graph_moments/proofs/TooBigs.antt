@@ -16,8 +16,8 @@ use Rattle.phase_history.specs.Histories.{done_of, phases_waited}
 use Rattle.phase_history.specs.Phases.{value_of_phase, stream_of, received_by}
 use Rattle.phase_history.specs.Laws.{HasReceivedFrom}
 use Rattle.phase_history.specs.Legal.{AreLists}
-use Rattle.phase_history.proofs.Left.{received_law}
-use Rattle.phase_history.proofs.Sendable.{sent_are_lists}
+use Rattle.phase_laws.proofs.Left.{received_law}
+use Rattle.phase_laws.proofs.Sendable.{sent_are_lists}
 use Rattle.graph_base.specs.declared.line.Kind.{Kind}
 use Rattle.graph_base.specs.declared.line.Kind.TheVariants.{Source, Fir, Split, Join, Peer, Sink}
 use Rattle.graph_base.specs.Graphs.{task_at, phaser_at}

@@ -6,8 +6,8 @@ use Rattle.std.proofs.lemmas.List.{length-map}
 use Rattle.std.proofs.lemmas.Option.{same_Some}
 use Rattle.phase_history.specs.Histories.{done_of, phases_signalled, has_dropped}
 use Rattle.phase_history.specs.Sent.{sent_by}
-use Rattle.phase_history.proofs.Sendings.{length-sent_by}
-use Rattle.phase_history.proofs.Signallers.{holds_open, all_dropped}
+use Rattle.phase_laws.proofs.Sendings.{length-sent_by}
+use Rattle.phase_laws.proofs.Signallers.{holds_open, all_dropped}
 use Rattle.graph_base.specs.declared.line.Parent.{Parent}
 use Rattle.graph_base.specs.Graphs.{Task, task_at}
 use Rattle.graph_base.specs.TaskLines.{IsGraph, IsTaskLine, IsParent, has_children}

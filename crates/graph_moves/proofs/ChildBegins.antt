@@ -13,7 +13,7 @@ use Rattle.phase_history.specs.Legal.{IsLegal}
 use Rattle.phase_history.specs.Sent.{sent_by, IsSilent}
 use Rattle.phase_history.proofs.LawProofs.{above_law}
 use Rattle.phase_history.proofs.Refused.{registers_from}
-use Rattle.phase_history.proofs.Sendings.{length-sent_by}
+use Rattle.phase_laws.proofs.Sendings.{length-sent_by}
 use Rattle.graph_base.specs.declared.line.Parent.{Parent}
 use Rattle.graph_base.specs.Graphs.{task_at}
 use Rattle.graph_base.specs.TaskLines.{IsGraph, IsParent, has_children}

@@ -14,7 +14,7 @@ use Rattle.phase_base.specs.Lists.{is_in}
 use Rattle.phase_history.specs.Sent.{NamesAll, IsSilent}
 use Rattle.phase_history.proofs.LawProofs.{above_law}
 use Rattle.phase_history.proofs.Refused.{registers_from}
-use Rattle.phase_history.proofs.Used.{start_used, start_from, start_of-longer}
+use Rattle.phase_laws.proofs.Used.{start_used, start_from, start_of-longer}
 use Rattle.graph_base.specs.declared.line.Parent.{Parent}
 use Rattle.graph_base.specs.Graphs.{task_at, phaser_at}
 use Rattle.graph_base.specs.TaskLines.{IsGraph, IsParent}

@@ -9,8 +9,8 @@ use Rattle.phase_history.specs.Phases.{received_by, stream_of, value_of_phase}
 use Rattle.phase_history.specs.Others.{OthersCame}
 use Rattle.phase_base.specs.Lists.{is_in}
 use Rattle.phase_history.specs.Sent.{sent_by, IsSilent}
-use Rattle.phase_history.proofs.OthersEvents.{sent_by-others, has_dropped-others, received_by-others, phases_signalled-others}
-use Rattle.phase_history.proofs.Used.{start_of-longer}
+use Rattle.phase_laws.proofs.OthersEvents.{sent_by-others, has_dropped-others, received_by-others, phases_signalled-others}
+use Rattle.phase_laws.proofs.Used.{start_of-longer}
 use Rattle.phase_history.proofs.Streams.{stream_closed, signallers_closed}
 use Rattle.graph_base.specs.declared.line.Parent.{Parent}
 use Rattle.graph_base.specs.Graphs.{task_at}

@@ -9,8 +9,8 @@ use Rattle.phase_history.specs.Legal.{IsLegal}
 use Rattle.phase_history.specs.Others.{is_by, IsUsed, OthersCame}
 use Rattle.phase_base.specs.Lists.{is_in}
 use Rattle.phase_history.specs.Sent.{NamesAll, IsSilent}
-use Rattle.phase_history.proofs.OthersEvents.{OthersCame-refl, OthersCame-event, phases_signalled-others}
-use Rattle.phase_history.proofs.Used.{IsUsed-longer}
+use Rattle.phase_laws.proofs.OthersEvents.{OthersCame-refl, OthersCame-event, phases_signalled-others}
+use Rattle.phase_laws.proofs.Used.{IsUsed-longer}
 use Rattle.graph_base.specs.declared.line.Parent.{Parent}
 use Rattle.graph_base.specs.Graphs.{phaser_at}
 use Rattle.graph_base.specs.TaskLines.{IsGraph}

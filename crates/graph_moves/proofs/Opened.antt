@@ -18,7 +18,7 @@ use Rattle.phase_history.specs.Sent.{sent_by, NamesAll, IsSilent}
 use Rattle.phase_history.proofs.LawProofs.{counted_of}
 use Rattle.phase_history.proofs.Refused.{Registers as MayRegister, registers_from}
 use Rattle.phase_history.proofs.Steps.{member_entry_is}
-use Rattle.phase_history.proofs.Used.{start_from}
+use Rattle.phase_laws.proofs.Used.{start_from}
 use Rattle.graph_base.specs.declared.line.Kind.{Kind}
 use Rattle.graph_base.specs.declared.line.Kind.TheVariants.{Source, Fir, Split, Join, Peer, Sink}
 use Rattle.graph_base.specs.declared.line.Parent.{Parent}

@@ -15,9 +15,9 @@ use Rattle.phase_history.specs.Laws.{HasCounted, HasReceivedFrom}
 use Rattle.phase_history.specs.Legal.{IsLegal}
 use Rattle.phase_history.specs.Sent.{sent_by, IsSilent}
 use Rattle.phase_history.proofs.LawProofs.{counted_of}
-use Rattle.phase_history.proofs.Left.{received_law}
+use Rattle.phase_laws.proofs.Left.{received_law}
 use Rattle.phase_history.proofs.Refused.{Registers as MayRegister, registers_from}
-use Rattle.phase_history.proofs.Sendings.{length-sent_by}
+use Rattle.phase_laws.proofs.Sendings.{length-sent_by}
 use Rattle.phase_history.proofs.Steps.{member_entry_is}
 use Rattle.graph_base.specs.declared.line.Kind.{Kind}
 use Rattle.graph_base.specs.declared.line.Kind.TheVariants.{Source, Fir, Split, Join, Peer, Sink}

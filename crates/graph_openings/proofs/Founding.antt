@@ -6,8 +6,8 @@ use Rattle.phase_history.specs.declared.event.Event.{Event}
 use Rattle.phase_history.specs.Histories.{History}
 use Rattle.phase_history.specs.Others.{events_of, children_in, OthersCame}
 use Rattle.phase_base.specs.Lists.{is_in}
-use Rattle.phase_history.proofs.Beginnings.{IsBeginning-trans}
-use Rattle.phase_history.proofs.OthersEvents.{IsBeginning-others, events_of-others}
+use Rattle.phase_laws.proofs.Beginnings.{IsBeginning-trans}
+use Rattle.phase_laws.proofs.OthersEvents.{IsBeginning-others, events_of-others}
 use Rattle.phase_history.specs.declared.refusal.RegisterRefusal.{RegisterRefusal}
 use Rattle.phase_history.specs.declared.refusal.RegisterRefusal.TheVariants as why
 use Rattle.phase_history.specs.Legal.{IsLegal}

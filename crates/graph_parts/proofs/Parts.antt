@@ -12,12 +12,12 @@ use Rattle.phase_history.specs.declared.got.Got.TheVariants.{Ended}
 use Rattle.phase_history.specs.Histories.{History, IsBeginning, HasNoSignaller, has_dropped, start_of, members_of, done_of, wait_phase, phases_waited}
 use Rattle.phase_history.specs.Replies.{wait_reply}
 use Rattle.phase_history.specs.Laws.{HasCounted}
-use Rattle.phase_history.proofs.Alive.{alive_law}
-use Rattle.phase_history.proofs.Used.{start_from}
+use Rattle.phase_laws.proofs.Alive.{alive_law}
+use Rattle.phase_laws.proofs.Used.{start_from}
 use Rattle.phase_history.proofs.Steps.{member_entry_is}
 use Rattle.phase_history.proofs.LawProofs.{counted_of}
-use Rattle.phase_history.proofs.Left.{length-received}
-use Rattle.phase_history.proofs.Answered.{ended_tells}
+use Rattle.phase_laws.proofs.Left.{length-received}
+use Rattle.phase_laws.proofs.Answered.{ended_tells}
 use Rattle.stream_lists.specs.Lists.{number}
 use Rattle.phase_history.specs.Phases.{received_by}
 use Rattle.phase_history.specs.Legal.{IsLegal, IsAccepted}

@@ -18,9 +18,9 @@ use Rattle.phase_history.specs.Phases.{received_by}
 use Rattle.phase_history.specs.Sent.{sent_by}
 use Rattle.phase_history.proofs.LawProofs.{above_law, counted_of}
 use Rattle.phase_history.proofs.Refused.{Registers as MayRegister, registers_from}
-use Rattle.phase_history.proofs.Sendings.{length-sent_by}
+use Rattle.phase_laws.proofs.Sendings.{length-sent_by}
 use Rattle.phase_history.proofs.Steps.{member_entry_is}
-use Rattle.phase_history.proofs.Used.{start_of-longer}
+use Rattle.phase_laws.proofs.Used.{start_of-longer}
 use Rattle.graph_base.specs.declared.line.Parent.{Parent}
 use Rattle.graph_base.specs.Graphs.{task_at}
 use Rattle.graph_base.specs.Registrations.{no_registration}

@@ -11,8 +11,8 @@ use Rattle.phase_base.specs.declared.entry.Entry.{Entry}
 use Rattle.phase_base.specs.declared.mode.Mode.{Mode}
 use Rattle.phase_history.specs.declared.event.Event.TheVariants.{Dropped}
 use Rattle.phase_history.specs.Histories.{IsBeginning, entry_at, start_of, greatest_used}
-use Rattle.phase_history.proofs.Beginnings.{IsBeginning-trans}
-use Rattle.phase_history.proofs.Used.{start_of-longer, start_used}
+use Rattle.phase_laws.proofs.Beginnings.{IsBeginning-trans}
+use Rattle.phase_laws.proofs.Used.{start_of-longer, start_used}
 use Rattle.graph_base.specs.declared.line.Parent.{Parent}
 use Rattle.graph_base.specs.declared.registration.Registration.{Registration}
 use Rattle.graph_base.specs.Graphs.{Task, task_at, no_task}

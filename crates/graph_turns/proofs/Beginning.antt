@@ -15,7 +15,7 @@ use Rattle.phase_history.specs.declared.event.Event.TheVariants.{Registered}
 use Rattle.phase_history.specs.Histories.{History, IsBeginning, entry_at, founder, members_of, greatest_used, signal_phase, wait_phase, start_of}
 use Rattle.phase_history.specs.Refusals.{register_refusal, refusal_at, drop_refusal}
 use Rattle.phase_history.specs.Legal.{IsLegal}
-use Rattle.phase_history.proofs.Beginnings.{IsBeginning-refl, IsBeginning-trans}
+use Rattle.phase_laws.proofs.Beginnings.{IsBeginning-refl, IsBeginning-trans}
 use Rattle.phase_history.proofs.MemberLemmas.{entry_of-push_old}
 use Rattle.stream_lists.specs.Jobs.{Job}
 use Rattle.stream_lists.proofs.Firsts.{filter_map-skip, filter_map-take}

@@ -11,13 +11,13 @@ use Rattle.phase_history.specs.Phases.{sends_of_phase, received_by}
 use Rattle.phase_history.specs.Legal.{IsLegal}
 use Rattle.phase_base.specs.Lists.{is_in}
 use Rattle.phase_history.specs.Sent.{sent_by, sent_in, gathered, IsSilent}
-use Rattle.phase_history.proofs.Alive.{alive_law}
-use Rattle.phase_history.proofs.Gathered.{sends_are_gathered}
-use Rattle.phase_history.proofs.Left.{length-received}
+use Rattle.phase_laws.proofs.Alive.{alive_law}
+use Rattle.phase_laws.proofs.Gathered.{sends_are_gathered}
+use Rattle.phase_laws.proofs.Left.{length-received}
 use Rattle.phase_history.proofs.Received.{counted}
-use Rattle.phase_history.proofs.Sendings.{length-sent_by, sent_in-none, SentInTurn, SentInTurn-of}
-use Rattle.phase_history.proofs.Signallers.{mode_of_start}
-use Rattle.phase_history.proofs.Used.{start_from}
+use Rattle.phase_laws.proofs.Sendings.{length-sent_by, sent_in-none, SentInTurn, SentInTurn-of}
+use Rattle.phase_laws.proofs.Signallers.{mode_of_start}
+use Rattle.phase_laws.proofs.Used.{start_from}
 use Rattle.graph_base.specs.Graphs.{task_at}
 use Rattle.graph_base.specs.Registrations.{no_registration}
 use Rattle.stream_lists.specs.Jobs.{Job, place_in}

@@ -16,7 +16,7 @@ use Rattle.phase_base.specs.declared.entry.Entry.{Entry}
 use Rattle.phase_history.specs.Histories.{members_of, done_of, has_dropped, greatest_used, IsAlive}
 use Rattle.phase_history.specs.Refusals.{signal_refusal, drop_refusal, register_refusal, refusal_at}
 use Rattle.phase_history.specs.Replies.{wait_reply}
-use Rattle.phase_history.proofs.Alive.{alive_law}
+use Rattle.phase_laws.proofs.Alive.{alive_law}
 use Rattle.graph_base.specs.declared.line.Kind.TheVariants.{Peer}
 use Rattle.graph_base.specs.declared.limits.TheConstants.{TASKS_MAX}
 use Rattle.graph_base.specs.declared.place.Place.TheVariants as place

@@ -19,7 +19,7 @@ use Rattle.phase_history.specs.Histories.{History, done_of, phases_waited}
 use Rattle.phase_history.specs.Phases.{value_of_phase, stream_of}
 use Rattle.phase_history.specs.Legal.{IsLegal}
 use Rattle.phase_history.proofs.InRange.{value_of_phase-in_range}
-use Rattle.phase_history.proofs.Left.{received_law}
+use Rattle.phase_laws.proofs.Left.{received_law}
 use Rattle.graph_base.specs.declared.line.Kind.{Kind}
 use Rattle.graph_base.specs.declared.line.Kind.TheVariants.{Source, Fir, Split, Join, Peer, Sink}
 use Rattle.graph_base.specs.Graphs.{Task, task_at, phaser_at}

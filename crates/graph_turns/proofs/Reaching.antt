@@ -12,7 +12,7 @@ use Rattle.phase_accum.specs.declared.single.Single.{Single}
 use Rattle.phase_history.specs.declared.event.Event.{Event}
 use Rattle.phase_history.specs.declared.event.Event.TheVariants.{Registered, Signalled, Waited, Dropped}
 use Rattle.phase_history.specs.Histories.{History, members_of, start_of, signal_phase, wait_phase, entry_at}
-use Rattle.phase_history.proofs.Used.{start_from, start_of-longer}
+use Rattle.phase_laws.proofs.Used.{start_from, start_of-longer}
 use Rattle.graph_base.specs.declared.line.Parent.{Parent}
 use Rattle.graph_base.specs.declared.registration.Registration.{Registration}
 use Rattle.graph_base.specs.Graphs.{task_at, phaser_at}

@@ -28,11 +28,11 @@ use Rattle.phase_base.specs.declared.entry.Entry.{Entry}
 use Rattle.phase_base.specs.Members.{entry_of}
 use Rattle.phase_history.specs.Histories.{members_of, IsAlive}
 use Rattle.phase_history.specs.Legal.{IsLegal}
-use Rattle.phase_history.proofs.Alive.{alive_law}
+use Rattle.phase_laws.proofs.Alive.{alive_law}
 use Rattle.phase_history.proofs.Received.{counted}
-use Rattle.phase_history.proofs.Used.{start_from}
+use Rattle.phase_laws.proofs.Used.{start_from}
 use Rattle.phase_history.proofs.LawProofs.{turns_law}
-use Rattle.phase_history.proofs.Signallers.{mode_of_start}
+use Rattle.phase_laws.proofs.Signallers.{mode_of_start}
 use Rattle.graph_moments.specs.Moments.{OnLine, limits_at, value_at}
 use Rattle.graph_moments.proofs.OnLines.{on_phaser}
 use Rattle.graph_turns.specs.Nexts.{number_on}

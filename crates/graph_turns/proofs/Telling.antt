@@ -8,7 +8,7 @@ use Rattle.phase_base.specs.Members.{signal_phases}
 use Rattle.phase_accum.specs.Sends.{AreSends}
 use Rattle.phase_history.specs.Histories.{members_of, done_of, HasNoSignaller}
 use Rattle.phase_history.specs.Replies.{wait_reply}
-use Rattle.phase_history.proofs.Signallers.{all_dropped}
+use Rattle.phase_laws.proofs.Signallers.{all_dropped}
 use Rattle.graph_base.specs.declared.line.Kind.{Kind}
 use Rattle.graph_base.specs.declared.line.Kind.TheVariants.{Source, Fir, Split, Join, Peer, Sink}
 use Rattle.graph_base.specs.Graphs.{task_at}

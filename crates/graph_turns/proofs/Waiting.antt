@@ -3,7 +3,7 @@ use Rattle.std.proofs.Common.{◌≡◌, ℕ, ◌+◌, ◌<◌, inr, true, false
 use Rattle.phase_base.specs.declared.entry.Entry.{Entry}
 use Rattle.phase_base.specs.Members.{entry_of}
 use Rattle.phase_history.specs.Histories.{History, IsAlive, members_of, has_dropped, start_of}
-use Rattle.phase_history.proofs.Alive.{alive_law}
+use Rattle.phase_laws.proofs.Alive.{alive_law}
 use Rattle.phase_history.proofs.LawProofs.{counted_of}
 use Rattle.graph_base.specs.Graphs.{task_at}
 use Rattle.graph_base.specs.TaskLines.{IsGraph}

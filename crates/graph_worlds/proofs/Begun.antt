@@ -6,9 +6,9 @@ use Rattle.phase_history.specs.Histories.{done_of, top_of, phases_signalled, pha
 use Rattle.phase_history.specs.Phases.{received_by}
 use Rattle.phase_history.specs.Laws.{HasReceivedFrom}
 use Rattle.phase_history.specs.Sent.{sent_by}
-use Rattle.phase_history.proofs.Left.{length-received, received_law}
-use Rattle.phase_history.proofs.Sendings.{length-sent_by}
-use Rattle.phase_history.proofs.Signallers.{below_top}
+use Rattle.phase_laws.proofs.Left.{length-received, received_law}
+use Rattle.phase_laws.proofs.Sendings.{length-sent_by}
+use Rattle.phase_laws.proofs.Signallers.{below_top}
 use Rattle.phase_history.proofs.Steps.{done_below_top, sound_of}
 use Rattle.phase_history.proofs.Tops.{top_within}
 use Rattle.graph_base.specs.declared.line.Kind.{Kind}

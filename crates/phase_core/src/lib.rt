@@ -11,6 +11,6 @@ mod signalling;
 mod waiting;
 
 pub use phase_history::{
-    Call, Event, Got, GotBlock, NoTask, RegisterRefusal, Reply, SignalRefusal, WaitRefusal, laws,
+    Call, Event, Got, GotBlock, NoTask, RegisterRefusal, Reply, SignalRefusal, WaitRefusal,
 };
 pub use phaser_core::PhaserCore;

@@ -1,12 +1,11 @@
-//! What happens on a phaser, as the list of the events on it, and what holds of every such list. No
-//! code keeps one: the contracts of every phaser speak of them. The first page to read is
-//! `specs/Histories.antt`, and then the laws in `src/laws.rt`.
+//! What happens on a phaser, as the list of the events on it. No code keeps one: the contracts of
+//! every phaser speak of them. The first page to read is `specs/Histories.antt`. What holds of every
+//! such list stands in the crate `phase_laws`.
 #![tactic(auto)]
 
 mod call;
 mod event;
 mod got;
-pub mod laws;
 mod refusal;
 mod reply;
 

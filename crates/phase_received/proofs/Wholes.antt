@@ -19,8 +19,8 @@ use Rattle.phase_history.proofs.Each.{Each, Each-of_picked}
 use Rattle.phase_history.proofs.MemberLemmas.{Each-entry}
 use Rattle.phase_history.proofs.LawProofs.{got_of}
 use Rattle.phase_history.proofs.Streams.{stream_closed, signallers_closed}
-use Rattle.phase_history.proofs.Used.{start_of-longer, IsLegal-beginning}
-use Rattle.phase_history.proofs.OthersEvents.{IsBeginning-others, received_by-others}
+use Rattle.phase_laws.proofs.Used.{start_of-longer, IsLegal-beginning}
+use Rattle.phase_laws.proofs.OthersEvents.{IsBeginning-others, received_by-others}
 use Rattle.phase_shared.specs.Calls.{Leaves}
 use Rattle.phase_shared.proofs.NextSteps.{waits_else}
 use Rattle.phase_received.specs.Whole.{HasSeenEnd, HasWhole}

@@ -15,7 +15,7 @@ use Rattle.phase_seats.specs.declared.rule.Terms.{Terms}
 use Rattle.phase_history.specs.Others.{IsUsed, is_by, events_of, OthersCame}
 use Rattle.phase_seats.specs.Views.{knowledge, resting, turning, known_of, speaks_of}
 use Rattle.phase_seats.specs.Rule.{Allows, IsGoodAt, HasOneHistory, StandsWithin, TookAt, IsSeatOfTask, AfterTake, Keeps}
-use Rattle.phase_history.proofs.Used.{IsUsed-member, IsUsed-longer, entry_of-others}
+use Rattle.phase_laws.proofs.Used.{IsUsed-member, IsUsed-longer, entry_of-others}
 use Rattle.phase_seats.proofs.Keeping.{gives, one_of, or_false, is_in_self}
 
 same_some : {A : Type 0} (x y : A) → Some x ≡ Some y → x ≡ y

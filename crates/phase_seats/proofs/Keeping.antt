@@ -21,8 +21,8 @@ use Rattle.phase_accum.specs.Operations.{Operation}
 use Rattle.phase_core.specs.Cores.{CoreState, StandsFor}
 use Rattle.phase_history.specs.declared.event.Event.TheVariants.{Made}
 use Rattle.phase_seats.specs.declared.rule.Terms.{Terms}
-use Rattle.phase_history.proofs.OthersEvents.{OthersCame-refl, OthersCame-trans, OthersCame-fewer}
-use Rattle.phase_history.proofs.Used.{IsUsed-longer, OnlyUsed-others}
+use Rattle.phase_laws.proofs.OthersEvents.{OthersCame-refl, OthersCame-trans, OthersCame-fewer}
+use Rattle.phase_laws.proofs.Used.{IsUsed-longer, OnlyUsed-others}
 
 same_some : {A : Type 0} (x y : A) → Some x ≡ Some y → x ≡ y
 same_some x y e = cc

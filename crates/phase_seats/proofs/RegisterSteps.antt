@@ -20,7 +20,7 @@ use Rattle.phase_history.specs.Refusals.{register_refusal}
 use Rattle.phase_history.specs.Legal.{IsLegal}
 use Rattle.phase_core.specs.Cores.{CoreState, StandsFor}
 use Rattle.phase_history.proofs.Refused.{registers_from}
-use Rattle.phase_history.proofs.Answered.{register_refusal-never}
+use Rattle.phase_laws.proofs.Answered.{register_refusal-never}
 use Rattle.phase_seats.specs.declared.view.View.{View}
 use Rattle.phase_seats.specs.declared.rule.Terms.{Terms}
 use Rattle.phase_history.specs.Others.{IsUsed, is_by}
@@ -33,7 +33,7 @@ use Rattle.phase_seats.specs.Steps.{IsStep}
 use Rattle.phase_seats.specs.declared.tried.Tried.{Tried}
 use Rattle.phase_seats.specs.declared.tried.Tried.TheVariants.{Refused}
 use Rattle.phase_history.specs.Others.{OthersCame}
-use Rattle.phase_history.proofs.Used.{IsUsed-longer}
+use Rattle.phase_laws.proofs.Used.{IsUsed-longer}
 use Rattle.phase_history.proofs.Received.{start_of-above, fresh}
 use Rattle.phase_seats.proofs.Keeping.{gives, forks, or_false, is_in_self, eqb_refl}
 use Rattle.phase_seats.proofs.Giving.{AfterCall, after_call, gives_same, stays, station, told_entry}

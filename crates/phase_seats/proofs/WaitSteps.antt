@@ -18,7 +18,7 @@ use Rattle.phase_base.specs.Limits.{Limits}
 use Rattle.phase_accum.specs.declared.outcome.Outcome.{Outcome}
 use Rattle.phase_seats.specs.Rule.{Allows, Keeps}
 use Rattle.phase_seats.specs.Calls.{MayWait}
-use Rattle.phase_history.proofs.OthersEvents.{OthersCame-refl}
+use Rattle.phase_laws.proofs.OthersEvents.{OthersCame-refl}
 use Rattle.phase_seats.proofs.Giving.{OwnCame, own_event}
 
 -- what a wait adds is its task's own

@@ -26,9 +26,9 @@ use Rattle.phase_history.specs.Phases.{received_by, stream_of}
 use Rattle.phase_history.specs.Sent.{sent_by}
 use Rattle.phase_history.specs.Replies.{signal_reply, after_signal}
 use Rattle.phase_history.proofs.BlockAnswers.{block_answers_law}
-use Rattle.phase_history.proofs.Gathered.{no_lists}
+use Rattle.phase_laws.proofs.Gathered.{no_lists}
 use Rattle.phase_history.proofs.LawProofs.{above_law}
-use Rattle.phase_history.proofs.Sendings.{length-sent_by}
+use Rattle.phase_laws.proofs.Sendings.{length-sent_by}
 use Rattle.phase_core.specs.Blocks.{StandForLists}
 use Rattle.phase_shared.specs.Calls.{Signals}
 use Rattle.phase_shared.specs.Blocks.{SignalsBlock, WaitsBlock}

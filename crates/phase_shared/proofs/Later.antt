@@ -13,7 +13,7 @@ use Rattle.phase_history.specs.declared.refusal.SignalRefusal.{SignalRefusal}
 use Rattle.phase_history.specs.declared.refusal.WaitRefusal.{WaitRefusal}
 use Rattle.phase_history.specs.Histories.{History}
 use Rattle.phase_history.specs.Others.{OthersCame}
-use Rattle.phase_history.proofs.OthersEvents.{OthersCame-refl, OthersCame-trans}
+use Rattle.phase_laws.proofs.OthersEvents.{OthersCame-refl, OthersCame-trans}
 use Rattle.phase_seats.specs.declared.rule.Terms.{Terms}
 use Rattle.phase_seats.specs.Rule.{Allows}
 use Rattle.phase_seats.specs.Calls.{Signals, Waits, MayWait, SignalsAndMayWait}

@@ -27,10 +27,10 @@ use Rattle.phase_base.specs.Lists.{is_in}
 use Rattle.phase_history.specs.Laws.{HasNoEvents}
 use Rattle.phase_history.specs.Sent.{sent_by}
 use Rattle.phase_history.proofs.LawProofs.{above_law, answers_law}
-use Rattle.phase_history.proofs.Answered.{ended_tells}
-use Rattle.phase_history.proofs.OthersEvents.{received_by-others, sent_by-others}
-use Rattle.phase_history.proofs.Gathered.{no_lists}
-use Rattle.phase_history.proofs.Sendings.{length-sent_by}
+use Rattle.phase_laws.proofs.Answered.{ended_tells}
+use Rattle.phase_laws.proofs.OthersEvents.{received_by-others, sent_by-others}
+use Rattle.phase_laws.proofs.Gathered.{no_lists}
+use Rattle.phase_laws.proofs.Sendings.{length-sent_by}
 use Rattle.phase_shared.specs.declared.next.Next.{Next}
 use Rattle.phase_shared.specs.Calls.{Signals, Waits, HasRegistered, RefusesRegister, Leaves}
 use Rattle.phase_shared.specs.Nexts.{MadeWhere, GoesNext, RefusesNext}

@@ -5,7 +5,7 @@ use Rattle.std.proofs.lemmas.Option.{same_Some, slice_get_past}
 use Rattle.phase_history.specs.Histories.{History}
 use Rattle.phase_history.specs.Others.{OthersCame}
 use Rattle.phase_base.specs.Lists.{is_in}
-use Rattle.phase_history.proofs.OthersEvents.{OthersCame-trans, OthersCame-fewer}
+use Rattle.phase_laws.proofs.OthersEvents.{OthersCame-trans, OthersCame-fewer}
 use Rattle.stream_lists.specs.Jobs.{Job}
 use Rattle.graph_ends.proofs.Founding.{in_one}
 use Rattle.graph_members.specs.AnyMembers.{left_in}

@@ -5,7 +5,7 @@ use Rattle.std.proofs.lemmas.Option.{same_Some, slice_get_past}
 use Rattle.std.proofs.lemmas.List.{length-append}
 use Rattle.phase_history.specs.Legal.{IsLegal}
 use Rattle.phase_base.specs.Lists.{is_distinct, is_in}
-use Rattle.phase_history.proofs.OthersEvents.{OthersCame-refl, OthersCame-trans, OthersCame-fewer}
+use Rattle.phase_laws.proofs.OthersEvents.{OthersCame-refl, OthersCame-trans, OthersCame-fewer}
 use Rattle.graph_moves.proofs.OwnEvents.{eq_case}
 use Rattle.stream_lists.specs.Jobs.{Job}
 use Rattle.graph_turns.specs.TaskPlaces.{registration_at}

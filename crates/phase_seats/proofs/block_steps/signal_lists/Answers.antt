@@ -7,7 +7,7 @@ use Rattle.phase_history.specs.declared.refusal.SignalRefusal.TheVariants as sig
 use Rattle.phase_history.specs.Histories.{History, signal_phase}
 use Rattle.phase_history.specs.Refusals.{signal_refusal}
 use Rattle.phase_history.specs.Replies.{signal_reply, after_signal}
-use Rattle.phase_history.proofs.Answered.{signal_refusal-never}
+use Rattle.phase_laws.proofs.Answered.{signal_refusal-never}
 use Rattle.phase_core.specs.Blocks.{StandForLists}
 use Rattle.phase_core.specs.Cores.{StandsFor}
 use Rattle.phase_core.proofs.SignalSlots.{lists-length}

@@ -8,7 +8,7 @@ use Rattle.phase_history.specs.declared.refusal.WaitRefusal.TheVariants as wait
 use Rattle.phase_history.specs.Histories.{wait_phase}
 use Rattle.phase_history.specs.Refusals.{wait_refusal}
 use Rattle.phase_history.specs.Replies.{got_block_at, wait_block_reply, after_wait_block}
-use Rattle.phase_history.proofs.Answered.{wait_refusal-never}
+use Rattle.phase_laws.proofs.Answered.{wait_refusal-never}
 use Rattle.phase_seats.specs.LockedPhasers.{locked_terms}
 use Rattle.phase_seats.specs.Views.{resting, turning, known_of, speaks_of}
 use Rattle.phase_seats.specs.Rule.{StandsWithin}

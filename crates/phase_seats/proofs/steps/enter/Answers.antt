@@ -6,7 +6,7 @@ use Rattle.phase_seats.specs.Views.{knowledge, known_of}
 use Rattle.phase_seats.specs.Rule.{StandsWithin, HasOneHistory, TookAt, IsSeatOfTask}
 use Rattle.phase_seats.specs.declared.view.View.{View}
 use Rattle.std.specs.Prelude.{is_some}
-use Rattle.phase_history.proofs.Used.{IsUsed-member}
+use Rattle.phase_laws.proofs.Used.{IsUsed-member}
 use Rattle.phase_seats.proofs.Keeping.{takes, never_busy, is_in_self}
 use Rattle.phase_seats.proofs.Giving.{entered}
 use Rattle.phase_seats.proofs.steps.enter.Goals as goal

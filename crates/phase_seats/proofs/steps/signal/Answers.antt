@@ -14,7 +14,7 @@ use Rattle.phase_seats.specs.Calls.{MayWait}
 use Rattle.phase_seats.specs.declared.view.View.{View}
 use Rattle.phase_history.specs.declared.refusal.SignalRefusal.TheVariants as signal
 use Rattle.phase_history.specs.Refusals.{signal_refusal}
-use Rattle.phase_history.proofs.Answered.{signal_refusal-never}
+use Rattle.phase_laws.proofs.Answered.{signal_refusal-never}
 use Rattle.phase_seats.proofs.Answering.{refused_is}
 use Rattle.phase_seats.proofs.Giving.{AfterCall, after_call, gives_own, gives_same, own_none, own_event, station, stays, lent, told_entry}
 use Rattle.std.specs.Result.{result_ok}
