@@ -1,6 +1,6 @@
 //! A replay, and the report of its fault.
 ghost use Rattle.std.specs.Prelude.{◌≡◌, ◌⊎◌};
-ghost use Rattle.phase_cli.specs.Replays.{ReplayEnds};
+ghost use Rattle.replay_command.specs.Replays.{ReplayEnds};
 ghost use Rattle.watched_io.specs.States.{reader_state, writer_state};
 
 use phase_replay::replay;
@@ -11,7 +11,7 @@ use watched_io::Watched;
 
 /// Replays the input, and answers the exit status: 0, or 5 after a fault, whose line then goes to
 /// the fault stream.
-pub(crate) fn replay_and_report<R: Read, W: Write, E: Write>(
+pub fn replay_and_report<R: Read, W: Write, E: Write>(
     alloc: Global,
     input: &mut Watched<R>,
     output: &mut Watched<W>,
