@@ -4,7 +4,7 @@ use Rattle.graph_commands.specs.Explained.{CheckEndsExplained, EvalEndsExplained
 use Rattle.graph_commands.specs.FileJobs.{Known}
 use Rattle.graph_commands.specs.GraphDrawings.{DrawEnds}
 use Rattle.graph_commands.specs.GraphRuns.{CheckEnds, EvalEnds}
-use Rattle.phase_cli.specs.Replays.{ReplayEnds}
+use Rattle.replay_command.specs.Replays.{ReplayEnds}
 use Rattle.phase_replay.specs.Replay.{HasCause}
 use Rattle.phase_status.specs.Statuses.{Reports}
 use Rattle.phase_words.specs.CommandLine.{AreRefused, AreTaken, Asked, Asks, AskGraph, AskHelp, AskReplay, AskVersion, check, check_explained, draw, eval, eval_explained, graph_asked, replay}

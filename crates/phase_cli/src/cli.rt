@@ -2,18 +2,18 @@
 ghost use Rattle.std.specs.Prelude.{◌≡◌, ◌⊎◌};
 ghost use Rattle.phase_cli.specs.Ends.{AnswerEnds, AnswerStops, EndsAs, IsAnswer, IsUnbegun};
 ghost use Rattle.phase_cli.specs.Ends.{LeavesAlone, LeavesBy, MayEnd, MayEndAs};
-ghost use Rattle.phase_cli.specs.Replays.{ReplayEnds};
+ghost use Rattle.replay_command.specs.Replays.{ReplayEnds};
 ghost use Rattle.phase_words.specs.CommandLine.{AreTaken, AskReplay, Asked, Asks, asked_of};
 ghost use Rattle.phase_words.specs.CommandLine.{graph_asked, texts};
 ghost use Rattle.watched_io.specs.States.{reader_state, writer_state};
 
-use crate::replayed::replay_and_report;
 use graph_commands::{
     Refuses, check_and_explain, check_and_report, draw_and_report, eval_and_explain,
     eval_and_report,
 };
 use phase_status::{refuse, report, show_help};
 use phase_words::{Call, Explain, NoCall, read_words};
+use replay_command::replay_and_report;
 use std::alloc::Global;
 use std::io::{Read, Write};
 use watched_io::{Files, IoFault, Watched};

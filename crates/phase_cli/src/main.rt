@@ -8,7 +8,6 @@ mod explain_tests;
 #[cfg(test)]
 mod graph_tests;
 mod laws;
-mod replayed;
 #[cfg(test)]
 mod tests;
 

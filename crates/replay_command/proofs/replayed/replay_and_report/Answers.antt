@@ -1,5 +1,5 @@
 use Rattle.std.proofs.Common.{rules}
-use Rattle.phase_cli.proofs.replayed.replay_and_report.Goals as goal
+use Rattle.replay_command.proofs.replayed.replay_and_report.Goals as goal
 
 -- The fault is the one that is reported.
 pub returns-in-Err-clause-ends : goal.returns-in-Err-clause-ends

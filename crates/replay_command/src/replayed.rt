@@ -1,6 +1,6 @@
 //! A replay, and the report of its fault.
 ghost use Rattle.std.specs.Prelude.{◌≡◌, ◌⊎◌};
-ghost use Rattle.phase_cli.specs.Replays.{ReplayEnds};
+ghost use Rattle.replay_command.specs.Replays.{ReplayEnds};
 ghost use Rattle.watched_io.specs.States.{reader_state, writer_state};
 
 use phase_replay::replay;
@@ -10,8 +10,10 @@ use std::io::{Read, Write};
 use watched_io::Watched;
 
 /// Replays the input, and answers the exit status: 0, or 5 after a fault, whose line then goes to
-/// the fault stream.
-pub(crate) fn replay_and_report<R: Read, W: Write, E: Write>(
+/// the fault stream: a read, a write or a flush that failed, a script of over `SCRIPT_MAX` bytes, or
+/// want of memory, which a phaser and its tasks take. It waits for the input alone. Where the fault
+/// stream fails too, the status stands alone.
+pub fn replay_and_report<R: Read, W: Write, E: Write>(
     alloc: Global,
     input: &mut Watched<R>,
     output: &mut Watched<W>,

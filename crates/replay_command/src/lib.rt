@@ -1,0 +1,8 @@
+//! The command `replay`: a replay of the input, and the report of its fault.
+#![tactic(auto)]
+
+mod replayed;
+#[cfg(test)]
+mod tests;
+
+pub use replayed::replay_and_report;
