@@ -1,5 +1,5 @@
 -- What registrations have received, by the history that was seen.
-use Rattle.std.specs.Prelude.{List, map, Result, Ok, Err}
+use Rattle.std.specs.Prelude.{◌≡◌, List, [], ◌∷◌, map, Result, Ok, Err}
 use Rattle.phase_accum.specs.Operations.{Operation}
 use Rattle.phase_accum.specs.declared.outcome.Outcome.{Outcome}
 use Rattle.phase_history.specs.Phases.{received_by}
@@ -14,6 +14,11 @@ received_of op reg = received_by op.value reg.seen reg.number
 -- what each registration that went into a past has received, in the order of their numbers
 abbrev pub all_received : {A K : Type 0} → Operation A → PastState K → List (List Outcome)
 all_received op past = map (received_by op.value past.seen) past.numbers
+
+-- a past is that of this one registration, at its phaser
+pub record IsPastOf {A K : Type 0} (reg : RegState A K) (past : PastState K) : Type 0 where
+  pub numbers : past.numbers ≡ reg.number ∷ []
+  pub at : past.at ≡ reg.at
 
 -- there was no memory and all stayed as it was, or the call is refused
 abbrev pub Declines : {R : Type 0} → Type 0 → (R → Type 0) → ReceiveFault R → Type 0

@@ -14,7 +14,7 @@ ghost use Rattle.phase_shared.specs.Entries.{entry_stays, entry_after_signal};
 ghost use Rattle.phase_shared.specs.Entries.{entry_after_wait, entry_after_next};
 ghost use Rattle.phase_shared.specs.Nexts.{GoesOrRefuses};
 ghost use Rattle.phase_shared.specs.Parts.{with_got, with_any};
-ghost use Rattle.phase_received.specs.Received.{received_of, Receives};
+ghost use Rattle.phase_received.specs.Received.{received_of, IsPastOf, Receives};
 ghost use Rattle.phase_received.specs.Whole.{HasSeenEnd, HasWhole};
 
 mod trying;
@@ -281,8 +281,7 @@ impl<A: Accumulate, K: SignalRule> Receiver<A, K> {
         ensures call { Leaves self.number self.seen result.seen }
         ensures received { received_of A.operation self
             ≡ received_by A.operation.value result.seen self.number }
-        ensures numbers { result.numbers ≡ self.number ∷ [] }
-        ensures at { result.at ≡ self.at }
+        ensures past { IsPastOf self result }
         ensures good { IsGoodAt K.allows (phaser_terms phaser.now) result.seen }
         ensures whole { HasSeenEnd self.seen self.number
             → HasWhole A.operation.value result.seen self.number }

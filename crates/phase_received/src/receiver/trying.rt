@@ -9,7 +9,7 @@ ghost use Rattle.phase_shared.specs.Calls.{IsTry, IsCall, Tries, Signals, Waits,
 ghost use Rattle.phase_shared.specs.Calls.{MaySignal, Leaves};
 ghost use Rattle.phase_shared.specs.Entries.{entry_stays, entry_after_signal, entry_after_wait};
 ghost use Rattle.phase_shared.specs.Parts.{with_got};
-ghost use Rattle.phase_received.specs.Received.{received_of, Receives};
+ghost use Rattle.phase_received.specs.Received.{received_of, IsPastOf, Receives};
 ghost use Rattle.phase_received.specs.Whole.{HasSeenEnd, HasWhole};
 
 use super::{Receiver, put};
@@ -125,8 +125,7 @@ impl<A: Accumulate, K: SignalRule> Receiver<A, K> {
         ensures ok { IfOk result (λ left. Leaves self.number self.seen left.seen) }
         ensures received { IfOk result (λ left. received_of A.operation self
             ≡ received_by A.operation.value left.seen self.number) }
-        ensures numbers { IfOk result (λ left. left.numbers ≡ self.number ∷ []) }
-        ensures at { IfOk result (λ left. left.at ≡ self.at) }
+        ensures past { IfOk result (λ left. IsPastOf self left) }
         ensures good { IfOk result (λ left.
             IsGoodAt K.allows (phaser_terms phaser.now) left.seen) }
         ensures whole { IfOk result (λ left. HasSeenEnd self.seen self.number
