@@ -1,5 +1,5 @@
 pub mod Graphs
-pub mod Kept
+pub mod Inside
 pub mod Names
 pub mod Registrations
 pub mod TaskLines

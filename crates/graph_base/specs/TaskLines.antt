@@ -9,7 +9,7 @@ use Rattle.graph_words.specs.Words.{Word, is_name, is_file}
 use Rattle.graph_base.specs.Graphs.{Task, Graph, IsPlace}
 use Rattle.graph_base.specs.Graphs.{task_at, phaser_at, name_at, sources_of}
 use Rattle.graph_base.specs.Names.{place_of}
-use Rattle.graph_base.specs.declared.limits.TheConstants.{PHASERS_MAX, TASKS_MAX, ENDS_MAX, COUNT_MAX, FACTOR_MAX}
+use Rattle.graph_base.specs.declared.limits.TheConstants.{PHASERS_MAX, TASKS_MAX, ENDS_MAX, STEPS_MAX, FACTOR_MAX}
 use Rattle.graph_base.specs.declared.line.Kind.{Kind}
 use Rattle.graph_base.specs.declared.line.Kind.TheVariants.{Source, Fir, Split, Join, Peer, Sink}
 use Rattle.graph_base.specs.declared.line.Parent.{Parent}
@@ -57,7 +57,7 @@ AreAmong ps qs = All (λ p. Contains qs p) ps
 -- signals what the child signals
 pub record IsParent (graph : Graph) (t : ℕ) (task : Task) (parent : Parent) : Type 0 where
   pub above : parent.task < t
-  pub steps : parent.at ≤ COUNT_MAX
+  pub steps : parent.at ≤ STEPS_MAX
   pub kind : has_children (task_at graph parent.task).kind ≡ true
   pub child_kind : has_children task.kind ≡ true
   pub waits : AreAmong task.inputs (task_at graph parent.task).inputs
@@ -79,7 +79,7 @@ pub record IsTaskLine (graph : Graph) (t : ℕ) (task : Task) : Type 0 where
   -- the numbers of its kind
   pub taps : HasTaps task.kind task.taps task.shift
   pub factor : HasFactor task.kind task.mul
-  pub until : IfSome task.until (λ steps. steps ≤ COUNT_MAX)
+  pub until : IfSome task.until (λ steps. steps ≤ STEPS_MAX)
   pub parent : IfSome task.parent (λ parent. IsParent graph t task parent)
 
 -- the line of a phaser

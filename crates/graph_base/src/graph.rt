@@ -7,7 +7,7 @@ ghost use Rattle.graph_base.specs.TaskLines.{IsGraph, IsPhaserLine, IsTaskLine};
 ghost use Rattle.graph_base.specs.Names.{place_of, names_of};
 ghost use Rattle.graph_base.specs.Registrations.{registrations_of, no_registration};
 ghost use Rattle.graph_base.specs.Registrations.{as_input, as_output, ends_of, exchange_mode};
-ghost use Rattle.graph_base.specs.Kept.{task_of};
+ghost use Rattle.graph_base.specs.Inside.{task_of};
 
 use crate::limits::{ENDS_MAX, PHASERS_MAX, TASKS_MAX};
 use crate::line::{Kind, PhaserLine, TaskLine};
@@ -38,7 +38,7 @@ impl Model for Graph {
 
     ghost Value = { GraphValue };
 
-    ghost use Rattle.graph_base.specs.Kept.{graph_view, IsKept};
+    ghost use Rattle.graph_base.specs.Inside.{graph_view, IsKept};
 
     ghost view = { graph_view };
 
@@ -46,7 +46,7 @@ impl Model for Graph {
 }
 
 impl Graph {
-    ghost use Rattle.graph_base.specs.Kept.{graph_of};
+    ghost use Rattle.graph_base.specs.Inside.{graph_of};
     ghost use Rattle.graph_base.specs.declared.line.Kind.TheVariants.{Peer};
 
     /// Makes the graph of these lines: each name with what it stands for, the phasers and the tasks

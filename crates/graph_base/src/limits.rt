@@ -10,7 +10,7 @@ pub const TASKS_MAX: usize = 64;
 pub const ENDS_MAX: usize = 8;
 
 /// The greatest number after `at` and after `until`, in steps. It is 2^62.
-pub const COUNT_MAX: u64 = 4611686018427387904;
+pub const STEPS_MAX: u64 = 4611686018427387904;
 
 /// The greatest magnitude of a peer's factor, the number after `mul`.
 pub const FACTOR_MAX: u64 = 2_147_483_647;

@@ -26,7 +26,7 @@ pub enum Kind {
 pub struct Parent {
     /// The number of the task that registers it.
     pub task: usize,
-    /// How many steps that task makes before, at most `COUNT_MAX`.
+    /// How many steps that task makes before, at most `STEPS_MAX`.
     pub at: u64,
 }
 
@@ -55,7 +55,7 @@ pub struct TaskLine {
     pub outputs: Vec<usize>,
     /// The task that registers it, where it is a child.
     pub parent: Option<Parent>,
-    /// After how many steps it drops, at most `COUNT_MAX`.
+    /// After how many steps it drops, at most `STEPS_MAX`.
     pub until: Option<u64>,
     /// The taps of a filter.
     pub taps: Vec<i64>,

@@ -2,7 +2,7 @@
 use Rattle.std.proofs.Common.{◌≡◌, ℕ, ◌<◌, [], Option, Some, None, length, sym, subst, ◌∙◌}
 use Rattle.graph_base.specs.Graphs.{task_at}
 use Rattle.graph_base.specs.TaskLines.{IsGraph}
-use Rattle.stream_lists.specs.Jobs.{Job, place_in}
+use Rattle.stream_lists.specs.Jobs.{Job, index_in}
 use Rattle.stream_lists.specs.Spans.{signalled_by}
 use Rattle.graph_moments.specs.Moments.{Moment, TaskRan, OnPhaser, PutOn, TakenOn, SilentOn, IsChild, input_at}
 use Rattle.graph_moves.specs.Moves.{SameTask}
@@ -30,7 +30,7 @@ absent_ran job m t is there begins absent = record {
   samples = lists.samples;
   cut = lists.cut;
   lines = λ p n at. absurd (nobody p n at);
-  outputs = λ p pp. outputs p (place_in (signalled_by (task_at job.graph t)) p);
+  outputs = λ p pp. outputs p (index_in (signalled_by (task_at job.graph t)) p);
   inputs = λ k lt.
       (let p = input_at (task_at job.graph t) k in
       let T : Option ℕ → Type 0 = λ o. TakenOn job m t k p o in

@@ -1,7 +1,7 @@
 //! Numbers of a line that are past their limits.
 
 use crate::parts::Part;
-use graph_lang::{COUNT_MAX, ENDS_MAX, FACTOR_MAX};
+use graph_lang::{ENDS_MAX, FACTOR_MAX, STEPS_MAX};
 use phase_base::BOUND_MAX;
 use stream_filters::{SHIFT_MAX, TAP_MAX, TAPS_MAX};
 
@@ -39,7 +39,7 @@ pub(crate) fn limit_passed(part: Part, word: &[u8]) -> Option<&'static str> {
             FACTOR_MAX,
             "a factor of a magnitude of at most 2147483647",
         ),
-        Part::Steps => (0, COUNT_MAX, "at most 4611686018427387904 steps"),
+        Part::Steps => (0, STEPS_MAX, "at most 4611686018427387904 steps"),
         Part::Low | Part::High => (0, CLAMP_MAX, "a magnitude of at most 9223372036854775807"),
         _ => return None,
     };

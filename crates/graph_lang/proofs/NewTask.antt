@@ -18,7 +18,7 @@ use Rattle.graph_lang.specs.WordValues.{or_zero, numbers_of, parent_of, task_lin
 use Rattle.graph_lang.specs.Faults.{kind_of, is_body_within, are_ends_within, is_count_within, is_tap_within, phasers_of, are_distinct, is_phaser, is_parent_known, is_in_order, is_exchange_below, may_be_parent, is_among, holds_for, is_plain, is_held}
 use Rattle.graph_base.specs.TaskLines.{IsTaskLine, IsParent, AreNames, HasEnds, HasTaps, HasFactor, IsExchangeBelow, has_children, AreAmong}
 use Rattle.phase_base.specs.Lists.{is_distinct}
-use Rattle.graph_base.specs.declared.limits.TheConstants.{TASKS_MAX, ENDS_MAX, COUNT_MAX, FACTOR_MAX}
+use Rattle.graph_base.specs.declared.limits.TheConstants.{TASKS_MAX, ENDS_MAX, STEPS_MAX, FACTOR_MAX}
 use Rattle.graph_base.specs.declared.line.Kind.{Kind}
 use Rattle.graph_base.specs.declared.line.Kind.TheVariants as kind
 use Rattle.graph_lang.specs.declared.fault.FaultKind.TheVariants.{Limit, Twice, Unknown, OutBeforeIn, BadParent, NotHeld}
@@ -265,9 +265,9 @@ has-factor (peer input exchange output factor) e =
 has-factor (sink input) e = refl
 
 has-until : (until : Option Word) → option_map_or is_count_within until true ≡ true
-    → IfSome (option_map nat_value until) (λ steps. steps ≤ COUNT_MAX)
+    → IfSome (option_map nat_value until) (λ steps. steps ≤ STEPS_MAX)
 has-until None e = tt
-has-until (Some steps) e = leb-true (nat_value steps) COUNT_MAX e
+has-until (Some steps) e = leb-true (nat_value steps) STEPS_MAX e
 
 -- ---- the parent
 
@@ -299,7 +299,7 @@ new-parent before are child (Some by) known at may holds allowed =
     (list_all (is_among above.outputs) child.outputs) holds in
     record {
       above = task-below before are by.parent known;
-      steps = leb-true (nat_value by.at) COUNT_MAX at;
+      steps = leb-true (nat_value by.at) STEPS_MAX at;
       kind = may;
       child_kind = allowed;
       waits = all-among child.inputs above.inputs held.0;

@@ -15,7 +15,7 @@ use Rattle.graph_base.specs.Graphs.{Graph, Task, Named, task_at, phaser_at}
 use Rattle.graph_base.specs.Names.{place_of, phaser_named, task_named}
 use Rattle.graph_lang.specs.WordValues.{inputs_of, outputs_of, task_line}
 use Rattle.graph_base.specs.TaskLines.{has_children}
-use Rattle.graph_base.specs.declared.limits.TheConstants.{PHASERS_MAX, TASKS_MAX, ENDS_MAX, COUNT_MAX, FACTOR_MAX}
+use Rattle.graph_base.specs.declared.limits.TheConstants.{PHASERS_MAX, TASKS_MAX, ENDS_MAX, STEPS_MAX, FACTOR_MAX}
 use Rattle.graph_base.specs.declared.line.Kind.{Kind}
 use Rattle.graph_base.specs.declared.line.Kind.TheVariants as kind
 use Rattle.graph_base.specs.declared.line.Parent.{Parent}
@@ -64,7 +64,7 @@ is_body_within (sink input) = true
 
 -- whether a number of steps is within its limit
 abbrev pub is_count_within : Word → Bool
-is_count_within count = nat_le (nat_value count) COUNT_MAX
+is_count_within count = nat_le (nat_value count) STEPS_MAX
 
 -- whether the numbers of steps behind `at` and `until` are within their limit
 abbrev pub are_ends_within : EndWords → Bool

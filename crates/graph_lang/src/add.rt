@@ -6,7 +6,7 @@ ghost use Rattle.graph_text.specs.Numbers.{is_nat};
 ghost use Rattle.graph_words.specs.Words.{is_name, is_file};
 ghost use Rattle.graph_text.specs.Decls.{IsBody, IsBy};
 ghost use Rattle.graph_text.specs.Lines.{body_of, ends_of, by_of, word_of};
-ghost use Rattle.graph_base.specs.Kept.{task_of};
+ghost use Rattle.graph_base.specs.Inside.{task_of};
 ghost use Rattle.graph_base.specs.Names.{files_of, place_of};
 ghost use Rattle.graph_lang.specs.WordValues.{files_in, task_line, inputs_of, outputs_of};
 ghost use Rattle.graph_lang.specs.Faults.{is_phaser, is_parent_known, phasers_of};

@@ -14,7 +14,7 @@ mod within;
 
 pub use fault::{FaultKind, GraphFault, GraphRefusal};
 pub use graph_base::{
-    COUNT_MAX, ENDS_MAX, FACTOR_MAX, Graph, Kind, Mode, Op, PHASERS_MAX, Parent, PhaserLine, Place,
-    Registration, TASKS_MAX, TaskLine,
+    ENDS_MAX, FACTOR_MAX, Graph, Kind, Mode, Op, PHASERS_MAX, Parent, PhaserLine, Place,
+    Registration, STEPS_MAX, TASKS_MAX, TaskLine,
 };
 pub use read::read_graph;

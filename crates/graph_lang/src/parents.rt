@@ -7,7 +7,7 @@ ghost use Rattle.graph_text.specs.Decls.{IsBy};
 ghost use Rattle.graph_text.specs.Lines.{by_of};
 ghost use Rattle.graph_text.specs.Numbers.{nat_value};
 ghost use Rattle.graph_base.specs.Names.{names_of, place_of};
-ghost use Rattle.graph_base.specs.Kept.{task_of};
+ghost use Rattle.graph_base.specs.Inside.{task_of};
 ghost use Rattle.graph_lang.specs.WordValues.{parent_of};
 ghost use Rattle.graph_base.specs.TaskLines.{has_children};
 ghost use Rattle.graph_lang.specs.Faults.{is_parent_known, is_in_order, may_be_parent};

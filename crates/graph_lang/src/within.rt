@@ -15,7 +15,7 @@ ghost use Rattle.graph_lang.specs.Faults.{is_function_within, is_bound_within, i
 ghost use Rattle.graph_lang.specs.Faults.{is_tap_within, is_number_of_ends, is_count_within};
 ghost use Rattle.graph_lang.specs.Faults.{are_ends_within, is_phaser_within};
 
-use graph_base::{COUNT_MAX, ENDS_MAX, FACTOR_MAX, PhaserLine};
+use graph_base::{ENDS_MAX, FACTOR_MAX, PhaserLine, STEPS_MAX};
 use graph_text::{Body, Ends, Function, PhaserWords, int_within, nat_within};
 use phase_accum::Single;
 use phase_base::BOUND_MAX;
@@ -220,7 +220,7 @@ fn count_of(word: &[u8]) -> Option<u64>
     requires { IsTrue (is_nat word.now) }
     ensures { result ≡ (if is_count_within word.now then Some (nat_value word.now) else None) }
 {
-    nat_within(word, COUNT_MAX)
+    nat_within(word, STEPS_MAX)
 }
 
 /// The number of steps that a word writes, where there is one; the outer `None` is a number that is

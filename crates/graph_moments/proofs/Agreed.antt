@@ -10,7 +10,7 @@ use Rattle.phase_base.specs.declared.entry.Entry.{Entry}
 use Rattle.phase_history.specs.Histories.{History, done_of, top_of, phases_signalled, has_dropped, HasNoSignaller}
 use Rattle.phase_history.specs.Legal.{IsLegal}
 use Rattle.phase_history.proofs.Steps.{done_below_top, sound_of}
-use Rattle.stream_lists.specs.Lists.{Member, send_in, sends_in, end_of_member}
+use Rattle.stream_lists.specs.Lists.{Contribution, send_in, sends_in, end_of_contribution}
 use Rattle.stream_lists.specs.Spans.{greatest}
 use Rattle.phase_base.specs.Lists.{is_in}
 use Rattle.phase_history.specs.Sent.{sent_by, sent_in, gathered, IsSilent, ReachesTop}
@@ -36,7 +36,7 @@ none-past (x ∷ xs) zero past = absurd (omega arith)
 none-past (x ∷ xs) (suc c) past = none-past xs c (omega arith)
 
 -- what a member sends in a complete phase is what its task sent there
-pub sent_is : (limits : Limits) (h : History) (task : ℕ) (member : Member) (n : ℕ)
+pub sent_is : (limits : Limits) (h : History) (task : ℕ) (member : Contribution) (n : ℕ)
     → IsLegal limits h → n < done_of h → HasPut h task member
     → sent_in h task n ≡ cons_option (send_in n member) []
 sent_is limits h task member n legal below has =
@@ -88,13 +88,13 @@ sent_is limits h task member n legal below has =
                 absurd (omega arith)
 
 -- task by task
-abbrev pub AllAgree : History → (ℕ → Option ℕ) → (ℕ → Option Member) → List ℕ → Type 0
+abbrev pub AllAgree : History → (ℕ → Option ℕ) → (ℕ → Option Contribution) → List ℕ → Type 0
 AllAgree h number member [] = Unit {0}
 AllAgree h number member (t ∷ ts) = Agrees h (number t) (member t) × AllAgree h number member ts
 
 -- what the registered tasks have sent in a complete phase is what the members send there
 pub gathered_is : (limits : Limits) (h : History) (number : ℕ → Option ℕ)
-    (member : ℕ → Option Member) (ts : List ℕ) (n : ℕ)
+    (member : ℕ → Option Contribution) (ts : List ℕ) (n : ℕ)
     → IsLegal limits h → n < done_of h → AllAgree h number member ts
     → gathered h (filter_map number ts) n ≡ sends_in (filter_map member ts) n
 gathered_is limits h number member [] n legal below agree = refl
@@ -103,7 +103,7 @@ gathered_is limits h number member (t ∷ ts) n legal below agree =
     elim (number t) as (λ (o : Option ℕ). Agrees h o (member t)
     → gathered h (cons_option o (filter_map number ts)) n
     ≡ sends_in (cons_option (member t) (filter_map member ts)) n) [
-      | None ↦ elim (member t) as (λ (m : Option Member). Agrees h None m
+      | None ↦ elim (member t) as (λ (m : Option Contribution). Agrees h None m
           → gathered h (filter_map number ts) n
           ≡ sends_in (cons_option m (filter_map member ts)) n) [
             | None ↦ λ a. rest
@@ -113,7 +113,7 @@ gathered_is limits h number member (t ∷ ts) n legal below agree =
                 let none : send_in n m ≡ None = (rw test refl) in
                 rest ∙ ap (λ o. cons_option o (sends_in (filter_map member ts) n)) (sym none)
           ]
-      | Some task ↦ elim (member t) as (λ (m : Option Member). Agrees h (Some task) m
+      | Some task ↦ elim (member t) as (λ (m : Option Contribution). Agrees h (Some task) m
           → sent_in h task n ++ gathered h (filter_map number ts) n
           ≡ sends_in (cons_option m (filter_map member ts)) n) [
             | None ↦ λ a.
@@ -172,7 +172,7 @@ found number (t ∷ ts) task e =
     )
     here q (inr rest) rec = (let r = rec rest in (r.0, later r.0 r.1, r.2))
 
-pub agrees_at : (h : History) (number : ℕ → Option ℕ) (member : ℕ → Option Member) (ts : List ℕ)
+pub agrees_at : (h : History) (number : ℕ → Option ℕ) (member : ℕ → Option Contribution) (ts : List ℕ)
     (t : ℕ) → is_in t ts ≡ true
     → AllAgree h number member ts → Agrees h (number t) (member t)
 agrees_at h number member [] t e agree = absurd (cc)
@@ -195,43 +195,43 @@ greatest-mono : (ns : List ℕ) (a b : ℕ) → a ≤ b → fold max a ns ≤ fo
 greatest-mono [] a b le = le
 greatest-mono (n ∷ ns) a b le = greatest-mono ns (max a n) (max b n) (omega arith)
 
-pub end_within : (member : ℕ → Option Member) (ts : List ℕ) (t a : ℕ) → is_in t ts ≡ true
-    → end_of_member (member t) ≤ fold max a (map (λ t. end_of_member (member t)) ts)
+pub end_within : (member : ℕ → Option Contribution) (ts : List ℕ) (t a : ℕ) → is_in t ts ≡ true
+    → end_of_contribution (member t) ≤ fold max a (map (λ t. end_of_contribution (member t)) ts)
 end_within member [] t a e = absurd (cc)
 end_within member (u ∷ ts) t a e =
     split (is_in-or (eqb u t) (is_in t ts) e)
-    (λ f. end_within member ts t (max a (end_of_member (member u))) f)
+    (λ f. end_within member ts t (max a (end_of_contribution (member u))) f)
   where
     rest : ℕ
-    rest = fold max (max a (end_of_member (member u))) (map (λ t. end_of_member (member t)) ts)
+    rest = fold max (max a (end_of_contribution (member u))) (map (λ t. end_of_contribution (member t)) ts)
 
     split : (eqb u t ≡ true) ⊎ (is_in t ts ≡ true)
         → (is_in t ts ≡ true
-        → end_of_member (member t)
-        ≤ fold max (max a (end_of_member (member u))) (map (λ t. end_of_member (member t)) ts))
-        → end_of_member (member t)
-        ≤ fold max (max a (end_of_member (member u))) (map (λ t. end_of_member (member t)) ts)
+        → end_of_contribution (member t)
+        ≤ fold max (max a (end_of_contribution (member u))) (map (λ t. end_of_contribution (member t)) ts))
+        → end_of_contribution (member t)
+        ≤ fold max (max a (end_of_contribution (member u))) (map (λ t. end_of_contribution (member t)) ts)
     split (inl same) rec =
         let P : ℕ → Type 0 =
-        λ n. end_of_member (member n)
-        ≤ fold max (max a (end_of_member (member u)))
-        (map (λ t. end_of_member (member t)) ts) in
-        let r : max a (end_of_member (member u))
-        ≤ fold max (max a (end_of_member (member u))) (map (λ t. end_of_member (member t)) ts) =
-        greatest-front (map (λ t. end_of_member (member t)) ts)
-        (max a (end_of_member (member u))) in
+        λ n. end_of_contribution (member n)
+        ≤ fold max (max a (end_of_contribution (member u)))
+        (map (λ t. end_of_contribution (member t)) ts) in
+        let r : max a (end_of_contribution (member u))
+        ≤ fold max (max a (end_of_contribution (member u))) (map (λ t. end_of_contribution (member t)) ts) =
+        greatest-front (map (λ t. end_of_contribution (member t)) ts)
+        (max a (end_of_contribution (member u))) in
         subst P (eqb-true _ _ same) (omega arith)
     split (inr f) rec = rec f
 
 -- all ends are at most n
-all_within : (member : ℕ → Option Member) (ts : List ℕ) (a n : ℕ) → a ≤ n
-    → ((t : ℕ) → is_in t ts ≡ true → end_of_member (member t) ≤ n)
-    → fold max a (map (λ t. end_of_member (member t)) ts) ≤ n
+all_within : (member : ℕ → Option Contribution) (ts : List ℕ) (a n : ℕ) → a ≤ n
+    → ((t : ℕ) → is_in t ts ≡ true → end_of_contribution (member t) ≤ n)
+    → fold max a (map (λ t. end_of_contribution (member t)) ts) ≤ n
 all_within member [] a n le each = le
 all_within member (t ∷ ts) a n le each =
     let here : eqb t t ≡ true = eq-eqb t t refl in
-    let first : end_of_member (member t) ≤ n = each t (rw here refl) in
-    all_within member ts (max a (end_of_member (member t))) n (omega arith)
+    let first : end_of_contribution (member t) ≤ n = each t (rw here refl) in
+    all_within member ts (max a (end_of_contribution (member t))) n (omega arith)
     (λ u f. each u (rw f (or_true (eqb t u))))
   where
     or_true : (b : Bool) → (b || true) ≡ true
@@ -248,9 +248,9 @@ bool_case false = inr refl
 
 -- no phase past the greatest end is complete
 pub done_within : (limits : Limits) (h : History) (number : ℕ → Option ℕ)
-    (member : ℕ → Option Member) (ts : List ℕ)
+    (member : ℕ → Option Contribution) (ts : List ℕ)
     → IsLegal limits h → Strangers h (filter_map number ts) → AllAgree h number member ts
-    → done_of h ≤ greatest (map (λ t. end_of_member (member t)) ts)
+    → done_of h ≤ greatest (map (λ t. end_of_contribution (member t)) ts)
 done_within limits h number member ts legal strangers agree =
     let top : done_of h ≤ top_of h = done_below_top h (sound_of limits h legal) in
     let r : ReachesTop h = ReachesTop-of limits h legal in
@@ -265,8 +265,8 @@ done_within limits h number member ts legal strangers agree =
         let first : r.start.signal_phase ≡ 0 = s.from_0 r.start r.start_is in omega arith
 
     reached : (r : ReachesTop h) → top_of h ≤ r.start.signal_phase + phases_signalled h r.task
-        → (f : Found number ts r.task) → (m : Option Member) → (member f.0 ≡ m)
-        → Agrees h (Some r.task) m → top_of h ≤ end_of_member m
+        → (f : Found number ts r.task) → (m : Option Contribution) → (member f.0 ≡ m)
+        → Agrees h (Some r.task) m → top_of h ≤ end_of_contribution m
     reached r reach f None e a = let z : top_of h ≡ 0 = silent r a reach in omega arith
     reached r reach f (Some m) e a =
         let same : a.start ≡ r.start = same_Some _ _ (sym a.start_is ∙ r.start_is) in
@@ -285,29 +285,29 @@ done_within limits h number member ts legal strangers agree =
         → top_of h ≤ r.start.signal_phase + phases_signalled h r.task
         → (is_in r.task (filter_map number ts) ≡ true)
         ⊎ (is_in r.task (filter_map number ts) ≡ false)
-        → done_of h ≤ greatest (map (λ t. end_of_member (member t)) ts)
+        → done_of h ≤ greatest (map (λ t. end_of_contribution (member t)) ts)
     split top r reach (inr none) =
         let z : top_of h ≡ 0 = silent r (strangers r.task none) reach in omega arith
     split top r reach (inl known) =
         let f : Found number ts r.task = found number ts r.task known in
         let a : Agrees h (number f.0) (member f.0) = agrees_at h number member ts f.0 f.1 agree in
         let P : Option ℕ → Type 0 = λ o. Agrees h o (member f.0) in
-        let at : top_of h ≤ end_of_member (member f.0) =
+        let at : top_of h ≤ end_of_contribution (member f.0) =
         reached r reach f (member f.0) refl (subst P f.2 a) in
-        let within : end_of_member (member f.0)
-        ≤ greatest (map (λ t. end_of_member (member t)) ts) = end_within member ts f.0 0 f.1 in
+        let within : end_of_contribution (member f.0)
+        ≤ greatest (map (λ t. end_of_contribution (member t)) ts) = end_within member ts f.0 0 f.1 in
         omega arith
 
 -- where no task signals, all phases are complete
 pub done_whole : (limits : Limits) (h : History) (number : ℕ → Option ℕ)
-    (member : ℕ → Option Member) (ts : List ℕ)
+    (member : ℕ → Option Contribution) (ts : List ℕ)
     → IsLegal limits h → HasNoSignaller h → AllAgree h number member ts
-    → greatest (map (λ t. end_of_member (member t)) ts) ≤ done_of h
+    → greatest (map (λ t. end_of_contribution (member t)) ts) ≤ done_of h
 done_whole limits h number member ts legal quiet agree =
     all_within member ts 0 (done_of h) (omega arith)
     (λ t f. ended (number t) (member t) (agrees_at h number member ts t f agree))
   where
-    ended : (o : Option ℕ) (m : Option Member) → Agrees h o m → end_of_member m ≤ done_of h
+    ended : (o : Option ℕ) (m : Option Contribution) → Agrees h o m → end_of_contribution m ≤ done_of h
     ended o None a = omega arith
     ended None (Some m) a = absurd (a.held quiet)
     ended (Some task) (Some m) a =

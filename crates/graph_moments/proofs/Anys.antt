@@ -19,9 +19,9 @@ use Rattle.phase_base.specs.declared.operation.Op.{Op}
 use Rattle.phase_base.specs.declared.operation.Op.TheVariants.{Sum, Product, Least, Greatest, Any}
 use Rattle.graph_base.specs.Graphs.{task_at, phaser_at}
 use Rattle.graph_base.specs.TaskLines.{IsGraph}
-use Rattle.stream_lists.specs.Jobs.{Job, place_in}
+use Rattle.stream_lists.specs.Jobs.{Job, index_in}
 use Rattle.stream_lists.specs.Spans.{signalled_by, puts_on, spans_of, end_of, span_in, schedule_of}
-use Rattle.stream_lists.specs.Lists.{Member, send_in, member_at, member_by, value_by, numbers_of, output_on}
+use Rattle.stream_lists.specs.Lists.{Contribution, send_in, contribution_at, contribution_by, value_by, numbers_of, output_on}
 use Rattle.stream_lists.specs.Meetings.{is_any, overlap, meet_on, meets_on, meets_above, meeting_line}
 use Rattle.stream_laws.proofs.Ordered.{place-at}
 use Rattle.stream_laws.proofs.ListLengths.{outputs_long}
@@ -108,7 +108,7 @@ some_below (x ∷ xs) zero v e = omega arith
 some_below (x ∷ xs) (suc k) v e = let r : k < length xs = some_below xs k v e in omega arith
 
 -- what a member sends is within it
-pub sends_within : (n : ℕ) (member : Member) (v : ℤ) → send_in n member ≡ Some v
+pub sends_within : (n : ℕ) (member : Contribution) (v : ℤ) → send_in n member ≡ Some v
     → (member.0 ≤ n) × (n < member.0 + length member.1)
 sends_within n member v e = by (cases_lt n member.0)
   where
@@ -126,15 +126,15 @@ sends_within n member v e = by (cases_lt n member.0)
         (later, omega arith)
 
 -- a task that sends in phase n signals it
-pub signals_at : (job : Job) (p t n : ℕ) (member : Member) (v : ℤ) → IsGraph job.graph
+pub signals_at : (job : Job) (p t n : ℕ) (member : Contribution) (v : ℤ) → IsGraph job.graph
     → t < length job.graph.tasks
-    → member_at job (schedule_of job) (numbers_of job) p t ≡ Some member → send_in n member ≡ Some v
+    → contribution_at job (schedule_of job) (numbers_of job) p t ≡ Some member → send_in n member ≡ Some v
     → ((span_in job t).offset ≤ n) × (n < end_of job.graph (spans_of job) p t)
 signals_at job p t n member v is there at sends =
-    by (place_in (signalled_by (task_at job.graph t)) p) refl at
+    by (index_in (signalled_by (task_at job.graph t)) p) refl at
   where
-    by : (place : Option ℕ) → place_in (signalled_by (task_at job.graph t)) p ≡ place
-        → member_by job (schedule_of job) (numbers_of job) t place ≡ Some member
+    by : (place : Option ℕ) → index_in (signalled_by (task_at job.graph t)) p ≡ place
+        → contribution_by job (schedule_of job) (numbers_of job) t place ≡ Some member
         → ((span_in job t).offset ≤ n) × (n < end_of job.graph (spans_of job) p t)
     by None e found = absurd (cc)
     by (Some j) e found = live_case ((span_in job t).live) refl found
@@ -148,7 +148,7 @@ signals_at job p t n member v is there at sends =
             → ((span_in job t).offset ≤ n) × (n < end_of job.graph (spans_of job) p t)
         live_case false dead found = absurd (cc)
         live_case true live found =
-            let out : Member =
+            let out : Contribution =
             ((span_in job t).offset, output_on job (schedule_of job) (numbers_of job) t j) in
             let same : out ≡ member = same_Some _ _ found in
             let w : ((span_in job t).offset ≤ n)
@@ -180,7 +180,7 @@ in_range t a (suc n) e =
 
 pub are_gathered : (job : Job) (m : Moment) (p : ℕ) → IsReady job → p < length job.graph.phasers
     → PhaserRan job m p
-    → AllAgree (m.history p) (m.number p) (member_at job (schedule_of job) (numbers_of job) p)
+    → AllAgree (m.history p) (m.number p) (contribution_at job (schedule_of job) (numbers_of job) p)
     (range_with_len 0 (length job.graph.tasks))
     → AreGathered job m p
 are_gathered job m p ready pp ran agree n below = by (op_case (phaser_at job.graph p).op)
@@ -203,17 +203,17 @@ are_gathered job m p ready pp ran agree n below = by (op_case (phaser_at job.gra
         let there : f.0 < 0 + length job.graph.tasks =
         in_range f.0 0 (length job.graph.tasks) f.1 in
         let A : Option ℕ → Type 0 =
-        λ o. Agrees (m.history p) o (member_at job (schedule_of job) (numbers_of job) p f.0) in
+        λ o. Agrees (m.history p) o (contribution_at job (schedule_of job) (numbers_of job) p f.0) in
         let a_is : Agrees (m.history p) (Some a)
-        (member_at job (schedule_of job) (numbers_of job) p f.0) =
+        (contribution_at job (schedule_of job) (numbers_of job) p f.0) =
         subst A f.2
-        (agrees_at (m.history p) (m.number p) (member_at job (schedule_of job) (numbers_of job) p)
+        (agrees_at (m.history p) (m.number p) (contribution_at job (schedule_of job) (numbers_of job) p)
         (range_with_len 0 (length job.graph.tasks)) f.0 f.1 agree) in
-        member_case f.0 (omega arith) (member_at job (schedule_of job) (numbers_of job) p f.0) refl
+        member_case f.0 (omega arith) (contribution_at job (schedule_of job) (numbers_of job) p f.0) refl
         a_is
       where
-        member_case : (t : ℕ) → t < length job.graph.tasks → (o : Option Member)
-            → member_at job (schedule_of job) (numbers_of job) p t ≡ o
+        member_case : (t : ℕ) → t < length job.graph.tasks → (o : Option Contribution)
+            → contribution_at job (schedule_of job) (numbers_of job) p t ≡ o
             → Agrees (m.history p) (Some a) o
             → (t < length job.graph.tasks) × ((span_in job t).offset ≤ n)
             × (n < end_of job.graph (spans_of job) p t)

@@ -6,9 +6,9 @@ use Rattle.phase_accum.specs.declared.outcome.Outcome.TheVariants.{Value, Empty,
 use Rattle.phase_accum.specs.Sends.{IsSend, AreSends, value_max}
 use Rattle.graph_base.specs.Graphs.{task_at}
 use Rattle.graph_base.specs.TaskLines.{IsGraph}
-use Rattle.stream_lists.specs.Jobs.{Job, place_in}
+use Rattle.stream_lists.specs.Jobs.{Job, index_in}
 use Rattle.stream_lists.specs.Spans.{lengths_of, span_in, signalled_by, schedule_of}
-use Rattle.stream_lists.specs.Lists.{members_of, sends_in, numbers_of, output_on, list_of_phaser}
+use Rattle.stream_lists.specs.Lists.{contributions_on, sends_in, numbers_of, output_on, list_of_phaser}
 use Rattle.stream_lists.specs.Ranges.{is_out_of_range, are_made, task_takes, is_taken, is_too_big, is_fault, first_too_big}
 use Rattle.stream_laws.specs.Entries.{AreInRange}
 use Rattle.stream_laws.proofs.EachPhase.{length-list}
@@ -35,11 +35,11 @@ send_fits v is =
 pub phase_faults : (job : Job) (p n : ℕ) → IsGraph job.graph → p < length job.graph.phasers
     → n < get_or (lengths_of job) p 0
     → is_fault (value_at job p) job (schedule_of job)
-    (members_of job (schedule_of job) (numbers_of job) p) p n ≡ true
+    (contributions_on job (schedule_of job) (numbers_of job) p) p n ≡ true
     → first_too_big job ≢ None
 phase_faults job p n is pp lt e fits =
     let value =
-    value_at job p (sends_in (members_of job (schedule_of job) (numbers_of job) p) n) in
+    value_at job p (sends_in (contributions_on job (schedule_of job) (numbers_of job) p) n) in
     let all : AreInRange job = in_range job is fits in
     let parts = and_parts (is_too_big value) (is_taken job (schedule_of job) p n) e in
     let taker =
@@ -52,7 +52,7 @@ phase_faults job p n is pp lt e fits =
 -- an output of task t on phaser p that is out of range
 pub output_faults_at : (job : Job) (p t j i : ℕ) → IsGraph job.graph
     → p < length job.graph.phasers → t < length job.graph.tasks
-    → place_in (signalled_by (task_at job.graph t)) p ≡ Some j → (span_in job t).live ≡ true
+    → index_in (signalled_by (task_at job.graph t)) p ≡ Some j → (span_in job t).live ≡ true
     → are_made (task_at job.graph t).kind j ≡ true
     → i < length (output_on job (schedule_of job) (numbers_of job) t j)
     → is_out_of_range (get_or (output_on job (schedule_of job) (numbers_of job) t j) i (pos 0))

@@ -4,13 +4,13 @@ use Rattle.graph_base.specs.declared.line.Kind.{Kind}
 use Rattle.graph_base.specs.declared.line.Kind.TheVariants.{Source, Fir, Split, Join, Peer, Sink}
 use Rattle.graph_base.specs.Graphs.{task_at}
 use Rattle.graph_base.specs.TaskLines.{IsGraph, HasEnds}
-use Rattle.stream_lists.specs.Jobs.{Job, place_in}
+use Rattle.stream_lists.specs.Jobs.{Job, index_in}
 use Rattle.stream_lists.specs.Spans.{signalled_by}
 use Rattle.stream_laws.proofs.Ordered.{place-at}
 use Rattle.graph_moments.specs.Moments.{OnLine}
 
 pub signalled_within : (job : Job) (t p j : ℕ) → IsGraph job.graph → t < length job.graph.tasks
-    → place_in (signalled_by (task_at job.graph t)) p ≡ Some j → p < length job.graph.phasers
+    → index_in (signalled_by (task_at job.graph t)) p ≡ Some j → p < length job.graph.phasers
 signalled_within job t p j is there place =
     let at = place-at (signalled_by (task_at job.graph t)) p j place in
     let P : ℕ → Type 0 = λ q. q < length job.graph.phasers in

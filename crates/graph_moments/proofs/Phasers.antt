@@ -11,9 +11,9 @@ use Rattle.phase_history.proofs.Steps.{done_below_top, sound_of}
 use Rattle.phase_history.proofs.Sendings.{single_of_phase-all}
 use Rattle.graph_base.specs.Graphs.{task_at, phaser_at}
 use Rattle.graph_base.specs.TaskLines.{IsGraph}
-use Rattle.stream_lists.specs.Jobs.{Job, place_in}
+use Rattle.stream_lists.specs.Jobs.{Job, index_in}
 use Rattle.stream_lists.specs.Spans.{signalled_by, lengths_of, greatest, span_in, schedule_of}
-use Rattle.stream_lists.specs.Lists.{Member, members_of, member_at, member_by, phase_in, numbers_of, output_on, ends_on}
+use Rattle.stream_lists.specs.Lists.{Contribution, contributions_on, contribution_at, contribution_by, phase_in, numbers_of, output_on, ends_on}
 use Rattle.stream_laws.proofs.ListLengths.{lengths_end}
 use Rattle.graph_moments.specs.Agreeing.{IsAwaited, Agrees}
 use Rattle.graph_moments.specs.Moments.{Moment, numbers_on, limits_at, value_at, PhaserRan, OnOutput}
@@ -36,7 +36,7 @@ At job m p t (Some j) (Some n) = OnOutput job m t j p n × Stands job m t × Put
 
 pub agrees_from : (job : Job) (m : Moment) (p t : ℕ) (place number : Option ℕ)
     → At job m p t place number
-    → Agrees (m.history p) number (member_by job (schedule_of job) (numbers_of job) t place)
+    → Agrees (m.history p) number (contribution_by job (schedule_of job) (numbers_of job) t place)
 agrees_from job m p t None None at = tt
 agrees_from job m p t None (Some n) at = at
 agrees_from job m p t (Some j) None at =
@@ -72,14 +72,14 @@ agrees_from job m p t (Some j) (Some n) at =
 abbrev pub EachAt : Job → Moment → ℕ → List ℕ → Type 0
 EachAt job m p ts =
     (t : ℕ) → is_in t ts ≡ true
-    → At job m p t (place_in (signalled_by (task_at job.graph t)) p) (m.number p t)
+    → At job m p t (index_in (signalled_by (task_at job.graph t)) p) (m.number p t)
 
 pub all_agree : (job : Job) (m : Moment) (p : ℕ) (ts : List ℕ) → EachAt job m p ts
-    → AllAgree (m.history p) (m.number p) (member_at job (schedule_of job) (numbers_of job) p) ts
+    → AllAgree (m.history p) (m.number p) (contribution_at job (schedule_of job) (numbers_of job) p) ts
 all_agree job m p [] each = tt
 all_agree job m p (t ∷ ts) each =
     let here : eqb t t ≡ true = eq-eqb t t refl in (
-      agrees_from job m p t (place_in (signalled_by (task_at job.graph t)) p) (m.number p t)
+      agrees_from job m p t (index_in (signalled_by (task_at job.graph t)) p) (m.number p t)
           (each t (rw here refl)),
       all_agree job m p ts (λ u f. each u (rw f (or_true (eqb t u)))),
     )
@@ -119,16 +119,16 @@ composes_from job m p is pp ran same each = record {
     ts : List ℕ
     ts = range_with_len 0 (length job.graph.tasks)
 
-    member : ℕ → Option Member
-    member t = member_at job (schedule_of job) (numbers_of job) p t
+    member : ℕ → Option Contribution
+    member t = contribution_at job (schedule_of job) (numbers_of job) p t
 
-    agree : AllAgree (m.history p) (m.number p) (member_at job (schedule_of job) (numbers_of job) p)
+    agree : AllAgree (m.history p) (m.number p) (contribution_at job (schedule_of job) (numbers_of job) p)
         (range_with_len 0 (length job.graph.tasks))
     agree = all_agree job m p (range_with_len 0 (length job.graph.tasks)) each
 
     values : (n : ℕ) → n < done_of (m.history p)
         → value_of_phase (value_at job p) (m.history p) n
-        ≡ phase_in (value_at job p) job p (members_of job (schedule_of job) (numbers_of job) p) n
+        ≡ phase_in (value_at job p) job p (contributions_on job (schedule_of job) (numbers_of job) p) n
     values n below =
         let value = value_at job p in
         let top : done_of (m.history p) ≤ top_of (m.history p) =
@@ -142,5 +142,5 @@ composes_from job m p is pp ran same each = record {
         (same n below
         ∙ ap value
         (gathered_is (limits_at job p) (m.history p) (m.number p)
-        (member_at job (schedule_of job) (numbers_of job) p)
+        (contribution_at job (schedule_of job) (numbers_of job) p)
         (range_with_len 0 (length job.graph.tasks)) n ran.legal below agree))

@@ -11,9 +11,9 @@ use Rattle.graph_base.specs.declared.line.Parent.{Parent}
 use Rattle.graph_base.specs.Graphs.{Task, task_at, is_sink}
 use Rattle.graph_base.specs.TaskLines.{IsParent, HasEnds}
 use Rattle.stream_lists.specs.declared.span.Span.{Span}
-use Rattle.stream_lists.specs.Jobs.{Job, samples_at, place_in}
+use Rattle.stream_lists.specs.Jobs.{Job, samples_at, index_in}
 use Rattle.stream_lists.specs.Spans.{spans_of, lengths_of, span_at, span_in, offset_of, takes_from, signalled_by, LooksAt, schedule_of}
-use Rattle.stream_lists.specs.Lists.{numbers_of, list_over, phase_in, members_of, taken_from, sink_over, sinks_of, is_sink_at, lines_of}
+use Rattle.stream_lists.specs.Lists.{numbers_of, list_over, phase_in, contributions_on, taken_from, sink_over, sinks_of, is_sink_at, lines_of}
 use Rattle.stream_lists.proofs.SpansAbove.{spans_all}
 use Rattle.stream_laws.proofs.Ordered.{parent_waits}
 use Rattle.graph_moments.specs.Moments.{Moment, HasRun, IsRegistered, IsOver, IsChild, HasNotPassed, TakenOn, input_at, value_at}
@@ -46,7 +46,7 @@ streams_whole job m p ready ran pp quiet =
     (done_of (m.history p)) in
     let b : length list ≡ get_or (lengths_of job) p 0 =
     length-map-range_with_len
-    (phase_in (value_at job p) job p (members_of job (schedule_of job) (numbers_of job) p)) 0
+    (phase_in (value_at job p) job p (contributions_on job (schedule_of job) (numbers_of job) p)) 0
     (get_or (lengths_of job) p 0) in
     prefix_whole stream list (stream_begins job m p c) (omega arith)
 
@@ -136,7 +136,7 @@ came_in job m ready ran over (suc fuel) t k below there lt none live =
 -- and on each that it signals
 pub came_out : (job : Job) (m : Moment) → IsReady job → HasRun job m → IsOver job m → (t p j : ℕ)
     → t < length job.graph.tasks → p < length job.graph.phasers
-    → place_in (signalled_by (task_at job.graph t)) p ≡ Some j → m.number p t ≡ None
+    → index_in (signalled_by (task_at job.graph t)) p ≡ Some j → m.number p t ≡ None
     → (span_in job t).live ≡ true → ⊥
 came_out job m ready ran over t p j there pp place none live =
     (awaited job m ready ran p pp

@@ -20,7 +20,7 @@ use Rattle.graph_base.specs.TaskLines.{IsGraph, IsTaskLine, HasEnds}
 use Rattle.stream_lists.specs.declared.span.Span.{Span}
 use Rattle.stream_lists.specs.Jobs.{Job, samples_at}
 use Rattle.stream_lists.specs.Spans.{spans_of, lengths_of, span_at, span_in, offset_of, cut_at, enough_for, values_from, takes_from, signalled_by, puts_on, LooksAt, schedule_of}
-use Rattle.stream_lists.specs.Lists.{members_of, number, numbers_of, list_over, phase_in, output_on, taken_by, taken_from}
+use Rattle.stream_lists.specs.Lists.{contributions_on, number, numbers_of, list_over, phase_in, output_on, taken_by, taken_from}
 use Rattle.stream_laws.proofs.ListsAbove.{numbers_all}
 use Rattle.stream_laws.proofs.ListLengths.{length-numbers, outputs_long}
 use Rattle.graph_moments.specs.Moments.{Moment, input_at, taken_now, made_now, limits_at, value_at, PhaserRan, TaskRan, MayEnd, at_until, no_sample, no_input, OnInput, TakenOn, Joined, HasExchanged, first_input}
@@ -72,7 +72,7 @@ pub stream_begins : (job : Job) (m : Moment) (p : ℕ) → Composes job m p
     (list_over job (schedule_of job) (numbers_of job) p)
 stream_begins job m p c =
     prefix_of_values (value_of_phase (value_at job p) (m.history p))
-    (phase_in (value_at job p) job p (members_of job (schedule_of job) (numbers_of job) p))
+    (phase_in (value_at job p) job p (contributions_on job (schedule_of job) (numbers_of job) p))
     (done_of (m.history p)) (get_or (lengths_of job) p 0) Empty c.within
     (λ n below. sym (c.values n below))
 

@@ -22,9 +22,9 @@ use Rattle.graph_base.specs.declared.line.Kind.{Kind}
 use Rattle.graph_base.specs.declared.line.Kind.TheVariants.{Source, Fir, Split, Join, Peer, Sink}
 use Rattle.graph_base.specs.Graphs.{task_at, phaser_at}
 use Rattle.graph_base.specs.TaskLines.{IsGraph, IsTaskLine, HasEnds}
-use Rattle.stream_lists.specs.Jobs.{Job, samples_at, place_in}
+use Rattle.stream_lists.specs.Jobs.{Job, samples_at, index_in}
 use Rattle.stream_lists.specs.Spans.{lengths_of, span_in, takes_from, signalled_by, puts_on, LooksAt, schedule_of}
-use Rattle.stream_lists.specs.Lists.{members_of, sends_in, numbers_of, output_on, phase_in, sinks_of, number}
+use Rattle.stream_lists.specs.Lists.{contributions_on, sends_in, numbers_of, output_on, phase_in, sinks_of, number}
 use Rattle.stream_lists.specs.Ranges.{Where, is_out_of_range, are_made, takes_phase, task_takes, is_taken, is_too_big, first_too_big, Fits, answer_of}
 use Rattle.stream_laws.proofs.Ordered.{place-at, place_of_input}
 use Rattle.graph_moments.specs.Agreeing.{one}
@@ -76,7 +76,7 @@ met_is_fault job m t k n ready ran there lt registered low high complete met =
     let more : takes_from task (m.begun t) k ≤ takes_from task span.steps k =
     takes-mono task (m.begun t) span.steps k lt steps in
     let big : is_too_big
-    (value_at job x (sends_in (members_of job (schedule_of job) (numbers_of job) x) n)) ≡ true =
+    (value_at job x (sends_in (contributions_on job (schedule_of job) (numbers_of job) x) n)) ≡ true =
     single_leaves (phaser_at job.graph x).single _ (sym (c.values n complete) ∙ met) in
     let begins : leb span.offset n ≡ true = le-leb span.offset n (omega arith) in
     let ends : leb (suc n) (span.offset + takes_from task span.steps k) ≡ true =
@@ -98,7 +98,7 @@ met_is_fault job m t k n ready ran there lt registered low high complete met =
 -- range
 pub made_is_fault : (job : Job) (m : Moment) (t j p i : ℕ) → IsReady job → HasRun job m
     → t < length job.graph.tasks → p < length job.graph.phasers
-    → IsRegistered m t → place_in (signalled_by (task_at job.graph t)) p ≡ Some j
+    → IsRegistered m t → index_in (signalled_by (task_at job.graph t)) p ≡ Some j
     → are_made (task_at job.graph t).kind j ≡ true
     → i < length (made_now job m t j)
     → HasExchanged (task_at job.graph t).kind j (suc i) (length (m.taken t 1))
@@ -230,7 +230,7 @@ all_fit job m ready ran over none = record {
 }
   where
     output : (p t j : ℕ) → p < length job.graph.phasers → t < length job.graph.tasks
-        → place_in (signalled_by (task_at job.graph t)) p ≡ Some j → (span_in job t).live ≡ true
+        → index_in (signalled_by (task_at job.graph t)) p ≡ Some j → (span_in job t).live ≡ true
         → (o : Option ℕ) → m.number p t ≡ o
         → AreSends (output_on job (schedule_of job) (numbers_of job) t j)
     output p t j pp there place live None absent =
@@ -254,7 +254,7 @@ all_fit job m ready ran over none = record {
     phase : (p t n : ℕ) → p < length job.graph.phasers → t < length job.graph.tasks
         → Takes job p n t
         → is_too_big
-        (value_at job p (sends_in (members_of job (schedule_of job) (numbers_of job) p) n)) ≡ false
+        (value_at job p (sends_in (contributions_on job (schedule_of job) (numbers_of job) p) n)) ≡ false
     phase p t n pp there takes =
         let task = task_at job.graph t in
         let here = place-at task.inputs p takes.input takes.waits in
@@ -267,7 +267,7 @@ all_fit job m ready ran over none = record {
             → n < (span_in job t).offset + takes_from (task_at job.graph t) (span_in job t).steps k
             → (o : Option ℕ) → m.number (input_at (task_at job.graph t) k) t ≡ o
             → is_too_big
-            (value_at job p (sends_in (members_of job (schedule_of job) (numbers_of job) p) n))
+            (value_at job p (sends_in (contributions_on job (schedule_of job) (numbers_of job) p) n))
             ≡ false
         number_case k lt is live low high None absent =
             absurd (came_in job m ready ran over (suc t) t k (omega arith) there lt absent live)
@@ -314,11 +314,11 @@ all_fit job m ready ran over none = record {
             none x t a px there some i Empty (omega arith) in
             let c : Composes job m x = composes job m ready ran x px in
             let composed : value_of_phase value h n
-            ≡ phase_in value job x (members_of job (schedule_of job) (numbers_of job) x) n =
+            ≡ phase_in value job x (contributions_on job (schedule_of job) (numbers_of job) x) n =
             c.values n (omega arith) in
             let B : ℕ → Type 0 =
             λ q. is_too_big
-            (value_at job q (sends_in (members_of job (schedule_of job) (numbers_of job) q) n))
+            (value_at job q (sends_in (contributions_on job (schedule_of job) (numbers_of job) q) n))
             ≡ false in
             subst B is
             (not_too_big (phaser_at job.graph x).single _

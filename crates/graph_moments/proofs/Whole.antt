@@ -12,7 +12,7 @@ use Rattle.graph_base.specs.declared.line.Parent.{Parent}
 use Rattle.graph_base.specs.Graphs.{Task, task_at}
 use Rattle.graph_base.specs.TaskLines.{IsGraph, IsTaskLine, IsParent, has_children}
 use Rattle.stream_lists.specs.declared.span.Span.{Span}
-use Rattle.stream_lists.specs.Jobs.{Job, samples_at, place_in}
+use Rattle.stream_lists.specs.Jobs.{Job, samples_at, index_in}
 use Rattle.stream_lists.specs.Spans.{signalled_by, spans_of, lengths_of, span_at, span_in, offset_of, puts_on, LooksAt, schedule_of}
 use Rattle.stream_lists.specs.Lists.{numbers_of, output_on}
 use Rattle.stream_laws.proofs.Ordered.{looks-first, looked_above, place-at, parent_signals}
@@ -139,9 +139,9 @@ puts_short job m t j line ran plain lt =
 pub awaited : (job : Job) (m : Moment) → IsReady job → HasRun job m → (p : ℕ)
     → p < length job.graph.phasers
     → ((t j : ℕ) → t < length job.graph.tasks
-    → place_in (signalled_by (task_at job.graph t)) p ≡ Some j → IsRegistered m t → Stands job m t)
+    → index_in (signalled_by (task_at job.graph t)) p ≡ Some j → IsRegistered m t → Stands job m t)
     → (fuel t j : ℕ) → t < fuel → t < length job.graph.tasks
-    → place_in (signalled_by (task_at job.graph t)) p ≡ Some j → m.number p t ≡ None
+    → index_in (signalled_by (task_at job.graph t)) p ≡ Some j → m.number p t ≡ None
     → (span_in job t).live ≡ true → (out : List ℤ)
     → IsAwaited (m.history p) ((span_in job t).offset, out)
 awaited job m ready ran p pp standing zero t j below there place absent live out =
@@ -186,7 +186,7 @@ awaited job m ready ran p pp standing (suc fuel) t j below there place absent li
         (ran.tasks u.task there_u) ip.kind lt) (λ n. up u e n fp.live)
       where
         number_case : (o : Option ℕ) → m.number p u.task ≡ o → FromParent job t u → (i : ℕ)
-            → place_in (signalled_by (task_at job.graph u.task)) p ≡ Some i
+            → index_in (signalled_by (task_at job.graph u.task)) p ≡ Some i
             → u.task < length job.graph.tasks → TaskRan job m u.task
             → (i < length (signalled_by (task_at job.graph u.task))
             → length (m.put u.task i) ≤ m.begun u.task)
@@ -251,7 +251,7 @@ compose_one job m ready ran p pp above =
   where
     -- the inputs that output number j looks at
     looked : (t j : ℕ) → t < length job.graph.tasks
-        → place_in (signalled_by (task_at job.graph t)) p ≡ Some j
+        → index_in (signalled_by (task_at job.graph t)) p ≡ Some j
         → (k : ℕ) → k < length (task_at job.graph t).inputs → LooksAt (task_at job.graph t).kind j k
         → Composes job m (input_at (task_at job.graph t) k)
     looked t j there place k lt looks =
@@ -260,11 +260,11 @@ compose_one job m ready ran p pp above =
         lt looks)
 
     standing : (t j : ℕ) → t < length job.graph.tasks
-        → place_in (signalled_by (task_at job.graph t)) p ≡ Some j → IsRegistered m t
+        → index_in (signalled_by (task_at job.graph t)) p ≡ Some j → IsRegistered m t
         → Stands job m t
     standing t j there place registered =
         stands job m ready ran
-        (λ t. (j : ℕ) × (place_in (signalled_by (task_at job.graph t)) p ≡ Some j))
+        (λ t. (j : ℕ) × (index_in (signalled_by (task_at job.graph t)) p ≡ Some j))
         (λ t u there e q.
         parent_signals job.graph t (task_at job.graph t) u p q.0
         (parent_of job t u ready.graph there e) q.1)
@@ -273,7 +273,7 @@ compose_one job m ready ran p pp above =
         (suc t) t (omega arith) there (j, place) registered
 
     at : (t : ℕ) → t < length job.graph.tasks → (place : Option ℕ)
-        → place_in (signalled_by (task_at job.graph t)) p ≡ place
+        → index_in (signalled_by (task_at job.graph t)) p ≡ place
         → (o : Option ℕ) → m.number p t ≡ o → At job m p t place o
     at t there None is None none = tt
     at t there None is (Some n) some =
@@ -298,7 +298,7 @@ compose_one job m ready ran p pp above =
     each : EachAt job m p (range_with_len 0 (length job.graph.tasks))
     each t e =
         let low : t < 0 + length job.graph.tasks = in_range t 0 (length job.graph.tasks) e in
-        at t (omega arith) (place_in (signalled_by (task_at job.graph t)) p) refl (m.number p t)
+        at t (omega arith) (index_in (signalled_by (task_at job.graph t)) p) refl (m.number p t)
         refl
 
 -- every phaser composes its list

@@ -20,7 +20,7 @@ use Rattle.graph_base.specs.declared.line.Kind.{Kind}
 use Rattle.graph_base.specs.declared.line.Kind.TheVariants.{Source, Join, Peer}
 use Rattle.graph_base.specs.declared.line.Parent.{Parent}
 use Rattle.graph_base.specs.Graphs.{Task, task_at, phaser_at}
-use Rattle.stream_lists.specs.Jobs.{Job, samples_at, place_in}
+use Rattle.stream_lists.specs.Jobs.{Job, samples_at, index_in}
 use Rattle.stream_lists.specs.Spans.{signalled_by, takes_from}
 use Rattle.stream_lists.specs.Lists.{value_by, number, output_list}
 use Rattle.stream_lists.specs.Ranges.{is_too_big}
@@ -143,7 +143,7 @@ pub record HasNotPassed (m : Moment) (p n : ℕ) (parent : Parent) : Type 0 wher
 -- phaser p stands on a task's line
 abbrev pub OnLine : Task → ℕ → Type 0
 OnLine task p =
-    ((j : ℕ) × (place_in (signalled_by task) p ≡ Some j))
+    ((j : ℕ) × (index_in (signalled_by task) p ≡ Some j))
     ⊎ ((k : ℕ) × (k < length task.inputs) × (input_at task k ≡ p))
 
 -- a task with a parent, which alone may be missing
@@ -210,7 +210,7 @@ pub record TaskRan (job : Job) (m : Moment) (t : ℕ) : Type 0 where
   -- it is registered on phasers of its line alone
   pub lines : (p n : ℕ) → m.number p t ≡ Some n → OnLine (task_at job.graph t) p
   pub outputs : (p : ℕ) → p < length job.graph.phasers
-      → OnPhaser job m t p (place_in (signalled_by (task_at job.graph t)) p)
+      → OnPhaser job m t p (index_in (signalled_by (task_at job.graph t)) p)
   pub inputs : (k : ℕ) → k < length (task_at job.graph t).inputs
       → TakenOn job m t k (input_at (task_at job.graph t) k)
       (m.number (input_at (task_at job.graph t) k) t)

@@ -6,9 +6,9 @@ use Rattle.phase_history.specs.Phases.{value_of_phase}
 use Rattle.graph_base.specs.Graphs.{task_at}
 use Rattle.graph_base.specs.TaskLines.{IsGraph}
 use Rattle.graph_base.specs.declared.place.Place.TheVariants as place
-use Rattle.stream_lists.specs.Jobs.{Job, samples_at, place_in}
+use Rattle.stream_lists.specs.Jobs.{Job, samples_at, index_in}
 use Rattle.stream_lists.specs.Spans.{lengths_of, span_in, signalled_by, schedule_of}
-use Rattle.stream_lists.specs.Lists.{members_of, phase_in, numbers_of, output_on}
+use Rattle.stream_lists.specs.Lists.{contributions_on, phase_in, numbers_of, output_on}
 use Rattle.stream_lists.specs.Meetings.{meeting_line}
 use Rattle.stream_lists.specs.Ranges.{Where, is_fault, are_made, is_out_of_range}
 use Rattle.graph_moments.specs.Moments.{Moment, MayEnd, HasEnded, input_at, value_at}
@@ -18,7 +18,7 @@ use Rattle.graph_moments.specs.Moments.{Moment, MayEnd, HasEnded, input_at, valu
 pub record Composes (job : Job) (m : Moment) (p : ℕ) : Type 0 where
   pub values : (n : ℕ) → n < done_of (m.history p)
       → value_of_phase (value_at job p) (m.history p) n
-      ≡ phase_in (value_at job p) job p (members_of job (schedule_of job) (numbers_of job) p) n
+      ≡ phase_in (value_at job p) job p (contributions_on job (schedule_of job) (numbers_of job) p) n
   pub within : done_of (m.history p) ≤ get_or (lengths_of job) p 0
   pub whole : HasNoSignaller (m.history p) → get_or (lengths_of job) p 0 ≤ done_of (m.history p)
 
@@ -57,9 +57,9 @@ abbrev pub IsFaultAt : Job → Where → Type 0
 IsFaultAt job (place.Phaser p, n) =
     (n < get_or (lengths_of job) p 0)
     × (is_fault (value_at job p) job (schedule_of job)
-    (members_of job (schedule_of job) (numbers_of job) p) p n ≡ true)
+    (contributions_on job (schedule_of job) (numbers_of job) p) p n ≡ true)
 IsFaultAt job (place.Task t, i) =
-    (p : ℕ) × (j : ℕ) × (place_in (signalled_by (task_at job.graph t)) p ≡ Some j)
+    (p : ℕ) × (j : ℕ) × (index_in (signalled_by (task_at job.graph t)) p ≡ Some j)
     × ((span_in job t).live ≡ true) × (are_made (task_at job.graph t).kind j ≡ true)
     × (i < length (output_on job (schedule_of job) (numbers_of job) t j))
     × (is_out_of_range (get_or (output_on job (schedule_of job) (numbers_of job) t j) i (pos 0))

@@ -10,7 +10,7 @@ ghost use Rattle.phase_history.specs.Phases.{stream_of, value_of_phase};
 ghost use Rattle.graph_base.specs.Graphs.{task_at};
 ghost use Rattle.graph_base.specs.TaskLines.{IsGraph};
 ghost use Rattle.graph_base.specs.declared.place.Place.TheVariants as place;
-ghost use Rattle.stream_lists.specs.Jobs.{Job, place_in};
+ghost use Rattle.stream_lists.specs.Jobs.{Job, index_in};
 ghost use Rattle.stream_lists.specs.Lists.{numbers_of, list_of_phaser, taken_from, sinks_of};
 ghost use Rattle.stream_lists.specs.Ranges.{Where, first_too_big, answer_of, are_made};
 ghost use Rattle.stream_lists.specs.Ranges.{is_out_of_range};
@@ -67,7 +67,7 @@ pub fn too_big_is_a_fault()
         → IsFaultAt job (place.Phaser (input_at (task_at job.graph t) k), n) }
     ensures made { (job : Job) (m : Moment) (t j p i : ℕ) → IsReady job → HasRun job m
         → t < length job.graph.tasks → p < length job.graph.phasers → IsRegistered m t
-        → place_in (signalled_by (task_at job.graph t)) p ≡ Some j
+        → index_in (signalled_by (task_at job.graph t)) p ≡ Some j
         → are_made (task_at job.graph t).kind j ≡ true → i < length (made_now job m t j)
         → HasExchanged (task_at job.graph t).kind j (suc i) (length (m.taken t 1))
         → is_out_of_range (get_or (made_now job m t j) i (pos 0)) ≡ true

@@ -17,7 +17,7 @@ use Rattle.phase_history.proofs.Sendings.{length-sent_by}
 use Rattle.graph_base.specs.declared.line.Parent.{Parent}
 use Rattle.graph_base.specs.Graphs.{task_at}
 use Rattle.graph_base.specs.TaskLines.{IsGraph, IsParent, has_children}
-use Rattle.stream_lists.specs.Jobs.{Job, samples_at, place_in}
+use Rattle.stream_lists.specs.Jobs.{Job, samples_at, index_in}
 use Rattle.stream_lists.specs.Spans.{signalled_by}
 use Rattle.stream_lists.specs.Lists.{number}
 use Rattle.stream_laws.proofs.Ordered.{parent_signals, parent_waits}
@@ -44,7 +44,7 @@ child_begins job before after t p n c a mode u is there legal grown s parent chi
   cut = mid_ran.cut;
   lines = λ q b at. lines q b at (eq_case q p);
   outputs =
-      λ q qq. child_outputs q qq (place_in (signalled_by (task_at job.graph c)) q) refl
+      λ q qq. child_outputs q qq (index_in (signalled_by (task_at job.graph c)) q) refl
       (eq_case q p);
   inputs = λ k lt. child_inputs k lt (eq_case (input_at (task_at job.graph c) k) p);
   joined = λ q b at. child_joined;
@@ -99,12 +99,12 @@ child_begins job before after t p n c a mode u is there legal grown s parent chi
     begins : before.begun t ≡ u.at
     begins = s.boundary
 
-    parent_out : (j : ℕ) → place_in (signalled_by (task_at job.graph c)) p ≡ Some j
+    parent_out : (j : ℕ) → index_in (signalled_by (task_at job.graph c)) p ≡ Some j
         → signal_phase (before.history p) n ≡ before.offset c
     parent_out j place =
         let i = parent_signals job.graph c (task_at job.graph c) u p j par place in
-        let P : ℕ → Type 0 = λ x. place_in (signalled_by (task_at job.graph x)) p ≡ Some i.0 in
-        let at : place_in (signalled_by (task_at job.graph t)) p ≡ Some i.0 = subst P s.by i.1 in
+        let P : ℕ → Type 0 = λ x. index_in (signalled_by (task_at job.graph x)) p ≡ Some i.0 in
+        let at : index_in (signalled_by (task_at job.graph t)) p ≡ Some i.0 = subst P s.by i.1 in
         let O : Option ℕ → Type 0 = λ o. OnPhaser job before t p o in
         let N : Option ℕ → Type 0 = λ o. PutOn job before t i.0 p o in
         let on : OnOutput job before t i.0 p n =
@@ -117,7 +117,7 @@ child_begins job before after t p n c a mode u is there legal grown s parent chi
         let b : before.begun t ≡ u.at = s.boundary in
         omega arith
 
-    out_here : (j : ℕ) → place_in (signalled_by (task_at job.graph c)) p ≡ Some j
+    out_here : (j : ℕ) → index_in (signalled_by (task_at job.graph c)) p ≡ Some j
         → OnOutput job after c j p a
     out_here j place =
         let A : History → Type 0 =
@@ -160,14 +160,14 @@ child_begins job before after t p n c a mode u is there legal grown s parent chi
         let off : before.offset c ≡ before.offset t + u.at = s.offset in
         let b : before.begun t ≡ u.at = s.boundary in
         let P : ℕ → Type 0 =
-        λ q. OnPhaser job before t q (place_in (signalled_by (task_at job.graph t)) q) in
+        λ q. OnPhaser job before t q (index_in (signalled_by (task_at job.graph t)) q) in
         let silent : IsSilent (before.history p) n =
-        quiet (place_in (signalled_by (task_at job.graph t)) p) refl (parent.outputs p pp) i.0
+        quiet (index_in (signalled_by (task_at job.graph t)) p) refl (parent.outputs p pp) i.0
         lti is_p plain in
         (omega arith, silent_from job before p n a mode legal silent s.accepted)
       where
-        quiet : (place : Option ℕ) → place_in (signalled_by (task_at job.graph t)) p ≡ place
-            → OnPhaser job before t p (place_in (signalled_by (task_at job.graph t)) p)
+        quiet : (place : Option ℕ) → index_in (signalled_by (task_at job.graph t)) p ≡ place
+            → OnPhaser job before t p (index_in (signalled_by (task_at job.graph t)) p)
             → (i : ℕ) → i < length (task_at job.graph t).inputs
             → input_at (task_at job.graph t) i ≡ p → has_children (task_at job.graph t).kind ≡ true
             → IsSilent (before.history p) n
@@ -177,7 +177,7 @@ child_begins job before after t p n c a mode u is there legal grown s parent chi
             subst N s.numbered (subst O e on)
         quiet (Some j) e on i lti is_p plain =
             absurd (read_not_signalled job t i j (is.tasks t there) plain lti
-            (ap (λ q. place_in (signalled_by (task_at job.graph t)) q) is_p ∙ e))
+            (ap (λ q. index_in (signalled_by (task_at job.graph t)) q) is_p ∙ e))
 
     in_here : (k : ℕ) → k < length (task_at job.graph c).inputs
         → input_at (task_at job.graph c) k ≡ p → OnInput job after c k p a
@@ -201,7 +201,7 @@ child_begins job before after t p n c a mode u is there legal grown s parent chi
         }
 
     -- it does not signal a phaser that it is on only as a reader
-    reads_here : place_in (signalled_by (task_at job.graph c)) p ≡ None
+    reads_here : index_in (signalled_by (task_at job.graph c)) p ≡ None
         → (k : ℕ) × (k < length (task_at job.graph c).inputs)
         × (input_at (task_at job.graph c) k ≡ p)
     reads_here none = by s.on_line
@@ -279,26 +279,26 @@ child_begins job before after t p n c a mode u is there legal grown s parent chi
         subst S (sym same) (put_as j q (before.number q c) on)
 
     child_outputs : (q : ℕ) → q < length job.graph.phasers → (place : Option ℕ)
-        → place_in (signalled_by (task_at job.graph c)) q ≡ place → (q ≡ p) ⊎ (q ≢ p)
-        → OnPhaser job after c q (place_in (signalled_by (task_at job.graph c)) q)
+        → index_in (signalled_by (task_at job.graph c)) q ≡ place → (q ≡ p) ⊎ (q ≢ p)
+        → OnPhaser job after c q (index_in (signalled_by (task_at job.graph c)) q)
     child_outputs q qq place e (inr apart) =
         on_same q (s.other_numbers q c (inl apart))
-        (place_in (signalled_by (task_at job.graph c)) q) (mid_ran.outputs q qq)
+        (index_in (signalled_by (task_at job.graph c)) q) (mid_ran.outputs q qq)
     child_outputs q qq (Some j) e (inl same) =
         let Q : ℕ → Type 0 =
-        λ x. OnPhaser job after c x (place_in (signalled_by (task_at job.graph c)) x) in
+        λ x. OnPhaser job after c x (index_in (signalled_by (task_at job.graph c)) x) in
         let O : Option ℕ → Type 0 = λ o. OnPhaser job after c p o in
         let N : Option ℕ → Type 0 = λ o. PutOn job after c j p o in
-        let place : place_in (signalled_by (task_at job.graph c)) p ≡ Some j =
-        ap (λ x. place_in (signalled_by (task_at job.graph c)) x) (sym same) ∙ e in
+        let place : index_in (signalled_by (task_at job.graph c)) p ≡ Some j =
+        ap (λ x. index_in (signalled_by (task_at job.graph c)) x) (sym same) ∙ e in
         subst Q (sym same) (subst O (sym place) (subst N (sym s.number) (out_here j place)))
     child_outputs q qq None e (inl same) =
         let Q : ℕ → Type 0 =
-        λ x. OnPhaser job after c x (place_in (signalled_by (task_at job.graph c)) x) in
+        λ x. OnPhaser job after c x (index_in (signalled_by (task_at job.graph c)) x) in
         let O : Option ℕ → Type 0 = λ o. OnPhaser job after c p o in
         let N : Option ℕ → Type 0 = λ o. SilentOn after p o in
-        let place : place_in (signalled_by (task_at job.graph c)) p ≡ None =
-        ap (λ x. place_in (signalled_by (task_at job.graph c)) x) (sym same) ∙ e in
+        let place : index_in (signalled_by (task_at job.graph c)) p ≡ None =
+        ap (λ x. index_in (signalled_by (task_at job.graph c)) x) (sym same) ∙ e in
         let k = reads_here place in
         let S : History → Type 0 = λ g. IsSilent g a in
         subst Q (sym same)

@@ -15,7 +15,7 @@ use Rattle.phase_history.proofs.Streams.{stream_closed, signallers_closed}
 use Rattle.graph_base.specs.declared.line.Parent.{Parent}
 use Rattle.graph_base.specs.Graphs.{task_at}
 use Rattle.graph_base.specs.TaskLines.{IsGraph}
-use Rattle.stream_lists.specs.Jobs.{Job, samples_at, place_in}
+use Rattle.stream_lists.specs.Jobs.{Job, samples_at, index_in}
 use Rattle.stream_lists.specs.Spans.{signalled_by}
 use Rattle.stream_lists.specs.Lists.{number, output_list}
 use Rattle.stream_lists.proofs.Growing.{map-same}
@@ -165,7 +165,7 @@ task_later job before after t is there grown o ran = record {
   samples = lists.samples;
   cut = lists.cut;
   outputs =
-      λ p pp. outputs p pp (place_in (signalled_by (task_at job.graph t)) p) (before.number p t)
+      λ p pp. outputs p pp (index_in (signalled_by (task_at job.graph t)) p) (before.number p t)
       refl (ran.outputs p pp);
   inputs = λ k lt.
       inputs k lt (before.number (input_at (task_at job.graph t) k) t) refl (ran.inputs k lt);

@@ -24,7 +24,7 @@ use Rattle.graph_base.specs.declared.line.Kind.TheVariants.{Source, Fir, Split, 
 use Rattle.graph_base.specs.declared.line.Parent.{Parent}
 use Rattle.graph_base.specs.Graphs.{Task, task_at, phaser_at}
 use Rattle.graph_base.specs.TaskLines.{IsGraph}
-use Rattle.stream_lists.specs.Jobs.{Job, samples_at, place_in}
+use Rattle.stream_lists.specs.Jobs.{Job, samples_at, index_in}
 use Rattle.stream_lists.specs.Spans.{signalled_by, turns_below}
 use Rattle.stream_lists.specs.Lists.{number}
 use Rattle.graph_moments.specs.Agreeing.{one}
@@ -254,7 +254,7 @@ opened_ran job m is o = record { phasers = phasers; tasks = tasks }
       cut = lists.cut;
       lines = a.lines;
       outputs =
-          λ p pp. outputs p pp (place_in (signalled_by (task_at job.graph t)) p) refl (m.number p t)
+          λ p pp. outputs p pp (index_in (signalled_by (task_at job.graph t)) p) refl (m.number p t)
           refl;
       inputs = λ k lt. inputs k lt (m.number (input_at (task_at job.graph t) k) t) refl;
       joined = λ p n at.
@@ -293,9 +293,9 @@ opened_ran job m is o = record { phasers = phasers; tasks = tasks }
                 let f : true ≡ false = sym s ∙ ap is_some none in cc)
 
         outputs : (p : ℕ) → p < length job.graph.phasers → (place : Option ℕ)
-            → place_in (signalled_by (task_at job.graph t)) p ≡ place → (x : Option ℕ)
+            → index_in (signalled_by (task_at job.graph t)) p ≡ place → (x : Option ℕ)
             → m.number p t ≡ x
-            → OnPhaser job m t p (place_in (signalled_by (task_at job.graph t)) p)
+            → OnPhaser job m t p (index_in (signalled_by (task_at job.graph t)) p)
         outputs p pp None e None at =
             let O : Option ℕ → Type 0 = λ o. OnPhaser job m t p o in
             let N : Option ℕ → Type 0 = λ x. SilentOn m p x in subst O (sym e) (subst N (sym at) tt)

@@ -8,7 +8,7 @@ use Rattle.phase_history.specs.Sent.{sent_by, IsSilent}
 use Rattle.graph_base.specs.declared.line.Parent.{Parent}
 use Rattle.graph_base.specs.Graphs.{task_at}
 use Rattle.graph_base.specs.TaskLines.{IsGraph}
-use Rattle.stream_lists.specs.Jobs.{Job, place_in}
+use Rattle.stream_lists.specs.Jobs.{Job, index_in}
 use Rattle.stream_lists.specs.Spans.{signalled_by}
 use Rattle.stream_lists.specs.Lists.{number}
 use Rattle.graph_moments.specs.Agreeing.{one}
@@ -27,7 +27,7 @@ own_leave job before after t p n is there grown s ran = record {
   samples = lists.samples;
   cut = lists.cut;
   outputs =
-      λ q qq. outputs q qq (place_in (signalled_by (task_at job.graph t)) q) refl
+      λ q qq. outputs q qq (index_in (signalled_by (task_at job.graph t)) q) refl
       (before.number q t) refl;
   inputs = λ i lt.
       inputs i lt (before.number (input_at (task_at job.graph t) i) t) refl (ran.inputs i lt);
@@ -51,9 +51,9 @@ own_leave job before after t p n is there grown s ran = record {
     ended = ended_later job before after t is there grown s.same s.ended
 
     outputs : (q : ℕ) → q < length job.graph.phasers → (place : Option ℕ)
-        → place_in (signalled_by (task_at job.graph t)) q ≡ place → (x : Option ℕ)
+        → index_in (signalled_by (task_at job.graph t)) q ≡ place → (x : Option ℕ)
         → before.number q t ≡ x
-        → OnPhaser job after t q (place_in (signalled_by (task_at job.graph t)) q)
+        → OnPhaser job after t q (index_in (signalled_by (task_at job.graph t)) q)
     outputs q qq None e None at =
         let O : Option ℕ → Type 0 = λ o. OnPhaser job after t q o in
         let S : Option ℕ → Type 0 = λ x. SilentOn after q x in

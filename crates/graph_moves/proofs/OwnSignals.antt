@@ -14,7 +14,7 @@ use Rattle.graph_base.specs.declared.line.Kind.TheVariants.{Source}
 use Rattle.graph_base.specs.declared.line.Parent.{Parent}
 use Rattle.graph_base.specs.Graphs.{Task, task_at, phaser_at}
 use Rattle.graph_base.specs.TaskLines.{IsGraph, IsTaskLine, HasEnds}
-use Rattle.stream_lists.specs.Jobs.{Job, samples_at, place_in}
+use Rattle.stream_lists.specs.Jobs.{Job, samples_at, index_in}
 use Rattle.stream_lists.specs.Spans.{signalled_by}
 use Rattle.stream_lists.specs.Lists.{number}
 use Rattle.stream_laws.proofs.Ordered.{place-at}
@@ -33,7 +33,7 @@ own_signal job before after t j p n v is there s ran = record {
   takes = λ k lt. takes k lt s.begun;
   samples = samples s.begun;
   cut = cut s.begun;
-  outputs = λ q qq. outputs q qq (place_in (signalled_by task) q) refl (before.number q t) refl;
+  outputs = λ q qq. outputs q qq (index_in (signalled_by task) q) refl (before.number q t) refl;
   inputs = λ k lt. inputs k lt (before.number (input_at task k) t) refl (ran.inputs k lt);
   lines = λ q a at. ran.lines q a (sym (s.moved.numbers q t) ∙ at);
   joined = λ q a at.
@@ -143,9 +143,9 @@ own_signal job before after t j p n v is there s ran = record {
         (λ same. s.staying q a at) (λ apart. s.staying q a at)
 
     outputs : (q : ℕ) → q < length job.graph.phasers → (place : Option ℕ)
-        → place_in (signalled_by (task_at job.graph t)) q ≡ place → (x : Option ℕ)
+        → index_in (signalled_by (task_at job.graph t)) q ≡ place → (x : Option ℕ)
         → before.number q t ≡ x
-        → OnPhaser job after t q (place_in (signalled_by (task_at job.graph t)) q)
+        → OnPhaser job after t q (index_in (signalled_by (task_at job.graph t)) q)
     outputs q qq None e None at =
         let O : Option ℕ → Type 0 = λ o. OnPhaser job after t q o in
         let S : Option ℕ → Type 0 = λ x. SilentOn after q x in
@@ -160,7 +160,7 @@ own_signal job before after t j p n v is there s ran = record {
         (history_by job before after t p event (λ h. IsSilent h a) q s.moved
         (λ same. absurd
         (let none : Some j ≡ None =
-        sym s.place ∙ ap (λ x. place_in (signalled_by (task_at job.graph t)) x) (sym same)
+        sym s.place ∙ ap (λ x. index_in (signalled_by (task_at job.graph t)) x) (sym same)
         ∙ e in cc))
         (λ apart. silent)))
     outputs q qq (Some i) e None at =
@@ -187,13 +187,13 @@ own_signal job before after t j p n v is there s ran = record {
           left = λ gone. absurd (let f : true ≡ false = sym gone ∙ stays_dropped q a at in cc);
         }))
       where
-        sent : (i a : ℕ) → place_in (signalled_by (task_at job.graph t)) q ≡ Some i
+        sent : (i a : ℕ) → index_in (signalled_by (task_at job.graph t)) q ≡ Some i
             → before.number q t ≡ Some a → sent_by (before.history q) a ≡ map one (before.put t i)
             → (q ≡ p) ⊎ (q ≢ p) → sent_by (after.history q) a ≡ map one (after.put t i)
         sent i a e at is_sent (inl same) =
             let at_j : i ≡ j =
             same_Some i j
-            (sym e ∙ ap (λ x. place_in (signalled_by (task_at job.graph t)) x) same
+            (sym e ∙ ap (λ x. index_in (signalled_by (task_at job.graph t)) x) same
             ∙ s.place) in
             let me : a ≡ n =
             same_Some a n (sym at ∙ ap (λ x. before.number x t) same ∙ s.numbered) in

@@ -15,7 +15,7 @@ use Rattle.graph_base.specs.declared.line.Kind.TheVariants.{Source, Fir, Split, 
 use Rattle.graph_base.specs.declared.line.Parent.{Parent}
 use Rattle.graph_base.specs.Graphs.{task_at}
 use Rattle.graph_base.specs.TaskLines.{IsGraph, IsTaskLine, HasEnds}
-use Rattle.stream_lists.specs.Jobs.{Job, samples_at, place_in}
+use Rattle.stream_lists.specs.Jobs.{Job, samples_at, index_in}
 use Rattle.stream_lists.specs.Spans.{signalled_by}
 use Rattle.stream_lists.specs.Lists.{number}
 use Rattle.graph_moments.specs.Agreeing.{one}
@@ -91,7 +91,7 @@ own_wait job before after t k p n outcome is there s ran = record {
   samples = samples s.begun;
   cut = cut s.begun;
   outputs =
-      λ q qq. outputs q qq (place_in (signalled_by (task_at job.graph t)) q) refl
+      λ q qq. outputs q qq (index_in (signalled_by (task_at job.graph t)) q) refl
       (before.number q t) refl;
   inputs = λ i lt.
       inputs i lt (before.number (input_at (task_at job.graph t) i) t) refl (ran.inputs i lt)
@@ -210,9 +210,9 @@ own_wait job before after t k p n outcome is there s ran = record {
         (λ same. s.staying q a at) (λ apart. s.staying q a at)
 
     outputs : (q : ℕ) → q < length job.graph.phasers → (place : Option ℕ)
-        → place_in (signalled_by (task_at job.graph t)) q ≡ place → (x : Option ℕ)
+        → index_in (signalled_by (task_at job.graph t)) q ≡ place → (x : Option ℕ)
         → before.number q t ≡ x
-        → OnPhaser job after t q (place_in (signalled_by (task_at job.graph t)) q)
+        → OnPhaser job after t q (index_in (signalled_by (task_at job.graph t)) q)
     outputs q qq None e None at =
         let O : Option ℕ → Type 0 = λ o. OnPhaser job after t q o in
         let S : Option ℕ → Type 0 = λ x. SilentOn after q x in
@@ -317,7 +317,7 @@ own_wait job before after t k p n outcome is there s ran = record {
         λ same. apart
         (same_Some i k
         (sym (place_of_input job.graph t i is there lt)
-        ∙ ap (λ x. place_in (task_at job.graph t).inputs x) (same ∙ sym s.place)
+        ∙ ap (λ x. index_in (task_at job.graph t).inputs x) (same ∙ sym s.place)
         ∙ place_of_input job.graph t k is there s.few)) in
         let still : after.history q ≡ before.history q = s.moved.elsewhere q there_i in
         subst S (sym (s.moved.numbers q t ∙ at)) (record {

@@ -25,7 +25,7 @@ use Rattle.graph_base.specs.declared.line.Parent.{Parent}
 use Rattle.graph_base.specs.Graphs.{task_at}
 use Rattle.graph_base.specs.TaskLines.{IsGraph, IsTaskLine, has_children}
 use Rattle.phase_base.specs.Lists.{is_distinct}
-use Rattle.stream_lists.specs.Jobs.{Job, place_in}
+use Rattle.stream_lists.specs.Jobs.{Job, index_in}
 use Rattle.stream_lists.specs.Spans.{signalled_by}
 use Rattle.stream_lists.specs.Lists.{number}
 use Rattle.stream_laws.proofs.Ordered.{place-at}
@@ -74,7 +74,7 @@ distinct_apart (x ∷ xs) ys (suc k) j d ltk ltj same =
 pub read_not_signalled : (job : Job) (t k j : ℕ) → IsTaskLine job.graph t (task_at job.graph t)
     → has_children (task_at job.graph t).kind ≡ true
     → k < length (task_at job.graph t).inputs
-    → place_in (signalled_by (task_at job.graph t)) (input_at (task_at job.graph t) k) ≡ Some j → ⊥
+    → index_in (signalled_by (task_at job.graph t)) (input_at (task_at job.graph t) k) ≡ Some j → ⊥
 read_not_signalled job t k j line plain lt place =
     let at = place-at (signalled_by (task_at job.graph t)) (input_at (task_at job.graph t) k) j
     place in

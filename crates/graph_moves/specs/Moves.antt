@@ -13,7 +13,7 @@ use Rattle.phase_history.specs.Legal.{IsLegal, IsAccepted}
 use Rattle.graph_base.specs.declared.line.Parent.{Parent}
 use Rattle.graph_base.specs.Graphs.{task_at, phaser_at}
 use Rattle.graph_base.specs.declared.line.Kind.TheVariants.{Source, Peer}
-use Rattle.stream_lists.specs.Jobs.{Job, samples_at, place_in}
+use Rattle.stream_lists.specs.Jobs.{Job, samples_at, index_in}
 use Rattle.stream_lists.specs.Spans.{signalled_by, takes_from}
 use Rattle.stream_lists.specs.Lists.{number}
 use Rattle.graph_moments.specs.Moments.{Moment, limits_at, value_at, input_at, made_now, first_input, IsRegistered, AtMost, HasSamples, HasExchanged, HasEnded, OnLine}
@@ -91,7 +91,7 @@ pub record Signals (job : Job) (before after : Moment) (t j p n : ℕ) (v : ℤ)
   pub moved : HasMoved job before after t p
       (Signalled n ((v ∷ []) ∷ []) (phaser_at job.graph p).single)
   pub numbered : before.number p t ≡ Some n
-  pub place : place_in (signalled_by (task_at job.graph t)) p ≡ Some j
+  pub place : index_in (signalled_by (task_at job.graph t)) p ≡ Some j
   pub staying : IsStaying before t
   pub taken : (k : ℕ) → after.taken t k ≡ before.taken t k
   pub put : after.put t j ≡ before.put t j ++ v ∷ []
@@ -148,19 +148,19 @@ pub record Registers (job : Job) (before after : Moment) (t p n c a : ℕ) (mode
   pub same : (x : ℕ) → SameTask before after x
   pub number : after.number p c ≡ Some a
   pub other_numbers : (q x : ℕ) → (q ≢ p) ⊎ (x ≢ c) → after.number q x ≡ before.number q x
-  pub signals : (j : ℕ) → place_in (signalled_by (task_at job.graph c)) p ≡ Some j
+  pub signals : (j : ℕ) → index_in (signalled_by (task_at job.graph c)) p ≡ Some j
       → mode_signals mode ≡ true
   pub waits : (k : ℕ) → k < length (task_at job.graph c).inputs
       → input_at (task_at job.graph c) k ≡ p → mode_waits mode ≡ true
   pub boundary : before.begun t ≡ u.at
   pub offset : before.offset c ≡ before.offset t + u.at
-  pub nothing_put : (j : ℕ) → place_in (signalled_by (task_at job.graph c)) p ≡ Some j
+  pub nothing_put : (j : ℕ) → index_in (signalled_by (task_at job.graph c)) p ≡ Some j
       → before.put c j ≡ []
   pub nothing_taken : (k : ℕ) → k < length (task_at job.graph c).inputs
       → input_at (task_at job.graph c) k ≡ p → before.taken c k ≡ []
   pub nothing_begun : before.begun c ≡ 0
   -- the parent has put and taken all that its steps do
-  pub all_put : (i : ℕ) → place_in (signalled_by (task_at job.graph t)) p ≡ Some i
+  pub all_put : (i : ℕ) → index_in (signalled_by (task_at job.graph t)) p ≡ Some i
       → length (before.put t i) ≡ before.begun t
   pub all_taken : (k : ℕ) → k < length (task_at job.graph t).inputs
       → input_at (task_at job.graph t) k ≡ p → length (before.taken t k) ≡ before.begun t

@@ -7,7 +7,7 @@ use Rattle.phase_history.specs.Histories.{History, start_of}
 use Rattle.phase_history.specs.Legal.{IsLegal}
 use Rattle.phase_history.specs.Others.{IsUsed}
 use Rattle.graph_base.specs.Graphs.{task_at}
-use Rattle.stream_lists.specs.Jobs.{Job, place_in}
+use Rattle.stream_lists.specs.Jobs.{Job, index_in}
 use Rattle.stream_lists.specs.Spans.{signalled_by}
 use Rattle.graph_moments.specs.Moments.{Moment, limits_at, input_at, OnLine}
 
@@ -40,7 +40,7 @@ pub record TaskOpened (job : Job) (m : Moment) (t : ℕ) : Type 0 where
   pub present : (p : ℕ) → (task_at job.graph t).parent ≡ None → OnLine (task_at job.graph t) p
       → IsSome (m.number p t)
   pub signals : (p n j : ℕ) (start : Entry) → m.number p t ≡ Some n
-      → place_in (signalled_by (task_at job.graph t)) p ≡ Some j
+      → index_in (signalled_by (task_at job.graph t)) p ≡ Some j
       → start_of (m.history p) n ≡ Some start → mode_signals start.mode ≡ true
   pub waits : (k n : ℕ) (start : Entry) → k < length (task_at job.graph t).inputs
       → m.number (input_at (task_at job.graph t) k) t ≡ Some n

@@ -10,7 +10,7 @@ use Rattle.phase_history.specs.Legal.{IsAccepted}
 use Rattle.graph_base.specs.Graphs.{task_at, phaser_at}
 use Rattle.graph_base.specs.declared.line.Parent.{Parent}
 use Rattle.graph_base.specs.declared.line.Kind.TheVariants.{Source, Peer}
-use Rattle.stream_lists.specs.Jobs.{Job, samples_at, place_in}
+use Rattle.stream_lists.specs.Jobs.{Job, samples_at, index_in}
 use Rattle.stream_lists.specs.Spans.{signalled_by}
 use Rattle.stream_lists.specs.Lists.{number}
 use Rattle.graph_moments.specs.Moments.{Moment, limits_at, value_at, input_at, made_now, first_input, HasExchanged, HasEnded, OnLine}
@@ -57,7 +57,7 @@ pub record IsAcceptedSignal (job : Job) (m : Moment) (t j p n : ℕ) (v : ℤ) :
   pub accepted : IsAccepted (limits_at job p) (m.history p)
       (Signalled n ((v ∷ []) ∷ []) (phaser_at job.graph p).single)
   pub numbered : m.number p t ≡ Some n
-  pub place : place_in (signalled_by (task_at job.graph t)) p ≡ Some j
+  pub place : index_in (signalled_by (task_at job.graph t)) p ≡ Some j
   pub staying : IsStaying m t
 
 -- v is the next entry of what the task makes on the phaser
@@ -115,18 +115,18 @@ pub record IsNextChild (job : Job) (m : Moment) (t p n c a : ℕ) (mode : Mode) 
   pub numbered : m.number p t ≡ Some n
   pub absent : m.number p c ≡ None
   pub accepted : IsAccepted (limits_at job p) (m.history p) (Registered n a mode)
-  pub signals : (j : ℕ) → place_in (signalled_by (task_at job.graph c)) p ≡ Some j
+  pub signals : (j : ℕ) → index_in (signalled_by (task_at job.graph c)) p ≡ Some j
       → mode_signals mode ≡ true
   pub waits : (k : ℕ) → k < length (task_at job.graph c).inputs
       → input_at (task_at job.graph c) k ≡ p → mode_waits mode ≡ true
   pub boundary : m.begun t ≡ u.at
   pub offset : m.offset c ≡ m.offset t + u.at
-  pub nothing_put : (j : ℕ) → place_in (signalled_by (task_at job.graph c)) p ≡ Some j
+  pub nothing_put : (j : ℕ) → index_in (signalled_by (task_at job.graph c)) p ≡ Some j
       → m.put c j ≡ []
   pub nothing_taken : (k : ℕ) → k < length (task_at job.graph c).inputs
       → input_at (task_at job.graph c) k ≡ p → m.taken c k ≡ []
   pub nothing_begun : m.begun c ≡ 0
-  pub all_put : (i : ℕ) → place_in (signalled_by (task_at job.graph t)) p ≡ Some i
+  pub all_put : (i : ℕ) → index_in (signalled_by (task_at job.graph t)) p ≡ Some i
       → length (m.put t i) ≡ m.begun t
   pub all_taken : (k : ℕ) → k < length (task_at job.graph t).inputs
       → input_at (task_at job.graph t) k ≡ p → length (m.taken t k) ≡ m.begun t

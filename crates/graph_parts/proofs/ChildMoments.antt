@@ -10,7 +10,7 @@ use Rattle.phase_history.proofs.Refused.{registers_from}
 use Rattle.graph_base.specs.declared.line.Parent.{Parent}
 use Rattle.graph_base.specs.Graphs.{task_at}
 use Rattle.graph_base.specs.TaskLines.{IsGraph, has_children}
-use Rattle.stream_lists.specs.Jobs.{Job, place_in}
+use Rattle.stream_lists.specs.Jobs.{Job, index_in}
 use Rattle.stream_lists.specs.Spans.{signalled_by}
 use Rattle.stream_laws.proofs.Ordered.{place-at}
 use Rattle.graph_moments.specs.Moments.{Moment, TaskRan, OnLine, OnPhaser, PutOn, TakenOn, SilentOn, IsChild, input_at, limits_at}
@@ -142,8 +142,8 @@ child_is_new job m t c u is there there_c part parent of_t none = record {
     no_number p n at = let wrong : Some n ≡ None = sym at ∙ none p in cc
 
     outputs : (p : ℕ) → (place : Option ℕ)
-        → place_in (signalled_by (task_at job.graph c)) p ≡ place
-        → OnPhaser job (with_child c m) c p (place_in (signalled_by (task_at job.graph c)) p)
+        → index_in (signalled_by (task_at job.graph c)) p ≡ place
+        → OnPhaser job (with_child c m) c p (index_in (signalled_by (task_at job.graph c)) p)
     outputs p None e =
         let O : Option ℕ → Type 0 = λ o. OnPhaser job (with_child c m) c p o in
         let N : Option ℕ → Type 0 = λ x. SilentOn (with_child c m) p x in
@@ -164,7 +164,7 @@ child_is_new job m t c u is there there_c part parent of_t none = record {
       samples = lists.samples;
       cut = lists.cut;
       lines = λ p n at. absurd (no_number p n at);
-      outputs = λ p pp. outputs p (place_in (signalled_by (task_at job.graph c)) p) refl;
+      outputs = λ p pp. outputs p (index_in (signalled_by (task_at job.graph c)) p) refl;
       inputs = λ k lt.
           (let p = input_at (task_at job.graph c) k in
           let N : Option ℕ → Type 0 = λ x. TakenOn job (with_child c m) c k p x in

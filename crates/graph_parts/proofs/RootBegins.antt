@@ -25,7 +25,7 @@ use Rattle.graph_base.specs.declared.line.Parent.{Parent}
 use Rattle.graph_base.specs.Graphs.{task_at}
 use Rattle.graph_base.specs.Registrations.{no_registration}
 use Rattle.graph_base.specs.TaskLines.{IsGraph}
-use Rattle.stream_lists.specs.Jobs.{Job, place_in}
+use Rattle.stream_lists.specs.Jobs.{Job, index_in}
 use Rattle.stream_lists.specs.Spans.{signalled_by}
 use Rattle.stream_lists.specs.Lists.{number}
 use Rattle.stream_laws.proofs.Ordered.{place-at}
@@ -190,9 +190,9 @@ number_at numbers (Some i) = slice_get numbers i
 -- what a root alone knows of the run when it begins
 abbrev pub first_moment : Job → ℕ → List ℕ → (ℕ → History) → Moment
 first_moment job t numbers seen = record {
-  history = λ p. seen_at seen (place_in (map (λ r. r.phaser) (registrations_at job t)) p);
+  history = λ p. seen_at seen (index_in (map (λ r. r.phaser) (registrations_at job t)) p);
   number = λ p u. cond (eqb u t)
-      (number_at numbers (place_in (map (λ r. r.phaser) (registrations_at job t)) p)) None;
+      (number_at numbers (index_in (map (λ r. r.phaser) (registrations_at job t)) p)) None;
   offset = λ u. (opening job).offset u;
   begun = λ u. 0;
   taken = λ u k. [];
@@ -224,14 +224,14 @@ first_is job t numbers seen is there root all roots = record {
         ≡ slice_get numbers i
     number_is i lt =
         let me : eqb t t ≡ true = eq-eqb t t refl in
-        ap (λ b. cond b (number_at numbers (place_in (map (λ r. r.phaser) (registrations_at job t))
+        ap (λ b. cond b (number_at numbers (index_in (map (λ r. r.phaser) (registrations_at job t))
         (registration_at job t i).phaser)) None) me
         ∙ ap (λ o. number_at numbers o) (registration_placed job t i is there lt)
 
     other : (p u : ℕ) → u ≢ t → (first_moment job t numbers seen).number p u ≡ None
     other p u apart =
         let no : eqb u t ≡ false = ne_eqb u t (λ e. apart e) in
-        ap (λ b. cond b (number_at numbers (place_in (map (λ r. r.phaser) (registrations_at job t))
+        ap (λ b. cond b (number_at numbers (index_in (map (λ r. r.phaser) (registrations_at job t))
         p)) None) no
 
     -- the registration of a number
@@ -240,12 +240,12 @@ first_is job t numbers seen is there root all roots = record {
         × ((registration_at job t i).phaser ≡ p)
     which p n at =
         let me : eqb t t ≡ true = eq-eqb t t refl in
-        by (place_in (map (λ r. r.phaser) (registrations_at job t)) p) refl
+        by (index_in (map (λ r. r.phaser) (registrations_at job t)) p) refl
         (sym (ap (λ b. cond b (number_at numbers
-        (place_in (map (λ r. r.phaser) (registrations_at job t)) p)) None) me) ∙ at)
+        (index_in (map (λ r. r.phaser) (registrations_at job t)) p)) None) me) ∙ at)
       where
-        by : (o : Option ℕ) → place_in (map (λ r. r.phaser) (registrations_at job t)) p ≡ o
-            → number_at numbers (place_in (map (λ r. r.phaser) (registrations_at job t)) p)
+        by : (o : Option ℕ) → index_in (map (λ r. r.phaser) (registrations_at job t)) p ≡ o
+            → number_at numbers (index_in (map (λ r. r.phaser) (registrations_at job t)) p)
             ≡ Some n
             → (i : ℕ) × (i < length (registrations_at job t))
             × ((registration_at job t i).phaser ≡ p)
@@ -333,10 +333,10 @@ first_is job t numbers seen is there root all roots = record {
     zero_offset = ((opening_has_begun job is).opened.tasks t there).offset root
 
     outputs : (p : ℕ) → (place : Option ℕ)
-        → place_in (signalled_by (task_at job.graph t)) p ≡ place → (x : Option ℕ)
+        → index_in (signalled_by (task_at job.graph t)) p ≡ place → (x : Option ℕ)
         → (first_moment job t numbers seen).number p t ≡ x
         → OnPhaser job (first_moment job t numbers seen) t p
-        (place_in (signalled_by (task_at job.graph t)) p)
+        (index_in (signalled_by (task_at job.graph t)) p)
     outputs p None e None at =
         let O : Option ℕ → Type 0 = λ o. OnPhaser job (first_moment job t numbers seen) t p o in
         let N : Option ℕ → Type 0 = λ x. SilentOn (first_moment job t numbers seen) p x in
@@ -359,8 +359,8 @@ first_is job t numbers seen is there root all roots = record {
         let N : Option ℕ → Type 0 = λ x. PutOn job (first_moment job t numbers seen) t j p x in
         let w = which p n at in
         let f = facts w.0 p n w.1 w.2 at in
-        let place : place_in (signalled_by (task_at job.graph t)) (registration_at job t w.0).phaser
-        ≡ Some j = ap (λ q. place_in (signalled_by (task_at job.graph t)) q) w.2 ∙ e in
+        let place : index_in (signalled_by (task_at job.graph t)) (registration_at job t w.0).phaser
+        ≡ Some j = ap (λ q. index_in (signalled_by (task_at job.graph t)) q) w.2 ∙ e in
         let on : OnOutput job (first_moment job t numbers seen) t j p n = record {
           start = entry_at (registration_at job t w.0).mode 0 0;
           start_is = f.start_is;
@@ -404,7 +404,7 @@ first_is job t numbers seen is there root all roots = record {
       cut = lists.cut;
       lines = λ p n at. on_line p n at;
       outputs = λ p pp.
-          outputs p (place_in (signalled_by (task_at job.graph t)) p) refl
+          outputs p (index_in (signalled_by (task_at job.graph t)) p) refl
           ((first_moment job t numbers seen).number p t) refl;
       inputs = λ k lt.
           inputs k lt

@@ -12,7 +12,7 @@ use Rattle.phase_history.specs.declared.got.Got.TheVariants.{Ended}
 use Rattle.phase_history.specs.Replies.{wait_reply}
 use Rattle.graph_base.specs.Graphs.{task_at, phaser_at}
 use Rattle.graph_base.specs.declared.line.Kind.TheVariants.{Source, Peer}
-use Rattle.stream_lists.specs.Jobs.{Job, samples_at, place_in}
+use Rattle.stream_lists.specs.Jobs.{Job, samples_at, index_in}
 use Rattle.stream_lists.specs.Spans.{signalled_by}
 use Rattle.stream_lists.specs.Lists.{number}
 use Rattle.graph_moments.specs.Moments.{Moment, TaskRan, OnLine, HasEnded, HasExchanged, limits_at, value_at, made_now, input_at, first_input}
@@ -55,7 +55,7 @@ IsAnsweredEnd job p n now = wait_reply (value_at job p) (limits_at job p) now n 
 
 -- v is the next entry of what the begun steps of task t make on its output j, phaser p
 pub record IsNextValue (job : Job) (m : Moment) (t j p : ℕ) (v : ℤ) : Type 0 where
-  pub place : place_in (signalled_by (task_at job.graph t)) p ≡ Some j
+  pub place : index_in (signalled_by (task_at job.graph t)) p ≡ Some j
   pub staying : IsStaying m t
   pub few : length (m.put t j) < length (made_now job m t j)
   pub entry : get_or (made_now job m t j) (length (m.put t j)) (pos 0) ≡ v
@@ -64,7 +64,7 @@ pub record IsNextValue (job : Job) (m : Moment) (t j p : ℕ) (v : ℤ) : Type 0
 
 -- v is the next sample of task t, a source, on phaser p
 pub record IsNextOfSamples (job : Job) (m : Moment) (t j p : ℕ) (v : ℤ) : Type 0 where
-  pub place : place_in (signalled_by (task_at job.graph t)) p ≡ Some j
+  pub place : index_in (signalled_by (task_at job.graph t)) p ≡ Some j
   pub staying : IsStaying m t
   pub source : (task_at job.graph t).kind ≡ Source
   pub may_begin : MayBegin job m t

@@ -1,7 +1,7 @@
 //! What the line of a task says.
 ghost use Rattle.std.specs.Prelude.{◌≡◌, ◌≢◌, ◌<◌, ◌%◌, length};
 ghost use Rattle.graph_base.specs.Graphs.{is_source, task_at};
-ghost use Rattle.graph_base.specs.Kept.{task_of};
+ghost use Rattle.graph_base.specs.Inside.{task_of};
 ghost use Rattle.graph_base.specs.TaskLines.{HasEnds, IsGraph, IsTaskLine};
 ghost use Rattle.graph_base.specs.declared.line.Kind.TheVariants.{Source, Split};
 ghost use Rattle.graph_base.specs.Registrations.{signalled_by};

@@ -7,7 +7,7 @@ use Rattle.phase_base.specs.declared.limits.TheConstants.{BOUND_MAX}
 use Rattle.phase_accum.specs.declared.single.Single.{Single}
 use Rattle.phase_accum.specs.Singles.{CanBeNamed}
 use Rattle.graph_words.specs.Words.{Word, is_name, is_file}
-use Rattle.graph_base.specs.declared.limits.TheConstants.{PHASERS_MAX, TASKS_MAX, ENDS_MAX, COUNT_MAX, FACTOR_MAX}
+use Rattle.graph_base.specs.declared.limits.TheConstants.{PHASERS_MAX, TASKS_MAX, ENDS_MAX, STEPS_MAX, FACTOR_MAX}
 use Rattle.graph_base.specs.declared.line.Kind.{Kind}
 use Rattle.graph_base.specs.declared.line.Kind.TheVariants.{Source, Fir, Split, Join, Peer, Sink}
 use Rattle.graph_base.specs.declared.line.Parent.{Parent}
@@ -118,7 +118,7 @@ is_parent graph t task parent =
       signals = b.right.right.right.right.right;
     })
     (both (test.is_below parent.task t)
-    (both (test.is_at_most parent.at COUNT_MAX)
+    (both (test.is_at_most parent.at STEPS_MAX)
     (both (test.is_true (has_children above.kind))
     (both (test.is_true (has_children task.kind))
     (both (are_among task.inputs above.inputs) (are_among task.outputs above.outputs))))))
@@ -152,8 +152,8 @@ is_task_line graph t task =
     (both (all_of Plain task.outputs (λ y. test.is_none (phaser_at graph y).single))
     (both (has_taps task.kind task.taps task.shift)
     (both (has_factor task.kind task.mul)
-    (both (if_some task.until (λ steps. steps ≤ COUNT_MAX)
-    (λ steps. test.is_at_most steps COUNT_MAX))
+    (both (if_some task.until (λ steps. steps ≤ STEPS_MAX)
+    (λ steps. test.is_at_most steps STEPS_MAX))
     (if_some task.parent (λ parent. IsParent graph t task parent)
     (λ parent. is_parent graph t task parent))))))))
 

@@ -14,7 +14,7 @@ use Rattle.graph_base.specs.declared.line.Kind.TheVariants.{Source, Fir, Split, 
 use Rattle.graph_base.specs.declared.line.Parent.{Parent}
 use Rattle.graph_base.specs.Graphs.{Task, task_at, phaser_at, is_source}
 use Rattle.graph_base.specs.TaskLines.{IsGraph}
-use Rattle.stream_lists.specs.Jobs.{Job, samples_at, place_in}
+use Rattle.stream_lists.specs.Jobs.{Job, samples_at, index_in}
 use Rattle.stream_lists.specs.Spans.{signalled_by, takes_from}
 use Rattle.stream_laws.proofs.Ordered.{place-at}
 use Rattle.graph_moments.specs.Moments.{Moment, HasRun, limits_at, value_at, input_at, made_now, first_input, OnLine, AtMost, HasSamples, HasExchanged, HasEnded, MayEnd, at_until, no_sample, no_input, RanOut}
@@ -39,7 +39,7 @@ within job m t p q n g at =
 -- ---- lines
 
 abbrev pub on_line : Task → ℕ → Bool
-on_line task p = is_some (place_in (signalled_by task) p) || is_some (place_in task.inputs p)
+on_line task p = is_some (index_in (signalled_by task) p) || is_some (index_in task.inputs p)
 
 pub found : (xs : List ℕ) (n k p : ℕ) → k < length xs → get_or xs k 0 ≡ p
     → is_some (position_from (λ q. eqb q p) n xs) ≡ true
@@ -55,9 +55,9 @@ found (x ∷ xs) n (suc k) p lt at = by (eqb x p) (found xs (n + 1) k p (omega a
 pub on_line-is : (task : Task) (p : ℕ) → OnLine task p → on_line task p ≡ true
 on_line-is task p (inl out) = let at = out.1 in rw at refl
 on_line-is task p (inr into) =
-    let at : is_some (place_in task.inputs p) ≡ true =
+    let at : is_some (index_in task.inputs p) ≡ true =
     found task.inputs 0 into.0 p into.1 into.2 in
-    rw at (or_true (is_some (place_in (signalled_by task) p)))
+    rw at (or_true (is_some (index_in (signalled_by task) p)))
   where
     or_true : (b : Bool) → (b || true) ≡ true
     or_true true = refl
@@ -69,9 +69,9 @@ is_there (Some j) = always (j, refl)
 
 abbrev pub is_on_line : (task : Task) (p : ℕ) → Test (OnLine task p)
 is_on_line task p =
-    either (OnLine task p) (giving (λ r. inl r) (is_there (place_in (signalled_by task) p)))
+    either (OnLine task p) (giving (λ r. inl r) (is_there (index_in (signalled_by task) p)))
     (giving (λ r. (let at = place-at task.inputs p r.0 r.1 in inr (r.0, at.0, at.1)))
-    (is_there (place_in task.inputs p)))
+    (is_there (index_in task.inputs p)))
 
 -- ---- a task's place in its steps
 
@@ -217,7 +217,7 @@ is_accepted_signal job m t j p n v =
     (both (test.is_none (signal_refusal (limits_at job p) (m.history p) n ((v ∷ []) ∷ []) single))
     (both (test.is_at_most (unsigned_abs v) value_max)
     (both (test.is_some_of (m.number p t) n)
-    (both (test.is_some_of (place_in (signalled_by (task_at job.graph t)) p) j)
+    (both (test.is_some_of (index_in (signalled_by (task_at job.graph t)) p) j)
     (stays job m t p)))))
 
 abbrev pub is_next_signal : (job : Job) (m : Moment) (t j p n : ℕ) (v : ℤ)
@@ -361,8 +361,8 @@ is_child_of job m t p n c a mode (Some u) e =
   where
     -- of the output that the phaser is
     outputs : (task : Task) (P : ℕ → Type 0) → ((j : ℕ) → Test (P j))
-        → Test ((j : ℕ) → place_in (signalled_by task) p ≡ Some j → P j)
-    outputs task P f = when_some (place_in (signalled_by task) p) P f
+        → Test ((j : ℕ) → index_in (signalled_by task) p ≡ Some j → P j)
+    outputs task P f = when_some (index_in (signalled_by task) p) P f
 
     -- of each input that it is
     inputs : (task : Task) (P : ℕ → Type 0) → ((k : ℕ) → Test (P k))

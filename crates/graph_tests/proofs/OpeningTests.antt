@@ -10,7 +10,7 @@ use Rattle.phase_history.specs.Legal.{IsLegal}
 use Rattle.phase_history.specs.Others.{IsUsed}
 use Rattle.graph_base.specs.Graphs.{task_at}
 use Rattle.graph_base.specs.TaskLines.{IsGraph}
-use Rattle.stream_lists.specs.Jobs.{Job, place_in}
+use Rattle.stream_lists.specs.Jobs.{Job, index_in}
 use Rattle.stream_lists.specs.Spans.{signalled_by}
 use Rattle.graph_moments.specs.Moments.{limits_at, input_at, OnLine}
 use Rattle.graph_moments.proofs.OnLines.{on_phaser}
@@ -129,7 +129,7 @@ phaser_opened job histories rows offsets p =
 abbrev pub OnIt : Job → List History → List (List (Option ℕ)) → ℕ → ℕ → Type 0
 OnIt job histories rows t p = (n : ℕ) → get_or (get_or rows p []) t None ≡ Some n
     → Both ((task_at job.graph t).parent ≡ None) (Both (OnLine (task_at job.graph t) p)
-    ((j : ℕ) → place_in (signalled_by (task_at job.graph t)) p ≡ Some j
+    ((j : ℕ) → index_in (signalled_by (task_at job.graph t)) p ≡ Some j
     → (start : Entry) → start_of (get_or histories p []) n ≡ Some start
     → mode_signals start.mode ≡ true))
 
@@ -142,9 +142,9 @@ on_it job histories rows t p =
     → mode_signals start.mode ≡ true in
     when_some (get_or (get_or rows p []) t None)
     (λ n. Both (task.parent ≡ None) (Both (OnLine task p)
-    ((j : ℕ) → place_in (signalled_by task) p ≡ Some j → Signals n)))
+    ((j : ℕ) → index_in (signalled_by task) p ≡ Some j → Signals n)))
     (λ n. both (test.is_none task.parent) (both (is_on_line task p)
-    (when_some (place_in (signalled_by task) p) (λ j. Signals n)
+    (when_some (index_in (signalled_by task) p) (λ j. Signals n)
     (λ j. when_some (start_of h n) (λ start. mode_signals start.mode ≡ true)
     (λ start. test.is_true (mode_signals start.mode))))))
 

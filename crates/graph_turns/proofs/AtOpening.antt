@@ -19,7 +19,7 @@ use Rattle.graph_base.specs.Graphs.{Task, task_at, no_task}
 use Rattle.graph_base.specs.Registrations.{registrations_of, no_registration}
 use Rattle.graph_base.specs.TaskLines.{IsGraph}
 use Rattle.graph_base.proofs.Registered.{registrations-phasers}
-use Rattle.stream_lists.specs.Jobs.{Job, place_in}
+use Rattle.stream_lists.specs.Jobs.{Job, index_in}
 use Rattle.stream_lists.specs.Spans.{signalled_by}
 use Rattle.stream_lists.proofs.Growing.{grown-whole}
 use Rattle.stream_lists.proofs.SpansAbove.{parent-is}
@@ -240,9 +240,9 @@ task_opened job t is there = record {
   signals = λ p n j start e place begun.
       (let pp = on_phaser job t p is there (inl (j, place)) in
       let r = of_number p n e in
-      let place_r : place_in (signalled_by (task_at job.graph t))
+      let place_r : index_in (signalled_by (task_at job.graph t))
       (get_or (registrations_at job t) r.i no_registration).phaser ≡ Some j =
-      ap (λ q. place_in (signalled_by (task_at job.graph t)) q) r.here ∙ place in
+      ap (λ q. index_in (signalled_by (task_at job.graph t)) q) r.here ∙ place in
       ap (λ m. mode_signals m) (start_mode p n start pp e begun ∙ sym r.has_mode)
       ∙ (is_for job t r.i is there r.few).signals j place_r);
   waits = λ k n start few e begun.

@@ -18,7 +18,7 @@ use Rattle.graph_base.specs.declared.registration.Registration.{Registration}
 use Rattle.graph_base.specs.Graphs.{task_at}
 use Rattle.graph_base.specs.Registrations.{no_registration}
 use Rattle.graph_base.specs.TaskLines.{IsGraph, HasEnds}
-use Rattle.stream_lists.specs.Jobs.{Job, samples_at, place_in}
+use Rattle.stream_lists.specs.Jobs.{Job, samples_at, index_in}
 use Rattle.stream_lists.specs.Spans.{signalled_by, puts_on}
 use Rattle.graph_moments.specs.Moments.{Moment, HasRun, HasEnded, MayEnd, at_until, no_sample, no_input, OnLine, limits_at, value_at, input_at, first_input, made_now}
 use Rattle.graph_moments.proofs.OnLines.{on_phaser}
@@ -203,7 +203,7 @@ sample_next job m t event is ran live source none due uncut more answer =
     let v = get_or (samples_at job t) (m.begun t) (pos 0) in
     let n = number_on m t p in
     let a = signalled job m t 0 v (sample t 0 p n v) event answer in
-    let place : place_in (signalled_by task) p ≡ Some 0 =
+    let place : index_in (signalled_by task) p ≡ Some 0 =
     place_of_output job.graph t task 0 line lt in
     let on : OnLine task p = inl (0, place) in
     let phaser : p < length job.graph.phasers = on_phaser job t p is live.there on in

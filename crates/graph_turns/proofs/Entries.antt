@@ -20,7 +20,7 @@ use Rattle.phase_history.proofs.Signallers.{mode_of_start}
 use Rattle.phase_history.proofs.Used.{start_from}
 use Rattle.graph_base.specs.Graphs.{task_at}
 use Rattle.graph_base.specs.Registrations.{no_registration}
-use Rattle.stream_lists.specs.Jobs.{Job, place_in}
+use Rattle.stream_lists.specs.Jobs.{Job, index_in}
 use Rattle.stream_lists.specs.Spans.{signalled_by}
 use Rattle.stream_lists.specs.Lists.{number}
 use Rattle.graph_moments.specs.Agreeing.{one}
@@ -33,7 +33,7 @@ use Rattle.graph_turns.specs.Reached.{IsReachable}
 
 pub on_output : (job : Job) (m : Moment) (t j p n : ℕ) → TaskRan job m t
     → t < length job.graph.tasks → p < length job.graph.phasers
-    → place_in (signalled_by (task_at job.graph t)) p ≡ Some j → m.number p t ≡ Some n
+    → index_in (signalled_by (task_at job.graph t)) p ≡ Some j → m.number p t ≡ Some n
     → OnOutput job m t j p n
 on_output job m t j p n ran there pp place at =
     let O : Option ℕ → Type 0 = λ o. OnPhaser job m t p o in
@@ -143,7 +143,7 @@ sent_few job m p s n ran pp among =
     let from = from_numbers (m.number p) 0 (length job.graph.tasks) n among in
     let high : from.0 < 0 + length job.graph.tasks = from.2 in
     let there : from.0 < length job.graph.tasks = omega arith in
-    by from.0 there from.3 (place_in (signalled_by (task_at job.graph from.0)) p) refl
+    by from.0 there from.3 (index_in (signalled_by (task_at job.graph from.0)) p) refl
   where
     put : (start : Entry) → SentInTurn (m.history p) n start → (xs : List ℤ)
         → sent_by (m.history p) n ≡ map one xs
@@ -160,7 +160,7 @@ sent_few job m p s n ran pp among =
         omega arith
 
     by : (t : ℕ) → t < length job.graph.tasks → m.number p t ≡ Some n → (o : Option ℕ)
-        → place_in (signalled_by (task_at job.graph t)) p ≡ o
+        → index_in (signalled_by (task_at job.graph t)) p ≡ o
         → length (sent_in (m.history p) n s) ≤ 1
     by t there at (Some j) place =
         let on = on_output job m t j p n (ran.tasks t there) there pp place at in

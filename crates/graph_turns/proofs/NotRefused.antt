@@ -25,7 +25,7 @@ use Rattle.graph_base.specs.Graphs.{task_at, phaser_at}
 use Rattle.graph_base.specs.Registrations.{ends_of, as_input, as_output, no_registration}
 use Rattle.graph_base.specs.TaskLines.{IsGraph}
 use Rattle.graph_base.proofs.Registered.{registrations-plain, length-registrations, end-input, end-output}
-use Rattle.stream_lists.specs.Jobs.{Job, place_in}
+use Rattle.stream_lists.specs.Jobs.{Job, index_in}
 use Rattle.stream_lists.specs.Spans.{signalled_by}
 use Rattle.stream_lists.specs.Ranges.{are_made, is_out_of_range}
 use Rattle.stream_laws.proofs.Ordered.{place-at, parent_signals, parent_waits}
@@ -218,8 +218,8 @@ wait_passes job m t k is reached live lt more turn later =
         ≡ get_or (task_at job.graph t).inputs 1 0 = (let kind = peer.0 in rw kind refl) in
         let same : get_or (signalled_by (task_at job.graph t)) 0 0 ≡ p =
         first ∙ ap (λ i. input_at (task_at job.graph t) i) (sym peer.1) in
-        let place : place_in (signalled_by (task_at job.graph t)) p ≡ Some 0 =
-        ap (λ q. place_in (signalled_by (task_at job.graph t)) q) (sym same)
+        let place : index_in (signalled_by (task_at job.graph t)) p ≡ Some 0 =
+        ap (λ q. index_in (signalled_by (task_at job.graph t)) q) (sym same)
         ∙ place_of_output job.graph t (task_at job.graph t) 0 (is.tasks t live.there)
         (omega arith) in
         let on = on_output job m t 0 p n (reached.ran.tasks t live.there) live.there pp place at in
@@ -317,15 +317,15 @@ parent_holds job m t c i is there d lt = by (cases_lt i (length (task_at job.gra
         let plain = plain_outputs job c (no_peer (task_at job.graph c).kind d.parent.child_kind) in
         let many : length (signalled_by (task_at job.graph c))
         ≡ length (task_at job.graph c).outputs = ap length plain in
-        let place : place_in (signalled_by (task_at job.graph c)) y ≡ Some j =
-        ap (λ p. place_in (signalled_by (task_at job.graph c)) p)
+        let place : index_in (signalled_by (task_at job.graph c)) y ≡ Some j =
+        ap (λ p. index_in (signalled_by (task_at job.graph c)) p)
         (sym (ap (λ qs. get_or qs j 0) plain))
         ∙ place_of_output job.graph c (task_at job.graph c) j (is.tasks c d.there)
         (omega arith) in
         let above = parent_signals job.graph c (task_at job.graph c) d.comes.by y j d.parent
         place in
-        let O : ℕ → Type 0 = λ u. place_in (signalled_by (task_at job.graph u)) y ≡ Some above.0 in
-        let out : place_in (signalled_by (task_at job.graph t)) y ≡ Some above.0 =
+        let O : ℕ → Type 0 = λ u. index_in (signalled_by (task_at job.graph u)) y ≡ Some above.0 in
+        let out : index_in (signalled_by (task_at job.graph t)) y ≡ Some above.0 =
         subst O d.comes.task above.1 in
         let at = place-at (signalled_by (task_at job.graph t)) y above.0 out in
         let mode = signal_mode job t above.0 is there at.0 in

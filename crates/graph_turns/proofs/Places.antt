@@ -12,7 +12,7 @@ use Rattle.phase_base.specs.Lists.{is_distinct}
 use Rattle.graph_base.specs.Registrations.{no_registration}
 use Rattle.graph_base.specs.declared.line.Kind.{Kind}
 use Rattle.graph_base.specs.declared.line.Kind.TheVariants.{Source, Fir, Split, Join, Peer, Sink}
-use Rattle.stream_lists.specs.Jobs.{Job, place_in}
+use Rattle.stream_lists.specs.Jobs.{Job, index_in}
 use Rattle.stream_lists.specs.Spans.{signalled_by}
 use Rattle.stream_laws.proofs.Ordered.{place-at, place-distinct}
 use Rattle.graph_moments.specs.Moments.{Moment, OnLine}
@@ -62,7 +62,7 @@ distinct-signalled graph t task line = by task.kind refl
 -- each output of a task stands at its own place
 pub place_of_output : (graph : Graph) (t : ℕ) (task : Task) (j : ℕ) → IsTaskLine graph t task
     → j < length (signalled_by task)
-    → place_in (signalled_by task) (get_or (signalled_by task) j 0) ≡ Some j
+    → index_in (signalled_by task) (get_or (signalled_by task) j 0) ≡ Some j
 place_of_output graph t task j line lt =
     let qs = signalled_by task in
     let d : is_distinct (qs ++ []) ≡ true =

@@ -20,7 +20,7 @@ use Rattle.graph_base.specs.Registrations.{no_registration}
 use Rattle.graph_base.specs.TaskLines.{IsGraph}
 use Rattle.phase_base.specs.Lists.{is_distinct}
 use Rattle.graph_base.proofs.Registered.{registrations-phasers}
-use Rattle.stream_lists.specs.Jobs.{Job, place_in}
+use Rattle.stream_lists.specs.Jobs.{Job, index_in}
 use Rattle.stream_lists.proofs.Growing.{filter_map-same}
 use Rattle.stream_laws.proofs.Ordered.{place-distinct}
 use Rattle.graph_moments.specs.Moments.{Moment, HasRun, numbers_on, limits_at}
@@ -220,7 +220,7 @@ to_come_moved job before after t p event moved all come =
 -- the phaser of a registration stands at the registration's place
 pub registration_placed : (job : Job) (c i : ℕ) → IsGraph job.graph → c < length job.graph.tasks
     → i < length (registrations_at job c)
-    → place_in (map (λ r. r.phaser) (registrations_at job c))
+    → index_in (map (λ r. r.phaser) (registrations_at job c))
     (get_or (registrations_at job c) i no_registration).phaser ≡ Some i
 registration_placed job c i is there lt =
     let rs = registrations_at job c in
@@ -231,7 +231,7 @@ registration_placed job c i is there lt =
     ∙ (is.tasks c there).distinct in
     let long = length-map rs (λ r. r.phaser) in
     let same : 0 + i ≡ i = omega arith in
-    ap (λ p. place_in (map (λ r. r.phaser) rs) p)
+    ap (λ p. index_in (map (λ r. r.phaser) rs) p)
     (sym (get_or-map (λ r. r.phaser) rs i no_registration 0 lt))
     ∙ place-distinct 0 (map (λ r. r.phaser) rs) [] i (omega arith) distinct
     ∙ ap (λ k. Some k) same
@@ -244,7 +244,7 @@ pub one_registration : (job : Job) (c i k : ℕ) → IsGraph job.graph → c < l
 one_registration job c i k is there few less same =
     let place : Some i ≡ Some k =
     sym (registration_placed job c i is there few)
-    ∙ ap (λ p. place_in (map (λ r. r.phaser) (registrations_at job c)) p) same
+    ∙ ap (λ p. index_in (map (λ r. r.phaser) (registrations_at job c)) p) same
     ∙ registration_placed job c k is there less in
     same_Some i k place
 

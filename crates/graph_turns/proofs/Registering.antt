@@ -15,7 +15,7 @@ use Rattle.graph_base.specs.Graphs.{Task, task_at, phaser_at}
 use Rattle.graph_base.specs.Registrations.{ends_of, as_input, as_output, as_exchange, exchange_mode, no_registration}
 use Rattle.graph_base.specs.TaskLines.{IsGraph, IsTaskLine, HasEnds, IsExchangeBelow, has_children, IsParent}
 use Rattle.graph_base.proofs.Registered.{registrations-phasers, registrations-plain, end-input, end-output}
-use Rattle.stream_lists.specs.Jobs.{Job, place_in}
+use Rattle.stream_lists.specs.Jobs.{Job, index_in}
 use Rattle.stream_lists.specs.Spans.{signalled_by, takes_from}
 use Rattle.stream_lists.proofs.SpansAbove.{parent-is}
 use Rattle.stream_laws.proofs.Ordered.{place-at, parent_signals, parent_waits}
@@ -92,7 +92,7 @@ apart job c k j p is there few at less on =
 -- the phaser is on the line, and the mode is that of its use there
 pub record IsFor (job : Job) (c : ℕ) (r : Registration) : Type 0 where
   pub on_line : OnLine (task_at job.graph c) r.phaser
-  pub signals : (j : ℕ) → place_in (signalled_by (task_at job.graph c)) r.phaser ≡ Some j
+  pub signals : (j : ℕ) → index_in (signalled_by (task_at job.graph c)) r.phaser ≡ Some j
       → mode_signals r.mode ≡ true
   pub waits : (k : ℕ) → k < length (task_at job.graph c).inputs
       → input_at (task_at job.graph c) k ≡ r.phaser → mode_waits r.mode ≡ true
@@ -126,7 +126,7 @@ for_output job c j is there plain lt =
     record {
       on_line = inl (
         j,
-        ap (λ p. place_in (signalled_by (task_at job.graph c)) p) (sym same)
+        ap (λ p. index_in (signalled_by (task_at job.graph c)) p) (sym same)
             ∙ place_of_output job.graph c (task_at job.graph c) j line (omega arith),
       );
       signals = λ i place. refl;
@@ -247,7 +247,7 @@ for_peer job c i is there peer lt =
     at (suc (suc zero)) lt two one below outs = record {
       on_line = inl (
         1,
-        ap (λ p. place_in (signalled_by (task_at job.graph c)) p)
+        ap (λ p. index_in (signalled_by (task_at job.graph c)) p)
             (sym (ap (λ qs. get_or qs 1 0) outs))
             ∙ place_of_output job.graph c (task_at job.graph c) 1 line
             (let long : length (signalled_by (task_at job.graph c)) ≡ 2 = ap length outs in

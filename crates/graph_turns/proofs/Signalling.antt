@@ -15,7 +15,7 @@ use Rattle.graph_base.specs.declared.place.Place.TheVariants as place
 use Rattle.graph_base.specs.Graphs.{task_at, phaser_at}
 use Rattle.graph_base.specs.TaskLines.{IsGraph}
 use Rattle.graph_base.proofs.Registered.{registrations-phasers}
-use Rattle.stream_lists.specs.Jobs.{Job, place_in}
+use Rattle.stream_lists.specs.Jobs.{Job, index_in}
 use Rattle.stream_lists.specs.Spans.{signalled_by}
 use Rattle.stream_lists.specs.Ranges.{are_made, is_out_of_range}
 use Rattle.graph_moments.specs.Moments.{Moment, HasRun, TaskRan, HasEnded, HasExchanged, OnLine, OnPhaser, PutOn, TakenOn, OnOutput, OnInput, limits_at, made_now}
@@ -190,7 +190,7 @@ signal_next job m t j event is ran live owes first answer =
     let v = next_value job m t j in
     let n = number_on m t p in
     let a = signalled job m t j v (signal t j p n v) event answer in
-    let place : place_in (signalled_by (task_at job.graph t)) p ≡ Some j =
+    let place : index_in (signalled_by (task_at job.graph t)) p ≡ Some j =
     place_of_output job.graph t (task_at job.graph t) j line o.0 in
     let on : OnLine (task_at job.graph t) p = inl (j, place) in
     let phaser : p < length job.graph.phasers = on_phaser job t p is live.there on in

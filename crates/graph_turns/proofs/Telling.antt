@@ -13,7 +13,7 @@ use Rattle.graph_base.specs.declared.line.Kind.{Kind}
 use Rattle.graph_base.specs.declared.line.Kind.TheVariants.{Source, Fir, Split, Join, Peer, Sink}
 use Rattle.graph_base.specs.Graphs.{task_at}
 use Rattle.graph_base.specs.TaskLines.{IsGraph}
-use Rattle.stream_lists.specs.Jobs.{Job, samples_at, place_in}
+use Rattle.stream_lists.specs.Jobs.{Job, samples_at, index_in}
 use Rattle.stream_lists.specs.Spans.{signalled_by, puts_on}
 use Rattle.graph_moments.specs.Moments.{Moment, TaskRan, HasTaken, OnLine, limits_at, value_at, input_at, first_input, made_now}
 use Rattle.graph_moments.proofs.OnLines.{on_phaser}
@@ -142,8 +142,8 @@ exchange_told job m t j is reached live owes first =
         let both : length (signalled_by (task_at job.graph t)) ≡ 2 = ends.1 in
         let same : get_or (signalled_by (task_at job.graph t)) 0 0
         ≡ get_or (task_at job.graph t).inputs 1 0 = rw peer refl in
-        let place : place_in (signalled_by (task_at job.graph t)) p ≡ Some 0 =
-        ap (λ q. place_in (signalled_by (task_at job.graph t)) q) (sym same)
+        let place : index_in (signalled_by (task_at job.graph t)) p ≡ Some 0 =
+        ap (λ q. index_in (signalled_by (task_at job.graph t)) q) (sym same)
         ∙ place_of_output job.graph t (task_at job.graph t) 0 (is.tasks t live.there)
         (omega arith) in
         let line : OnLine (task_at job.graph t) p = inl (0, place) in

@@ -15,7 +15,7 @@ use Rattle.graph_base.specs.declared.line.Kind.{Kind}
 use Rattle.graph_base.specs.declared.line.Kind.TheVariants.{Source, Fir, Split, Join, Peer, Sink}
 use Rattle.graph_base.specs.Graphs.{task_at}
 use Rattle.graph_base.specs.TaskLines.{IsGraph, HasEnds}
-use Rattle.stream_lists.specs.Jobs.{Job, place_in}
+use Rattle.stream_lists.specs.Jobs.{Job, index_in}
 use Rattle.stream_lists.specs.Lists.{number}
 use Rattle.stream_lists.specs.Spans.{signalled_by, takes_from, puts_on}
 use Rattle.graph_moments.specs.Agreeing.{one}
@@ -84,7 +84,7 @@ outputs_few : (job : Job) (m : Moment) (t j : ℕ) → IsGraph job.graph → Has
 outputs_few job m t j is ran live lt =
     let p = output_at job t j in
     let n = number_on m t p in
-    let place : place_in (signalled_by (task_at job.graph t)) p ≡ Some j =
+    let place : index_in (signalled_by (task_at job.graph t)) p ≡ Some j =
     place_of_output job.graph t (task_at job.graph t) j (is.tasks t live.there) lt in
     let number : m.number p t ≡ Some n = number_there job m t p is live (inl (j, place)) in
     let there = on_phaser job t p is live.there (inl (j, place)) in

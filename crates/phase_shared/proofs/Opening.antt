@@ -11,7 +11,7 @@ use Rattle.phase_base.specs.declared.entry.Entry.{Entry}
 use Rattle.phase_seats.specs.declared.view.View.{View}
 use Rattle.phase_seats.specs.declared.rule.Terms.{Terms}
 use Rattle.phase_seats.specs.Rule.{Allows, IsSeatOfTask}
-use Rattle.phase_shared.specs.Regs.{IsReg, place_in, view_in}
+use Rattle.phase_shared.specs.Regs.{IsReg, index_in, view_in}
 use Rattle.std.specs.Prelude.{Result, Ok, Err, IsErr}
 use Rattle.std.specs.Result.{result_ok}
 use Rattle.phase_history.specs.Histories.{History}
@@ -32,11 +32,11 @@ module _ {T K : Type 0} (allows : K → Allows) (table : TableId) (terms : Terms
     pub station : IsSeatOfTask allows terms me entry (seat_view s)
 
   pub opened : (entry : Entry) (o : Option (Seat T (Terms K) View)) (s : Seat T (Terms K) View) → o ≡ Some s → IsReg allows o me entry
-      → place_in o ≡ (table, Some terms) → Opened entry s
+      → index_in o ≡ (table, Some terms) → Opened entry s
   opened entry o s is r at =
       let same : r.terms ≡ terms = same_some r.terms terms (sym r.named ∙ ap (λ p. p.1) at) in
       let station : IsSeatOfTask allows terms me entry (view_in o) = subst (λ (t : Terms K). IsSeatOfTask allows t me entry (view_in o)) same r.station in
-      record { at = sym (ap place_in is) ∙ at; station = subst (λ (v : View). IsSeatOfTask allows terms me entry v) (ap view_in is) station }
+      record { at = sym (ap index_in is) ∙ at; station = subst (λ (v : View). IsSeatOfTask allows terms me entry v) (ap view_in is) station }
 
   pub closed : (entry : Entry) (s : Seat T (Terms K) View) → seat_place s ≡ (table, Some terms) → IsSeatOfTask allows terms me entry (seat_view s)
       → IsReg allows (Some s) me entry

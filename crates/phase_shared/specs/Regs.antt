@@ -50,8 +50,8 @@ module _ {A K : Type 0} where
 
 module _ {T K : Type 0} where
   -- for the code: the place of a seat that is there
-  abbrev pub place_in : Option (Seat T (Terms K) View) → Place (Terms K)
-  place_in None = (
+  abbrev pub index_in : Option (Seat T (Terms K) View) → Place (Terms K)
+  index_in None = (
     record {
       words = 0;
       slots = 0;
@@ -63,7 +63,7 @@ module _ {T K : Type 0} where
     },
     None,
   )
-  place_in (Some s) = seat_place s
+  index_in (Some s) = seat_place s
 
   -- for the code: the view of a seat that is there
   abbrev pub view_in : Option (Seat T (Terms K) View) → View
@@ -74,7 +74,7 @@ module _ {T K : Type 0} where
   pub record IsReg (allows : K → Allows) (seat : Option (Seat T (Terms K) View)) (me : ℕ)
       (entry : Entry) : Type 0 where
     pub terms : Terms K
-    pub named : (place_in seat).1 ≡ Some terms
+    pub named : (index_in seat).1 ≡ Some terms
     pub there : is_some seat ≡ true
     pub station : IsSeatOfTask allows terms me entry (view_in seat)
 
@@ -82,7 +82,7 @@ module _ {T K : Type 0} where
   abbrev pub reg_state : {A : Type 0} → Option (Seat T (Terms K) View) → ℕ → Entry → Parcel A
       → RegState A K
   reg_state seat me entry held = record {
-    at = place_in seat;
+    at = index_in seat;
     number = me;
     entry = entry;
     held = held;

@@ -9,9 +9,9 @@ use Rattle.std.proofs.lemmas.List.{get_or_append_left, get_or_push, length_push}
 use Rattle.std.proofs.lemmas.List.Folds.{list_any_at}
 use Rattle.std.proofs.lemmas.List.FromFn.{length-range_with_len, get_or-range_with_len}
 use Rattle.graph_base.specs.Graphs.{task_at, phaser_at}
-use Rattle.stream_lists.specs.Jobs.{Job, samples_at, place_in}
+use Rattle.stream_lists.specs.Jobs.{Job, samples_at, index_in}
 use Rattle.stream_lists.specs.Spans.{nowhere, signalled_by, takes_from, Schedule, schedule_of}
-use Rattle.stream_lists.specs.Lists.{is_sink_at, list_over, member_at, member_by, members_of, number, numbers_up_to, output_list, output_on, phase_in, sink_over, sinks_of, taken_by, taken_from, value_by}
+use Rattle.stream_lists.specs.Lists.{is_sink_at, list_over, contribution_at, contribution_by, contributions_on, number, numbers_up_to, output_list, output_on, phase_in, sink_over, sinks_of, taken_by, taken_from, value_by}
 use Rattle.stream_lists.specs.Ranges.{Where, fault_over, first_fault, first_some, list_fault, output_fault, output_fault_of, output_faults, phase_fault_of}
 use Rattle.stream_lists.specs.declared.span.Span.{Span}
 use Rattle.stream_lists.proofs.Firsts.{fold-range_more, range_next}
@@ -61,7 +61,7 @@ placed (x ∷ xs) n (suc k) lt = by (x == get_or xs k 0) (placed xs (n + 1) k (o
 
 -- a task that signals phaser p reads each of its inputs
 reads-input : (job : Job) (p t j k : ℕ) → t < length job.graph.tasks → p < length job.graph.phasers
-    → place_in (signalled_by (task_at job.graph t)) p ≡ Some j
+    → index_in (signalled_by (task_at job.graph t)) p ≡ Some j
     → k < length (task_at job.graph t).inputs
     → is_read_from job p (get_or (task_at job.graph t).inputs k 0) ≡ true
 reads-input job p t j k there below at within =
@@ -121,7 +121,7 @@ read-before job p q below e =
 
 taken-same : (job : Job) (p t j : ℕ) (span : Span) (xs ys : List (List ℤ)) → AgreeFrom job p xs ys
     → t < length job.graph.tasks → p < length job.graph.phasers
-    → place_in (signalled_by (task_at job.graph t)) p ≡ Some j
+    → index_in (signalled_by (task_at job.graph t)) p ≡ Some j
     → taken_by xs (task_at job.graph t) span ≡ taken_by ys (task_at job.graph t) span
 taken-same job p t j span xs ys agree there below at =
     let task = task_at job.graph t in
@@ -131,7 +131,7 @@ taken-same job p t j span xs ys agree there below at =
 
 output-same : (job : Job) (schedule : Schedule) (p t j : ℕ) (xs ys : List (List ℤ))
     → AgreeFrom job p xs ys → t < length job.graph.tasks → p < length job.graph.phasers
-    → place_in (signalled_by (task_at job.graph t)) p ≡ Some j
+    → index_in (signalled_by (task_at job.graph t)) p ≡ Some j
     → output_on job schedule xs t j ≡ output_on job schedule ys t j
 output-same job schedule p t j xs ys agree there below at =
     let span = get_or schedule.spans t nowhere in
@@ -140,15 +140,15 @@ output-same job schedule p t j xs ys agree there below at =
 
 members-same : (job : Job) (schedule : Schedule) (p : ℕ) (xs ys : List (List ℤ))
     → AgreeFrom job p xs ys → p < length job.graph.phasers
-    → members_of job schedule xs p ≡ members_of job schedule ys p
+    → contributions_on job schedule xs p ≡ contributions_on job schedule ys p
 members-same job schedule p xs ys agree below =
-    filter_map-same (member_at job schedule xs p) (member_at job schedule ys p) 0
+    filter_map-same (contribution_at job schedule xs p) (contribution_at job schedule ys p) 0
     (length job.graph.tasks)
-    (λ t lt. by t (omega (arith, lt)) (place_in (signalled_by (task_at job.graph t)) p) refl)
+    (λ t lt. by t (omega (arith, lt)) (index_in (signalled_by (task_at job.graph t)) p) refl)
   where
     by : (t : ℕ) → t < length job.graph.tasks → (at : Option ℕ)
-        → place_in (signalled_by (task_at job.graph t)) p ≡ at
-        → member_by job schedule xs t at ≡ member_by job schedule ys t at
+        → index_in (signalled_by (task_at job.graph t)) p ≡ at
+        → contribution_by job schedule xs t at ≡ contribution_by job schedule ys t at
     by t there None at = refl
     by t there (Some j) at =
         let span = get_or schedule.spans t nowhere in
@@ -162,10 +162,10 @@ faults-same job schedule p xs ys agree below =
     map-same (output_fault_of job schedule xs p) (output_fault_of job schedule ys p) 0
     (length job.graph.tasks)
     (λ t lt. ap (option_map (λ step. (place.Task t, step)))
-    (by t (omega (arith, lt)) (place_in (signalled_by (task_at job.graph t)) p) refl))
+    (by t (omega (arith, lt)) (index_in (signalled_by (task_at job.graph t)) p) refl))
   where
     by : (t : ℕ) → t < length job.graph.tasks → (at : Option ℕ)
-        → place_in (signalled_by (task_at job.graph t)) p ≡ at
+        → index_in (signalled_by (task_at job.graph t)) p ≡ at
         → output_fault job schedule xs t at ≡ output_fault job schedule ys t at
     by t there None at = refl
     by t there (Some j) at =

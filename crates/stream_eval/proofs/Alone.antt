@@ -13,7 +13,7 @@ use Rattle.graph_base.specs.Graphs.{phaser_at}
 use Rattle.phase_base.specs.declared.operation.Op.{Op}
 use Rattle.phase_base.specs.declared.operation.Op.TheVariants.{Sum, Product, Least, Greatest, Any}
 use Rattle.stream_lists.specs.Jobs.{Job}
-use Rattle.stream_lists.specs.Lists.{Member, entry, number, number_in, sends_in, value_by}
+use Rattle.stream_lists.specs.Lists.{Contribution, entry, number, number_in, sends_in, value_by}
 use Rattle.stream_lists.specs.Ranges.{first_fault, is_fault}
 use Rattle.stream_lists.specs.Spans.{lengths_of, schedule_of}
 use Rattle.stream_eval.proofs.Made.{AreSends-at}
@@ -83,7 +83,7 @@ value-alone op vs n sends lt =
     ∙ value_by-one op (entry vs n) (AreSends-at vs n (pos 0) sends lt)
 
 -- its values are the phaser's list
-pub numbers-alone : (job : Job) (p : ℕ) (value : List ℤ → Outcome) (members : List Member)
+pub numbers-alone : (job : Job) (p : ℕ) (value : List ℤ → Outcome) (members : List Contribution)
     (vs : List ℤ)
     → value ≡ value_by (phaser_at job.graph p).op → (phaser_at job.graph p).single ≡ None
     → members ≡ (0, vs) ∷ [] → length vs ≡ get_or (lengths_of job) p 0 → AreSends vs
@@ -106,7 +106,7 @@ numbers-alone job p value members vs value_is plain alone long sends =
         ∙ ap number (value-alone (phaser_at job.graph p).op vs n sends lt))
 
 -- and none of them is too big
-pub fault-alone : (job : Job) (p : ℕ) (value : List ℤ → Outcome) (members : List Member)
+pub fault-alone : (job : Job) (p : ℕ) (value : List ℤ → Outcome) (members : List Contribution)
     (vs : List ℤ)
     → value ≡ value_by (phaser_at job.graph p).op
     → members ≡ (0, vs) ∷ [] → length vs ≡ get_or (lengths_of job) p 0 → AreSends vs

@@ -9,7 +9,7 @@ use Rattle.std.proofs.lemmas.List.FromFn.{map-range_with_len_more}
 use Rattle.graph_base.specs.Graphs.{phaser_at}
 use Rattle.stream_lists.specs.Jobs.{Job}
 use Rattle.stream_lists.specs.Spans.{lengths_of, schedule_of}
-use Rattle.stream_lists.specs.Lists.{Member, members_of, value_by, list_over, number, number_in, phase_in, numbers_up_to}
+use Rattle.stream_lists.specs.Lists.{Contribution, contributions_on, value_by, list_over, number, number_in, phase_in, numbers_up_to}
 use Rattle.stream_lists.specs.Ranges.{Where, output_fault_of, phase_fault_of, is_fault, first_some, fault_over, fault_on}
 use Rattle.phase_accum.specs.declared.outcome.Outcome.{Outcome}
 use Rattle.graph_base.specs.declared.place.Place.TheVariants as place
@@ -51,11 +51,11 @@ fault-member job above p w e = first-append_some
     (phase_fault_of job (schedule_of job) above p ∷ []) w e
 
 -- and where none of them is out of range, the phases decide
-pub fault-phase : (job : Job) (above : List (List ℤ)) (p : ℕ) (members : List Member)
+pub fault-phase : (job : Job) (above : List (List ℤ)) (p : ℕ) (members : List Contribution)
     (value : List ℤ → Outcome) (found : Option ℕ)
     → first_some (map (output_fault_of job (schedule_of job) above p)
     (range_with_len 0 (length job.graph.tasks))) ≡ None
-    → members ≡ members_of job (schedule_of job) above p
+    → members ≡ contributions_on job (schedule_of job) above p
     → value ≡ value_by (phaser_at job.graph p).op
     → find (is_fault value job (schedule_of job) members p)
     (range_with_len 0 (get_or (lengths_of job) p 0)) ≡ found
@@ -86,7 +86,7 @@ numbers-more f list n v is v_is =
     ∙ sym (map-range_with_len_more f 0 n n (zero-add n)))
 
 -- the numbers of the phases
-pub map-number : (value : List ℤ → Outcome) (job : Job) (p : ℕ) (members : List Member)
+pub map-number : (value : List ℤ → Outcome) (job : Job) (p : ℕ) (members : List Contribution)
     (ns : List ℕ)
     → map number (map (phase_in value job p members) ns) ≡ map (number_in value job p members) ns
 map-number value job p members [] = refl
@@ -94,15 +94,15 @@ map-number value job p members (n ∷ ns) =
     ap (λ vs. number_in value job p members n ∷ vs) (map-number value job p members ns)
 
 -- the numbers of a phaser's list
-pub list-over : (job : Job) (above : List (List ℤ)) (p : ℕ) (members : List Member)
+pub list-over : (job : Job) (above : List (List ℤ)) (p : ℕ) (members : List Contribution)
     (value : List ℤ → Outcome) (list : List ℤ)
-    → members ≡ members_of job (schedule_of job) above p
+    → members ≡ contributions_on job (schedule_of job) above p
     → value ≡ value_by (phaser_at job.graph p).op
     → list ≡ map (number_in value job p members) (range_with_len 0 (get_or (lengths_of job) p 0))
     → list ≡ map number (list_over job (schedule_of job) above p)
 list-over job above p members value list same value_is is =
     let phases = range_with_len 0 (get_or (lengths_of job) p 0) in
-    let all = members_of job (schedule_of job) above p in
+    let all = contributions_on job (schedule_of job) above p in
     is
     ∙ (ap (λ ms. map (number_in value job p ms) phases) same
     ∙ (ap (λ v. map (number_in v job p all) phases) value_is

@@ -11,12 +11,12 @@ use Rattle.phase_base.specs.declared.limits.TheConstants.{SENDS_MAX}
 use Rattle.phase_accum.specs.Sends.{IsSend}
 use Rattle.phase_accum.specs.Operations.{Operation, IsPartOf, MayJoin, AccumulateLaws}
 use Rattle.phase_accum.proofs.Parts.{IsPartOf-nil, IsPartOf-one, IsPartOf-join}
-use Rattle.stream_lists.specs.Lists.{Member, send_in, sends_in}
+use Rattle.stream_lists.specs.Lists.{Contribution, send_in, sends_in}
 use Rattle.stream_eval.specs.Inside.{HasParts}
 use Rattle.phase_accum.specs.declared.outcome.Outcome.{Outcome}
 
 -- the first i values of a member
-abbrev pub front : ℕ → List ℤ → ℕ → Member
+abbrev pub front : ℕ → List ℤ → ℕ → Contribution
 front o vs i = (o, take i vs)
 
 -- ---- one more value of a list
@@ -98,19 +98,19 @@ abbrev pub one : Option ℤ → List ℤ
 one None = []
 one (Some v) = v ∷ []
 
-pub send_one : (n : ℕ) (m : Member) → filter_map (send_in n) (m ∷ []) ≡ one (send_in n m)
+pub send_one : (n : ℕ) (m : Contribution) → filter_map (send_in n) (m ∷ []) ≡ one (send_in n m)
 send_one n m = by (send_in n m)
   where
     by : (o : Option ℤ) → filter_map (λ x. x) (o ∷ []) ≡ one o
     by None = refl
     by (Some v) = refl
 
-sends_in-push : (members : List Member) (m : Member) (n : ℕ) → sends_in (members ++ m ∷ []) n
+sends_in-push : (members : List Contribution) (m : Contribution) (n : ℕ) → sends_in (members ++ m ∷ []) n
     ≡ sends_in members n ++ one (send_in n m)
 sends_in-push members m n = filter_map-append (send_in n) members (m ∷ [])
     ∙ ap (λ xs. sends_in members n ++ xs) (send_one n m)
 
-length-sends_in : (members : List Member) (n : ℕ) → length (sends_in members n) ≤ length members
+length-sends_in : (members : List Contribution) (n : ℕ) → length (sends_in members n) ≤ length members
 length-sends_in [] n = omega arith
 length-sends_in (m ∷ ms) n = by (send_in n m) (sends_in ms n) (length-sends_in ms n)
   where
@@ -122,7 +122,7 @@ length-sends_in (m ∷ ms) n = by (send_in n m) (sends_in ms n) (length-sends_in
 -- ---- the parts
 
 -- a member with no value yet sends nothing
-pub HasParts-start : {A : Type 0} (op : Operation A) (parts : List A) (members : List Member)
+pub HasParts-start : {A : Type 0} (op : Operation A) (parts : List A) (members : List Contribution)
     (o : ℕ) (vs : List ℤ)
     → HasParts op parts members → HasParts op parts (members ++ front o vs 0 ∷ [])
 HasParts-start op parts members o vs has = record {
@@ -134,21 +134,21 @@ HasParts-start op parts members o vs has = record {
 }
 
 -- what the members sent before this value of the next one
-before_value : (members : List Member) (o i : ℕ) (vs : List ℤ)
+before_value : (members : List Contribution) (o i : ℕ) (vs : List ℤ)
     → sends_in (members ++ front o vs i ∷ []) (o + i) ≡ sends_in members (o + i)
 before_value members o i vs =
     sends_in-push members (front o vs i) (o + i)
     ∙ (ap (λ s. sends_in members (o + i) ++ one s) (send_in-before o i vs)
     ∙ append-nil (sends_in members (o + i)))
 
-with_value : (members : List Member) (o i : ℕ) (vs : List ℤ) (d : ℤ) → i < length vs
+with_value : (members : List Contribution) (o i : ℕ) (vs : List ℤ) (d : ℤ) → i < length vs
     → sends_in (members ++ front o vs (suc i) ∷ []) (o + i)
     ≡ sends_in members (o + i) ++ get_or vs i d ∷ []
 with_value members o i vs d lt =
     sends_in-push members (front o vs (suc i)) (o + i)
     ∙ ap (λ s. sends_in members (o + i) ++ one s) (send_in-here o i vs d lt)
 
-other_phase : (members : List Member) (o i n : ℕ) (vs : List ℤ) → (n ≡ o + i → ⊥)
+other_phase : (members : List Contribution) (o i n : ℕ) (vs : List ℤ) → (n ≡ o + i → ⊥)
     → sends_in (members ++ front o vs (suc i) ∷ []) n ≡ sends_in (members ++ front o vs i ∷ []) n
 other_phase members o i n vs ne =
     sends_in-push members (front o vs (suc i)) n
@@ -156,7 +156,7 @@ other_phase members o i n vs ne =
     ∙ sym (sends_in-push members (front o vs i) n))
 
 -- the part of the phase of the next value
-pub part_before : {A : Type 0} (op : Operation A) (parts : List A) (members : List Member)
+pub part_before : {A : Type 0} (op : Operation A) (parts : List A) (members : List Contribution)
     (o i : ℕ) (vs : List ℤ) (d : A)
     → HasParts op parts (members ++ front o vs i ∷ []) → o + i < length parts
     → IsPartOf op (get_or parts (o + i) d) (sends_in members (o + i))
@@ -164,7 +164,7 @@ part_before op parts members o i vs d has lt =
     subst (λ xs. IsPartOf op (get_or parts (o + i) d) xs) (before_value members o i vs)
     (has.each (o + i) d lt)
 
-pub MayJoin-value : {A : Type 0} (op : Operation A) (parts : List A) (members : List Member)
+pub MayJoin-value : {A : Type 0} (op : Operation A) (parts : List A) (members : List Contribution)
     (o i : ℕ) (vs : List ℤ) (d : A) (v : ℤ)
     → AccumulateLaws op → HasParts op parts (members ++ front o vs i ∷ []) → o + i < length parts
     → length members < SENDS_MAX → IsSend v
@@ -179,7 +179,7 @@ MayJoin-value op parts members o i vs d v laws has lt few is = record {
 }
 
 -- one more value
-pub HasParts-value : {A : Type 0} (op : Operation A) (parts : List A) (members : List Member)
+pub HasParts-value : {A : Type 0} (op : Operation A) (parts : List A) (members : List Contribution)
     (o i : ℕ) (vs : List ℤ) (d : A) (e : ℤ)
     → AccumulateLaws op → HasParts op parts (members ++ front o vs i ∷ []) → o + i < length parts
     → i < length vs
@@ -229,7 +229,7 @@ HasParts-value {A} op parts members o i vs d e laws has lt within few is = recor
             (sends_in (members ++ front o vs (suc i) ∷ []) m)) same (here f)
 
 -- all values, as far as there are phases
-pub HasParts-whole : {A : Type 0} (op : Operation A) (parts : List A) (members : List Member)
+pub HasParts-whole : {A : Type 0} (op : Operation A) (parts : List A) (members : List Contribution)
     (o count : ℕ) (vs : List ℤ)
     → HasParts op parts (members ++ front o vs count ∷ [])
     → ((n : ℕ) → n < length parts → o ≤ n → (n - o < count) ⊎ (length vs ≤ count))
@@ -251,7 +251,7 @@ HasParts-whole op parts members o count vs has far = record {
     whole n lt = unless (nat_lt n o) _ _ (λ e. reaches n (far n lt (not_below n o e)))
 
 -- one more value, as the code writes it
-pub HasParts-next : {A : Type 0} (op : Operation A) (parts : List A) (members : List Member)
+pub HasParts-next : {A : Type 0} (op : Operation A) (parts : List A) (members : List Contribution)
     (o i : ℕ) (vs : List ℤ) (x r : A) (v : ℤ)
     → AccumulateLaws op → HasParts op parts (members ++ front o vs i ∷ []) → o + i < length parts
     → i < length vs
@@ -293,7 +293,7 @@ HasParts-unit {A} op parts has = record { each = each }
 
 -- ---- the value of a phase
 
-pub value_of_part : {A : Type 0} (op : Operation A) (parts : List A) (members : List Member)
+pub value_of_part : {A : Type 0} (op : Operation A) (parts : List A) (members : List Contribution)
     (n : ℕ) (x : A) (r : Outcome)
     → AccumulateLaws op → HasParts op parts members → n < length parts → x ≡ get_or parts n x → r
     ≡ op.finish x → r ≡ op.value (sends_in members n)

@@ -7,19 +7,19 @@ use Rattle.graph_base.specs.TaskLines.{HasEnds, HasTaps}
 use Rattle.graph_base.specs.declared.line.Kind.TheVariants.{Split}
 use Rattle.graph_base.specs.declared.line.TaskLine.{TaskLine}
 use Rattle.graph_base.specs.Graphs.{task_at}
-use Rattle.stream_lists.specs.Lists.{Member, sends_in, is_sink_at}
-use Rattle.stream_lists.specs.Jobs.{Job, place_in}
+use Rattle.stream_lists.specs.Lists.{Contribution, sends_in, is_sink_at}
+use Rattle.stream_lists.specs.Jobs.{Job, index_in}
 use Rattle.stream_lists.specs.Spans.{signalled_by}
 use Rattle.stream_eval.specs.declared.phases.MemberList.{MemberList}
 
 -- ---- what tasks put out
 
 -- what a task puts on a phaser
-abbrev pub member_of : MemberList → Member
+abbrev pub member_of : MemberList → Contribution
 member_of list = (list.offset, list.values.items)
 
 -- the same, where there is something
-abbrev pub member_option : Option MemberList → Option Member
+abbrev pub member_option : Option MemberList → Option Contribution
 member_option None = None
 member_option (Some list) = Some (member_of list)
 
@@ -30,7 +30,7 @@ pub record MayPut (task : TaskLine) (lists j : ℕ) : Type 0 where
   pub taps : HasTaps task.kind task.taps.items task.shift
 
 -- each part is that of what the members send in its phase
-pub record HasParts {A : Type 0} (op : Operation A) (parts : List A) (members : List Member)
+pub record HasParts {A : Type 0} (op : Operation A) (parts : List A) (members : List Contribution)
     : Type 0 where
   pub each : (n : ℕ) (d : A) → n < length parts
       → IsPartOf op (get_or parts n d) (sends_in members n)
@@ -39,7 +39,7 @@ pub record HasParts {A : Type 0} (op : Operation A) (parts : List A) (members : 
 
 -- whether task t signals phaser p
 abbrev pub signals_on : Job → ℕ → ℕ → Bool
-signals_on job t p = is_some (place_in (signalled_by (task_at job.graph t)) p)
+signals_on job t p = is_some (index_in (signalled_by (task_at job.graph t)) p)
 
 -- whether task t signals phaser p or one below it
 abbrev pub signals_from : Job → ℕ → ℕ → Bool
@@ -48,7 +48,7 @@ signals_from job p t =
 
 -- whether phaser q is an input of task t
 abbrev pub waits_on : Job → ℕ → ℕ → Bool
-waits_on job t q = is_some (place_in (task_at job.graph t).inputs q)
+waits_on job t q = is_some (index_in (task_at job.graph t).inputs q)
 
 -- whether task t is a sink on phaser q
 abbrev pub sinks_on : Job → ℕ → ℕ → Bool

@@ -3,12 +3,12 @@ ghost use Rattle.std.specs.Prelude.{◌≡◌, ◌<◌, ◌≤◌, ℕ, length, 
 ghost use Rattle.std.specs.List.{All};
 ghost use Rattle.phase_accum.specs.Sends.{AreSends};
 ghost use Rattle.graph_base.specs.Graphs.{task_at};
-ghost use Rattle.graph_base.specs.Kept.{task_of};
+ghost use Rattle.graph_base.specs.Inside.{task_of};
 ghost use Rattle.graph_base.specs.declared.line.Kind.TheVariants.{Split};
 ghost use Rattle.graph_base.specs.declared.place.Place.{Place as PlaceValue};
 ghost use Rattle.graph_base.specs.TaskLines.{HasEnds};
 ghost use Rattle.stream_lists.specs.Inside.{items_of};
-ghost use Rattle.stream_lists.specs.Lists.{member_at, members_of, output_on};
+ghost use Rattle.stream_lists.specs.Lists.{contribution_at, contributions_on, output_on};
 ghost use Rattle.stream_eval.specs.Inside.{member_of, member_option};
 ghost use Rattle.stream_lists.specs.Ranges.{first_some, made_fault, output_fault_of, output_faults};
 ghost use Rattle.stream_lists.specs.Spans.{schedule_of};
@@ -62,7 +62,7 @@ fn as_member(
     requires task { t < length job.now.graph.tasks }
     requires sends { All (λ list. AreSends list.items) above.now }
     ensures ok { IfOk result (λ found. member_option found
-        ≡ member_at job.now (schedule_of job.now) (items_of above.now) p t) }
+        ≡ contribution_at job.now (schedule_of job.now) (items_of above.now) p t) }
     ensures sends { IfOk result (λ found. IfSome found (λ list. AreSends list.values.items)) }
     ensures fits { IfOk result (λ found.
         output_fault_of job.now (schedule_of job.now) (items_of above.now) p t ≡ None) }
@@ -99,7 +99,7 @@ pub(crate) fn members_on(
 ) -> Result<Vec<MemberList>, EvalFault>
     requires sends { All (λ list. AreSends list.items) above.now }
     ensures ok { IfOk result (λ members. map member_of members.items
-        ≡ members_of job.now (schedule_of job.now) (items_of above.now) p) }
+        ≡ contributions_on job.now (schedule_of job.now) (items_of above.now) p) }
     ensures sends { IfOk result (λ members.
         All (λ list. AreSends list.values.items) members.items) }
     ensures few { IfOk result (λ members. length members.items ≤ TASKS_MAX) }

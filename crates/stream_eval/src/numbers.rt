@@ -5,7 +5,7 @@ ghost use Rattle.phase_accum.specs.Sends.{AreSends, IsSend};
 ghost use Rattle.phase_accum.specs.Values.{applied, IsInRange};
 ghost use Rattle.graph_base.specs.Graphs.{phaser_at};
 ghost use Rattle.graph_base.specs.declared.place.Place.{Place as PlaceValue};
-ghost use Rattle.stream_lists.specs.Lists.{Member, number, number_in};
+ghost use Rattle.stream_lists.specs.Lists.{Contribution, number, number_in};
 ghost use Rattle.stream_eval.specs.Inside.{HasParts, member_of};
 ghost use Rattle.stream_lists.specs.Ranges.{first_fault};
 ghost use Rattle.stream_lists.specs.Spans.{lengths_of, schedule_of};
@@ -41,16 +41,16 @@ fn numbers<A: Accumulate>(
     parts: &[A],
 ) -> Result<Vec<i64>, EvalFault>
     requires phaser { p < length job.now.graph.phasers }
-    requires parts { (members : List Member) × HasParts A.operation parts.now members }
-    ensures ok { (members : List Member) → HasParts A.operation parts.now members
+    requires parts { (members : List Contribution) × HasParts A.operation parts.now members }
+    ensures ok { (members : List Contribution) → HasParts A.operation parts.now members
         → IfOk result (λ list. list.items ≡ map (number_in A.operation.value job.now p members)
         (range_with_len 0 (length parts.now))) }
     ensures sends { IfOk result (λ list. AreSends list.items) }
-    ensures fits { (members : List Member) → HasParts A.operation parts.now members
+    ensures fits { (members : List Contribution) → HasParts A.operation parts.now members
         → IfOk result (λ list. first_fault A.operation.value job.now (schedule_of job.now) members p
         (length parts.now) ≡ None) }
     ensures too_big { (place : PlaceValue) (n : ℕ) → result ≡ Err (EvalFault.TooBig place n)
-        → (members : List Member) → HasParts A.operation parts.now members
+        → (members : List Contribution) → HasParts A.operation parts.now members
         → (place ≡ PlaceValue.Phaser p)
         × (first_fault A.operation.value job.now (schedule_of job.now) members p (length parts.now)
         ≡ Some n) }

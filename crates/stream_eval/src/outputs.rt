@@ -2,7 +2,7 @@
 ghost use Rattle.std.specs.Prelude.{◌≡◌, ◌≤◌, ℕ, nat_lt, if◌then◌else◌, [], take, length, map, get_or, IfOk, None, Some, Err};
 ghost use Rattle.std.specs.List.{All, position_from};
 ghost use Rattle.phase_accum.specs.Sends.{AreSends};
-ghost use Rattle.graph_base.specs.Kept.{task_of};
+ghost use Rattle.graph_base.specs.Inside.{task_of};
 ghost use Rattle.stream_lists.specs.Lists.{mixed, output_list};
 ghost use Rattle.stream_lists.specs.Ranges.{is_out_of_range, list_fault};
 ghost use Rattle.stream_eval.specs.Inside.{MayPut};

@@ -3,7 +3,7 @@ ghost use Rattle.std.specs.Prelude.{◌≡◌, ◌≤◌, ◌<◌, ◌∷◌, []
 ghost use Rattle.phase_base.specs.declared.limits.TheConstants.{SENDS_MAX};
 ghost use Rattle.phase_accum.specs.Sends.{AreSends};
 ghost use Rattle.std.specs.List.{All};
-ghost use Rattle.stream_lists.specs.Lists.{Member};
+ghost use Rattle.stream_lists.specs.Lists.{Contribution};
 ghost use Rattle.stream_eval.specs.Inside.{HasParts, member_of};
 
 use graph_base::TASKS_MAX;
@@ -22,9 +22,9 @@ pub struct MemberList {
 /// Sends a member's values, behind what was sent in each phase.
 fn add_member<A: Accumulate>(parts: &mut [A], member: &MemberList)
     requires sends { AreSends member.now.values.items }
-    requires stands { (members : List Member) × HasParts A.operation parts.old members
+    requires stands { (members : List Contribution) × HasParts A.operation parts.old members
         × (length members < SENDS_MAX) }
-    ensures stands { (members : List Member) → HasParts A.operation parts.old members
+    ensures stands { (members : List Contribution) → HasParts A.operation parts.old members
         → length members < SENDS_MAX
         → HasParts A.operation parts.new (members ++ member_of member.now ∷ []) }
     ensures length { length parts.new ≡ length parts.old }

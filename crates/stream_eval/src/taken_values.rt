@@ -2,7 +2,7 @@
 ghost use Rattle.std.specs.Prelude.{◌≡◌, ◌≤◌, ◌<◌, ◌^◌, List, ℤ, [], take, drop, length, map, get_or, IfOk};
 ghost use Rattle.std.specs.List.{All};
 ghost use Rattle.phase_accum.specs.Sends.{AreSends};
-ghost use Rattle.graph_base.specs.Kept.{task_of};
+ghost use Rattle.graph_base.specs.Inside.{task_of};
 ghost use Rattle.graph_base.specs.TaskLines.{HasEnds};
 ghost use Rattle.stream_lists.specs.Inside.{IsShort, items_of};
 ghost use Rattle.stream_lists.specs.Lists.{taken_from, taken_by};

@@ -12,9 +12,9 @@ use Rattle.graph_base.specs.declared.line.Kind.{Kind}
 use Rattle.graph_base.specs.declared.line.Kind.TheVariants.{Source, Fir, Split, Join, Peer, Sink}
 use Rattle.phase_base.specs.declared.operation.Op.TheVariants.{Any}
 use Rattle.graph_base.specs.declared.line.Parent.{Parent}
-use Rattle.stream_lists.specs.Jobs.{Job, samples_at, place_in}
+use Rattle.stream_lists.specs.Jobs.{Job, samples_at, index_in}
 use Rattle.stream_lists.specs.Spans.{signalled_by, puts_on, offset_of, span_at, spans_of, lengths_of, span_in, end_on, end_of}
-use Rattle.stream_lists.specs.Lists.{Member, list_of_phaser}
+use Rattle.stream_lists.specs.Lists.{Contribution, list_of_phaser}
 use Rattle.stream_lists.specs.Meetings.{is_any, overlap, meet_on, meets_on, meets_above, meeting_line}
 use Rattle.stream_laws.specs.Entries.{output_values, HasEntry}
 use Rattle.stream_lists.specs.declared.span.Span.{Span}
@@ -24,7 +24,7 @@ use Rattle.stream_laws.proofs.LengthsAbove.{lengths_all}
 use Rattle.stream_laws.proofs.ListLengths.{outputs_long}
 
 -- a member where the task is live
-abbrev pub member_where : Bool → ℕ → List ℤ → Option Member
+abbrev pub member_where : Bool → ℕ → List ℤ → Option Contribution
 member_where live offset list = if live then Some (offset, list) else None
 
 -- ---- where a task ends
@@ -33,12 +33,12 @@ member_where live offset list = if live then Some (offset, list) else None
 pub record Ends (job : Job) (p t : ℕ) : Type 0 where
   pub live : (span_in job t).live ≡ true
   pub output : ℕ
-  pub signals : place_in (signalled_by (task_at job.graph t)) p ≡ Some output
+  pub signals : index_in (signalled_by (task_at job.graph t)) p ≡ Some output
   pub end_is : end_of job.graph (spans_of job) p t
       ≡ (span_in job t).offset + length (output_values job t output)
 
 ends_there : (job : Job) (p t j : ℕ) → IsGraph job.graph → t < length job.graph.tasks
-    → (span_in job t).live ≡ true → place_in (signalled_by (task_at job.graph t)) p ≡ Some j
+    → (span_in job t).live ≡ true → index_in (signalled_by (task_at job.graph t)) p ≡ Some j
     → end_of job.graph (spans_of job) p t
     ≡ (span_in job t).offset + length (output_values job t j)
 ends_there job p t j is there live signals =
@@ -53,9 +53,9 @@ ends_there job p t j is there live signals =
 ends_from : (job : Job) (p t n : ℕ) → IsGraph job.graph → t < length job.graph.tasks
     → n < end_of job.graph (spans_of job) p t → Ends job p t
 ends_from job p t n is there lt =
-    by (place_in (signalled_by (task_at job.graph t)) p) refl lt
+    by (index_in (signalled_by (task_at job.graph t)) p) refl lt
   where
-    by : (place : Option ℕ) → place_in (signalled_by (task_at job.graph t)) p ≡ place
+    by : (place : Option ℕ) → index_in (signalled_by (task_at job.graph t)) p ≡ place
         → n < end_on (task_at job.graph t) (span_in job t) place → Ends job p t
     by None e less = absurd (omega arith)
     by (Some j) e less = live_case (span_in job t).live refl less

@@ -15,9 +15,9 @@ use Rattle.phase_base.specs.declared.operation.Op.{Op}
 use Rattle.phase_base.specs.declared.operation.Op.TheVariants.{Sum, Product, Least, Greatest, Any}
 use Rattle.graph_base.specs.declared.line.Kind.{Kind}
 use Rattle.graph_base.specs.declared.line.Kind.TheVariants.{Source, Fir, Split, Join, Peer, Sink}
-use Rattle.stream_lists.specs.Jobs.{Job, samples_at, place_in}
+use Rattle.stream_lists.specs.Jobs.{Job, samples_at, index_in}
 use Rattle.stream_lists.specs.Spans.{signalled_by, takes_from, offset_of, span_at, spans_of, lengths_of, span_in, schedule_of}
-use Rattle.stream_lists.specs.Lists.{entry, taken_from, output_on, member_at, member_by, members_of, sends_in, value_by, number, phase_in, list_over, list_of_phaser, numbers_of, is_sink_at, sink_over, lines_of}
+use Rattle.stream_lists.specs.Lists.{entry, taken_from, output_on, contribution_at, contribution_by, contributions_on, sends_in, value_by, number, phase_in, list_over, list_of_phaser, numbers_of, is_sink_at, sink_over, lines_of}
 use Rattle.stream_lists.specs.Ranges.{Fits}
 use Rattle.stream_laws.specs.Entries.{Takes, AreInRange}
 use Rattle.stream_laws.specs.Exact.{exact_by, exact_single, exact_in, exact_over, exact_lists, exact_lines}
@@ -129,7 +129,7 @@ place_of n (x ∷ xs) ys (suc k) lt distinct =
 -- no input stands twice on a line
 pub place_of_input : (job : Job) (t k : ℕ) → IsGraph job.graph → t < length job.graph.tasks
     → k < length (task_at job.graph t).inputs
-    → place_in (task_at job.graph t).inputs (get_or (task_at job.graph t).inputs k 0) ≡ Some k
+    → index_in (task_at job.graph t).inputs (get_or (task_at job.graph t).inputs k 0) ≡ Some k
 place_of_input job t k is there lt =
     let line : IsTaskLine job.graph t (task_at job.graph t) = is.tasks t there in
     let same : 0 + k ≡ k = omega arith in
@@ -186,7 +186,7 @@ takes_same job t k is there live lt same =
 
 -- and so is what it puts on phaser p, where that is so of the phasers above p
 puts_same : (job : Job) (p t j : ℕ) → IsGraph job.graph → t < length job.graph.tasks
-    → (span_in job t).live ≡ true → place_in (signalled_by (task_at job.graph t)) p ≡ Some j
+    → (span_in job t).live ≡ true → index_in (signalled_by (task_at job.graph t)) p ≡ Some j
     → ((q : ℕ) → q < p → SameWhereTaken job q)
     → output_on job (schedule_of job) (numbers_of job) t j
     ≡ output_on job (schedule_of job) (exact_lists job) t j
@@ -204,17 +204,17 @@ where_live true offset xs ys same = ap (λ (list : List ℤ). Some (offset, list
 
 members_same : (job : Job) (p : ℕ) → IsGraph job.graph
     → ((q : ℕ) → q < p → SameWhereTaken job q)
-    → members_of job (schedule_of job) (numbers_of job) p
-    ≡ members_of job (schedule_of job) (exact_lists job) p
+    → contributions_on job (schedule_of job) (numbers_of job) p
+    ≡ contributions_on job (schedule_of job) (exact_lists job) p
 members_same job p is above =
-    filter_map-same (member_at job (schedule_of job) (numbers_of job) p)
-    (member_at job (schedule_of job) (exact_lists job) p) 0 (length job.graph.tasks)
-    (λ t less. by t (omega arith) (place_in (signalled_by (task_at job.graph t)) p) refl)
+    filter_map-same (contribution_at job (schedule_of job) (numbers_of job) p)
+    (contribution_at job (schedule_of job) (exact_lists job) p) 0 (length job.graph.tasks)
+    (λ t less. by t (omega arith) (index_in (signalled_by (task_at job.graph t)) p) refl)
   where
     by : (t : ℕ) → t < length job.graph.tasks → (o : Option ℕ)
-        → place_in (signalled_by (task_at job.graph t)) p ≡ o
-        → member_by job (schedule_of job) (numbers_of job) t o
-        ≡ member_by job (schedule_of job) (exact_lists job) t o
+        → index_in (signalled_by (task_at job.graph t)) p ≡ o
+        → contribution_by job (schedule_of job) (numbers_of job) t o
+        ≡ contribution_by job (schedule_of job) (exact_lists job) t o
     by t there None at = refl
     by t there (Some j) at =
         where_live (span_in job t).live (span_in job t).offset
@@ -230,8 +230,8 @@ same_next job p is all below above n t takes lt =
     let op = (phaser_at job.graph p).op in
     let single = (phaser_at job.graph p).single in
     let count = get_or (lengths_of job) p 0 in
-    let members = members_of job (schedule_of job) (numbers_of job) p in
-    let exact = members_of job (schedule_of job) (exact_lists job) p in
+    let members = contributions_on job (schedule_of job) (numbers_of job) p in
+    let exact = contributions_on job (schedule_of job) (exact_lists job) p in
     let phase = phase_in (value_by op) job p members in
     let long : length (list_over job (schedule_of job) (numbers_of job) p) ≡ count =
     length-map-range_with_len _ 0 count in

@@ -13,9 +13,9 @@ use Rattle.graph_base.specs.TaskLines.{IsGraph, IsTaskLine, HasEnds}
 use Rattle.graph_base.specs.declared.line.Kind.{Kind}
 use Rattle.graph_base.specs.declared.line.Kind.TheVariants.{Source, Fir, Split, Join, Peer, Sink}
 use Rattle.graph_base.specs.declared.place.Place.TheVariants as place
-use Rattle.stream_lists.specs.Jobs.{Job, samples_at, place_in}
+use Rattle.stream_lists.specs.Jobs.{Job, samples_at, index_in}
 use Rattle.stream_lists.specs.Spans.{lengths_of, span_in, signalled_by, takes_from, schedule_of}
-use Rattle.stream_lists.specs.Lists.{members_of, sends_in, value_by, list_over, list_of_phaser, number, numbers_of, numbers_above, output_on}
+use Rattle.stream_lists.specs.Lists.{contributions_on, sends_in, value_by, list_over, list_of_phaser, number, numbers_of, numbers_above, output_on}
 use Rattle.stream_lists.specs.Ranges.{first_some, is_out_of_range, are_made, made_fault, output_fault, output_fault_of, output_faults, takes_phase, task_takes, is_taken, is_too_big, is_fault, first_fault, phase_fault_of, fault_on, Fits}
 use Rattle.stream_laws.specs.Entries.{output_values, sends_at, Takes, Makes, AreInRange}
 use Rattle.stream_lists.proofs.Growing.{AreSameBelow, grown-same}
@@ -137,14 +137,14 @@ above_same job p below =
     (length job.graph.phasers) (omega arith)
 
 members_same : (job : Job) (p : ℕ) → IsGraph job.graph → p < length job.graph.phasers
-    → members_of job (schedule_of job) (numbers_above job p) p
-    ≡ members_of job (schedule_of job) (numbers_of job) p
+    → contributions_on job (schedule_of job) (numbers_above job p) p
+    ≡ contributions_on job (schedule_of job) (numbers_of job) p
 members_same job p is below =
     same_members job (schedule_of job) p (numbers_above job p) (numbers_of job) is
     (above_same job p below)
 
 outputs_same : (job : Job) (p t j : ℕ) → IsGraph job.graph → p < length job.graph.phasers
-    → t < length job.graph.tasks → place_in (signalled_by (task_at job.graph t)) p ≡ Some j
+    → t < length job.graph.tasks → index_in (signalled_by (task_at job.graph t)) p ≡ Some j
     → output_on job (schedule_of job) (numbers_above job p) t j ≡ output_values job t j
 outputs_same job p t j is below there at =
     let task = task_at job.graph t in
@@ -157,9 +157,9 @@ outputs_same job p t j is below there at =
 
 pub takes_parts : (job : Job) (p n t : ℕ) → t < length job.graph.tasks
     → task_takes job (schedule_of job) p n t ≡ true → Takes job p n t
-takes_parts job p n t there e = by (place_in (task_at job.graph t).inputs p) refl e
+takes_parts job p n t there e = by (index_in (task_at job.graph t).inputs p) refl e
   where
-    by : (o : Option ℕ) → place_in (task_at job.graph t).inputs p ≡ o
+    by : (o : Option ℕ) → index_in (task_at job.graph t).inputs p ≡ o
         → takes_phase (task_at job.graph t) (span_in job t) n o ≡ true → Takes job p n t
     by None at f = absurd (cc)
     by (Some k) at f =
@@ -197,18 +197,18 @@ no_fault_on : (job : Job) (p : ℕ) → Fits job → p < length job.graph.phaser
 no_fault_on job p fits below =
     none-at (fault_on job) 0 (length job.graph.phasers) p fits (omega arith) (omega arith)
 
-first_place : (qs : List ℕ) → 0 < length qs → place_in qs (get_or qs 0 0) ≡ Some 0
+first_place : (qs : List ℕ) → 0 < length qs → index_in qs (get_or qs 0 0) ≡ Some 0
 first_place [] some = absurd (omega arith)
 first_place (q ∷ qs) some = rw (eq-eqb q q refl) refl
 
-second_place : (p q : ℕ) → p < q → place_in (p ∷ q ∷ []) q ≡ Some 1
+second_place : (p q : ℕ) → p < q → index_in (p ∷ q ∷ []) q ≡ Some 1
 second_place p q less =
     rw (ne_eqb p q (λ e. omega arith), eq-eqb q q refl) refl
 
 -- each output that a task makes stands on some phaser
 pub made_on : (job : Job) (t j : ℕ) → IsGraph job.graph → Makes job t j
     → (p : ℕ) × (p < length job.graph.phasers)
-    × (place_in (signalled_by (task_at job.graph t)) p ≡ Some j)
+    × (index_in (signalled_by (task_at job.graph t)) p ≡ Some j)
 made_on job t j is makes = by (task_at job.graph t).kind j refl refl
   where
     task : Task
@@ -223,7 +223,7 @@ made_on job t j is makes = by (task_at job.graph t).kind j refl refl
 
     by : (kind : Kind) (i : ℕ) → (task_at job.graph t).kind ≡ kind → j ≡ i
         → (p : ℕ) × (p < length job.graph.phasers)
-        × (place_in (signalled_by (task_at job.graph t)) p ≡ Some j)
+        × (index_in (signalled_by (task_at job.graph t)) p ≡ Some j)
     by Source i e at = absurd (never Source e refl)
     by Split i e at = absurd (never Split e refl)
     by Join i e at = absurd (never Join e refl)
@@ -238,7 +238,7 @@ made_on job t j is makes = by (task_at job.graph t).kind j refl refl
         let first : j ≡ 0 = omega arith in (
           get_or task.outputs 0 0,
           line.outputs 0 0 (omega arith),
-          ap (λ qs. place_in qs (get_or task.outputs 0 0)) same
+          ap (λ qs. index_in qs (get_or task.outputs 0 0)) same
               ∙ (first_place task.outputs (omega arith) ∙ ap (λ k. Some k) (sym first)),
         )
     by Peer i e at =
@@ -257,7 +257,7 @@ made_on job t j is makes = by (task_at job.graph t).kind j refl refl
         line.in_order 1 0 (omega arith) 0 0 (omega arith) in (
           get_or task.outputs 0 0,
           line.outputs 0 0 (omega arith),
-          ap (λ qs. place_in qs (get_or task.outputs 0 0)) same
+          ap (λ qs. index_in qs (get_or task.outputs 0 0)) same
               ∙ (second_place (get_or task.inputs 1 0) (get_or task.outputs 0 0) above
               ∙ ap (λ k. Some k) (sym second)),
         )
@@ -297,9 +297,9 @@ fits_phases job p n t is fits below lt takes e =
     (phase_fault_of job (schedule_of job) above p) (no_fault_on job p fits below) in
     let none = none-map (λ n. (place.Phaser p, n)) _ apart.1 in
     let passes = find_none (is_fault value job (schedule_of job)
-    (members_of job (schedule_of job) above p) p) 0 (get_or (lengths_of job) p 0) n none
+    (contributions_on job (schedule_of job) above p) p) 0 (get_or (lengths_of job) p 0) n none
     (omega arith) (omega arith) in
-    let big : is_too_big (value (sends_in (members_of job (schedule_of job) above p) n)) ≡ true =
+    let big : is_too_big (value (sends_in (contributions_on job (schedule_of job) above p) n)) ≡ true =
     ap (λ ms. is_too_big (value (sends_in ms n))) (members_same job p is below)
     ∙ ap is_too_big e in
     let taken : is_taken job (schedule_of job) p n ≡ true =
@@ -327,9 +327,9 @@ fits_from job is all =
         → output_fault_of job (schedule_of job) (numbers_above job p) p t ≡ None
     output p below t there =
         map-none (λ step. (place.Task t, step)) _
-        (by (place_in (signalled_by (task_at job.graph t)) p) refl)
+        (by (index_in (signalled_by (task_at job.graph t)) p) refl)
       where
-        by : (o : Option ℕ) → place_in (signalled_by (task_at job.graph t)) p ≡ o
+        by : (o : Option ℕ) → index_in (signalled_by (task_at job.graph t)) p ≡ o
             → output_fault job (schedule_of job) (numbers_above job p) t o ≡ None
         by None e = refl
         by (Some j) e = live_case (span_in job t).live refl
@@ -363,7 +363,7 @@ fits_from job is all =
         (ap (λ ms. first_fault (value_by (phaser_at job.graph p).op) job (schedule_of job) ms p
         (get_or (lengths_of job) p 0)) (members_same job p is below)
         ∙ find-none (is_fault (value_by (phaser_at job.graph p).op) job (schedule_of job)
-        (members_of job (schedule_of job) (numbers_of job) p) p) 0 (get_or (lengths_of job) p 0)
+        (contributions_on job (schedule_of job) (numbers_of job) p) p) 0 (get_or (lengths_of job) p 0)
         (λ n lt. (let long : length (list_of_phaser job p) ≡ get_or (lengths_of job) p 0 =
         length-list job p in
         and_none _ (is_taken job (schedule_of job) p n)

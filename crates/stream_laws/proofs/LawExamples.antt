@@ -4,11 +4,11 @@ use Rattle.phase_accum.specs.declared.outcome.Outcome.TheVariants.{Value, TooBig
 use Rattle.phase_base.specs.declared.operation.Op.TheVariants.{Sum}
 use Rattle.graph_base.specs.Graphs.{task_at}
 use Rattle.graph_base.specs.declared.line.Kind.TheVariants.{Peer}
-use Rattle.stream_lists.specs.Jobs.{Job, samples_at, place_in}
+use Rattle.stream_lists.specs.Jobs.{Job, samples_at, index_in}
 use Rattle.stream_laws.specs.Exact.{exact_lines, exact_lists}
 use Rattle.stream_lists.specs.Ranges.{answer_of}
 use Rattle.stream_lists.specs.Spans.{nowhere, signalled_by, LooksAt, puts_on, lengths_of, spans_of, span_at, span_in, span_of, schedule_of}
-use Rattle.stream_lists.specs.Lists.{list_of_phaser, list_over, members_of, numbers_of, numbers_above, output_list, output_on, ends_on}
+use Rattle.stream_lists.specs.Lists.{list_of_phaser, list_over, contributions_on, numbers_of, numbers_above, output_list, output_on, ends_on}
 use Rattle.stream_laws.proofs.Examples.{minus, plain, source, fir, sink, added_by, stops_at, job_of, these}
 use Rattle.stream_laws.proofs.Examples.{nothing, split_to_one_bus_7, any_hands_over_2, any_hands_over_3, any_hands_over_4, peers, peers_with_single, too_big_phase}
 
@@ -18,18 +18,18 @@ use Rattle.stream_laws.proofs.Examples.{nothing, split_to_one_bus_7, any_hands_o
 peers-inputs : (task_at peers.graph 2).inputs ≡ 0 ∷ 2 ∷ []
 peers-inputs = refl
 
-peers-e : place_in (signalled_by (task_at peers.graph 2)) 2 ≡ Some 0
+peers-e : index_in (signalled_by (task_at peers.graph 2)) 2 ≡ Some 0
 peers-e = refl
 
-peers-y : place_in (signalled_by (task_at peers.graph 2)) 3 ≡ Some 1
+peers-y : index_in (signalled_by (task_at peers.graph 2)) 3 ≡ Some 1
 peers-y = refl
 
 -- X is none of its outputs
-peers-x : place_in (signalled_by (task_at peers.graph 2)) 0 ≡ None
+peers-x : index_in (signalled_by (task_at peers.graph 2)) 0 ≡ None
 peers-x = refl
 
 -- a phaser that stood twice on a line would have its first place
-twice-place : place_in (4 ∷ 7 ∷ 4 ∷ []) 4 ≡ Some 0
+twice-place : index_in (4 ∷ 7 ∷ 4 ∷ []) 4 ≡ Some 0
 twice-place = refl
 
 -- E is looked at by Y and not by itself
@@ -130,20 +130,20 @@ output_above-all : list_over output_above (schedule_of output_above)
 output_above-all = refl
 
 -- who puts what on a peer's E, over the lists above it and over all
-peers-members : members_of peers (schedule_of peers) (numbers_above peers 2) 2
+peers-members : contributions_on peers (schedule_of peers) (numbers_above peers 2) 2
     ≡ (0, these (1 ∷ 2 ∷ [])) ∷ (0, these (10 ∷ 20 ∷ 30 ∷ [])) ∷ []
 peers-members = refl
 
-peers-all_members : members_of peers (schedule_of peers) (numbers_of peers) 2
+peers-all_members : contributions_on peers (schedule_of peers) (numbers_of peers) 2
     ≡ (0, these (1 ∷ 2 ∷ [])) ∷ (0, these (10 ∷ 20 ∷ 30 ∷ [])) ∷ []
 peers-all_members = refl
 
 -- where the filter's input stands below, over the lists above its output it puts nothing there
-output_above-members : members_of output_above (schedule_of output_above)
+output_above-members : contributions_on output_above (schedule_of output_above)
     (numbers_above output_above 0) 0 ≡ (0, these (10 ∷ [])) ∷ (0, []) ∷ []
 output_above-members = refl
 
-output_above-all_members : members_of output_above (schedule_of output_above)
+output_above-all_members : contributions_on output_above (schedule_of output_above)
     (numbers_of output_above) 0 ≡ (0, these (10 ∷ [])) ∷ (0, these (1 ∷ 2 ∷ 3 ∷ [])) ∷ []
 output_above-all_members = refl
 

@@ -6,7 +6,7 @@ use Rattle.graph_base.specs.Graphs.{Task, task_at}
 use Rattle.graph_base.specs.TaskLines.{IsGraph, IsTaskLine, IsParent, HasEnds}
 use Rattle.graph_base.specs.declared.line.Kind.{Kind}
 use Rattle.graph_base.specs.declared.line.Kind.TheVariants.{Source, Fir, Split, Join, Peer, Sink}
-use Rattle.stream_lists.specs.Jobs.{Job, samples_at, place_in}
+use Rattle.stream_lists.specs.Jobs.{Job, samples_at, index_in}
 use Rattle.stream_lists.specs.Spans.{nowhere, signalled_by, LooksAt, offset_of, cut_at, span_at, spans_over, spans_of, lengths_of, enough_for, values_from, greatest, length_on, end_on, end_of}
 use Rattle.stream_lists.specs.declared.span.Span.{Span}
 use Rattle.stream_lists.proofs.Growing.{AreSameBelow, grown-whole, map-same, map-each}
@@ -71,7 +71,7 @@ same_span task samples (Some offset) xs ys ends same =
 -- the span of a task that signals phaser p is the same over lengths that are the same below p
 same_spans : (job : Job) (p : ℕ) (xs ys : List ℕ) → IsGraph job.graph → AreSameBelow 0 p xs ys
     → (limit t j : ℕ) → t < limit → t < length job.graph.tasks
-    → place_in (signalled_by (task_at job.graph t)) p ≡ Some j
+    → index_in (signalled_by (task_at job.graph t)) p ≡ Some j
     → get_or (spans_over job xs) t nowhere ≡ get_or (spans_over job ys) t nowhere
 same_spans job p xs ys is same zero t j below there place = absurd (omega arith)
 same_spans job p xs ys is same (suc limit) t j below there place =
@@ -100,10 +100,10 @@ lengths_all job p is below =
     (map-same (end_of job.graph (spans_over job xs) p) (end_of job.graph (spans_over job ys) p)
     0 (length job.graph.tasks)
     (λ t less. (let there : t < length job.graph.tasks = omega arith in
-    by xs ys same t there (place_in (signalled_by (task_at job.graph t)) p) refl))))
+    by xs ys same t there (index_in (signalled_by (task_at job.graph t)) p) refl))))
   where
     by : (xs ys : List ℕ) → AreSameBelow 0 p xs ys → (t : ℕ) → t < length job.graph.tasks
-        → (place : Option ℕ) → place_in (signalled_by (task_at job.graph t)) p ≡ place
+        → (place : Option ℕ) → index_in (signalled_by (task_at job.graph t)) p ≡ place
         → end_on (task_at job.graph t) (get_or (spans_over job xs) t nowhere) place
         ≡ end_on (task_at job.graph t) (get_or (spans_over job ys) t nowhere) place
     by xs ys same t there None at = refl

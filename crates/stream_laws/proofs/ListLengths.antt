@@ -7,9 +7,9 @@ use Rattle.graph_base.specs.Graphs.{Task, task_at}
 use Rattle.graph_base.specs.TaskLines.{IsGraph, IsTaskLine, HasEnds}
 use Rattle.graph_base.specs.declared.line.Kind.{Kind}
 use Rattle.graph_base.specs.declared.line.Kind.TheVariants.{Source, Fir, Split, Join, Peer, Sink}
-use Rattle.stream_lists.specs.Jobs.{Job, samples_at, place_in}
+use Rattle.stream_lists.specs.Jobs.{Job, samples_at, index_in}
 use Rattle.stream_lists.specs.Spans.{signalled_by, LooksAt, puts_on, takes_from, turns_below, offset_of, cut_at, span_at, spans_of, lengths_of, span_in, enough_for, values_from, greatest, end_on, end_of, schedule_of}
-use Rattle.stream_lists.specs.Lists.{turn_at, mixed, mixed_at, taken_by, output_list, output_on, member_at, member_by, list_over, number, numbers_of, end_of_member, ends_on}
+use Rattle.stream_lists.specs.Lists.{turn_at, mixed, mixed_at, taken_by, output_list, output_on, contribution_at, contribution_by, list_over, number, numbers_of, end_of_contribution, ends_on}
 use Rattle.stream_lists.specs.declared.span.Span.{Span}
 use Rattle.stream_lists.proofs.Growing.{map-same}
 use Rattle.stream_laws.proofs.Ordered.{place-at}
@@ -201,7 +201,7 @@ outputs_long job t j is there lt =
 -- each task ends on a phaser where its values do
 same_end : (live : Bool) (offset n : ℕ) (list : List ℤ) → length list ≡ n
     → (if live then offset + n else 0)
-    ≡ end_of_member (if live then Some (offset, list) else None)
+    ≡ end_of_contribution (if live then Some (offset, list) else None)
 same_end true offset n list e = ap (λ n. offset + n) (sym e)
 same_end false offset n list e = refl
 
@@ -210,15 +210,15 @@ pub lengths_end : (job : Job) (p : ℕ) → IsGraph job.graph → p < length job
 lengths_end job p is below =
     lengths_all job p is below
     ∙ ap greatest (map-same (end_of job.graph (spans_of job) p)
-    (λ t. end_of_member (member_at job (schedule_of job) (numbers_of job) p t))
+    (λ t. end_of_contribution (contribution_at job (schedule_of job) (numbers_of job) p t))
     0 (length job.graph.tasks)
     (λ t less. (let there : t < length job.graph.tasks = omega arith in
-    by t there (place_in (signalled_by (task_at job.graph t)) p) refl)))
+    by t there (index_in (signalled_by (task_at job.graph t)) p) refl)))
   where
     by : (t : ℕ) → t < length job.graph.tasks → (place : Option ℕ)
-        → place_in (signalled_by (task_at job.graph t)) p ≡ place
+        → index_in (signalled_by (task_at job.graph t)) p ≡ place
         → end_on (task_at job.graph t) (span_in job t) place
-        ≡ end_of_member (member_by job (schedule_of job) (numbers_of job) t place)
+        ≡ end_of_contribution (contribution_by job (schedule_of job) (numbers_of job) t place)
     by t there None at = refl
     by t there (Some j) at =
         let span = span_in job t in

@@ -7,9 +7,9 @@ use Rattle.graph_base.specs.Graphs.{Task, task_at, phaser_at}
 use Rattle.graph_base.specs.TaskLines.{IsGraph, IsTaskLine, HasEnds}
 use Rattle.graph_base.specs.declared.line.Kind.{Kind}
 use Rattle.graph_base.specs.declared.line.Kind.TheVariants.{Source, Fir, Split, Join, Peer, Sink}
-use Rattle.stream_lists.specs.Jobs.{Job, samples_at, place_in}
+use Rattle.stream_lists.specs.Jobs.{Job, samples_at, index_in}
 use Rattle.stream_lists.specs.Spans.{nowhere, signalled_by, LooksAt, takes_from, spans_of, Schedule, schedule_of}
-use Rattle.stream_lists.specs.Lists.{member_at, member_by, members_of, output_list, output_on, taken_by, taken_from, phase_in, value_by, number, list_over, list_of_phaser, numbers_above, numbers_of}
+use Rattle.stream_lists.specs.Lists.{contribution_at, contribution_by, contributions_on, output_list, output_on, taken_by, taken_from, phase_in, value_by, number, list_over, list_of_phaser, numbers_above, numbers_of}
 use Rattle.stream_lists.specs.declared.span.Span.{Span}
 use Rattle.stream_lists.proofs.Growing.{AreSameBelow, grown-same, grown-whole, map-same, filter_map-same}
 use Rattle.stream_laws.proofs.Ordered.{AreSameAt, looked_above}
@@ -92,16 +92,16 @@ same_output samples task span xs ys j ends same =
 -- the members of phaser p are the same over lists that are the same below p
 pub same_members : (job : Job) (schedule : Schedule) (p : ℕ) (xs ys : List (List ℤ))
     → IsGraph job.graph → AreSameBelow [] p xs ys
-    → members_of job schedule xs p ≡ members_of job schedule ys p
+    → contributions_on job schedule xs p ≡ contributions_on job schedule ys p
 same_members job schedule p xs ys is same =
-    filter_map-same (member_at job schedule xs p) (member_at job schedule ys p) 0
+    filter_map-same (contribution_at job schedule xs p) (contribution_at job schedule ys p) 0
     (length job.graph.tasks)
     (λ t less. (let there : t < length job.graph.tasks = omega arith in
-    by t (is.tasks t there) (place_in (signalled_by (task_at job.graph t)) p) refl))
+    by t (is.tasks t there) (index_in (signalled_by (task_at job.graph t)) p) refl))
   where
     by : (t : ℕ) → IsTaskLine job.graph t (task_at job.graph t) → (place : Option ℕ)
-        → place_in (signalled_by (task_at job.graph t)) p ≡ place
-        → member_by job schedule xs t place ≡ member_by job schedule ys t place
+        → index_in (signalled_by (task_at job.graph t)) p ≡ place
+        → contribution_by job schedule xs t place ≡ contribution_by job schedule ys t place
     by t line None at = refl
     by t line (Some j) at =
         let task = task_at job.graph t in
@@ -140,14 +140,14 @@ numbers_all job p is below =
 
 -- who puts what on a phaser too
 pub members_above : (job : Job) (p : ℕ) → IsGraph job.graph → p < length job.graph.phasers
-    → members_of job (schedule_of job) (numbers_above job p) p
-    ≡ members_of job (schedule_of job) (numbers_of job) p
+    → contributions_on job (schedule_of job) (numbers_above job p) p
+    ≡ contributions_on job (schedule_of job) (numbers_of job) p
 members_above job p is below =
     same_members job (schedule_of job) p (numbers_above job p) (numbers_of job) is
     (grown-same (numbers_over job) [] p (length job.graph.phasers) (omega arith))
 
 pub outputs_above : (job : Job) (t j p : ℕ) → IsGraph job.graph → t < length job.graph.tasks
-    → p < length job.graph.phasers → place_in (signalled_by (task_at job.graph t)) p ≡ Some j
+    → p < length job.graph.phasers → index_in (signalled_by (task_at job.graph t)) p ≡ Some j
     → output_on job (schedule_of job) (numbers_above job p) t j
     ≡ output_on job (schedule_of job) (numbers_of job) t j
 outputs_above job t j p is there below place =

@@ -8,9 +8,9 @@ use Rattle.std.proofs.lemmas.Option.{slice_get-get_or}
 use Rattle.graph_base.specs.Graphs.{task_at, phaser_at}
 use Rattle.graph_base.specs.TaskLines.{IsGraph}
 use Rattle.phase_base.specs.declared.operation.Op.TheVariants.{Any}
-use Rattle.stream_lists.specs.Jobs.{Job, place_in}
+use Rattle.stream_lists.specs.Jobs.{Job, index_in}
 use Rattle.stream_lists.specs.Spans.{signalled_by, span_in, schedule_of}
-use Rattle.stream_lists.specs.Lists.{Member, entry, member_at, member_by, send_in, sends_in, numbers_of}
+use Rattle.stream_lists.specs.Lists.{Contribution, entry, contribution_at, contribution_by, send_in, sends_in, numbers_of}
 use Rattle.stream_lists.specs.Meetings.{meeting_line}
 use Rattle.stream_laws.specs.Entries.{output_values, sends_at, HasEntry}
 use Rattle.stream_laws.proofs.EachPhase.{member_where, entry_alone}
@@ -18,16 +18,16 @@ use Rattle.stream_laws.proofs.EachPhase.{member_where, entry_alone}
 -- ---- what a list of tasks sends
 
 -- what a member sends in phase n, where there is a member
-abbrev sent_by : ℕ → Option Member → Option ℤ
+abbrev sent_by : ℕ → Option Contribution → Option ℤ
 sent_by n None = None
 sent_by n (Some member) = send_in n member
 
-sends_each : (n : ℕ) (at : ℕ → Option Member) (ts : List ℕ)
+sends_each : (n : ℕ) (at : ℕ → Option Contribution) (ts : List ℕ)
     → sends_in (filter_map at ts) n ≡ filter_map (λ t. sent_by n (at t)) ts
 sends_each n at [] = refl
 sends_each n at (t ∷ ts) = by (at t) (sends_each n at ts)
   where
-    by : (o : Option Member) → sends_in (filter_map at ts) n ≡ filter_map (λ t. sent_by n (at t)) ts
+    by : (o : Option Contribution) → sends_in (filter_map at ts) n ≡ filter_map (λ t. sent_by n (at t)) ts
         → sends_in (cons_option o (filter_map at ts)) n
         ≡ cons_option (sent_by n o) (filter_map (λ t. sent_by n (at t)) ts)
     by None rest = rest
@@ -99,7 +99,7 @@ send_there n offset list low high =
 
 -- a task sends in phase n exactly where it has a value there
 abbrev sent_in : Job → ℕ → ℕ → ℕ → Option ℤ
-sent_in job p n t = sent_by n (member_at job (schedule_of job) (numbers_of job) p t)
+sent_in job p n t = sent_by n (contribution_at job (schedule_of job) (numbers_of job) p t)
 
 entry_sent : (job : Job) (p n t : ℕ) → (has : HasEntry job p n t)
     → sent_in job p n t
@@ -107,18 +107,18 @@ entry_sent : (job : Job) (p n t : ℕ) → (has : HasEntry job p n t)
 entry_sent job p n t has =
     let list = output_values job t has.output in
     let offset = (span_in job t).offset in
-    let member : member_at job (schedule_of job) (numbers_of job) p t ≡ Some (offset, list) =
-    ap (member_by job (schedule_of job) (numbers_of job) t) has.signals
+    let member : contribution_at job (schedule_of job) (numbers_of job) p t ≡ Some (offset, list) =
+    ap (contribution_by job (schedule_of job) (numbers_of job) t) has.signals
     ∙ ap (λ b. member_where b offset list) has.live in
     ap (sent_by n) member ∙ send_there n offset list has.begun has.reaches
 
 sent_entry : (job : Job) (p n t : ℕ) (v : ℤ) → t < length job.graph.tasks
     → sent_in job p n t ≡ Some v → HasEntry job p n t
 sent_entry job p n t v there e =
-    by (place_in (signalled_by (task_at job.graph t)) p) refl e
+    by (index_in (signalled_by (task_at job.graph t)) p) refl e
   where
-    by : (o : Option ℕ) → place_in (signalled_by (task_at job.graph t)) p ≡ o
-        → sent_by n (member_by job (schedule_of job) (numbers_of job) t o) ≡ Some v
+    by : (o : Option ℕ) → index_in (signalled_by (task_at job.graph t)) p ≡ o
+        → sent_by n (contribution_by job (schedule_of job) (numbers_of job) t o) ≡ Some v
         → HasEntry job p n t
     by None at f = absurd (cc)
     by (Some j) at f = live_case (span_in job t).live refl f
@@ -147,7 +147,7 @@ pub one_send : (job : Job) (p n t : ℕ) → IsGraph job.graph → meeting_line 
     → sends_at job p n
     ≡ entry (output_values job t has.output) (n - (span_in job t).offset) ∷ []
 one_send job p n t is apart below any has =
-    sends_each n (member_at job (schedule_of job) (numbers_of job) p)
+    sends_each n (contribution_at job (schedule_of job) (numbers_of job) p)
     (range_with_len 0 (length job.graph.tasks))
     ∙ one_alone (sent_in job p n) 0 (length job.graph.tasks) t _ (omega arith)
     (omega (arith, has.there)) (entry_sent job p n t has)

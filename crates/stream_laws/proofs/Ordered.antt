@@ -10,7 +10,7 @@ use Rattle.phase_base.specs.Lists.{is_distinct}
 use Rattle.graph_base.specs.declared.line.Kind.{Kind}
 use Rattle.graph_base.specs.declared.line.Kind.TheVariants.{Source, Fir, Split, Join, Peer, Sink}
 use Rattle.graph_base.specs.declared.line.Parent.{Parent}
-use Rattle.stream_lists.specs.Jobs.{place_in}
+use Rattle.stream_lists.specs.Jobs.{index_in}
 use Rattle.stream_lists.specs.Spans.{signalled_by, LooksAt}
 use Rattle.stream_lists.proofs.SpansAbove.{parent-is}
 
@@ -38,7 +38,7 @@ found-at n (q ∷ qs) p j e = by (eqb q p) refl e (found-at (n + 1) qs p j)
         let at : j ≡ n + 1 + f.0 = f.3 in
         (suc f.0, omega arith, f.2, omega arith)
 
-pub place-at : (qs : List ℕ) (p j : ℕ) → place_in qs p ≡ Some j
+pub place-at : (qs : List ℕ) (p j : ℕ) → index_in qs p ≡ Some j
     → (j < length qs) × (get_or qs j 0 ≡ p)
 place-at qs p j e =
     let f = found-at 0 qs p j e in
@@ -103,7 +103,7 @@ place-distinct n (x ∷ xs) ys (suc k) lt d =
 -- each input of a task stands at its own place
 pub place_of_input : (graph : Graph) (t k : ℕ) → IsGraph graph → t < length graph.tasks
     → k < length (task_at graph t).inputs
-    → place_in (task_at graph t).inputs (get_or (task_at graph t).inputs k 0) ≡ Some k
+    → index_in (task_at graph t).inputs (get_or (task_at graph t).inputs k 0) ≡ Some k
 place_of_input graph t k is there lt =
     let task = task_at graph t in
     let same : 0 + k ≡ k = omega arith in
@@ -128,7 +128,7 @@ looks-first Peer (suc j) k e = tt
 looks-first Sink j k e = tt
 
 input_above : (graph : Graph) (t : ℕ) (task : Task) (j k p : ℕ) → IsTaskLine graph t task
-    → place_in task.outputs p ≡ Some j → k < length task.inputs → get_or task.inputs k 0 < p
+    → index_in task.outputs p ≡ Some j → k < length task.inputs → get_or task.inputs k 0 < p
 input_above graph t task j k p line place lt =
     let at = place-at task.outputs p j place in
     let Above : ℕ → Type 0 = λ y. get_or task.inputs k 0 < y in
@@ -140,13 +140,13 @@ of_peer task = get_or task.inputs 1 0 ∷ get_or task.outputs 0 0 ∷ []
 
 -- an input that an output looks at stands above it
 pub looked_above : (graph : Graph) (t : ℕ) (task : Task) (j k p : ℕ) → IsTaskLine graph t task
-    → place_in (signalled_by task) p ≡ Some j → k < length task.inputs → LooksAt task.kind j k
+    → index_in (signalled_by task) p ≡ Some j → k < length task.inputs → LooksAt task.kind j k
     → get_or task.inputs k 0 < p
 looked_above graph t task j k p line place lt looks = by task.kind refl
   where
     plain : signalled_by task ≡ task.outputs → get_or task.inputs k 0 < p
     plain same =
-        input_above graph t task j k p line (ap (λ qs. place_in qs p) (sym same) ∙ place) lt
+        input_above graph t task j k p line (ap (λ qs. index_in qs p) (sym same) ∙ place) lt
 
     -- X stands above E and above Y, and E above Y
     peer : (j : ℕ) → j < 2 → get_or (of_peer task) j 0 ≡ p → LooksAt Peer j k
@@ -176,11 +176,11 @@ looked_above graph t task j k p line place lt looks = by task.kind refl
         let ends : (length task.inputs ≡ 2) × (length task.outputs ≡ 1) =
         subst Ends e line.ends in
         let signals : signalled_by task ≡ of_peer task = rw e refl in
-        let at = place-at (of_peer task) p j (ap (λ qs. place_in qs p) (sym signals) ∙ place) in
+        let at = place-at (of_peer task) p j (ap (λ qs. index_in qs p) (sym signals) ∙ place) in
         peer j at.0 at.1 (subst Looks e looks) (subst Below e line.exchange) ends.1
 
 pub outputs_look_above : (graph : Graph) (t j k p : ℕ) → IsGraph graph → t < length graph.tasks
-    → place_in (signalled_by (task_at graph t)) p ≡ Some j → k < length (task_at graph t).inputs
+    → index_in (signalled_by (task_at graph t)) p ≡ Some j → k < length (task_at graph t).inputs
     → LooksAt (task_at graph t).kind j k → get_or (task_at graph t).inputs k 0 < p
 outputs_look_above graph t j k p is there place lt looks =
     looked_above graph t (task_at graph t) j k p (is.tasks t there) place lt looks
@@ -205,20 +205,20 @@ within zero (q ∷ qs) p lt e = e
 within (suc k) (q ∷ qs) p lt e = within k qs p (omega arith) e
 
 -- what is among these phasers has a place there
-among_place : (qs : List ℕ) (p : ℕ) → Contains qs p → (i : ℕ) × (place_in qs p ≡ Some i)
+among_place : (qs : List ℕ) (p : ℕ) → Contains qs p → (i : ℕ) × (index_in qs p ≡ Some i)
 among_place qs p among =
-    let Place : ℕ → Type 0 = λ y. (i : ℕ) × (place_in qs y ≡ Some i) in
+    let Place : ℕ → Type 0 = λ y. (i : ℕ) × (index_in qs y ≡ Some i) in
     subst Place (within among.0 qs p among.1 among.2) (has-place 0 qs among.0 among.1)
 
 -- a parent signals what its child signals
 pub parent_signals : (graph : Graph) (t : ℕ) (task : Task) (u : Parent) (p j : ℕ)
-    → IsParent graph t task u → place_in (signalled_by task) p ≡ Some j
-    → (i : ℕ) × (place_in (signalled_by (task_at graph u.task)) p ≡ Some i)
+    → IsParent graph t task u → index_in (signalled_by task) p ≡ Some j
+    → (i : ℕ) × (index_in (signalled_by (task_at graph u.task)) p ≡ Some i)
 parent_signals graph t task u p j is place =
     let above = task_at graph u.task in
-    let Here : List ℕ → Type 0 = λ qs. place_in qs p ≡ Some j in
-    let There : List ℕ → Type 0 = λ qs. (i : ℕ) × (place_in qs p ≡ Some i) in
-    let here : place_in task.outputs p ≡ Some j =
+    let Here : List ℕ → Type 0 = λ qs. index_in qs p ≡ Some j in
+    let There : List ℕ → Type 0 = λ qs. (i : ℕ) × (index_in qs p ≡ Some i) in
+    let here : index_in task.outputs p ≡ Some j =
     subst Here (plain_ends task is.child_kind) place in
     let at = place-at task.outputs p j here in
     let In : ℕ → Type 0 = λ y. Contains above.outputs y in
@@ -227,8 +227,8 @@ parent_signals graph t task u p j is place =
 
 pub parents_signal : (graph : Graph) (t p j : ℕ) (u : Parent) → IsGraph graph
     → t < length graph.tasks → (task_at graph t).parent ≡ Some u
-    → place_in (signalled_by (task_at graph t)) p ≡ Some j
-    → (i : ℕ) × (place_in (signalled_by (task_at graph u.task)) p ≡ Some i)
+    → index_in (signalled_by (task_at graph t)) p ≡ Some j
+    → (i : ℕ) × (index_in (signalled_by (task_at graph u.task)) p ≡ Some i)
 parents_signal graph t p j u is there e place =
     parent_signals graph t (task_at graph t) u p j
     (parent-is graph t (task_at graph t) u (is.tasks t there) e) place

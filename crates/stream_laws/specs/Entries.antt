@@ -4,9 +4,9 @@ use Rattle.std.specs.Prelude.{◌≡◌, ◌≢◌, ℕ, ℤ, ◌+◌, ◌<◌, 
 use Rattle.phase_accum.specs.Sends.{AreSends}
 use Rattle.phase_accum.specs.declared.outcome.Outcome.TheVariants.{TooBig}
 use Rattle.graph_base.specs.Graphs.{task_at, phaser_at}
-use Rattle.stream_lists.specs.Jobs.{Job, place_in}
+use Rattle.stream_lists.specs.Jobs.{Job, index_in}
 use Rattle.stream_lists.specs.Spans.{signalled_by, takes_from, span_in, schedule_of}
-use Rattle.stream_lists.specs.Lists.{members_of, output_on, sends_in, value_by, numbers_of, list_of_phaser}
+use Rattle.stream_lists.specs.Lists.{contributions_on, output_on, sends_in, value_by, numbers_of, list_of_phaser}
 use Rattle.stream_lists.specs.Ranges.{are_made}
 
 -- what task number t puts on its output number j
@@ -15,7 +15,7 @@ output_values job t j = output_on job (schedule_of job) (numbers_of job) t j
 
 -- what is sent in phase n of phaser p, in the order of the lines
 abbrev pub sends_at : Job → ℕ → ℕ → List ℤ
-sends_at job p n = sends_in (members_of job (schedule_of job) (numbers_of job) p) n
+sends_at job p n = sends_in (contributions_on job (schedule_of job) (numbers_of job) p) n
 
 -- task number t has a value in phase n of phaser p: it is live and signals p, begins in phase n or
 -- before, and its values on p reach past n
@@ -24,7 +24,7 @@ pub record HasEntry (job : Job) (p n t : ℕ) : Type 0 where
   pub live : (span_in job t).live ≡ true
   -- which of its outputs p is
   pub output : ℕ
-  pub signals : place_in (signalled_by (task_at job.graph t)) p ≡ Some output
+  pub signals : index_in (signalled_by (task_at job.graph t)) p ≡ Some output
   pub begun : (span_in job t).offset ≤ n
   pub reaches : n < (span_in job t).offset + length (output_values job t output)
 
@@ -35,7 +35,7 @@ pub record Takes (job : Job) (p n t : ℕ) : Type 0 where
   pub live : (span_in job t).live ≡ true
   -- which of its inputs p is
   pub input : ℕ
-  pub waits : place_in (task_at job.graph t).inputs p ≡ Some input
+  pub waits : index_in (task_at job.graph t).inputs p ≡ Some input
   pub begun : (span_in job t).offset ≤ n
   pub within : n
       < (span_in job t).offset + takes_from (task_at job.graph t) (span_in job t).steps input

@@ -7,7 +7,7 @@ use Rattle.graph_base.specs.Graphs.{phaser_at}
 use Rattle.phase_base.specs.declared.operation.Op.{Op}
 use Rattle.phase_base.specs.declared.operation.Op.TheVariants.{Sum, Product, Least, Greatest, Any}
 use Rattle.stream_lists.specs.Jobs.{Job}
-use Rattle.stream_lists.specs.Lists.{Member, members_of, sends_in, sink_over, sinks_of}
+use Rattle.stream_lists.specs.Lists.{Contribution, contributions_on, sends_in, sink_over, sinks_of}
 use Rattle.stream_lists.specs.Spans.{Schedule, schedule_of}
 
 -- numbers reduced by an operation. Of no numbers the least, the greatest and the first are none
@@ -28,7 +28,7 @@ exact_single None (Some v) = v
 exact_single (Some single) (Some v) = single_of single v
 
 -- phase n of phaser p with these members
-abbrev pub exact_in : Job → ℕ → List Member → ℕ → ℤ
+abbrev pub exact_in : Job → ℕ → List Contribution → ℕ → ℤ
 exact_in job p members n =
     exact_single (phaser_at job.graph p).single
     (exact_by (phaser_at job.graph p).op (sends_in members n))
@@ -36,7 +36,7 @@ exact_in job p members n =
 -- the list of phaser p, over those of the phasers above it
 abbrev pub exact_over : Job → Schedule → List (List ℤ) → ℕ → List ℤ
 exact_over job schedule above p =
-    map (exact_in job p (members_of job schedule above p))
+    map (exact_in job p (contributions_on job schedule above p))
     (range_with_len 0 (get_or schedule.lengths p 0))
 
 -- the lists of the first n phasers

@@ -8,8 +8,8 @@ ghost use Rattle.phase_base.specs.declared.operation.Op.TheVariants.{Any};
 ghost use Rattle.graph_base.specs.TaskLines.{HasEnds, IsGraph};
 ghost use Rattle.stream_laws.specs.Entries.{AreInRange, HasEntry, output_values, sends_at, Takes};
 ghost use Rattle.stream_laws.specs.Exact.{exact_lines, exact_lists};
-ghost use Rattle.stream_lists.specs.Jobs.{Job, place_in};
-ghost use Rattle.stream_lists.specs.Lists.{ends_on, entry, lines_of, list_of_phaser, list_over, members_of, number};
+ghost use Rattle.stream_lists.specs.Jobs.{Job, index_in};
+ghost use Rattle.stream_lists.specs.Lists.{ends_on, entry, lines_of, list_of_phaser, list_over, contributions_on, number};
 ghost use Rattle.stream_lists.specs.Lists.{numbers_above, numbers_of, output_list, output_on};
 ghost use Rattle.stream_lists.specs.Meetings.{meet_on, meeting_line};
 ghost use Rattle.stream_lists.specs.Ranges.{Fits};
@@ -19,15 +19,15 @@ ghost use Rattle.stream_lists.specs.Spans.{span_in, span_of, spans_of, spans_up_
 /// A phaser has a place among those of a line where it stands there, and each input of a task stands
 /// at its own. A parent signals what its child signals, and waits for what its child waits for.
 pub fn places()
-    ensures found { (qs : List ℕ) (p j : ℕ) → place_in qs p ≡ Some j
+    ensures found { (qs : List ℕ) (p j : ℕ) → index_in qs p ≡ Some j
         → (j < length qs) × (get_or qs j 0 ≡ p) }
     ensures input { (graph : Graph) (t k : ℕ) → IsGraph graph → t < length graph.tasks
         → k < length (task_at graph t).inputs
-        → place_in (task_at graph t).inputs (get_or (task_at graph t).inputs k 0) ≡ Some k }
+        → index_in (task_at graph t).inputs (get_or (task_at graph t).inputs k 0) ≡ Some k }
     ensures signals { (graph : Graph) (t p j : ℕ) (u : Parent) → IsGraph graph
         → t < length graph.tasks → (task_at graph t).parent ≡ Some u
-        → place_in (signalled_by (task_at graph t)) p ≡ Some j
-        → (i : ℕ) × (place_in (signalled_by (task_at graph u.task)) p ≡ Some i) }
+        → index_in (signalled_by (task_at graph t)) p ≡ Some j
+        → (i : ℕ) × (index_in (signalled_by (task_at graph u.task)) p ≡ Some i) }
     ensures waits { (graph : Graph) (t k : ℕ) (u : Parent) → IsGraph graph
         → t < length graph.tasks → (task_at graph t).parent ≡ Some u
         → k < length (task_at graph t).inputs
@@ -39,7 +39,7 @@ pub fn places()
 /// and X and E above its Y.
 pub fn outputs_look_above()
     ensures { (graph : Graph) (t j k p : ℕ) → IsGraph graph → t < length graph.tasks
-        → place_in (signalled_by (task_at graph t)) p ≡ Some j
+        → index_in (signalled_by (task_at graph t)) p ≡ Some j
         → k < length (task_at graph t).inputs → LooksAt (task_at graph t).kind j k
         → get_or (task_at graph t).inputs k 0 < p }
 {}
@@ -66,10 +66,10 @@ pub fn lists_above_decide()
 /// The lists of the phasers above a phaser decide what each task puts on it, and so its members.
 pub fn members_above_decide()
     ensures members { (job : Job) (p : ℕ) → IsGraph job.graph → p < length job.graph.phasers
-        → members_of job (schedule_of job) (numbers_above job p) p
-        ≡ members_of job (schedule_of job) (numbers_of job) p }
+        → contributions_on job (schedule_of job) (numbers_above job p) p
+        ≡ contributions_on job (schedule_of job) (numbers_of job) p }
     ensures output { (job : Job) (t j p : ℕ) → IsGraph job.graph → t < length job.graph.tasks
-        → p < length job.graph.phasers → place_in (signalled_by (task_at job.graph t)) p ≡ Some j
+        → p < length job.graph.phasers → index_in (signalled_by (task_at job.graph t)) p ≡ Some j
         → output_on job (schedule_of job) (numbers_above job p) t j
         ≡ output_on job (schedule_of job) (numbers_of job) t j }
 {}

@@ -14,5 +14,5 @@ abbrev pub samples_at : Job → ℕ → List ℤ
 samples_at job t = get_or job.samples (source_number job.graph.tasks t) []
 
 -- the place of a phaser among those of a line
-abbrev pub place_in : List ℕ → ℕ → Option ℕ
-place_in phasers p = position_from (λ q. q == p) 0 phasers
+abbrev pub index_in : List ℕ → ℕ → Option ℕ
+index_in phasers p = position_from (λ q. q == p) 0 phasers

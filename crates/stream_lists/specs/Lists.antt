@@ -8,7 +8,7 @@ use Rattle.phase_accum.specs.Values.{applied}
 pub use Rattle.phase_accum.specs.Values.{value_by}
 use Rattle.stream_filters.specs.Filter.{outputs}
 use Rattle.graph_base.specs.Graphs.{Task, task_at, phaser_at, is_sink}
-use Rattle.stream_lists.specs.Jobs.{Job, samples_at, place_in}
+use Rattle.stream_lists.specs.Jobs.{Job, samples_at, index_in}
 use Rattle.stream_lists.specs.Spans.{nowhere, turns_below, signalled_by, takes_from, Schedule, schedule_of}
 use Rattle.stream_lists.specs.declared.span.Span.{Span}
 use Rattle.graph_base.specs.declared.line.Kind.{Kind}
@@ -69,8 +69,8 @@ output_list samples taken task steps j = of task.kind
 -- ---- one phaser
 
 -- what a task puts on a phaser: the phase of its first value, and its values
-abbrev pub Member : Type 0
-Member = ℕ × List ℤ
+abbrev pub Contribution : Type 0
+Contribution = ℕ × List ℤ
 
 -- what task number t puts on its output number j
 abbrev pub output_on : Job → Schedule → List (List ℤ) → ℕ → ℕ → List ℤ
@@ -80,28 +80,28 @@ output_on job schedule lists t j =
     output_list (samples_at job t) (taken_by lists task span) task span.steps j
 
 -- a live task is a member of the phaser that is its output number j
-abbrev pub member_by : Job → Schedule → List (List ℤ) → ℕ → Option ℕ → Option Member
-member_by job schedule lists t None = None
-member_by job schedule lists t (Some j) =
+abbrev pub contribution_by : Job → Schedule → List (List ℤ) → ℕ → Option ℕ → Option Contribution
+contribution_by job schedule lists t None = None
+contribution_by job schedule lists t (Some j) =
     let span = get_or schedule.spans t nowhere in
     if span.live then Some (span.offset, output_on job schedule lists t j) else None
 
 -- task number t as a member of phaser p
-abbrev pub member_at : Job → Schedule → List (List ℤ) → ℕ → ℕ → Option Member
-member_at job schedule lists p t =
-    member_by job schedule lists t (place_in (signalled_by (task_at job.graph t)) p)
+abbrev pub contribution_at : Job → Schedule → List (List ℤ) → ℕ → ℕ → Option Contribution
+contribution_at job schedule lists p t =
+    contribution_by job schedule lists t (index_in (signalled_by (task_at job.graph t)) p)
 
 -- the members of phaser p, in the order of the lines
-abbrev pub members_of : Job → Schedule → List (List ℤ) → ℕ → List Member
-members_of job schedule lists p =
-    filter_map (member_at job schedule lists p) (range_with_len 0 (length job.graph.tasks))
+abbrev pub contributions_on : Job → Schedule → List (List ℤ) → ℕ → List Contribution
+contributions_on job schedule lists p =
+    filter_map (contribution_at job schedule lists p) (range_with_len 0 (length job.graph.tasks))
 
 -- what a member sends in phase n
-abbrev pub send_in : ℕ → Member → Option ℤ
+abbrev pub send_in : ℕ → Contribution → Option ℤ
 send_in n member = if nat_lt n member.0 then None else slice_get member.1 (n - member.0)
 
 -- what the members send in phase n
-abbrev pub sends_in : List Member → ℕ → List ℤ
+abbrev pub sends_in : List Contribution → ℕ → List ℤ
 sends_in members n = filter_map (send_in n) members
 
 -- ---- all phasers
@@ -114,18 +114,18 @@ number Empty = pos 0
 number TooBig = pos 0
 
 -- phase n of phaser p with these members, by this value of lists of sends, with the phaser's single
-abbrev pub phase_in : (List ℤ → Outcome) → Job → ℕ → List Member → ℕ → Outcome
+abbrev pub phase_in : (List ℤ → Outcome) → Job → ℕ → List Contribution → ℕ → Outcome
 phase_in value job p members n =
     applied (phaser_at job.graph p).single (value (sends_in members n))
 
 -- its number
-abbrev pub number_in : (List ℤ → Outcome) → Job → ℕ → List Member → ℕ → ℤ
+abbrev pub number_in : (List ℤ → Outcome) → Job → ℕ → List Contribution → ℕ → ℤ
 number_in value job p members n = number (phase_in value job p members n)
 
 -- the phases of a phaser, over the numbers of the lists of the phasers above
 abbrev pub list_over : Job → Schedule → List (List ℤ) → ℕ → List Outcome
 list_over job schedule above p =
-    map (phase_in (value_by (phaser_at job.graph p).op) job p (members_of job schedule above p))
+    map (phase_in (value_by (phaser_at job.graph p).op) job p (contributions_on job schedule above p))
     (range_with_len 0 (get_or schedule.lengths p 0))
 
 -- the numbers of the lists of the first n phasers
@@ -168,12 +168,12 @@ lines_of job = map (sink_over job (schedule_of job) (numbers_of job)) (sinks_of 
 -- ---- where the lists end
 
 -- where a member ends: one past the phase of its last value, or 0 where there is no member
-abbrev pub end_of_member : Option Member → ℕ
-end_of_member None = 0
-end_of_member (Some member) = member.0 + length member.1
+abbrev pub end_of_contribution : Option Contribution → ℕ
+end_of_contribution None = 0
+end_of_contribution (Some member) = member.0 + length member.1
 
 -- where each task ends on phaser p, by its values
 abbrev pub ends_on : Job → ℕ → List ℕ
 ends_on job p =
-    map (λ t. end_of_member (member_at job (schedule_of job) (numbers_of job) p t))
+    map (λ t. end_of_contribution (contribution_at job (schedule_of job) (numbers_of job) p t))
     (range_with_len 0 (length job.graph.tasks))

@@ -6,9 +6,9 @@ use Rattle.phase_accum.specs.declared.outcome.Outcome.{Outcome}
 use Rattle.phase_accum.specs.declared.outcome.Outcome.TheVariants.{Value, Empty, TooBig}
 use Rattle.phase_accum.specs.Sends.{value_max}
 use Rattle.graph_base.specs.Graphs.{Task, task_at, phaser_at}
-use Rattle.stream_lists.specs.Jobs.{Job, place_in}
+use Rattle.stream_lists.specs.Jobs.{Job, index_in}
 use Rattle.stream_lists.specs.Spans.{nowhere, signalled_by, takes_from, Schedule, schedule_of}
-use Rattle.stream_lists.specs.Lists.{Member, members_of, output_on, sends_in, value_by, numbers_above, lines_of}
+use Rattle.stream_lists.specs.Lists.{Contribution, contributions_on, output_on, sends_in, value_by, numbers_above, lines_of}
 use Rattle.stream_lists.specs.declared.span.Span.{Span}
 use Rattle.graph_base.specs.declared.line.Kind.{Kind}
 use Rattle.graph_base.specs.declared.line.Kind.TheVariants.{Source, Fir, Split, Join, Peer, Sink}
@@ -61,7 +61,7 @@ output_fault job schedule lists t (Some j) =
 abbrev pub output_fault_of : Job → Schedule → List (List ℤ) → ℕ → ℕ → Option Where
 output_fault_of job schedule lists p t =
     option_map (λ step. (place.Task t, step))
-    (output_fault job schedule lists t (place_in (signalled_by (task_at job.graph t)) p))
+    (output_fault job schedule lists t (index_in (signalled_by (task_at job.graph t)) p))
 
 -- ---- the phases that some task takes
 
@@ -75,7 +75,7 @@ takes_phase task span n (Some k) =
 abbrev pub task_takes : Job → Schedule → ℕ → ℕ → ℕ → Bool
 task_takes job schedule p n t =
     let task = task_at job.graph t in
-    takes_phase task (get_or schedule.spans t nowhere) n (place_in task.inputs p)
+    takes_phase task (get_or schedule.spans t nowhere) n (index_in task.inputs p)
 
 -- whether some task takes phase n of phaser p
 abbrev pub is_taken : Job → Schedule → ℕ → ℕ → Bool
@@ -89,12 +89,12 @@ is_too_big (Value v) = false
 is_too_big Empty = false
 
 -- whether the value of phase n of phaser p, with these members, is too big and some task takes it
-abbrev pub is_fault : (List ℤ → Outcome) → Job → Schedule → List Member → ℕ → ℕ → Bool
+abbrev pub is_fault : (List ℤ → Outcome) → Job → Schedule → List Contribution → ℕ → ℕ → Bool
 is_fault value job schedule members p n =
     is_too_big (value (sends_in members n)) && is_taken job schedule p n
 
 -- the first of so many phases of phaser p whose value is too big and that some task takes
-abbrev pub first_fault : (List ℤ → Outcome) → Job → Schedule → List Member → ℕ → ℕ → Option ℕ
+abbrev pub first_fault : (List ℤ → Outcome) → Job → Schedule → List Contribution → ℕ → ℕ → Option ℕ
 first_fault value job schedule members p count =
     find (is_fault value job schedule members p) (range_with_len 0 count)
 
@@ -103,7 +103,7 @@ abbrev pub phase_fault_of : Job → Schedule → List (List ℤ) → ℕ → Opt
 phase_fault_of job schedule above p =
     let value = value_by (phaser_at job.graph p).op in
     option_map (λ n. (place.Phaser p, n))
-    (first_fault value job schedule (members_of job schedule above p) p
+    (first_fault value job schedule (contributions_on job schedule above p) p
     (get_or schedule.lengths p 0))
 
 -- ---- the order

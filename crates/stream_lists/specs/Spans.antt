@@ -4,7 +4,7 @@ use Rattle.std.specs.Prelude.{◌≡◌, ℕ, zero, suc, ◌+◌, ◌-◌, ◌*�
 use Rattle.std.specs.List.{range_with_len, fold}
 use Rattle.graph_base.specs.Graphs.{Graph, Task, task_at}
 pub use Rattle.graph_base.specs.Registrations.{signalled_by}
-use Rattle.stream_lists.specs.Jobs.{Job, samples_at, place_in}
+use Rattle.stream_lists.specs.Jobs.{Job, samples_at, index_in}
 use Rattle.stream_lists.specs.declared.span.Span.{Span}
 use Rattle.graph_base.specs.declared.line.Parent.{Parent}
 use Rattle.graph_base.specs.declared.line.Kind.{Kind}
@@ -116,7 +116,7 @@ end_on task span (Some j) = if span.live then span.offset + puts_on task span.st
 abbrev pub end_of : Graph → List Span → ℕ → ℕ → ℕ
 end_of graph spans p t =
     let task = task_at graph t in
-    end_on task (get_or spans t nowhere) (place_in (signalled_by task) p)
+    end_on task (get_or spans t nowhere) (index_in (signalled_by task) p)
 
 -- the greatest number of a list, or 0
 abbrev pub greatest : List ℕ → ℕ

@@ -3,7 +3,7 @@ ghost use Rattle.std.specs.Prelude.{◌≡◌, ◌<◌, ◌≤◌, ℕ, [], leng
 ghost use Rattle.std.specs.List.{All};
 ghost use Rattle.phase_accum.specs.Sends.{AreSends};
 ghost use Rattle.graph_base.specs.Graphs.{is_source, phaser_at, task_at, source_number, sources_of};
-ghost use Rattle.graph_base.specs.Kept.{task_of};
+ghost use Rattle.graph_base.specs.Inside.{task_of};
 ghost use Rattle.graph_base.specs.TaskLines.{IsTaskLine};
 ghost use Rattle.stream_lists.specs.Jobs.{samples_at};
 ghost use Rattle.stream_lists.specs.Inside.{given, items_of, IsShort};

@@ -1,15 +1,15 @@
 //! Which input or output of a task a phaser is.
 ghost use Rattle.std.specs.Prelude.{◌≡◌, ◌<◌, ℕ, length, Some};
-ghost use Rattle.graph_base.specs.Kept.{task_of};
+ghost use Rattle.graph_base.specs.Inside.{task_of};
 ghost use Rattle.graph_base.specs.declared.line.Kind.TheVariants.{Split};
-ghost use Rattle.stream_lists.specs.Jobs.{place_in};
+ghost use Rattle.stream_lists.specs.Jobs.{index_in};
 ghost use Rattle.stream_lists.specs.Spans.{signalled_by};
 
 use graph_base::{Kind, TaskLine};
 
 /// The place of a phaser among those of a line.
 fn place_of(phasers: &[usize], p: usize) -> Option<usize>
-    ensures { result ≡ place_in phasers.now p }
+    ensures { result ≡ index_in phasers.now p }
 {
     phasers.iter().position(|q| *q == p)
 }
@@ -17,7 +17,7 @@ fn place_of(phasers: &[usize], p: usize) -> Option<usize>
 /// Tells which input of a task phaser number `p` is, the first being 0, or that it is none of them.
 /// It takes no memory.
 pub fn input_number(task: &TaskLine, p: usize) -> Option<usize>
-    ensures { result ≡ place_in (task_of task.now).inputs p }
+    ensures { result ≡ index_in (task_of task.now).inputs p }
 {
     place_of(&task.inputs, p)
 }
@@ -26,7 +26,7 @@ pub fn input_number(task: &TaskLine, p: usize) -> Option<usize>
 /// that it is none of them. A peer's output 0 is its second input, which it signals too. It takes
 /// no memory.
 pub fn output_number(task: &TaskLine, p: usize) -> Option<usize>
-    ensures number { result ≡ place_in (signalled_by (task_of task.now)) p }
+    ensures number { result ≡ index_in (signalled_by (task_of task.now)) p }
     ensures turn { (j : ℕ) → result ≡ Some j → task.now.kind ≡ Split
         → j < length task.now.outputs.items }
 {

@@ -1,7 +1,7 @@
 //! How far each task comes, over the lengths of the phasers' lists.
 ghost use Rattle.std.specs.Prelude.{◌≡◌, ◌≤◌, ◌<◌, ◌-◌, ◌+◌, ◌&&◌, if◌then◌else◌, nat_le, length, get_or, Some, None, IfOk, IfSome};
 ghost use Rattle.std.specs.List.{All};
-ghost use Rattle.graph_base.specs.Kept.{task_of};
+ghost use Rattle.graph_base.specs.Inside.{task_of};
 ghost use Rattle.graph_base.specs.TaskLines.{HasEnds};
 ghost use Rattle.stream_lists.specs.Jobs.{samples_at};
 ghost use Rattle.stream_lists.specs.Inside.{given, IsShort, IsStage};

@@ -3,7 +3,7 @@ use Rattle.std.proofs.lemmas.List.{map_push, length_push}
 use Rattle.std.proofs.lemmas.List.Elements.{All-push}
 use Rattle.phase_accum.specs.Sends.{AreSends}
 use Rattle.graph_base.specs.Graphs.{Graph}
-use Rattle.stream_lists.specs.Lists.{member_at}
+use Rattle.stream_lists.specs.Lists.{contribution_at}
 use Rattle.stream_lists.specs.Inside.{items_of}
 use Rattle.stream_eval.specs.Inside.{member_of, member_option}
 use Rattle.stream_lists.specs.Ranges.{output_fault_of}
@@ -43,7 +43,7 @@ loop-t-preserved c =
             map_push member_of c.loop-t.members.items w.in-Some.list
                 ∙ (ap (λ ms. ms ++ member_of w.in-Some.list ∷ []) c.loop-t.invariant.0
                 ∙ sym (filter_map-take
-                (member_at c.args.job.now (schedule_of c.args.job.now) (items_of c.args.above.now)
+                (contribution_at c.args.job.now (schedule_of c.args.job.now) (items_of c.args.above.now)
                 c.args.p) c.loop-t.t (member_of w.in-Some.list) at_t)),
             All-push (λ part. AreSends part.values.items) c.loop-t.members.items w.in-Some.list
                 c.loop-t.invariant.1 sends,
@@ -56,7 +56,7 @@ loop-t-preserved c =
           rw w.members-is (
             c.loop-t.invariant.0
                 ∙ sym (filter_map-skip
-                (member_at c.args.job.now (schedule_of c.args.job.now) (items_of c.args.above.now)
+                (contribution_at c.args.job.now (schedule_of c.args.job.now) (items_of c.args.above.now)
                 c.args.p) c.loop-t.t at_t),
             c.loop-t.invariant.1,
             omega (arith, c.loop-t.invariant.2),

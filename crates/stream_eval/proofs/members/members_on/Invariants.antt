@@ -1,7 +1,7 @@
 use Rattle.std.proofs.Common.{◌≡◌, ◌-◌, ◌≤◌, length, map}
 use Rattle.std.specs.List.{range_with_len, All, filter_map}
 use Rattle.phase_accum.specs.Sends.{AreSends}
-use Rattle.stream_lists.specs.Lists.{member_at}
+use Rattle.stream_lists.specs.Lists.{contribution_at}
 use Rattle.stream_lists.specs.Ranges.{first_some, output_fault_of}
 use Rattle.stream_lists.specs.Inside.{items_of}
 use Rattle.stream_lists.specs.Spans.{schedule_of}
@@ -12,7 +12,7 @@ use Rattle.stream_eval.proofs.members.members_on.Given as goal
 abbrev pub invariant-loop-t : goal.invariant-loop-t
 invariant-loop-t l =
     (map member_of l.members.items
-    ≡ filter_map (member_at l.job (schedule_of l.job) (items_of l.above) l.p)
+    ≡ filter_map (contribution_at l.job (schedule_of l.job) (items_of l.above) l.p)
     (range_with_len 0 l.t))
     × All (λ part. AreSends part.values.items) l.members.items
     × (length l.members.items ≤ l.t)

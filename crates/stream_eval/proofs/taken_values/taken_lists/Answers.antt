@@ -4,7 +4,7 @@ use Rattle.std.proofs.lemmas.List.{map_push, length_push}
 use Rattle.std.proofs.lemmas.List.Elements.{All-push}
 use Rattle.std.proofs.lemmas.List.FromFn.{map-range_with_len_more}
 use Rattle.phase_accum.specs.Sends.{AreSends}
-use Rattle.graph_base.specs.Kept.{task_of}
+use Rattle.graph_base.specs.Inside.{task_of}
 use Rattle.stream_lists.specs.Inside.{items_of}
 use Rattle.stream_lists.specs.Lists.{taken_from}
 use Rattle.stream_eval.proofs.taken_values.taken_lists.Goals as goal

@@ -4,7 +4,7 @@ use Rattle.std.proofs.lemmas.Option.{cond_some}
 use Rattle.graph_text.specs.Decls.{may_have_parent}
 use Rattle.graph_text.specs.Lines.{body_of, ends_of}
 use Rattle.graph_base.specs.Graphs.{Graph}
-use Rattle.graph_base.specs.Kept.{task_of}
+use Rattle.graph_base.specs.Inside.{task_of}
 use Rattle.graph_base.specs.declared.limits.TheConstants.{TASKS_MAX}
 use Rattle.graph_lang.specs.Faults.{is_body_within, are_ends_within}
 use Rattle.graph_lang.specs.Numbers.{steps_in}
