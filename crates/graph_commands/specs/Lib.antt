@@ -1,4 +1,5 @@
 pub mod Explained
+pub mod Faults
 pub mod FileJobs
 pub mod GraphDrawings
 pub mod GraphRuns

@@ -11,11 +11,11 @@ use crate::graph_faults::report_job_fault;
 use crate::job_file::job_of_graph;
 use crate::{GRAPH_MAX, JobFault, Refusal, Refuses};
 use graph_explain::explanation;
-use graph_lang::{GraphRefusal, read_graph};
+use graph_lang::read_graph;
 use std::alloc::{AllocError, Global};
 use std::io::Write;
 use stream_lists::Job;
-use watched_io::{FileFault, Files, Watched};
+use watched_io::{Files, Watched};
 
 /// Makes the job of a graph's file, as `read_job` does. Where there is none it tells why, and then
 /// explains it to a person, and answers the status: 1 where the graph or the samples are refused, and
@@ -41,12 +41,7 @@ pub fn read_job_or_explain<E: Write, F: Files + Refuses>(
             Ok(job) => Ok(job),
             Err(fault) => Err(report_explained(alloc, &text, &fault, files, faults)),
         },
-        Err(FileFault::ReadFault) => {
-            Err(report_explained(alloc, &[], &JobFault::ReadFault, files, faults))
-        }
-        Err(FileFault::OutOfMemory) => {
-            Err(report_explained(alloc, &[], &JobFault::OutOfMemory, files, faults))
-        }
+        Err(fault) => Err(report_explained(alloc, &[], &JobFault::from(fault), files, faults)),
     }
 }
 
@@ -57,11 +52,8 @@ fn job_of_text<F: Files>(alloc: Global, files: &mut F, text: &[u8]) -> Result<Jo
     ensures fault { IfErr result (λ fault. (name : List ℕ)
         → IsTextOf (F.file files.old) name text.now → Explains (F.file files.old) name fault) }
 {
-    match read_graph(alloc, text) {
-        Ok(graph) => job_of_graph(alloc, files, graph),
-        Err(GraphRefusal::Fault(fault)) => Err(JobFault::Graph(fault)),
-        Err(GraphRefusal::OutOfMemory) => Err(JobFault::OutOfMemory),
-    }
+    let graph = read_graph(alloc, text)?;
+    job_of_graph(alloc, files, graph)
 }
 
 /// Tells why there is no job, and explains it, by the graph's text where that was read; and answers the

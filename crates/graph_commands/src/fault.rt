@@ -1,6 +1,10 @@
 //! Why no job was made of a graph's file.
+ghost use Rattle.std.specs.Prelude.{◌≡◌};
+ghost use Rattle.graph_commands.specs.Faults.{of_file, of_graph, of_job};
 
-use graph_lang::GraphFault;
+use graph_lang::{FaultKind, GraphFault, GraphRefusal};
+use stream_lists::JobRefusal;
+use watched_io::FileFault;
 
 /// Why no job was made of a graph's file.
 #[derive(Debug, Drop)]
@@ -19,4 +23,40 @@ pub enum JobFault {
     ReadFault,
     /// Memory ran out.
     OutOfMemory,
+}
+
+impl From<FileFault> for JobFault {
+    ghost from_gives = { λ given fault. fault ≡ of_file given };
+
+    fn from(fault: FileFault) -> JobFault {
+        match fault {
+            FileFault::ReadFault => JobFault::ReadFault,
+            FileFault::OutOfMemory => JobFault::OutOfMemory,
+        }
+    }
+}
+
+impl From<GraphRefusal> for JobFault {
+    ghost from_gives = { λ given fault. fault ≡ of_graph given };
+
+    fn from(refusal: GraphRefusal) -> JobFault {
+        match refusal {
+            GraphRefusal::Fault(fault) => JobFault::Graph(fault),
+            GraphRefusal::OutOfMemory => JobFault::OutOfMemory,
+        }
+    }
+}
+
+impl From<JobRefusal> for JobFault {
+    ghost from_gives = { λ given fault. fault ≡ of_job given };
+
+    fn from(refusal: JobRefusal) -> JobFault {
+        match refusal {
+            JobRefusal::AnyMeets { line } => JobFault::Graph(GraphFault {
+                line,
+                kind: FaultKind::AnyMeets,
+            }),
+            JobRefusal::OutOfMemory => JobFault::OutOfMemory,
+        }
+    }
 }

@@ -4,9 +4,9 @@ ghost use Rattle.graph_commands.specs.FileJobs.{Explains, IsGraphOf};
 ghost use Rattle.graph_commands.specs.GraphDrawings.{ExplainsNoGraph};
 
 use crate::JobFault;
-use graph_lang::{Graph, GraphRefusal, read_graph};
+use graph_lang::{Graph, read_graph};
 use std::alloc::Global;
-use watched_io::{FileFault, Files};
+use watched_io::Files;
 
 /// The longest text of a graph that is read, in bytes.
 pub const GRAPH_MAX: usize = 1_048_576;
@@ -23,14 +23,6 @@ pub fn read_graph_file<F: Files>(
     ensures alone { IfErr result (λ fault. ExplainsNoGraph (F.file files.old) name.now fault) }
     ensures kept { (other : List ℕ) → F.file files.new other ≡ F.file files.old other }
 {
-    let text = match files.read(alloc, name, GRAPH_MAX) {
-        Ok(text) => text,
-        Err(FileFault::ReadFault) => return Err(JobFault::ReadFault),
-        Err(FileFault::OutOfMemory) => return Err(JobFault::OutOfMemory),
-    };
-    match read_graph(alloc, text.as_slice()) {
-        Ok(graph) => Ok(graph),
-        Err(GraphRefusal::Fault(fault)) => Err(JobFault::Graph(fault)),
-        Err(GraphRefusal::OutOfMemory) => Err(JobFault::OutOfMemory),
-    }
+    let text = files.read(alloc, name, GRAPH_MAX)?;
+    Ok(read_graph(alloc, text.as_slice())?)
 }

@@ -5,9 +5,9 @@ ghost use Rattle.graph_commands.specs.FileJobs.{Explains, IsGraphOf, IsJobOf};
 use crate::JobFault;
 use crate::graph_file::read_graph_file;
 use crate::sources::read_sources;
-use graph_lang::{FaultKind, Graph, GraphFault};
+use graph_lang::Graph;
 use std::alloc::Global;
-use stream_lists::{Job, JobRefusal};
+use stream_lists::Job;
 use watched_io::Files;
 
 /// Makes the job of a graph's file: reads the graph, then the samples of each source in the order
@@ -19,10 +19,8 @@ pub fn read_job<F: Files>(alloc: Global, files: &mut F, name: &str) -> Result<Jo
     ensures fault { IfErr result (λ fault. Explains (F.file files.old) name.now fault) }
     ensures kept { (other : List ℕ) → F.file files.new other ≡ F.file files.old other }
 {
-    match read_graph_file(alloc, files, name) {
-        Ok(graph) => job_of_graph(alloc, files, graph),
-        Err(fault) => Err(fault),
-    }
+    let graph = read_graph_file(alloc, files, name)?;
+    job_of_graph(alloc, files, graph)
 }
 
 /// Makes the job of a graph that was read: reads the samples of its sources, each read and checked
@@ -38,16 +36,6 @@ pub(crate) fn job_of_graph<F: Files>(
         → IsGraphOf (F.file files.old) name graph → Explains (F.file files.old) name fault) }
     ensures kept { (other : List ℕ) → F.file files.new other ≡ F.file files.old other }
 {
-    let samples = match read_sources(alloc, files, &graph) {
-        Ok(samples) => samples,
-        Err(fault) => return Err(fault),
-    };
-    match Job::new(alloc, graph, samples) {
-        Ok(job) => Ok(job),
-        Err(JobRefusal::AnyMeets { line }) => Err(JobFault::Graph(GraphFault {
-            line,
-            kind: FaultKind::AnyMeets,
-        })),
-        Err(JobRefusal::OutOfMemory) => Err(JobFault::OutOfMemory),
-    }
+    let samples = read_sources(alloc, files, &graph)?;
+    Ok(Job::new(alloc, graph, samples)?)
 }
