@@ -2,5 +2,5 @@ pub mod Explained
 pub mod FileJobs
 pub mod GraphDrawings
 pub mod GraphRuns
+pub mod Inside
 pub mod OutputTexts
-pub mod Puts
