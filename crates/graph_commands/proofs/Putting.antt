@@ -5,7 +5,7 @@ use Rattle.std.proofs.KnownBytes.{Appends-nil, Appends-trans}
 use Rattle.std.specs.declared.option.Option.{Option}
 use Rattle.watched_io.specs.Prefix.{AppendsPrefix}
 use Rattle.watched_io.proofs.Writing.{prefix_of_prefix}
-use Rattle.graph_commands.specs.Puts.{Puts}
+use Rattle.graph_commands.specs.Inside.{Puts}
 
 -- all the bytes wait
 pub Puts-kept : (old : Option (List ℕ)) (before bytes : List ℕ)

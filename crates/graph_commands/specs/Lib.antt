@@ -3,5 +3,5 @@ pub mod Faults
 pub mod FileJobs
 pub mod GraphDrawings
 pub mod GraphRuns
+pub mod Inside
 pub mod OutputTexts
-pub mod Puts

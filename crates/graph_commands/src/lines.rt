@@ -4,7 +4,7 @@ ghost use Rattle.std.specs.List.{All, flat_map};
 ghost use Rattle.std.specs.Io.KnownBytes.{Appends};
 ghost use Rattle.stream_eval.specs.Results.{sink_values};
 ghost use Rattle.graph_commands.specs.OutputTexts.{sink_text, text_of, value_text};
-ghost use Rattle.graph_commands.specs.Puts.{Puts, heading_text};
+ghost use Rattle.graph_commands.specs.Inside.{Puts, heading_text};
 ghost use Rattle.watched_io.specs.Prefix.{AppendsPrefix};
 ghost use Rattle.watched_io.specs.Watched.{has_failed_of, inner_of};
 

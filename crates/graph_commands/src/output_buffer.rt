@@ -1,7 +1,7 @@
 //! Text that is collected, so that a writer is called once for many lines.
 ghost use Rattle.std.specs.Prelude.{◌≡◌, ◌≤◌, ◌++◌, ◌+◌, List, ℕ, [], length, take, true, OnOk, OnErr};
 ghost use Rattle.std.specs.Io.KnownBytes.{Appends};
-ghost use Rattle.graph_commands.specs.Puts.{Puts};
+ghost use Rattle.graph_commands.specs.Inside.{Puts};
 ghost use Rattle.watched_io.specs.declared.text.TheConstants.{CHUNK_MAX};
 ghost use Rattle.watched_io.specs.Prefix.{AppendsPrefix};
 ghost use Rattle.watched_io.specs.Watched.{has_failed_of, inner_of};

@@ -7,7 +7,8 @@ use Rattle.phase_base.specs.Lists.{without_cr}
 use Rattle.graph_text.specs.Plain.{plain}
 use Rattle.graph_text.specs.Decls.{Decl, Declares, Spells}
 use Rattle.graph_base.specs.Graphs.{Graph, no_graph}
-use Rattle.graph_lang.specs.Reads.{TellsDecl, Steps, Reads, TellsFault, Tells, fault_at, told}
+use Rattle.graph_lang.specs.Reads.{Steps, Reads, Tells, fault_at, told}
+use Rattle.graph_lang.specs.Inside.{TellsDecl, TellsFault}
 use Rattle.graph_lang.specs.Faults.{kind_of}
 use Rattle.graph_lang.specs.declared.fault.FaultKind.TheVariants.{Syntax}
 use Rattle.graph_lang.specs.declared.fault.GraphFault.{GraphFault}

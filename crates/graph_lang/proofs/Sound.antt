@@ -8,7 +8,8 @@ use Rattle.graph_text.specs.Decls.{phaser, task, FunctionWords, BodyWords, EndWo
 use Rattle.graph_base.specs.Graphs.{Graph, Task}
 use Rattle.graph_base.specs.Names.{place_of}
 use Rattle.graph_lang.specs.WordValues.{task_line, files_in}
-use Rattle.graph_lang.specs.Faults.{kind_of, later_kind, last_kind, phasers_of, is_past_limit, are_distinct, is_phaser, is_parent_known}
+use Rattle.graph_lang.specs.Faults.{kind_of, later_kind, phasers_of, is_past_limit, are_distinct, is_phaser, is_parent_known}
+use Rattle.graph_lang.specs.Inside.{last_kind}
 use Rattle.graph_lang.specs.Faults.{is_phaser_within}
 use Rattle.graph_lang.specs.Reads.{with_line}
 use Rattle.graph_base.specs.declared.limits.TheConstants.{PHASERS_MAX}

@@ -189,11 +189,3 @@ later_kind before name phasers by t = first_row (
     ∷ (not (may_be_parent before t.parent), BadParent)
     ∷ (not (is_held before t), NotHeld)
     ∷ [])
-
--- the first kind after Unknown of a task's line, of the task
-abbrev pub last_kind : Graph → Task → Option FaultKind
-last_kind before t = first_row (
-    (not (is_in_order t), OutBeforeIn)
-    ∷ (not (may_be_parent before t.parent), BadParent)
-    ∷ (not (is_held before t), NotHeld)
-    ∷ [])

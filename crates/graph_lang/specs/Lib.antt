@@ -1,5 +1,5 @@
 pub mod Drafts
 pub mod Faults
-pub mod WordValues
-pub mod Numbers
+pub mod Inside
 pub mod Reads
+pub mod WordValues

@@ -36,12 +36,6 @@ abbrev pub told : ℕ → Graph → Decl → Option FaultKind → Result Graph G
 told n before d (Some kind) = fault_at n kind
 told n before d None = Ok (with_line before n d)
 
--- what line n of the grammar, which declares d, comes to, unless memory ran out
-abbrev pub TellsDecl : ℕ → Graph → Decl → Result Graph GraphRefusal → Type 0
-TellsDecl n before d (Ok after) = Ok after ≡ told n before d (kind_of before d)
-TellsDecl n before d (Err (refusal.Fault f)) = Err f ≡ told n before d (kind_of before d)
-TellsDecl n before d (Err refusal.OutOfMemory) = Unit {0}
-
 -- line n, after the lines above it: it is ignored, or it is not in the grammar, or it declares d
 abbrev pub Steps : ℕ → Graph → List ℕ → Result Graph GraphFault → Type 0
 Steps n before line outcome =
@@ -58,11 +52,6 @@ Reads n before [] outcome = outcome ≡ Ok before
 Reads n before (line ∷ lines) outcome =
     ((f : GraphFault) × Steps n before line (Err f) × (outcome ≡ Err f))
     ⊎ ((after : Graph) × Steps n before line (Ok after) × Reads (n + 1) after lines outcome)
-
--- why a line stopped the reading, unless memory ran out
-abbrev pub TellsFault : ℕ → Graph → List ℕ → GraphRefusal → Type 0
-TellsFault n before line (refusal.Fault f) = Steps n before line (Err f)
-TellsFault n before line refusal.OutOfMemory = Unit {0}
 
 -- the graph that the lines declare, or their first fault, unless memory ran out
 abbrev pub Tells : List (List ℕ) → Result Graph GraphRefusal → Type 0

@@ -11,7 +11,8 @@ ghost use Rattle.graph_base.specs.Inside.{task_of};
 ghost use Rattle.graph_lang.specs.WordValues.{parent_of};
 ghost use Rattle.graph_base.specs.TaskLines.{has_children};
 ghost use Rattle.graph_lang.specs.Faults.{is_parent_known, is_in_order, may_be_parent};
-ghost use Rattle.graph_lang.specs.Faults.{is_held, holds_for, is_plain, last_kind, are_distinct};
+ghost use Rattle.graph_lang.specs.Faults.{is_held, holds_for, is_plain, are_distinct};
+ghost use Rattle.graph_lang.specs.Inside.{last_kind};
 
 use crate::body::{are_among, are_distinct, are_in_order, is_exchange_below};
 use crate::draft::{Draft, place_of, task_named};

@@ -6,8 +6,9 @@ ghost use Rattle.graph_text.specs.Texts.{lines_of};
 ghost use Rattle.graph_text.specs.declared.line.Line.TheVariants as line;
 ghost use Rattle.graph_lang.specs.WordValues.{phaser_line};
 ghost use Rattle.graph_lang.specs.Faults.{kind_of, is_past_limit};
-ghost use Rattle.graph_lang.specs.Numbers.{AreNumbersOf, steps_in};
-ghost use Rattle.graph_lang.specs.Reads.{TellsDecl, Steps, TellsFault, Tells};
+ghost use Rattle.graph_lang.specs.Inside.{AreNumbersOf, steps_in};
+ghost use Rattle.graph_lang.specs.Reads.{Steps, Tells};
+ghost use Rattle.graph_lang.specs.Inside.{TellsDecl, TellsFault};
 
 use crate::body::phaser_words;
 use crate::draft::{Draft, place_of};

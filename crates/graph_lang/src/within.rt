@@ -10,7 +10,7 @@ ghost use Rattle.graph_text.specs.Lines.{single_of as function_words, function_o
 ghost use Rattle.graph_text.specs.Lines.{ends_of, by_of, word_of};
 ghost use Rattle.graph_lang.specs.WordValues.{single_of, phaser_line};
 ghost use Rattle.graph_lang.specs.WordValues.{taps_of, shift_of, factor_of};
-ghost use Rattle.graph_lang.specs.Numbers.{AreNumbersOf, steps_in};
+ghost use Rattle.graph_lang.specs.Inside.{AreNumbersOf, steps_in};
 ghost use Rattle.graph_lang.specs.Faults.{is_function_within, is_bound_within, is_body_within};
 ghost use Rattle.graph_lang.specs.Faults.{is_tap_within, is_number_of_ends, is_count_within};
 ghost use Rattle.graph_lang.specs.Faults.{are_ends_within, is_phaser_within};

@@ -3,7 +3,7 @@ use Rattle.std.proofs.Common.{◌≡◌, List, ap, sym, ◌∙◌, Option, Some,
 use Rattle.graph_words.specs.Words.{Word}
 use Rattle.graph_text.specs.Decls.{Decl, Spells}
 use Rattle.graph_text.specs.Lines.{decl_of}
-use Rattle.graph_text.specs.Reading.{line_at}
+use Rattle.graph_text.specs.Inside.{line_at}
 use Rattle.graph_text.specs.declared.line.Line.{Line}
 use Rattle.graph_text.proofs.Spelled.{line_again}
 use Rattle.graph_text.proofs.Taken.{line_takes}

@@ -5,7 +5,7 @@ use Rattle.graph_text.specs.Texts.{words_of, are_printable, is_ignored}
 use Rattle.phase_base.specs.declared.operation.Op.TheVariants.{Sum}
 use Rattle.graph_text.specs.Numbers.{is_nat, is_int}
 use Rattle.graph_text.specs.Decls.{phaser, task, source, neg, abs, halve, clamp}
-use Rattle.graph_text.specs.Reading.{line_at, phaser_at, task_at, body_at, source_at, sink_at, word_at, after, begins, single_at, operation_at, function_at, function_named, clamp_at, by_at, until_at, ends_at}
+use Rattle.graph_text.specs.Inside.{line_at, phaser_at, task_at, body_at, source_at, sink_at, word_at, after, begins, single_at, operation_at, function_at, function_named, clamp_at, by_at, until_at, ends_at}
 
 -- ---- words
 

@@ -4,7 +4,7 @@ use Rattle.std.specs.List.{take-map, drop-map}
 use Rattle.std.proofs.lemmas.List.{drop_all}
 use Rattle.graph_words.specs.Words.{Word}
 use Rattle.graph_text.specs.Plain.{plain}
-use Rattle.graph_text.specs.Reading.{front, rest, some_at}
+use Rattle.graph_text.specs.Inside.{front, rest, some_at}
 
 -- ---- counted one by one
 

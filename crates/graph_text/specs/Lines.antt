@@ -3,10 +3,8 @@ use Rattle.std.specs.Prelude.{ℕ, List, Option, Some, None}
 use Rattle.std.specs.Borrow.{Bor}
 use Rattle.graph_words.specs.Words.{Word}
 use Rattle.graph_text.specs.Plain.{plain as words_in}
-use Rattle.phase_base.specs.declared.operation.Op.{Op}
 use Rattle.graph_text.specs.Decls.{Decl, phaser, task, FunctionWords, neg, abs, halve, clamp, ByWords, EndWords}
 use Rattle.graph_text.specs.Decls.{BodyWords, source, fir, split, join, peer, sink}
-use Rattle.graph_text.specs.Reading.{Found}
 use Rattle.graph_text.specs.declared.line.By.{By}
 use Rattle.graph_text.specs.declared.line.Ends.{Ends}
 use Rattle.graph_text.specs.declared.line.Function.{Function}
@@ -59,40 +57,3 @@ decl_of (line.Phaser phaser_line) = phaser phaser_line.name.now phaser_line.oper
     phaser_line.bound.now (single_of phaser_line.single)
 decl_of (line.Task task_line) =
     task task_line.name.now (body_of task_line.body) (ends_of task_line.ends)
-
--- ---- what was read, with the words after it
-
--- a word
-abbrev pub found_word : Bor (List ℕ) × Bor (List (Bor (List ℕ))) → Found Word
-found_word found = (found.0.now, words_in found.1.now)
-
--- words
-abbrev pub found_words :
-    Bor (List (Bor (List ℕ))) × Bor (List (Bor (List ℕ))) → Found (List Word)
-found_words found = (words_in found.0.now, words_in found.1.now)
-
--- an operation
-abbrev pub found_operation : Op × Bor (List (Bor (List ℕ))) → Found Op
-found_operation found = (found.0, words_in found.1.now)
-
--- a function
-abbrev pub found_function : Function × Bor (List (Bor (List ℕ))) → Found FunctionWords
-found_function found = (function_of found.0, words_in found.1.now)
-
--- a single or none
-abbrev pub found_single :
-    Option Function × Bor (List (Bor (List ℕ))) → Found (Option FunctionWords)
-found_single found = (single_of found.0, words_in found.1.now)
-
--- a parent or none
-abbrev pub found_by : Option By × Bor (List (Bor (List ℕ))) → Found (Option ByWords)
-found_by found = (by_of found.0, words_in found.1.now)
-
--- a last boundary or none
-abbrev pub found_until :
-    Option (Bor (List ℕ)) × Bor (List (Bor (List ℕ))) → Found (Option Word)
-found_until found = (word_of found.0, words_in found.1.now)
-
--- what a task does
-abbrev pub found_body : Body × Bor (List (Bor (List ℕ))) → Found BodyWords
-found_body found = (body_of found.0, words_in found.1.now)

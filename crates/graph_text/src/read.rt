@@ -4,15 +4,16 @@ ghost use Rattle.graph_text.specs.Plain.{plain};
 ghost use Rattle.graph_words.specs.Words.{is_name as is_name_word, is_file as is_file_word};
 ghost use Rattle.graph_text.specs.Numbers.{is_nat as is_nat_word, is_int as is_int_word};
 ghost use Rattle.graph_text.specs.Decls.{Decl, Spells, may_have_parent};
-ghost use Rattle.graph_text.specs.Lines.{found_word, found_words, found_operation, found_function};
-ghost use Rattle.graph_text.specs.Lines.{found_single};
-ghost use Rattle.graph_text.specs.Lines.{found_by, found_until, found_body, body_of, ends_of};
+ghost use Rattle.graph_text.specs.Inside.{found_word, found_words, found_operation, found_function};
+ghost use Rattle.graph_text.specs.Inside.{found_single};
+ghost use Rattle.graph_text.specs.Lines.{body_of, ends_of};
+ghost use Rattle.graph_text.specs.Inside.{found_by, found_until, found_body};
 ghost use Rattle.graph_text.specs.Lines.{decl_of};
-ghost use Rattle.graph_text.specs.Reading.{word_at, after, begins, front, some_at, operation_at};
-ghost use Rattle.graph_text.specs.Reading.{clamp_at, function_named, function_at};
-ghost use Rattle.graph_text.specs.Reading.{single_at, by_at, until_at, ends_at, source_at, fir_at};
-ghost use Rattle.graph_text.specs.Reading.{split_at, join_at, peer_at, sink_at, body_at};
-ghost use Rattle.graph_text.specs.Reading.{phaser_at, task_at, line_at};
+ghost use Rattle.graph_text.specs.Inside.{word_at, after, begins, front, some_at, operation_at};
+ghost use Rattle.graph_text.specs.Inside.{clamp_at, function_named, function_at};
+ghost use Rattle.graph_text.specs.Inside.{single_at, by_at, until_at, ends_at, source_at, fir_at};
+ghost use Rattle.graph_text.specs.Inside.{split_at, join_at, peer_at, sink_at, body_at};
+ghost use Rattle.graph_text.specs.Inside.{phaser_at, task_at, line_at};
 
 use crate::line::{Body, By, Ends, Function, Line, PhaserWords, TaskWords};
 use crate::number::{is_int, is_nat};
@@ -22,7 +23,7 @@ use phase_base::Op;
 // ---- words
 
 /// The first word, where it is a name, and the words after it.
-#[tactic(auto, unfolding(crate::specs::Reading::word_at))]
+#[tactic(auto, unfolding(crate::specs::Inside::word_at))]
 fn name_at<'w, 'a>(words: &'w [&'a [u8]]) -> Option<(&'a [u8], &'w [&'a [u8]])>
     ensures { option_map found_word result ≡ word_at is_name_word (plain words.now) }
 {
@@ -33,7 +34,7 @@ fn name_at<'w, 'a>(words: &'w [&'a [u8]]) -> Option<(&'a [u8], &'w [&'a [u8]])>
 }
 
 /// The first word, where it is one that may name a file, and the words after it.
-#[tactic(auto, unfolding(crate::specs::Reading::word_at))]
+#[tactic(auto, unfolding(crate::specs::Inside::word_at))]
 fn file_at<'w, 'a>(words: &'w [&'a [u8]]) -> Option<(&'a [u8], &'w [&'a [u8]])>
     ensures { option_map found_word result ≡ word_at is_file_word (plain words.now) }
 {
@@ -44,7 +45,7 @@ fn file_at<'w, 'a>(words: &'w [&'a [u8]]) -> Option<(&'a [u8], &'w [&'a [u8]])>
 }
 
 /// The first word, where it is a number without a sign, and the words after it.
-#[tactic(auto, unfolding(crate::specs::Reading::word_at))]
+#[tactic(auto, unfolding(crate::specs::Inside::word_at))]
 fn nat_at<'w, 'a>(words: &'w [&'a [u8]]) -> Option<(&'a [u8], &'w [&'a [u8]])>
     ensures { option_map found_word result ≡ word_at is_nat_word (plain words.now) }
 {
@@ -55,7 +56,7 @@ fn nat_at<'w, 'a>(words: &'w [&'a [u8]]) -> Option<(&'a [u8], &'w [&'a [u8]])>
 }
 
 /// The first word, where it is a number, and the words after it.
-#[tactic(auto, unfolding(crate::specs::Reading::word_at))]
+#[tactic(auto, unfolding(crate::specs::Inside::word_at))]
 fn int_at<'w, 'a>(words: &'w [&'a [u8]]) -> Option<(&'a [u8], &'w [&'a [u8]])>
     ensures { option_map found_word result ≡ word_at is_int_word (plain words.now) }
 {
@@ -66,7 +67,7 @@ fn int_at<'w, 'a>(words: &'w [&'a [u8]]) -> Option<(&'a [u8], &'w [&'a [u8]])>
 }
 
 /// The operation that the first word stands for, and the words after it.
-#[tactic(auto, unfolding(crate::specs::Reading::operation_at))]
+#[tactic(auto, unfolding(crate::specs::Inside::operation_at))]
 fn operation_at<'w, 'a>(words: &'w [&'a [u8]]) -> Option<(Op, &'w [&'a [u8]])>
     ensures { option_map found_operation result ≡ operation_at (plain words.now) }
 {
@@ -77,7 +78,7 @@ fn operation_at<'w, 'a>(words: &'w [&'a [u8]]) -> Option<(Op, &'w [&'a [u8]])>
 }
 
 /// The words after this one, where it stands first.
-#[tactic(auto, unfolding(crate::specs::Reading::after))]
+#[tactic(auto, unfolding(crate::specs::Inside::after))]
 fn after<'w, 'a>(sign: &[u8], words: &'w [&'a [u8]]) -> Option<&'w [&'a [u8]]>
     ensures { option_map (λ rest. plain rest.now) result ≡ after sign.now (plain words.now) }
 {
@@ -88,7 +89,7 @@ fn after<'w, 'a>(sign: &[u8], words: &'w [&'a [u8]]) -> Option<&'w [&'a [u8]]>
 }
 
 /// Whether this word stands first.
-#[tactic(auto, unfolding(crate::specs::Reading::begins))]
+#[tactic(auto, unfolding(crate::specs::Inside::begins))]
 fn begins(sign: &[u8], words: &[&[u8]]) -> bool
     ensures { result ≡ begins sign.now (plain words.now) }
 {
@@ -155,7 +156,7 @@ fn ints_at<'w, 'a>(words: &'w [&'a [u8]]) -> Option<(&'w [&'a [u8]], &'w [&'a [u
 // ---- parts of a line
 
 /// A clamp with its ends, and the words after them.
-#[tactic(auto, unfolding(crate::specs::Reading::clamp_at))]
+#[tactic(auto, unfolding(crate::specs::Inside::clamp_at))]
 fn clamp_at<'w, 'a>(words: &'w [&'a [u8]]) -> Option<(Function<'a>, &'w [&'a [u8]])>
     ensures { option_map found_function result ≡ clamp_at (plain words.now) }
 {
@@ -165,7 +166,7 @@ fn clamp_at<'w, 'a>(words: &'w [&'a [u8]]) -> Option<(Function<'a>, &'w [&'a [u8
 }
 
 /// The function of a single, by its first word, and the words after it.
-#[tactic(auto, unfolding(crate::specs::Reading::function_named))]
+#[tactic(auto, unfolding(crate::specs::Inside::function_named))]
 fn function_named<'w, 'a>(
     word: &[u8],
     words: &'w [&'a [u8]],
@@ -186,7 +187,7 @@ fn function_named<'w, 'a>(
 }
 
 /// The function of a single, and the words after it.
-#[tactic(auto, unfolding(crate::specs::Reading::function_at))]
+#[tactic(auto, unfolding(crate::specs::Inside::function_at))]
 fn function_at<'w, 'a>(words: &'w [&'a [u8]]) -> Option<(Function<'a>, &'w [&'a [u8]])>
     ensures { option_map found_function result ≡ function_at (plain words.now) }
 {
@@ -197,7 +198,7 @@ fn function_at<'w, 'a>(words: &'w [&'a [u8]]) -> Option<(Function<'a>, &'w [&'a 
 }
 
 /// `single FN`, or nothing, and the words after it.
-#[tactic(auto, unfolding(crate::specs::Reading::single_at))]
+#[tactic(auto, unfolding(crate::specs::Inside::single_at))]
 fn single_at<'w, 'a>(words: &'w [&'a [u8]]) -> Option<(Option<Function<'a>>, &'w [&'a [u8]])>
     ensures { option_map found_single result ≡ single_at (plain words.now) }
 {
@@ -211,7 +212,7 @@ fn single_at<'w, 'a>(words: &'w [&'a [u8]]) -> Option<(Option<Function<'a>>, &'w
 }
 
 /// `by P at N` where that is allowed, or nothing, and the words after it.
-#[tactic(auto, unfolding(crate::specs::Reading::by_at))]
+#[tactic(auto, unfolding(crate::specs::Inside::by_at))]
 fn by_at<'w, 'a>(allowed: bool, words: &'w [&'a [u8]]) -> Option<(Option<By<'a>>, &'w [&'a [u8]])>
     ensures { option_map found_by result ≡ by_at allowed (plain words.now) }
 {
@@ -227,7 +228,7 @@ fn by_at<'w, 'a>(allowed: bool, words: &'w [&'a [u8]]) -> Option<(Option<By<'a>>
 }
 
 /// `until M`, or nothing, and the words after it.
-#[tactic(auto, unfolding(crate::specs::Reading::until_at))]
+#[tactic(auto, unfolding(crate::specs::Inside::until_at))]
 fn until_at<'w, 'a>(words: &'w [&'a [u8]]) -> Option<(Option<&'a [u8]>, &'w [&'a [u8]])>
     ensures { option_map found_until result ≡ until_at (plain words.now) }
 {
@@ -241,7 +242,7 @@ fn until_at<'w, 'a>(words: &'w [&'a [u8]]) -> Option<(Option<&'a [u8]>, &'w [&'a
 }
 
 /// The optional ends, with nothing after them.
-#[tactic(auto, unfolding(crate::specs::Reading::ends_at))]
+#[tactic(auto, unfolding(crate::specs::Inside::ends_at))]
 fn ends_at<'a>(allowed: bool, words: &[&'a [u8]]) -> Option<Ends<'a>>
     ensures { option_map ends_of result ≡ ends_at allowed (plain words.now) }
 {
@@ -257,7 +258,7 @@ fn ends_at<'a>(allowed: bool, words: &[&'a [u8]]) -> Option<Ends<'a>>
 // ---- what a task does
 
 /// `FILE -> Y`, and the words after it.
-#[tactic(auto, unfolding(crate::specs::Reading::source_at))]
+#[tactic(auto, unfolding(crate::specs::Inside::source_at))]
 fn source_at<'w, 'a>(words: &'w [&'a [u8]]) -> Option<(Body<'w, 'a>, &'w [&'a [u8]])>
     ensures { option_map found_body result ≡ source_at (plain words.now) }
 {
@@ -268,7 +269,7 @@ fn source_at<'w, 'a>(words: &'w [&'a [u8]]) -> Option<(Body<'w, 'a>, &'w [&'a [u
 }
 
 /// `X -> Y shift N taps T1 T2 ..`, and the words after it.
-#[tactic(auto, unfolding(crate::specs::Reading::fir_at))]
+#[tactic(auto, unfolding(crate::specs::Inside::fir_at))]
 fn fir_at<'w, 'a>(words: &'w [&'a [u8]]) -> Option<(Body<'w, 'a>, &'w [&'a [u8]])>
     ensures { option_map found_body result ≡ fir_at (plain words.now) }
 {
@@ -283,7 +284,7 @@ fn fir_at<'w, 'a>(words: &'w [&'a [u8]]) -> Option<(Body<'w, 'a>, &'w [&'a [u8]]
 }
 
 /// `X -> Y0 Y1 ..`, and the words after it.
-#[tactic(auto, unfolding(crate::specs::Reading::split_at))]
+#[tactic(auto, unfolding(crate::specs::Inside::split_at))]
 fn split_at<'w, 'a>(words: &'w [&'a [u8]]) -> Option<(Body<'w, 'a>, &'w [&'a [u8]])>
     ensures { option_map found_body result ≡ split_at (plain words.now) }
 {
@@ -294,7 +295,7 @@ fn split_at<'w, 'a>(words: &'w [&'a [u8]]) -> Option<(Body<'w, 'a>, &'w [&'a [u8
 }
 
 /// `X0 X1 .. -> Y`, and the words after it.
-#[tactic(auto, unfolding(crate::specs::Reading::join_at))]
+#[tactic(auto, unfolding(crate::specs::Inside::join_at))]
 fn join_at<'w, 'a>(words: &'w [&'a [u8]]) -> Option<(Body<'w, 'a>, &'w [&'a [u8]])>
     ensures { option_map found_body result ≡ join_at (plain words.now) }
 {
@@ -305,7 +306,7 @@ fn join_at<'w, 'a>(words: &'w [&'a [u8]]) -> Option<(Body<'w, 'a>, &'w [&'a [u8]
 }
 
 /// `X <-> E -> Y mul A`, and the words after it.
-#[tactic(auto, unfolding(crate::specs::Reading::peer_at))]
+#[tactic(auto, unfolding(crate::specs::Inside::peer_at))]
 fn peer_at<'w, 'a>(words: &'w [&'a [u8]]) -> Option<(Body<'w, 'a>, &'w [&'a [u8]])>
     ensures { option_map found_body result ≡ peer_at (plain words.now) }
 {
@@ -320,7 +321,7 @@ fn peer_at<'w, 'a>(words: &'w [&'a [u8]]) -> Option<(Body<'w, 'a>, &'w [&'a [u8]
 }
 
 /// `X`, and the words after it.
-#[tactic(auto, unfolding(crate::specs::Reading::sink_at))]
+#[tactic(auto, unfolding(crate::specs::Inside::sink_at))]
 fn sink_at<'w, 'a>(words: &'w [&'a [u8]]) -> Option<(Body<'w, 'a>, &'w [&'a [u8]])>
     ensures { option_map found_body result ≡ sink_at (plain words.now) }
 {
@@ -329,7 +330,7 @@ fn sink_at<'w, 'a>(words: &'w [&'a [u8]]) -> Option<(Body<'w, 'a>, &'w [&'a [u8]
 }
 
 /// What a task does, by the first word of its line, and the words after it.
-#[tactic(auto, unfolding(crate::specs::Reading::body_at))]
+#[tactic(auto, unfolding(crate::specs::Inside::body_at))]
 fn body_at<'w, 'a>(kind: &[u8], words: &'w [&'a [u8]]) -> Option<(Body<'w, 'a>, &'w [&'a [u8]])>
     ensures { option_map found_body result ≡ body_at kind.now (plain words.now) }
 {
@@ -360,7 +361,7 @@ fn may_have_parent(body: Body<'_, '_>) -> bool
 // ---- a line
 
 /// What the words after `phaser` declare.
-#[tactic(auto, unfolding(crate::specs::Reading::phaser_at))]
+#[tactic(auto, unfolding(crate::specs::Inside::phaser_at))]
 fn phaser_at<'w, 'a>(words: &'w [&'a [u8]]) -> Option<Line<'w, 'a>>
     ensures { option_map decl_of result ≡ phaser_at (plain words.now) }
 {
@@ -381,7 +382,7 @@ fn phaser_at<'w, 'a>(words: &'w [&'a [u8]]) -> Option<Line<'w, 'a>>
 }
 
 /// What the words after the kind of a task declare.
-#[tactic(auto, unfolding(crate::specs::Reading::task_at))]
+#[tactic(auto, unfolding(crate::specs::Inside::task_at))]
 fn task_at<'w, 'a>(kind: &[u8], words: &'w [&'a [u8]]) -> Option<Line<'w, 'a>>
     ensures { option_map decl_of result ≡ task_at kind.now (plain words.now) }
 {
@@ -392,7 +393,7 @@ fn task_at<'w, 'a>(kind: &[u8], words: &'w [&'a [u8]]) -> Option<Line<'w, 'a>>
 }
 
 /// What the words declare, read one after another.
-#[tactic(auto, unfolding(crate::specs::Reading::line_at))]
+#[tactic(auto, unfolding(crate::specs::Inside::line_at))]
 fn read<'w, 'a>(words: &'w [&'a [u8]]) -> Option<Line<'w, 'a>>
     ensures { option_map decl_of result ≡ line_at (plain words.now) }
 {

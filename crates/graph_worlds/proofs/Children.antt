@@ -33,7 +33,8 @@ use Rattle.graph_turns.proofs.Registering.{due_child}
 use Rattle.graph_turns.proofs.Places.{on_ends}
 use Rattle.graph_worlds.specs.Places.{IsTaskAt, place_of}
 use Rattle.graph_worlds.specs.Machines.{IsMachineAt, HasCores, HasRoom, UsesFew}
-use Rattle.graph_worlds.specs.Turning.{IsNextIn, HadTurn, Shows}
+use Rattle.graph_worlds.specs.Turning.{HadTurn, Shows}
+use Rattle.graph_worlds.specs.Inside.{IsNextIn}
 use Rattle.graph_worlds.specs.declared.machine.Machine.{Machine}
 use Rattle.graph_worlds.specs.declared.task_state.TaskState.{TaskState}
 use Rattle.graph_worlds.specs.declared.made.Made.TheVariants.{Event}

@@ -16,7 +16,8 @@ use Rattle.graph_turns.specs.TaskPlaces.{StandsAt, registration_at}
 use Rattle.graph_turns.proofs.PlacesFollow.{leave_follows}
 use Rattle.graph_worlds.specs.Places.{IsTaskAt, place_of}
 use Rattle.graph_worlds.specs.Machines.{IsMachineAt, HasCores, HasRoom}
-use Rattle.graph_worlds.specs.Turning.{IsNextIn, HadTurn, Shows, told_of}
+use Rattle.graph_worlds.specs.Turning.{HadTurn, Shows, told_of}
+use Rattle.graph_worlds.specs.Inside.{IsNextIn}
 use Rattle.graph_worlds.specs.declared.machine.Machine.{Machine}
 use Rattle.graph_worlds.specs.declared.task_state.TaskState.{TaskState}
 use Rattle.graph_worlds.specs.declared.made.Made.TheVariants.{Event}

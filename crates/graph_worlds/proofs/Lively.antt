@@ -18,7 +18,7 @@ use Rattle.graph_turns.proofs.Standing.{kept}
 use Rattle.graph_turns.proofs.Registering.{is_for}
 use Rattle.graph_worlds.specs.Places.{place_of}
 use Rattle.graph_worlds.specs.Machines.{IsMachineAt}
-use Rattle.graph_worlds.specs.Turning.{IsNextIn}
+use Rattle.graph_worlds.specs.Inside.{IsNextIn}
 use Rattle.graph_worlds.specs.declared.machine.Machine.{Machine}
 use Rattle.graph_worlds.specs.declared.task_state.TaskState.{TaskState}
 use Rattle.graph_worlds.proofs.Ending.{all_numbered, number-at}

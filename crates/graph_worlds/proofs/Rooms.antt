@@ -24,9 +24,9 @@ use Rattle.graph_turns.specs.Reached.{IsReachable}
 use Rattle.graph_turns.specs.TaskEvents.{first_wait, after_turn}
 use Rattle.graph_turns.proofs.Boundaries.{all_taken}
 use Rattle.graph_turns.proofs.Signalling.{Live, live-is, number_there}
-use Rattle.graph_worlds.specs.Calls.{HasRoomIn}
+use Rattle.graph_worlds.specs.Inside.{HasRoomIn}
 use Rattle.graph_worlds.specs.Machines.{IsMachineAt, HasRoom}
-use Rattle.graph_worlds.specs.Turning.{IsNextIn}
+use Rattle.graph_worlds.specs.Inside.{IsNextIn}
 use Rattle.graph_worlds.specs.declared.machine.Machine.{Machine}
 use Rattle.graph_worlds.specs.declared.task_state.TaskState.{TaskState}
 use Rattle.graph_worlds.proofs.Lively.{live_next}

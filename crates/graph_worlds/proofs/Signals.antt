@@ -36,7 +36,8 @@ use Rattle.graph_steps.specs.declared.owed.Owed.{Owed}
 use Rattle.graph_worlds.specs.Places.{place_of}
 use Rattle.graph_worlds.specs.Machines.{IsMachineAt, HasCores, HasRoom}
 use Rattle.graph_worlds.specs.Blocking.{called_on}
-use Rattle.graph_worlds.specs.Turning.{IsNextIn, HadTurn, Shows}
+use Rattle.graph_worlds.specs.Turning.{HadTurn, Shows}
+use Rattle.graph_worlds.specs.Inside.{IsNextIn}
 use Rattle.graph_worlds.specs.declared.machine.Machine.{Machine}
 use Rattle.graph_worlds.specs.declared.task_state.TaskState.{TaskState}
 use Rattle.graph_worlds.specs.declared.made.Made.TheVariants.{Event, Blocked, OutOfRange}

@@ -8,7 +8,7 @@ use Rattle.std.proofs.lemmas.List.{map-set, get_or-map}
 use Rattle.std.proofs.lemmas.Option.{slice_get_read, slice_get_within, get_or_from_slice_get, same_Some}
 use Rattle.stream_eval.specs.Results.{sink_values}
 use Rattle.stream_eval.specs.declared.whole.Lines.{Lines}
-use Rattle.graph_worlds.specs.Calls.{HasRoomIn, one_more, with_line}
+use Rattle.graph_worlds.specs.Inside.{HasRoomIn, one_more, with_line}
 
 pub same_lines : (lines : List Lines) (i : ℕ) (read new : Lines) → read ≡ get_or lines i read
     → sink_values new ≡ sink_values read → map sink_values (set lines i new) ≡ map sink_values lines

@@ -37,7 +37,7 @@ use Rattle.graph_turns.specs.Reached.{IsReachable}
 use Rattle.graph_turns.proofs.NotRefused.{IsTold}
 use Rattle.graph_turns.proofs.Ranged.{sends_ranged}
 use Rattle.graph_turns.proofs.Telling.{turn_told}
-use Rattle.graph_worlds.specs.Stalls.{blocks_signal, blocks_signal_at, blocks_wait, blocks_wait_at, would_block, is_value_in_range}
+use Rattle.graph_worlds.specs.Inside.{blocks_signal, blocks_signal_at, blocks_wait, blocks_wait_at, would_block, is_value_in_range}
 use Rattle.graph_worlds.proofs.Stepping.{IsSo, next_is}
 
 rows_blocked : (event : TaskEvent) (a b c d spent ahead x y : Bool)

@@ -43,10 +43,11 @@ use Rattle.graph_turns.proofs.FirstWaits.{first_wait_follows}
 use Rattle.graph_steps.specs.Steps.{owed_of, HasFilter}
 use Rattle.graph_steps.specs.declared.owed.Owed.{Owed}
 use Rattle.graph_steps.specs.declared.owed.Owed.TheVariants as code
-use Rattle.graph_worlds.specs.Calls.{told_got, with_line}
+use Rattle.graph_worlds.specs.Inside.{told_got, with_line}
 use Rattle.graph_worlds.specs.Places.{place_of, HasTakenOne}
 use Rattle.graph_worlds.specs.Machines.{IsMachineAt, HasCores, HasRoom}
-use Rattle.graph_worlds.specs.Turning.{IsNextIn, HadTurn, Shows, told_of}
+use Rattle.graph_worlds.specs.Turning.{HadTurn, Shows, told_of}
+use Rattle.graph_worlds.specs.Inside.{IsNextIn}
 use Rattle.graph_worlds.specs.declared.machine.Machine.{Machine}
 use Rattle.graph_worlds.specs.declared.task_state.TaskState.{TaskState}
 use Rattle.graph_worlds.specs.declared.made.Made.TheVariants.{Event, Blocked}

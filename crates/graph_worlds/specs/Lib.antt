@@ -1,5 +1,5 @@
 pub mod Blocking
-pub mod Calls
+pub mod Inside
 pub mod Machines
 pub mod Parking
 pub mod Places

@@ -1,5 +1,5 @@
 -- What a turn of a task does to a machine and to the lists of blocked tasks.
-use Rattle.std.specs.Prelude.{◌≡◌, ◌≢◌, ℕ, List, [], Option, Some, None, set, get_or}
+use Rattle.std.specs.Prelude.{◌≡◌, ℕ, List, [], Option, Some, None, set, get_or}
 use Rattle.graph_base.specs.declared.place.Place.TheVariants as place
 use Rattle.stream_lists.specs.Jobs.{Job}
 use Rattle.stream_lists.specs.Ranges.{Where}
@@ -7,12 +7,11 @@ use Rattle.graph_moments.specs.Moments.{Moment}
 use Rattle.graph_turns.specs.TaskEvents as events
 use Rattle.graph_turns.specs.TaskEvents.{TaskEvent}
 use Rattle.graph_turns.specs.Nexts as turns
-use Rattle.graph_turns.specs.Reached.{IsReachable}
 use Rattle.graph_turns.specs.Answers as answers
 use Rattle.graph_turns.specs.Answers.{Answer, Told, answer_of_turn, after_answer}
 use Rattle.graph_worlds.specs.Blocking.{called_on}
 use Rattle.graph_worlds.specs.Parking.{with_task}
-use Rattle.graph_worlds.specs.Machines.{IsMachine, IsMachineAt, UsesFew}
+use Rattle.graph_worlds.specs.Machines.{IsMachineAt}
 use Rattle.graph_worlds.specs.Worlds.{WorldState}
 use Rattle.graph_worlds.specs.declared.machine.Machine.{Machine}
 use Rattle.graph_worlds.specs.declared.made.Made.{Made}
@@ -46,17 +45,6 @@ parked_after job t next answers.is_blocked parked =
 parked_after job t next answer parked = parked
 
 -- ---- a machine
-
--- at each moment of the machine this is what task t does next, and its phaser does not refuse it
-pub record IsNextIn (job : Job) (machine : Machine) (t : ℕ) (next : turns.Next) : Type 0 where
-  pub some : IsMachine job machine
-  pub is : (m : Moment) → IsMachineAt job m machine → turns.next_of job m t ≡ next
-  pub stays : (m : Moment) → IsMachineAt job m machine
-      → IsReachable job (after_answer job (answer_of_turn job m t) m)
-  pub few : (m : Moment) → IsMachineAt job m machine
-      → UsesFew job (after_answer job (answer_of_turn job m t) m)
-  pub answered : (m : Moment) → IsMachineAt job m machine
-      → answer_of_turn job m t ≢ answers.is_refused
 
 -- what a task does next registers a child
 abbrev pub IsRegistration : turns.Next → Type 0

@@ -12,7 +12,7 @@ ghost use Rattle.graph_moments.specs.Moments.{Moment, limits_at, input_at};
 ghost use Rattle.graph_turns.specs.Nexts.{has_signaller, is_live, number_on, signals};
 ghost use Rattle.graph_turns.specs.Answers.{is_stalled, is_still, output_at};
 ghost use Rattle.graph_steps.specs.Steps.{owed_of};
-ghost use Rattle.graph_worlds.specs.Stalls.{blocks_signal, blocks_wait, would_block, is_value_in_range};
+ghost use Rattle.graph_worlds.specs.Inside.{blocks_signal, blocks_wait, would_block, is_value_in_range};
 ghost use Rattle.graph_worlds.specs.Blocking.{AreBlocked};
 ghost use Rattle.graph_worlds.specs.Machines.{next_by};
 ghost use Rattle.graph_worlds.specs.Plans.{IsPlan};

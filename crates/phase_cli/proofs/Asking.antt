@@ -1,6 +1,7 @@
 -- What words ask for, and which statuses may come.
 use Rattle.std.proofs.Common.{◌≡◌, ◌≢◌, ◌⊎◌, inl, inr, ℕ, List, refl, sym, ◌∙◌, subst, arith}
-use Rattle.phase_cli.specs.Ends.{IsAnswer, IsStatus, LeavesAlone, LeavesBy, MayEnd, MayEndAs}
+use Rattle.phase_cli.specs.Ends.{IsStatus, LeavesAlone, MayEnd, MayEndAs}
+use Rattle.phase_cli.specs.Inside.{IsAnswer, LeavesBy}
 use Rattle.phase_status.specs.Statuses.{Reports}
 use Rattle.phase_words.proofs.NoCalls.{asked-help-not-taken, asked-version-not-taken, refusal-not-help, refusal-not-taken, refusal-not-version, shown-not-taken, taken-or-not}
 use Rattle.phase_words.specs.CommandLine.{AreRefused, AreTaken, Asked, Asks, AskGraph, AskHelp, AskVersion, IsNoCall, asked_in, check, check_explained, draw, eval, eval_explained, graph_asked, replay}

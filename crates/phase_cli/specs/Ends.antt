@@ -1,5 +1,5 @@
 -- How a run of the program may end, by what its words ask for.
-use Rattle.std.specs.Prelude.{◌≡◌, ◌⊎◌, ℕ, List, Option, Some, None}
+use Rattle.std.specs.Prelude.{◌≡◌, ◌⊎◌, ℕ, List, Option}
 use Rattle.graph_commands.specs.Explained.{CheckEndsExplained, EvalEndsExplained}
 use Rattle.graph_commands.specs.FileJobs.{Known}
 use Rattle.graph_commands.specs.GraphDrawings.{DrawEnds}
@@ -8,8 +8,6 @@ use Rattle.replay_command.specs.Replays.{ReplayEnds}
 use Rattle.phase_replay.specs.Replay.{HasCause}
 use Rattle.phase_status.specs.Statuses.{Reports}
 use Rattle.phase_words.specs.CommandLine.{AreRefused, AreTaken, Asked, Asks, AskGraph, AskHelp, AskReplay, AskVersion, check, check_explained, draw, eval, eval_explained, graph_asked, replay}
-use Rattle.phase_words.specs.declared.call.NoCall.{NoCall}
-use Rattle.phase_words.specs.declared.call.NoCall.TheVariants as no_call
 use Rattle.watched_io.specs.States.{ReaderState, WriterState, writer_state}
 use Rattle.watched_io.specs.declared.fault.IoFault.{IoFault}
 use Rattle.watched_io.specs.declared.fault.IoFault.TheVariants.{OutOfMemory}
@@ -53,11 +51,6 @@ EndsAs (check_explained name) known contents status input rest old new before af
 EndsAs (eval_explained name sink) known contents status input rest old new before after =
     EvalEndsExplained known name sink status contents old new before after
 
--- what is left alone: the files by a replay, and the input by what goes by a graph
-abbrev pub LeavesBy : {R F : Type 0} → Option (List ℕ) → Watched R → Watched R → F → F → Type 0
-LeavesBy None input rest closed files = files ≡ closed
-LeavesBy (Some name) input rest closed files = rest ≡ input
-
 -- a replay alone reads the input, and words that ask for something of a graph alone open files
 pub record LeavesAlone {R F : Type 0} (words : List (List ℕ)) (input rest : Watched R)
     (closed files : F) : Type 0 where
@@ -86,11 +79,3 @@ pub record AnswerEnds {W : Type 0} (words : List (List ℕ)) (status : ℕ)
   pub silent : AreRefused words ⊎ (status ≡ 2) → new ≡ old
   pub stops : status ≡ 5
       → AnswerStops (writer_state contents old) (writer_state contents new) before after
-
--- the status by why there is no call; what is told goes to the fault stream alone, but for help and
--- the version
-abbrev pub IsAnswer : {W : Type 0} → NoCall → ℕ → Watched W → Watched W → WriterState → WriterState → Type 0
-IsAnswer (no_call.Shown text) status old new before after = (status ≡ 0) ⊎ (status ≡ 5)
-IsAnswer (no_call.Refused text) status old new before after = (status ≡ 2) × (new ≡ old)
-IsAnswer no_call.OutOfMemory status old new before after =
-    (status ≡ 5) × ((new ≡ old) × Reports OutOfMemory before after)

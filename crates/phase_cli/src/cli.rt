@@ -1,7 +1,8 @@
 //! A run of the program over any input and outputs.
 ghost use Rattle.std.specs.Prelude.{◌≡◌, ◌⊎◌};
-ghost use Rattle.phase_cli.specs.Ends.{AnswerEnds, AnswerStops, EndsAs, IsAnswer, IsUnbegun};
-ghost use Rattle.phase_cli.specs.Ends.{LeavesAlone, LeavesBy, MayEnd, MayEndAs};
+ghost use Rattle.phase_cli.specs.Ends.{AnswerEnds, AnswerStops, EndsAs, IsUnbegun};
+ghost use Rattle.phase_cli.specs.Ends.{LeavesAlone, MayEnd, MayEndAs};
+ghost use Rattle.phase_cli.specs.Inside.{IsAnswer, LeavesBy};
 ghost use Rattle.replay_command.specs.Replays.{ReplayEnds};
 ghost use Rattle.phase_words.specs.CommandLine.{AreTaken, AskReplay, Asked, Asks, asked_of};
 ghost use Rattle.phase_words.specs.CommandLine.{graph_asked, texts};

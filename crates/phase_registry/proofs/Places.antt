@@ -9,7 +9,8 @@ use Rattle.std.proofs.lemmas.Bool.Decides.{nat_tests}
 use Rattle.std.proofs.lemmas.Bool.{false≢true, eq-eqb, ne_eqb}
 use Rattle.phase_base.specs.declared.entry.Entry.{Entry}
 use Rattle.phase_base.specs.Members.{Members, entry_of, changed_at}
-use Rattle.phase_registry.specs.Rosters.{nobody, number_at, AreRising, IsAt, IsGapFor}
+use Rattle.phase_registry.specs.Rosters.{nobody, number_at, AreRising}
+use Rattle.phase_registry.specs.Inside.{IsAt, IsGapFor}
 
 module _ (l : Members) (rising : AreRising l) (k : ℕ) where
   comparisons_rise : IsNonDecreasingBy (λ m. ordering_index (nat_cmp m.0 k)) l

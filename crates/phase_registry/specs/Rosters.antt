@@ -52,16 +52,6 @@ abbrev pub AreRising : Members → Type 0
 AreRising members =
     (i j : ℕ) → i < j → j < length members → number_at members i < number_at members j
 
--- the member at place i has the number
-pub record IsAt (members : Members) (number i : ℕ) : Type 0 where
-  pub in_range : i < length members
-  pub has_number : number_at members i ≡ number
-
--- the number would stand at place i
-pub record IsGapFor (members : Members) (number i : ℕ) : Type 0 where
-  pub smaller_before : (j : ℕ) → j < i → number_at members j < number
-  pub greater_after : (j : ℕ) → i ≤ j → j < length members → number < number_at members j
-
 -- for the code: the members rise, all are among the used numbers, no more than may be, and these
 -- are the numbers of signallers and of waiters
 pub record IsRoster (members : Members) (greatest : Option ℕ) (signallers waiters : ℕ) : Type 0 where

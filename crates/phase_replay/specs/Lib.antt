@@ -1,4 +1,4 @@
-pub mod Reading
+pub mod Inside
 pub mod Replay
 pub mod Replayer
 pub mod Replies

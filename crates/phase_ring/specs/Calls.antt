@@ -10,14 +10,6 @@ use Rattle.phase_ring.specs.Standings.{is, other, counted}
 
 -- ---- before a call
 
--- a signaller stands at a phase, and there is room for it at a later one, at most the top
-pub record MayGoOn {A : Type 0} (from to : ℕ) (board : Board A) : Type 0 where
-  pub low : board.done ≤ from
-  pub later : from < to
-  pub high : to ≤ board.top
-  pub stands : 0 < standing board.ring Signaller from
-  pub few : standing board.ring Signaller to < MEMBERS_MAX
-
 -- a signaller stands at the first of some phases, all within the bound, and there is room for it
 -- at the phase behind them
 pub record MaySignal {A : Type 0} (from to : ℕ) (board : Board A) : Type 0 where

@@ -9,7 +9,8 @@ ghost use Rattle.phase_ring.specs.Rings.{IsWithin, KeepsSlots};
 ghost use Rattle.phase_ring.specs.Standings.{is, other, takes_part, phase_for, counted};
 ghost use Rattle.phase_ring.specs.Boards.{IsBoard};
 ghost use Rattle.phase_ring.specs.Blocks.{block_joined, block_values, BlockFits};
-ghost use Rattle.phase_ring.specs.Calls.{MayGoOn, MaySignal, MayWait, IsSettled, KeepsBounds};
+ghost use Rattle.phase_ring.specs.Calls.{MaySignal, MayWait, IsSettled, KeepsBounds};
+ghost use Rattle.phase_ring.specs.Inside.{MayGoOn};
 ghost use Rattle.phase_ring.specs.Calls.{HasMoved, HasSignalled, HasWaited, HasLeft};
 
 use crate::role::Role;

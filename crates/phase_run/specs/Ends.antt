@@ -1,13 +1,7 @@
 -- How a run of the program may end, by what its words ask for.
-use Rattle.std.specs.Prelude.{◌≡◌, ◌⊎◌, ℕ, true, List, Option}
-use Rattle.graph_commands.specs.FileJobs.{Known}
+use Rattle.std.specs.Prelude.{◌≡◌, ◌⊎◌, ℕ, true, List}
 use Rattle.phase_status.specs.Statuses.{Reports}
 use Rattle.phase_words.specs.RunLine.{AreRunRefused, AreRunTaken, AskRunHelp, AskRunVersion, Run}
-use Rattle.phase_words.specs.declared.call.Explain.{Explain}
-use Rattle.phase_words.specs.declared.call.Explain.TheVariants.{No, Yes}
-use Rattle.phase_words.specs.declared.call.NoCall.{NoCall}
-use Rattle.phase_words.specs.declared.call.NoCall.TheVariants as no_call
-use Rattle.run_command.specs.Runs.{RunEnds, RunEndsExplained}
 use Rattle.watched_io.specs.States.{WriterState}
 use Rattle.watched_io.specs.Watched.{has_failed_of}
 use Rattle.watched_io.specs.declared.fault.IoFault.TheVariants.{OutOfMemory, WriteFault}
@@ -29,14 +23,6 @@ pub record MayEnd (words : List (List ℕ)) (status : ℕ) : Type 0 where
   pub refused : AreRunRefused words → (status ≡ 2) ⊎ (status ≡ 5)
   pub untaken : (AreRunTaken words → ⊥) → (status ≡ 0) ⊎ ((status ≡ 2) ⊎ (status ≡ 5))
 
--- how a run ends, by whether a fault is explained
-abbrev pub RunEndsBy : {W : Type 0} → Explain → Known → List ℕ → Option (List ℕ) → ℕ
-    → (W → Option (List ℕ)) → Watched W → Watched W → WriterState → WriterState → Type 0
-RunEndsBy No known name asked status contents old new before after =
-    RunEnds known name asked status contents old new before after
-RunEndsBy Yes known name asked status contents old new before after =
-    RunEndsExplained known name asked status contents old new before after
-
 -- memory ran out over the words: no file was opened, and nothing was written but the fault's line
 pub record IsUnbegun {F W : Type 0} (status : ℕ) (closed files : F) (old new : Watched W)
     (before after : WriterState) : Type 0 where
@@ -57,11 +43,3 @@ pub record AnswerEnds {W : Type 0} (words : List (List ℕ)) (status : ℕ) (old
     (before after : WriterState) : Type 0 where
   pub silent : AreRunRefused words ⊎ (status ≡ 2) → new ≡ old
   pub stops : status ≡ 5 → AnswerStops old new before after
-
--- the status by why there is no call; what is told goes to the fault stream alone, but for help and
--- the version
-abbrev pub IsAnswer : {W : Type 0} → NoCall → ℕ → Watched W → Watched W → WriterState → WriterState → Type 0
-IsAnswer (no_call.Shown text) status old new before after = (status ≡ 0) ⊎ (status ≡ 5)
-IsAnswer (no_call.Refused text) status old new before after = (status ≡ 2) × (new ≡ old)
-IsAnswer no_call.OutOfMemory status old new before after =
-    (status ≡ 5) × ((new ≡ old) × Reports OutOfMemory before after)

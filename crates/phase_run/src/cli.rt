@@ -1,7 +1,9 @@
 //! A run of the program over any outputs and files.
 ghost use Rattle.std.specs.Prelude.{◌≡◌, ◌⊎◌, ℕ, List, Option};
-ghost use Rattle.phase_run.specs.Ends.{AnswerEnds, AnswerStops, IsAnswer, IsUnbegun, MayEnd};
-ghost use Rattle.phase_run.specs.Ends.{MayEndAsRun, RunEndsBy};
+ghost use Rattle.phase_run.specs.Ends.{AnswerEnds, AnswerStops, IsUnbegun, MayEnd};
+ghost use Rattle.phase_run.specs.Inside.{IsAnswer};
+ghost use Rattle.phase_run.specs.Ends.{MayEndAsRun};
+ghost use Rattle.phase_run.specs.Inside.{RunEndsBy};
 ghost use Rattle.phase_words.specs.CommandLine.{texts};
 ghost use Rattle.phase_words.specs.RunLine.{AreRunTaken, AskRun, AskRunExplained, run_of};
 ghost use Rattle.run_command.specs.Runs.{RunEnds, RunEndsExplained};

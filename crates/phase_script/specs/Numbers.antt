@@ -17,10 +17,6 @@ begins_plainly (b ∷ c ∷ bs) = not (b == 48)
 abbrev pub is_numeral : List ℕ → Bool
 is_numeral bs = begins_plainly bs && all_ascii_digits bs
 
--- the number that the bytes write, if all of them are digits
-abbrev pub digits_of : List ℕ → Option ℕ
-digits_of bs = if all_ascii_digits bs then Some (digits_value 10 bs) else None
-
 -- the number that a word is, if it is one within the limit
 unfoldable pub nat_of : List ℕ → Option ℕ
 nat_of word =

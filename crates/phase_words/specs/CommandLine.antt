@@ -216,9 +216,3 @@ ExplainsNone kinds no_call.OutOfMemory = ⊤
 -- why the words give no call
 abbrev pub IsNoCall : List Text → NoCall → Type 0
 IsNoCall words none = ExplainsNone (kinds_of words) none
-
--- how an error of this kind is told, with its text
-abbrev pub IsToldBy : ErrorKind → NoCall → Type 0
-IsToldBy kind (no_call.Shown text) = IsShown kind
-IsToldBy kind (no_call.Refused text) = (IsShown kind → ⊥) × (kind ≢ OutOfMemory)
-IsToldBy kind no_call.OutOfMemory = ⊤

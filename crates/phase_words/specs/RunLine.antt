@@ -32,16 +32,19 @@ run_app = with_rule (with_rule (with_rule (with_rule (with_version
 unfoldable pub run_kinds_of : List Text → Kinds
 run_kinds_of words = fault_of run_app words
 
--- clap takes the words; they ask for help, for the version, or are refused
+-- clap takes the words: they ask for no help and no version, and nothing is refused
 abbrev pub AreRunTaken : List Text → Type 0
 AreRunTaken words = run_kinds_of words ≡ []
 
+-- the words ask for help, and for nothing else
 abbrev pub AskRunHelp : List Text → Type 0
 AskRunHelp words = run_kinds_of words ≡ DisplayHelp ∷ []
 
+-- the words ask for the version, and for nothing else
 abbrev pub AskRunVersion : List Text → Type 0
 AskRunVersion words = run_kinds_of words ≡ DisplayVersion ∷ []
 
+-- the words are refused: they are not taken, and ask for no help and no version
 abbrev pub AreRunRefused : List Text → Type 0
 AreRunRefused words = Refuse (run_kinds_of words)
 
@@ -72,6 +75,7 @@ run_by rows = record {
   explain = explain_of (first_of (codes "explain") rows);
 }
 
+-- the run that the words ask for, by what clap finds in them
 unfoldable pub run_in : List Text → Run
 run_in words = run_by (matches_of run_app words)
 
@@ -80,10 +84,13 @@ pub record AsksRun (words : List Text) (what : Run) : Type 0 where
   pub taken : AreRunTaken words
   pub run : run_in words ≡ what
 
+-- the words ask for a run of the graph in the file of this name by so many workers, for all its
+-- sinks, or for the one of this name, without an explanation of a fault
 abbrev pub AskRun : List Text → Text → Option Text → ℕ → Type 0
 AskRun words name sink workers =
     AsksRun words (record { graph = name; sink = sink; workers = workers; explain = No })
 
+-- and such a run with an explanation of a fault
 abbrev pub AskRunExplained : List Text → Text → Option Text → ℕ → Type 0
 AskRunExplained words name sink workers =
     AsksRun words (record { graph = name; sink = sink; workers = workers; explain = Yes })

@@ -3,7 +3,8 @@ ghost use Rattle.std.specs.Prelude.{◌≡◌, ◌↔◌, IfOk, IfErr, IsTrue, S
 ghost use Rattle.clap.specs.Words.{FailsBy, app_of, kind_of, rule_of, shape_of};
 ghost use Rattle.clap.specs.Words.{subcommand_rows_of};
 ghost use Rattle.clap.specs.declared.builder.command.Command.{out-Command};
-ghost use Rattle.phase_words.specs.CommandLine.{Asks, IsNoCall, IsShown, IsToldBy};
+ghost use Rattle.phase_words.specs.CommandLine.{Asks, IsNoCall, IsShown};
+ghost use Rattle.phase_words.specs.Inside.{IsToldBy};
 ghost use Rattle.phase_words.specs.CommandLine.{asked_as, asked_by, asked_in, asked_of, check_shape};
 ghost use Rattle.phase_words.specs.CommandLine.{eval_shape, explain_of, explain_rule, graph_app, graph_rule};
 ghost use Rattle.phase_words.specs.CommandLine.{kinds_of, phase_app, sink_rule, texts};

@@ -17,7 +17,7 @@ use Rattle.csv.specs.declared.parser.Action.{Action}
 use Rattle.csv.specs.declared.parser.Action.TheVariants as act
 use Rattle.csv.proofs.ReadFacts.{reached-more}
 use Rattle.phase_accum.specs.Sends.{AreSends, IsSend}
-use Rattle.sample_text.specs.Parts.{EndsWithComma, IsThroughComma}
+use Rattle.sample_text.specs.Inside.{EndsWithComma, IsThroughComma}
 use Rattle.sample_text.specs.Samples.{AreSamples, IsBadSample, row_of}
 use Rattle.sample_text.proofs.Digits.{looks_decimal}
 use lib.IntN.{pos, negsuc}

@@ -1,4 +1,3 @@
 pub mod Faults
-pub mod Forms
-pub mod Parts
+pub mod Inside
 pub mod Samples

@@ -4,7 +4,7 @@ ghost use Rattle.std.specs.Prelude.{length};
 ghost use Rattle.std.specs.Fmt.{decimal, signed_decimal};
 ghost use Rattle.std.specs.Str.Parse.{AllDigits, digits_value};
 ghost use Rattle.phase_accum.specs.Sends.{IsSend, value_max};
-ghost use Rattle.sample_text.specs.Forms.{HasOneForm};
+ghost use Rattle.sample_text.specs.Inside.{HasOneForm};
 
 /// The number that the digits spell, up to the greatest value.
 fn nat_of(word: &[u8]) -> Option<u64>

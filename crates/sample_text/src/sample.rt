@@ -4,7 +4,7 @@ ghost use Rattle.std.specs.Prelude.{IfOk, OnOk, IfSome, IfNone, IsErrOf, Err};
 ghost use Rattle.std.specs.Fmt.{signed_decimal};
 ghost use Rattle.csv.specs.Records.{fields_of};
 ghost use Rattle.phase_accum.specs.Sends.{IsSend, AreSends};
-ghost use Rattle.sample_text.specs.Parts.{IsThroughComma};
+ghost use Rattle.sample_text.specs.Inside.{IsThroughComma};
 ghost use Rattle.sample_text.specs.Samples.{AreSamples, IsBadSample};
 ghost use Rattle.sample_text.specs.Samples.{AreShortSamples, IsBadShortSample};
 ghost use Rattle.sample_text.specs.Samples.{ReadsSamples, ReadsBadSample};

@@ -12,7 +12,8 @@ use Rattle.graph_turns.specs.TaskPlaces.{registration_at}
 use Rattle.graph_members.specs.Members.{limits_on}
 use Rattle.graph_members.specs.AnyMembers.{left_in}
 use Rattle.graph_members.specs.declared.any_left.AnyLeft.{AnyLeft}
-use Rattle.stream_ends.specs.Joinings.{IsAt, HasPlaceFor, HasTakenIn, HasGrownTo, HaveGrown, IsTakenIn}
+use Rattle.stream_ends.specs.Joinings.{IsAt, HasPlaceFor, HasGrownTo, HaveGrown, IsTakenIn}
+use Rattle.stream_ends.specs.Inside.{HasTakenIn}
 
 -- ---- lists of numbers
 

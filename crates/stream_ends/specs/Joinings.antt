@@ -1,9 +1,9 @@
 -- What members that left have seen, put together phaser by phaser.
-use Rattle.std.specs.Prelude.{◌≡◌, ◌≢◌, ℕ, List, length, slice_get, Option, Some, true, false}
+use Rattle.std.specs.Prelude.{◌≡◌, ℕ, List, slice_get, Option, Some, true, false}
 use Rattle.phase_history.specs.Legal.{IsLegal}
 use Rattle.phase_history.specs.Others.{OthersCame}
 use Rattle.phase_base.specs.Lists.{is_in}
-use Rattle.graph_members.specs.Members.{HasJoined, limits_on}
+use Rattle.graph_members.specs.Members.{limits_on}
 use Rattle.graph_members.specs.AnyMembers.{left_in, left_op}
 use Rattle.graph_members.specs.declared.any_left.AnyLeft.{AnyLeft}
 
@@ -17,17 +17,6 @@ pub record HasPlaceFor (joined : List (Option AnyLeft)) (p : ℕ) (left : AnyLef
   pub is_at : IsAt joined p one
   pub at : (left_in left).at ≡ (left_in one).at
   pub op : left_op left ≡ left_op one
-
--- the one at place p, and this, are one now, and the other places are as they were
-pub record HasTakenIn (old new : List (Option AnyLeft)) (p : ℕ) (left : AnyLeft) : Type 0 where
-  pub one : AnyLeft
-  pub was : IsAt old p one
-  pub all : AnyLeft
-  pub is : IsAt new p all
-  pub join : HasJoined (left_in one) (left_in left) (left_in all)
-  pub op : left_op all ≡ left_op one
-  pub elsewhere : (q : ℕ) → q ≢ p → slice_get new q ≡ slice_get old q
-  pub long : length new ≡ length old
 
 -- one has become the other: of the same phaser, by others' events alone, and for more numbers
 pub record HasGrownTo (one all : AnyLeft) : Type 0 where

@@ -1,4 +1,5 @@
 pub mod Agreeing
 pub mod Gatherings
+pub mod Inside
 pub mod Joinings
 pub mod TaskLefts

@@ -4,7 +4,8 @@ ghost use Rattle.graph_base.specs.TaskLines.{IsGraph};
 ghost use Rattle.graph_members.specs.declared.any_left.AnyLeft.{AnyLeft as LeftValue};
 ghost use Rattle.graph_turns.specs.Nexts.{registrations_at};
 ghost use Rattle.graph_turns.specs.TaskPlaces.{registration_at};
-ghost use Rattle.stream_ends.specs.Joinings.{HasPlaceFor, HasTakenIn, HaveGrown, IsTakenIn};
+ghost use Rattle.stream_ends.specs.Joinings.{HasPlaceFor, HaveGrown, IsTakenIn};
+ghost use Rattle.stream_ends.specs.Inside.{HasTakenIn};
 
 use graph_members::AnyLeft;
 use stream_lists::Job;

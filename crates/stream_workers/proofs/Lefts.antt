@@ -17,7 +17,7 @@ use Rattle.graph_tasks.specs.declared.ended.Ended.{Ended}
 use Rattle.stream_ends.specs.Joinings.{IsAt}
 use Rattle.stream_ends.specs.TaskLefts.{given_to, IsLeftOf, IsTaskLeft, AreFounders}
 use Rattle.stream_ends.specs.declared.task_left.TaskLeft.{TaskLeft}
-use Rattle.stream_workers.specs.Finishings.{Follows}
+use Rattle.stream_workers.specs.Inside.{Follows}
 
 -- ---- lists
 

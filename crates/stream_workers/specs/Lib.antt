@@ -1,2 +1,2 @@
 pub mod Ended
-pub mod Finishings
+pub mod Inside

@@ -11,7 +11,7 @@ ghost use Rattle.stream_ends.specs.declared.task_left.TaskLeft.{TaskLeft as Task
 ghost use Rattle.stream_eval.specs.Results.{sink_values};
 ghost use Rattle.stream_lists.specs.Jobs.{Job as JobValue};
 ghost use Rattle.stream_lists.specs.Ranges.{answer_of};
-ghost use Rattle.stream_workers.specs.Finishings.{Follows, given_on};
+ghost use Rattle.stream_workers.specs.Inside.{Follows, given_on};
 
 use graph_members::AnyLeft;
 use graph_openings::FounderLeft;

@@ -6,7 +6,7 @@
 ghost use Rattle.std.specs.Prelude.{◌≡◌, None, IfSome};
 ghost use denote.Param.Send.{IsSync};
 ghost use Rattle.phase_shared.specs.Regs.{phaser_place, phaser_limits};
-ghost use Rattle.three_stages.specs.Sinks.{GotWhole};
+ghost use Rattle.three_stages.specs.Inside.{GotWhole};
 
 use phase_accum::{Outcome, Sum};
 use phase_base::{Mode, Spec};

@@ -1,7 +1,8 @@
 //! The numbers of a line.
 
 ghost use Rattle.std.specs.Prelude.{◌≡◌, ◌≤◌, length, nat_abs, IfSome};
-ghost use Rattle.phase_script.specs.Numbers.{most, begins_plainly, digits_of, nat_of, int_of};
+ghost use Rattle.phase_script.specs.Numbers.{most, begins_plainly, nat_of, int_of};
+ghost use Rattle.phase_script.specs.Inside.{digits_of};
 
 // The greatest number.
 const MOST: u64 = 9223372036854775807;

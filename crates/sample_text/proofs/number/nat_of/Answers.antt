@@ -1,6 +1,6 @@
 use Rattle.std.proofs.Common.{arith, ◌≡◌, sym, ◌∙◌, ap, true, false, refl}
 use Rattle.std.specs.Fmt.{decimal}
-use Rattle.sample_text.specs.Forms.{HasOneForm}
+use Rattle.sample_text.specs.Inside.{HasOneForm}
 use Rattle.sample_text.proofs.Digits.{looks, spells}
 use Rattle.sample_text.proofs.number.nat_of.Goals as goal
 

@@ -3,7 +3,8 @@ use Rattle.std.proofs.Common.{◌≡◌, ℕ, ◌+◌, ◌-◌, take, ◌<◌, [
 use Rattle.std.proofs.lemmas.List.{length-append}
 use Rattle.stream_lists.specs.Jobs.{Job}
 use Rattle.graph_base.specs.declared.registration.Registration.{Registration}
-use Rattle.stream_ends.specs.Joinings.{HasPlaceFor, HasTakenIn}
+use Rattle.stream_ends.specs.Joinings.{HasPlaceFor}
+use Rattle.stream_ends.specs.Inside.{HasTakenIn}
 use Rattle.graph_base.specs.Graphs.{Graph, task_at}
 use Rattle.graph_base.specs.Registrations.{registrations_of, no_registration}
 use Rattle.graph_turns.specs.Nexts.{registrations_at}

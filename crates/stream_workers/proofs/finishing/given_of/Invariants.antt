@@ -1,5 +1,5 @@
 use Rattle.std.proofs.Common.{◌≡◌, map}
-use Rattle.stream_workers.specs.Finishings.{given_on}
+use Rattle.stream_workers.specs.Inside.{given_on}
 use Rattle.stream_workers.proofs.finishing.given_of.Given as goal
 
 -- those so far

@@ -2,7 +2,7 @@ use Rattle.std.proofs.Common.{length}
 use Rattle.std.specs.List.{flat_map}
 use Rattle.std.proofs.lemmas.Result.{err_from_is_err_and, on_err_weaker, on_ok_weaker}
 use Rattle.graph_commands.specs.OutputTexts.{value_text}
-use Rattle.graph_commands.specs.Puts.{heading_text}
+use Rattle.graph_commands.specs.Inside.{heading_text}
 use Rattle.graph_commands.proofs.Putting.{Puts-append, prefix_before, prefix_behind}
 use Rattle.graph_commands.proofs.output_buffer.OutputBuffer.put_sink.Goals as goal
 

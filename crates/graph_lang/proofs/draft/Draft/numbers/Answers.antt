@@ -7,7 +7,7 @@ use Rattle.graph_base.specs.Graphs.{Graph}
 use Rattle.graph_base.specs.Inside.{task_of}
 use Rattle.graph_base.specs.declared.limits.TheConstants.{TASKS_MAX}
 use Rattle.graph_lang.specs.Faults.{is_body_within, are_ends_within}
-use Rattle.graph_lang.specs.Numbers.{steps_in}
+use Rattle.graph_lang.specs.Inside.{steps_in}
 use Rattle.graph_lang.proofs.Ends.{ends-by, ends-until}
 use Rattle.graph_lang.proofs.Sound.{none-if, no-ends, room-none, room-some}
 use Rattle.graph_lang.proofs.draft.Draft.numbers.Goals as goal

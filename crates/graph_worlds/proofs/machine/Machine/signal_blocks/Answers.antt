@@ -6,7 +6,7 @@ use Rattle.graph_turns.specs.Nexts.{number_on}
 use Rattle.graph_turns.specs.Answers.{output_at}
 use Rattle.graph_turns.specs.TaskPlaces.{registration_of_output}
 use Rattle.graph_worlds.specs.Places.{place_of}
-use Rattle.graph_worlds.specs.Stalls.{blocks_signal}
+use Rattle.graph_worlds.specs.Inside.{blocks_signal}
 use Rattle.graph_worlds.proofs.Ending.{number_of_output}
 use Rattle.graph_worlds.proofs.machine.Machine.signal_blocks.Goals as goal
 

@@ -1,6 +1,6 @@
 -- By the call that each kind of step makes.
 use Rattle.std.proofs.Common.{ap, ◌∙◌}
-use Rattle.graph_worlds.specs.Stalls.{would_block}
+use Rattle.graph_worlds.specs.Inside.{would_block}
 use Rattle.graph_worlds.specs.Machines.{next_by}
 use Rattle.graph_worlds.proofs.Stalling.{sample_blocks, first_wait_blocks, exchange_blocks}
 use Rattle.graph_worlds.proofs.machine.Machine.step_blocks.Goals as goal

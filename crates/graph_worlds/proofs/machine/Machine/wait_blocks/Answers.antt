@@ -4,7 +4,7 @@ use Rattle.graph_base.specs.Graphs.{task_at, phaser_at}
 use Rattle.graph_moments.specs.Moments.{limits_at, input_at}
 use Rattle.graph_turns.specs.Nexts.{number_on}
 use Rattle.graph_worlds.specs.Places.{place_of}
-use Rattle.graph_worlds.specs.Stalls.{blocks_wait}
+use Rattle.graph_worlds.specs.Inside.{blocks_wait}
 use Rattle.graph_worlds.proofs.Ending.{number_of_input}
 use Rattle.graph_worlds.proofs.machine.Machine.wait_blocks.Goals as goal
 

@@ -12,7 +12,7 @@ use Rattle.graph_base.specs.Graphs.{task_at}
 use Rattle.graph_turns.specs.Nexts.{waits}
 use Rattle.graph_moves.specs.Turned.{with_at}
 use Rattle.graph_steps.specs.Steps.{HasFilter}
-use Rattle.graph_worlds.specs.Calls.{with_line, HasRoomIn}
+use Rattle.graph_worlds.specs.Inside.{with_line, HasRoomIn}
 use Rattle.graph_worlds.specs.Places.{HasTakenOne}
 use Rattle.graph_worlds.specs.Machines.{HasCores, HasRoom}
 use Rattle.graph_worlds.proofs.Lively.{has_state}

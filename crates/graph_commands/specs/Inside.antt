@@ -1,4 +1,4 @@
--- What a writer got of a text whose end waits to be written.
+-- What is put out, behind what waits to be written.
 use Rattle.std.specs.Prelude.{◌≡◌, ℕ, List, ◌++◌, codes, decimal}
 use Rattle.std.specs.Io.KnownBytes.{Appends}
 use Rattle.std.specs.declared.option.Option.{Option}

@@ -1,4 +1,4 @@
--- What the sink of the pipeline got.
+-- What the last thread got.
 use Rattle.std.specs.Prelude.{◌≡◌, ℕ, List, true}
 use Rattle.turn_lock.specs.Seats.{Place}
 use Rattle.phase_base.specs.Limits.{Limits}

@@ -1,4 +1,4 @@
--- What a task leaves behind, for the end of a run.
+-- What the code keeps while runs end.
 use Rattle.std.specs.Prelude.{ℕ, Option, Some, None}
 use Rattle.graph_members.specs.Members.{Spot}
 use Rattle.graph_tasks.specs.Ends.{IsEnded}

@@ -1,4 +1,4 @@
--- How the reading of a script stops before its end.
+-- How a reader stops.
 use Rattle.std.specs.Prelude.{◌≡◌, ℕ, ◌<◌, ◌≤◌, ◌⊎◌, true, List, length}
 use Rattle.watched_io.specs.States.{Gives, ReaderState}
 

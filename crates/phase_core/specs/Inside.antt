@@ -1,7 +1,7 @@
--- The refusals of the registry, as refusals of a registration.
+-- Why a registration is refused, by why a number is not added.
 use Rattle.phase_registry.specs.declared.refusal.AddRefusal.{AddRefusal}
-use Rattle.phase_registry.specs.declared.refusal.AddRefusal.TheVariants as add
 use Rattle.phase_history.specs.declared.refusal.RegisterRefusal.{RegisterRefusal}
+use Rattle.phase_registry.specs.declared.refusal.AddRefusal.TheVariants as add
 use Rattle.phase_history.specs.declared.refusal.RegisterRefusal.TheVariants as register
 
 -- the refusal of a registration whose child was not added

@@ -1,13 +1,18 @@
 -- How the words of a line are read, one after another. What may be relied on is the spelling: the
 -- laws of reading say that the two agree.
-use Rattle.std.specs.Prelude.{◌==◌, ◌&&◌, Bool, false, List, [], ◌∷◌, length, Option, Some, None, option_and_then, if◌then◌else◌, codes}
+use Rattle.std.specs.Prelude.{◌==◌, ◌&&◌, Bool, false, List, [], ◌∷◌, length, Option, Some, None, option_and_then, if◌then◌else◌, codes, ℕ}
 use Rattle.std.specs.Str.{bytes_eq}
+use Rattle.std.specs.Borrow.{Bor}
 use Rattle.graph_words.specs.Words.{Word, is_name, is_file}
 use Rattle.phase_base.specs.OperationWords.{operation_of}
 use Rattle.phase_base.specs.declared.operation.Op.{Op}
 use Rattle.graph_text.specs.Numbers.{is_nat, is_int}
-use Rattle.graph_text.specs.Decls.{Decl, phaser, task, FunctionWords, neg, abs, halve, clamp, ByWords, EndWords}
-use Rattle.graph_text.specs.Decls.{BodyWords, source, fir, split, join, peer, sink, may_have_parent}
+use Rattle.graph_text.specs.Decls.{Decl, phaser, task, FunctionWords, neg, abs, halve, clamp, ByWords, EndWords, BodyWords, source, fir, split, join, peer, sink, may_have_parent}
+use Rattle.graph_text.specs.Lines.{function_of, single_of, by_of, word_of, body_of}
+use Rattle.graph_text.specs.Plain.{plain as words_in}
+use Rattle.graph_text.specs.declared.line.By.{By}
+use Rattle.graph_text.specs.declared.line.Function.{Function}
+use Rattle.graph_text.specs.declared.line.Body.{Body}
 
 -- what follows, where there is something before it
 infixl 10 ◌>>=◌
@@ -208,3 +213,40 @@ unfoldable pub line_at : List Word → Option Decl
 line_at [] = None
 line_at (kind ∷ words) =
     if bytes_eq kind (codes "phaser") then phaser_at words else task_at kind words
+
+-- ---- what was read, with the words after it
+
+-- a word
+abbrev pub found_word : Bor (List ℕ) × Bor (List (Bor (List ℕ))) → Found Word
+found_word found = (found.0.now, words_in found.1.now)
+
+-- words
+abbrev pub found_words :
+    Bor (List (Bor (List ℕ))) × Bor (List (Bor (List ℕ))) → Found (List Word)
+found_words found = (words_in found.0.now, words_in found.1.now)
+
+-- an operation
+abbrev pub found_operation : Op × Bor (List (Bor (List ℕ))) → Found Op
+found_operation found = (found.0, words_in found.1.now)
+
+-- a function
+abbrev pub found_function : Function × Bor (List (Bor (List ℕ))) → Found FunctionWords
+found_function found = (function_of found.0, words_in found.1.now)
+
+-- a single or none
+abbrev pub found_single :
+    Option Function × Bor (List (Bor (List ℕ))) → Found (Option FunctionWords)
+found_single found = (single_of found.0, words_in found.1.now)
+
+-- a parent or none
+abbrev pub found_by : Option By × Bor (List (Bor (List ℕ))) → Found (Option ByWords)
+found_by found = (by_of found.0, words_in found.1.now)
+
+-- a last boundary or none
+abbrev pub found_until :
+    Option (Bor (List ℕ)) × Bor (List (Bor (List ℕ))) → Found (Option Word)
+found_until found = (word_of found.0, words_in found.1.now)
+
+-- what a task does
+abbrev pub found_body : Body × Bor (List (Bor (List ℕ))) → Found BodyWords
+found_body found = (body_of found.0, words_in found.1.now)

@@ -1,0 +1,13 @@
+-- How an error of clap is told.
+use Rattle.std.specs.Prelude.{◌≢◌, ⊤}
+use Rattle.clap.specs.declared.error.kind.ErrorKind.{ErrorKind}
+use Rattle.clap.specs.declared.error.kind.ErrorKind.TheVariants.{OutOfMemory}
+use Rattle.phase_words.specs.CommandLine.{IsShown}
+use Rattle.phase_words.specs.declared.call.NoCall.{NoCall}
+use Rattle.phase_words.specs.declared.call.NoCall.TheVariants as no_call
+
+-- how an error of this kind is told, with its text
+abbrev pub IsToldBy : ErrorKind → NoCall → Type 0
+IsToldBy kind (no_call.Shown text) = IsShown kind
+IsToldBy kind (no_call.Refused text) = (IsShown kind → ⊥) × (kind ≢ OutOfMemory)
+IsToldBy kind no_call.OutOfMemory = ⊤
