@@ -7,7 +7,6 @@ use Rattle.phase_accum.specs.Operations.{Operation}
 use Rattle.phase_ring.specs.declared.slot.Slot.{Slot}
 use Rattle.phase_ring.specs.Slots.{empty_slot}
 use Rattle.phase_ring.specs.Rings.{Ring, ring, padded, IsRing, IsWithin, slot_at, with_slot}
-use Rattle.circular_buffer.proofs.Places.{slice_get-some}
 use Rattle.phase_ring.proofs.Slots.{slice_get-append_left}
 
 -- ---- lists
@@ -73,7 +72,7 @@ pub padded-released : {A : Type 0} (op : Operation A) (slots : List (Slot A)) (n
 padded-released op [] n some room =
     let e = empty_slot op in
     sym (ap (λ ys. ys ++ e ∷ []) (drop-replicate 1 (n - 0) e) ∙ replicate-append-replicate (n - 0 - 1) 1 e
-        ∙ ap (λ m. replicate m e) (let z : n - 0 - 1 + 1 ≡ n - 0 = omega arith in z))
+    ∙ ap (λ m. replicate m e) (let z : n - 0 - 1 + 1 ≡ n - 0 = omega arith in z))
 padded-released op (x ∷ xs) n some room =
     let e = empty_slot op in
     sym (fill-end xs (n - suc (length xs)) e ∙ ap (λ m. xs ++ replicate m e) (let z : suc (n - suc (length xs)) ≡ n - length xs = omega arith in z))
