@@ -1,11 +1,8 @@
 -- Faults below a job as faults of the job.
 use Rattle.watched_io.specs.declared.fault.FileFault.{FileFault}
 use Rattle.watched_io.specs.declared.fault.FileFault.TheVariants as file_fault
-use Rattle.graph_lang.specs.declared.fault.FaultKind.TheVariants.{AnyMeets}
 use Rattle.graph_lang.specs.declared.fault.GraphRefusal.{GraphRefusal}
 use Rattle.graph_lang.specs.declared.fault.GraphRefusal.TheVariants as graph_refusal
-use Rattle.stream_lists.specs.declared.refusal.JobRefusal.{JobRefusal}
-use Rattle.stream_lists.specs.declared.refusal.JobRefusal.TheVariants as job_refusal
 use Rattle.graph_commands.specs.declared.fault.JobFault.{JobFault}
 use Rattle.graph_commands.specs.declared.fault.JobFault.TheVariants as fault
 
@@ -18,8 +15,3 @@ of_file file_fault.OutOfMemory = fault.OutOfMemory
 abbrev pub of_graph : GraphRefusal → JobFault
 of_graph (graph_refusal.Fault found) = fault.Graph found
 of_graph graph_refusal.OutOfMemory = fault.OutOfMemory
-
--- why a graph and samples gave no job
-abbrev pub of_job : JobRefusal → JobFault
-of_job (job_refusal.AnyMeets line) = fault.Graph (record { line = line; kind = AnyMeets })
-of_job job_refusal.OutOfMemory = fault.OutOfMemory

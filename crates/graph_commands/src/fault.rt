@@ -1,9 +1,8 @@
 //! Why no job was made of a graph's file.
 ghost use Rattle.std.specs.Prelude.{◌≡◌};
-ghost use Rattle.graph_commands.specs.Faults.{of_file, of_graph, of_job};
+ghost use Rattle.graph_commands.specs.Faults.{of_file, of_graph};
 
-use graph_lang::{FaultKind, GraphFault, GraphRefusal};
-use stream_lists::JobRefusal;
+use graph_lang::{GraphFault, GraphRefusal};
 use watched_io::FileFault;
 
 /// Why no job was made of a graph's file.
@@ -43,20 +42,6 @@ impl From<GraphRefusal> for JobFault {
         match refusal {
             GraphRefusal::Fault(fault) => JobFault::Graph(fault),
             GraphRefusal::OutOfMemory => JobFault::OutOfMemory,
-        }
-    }
-}
-
-impl From<JobRefusal> for JobFault {
-    ghost from_gives = { λ given fault. fault ≡ of_job given };
-
-    fn from(refusal: JobRefusal) -> JobFault {
-        match refusal {
-            JobRefusal::AnyMeets { line } => JobFault::Graph(GraphFault {
-                line,
-                kind: FaultKind::AnyMeets,
-            }),
-            JobRefusal::OutOfMemory => JobFault::OutOfMemory,
         }
     }
 }

@@ -5,9 +5,9 @@ ghost use Rattle.graph_commands.specs.FileJobs.{Explains, IsGraphOf, IsJobOf};
 use crate::JobFault;
 use crate::graph_file::read_graph_file;
 use crate::sources::read_sources;
-use graph_lang::Graph;
+use graph_lang::{FaultKind, Graph, GraphFault};
 use std::alloc::Global;
-use stream_lists::Job;
+use stream_lists::{Job, JobRefusal};
 use watched_io::Files;
 
 /// Makes the job of a graph's file: reads the graph, then the samples of each source in the order
@@ -37,5 +37,12 @@ pub(crate) fn job_of_graph<F: Files>(
     ensures kept { (other : List ℕ) → F.file files.new other ≡ F.file files.old other }
 {
     let samples = read_sources(alloc, files, &graph)?;
-    Ok(Job::new(alloc, graph, samples)?)
+    match Job::new(alloc, graph, samples) {
+        Ok(job) => Ok(job),
+        Err(JobRefusal::AnyMeets { line }) => Err(JobFault::Graph(GraphFault {
+            line,
+            kind: FaultKind::AnyMeets,
+        })),
+        Err(JobRefusal::OutOfMemory) => Err(JobFault::OutOfMemory),
+    }
 }

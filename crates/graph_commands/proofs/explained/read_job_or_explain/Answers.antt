@@ -25,15 +25,15 @@ returns-in-Ok-clause-err g c =
     let of : IsTextOf (g.F.Files.file c.read.new.self) name c.deref.result.now = rw c.deref.ensures.value
     (subst (λ (known : Known). IsTextOf known name c.in-Ok.text.items) (sym same)
     (record { bytes = c.in-Ok.ensures.bytes; short = c.in-Ok.ensures.short })) in
-    let here : IsTextOf (g.F.Files.file c.args.files.now) name c.deref-in-Err.result.now =
-    rw c.deref-in-Err.ensures.value
+    let here : IsTextOf (g.F.Files.file c.args.files.now) name c.deref-in-Err-job_of_text.result.now =
+    rw c.deref-in-Err-job_of_text.ensures.value
     (record { bytes = c.in-Ok.ensures.bytes; short = c.in-Ok.ensures.short }) in
     record {
-      found = c.in-Err.fault;
-      explains = subst (λ (known : Known). Explains known name c.in-Err.fault) same
-          (c.in-Err.ensures.fault name of);
+      found = c.in-Err-job_of_text.fault;
+      explains = subst (λ (known : Known). Explains known name c.in-Err-job_of_text.fault) same
+          (c.in-Err-job_of_text.ensures.fault name of);
       status_is = c.report_explained.ensures.status;
-      text = c.deref-in-Err.result.now;
+      text = c.deref-in-Err-job_of_text.result.now;
       text_of = λ _. here;
       explained = c.report_explained.ensures.told;
     }

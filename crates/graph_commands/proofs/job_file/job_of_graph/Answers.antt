@@ -8,9 +8,9 @@ returns-in-Err-AnyMeets-clause-fault g c =
     λ name of. inr (
       refl,
       record {
-        job = given c.args.graph c.in-Ok.samples.items;
+        job = given c.args.graph c.in_ok-samples.samples.items;
         graph_of = of;
-        samples_of = c.in-Ok.ensures.ok;
+        samples_of = c.in_ok-samples.ensures.ok;
         meets = c.in-Err-AnyMeets.ensures.any_meets c.in-Err-AnyMeets.line (search rules);
       },
     )
