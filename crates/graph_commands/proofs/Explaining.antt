@@ -1,13 +1,12 @@
 -- Why there is no job of a graph's text, and its status.
-use Rattle.std.proofs.Common.{◌≡◌, ◌⊎◌, inl, inr, ℕ, List, Ok, Err, sym, subst}
+use Rattle.std.proofs.Common.{◌≡◌, ◌⊎◌, inl, inr, ℕ, List, Ok, sym, subst}
 use Rattle.graph_base.specs.Graphs.{Graph, no_graph}
 use Rattle.graph_commands.specs.Explained.{IsFurther, IsTextOf, Tells}
-use Rattle.graph_commands.specs.FileJobs.{IsFaultOf, IsGraphOf, Known}
+use Rattle.graph_commands.specs.FileJobs.{IsGraphOf, Known}
 use Rattle.graph_commands.specs.GraphRuns.{job_status}
 use Rattle.graph_commands.specs.declared.fault.JobFault.{JobFault}
 use Rattle.graph_commands.specs.declared.fault.JobFault.TheVariants as fault
 use Rattle.graph_lang.specs.Reads.{Reads}
-use Rattle.graph_lang.specs.declared.fault.GraphFault.{GraphFault}
 use Rattle.graph_text.specs.Texts.{lines_of}
 
 -- a fault of the files has the status 1 or 5
@@ -17,15 +16,10 @@ one-or-five (fault.BadSample name number) status is = inl is
 one-or-five fault.ReadFault status is = inr is
 one-or-five fault.OutOfMemory status is = inr is
 
--- the graph of a file's text is that of the file, and so is its fault
+-- the graph of a file's text is that of the file
 pub graph-of-text : (known : Known) (name text : List ℕ) (graph : Graph) → IsTextOf known name text
     → Reads 1 no_graph (lines_of text) (Ok graph) → IsGraphOf known name graph
 graph-of-text known name text graph of reads =
-    record { text = text; bytes = of.bytes; short = of.short; reads = reads }
-
-pub fault-of-text : (known : Known) (name text : List ℕ) (found : GraphFault) → IsTextOf known name text
-    → Reads 1 no_graph (lines_of text) (Err found) → IsFaultOf known name found
-fault-of-text known name text found of reads =
     record { text = text; bytes = of.bytes; short = of.short; reads = reads }
 
 -- what explains a fault is said further of it
