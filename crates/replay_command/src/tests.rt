@@ -6,6 +6,7 @@ use std::test::Fail;
 use watched_io::Watched;
 
 /// An input whose every call fails.
+#[derive(Clone, Copy)]
 struct Broken;
 
 impl Read for Broken {
