@@ -7,6 +7,7 @@ use Rattle.phase_accum.specs.Operations.{Operation}
 use Rattle.phase_ring.specs.declared.slot.Slot.{Slot}
 use Rattle.phase_ring.specs.Slots.{empty_slot}
 use Rattle.phase_ring.specs.Rings.{Ring, ring, padded, IsRing, IsWithin, slot_at, with_slot}
+use Rattle.circular_buffer.proofs.Places.{slice_get-some}
 use Rattle.phase_ring.proofs.Slots.{slice_get-append_left}
 
 -- ---- lists

@@ -1,5 +1,5 @@
 -- The slot then stands for their sends.
-use Rattle.std.proofs.Common.{◌≡◌, sym, ap, ◌∙◌}
+use Rattle.std.proofs.Common.{◌≡◌, sym, subst, ap, ◌∙◌}
 use Rattle.std.proofs.lemmas.Option.{same_Some}
 use Rattle.phase_ring.specs.Slots.{joined}
 use Rattle.phase_ring.specs.Rings.{with_slot}

@@ -1,7 +1,7 @@
 -- One kept slot less, and one more behind that is empty.
-use Rattle.std.proofs.Common.{sym, subst, ap, ◌∙◌, ◌+◌}
-use Rattle.circular_buffer.specs.Buffer.{Buffer}
-use Rattle.phase_ring.specs.Rings.{ring, padded, IsRing, released}
+use Rattle.std.proofs.Common.{◌≡◌, drop, sym, subst, ap, ◌∙◌, ◌+◌}
+use Rattle.circular_buffer.specs.Buffer.{Buffer, buffer}
+use Rattle.phase_ring.specs.Rings.{Ring, ring, padded, IsRing, released}
 use Rattle.phase_ring.specs.declared.slot.Slot.{Slot}
 use Rattle.phase_ring.proofs.Held.{IsRing-released}
 use Rattle.phase_ring.proofs.Padded.{padded-released}
