@@ -73,7 +73,7 @@ pub padded-released : {A : Type 0} (op : Operation A) (slots : List (Slot A)) (n
 padded-released op [] n some room =
     let e = empty_slot op in
     sym (ap (λ ys. ys ++ e ∷ []) (drop-replicate 1 (n - 0) e) ∙ replicate-append-replicate (n - 0 - 1) 1 e
-    ∙ ap (λ m. replicate m e) (let z : n - 0 - 1 + 1 ≡ n - 0 = omega arith in z))
+        ∙ ap (λ m. replicate m e) (let z : n - 0 - 1 + 1 ≡ n - 0 = omega arith in z))
 padded-released op (x ∷ xs) n some room =
     let e = empty_slot op in
     sym (fill-end xs (n - suc (length xs)) e ∙ ap (λ m. xs ++ replicate m e) (let z : suc (n - suc (length xs)) ≡ n - length xs = omega arith in z))

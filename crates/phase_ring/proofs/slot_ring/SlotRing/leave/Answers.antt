@@ -35,4 +35,4 @@ returns g c slot found =
     let is : c.in-Some.slot.now ≡ slot = same_Some _ _ (c.in-Some.ensures.value ∙ sym here ∙ found) in
     with_slot-padded op i.base i.slots.capacity now.capacity i.slots.items now.items c.args.self.now c.args.phase c.stand.new.self c.self.view_is c.reach.ensures.same c.reach.ensures.reached
     ∙ ap (λ s. with_slot c.args.phase s c.args.self.now) (c.stand.ensures ∙ ap (λ n. with_standing c.args.role (n - 1) c.in-Some.slot.now) c.standing.ensures
-    ∙ ap (λ s. with_standing c.args.role (standing_of c.args.role s - 1) s) is)
+        ∙ ap (λ s. with_standing c.args.role (standing_of c.args.role s - 1) s) is)

@@ -16,9 +16,9 @@ loop-empty-preserved g c =
     let inv = c.loop-empty.invariant in
     let room : length xs < n =
     (let a : c.len.result ≤ c.args.index = c.loop-empty-test.true in
-    let l : c.len.result ≡ length xs = c.len.ensures.len in
-    let b : c.args.index < before.capacity = c.requires.room in
-    let d : n ≡ before.capacity = inv.1 in omega arith) in
+      let l : c.len.result ≡ length xs = c.len.ensures.len in
+      let b : c.args.index < before.capacity = c.requires.room in
+      let d : n ≡ before.capacity = inv.1 in omega arith) in
     let is : c.push_back.new.self ≡ buffer (xs ++ c.args.empty ∷ []) n =
     c.push_back.ensures.items ∙ ap (λ ys. buffer ys n) (pushed_items xs c.args.empty n room) in
     let B : Buffer (Slot g.row.A.Denot) → Type 0 = λ b. IsRing op c.args.empty b.items b.capacity × (b.capacity ≡ before.capacity)
