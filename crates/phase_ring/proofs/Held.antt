@@ -1,8 +1,8 @@
 -- What stays where one slot of a ring changes.
-use Rattle.std.proofs.Common.{◌≡◌, ℕ, ◌+◌, ◌-◌, ◌<◌, ◌≤◌, List, [], ◌∷◌, ◌++◌, Some, set, drop, length, ap, subst, arith, length-append}
+use Rattle.std.proofs.Common.{◌≡◌, ℕ, ◌+◌, ◌-◌, ◌<◌, List, [], ◌∷◌, ◌++◌, Some, set, drop, length, replicate, ◌∙◌, ap, subst, arith, length-append}
 use Rattle.std.specs.Prelude.{slice_get}
-use Rattle.std.proofs.lemmas.List.{length-set}
-use Rattle.std.proofs.lemmas.List.Elements.{All-nil, All-get_or, All-set, All-drop, All-append, All-replicate}
+use Rattle.std.proofs.lemmas.List.{length-set, length-replicate, replicate-append-replicate}
+use Rattle.std.proofs.lemmas.List.Elements.{All-get_or, All-set, All-drop, All-append, All-replicate}
 use Rattle.std.proofs.lemmas.Option.{slice_get_within, get_or_from_slice_get}
 use Rattle.circular_buffer.specs.Buffer.{keep_last}
 use Rattle.phase_accum.specs.Operations.{Operation}
@@ -10,25 +10,23 @@ use Rattle.phase_ring.specs.declared.role.Role.{Role}
 use Rattle.phase_ring.specs.declared.role.Role.TheVariants.{Signaller, Waiter}
 use Rattle.phase_ring.specs.declared.slot.Slot.{Slot}
 use Rattle.phase_ring.specs.Rings.{IsRing}
-use Rattle.phase_ring.specs.Slots.{IsHeld, empty_slot, with_standing}
+use Rattle.phase_ring.specs.Slots.{IsHeld, with_standing}
 
 -- the slot of each place stands for some sends
-pub IsHeld-get : {A : Type 0} {empty : Slot A} (op : Operation A) (slots : List (Slot A)) (capacity place : ℕ) (slot : Slot A)
-    → IsRing op empty slots capacity → slice_get slots place ≡ Some slot → IsHeld op slot
+pub IsHeld-get : {A : Type 0} (op : Operation A) (slots : List (Slot A)) (capacity place : ℕ) (slot : Slot A)
+    → IsRing op slots capacity → slice_get slots place ≡ Some slot → IsHeld op slot
 IsHeld-get {A} op slots capacity place slot r found =
     let P : Slot A → Type 0 = IsHeld op in
     subst P (get_or_from_slice_get slots place slot slot found) (All-get_or P slots place slot (slice_get_within slots place slot found) r.held)
 
-pub IsRing-set : {A : Type 0} {empty : Slot A} (op : Operation A) (slots : List (Slot A)) (capacity place : ℕ) (slot : Slot A)
-    → IsRing op empty slots capacity → IsHeld op slot → IsRing op empty (set slots place slot) capacity
+pub IsRing-set : {A : Type 0} (op : Operation A) (slots : List (Slot A)) (capacity place : ℕ) (slot : Slot A)
+    → IsRing op slots capacity → IsHeld op slot → IsRing op (set slots place slot) capacity
 IsRing-set op slots capacity place slot r held =
     let same : length (set slots place slot) ≡ length slots = length-set slots place slot in
     record {
-      some = r.some;
-      room = (let h : length slots ≤ capacity = r.room in omega arith);
+      some = (let h : 0 < length slots = r.some in omega arith);
+      full = (let h : capacity ≡ length slots = r.full in omega arith);
       held = All-set (IsHeld op) slots place slot held r.held;
-      unused = r.unused;
-      ready = r.ready;
     }
 
 -- who stands there makes no difference
@@ -41,52 +39,38 @@ pub length-moved : {X : Type 0} (xs : List X) (y : X) → 0 < length xs → leng
 length-moved [] y some = absurd (omega arith)
 length-moved (x ∷ xs) y some = let n : length (xs ++ y ∷ []) ≡ length xs + 1 = length-append xs (y ∷ []) in omega arith
 
-length-rest : {X : Type 0} (xs : List X) → length (drop 1 xs) ≤ length xs
-length-rest [] = omega arith
-length-rest (x ∷ xs) = omega arith
+pub moved_items : {X : Type 0} (xs : List X) (y : X) (capacity : ℕ) → 0 < length xs → capacity ≡ length xs
+    → keep_last capacity (drop 1 xs ++ y ∷ []) ≡ drop 1 xs ++ y ∷ []
+moved_items xs y capacity some full =
+    let same : length (drop 1 xs ++ y ∷ []) ≡ length xs = length-moved xs y some in
+    let none : length (drop 1 xs ++ y ∷ []) - capacity ≡ 0 = omega arith in
+    ap (λ n. drop n (drop 1 xs ++ y ∷ [])) none
 
--- a slot less in front
-pub IsRing-released : {A : Type 0} {empty : Slot A} (op : Operation A) (slots : List (Slot A)) (capacity : ℕ)
-    → IsRing op empty slots capacity → IsRing op empty (drop 1 slots) capacity
-IsRing-released op slots capacity r =
-    let fewer : length (drop 1 slots) ≤ length slots = length-rest slots in
+pub IsRing-released : {A : Type 0} (op : Operation A) (slots : List (Slot A)) (capacity : ℕ) (slot : Slot A)
+    → IsRing op slots capacity → IsHeld op slot → IsRing op (drop 1 slots ++ slot ∷ []) capacity
+IsRing-released op slots capacity slot r held =
+    let same : length (drop 1 slots ++ slot ∷ []) ≡ length slots = length-moved slots slot r.some in
     record {
-      some = r.some;
-      room = (let h : length slots ≤ capacity = r.room in omega arith);
-      held = All-drop (IsHeld op) 1 slots r.held;
-      unused = r.unused;
-      ready = r.ready;
+      some = (let h : 0 < length slots = r.some in omega arith);
+      full = (let h : capacity ≡ length slots = r.full in omega arith);
+      held = All-append (IsHeld op) (drop 1 slots) (slot ∷ []) (All-drop (IsHeld op) 1 slots r.held) (All-replicate (IsHeld op) 1 slot held);
+    }
+
+pub IsRing-fresh : {A : Type 0} (op : Operation A) (n : ℕ) (slot : Slot A) → 0 < n
+    → IsHeld op slot → IsRing op (replicate n slot) n
+IsRing-fresh op n slot some held =
+    let is : length (replicate n slot) ≡ n = length-replicate n slot in
+    record {
+      some = omega arith;
+      full = omega arith;
+      held = All-replicate (IsHeld op) n slot held;
     }
 
 -- one more empty slot
-pub IsRing-reached : {A : Type 0} {empty : Slot A} (op : Operation A) (slots : List (Slot A)) (capacity : ℕ)
-    → IsRing op empty slots capacity → length slots < capacity → IsRing op empty (slots ++ empty ∷ []) capacity
-IsRing-reached {A} {empty} op slots capacity r room =
-    let more : length (slots ++ empty ∷ []) ≡ length slots + 1 = length-append slots (empty ∷ []) in
-    record {
-      some = r.some;
-      room = omega arith;
-      held = All-append (IsHeld op) slots (empty ∷ []) r.held (All-replicate (IsHeld op) 1 empty r.ready);
-      unused = r.unused;
-      ready = r.ready;
-    }
-
--- no slot is kept
-pub IsRing-none : {A : Type 0} (op : Operation A) (empty : Slot A) (capacity : ℕ) → 0 < capacity → empty ≡ empty_slot op → IsHeld op empty
-    → IsRing op empty [] capacity
-IsRing-none op empty capacity some unused ready =
-    record {
-      some = some;
-      room = omega arith;
-      unused = unused;
-      ready = ready;
-      held = All-nil (IsHeld op);
-    }
-
--- where there is room, nothing goes
-pub pushed_items : {X : Type 0} (xs : List X) (y : X) (capacity : ℕ) → length xs < capacity
-    → keep_last capacity (xs ++ y ∷ []) ≡ xs ++ y ∷ []
-pushed_items xs y capacity room =
-    let l : length (xs ++ y ∷ []) ≡ length xs + 1 = length-append xs (y ∷ []) in
-    let none : length (xs ++ y ∷ []) - capacity ≡ 0 = omega arith in
-    ap (λ m. drop m (xs ++ y ∷ [])) none
+pub replicate-push : {X : Type 0} (n : ℕ) (x : X) (xs : List X) (capacity : ℕ) → xs ≡ replicate n x → n < capacity
+    → keep_last capacity (xs ++ x ∷ []) ≡ replicate (n + 1) x
+replicate-push {X} n x xs capacity is room =
+    let n_is : length (replicate n x) ≡ n = length-replicate n x in
+    let l : length (xs ++ x ∷ []) ≡ n + 1 = length-append xs (x ∷ []) ∙ ap (λ ys. length ys + 1) is ∙ ap (λ m. m + 1) n_is in
+    let none : length (xs ++ x ∷ []) - capacity ≡ 0 = omega arith in
+    ap (λ m. drop m (xs ++ x ∷ [])) none ∙ ap (λ ys. ys ++ x ∷ []) is ∙ replicate-append-replicate n 1 x

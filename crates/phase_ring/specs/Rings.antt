@@ -69,18 +69,9 @@ released op r = ring (r.base + 1) (drop 1 r.slots ++ empty_slot op ∷ [])
 abbrev pub cleared : {A : Type 0} → Operation A → Ring A → Ring A
 cleared op r = ring r.base (replicate (length r.slots) (empty_slot op))
 
--- ---- for the code, which keeps no slot behind the last that is not empty
-
--- so many slots: these, and empty ones behind them
-abbrev pub padded : {A : Type 0} → Operation A → List (Slot A) → ℕ → List (Slot A)
-padded op slots n = slots ++ replicate (n - length slots) (empty_slot op)
-
--- there is room for a slot, no more than fit are kept, the one beside them is empty, and each
--- stands for some sends
-pub record IsRing {A : Type 0} (op : Operation A) (empty : Slot A) (slots : List (Slot A))
-    (capacity : ℕ) : Type 0 where
-  pub some : 0 < capacity
-  pub room : length slots ≤ capacity
-  pub unused : empty ≡ empty_slot op
-  pub ready : IsHeld op empty
+-- for the code: there is a first slot, no more fit, and each stands for some sends
+pub record IsRing {A : Type 0} (op : Operation A) (slots : List (Slot A)) (capacity : ℕ)
+    : Type 0 where
+  pub some : 0 < length slots
+  pub full : capacity ≡ length slots
   pub held : All (IsHeld op) slots

@@ -1,11 +1,12 @@
 //! The ring of slots.
-ghost use Rattle.std.specs.Prelude.{◌≡◌, ◌+◌, ◌-◌, ◌^◌, ◌<◌, ◌≤◌, None, Some, length, true, false, OnOk, OnErr, IfOk, IfErr};
+ghost use Rattle.std.specs.Prelude.{◌≡◌, ◌+◌, ◌-◌, ◌^◌, ◌<◌, ◌≤◌, [], None, Some, length, replicate, true, false, OnOk, OnErr, IfOk, IfErr};
+ghost use Rattle.circular_buffer.specs.Buffer.{buffer};
 ghost use Rattle.phase_ring.specs.declared.slot.Slot.{Slot};
 ghost use Rattle.phase_ring.specs.declared.role.Role.TheVariants.{Waiter};
 ghost use Rattle.phase_ring.specs.Slots.{empty_slot, IsHeld, IsUnused};
 ghost use Rattle.phase_ring.specs.Slots.{with_standing, standing_of, joined, sealed, slot_value, merge_refusal};
 ghost use Rattle.phase_ring.specs.Rings.{Ring, standing, IsWithin, slot_at, with_slot, is_sealed};
-ghost use Rattle.phase_ring.specs.Rings.{fresh_ring, released, cleared, padded, IsRing};
+ghost use Rattle.phase_ring.specs.Rings.{fresh_ring, released, cleared};
 
 use crate::role::Role;
 use crate::slot::{MergeRefusal, Slot};
@@ -23,19 +24,17 @@ use std::marker::Model;
 #[derive(Drop)]
 pub struct SlotRing<A: Accumulate> {
     base: u64,
-    // The first slots. Those behind them are empty, and written when somebody comes to them.
     slots: HeapCircularBuffer<Slot<A>>,
-    empty: Slot<A>,
 }
 
 impl<A: Accumulate> Model for SlotRing<A> {
-    ghost use Rattle.phase_ring.specs.Rings.{Ring, ring, padded, IsRing};
+    ghost use Rattle.phase_ring.specs.Rings.{Ring, ring, IsRing};
 
     ghost Value = { Ring A };
 
-    ghost view = { λ r. ring r.base (padded A.operation r.slots.items r.slots.capacity) };
+    ghost view = { λ r. ring r.base r.slots.items };
 
-    ghost invariant = { λ r. IsRing A.operation r.empty r.slots.items r.slots.capacity };
+    ghost invariant = { λ r. IsRing A.operation r.slots.items r.slots.capacity };
 }
 
 impl<A: Accumulate> SlotRing<A> {
@@ -45,27 +44,19 @@ impl<A: Accumulate> SlotRing<A> {
         requires { bound ≤ BOUND_MAX }
         ensures { IfOk result (λ ring. ring ≡ fresh_ring A.operation (bound + 1)) }
     {
-        let slots = HeapCircularBuffer::with_capacity(alloc, bound as usize + 1)?;
-        let empty = Slot::<A>::empty();
-        Ok(SlotRing {
-            base: 0,
-            slots,
-            empty,
-        })
+        let mut slots = HeapCircularBuffer::with_capacity(alloc, bound as usize + 1)?;
+        SlotRing::<A>::fill(&mut slots);
+        Ok(SlotRing { base: 0, slots })
     }
 
-    // Keeps empty slots behind the last until there is one at the index, for which there is room.
-    fn reach(slots: &mut HeapCircularBuffer<Slot<A>>, empty: Slot<A>, index: usize)
-        requires room { index < slots.old.capacity }
-        requires ring { IsRing A.operation empty slots.old.items slots.old.capacity }
-        ensures reached { index < length slots.new.items }
-        ensures ring { IsRing A.operation empty slots.new.items slots.new.capacity }
-        ensures capacity { slots.new.capacity ≡ slots.old.capacity }
-        ensures same { padded A.operation slots.new.items slots.new.capacity
-            ≡ padded A.operation slots.old.items slots.old.capacity }
+    /// Fills an empty buffer with empty slots.
+    fn fill(slots: &mut HeapCircularBuffer<Slot<A>>)
+        requires { slots.old.items ≡ [] }
+        ensures { let room = slots.old.capacity in
+            slots.new ≡ buffer (replicate room (empty_slot A.operation)) room }
     {
-        while slots.len() <= index {
-            slots.push_back(empty);
+        for _ in 0..slots.capacity() {
+            slots.push_back(Slot::<A>::empty());
         }
     }
 
@@ -84,7 +75,7 @@ impl<A: Accumulate> SlotRing<A> {
     {
         match self.slots.get((phase - self.base) as usize) {
             Some(slot) => slot,
-            None => &self.empty,
+            None => unreachable!(),
         }
     }
 
@@ -153,9 +144,7 @@ impl<A: Accumulate> SlotRing<A> {
             → let more = joined A.operation pending.now single.now slot in
             self.new ≡ with_slot phase more self.old }
     {
-        let index = (phase - self.base) as usize;
-        SlotRing::<A>::reach(&mut self.slots, self.empty, index);
-        match self.slots.get_mut(index) {
+        match self.slots.get_mut((phase - self.base) as usize) {
             Some(slot) => slot.join(pending, single),
             None => unreachable!(),
         }
@@ -171,9 +160,7 @@ impl<A: Accumulate> SlotRing<A> {
             → let more = joined A.operation pending.now single.now slot in
             self.new ≡ with_slot phase more self.old }
     {
-        let index = (phase - self.base) as usize;
-        SlotRing::<A>::reach(&mut self.slots, self.empty, index);
-        match self.slots.get_mut(index) {
+        match self.slots.get_mut((phase - self.base) as usize) {
             Some(slot) => slot.join_first(pending, single),
             None => unreachable!(),
         }
@@ -188,9 +175,7 @@ impl<A: Accumulate> SlotRing<A> {
         ensures { (slot : Slot A) → slot_at self.old phase ≡ Some slot
             → self.new ≡ with_slot phase (sealed slot) self.old }
     {
-        let index = (phase - self.base) as usize;
-        SlotRing::<A>::reach(&mut self.slots, self.empty, index);
-        match self.slots.get_mut(index) {
+        match self.slots.get_mut((phase - self.base) as usize) {
             Some(slot) => slot.seal(),
             None => unreachable!(),
         }
@@ -214,9 +199,7 @@ impl<A: Accumulate> SlotRing<A> {
             → let more = standing_of role slot + 1 in
             self.new ≡ with_slot phase (with_standing role more slot) self.old }
     {
-        let index = (phase - self.base) as usize;
-        SlotRing::<A>::reach(&mut self.slots, self.empty, index);
-        match self.slots.get_mut(index) {
+        match self.slots.get_mut((phase - self.base) as usize) {
             Some(slot) => slot.stand(role, slot.standing(role) + 1),
             None => unreachable!(),
         }
@@ -230,9 +213,7 @@ impl<A: Accumulate> SlotRing<A> {
             → let fewer = standing_of role slot - 1 in
             self.new ≡ with_slot phase (with_standing role fewer slot) self.old }
     {
-        let index = (phase - self.base) as usize;
-        SlotRing::<A>::reach(&mut self.slots, self.empty, index);
-        match self.slots.get_mut(index) {
+        match self.slots.get_mut((phase - self.base) as usize) {
             Some(slot) => slot.stand(role, slot.standing(role) - 1),
             None => unreachable!(),
         }
@@ -254,6 +235,7 @@ impl<A: Accumulate> SlotRing<A> {
         ensures { self.new ≡ released A.operation self.old }
     {
         self.slots.pop_front();
+        self.slots.push_back(Slot::<A>::empty());
         self.base += 1;
     }
 
@@ -262,5 +244,6 @@ impl<A: Accumulate> SlotRing<A> {
         ensures { self.new ≡ cleared A.operation self.old }
     {
         self.slots.clear();
+        SlotRing::<A>::fill(&mut self.slots);
     }
 }

@@ -1,23 +1,20 @@
--- One kept slot less, and one more behind that is empty.
-use Rattle.std.proofs.Common.{◌≡◌, drop, sym, subst, ap, ◌∙◌, ◌+◌}
-use Rattle.circular_buffer.specs.Buffer.{Buffer, buffer}
-use Rattle.phase_ring.specs.Rings.{Ring, ring, padded, IsRing, released}
+-- As many slots as before, each of which stands for some sends.
+use Rattle.std.proofs.Common.{◌≡◌, ◌++◌, [], ◌∷◌, drop, sym, subst, ap, ◌∙◌}
+use Rattle.circular_buffer.specs.Buffer.{Buffer, buffer, keep_last}
+use Rattle.phase_ring.specs.Rings.{IsRing}
 use Rattle.phase_ring.specs.declared.slot.Slot.{Slot}
-use Rattle.phase_ring.proofs.Held.{IsRing-released}
-use Rattle.phase_ring.proofs.Padded.{padded-released}
+use Rattle.phase_ring.proofs.Held.{IsRing-released, moved_items}
 use Rattle.phase_ring.proofs.slot_ring.SlotRing.release.Goals as goal
 
 pub invariant_of-self : goal.invariant_of-self
 invariant_of-self g c =
     let op = g.A.Accumulate.operation in
-    let i = c.self.inside in
-    let B : Buffer (Slot g.row.A.Denot) → Type 0 = λ b. IsRing op i.empty b.items b.capacity in
-    subst B (sym c.pop_front.ensures.items) (IsRing-released op i.slots.items i.slots.capacity c.self.invariant)
-
-pub returns : goal.returns
-returns g c =
-    let op = g.A.Accumulate.operation in
-    let i = c.self.inside in
-    ap (λ (b : Buffer (Slot g.row.A.Denot)). ring (i.base + 1) (padded op b.items b.capacity)) c.pop_front.ensures.items
-    ∙ ap (ring (i.base + 1)) (padded-released op i.slots.items i.slots.capacity c.self.invariant.some c.self.invariant.room)
-    ∙ ap (released op) c.self.view_is
+    let B : Buffer (Slot g.row.A.Denot) → Type 0 = λ b. IsRing op b.items b.capacity in
+    let xs = c.self.inside.slots.items in
+    let n = c.self.inside.slots.capacity in
+    let gone : c.pop_front.new.self ≡ buffer (drop 1 xs) n = c.pop_front.ensures.items in
+    let items : c.push_back.new.self ≡ buffer (keep_last n (drop 1 xs ++ c.empty.result ∷ [])) n =
+    c.push_back.ensures.items ∙ ap (λ (b : Buffer (Slot g.row.A.Denot)). buffer (keep_last b.capacity (b.items ++ c.empty.result ∷ [])) b.capacity) gone in
+    let is : c.push_back.new.self ≡ buffer (drop 1 xs ++ c.empty.result ∷ []) n =
+    items ∙ ap (λ ys. buffer ys n) (moved_items xs c.empty.result n c.self.invariant.some c.self.invariant.full) in
+    subst B (sym is) (IsRing-released op xs n c.empty.result c.self.invariant c.empty.ensures.held)

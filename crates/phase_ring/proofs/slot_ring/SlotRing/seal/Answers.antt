@@ -1,35 +1,15 @@
 -- Only whether one slot is sealed changes, and its sends do not.
-use Rattle.std.proofs.Common.{◌≡◌, sym, subst, ap, ◌∙◌}
-use Rattle.std.proofs.lemmas.Option.{same_Some}
+use Rattle.std.proofs.Common.{sym, subst}
 use Rattle.phase_ring.specs.declared.slot.Slot.{Slot}
-use Rattle.phase_ring.specs.Slots.{IsHeld, sealed}
-use Rattle.phase_ring.specs.Rings.{with_slot}
+use Rattle.phase_ring.specs.Slots.{IsHeld}
 use Rattle.phase_ring.proofs.Held.{IsHeld-get, IsRing-set}
-use Rattle.phase_ring.proofs.Padded.{within-room, slot_at-padded, with_slot-padded}
 use Rattle.phase_ring.proofs.slot_ring.SlotRing.seal.Goals as goal
-
-pub reach-requires : goal.reach-requires
-reach-requires g c =
-    let i = c.self.inside in
-    record {
-      room = within-room g.A.Accumulate.operation i.base i.slots.capacity i.slots.items c.args.self.now c.args.phase c.self.view_is c.self.invariant c.requires.within;
-      ring = c.self.invariant;
-    }
 
 pub invariant_of-self : goal.invariant_of-self
 invariant_of-self g c =
     let op = g.A.Accumulate.operation in
-    let now = c.reach.new.slots in
-    let held = IsHeld-get op now.items now.capacity _ c.in-Some.slot.now c.reach.ensures.ring (sym c.in-Some.ensures.value) in
+    let items = c.self.inside.slots.items in
+    let capacity = c.self.inside.slots.capacity in
+    let held = IsHeld-get op items capacity _ c.in-Some.slot.now c.self.invariant (sym c.in-Some.ensures.value) in
     let H : Slot g.row.A.Denot → Type 0 = IsHeld op in
-    IsRing-set op now.items now.capacity _ _ c.reach.ensures.ring (subst H (sym c.seal.ensures) held)
-
-pub returns : goal.returns
-returns g c slot found =
-    let op = g.A.Accumulate.operation in
-    let i = c.self.inside in
-    let now = c.reach.new.slots in
-    let here = slot_at-padded op i.base i.slots.capacity now.capacity i.slots.items now.items c.args.self.now c.args.phase c.self.view_is c.reach.ensures.same c.reach.ensures.reached in
-    let is : c.in-Some.slot.now ≡ slot = same_Some _ _ (c.in-Some.ensures.value ∙ sym here ∙ found) in
-    with_slot-padded op i.base i.slots.capacity now.capacity i.slots.items now.items c.args.self.now c.args.phase c.seal.new.self c.self.view_is c.reach.ensures.same c.reach.ensures.reached
-    ∙ ap (λ s. with_slot c.args.phase s c.args.self.now) (c.seal.ensures ∙ ap sealed is)
+    IsRing-set op items capacity _ _ c.self.invariant (subst H (sym c.seal.ensures) held)
