@@ -9,7 +9,7 @@ pub returns-in-Ok-clause-ok : goal.returns-in-Ok-clause-ok
 returns-in-Ok-clause-ok g c =
     let name = c.args.name.now in
     let same = known-same (g.F.Files.file c.read_graph_file.new.files)
-    (g.F.Files.file c.args.files.now) c.in-Ok.ensures.kept in
+    (g.F.Files.file c.args.files.now) c.in-Ok.ensures.same in
     let of = subst (λ (known : Known). IsGraphOf known name c.in-Ok.graph) (sym same) c.in-Ok.ensures.ok in
     IfOk-weaker c.job_of_graph.result _ _
     (λ job holds. subst (λ (known : Known). IsJobOf known name job) same (holds name of))
@@ -20,7 +20,7 @@ pub returns-in-Ok-clause-fault : goal.returns-in-Ok-clause-fault
 returns-in-Ok-clause-fault g c =
     let name = c.args.name.now in
     let same = known-same (g.F.Files.file c.read_graph_file.new.files)
-    (g.F.Files.file c.args.files.now) c.in-Ok.ensures.kept in
+    (g.F.Files.file c.args.files.now) c.in-Ok.ensures.same in
     let of = subst (λ (known : Known). IsGraphOf known name c.in-Ok.graph) (sym same) c.in-Ok.ensures.ok in
     IfErr-weaker c.job_of_graph.result _ _
     (λ fault holds. subst (λ (known : Known). Explains known name fault) same (holds name of))
