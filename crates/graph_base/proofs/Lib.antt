@@ -1,4 +1,0 @@
-mod Examples
-mod Files
-mod Readers
-pub mod Registered

@@ -1,9 +1,0 @@
-mod Counted
-pub mod DrawingEnds
-pub mod Ends
-mod Explaining
-mod Needed
-pub mod Places
-mod Putting
-mod TextExamples
-pub mod Finding

@@ -1,6 +1,0 @@
-pub mod Explained
-pub mod FileJobs
-pub mod GraphDrawings
-pub mod GraphRuns
-pub mod OutputTexts
-pub mod Puts

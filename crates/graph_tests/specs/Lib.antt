@@ -1,6 +1,0 @@
-pub mod Runs
-pub mod Worked
-pub mod WorkedFaults
-pub mod WorkedParts
-pub mod WorkedPlaces
-pub mod WorkedTurns

@@ -1,7 +1,0 @@
-mod Answered
-mod Digits
-mod Examples
-mod Fronts
-mod Kept
-pub mod Spelled
-mod Taken

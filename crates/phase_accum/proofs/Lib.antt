@@ -1,4 +1,0 @@
-mod Examples
-pub mod Orders
-pub mod Parts
-pub mod SumBounds

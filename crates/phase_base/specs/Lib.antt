@@ -1,5 +1,0 @@
-pub mod Limits
-pub mod Lists
-pub mod Members
-pub mod Modes
-pub mod OperationWords

@@ -1,6 +1,0 @@
--- Each call that is not refused has the facts of its event.
-use Rattle.phase_history.proofs.Accepted.{accepted_law}
-use Rattle.phase_history.proofs.laws.blocks.accepted.Goals as goal
-
-pub returns : goal.returns
-returns c = accepted_law

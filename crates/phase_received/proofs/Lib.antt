@@ -1,3 +1,0 @@
-pub mod Wholes
-pub mod Lists
-pub mod Kept

@@ -1,2 +1,0 @@
-pub mod Received
-pub mod Whole

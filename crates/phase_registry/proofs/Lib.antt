@@ -1,4 +1,0 @@
-pub mod Places
-pub mod Weights
-pub mod Kept
-pub mod Leasts

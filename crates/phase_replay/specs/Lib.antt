@@ -1,4 +1,0 @@
-pub mod Reading
-pub mod Replay
-pub mod Replayer
-pub mod Replies

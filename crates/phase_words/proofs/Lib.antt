@@ -1,5 +1,0 @@
-mod Called
-pub mod NoCalls
-mod Refused
-mod Simple
-mod Workers

@@ -1,4 +1,0 @@
-pub mod Faults
-pub mod Forms
-pub mod Parts
-pub mod Samples

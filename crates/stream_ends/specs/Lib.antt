@@ -1,4 +1,0 @@
-pub mod Agreeing
-pub mod Gatherings
-pub mod Joinings
-pub mod TaskLefts

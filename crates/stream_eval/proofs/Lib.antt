@@ -1,9 +1,0 @@
-pub mod Agreeing
-pub mod Alone
-pub mod Composed
-pub mod Dropped
-pub mod FirSteps
-pub mod Made
-pub mod Mixing
-pub mod Sendable
-pub mod Sends

@@ -1,4 +1,0 @@
-pub mod Filter
-pub mod Inside
-pub mod Range
-pub mod Turns

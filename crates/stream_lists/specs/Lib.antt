@@ -1,6 +1,0 @@
-pub mod Inside
-pub mod Jobs
-pub mod Lists
-pub mod Meetings
-pub mod Ranges
-pub mod Spans

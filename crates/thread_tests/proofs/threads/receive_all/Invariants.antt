@@ -1,6 +1,0 @@
-use Rattle.std.specs.Prelude.{◌≡◌}
-use Rattle.phase_shared.specs.Regs.{phaser_place}
-use Rattle.thread_tests.proofs.threads.receive_all.Given as goal
-
-abbrev pub invariant-loop-value : goal.invariant-loop-value
-invariant-loop-value g l = l.reg.at ≡ phaser_place l.phaser

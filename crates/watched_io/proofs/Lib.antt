@@ -1,3 +1,0 @@
-pub mod Giving
-mod Reading
-pub mod Writing
