@@ -40,7 +40,7 @@ impl<A: Accumulate> Board<A> {
     /// Makes the board of a phaser whose one task stands at phase 0 in both roles, with all the
     /// memory that the board will ever need.
     pub fn new(alloc: Global, limits: Spec) -> Result<Board<A>, AllocError>
-        ensures kept { IfOk result (λ now. IsBoard A.operation now) }
+        ensures invariant { IfOk result (λ now. IsBoard A.operation now) }
         ensures limits { IfOk result (λ now. now.limits ≡ limits) }
         ensures done { IfOk result (λ now. now.done ≡ 0) }
         ensures top { IfOk result (λ now. now.top ≡ 0) }
@@ -62,7 +62,7 @@ impl<A: Accumulate> Board<A> {
     /// Seals the phases at which no signaller stands any more, up to the top.
     fn settle(&mut self)
         requires { IsBoard A.operation self.old }
-        ensures kept { IsBoard A.operation self.new }
+        ensures invariant { IsBoard A.operation self.new }
         ensures limits { self.new.limits ≡ self.old.limits }
         ensures top { self.new.top ≡ self.old.top }
         ensures same { sents self.new.ring ≡ sents self.old.ring }
@@ -78,9 +78,9 @@ impl<A: Accumulate> Board<A> {
 
     /// Gives up the phases that no waiter has still to get. Some waiter is left.
     fn give_up(&mut self)
-        requires kept { IsBoard A.operation self.old }
+        requires invariant { IsBoard A.operation self.old }
         requires waiter { (p : ℕ) × (0 < standing self.old.ring Waiter p) }
-        ensures kept { IsBoard A.operation self.new }
+        ensures invariant { IsBoard A.operation self.new }
         ensures keeps { KeepsBounds self.old self.new }
         ensures standing { (role : Role) (p : ℕ)
             → standing self.new.ring role p ≡ standing self.old.ring role p }
@@ -94,9 +94,9 @@ impl<A: Accumulate> Board<A> {
 
     /// Moves a signaller on from a phase to a later one, at most the top.
     fn go_on(&mut self, from: u64, to: u64)
-        requires kept { IsBoard A.operation self.old }
+        requires invariant { IsBoard A.operation self.old }
         requires may { MayGoOn from to self.old }
-        ensures kept { IsBoard A.operation self.new }
+        ensures invariant { IsBoard A.operation self.new }
         ensures limits { self.new.limits ≡ self.old.limits }
         ensures top { self.new.top ≡ self.old.top }
         ensures same { sents self.new.ring ≡ sents self.old.ring }
@@ -132,10 +132,10 @@ impl<A: Accumulate> Board<A> {
 
     /// Joins a signal to its phase, which does not refuse it, and moves its task on to the next one.
     pub fn signal(&mut self, phase: u64, pending: &Pending<A>, single: &Option<Single>)
-        requires kept { IsBoard A.operation self.old }
+        requires invariant { IsBoard A.operation self.old }
         requires may { MaySignal phase (phase + 1) self.old }
         requires fits { BlockFits self.old.ring phase (pending.now ∷ []) single.now }
-        ensures kept { IsBoard A.operation self.new }
+        ensures invariant { IsBoard A.operation self.new }
         ensures signalled { HasSignalled phase (phase + 1) self.old self.new }
         ensures slots { sents self.new.ring ≡ sents
             (block_joined A.operation phase (pending.now ∷ []) single.now self.old.ring) }
@@ -149,10 +149,10 @@ impl<A: Accumulate> Board<A> {
     /// Joins the signals of a block to their phases, of which this is the first and none refuses its
     /// one, and moves their task on to the phase behind them.
     pub fn signal_block(&mut self, phase: u64, lists: &[Pending<A>], single: &Option<Single>)
-        requires kept { IsBoard A.operation self.old }
+        requires invariant { IsBoard A.operation self.old }
         requires may { MaySignal phase (phase + length lists.now) self.old }
         requires fits { BlockFits self.old.ring phase lists.now single.now }
-        ensures kept { IsBoard A.operation self.new }
+        ensures invariant { IsBoard A.operation self.new }
         ensures signalled { HasSignalled phase (phase + length lists.now) self.old self.new }
         ensures slots { sents self.new.ring
             ≡ sents (block_joined A.operation phase lists.now single.now self.old.ring) }
@@ -170,11 +170,11 @@ impl<A: Accumulate> Board<A> {
     /// Tells the value of a waiter's phase, which is complete, and moves the waiter on to the next
     /// one.
     pub fn wait(&mut self, phase: u64) -> Outcome
-        requires kept { IsBoard A.operation self.old }
+        requires invariant { IsBoard A.operation self.old }
         requires may { MayWait phase (phase + 1) self.old }
         ensures value { (slot : Slot A) → slot_at self.old.ring phase ≡ Some slot
             → result ≡ slot_value A.operation slot }
-        ensures kept { IsBoard A.operation self.new }
+        ensures invariant { IsBoard A.operation self.new }
         ensures waited { HasWaited phase (phase + 1) self.old self.new }
         ensures slots { KeepsSlots (sents self.old.ring) (sents self.new.ring) }
         ensures stops { 0 < standing self.new.ring Waiter self.new.ring.base }
@@ -189,12 +189,12 @@ impl<A: Accumulate> Board<A> {
     /// Writes the values of so many phases, the first this one of a waiter and all complete, and
     /// moves the waiter on to the phase behind them. The places behind the values stay.
     pub fn wait_block(&mut self, phase: u64, count: usize, out: &mut [Outcome])
-        requires kept { IsBoard A.operation self.old }
+        requires invariant { IsBoard A.operation self.old }
         requires may { MayWait phase (phase + count) self.old }
         requires room { count ≤ length out.old }
         ensures out { out.new
             ≡ block_values A.operation self.old.ring phase count ++ drop count out.old }
-        ensures kept { IsBoard A.operation self.new }
+        ensures invariant { IsBoard A.operation self.new }
         ensures waited { HasWaited phase (phase + count) self.old self.new }
         ensures slots { KeepsSlots (sents self.old.ring) (sents self.new.ring) }
         ensures stops { 0 < standing self.new.ring Waiter self.new.ring.base }
@@ -230,11 +230,11 @@ impl<A: Accumulate> Board<A> {
 
     /// Lets a task with this entry stand at its phase of the role, where it has one.
     fn enter_as(&mut self, role: Role, entry: Entry)
-        requires kept { IsBoard A.operation self.old }
+        requires invariant { IsBoard A.operation self.old }
         requires stands { takes_part role entry ≡ true
             → 0 < standing self.old.ring role (phase_for role entry) }
         requires few { standing self.old.ring role (phase_for role entry) < MEMBERS_MAX }
-        ensures kept { IsBoard A.operation self.new }
+        ensures invariant { IsBoard A.operation self.new }
         ensures keeps { KeepsBounds self.old self.new }
         ensures same { sents self.new.ring ≡ sents self.old.ring }
         ensures standing { (p : ℕ) → standing self.new.ring role p
@@ -249,10 +249,10 @@ impl<A: Accumulate> Board<A> {
 
     /// Lets a task with this entry stand at its phase of the role no more, where it has one.
     fn leave_as(&mut self, role: Role, entry: Entry)
-        requires kept { IsBoard A.operation self.old }
+        requires invariant { IsBoard A.operation self.old }
         requires stands { takes_part role entry ≡ true
             → 0 < standing self.old.ring role (phase_for role entry) }
-        ensures kept { IsBoard A.operation self.new }
+        ensures invariant { IsBoard A.operation self.new }
         ensures keeps { KeepsBounds self.old self.new }
         ensures same { sents self.new.ring ≡ sents self.old.ring }
         ensures standing { (p : ℕ) → standing self.new.ring role p + counted role entry p
@@ -267,11 +267,11 @@ impl<A: Accumulate> Board<A> {
 
     /// Lets a task with this entry stand at its phases, at which others stand already.
     pub fn register(&mut self, entry: Entry)
-        requires kept { IsBoard A.operation self.old }
+        requires invariant { IsBoard A.operation self.old }
         requires stands { (role : Role) → takes_part role entry ≡ true
             → 0 < standing self.old.ring role (phase_for role entry) }
         requires few { (role : Role) (p : ℕ) → standing self.old.ring role p < MEMBERS_MAX }
-        ensures kept { IsBoard A.operation self.new }
+        ensures invariant { IsBoard A.operation self.new }
         ensures keeps { KeepsBounds self.old self.new }
         ensures same { sents self.new.ring ≡ sents self.old.ring }
         ensures standing { (role : Role) (p : ℕ) → standing self.new.ring role p
@@ -283,9 +283,9 @@ impl<A: Accumulate> Board<A> {
 
     /// Lets one more waiter stand at the first phase that is not complete.
     pub fn join_now(&mut self)
-        requires kept { IsBoard A.operation self.old }
+        requires invariant { IsBoard A.operation self.old }
         requires few { standing self.old.ring Waiter self.old.done < MEMBERS_MAX }
-        ensures kept { IsBoard A.operation self.new }
+        ensures invariant { IsBoard A.operation self.new }
         ensures keeps { KeepsBounds self.old self.new }
         ensures same { sents self.new.ring ≡ sents self.old.ring }
         ensures standing { (p : ℕ) → standing self.new.ring Waiter p
@@ -298,11 +298,11 @@ impl<A: Accumulate> Board<A> {
 
     /// Lets a task with this entry stand at its phases no more. Some waiter is left.
     pub fn leave(&mut self, entry: Entry)
-        requires kept { IsBoard A.operation self.old }
+        requires invariant { IsBoard A.operation self.old }
         requires stands { (role : Role) → takes_part role entry ≡ true
             → 0 < standing self.old.ring role (phase_for role entry) }
         requires waiter { (p : ℕ) × (counted Waiter entry p < standing self.old.ring Waiter p) }
-        ensures kept { IsBoard A.operation self.new }
+        ensures invariant { IsBoard A.operation self.new }
         ensures left { HasLeft entry self.old self.new }
         ensures slots { KeepsSlots (sents self.old.ring) (sents self.new.ring) }
         ensures settled { IsSettled self.new }

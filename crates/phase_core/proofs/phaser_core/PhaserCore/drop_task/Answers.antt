@@ -87,7 +87,7 @@ invariant_of-self-2 g c =
     (λ none. c.if-waiters-eq0.false (c.waiters-waiters.ensures ∙ none)) in
     let o = c.leave.ensures in
     let all = drops_core op reg c.remove.new.self b c.leave.new.self h c.args.task e stands boarded c.self.invariant.used rising found
-    c.remove.ensures.members o.left.limits o.left.top o.slots o.left.stands o.settled o.stops o.kept in
+    c.remove.ensures.members o.left.limits o.left.top o.slots o.left.stands o.settled o.stops o.invariant in
     all.holds
 
 pub returns-clause-after : goal.returns-clause-after
@@ -103,5 +103,5 @@ returns-clause-after g c h given =
     (λ none. c.if-waiters-eq0.false (c.waiters-waiters.ensures ∙ none)) in
     let o = c.leave.ensures in
     let all = drops_core op reg c.remove.new.self b c.leave.new.self h c.args.task e stands boarded c.self.invariant.used rising found
-    c.remove.ensures.members o.left.limits o.left.top o.slots o.left.stands o.settled o.stops o.kept in
+    c.remove.ensures.members o.left.limits o.left.top o.slots o.left.stands o.settled o.stops o.invariant in
     all.stands

@@ -12,4 +12,4 @@ invariant_of-result g c =
     let L : Limits → Type 0 = λ l. AreLimits l in
     (made_core g.A.Accumulate.operation c.add.new.self c.in_ok-board.board c.args.first
     (c.in-Ok.ensures.added ∙ ap (added c.args.first founder) c.new-registry.ensures)
-    (subst L (sym b.limits) c.bound-bound.ensures.limits) b.kept b.done b.top b.base b.standing).holds
+    (subst L (sym b.limits) c.bound-bound.ensures.limits) b.invariant b.done b.top b.base b.standing).holds

@@ -74,7 +74,7 @@ invariant_of-self-2 g c =
     let a = accepted op reg b.limits b.ring b.top h c.args.parent c.args.child c.args.mode e stands c.self.invariant.used found held c.in_default-added.ensures.ok in
     let o = c.register.ensures in
     let all = registers_core op reg c.add-added.new.self b c.register.new.self h c.args.parent c.args.child c.args.mode e stands boarded a
-    c.in_default-added.ensures.added o.keeps.limits o.keeps.done o.keeps.top o.same o.standing o.kept in
+    c.in_default-added.ensures.added o.keeps.limits o.keeps.done o.keeps.top o.same o.standing o.invariant in
     all.holds
 
 pub returns-clause-after : goal.returns-clause-after
@@ -91,5 +91,5 @@ returns-clause-after g c h given =
     let a = accepted op reg b.limits b.ring b.top h c.args.parent c.args.child c.args.mode e stands c.self.invariant.used found held c.in_default-added.ensures.ok in
     let o = c.register.ensures in
     let all = registers_core op reg c.add-added.new.self b c.register.new.self h c.args.parent c.args.child c.args.mode e stands boarded a
-    c.in_default-added.ensures.added o.keeps.limits o.keeps.done o.keeps.top o.same o.standing o.kept in
+    c.in_default-added.ensures.added o.keeps.limits o.keeps.done o.keeps.top o.same o.standing o.invariant in
     all.stands

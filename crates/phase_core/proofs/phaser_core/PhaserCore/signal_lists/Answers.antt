@@ -240,7 +240,7 @@ signal_block-requires g c =
     let most = phases_most c.self.invariant.stands in
     let near = t.near in
     record {
-      kept = t.boarded.kept;
+      invariant = t.boarded.kept;
       may = record {
         low = t.ready.low;
         later = omega arith;
@@ -303,7 +303,7 @@ invariant_of-self-2 g c =
       stands = signal_stands op g.met.A.Accumulate.laws reg c.signalled-2.new.self b c.signal_block.new.self h c.args.task e held sends c.args.single
           stands t.boarded found t.base t.near none holds c.check_single.ensures t.fits reg_is o.signalled.limits o.signalled.top o.slots;
       boarded = inr (block_boarded op reg c.signalled-2.new.self b c.signal_block.new.self c.args.task (length held) e t.boarded found p.signals reg_is o.signalled.base
-          o.signalled.moves.moved o.signalled.moves.others o.kept o.stops);
+          o.signalled.moves.moved o.signalled.moves.others o.invariant o.stops);
       used = used_after reg c.signalled-2.new.self (changed_at c.args.task (signalled (length held)) reg.members) c.self.invariant.used reg_is;
     }
 

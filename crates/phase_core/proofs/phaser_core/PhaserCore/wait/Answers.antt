@@ -58,7 +58,7 @@ wait-outcome-requires g c =
     let w = waiting op reg b c.args.task e c.self.invariant.boarded found c.in-Some.ensures.few waits in
     let before : e.wait_phase < b.done = c.if-done-phase.false in
     record {
-      kept = w.boarded.kept;
+      invariant = w.boarded.kept;
       may = record { later = omega arith; complete = omega arith; stands = w.ready.stands; few = w.ready.few };
     }
 
@@ -76,7 +76,7 @@ invariant_of-self g c =
     subst H (sym c.self.view_is) c.has_signaller-has_signaller.ensures in
     let o = c.wait-outcome.ensures in
     let boarded = boarded_waited op reg c.waited.new.self b c.wait-outcome.new.self c.args.task 1 e w.boarded found waits c.waited.ensures
-    o.waited.keeps.done o.waited.keeps.top o.waited.moves.moved o.waited.moves.others o.kept o.stops in
+    o.waited.keeps.done o.waited.keeps.top o.waited.moves.moved o.waited.moves.others o.invariant o.stops in
     let h = c.self.invariant.history in
     let stands = c.self.invariant.stands in
     let r = waits_reply op reg b h c.args.task e c.has_signaller-has_signaller.result None w stands found has c.in_default-wait_refusal.ensures in
@@ -121,7 +121,7 @@ returns-clause-after g c h given =
     subst H (sym c.self.view_is) c.has_signaller-has_signaller.ensures in
     let o = c.wait-outcome.ensures in
     let boarded = boarded_waited op reg c.waited.new.self b c.wait-outcome.new.self c.args.task 1 e w.boarded found waits c.waited.ensures
-    o.waited.keeps.done o.waited.keeps.top o.waited.moves.moved o.waited.moves.others o.kept o.stops in
+    o.waited.keeps.done o.waited.keeps.top o.waited.moves.moved o.waited.moves.others o.invariant o.stops in
     let stands : StandsFor op (core_of reg b) h = rw c.self.view_is given in
     let r = waits_reply op reg b h c.args.task e c.has_signaller-has_signaller.result None w stands found has c.in_default-wait_refusal.ensures in
     stands_waited op reg c.waited.new.self b c.wait-outcome.new.self h c.args.task 1 e w stands found boarded r.0 (let before : e.wait_phase < b.done = c.if-done-phase.false in omega arith)

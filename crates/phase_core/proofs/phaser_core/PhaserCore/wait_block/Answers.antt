@@ -72,7 +72,7 @@ wait_block-requires g c =
     let count_is : count ≡ min n (b.done - e.wait_phase) = c.min-count.ensures in
     let before : e.wait_phase < b.done = c.if-done-phase.false in
     record {
-      kept = w.boarded.kept;
+      invariant = w.boarded.kept;
       may = record {
         later = omega arith;
         complete = omega arith;
@@ -104,7 +104,7 @@ invariant_of-self g c =
     let before : e.wait_phase < b.done = c.if-done-phase.false in
     let o = c.wait_block.ensures in
     let boarded = boarded_waited op reg c.waited.new.self b c.wait_block.new.self c.args.task count e w.boarded found waits c.waited.ensures
-    o.waited.keeps.done o.waited.keeps.top o.waited.moves.moved o.waited.moves.others o.kept o.stops in
+    o.waited.keeps.done o.waited.keeps.top o.waited.moves.moved o.waited.moves.others o.invariant o.stops in
     let fewer = wait_refusal-fewer b.limits h c.args.task n count r.0 (omega arith) (omega arith) in
     record {
       history = Waited c.args.task count ∷ h;
@@ -158,7 +158,7 @@ returns-clause-after g c h given =
     let before : e.wait_phase < b.done = c.if-done-phase.false in
     let o = c.wait_block.ensures in
     let boarded = boarded_waited op reg c.waited.new.self b c.wait_block.new.self c.args.task count e w.boarded found waits c.waited.ensures
-    o.waited.keeps.done o.waited.keeps.top o.waited.moves.moved o.waited.moves.others o.kept o.stops in
+    o.waited.keeps.done o.waited.keeps.top o.waited.moves.moved o.waited.moves.others o.invariant o.stops in
     let fewer = wait_refusal-fewer b.limits h c.args.task n count r.0 (omega arith) (omega arith) in
     stands_waited op reg c.waited.new.self b c.wait_block.new.self h c.args.task count e w stands found boarded fewer (omega arith)
     c.waited.ensures o.waited.keeps.limits o.waited.keeps.top o.slots

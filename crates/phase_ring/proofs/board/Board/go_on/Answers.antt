@@ -12,7 +12,7 @@ leave-requires g c =
     let later = may.later in
     let high = may.high in
     record {
-      within = signaller-within op old.ring old.limits.bound old.done old.top c.args.from c.requires.kept may.low (omega arith);
+      within = signaller-within op old.ring old.limits.bound old.done old.top c.args.from c.requires.invariant may.low (omega arith);
       some = may.stands;
     }
 
@@ -21,7 +21,7 @@ enter-requires g c =
     let op = g.A.Accumulate.operation in
     let old = c.args.self.now in
     let may = c.requires.may in
-    let l = signaller_leaving op old.ring c.leave.new.self old.limits.bound old.done old.top c.args.from c.args.to c.requires.kept may.low may.later may.high c.leave.ensures in
+    let l = signaller_leaving op old.ring c.leave.new.self old.limits.bound old.done old.top c.args.from c.args.to c.requires.invariant may.low may.later may.high c.leave.ensures in
     let room = l.room in
     let few = may.few in
     record { within = l.next; few = omega arith }
@@ -31,7 +31,7 @@ settle-requires g c =
     let op = g.A.Accumulate.operation in
     let old = c.args.self.now in
     let may = c.requires.may in
-    let l = signaller_leaving op old.ring c.leave.new.self old.limits.bound old.done old.top c.args.from c.args.to c.requires.kept may.low may.later may.high c.leave.ensures in
+    let l = signaller_leaving op old.ring c.leave.new.self old.limits.bound old.done old.top c.args.from c.args.to c.requires.invariant may.low may.later may.high c.leave.ensures in
     let e = signaller_entering op old.ring c.leave.new.self c.enter.new.self old.limits.bound old.done old.top c.args.from c.args.to l may.low may.later may.high may.stands c.enter.ensures in
     e.kept
 
@@ -40,11 +40,11 @@ returns g c =
     let op = g.A.Accumulate.operation in
     let old = c.args.self.now in
     let may = c.requires.may in
-    let l = signaller_leaving op old.ring c.leave.new.self old.limits.bound old.done old.top c.args.from c.args.to c.requires.kept may.low may.later may.high c.leave.ensures in
+    let l = signaller_leaving op old.ring c.leave.new.self old.limits.bound old.done old.top c.args.from c.args.to c.requires.invariant may.low may.later may.high c.leave.ensures in
     let e = signaller_entering op old.ring c.leave.new.self c.enter.new.self old.limits.bound old.done old.top c.args.from c.args.to l may.low may.later may.high may.stands c.enter.ensures in
     let s = c.settle.ensures in
     record {
-      kept = s.kept;
+      invariant = s.invariant;
       limits = s.limits;
       top = s.top;
       same = s.same ∙ e.sents_same;

@@ -22,8 +22,8 @@ enter-requires-2-clause-few g c =
     let b = fresh_few op bound c.in_ok-ring.ring Waiter 0 fresh in
     omega arith
 
-pub returns-clause-kept : goal.returns-clause-kept
-returns-clause-kept g c =
+pub returns-clause-invariant : goal.returns-clause-invariant
+returns-clause-invariant g c =
     let op = g.A.Accumulate.operation in
     let bound = c.args.limits.bound in
     let fresh : c.in_ok-ring.ring ≡ fresh_ring op (bound + 1) = c.in_ok-ring.ensures ∙ ap (λ n. fresh_ring op (n + 1)) c.bound.ensures.value in

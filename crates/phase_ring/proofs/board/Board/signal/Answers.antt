@@ -16,12 +16,12 @@ join-requires g c =
     let may = c.requires.may in
     let ahead : c.args.phase < old.ring.base + old.limits.bound = (let a = may.ahead in omega arith) in
     let want = block_joined op c.args.phase (c.args.pending.now ∷ []) c.args.single.now old.ring in
-    let first = joins_first op old.ring old.limits.bound old.done old.top c.args.phase (c.args.pending.now ∷ []) c.args.single.now c.requires.kept may.stands c.requires.fits in
+    let first = joins_first op old.ring old.limits.bound old.done old.top c.args.phase (c.args.pending.now ∷ []) c.args.single.now c.requires.invariant may.stands c.requires.fits in
     let w = joins_within op old.ring old.ring old.limits.bound old.done old.top c.args.phase (c.args.pending.now ∷ []) c.args.single.now want first may.low ahead in
     record {
       within = w.0;
       below = w.1;
-      incomplete = sealed-high op old.ring old.limits.bound old.done old.top c.args.phase c.requires.kept w.0 may.low;
+      incomplete = sealed-high op old.ring old.limits.bound old.done old.top c.args.phase c.requires.invariant w.0 may.low;
       fits = c.requires.fits.0;
       unused = λ above. joins_unused op old.ring old.ring old.limits.bound old.done old.top c.args.phase (c.args.pending.now ∷ []) c.args.single.now want first w.0 above;
     }
@@ -44,7 +44,7 @@ go_on-requires g c =
     let ahead : c.args.phase < old.ring.base + old.limits.bound = (let a = may.ahead in omega arith) in
     let far = may.far in
     let want = block_joined op c.args.phase (c.args.pending.now ∷ []) c.args.single.now old.ring in
-    let first = joins_first op old.ring old.limits.bound old.done old.top c.args.phase (c.args.pending.now ∷ []) c.args.single.now c.requires.kept may.stands c.requires.fits in
+    let first = joins_first op old.ring old.limits.bound old.done old.top c.args.phase (c.args.pending.now ∷ []) c.args.single.now c.requires.invariant may.stands c.requires.fits in
     let j = joins_next op old.ring old.ring c.join.new.self.ring old.limits.bound old.done old.top c.args.phase c.args.pending.now [] c.args.single.now want first may.low ahead (omega arith) c.join.ensures.slot in
     let now = c.join.new.self in
     let same = c.join.ensures.keeps in
@@ -54,7 +54,7 @@ go_on-requires g c =
     let D : ℕ → Type 0 = λ d. IsKept op now.ring old.limits.bound d c.max-self.result in
     let T : ℕ → Type 0 = λ t. IsKept op now.ring old.limits.bound old.done t in
     record {
-      kept = subst L (sym same.limits) (subst D (sym same.done) (subst T (sym (top ∙ ap (λ t. max t (c.args.phase + 1)) same.top)) j.kept));
+      invariant = subst L (sym same.limits) (subst D (sym same.done) (subst T (sym (top ∙ ap (λ t. max t (c.args.phase + 1)) same.top)) j.kept));
       may = record {
         low = (let low = may.low in let d = same.done in omega arith);
         later = may.later;
@@ -72,11 +72,11 @@ returns g c =
     let ahead : c.args.phase < old.ring.base + old.limits.bound = (let a = may.ahead in omega arith) in
     let far = may.far in
     let want = block_joined op c.args.phase (c.args.pending.now ∷ []) c.args.single.now old.ring in
-    let first = joins_first op old.ring old.limits.bound old.done old.top c.args.phase (c.args.pending.now ∷ []) c.args.single.now c.requires.kept may.stands c.requires.fits in
+    let first = joins_first op old.ring old.limits.bound old.done old.top c.args.phase (c.args.pending.now ∷ []) c.args.single.now c.requires.invariant may.stands c.requires.fits in
     let j = joins_next op old.ring old.ring c.join.new.self.ring old.limits.bound old.done old.top c.args.phase c.args.pending.now [] c.args.single.now want first may.low ahead (omega arith) c.join.ensures.slot in
     let o = c.go_on.ensures in
     record {
-      kept = o.kept;
+      invariant = o.invariant;
       signalled = record {
         limits = o.limits ∙ c.join.ensures.keeps.limits;
         base = ap (λ (r : Ring g.row.A.Denot). r.base) o.same ∙ j.base_same;

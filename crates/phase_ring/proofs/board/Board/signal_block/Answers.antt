@@ -15,7 +15,7 @@ pub loop-pending-init : goal.loop-pending-init
 loop-pending-init g c =
     let now = c.args.self.now in (
       record {
-        joining = joins_first g.A.Accumulate.operation now.ring now.limits.bound now.done now.top c.args.phase c.args.lists.now c.args.single.now c.requires.kept c.requires.may.stands c.requires.fits;
+        joining = joins_first g.A.Accumulate.operation now.ring now.limits.bound now.done now.top c.args.phase c.args.lists.now c.args.single.now c.requires.invariant c.requires.may.stands c.requires.fits;
         next_is = omega arith;
       },
       refl,
@@ -99,7 +99,7 @@ go_on-requires g c =
     let D : ℕ → Type 0 = λ d. IsKept op now.ring old.limits.bound d c.max-self.result in
     let T : ℕ → Type 0 = λ t. IsKept op now.ring old.limits.bound old.done t in
     record {
-      kept = subst L (sym same.1) (subst D (sym same.2) (subst T (sym (c.max-self.ensures ∙ ap (λ t. max t c.loop-pending.next) same.3)) inv.joining.kept));
+      invariant = subst L (sym same.1) (subst D (sym same.2) (subst T (sym (c.max-self.ensures ∙ ap (λ t. max t c.loop-pending.next) same.3)) inv.joining.kept));
       may = record {
         low = (let low = may.low in let d = same.2 in omega arith);
         later = omega arith;
@@ -126,7 +126,7 @@ returns g c =
     c.args.single.now (block_joined op c.args.phase c.args.lists.now c.args.single.now old.ring) inv.joining past to_is in
     let o = c.go_on.ensures in
     record {
-      kept = o.kept;
+      invariant = o.invariant;
       signalled = record {
         limits = o.limits ∙ c.loop-pending.invariant.1;
         base = ap (λ (r : Ring g.row.A.Denot). r.base) o.same ∙ j.base_same;

@@ -13,7 +13,7 @@ value-outcome-requires g c =
     let may = c.requires.may in
     let complete : c.args.phase < old.done = (let m = may.complete in omega arith) in
     let within = standing-within old.ring Waiter c.args.phase may.stands in
-    record { within = within; complete = sealed-low op old.ring old.limits.bound old.done old.top c.args.phase c.requires.kept within complete }
+    record { within = within; complete = sealed-low op old.ring old.limits.bound old.done old.top c.args.phase c.requires.invariant within complete }
 
 pub leave-requires : goal.leave-requires
 leave-requires g c =
@@ -22,7 +22,7 @@ leave-requires g c =
 
 pub overflow_add-phase : goal.overflow_add-phase
 overflow_add-phase g c =
-    let kept = c.requires.kept in
+    let kept = c.requires.invariant in
     let done = kept.done_top in
     let far = kept.top_far in
     let complete = c.requires.may.complete in
@@ -34,7 +34,7 @@ enter-requires g c =
     let old = c.args.self.now in
     let may = c.requires.may in
     let to = c.args.phase + 1 in
-    let l = waiter_leaving op old.ring c.leave.new.self old.limits.bound old.done old.top c.args.phase to c.requires.kept may.later may.complete may.stands c.leave.ensures in
+    let l = waiter_leaving op old.ring c.leave.new.self old.limits.bound old.done old.top c.args.phase to c.requires.invariant may.later may.complete may.stands c.leave.ensures in
     let room = l.room in
     let few = may.few in
     record { within = l.next; few = omega arith }
@@ -45,9 +45,9 @@ give_up-requires g c =
     let old = c.args.self.now in
     let may = c.requires.may in
     let to = c.args.phase + 1 in
-    let l = waiter_leaving op old.ring c.leave.new.self old.limits.bound old.done old.top c.args.phase to c.requires.kept may.later may.complete may.stands c.leave.ensures in
+    let l = waiter_leaving op old.ring c.leave.new.self old.limits.bound old.done old.top c.args.phase to c.requires.invariant may.later may.complete may.stands c.leave.ensures in
     let e = waiter_entering op old.ring c.leave.new.self c.enter.new.self old.limits.bound old.done old.top c.args.phase to l may.later may.complete may.stands c.enter.ensures in
-    record { kept = e.kept; waiter = (to, waits-there op old.ring c.enter.new.self old.limits.bound old.done old.top c.args.phase to may.later e) }
+    record { invariant = e.kept; waiter = (to, waits-there op old.ring c.enter.new.self old.limits.bound old.done old.top c.args.phase to may.later e) }
 
 pub returns-clause-waited : goal.returns-clause-waited
 returns-clause-waited g c =
@@ -55,7 +55,7 @@ returns-clause-waited g c =
     let old = c.args.self.now in
     let may = c.requires.may in
     let to = c.args.phase + 1 in
-    let l = waiter_leaving op old.ring c.leave.new.self old.limits.bound old.done old.top c.args.phase to c.requires.kept may.later may.complete may.stands c.leave.ensures in
+    let l = waiter_leaving op old.ring c.leave.new.self old.limits.bound old.done old.top c.args.phase to c.requires.invariant may.later may.complete may.stands c.leave.ensures in
     let e = waiter_entering op old.ring c.leave.new.self c.enter.new.self old.limits.bound old.done old.top c.args.phase to l may.later may.complete may.stands c.enter.ensures in
     let o = c.give_up.ensures in
     record {
@@ -72,6 +72,6 @@ returns-clause-slots g c =
     let old = c.args.self.now in
     let may = c.requires.may in
     let to = c.args.phase + 1 in
-    let l = waiter_leaving op old.ring c.leave.new.self old.limits.bound old.done old.top c.args.phase to c.requires.kept may.later may.complete may.stands c.leave.ensures in
+    let l = waiter_leaving op old.ring c.leave.new.self old.limits.bound old.done old.top c.args.phase to c.requires.invariant may.later may.complete may.stands c.leave.ensures in
     let e = waiter_entering op old.ring c.leave.new.self c.enter.new.self old.limits.bound old.done old.top c.args.phase to l may.later may.complete may.stands c.enter.ensures in
     KeepsSlots-sents old.ring c.enter.new.self c.give_up.new.self.ring e.sents_same c.give_up.ensures.slots
