@@ -92,7 +92,7 @@ impl Machine {
         ensures cores { OnOk result ((m : Moment) → IsMachineAt job.now m self.old
             → HasCores job.now (with_at p (Registered parent child mode ∷ m.history p) m.history)
             self.new.cores.items) }
-        ensures kept { OnErr result (self.new.cores ≡ self.old.cores) }
+        ensures err { OnErr result (self.new.cores ≡ self.old.cores) }
         ensures tasks { self.new.tasks ≡ self.old.tasks }
         ensures lines { self.new.lines ≡ self.old.lines }
     {

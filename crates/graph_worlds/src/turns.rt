@@ -40,7 +40,7 @@ impl Machine {
         requires machine { IsMachine job.now self.old }
         requires plan { IsPlan job.now plan.now }
         ensures made { IfOk result (λ made. HadTurn job.now self.old self.new t made) }
-        ensures kept { OnErr result (self.new ≡ self.old) }
+        ensures err { OnErr result (self.new ≡ self.old) }
         ensures memory { OnErr result ((m : Moment) → IsMachineAt job.now m self.old
             → IsRegistration (turns.next_of job.now m t)) }
     {
@@ -65,7 +65,7 @@ impl Machine {
         requires next { IsNextIn job.now self.old t (next_by step) }
         requires plan { IsPlan job.now plan.now }
         ensures made { IfOk result (λ made. HadTurn job.now self.old self.new t made) }
-        ensures kept { OnErr result (self.new ≡ self.old) }
+        ensures err { OnErr result (self.new ≡ self.old) }
         // A registration alone asks for memory.
         ensures memory { OnErr result (IsRegistration (next_by step)) }
     {
@@ -236,7 +236,7 @@ impl Machine {
     fn register_child(&mut self, job: &Job, t: usize, c: usize) -> Result<Made, AllocError>
         requires { IsNextIn job.now self.old t (turns.registers c) }
         ensures made { IfOk result (λ made. HadTurn job.now self.old self.new t made) }
-        ensures kept { OnErr result (self.new ≡ self.old) }
+        ensures err { OnErr result (self.new ≡ self.old) }
     {
         let _all = job.graph().registrations(c);
         let made = self.tasks[c].numbers.len();

@@ -35,8 +35,8 @@ returns-clause-cores c =
     c.register.ensures.after
 
 -- a core that took no child is as it was
-pub returns-clause-kept : goal.returns-clause-kept
-returns-clause-kept c =
+pub returns-clause-err : goal.returns-clause-err
+returns-clause-err c =
     on_err c.register.result (λ same.
     ap (with_item c.args.self.now.cores c.args.p) same
     ∙ same_item c.args.self.now.cores c.args.p c.index_mut.result.now
