@@ -222,7 +222,7 @@ fn make_room(lines: &mut Vec<i64>, sink: bool) -> bool
 /// Keeps what a sink took. Other tasks keep nothing.
 fn keep(lines: &mut Vec<i64>, sink: bool, x: i64)
     requires { sink ≡ true → vec_len lines.old < vec_capacity lines.old }
-    ensures kept { sink ≡ true → lines.new.items ≡ lines.old.items ++ x ∷ [] }
+    ensures pushed { sink ≡ true → lines.new.items ≡ lines.old.items ++ x ∷ [] }
 {
     if sink {
         lines.push_reserved(x);

@@ -49,7 +49,7 @@ fn round_with_child<R: Wait>(
 ) -> Option<SumReceipts>
     requires { receiver.old.at ≡ phaser_place phaser.now }
     ensures at { receiver.new.at ≡ receiver.old.at }
-    ensures kept { IfSome result (λ receipts. receipts.at ≡ phaser_place phaser.now) }
+    ensures receipts { IfSome result (λ receipts. receipts.at ≡ phaser_place phaser.now) }
 {
     let mut child = match receiver.register(rt, alloc, phaser, Mode::SigWait) {
         Ok(child) => child,
@@ -93,7 +93,7 @@ fn churn<R: Wait>(
 ) -> Option<SumReceipts>
     requires { IfSome slot.old (λ receiver. receiver.at ≡ phaser_place phaser.now) }
     ensures slot { slot.new ≡ None }
-    ensures kept { IfSome result (λ receipts. receipts.at ≡ phaser_place phaser.now) }
+    ensures at { IfSome result (λ receipts. receipts.at ≡ phaser_place phaser.now) }
 {
     let mut receiver = slot.take()?;
     let mut children = None;
@@ -133,7 +133,7 @@ fn by_parts<R: Threads + Wait + Sync>(
 ) -> Option<SumReceipts>
     requires { IfSome slot.old (λ receiver. receiver.at ≡ phaser_place phaser.now) }
     ensures slot { slot.new ≡ None }
-    ensures kept { IfSome result (λ receipts. receipts.at ≡ phaser_place phaser.now) }
+    ensures at { IfSome result (λ receipts. receipts.at ≡ phaser_place phaser.now) }
 {
     if parts <= 1 {
         return churn(rt, alloc, phaser, slot, seed);

@@ -146,7 +146,7 @@ fn take_part<R: Wait>(
 ) -> Option<SumReceipts>
     requires { IfSome slot.old (λ receiver. receiver.at ≡ phaser_place phaser.now) }
     ensures slot { slot.new ≡ None }
-    ensures kept { IfSome result (λ receipts. receipts.at ≡ phaser_place phaser.now) }
+    ensures at { IfSome result (λ receipts. receipts.at ≡ phaser_place phaser.now) }
 {
     let mut receiver = slot.take()?;
     let is_done = does(rt, phaser, &mut receiver, part);
@@ -165,7 +165,7 @@ fn take_two<R: Threads + Wait + Sync>(
     requires first { IfSome first.old (λ receiver. receiver.at ≡ phaser_place phaser.now) }
     requires second { IfSome second.old (λ receiver. receiver.at ≡ phaser_place phaser.now) }
     ensures slots { (first.new ≡ None) × (second.new ≡ None) }
-    ensures kept { IfSome result (λ receipts. receipts.at ≡ phaser_place phaser.now) }
+    ensures at { IfSome result (λ receipts. receipts.at ≡ phaser_place phaser.now) }
 {
     let (one, other) = join_mut(
         rt,

@@ -59,7 +59,7 @@ returns-in-Ok-Value g c = λ spots task.
     (λ taken has. subst (λ y. HasFilter (task_at job.graph t) c.owed_after_wait-self.new.filter (taken ++ y ∷ [])) same
     (c.owed_after_wait-self.ensures.filter taken has))
     (λ sink. (let yes : is_sink_at job t ≡ true = rw sink refl in
-    c.keep.ensures.kept (c.is_sink-sink.ensures ∙ yes)
+    c.keep.ensures.pushed (c.is_sink-sink.ensures ∙ yes)
     ∙ ap (λ y. c.make_room.new.lines.items ++ y ∷ []) same
     ∙ ap (λ l. l ++ x ∷ []) c.make_room.ensures.items))
     c.index_mut.ensures.value
