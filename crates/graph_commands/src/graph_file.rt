@@ -21,7 +21,7 @@ pub fn read_graph_file<F: Files>(
     ensures ok { IfOk result (λ graph. IsGraphOf (F.file files.old) name.now graph) }
     ensures fault { IfErr result (λ fault. Explains (F.file files.old) name.now fault) }
     ensures alone { IfErr result (λ fault. ExplainsNoGraph (F.file files.old) name.now fault) }
-    ensures kept { (other : List ℕ) → F.file files.new other ≡ F.file files.old other }
+    ensures same { (other : List ℕ) → F.file files.new other ≡ F.file files.old other }
 {
     let text = files.read(alloc, name, GRAPH_MAX)?;
     Ok(read_graph(alloc, text.as_slice())?)

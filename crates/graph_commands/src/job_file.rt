@@ -17,7 +17,7 @@ use watched_io::Files;
 pub fn read_job<F: Files>(alloc: Global, files: &mut F, name: &str) -> Result<Job, JobFault>
     ensures ok { IfOk result (λ job. IsJobOf (F.file files.old) name.now job) }
     ensures fault { IfErr result (λ fault. Explains (F.file files.old) name.now fault) }
-    ensures kept { (other : List ℕ) → F.file files.new other ≡ F.file files.old other }
+    ensures same { (other : List ℕ) → F.file files.new other ≡ F.file files.old other }
 {
     let graph = read_graph_file(alloc, files, name)?;
     job_of_graph(alloc, files, graph)
@@ -34,7 +34,7 @@ pub(crate) fn job_of_graph<F: Files>(
         → IsGraphOf (F.file files.old) name graph → IsJobOf (F.file files.old) name job) }
     ensures fault { IfErr result (λ fault. (name : List ℕ)
         → IsGraphOf (F.file files.old) name graph → Explains (F.file files.old) name fault) }
-    ensures kept { (other : List ℕ) → F.file files.new other ≡ F.file files.old other }
+    ensures same { (other : List ℕ) → F.file files.new other ≡ F.file files.old other }
 {
     let samples = read_sources(alloc, files, &graph)?;
     match Job::new(alloc, graph, samples) {

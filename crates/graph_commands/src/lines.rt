@@ -31,7 +31,7 @@ pub fn write_lines<W: Write>(
     ensures err { OnErr result (AppendsPrefix (W.contents (inner_of writer.old))
         (W.contents (inner_of writer.new)) (text_of graph.now (map sink_values lines.now))) }
     ensures failed { OnErr result (has_failed_of writer.new ≡ true) }
-    ensures kept { OnOk result (has_failed_of writer.new ≡ has_failed_of writer.old) }
+    ensures same { OnOk result (has_failed_of writer.new ≡ has_failed_of writer.old) }
 {
     let mut piece = OutputBuffer::new();
     for sink in lines {
@@ -49,7 +49,7 @@ pub fn write_values<W: Write>(writer: &mut Watched<W>, values: &[i64]) -> Result
     ensures err { OnErr result (AppendsPrefix (W.contents (inner_of writer.old))
         (W.contents (inner_of writer.new)) (flat_map value_text values.now)) }
     ensures failed { OnErr result (has_failed_of writer.new ≡ true) }
-    ensures kept { OnOk result (has_failed_of writer.new ≡ has_failed_of writer.old) }
+    ensures same { OnOk result (has_failed_of writer.new ≡ has_failed_of writer.old) }
 {
     let mut piece = OutputBuffer::new();
     piece.put_values(values, writer)?;
@@ -68,7 +68,7 @@ impl OutputBuffer {
         ensures err { OnErr result (AppendsPrefix (W.contents (inner_of writer.old))
             (W.contents (inner_of writer.new)) (self.old ++ value_text value)) }
         ensures failed { OnErr result (has_failed_of writer.new ≡ true) }
-        ensures kept { OnOk result (has_failed_of writer.new ≡ has_failed_of writer.old) }
+        ensures same { OnOk result (has_failed_of writer.new ≡ has_failed_of writer.old) }
     {
         self.put(Buffer::new().format(value).as_bytes(), writer)?;
         self.put(b"\n", writer)
@@ -86,7 +86,7 @@ impl OutputBuffer {
         ensures err { OnErr result (AppendsPrefix (W.contents (inner_of writer.old))
             (W.contents (inner_of writer.new)) (self.old ++ heading_text name.now count)) }
         ensures failed { OnErr result (has_failed_of writer.new ≡ true) }
-        ensures kept { OnOk result (has_failed_of writer.new ≡ has_failed_of writer.old) }
+        ensures same { OnOk result (has_failed_of writer.new ≡ has_failed_of writer.old) }
     {
         self.put(name.as_bytes(), writer)?;
         self.put(b" ", writer)?;
@@ -106,7 +106,7 @@ impl OutputBuffer {
         ensures err { OnErr result (AppendsPrefix (W.contents (inner_of writer.old))
             (W.contents (inner_of writer.new)) (self.old ++ flat_map value_text values.now)) }
         ensures failed { OnErr result (has_failed_of writer.new ≡ true) }
-        ensures kept { OnOk result (has_failed_of writer.new ≡ has_failed_of writer.old) }
+        ensures same { OnOk result (has_failed_of writer.new ≡ has_failed_of writer.old) }
     {
         for value in values {
             self.put_value(*value, writer)?;
@@ -126,7 +126,7 @@ impl OutputBuffer {
         ensures err { OnErr result (AppendsPrefix (W.contents (inner_of writer.old))
             (W.contents (inner_of writer.new)) (self.old ++ sink_text name.now values.now)) }
         ensures failed { OnErr result (has_failed_of writer.new ≡ true) }
-        ensures kept { OnOk result (has_failed_of writer.new ≡ has_failed_of writer.old) }
+        ensures same { OnOk result (has_failed_of writer.new ≡ has_failed_of writer.old) }
     {
         self.put_heading(name, values.len(), writer)?;
         self.put_values(values, writer)

@@ -62,7 +62,7 @@ impl OutputBuffer {
         ensures err { OnErr result (AppendsPrefix (W.contents (inner_of writer.old))
             (W.contents (inner_of writer.new)) self.old) }
         ensures failed { OnErr result (has_failed_of writer.new ≡ true) }
-        ensures kept { OnOk result (has_failed_of writer.new ≡ has_failed_of writer.old) }
+        ensures same { OnOk result (has_failed_of writer.new ≡ has_failed_of writer.old) }
     {
         writer.send(&self.buf[..self.len])?;
         self.len = 0;
@@ -80,7 +80,7 @@ impl OutputBuffer {
         ensures err { OnErr result (AppendsPrefix (W.contents (inner_of writer.old))
             (W.contents (inner_of writer.new)) (self.old ++ bytes.now)) }
         ensures failed { OnErr result (has_failed_of writer.new ≡ true) }
-        ensures kept { OnOk result (has_failed_of writer.new ≡ has_failed_of writer.old) }
+        ensures same { OnOk result (has_failed_of writer.new ≡ has_failed_of writer.old) }
     {
         if self.has_room(bytes.len()) {
             self.keep(bytes);

@@ -40,7 +40,7 @@ fn read_source<F: Files>(
         × (length values.items ≤ TEXT_MAX)) }
     ensures fault { IfErr result (λ fault. (name : List ℕ)
         → IsReached (F.file files.old) name graph.now t → Explains (F.file files.old) name fault) }
-    ensures kept { (other : List ℕ) → F.file files.new other ≡ F.file files.old other }
+    ensures same { (other : List ℕ) → F.file files.new other ≡ F.file files.old other }
 {
     match read_sample_file(alloc, files, graph.file(source)) {
         Ok(values) => Ok(values),
@@ -69,7 +69,7 @@ pub fn read_sources<F: Files>(
     ensures few { IfOk result (λ lists. All (λ list. length list.items ≤ TEXT_MAX) lists.items) }
     ensures fault { IfErr result (λ fault. (name : List ℕ)
         → IsGraphOf (F.file files.old) name graph.now → Explains (F.file files.old) name fault) }
-    ensures kept { (other : List ℕ) → F.file files.new other ≡ F.file files.old other }
+    ensures same { (other : List ℕ) → F.file files.new other ≡ F.file files.old other }
 {
     let mut lists = Vec::new(alloc);
     for t in 0..graph.tasks() {

@@ -37,7 +37,7 @@ pub fn write_drawing<W: Write>(
 ) -> Result<(), IoFault>
     ensures ok { OnOk result (Appends (W.contents (inner_of writer.old))
         (W.contents (inner_of writer.new)) (drawing graph.now)) }
-    ensures kept { OnOk result (has_failed_of writer.new ≡ has_failed_of writer.old) }
+    ensures same { OnOk result (has_failed_of writer.new ≡ has_failed_of writer.old) }
     ensures write { result ≡ Err WriteFault → (has_failed_of writer.new ≡ true)
         × AppendsPrefix (W.contents (inner_of writer.old)) (W.contents (inner_of writer.new))
         (drawing graph.now) }

@@ -34,7 +34,7 @@ fn read_piece<R: Read>(
         (reader_state R.remaining reader.new) (take n piece.new)) }
     ensures end { IfOk result (λ n. n ≡ 0 → 0 < length piece.new
         → IsAtEnd (R.remaining (inner_of reader.new))) }
-    ensures kept { OnOk result (has_failed_of reader.new ≡ has_failed_of reader.old) }
+    ensures same { OnOk result (has_failed_of reader.new ≡ has_failed_of reader.old) }
     ensures err { IfErr result (λ fault. (fault ≡ IoFault.ReadFault)
         × StopsReading (reader_state R.remaining reader.old)
         (reader_state R.remaining reader.new) left (length piece.new)) }

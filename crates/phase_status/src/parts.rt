@@ -18,7 +18,7 @@ pub fn write_parts<W: Write>(parts: &[&str], writer: &mut Watched<W>) -> Result<
     ensures err { OnErr result (AppendsPrefix (W.contents (inner_of writer.old))
         (W.contents (inner_of writer.new)) (flat_map (λ part. part.now) parts.now)) }
     ensures failed { OnErr result (has_failed_of writer.new ≡ true) }
-    ensures kept { OnOk result (has_failed_of writer.new ≡ has_failed_of writer.old) }
+    ensures same { OnOk result (has_failed_of writer.new ≡ has_failed_of writer.old) }
 {
     for part in parts {
         writer.send(part.as_bytes())?;

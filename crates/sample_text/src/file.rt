@@ -38,7 +38,7 @@ pub fn read_sample_file<F: Files>(
     ensures memory { IsErrOf result SampleFault.OutOfMemory
         → MayNeedMemory TEXT_MAX (F.file files.old name.now) }
 
-    ensures kept { (other : List ℕ) → F.file files.new other ≡ F.file files.old other }
+    ensures same { (other : List ℕ) → F.file files.new other ≡ F.file files.old other }
 {
     let text = files.read(alloc, name, TEXT_MAX)?;
     samples_of(alloc, text.as_slice())

@@ -133,7 +133,7 @@ pub fn read_samples<R: Read>(
         (reader_state R.remaining reader.old) (reader_state R.remaining reader.new) }
 
     // Where a read fails, that is the answer.
-    ensures kept { (result ≢ Err SampleFault.ReadFault)
+    ensures same { (result ≢ Err SampleFault.ReadFault)
         → has_failed_of reader.new ≡ has_failed_of reader.old }
 {
     let text = read_text(alloc, reader, TEXT_MAX)?;

@@ -19,5 +19,5 @@ pub trait Files {
             → MayBeRefused limit (file self.old name.now) }
         ensures memory { IsErrOf result FileFault.OutOfMemory
             → MayNeedMemory limit (file self.old name.now) }
-        ensures kept { (other : List ℕ) → file self.new other ≡ file self.old other };
+        ensures same { (other : List ℕ) → file self.new other ≡ file self.old other };
 }

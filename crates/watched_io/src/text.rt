@@ -30,7 +30,7 @@ pub fn read_text<R: Read>(
         (reader_state R.remaining reader.old) (reader_state R.remaining reader.new)
         × (has_failed_of reader.new ≡ has_failed_of reader.old) }
 
-    ensures kept { OnOk result (has_failed_of reader.new ≡ has_failed_of reader.old) }
+    ensures same { OnOk result (has_failed_of reader.new ≡ has_failed_of reader.old) }
 {
     let mut chunk = vec![in alloc; 0u8; CHUNK_MAX]?;
     let mut text = Vec::new(alloc);

@@ -77,7 +77,7 @@ impl<R: Read> Watched<R> {
         ensures counted { IfOk result (λ n. CountsUp (count_of self.old) (count_of self.new) n) }
         ensures uncounted { OnErr result (count_of self.new ≡ count_of self.old) }
         ensures failed { OnErr result (has_failed_of self.new ≡ true) }
-        ensures kept { OnOk result (has_failed_of self.new ≡ has_failed_of self.old) }
+        ensures same { OnOk result (has_failed_of self.new ≡ has_failed_of self.old) }
     {
         match self.inner.read(piece) {
             Ok(count) => {
@@ -109,7 +109,7 @@ impl<W: Write> Watched<W> {
     fn flush(&mut self) -> Result<(), WriteFailed>
         ensures bytes { Keeps (W.contents (inner_of self.old)) (W.contents (inner_of self.new)) }
         ensures failed { OnErr result (has_failed_of self.new ≡ true) }
-        ensures kept { OnOk result (has_failed_of self.new ≡ has_failed_of self.old) }
+        ensures same { OnOk result (has_failed_of self.new ≡ has_failed_of self.old) }
         ensures uncounted { count_of self.new ≡ count_of self.old }
     {
         match self.inner.flush() {
@@ -128,7 +128,7 @@ impl<W: Write> Watched<W> {
             (W.contents (inner_of self.new)) bytes.now) }
 
         ensures failed { OnErr result (has_failed_of self.new ≡ true) }
-        ensures kept { OnOk result (has_failed_of self.new ≡ has_failed_of self.old) }
+        ensures same { OnOk result (has_failed_of self.new ≡ has_failed_of self.old) }
         ensures uncounted { count_of self.new ≡ count_of self.old }
     {
         let mut sent = 0;

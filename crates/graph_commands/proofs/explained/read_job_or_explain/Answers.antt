@@ -9,7 +9,7 @@ pub returns-in-Ok-job_of_text-clause-ok : goal.returns-in-Ok-job_of_text-clause-
 returns-in-Ok-job_of_text-clause-ok g c =
     let name = c.args.name.now in
     let same = known-same (g.F.Files.file c.read.new.self) (g.F.Files.file c.args.files.now)
-    c.in-Ok.ensures.kept in
+    c.in-Ok.ensures.same in
     let of : IsTextOf (g.F.Files.file c.read.new.self) name c.deref.result.now = rw c.deref.ensures.value
     (subst (λ (known : Known). IsTextOf known name c.in-Ok.text.items) (sym same)
     (record { bytes = c.in-Ok.ensures.bytes; short = c.in-Ok.ensures.short })) in
@@ -21,7 +21,7 @@ pub returns-in-Ok-clause-err : goal.returns-in-Ok-clause-err
 returns-in-Ok-clause-err g c =
     let name = c.args.name.now in
     let same = known-same (g.F.Files.file c.read.new.self) (g.F.Files.file c.args.files.now)
-    c.in-Ok.ensures.kept in
+    c.in-Ok.ensures.same in
     let of : IsTextOf (g.F.Files.file c.read.new.self) name c.deref.result.now = rw c.deref.ensures.value
     (subst (λ (known : Known). IsTextOf known name c.in-Ok.text.items) (sym same)
     (record { bytes = c.in-Ok.ensures.bytes; short = c.in-Ok.ensures.short })) in

@@ -48,7 +48,7 @@ loop-sink-preserved g c =
       rw more (Puts-append _ _ _ [] c.loop-sink.piece c.put_sink.new.self
           (text_of graph (map sink_values (take i lines))) text c.loop-sink.invariant.0
           (rw same at c.in_ok-put_sink.ensures.ok)),
-      c.in_ok-put_sink.ensures.kept ∙ c.loop-sink.invariant.1,
+      c.in_ok-put_sink.ensures.same ∙ c.loop-sink.invariant.1,
     )
 
 -- of what waited at the end a prefix was written

@@ -66,7 +66,7 @@ loop-t-preserved g c =
             All-push (λ list. AreSends list.items) lists list before.3 w.in-Ok.ensures.values.0,
             All-push (λ list. length list.items ≤ TEXT_MAX) lists list before.4
                 w.in-Ok.ensures.values.1,
-            λ other. w.in-Ok.ensures.kept other ∙ before.5 other,
+            λ other. w.in-Ok.ensures.same other ∙ before.5 other,
           ))
       | else-is_source_line w ↦
           (let is : is_source (task_at graph c.loop-t.t).kind ≡ false = search rules in

@@ -53,7 +53,7 @@ returns-in_err-finish-clause-cause g c =
     (reads_within _ _ _ _ _ c.hand_over.new.self c.replaying.left _ _
     (reads_sent _ _ _ _ _ c.replaying.replayer c.hand_over.new.self c.replaying.left c.replaying.invariant.1 c.in_ok-hand_over.ensures.ok)
     c.in_ok-count.ensures.gives (length-take-le c.in_ok-count.count c.read_piece.new.piece (omega (arith, c.in_ok-count.ensures.bound))) c.in_ok-count.ensures.fits)
-    (c.in_ok-count.ensures.kept ∙ c.replaying.invariant.2)
+    (c.in_ok-count.ensures.same ∙ c.replaying.invariant.2)
     (c.in_ok-hand_over.ensures.watched ∙ c.replaying.invariant.3) c.in_err-finish.ensures.noted)
 
 -- The script ended, and they were.
@@ -61,7 +61,7 @@ pub returns-then-count-eq0-clause-all : goal.returns-then-count-eq0-clause-all
 returns-then-count-eq0-clause-all g c = reads_end _ _ _ _ _ _ c.hand_over.new.self c.replaying.left
     (reads_sent _ _ _ _ _ c.replaying.replayer c.hand_over.new.self c.replaying.left c.replaying.invariant.1 c.in_ok-hand_over.ensures.ok)
     (rw c.if-count-eq0.true at c.in_ok-count.ensures.gives) (c.in_ok-count.ensures.end c.if-count-eq0.true (omega (arith, c.replaying.invariant.0, c.read_piece.auto.piece))) c.in_ok-finish.ensures.ok
-    (c.in_ok-count.ensures.kept ∙ c.replaying.invariant.2)
+    (c.in_ok-count.ensures.same ∙ c.replaying.invariant.2)
     (c.in_ok-finish.ensures.noted ∙ c.in_ok-hand_over.ensures.watched ∙ c.replaying.invariant.3)
 
 -- A piece is read and answered.
@@ -72,7 +72,7 @@ replaying-preserved g c = (
       (reads_sent _ _ _ _ _ c.replaying.replayer c.hand_over.new.self c.replaying.left c.replaying.invariant.1 c.in_ok-hand_over.ensures.ok)
       c.in_ok-count.ensures.gives (length-take-le c.in_ok-count.count c.read_piece.new.piece (omega (arith, c.in_ok-count.ensures.bound))) c.in_ok-count.ensures.fits
       c.in_ok-piece.ensures.ok,
-  c.in_ok-count.ensures.kept ∙ c.replaying.invariant.2,
+  c.in_ok-count.ensures.same ∙ c.replaying.invariant.2,
   c.in_ok-piece.ensures.noted ∙ c.in_ok-hand_over.ensures.watched ∙ c.replaying.invariant.3,
 )
 
@@ -92,5 +92,5 @@ returns-in_err-piece-clause-cause g c =
     (reads_within _ _ _ _ _ c.hand_over.new.self c.replaying.left _ _
     (reads_sent _ _ _ _ _ c.replaying.replayer c.hand_over.new.self c.replaying.left c.replaying.invariant.1 c.in_ok-hand_over.ensures.ok)
     c.in_ok-count.ensures.gives (length-take-le c.in_ok-count.count c.read_piece.new.piece (omega (arith, c.in_ok-count.ensures.bound))) c.in_ok-count.ensures.fits)
-    (c.in_ok-count.ensures.kept ∙ c.replaying.invariant.2)
+    (c.in_ok-count.ensures.same ∙ c.replaying.invariant.2)
     (c.in_ok-hand_over.ensures.watched ∙ c.replaying.invariant.3) c.in_err-piece.ensures.noted)

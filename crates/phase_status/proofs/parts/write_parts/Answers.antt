@@ -41,5 +41,5 @@ loop-part-preserved g c =
     ∙ flat_map-push text_of_part [] (take i parts) part in (
       rw more (Appends-trans _ _ _ done part.now c.loop-part.invariant.0
           (rw is at c.in_ok-send.ensures.ok)),
-      c.in_ok-send.ensures.kept ∙ c.loop-part.invariant.1,
+      c.in_ok-send.ensures.same ∙ c.loop-part.invariant.1,
     )

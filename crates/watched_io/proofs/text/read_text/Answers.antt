@@ -46,7 +46,7 @@ reading-preserved g c =
       chunk = inv.chunk;
       gives = rw items (gives_chunk _ _ _ c.in_ok-count.count c.reading.text.items c.read.new.piece inv.gives c.in_ok-count.ensures.bytes.0 c.in_ok-count.ensures.counted bound);
       short = rw items omega arith;
-      kept = c.in_ok-count.ensures.kept ∙ inv.kept;
+      kept = c.in_ok-count.ensures.same ∙ inv.kept;
     }
 
 -- There was no memory for the chunk.
@@ -56,5 +56,5 @@ returns-in_err-extend_from_slice-clause-memory g c = λ _.
     let room : c.in_ok-count.count ≤ c.args.limit - length c.reading.text.items = omega (arith, c.if-count-limit.false, c.len.ensures, c.reading.text.ok.0) in (
       reads_within c.args.limit _ _ _ c.in_ok-count.count c.reading.text.items c.read.new.piece inv.gives inv.short room
           c.in_ok-count.ensures.bytes.0 c.in_ok-count.ensures.counted c.in_ok-count.ensures.bound.0,
-      c.in_ok-count.ensures.kept ∙ inv.kept,
+      c.in_ok-count.ensures.same ∙ inv.kept,
     )

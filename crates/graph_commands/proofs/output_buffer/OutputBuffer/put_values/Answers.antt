@@ -40,5 +40,5 @@ loop-value-preserved g c =
       rw more (Puts-append _ _ _ before c.loop-value.self c.put_value.new.self
           (flat_map value_text (take i values)) (value_text (get_or values i (pos 0)))
           c.loop-value.invariant.0 (rw same at c.in_ok-put_value.ensures.ok)),
-      c.in_ok-put_value.ensures.kept ∙ c.loop-value.invariant.1,
+      c.in_ok-put_value.ensures.same ∙ c.loop-value.invariant.1,
     )
