@@ -1,6 +1,7 @@
 -- What a filter answers, as a function of the whole list of its samples.
 use Rattle.std.specs.Prelude.{◌≡◌, ℕ, suc, ◌/◌, ◌^◌, ◌<◌, ◌≤◌, List, [], ◌∷◌, length, map, reverse, take, get_or, ℤ, pos, negsuc, ◌+ℤ◌, ◌*ℤ◌, unsigned_abs}
 use Rattle.std.specs.List.{All, sum_by, range_with_len}
+use Rattle.stream_filters.specs.declared.fir.TheConstants.{SHIFT_MAX, TAP_MAX, TAPS_MAX}
 
 -- z divided by 2 ^ shift, rounded down
 abbrev pub shifted_down : ℤ → ℕ → ℤ
@@ -49,6 +50,6 @@ pub record StandsFor (fir : FirState) (samples : List ℤ) : Type 0 where
 -- taps and a shift that a filter may have
 pub record AreTaps (taps : List ℤ) (shift : ℕ) : Type 0 where
   pub some : 1 ≤ length taps
-  pub few : length taps ≤ 64
-  pub small : All (λ tap. unsigned_abs tap ≤ 2147483647) taps
-  pub shift_small : shift ≤ 62
+  pub few : length taps ≤ TAPS_MAX
+  pub small : All (λ tap. unsigned_abs tap ≤ TAP_MAX) taps
+  pub shift_small : shift ≤ SHIFT_MAX

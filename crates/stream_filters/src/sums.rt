@@ -4,6 +4,7 @@ ghost use Rattle.stream_filters.specs.Filter.{shifted_down, weight, weighted, at
 ghost use Rattle.stream_filters.specs.Inside.{answer_at, IsNarrow};
 
 use crate::fault::TooBigValue;
+use crate::fir::SHIFT_MAX;
 use crate::range::in_range;
 
 /// The product of two values, which always fits 128 bits.
@@ -41,7 +42,7 @@ fn wide_window_sum(taps: &[i64], front: &[i64], back: &[i64]) -> i128
 
 /// The sum divided by 2 to the power `shift`, rounded down.
 fn wide_shifted(wide: i128, shift: u32) -> i128
-    requires { shift ≤ 62 }
+    requires { shift ≤ SHIFT_MAX }
     ensures { result ≡ shifted_down wide shift }
 {
     wide >> shift
@@ -56,7 +57,7 @@ pub(crate) fn wide_answer(
 ) -> Result<i64, TooBigValue>
     requires short { length front.now + length back.now ≤ length taps.now }
     requires light { weight taps.now ≤ 2 ^ 37 }
-    requires shift { shift ≤ 62 }
+    requires shift { shift ≤ SHIFT_MAX }
     ensures { result ≡ answer_at taps.now shift (front.now ++ back.now) }
 {
     in_range(wide_shifted(wide_window_sum(taps, front, back), shift))
@@ -97,7 +98,7 @@ fn narrow_window_sum(taps: &[i64], front: &[i64], back: &[i64]) -> i64
 
 /// The sum divided by 2 to the power `shift`, rounded down.
 fn narrow_shifted(narrow: i64, shift: u32) -> i64
-    requires { shift ≤ 62 }
+    requires { shift ≤ SHIFT_MAX }
     ensures { result ≡ shifted_down narrow shift }
 {
     narrow >> shift
@@ -107,7 +108,7 @@ fn narrow_shifted(narrow: i64, shift: u32) -> i64
 pub(crate) fn narrow_answer(taps: &[i64], shift: u32, front: &[i64], back: &[i64]) -> i64
     requires short { length front.now + length back.now ≤ length taps.now }
     requires narrow { IsNarrow taps.now (front.now ++ back.now) }
-    requires shift { shift ≤ 62 }
+    requires shift { shift ≤ SHIFT_MAX }
     ensures { Ok result ≡ answer_at taps.now shift (front.now ++ back.now) }
 {
     narrow_shifted(narrow_window_sum(taps, front, back), shift)
