@@ -10,7 +10,7 @@ ghost use Rattle.graph_moments.specs.Moments.{first_input, input_at};
 ghost use Rattle.graph_turns.specs.Answers.{output_at};
 ghost use Rattle.graph_turns.specs.TaskPlaces.{registration_of_output};
 
-use graph_base::{Kind, Parent, TaskLine};
+use graph_base::{ENDS_MAX, Kind, Parent, TaskLine};
 use stream_lists::Job;
 
 /// The line of task number `t`.
@@ -110,7 +110,7 @@ pub fn output_of(job: &Job, t: usize, j: usize) -> (usize, usize)
 
 /// The number of the registration of output `j` of a line.
 fn registration_of_output(task: &TaskLine, j: usize) -> usize
-    requires { j < 8 }
+    requires { j < ENDS_MAX }
     ensures { result ≡ registration_of_output (task_of task.now) j }
 {
     match task.kind {

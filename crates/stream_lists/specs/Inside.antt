@@ -5,6 +5,7 @@ use Rattle.std.specs.List.{All}
 use Rattle.phase_accum.specs.Sends.{AreSends}
 use Rattle.graph_base.specs.Graphs.{Graph, sources_of}
 use Rattle.graph_base.specs.TaskLines.{IsGraph}
+use Rattle.graph_base.specs.declared.limits.TheConstants.{PHASERS_MAX}
 use Rattle.stream_lists.specs.Jobs.{Job}
 use Rattle.stream_lists.specs.Spans.{spans_of, lengths_of, lengths_up_to}
 use Rattle.stream_lists.specs.Meetings.{meeting_line}
@@ -38,7 +39,7 @@ pub record IsStage (graph : Graph) (samples : List (Vec ℤ Global)) (lengths : 
   pub read : IsGraph graph
   pub few : All (λ list. length list.items ≤ 67108864) samples
   pub count : ℕ
-  pub count_few : count ≤ 64
+  pub count_few : count ≤ PHASERS_MAX
   pub are : lengths ≡ lengths_up_to (given graph samples) count
 
 -- what holds of every job

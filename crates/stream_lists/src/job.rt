@@ -15,7 +15,7 @@ use crate::meetings::first_meeting;
 use crate::refusal::JobRefusal;
 use crate::span::{LENGTH_MAX, Span};
 use crate::task_spans::all_spans;
-use graph_base::{Graph, Kind, PhaserLine, TaskLine};
+use graph_base::{Graph, Kind, PhaserLine, TASKS_MAX, TaskLine};
 use std::alloc::Global;
 use std::marker::Model;
 
@@ -127,7 +127,7 @@ impl Job {
     /// How many tasks there are.
     pub(crate) fn tasks(&self) -> usize
         ensures count { result ≡ length self.now.graph.tasks }
-        ensures few { result ≤ 64 }
+        ensures few { result ≤ TASKS_MAX }
     {
         self.graph.tasks()
     }

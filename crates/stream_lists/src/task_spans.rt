@@ -9,7 +9,7 @@ ghost use Rattle.stream_lists.specs.Spans.{cut_at, enough_for, first_run_out, no
 
 use crate::job::number_of_source;
 use crate::span::{LENGTH_MAX, Span};
-use graph_base::{Graph, Kind, Parent, TaskLine};
+use graph_base::{ENDS_MAX, Graph, Kind, Parent, TaskLine};
 use std::alloc::{AllocError, Global};
 
 /// How many samples task number `t` has, where it is a source. Of another task it is the number of
@@ -48,8 +48,8 @@ fn values_at(task: &TaskLine, lengths: &[u128], offset: u128, k: usize) -> u128
 
 /// The step at which input number `k` of a task runs out, where the inputs have their turns.
 fn run_out_of(task: &TaskLine, lengths: &[u128], offset: u128, k: usize) -> u128
-    requires few { length task.now.inputs.items ≤ 8 }
-    requires input { k ≤ 8 }
+    requires few { length task.now.inputs.items ≤ ENDS_MAX }
+    requires input { k ≤ ENDS_MAX }
     requires short { All (λ n. n ≤ LENGTH_MAX) lengths.now }
     ensures { result ≡ run_out (values_from (task_of task.now) lengths.now offset) k }
 {
@@ -58,7 +58,7 @@ fn run_out_of(task: &TaskLine, lengths: &[u128], offset: u128, k: usize) -> u128
 
 /// The step at which the first input of a joiner runs out.
 fn first_end(task: &TaskLine, lengths: &[u128], offset: u128) -> u128
-    requires few { length task.now.inputs.items ≤ 8 }
+    requires few { length task.now.inputs.items ≤ ENDS_MAX }
     requires short { All (λ n. n ≤ LENGTH_MAX) lengths.now }
     ensures { result ≡ first_run_out (values_from (task_of task.now) lengths.now offset) }
 {
