@@ -7,6 +7,7 @@ ghost use Rattle.stream_lists.specs.Lists.{entry, every, in_turn, mixed};
 ghost use Rattle.stream_lists.specs.Ranges.{is_out_of_range};
 ghost use Rattle.stream_eval.specs.declared.list.ListFault.TheVariants as fault;
 
+use graph_base::ENDS_MAX;
 use std::alloc::{AllocError, Global};
 use stream_filters::{Fir, Peer};
 
@@ -64,7 +65,7 @@ pub fn fir_list(
 /// Takes the entries `j`, `j + m`, `j + 2 * m`, .. of a list.
 pub fn every_list(alloc: Global, m: usize, j: usize, values: &[i64]) -> Result<Vec<i64>, AllocError>
     requires turn { j < m }
-    requires few { m ≤ 64 }
+    requires few { m ≤ ENDS_MAX }
     requires sends { AreSends values.now }
     ensures ok { IfOk result (λ list. list.items ≡ every m j values.now) }
     ensures sends { IfOk result (λ list. AreSends list.items) }

@@ -5,12 +5,12 @@ ghost use Rattle.graph_base.specs.TaskLines.{HasEnds};
 ghost use Rattle.stream_lists.specs.Spans.{puts_on, takes_from, turns_below};
 
 use crate::span::LENGTH_MAX;
-use graph_base::{Kind, TaskLine};
+use graph_base::{ENDS_MAX, Kind, TaskLine};
 
 /// How many of the steps below `n` are step `k`, `k + m`, `k + 2 * m`, ..
 fn turns(m: usize, k: usize, n: u128) -> u128
     requires some { 1 ≤ m }
-    requires few { m ≤ 64 }
+    requires few { m ≤ ENDS_MAX }
     requires short { n ≤ LENGTH_MAX }
     ensures turns { result ≡ turns_below m k n }
     ensures short { result ≤ n }
