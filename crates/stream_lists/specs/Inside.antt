@@ -11,6 +11,7 @@ use Rattle.stream_lists.specs.Spans.{spans_of, lengths_of, lengths_up_to}
 use Rattle.stream_lists.specs.Meetings.{meeting_line}
 use Rattle.stream_lists.specs.declared.span.Span.{Span}
 use Rattle.stream_lists.specs.declared.span.TheConstants.{LENGTH_MAX}
+use Rattle.stream_lists.specs.declared.job.TheConstants.{SAMPLES_MAX}
 use Rattle.stream_lists.specs.declared.job.Job.TheInside.{Inside}
 
 -- what a job stands for
@@ -37,7 +38,7 @@ IsShort span = span.offset + span.steps ≤ LENGTH_MAX
 -- its first phasers
 pub record IsStage (graph : Graph) (samples : List (Vec ℤ Global)) (lengths : List ℕ) : Type 0 where
   pub read : IsGraph graph
-  pub few : All (λ list. length list.items ≤ 67108864) samples
+  pub few : All (λ list. length list.items ≤ SAMPLES_MAX) samples
   pub count : ℕ
   pub count_few : count ≤ PHASERS_MAX
   pub are : lengths ≡ lengths_up_to (given graph samples) count

@@ -19,6 +19,9 @@ use graph_base::{Graph, Kind, PhaserLine, TASKS_MAX, TaskLine};
 use std::alloc::Global;
 use std::marker::Model;
 
+/// The most samples of a source.
+pub const SAMPLES_MAX: usize = 67_108_864;
+
 /// A graph with the samples of its sources, ready to be evaluated.
 ///
 /// **Spans.** How far each task comes, and how long the list of each phaser is, follow from the
@@ -45,7 +48,7 @@ impl Model for Job {
 
 impl Job {
     /// Makes a job of a graph and the samples of its sources, one list for each source in the order
-    /// of their lines. A list has at most 67,108,864 values, none of which is `NO_VALUE`.
+    /// of their lines. A list has at most `SAMPLES_MAX` values, none of which is `NO_VALUE`.
     ///
     /// Where two tasks signal in one phase of a phaser with `any`, the answer is `AnyMeets` with
     /// the least line of a task that meets a task of an earlier line, or `OutOfMemory`. It takes
@@ -54,7 +57,7 @@ impl Job {
     pub fn new(alloc: Global, graph: Graph, samples: Vec<Vec<i64>>) -> Result<Job, JobRefusal>
         requires each { length samples.items ≡ sources_of graph }
         requires sends { All (λ list. AreSends list.items) samples.items }
-        requires few { All (λ list. length list.items ≤ 67108864) samples.items }
+        requires few { All (λ list. length list.items ≤ SAMPLES_MAX) samples.items }
         ensures graph { IfOk result (λ job. job.graph ≡ graph) }
         ensures samples { IfOk result (λ job. job.samples ≡ items_of samples.items) }
         ensures apart { IfOk result (λ job. meeting_line job ≡ None) }

@@ -7,6 +7,7 @@ ghost use Rattle.stream_lists.specs.Inside.{given, IsShort, IsStage};
 ghost use Rattle.stream_lists.specs.Spans.{end_of, length_on, lengths_of, puts_on};
 
 use crate::counts::put_count;
+use crate::job::SAMPLES_MAX;
 use crate::places::output_number;
 use crate::span::{LENGTH_MAX, Span};
 use crate::task_spans::all_spans;
@@ -51,7 +52,7 @@ pub(crate) fn all_lengths(
     graph: &Graph,
     samples: &[Vec<i64>],
 ) -> Result<Vec<u128>, AllocError>
-    requires few { All (λ list. length list.items ≤ 67108864) samples.now }
+    requires few { All (λ list. length list.items ≤ SAMPLES_MAX) samples.now }
     ensures lengths { IfOk result (λ lengths.
         lengths.items ≡ lengths_of (given graph.now samples.now)) }
     ensures short { IfOk result (λ lengths. All (λ n. n ≤ LENGTH_MAX) lengths.items) }

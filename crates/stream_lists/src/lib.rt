@@ -16,7 +16,7 @@ mod span;
 mod task_spans;
 
 pub use counts::taken_count;
-pub use job::Job;
+pub use job::{Job, SAMPLES_MAX};
 pub use number::number_of;
 pub use places::{input_number, output_number};
 pub use refusal::JobRefusal;
