@@ -1,5 +1,6 @@
 -- What the call of a turn did, as the turn tells it and as the lists of blocked tasks have it.
 use Rattle.std.specs.Prelude.{ℕ, ◌<◌, List, [], set, get_or}
+use Rattle.graph_base.specs.declared.limits.TheConstants.{TASKS_MAX}
 use Rattle.graph_base.specs.declared.place.Place.TheVariants as place
 use Rattle.graph_worlds.specs.Parking.{with_task}
 use Rattle.graph_worlds.specs.declared.made.Made.{Made}
@@ -20,8 +21,8 @@ parked_with (made.Event p told) t parked = set parked p []
 parked_with (made.Blocked p) t parked = set parked p (with_task t (get_or parked p []))
 parked_with it t parked = parked
 
--- it was on one of so many phasers, and a task that was blocked is one of the 64 of a graph
+-- it was on one of so many phasers, and a task that was blocked is one of those of a graph
 abbrev pub IsOnPhaser : Made → ℕ → ℕ → Type 0
 IsOnPhaser (made.Event p told) t phasers = p < phasers
-IsOnPhaser (made.Blocked p) t phasers = (p < phasers) × (t < 64)
+IsOnPhaser (made.Blocked p) t phasers = (p < phasers) × (t < TASKS_MAX)
 IsOnPhaser it t phasers = Unit {0}

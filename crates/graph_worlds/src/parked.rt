@@ -6,6 +6,7 @@ ghost use Rattle.graph_worlds.specs.Tellings.{IsOnPhaser, parked_with};
 
 use crate::made::Made;
 use crate::task_list::{TaskList, no_marks};
+use graph_base::TASKS_MAX;
 use std::alloc::{AllocError, Global};
 use std::marker::Model;
 
@@ -45,7 +46,7 @@ impl Parked {
     }
 
     /// Marks the tasks that stand in a list.
-    pub fn marks(&self) -> [bool; 64]
+    pub fn marks(&self) -> [bool; TASKS_MAX]
         ensures { (t : ℕ) → get_or result t false ≡ true → StandsIn self.now t }
     {
         let mut marks = no_marks();
@@ -71,7 +72,7 @@ impl Parked {
     /// Puts a task behind the list of a phaser, where it does not stand there.
     pub fn park(&mut self, phaser: usize, task: usize)
         requires phaser { phaser < length self.old }
-        requires task { task < 64 }
+        requires task { task < TASKS_MAX }
         ensures { self.new ≡ set self.old phaser (with_task task (get_or self.old phaser [])) }
     {
         self.lists[phaser].add(task);
@@ -87,8 +88,8 @@ impl Parked {
 }
 
 /// Marks these tasks.
-fn mark(marks: &mut [bool; 64], tasks: &[usize])
-    requires { All (λ t. t < 64) tasks.now }
+fn mark(marks: &mut [bool; TASKS_MAX], tasks: &[usize])
+    requires { All (λ t. t < TASKS_MAX) tasks.now }
     ensures { (t : ℕ) → get_or marks.new t false ≡ true
         → (get_or marks.old t false ≡ true) ⊎ (list_any (λ u. u == t) tasks.now ≡ true) }
 {

@@ -21,7 +21,7 @@ use crate::machine::Machine;
 use crate::parked::Parked;
 use crate::plan::Plan;
 use crate::step::Step;
-use graph_base::Op;
+use graph_base::{Op, TASKS_MAX};
 use graph_cores::AnyCore;
 use graph_steps::{Owed, input_of, output_of};
 use phase_base::PHASES_MAX;
@@ -57,7 +57,7 @@ impl Machine {
     }
 
     /// Whether the turn of each live task would be blocked, as that of each marked one is.
-    fn are_still(&self, job: &Job, plan: &Plan, marks: &[bool; 64]) -> bool
+    fn are_still(&self, job: &Job, plan: &Plan, marks: &[bool; TASKS_MAX]) -> bool
         requires machine { IsMachine job.now self.now }
         requires plan { IsPlan job.now plan.now }
         ensures { (m : Moment) → IsMachineAt job.now m self.now

@@ -3,6 +3,7 @@ ghost use Rattle.std.specs.Prelude.{◌≡◌, ◌<◌, ℕ, [], get_or, length,
 ghost use Rattle.std.specs.List.{All};
 ghost use Rattle.graph_worlds.specs.Parking.{with_task};
 
+use graph_base::TASKS_MAX;
 use smallvec::SmallVec;
 use std::alloc::Global;
 use std::marker::Model;
@@ -10,9 +11,9 @@ use std::marker::Model;
 /// Tasks of a graph in the order in which they came, each once.
 #[derive(Drop)]
 pub struct TaskList {
-    tasks: SmallVec<usize, 64>,
+    tasks: SmallVec<usize, TASKS_MAX>,
     // of each task, whether it stands in the list
-    stands: [bool; 64],
+    stands: [bool; TASKS_MAX],
 }
 
 impl Model for TaskList {
@@ -40,14 +41,14 @@ impl TaskList {
     /// The tasks, in their order.
     pub fn as_slice(&self) -> &[usize]
         ensures tasks { result.now ≡ self.now }
-        ensures below { All (λ t. t < 64) result.now }
+        ensures below { All (λ t. t < TASKS_MAX) result.now }
     {
         self.tasks.as_slice()
     }
 
     /// Puts a task behind the others, where it does not stand there.
     pub fn add(&mut self, task: usize)
-        requires { task < 64 }
+        requires { task < TASKS_MAX }
         ensures { self.new ≡ with_task task self.old }
     {
         if !self.stands[task] {
@@ -66,9 +67,9 @@ impl TaskList {
 }
 
 /// For each task of a graph a mark, none of them made.
-pub fn no_marks() -> [bool; 64]
+pub fn no_marks() -> [bool; TASKS_MAX]
     ensures none { (t : ℕ) → get_or result t false ≡ false }
-    ensures many { length result ≡ 64 }
+    ensures many { length result ≡ TASKS_MAX }
 {
-    [false; 64]
+    [false; TASKS_MAX]
 }
