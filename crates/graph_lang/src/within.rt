@@ -17,7 +17,7 @@ ghost use Rattle.graph_lang.specs.Faults.{are_ends_within, is_phaser_within};
 
 use graph_base::{ENDS_MAX, FACTOR_MAX, PhaserLine, STEPS_MAX};
 use graph_text::{Body, Ends, Function, PhaserWords, int_within, nat_within};
-use phase_accum::Single;
+use phase_accum::{Single, VALUE_MAX};
 use phase_base::BOUND_MAX;
 use std::alloc::{AllocError, Global};
 use stream_filters::{SHIFT_MAX, TAP_MAX, TAPS_MAX};
@@ -25,7 +25,7 @@ use stream_filters::{SHIFT_MAX, TAP_MAX, TAPS_MAX};
 // ---- phasers
 
 /// The greatest magnitude of an end of a clamp.
-const CLAMP_MAX: u64 = 9_223_372_036_854_775_807;
+const CLAMP_MAX: u64 = VALUE_MAX as u64;
 
 /// The single of a function whose numbers are within their limits.
 pub(crate) fn single_of(function: Function<'_>) -> Option<Single>

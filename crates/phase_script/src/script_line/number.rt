@@ -4,8 +4,10 @@ ghost use Rattle.std.specs.Prelude.{◌≡◌, ◌≤◌, length, nat_abs, IfSom
 ghost use Rattle.phase_script.specs.Numbers.{most, begins_plainly, nat_of, int_of};
 ghost use Rattle.phase_script.specs.Inside.{digits_of};
 
+use phase_accum::VALUE_MAX;
+
 // The greatest number.
-const MOST: u64 = 9223372036854775807;
+const MOST: u64 = VALUE_MAX as u64;
 
 // How many digits the greatest number has.
 const DIGITS_MAX: usize = 19;
