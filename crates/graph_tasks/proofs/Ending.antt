@@ -40,7 +40,8 @@ use Rattle.graph_steps.specs.Steps.{owed_of, HasFilter}
 use Rattle.graph_steps.specs.declared.owed.Owed.TheVariants.{Nothing}
 use Rattle.graph_tasks.specs.Holds as holds
 use Rattle.graph_tasks.specs.Holds.{GoesOn, HasRunOut, Leaves}
-use Rattle.graph_tasks.specs.Tasks.{IsOn, HasLeftOn, IsHeldOn, HasHolds, IsAtEnd, IsTaskAt, IsWhole, IsTask, HasAllNow, HasChildrenNow, place_of}
+use Rattle.graph_tasks.specs.Tasks.{IsOn, HasLeftOn, IsHeldOn, HasHolds, IsAtEnd, IsTaskAt, IsWhole, IsTask, HasAllNow, place_of}
+use Rattle.graph_tasks.specs.Inside.{HasChildrenNow}
 use Rattle.graph_tasks.specs.declared.child.Child.{Child}
 use Rattle.graph_tasks.specs.declared.hold.Hold.{Hold}
 use Rattle.graph_tasks.specs.declared.hold.Hold.TheVariants.{On, Gone}

@@ -10,7 +10,8 @@ use Rattle.stream_ends.specs.TaskLefts as ends
 use Rattle.stream_ends.specs.TaskLefts.{IsTaskLeft}
 use Rattle.stream_ends.specs.declared.task_left.Given.{Given}
 use Rattle.stream_ends.specs.declared.task_left.TaskLeft.{TaskLeft}
-use Rattle.graph_tasks.specs.Ends.{IsEnded, HaveSameNumbers, given_to}
+use Rattle.graph_tasks.specs.Ends.{IsEnded, given_to}
+use Rattle.graph_tasks.specs.Inside.{HaveSameNumbers}
 use Rattle.graph_tasks.specs.declared.child.Child.{Child}
 use Rattle.graph_tasks.specs.declared.ended.Ended.{Ended}
 

@@ -35,7 +35,8 @@ use Rattle.graph_steps.specs.Steps.{owed_of, HasFilter}
 use Rattle.graph_steps.specs.declared.owed.Owed.{Owed}
 use Rattle.graph_steps.specs.declared.owed.Owed.TheVariants.{Nothing, Exchange}
 use Rattle.graph_tasks.specs.Holds.{GoesOn, HasSignalled, HasWaited, HasRunOut, signal_of, wait_of}
-use Rattle.graph_tasks.specs.Tasks.{IsOn, IsAtEnd, IsTaskAt, IsWhole, IsTask, MayStep, place_of}
+use Rattle.graph_tasks.specs.Tasks.{IsOn, IsAtEnd, IsTaskAt, IsWhole, IsTask, place_of}
+use Rattle.graph_tasks.specs.Inside.{MayStep}
 use Rattle.graph_tasks.specs.declared.hold.Hold.{Hold}
 use Rattle.graph_tasks.specs.declared.hold.Hold.TheVariants.{On, Gone}
 use Rattle.graph_tasks.specs.declared.task_state.TaskState.{TaskState}

@@ -8,7 +8,6 @@ use Rattle.graph_members.specs.AnyMembers.{left_in, left_op}
 use Rattle.graph_members.specs.declared.any_left.AnyLeft.{AnyLeft}
 use Rattle.graph_turns.specs.TaskPlaces.{registration_at}
 use Rattle.graph_ends.specs.TaskEnds.{TaskEnd, HasLeftAt}
-use Rattle.stream_ends.specs.declared.task_left.Given.{Given}
 use Rattle.graph_tasks.specs.declared.child.Child.{Child}
 use Rattle.graph_tasks.specs.declared.ended.Ended.{Ended}
 use Rattle.graph_tasks.specs.declared.task_state.TaskState.{TaskState}
@@ -34,14 +33,6 @@ ended_of s = record {
 abbrev pub given_to : List Child → ℕ → List ℕ
 given_to [] c = []
 given_to (child ∷ more) c = if child.task == c then child.numbers.items else given_to more c
-
--- these children, one after the other, were given these numbers
-abbrev pub HaveSameNumbers : List Child → List Given → Type 0
-HaveSameNumbers [] [] = Unit {0}
-HaveSameNumbers (child ∷ children) (given ∷ more) =
-    (given.task ≡ child.task) × (given.numbers.items ≡ child.numbers.items)
-    × HaveSameNumbers children more
-HaveSameNumbers children given = ⊥
 
 -- the end of a task that leaves this behind
 abbrev pub end_of : Ended → TaskEnd

@@ -1,5 +1,5 @@
 -- What the calls of a registration do to what it has seen.
-use Rattle.std.specs.Prelude.{◌≡◌, ℕ, ℤ, List, [], ◌∷◌, ◌++◌, Option, Result, Ok, Err, false}
+use Rattle.std.specs.Prelude.{◌≡◌, ℕ, ℤ, [], ◌∷◌, ◌++◌, Option, Result, Ok, Err, false}
 use Rattle.phase_accum.specs.Values.{value_by}
 use Rattle.phase_accum.specs.declared.outcome.Outcome.{Outcome}
 use Rattle.phase_accum.specs.declared.single.Single.{Single}
@@ -80,12 +80,6 @@ HasGot (Ok (given.Value x)) old new = HasWaited x old new
 HasGot (Ok given.TooBig) old new = Unit {0}
 HasGot (Ok given.Ended) old new = HasRunOut old new
 HasGot (Err held) old new = HasSeenOthers old new
-
--- a number that is given for an outcome
-abbrev pub IsGivenAs : Outcome → Given → Type 0
-IsGivenAs outcome (given.Value x) = (x ≡ number outcome) × (is_too_big outcome ≡ false)
-IsGivenAs outcome given.TooBig = Unit {0}
-IsGivenAs outcome given.Ended = ⊥
 
 -- ---- holds
 

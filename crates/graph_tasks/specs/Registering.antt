@@ -1,5 +1,5 @@
 -- A child while its parent registers it: the parent's moment serves both.
-use Rattle.std.specs.Prelude.{◌≡◌, ℕ, ◌+◌, ◌<◌, ◌≤◌, List, [], ◌∷◌, ◌++◌, slice_set, length, get_or, slice_get, Option, Some, None, false}
+use Rattle.std.specs.Prelude.{◌≡◌, ℕ, ◌<◌, List, length, get_or, slice_get, Option, Some, None, false}
 use Rattle.phase_base.specs.declared.mode.Mode.{Mode}
 use Rattle.phase_history.specs.declared.event.Event.{Event}
 use Rattle.phase_history.specs.declared.event.Event.TheVariants.{Registered}
@@ -9,8 +9,6 @@ use Rattle.graph_moments.specs.Moments.{Moment}
 use Rattle.graph_members.specs.Members.{Spot}
 use Rattle.graph_members.specs.AnyMembers.{member_in, member_op}
 use Rattle.graph_members.specs.declared.any_member.AnyMember.{AnyMember}
-use Rattle.graph_base.specs.declared.registration.Registration.{Registration}
-use Rattle.graph_turns.specs.Nexts.{registrations_at}
 use Rattle.graph_turns.specs.TaskPlaces.{registration_at}
 use Rattle.graph_parts.specs.Places.{IsJoining}
 use Rattle.graph_ends.specs.TaskEnds.{HasOwnCalls, IsChildOf}
@@ -50,29 +48,6 @@ pub record HasFirstHolds (job : Job) (spots : ℕ → Spot) (m : Moment) (c : �
   pub on : (i : ℕ) → i < length numbers
       → IsHeldOn job spots m c (registration_at job c i).phaser (get_or child_holds i Gone)
 
--- registration k of task t is on phaser p
-pub record IsPlaceOn (job : Job) (t p k : ℕ) : Type 0 where
-  pub few : k < length (registrations_at job t)
-  pub here : (registration_at job t k).phaser ≡ p
-
--- there is room for another registration of the child at this place
-pub record HasChildRoom (s : TaskState) (i : ℕ) : Type 0 where
-  pub numbers : (kid : Child) → slice_get s.children.items i ≡ Some kid
-      → length kid.numbers.items + 1 ≤ kid.numbers.capacity
-  pub child_holds : length s.child_holds.items < s.child_holds.cap
-
--- another registration of the child at this place is kept
-pub record HasKept (i : ℕ) (child : AnyMember) (old new : TaskState) : Type 0 where
-  pub before : Child
-  pub kid : Child
-  pub found : slice_get old.children.items i ≡ Some before
-  pub kids : new.children.items ≡ slice_set old.children.items i kid
-  pub task : kid.task ≡ before.task
-  pub at : kid.at ≡ before.at
-  pub numbers : kid.numbers.items ≡ before.numbers.items ++ (member_in child).number ∷ []
-  pub child_holds : new.child_holds.items ≡ old.child_holds.items ++ On child ∷ []
-  pub rest : new ≡ record old { children = new.children; child_holds = new.child_holds }
-
 -- a task in this state registers the child at place i among its children: it stands between two
 -- steps, and its moment is the child's as well
 pub record IsRegistering (job : Job) (spots : ℕ → Spot) (s : TaskState) (i : ℕ) : Type 0 where
@@ -85,14 +60,6 @@ pub record IsRegistering (job : Job) (spots : ℕ → Spot) (s : TaskState) (i :
   pub moment : Moment
   pub at : IsTaskAt job spots moment s
   pub first_holds : HasFirstHolds job spots moment kid.task kid.numbers.items s.child_holds.items
-
--- the next registration of the child is this one, and registration k of the task is on its phaser
-pub record IsNextOn (job : Job) (spots : ℕ → Spot) (s : TaskState) (i k : ℕ) (r : Registration)
-    : Type 0 where
-  pub registering : IsRegistering job spots s i
-  pub room : length registering.kid.numbers.items < length (registrations_at job registering.kid.task)
-  pub is : r ≡ registration_at job registering.kid.task (length registering.kid.numbers.items)
-  pub on : IsPlaceOn job s.number r.phaser k
 
 -- a task that registers the child at this place, where there is one
 abbrev pub IsWith : Job → (ℕ → Spot) → TaskState → Option ℕ → Type 0

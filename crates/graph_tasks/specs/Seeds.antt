@@ -1,12 +1,11 @@
 -- A task before it is registered, and what it has received of its founders.
-use Rattle.std.specs.Prelude.{◌≡◌, ◌≢◌, ℕ, ◌+◌, ◌<◌, ◌≤◌, List, [], length, slice_get, Option, Some, None, false}
+use Rattle.std.specs.Prelude.{◌≡◌, ℕ, ◌<◌, ◌≤◌, List, [], length, slice_get, Some, false}
 use Rattle.graph_base.specs.declared.line.Parent.{Parent}
 use Rattle.graph_base.specs.Graphs.{task_at}
 use Rattle.stream_lists.specs.Jobs.{Job, samples_at}
 use Rattle.graph_members.specs.Members.{Spot}
 use Rattle.graph_members.specs.AnyMembers.{member_in}
 use Rattle.graph_members.specs.declared.any_member.AnyMember.{AnyMember}
-use Rattle.graph_turns.specs.Nexts.{registrations_at}
 use Rattle.graph_steps.specs.Steps.{HasFilter}
 use Rattle.graph_steps.specs.declared.owed.Owed.TheVariants.{Nothing}
 use Rattle.graph_openings.specs.Openings.{IsRootMember}
@@ -36,12 +35,6 @@ pub record AreChildrenBelow (job : Job) (t n : ℕ) (children : List Child) : Ty
       × (child.at ≡ u.at))
   pub below : (i : ℕ) (child : Child) → slice_get children i ≡ Some child → child.task < n
   pub apart : AreApart children
-
--- whether task c is a child of task t, and after how many steps it comes
-abbrev pub TellsChild : Job → ℕ → ℕ → Option ℕ → Type 0
-TellsChild job t c (Some at) =
-    (u : Parent) × ((task_at job.graph c).parent ≡ Some u) × (u.task ≡ t) × (at ≡ u.at)
-TellsChild job t c None = (u : Parent) → (task_at job.graph c).parent ≡ Some u → u.task ≢ t
 
 -- ---- seeds
 

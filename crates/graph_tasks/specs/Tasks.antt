@@ -1,6 +1,6 @@
 -- What the code of a task keeps: a moment of the task's own, at which each of its registrations has
 -- just the history that it has seen.
-use Rattle.std.specs.Prelude.{◌≡◌, ℕ, ◌+◌, ◌<◌, ◌≤◌, List, [], ◌∷◌, length, get_or, slice_get, Some, None, true, false}
+use Rattle.std.specs.Prelude.{◌≡◌, ℕ, ◌<◌, ◌≤◌, List, [], ◌∷◌, length, get_or, slice_get, Some, true, false}
 use Rattle.graph_base.specs.declared.line.Parent.{Parent}
 use Rattle.graph_base.specs.declared.line.Kind.TheVariants.{Sink}
 use Rattle.graph_base.specs.Graphs.{task_at, phaser_at}
@@ -11,7 +11,7 @@ use Rattle.graph_members.specs.Members.{Spot, limits_on}
 use Rattle.graph_members.specs.AnyMembers.{member_in, member_op, left_in, left_op}
 use Rattle.graph_members.specs.declared.any_member.AnyMember.{AnyMember}
 use Rattle.graph_members.specs.declared.any_left.AnyLeft.{AnyLeft}
-use Rattle.graph_turns.specs.Nexts.{registrations_at, is_cut}
+use Rattle.graph_turns.specs.Nexts.{registrations_at}
 use Rattle.graph_turns.specs.TaskPlaces as turns
 use Rattle.graph_turns.specs.TaskPlaces.{TaskPlace, StandsAt, registration_at}
 use Rattle.graph_ends.specs.TaskEnds.{HasOwnCalls, HasNumbers, IsChildOf}
@@ -150,11 +150,6 @@ pub record IsDue (job : Job) (s : TaskState) (i : ℕ) : Type 0 where
   pub owes : s.owed ≡ Nothing
   pub missing : IsMissing job s i
 
--- the children of a task that come now are all there, whichever its moment
-abbrev pub HasChildrenNow : Job → TaskState → Type 0
-HasChildrenNow job s = (spots : ℕ → Spot) (m : Moment) → IsTaskAt job spots m s
-    → HasChildrenBy job m s.number s.begun
-
 -- a task of a run in this state: it stands at a moment, but where it met what ends all
 pub record IsTask (job : Job) (spots : ℕ → Spot) (s : TaskState) : Type 0 where
   pub whole : IsWhole job s
@@ -163,13 +158,3 @@ pub record IsTask (job : Job) (spots : ℕ → Spot) (s : TaskState) : Type 0 wh
 -- a call of its code keeps it one of its run
 abbrev pub Keeps : Job → TaskState → TaskState → Type 0
 Keeps job old new = (spots : ℕ → Spot) → IsTask job spots old → IsTask job spots new
-
--- a task at a boundary where no child comes first, and `until` allows a step
-pub record MayStep (job : Job) (s : TaskState) : Type 0 where
-  pub spots : ℕ → Spot
-  pub task : IsTask job spots s
-  pub met : s.met ≡ false
-  pub over : s.over ≡ false
-  pub owed : s.owed ≡ Nothing
-  pub uncut : is_cut (task_at job.graph s.number).until s.begun ≡ false
-  pub children : HasChildrenNow job s

@@ -3,8 +3,8 @@ ghost use Rattle.std.specs.Prelude.{◌≡◌, ◌<◌, ◌≤◌, ℕ, length, 
 ghost use Rattle.stream_lists.specs.Jobs.{Job as JobValue};
 ghost use Rattle.graph_members.specs.Members.{Spot};
 ghost use Rattle.graph_turns.specs.Nexts.{registrations_at};
-ghost use Rattle.graph_tasks.specs.Registering.{IsPlaceOn, HasChildRoom, HasKept};
-ghost use Rattle.graph_tasks.specs.Registering.{IsNextOn, IsRegistering, IsWith};
+ghost use Rattle.graph_tasks.specs.Inside.{IsPlaceOn, HasChildRoom, HasKept, IsNextOn};
+ghost use Rattle.graph_tasks.specs.Registering.{IsRegistering, IsWith};
 ghost use Rattle.graph_tasks.specs.Tasks.{HasAllNow, HasNoneDue, IsDue, IsMissing, IsTask, IsWhole};
 
 use crate::child::Child;

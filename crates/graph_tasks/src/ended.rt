@@ -3,7 +3,8 @@ ghost use Rattle.std.specs.Prelude.{◌≡◌, ℕ, IfOk};
 ghost use Rattle.stream_lists.specs.Jobs.{Job};
 ghost use Rattle.graph_members.specs.Members.{Spot};
 ghost use Rattle.stream_ends.specs.TaskLefts.{IsTaskLeft};
-ghost use Rattle.graph_tasks.specs.Ends.{IsEnded, HaveSameNumbers};
+ghost use Rattle.graph_tasks.specs.Ends.{IsEnded};
+ghost use Rattle.graph_tasks.specs.Inside.{HaveSameNumbers};
 
 use crate::child::Child;
 use graph_members::AnyLeft;

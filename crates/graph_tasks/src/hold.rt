@@ -2,7 +2,7 @@
 ghost use Rattle.std.specs.Prelude.{◌≡◌, IfErr, IfOk, OnErr, OnOk};
 ghost use Rattle.stream_lists.specs.Lists.{number};
 ghost use Rattle.graph_tasks.specs.Holds.{GoesOn, HasSignalled, HasGot, HasSeenOthers, Leaves};
-ghost use Rattle.graph_tasks.specs.Holds.{IsGivenAs};
+ghost use Rattle.graph_tasks.specs.Inside.{IsGivenAs};
 ghost use Rattle.graph_tasks.specs.Registering.{AddsTo};
 
 use crate::held::Held;

@@ -3,7 +3,8 @@ ghost use Rattle.std.specs.Prelude.{◌≡◌, ◌+◌, ◌<◌, ℕ, length, If
 ghost use Rattle.graph_members.specs.Members.{Spot};
 ghost use Rattle.graph_openings.specs.Openings.{IsRootMember};
 ghost use Rattle.graph_tasks.specs.Seeds.{seed_state, IsSeed, HasRoom, HasReceived};
-ghost use Rattle.graph_tasks.specs.Seeds.{AreChildrenBelow, TellsChild};
+ghost use Rattle.graph_tasks.specs.Seeds.{AreChildrenBelow};
+ghost use Rattle.graph_tasks.specs.Inside.{TellsChild};
 ghost use Rattle.stream_lists.specs.Jobs.{Job as JobValue};
 
 use crate::child::Child;

@@ -7,7 +7,8 @@ ghost use Rattle.stream_lists.specs.Jobs.{Job as JobValue};
 ghost use Rattle.graph_members.specs.Members.{Spot};
 ghost use Rattle.graph_steps.specs.declared.owed.Owed.TheVariants.{Value, Exchange, Nothing};
 ghost use Rattle.graph_turns.specs.Nexts.{is_cut};
-ghost use Rattle.graph_tasks.specs.Tasks.{HasAllNow, HasNoneDue, IsTask, IsWhole, Keeps, MayStep};
+ghost use Rattle.graph_tasks.specs.Tasks.{HasAllNow, HasNoneDue, IsTask, IsWhole, Keeps};
+ghost use Rattle.graph_tasks.specs.Inside.{MayStep};
 
 use crate::gate::Gate;
 use crate::hold::Given;

@@ -2,7 +2,7 @@
 use Rattle.std.proofs.Common.{◌≡◌, ℕ, suc, ◌+◌, ◌<◌, ◌≤◌, List, [], ◌∷◌, ◌++◌, length, take, get_or, sym, subst, ap, ◌∙◌, arith}
 use Rattle.std.proofs.Math.Seq.{take-suc}
 use Rattle.std.proofs.lemmas.List.{take_all}
-use Rattle.graph_tasks.specs.Ends.{HaveSameNumbers}
+use Rattle.graph_tasks.specs.Inside.{HaveSameNumbers}
 use Rattle.graph_tasks.specs.declared.child.Child.{Child}
 use Rattle.graph_tasks.proofs.Leaving.{same_and_one}
 use Rattle.graph_tasks.proofs.ended.given_of.Goals as goal

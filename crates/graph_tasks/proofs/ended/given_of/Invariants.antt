@@ -1,6 +1,6 @@
 -- Those of the children so far.
 use Rattle.std.proofs.Common.{take}
-use Rattle.graph_tasks.specs.Ends.{HaveSameNumbers}
+use Rattle.graph_tasks.specs.Inside.{HaveSameNumbers}
 use Rattle.graph_tasks.proofs.ended.given_of.Given as goal
 
 abbrev pub invariant-loop-i : goal.invariant-loop-i

@@ -1,7 +1,8 @@
 -- The next task is a child or not.
 use Rattle.std.proofs.Common.{◌≡◌, ◌<◌, length, sym, ap, refl, ◌∙◌, subst, ◌+◌, Option, Some, None}
 use Rattle.graph_base.specs.Graphs.{Graph}
-use Rattle.graph_tasks.specs.Seeds.{AreChildrenBelow, TellsChild}
+use Rattle.graph_tasks.specs.Seeds.{AreChildrenBelow}
+use Rattle.graph_tasks.specs.Inside.{TellsChild}
 use Rattle.graph_tasks.proofs.Seeding.{one_child, other_task}
 use Rattle.graph_tasks.proofs.seed.children_of.Goals as goal
 use Rattle.graph_tasks.proofs.seed.children_of.Goals.{in-Some+in_ok-push, in_default}

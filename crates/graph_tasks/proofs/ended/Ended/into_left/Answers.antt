@@ -1,6 +1,6 @@
 -- The numbers of the children are the same.
 use Rattle.std.proofs.Common.{subst}
-use Rattle.graph_tasks.specs.Ends.{HaveSameNumbers}
+use Rattle.graph_tasks.specs.Inside.{HaveSameNumbers}
 use Rattle.graph_tasks.proofs.Leaving.{ended_left}
 use Rattle.graph_tasks.proofs.ended.Ended.into_left.Goals as goal
 

@@ -7,7 +7,8 @@ use Rattle.graph_members.specs.declared.any_member.AnyMember.{AnyMember}
 use Rattle.graph_turns.specs.TaskPlaces.{registration_at}
 use Rattle.graph_tasks.specs.Holds.{GoesOn}
 use Rattle.graph_tasks.specs.Tasks.{IsWhole}
-use Rattle.graph_tasks.specs.Registering.{IsNextOn, IsRegistering, HasAdded, AddsTo}
+use Rattle.graph_tasks.specs.Registering.{IsRegistering, HasAdded, AddsTo}
+use Rattle.graph_tasks.specs.Inside.{IsNextOn}
 use Rattle.graph_tasks.specs.declared.child.Child.{Child}
 use Rattle.graph_tasks.specs.declared.task_state.TaskState.{TaskState}
 use Rattle.graph_tasks.proofs.StillRegistering.{registering_waits, registering_adds, whole_keeps, adds_goes}

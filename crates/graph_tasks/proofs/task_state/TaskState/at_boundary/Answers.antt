@@ -4,7 +4,8 @@ use Rattle.graph_base.specs.Graphs.{task_at}
 use Rattle.graph_turns.specs.Nexts.{is_cut}
 use Rattle.graph_steps.specs.Steps.{owed_of}
 use Rattle.graph_parts.proofs.TellsNext.{ended_cut}
-use Rattle.graph_tasks.specs.Tasks.{MayStep, place_of}
+use Rattle.graph_tasks.specs.Tasks.{place_of}
+use Rattle.graph_tasks.specs.Inside.{MayStep}
 use Rattle.graph_tasks.proofs.Ending.{at_end, all_now}
 use Rattle.graph_tasks.proofs.task_state.TaskState.at_boundary.Goals as goal
 

@@ -6,7 +6,8 @@ use Rattle.graph_base.specs.Registrations.{registrations_of, no_registration}
 use Rattle.graph_members.specs.Members.{Spot}
 use Rattle.graph_turns.specs.Nexts.{registrations_at}
 use Rattle.graph_turns.specs.TaskPlaces.{registration_at}
-use Rattle.graph_tasks.specs.Registering.{IsNextOn, IsRegistering}
+use Rattle.graph_tasks.specs.Registering.{IsRegistering}
+use Rattle.graph_tasks.specs.Inside.{IsNextOn}
 use Rattle.graph_tasks.specs.declared.child.Child.{Child}
 use Rattle.graph_tasks.proofs.task_state.TaskState.register.Goals as goal
 
