@@ -16,7 +16,6 @@ pub mod TaskLists
 pub mod Tellings
 pub mod Waits
 pub mod WhatNext
-pub mod Outputs
 pub mod Reading
 pub mod Rooms
 pub mod Searching

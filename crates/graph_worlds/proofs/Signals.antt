@@ -51,7 +51,7 @@ use Rattle.graph_moments.specs.Moments.{made_now}
 use Rattle.graph_turns.specs.TaskPlaces.{lacking}
 use Rattle.graph_turns.proofs.Boundaries.{made_many}
 use Rattle.graph_steps.specs.declared.owed.Owed.TheVariants as code
-use Rattle.graph_worlds.proofs.Outputs.{number_of_output}
+use Rattle.graph_worlds.proofs.Ending.{number_of_output}
 use Rattle.graph_worlds.proofs.Lively.{live_next}
 use Rattle.graph_worlds.proofs.WhatNext.{signals_owes, signals_step, samples_begins}
 use Rattle.graph_worlds.proofs.Events.{after_own, unchanged}
