@@ -86,7 +86,8 @@ no_turn m k less =
     let is : 0 + (m - 1 - k) ≡ 0 * m + (m - 1 - k) = omega arith in
     ap (λ x. x / m) is ∙ div-mul-add 0 m (m - 1 - k) (omega arith)
 
-none_put : (task : Task) (j : ℕ) → j < length (signalled_by task) → puts_on task 0 j ≡ 0
+-- before its first step a task has made nothing
+pub none_put : (task : Task) (j : ℕ) → j < length (signalled_by task) → puts_on task 0 j ≡ 0
 none_put task j lt = by task.kind refl
   where
     by : (kind : Kind) → task.kind ≡ kind → puts_on task 0 j ≡ 0

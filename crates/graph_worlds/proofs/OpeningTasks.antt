@@ -1,26 +1,23 @@
 -- The opening of a run, as the code has its tasks.
-use Rattle.std.proofs.Common.{◌≡◌, ℕ, zero, suc, ◌+◌, ◌-◌, ◌*◌, ◌<◌, ◌≤◌, Bool, true, false, cond, eqb, List, [], ◌∷◌, ◌++◌, Option, Some, None, length, get_or, refl, sym, ap, subst, ◌∙◌, arith, ◌⊎◌, inl, inr}
+use Rattle.std.proofs.Common.{◌≡◌, ℕ, zero, suc, ◌+◌, ◌-◌, ◌<◌, ◌≤◌, Bool, true, false, cond, eqb, List, [], ◌∷◌, ◌++◌, Option, Some, None, length, get_or, refl, sym, ap, ◌∙◌, arith, ◌⊎◌, inl, inr}
 use Rattle.std.specs.Prelude.{slice_get, nat_lt, unwrap_or, option_map}
 use Rattle.std.specs.List.{find, filter, range_with_len}
 use Rattle.std.proofs.lemmas.Bool.{cases_lt, lt-leb, eq-eqb}
 use Rattle.std.proofs.lemmas.Option.{slice_get-get_or}
 use Rattle.phase_history.specs.Histories.{greatest_used}
 use Rattle.phase_history.specs.Histories.{has_dropped}
-use Rattle.graph_base.specs.declared.line.Kind.{Kind}
-use Rattle.graph_base.specs.declared.line.Kind.TheVariants.{Source, Fir, Split, Join, Peer, Sink}
 use Rattle.graph_base.specs.declared.registration.Registration.{Registration}
-use Rattle.graph_base.specs.Graphs.{Task, task_at}
+use Rattle.graph_base.specs.Graphs.{task_at}
 use Rattle.graph_base.specs.Registrations.{no_registration}
 use Rattle.graph_base.specs.TaskLines.{IsGraph}
 use Rattle.stream_lists.specs.Jobs.{Job}
 use Rattle.stream_lists.specs.Lists.{is_sink_at, sinks_of}
-use Rattle.stream_lists.specs.Spans.{signalled_by, puts_on, turns_below}
+use Rattle.stream_lists.specs.Spans.{signalled_by, puts_on}
 use Rattle.graph_moments.specs.Moments.{HasRun, made_now}
 use Rattle.graph_moments.proofs.OnLines.{on_phaser}
-use Rattle.graph_moments.proofs.Turns.{turn-within}
 use Rattle.graph_moves.specs.Openings.{PhaserOpened}
 use Rattle.graph_moves.proofs.Opened.{none_dropped}
-use Rattle.graph_turns.proofs.Lacking.{nothing_lacks}
+use Rattle.graph_turns.proofs.Lacking.{none_put, nothing_lacks}
 use Rattle.graph_turns.specs.Beginnings.{mode_on, root_mode, root_number, number_after, roots_joined, opening}
 use Rattle.graph_turns.specs.Nexts.{registrations_at, number_on, has_left, is_owed, first_owed}
 use Rattle.graph_turns.specs.TaskPlaces.{registration_at, StandsAt, at_start}
@@ -86,32 +83,6 @@ each-next f xs ys x k long each next is i lt = by (cases_lt i k)
 
 -- ---- a task
 
--- before its first step a task has made nothing
-puts_none : (task : Task) (j : ℕ) → j < length (signalled_by task) → puts_on task 0 j ≡ 0
-puts_none task j lt = by task.kind refl
-  where
-    by : (kind : Kind) → task.kind ≡ kind → puts_on task 0 j ≡ 0
-    by Source e = rw e refl
-    by Fir e = rw e refl
-    by Join e = rw e refl
-    by Peer e = rw e refl
-    by Sink e = rw e refl
-    by Split e =
-        let few : j < length task.outputs =
-        subst (λ n. j < n)
-        (ap length (let same : signalled_by task ≡ task.outputs = rw e refl in same)) lt in
-        let is : puts_on task 0 j ≡ turns_below (length task.outputs) j 0 = rw e refl in
-        is ∙ none (cases_lt 0 (turns_below (length task.outputs) j 0)) few
-      where
-        none : (0 < turns_below (length task.outputs) j 0)
-            ⊎ (turns_below (length task.outputs) j 0 ≤ 0)
-            → j < length task.outputs → turns_below (length task.outputs) j 0 ≡ 0
-        none (inr le) few = omega arith
-        none (inl some) few =
-            let no : j + 0 * length task.outputs < 0 =
-            turn-within (length task.outputs) j 0 0 few some in
-            absurd (omega arith)
-
 owes_nothing : (job : Job) (t : ℕ) → IsGraph job.graph → t < length job.graph.tasks
     → first_owed job (opening job) t ≡ None
 owes_nothing job t is there =
@@ -126,7 +97,7 @@ owes_nothing job t is there =
     none j lt =
         let many : length (made_now job (opening job) t j) ≡ puts_on (task_at job.graph t) 0 j =
         made_many job (opening job) t j is (ran.tasks t there) there lt in
-        let zero_many = puts_none (task_at job.graph t) j lt in
+        let zero_many = none_put (task_at job.graph t) j lt in
         lt-leb (0 + 1) (length (made_now job (opening job) t j)) (omega arith)
 
 -- no task has left
