@@ -1,12 +1,12 @@
 -- The samples of the first sources, source by source.
-use Rattle.std.proofs.Common.{◌≡◌, ◌<◌, ◌≤◌, ◌+◌, ◌⊎◌, inl, inr, ℕ, ℤ, List, [], ◌∷◌, ◌++◌, length, take, drop, get_or, true, Bool, sym, ◌∙◌, ap, arith, subst, Vec, take-append-drop, length-append}
+use Rattle.std.proofs.Common.{◌≡◌, ◌<◌, ◌≤◌, ◌+◌, ℕ, ℤ, List, [], ◌∷◌, ◌++◌, length, take, drop, true, Bool, sym, ◌∙◌, ap, arith, subst, Vec, take-append-drop, length-append}
 use Rattle.std.specs.List.{count_by, filter}
-use Rattle.std.proofs.lemmas.Bool.{cases_lt}
 use Rattle.std.specs.Global.{Global}
-use Rattle.std.proofs.lemmas.List.{get_or_push, get_or_append_left, length_push, length-map, map_push}
+use Rattle.std.proofs.lemmas.List.{length-map, map_push}
 use Rattle.std.proofs.lemmas.List.Elements.{filter-append}
 use Rattle.std.proofs.lemmas.List.Sums.{count_by_more_yes, length-filter}
 use Rattle.graph_base.specs.Graphs.{Graph, Task, no_task, task_at, file_at, is_source, source_number, sources_of}
+use Rattle.graph_lang.proofs.Grown.{each-push}
 use Rattle.sample_text.specs.Samples.{AreSamplesOf}
 use Rattle.stream_lists.specs.Inside.{items_of}
 use Rattle.graph_commands.specs.FileJobs.{AreFirstSamples, Known}
@@ -28,19 +28,6 @@ source-within graph t within is =
     let one = count_by_more_yes is_source_task graph.tasks t no_task within is in
     let most = count_by-take is_source_task (t + 1) graph.tasks in
     omega (arith, one, most)
-
--- what is true of each item below the last, and of the last, is true of each
-each-push : {A : Type 0} (xs : List A) (y d : A) (P : ℕ → A → Type 0)
-    → ((i : ℕ) → i < length xs → P i (get_or xs i d)) → P (length xs) y
-    → (i : ℕ) → i < length (xs ++ y ∷ []) → P i (get_or (xs ++ y ∷ []) i d)
-each-push xs y d P each last i below = by (cases_lt i (length xs))
-  where
-    by : (i < length xs) ⊎ (length xs ≤ i) → P i (get_or (xs ++ y ∷ []) i d)
-    by (inl lt) = subst (P i) (sym (get_or_append_left xs (y ∷ []) d i lt)) (each i lt)
-    by (inr above) =
-        let at : length xs ≡ i = omega (arith, above, below, length_push xs y) in
-        let At : ℕ → Type 0 = λ i. P i y in
-        subst (P i) (sym (get_or_push xs y d i at)) (subst At at last)
 
 -- one more source
 pub samples-push : (known : Known) (graph : Graph) (samples : List (List ℤ)) (values : List ℤ)

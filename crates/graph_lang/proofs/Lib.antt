@@ -1,6 +1,6 @@
 mod Alls
 mod Ends
-mod Grown
+pub mod Grown
 mod KindExamples
 mod Known
 mod NamesKept
