@@ -14,7 +14,8 @@ pub trait Run {
 }
 
 impl Run for Brand {
-    ghost use Rattle.graph_tasks.specs.Runs.{no_job, no_spot};
+    ghost use Rattle.graph_openings.specs.Openings.{no_spot};
+    ghost use Rattle.graph_tasks.specs.Runs.{no_job};
 
     ghost job = { no_job };
 
