@@ -1,15 +1,14 @@
 -- The moment of the whole run has run and is over, and so its sinks have taken the job's answer.
-use Rattle.std.proofs.Common.{◌≡◌, ℕ, zero, suc, ◌+◌, ◌<◌, ◌≤◌, Bool, true, false, cond, List, [], ◌∷◌, Option, Some, None, Ok, length, map, slice_get, refl, sym, ap, subst, ◌∙◌, arith}
-use Rattle.std.specs.List.{filter, range_with_len, All}
+use Rattle.std.proofs.Common.{◌≡◌, ℕ, ◌+◌, ◌<◌, ◌≤◌, false, List, [], ◌∷◌, Option, Some, None, Ok, length, map, slice_get, refl, sym, ap, subst, ◌∙◌, arith}
+use Rattle.std.specs.List.{All}
 use Rattle.std.proofs.lemmas.Option.{same_Some}
 use Rattle.phase_accum.specs.declared.outcome.Outcome.{Outcome}
 use Rattle.phase_history.specs.Others.{OthersCame}
 use Rattle.phase_history.proofs.Beginnings.{IsBeginning-refl}
 use Rattle.phase_history.proofs.OthersEvents.{IsBeginning-others}
-use Rattle.graph_base.specs.Graphs.{task_at, is_sink}
+use Rattle.graph_base.specs.Graphs.{task_at}
 use Rattle.graph_base.specs.TaskLines.{IsGraph}
-use Rattle.graph_base.specs.declared.line.Kind.{Kind}
-use Rattle.graph_base.specs.declared.line.Kind.TheVariants.{Source, Fir, Split, Join, Peer, Sink}
+use Rattle.graph_base.specs.declared.line.Kind.TheVariants.{Sink}
 use Rattle.graph_base.specs.declared.line.Parent.{Parent}
 use Rattle.stream_lists.specs.Jobs.{Job}
 use Rattle.stream_lists.specs.Lists.{sinks_of, is_sink_at}
@@ -17,6 +16,7 @@ use Rattle.stream_lists.specs.Ranges.{answer_of, is_too_big}
 use Rattle.graph_moments.specs.Moments.{Moment, HasRun, PhaserRan, TaskRan, IsOver, HasMetNone, OnLine, IsRegistered, Joined, IsChild, value_at}
 use Rattle.graph_moments.specs.Settled.{IsReady}
 use Rattle.graph_moments.proofs.OnLines.{on_phaser}
+use Rattle.graph_moments.proofs.Results.{map-filtered, sink_is}
 use Rattle.graph_moments.proofs.TooBigs.{answer_is}
 use Rattle.graph_moves.specs.Moves.{SameTask, HasGrown, PartStays, OthersMoved}
 use Rattle.graph_moves.proofs.Framed.{part_came}
@@ -234,33 +234,6 @@ module _ (job : Job) (ends : Ends) (is : IsGraph job.graph) (r : IsRunEnd job en
           none None f = ap lines_in f
           none (Some None) f = ap lines_in f
           none (Some (Some end)) f = absurd (never end f)
-
-sink_is : (kind : Kind) → is_sink kind ≡ true → kind ≡ Sink
-sink_is Source e = absurd (cc)
-sink_is Fir e = absurd (cc)
-sink_is Split e = absurd (cc)
-sink_is Join e = absurd (cc)
-sink_is Peer e = absurd (cc)
-sink_is Sink e = refl
-
-map-filtered : {Y : Type 0} (f g : ℕ → Y) (test : ℕ → Bool) (a n : ℕ)
-    → ((t : ℕ) → t < a + n → test t ≡ true → f t ≡ g t)
-    → map f (filter test (range_with_len a n)) ≡ map g (filter test (range_with_len a n))
-map-filtered f g test a zero same = refl
-map-filtered f g test a (suc n) same =
-    let rest : map f (filter test (range_with_len (a + 1) n))
-    ≡ map g (filter test (range_with_len (a + 1) n)) =
-    map-filtered f g test (a + 1) n (λ t lt e. same t (omega arith) e) in
-    elim (test a) as (λ b. (test a ≡ b)
-    → map f (cond b (a ∷ filter test (range_with_len (a + 1) n))
-    (filter test (range_with_len (a + 1) n)))
-    ≡ map g (cond b (a ∷ filter test (range_with_len (a + 1) n))
-    (filter test (range_with_len (a + 1) n)))) [
-      | true ↦ λ e.
-          ap (λ y. y ∷ map f (filter test (range_with_len (a + 1) n))) (same a (omega arith) e)
-          ∙ ap (λ ys. g a ∷ ys) rest
-      | false ↦ λ e. rest
-    ] refl
 
 -- the answer of the job is what the sinks have taken
 pub answer_at_end : (job : Job) (ends : Ends) → IsReady job → IsRunEnd job ends

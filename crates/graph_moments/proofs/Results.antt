@@ -216,7 +216,8 @@ sinks_whole job m t ready ran over there sink =
 
 -- ---- the lines of the sinks
 
-map-filtered : {Y : Type 0} (f g : ℕ → Y) (test : ℕ → Bool) (a n : ℕ)
+-- two functions that agree where the test holds give the same of a list that it filters
+pub map-filtered : {Y : Type 0} (f g : ℕ → Y) (test : ℕ → Bool) (a n : ℕ)
     → ((t : ℕ) → t < a + n → test t ≡ true → f t ≡ g t)
     → map f (filter test (range_with_len a n)) ≡ map g (filter test (range_with_len a n))
 map-filtered f g test a zero same = refl
@@ -235,7 +236,8 @@ map-filtered f g test a (suc n) same =
       | false ↦ λ e. rest
     ] refl
 
-sink_is : (kind : Kind) → is_sink kind ≡ true → kind ≡ Sink
+-- the one kind of a sink
+pub sink_is : (kind : Kind) → is_sink kind ≡ true → kind ≡ Sink
 sink_is Source e = absurd (cc)
 sink_is Fir e = absurd (cc)
 sink_is Split e = absurd (cc)
