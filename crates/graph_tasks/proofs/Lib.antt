@@ -4,7 +4,7 @@ mod Waiting
 mod Ending
 mod Gone
 mod ChildHolds
-mod Seeding
+pub mod Seeding
 mod StillRegistering
 mod Leaving
 mod Delivering

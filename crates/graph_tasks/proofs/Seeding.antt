@@ -41,17 +41,19 @@ hold_at [] i hold e = absurd (cc)
 hold_at (y ∷ holds) zero hold e = same_some y hold e
 hold_at (y ∷ holds) (suc i) hold e = hold_at holds i hold e
 
-kept : {X : Type 0} (xs : List X) (y x : X) (i : ℕ) → slice_get xs i ≡ Some x
+-- an item of a list stands at its place of the longer one
+pub found-push : {X : Type 0} (xs : List X) (y x : X) (i : ℕ) → slice_get xs i ≡ Some x
     → slice_get (xs ++ y ∷ []) i ≡ Some x
-kept [] y x i e = absurd (cc)
-kept (z ∷ xs) y x zero e = e
-kept (z ∷ xs) y x (suc i) e = kept xs y x i e
+found-push [] y x i e = absurd (cc)
+found-push (z ∷ xs) y x zero e = e
+found-push (z ∷ xs) y x (suc i) e = found-push xs y x i e
 
-last_at : {X : Type 0} (xs : List X) (y : X) → slice_get (xs ++ y ∷ []) (length xs) ≡ Some y
+pub last_at : {X : Type 0} (xs : List X) (y : X) → slice_get (xs ++ y ∷ []) (length xs) ≡ Some y
 last_at [] y = refl
 last_at (z ∷ xs) y = last_at xs y
 
-each-push : {X : Type 0} (P : X → Type 0) (xs : List X) (x : X)
+-- what holds of each, and of one more, holds of each of the longer list
+pub each-push : {X : Type 0} (P : X → Type 0) (xs : List X) (x : X)
     → ((i : ℕ) (y : X) → slice_get xs i ≡ Some y → P y) → P x
     → (i : ℕ) (y : X) → slice_get (xs ++ x ∷ []) i ≡ Some y → P y
 each-push P [] x each new zero y e = subst P (same_some x y e) new
@@ -142,7 +144,7 @@ one_child job t n children child u are few is has by at none = record {
         × (one.task ≡ c) × (one.at ≡ v.at))
     more c v (inl lt) has_c by_v =
         let old = are.all c v lt has_c by_v in
-        (old.0, (old.1.0, kept children child old.1.0 old.0 old.1.1, old.1.2, old.1.3))
+        (old.0, (old.1.0, found-push children child old.1.0 old.0 old.1.1, old.1.2, old.1.3))
     more c v (inr e) has_c by_v =
         let same : u ≡ v = same_some u v (sym has ∙ ap (λ x. (task_at job.graph x).parent) (sym e) ∙ has_c) in
         (length children, (child, last_at children child, is ∙ sym e, at ∙ ap (λ (x : Parent). x.at) same))
@@ -184,8 +186,8 @@ receives job spots t holds numbers x long each root i lt =
         let old = each i less in
         record {
           member = old.member;
-          hold = kept holds (On x) (On old.member) i old.hold;
-          number = kept numbers (member_in x).number (member_in old.member).number i old.number;
+          hold = found-push holds (On x) (On old.member) i old.hold;
+          number = found-push numbers (member_in x).number (member_in old.member).number i old.number;
           root = old.root;
         }
     by (inr e) = record {

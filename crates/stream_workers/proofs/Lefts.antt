@@ -14,6 +14,7 @@ use Rattle.graph_openings.specs.declared.founder.FounderLeft.{FounderLeft}
 use Rattle.graph_tasks.specs.Ends.{IsEnded, IsLeftOn, given_to as given_by}
 use Rattle.graph_tasks.specs.declared.child.Child.{Child}
 use Rattle.graph_tasks.specs.declared.ended.Ended.{Ended}
+use Rattle.graph_tasks.proofs.Seeding.{each-push, found-push, last_at}
 use Rattle.stream_ends.specs.Joinings.{IsAt}
 use Rattle.stream_ends.specs.TaskLefts.{given_to, IsLeftOf, IsTaskLeft, AreFounders}
 use Rattle.stream_ends.specs.declared.task_left.TaskLeft.{TaskLeft}
@@ -40,25 +41,6 @@ some_at : {X : Type 0} (xs : List X) (p : ℕ) → p < length xs → (x : X) × 
 some_at [] p lt = absurd (omega arith)
 some_at (y ∷ xs) zero lt = (y, refl)
 some_at (y ∷ xs) (suc p) lt = some_at xs p (omega arith)
-
-pub each-push : {X : Type 0} (P : X → Type 0) (xs : List X) (x : X)
-    → ((i : ℕ) (y : X) → slice_get xs i ≡ Some y → P y) → P x
-    → (i : ℕ) (y : X) → slice_get (xs ++ x ∷ []) i ≡ Some y → P y
-each-push P [] x each new zero y e = subst P (same_some x y e) new
-each-push P [] x each new (suc i) y e = absurd (cc)
-each-push P (z ∷ xs) x each new zero y e = each zero y e
-each-push P (z ∷ xs) x each new (suc i) y e =
-    each-push P xs x (λ k w f. each (suc k) w f) new i y e
-
-kept : {X : Type 0} (xs : List X) (y x : X) (i : ℕ) → slice_get xs i ≡ Some x
-    → slice_get (xs ++ y ∷ []) i ≡ Some x
-kept [] y x i e = absurd (cc)
-kept (z ∷ xs) y x zero e = e
-kept (z ∷ xs) y x (suc i) e = kept xs y x i e
-
-last_at : {X : Type 0} (xs : List X) (y : X) → slice_get (xs ++ y ∷ []) (length xs) ≡ Some y
-last_at [] y = refl
-last_at (z ∷ xs) y = last_at xs y
 
 -- ---- a task
 
@@ -151,7 +133,7 @@ one_more job spots rest lefts ended left follows all are t l e =
 -- the others
 pub all_before : (job : Job) (spots : ℕ → Spot) (rest : List (Option Ended)) (ended : Option Ended)
     → AllEnded job spots (rest ++ ended ∷ []) → AllEnded job spots rest
-all_before job spots rest ended all t e at = all t e (kept rest ended (Some e) t at)
+all_before job spots rest ended all t e at = all t e (found-push rest ended (Some e) t at)
 
 -- ---- founders
 
