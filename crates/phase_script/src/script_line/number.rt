@@ -44,7 +44,7 @@ fn is_plain(word: &[u8]) -> bool
 
 // The number that the digits are, where all bytes are digits.
 fn digits(word: &[u8]) -> Option<u64>
-    requires { length word.now ≤ 19 }
+    requires { length word.now ≤ DIGITS_MAX }
     ensures { result ≡ digits_of word.now }
 {
     let mut n = 0;
