@@ -16,4 +16,4 @@ pub use fault::{FirFault, TooBigValue};
 pub use fir::{Fir, SHIFT_MAX, TAP_MAX, TAPS_MAX};
 pub use peer::Peer;
 pub use range::{VALUE_MAX, VALUE_MIN};
-pub use turns::{Join, Split};
+pub use turns::{Join, RoundRobin, Split};

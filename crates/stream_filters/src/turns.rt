@@ -1,4 +1,4 @@
-//! Whose turn it is, among the outputs of a splitter or the inputs of a joiner.
+//! Whose turn it is, in a round robin of a splitter's outputs or of a joiner's inputs.
 ghost use Rattle.std.specs.Prelude.{◌≡◌, ℕ, ◌+◌, ◌<◌, ◌≤◌};
 ghost use Rattle.stream_filters.specs.Turns.{turn_after, HasTurned};
 
@@ -13,36 +13,35 @@ fn place_after(place: usize, count: usize) -> usize
     if place + 1 == count { 0 } else { place + 1 }
 }
 
-/// A splitter's turns: which of its outputs takes the next sample.
+/// A round robin of 2 to 8 places: which of them has the next turn.
 #[derive(Drop)]
-pub struct Split {
+pub struct RoundRobin {
     count: usize,
     next: usize,
 }
 
-impl Model for Split {
+impl Model for RoundRobin {
     ghost use Rattle.std.specs.Prelude.{◌<◌, ◌≤◌};
     ghost use Rattle.stream_filters.specs.Turns.{Turns};
 
     ghost Value = { Turns };
 
-    ghost view = { λ s. record { count = s.count; next = s.next } };
+    ghost view = { λ r. record { count = r.count; next = r.next } };
 
-    ghost invariant = { λ s. (s.next < s.count) × (s.count ≤ 8) };
+    ghost invariant = { λ r. (r.next < r.count) × (r.count ≤ 8) };
 }
 
-impl Split {
-    /// Makes the turns of a splitter with `m` outputs, before its first sample.
-    pub fn new(m: usize) -> Split
+impl RoundRobin {
+    /// Makes the turns of `m` places, before the first one.
+    pub fn new(m: usize) -> RoundRobin
         requires { (2 ≤ m) × (m ≤ 8) }
         ensures count { result.count ≡ m }
         ensures turned { HasTurned result 0 }
     {
-        Split { count: m, next: 0 }
+        RoundRobin { count: m, next: 0 }
     }
 
-    /// Answers which output takes the next sample: 0, 1, .., m - 1, 0, and so on. It takes no
-    /// memory.
+    /// Answers which place has the next turn: 0, 1, .., m - 1, 0, and so on. It takes no memory.
     pub fn turn(&mut self) -> usize
         ensures turn { (n : ℕ) → HasTurned self.old n → result ≡ turn_after self.old.count n }
         ensures turned { (n : ℕ) → HasTurned self.old n → HasTurned self.new (n + 1) }
@@ -50,51 +49,14 @@ impl Split {
         ensures within { result < self.old.count }
         ensures count { self.new.count ≡ self.old.count }
     {
-        let output = self.next;
-        self.next = place_after(output, self.count);
-        output
+        let place = self.next;
+        self.next = place_after(place, self.count);
+        place
     }
 }
+
+/// A splitter's turns: which of its outputs takes the next sample.
+pub type Split = RoundRobin;
 
 /// A joiner's turns: which of its inputs gives the next sample.
-#[derive(Drop)]
-pub struct Join {
-    count: usize,
-    next: usize,
-}
-
-impl Model for Join {
-    ghost use Rattle.std.specs.Prelude.{◌<◌, ◌≤◌};
-    ghost use Rattle.stream_filters.specs.Turns.{Turns};
-
-    ghost Value = { Turns };
-
-    ghost view = { λ j. record { count = j.count; next = j.next } };
-
-    ghost invariant = { λ j. (j.next < j.count) × (j.count ≤ 8) };
-}
-
-impl Join {
-    /// Makes the turns of a joiner with `m` inputs, before its first sample.
-    pub fn new(m: usize) -> Join
-        requires { (2 ≤ m) × (m ≤ 8) }
-        ensures count { result.count ≡ m }
-        ensures turned { HasTurned result 0 }
-    {
-        Join { count: m, next: 0 }
-    }
-
-    /// Answers which input gives the next sample: 0, 1, .., m - 1, 0, and so on. It takes no
-    /// memory.
-    pub fn turn(&mut self) -> usize
-        ensures turn { (n : ℕ) → HasTurned self.old n → result ≡ turn_after self.old.count n }
-        ensures turned { (n : ℕ) → HasTurned self.old n → HasTurned self.new (n + 1) }
-
-        ensures within { result < self.old.count }
-        ensures count { self.new.count ≡ self.old.count }
-    {
-        let input = self.next;
-        self.next = place_after(input, self.count);
-        input
-    }
-}
+pub type Join = RoundRobin;
