@@ -1,19 +1,20 @@
 -- What holds of a line that has no fault.
-use Rattle.std.proofs.Common.{ℕ, ◌<◌, ◌≤◌, arith, [], ◌∷◌, ◌++◌, ap, sym, ◌∙◌, ◌≡◌, ◌&&◌, ◌||◌, Bool, true, false, not, Option, Some, None, is_some, if◌then◌else◌, refl, nat_lt, length}
+use Rattle.std.proofs.Common.{ℕ, List, ◌<◌, ◌≤◌, arith, [], ◌∷◌, ◌++◌, ap, sym, ◌∙◌, ◌≡◌, ◌&&◌, ◌||◌, Bool, true, false, not, Option, Some, None, is_some, if◌then◌else◌, refl, nat_lt, length}
 use Rattle.std.specs.List.{list_all}
+use Rattle.phase_base.specs.Lists.{first_row}
 use Rattle.std.proofs.lemmas.Bool.Decides.{nat_tests}
 use Rattle.graph_words.specs.Words.{Word}
 use Rattle.phase_base.specs.declared.operation.Op.{Op}
-use Rattle.graph_text.specs.Decls.{phaser, task, FunctionWords, BodyWords, EndWords}
+use Rattle.graph_text.specs.Decls.{phaser, task, FunctionWords, BodyWords, ByWords, EndWords}
 use Rattle.graph_base.specs.Graphs.{Graph, Task}
 use Rattle.graph_base.specs.Names.{place_of}
 use Rattle.graph_lang.specs.WordValues.{task_line, files_in}
-use Rattle.graph_lang.specs.Faults.{kind_of, later_kind, phasers_of, is_past_limit, are_distinct, is_phaser, is_parent_known}
+use Rattle.graph_lang.specs.Faults.{kind_of, phasers_of, is_past_limit, are_distinct, is_phaser, is_parent_known, is_in_order, may_be_parent, is_held}
 use Rattle.graph_lang.specs.Inside.{last_kind}
 use Rattle.graph_lang.specs.Faults.{is_phaser_within}
 use Rattle.graph_lang.specs.Reads.{with_line}
 use Rattle.graph_base.specs.declared.limits.TheConstants.{PHASERS_MAX}
-use Rattle.graph_lang.specs.declared.fault.FaultKind.TheVariants.{Limit, Twice, Unknown}
+use Rattle.graph_lang.specs.declared.fault.FaultKind.TheVariants.{Limit, Twice, Unknown, OutBeforeIn, BadParent, NotHeld}
 use Rattle.graph_lang.specs.declared.fault.FaultKind.{FaultKind}
 use Rattle.graph_base.specs.declared.place.Place.TheVariants as place
 
@@ -69,6 +70,16 @@ not-past false e = refl
 pub past : (past : Bool) → not past ≡ false → past ≡ true
 past true e = refl
 past false e = absurd (cc)
+
+-- the first kind after Limit of a task's line, of its name, its phasers, its parent and the task
+abbrev later_kind : Graph → Word → List Word → Option ByWords → Task → Option FaultKind
+later_kind before name phasers by t = first_row (
+    (is_some (place_of before.names name) || not (are_distinct phasers), Twice)
+    ∷ (not (list_all (is_phaser before.names) phasers && is_parent_known before.names by), Unknown)
+    ∷ (not (is_in_order t), OutBeforeIn)
+    ∷ (not (may_be_parent before t.parent), BadParent)
+    ∷ (not (is_held before t), NotHeld)
+    ∷ [])
 
 -- a task's line that passes a limit has that fault first
 pub task-limit : (before : Graph) (name : Word) (body : BodyWords) (ends : EndWords)

@@ -1,5 +1,5 @@
 -- The kinds of fault of a line that is in the grammar, and their order.
-use Rattle.std.specs.Prelude.{ℕ, ◌==◌, Bool, true, false, ◌&&◌, ◌||◌, not, nat_lt, nat_le, List, [], ◌∷◌, ◌++◌, length, get_or, Option, Some, None, is_some, if◌then◌else◌, unsigned_abs}
+use Rattle.std.specs.Prelude.{ℕ, ◌==◌, Bool, true, false, ◌&&◌, ◌||◌, not, nat_lt, nat_le, List, [], ◌∷◌, ◌++◌, length, get_or, Option, Some, None, is_some, unsigned_abs}
 use Rattle.phase_base.specs.Lists.{first_row}
 use Rattle.std.specs.List.{list_all, list_any}
 use Rattle.std.specs.Option.{option_map_or}
@@ -178,14 +178,4 @@ kind_of before d = first_row (
     ∷ (is_out_before_in before d, OutBeforeIn)
     ∷ (is_bad_parent before d, BadParent)
     ∷ (is_not_held before d, NotHeld)
-    ∷ [])
-
--- the first kind after Limit of a task's line, of its name, its phasers, its parent and the task
-abbrev pub later_kind : Graph → Word → List Word → Option ByWords → Task → Option FaultKind
-later_kind before name phasers by t = first_row (
-    (is_some (place_of before.names name) || not (are_distinct phasers), Twice)
-    ∷ (not (list_all (is_phaser before.names) phasers && is_parent_known before.names by), Unknown)
-    ∷ (not (is_in_order t), OutBeforeIn)
-    ∷ (not (may_be_parent before t.parent), BadParent)
-    ∷ (not (is_held before t), NotHeld)
     ∷ [])

@@ -16,7 +16,8 @@ use Rattle.phase_base.specs.Lists.{is_in}
 use Rattle.phase_history.specs.Sent.{sent_by, sent_in, gathered, IsSilent, ReachesTop}
 use Rattle.phase_history.proofs.Sendings.{length-sent_by, sent_in-none, SentInTurn, SentInTurn-of}
 use Rattle.phase_history.proofs.Signallers.{holds_open, all_dropped, done_at_top, ReachesTop-of, below_top}
-use Rattle.graph_moments.specs.Agreeing.{one, HasPut, Agrees}
+use Rattle.graph_moments.specs.Moments.{one}
+use Rattle.graph_moments.proofs.Composed.{HasPut, Agrees}
 
 -- one value a list, by place
 one-here : (xs more : List ℤ) (c : ℕ) → c < length xs

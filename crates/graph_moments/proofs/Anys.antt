@@ -25,9 +25,9 @@ use Rattle.stream_lists.specs.Lists.{Contribution, send_in, contribution_at, con
 use Rattle.stream_lists.specs.Meetings.{is_any, overlap, meet_on, meets_on, meets_above, meeting_line}
 use Rattle.stream_laws.proofs.Ordered.{place-at}
 use Rattle.stream_laws.proofs.ListLengths.{outputs_long}
-use Rattle.graph_moments.specs.Agreeing.{Agrees}
 use Rattle.graph_moments.specs.Moments.{Moment, numbers_on, limits_at, value_at, PhaserRan}
 use Rattle.graph_moments.specs.Settled.{IsReady}
+use Rattle.graph_moments.proofs.Composed.{Agrees}
 use Rattle.graph_moments.proofs.Agreed.{AllAgree, agrees_at, sent_is, Found, found}
 use Rattle.graph_moments.proofs.Numbers.{numbers_distinct}
 use Rattle.graph_moments.proofs.Phasers.{AreGathered}

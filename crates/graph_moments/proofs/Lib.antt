@@ -1,6 +1,7 @@
 pub mod Agreed
 pub mod Answered
 pub mod Anys
+pub mod Composed
 pub mod Entries
 pub mod Faults
 pub mod Numbers

@@ -15,9 +15,9 @@ use Rattle.stream_lists.specs.Jobs.{Job, index_in}
 use Rattle.stream_lists.specs.Spans.{signalled_by, lengths_of, greatest, span_in, schedule_of}
 use Rattle.stream_lists.specs.Lists.{Contribution, contributions_on, contribution_at, contribution_by, phase_in, numbers_of, output_on, ends_on}
 use Rattle.stream_laws.proofs.ListLengths.{lengths_end}
-use Rattle.graph_moments.specs.Agreeing.{IsAwaited, Agrees}
 use Rattle.graph_moments.specs.Moments.{Moment, numbers_on, limits_at, value_at, PhaserRan, OnOutput}
-use Rattle.graph_moments.specs.Settled.{Composes, Stands, PutsOut}
+use Rattle.graph_moments.specs.Settled.{Stands, PutsOut}
+use Rattle.graph_moments.proofs.Composed.{IsAwaited, Agrees, Composes}
 use Rattle.graph_moments.proofs.Entries.{nothing_more}
 use Rattle.graph_moments.proofs.Agreed.{AllAgree, gathered_is, done_within, done_whole}
 

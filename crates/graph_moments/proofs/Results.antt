@@ -17,7 +17,8 @@ use Rattle.stream_lists.specs.Lists.{numbers_of, list_over, phase_in, contributi
 use Rattle.stream_lists.proofs.SpansAbove.{spans_all}
 use Rattle.stream_laws.proofs.Ordered.{parent_waits}
 use Rattle.graph_moments.specs.Moments.{Moment, HasRun, IsRegistered, IsOver, IsChild, HasNotPassed, TakenOn, input_at, value_at}
-use Rattle.graph_moments.specs.Settled.{Composes, Stands, IsReady}
+use Rattle.graph_moments.specs.Settled.{Stands, IsReady}
+use Rattle.graph_moments.proofs.Composed.{Composes}
 use Rattle.graph_moments.proofs.Entries.{prefix_whole, take_length}
 use Rattle.graph_moments.proofs.Steps.{taken_count}
 use Rattle.graph_moments.proofs.Tasks.{stream_begins, taken_begins}

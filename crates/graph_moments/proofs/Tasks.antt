@@ -24,7 +24,8 @@ use Rattle.stream_lists.specs.Lists.{contributions_on, number, numbers_of, list_
 use Rattle.stream_laws.proofs.ListsAbove.{numbers_all}
 use Rattle.stream_laws.proofs.ListLengths.{length-numbers, outputs_long}
 use Rattle.graph_moments.specs.Moments.{Moment, input_at, taken_now, made_now, limits_at, value_at, PhaserRan, TaskRan, MayEnd, at_until, no_sample, no_input, OnInput, TakenOn, Joined, HasExchanged, first_input}
-use Rattle.graph_moments.specs.Settled.{Composes, HasRead, Stands, PutsOut}
+use Rattle.graph_moments.specs.Settled.{Stands, PutsOut}
+use Rattle.graph_moments.proofs.Composed.{Composes, HasRead}
 use Rattle.graph_moments.proofs.Entries.{prefix_whole, take_prefix, take_full, part_of_longer}
 use Rattle.graph_moments.proofs.Steps.{within_cut, cut_below, cut_until, has_inputs, enough-above, enough-below, takes-mono, taken_count, taken_most}
 use Rattle.graph_moments.proofs.OutputLists.{outputs_begin, length_made}

@@ -27,10 +27,10 @@ use Rattle.stream_lists.specs.Spans.{lengths_of, span_in, takes_from, signalled_
 use Rattle.stream_lists.specs.Lists.{contributions_on, sends_in, numbers_of, output_on, phase_in, sinks_of, number}
 use Rattle.stream_lists.specs.Ranges.{Where, is_out_of_range, are_made, takes_phase, task_takes, is_taken, is_too_big, first_too_big, Fits, answer_of}
 use Rattle.stream_laws.proofs.Ordered.{place-at, place_of_input}
-use Rattle.graph_moments.specs.Agreeing.{one}
-use Rattle.graph_moments.specs.Moments.{Moment, HasRun, TaskRan, HasEnded, IsRegistered, IsOver, OnOutput, OnInput, OnPhaser, PutOn, TakenOn, HasMetNone, input_at, taken_now, made_now, limits_at, value_at, HasExchanged}
+use Rattle.graph_moments.specs.Moments.{one, Moment, HasRun, TaskRan, HasEnded, IsRegistered, IsOver, OnOutput, OnInput, OnPhaser, PutOn, TakenOn, HasMetNone, input_at, taken_now, made_now, limits_at, value_at, HasExchanged}
 use Rattle.graph_base.specs.declared.place.Place.TheVariants as place
-use Rattle.graph_moments.specs.Settled.{Composes, Stands, PutsOut, IsReady, IsFaultAt, IsThere}
+use Rattle.graph_moments.specs.Settled.{Stands, PutsOut, IsReady, IsFaultAt, IsThere}
+use Rattle.graph_moments.proofs.Composed.{Composes}
 use Rattle.graph_moments.proofs.OnLines.{signalled_within}
 use Rattle.graph_moments.proofs.Entries.{prefix_length, prefix_at, take_full, take_length, get_or-take, get_or-drop}
 use Rattle.graph_moments.proofs.Steps.{takes-mono, taken_most, taken_count}

@@ -17,9 +17,9 @@ use Rattle.stream_lists.specs.Spans.{signalled_by, spans_of, lengths_of, span_at
 use Rattle.stream_lists.specs.Lists.{numbers_of, output_on}
 use Rattle.stream_laws.proofs.Ordered.{looks-first, looked_above, place-at, parent_signals}
 use Rattle.stream_lists.proofs.SpansAbove.{parent-is, spans_all}
-use Rattle.graph_moments.specs.Agreeing.{one, IsAwaited}
-use Rattle.graph_moments.specs.Moments.{Moment, input_at, made_now, taken_now, limits_at, TaskRan, HasEnded, OnOutput, PutOn, SilentOn, OnPhaser, IsChild, OnLine, HasNotPassed, Joined, IsRegistered, HasRun, IsOver, OnInput, TakenOn}
-use Rattle.graph_moments.specs.Settled.{Composes, HasRead, Stands, PutsOut, IsReady}
+use Rattle.graph_moments.specs.Moments.{one, Moment, input_at, made_now, taken_now, limits_at, TaskRan, HasEnded, OnOutput, PutOn, SilentOn, OnPhaser, IsChild, OnLine, HasNotPassed, Joined, IsRegistered, HasRun, IsOver, OnInput, TakenOn}
+use Rattle.graph_moments.specs.Settled.{Stands, PutsOut, IsReady}
+use Rattle.graph_moments.proofs.Composed.{IsAwaited, Composes, HasRead}
 use Rattle.graph_moments.proofs.Entries.{prefix_length}
 use Rattle.graph_moments.proofs.OnLines.{on_phaser}
 use Rattle.graph_moments.proofs.OutputLists.{length_made, puts-few}

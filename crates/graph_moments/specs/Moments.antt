@@ -24,7 +24,10 @@ use Rattle.stream_lists.specs.Jobs.{Job, samples_at, index_in}
 use Rattle.stream_lists.specs.Spans.{signalled_by, takes_from}
 use Rattle.stream_lists.specs.Lists.{value_by, number, output_list}
 use Rattle.stream_lists.specs.Ranges.{is_too_big}
-use Rattle.graph_moments.specs.Agreeing.{one}
+
+-- one send a signal
+abbrev pub one : ℤ → List ℤ
+one v = v ∷ []
 
 -- the history of each phaser; the number of each task on each phaser where it is registered; and of
 -- each task the phase at which it began, how many steps it has begun, what it has taken from each

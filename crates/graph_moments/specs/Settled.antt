@@ -1,35 +1,15 @@
 -- What a moment of a run has of the lists that the definitions compose.
-use Rattle.std.specs.Prelude.{◌≡◌, ℕ, ◌-◌, ◌<◌, ◌≤◌, pos, [], Some, None, true, length, get_or, take, drop}
+use Rattle.std.specs.Prelude.{◌≡◌, ℕ, ◌-◌, ◌<◌, ◌≤◌, pos, Some, None, true, length, get_or}
 use mathlib.Core.List.{IsPrefix}
-use Rattle.phase_history.specs.Histories.{done_of, HasNoSignaller}
-use Rattle.phase_history.specs.Phases.{value_of_phase}
 use Rattle.graph_base.specs.Graphs.{task_at}
 use Rattle.graph_base.specs.TaskLines.{IsGraph}
 use Rattle.graph_base.specs.declared.place.Place.TheVariants as place
 use Rattle.stream_lists.specs.Jobs.{Job, samples_at, index_in}
 use Rattle.stream_lists.specs.Spans.{lengths_of, span_in, signalled_by, schedule_of}
-use Rattle.stream_lists.specs.Lists.{contributions_on, phase_in, numbers_of, output_on}
+use Rattle.stream_lists.specs.Lists.{contributions_on, numbers_of, output_on}
 use Rattle.stream_lists.specs.Meetings.{meeting_line}
 use Rattle.stream_lists.specs.Ranges.{Where, is_fault, are_made, is_out_of_range}
-use Rattle.graph_moments.specs.Moments.{Moment, MayEnd, HasEnded, input_at, value_at}
-
--- the phases of phaser p that are complete have the values of the phaser's list, and where no task
--- signals any more they are all of it
-pub record Composes (job : Job) (m : Moment) (p : ℕ) : Type 0 where
-  pub values : (n : ℕ) → n < done_of (m.history p)
-      → value_of_phase (value_at job p) (m.history p) n
-      ≡ phase_in (value_at job p) job p (contributions_on job (schedule_of job) (numbers_of job) p) n
-  pub within : done_of (m.history p) ≤ get_or (lengths_of job) p 0
-  pub whole : HasNoSignaller (m.history p) → get_or (lengths_of job) p 0 ≤ done_of (m.history p)
-
--- what a task has taken from its input number k begins what the phaser's list has from the task's
--- offset on
-pub record HasRead (job : Job) (m : Moment) (t k : ℕ) : Type 0 where
-  pub room : length (m.taken t k)
-      ≤ get_or (lengths_of job) (input_at (task_at job.graph t) k) 0 - m.offset t
-  pub is : m.taken t k
-      ≡ take (length (m.taken t k))
-      (drop (m.offset t) (get_or (numbers_of job) (input_at (task_at job.graph t) k) []))
+use Rattle.graph_moments.specs.Moments.{Moment, MayEnd, HasEnded, value_at}
 
 -- a registered task is one that the definitions have, at its offset and within its steps
 pub record Stands (job : Job) (m : Moment) (t : ℕ) : Type 0 where
@@ -51,8 +31,7 @@ pub record IsReady (job : Job) : Type 0 where
   pub apart : meeting_line job ≡ None
 
 -- the value at this place, over the lists of all phasers, is out of range and counts: the value of
--- a
--- phase that some task takes, or a value that a live task makes on one of its outputs
+-- a phase that some task takes, or a value that a live task makes on one of its outputs
 abbrev pub IsFaultAt : Job → Where → Type 0
 IsFaultAt job (place.Phaser p, n) =
     (n < get_or (lengths_of job) p 0)

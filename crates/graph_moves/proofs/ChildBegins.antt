@@ -21,8 +21,7 @@ use Rattle.stream_lists.specs.Jobs.{Job, samples_at, index_in}
 use Rattle.stream_lists.specs.Spans.{signalled_by}
 use Rattle.stream_lists.specs.Lists.{number}
 use Rattle.stream_laws.proofs.Ordered.{parent_signals, parent_waits}
-use Rattle.graph_moments.specs.Agreeing.{one}
-use Rattle.graph_moments.specs.Moments.{Moment, TaskRan, input_at, limits_at, value_at, IsRegistered, OnOutput, OnInput, OnPhaser, PutOn, TakenOn, SilentOn, OnLine, HasNotPassed, Joined, MayEnd, at_until, no_sample, no_input, HasEnded}
+use Rattle.graph_moments.specs.Moments.{one, Moment, TaskRan, input_at, limits_at, value_at, IsRegistered, OnOutput, OnInput, OnPhaser, PutOn, TakenOn, SilentOn, OnLine, HasNotPassed, Joined, MayEnd, at_until, no_sample, no_input, HasEnded}
 use Rattle.graph_moves.specs.Moves.{HasGrown, Registers}
 use Rattle.graph_moves.proofs.Framed.{task_later}
 use Rattle.graph_moves.proofs.OwnEvents.{eq_case}

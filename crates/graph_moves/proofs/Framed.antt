@@ -19,8 +19,7 @@ use Rattle.stream_lists.specs.Jobs.{Job, samples_at, index_in}
 use Rattle.stream_lists.specs.Spans.{signalled_by}
 use Rattle.stream_lists.specs.Lists.{number, output_list}
 use Rattle.stream_lists.proofs.Growing.{map-same}
-use Rattle.graph_moments.specs.Agreeing.{one}
-use Rattle.graph_moments.specs.Moments.{Moment, input_at, taken_now, made_now, limits_at, value_at, IsRegistered, TaskRan, HasEnded, RanOut, first_input, MayEnd, at_until, no_sample, no_input, OnOutput, OnInput, OnPhaser, PutOn, TakenOn, SilentOn, OnLine, HasNotPassed, Joined, AtMost, HasTaken, HasSamples, HasExchanged}
+use Rattle.graph_moments.specs.Moments.{one, Moment, input_at, taken_now, made_now, limits_at, value_at, IsRegistered, TaskRan, HasEnded, RanOut, first_input, MayEnd, at_until, no_sample, no_input, OnOutput, OnInput, OnPhaser, PutOn, TakenOn, SilentOn, OnLine, HasNotPassed, Joined, AtMost, HasTaken, HasSamples, HasExchanged}
 use Rattle.graph_moves.specs.Moves.{SameTask, HasGrown, PartStays, OthersMoved}
 use Rattle.graph_moments.proofs.OnLines.{on_phaser}
 use Rattle.graph_moments.proofs.Tasks.{first_looks}

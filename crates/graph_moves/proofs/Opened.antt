@@ -27,8 +27,7 @@ use Rattle.graph_base.specs.TaskLines.{IsGraph}
 use Rattle.stream_lists.specs.Jobs.{Job, samples_at, index_in}
 use Rattle.stream_lists.specs.Spans.{signalled_by, turns_below}
 use Rattle.stream_lists.specs.Lists.{number}
-use Rattle.graph_moments.specs.Agreeing.{one}
-use Rattle.graph_moments.specs.Moments.{Moment, HasRun, PhaserRan, TaskRan, made_now, input_at, limits_at, value_at, OnPhaser, PutOn, TakenOn, SilentOn, OnLine, IsChild, Joined, AtMost, HasTaken, HasSamples, HasExchanged}
+use Rattle.graph_moments.specs.Moments.{one, Moment, HasRun, PhaserRan, TaskRan, made_now, input_at, limits_at, value_at, OnPhaser, PutOn, TakenOn, SilentOn, OnLine, IsChild, Joined, AtMost, HasTaken, HasSamples, HasExchanged}
 use Rattle.graph_moves.specs.Openings.{IsOpening, PhaserOpened, TaskOpened, HasOpened}
 use Rattle.graph_moments.proofs.OnLines.{on_phaser}
 use Rattle.graph_moves.proofs.Framed.{ListsRan}

@@ -11,8 +11,7 @@ use Rattle.graph_base.specs.TaskLines.{IsGraph}
 use Rattle.stream_lists.specs.Jobs.{Job, index_in}
 use Rattle.stream_lists.specs.Spans.{signalled_by}
 use Rattle.stream_lists.specs.Lists.{number}
-use Rattle.graph_moments.specs.Agreeing.{one}
-use Rattle.graph_moments.specs.Moments.{Moment, input_at, value_at, TaskRan, HasEnded, OnOutput, OnInput, OnPhaser, PutOn, TakenOn, SilentOn, OnLine, HasNotPassed}
+use Rattle.graph_moments.specs.Moments.{one, Moment, input_at, value_at, TaskRan, HasEnded, OnOutput, OnInput, OnPhaser, PutOn, TakenOn, SilentOn, OnLine, HasNotPassed}
 use Rattle.graph_moves.specs.Moves.{HasGrown, Leaves}
 use Rattle.graph_moves.proofs.Framed.{ListsRan, lists_later, ended_later}
 use Rattle.graph_moves.proofs.OwnEvents.{eq_case, history_by, joined_later}

@@ -18,8 +18,7 @@ use Rattle.stream_lists.specs.Jobs.{Job, samples_at, index_in}
 use Rattle.stream_lists.specs.Spans.{signalled_by}
 use Rattle.stream_lists.specs.Lists.{number}
 use Rattle.stream_laws.proofs.Ordered.{place-at}
-use Rattle.graph_moments.specs.Agreeing.{one}
-use Rattle.graph_moments.specs.Moments.{Moment, input_at, made_now, value_at, TaskRan, OnOutput, OnInput, OnPhaser, PutOn, TakenOn, SilentOn, OnLine, HasNotPassed, AtMost, HasTaken, HasSamples, HasExchanged}
+use Rattle.graph_moments.specs.Moments.{one, Moment, input_at, made_now, value_at, TaskRan, OnOutput, OnInput, OnPhaser, PutOn, TakenOn, SilentOn, OnLine, HasNotPassed, AtMost, HasTaken, HasSamples, HasExchanged}
 use Rattle.graph_moves.specs.Moves.{MayBegin, Signals}
 use Rattle.graph_moments.proofs.Steps.{no_inputs}
 use Rattle.graph_moves.proofs.OwnEvents.{eq_case, history_by, joined_later, made_still}

@@ -18,8 +18,7 @@ use Rattle.graph_base.specs.TaskLines.{IsGraph, IsTaskLine, HasEnds}
 use Rattle.stream_lists.specs.Jobs.{Job, samples_at, index_in}
 use Rattle.stream_lists.specs.Spans.{signalled_by}
 use Rattle.stream_lists.specs.Lists.{number}
-use Rattle.graph_moments.specs.Agreeing.{one}
-use Rattle.graph_moments.specs.Moments.{Moment, input_at, taken_now, made_now, value_at, TaskRan, first_input, OnOutput, OnInput, OnPhaser, PutOn, TakenOn, SilentOn, OnLine, HasNotPassed, AtMost, HasTaken, HasSamples, HasExchanged}
+use Rattle.graph_moments.specs.Moments.{one, Moment, input_at, taken_now, made_now, value_at, TaskRan, first_input, OnOutput, OnInput, OnPhaser, PutOn, TakenOn, SilentOn, OnLine, HasNotPassed, AtMost, HasTaken, HasSamples, HasExchanged}
 use Rattle.graph_moves.specs.Moves.{MayBegin, Waits}
 use Rattle.graph_moments.proofs.Entries.{IsPrefix-refl, prefix_length}
 use Rattle.graph_moves.proofs.Nexts.{has_taken-next, has_taken-stay, has_taken-peer}

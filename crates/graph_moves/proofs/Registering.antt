@@ -29,8 +29,7 @@ use Rattle.stream_lists.specs.Jobs.{Job, index_in}
 use Rattle.stream_lists.specs.Spans.{signalled_by}
 use Rattle.stream_lists.specs.Lists.{number}
 use Rattle.stream_laws.proofs.Ordered.{place-at}
-use Rattle.graph_moments.specs.Agreeing.{one}
-use Rattle.graph_moments.specs.Moments.{Moment, TaskRan, input_at, limits_at, value_at, OnOutput, OnInput}
+use Rattle.graph_moments.specs.Moments.{one, Moment, TaskRan, input_at, limits_at, value_at, OnOutput, OnInput}
 use Rattle.graph_moves.specs.Moves.{HasGrown, OthersMoved, PartStays, Registers}
 use Rattle.graph_moments.proofs.Entries.{take_full}
 use Rattle.graph_moves.proofs.Framed.{task_later}

@@ -23,8 +23,7 @@ use Rattle.graph_base.specs.Registrations.{no_registration}
 use Rattle.stream_lists.specs.Jobs.{Job, index_in}
 use Rattle.stream_lists.specs.Spans.{signalled_by}
 use Rattle.stream_lists.specs.Lists.{number}
-use Rattle.graph_moments.specs.Agreeing.{one}
-use Rattle.graph_moments.specs.Moments.{Moment, HasRun, TaskRan, OnPhaser, PutOn, TakenOn, OnOutput, OnInput, SilentOn, limits_at, value_at, input_at, numbers_on}
+use Rattle.graph_moments.specs.Moments.{one, Moment, HasRun, TaskRan, OnPhaser, PutOn, TakenOn, OnOutput, OnInput, SilentOn, limits_at, value_at, input_at, numbers_on}
 use Rattle.graph_moments.proofs.Numbers.{from_numbers, numbers_distinct}
 use Rattle.graph_turns.specs.Nexts.{registrations_at}
 use Rattle.graph_turns.specs.Reached.{IsReachable}

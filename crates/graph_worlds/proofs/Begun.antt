@@ -18,8 +18,7 @@ use Rattle.graph_base.specs.TaskLines.{IsGraph, HasEnds}
 use Rattle.stream_lists.specs.Jobs.{Job, index_in}
 use Rattle.stream_lists.specs.Lists.{number}
 use Rattle.stream_lists.specs.Spans.{signalled_by, takes_from, puts_on}
-use Rattle.graph_moments.specs.Agreeing.{one}
-use Rattle.graph_moments.specs.Moments.{Moment, HasRun, OnInput, OnOutput, PutOn, OnPhaser, TakenOn, input_at, limits_at, value_at}
+use Rattle.graph_moments.specs.Moments.{one, Moment, HasRun, OnInput, OnOutput, PutOn, OnPhaser, TakenOn, input_at, limits_at, value_at}
 use Rattle.graph_moments.proofs.OnLines.{on_phaser}
 use Rattle.graph_moments.proofs.Steps.{has_inputs}
 use Rattle.graph_turns.specs.Nexts.{next_of, waits, number_on}

@@ -15,7 +15,7 @@ use Rattle.phase_history.specs.Histories.{History, members_of, top_of, done_of, 
 use Rattle.phase_history.specs.Phases.{value_of_phase, single_of_phase, sends_of_phase, named_in_phase, list_in_phase, is_among}
 use Rattle.phase_history.specs.Refusals.{wait_refusal}
 use Rattle.phase_history.specs.Legal.{IsLegal}
-use Rattle.phase_core.specs.Slots.{KeptSlot, slot_value}
+use Rattle.phase_core.specs.Slots.{KeptSlot}
 use Rattle.phase_core.specs.Cores.{CoreState, KeepsSends, IsSlotOf, KeepsPhase, StandsFor}
 use Rattle.phase_history.proofs.Each.{Each, Each-of_picked, Each-picked, least_low, least_or_high}
 use Rattle.phase_history.proofs.MemberLemmas.{Each-entry, Each-changed}
@@ -130,10 +130,11 @@ waits_stands op old new h task n e stands found_old none complete s =
 
 -- ---- replies
 
--- the value of a phase by its slot
+-- the value of a phase by its slot: that of its part, with the single that its first signal named
 pub kept_value : {A : Type 0} (op : Operation A) (laws : AccumulateLaws op) (slot : KeptSlot A) (h : History) (p : ℕ)
     → KeepsSends op slot h p
-    → slot_value op slot ≡ value_of_phase op.value h p
+    → applied (option_and_then (λ named. named) slot.named) (op.finish slot.part)
+    ≡ value_of_phase op.value h p
 kept_value op laws slot h p keeps =
     ap (λ n. applied (option_and_then (λ named. named) n) (op.finish slot.part)) keeps.named_is
     ∙ ap (λ o. applied (single_of_phase h p) o) (laws.finishes slot.part (sends_of_phase h p) keeps.part_is)
