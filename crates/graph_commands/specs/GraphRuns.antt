@@ -1,6 +1,6 @@
 -- How a check or an evaluation of a graph ends: its status, and what stands on its streams then.
 use Rattle.std.specs.Prelude.{◌≡◌, ◌≢◌, ◌⊎◌, ℕ, ℤ, true, ◌&&◌, ◌==◌, List, [], ◌∷◌, length, codes, decimal, Some, None, string_bytes, if◌then◌else◌}
-use Rattle.std.specs.List.{find, flat_map, range_with_len}
+use Rattle.std.specs.List.{concat, find, flat_map, range_with_len}
 use Rattle.std.specs.Str.{bytes_eq}
 use Rattle.std.specs.Io.KnownBytes.{Appends}
 use Rattle.std.specs.declared.option.Option.{Option}
@@ -22,15 +22,11 @@ use Rattle.watched_io.specs.States.{WriterState, writer_state}
 use Rattle.watched_io.specs.declared.watched.Watched.{Watched}
 use Rattle.phase_status.specs.Statuses.{Says, fault_line}
 
--- the parts, one behind the other
-abbrev pub joined : List (List ℕ) → List ℕ
-joined parts = flat_map (λ part. part) parts
-
 -- ---- what is written
 
 -- how many phasers and tasks the graph has
 abbrev pub check_line : Graph → List ℕ
-check_line graph = joined (
+check_line graph = concat (
     codes "ok phasers " ∷ decimal (length graph.phasers)
     ∷ codes " tasks " ∷ decimal (length graph.tasks) ∷ codes "\n" ∷ [])
 
@@ -102,22 +98,22 @@ kind_text AnyMeets = codes "any-meets"
 
 -- the line of the fault of a line of a graph
 abbrev pub graph_line : ℕ → FaultKind → List ℕ
-graph_line line kind = joined (
+graph_line line kind = concat (
     codes "phase: graph line " ∷ decimal line ∷ codes ": " ∷ kind_text kind ∷ codes "\n" ∷ [])
 
 -- the line of a record of a source that is no sample
 abbrev pub samples_line : List ℕ → ℕ → List ℕ
-samples_line name number = joined (
+samples_line name number = concat (
     codes "phase: samples of " ∷ name ∷ codes ": record " ∷ decimal number ∷ codes "\n" ∷ [])
 
 -- the line of a value that is out of range, by its phaser or task and its number there
 abbrev pub too_big_line : List ℕ → ℕ → List ℕ
-too_big_line name n = joined (
+too_big_line name n = concat (
     codes "phase: too big at " ∷ name ∷ codes " " ∷ decimal n ∷ codes "\n" ∷ [])
 
 -- the line of a name that no sink has
 abbrev pub no_sink_line : List ℕ → List ℕ
-no_sink_line name = joined (codes "phase: no sink " ∷ name ∷ codes "\n" ∷ [])
+no_sink_line name = concat (codes "phase: no sink " ∷ name ∷ codes "\n" ∷ [])
 
 -- the line of a fault of the files
 abbrev pub job_line : JobFault → List ℕ

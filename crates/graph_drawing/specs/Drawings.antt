@@ -1,6 +1,6 @@
 -- The drawing of a graph, as text for Graphviz.
 use Rattle.std.specs.Prelude.{ℕ, List, [], ◌∷◌, ◌++◌, length, Option, None, Some, codes, decimal}
-use Rattle.std.specs.List.{flat_map, range_with_len}
+use Rattle.std.specs.List.{concat, flat_map, range_with_len}
 use Rattle.phase_base.specs.OperationWords.{operation_word}
 use Rattle.graph_base.specs.Graphs.{Graph, name_at, phaser_at, task_at}
 use Rattle.graph_base.specs.Registrations.{signalled_by}
@@ -8,10 +8,6 @@ use Rattle.graph_base.specs.declared.line.Kind.{Kind}
 use Rattle.graph_base.specs.declared.line.Kind.TheVariants.{Source, Fir, Split, Join, Peer, Sink}
 use Rattle.graph_base.specs.declared.line.Parent.{Parent}
 use Rattle.graph_base.specs.declared.place.Place.TheVariants as place
-
--- the parts, one behind the other
-abbrev pub joined : List (List ℕ) → List ℕ
-joined parts = flat_map (λ part. part) parts
 
 -- the first word of the line of a task
 abbrev pub kind_word : Kind → List ℕ
@@ -27,7 +23,7 @@ kind_word Sink = codes "sink"
 -- an ellipse with a name, and below it an operation and a bound
 abbrev pub ellipse : List ℕ → List ℕ → List ℕ → List ℕ
 ellipse name operation bound =
-    joined (codes "    \"" ∷ name ∷ codes "\" [shape=ellipse, label=\"" ∷ name ∷ codes "\\n"
+    concat (codes "    \"" ∷ name ∷ codes "\" [shape=ellipse, label=\"" ∷ name ∷ codes "\\n"
     ∷ operation ∷ codes " " ∷ bound ∷ codes "\"];\n" ∷ [])
 
 -- phaser p
@@ -39,7 +35,7 @@ phaser_node graph p =
 -- a box with a name, and below it a kind
 abbrev pub box : List ℕ → List ℕ → List ℕ
 box name kind =
-    joined (codes "    \"" ∷ name ∷ codes "\" [shape=box, label=\"" ∷ name ∷ codes "\\n"
+    concat (codes "    \"" ∷ name ∷ codes "\" [shape=box, label=\"" ∷ name ∷ codes "\\n"
     ∷ kind ∷ codes "\"];\n" ∷ [])
 
 -- task t
@@ -50,7 +46,7 @@ task_node graph t = box (name_at graph (place.Task t)) (kind_word (task_at graph
 
 -- an arrow between two names
 abbrev pub arrow : List ℕ → List ℕ → List ℕ
-arrow from to = joined (codes "    \"" ∷ from ∷ codes "\" -> \"" ∷ to ∷ codes "\";\n" ∷ [])
+arrow from to = concat (codes "    \"" ∷ from ∷ codes "\" -> \"" ∷ to ∷ codes "\";\n" ∷ [])
 
 -- task t waits on phaser p
 abbrev pub wait_arrow : Graph → ℕ → ℕ → List ℕ
@@ -63,7 +59,7 @@ signal_arrow graph t p = arrow (name_at graph (place.Task t)) (name_at graph (pl
 -- a dashed arrow between two names, with the number of a step
 abbrev pub dashed : List ℕ → List ℕ → List ℕ → List ℕ
 dashed from to step =
-    joined (codes "    \"" ∷ from ∷ codes "\" -> \"" ∷ to
+    concat (codes "    \"" ∷ from ∷ codes "\" -> \"" ∷ to
     ∷ codes "\" [style=dashed, label=\"at " ∷ step ∷ codes "\"];\n" ∷ [])
 
 -- a child is dashed to its parent, which registers it after so many steps

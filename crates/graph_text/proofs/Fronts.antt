@@ -1,25 +1,22 @@
--- The words in front that pass a test.
-use Rattle.std.proofs.Common.{ℕ, suc, ◌≡◌, ◌==◌, ◌<◌, ◌≤◌, ◌+◌, List, [], ◌∷◌, Bool, true, false, Bor, length, take, drop, get_or, refl, ap, sym, ◌∙◌, arith, drop-cons, cond, Some, None, subst, ne_eqb}
-use Rattle.std.specs.List.{take-map, drop-map}
+-- How many words in front pass a test.
+use Rattle.std.proofs.Common.{ℕ, suc, ◌≡◌, ◌==◌, ◌<◌, ◌≤◌, ◌+◌, List, [], ◌∷◌, Bool, true, false, Bor, length, take, drop, get_or, refl, ap, sym, ◌∙◌, arith, drop-cons, Some, None, subst, ne_eqb}
+use Rattle.std.specs.List.{take-map, drop-map, prefix_len}
 use Rattle.std.proofs.lemmas.List.{drop_all}
 use Rattle.graph_words.specs.Words.{Word}
 use Rattle.graph_text.specs.Plain.{plain}
-use Rattle.graph_text.specs.Inside.{front, rest, some_at}
+use Rattle.graph_text.specs.Inside.{some_at}
 
 -- ---- counted one by one
 
 front-pass : (test : Word → Bool) (w : Word) (ws : List Word) → test w ≡ true
-    → length (front test (w ∷ ws)) ≡ suc (length (front test ws))
-unfolding front
+    → prefix_len test (w ∷ ws) ≡ suc (prefix_len test ws)
 front-pass test w ws pass = rw pass refl
 
 front-stop : (test : Word → Bool) (w : Word) (ws : List Word) → test w ≡ false
-    → length (front test (w ∷ ws)) ≡ 0
-unfolding front
+    → prefix_len test (w ∷ ws) ≡ 0
 front-stop test w ws stop = rw stop refl
 
-front-none : (test : Word → Bool) → length (front test []) ≡ 0
-unfolding front
+front-none : (test : Word → Bool) → prefix_len test [] ≡ 0
 front-none test = refl
 
 cut : (xs : List (Bor Word)) (i : ℕ) (d : Bor Word) → i < length xs
@@ -31,67 +28,40 @@ cut xs i d below =
 -- one more passes
 pub front-more : (test : Word → Bool) (xs : List (Bor Word)) (i : ℕ) (d : Bor Word)
     → i < length xs → test (get_or xs i d).now ≡ true
-    → length (front test (plain (drop i xs))) ≡ suc (length (front test (plain (drop (i + 1) xs))))
+    → prefix_len test (plain (drop i xs)) ≡ suc (prefix_len test (plain (drop (i + 1) xs)))
 front-more test xs i d below pass = rw (cut xs i d below)
     (front-pass test (get_or xs i d).now (plain (drop (i + 1) xs)) pass)
 
 -- the next does not pass
 pub front-ends : (test : Word → Bool) (xs : List (Bor Word)) (i : ℕ) (d : Bor Word)
     → i < length xs → test (get_or xs i d).now ≡ false
-    → length (front test (plain (drop i xs))) ≡ 0
+    → prefix_len test (plain (drop i xs)) ≡ 0
 front-ends test xs i d below stop = rw (cut xs i d below)
     (front-stop test (get_or xs i d).now (plain (drop (i + 1) xs)) stop)
 
 -- all pass
 pub front-all : (test : Word → Bool) (xs : List (Bor Word)) (i : ℕ) → length xs ≤ i
-    → length (front test (plain (drop i xs))) ≡ 0
+    → prefix_len test (plain (drop i xs)) ≡ 0
 front-all test xs i above = rw (drop_all i xs above) (front-none test)
-
--- ---- split off
-
-take-front : (test : Word → Bool) (ws : List Word)
-    → take (length (front test ws)) ws ≡ front test ws
-unfolding front
-take-front test [] = refl
-take-front test (w ∷ ws) = at (test w) (take-front test ws)
-  where
-    at : (pass : Bool) → take (length (front test ws)) ws ≡ front test ws
-        → take (length (cond pass (w ∷ front test ws) [])) (w ∷ ws) ≡ cond pass (w ∷ front test ws) []
-    at true others = ap (λ ws. w ∷ ws) others
-    at false others = refl
-
-drop-front : (test : Word → Bool) (ws : List Word)
-    → drop (length (front test ws)) ws ≡ rest test ws
-unfolding front rest
-drop-front test [] = refl
-drop-front test (w ∷ ws) = at (test w) (drop-front test ws)
-  where
-    at : (pass : Bool) → drop (length (front test ws)) ws ≡ rest test ws
-        → drop (length (cond pass (w ∷ front test ws) [])) (w ∷ ws) ≡ cond pass (rest test ws) (w ∷ ws)
-    at true others = others
-    at false others = refl
 
 -- ---- read
 
 -- no word passes
-pub some_at-none : (test : Word → Bool) (ws : List Word) → length (front test ws) ≡ 0
+pub some_at-none : (test : Word → Bool) (ws : List Word) → prefix_len test ws ≡ 0
     → some_at test ws ≡ None
 unfolding some_at
 some_at-none test ws none = rw none refl
 
 -- the words that were split off in front
 pub some_at-split : (test : Word → Bool) (xs : List (Bor Word)) (n : ℕ)
-    → n ≡ length (front test (plain xs)) → (n ≡ 0 → ⊥)
+    → n ≡ prefix_len test (plain xs) → (n ≡ 0 → ⊥)
     → some_at test (plain xs) ≡ Some (plain (take n xs), plain (drop n xs))
 unfolding some_at
 some_at-split test xs n counted some =
     let P : ℕ → Type 0 = λ m. (m == 0) ≡ false in
-    let there : (length (front test (plain xs)) == 0) ≡ false =
-    subst P counted (ne_eqb n 0 some) in
-    let fronts : plain (take n xs) ≡ front test (plain xs) =
-    sym (take-map (λ x. x.now) n xs) ∙ ap (λ m. take m (plain xs)) counted
-    ∙ take-front test (plain xs) in
-    let rests : plain (drop n xs) ≡ rest test (plain xs) =
-    sym (drop-map (λ x. x.now) n xs) ∙ ap (λ m. drop m (plain xs)) counted
-    ∙ drop-front test (plain xs) in
-    rw (there, fronts, rests) refl
+    let there : (prefix_len test (plain xs) == 0) ≡ false = subst P counted (ne_eqb n 0 some) in
+    let fronts : plain (take n xs) ≡ take (prefix_len test (plain xs)) (plain xs) =
+    sym (take-map (λ x. x.now) n xs) ∙ ap (λ m. take m (plain xs)) counted in
+    let behind : plain (drop n xs) ≡ drop (prefix_len test (plain xs)) (plain xs) =
+    sym (drop-map (λ x. x.now) n xs) ∙ ap (λ m. drop m (plain xs)) counted in
+    rw (there, fronts, behind) refl

@@ -1,6 +1,7 @@
 -- Reading a line and spelling it agree: what is spelled is read so.
 use Rattle.std.proofs.Common.{◌≡◌, ◌==◌, Bool, true, false, List, [], ◌∷◌, ◌++◌, length, refl, ap, sym, ◌∙◌, arith, Option, Some, None, codes, IfSome, IsTrue, ne_eqb, append-nil, append_assoc}
-use Rattle.std.specs.List.{list_all}
+use Rattle.std.specs.List.{list_all, prefix_len}
+use Rattle.std.proofs.Math.Seq.{take-append_seam, drop-append_seam}
 use Rattle.std.specs.Str.{bytes_eq}
 use Rattle.graph_words.specs.Words.{Word, is_name}
 use Rattle.std.proofs.lemmas.Option.{same_Some}
@@ -11,7 +12,7 @@ use Rattle.phase_base.specs.declared.operation.Op.TheVariants.{Sum, Product, Lea
 use Rattle.graph_text.specs.Numbers.{is_nat, is_int}
 use Rattle.graph_text.specs.Decls.{Decl, phaser, task, FunctionWords, neg, abs, halve, clamp, ByWords, EndWords, BodyWords, source, fir, split, join, peer, sink}
 use Rattle.graph_text.specs.Decls.{spelling, function_words, single_words, by_words, until_words, end_words, kind_word, body_words, IsFunction, IsBody, AreEnds, AreSome, IsWellFormed, may_have_parent, Spells}
-use Rattle.graph_text.specs.Inside.{word_at, after, begins, front, rest, some_at, operation_at, clamp_at, function_named, function_at, single_at, by_at, until_at, ends_at, source_at, fir_at, split_at, join_at, peer_at, sink_at, body_at, phaser_at, task_at, line_at}
+use Rattle.graph_text.specs.Inside.{word_at, after, begins, some_at, operation_at, clamp_at, function_named, function_at, single_at, by_at, until_at, ends_at, source_at, fir_at, split_at, join_at, peer_at, sink_at, body_at, phaser_at, task_at, line_at}
 
 -- ---- words
 
@@ -20,35 +21,25 @@ word_again : (test : Word → Bool) (w : Word) (ws : List Word) → test w ≡ t
 unfolding word_at
 word_again test w ws pass = rw pass refl
 
--- no word of the rest's front passes
+-- the first of these words, if there is one, does not pass
 abbrev Stops : (Word → Bool) → List Word → Type 0
 Stops test [] = Unit {0}
 Stops test (w ∷ ws) = test w ≡ false
 
 front-again : (test : Word → Bool) (ws after : List Word) → list_all test ws ≡ true → Stops test after
-    → front test (ws ++ after) ≡ ws
-unfolding front
+    → prefix_len test (ws ++ after) ≡ length ws
 front-again test [] [] all stops = refl
 front-again test [] (w ∷ after) all stops = rw stops refl
 front-again test (w ∷ ws) after all stops =
     let here = both (test w) (list_all test ws) all in
     rw (here.0, front-again test ws after here.1 stops) refl
 
-rest-again : (test : Word → Bool) (ws after : List Word) → list_all test ws ≡ true → Stops test after
-    → rest test (ws ++ after) ≡ after
-unfolding rest
-rest-again test [] [] all stops = refl
-rest-again test [] (w ∷ after) all stops = rw stops refl
-rest-again test (w ∷ ws) after all stops =
-    let here = both (test w) (list_all test ws) all in
-    rw (here.0, rest-again test ws after here.1 stops) refl
-
 some_again : (test : Word → Bool) (ws after : List Word) → AreSome test ws → Stops test after
     → some_at test (ws ++ after) ≡ Some (ws, after)
 unfolding some_at
 some_again test ws after are stops =
     let some : (length ws == 0) ≡ false = ne_eqb (length ws) 0 (λ e. omega (arith, e, are.0)) in
-    rw (front-again test ws after are.1 stops, rest-again test ws after are.1 stops, some) refl
+    rw (front-again test ws after are.1 stops, some, take-append_seam ws after, drop-append_seam ws after) refl
 
 -- ---- parts of a line
 

@@ -1,9 +1,10 @@
 -- Reading a line and spelling it agree: what is read is spelled so.
-use Rattle.std.proofs.Common.{◌≡◌, ◌≤◌, ◌==◌, ◌&&◌, Bool, true, false, List, [], ◌∷◌, ◌++◌, length, refl, ap, sym, ◌∙◌, arith, Option, Some, None, cond, option_and_then, codes, subst, IfSome, IsTrue, rules, append-nil, if◌then◌else◌}
-use Rattle.std.specs.List.{list_all}
+use Rattle.std.proofs.Common.{◌≡◌, ◌≤◌, ◌+◌, ◌==◌, ◌&&◌, Bool, true, false, List, [], ◌∷◌, ◌++◌, length, take, drop, refl, ap, sym, ◌∙◌, arith, Option, Some, None, cond, option_and_then, codes, subst, IfSome, IsTrue, rules, append-nil, if◌then◌else◌}
+use Rattle.std.specs.List.{list_all, prefix_len}
 use Rattle.std.specs.Str.{bytes_eq}
 use Rattle.std.proofs.lemmas.Bool.Decides.{nat_tests}
-use Rattle.std.proofs.lemmas.List.{append_assoc}
+use Rattle.std.proofs.lemmas.List.{append_assoc, take-append-drop}
+use Rattle.std.proofs.lemmas.List.Folds.{length-prefix_len}
 use Rattle.std.proofs.lemmas.Option.{cond_some, same_Some}
 use Rattle.std.proofs.lemmas.Slice.Eq.{bytes_eq-Decides}
 use Rattle.graph_words.specs.Words.{Word, is_name, is_file}
@@ -13,7 +14,7 @@ use Rattle.phase_base.proofs.OperationWords.{operation-read}
 use Rattle.graph_text.specs.Numbers.{is_nat, is_int}
 use Rattle.graph_text.specs.Decls.{Decl, phaser, task, FunctionWords, neg, abs, halve, ByWords, EndWords, BodyWords}
 use Rattle.graph_text.specs.Decls.{function_words, single_words, by_words, until_words, end_words, kind_word, body_words, IsFunction, IsBody, IsBy, AreEnds, AreSome, may_have_parent, Spells}
-use Rattle.graph_text.specs.Inside.{Found, ◌>>=◌, word_at, after, begins, front, rest, some_at, operation_at, clamp_at, function_named, function_at, single_at, by_at, until_at, ends_at, source_at, fir_at, split_at, join_at, peer_at, sink_at, body_at, phaser_at, task_at, line_at}
+use Rattle.graph_text.specs.Inside.{Found, ◌>>=◌, word_at, after, begins, some_at, operation_at, clamp_at, function_named, function_at, single_at, by_at, until_at, ends_at, source_at, fir_at, split_at, join_at, peer_at, sink_at, body_at, phaser_at, task_at, line_at}
 
 -- ---- words
 
@@ -50,40 +51,31 @@ after_takes sign (w ∷ ws) rest e =
     let c = cond_some (bytes_eq w sign) ws rest e in
     rw (same w sign c.0, c.1) refl
 
-front_passes : (test : Word → Bool) (ws : List Word) → list_all test (front test ws) ≡ true
-unfolding front
+front_passes : (test : Word → Bool) (ws : List Word)
+    → list_all test (take (prefix_len test ws) ws) ≡ true
 front_passes test [] = refl
 front_passes test (w ∷ ws) = at (test w) refl (front_passes test ws)
   where
-    at : (pass : Bool) → test w ≡ pass → list_all test (front test ws) ≡ true
-        → list_all test (cond pass (w ∷ front test ws) []) ≡ true
+    at : (pass : Bool) → test w ≡ pass → list_all test (take (prefix_len test ws) ws) ≡ true
+        → list_all test (take (cond pass (1 + prefix_len test ws) 0) (w ∷ ws)) ≡ true
     at true pass others = rw pass others
     at false stop others = refl
-
-front_rest : (test : Word → Bool) (ws : List Word) → ws ≡ front test ws ++ rest test ws
-unfolding front rest
-front_rest test [] = refl
-front_rest test (w ∷ ws) = at (test w) (front_rest test ws)
-  where
-    at : (pass : Bool) → ws ≡ front test ws ++ rest test ws
-        → w ∷ ws ≡ cond pass (w ∷ front test ws) [] ++ cond pass (rest test ws) (w ∷ ws)
-    at true others = ap (λ ws. w ∷ ws) others
-    at false others = refl
 
 some_takes : (test : Word → Bool) (ws : List Word) (x : Found (List Word)) → some_at test ws ≡ Some x
     → AreSome test x.0 × (ws ≡ x.0 ++ x.1)
 unfolding some_at
-some_takes test ws x e = at (length (front test ws) == 0) refl e
+some_takes test ws x e = at (prefix_len test ws == 0) refl e
   where
-    at : (none : Bool) → (length (front test ws) == 0) ≡ none
-        → cond none None (Some (front test ws, rest test ws)) ≡ Some x
+    at : (none : Bool) → (prefix_len test ws == 0) ≡ none
+        → cond none None (Some (take (prefix_len test ws) ws, drop (prefix_len test ws) ws)) ≡ Some x
         → AreSome test x.0 × (ws ≡ x.0 ++ x.1)
     at true empty found = absurd (cc)
     at false some found =
         let P : Found (List Word) → Type 0 = λ x. AreSome test x.0 × (ws ≡ x.0 ++ x.1) in
-        let least : 1 ≤ length (front test ws) = grind (arith, nat_tests) in
-        subst P (same_Some (front test ws, rest test ws) x found)
-        ((least, front_passes test ws), front_rest test ws)
+        let counted : 1 ≤ prefix_len test ws = grind (arith, nat_tests) in
+        let least : 1 ≤ length (take (prefix_len test ws) ws) = rw (length-prefix_len test ws) counted in
+        subst P (same_Some (take (prefix_len test ws) ws, drop (prefix_len test ws) ws) x found)
+        ((least, front_passes test ws), sym (take-append-drop (prefix_len test ws) ws))
 
 -- ---- parts of a line
 

@@ -1,6 +1,7 @@
 -- How the words of a line are read, one after another. What may be relied on is the spelling: the
 -- laws of reading say that the two agree.
-use Rattle.std.specs.Prelude.{◌==◌, ◌&&◌, Bool, false, List, [], ◌∷◌, length, Option, Some, None, option_and_then, if◌then◌else◌, codes, ℕ}
+use Rattle.std.specs.Prelude.{◌==◌, ◌&&◌, Bool, false, List, [], ◌∷◌, length, take, drop, Option, Some, None, option_and_then, if◌then◌else◌, codes, ℕ}
+use Rattle.std.specs.List.{prefix_len}
 use Rattle.std.specs.Str.{bytes_eq}
 use Rattle.std.specs.Borrow.{Bor}
 use Rattle.graph_words.specs.Words.{Word, is_name, is_file}
@@ -40,20 +41,12 @@ unfoldable pub begins : Word → List Word → Bool
 begins sign [] = false
 begins sign (word ∷ words) = bytes_eq word sign
 
--- the words before the first that does not pass the test
-unfoldable pub front : (Word → Bool) → List Word → List Word
-front test [] = []
-front test (word ∷ words) = if test word then word ∷ front test words else []
-
--- the words from the first that does not pass the test on
-unfoldable pub rest : (Word → Bool) → List Word → List Word
-rest test [] = []
-rest test (word ∷ words) = if test word then rest test words else word ∷ words
-
--- as many words as pass the test, at least one
+-- the words in front that pass the test, at least one, and those behind them
 unfoldable pub some_at : (Word → Bool) → List Word → Option (Found (List Word))
 some_at test words =
-    if length (front test words) == 0 then None else Some (front test words, rest test words)
+    if prefix_len test words == 0
+    then None
+    else Some (take (prefix_len test words) words, drop (prefix_len test words) words)
 
 -- ---- parts of a line
 

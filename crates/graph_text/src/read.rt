@@ -4,12 +4,13 @@ ghost use Rattle.graph_text.specs.Plain.{plain};
 ghost use Rattle.graph_words.specs.Words.{is_name as is_name_word, is_file as is_file_word};
 ghost use Rattle.graph_text.specs.Numbers.{is_nat as is_nat_word, is_int as is_int_word};
 ghost use Rattle.graph_text.specs.Decls.{Decl, Spells, may_have_parent};
+ghost use Rattle.std.specs.List.{prefix_len};
 ghost use Rattle.graph_text.specs.Inside.{found_word, found_words, found_operation, found_function};
 ghost use Rattle.graph_text.specs.Inside.{found_single};
 ghost use Rattle.graph_text.specs.Lines.{body_of, ends_of};
 ghost use Rattle.graph_text.specs.Inside.{found_by, found_until, found_body};
 ghost use Rattle.graph_text.specs.Lines.{decl_of};
-ghost use Rattle.graph_text.specs.Inside.{word_at, after, begins, front, some_at, operation_at};
+ghost use Rattle.graph_text.specs.Inside.{word_at, after, begins, some_at, operation_at};
 ghost use Rattle.graph_text.specs.Inside.{clamp_at, function_named, function_at};
 ghost use Rattle.graph_text.specs.Inside.{single_at, by_at, until_at, ends_at, source_at, fir_at};
 ghost use Rattle.graph_text.specs.Inside.{split_at, join_at, peer_at, sink_at, body_at};
@@ -101,7 +102,7 @@ fn begins(sign: &[u8], words: &[&[u8]]) -> bool
 
 /// How many names stand in front.
 fn names_in_front(words: &[&[u8]]) -> usize
-    ensures count { result ≡ length (front is_name_word (plain words.now)) }
+    ensures count { result ≡ prefix_len is_name_word (plain words.now) }
     ensures within { result ≤ length words.now }
 {
     let mut count = 0;
@@ -128,7 +129,7 @@ fn names_at<'w, 'a>(words: &'w [&'a [u8]]) -> Option<(&'w [&'a [u8]], &'w [&'a [
 
 /// How many numbers stand in front.
 fn ints_in_front(words: &[&[u8]]) -> usize
-    ensures count { result ≡ length (front is_int_word (plain words.now)) }
+    ensures count { result ≡ prefix_len is_int_word (plain words.now) }
     ensures within { result ≤ length words.now }
 {
     let mut count = 0;

@@ -5,7 +5,8 @@ ghost use Rattle.phase_accum.specs.Sends.{IsSend};
 
 use crate::outcome::Outcome;
 
-/// An operation on the sends of a phase.
+/// An operation on the sends of a phase: a monoid of partial results, which are called parts
+/// (accumulators, IPDPS 2009).
 ///
 /// A part stands for a list of sends: `unit` for none, `of` for one, and `join` for those of two
 /// parts, one behind the other. `finish` gives the value of the list. Which value that is, is the

@@ -17,7 +17,8 @@ pub enum Mode {
 }
 
 impl Mode {
-    /// Tells whether a task in this mode may register a child in the mode `other`.
+    /// Tells whether a task in this mode may register a child in the mode `other`: the capability
+    /// rule of phasers (ICS 2008).
     pub fn holds(self, other: Mode) -> bool
         ensures { result ≡ holds self other }
     {

@@ -45,8 +45,8 @@ pub record KeepsPhase {A : Type 0} (op : Operation A) (core : CoreState A) (h : 
   pub is_slot : IsSlotOf core p slot
   pub keeps : KeepsSends op slot h p
 
--- the core is one that the history leaves: while a waiter is registered, each phase from the
--- least wait phase to the top is kept
+-- the core represents the history (the abstraction relation): it is one that the history leaves.
+-- While a waiter is registered, each phase from the least wait phase to the top is kept
 pub record StandsFor {A : Type 0} (op : Operation A) (core : CoreState A) (h : History)
     : Type 0 where
   pub legal : IsLegal core.limits h

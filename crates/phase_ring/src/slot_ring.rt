@@ -16,8 +16,9 @@ use phase_base::{BOUND_MAX, MEMBERS_MAX, SENDS_MAX};
 use std::alloc::{AllocError, Global};
 use std::marker::Model;
 
-/// A slot for each of so many phases in a row. The phase of the first is the base, which only
-/// grows: where it is given up, an empty slot for the phase behind the last takes its place.
+/// A window of phases: a slot for each of so many in a row. The phase of the first is the base. The
+/// window only advances: where the first is given up, an empty slot for the phase behind the last
+/// takes its place.
 ///
 /// A phase that is handed in lies within the ring: it is not below the base, and less than the
 /// number of slots above it.

@@ -1,7 +1,7 @@
 -- What a seat that speaks for one task owes at a give.
 use Rattle.std.proofs.Common.{◌≡◌, ℕ, false, cond, eqb, List, [], ◌∷◌, ◌++◌, Option, Some, refl, sym, ap, subst, ◌∙◌, inl}
 use Rattle.std.specs.Prelude.{is_some}
-use Rattle.turn_lock.specs.Steps.{Gives}
+use Rattle.turn_lock.specs.Steps.{GivesBack}
 use Rattle.phase_base.specs.Limits.{Limits}
 use Rattle.phase_base.specs.declared.entry.Entry.{Entry}
 use Rattle.phase_accum.specs.Operations.{Operation}
@@ -67,13 +67,13 @@ module _ {A K : Type 0} (op : Operation A) (allows : K → Allows) (terms : Term
   pub gives_own : (goes : Goes) (number : ℕ) (y : CoreState A) (w : View) (now new : History) → w ≡ turning now (me ∷ []) → IsUsed now me
       → OwnCame me now new → IsGoodAt allows terms new → StandsWithin op terms.limits y new
       → goes (turning now (me ∷ [])) (resting new (me ∷ []))
-      → Gives (HasOneHistory op allows) terms number w y (λ v z u. goes v u)
+      → GivesBack (HasOneHistory op allows) terms number w y (λ v z u. goes v u)
   gives_own goes number y w now new is used own good stands told =
       let all : History = own.later ++ now in
       let good' : IsGoodAt allows terms all = subst (λ (h : History). IsGoodAt allows terms h) own.is good in
       let stands' : StandsWithin op terms.limits y all = subst (λ (h : History). StandsWithin op terms.limits y h) own.is stands in
       let used' : IsUsed all me = IsUsed-longer terms.limits now all me good'.legal (record { later = own.later; is = refl }) used in
-      subst (λ (z : View). Gives (HasOneHistory op allows) terms number z y (λ v q u. goes v u)) (sym is)
+      subst (λ (z : View). GivesBack (HasOneHistory op allows) terms number z y (λ v q u. goes v u)) (sym is)
       (λ views k at. (
         resting all (me ∷ []),
         gives terms.limits (allows terms.rule) (StandsWithin op terms.limits) number (knowledge now (me ∷ [])) y own.later (me ∷ [])
@@ -85,7 +85,7 @@ module _ {A K : Type 0} (op : Operation A) (allows : K → Allows) (terms : Term
   -- a give after a call that made no event
   pub gives_same : (number : ℕ) (y : CoreState A) (w : View) (now : History) → w ≡ turning now (me ∷ []) → IsUsed now me
       → IsGoodAt allows terms now → StandsWithin op terms.limits y now
-      → Gives (HasOneHistory op allows) terms number w y (λ v z u. u ≡ resting (known_of v).seen (speaks_of v))
+      → GivesBack (HasOneHistory op allows) terms number w y (λ v z u. u ≡ resting (known_of v).seen (speaks_of v))
   gives_same number y w now is used good stands =
       gives_own (λ v u. u ≡ resting (known_of v).seen (speaks_of v)) number y w now now is used (own_none me now) good stands refl
 

@@ -3,7 +3,7 @@ use Rattle.std.proofs.Common.{◌≡◌, ◌≢◌, ℕ, ◌+◌, ◌<◌, true,
 use Rattle.std.specs.Prelude.{◌||◌, is_some, Result, Err}
 use Rattle.std.proofs.lemmas.Bool.Decides.{nat_tests}
 use Rattle.std.proofs.lemmas.Bool.{eqb-true, ne_eqb}
-use Rattle.turn_lock.specs.Steps.{Gives, Forks}
+use Rattle.turn_lock.specs.Steps.{GivesBack, Forks}
 use Rattle.phase_base.specs.Limits.{Limits}
 use Rattle.phase_base.specs.declared.mode.Mode.{Mode}
 use Rattle.phase_base.specs.declared.entry.Entry.{Entry}
@@ -88,10 +88,10 @@ module _ {A K : Type 0} (op : Operation A) (allows : K → Allows) (terms : Term
       → IsUsed (event ∷ now) child → w ≡ turning now (me ∷ []) → IsUsed now me → NewChild now me child
       → IsGoodAt allows terms (event ∷ now) → StandsWithin op terms.limits y (event ∷ now)
       → (goes : View → View → Type 0) → goes (turning now (me ∷ [])) (resting (event ∷ now) (me ∷ child ∷ []))
-      → Gives (HasOneHistory op allows) terms number w y (λ v z u. goes v u)
+      → GivesBack (HasOneHistory op allows) terms number w y (λ v z u. goes v u)
   gives_child number y w now event child by joined is used new good stands goes told =
       let out : eqb child me ≡ false = ne_eqb child me new.apart in
-      subst (λ (z : View). Gives (HasOneHistory op allows) terms number z y (λ v q u. goes v u)) (sym is)
+      subst (λ (z : View). GivesBack (HasOneHistory op allows) terms number z y (λ v q u. goes v u)) (sym is)
       (λ views k at. (
         resting (event ∷ now) (me ∷ child ∷ []),
         gives terms.limits (allows terms.rule) (StandsWithin op terms.limits) number (knowledge now (me ∷ [])) y (event ∷ []) (me ∷ child ∷ [])
@@ -179,7 +179,7 @@ module _ {A K : Type 0} (op : Operation A) (allows : K → Allows) (terms : Term
 
     -- the give
     pub gives_new_member : (number : ℕ) (w : View) → w ≡ turning now (me ∷ []) → IsUsed now me
-        → Gives (HasOneHistory op allows) terms number w x (λ v z u. u ≡ resting (event ∷ (known_of v).seen) (me ∷ child ∷ []))
+        → GivesBack (HasOneHistory op allows) terms number w x (λ v z u. u ≡ resting (event ∷ (known_of v).seen) (me ∷ child ∷ []))
     gives_new_member number w is used =
         gives_child op allows terms me number x w now event child b.own b.joined is used b.new b.good b.stands
         (λ v u. u ≡ resting (event ∷ (known_of v).seen) (me ∷ child ∷ [])) refl
@@ -199,7 +199,7 @@ module _ {A K : Type 0} (op : Operation A) (allows : K → Allows) (terms : Term
   -- a refused call left all as it was
   pub gives_refused : (number : ℕ) (now : History) (w : View) (old x : CoreState A) → StandsWithin op terms.limits old now → x ≡ old
       → w ≡ turning now (me ∷ []) → IsUsed now me → IsGoodAt allows terms now
-      → Gives (HasOneHistory op allows) terms number w x (λ v z u. u ≡ resting (known_of v).seen (speaks_of v))
+      → GivesBack (HasOneHistory op allows) terms number w x (λ v z u. u ≡ resting (known_of v).seen (speaks_of v))
   gives_refused number now w old x before same is used good =
       gives_same op allows terms me number x w now is used good (subst (λ (z : CoreState A). StandsWithin op terms.limits z now) (sym same) before)
 

@@ -2,7 +2,7 @@
 use Rattle.std.proofs.Common.{◌≡◌, ◌≢◌, ℕ, true, false, [], ◌∷◌, Option, Some, None, sym, ap, subst, ◌∙◌}
 use Rattle.std.specs.Prelude.{Result, Err, is_some}
 use Rattle.std.specs.Result.{result_ok}
-use Rattle.turn_lock.specs.Steps.{Gives}
+use Rattle.turn_lock.specs.Steps.{GivesBack}
 use Rattle.phase_base.specs.Members.{entry_of}
 use Rattle.phase_base.specs.declared.entry.Entry.{Entry}
 use Rattle.phase_accum.specs.Operations.{Operation}
@@ -51,7 +51,7 @@ module _ {A K : Type 0} (op : Operation A) (allows : K → Allows) (terms : Term
   -- the give
   pub gives_called : (goes : View → View → Type 0) (number : ℕ) (entry : Entry) (v : View) (w : View) (y x : CoreState A) (new : History) (expected : Entry)
       → (e : AfterTake op allows terms me entry v y w) → Called e.now new x expected → goes (turning e.now (me ∷ [])) (resting new (me ∷ []))
-      → Gives (HasOneHistory op allows) terms number w x (λ p q r. goes p r)
+      → GivesBack (HasOneHistory op allows) terms number w x (λ p q r. goes p r)
   gives_called goes number entry v w y x new expected e c told =
       gives_own op allows terms me goes number x w e.now new e.is e.used c.own c.good c.stands told
 

@@ -2,7 +2,7 @@
 ghost use Rattle.std.specs.Prelude.{◌≡◌, ℤ, List, [], ◌∷◌, true, false, IfOk, IfErr, IsOk, IsErr};
 ghost use Rattle.turn_lock.specs.Seats.{IsSeatAt, IsTurnAt, IsSameSeat};
 ghost use Rattle.turn_lock.specs.Seats.{seat_view, turn_number, turn_view, turn_value};
-ghost use Rattle.turn_lock.specs.Steps.{Gives};
+ghost use Rattle.turn_lock.specs.Steps.{GivesBack};
 ghost use Rattle.phase_accum.specs.Parcels.{StandsForSends};
 ghost use Rattle.phase_history.specs.Histories.{History};
 ghost use Rattle.phase_history.specs.Replies.{wait_reply, after_wait};
@@ -61,7 +61,7 @@ pub(crate) fn put_back<A: Accumulate, K: SignalRule, E: Plan, X: Copy>(
     told: X,
 ) -> PhaserSeat<A, K>
     requires turn { IsTurnAt (locked_place phaser.now) turn }
-    requires rule { Gives (HasOneHistory A.operation K.allows) (locked_terms phaser.now)
+    requires rule { GivesBack (HasOneHistory A.operation K.allows) (locked_terms phaser.now)
         (turn_number turn) (turn_view turn) (turn_value turn) (λ v y w. E.goes v w) }
     ensures seat { IsSeatAt (locked_place phaser.now) result }
     ensures rule { E.goes (turn_view turn) (seat_view result) }

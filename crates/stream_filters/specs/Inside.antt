@@ -33,5 +33,5 @@ pub record IsFir (f : Inside) : Type 0 where
   pub held : length f.window.items ≤ length f.taps.items
   pub short : f.limit < 2 ^ 31
   pub light : weight f.taps.items * f.limit < 2 ^ 63
-  pub recent : (j : ℕ) → j + f.wide < length f.taps.items
+  pub recent : (j : ℕ) → j + f.wide_steps_left < length f.taps.items
       → unsigned_abs (at_place f.window.items j) ≤ f.limit

@@ -26,7 +26,8 @@ fn are_taps(taps: &[i64], shift: u32) -> bool
         && taps.iter().all(|tap| tap.unsigned_abs() <= TAP_MAX)
 }
 
-/// A filter with a finite window: each answer is a weighted sum of the last samples.
+/// A filter with a finite impulse response: each answer is a weighted sum of the last samples, which
+/// stand in a window (a delay line).
 ///
 /// **Samples.** The first tap weighs the newest sample, the next the one before it, and so on.
 /// Before the first sample there are zeros.
@@ -35,8 +36,8 @@ fn are_taps(taps: &[i64], shift: u32) -> bool
 /// by one bit is -1. Where that is out of range the answer is `TooBigValue`, and the window has
 /// taken the sample all the same.
 ///
-/// **Speed.** While each sample in the window is small enough for the taps, the sums have 64 bits,
-/// and else 128. The answers are the same.
+/// **Speed.** While each sample in the window is small enough for the taps, sums are accumulated in
+/// 64 bits, and else in 128. The answers are the same.
 ///
 /// **Example.** With the taps 1, 2 and 1 and a shift of 2, the samples -1, -1 and 0 give -1 each.
 #[derive(Drop)]
@@ -48,7 +49,7 @@ pub struct Fir {
     // the greatest magnitude of samples at which 64 bits hold each sum
     limit: u64,
     // after so many more samples within the limit, the window holds no other
-    wide: usize,
+    wide_steps_left: usize,
 }
 
 impl Model for Fir {
@@ -91,7 +92,7 @@ impl Fir {
             shift,
             window,
             limit,
-            wide: 0,
+            wide_steps_left: 0,
         })
     }
 
@@ -115,10 +116,10 @@ impl Fir {
         ensures { self.new ≡ after_sample self.old x }
     {
         self.window.push_front(x);
-        self.wide = if x.unsigned_abs() > self.limit {
+        self.wide_steps_left = if x.unsigned_abs() > self.limit {
             self.taps.len()
         } else {
-            self.wide.saturating_sub(1)
+            self.wide_steps_left.saturating_sub(1)
         };
     }
 
@@ -127,7 +128,7 @@ impl Fir {
         ensures { result ≡ answer_at self.now.taps self.now.shift self.now.window }
     {
         let (front, back) = self.window.as_slices();
-        if self.wide > 0 {
+        if self.wide_steps_left > 0 {
             return wide_answer(&self.taps, self.shift, front, back);
         }
         Ok(narrow_answer(&self.taps, self.shift, front, back))

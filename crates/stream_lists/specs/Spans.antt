@@ -27,7 +27,8 @@ LooksAt Peer zero k = k ≡ 0
 LooksAt Peer (suc j) k = Unit {0}
 LooksAt kind j k = Unit {0}
 
--- how many values so many steps put on output number j: of a splitter's outputs each has its turn
+-- how many values so many steps put on (produce at) output number j: of a splitter's outputs each
+-- has its turn
 abbrev pub puts_on : Task → ℕ → ℕ → ℕ
 puts_on task steps j = of task.kind
   where
@@ -35,7 +36,8 @@ puts_on task steps j = of task.kind
     of Split = turns_below (length task.outputs) j steps
     of kind = steps
 
--- how many values so many steps take from input number k: of a joiner's inputs each has its turn
+-- how many values so many steps take from (consume at) input number k: of a joiner's inputs each
+-- has its turn
 abbrev pub takes_from : Task → ℕ → ℕ → ℕ
 takes_from task steps k = of task.kind
   where

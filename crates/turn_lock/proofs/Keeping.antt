@@ -8,7 +8,7 @@ use prog.Atomic.{either}
 use Rattle.atomic_table.proofs.Lists.{at_set, at_snoc, at_map, at_longer, set_here, set_else, set_again}
 use Rattle.atomic_table.specs.Table.{State, Me, step, Act, keeps, takes, gives, stepped, carried_after, rest, Valid, Allows, Splits, Joins}
 use Rattle.turn_lock.specs.declared.seat.Doing.{Doing}
-use Rattle.turn_lock.specs.Steps.{Takes, Gives, Looks, Forks, Merges, Busy}
+use Rattle.turn_lock.specs.Steps.{Takes, GivesBack, Looks, Forks, Merges, Busy}
 use Rattle.turn_lock.specs.Word.{doing, client, IsFree, IsTaken, Locked, tried, gave, looked}
 
 pub within : {A : Type 0} (l : List A) (i : ℕ) (a : A) → get_elem? l i ≡ some a → i < length l
@@ -278,7 +278,7 @@ module _ {N T V : Type 0} (holds : N → Option T → List V → Type 0) (name :
       × gave then (step slots 0 0 0 none) (d, (0, Some y) ∷ []) (slice_index s.words 0) (w, carried_after ((0, Some y) ∷ []) a)
 
   give_taken : (slots id : ℕ) (d : Doing N V) (y : T) (then : N → V → T → V → Type 0) (views : List (Doing N V)) → d.name ≡ Some name
-      → Gives holds name id d.client y (then name) → get_elem? views id ≡ some d
+      → GivesBack holds name id d.client y (then name) → get_elem? views id ≡ some d
       → ((j : ℕ) (u : Doing N V) → get_elem? views j ≡ some u → u.turn ≡ true → j ≡ id) → holds name None (map client views)
       → Returns slots id d y then (hub (1 ∷ []) (none ∷ []) views)
   give_taken slots id d y then views is asked at only kept =
@@ -307,7 +307,7 @@ module _ {N T V : Type 0} (holds : N → Option T → List V → Type 0) (name :
       )
 
   pub gives_back : (slots id number : ℕ) (me : Me (Option T) (Doing N V)) (d : Doing N V) (held : List (ℕ × Option T)) (y : T)
-      (then : N → V → T → V → Type 0) → id ≡ number → me ≡ (d, (0, Some y) ∷ rest held) → held ≡ (0, None) ∷ [] → d.turn ≡ true → d.name ≡ Some name → Gives holds name number d.client y (then name)
+      (then : N → V → T → V → Type 0) → id ≡ number → me ≡ (d, (0, Some y) ∷ rest held) → held ≡ (0, None) ∷ [] → d.turn ≡ true → d.name ≡ Some name → GivesBack holds name number d.client y (then name)
       → Allows (Locked holds name) slots id me 0 (λ _. 0) (gave then (step slots 0 0 0 none) me)
   gives_back slots id number me d held y then same lies was turns is asked =
       let P : ℕ × Me (Option T) (Doing N V) → Type 0 =

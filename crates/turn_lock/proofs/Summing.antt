@@ -7,7 +7,7 @@ use native.Mathlib.Decide.{ℕ_discrete}
 use lib.ListN.{get_elem?}
 use Rattle.atomic_table.proofs.Lists.{at_set, at_snoc, at_longer, set_here, set_else, set_again}
 use Rattle.turn_lock.specs.declared.counting.Tally.{Tally}
-use Rattle.turn_lock.specs.Steps.{Takes, Gives, Looks, Forks, Merges, Busy}
+use Rattle.turn_lock.specs.Steps.{Takes, GivesBack, Looks, Forks, Merges, Busy}
 use Rattle.turn_lock.specs.Counting.{tally, total, counted, IsSumOf, IsCounted, Grabs, first_half, second_half, both}
 use Rattle.turn_lock.proofs.Keeping.{within}
 
@@ -182,7 +182,7 @@ took_it views number v x s at took = dite (ℕ_discrete number s.0)
     (λ (p : number ≢ s.0). absurd (none_some v.took x (s.4 number v at p) took))
 
 pub gives_sum : (n number : ℕ) (v : Tally) (x y count : ℕ) → 0 < v.parts → v.took ≡ Some x → v.count ≤ count → y ≡ (x + (count - v.count)) % 2 ^ 64
-    → Gives IsCounted n number v y (λ u z w. w ≡ tally v.parts count None)
+    → GivesBack IsCounted n number v y (λ u z w. w ≡ tally v.parts count None)
 gives_sum n number v x y count more took up is views k at =
     let w : Tally = tally v.parts count None in
     let mine = took_it views number v x k.sum at took in

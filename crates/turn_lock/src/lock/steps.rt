@@ -2,7 +2,7 @@
 ghost use Rattle.std.specs.Prelude.{◌≡◌, [], ◌∷◌, Some, IfOk, IfErr, OnErr};
 ghost use Rattle.turn_lock.specs.Seats.{lock_name, IsSeatOf, IsTurnOf, IsSameSeat};
 ghost use Rattle.turn_lock.specs.Seats.{seat_number, seat_view, turn_number, turn_value, turn_view};
-ghost use Rattle.turn_lock.specs.Steps.{Takes, Gives, Looks, Forks, Merges, Busy};
+ghost use Rattle.turn_lock.specs.Steps.{Takes, GivesBack, Looks, Forks, Merges, Busy};
 
 use super::TurnLock;
 use super::ghost_steps::{OnGive, OnJoin, OnLook, OnSplit, OnTake};
@@ -75,7 +75,7 @@ impl<T, R: TurnRule<T>> TurnLock<T, R> {
         turn: Turn<T, R::Name, R::View>,
     ) -> Seat<T, R::Name, R::View>
         requires turn { IsTurnOf self.now turn }
-        requires rule { Gives R.holds (lock_name self.now) (turn_number turn) (turn_view turn)
+        requires rule { GivesBack R.holds (lock_name self.now) (turn_number turn) (turn_view turn)
             (turn_value turn) (M.then (lock_name self.now)) }
         ensures seat { IsSeatOf self.now result × (seat_number result ≡ turn_number turn) }
         ensures rule { M.then (lock_name self.now) (turn_view turn) (turn_value turn)

@@ -1,13 +1,13 @@
-use Rattle.std.proofs.Common.{◌≡◌, ◌+◌, length, drop}
+use Rattle.std.proofs.Common.{◌≡◌, ◌+◌, drop}
+use Rattle.std.specs.List.{prefix_len}
 use Rattle.graph_text.specs.Plain.{plain}
 use Rattle.graph_text.specs.Numbers.{is_int}
-use Rattle.graph_text.specs.Inside.{front}
 use Rattle.graph_text.proofs.read.ints_in_front.Given as goal
 
 -- the words that were passed, and those in front of the others
 abbrev pub invariant-loop-word : goal.invariant-loop-word
 invariant-loop-word l = record {
   count : l.count ≡ l.word-index;
-  front : length (front is_int (plain l.words))
-      ≡ l.count + length (front is_int (plain (drop l.word-index l.words)));
+  front : prefix_len is_int (plain l.words)
+      ≡ l.count + prefix_len is_int (plain (drop l.word-index l.words));
 }
