@@ -10,7 +10,7 @@ use Rattle.graph_text.specs.Inside.{some_at}
 
 front-pass : (test : Word → Bool) (w : Word) (ws : List Word) → test w ≡ true
     → prefix_len test (w ∷ ws) ≡ suc (prefix_len test ws)
-front-pass test w ws pass = rw pass refl
+front-pass test w ws pass = rw pass (omega arith)
 
 front-stop : (test : Word → Bool) (w : Word) (ws : List Word) → test w ≡ false
     → prefix_len test (w ∷ ws) ≡ 0

@@ -1,5 +1,5 @@
 -- Reading a line and spelling it agree: what is spelled is read so.
-use Rattle.std.proofs.Common.{◌≡◌, ◌==◌, Bool, true, false, List, [], ◌∷◌, ◌++◌, length, refl, ap, sym, ◌∙◌, arith, Option, Some, None, codes, IfSome, IsTrue, ne_eqb, append-nil, append_assoc}
+use Rattle.std.proofs.Common.{suc, ◌≡◌, ◌+◌, ◌==◌, Bool, true, false, List, [], ◌∷◌, ◌++◌, length, refl, ap, sym, ◌∙◌, arith, Option, Some, None, codes, IfSome, IsTrue, ne_eqb, append-nil, append_assoc}
 use Rattle.std.specs.List.{list_all, prefix_len}
 use Rattle.std.proofs.Math.Seq.{take-append_seam, drop-append_seam}
 use Rattle.std.specs.Str.{bytes_eq}
@@ -32,7 +32,8 @@ front-again test [] [] all stops = refl
 front-again test [] (w ∷ after) all stops = rw stops refl
 front-again test (w ∷ ws) after all stops =
     let here = both (test w) (list_all test ws) all in
-    rw (here.0, front-again test ws after here.1 stops) refl
+    let next : 1 + length ws ≡ suc (length ws) = omega arith in
+    rw (here.0, front-again test ws after here.1 stops) next
 
 some_again : (test : Word → Bool) (ws after : List Word) → AreSome test ws → Stops test after
     → some_at test (ws ++ after) ≡ Some (ws, after)

@@ -1,5 +1,5 @@
 -- Reading a line and spelling it agree: what is read is spelled so.
-use Rattle.std.proofs.Common.{◌≡◌, ◌≤◌, ◌+◌, ◌==◌, ◌&&◌, Bool, true, false, List, [], ◌∷◌, ◌++◌, length, take, drop, refl, ap, sym, ◌∙◌, arith, Option, Some, None, cond, option_and_then, codes, subst, IfSome, IsTrue, rules, append-nil, if◌then◌else◌}
+use Rattle.std.proofs.Common.{suc, ◌≡◌, ◌≤◌, ◌+◌, ◌==◌, ◌&&◌, Bool, true, false, List, [], ◌∷◌, ◌++◌, length, take, drop, refl, ap, sym, ◌∙◌, arith, Option, Some, None, cond, option_and_then, codes, subst, IfSome, IsTrue, rules, append-nil, if◌then◌else◌}
 use Rattle.std.specs.List.{list_all, prefix_len}
 use Rattle.std.specs.Str.{bytes_eq}
 use Rattle.std.proofs.lemmas.Bool.Decides.{nat_tests}
@@ -58,7 +58,9 @@ front_passes test (w ∷ ws) = at (test w) refl (front_passes test ws)
   where
     at : (pass : Bool) → test w ≡ pass → list_all test (take (prefix_len test ws) ws) ≡ true
         → list_all test (take (cond pass (1 + prefix_len test ws) 0) (w ∷ ws)) ≡ true
-    at true pass others = rw pass others
+    at true pass others =
+        let next : suc (prefix_len test ws) ≡ 1 + prefix_len test ws = omega arith in
+        subst (λ n. list_all test (take n (w ∷ ws)) ≡ true) next (rw pass others)
     at false stop others = refl
 
 some_takes : (test : Word → Bool) (ws : List Word) (x : Found (List Word)) → some_at test ws ≡ Some x
