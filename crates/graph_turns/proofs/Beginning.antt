@@ -9,7 +9,7 @@ use Rattle.phase_base.specs.declared.limits.TheConstants.{MEMBERS_MAX}
 use Rattle.phase_base.specs.declared.entry.Entry.{Entry}
 use Rattle.phase_base.specs.declared.mode.Mode.{Mode}
 use Rattle.phase_base.specs.declared.mode.Mode.TheVariants as mode
-use Rattle.phase_base.specs.Members.{Members, entry_of, without}
+use Rattle.phase_base.specs.Members.{Members, member, entry_of, without}
 use Rattle.phase_base.specs.Modes.{holds}
 use Rattle.phase_history.specs.declared.event.Event.TheVariants.{Registered}
 use Rattle.phase_history.specs.Histories.{History, IsBeginning, entry_at, founder, members_of, greatest_used, signal_phase, wait_phase, start_of}
@@ -91,8 +91,8 @@ rooted-suc job p n room is = by (root_mode job n p) refl
         ∙ filter_map-take (root_number job p) n a some in
         let was : length (members_of h) ≤ n + 1 = is.few in
         let now : length (members_of (roots_joined job p (suc n)))
-        ≡ length (members_of h ++ (a, entry) ∷ []) = ap (λ x. length (members_of x)) same in
-        let longer = length-append (members_of h) ((a, entry) ∷ []) in
+        ≡ length (members_of h ++ member a entry ∷ []) = ap (λ x. length (members_of x)) same in
+        let longer = length-append (members_of h) (member a entry ∷ []) in
         let long = length-append (filter_map (root_number job p) (range_with_len 0 n)) (a ∷ []) in
         let counted : length (members_of h)
         ≡ suc (length (filter_map (root_number job p) (range_with_len 0 n))) = is.members in
@@ -165,30 +165,30 @@ without-fewer : (ms : Members) (gone : ℕ) (entry : Entry) → entry_of ms gone
     → suc (length (without gone ms)) ≤ length ms
 without-fewer [] gone entry e = absurd (cc)
 without-fewer (m ∷ ms) gone entry e =
-    by (eqb m.0 gone) refl e (λ f. without-fewer ms gone entry f)
+    by (eqb m.task gone) refl e (λ f. without-fewer ms gone entry f)
   where
     at_most : (xs : Members) → length (without gone xs) ≤ length xs
     at_most [] = omega arith
-    at_most (x ∷ xs) = one (eqb x.0 gone) (at_most xs)
+    at_most (x ∷ xs) = one (eqb x.task gone) (at_most xs)
       where
         one : (b : Bool) → length (without gone xs) ≤ length xs
             → length (cond (not b) (x ∷ without gone xs) (without gone xs)) ≤ suc (length xs)
         one true le = omega arith
         one false le = omega arith
 
-    by : (b : Bool) → eqb m.0 gone ≡ b → cond b (Some m.1) (entry_of ms gone) ≡ Some entry
+    by : (b : Bool) → eqb m.task gone ≡ b → cond b (Some m.entry) (entry_of ms gone) ≡ Some entry
         → (entry_of ms gone ≡ Some entry → suc (length (without gone ms)) ≤ length ms)
-        → suc (length (cond (not (eqb m.0 gone)) (m ∷ without gone ms) (without gone ms)))
+        → suc (length (cond (not (eqb m.task gone)) (m ∷ without gone ms) (without gone ms)))
         ≤ suc (length ms)
     by true here f later =
         let le = at_most ms in
-        let it : cond (not (eqb m.0 gone)) (m ∷ without gone ms) (without gone ms)
+        let it : cond (not (eqb m.task gone)) (m ∷ without gone ms) (without gone ms)
         ≡ without gone ms = rw here refl in
         let same = ap length it in
         omega arith
     by false here f later =
         let le = later f in
-        let it : cond (not (eqb m.0 gone)) (m ∷ without gone ms) (without gone ms)
+        let it : cond (not (eqb m.task gone)) (m ∷ without gone ms) (without gone ms)
         ≡ m ∷ without gone ms = rw here refl in
         let same = ap length it in
         omega arith

@@ -5,7 +5,7 @@ use Rattle.std.proofs.lemmas.Bool.{eqb-true, eq-eqb, cases_lt}
 use Rattle.std.proofs.lemmas.Option.{same_Some}
 use Rattle.std.proofs.lemmas.List.{append-nil, length-append, length-map, get_or-map}
 use Rattle.std.proofs.lemmas.List.Sums.{length-filter, count_by-le-length}
-use Rattle.phase_base.specs.Members.{Members, changed_at, signalled, waited}
+use Rattle.phase_base.specs.Members.{Members, member, changed_at, signalled, waited}
 use Rattle.phase_base.specs.declared.entry.Entry.{Entry}
 use Rattle.phase_base.specs.declared.mode.Mode.{Mode}
 use Rattle.phase_accum.specs.declared.single.Single.{Single}
@@ -44,7 +44,7 @@ length-changed : (task : ℕ) (change : Entry → Entry) (ms : Members)
     → length (changed_at task change ms) ≡ length ms
 length-changed task change [] = refl
 length-changed task change (m ∷ ms) =
-    elim (eqb m.0 task) as (λ b. length (cond b ((m.0, change m.1) ∷ ms)
+    elim (eqb m.task task) as (λ b. length (cond b (member m.task (change m.entry) ∷ ms)
     (m ∷ changed_at task change ms)) ≡ suc (length ms)) [
       | true ↦ refl
       | false ↦ ap suc (length-changed task change ms)
@@ -68,8 +68,8 @@ pub drop_gives_none : (n : ℕ) → GivesNoNumber (Dropped n)
 drop_gives_none n = record {
   starts = λ h x. refl;
   members = λ h.
-      (let same = length-filter (λ x. not (eqb x.0 n)) (members_of h) in
-      let few = count_by-le-length (λ x. not (eqb x.0 n)) (members_of h) in omega arith);
+      (let same = length-filter (λ x. not (eqb x.task n)) (members_of h) in
+      let few = count_by-le-length (λ x. not (eqb x.task n)) (members_of h) in omega arith);
 }
 
 -- ---- one event that gives no number
@@ -405,11 +405,11 @@ tasks_registered job before after t p n c a mode u s only q lt = by (eqb q p) re
         let entry : Entry = entry_at mode (signal_phase (before.history p) n)
         (wait_phase (before.history p) n) in
         let now : length (members_of (after.history q))
-        ≡ length (members_of (before.history q) ++ (a, entry) ∷ []) =
+        ≡ length (members_of (before.history q) ++ member a entry ∷ []) =
         ap (λ x. length (members_of (after.history x))) same
         ∙ ap (λ h. length (members_of h)) s.here
-        ∙ ap (λ x. length (members_of (before.history x) ++ (a, entry) ∷ [])) (sym same) in
-        let one = length-append (members_of (before.history q)) ((a, entry) ∷ []) in
+        ∙ ap (λ x. length (members_of (before.history x) ++ member a entry ∷ [])) (sym same) in
+        let one = length-append (members_of (before.history q)) (member a entry ∷ []) in
         let was : length (members_of (before.history q)) ≤ length (numbers_on job before q) = few in
         let joined : length (numbers_on job after q) ≡ suc (length (numbers_on job before q)) =
         length-joined (before.number q) (after.number q) 0 (length job.graph.tasks) c a

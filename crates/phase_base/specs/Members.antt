@@ -4,36 +4,43 @@ use Rattle.std.specs.Prelude.{ℕ, ◌+◌, List, [], ◌∷◌, Option, Some, N
 use Rattle.std.specs.List.{filter}
 use Rattle.phase_base.specs.Modes.{mode_signals, mode_waits}
 use Rattle.phase_base.specs.declared.entry.Entry.{Entry}
+use Rattle.phase_base.specs.declared.member.Member.{Member}
 
--- task numbers with their entries
+-- the registered tasks, each by its number and its entry
 abbrev pub Members : Type 0
-Members = List (ℕ × Entry)
+Members = List Member
+
+-- a task with this entry, as a member
+abbrev pub member : ℕ → Entry → Member
+member task entry = record { task = task; entry = entry }
 
 -- the entry of a task, where it is a member
 abbrev pub entry_of : Members → ℕ → Option Entry
 entry_of [] task = None
-entry_of (member ∷ others) task =
-    if member.0 == task then Some member.1 else entry_of others task
+entry_of (first ∷ others) task =
+    if first.task == task then Some first.entry else entry_of others task
 
 -- the members, with the task's entry changed
 abbrev pub changed_at : ℕ → (Entry → Entry) → Members → Members
 changed_at task change [] = []
-changed_at task change (member ∷ others) =
-    if member.0 == task
-    then (member.0, change member.1) ∷ others
-    else member ∷ changed_at task change others
+changed_at task change (first ∷ others) =
+    if first.task == task
+    then record first { entry = change first.entry } ∷ others
+    else first ∷ changed_at task change others
 
 -- the members but for one task
 abbrev pub without : ℕ → Members → Members
-without task members = filter (λ m. not (m.0 == task)) members
+without task members = filter (λ m. not (m.task == task)) members
 
 -- the signal phases of the members that signal
 abbrev pub signal_phases : Members → List ℕ
-signal_phases members = map (λ m. m.1.signal_phase) (filter (λ m. mode_signals m.1.mode) members)
+signal_phases members =
+    map (λ m. m.entry.signal_phase) (filter (λ m. mode_signals m.entry.mode) members)
 
 -- the wait phases of the members that wait
 abbrev pub wait_phases : Members → List ℕ
-wait_phases members = map (λ m. m.1.wait_phase) (filter (λ m. mode_waits m.1.mode) members)
+wait_phases members =
+    map (λ m. m.entry.wait_phase) (filter (λ m. mode_waits m.entry.mode) members)
 
 -- the lesser of a number and another, where there is another
 abbrev pub lesser : ℕ → Option ℕ → ℕ

@@ -6,12 +6,14 @@
 mod entry;
 pub mod laws;
 mod limits;
+mod member;
 mod mode;
 mod operation;
 mod spec;
 
 pub use entry::Entry;
 pub use limits::{BOUND_MAX, MEMBERS_MAX, PHASES_MAX, SENDS_MAX};
+pub use member::Member;
 pub use mode::Mode;
 pub use operation::Op;
 pub use spec::{Spec, SpecFault};

@@ -7,6 +7,7 @@ use Rattle.std.proofs.lemmas.Bool.{ne_eqb, le-ltb}
 use Rattle.phase_base.specs.Limits.{Limits}
 use Rattle.phase_base.specs.Modes.{mode_waits}
 use Rattle.phase_base.specs.declared.entry.Entry.{Entry}
+use Rattle.phase_base.specs.declared.member.Member.{Member}
 use Rattle.phase_accum.specs.Values.{applied}
 use Rattle.phase_accum.specs.Operations.{Operation, AccumulateLaws}
 use Rattle.phase_history.specs.declared.event.Event.TheVariants.{Made, Registered, RegisteredNow, Signalled, Waited, Dropped}
@@ -74,22 +75,22 @@ pub slowest_before : (ms : Members) (task n slowest : ℕ) (e : Entry) → entry
 slowest_before ms task n slowest e found waits least_new =
     elim (least (wait_phases ms)) as (λ o. (least (wait_phases ms) ≡ o) → (b : ℕ) × (o ≡ Some b) × (b ≤ slowest)) [
       | None ↦ λ none.
-          let each : Each (λ (m : ℕ × Entry). mode_waits m.1.mode ≡ true → ⊥) ms =
-          Each-of_picked (λ x. ⊥) (λ (m : ℕ × Entry). m.1.wait_phase)
-          (λ (m : ℕ × Entry). mode_waits m.1.mode) ms (none_least (λ x. ⊥) (wait_phases ms) none) in
+          let each : Each (λ (m : Member). mode_waits m.entry.mode ≡ true → ⊥) ms =
+          Each-of_picked (λ x. ⊥) (λ (m : Member). m.entry.wait_phase)
+          (λ (m : Member). mode_waits m.entry.mode) ms (none_least (λ x. ⊥) (wait_phases ms) none) in
           let no_waiter : mode_waits e.mode ≡ true → ⊥ = Each-entry _ ms task e found each in
           absurd (no_waiter waits)
       | Some b ↦ λ some.
-          let each : Each (λ (m : ℕ × Entry). mode_waits m.1.mode ≡ true → b ≤ m.1.wait_phase) ms =
-          Each-of_picked (λ x. b ≤ x) (λ (m : ℕ × Entry). m.1.wait_phase)
-          (λ (m : ℕ × Entry). mode_waits m.1.mode) ms (least_low (wait_phases ms) b some) in
-          let each_new : Each (λ (m : ℕ × Entry). mode_waits m.1.mode ≡ true → b ≤ m.1.wait_phase)
+          let each : Each (λ (m : Member). mode_waits m.entry.mode ≡ true → b ≤ m.entry.wait_phase) ms =
+          Each-of_picked (λ x. b ≤ x) (λ (m : Member). m.entry.wait_phase)
+          (λ (m : Member). mode_waits m.entry.mode) ms (least_low (wait_phases ms) b some) in
+          let each_new : Each (λ (m : Member). mode_waits m.entry.mode ≡ true → b ≤ m.entry.wait_phase)
           (changed_at task (waited n) ms) =
           Each-changed _ _ task (waited n) e ms found (λ m h. h) (λ h w. (let a : b ≤ e.wait_phase = h w in omega arith)) each in
           let low : b ≤ unwrap_or (least (wait_phases (changed_at task (waited n) ms))) b =
           least_or_high (wait_phases (changed_at task (waited n) ms)) b b
-          (Each-picked (λ x. b ≤ x) (λ (m : ℕ × Entry). m.1.wait_phase)
-          (λ (m : ℕ × Entry). mode_waits m.1.mode) (changed_at task (waited n) ms) each_new) (omega arith) in
+          (Each-picked (λ x. b ≤ x) (λ (m : Member). m.entry.wait_phase)
+          (λ (m : Member). mode_waits m.entry.mode) (changed_at task (waited n) ms) each_new) (omega arith) in
           let is : unwrap_or (least (wait_phases (changed_at task (waited n) ms))) b ≡ slowest =
           ap (λ o. unwrap_or o b) least_new in
           (b, refl, omega arith)

@@ -7,7 +7,7 @@ use Rattle.phase_base.specs.Limits.{Limits}
 use Rattle.phase_base.specs.Modes.{holds, mode_waits}
 use Rattle.phase_base.specs.declared.mode.Mode.{Mode}
 use Rattle.phase_base.specs.declared.entry.Entry.{Entry}
-use Rattle.phase_base.specs.Members.{entry_of, signal_phases, wait_phases}
+use Rattle.phase_base.specs.Members.{member, entry_of, signal_phases, wait_phases}
 use Rattle.phase_accum.specs.Operations.{Operation}
 use Rattle.phase_history.specs.declared.event.Event.TheVariants.{RegisteredNow}
 use Rattle.phase_history.specs.Histories.{History, entry_at, members_of, member_entry, done_of, greatest_used}
@@ -81,9 +81,9 @@ registers_now {A} op reg new_reg b new h parent child e stands boarded found non
     let d : b.done ≡ done_of h = done_of_boarded op reg b h stands boarded in
     let there : StandsFor op (core_with want b.limits new.ring b.top) (event ∷ h) = record {
       legal = (stands.legal, none);
-      members_are = ap (λ ms. ms ++ (child, x) ∷ []) stands.members_are
-          ∙ ap (λ (y : Entry). members_of h ++ (child, entry_at Wait y.signal_phase b.done) ∷ []) (sym (member_entry_is (members_of h) parent e found_h))
-          ∙ ap (λ n. members_of h ++ (child, entry_at Wait (member_entry (members_of h) parent).signal_phase n) ∷ []) d;
+      members_are = ap (λ ms. ms ++ member child x ∷ []) stands.members_are
+          ∙ ap (λ (y : Entry). members_of h ++ member child (entry_at Wait y.signal_phase b.done) ∷ []) (sym (member_entry_is (members_of h) parent e found_h))
+          ∙ ap (λ n. members_of h ++ member child (entry_at Wait (member_entry (members_of h) parent).signal_phase n) ∷ []) d;
       greatest_is = omega arith;
       top_is = stands.top_is;
       phases_are = λ slowest p waiter behind below.

@@ -5,7 +5,8 @@ use Rattle.std.proofs.lemmas.Option.{same_Some}
 use Rattle.std.proofs.lemmas.Bool.{cases_eq, cases_lt, eq-eqb, ne_eqb}
 use Rattle.phase_base.specs.Modes.{mode_signals, mode_waits}
 use Rattle.phase_base.specs.declared.entry.Entry.{Entry}
-use Rattle.phase_base.specs.Members.{Members, entry_of, changed_at, signal_phases, wait_phases, least, lesser, signalled, waited}
+use Rattle.phase_base.specs.declared.member.Member.{Member}
+use Rattle.phase_base.specs.Members.{Members, member, entry_of, changed_at, signal_phases, wait_phases, least, lesser, signalled, waited}
 use Rattle.phase_ring.specs.Standings.{is, count_of}
 use Rattle.phase_history.proofs.Each.{Each}
 
@@ -73,23 +74,23 @@ pub signallers-signalled : (ms : Members) (task p by : ℕ) (e : Entry) → entr
     ≡ count_of p (signal_phases ms) + is (e.signal_phase + by) p
 signallers-signalled [] task p by e found signals = absurd (cc)
 signallers-signalled (m ∷ ms) task p by e found signals =
-    elim (eqb m.0 task) as (λ b. (cond b (Some m.1) (entry_of ms task) ≡ Some e)
-    → count_of p (signal_phases (cond b ((m.0, signalled by m.1) ∷ ms) (m ∷ changed_at task (signalled by) ms))) + is e.signal_phase p
+    elim (eqb m.task task) as (λ b. (cond b (Some m.entry) (entry_of ms task) ≡ Some e)
+    → count_of p (signal_phases (cond b (member m.task (signalled by m.entry) ∷ ms) (m ∷ changed_at task (signalled by) ms))) + is e.signal_phase p
     ≡ count_of p (signal_phases (m ∷ ms)) + is (e.signal_phase + by) p) [
       | true ↦ λ f.
-          let same : m.1 ≡ e = same_Some _ _ f in
-          let mode : mode_signals m.1.mode ≡ true = ap (λ (x : Entry). mode_signals x.mode) same ∙ signals in
-          let s : m.1.signal_phase ≡ e.signal_phase = ap (λ (x : Entry). x.signal_phase) same in
+          let same : m.entry ≡ e = same_Some _ _ f in
+          let mode : mode_signals m.entry.mode ≡ true = ap (λ (x : Entry). mode_signals x.mode) same ∙ signals in
+          let s : m.entry.signal_phase ≡ e.signal_phase = ap (λ (x : Entry). x.signal_phase) same in
           let S : ℕ → Type 0 = λ k. (is (k + by) p + count_of p (signal_phases ms)) + is e.signal_phase p ≡ (is k p + count_of p (signal_phases ms)) + is (e.signal_phase + by) p in
           let B : Bool → Type 0 = λ b.
-          count_of p (map (λ (x : ℕ × Entry). x.1.signal_phase) (cond b ((m.0, signalled by m.1) ∷ filter (λ (x : ℕ × Entry). mode_signals x.1.mode) ms) (filter (λ (x : ℕ × Entry). mode_signals x.1.mode) ms))) + is e.signal_phase p
-          ≡ count_of p (map (λ (x : ℕ × Entry). x.1.signal_phase) (cond b (m ∷ filter (λ (x : ℕ × Entry). mode_signals x.1.mode) ms) (filter (λ (x : ℕ × Entry). mode_signals x.1.mode) ms))) + is (e.signal_phase + by) p in
+          count_of p (map (λ (x : Member). x.entry.signal_phase) (cond b (member m.task (signalled by m.entry) ∷ filter (λ (x : Member). mode_signals x.entry.mode) ms) (filter (λ (x : Member). mode_signals x.entry.mode) ms))) + is e.signal_phase p
+          ≡ count_of p (map (λ (x : Member). x.entry.signal_phase) (cond b (m ∷ filter (λ (x : Member). mode_signals x.entry.mode) ms) (filter (λ (x : Member). mode_signals x.entry.mode) ms))) + is (e.signal_phase + by) p in
           subst B (sym mode) (subst S (sym s) (omega arith))
       | false ↦ λ f.
           let rest = signallers-signalled ms task p by e f signals in
-          elim (mode_signals m.1.mode) as (λ b.
-          count_of p (map (λ (x : ℕ × Entry). x.1.signal_phase) (cond b (m ∷ filter (λ (x : ℕ × Entry). mode_signals x.1.mode) (changed_at task (signalled by) ms)) (filter (λ (x : ℕ × Entry). mode_signals x.1.mode) (changed_at task (signalled by) ms)))) + is e.signal_phase p
-          ≡ count_of p (map (λ (x : ℕ × Entry). x.1.signal_phase) (cond b (m ∷ filter (λ (x : ℕ × Entry). mode_signals x.1.mode) ms) (filter (λ (x : ℕ × Entry). mode_signals x.1.mode) ms))) + is (e.signal_phase + by) p) [
+          elim (mode_signals m.entry.mode) as (λ b.
+          count_of p (map (λ (x : Member). x.entry.signal_phase) (cond b (m ∷ filter (λ (x : Member). mode_signals x.entry.mode) (changed_at task (signalled by) ms)) (filter (λ (x : Member). mode_signals x.entry.mode) (changed_at task (signalled by) ms)))) + is e.signal_phase p
+          ≡ count_of p (map (λ (x : Member). x.entry.signal_phase) (cond b (m ∷ filter (λ (x : Member). mode_signals x.entry.mode) ms) (filter (λ (x : Member). mode_signals x.entry.mode) ms))) + is (e.signal_phase + by) p) [
             | true ↦ omega arith
             | false ↦ rest
           ]
@@ -101,23 +102,23 @@ pub waiters-waited : (ms : Members) (task p by : ℕ) (e : Entry) → entry_of m
     ≡ count_of p (wait_phases ms) + is (e.wait_phase + by) p
 waiters-waited [] task p by e found waits = absurd (cc)
 waiters-waited (m ∷ ms) task p by e found waits =
-    elim (eqb m.0 task) as (λ b. (cond b (Some m.1) (entry_of ms task) ≡ Some e)
-    → count_of p (wait_phases (cond b ((m.0, waited by m.1) ∷ ms) (m ∷ changed_at task (waited by) ms))) + is e.wait_phase p
+    elim (eqb m.task task) as (λ b. (cond b (Some m.entry) (entry_of ms task) ≡ Some e)
+    → count_of p (wait_phases (cond b (member m.task (waited by m.entry) ∷ ms) (m ∷ changed_at task (waited by) ms))) + is e.wait_phase p
     ≡ count_of p (wait_phases (m ∷ ms)) + is (e.wait_phase + by) p) [
       | true ↦ λ f.
-          let same : m.1 ≡ e = same_Some _ _ f in
-          let mode : mode_waits m.1.mode ≡ true = ap (λ (x : Entry). mode_waits x.mode) same ∙ waits in
-          let s : m.1.wait_phase ≡ e.wait_phase = ap (λ (x : Entry). x.wait_phase) same in
+          let same : m.entry ≡ e = same_Some _ _ f in
+          let mode : mode_waits m.entry.mode ≡ true = ap (λ (x : Entry). mode_waits x.mode) same ∙ waits in
+          let s : m.entry.wait_phase ≡ e.wait_phase = ap (λ (x : Entry). x.wait_phase) same in
           let S : ℕ → Type 0 = λ k. (is (k + by) p + count_of p (wait_phases ms)) + is e.wait_phase p ≡ (is k p + count_of p (wait_phases ms)) + is (e.wait_phase + by) p in
           let B : Bool → Type 0 = λ b.
-          count_of p (map (λ (x : ℕ × Entry). x.1.wait_phase) (cond b ((m.0, waited by m.1) ∷ filter (λ (x : ℕ × Entry). mode_waits x.1.mode) ms) (filter (λ (x : ℕ × Entry). mode_waits x.1.mode) ms))) + is e.wait_phase p
-          ≡ count_of p (map (λ (x : ℕ × Entry). x.1.wait_phase) (cond b (m ∷ filter (λ (x : ℕ × Entry). mode_waits x.1.mode) ms) (filter (λ (x : ℕ × Entry). mode_waits x.1.mode) ms))) + is (e.wait_phase + by) p in
+          count_of p (map (λ (x : Member). x.entry.wait_phase) (cond b (member m.task (waited by m.entry) ∷ filter (λ (x : Member). mode_waits x.entry.mode) ms) (filter (λ (x : Member). mode_waits x.entry.mode) ms))) + is e.wait_phase p
+          ≡ count_of p (map (λ (x : Member). x.entry.wait_phase) (cond b (m ∷ filter (λ (x : Member). mode_waits x.entry.mode) ms) (filter (λ (x : Member). mode_waits x.entry.mode) ms))) + is (e.wait_phase + by) p in
           subst B (sym mode) (subst S (sym s) (omega arith))
       | false ↦ λ f.
           let rest = waiters-waited ms task p by e f waits in
-          elim (mode_waits m.1.mode) as (λ b.
-          count_of p (map (λ (x : ℕ × Entry). x.1.wait_phase) (cond b (m ∷ filter (λ (x : ℕ × Entry). mode_waits x.1.mode) (changed_at task (waited by) ms)) (filter (λ (x : ℕ × Entry). mode_waits x.1.mode) (changed_at task (waited by) ms)))) + is e.wait_phase p
-          ≡ count_of p (map (λ (x : ℕ × Entry). x.1.wait_phase) (cond b (m ∷ filter (λ (x : ℕ × Entry). mode_waits x.1.mode) ms) (filter (λ (x : ℕ × Entry). mode_waits x.1.mode) ms))) + is (e.wait_phase + by) p) [
+          elim (mode_waits m.entry.mode) as (λ b.
+          count_of p (map (λ (x : Member). x.entry.wait_phase) (cond b (m ∷ filter (λ (x : Member). mode_waits x.entry.mode) (changed_at task (waited by) ms)) (filter (λ (x : Member). mode_waits x.entry.mode) (changed_at task (waited by) ms)))) + is e.wait_phase p
+          ≡ count_of p (map (λ (x : Member). x.entry.wait_phase) (cond b (m ∷ filter (λ (x : Member). mode_waits x.entry.mode) ms) (filter (λ (x : Member). mode_waits x.entry.mode) ms))) + is (e.wait_phase + by) p) [
             | true ↦ omega arith
             | false ↦ rest
           ]
@@ -143,7 +144,7 @@ pub signal_phases-few : (ms : Members) → length (signal_phases ms) ≤ length 
 signal_phases-few [] = omega arith
 signal_phases-few (m ∷ ms) =
     let rest = signal_phases-few ms in
-    elim (mode_signals m.1.mode) as (λ b. length (map (λ (x : ℕ × Entry). x.1.signal_phase) (cond b (m ∷ filter (λ (x : ℕ × Entry). mode_signals x.1.mode) ms) (filter (λ (x : ℕ × Entry). mode_signals x.1.mode) ms))) ≤ length (m ∷ ms)) [
+    elim (mode_signals m.entry.mode) as (λ b. length (map (λ (x : Member). x.entry.signal_phase) (cond b (m ∷ filter (λ (x : Member). mode_signals x.entry.mode) ms) (filter (λ (x : Member). mode_signals x.entry.mode) ms))) ≤ length (m ∷ ms)) [
       | true ↦ omega arith
       | false ↦ omega arith
     ]
@@ -152,7 +153,7 @@ pub wait_phases-few : (ms : Members) → length (wait_phases ms) ≤ length ms
 wait_phases-few [] = omega arith
 wait_phases-few (m ∷ ms) =
     let rest = wait_phases-few ms in
-    elim (mode_waits m.1.mode) as (λ b. length (map (λ (x : ℕ × Entry). x.1.wait_phase) (cond b (m ∷ filter (λ (x : ℕ × Entry). mode_waits x.1.mode) ms) (filter (λ (x : ℕ × Entry). mode_waits x.1.mode) ms))) ≤ length (m ∷ ms)) [
+    elim (mode_waits m.entry.mode) as (λ b. length (map (λ (x : Member). x.entry.wait_phase) (cond b (m ∷ filter (λ (x : Member). mode_waits x.entry.mode) ms) (filter (λ (x : Member). mode_waits x.entry.mode) ms))) ≤ length (m ∷ ms)) [
       | true ↦ omega arith
       | false ↦ omega arith
     ]

@@ -3,7 +3,8 @@ use Rattle.std.proofs.Common.{◌≡◌, ℕ, ◌+◌, ◌<◌, ◌≤◌, Bool,
 use Rattle.std.specs.List.{filter}
 use Rattle.phase_base.specs.Modes.{mode_signals, mode_waits}
 use Rattle.phase_base.specs.declared.entry.Entry.{Entry}
-use Rattle.phase_base.specs.Members.{Members, entry_of, without, signal_phases, wait_phases}
+use Rattle.phase_base.specs.declared.member.Member.{Member}
+use Rattle.phase_base.specs.Members.{Members, member, entry_of, without, signal_phases, wait_phases}
 use Rattle.phase_registry.specs.Rosters.{AreRising}
 use Rattle.phase_registry.proofs.Weights.{weigh, weigh-push, weigh-without, AreApart-from_rising, length-picked}
 use Rattle.phase_ring.specs.declared.role.Role.{Role}
@@ -18,15 +19,15 @@ phases_of Waiter ms = wait_phases ms
 
 -- how often a phase stands among those of the members that pass a test, as a sum
 count_of-picked : (test : Entry → Bool) (value : Entry → ℕ) (p : ℕ) (ms : Members)
-    → count_of p (map (λ (m : ℕ × Entry). value m.1) (filter (λ (m : ℕ × Entry). test m.1) ms))
+    → count_of p (map (λ (m : Member). value m.entry) (filter (λ (m : Member). test m.entry) ms))
     ≡ weigh (λ e. cond (test e) (is (value e) p) 0) ms
 count_of-picked test value p [] = refl
 count_of-picked test value p (m ∷ ms) =
     let rest = count_of-picked test value p ms in
-    elim (test m.1) as (λ b. count_of p (map (λ (x : ℕ × Entry). value x.1)
-    (cond b (m ∷ filter (λ (x : ℕ × Entry). test x.1) ms)
-    (filter (λ (x : ℕ × Entry). test x.1) ms)))
-    ≡ cond b (is (value m.1) p) 0 + weigh (λ e. cond (test e) (is (value e) p) 0) ms) [
+    elim (test m.entry) as (λ b. count_of p (map (λ (x : Member). value x.entry)
+    (cond b (m ∷ filter (λ (x : Member). test x.entry) ms)
+    (filter (λ (x : Member). test x.entry) ms)))
+    ≡ cond b (is (value m.entry) p) 0 + weigh (λ e. cond (test e) (is (value e) p) 0) ms) [
       | true ↦ omega arith
       | false ↦ omega arith
     ]
@@ -39,10 +40,10 @@ counts-weigh Waiter p ms = count_of-picked (λ e. mode_waits e.mode) (λ e. e.wa
 
 -- one more member
 pub counts-push : (role : Role) (p : ℕ) (ms : Members) (child : ℕ) (e : Entry)
-    → count_of p (phases_of role (ms ++ (child, e) ∷ []))
+    → count_of p (phases_of role (ms ++ member child e ∷ []))
     ≡ count_of p (phases_of role ms) + counted role e p
 counts-push role p ms child e =
-    counts-weigh role p (ms ++ (child, e) ∷ []) ∙ weigh-push (λ x. counted role x p) ms child e
+    counts-weigh role p (ms ++ member child e ∷ []) ∙ weigh-push (λ x. counted role x p) ms child e
     ∙ ap (λ n. n + counted role e p) (sym (counts-weigh role p ms))
 
 -- one member less

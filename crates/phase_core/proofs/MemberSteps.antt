@@ -5,10 +5,11 @@ use Rattle.phase_base.specs.Limits.{Limits}
 use Rattle.phase_base.specs.Modes.{mode_waits, holds}
 use Rattle.phase_base.specs.declared.mode.Mode.{Mode}
 use Rattle.phase_base.specs.declared.entry.Entry.{Entry}
+use Rattle.phase_base.specs.declared.member.Member.{Member}
 use Rattle.phase_accum.specs.Operations.{Operation}
 use Rattle.phase_history.specs.declared.event.Event.TheVariants.{Registered, Dropped}
 use Rattle.phase_core.specs.Slots.{KeptSlot}
-use Rattle.phase_base.specs.Members.{Members, entry_of, without, wait_phases, least}
+use Rattle.phase_base.specs.Members.{Members, member, entry_of, without, wait_phases, least}
 use Rattle.phase_history.specs.Histories.{History, members_of, entry_at}
 use Rattle.phase_history.specs.Refusals.{register_refusal, drop_refusal}
 use Rattle.phase_history.specs.Legal.{IsLegal}
@@ -21,25 +22,25 @@ use Rattle.phase_core.proofs.CoreSteps.{none_least}
 
 -- where some waiter is left, the slowest one was there before
 slowest_kept : (ms more : Members)
-    → ((b : ℕ) → Each (λ (m : ℕ × Entry). mode_waits m.1.mode ≡ true → b ≤ m.1.wait_phase) ms
-    → Each (λ (m : ℕ × Entry). mode_waits m.1.mode ≡ true → b ≤ m.1.wait_phase) more)
-    → (Each (λ (m : ℕ × Entry). mode_waits m.1.mode ≡ true → ⊥) ms
-    → Each (λ (m : ℕ × Entry). mode_waits m.1.mode ≡ true → ⊥) more)
+    → ((b : ℕ) → Each (λ (m : Member). mode_waits m.entry.mode ≡ true → b ≤ m.entry.wait_phase) ms
+    → Each (λ (m : Member). mode_waits m.entry.mode ≡ true → b ≤ m.entry.wait_phase) more)
+    → (Each (λ (m : Member). mode_waits m.entry.mode ≡ true → ⊥) ms
+    → Each (λ (m : Member). mode_waits m.entry.mode ≡ true → ⊥) more)
     → (slowest : ℕ) → least (wait_phases more) ≡ Some slowest
     → (b : ℕ) × (least (wait_phases ms) ≡ Some b) × (b ≤ slowest)
 slowest_kept ms more low none slowest least_new =
     elim (least (wait_phases ms)) as (λ o. (least (wait_phases ms) ≡ o) → (b : ℕ) × (o ≡ Some b) × (b ≤ slowest)) [
       | None ↦ λ no.
-          let each = Each-of_picked (λ x. ⊥) (λ (m : ℕ × Entry). m.1.wait_phase)
-          (λ (m : ℕ × Entry). mode_waits m.1.mode) ms (none_least (λ x. ⊥) (wait_phases ms) no) in
-          let picked = Each-picked (λ x. ⊥) (λ (m : ℕ × Entry). m.1.wait_phase)
-          (λ (m : ℕ × Entry). mode_waits m.1.mode) more (none each) in
+          let each = Each-of_picked (λ x. ⊥) (λ (m : Member). m.entry.wait_phase)
+          (λ (m : Member). mode_waits m.entry.mode) ms (none_least (λ x. ⊥) (wait_phases ms) no) in
+          let picked = Each-picked (λ x. ⊥) (λ (m : Member). m.entry.wait_phase)
+          (λ (m : Member). mode_waits m.entry.mode) more (none each) in
           absurd (some_least (wait_phases more) slowest least_new picked)
       | Some b ↦ λ some.
-          let each = Each-of_picked (λ x. b ≤ x) (λ (m : ℕ × Entry). m.1.wait_phase)
-          (λ (m : ℕ × Entry). mode_waits m.1.mode) ms (least_low (wait_phases ms) b some) in
-          let picked = Each-picked (λ x. b ≤ x) (λ (m : ℕ × Entry). m.1.wait_phase)
-          (λ (m : ℕ × Entry). mode_waits m.1.mode) more (low b each) in
+          let each = Each-of_picked (λ x. b ≤ x) (λ (m : Member). m.entry.wait_phase)
+          (λ (m : Member). mode_waits m.entry.mode) ms (least_low (wait_phases ms) b some) in
+          let picked = Each-picked (λ x. b ≤ x) (λ (m : Member). m.entry.wait_phase)
+          (λ (m : Member). mode_waits m.entry.mode) more (low b each) in
           let high : b ≤ unwrap_or (least (wait_phases more)) b = least_or_high (wait_phases more) b b picked (omega arith) in
           let is : unwrap_or (least (wait_phases more)) b ≡ slowest = ap (λ o. unwrap_or o b) least_new in
           (b, refl, omega arith)
@@ -66,7 +67,7 @@ pub drops_stands : {A : Type 0} (op : Operation A) (old new : CoreState A) (h : 
     → StandsFor op new (Dropped task ∷ h)
 drops_stands op old new h task stands none s =
     let L : Limits → Type 0 = λ l. IsLegal l (Dropped task ∷ h) in
-    let test : ℕ × Entry → Bool = λ m. not (eqb m.0 task) in
+    let test : Member → Bool = λ m. not (eqb m.task task) in
     record {
       legal = subst L (sym s.limits_same) (stands.legal, none);
       members_are = s.members_are ∙ ap (λ ms. without task ms) stands.members_are;
@@ -93,7 +94,7 @@ drops_stands op old new h task stands none s =
 pub record Joins {A : Type 0} (old new : CoreState A) (child : ℕ) (mode : Mode) (parent : Entry) : Type 0 where
   pub limits_same : new.limits ≡ old.limits
   pub greatest_is : new.greatest ≡ max child old.greatest
-  pub members_are : new.members ≡ old.members ++ (child, entry_at mode parent.signal_phase parent.wait_phase) ∷ []
+  pub members_are : new.members ≡ old.members ++ member child (entry_at mode parent.signal_phase parent.wait_phase) ∷ []
   pub top_same : new.top ≡ old.top
   pub kept : (slowest p : ℕ) (slot : KeptSlot A) → least (wait_phases new.members) ≡ Some slowest → slowest ≤ p
       → IsSlotOf old p slot → IsSlotOf new p slot
@@ -113,19 +114,19 @@ joins_stands op old new h parent child mode e stands found_old none s =
     let x : Entry = entry_at mode e.signal_phase e.wait_phase in
     record {
       legal = subst L (sym s.limits_same) (stands.legal, none);
-      members_are = s.members_are ∙ ap (λ ms. ms ++ (child, x) ∷ []) stands.members_are
-          ∙ ap (λ (y : Entry). members_of h ++ (child, entry_at mode y.signal_phase y.wait_phase) ∷ [])
+      members_are = s.members_are ∙ ap (λ ms. ms ++ member child x ∷ []) stands.members_are
+          ∙ ap (λ (y : Entry). members_of h ++ member child (entry_at mode y.signal_phase y.wait_phase) ∷ [])
           (sym (member_entry_is (members_of h) parent e found));
       greatest_is = s.greatest_is ∙ ap (λ g. max child g) stands.greatest_is;
       top_is = s.top_same ∙ stands.top_is;
       phases_are = λ slowest p waiter behind below.
-          let more = old.members ++ (child, x) ∷ [] in
+          let more = old.members ++ member child x ∷ [] in
           let left : least (wait_phases more) ≡ Some slowest =
           sym (ap (λ ms. least (wait_phases ms)) s.members_are) ∙ waiter in
           let b = slowest_kept old.members more
-          (λ b each. Each-push _ old.members (child, x) each
+          (λ b each. Each-push _ old.members (member child x) each
           (λ w. (Each-entry _ old.members parent e found_old each) (holds_waits e.mode mode allowed w)))
-          (λ each. Each-push _ old.members (child, x) each
+          (λ each. Each-push _ old.members (member child x) each
           (λ w. (Each-entry _ old.members parent e found_old each) (holds_waits e.mode mode allowed w)))
           slowest left in
           let low : b.0 ≤ slowest = b.2 in

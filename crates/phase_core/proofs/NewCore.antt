@@ -2,7 +2,7 @@
 use Rattle.std.proofs.Common.{◌≡◌, ℕ, [], ◌∷◌, Option, Some, None, unwrap_or, refl, sym, ◌∙◌, ap, subst, arith, inl, inr}
 use Rattle.std.specs.Prelude.{IsSome}
 use Rattle.phase_base.specs.Limits.{AreLimits}
-use Rattle.phase_base.specs.Members.{signal_phases, least}
+use Rattle.phase_base.specs.Members.{member, signal_phases, least}
 use Rattle.phase_accum.specs.Operations.{Operation}
 use Rattle.phase_history.specs.declared.event.Event.TheVariants.{Made}
 use Rattle.phase_history.specs.Histories.{History, founder, members_of, done_of}
@@ -25,11 +25,11 @@ pub record IsNew {A : Type 0} (op : Operation A) (reg : Roster) (b : Board A) (f
   pub holds : IsCore op reg b
 
 pub made_core : {A : Type 0} (op : Operation A) (reg : Roster) (b : Board A) (first : ℕ)
-    → reg ≡ roster ((first, founder) ∷ []) (Some first) → AreLimits b.limits → IsKept op b.ring b.limits.bound b.done b.top
+    → reg ≡ roster (member first founder ∷ []) (Some first) → AreLimits b.limits → IsKept op b.ring b.limits.bound b.done b.top
     → b.done ≡ 0 → b.top ≡ 0 → b.ring.base ≡ 0 → ((role : Role) (p : ℕ) → standing b.ring role p ≡ is 0 p)
     → IsNew op reg b first
 made_core {A} op reg b first reg_is are kept done top base standing_is =
-    let want = roster ((first, founder) ∷ []) (Some first) in
+    let want = roster (member first founder ∷ []) (Some first) in
     let there : StandsFor op (core_of want b) (Made first ∷ []) = record {
       legal = (are, refl);
       members_are = refl;

@@ -6,7 +6,7 @@ use Rattle.phase_base.specs.Limits.{Limits}
 use Rattle.phase_base.specs.Modes.{mode_signals}
 use Rattle.phase_base.specs.declared.entry.Entry.{Entry}
 use Rattle.phase_base.specs.declared.limits.TheConstants.{MEMBERS_MAX}
-use Rattle.phase_base.specs.Members.{entry_of, wait_phases, least}
+use Rattle.phase_base.specs.Members.{member, entry_of, wait_phases, least}
 use Rattle.phase_accum.specs.declared.single.Single.{Single}
 use Rattle.phase_accum.specs.Operations.{Operation}
 use Rattle.phase_accum.specs.Parcels.{Parcel}
@@ -121,7 +121,7 @@ pub block_far_off : {A : Type 0} (op : Operation A) (core : CoreState A) (h : Hi
 block_far_off op core h task n e stands found few =
     let found_h : entry_of (members_of h) task ≡ Some e = (rw (← stands.members_are) found) in
     let sound : IsSound h = sound_of core.limits h stands.legal in
-    let good : StandsWell (done_of h) (top_of h) (greatest_used h) (task, e) = Each-entry _ (members_of h) task e found_h sound in
+    let good : StandsWell (done_of h) (top_of h) (greatest_used h) (member task e) = Each-entry _ (members_of h) task e found_h sound in
     let low = good.below in
     let limits = limits_of core.limits h stands.legal in
     let bound = limits.bound_most in

@@ -7,7 +7,7 @@ use Rattle.phase_base.specs.declared.mode.Mode.TheVariants.{Wait}
 use Rattle.phase_base.specs.declared.entry.Entry.{Entry}
 use Rattle.phase_accum.specs.declared.outcome.Outcome.TheVariants.{Empty}
 use Rattle.phase_history.specs.declared.event.Event.TheVariants.{Made, Registered, RegisteredNow, Signalled, Waited, Dropped}
-use Rattle.phase_base.specs.Members.{entry_of, signalled, waited}
+use Rattle.phase_base.specs.Members.{member, entry_of, signalled, waited}
 use Rattle.phase_history.specs.Histories.{History, members_of, founder, entry_at, signal_phase, wait_phase, done_of, greatest_used, start_of, has_dropped, IsAlive}
 use Rattle.phase_history.specs.Legal.{IsLegal}
 use Rattle.phase_history.proofs.MemberLemmas.{is_some-entry_of-changed, entry_of-push_new, entry_of-push_other, entry_of-without_same, entry_of-without_other}
@@ -22,15 +22,15 @@ and_false false = refl
 -- a child that was just registered
 joined : (before : History) (child task : ℕ) (x : Entry) (some : Option Entry) (limits : Limits) → IsLegal limits before → greatest_used before < child
     → is_some (entry_of (members_of before) task) ≡ (is_some some && not (has_dropped before task))
-    → is_some (entry_of (members_of before ++ (child, x) ∷ []) task) ≡ (is_some (cond (eqb child task) (Some x) some) && not (has_dropped before task))
+    → is_some (entry_of (members_of before ++ member child x ∷ []) task) ≡ (is_some (cond (eqb child task) (Some x) some) && not (has_dropped before task))
 joined before child task x some limits legal new_number known =
     elim (eqb child task) as (λ b. (eqb child task ≡ b)
-    → is_some (entry_of (members_of before ++ (child, x) ∷ []) task) ≡ (is_some (cond b (Some x) some) && not (has_dropped before task))) [
+    → is_some (entry_of (members_of before ++ member child x ∷ []) task) ≡ (is_some (cond b (Some x) some) && not (has_dropped before task))) [
       | true ↦ λ t.
           let same : child ≡ task = eqb-true _ _ t in
           let above : greatest_used before < task = omega arith in
-          let P : ℕ → Type 0 = λ n. entry_of (members_of before ++ (n, x) ∷ []) task ≡ Some x in
-          let found : entry_of (members_of before ++ (child, x) ∷ []) task ≡ Some x =
+          let P : ℕ → Type 0 = λ n. entry_of (members_of before ++ member n x ∷ []) task ≡ Some x in
+          let found : entry_of (members_of before ++ member child x ∷ []) task ≡ Some x =
           subst P (sym same) (entry_of-push_new (members_of before) task x (fresh before task (sound_of limits before legal) above)) in
           ap is_some found ∙ sym (ap not (unused (λ sends. Empty) limits before task legal (start_of-above before task above)).stays)
       | false ↦ λ t. ap is_some (entry_of-push_other (members_of before) child task x t) ∙ known

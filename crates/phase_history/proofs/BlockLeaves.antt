@@ -4,7 +4,7 @@ use Rattle.std.specs.Prelude.{◌||◌, is_some}
 use Rattle.std.proofs.lemmas.List.{append-nil, append_assoc}
 use Rattle.std.proofs.lemmas.Bool.{eqb-true, ne_eqb, lt-leb, le-leb, lt-ltb, le-ltb, cases_lt}
 use Rattle.phase_base.specs.declared.entry.Entry.{Entry}
-use Rattle.phase_base.specs.Members.{Members, entry_of, changed_at, signalled}
+use Rattle.phase_base.specs.Members.{Members, member, entry_of, changed_at, signalled}
 use Rattle.phase_accum.specs.declared.single.Single.{Single}
 use Rattle.phase_history.specs.declared.event.Event.TheVariants.{Signalled}
 use Rattle.phase_history.specs.Histories.{History, IsAlive, members_of, top_of, signal_phase}
@@ -22,15 +22,15 @@ changed_at-twice : (task n : ℕ) (ms : Members)
     → changed_at task (signalled (suc n)) ms ≡ changed_at task (signalled n) (changed_at task (signalled 1) ms)
 changed_at-twice task n [] = refl
 changed_at-twice task n (m ∷ ms) =
-    elim (eqb m.0 task) as (λ b. (eqb m.0 task ≡ b)
-    → cond b ((m.0, signalled (suc n) m.1) ∷ ms) (m ∷ changed_at task (signalled (suc n)) ms)
-    ≡ changed_at task (signalled n) (cond b ((m.0, signalled 1 m.1) ∷ ms) (m ∷ changed_at task (signalled 1) ms))) [
+    elim (eqb m.task task) as (λ b. (eqb m.task task ≡ b)
+    → cond b (member m.task (signalled (suc n) m.entry) ∷ ms) (m ∷ changed_at task (signalled (suc n)) ms)
+    ≡ changed_at task (signalled n) (cond b (member m.task (signalled 1 m.entry) ∷ ms) (m ∷ changed_at task (signalled 1) ms))) [
       | true ↦ λ t.
-          ap (λ s. (m.0, at_phase m.1 s) ∷ ms) (let e : m.1.signal_phase + suc n ≡ m.1.signal_phase + 1 + n = omega arith in e)
-          ∙ sym (ap (λ b. cond b ((m.0, signalled n (signalled 1 m.1)) ∷ ms) ((m.0, signalled 1 m.1) ∷ changed_at task (signalled n) ms)) t)
+          ap (λ s. member m.task (at_phase m.entry s) ∷ ms) (let e : m.entry.signal_phase + suc n ≡ m.entry.signal_phase + 1 + n = omega arith in e)
+          ∙ sym (ap (λ b. cond b (member m.task (signalled n (signalled 1 m.entry)) ∷ ms) (member m.task (signalled 1 m.entry) ∷ changed_at task (signalled n) ms)) t)
       | false ↦ λ t.
           ap (λ xs. m ∷ xs) (changed_at-twice task n ms)
-          ∙ sym (ap (λ b. cond b ((m.0, signalled n m.1) ∷ changed_at task (signalled 1) ms) (m ∷ changed_at task (signalled n) (changed_at task (signalled 1) ms))) t)
+          ∙ sym (ap (λ b. cond b (member m.task (signalled n m.entry) ∷ changed_at task (signalled 1) ms) (m ∷ changed_at task (signalled n) (changed_at task (signalled 1) ms))) t)
     ] refl
 
 -- ---- the lists of a phase

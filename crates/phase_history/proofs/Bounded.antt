@@ -5,11 +5,12 @@ use Rattle.phase_base.specs.Limits.{Limits}
 use Rattle.phase_base.specs.Modes.{mode_signals, mode_waits}
 use Rattle.phase_base.specs.declared.mode.Mode.TheVariants.{Wait}
 use Rattle.phase_base.specs.declared.entry.Entry.{Entry}
+use Rattle.phase_base.specs.declared.member.Member.{Member}
 use Rattle.phase_accum.specs.declared.single.Single.{Single as SingleFn}
 use Rattle.phase_history.specs.declared.event.Event.{Event}
 use Rattle.phase_history.specs.declared.event.Event.TheVariants.{Made, Registered, RegisteredNow, Signalled, Waited, Dropped}
 use Rattle.phase_history.specs.declared.refusal.SignalRefusal.{SignalRefusal}
-use Rattle.phase_base.specs.Members.{Members, entry_of, wait_phases, least, signalled, waited}
+use Rattle.phase_base.specs.Members.{Members, member, entry_of, wait_phases, least, signalled, waited}
 use Rattle.phase_history.specs.Histories.{History, positions_of, members_of, top_of, done_of, member_entry, signal_phase, wait_phase, greatest_used}
 use Rattle.phase_history.specs.Refusals.{is_ahead, list_rows, signal_rows}
 use Rattle.phase_history.specs.Legal.{IsAccepted, IsLegal}
@@ -29,8 +30,8 @@ Each-append_right P (x ∷ xs) ys each = Each-append_right P xs ys each.1
 -- ---- the bound
 
 -- each waiter has the top within the bound
-abbrev WithinBound : ℕ → ℕ → ℕ × Entry → Type 0
-WithinBound bound top m = mode_waits m.1.mode ≡ true → top ≤ m.1.wait_phase + bound
+abbrev WithinBound : ℕ → ℕ → Member → Type 0
+WithinBound bound top m = mode_waits m.entry.mode ≡ true → top ≤ m.entry.wait_phase + bound
 
 -- an accepted signal ends no further than the bound ahead of the slowest waiter
 not_ahead : (limits : Limits) (h : History) (lists : List (List ℤ)) (single : Option SingleFn) (e : Entry) (slowest : ℕ)
@@ -64,13 +65,13 @@ each_ahead : (bound p : ℕ) (ms : Members) → ((slowest : ℕ) → least (wait
 each_ahead bound p ms within =
     elim (least (wait_phases ms)) as (λ o. (least (wait_phases ms) ≡ o) → Each (WithinBound bound p) ms) [
       | None ↦ λ none.
-          Each-from (λ (m : ℕ × Entry). mode_waits m.1.mode ≡ true → ⊥) (WithinBound bound p) (λ m no_waiter w. absurd (no_waiter w)) ms
-          (Each-of_picked (λ x. ⊥) (λ (m : ℕ × Entry). m.1.wait_phase) (λ (m : ℕ × Entry). mode_waits m.1.mode) ms (none_least (λ x. ⊥) (wait_phases ms) none))
+          Each-from (λ (m : Member). mode_waits m.entry.mode ≡ true → ⊥) (WithinBound bound p) (λ m no_waiter w. absurd (no_waiter w)) ms
+          (Each-of_picked (λ x. ⊥) (λ (m : Member). m.entry.wait_phase) (λ (m : Member). mode_waits m.entry.mode) ms (none_least (λ x. ⊥) (wait_phases ms) none))
       | Some b ↦ λ some.
           let low : p ≤ b + bound = within b some in
-          Each-from (λ (m : ℕ × Entry). mode_waits m.1.mode ≡ true → b ≤ m.1.wait_phase) (WithinBound bound p)
-          (λ m above w. (let a : b ≤ m.1.wait_phase = above w in omega arith)) ms
-          (Each-of_picked (λ x. b ≤ x) (λ (m : ℕ × Entry). m.1.wait_phase) (λ (m : ℕ × Entry). mode_waits m.1.mode) ms (least_low (wait_phases ms) b some))
+          Each-from (λ (m : Member). mode_waits m.entry.mode ≡ true → b ≤ m.entry.wait_phase) (WithinBound bound p)
+          (λ m above w. (let a : b ≤ m.entry.wait_phase = above w in omega arith)) ms
+          (Each-of_picked (λ x. b ≤ x) (λ (m : Member). m.entry.wait_phase) (λ (m : Member). mode_waits m.entry.mode) ms (least_low (wait_phases ms) b some))
     ] refl
 
 -- and back: what is within the bound of each waiter is within that of the slowest
@@ -79,9 +80,9 @@ slowest_ahead : (bound p : ℕ) (ms : Members) (slowest : ℕ) → Each (WithinB
 slowest_ahead bound p ms slowest each some =
     let low : (p - bound) ≤ unwrap_or (least (wait_phases ms)) (p - bound) =
     least_or_high (wait_phases ms) (p - bound) (p - bound)
-    (Each-picked (λ x. (p - bound) ≤ x) (λ (m : ℕ × Entry). m.1.wait_phase) (λ (m : ℕ × Entry). mode_waits m.1.mode) ms
-    (Each-from (WithinBound bound p) (λ (m : ℕ × Entry). mode_waits m.1.mode ≡ true → (p - bound) ≤ m.1.wait_phase)
-    (λ m within w. (let a : p ≤ m.1.wait_phase + bound = within w in omega arith)) ms each)) (omega arith) in
+    (Each-picked (λ x. (p - bound) ≤ x) (λ (m : Member). m.entry.wait_phase) (λ (m : Member). mode_waits m.entry.mode) ms
+    (Each-from (WithinBound bound p) (λ (m : Member). mode_waits m.entry.mode ≡ true → (p - bound) ≤ m.entry.wait_phase)
+    (λ m within w. (let a : p ≤ m.entry.wait_phase + bound = within w in omega arith)) ms each)) (omega arith) in
     let is : unwrap_or (least (wait_phases ms)) (p - bound) ≡ slowest = ap (λ o. unwrap_or o (p - bound)) some in
     omega arith
 
@@ -93,13 +94,13 @@ bounded_step limits before (Registered parent child mode) legal accepted bounded
     let r = registers_from before parent child mode accepted in
     let is : member_entry (members_of before) parent ≡ r.entry = member_entry_is (members_of before) parent r.entry r.is_member in
     let w_is : wait_phase before parent ≡ r.entry.wait_phase = ap (λ (e : Entry). e.wait_phase) is in
-    let own : WithinBound limits.bound (top_of before) (parent, r.entry) = Each-entry _ (members_of before) parent r.entry r.is_member bounded in
+    let own : WithinBound limits.bound (top_of before) (member parent r.entry) = Each-entry _ (members_of before) parent r.entry r.is_member bounded in
     Each-push _ (members_of before) _ bounded
     (λ w. (let a : top_of before ≤ r.entry.wait_phase + limits.bound = own (holds_waits r.entry.mode mode r.allowed w) in omega arith))
 bounded_step limits before (RegisteredNow parent child) legal accepted bounded =
     let r = registers_from before parent child Wait accepted in
-    let own : WithinBound limits.bound (top_of before) (parent, r.entry) = Each-entry _ (members_of before) parent r.entry r.is_member bounded in
-    let good : StandsWell (done_of before) (top_of before) (greatest_used before) (parent, r.entry) =
+    let own : WithinBound limits.bound (top_of before) (member parent r.entry) = Each-entry _ (members_of before) parent r.entry r.is_member bounded in
+    let good : StandsWell (done_of before) (top_of before) (greatest_used before) (member parent r.entry) =
     Each-entry _ (members_of before) parent r.entry r.is_member (sound_of limits before legal) in
     Each-push _ (members_of before) _ bounded
     (λ w. (let t : mode_waits r.entry.mode ≡ true = holds_waits r.entry.mode Wait r.allowed refl in
@@ -108,7 +109,7 @@ bounded_step limits before (RegisteredNow parent child) legal accepted bounded =
 bounded_step limits before (Signalled task lists single) legal accepted bounded =
     let ms = members_of before in
     let p : Passes (entry_of ms task) (signal_rows limits before lists single) = passes_from _ _ _ accepted.0 in
-    let good : StandsWell (done_of before) (top_of before) (greatest_used before) (task, p.entry) =
+    let good : StandsWell (done_of before) (top_of before) (greatest_used before) (member task p.entry) =
     Each-entry _ ms task p.entry p.is_member (sound_of limits before legal) in
     let is : member_entry ms task ≡ p.entry = member_entry_is ms task p.entry p.is_member in
     let top_is : top_of (Signalled task lists single ∷ before) ≡ max (top_of before) (p.entry.signal_phase + length lists) =
@@ -120,15 +121,15 @@ bounded_step limits before (Signalled task lists single) legal accepted bounded 
     not_ahead limits before lists single p.entry slowest some p.passes.1.1.1 (omega arith))) in
     let both : Each (WithinBound limits.bound (top_of (Signalled task lists single ∷ before))) ms =
     Each-both (WithinBound limits.bound (top_of before)) (WithinBound limits.bound (p.entry.signal_phase + length lists)) (WithinBound limits.bound (top_of (Signalled task lists single ∷ before)))
-    (λ m a b w. (let x : top_of before ≤ m.1.wait_phase + limits.bound = a w in
-    let y : p.entry.signal_phase + length lists ≤ m.1.wait_phase + limits.bound = b w in omega arith)) ms bounded ahead in
+    (λ m a b w. (let x : top_of before ≤ m.entry.wait_phase + limits.bound = a w in
+    let y : p.entry.signal_phase + length lists ≤ m.entry.wait_phase + limits.bound = b w in omega arith)) ms bounded ahead in
     Each-changed _ _ task (signalled (length lists)) p.entry ms p.is_member (λ m h. h) (λ h. h) both
 bounded_step limits before (Waited task n) legal accepted bounded =
     let r = waits_from limits before task n accepted.0 in
     Each-changed _ _ task (waited n) r.entry (members_of before) r.is_member (λ m h. h)
     (λ h w. (let a : top_of before ≤ r.entry.wait_phase + limits.bound = h w in omega arith)) bounded
 bounded_step limits before (Dropped task) legal accepted bounded =
-    Each-filter _ (λ (m : ℕ × Entry). not (eqb m.0 task)) (members_of before) bounded
+    Each-filter _ (λ (m : Member). not (eqb m.task task)) (members_of before) bounded
 
 bounded_of : (limits : Limits) (h : History) → IsLegal limits h → IsBounded limits h
 bounded_of limits [] legal = absurd legal
@@ -154,9 +155,9 @@ within_bound limits h slowest legal some =
 -- ---- turns
 
 -- a member that signals and waits is at most one signal ahead of its waits
-abbrev pub TakesTurns : ℕ × Entry → Type 0
-TakesTurns m = mode_signals m.1.mode ≡ true → mode_waits m.1.mode ≡ true
-    → (m.1.wait_phase ≤ m.1.signal_phase) × (m.1.signal_phase ≤ m.1.wait_phase + 1)
+abbrev pub TakesTurns : Member → Type 0
+TakesTurns m = mode_signals m.entry.mode ≡ true → mode_waits m.entry.mode ≡ true
+    → (m.entry.wait_phase ≤ m.entry.signal_phase) × (m.entry.signal_phase ≤ m.entry.wait_phase + 1)
 
 -- an accepted signal of a member that waits is for one phase, and comes behind a wait
 one_phase : (limits : Limits) (h : History) (lists : List (List ℤ)) (single : Option SingleFn) (e : Entry) → mode_waits e.mode ≡ true
@@ -181,7 +182,7 @@ turns_step limits before (Registered parent child mode) legal accepted turns =
     let is : member_entry (members_of before) parent ≡ r.entry = member_entry_is (members_of before) parent r.entry r.is_member in
     let s_is : signal_phase before parent ≡ r.entry.signal_phase = ap (λ (e : Entry). e.signal_phase) is in
     let w_is : wait_phase before parent ≡ r.entry.wait_phase = ap (λ (e : Entry). e.wait_phase) is in
-    let own : TakesTurns (parent, r.entry) = Each-entry _ (members_of before) parent r.entry r.is_member turns in
+    let own : TakesTurns (member parent r.entry) = Each-entry _ (members_of before) parent r.entry r.is_member turns in
     Each-push _ (members_of before) _ turns
     (λ s w. (let a = own (holds_signals r.entry.mode mode r.allowed s) (holds_waits r.entry.mode mode r.allowed w) in
     let low : r.entry.wait_phase ≤ r.entry.signal_phase = a.0 in
@@ -209,7 +210,7 @@ turns_step limits before (Waited task n) legal accepted turns =
     let high : r.entry.signal_phase ≤ r.entry.wait_phase + 1 = a.1 in
     let done : done_of before ≤ r.entry.signal_phase = own s in (omega arith, omega arith))) turns
 turns_step limits before (Dropped task) legal accepted turns =
-    Each-filter _ (λ (m : ℕ × Entry). not (eqb m.0 task)) (members_of before) turns
+    Each-filter _ (λ (m : Member). not (eqb m.task task)) (members_of before) turns
 
 pub turns_of : (limits : Limits) (h : History) → IsLegal limits h → Each TakesTurns (members_of h)
 turns_of limits [] legal = absurd legal

@@ -8,7 +8,7 @@ use Rattle.phase_base.specs.Modes.{mode_signals, mode_waits}
 use Rattle.phase_base.specs.declared.entry.Entry.{Entry}
 use Rattle.phase_accum.specs.declared.outcome.Outcome.{Outcome}
 use Rattle.phase_accum.specs.declared.outcome.Outcome.TheVariants.{Empty}
-use Rattle.phase_base.specs.Members.{entry_of}
+use Rattle.phase_base.specs.Members.{member, entry_of}
 use Rattle.phase_history.specs.Histories.{History, members_of, wait_phase, done_of, top_of, greatest_used, start_of, IsWaiter, phases_waited}
 use Rattle.phase_history.specs.Phases.{value_of_phase, stream_of, received_by}
 use Rattle.phase_history.specs.declared.got.Got.TheVariants as got
@@ -25,7 +25,7 @@ pub got_of : (value : List ℤ → Outcome) (limits : Limits) (h : History) (tas
     → IsLegal limits h → IsWaiter h task entry → HasReceived value h task entry
 got_of value limits h task entry legal waiter =
     let c : Counted value h task entry = counted value limits h task entry legal waiter.is_member in
-    let good : StandsWell (done_of h) (top_of h) (greatest_used h) (task, entry) =
+    let good : StandsWell (done_of h) (top_of h) (greatest_used h) (member task entry) =
     Each-entry _ (members_of h) task entry waiter.is_member (sound_of limits h legal) in
     let a = c.start.wait_phase in
     let e : a + phases_waited h task ≡ entry.wait_phase = c.waits in
@@ -47,7 +47,7 @@ counted_of limits h task entry legal found =
 pub turns_law : (limits : Limits) (h : History) (task : ℕ) (entry : Entry) → IsLegal limits h
     → entry_of (members_of h) task ≡ Some entry → mode_signals entry.mode ≡ true → mode_waits entry.mode ≡ true → IsInTurn entry
 turns_law limits h task entry legal found signals waits =
-    let turn : TakesTurns (task, entry) = Each-entry _ (members_of h) task entry found (turns_of limits h legal) in
+    let turn : TakesTurns (member task entry) = Each-entry _ (members_of h) task entry found (turns_of limits h legal) in
     record { low = (turn signals waits).0; high = (turn signals waits).1 }
 
 pub unused_law : (value : List ℤ → Outcome) (limits : Limits) (h : History) (task : ℕ)

@@ -12,7 +12,7 @@ use Rattle.phase_base.specs.declared.entry.Entry.{Entry}
 use Rattle.phase_accum.specs.declared.outcome.Outcome.{Outcome}
 use Rattle.phase_history.specs.declared.event.Event.{Event}
 use Rattle.phase_history.specs.declared.event.Event.TheVariants.{Made, Registered, RegisteredNow, Signalled, Waited, Dropped}
-use Rattle.phase_base.specs.Members.{entry_of, waited}
+use Rattle.phase_base.specs.Members.{member, entry_of, waited}
 use Rattle.phase_history.specs.Histories.{History, members_of, done_of, top_of, founder, entry_at, signal_phase, wait_phase, greatest_used, start_of, phases_waited}
 use Rattle.phase_history.specs.Phases.{value_of_phase, stream_of, received_by}
 use Rattle.phase_history.specs.Legal.{IsLegal}
@@ -33,7 +33,7 @@ of_member : (value : List ℤ → Outcome) (limits : Limits) (h : History) (task
     → entry_of (members_of h) task ≡ Some e → mode_waits e.mode ≡ true → start_of h task ≡ Some start → HasGot value h task start
 of_member value limits h task e start legal found waits start_is =
     let c : Counted value h task e = counted value limits h task e legal found in
-    let good : StandsWell (done_of h) (top_of h) (greatest_used h) (task, e) = Each-entry _ (members_of h) task e found (sound_of limits h legal) in
+    let good : StandsWell (done_of h) (top_of h) (greatest_used h) (member task e) = Each-entry _ (members_of h) task e found (sound_of limits h legal) in
     let same : c.start ≡ start = same_Some _ _ (sym c.start_is ∙ start_is) in
     let at : c.start.wait_phase + phases_waited h task ≡ e.wait_phase = c.waits in
     let low : e.wait_phase ≤ done_of h = good.waits waits in
@@ -66,9 +66,9 @@ onward value before event task start step g waited_same received_same =
 
 -- a child that began with this entry is a member with it
 began : (before : History) (child task : ℕ) (x : Entry) → IsSound before → greatest_used before < child → child ≡ task
-    → entry_of (members_of before ++ (child, x) ∷ []) task ≡ Some x
+    → entry_of (members_of before ++ member child x ∷ []) task ≡ Some x
 began before child task x sound above same =
-    let P : ℕ → Type 0 = λ n. entry_of (members_of before ++ (child, x) ∷ []) n ≡ Some x in
+    let P : ℕ → Type 0 = λ n. entry_of (members_of before ++ member child x ∷ []) n ≡ Some x in
     subst P same (entry_of-push_new (members_of before) child x (fresh before child sound above))
 
 has_got : (value : List ℤ → Outcome) (limits : Limits) (h : History) (task : ℕ) (start : Entry) → IsLegal limits h
@@ -80,7 +80,7 @@ has_got value limits (Made founding ∷ before) task start legal start_is waits 
     subst P (sym legal.1)
     (elim (eqb founding task) as (λ b. (eqb founding task ≡ b) → (cond b (Some founder) None ≡ Some start) → HasGot value (Made founding ∷ []) task start) [
       | true ↦ λ t s.
-          let found : entry_of ((founding, founder) ∷ []) task ≡ Some founder = ap (λ b. cond b (Some founder) None) t in
+          let found : entry_of (member founding founder ∷ []) task ≡ Some founder = ap (λ b. cond b (Some founder) None) t in
           let is : start_of (Made founding ∷ []) task ≡ Some start = ap (λ b. cond b (Some founder) None) t ∙ s in
           of_member value limits (Made founding ∷ []) task founder start legal_alone found refl is
       | false ↦ λ t s. absurd (cc)

@@ -8,39 +8,40 @@ use Rattle.phase_base.specs.Modes.{mode_signals, mode_waits, holds}
 use Rattle.phase_base.specs.declared.mode.Mode.{Mode}
 use Rattle.phase_base.specs.declared.mode.Mode.TheVariants.{Sig, Wait, SigWait, Single}
 use Rattle.phase_base.specs.declared.entry.Entry.{Entry}
-use Rattle.phase_base.specs.Members.{Members, entry_of, changed_at, without, signal_phases, wait_phases, signalled, waited}
+use Rattle.phase_base.specs.declared.member.Member.{Member}
+use Rattle.phase_base.specs.Members.{Members, member, entry_of, changed_at, without, signal_phases, wait_phases, signalled, waited}
 use Rattle.phase_history.proofs.Each.{Each}
 
 -- what holds of each member holds of the one that is looked up
-pub Each-entry : (P : ℕ × Entry → Type 0) (ms : Members) (task : ℕ) (e : Entry)
-    → entry_of ms task ≡ Some e → Each P ms → P (task, e)
+pub Each-entry : (P : Member → Type 0) (ms : Members) (task : ℕ) (e : Entry)
+    → entry_of ms task ≡ Some e → Each P ms → P (member task e)
 Each-entry P [] task e found each = absurd (cc)
 Each-entry P (m ∷ ms) task e found each =
-    elim (eqb m.0 task) as (λ b. (eqb m.0 task ≡ b) → (cond b (Some m.1) (entry_of ms task) ≡ Some e) → P (task, e)) [
+    elim (eqb m.task task) as (λ b. (eqb m.task task ≡ b) → (cond b (Some m.entry) (entry_of ms task) ≡ Some e) → P (member task e)) [
       | true ↦ λ t f.
-          let number : m.0 ≡ task = eqb-true _ _ t in
-          let entry : m.1 ≡ e = same_Some _ _ f in
-          let Q : ℕ → Type 0 = λ n. P (n, e) in
-          let R : Entry → Type 0 = λ x. P (m.0, x) in
+          let number : m.task ≡ task = eqb-true _ _ t in
+          let entry : m.entry ≡ e = same_Some _ _ f in
+          let Q : ℕ → Type 0 = λ n. P (member n e) in
+          let R : Entry → Type 0 = λ x. P (member m.task x) in
           subst Q number (subst R entry each.0)
       | false ↦ λ t f. Each-entry P ms task e f each.1
     ]
     refl found
 
 -- each member of the changed ones: the others as before, and the changed one
-pub Each-changed : (P Q : ℕ × Entry → Type 0) (task : ℕ) (f : Entry → Entry) (e : Entry) (ms : Members)
-    → entry_of ms task ≡ Some e → ((m : ℕ × Entry) → P m → Q m) → (P (task, e) → Q (task, f e))
+pub Each-changed : (P Q : Member → Type 0) (task : ℕ) (f : Entry → Entry) (e : Entry) (ms : Members)
+    → entry_of ms task ≡ Some e → ((m : Member) → P m → Q m) → (P (member task e) → Q (member task (f e)))
     → Each P ms → Each Q (changed_at task f ms)
 Each-changed P Q task f e [] found others one each = tt
 Each-changed P Q task f e (m ∷ ms) found others one each =
-    elim (eqb m.0 task) as (λ b. (eqb m.0 task ≡ b) → (cond b (Some m.1) (entry_of ms task) ≡ Some e)
-    → Each Q (cond b ((m.0, f m.1) ∷ ms) (m ∷ changed_at task f ms))) [
+    elim (eqb m.task task) as (λ b. (eqb m.task task ≡ b) → (cond b (Some m.entry) (entry_of ms task) ≡ Some e)
+    → Each Q (cond b (member m.task (f m.entry) ∷ ms) (m ∷ changed_at task f ms))) [
       | true ↦ λ t g.
-          let number : m.0 ≡ task = eqb-true _ _ t in
-          let entry : m.1 ≡ e = same_Some _ _ g in
-          let R : ℕ → Entry → Type 0 = λ n x. P (n, x) → Q (n, f x) in
-          let here : R m.0 m.1 =
-          (let A : ℕ → Type 0 = λ n. R n m.1 in
+          let number : m.task ≡ task = eqb-true _ _ t in
+          let entry : m.entry ≡ e = same_Some _ _ g in
+          let R : ℕ → Entry → Type 0 = λ n x. P (member n x) → Q (member n (f x)) in
+          let here : R m.task m.entry =
+          (let A : ℕ → Type 0 = λ n. R n m.entry in
           let B : Entry → Type 0 = λ x. R task x in
           subst A (sym number) (subst B (sym entry) one)) in
           (here each.0, each_others P Q others ms each.1)
@@ -48,7 +49,7 @@ Each-changed P Q task f e (m ∷ ms) found others one each =
     ]
     refl found
   where
-    each_others : (P Q : ℕ × Entry → Type 0) → ((m : ℕ × Entry) → P m → Q m) → (ms : Members) → Each P ms → Each Q ms
+    each_others : (P Q : Member → Type 0) → ((m : Member) → P m → Q m) → (ms : Members) → Each P ms → Each Q ms
     each_others P Q others [] each = tt
     each_others P Q others (m ∷ ms) each = (others m each.0, each_others P Q others ms each.1)
 
@@ -58,8 +59,8 @@ pub entry_of-changed_same : (task : ℕ) (f : Entry → Entry) (e : Entry) (ms :
     → entry_of ms task ≡ Some e → entry_of (changed_at task f ms) task ≡ Some (f e)
 entry_of-changed_same task f e [] found = absurd (cc)
 entry_of-changed_same task f e (m ∷ ms) found =
-    elim (eqb m.0 task) as (λ b. (eqb m.0 task ≡ b) → (cond b (Some m.1) (entry_of ms task) ≡ Some e)
-    → entry_of (cond b ((m.0, f m.1) ∷ ms) (m ∷ changed_at task f ms)) task ≡ Some (f e)) [
+    elim (eqb m.task task) as (λ b. (eqb m.task task ≡ b) → (cond b (Some m.entry) (entry_of ms task) ≡ Some e)
+    → entry_of (cond b (member m.task (f m.entry) ∷ ms) (m ∷ changed_at task f ms)) task ≡ Some (f e)) [
       | true ↦ λ t g. rw t (ap (λ x. Some (f x)) (same_Some _ _ g))
       | false ↦ λ t g. rw t (entry_of-changed_same task f e ms g)
     ]
@@ -69,13 +70,13 @@ pub entry_of-changed_other : (task other : ℕ) (f : Entry → Entry) (ms : Memb
     → eqb task other ≡ false → entry_of (changed_at task f ms) other ≡ entry_of ms other
 entry_of-changed_other task other f [] ne = refl
 entry_of-changed_other task other f (m ∷ ms) ne =
-    elim (eqb m.0 task) as (λ b. (eqb m.0 task ≡ b)
-    → entry_of (cond b ((m.0, f m.1) ∷ ms) (m ∷ changed_at task f ms)) other ≡ cond (eqb m.0 other) (Some m.1) (entry_of ms other)) [
+    elim (eqb m.task task) as (λ b. (eqb m.task task ≡ b)
+    → entry_of (cond b (member m.task (f m.entry) ∷ ms) (m ∷ changed_at task f ms)) other ≡ cond (eqb m.task other) (Some m.entry) (entry_of ms other)) [
       | true ↦ λ t.
-          let number : m.0 ≡ task = eqb-true _ _ t in
-          let apart : eqb m.0 other ≡ false = (rw number ne) in
+          let number : m.task ≡ task = eqb-true _ _ t in
+          let apart : eqb m.task other ≡ false = (rw number ne) in
           rw apart refl
-      | false ↦ λ t. ap (λ o. cond (eqb m.0 other) (Some m.1) o) (entry_of-changed_other task other f ms ne)
+      | false ↦ λ t. ap (λ o. cond (eqb m.task other) (Some m.entry) o) (entry_of-changed_other task other f ms ne)
     ]
     refl
 
@@ -84,27 +85,27 @@ pub is_some-entry_of-changed : (task other : ℕ) (f : Entry → Entry) (ms : Me
     → is_some (entry_of (changed_at task f ms) other) ≡ is_some (entry_of ms other)
 is_some-entry_of-changed task other f [] = refl
 is_some-entry_of-changed task other f (m ∷ ms) =
-    elim (eqb m.0 task) as (λ b.
-    is_some (entry_of (cond b ((m.0, f m.1) ∷ ms) (m ∷ changed_at task f ms)) other)
-    ≡ is_some (cond (eqb m.0 other) (Some m.1) (entry_of ms other))) [
-      | true ↦ elim (eqb m.0 other) as (λ b.
-          is_some (cond b (Some (f m.1)) (entry_of ms other)) ≡ is_some (cond b (Some m.1) (entry_of ms other))) [
+    elim (eqb m.task task) as (λ b.
+    is_some (entry_of (cond b (member m.task (f m.entry) ∷ ms) (m ∷ changed_at task f ms)) other)
+    ≡ is_some (cond (eqb m.task other) (Some m.entry) (entry_of ms other))) [
+      | true ↦ elim (eqb m.task other) as (λ b.
+          is_some (cond b (Some (f m.entry)) (entry_of ms other)) ≡ is_some (cond b (Some m.entry) (entry_of ms other))) [
             | true ↦ refl
             | false ↦ refl
           ]
-      | false ↦ elim (eqb m.0 other) as (λ b.
-          is_some (cond b (Some m.1) (entry_of (changed_at task f ms) other)) ≡ is_some (cond b (Some m.1) (entry_of ms other))) [
+      | false ↦ elim (eqb m.task other) as (λ b.
+          is_some (cond b (Some m.entry) (entry_of (changed_at task f ms) other)) ≡ is_some (cond b (Some m.entry) (entry_of ms other))) [
             | true ↦ refl
             | false ↦ is_some-entry_of-changed task other f ms
           ]
     ]
 
 pub entry_of-push_old : (ms : Members) (n task : ℕ) (x e : Entry)
-    → entry_of ms task ≡ Some e → entry_of (ms ++ (n, x) ∷ []) task ≡ Some e
+    → entry_of ms task ≡ Some e → entry_of (ms ++ member n x ∷ []) task ≡ Some e
 entry_of-push_old [] n task x e found = absurd (cc)
 entry_of-push_old (m ∷ ms) n task x e found =
-    elim (eqb m.0 task) as (λ b. (cond b (Some m.1) (entry_of ms task) ≡ Some e)
-    → cond b (Some m.1) (entry_of (ms ++ (n, x) ∷ []) task) ≡ Some e) [
+    elim (eqb m.task task) as (λ b. (cond b (Some m.entry) (entry_of ms task) ≡ Some e)
+    → cond b (Some m.entry) (entry_of (ms ++ member n x ∷ []) task) ≡ Some e) [
       | true ↦ λ g. g
       | false ↦ λ g. entry_of-push_old ms n task x e g
     ]
@@ -112,25 +113,25 @@ entry_of-push_old (m ∷ ms) n task x e found =
 
 -- a task that is none of the members, and not the one that is added, is none afterwards
 pub entry_of-push_other : (ms : Members) (n task : ℕ) (x : Entry)
-    → eqb n task ≡ false → entry_of (ms ++ (n, x) ∷ []) task ≡ entry_of ms task
+    → eqb n task ≡ false → entry_of (ms ++ member n x ∷ []) task ≡ entry_of ms task
 entry_of-push_other [] n task x ne = rw ne refl
 entry_of-push_other (m ∷ ms) n task x ne =
-    ap (λ o. cond (eqb m.0 task) (Some m.1) o) (entry_of-push_other ms n task x ne)
+    ap (λ o. cond (eqb m.task task) (Some m.entry) o) (entry_of-push_other ms n task x ne)
 
 -- a task above each number of the members is no member
-pub entry_of_above : (ms : Members) (task : ℕ) → Each (λ m. m.0 < task) ms → entry_of ms task ≡ None
+pub entry_of_above : (ms : Members) (task : ℕ) → Each (λ m. m.task < task) ms → entry_of ms task ≡ None
 entry_of_above [] task each = refl
 entry_of_above (m ∷ ms) task each =
-    let low : m.0 < task = each.0 in
-    let apart : eqb m.0 task ≡ false = ne_eqb m.0 task (λ e. omega arith) in
+    let low : m.task < task = each.0 in
+    let apart : eqb m.task task ≡ false = ne_eqb m.task task (λ e. omega arith) in
     rw apart (entry_of_above ms task each.1)
 
 pub entry_of-push_new : (ms : Members) (task : ℕ) (x : Entry)
-    → entry_of ms task ≡ None → entry_of (ms ++ (task, x) ∷ []) task ≡ Some x
+    → entry_of ms task ≡ None → entry_of (ms ++ member task x ∷ []) task ≡ Some x
 entry_of-push_new [] task x none = rw (eq-eqb task task refl) refl
 entry_of-push_new (m ∷ ms) task x none =
-    elim (eqb m.0 task) as (λ b. (cond b (Some m.1) (entry_of ms task) ≡ None)
-    → cond b (Some m.1) (entry_of (ms ++ (task, x) ∷ []) task) ≡ Some x) [
+    elim (eqb m.task task) as (λ b. (cond b (Some m.entry) (entry_of ms task) ≡ None)
+    → cond b (Some m.entry) (entry_of (ms ++ member task x ∷ []) task) ≡ Some x) [
       | true ↦ λ g. absurd (cc)
       | false ↦ λ g. entry_of-push_new ms task x g
     ]
@@ -140,20 +141,20 @@ pub entry_of-without_other : (ms : Members) (gone task : ℕ)
     → eqb gone task ≡ false → entry_of (without gone ms) task ≡ entry_of ms task
 entry_of-without_other [] gone task ne = refl
 entry_of-without_other (m ∷ ms) gone task ne =
-    elim (eqb m.0 gone) as (λ b. (eqb m.0 gone ≡ b)
-    → entry_of (cond (not b) (m ∷ without gone ms) (without gone ms)) task ≡ cond (eqb m.0 task) (Some m.1) (entry_of ms task)) [
+    elim (eqb m.task gone) as (λ b. (eqb m.task gone ≡ b)
+    → entry_of (cond (not b) (m ∷ without gone ms) (without gone ms)) task ≡ cond (eqb m.task task) (Some m.entry) (entry_of ms task)) [
       | true ↦ λ t.
-          let number : m.0 ≡ gone = eqb-true _ _ t in
-          let apart : eqb m.0 task ≡ false = (rw number ne) in
+          let number : m.task ≡ gone = eqb-true _ _ t in
+          let apart : eqb m.task task ≡ false = (rw number ne) in
           rw apart (entry_of-without_other ms gone task ne)
-      | false ↦ λ t. ap (λ o. cond (eqb m.0 task) (Some m.1) o) (entry_of-without_other ms gone task ne)
+      | false ↦ λ t. ap (λ o. cond (eqb m.task task) (Some m.entry) o) (entry_of-without_other ms gone task ne)
     ]
     refl
 
 pub entry_of-without_same : (ms : Members) (gone : ℕ) → entry_of (without gone ms) gone ≡ None
 entry_of-without_same [] gone = refl
 entry_of-without_same (m ∷ ms) gone =
-    elim (eqb m.0 gone) as (λ b. (eqb m.0 gone ≡ b)
+    elim (eqb m.task gone) as (λ b. (eqb m.task gone ≡ b)
     → entry_of (cond (not b) (m ∷ without gone ms) (without gone ms)) gone ≡ None) [
       | true ↦ λ t. entry_of-without_same ms gone
       | false ↦ λ t. rw t (entry_of-without_same ms gone)
@@ -187,20 +188,20 @@ holds_waits Sig Single h s = h
 pub signal_phases-waited : (ms : Members) (task n : ℕ) → signal_phases (changed_at task (waited n) ms) ≡ signal_phases ms
 signal_phases-waited [] task n = refl
 signal_phases-waited (m ∷ ms) task n =
-    elim (eqb m.0 task) as (λ b. signal_phases (cond b ((m.0, waited n m.1) ∷ ms) (m ∷ changed_at task (waited n) ms)) ≡ signal_phases (m ∷ ms)) [
-      | true ↦ elim (mode_signals m.1.mode) as (λ b.
-          map (λ m. m.1.signal_phase) (cond b
-          ((m.0, waited n m.1) ∷ filter (λ m. mode_signals m.1.mode) ms) (filter (λ m. mode_signals m.1.mode) ms))
-          ≡ map (λ m. m.1.signal_phase) (cond b (m ∷ filter (λ m. mode_signals m.1.mode) ms) (filter (λ m. mode_signals m.1.mode) ms))) [
+    elim (eqb m.task task) as (λ b. signal_phases (cond b (member m.task (waited n m.entry) ∷ ms) (m ∷ changed_at task (waited n) ms)) ≡ signal_phases (m ∷ ms)) [
+      | true ↦ elim (mode_signals m.entry.mode) as (λ b.
+          map (λ m. m.entry.signal_phase) (cond b
+          (member m.task (waited n m.entry) ∷ filter (λ m. mode_signals m.entry.mode) ms) (filter (λ m. mode_signals m.entry.mode) ms))
+          ≡ map (λ m. m.entry.signal_phase) (cond b (m ∷ filter (λ m. mode_signals m.entry.mode) ms) (filter (λ m. mode_signals m.entry.mode) ms))) [
             | true ↦ refl
             | false ↦ refl
           ]
-      | false ↦ elim (mode_signals m.1.mode) as (λ b.
-          map (λ m. m.1.signal_phase) (cond b
-          (m ∷ filter (λ m. mode_signals m.1.mode) (changed_at task (waited n) ms))
-          (filter (λ m. mode_signals m.1.mode) (changed_at task (waited n) ms)))
-          ≡ map (λ m. m.1.signal_phase) (cond b (m ∷ filter (λ m. mode_signals m.1.mode) ms) (filter (λ m. mode_signals m.1.mode) ms))) [
-            | true ↦ ap (λ xs. m.1.signal_phase ∷ xs) (signal_phases-waited ms task n)
+      | false ↦ elim (mode_signals m.entry.mode) as (λ b.
+          map (λ m. m.entry.signal_phase) (cond b
+          (m ∷ filter (λ m. mode_signals m.entry.mode) (changed_at task (waited n) ms))
+          (filter (λ m. mode_signals m.entry.mode) (changed_at task (waited n) ms)))
+          ≡ map (λ m. m.entry.signal_phase) (cond b (m ∷ filter (λ m. mode_signals m.entry.mode) ms) (filter (λ m. mode_signals m.entry.mode) ms))) [
+            | true ↦ ap (λ xs. m.entry.signal_phase ∷ xs) (signal_phases-waited ms task n)
             | false ↦ signal_phases-waited ms task n
           ]
     ]
@@ -209,20 +210,20 @@ signal_phases-waited (m ∷ ms) task n =
 pub wait_phases-signalled : (ms : Members) (task n : ℕ) → wait_phases (changed_at task (signalled n) ms) ≡ wait_phases ms
 wait_phases-signalled [] task n = refl
 wait_phases-signalled (m ∷ ms) task n =
-    elim (eqb m.0 task) as (λ b. wait_phases (cond b ((m.0, signalled n m.1) ∷ ms) (m ∷ changed_at task (signalled n) ms)) ≡ wait_phases (m ∷ ms)) [
-      | true ↦ elim (mode_waits m.1.mode) as (λ b.
-          map (λ m. m.1.wait_phase) (cond b ((m.0, signalled n m.1) ∷ filter (λ m. mode_waits m.1.mode) ms)
-          (filter (λ m. mode_waits m.1.mode) ms))
-          ≡ map (λ m. m.1.wait_phase) (cond b (m ∷ filter (λ m. mode_waits m.1.mode) ms) (filter (λ m. mode_waits m.1.mode) ms))) [
+    elim (eqb m.task task) as (λ b. wait_phases (cond b (member m.task (signalled n m.entry) ∷ ms) (m ∷ changed_at task (signalled n) ms)) ≡ wait_phases (m ∷ ms)) [
+      | true ↦ elim (mode_waits m.entry.mode) as (λ b.
+          map (λ m. m.entry.wait_phase) (cond b (member m.task (signalled n m.entry) ∷ filter (λ m. mode_waits m.entry.mode) ms)
+          (filter (λ m. mode_waits m.entry.mode) ms))
+          ≡ map (λ m. m.entry.wait_phase) (cond b (m ∷ filter (λ m. mode_waits m.entry.mode) ms) (filter (λ m. mode_waits m.entry.mode) ms))) [
             | true ↦ refl
             | false ↦ refl
           ]
-      | false ↦ elim (mode_waits m.1.mode) as (λ b.
-          map (λ m. m.1.wait_phase) (cond b
-          (m ∷ filter (λ m. mode_waits m.1.mode) (changed_at task (signalled n) ms))
-          (filter (λ m. mode_waits m.1.mode) (changed_at task (signalled n) ms)))
-          ≡ map (λ m. m.1.wait_phase) (cond b (m ∷ filter (λ m. mode_waits m.1.mode) ms) (filter (λ m. mode_waits m.1.mode) ms))) [
-            | true ↦ ap (λ xs. m.1.wait_phase ∷ xs) (wait_phases-signalled ms task n)
+      | false ↦ elim (mode_waits m.entry.mode) as (λ b.
+          map (λ m. m.entry.wait_phase) (cond b
+          (m ∷ filter (λ m. mode_waits m.entry.mode) (changed_at task (signalled n) ms))
+          (filter (λ m. mode_waits m.entry.mode) (changed_at task (signalled n) ms)))
+          ≡ map (λ m. m.entry.wait_phase) (cond b (m ∷ filter (λ m. mode_waits m.entry.mode) ms) (filter (λ m. mode_waits m.entry.mode) ms))) [
+            | true ↦ ap (λ xs. m.entry.wait_phase ∷ xs) (wait_phases-signalled ms task n)
             | false ↦ wait_phases-signalled ms task n
           ]
     ]

@@ -15,7 +15,7 @@ use Rattle.phase_base.specs.declared.entry.Entry.{Entry}
 use Rattle.phase_accum.specs.declared.outcome.Outcome.{Outcome}
 use Rattle.phase_history.specs.declared.event.Event.{Event}
 use Rattle.phase_history.specs.declared.event.Event.TheVariants.{Made, Registered, RegisteredNow, Signalled, Waited, Dropped}
-use Rattle.phase_base.specs.Members.{entry_of, signalled, waited}
+use Rattle.phase_base.specs.Members.{member, entry_of, signalled, waited}
 use Rattle.phase_history.specs.Histories.{History, members_of, done_of, top_of, founder, entry_at, signal_phase, wait_phase, greatest_used, start_of, phases_signalled, phases_waited, has_dropped}
 use Rattle.phase_history.specs.Phases.{stream_of, received_by}
 use Rattle.phase_history.specs.Legal.{IsLegal}
@@ -73,10 +73,10 @@ entry_of-none (Dropped gone ∷ before) task never =
     ] refl
 
 -- so a member is another task
-member_is_other : (h : History) (member task : ℕ) (e : Entry) → start_of h task ≡ None
-    → entry_of (members_of h) member ≡ Some e → eqb member task ≡ false
-member_is_other h member task e never found =
-    ne_eqb member task (λ same.
+member_is_other : (h : History) (other task : ℕ) (e : Entry) → start_of h task ≡ None
+    → entry_of (members_of h) other ≡ Some e → eqb other task ≡ false
+member_is_other h other task e never found =
+    ne_eqb other task (λ same.
     (let P : ℕ → Type 0 = λ n. entry_of (members_of h) n ≡ Some e in
     let here : entry_of (members_of h) task ≡ Some e = subst P same found in
     let none : entry_of (members_of h) task ≡ None = entry_of-none h task never in cc))
@@ -148,7 +148,7 @@ kept : (value : List ℤ → Outcome) (before : History) (event : Event) (task :
     → received_by value (event ∷ before) task ≡ received_by value before task
     → Counted value (event ∷ before) task e
 kept value before event task e sound step found c start signals waits received =
-    let good : StandsWell (done_of before) (top_of before) (greatest_used before) (task, e) =
+    let good : StandsWell (done_of before) (top_of before) (greatest_used before) (member task e) =
     Each-entry _ (members_of before) task e found sound in
     let w_is : c.start.wait_phase + phases_waited before task ≡ e.wait_phase = c.waits in
     let long : length (stream_of value before) ≡ done_of before = length-stream value before in
@@ -182,7 +182,7 @@ pub fresh : (h : History) (task : ℕ) → IsSound h → greatest_used h < task 
 fresh h task sound above =
     entry_of_above (members_of h) task
     (Each-from (StandsWell (done_of h) (top_of h) (greatest_used h)) _
-    (λ m good. (let u : m.0 ≤ greatest_used h = good.used in omega arith)) (members_of h) sound)
+    (λ m good. (let u : m.task ≤ greatest_used h = good.used in omega arith)) (members_of h) sound)
 
 pub counted : (value : List ℤ → Outcome) (limits : Limits) (h : History) (task : ℕ) (e : Entry) → IsLegal limits h
     → entry_of (members_of h) task ≡ Some e → Counted value h task e
@@ -202,8 +202,8 @@ counted value limits (Registered parent child mode ∷ before) task e legal foun
       | true ↦ λ t.
           let same : child ≡ task = eqb-true _ _ t in
           let above : greatest_used before < task = (let a : greatest_used before < child = r.new_number in omega arith) in
-          let P : ℕ → Type 0 = λ n. entry_of (members_of before ++ (n, x) ∷ []) task ≡ Some e in
-          let at_task : entry_of (members_of before ++ (task, x) ∷ []) task ≡ Some e = subst P same found in
+          let P : ℕ → Type 0 = λ n. entry_of (members_of before ++ member n x ∷ []) task ≡ Some e in
+          let at_task : entry_of (members_of before ++ member task x ∷ []) task ≡ Some e = subst P same found in
           let is : x ≡ e = same_Some _ _ (sym
           (entry_of-push_new (members_of before) task x (fresh before task sound above)) ∙ at_task) in
           let u : Unused value before task = unused value limits before task legal.0 (start_of-above before task above) in
@@ -224,8 +224,8 @@ counted value limits (RegisteredNow parent child ∷ before) task e legal found 
       | true ↦ λ t.
           let same : child ≡ task = eqb-true _ _ t in
           let above : greatest_used before < task = (let a : greatest_used before < child = r.new_number in omega arith) in
-          let P : ℕ → Type 0 = λ n. entry_of (members_of before ++ (n, x) ∷ []) task ≡ Some e in
-          let at_task : entry_of (members_of before ++ (task, x) ∷ []) task ≡ Some e = subst P same found in
+          let P : ℕ → Type 0 = λ n. entry_of (members_of before ++ member n x ∷ []) task ≡ Some e in
+          let at_task : entry_of (members_of before ++ member task x ∷ []) task ≡ Some e = subst P same found in
           let is : x ≡ e = same_Some _ _ (sym
           (entry_of-push_new (members_of before) task x (fresh before task sound above)) ∙ at_task) in
           let u : Unused value before task = unused value limits before task legal.0 (start_of-above before task above) in
@@ -254,7 +254,7 @@ counted value limits (Signalled signaller lists single ∷ before) task e legal 
           let Q : ℕ → Type 0 = λ k. entry_of (members_of (event ∷ before)) k ≡ Some (signalled n r.entry) in
           let is : signalled n r.entry ≡ e = same_Some _ _ (sym (subst Q same new_entry) ∙ found) in
           let c : Counted value before task r.entry = counted value limits before task r.entry legal.0 old in
-          let good : StandsWell (done_of before) (top_of before) (greatest_used before) (task, r.entry) =
+          let good : StandsWell (done_of before) (top_of before) (greatest_used before) (member task r.entry) =
           Each-entry _ (members_of before) task r.entry old sound in
           let long : length (stream_of value before) ≡ done_of before = length-stream value before in
           let s_is : c.start.signal_phase + phases_signalled before task ≡ r.entry.signal_phase = c.signals in

@@ -9,6 +9,7 @@ use Rattle.std.proofs.lemmas.Option.{same_Some}
 use Rattle.phase_base.specs.Limits.{Limits}
 use Rattle.phase_base.specs.declared.entry.Entry.{Entry}
 use Rattle.phase_base.specs.declared.mode.Mode.TheVariants.{Wait}
+use Rattle.phase_base.specs.Members.{member}
 use Rattle.phase_accum.specs.declared.outcome.Outcome.{Outcome}
 use Rattle.phase_accum.specs.declared.outcome.Outcome.TheVariants.{Empty}
 use Rattle.phase_accum.specs.declared.single.Single.{Single}
@@ -229,7 +230,7 @@ named_in_phase-below_top limits (Signalled t lists single ∷ before) p legal be
     let r : SignalsNow before t = signals_from limits before t lists single legal.1.0 in
     let e_is : member_entry (members_of before) t ≡ r.entry = member_entry_is (members_of before) t r.entry r.is_member in
     let s_is : signal_phase before t ≡ r.entry.signal_phase = ap (λ (e : Entry). e.signal_phase) e_is in
-    let good : StandsWell (done_of before) (top_of before) (greatest_used before) (t, r.entry) = Each-entry _ (members_of before) t r.entry r.is_member (sound_of limits before legal.0) in
+    let good : StandsWell (done_of before) (top_of before) (greatest_used before) (member t r.entry) = Each-entry _ (members_of before) t r.entry r.is_member (sound_of limits before legal.0) in
     let low : r.entry.signal_phase ≤ top_of before = good.below in
     named_in_phase-at before t lists single p (cases_lt p (top_of before)) (λ early. named_in_phase-below_top limits before p legal.0 early) below (omega arith)
 

@@ -7,10 +7,11 @@ use Rattle.phase_base.specs.Limits.{Limits}
 use Rattle.phase_base.specs.Modes.{mode_signals}
 use Rattle.phase_base.specs.declared.mode.Mode.TheVariants.{Wait}
 use Rattle.phase_base.specs.declared.entry.Entry.{Entry}
+use Rattle.phase_base.specs.declared.member.Member.{Member}
 use Rattle.phase_accum.specs.declared.outcome.Outcome.{Outcome}
 use Rattle.phase_accum.specs.declared.outcome.Outcome.TheVariants.{Empty}
 use Rattle.phase_history.specs.declared.event.Event.TheVariants.{Made, Registered, RegisteredNow, Signalled, Waited, Dropped}
-use Rattle.phase_base.specs.Members.{Members, entry_of, signal_phases, changed_at, without, least, signalled, waited}
+use Rattle.phase_base.specs.Members.{Members, member, entry_of, signal_phases, changed_at, without, least, signalled, waited}
 use Rattle.phase_history.specs.Histories.{History, positions_of, members_of, signal_phase, wait_phase, done_of, top_of, greatest_used, start_of, founder, entry_at, phases_signalled, has_dropped, HasNoSignaller}
 use Rattle.phase_history.specs.Legal.{IsLegal}
 use Rattle.phase_history.specs.Others.{IsUsed}
@@ -29,15 +30,15 @@ nothing sends = Empty
 -- ---- the mode in which a task began
 
 joined : (before : History) (child task : ℕ) (x e : Entry) (o : Option Entry) → IsSound before → greatest_used before < child
-    → entry_of (members_of before ++ (child, x) ∷ []) task ≡ Some e
+    → entry_of (members_of before ++ member child x ∷ []) task ≡ Some e
     → (entry_of (members_of before) task ≡ Some e → (start : Entry) × (o ≡ Some start) × (start.mode ≡ e.mode))
     → (start : Entry) × (cond (eqb child task) (Some x) o ≡ Some start) × (start.mode ≡ e.mode)
 joined before child task x e o sound above found known =
     elim (eqb child task) as (λ b. (eqb child task ≡ b) → (start : Entry) × (cond b (Some x) o ≡ Some start) × (start.mode ≡ e.mode)) [
       | true ↦ λ t.
           let same : child ≡ task = eqb-true _ _ t in
-          let P : ℕ → Type 0 = λ n. entry_of (members_of before ++ (n, x) ∷ []) task ≡ Some e in
-          let at_task : entry_of (members_of before ++ (task, x) ∷ []) task ≡ Some e = subst P same found in
+          let P : ℕ → Type 0 = λ n. entry_of (members_of before ++ member n x ∷ []) task ≡ Some e in
+          let at_task : entry_of (members_of before ++ member task x ∷ []) task ≡ Some e = subst P same found in
           let is : x ≡ e = same_Some _ _ (sym (entry_of-push_new (members_of before) task x (fresh before task sound (omega arith))) ∙ at_task) in
           (x, refl, ap (λ (y : Entry). y.mode) is)
       | false ↦ λ t. known (sym (entry_of-push_other (members_of before) child task x t) ∙ found)
@@ -47,11 +48,11 @@ changed : (before : History) (t task : ℕ) (f : Entry → Entry) (r e : Entry) 
     → entry_of (members_of before) t ≡ Some r
     → entry_of (changed_at t f (members_of before)) task ≡ Some e
     → (x : Entry) × (entry_of (members_of before) task ≡ Some x) × (x.mode ≡ e.mode)
-changed before t task f r e keeps member found =
+changed before t task f r e keeps is_member found =
     elim (eqb t task) as (λ b. (eqb t task ≡ b) → (x : Entry) × (entry_of (members_of before) task ≡ Some x) × (x.mode ≡ e.mode)) [
       | true ↦ λ q.
           let same : t ≡ task = eqb-true _ _ q in
-          let here : entry_of (members_of before) task ≡ Some r = ap (λ n. entry_of (members_of before) n) (sym same) ∙ member in
+          let here : entry_of (members_of before) task ≡ Some r = ap (λ n. entry_of (members_of before) n) (sym same) ∙ is_member in
           let P : ℕ → Type 0 = λ n. entry_of (changed_at n f (members_of before)) task ≡ Some e in
           let is : f r ≡ e = same_Some _ _ (sym (entry_of-changed_same task f r (members_of before) here) ∙ subst P same found) in
           (r, here, sym (keeps r) ∙ ap (λ (y : Entry). y.mode) is)
@@ -132,7 +133,7 @@ all_dropped limits h task start legal quiet is signals =
           let s : Signals h task start = signals_still limits h task start legal is signals stays in
           let P : List ℕ → Type 0 = λ xs. Each (λ x. ⊥) xs in
           let none : mode_signals s.entry.mode ≡ true → ⊥ = Each-entry _ (members_of h) task s.entry s.is_member
-          (Each-of_picked (λ x. ⊥) (λ (m : ℕ × Entry). m.1.signal_phase) (λ (m : ℕ × Entry). mode_signals m.1.mode) (members_of h) (subst P (sym quiet) tt)) in
+          (Each-of_picked (λ x. ⊥) (λ (m : Member). m.entry.signal_phase) (λ (m : Member). mode_signals m.entry.mode) (members_of h) (subst P (sym quiet) tt)) in
           absurd (none s.signals)
     ] refl
 
@@ -214,7 +215,7 @@ below_top limits (Made t ∷ before) task start legal is =
     ] is
 below_top limits (Registered parent child mode ∷ before) task start legal is =
     let r : Registers before parent child mode = registers_from before parent child mode legal.1 in
-    let good : StandsWell (done_of before) (top_of before) (greatest_used before) (parent, r.entry) = Each-entry _ (members_of before) parent r.entry r.is_member (sound_of limits before legal.0) in
+    let good : StandsWell (done_of before) (top_of before) (greatest_used before) (member parent r.entry) = Each-entry _ (members_of before) parent r.entry r.is_member (sound_of limits before legal.0) in
     let low : r.entry.signal_phase ≤ top_of before = good.below in
     let s_is : signal_phase before parent ≡ r.entry.signal_phase = ap (λ (e : Entry). e.signal_phase) (member_entry_is (members_of before) parent r.entry r.is_member) in
     elim (eqb child task) as (λ b. (eqb child task ≡ b) → (cond b (Some (entry_at mode (signal_phase before parent) (wait_phase before parent))) (start_of before task) ≡ Some start)
@@ -229,7 +230,7 @@ below_top limits (Registered parent child mode ∷ before) task start legal is =
     ] refl is
 below_top limits (RegisteredNow parent child ∷ before) task start legal is =
     let r : Registers before parent child Wait = registers_from before parent child Wait legal.1 in
-    let good : StandsWell (done_of before) (top_of before) (greatest_used before) (parent, r.entry) = Each-entry _ (members_of before) parent r.entry r.is_member (sound_of limits before legal.0) in
+    let good : StandsWell (done_of before) (top_of before) (greatest_used before) (member parent r.entry) = Each-entry _ (members_of before) parent r.entry r.is_member (sound_of limits before legal.0) in
     let low : r.entry.signal_phase ≤ top_of before = good.below in
     let s_is : signal_phase before parent ≡ r.entry.signal_phase = ap (λ (e : Entry). e.signal_phase) (member_entry_is (members_of before) parent r.entry r.is_member) in
     elim (eqb child task) as (λ b. (eqb child task ≡ b) → (cond b (Some (entry_at Wait (signal_phase before parent) (done_of before))) (start_of before task) ≡ Some start)
@@ -286,8 +287,8 @@ quiet_from limits h legal gone = ap signal_phases (none (members_of h) refl)
     none : (ms : Members) → members_of h ≡ ms → members_of h ≡ []
     none [] e = e
     none (m ∷ ms) e =
-        let here : eqb m.0 m.0 ≡ true = eq-eqb m.0 m.0 refl in
-        let found : entry_of (m ∷ ms) m.0 ≡ Some m.1 = rw here refl in
-        let A : Members → Type 0 = λ l. IsSome (entry_of l m.0) in
-        let alive = (alive_law limits h m.0 legal).0 (subst A (sym e) (ap is_some found)) in
-        absurd (let f : true ≡ false = sym (gone m.0 alive.0) ∙ alive.1 in cc)
+        let here : eqb m.task m.task ≡ true = eq-eqb m.task m.task refl in
+        let found : entry_of (m ∷ ms) m.task ≡ Some m.entry = rw here refl in
+        let A : Members → Type 0 = λ l. IsSome (entry_of l m.task) in
+        let alive = (alive_law limits h m.task legal).0 (subst A (sym e) (ap is_some found)) in
+        absurd (let f : true ≡ false = sym (gone m.task alive.0) ∙ alive.1 in cc)

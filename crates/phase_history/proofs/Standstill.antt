@@ -9,9 +9,10 @@ use Rattle.phase_base.specs.Modes.{mode_signals, mode_waits}
 use Rattle.phase_base.specs.declared.mode.Mode.{Mode}
 use Rattle.phase_base.specs.declared.mode.Mode.TheVariants.{Wait, Sig, SigWait, Single}
 use Rattle.phase_base.specs.declared.entry.Entry.{Entry}
+use Rattle.phase_base.specs.declared.member.Member.{Member}
 use Rattle.phase_history.specs.declared.event.Event.{Event}
 use Rattle.phase_history.specs.declared.event.Event.TheVariants.{Made, Registered, RegisteredNow, Signalled, Waited, Dropped}
-use Rattle.phase_base.specs.Members.{Members, entry_of, changed_at, signal_phases, wait_phases, least, lesser, signalled, waited}
+use Rattle.phase_base.specs.Members.{Members, member, entry_of, changed_at, signal_phases, wait_phases, least, lesser, signalled, waited}
 use Rattle.phase_history.specs.Histories.{History, IsAlive, signal_phase, positions_of, members_of, top_of, done_of, greatest_used}
 use Rattle.phase_history.specs.declared.refusal.SignalRefusal.TheVariants as signal
 use Rattle.phase_history.specs.declared.refusal.WaitRefusal.TheVariants as wait
@@ -34,17 +35,17 @@ use Rattle.phase_history.proofs.Steps.{StandsWell, sound_of, member_entry_is}
 -- each member's number is below those behind it
 abbrev Ascends : Members → Type 0
 Ascends [] = Unit {0}
-Ascends (m ∷ ms) = Each (λ (x : ℕ × Entry). m.0 < x.0) ms × Ascends ms
+Ascends (m ∷ ms) = Each (λ (x : Member). m.task < x.task) ms × Ascends ms
 
-ascends-push : (ms : Members) (n : ℕ) (e : Entry) → Ascends ms → Each (λ (x : ℕ × Entry). x.0 < n) ms → Ascends (ms ++ (n, e) ∷ [])
+ascends-push : (ms : Members) (n : ℕ) (e : Entry) → Ascends ms → Each (λ (x : Member). x.task < n) ms → Ascends (ms ++ member n e ∷ [])
 ascends-push [] n e up below = (tt, tt)
 ascends-push (m ∷ ms) n e up below =
-    (Each-push (λ (x : ℕ × Entry). m.0 < x.0) ms (n, e) up.0 below.0, ascends-push ms n e up.1 below.1)
+    (Each-push (λ (x : Member). m.task < x.task) ms (member n e) up.0 below.0, ascends-push ms n e up.1 below.1)
 
-above-changed : (k task : ℕ) (f : Entry → Entry) (ms : Members) → Each (λ (x : ℕ × Entry). k < x.0) ms → Each (λ (x : ℕ × Entry). k < x.0) (changed_at task f ms)
+above-changed : (k task : ℕ) (f : Entry → Entry) (ms : Members) → Each (λ (x : Member). k < x.task) ms → Each (λ (x : Member). k < x.task) (changed_at task f ms)
 above-changed k task f [] above = tt
 above-changed k task f (m ∷ ms) above =
-    elim (eqb m.0 task) as (λ b. Each (λ (x : ℕ × Entry). k < x.0) (cond b ((m.0, f m.1) ∷ ms) (m ∷ changed_at task f ms))) [
+    elim (eqb m.task task) as (λ b. Each (λ (x : Member). k < x.task) (cond b (member m.task (f m.entry) ∷ ms) (m ∷ changed_at task f ms))) [
       | true ↦ (above.0, above.1)
       | false ↦ (above.0, above-changed k task f ms above.1)
     ]
@@ -52,24 +53,24 @@ above-changed k task f (m ∷ ms) above =
 ascends-changed : (task : ℕ) (f : Entry → Entry) (ms : Members) → Ascends ms → Ascends (changed_at task f ms)
 ascends-changed task f [] up = tt
 ascends-changed task f (m ∷ ms) up =
-    elim (eqb m.0 task) as (λ b. Ascends (cond b ((m.0, f m.1) ∷ ms) (m ∷ changed_at task f ms))) [
+    elim (eqb m.task task) as (λ b. Ascends (cond b (member m.task (f m.entry) ∷ ms) (m ∷ changed_at task f ms))) [
       | true ↦ (up.0, up.1)
-      | false ↦ (above-changed m.0 task f ms up.0, ascends-changed task f ms up.1)
+      | false ↦ (above-changed m.task task f ms up.0, ascends-changed task f ms up.1)
     ]
 
-ascends-filter : (test : ℕ × Entry → Bool) (ms : Members) → Ascends ms → Ascends (filter test ms)
+ascends-filter : (test : Member → Bool) (ms : Members) → Ascends ms → Ascends (filter test ms)
 ascends-filter test [] up = tt
 ascends-filter test (m ∷ ms) up =
     elim (test m) as (λ b. Ascends (cond b (m ∷ filter test ms) (filter test ms))) [
-      | true ↦ (Each-filter (λ (x : ℕ × Entry). m.0 < x.0) test ms up.0, ascends-filter test ms up.1)
+      | true ↦ (Each-filter (λ (x : Member). m.task < x.task) test ms up.0, ascends-filter test ms up.1)
       | false ↦ ascends-filter test ms up.1
     ]
 
 -- a new number is above all members'
-below_new : (limits : Limits) (h : History) (n : ℕ) → IsLegal limits h → greatest_used h < n → Each (λ (x : ℕ × Entry). x.0 < n) (members_of h)
+below_new : (limits : Limits) (h : History) (n : ℕ) → IsLegal limits h → greatest_used h < n → Each (λ (x : Member). x.task < n) (members_of h)
 below_new limits h n legal above =
     Each-from (StandsWell (done_of h) (top_of h) (greatest_used h)) _
-    (λ m good. (let u : m.0 ≤ greatest_used h = good.used in omega arith)) (members_of h) (sound_of limits h legal)
+    (λ m good. (let u : m.task ≤ greatest_used h = good.used in omega arith)) (members_of h) (sound_of limits h legal)
 
 ascends_of : (limits : Limits) (h : History) → IsLegal limits h → Ascends (members_of h)
 ascends_of limits [] legal = absurd legal
@@ -94,45 +95,45 @@ pub record StandsAt (ms : Members) (test : Entry → Bool) (f : Entry → ℕ) (
   pub passes : test entry ≡ true
   pub at : f entry ≡ b
 
-behind_first : (m : ℕ × Entry) (ms : Members) (test : Entry → Bool) (f : Entry → ℕ) (b : ℕ) → Each (λ (x : ℕ × Entry). m.0 < x.0) ms
+behind_first : (m : Member) (ms : Members) (test : Entry → Bool) (f : Entry → ℕ) (b : ℕ) → Each (λ (x : Member). m.task < x.task) ms
     → StandsAt ms test f b → StandsAt (m ∷ ms) test f b
 behind_first m ms test f b above s =
-    let up : m.0 < s.task = Each-entry (λ (x : ℕ × Entry). m.0 < x.0) ms s.task s.entry s.is_member above in
-    let apart : eqb m.0 s.task ≡ false = ne_eqb m.0 s.task (λ e. omega arith) in
+    let up : m.task < s.task = Each-entry (λ (x : Member). m.task < x.task) ms s.task s.entry s.is_member above in
+    let apart : eqb m.task s.task ≡ false = ne_eqb m.task s.task (λ e. omega arith) in
     record {
       task = s.task;
       entry = s.entry;
-      is_member = ap (λ c. cond c (Some m.1) (entry_of ms s.task)) apart ∙ s.is_member;
+      is_member = ap (λ c. cond c (Some m.entry) (entry_of ms s.task)) apart ∙ s.is_member;
       passes = s.passes;
       at = s.at;
     }
 
-at_first : (m : ℕ × Entry) (ms : Members) (test : Entry → Bool) (f : Entry → ℕ) (b : ℕ) → test m.1 ≡ true → f m.1 ≡ b → StandsAt (m ∷ ms) test f b
+at_first : (m : Member) (ms : Members) (test : Entry → Bool) (f : Entry → ℕ) (b : ℕ) → test m.entry ≡ true → f m.entry ≡ b → StandsAt (m ∷ ms) test f b
 at_first m ms test f b passes is = record {
-  task = m.0;
-  entry = m.1;
-  is_member = ap (λ c. cond c (Some m.1) (entry_of ms m.0)) (eq-eqb m.0 m.0 refl);
+  task = m.task;
+  entry = m.entry;
+  is_member = ap (λ c. cond c (Some m.entry) (entry_of ms m.task)) (eq-eqb m.task m.task refl);
   passes = passes;
   at = is;
 }
 
 stands_at_least : (ms : Members) (test : Entry → Bool) (f : Entry → ℕ) (b : ℕ) → Ascends ms
-    → least (map (λ (m : ℕ × Entry). f m.1) (filter (λ (m : ℕ × Entry). test m.1) ms)) ≡ Some b → StandsAt ms test f b
+    → least (map (λ (m : Member). f m.entry) (filter (λ (m : Member). test m.entry) ms)) ≡ Some b → StandsAt ms test f b
 stands_at_least [] test f b up some = absurd (cc)
 stands_at_least (m ∷ ms) test f b up some =
-    let rest = map (λ (m : ℕ × Entry). f m.1) (filter (λ (m : ℕ × Entry). test m.1) ms) in
-    elim (test m.1) as (λ c. (test m.1 ≡ c)
-    → (least (map (λ (m : ℕ × Entry). f m.1) (cond c (m ∷ filter (λ (m : ℕ × Entry). test m.1) ms) (filter (λ (m : ℕ × Entry). test m.1) ms))) ≡ Some b)
+    let rest = map (λ (m : Member). f m.entry) (filter (λ (m : Member). test m.entry) ms) in
+    elim (test m.entry) as (λ c. (test m.entry ≡ c)
+    → (least (map (λ (m : Member). f m.entry) (cond c (m ∷ filter (λ (m : Member). test m.entry) ms) (filter (λ (m : Member). test m.entry) ms))) ≡ Some b)
     → StandsAt (m ∷ ms) test f b) [
       | true ↦ λ t s.
-          let is : lesser (f m.1) (least rest) ≡ b = same_Some _ _ s in
-          elim (least rest) as (λ o. (least rest ≡ o) → (lesser (f m.1) o ≡ b) → StandsAt (m ∷ ms) test f b) [
+          let is : lesser (f m.entry) (least rest) ≡ b = same_Some _ _ s in
+          elim (least rest) as (λ o. (least rest ≡ o) → (lesser (f m.entry) o ≡ b) → StandsAt (m ∷ ms) test f b) [
             | None ↦ λ none w. at_first m ms test f b t w
             | Some c ↦ λ found w.
                 ⊎_elim (λ less. at_first m ms test f b t (omega arith))
                 (λ more. (let e : c ≡ b = omega arith in
                 behind_first m ms test f b up.0 (stands_at_least ms test f b up.1 (found ∙ ap (λ n. Some n) e))))
-                (cases_lt (f m.1) c)
+                (cases_lt (f m.entry) c)
           ] refl is
       | false ↦ λ t s. behind_first m ms test f b up.0 (stands_at_least ms test f b up.1 s)
     ] refl some
@@ -173,19 +174,19 @@ no_least P (x ∷ xs) none = absurd (cc)
 
 -- where a list of phases has no least, no member stands there
 none_pass : (ms : Members) (test : Entry → Bool) (f : Entry → ℕ)
-    → least (map (λ (m : ℕ × Entry). f m.1) (filter (λ (m : ℕ × Entry). test m.1) ms)) ≡ None
+    → least (map (λ (m : Member). f m.entry) (filter (λ (m : Member). test m.entry) ms)) ≡ None
     → (task : ℕ) (e : Entry) → entry_of ms task ≡ Some e → test e ≡ true → ⊥
 none_pass ms test f none task e found =
-    Each-entry (λ (m : ℕ × Entry). test m.1 ≡ true → ⊥) ms task e found
-    (Each-of_picked (λ x. ⊥) (λ (m : ℕ × Entry). f m.1) (λ (m : ℕ × Entry). test m.1) ms (no_least (λ x. ⊥) _ none))
+    Each-entry (λ (m : Member). test m.entry ≡ true → ⊥) ms task e found
+    (Each-of_picked (λ x. ⊥) (λ (m : Member). f m.entry) (λ (m : Member). test m.entry) ms (no_least (λ x. ⊥) _ none))
 
 -- no member stands below the least
 least_below : (ms : Members) (test : Entry → Bool) (f : Entry → ℕ) (b : ℕ)
-    → least (map (λ (m : ℕ × Entry). f m.1) (filter (λ (m : ℕ × Entry). test m.1) ms)) ≡ Some b
+    → least (map (λ (m : Member). f m.entry) (filter (λ (m : Member). test m.entry) ms)) ≡ Some b
     → (task : ℕ) (e : Entry) → entry_of ms task ≡ Some e → test e ≡ true → b ≤ f e
 least_below ms test f b some task e found =
-    Each-entry (λ (m : ℕ × Entry). test m.1 ≡ true → b ≤ f m.1) ms task e found
-    (Each-of_picked (λ x. b ≤ x) (λ (m : ℕ × Entry). f m.1) (λ (m : ℕ × Entry). test m.1) ms (least_low _ b some))
+    Each-entry (λ (m : Member). test m.entry ≡ true → b ≤ f m.entry) ms task e found
+    (Each-of_picked (λ x. b ≤ x) (λ (m : Member). f m.entry) (λ (m : Member). test m.entry) ms (least_low _ b some))
 
 -- each mode signals or waits
 mode_does : (m : Mode) → (mode_waits m ≡ true → ⊥) → mode_signals m ≡ true
@@ -331,19 +332,19 @@ goes_on limits h task legal alive =
 -- ---- sends of a phase while there is a waiter
 
 -- where no member waits there is no wait phase
-no_wait_phases : (ms : Members) → Each (λ (m : ℕ × Entry). mode_waits m.1.mode ≡ true → ⊥) ms → wait_phases ms ≡ []
+no_wait_phases : (ms : Members) → Each (λ (m : Member). mode_waits m.entry.mode ≡ true → ⊥) ms → wait_phases ms ≡ []
 no_wait_phases [] none = refl
 no_wait_phases (m ∷ ms) none =
-    elim (mode_waits m.1.mode) as (λ b. (mode_waits m.1.mode ≡ b)
-    → map (λ (m : ℕ × Entry). m.1.wait_phase) (cond b (m ∷ filter (λ (m : ℕ × Entry). mode_waits m.1.mode) ms) (filter (λ (m : ℕ × Entry). mode_waits m.1.mode) ms)) ≡ []) [
+    elim (mode_waits m.entry.mode) as (λ b. (mode_waits m.entry.mode ≡ b)
+    → map (λ (m : Member). m.entry.wait_phase) (cond b (m ∷ filter (λ (m : Member). mode_waits m.entry.mode) ms) (filter (λ (m : Member). mode_waits m.entry.mode) ms)) ≡ []) [
       | true ↦ λ t. absurd (none.0 t)
       | false ↦ λ t. no_wait_phases ms none.1
     ] refl
 
 -- one more event brings no waiter where there is none
 no_waiter_later : (limits : Limits) (before : History) (event : Event) → IsLegal limits before → IsAccepted limits before event
-    → Each (λ (m : ℕ × Entry). mode_waits m.1.mode ≡ true → ⊥) (members_of before)
-    → Each (λ (m : ℕ × Entry). mode_waits m.1.mode ≡ true → ⊥) (members_of (event ∷ before))
+    → Each (λ (m : Member). mode_waits m.entry.mode ≡ true → ⊥) (members_of before)
+    → Each (λ (m : Member). mode_waits m.entry.mode ≡ true → ⊥) (members_of (event ∷ before))
 no_waiter_later limits before (Made task) legal accepted none =
     let P : History → Type 0 = λ l. IsLegal limits l in absurd (subst P accepted.1 legal)
 no_waiter_later limits before (Registered parent child mode) legal accepted none =
@@ -360,7 +361,7 @@ no_waiter_later limits before (Signalled task lists single) legal accepted none 
 no_waiter_later limits before (Waited task n) legal accepted none =
     let r = waits_from limits before task n accepted.0 in
     Each-changed _ _ task (waited n) r.entry (members_of before) r.is_member (λ m h. h) (λ h. h) none
-no_waiter_later limits before (Dropped task) legal accepted none = Each-filter _ (λ (m : ℕ × Entry). not (eqb m.0 task)) (members_of before) none
+no_waiter_later limits before (Dropped task) legal accepted none = Each-filter _ (λ (m : Member). not (eqb m.task task)) (members_of before) none
 
 abbrev HasWaiter : History → Type 0
 HasWaiter h = is_some (least (wait_phases (members_of h))) ≡ true
@@ -373,7 +374,7 @@ waiter_before limits before event legal accepted has =
       | None ↦ λ none.
           let later : wait_phases (members_of (event ∷ before)) ≡ [] =
           no_wait_phases (members_of (event ∷ before)) (no_waiter_later limits before event legal accepted
-          (Each-of_picked (λ x. ⊥) (λ (m : ℕ × Entry). m.1.wait_phase) (λ (m : ℕ × Entry). mode_waits m.1.mode) (members_of before) (no_least (λ x. ⊥) _ none))) in
+          (Each-of_picked (λ x. ⊥) (λ (m : Member). m.entry.wait_phase) (λ (m : Member). mode_waits m.entry.mode) (members_of before) (no_least (λ x. ⊥) _ none))) in
           sym (ap (λ l. is_some (least l)) later) ∙ has
     ] refl
 

@@ -7,12 +7,13 @@ use Rattle.phase_base.specs.Modes.{mode_signals, mode_waits}
 use Rattle.phase_base.specs.declared.mode.Mode.{Mode}
 use Rattle.phase_base.specs.declared.mode.Mode.TheVariants.{Wait}
 use Rattle.phase_base.specs.declared.entry.Entry.{Entry}
+use Rattle.phase_base.specs.declared.member.Member.{Member}
 use Rattle.phase_accum.specs.declared.outcome.Outcome.{Outcome}
 use Rattle.phase_accum.specs.declared.single.Single.{Single}
 use Rattle.phase_accum.specs.Values.{applied}
 use Rattle.phase_history.specs.declared.event.Event.{Event}
 use Rattle.phase_history.specs.declared.event.Event.TheVariants.{Made, Registered, RegisteredNow, Signalled, Waited, Dropped}
-use Rattle.phase_base.specs.Members.{Members, entry_of, signal_phases, least, signalled, waited}
+use Rattle.phase_base.specs.Members.{Members, member, entry_of, signal_phases, least, signalled, waited}
 use Rattle.phase_history.specs.Histories.{History, Positions, positions_of, members_of, top_of, done_of, done_at, founder, entry_at, member_entry, signal_phase, wait_phase, greatest_used}
 use Rattle.phase_history.specs.Phases.{sends_of_phase, named_in_phase, value_of_phase, list_in_phase, first_named, is_among, single_of_phase}
 use Rattle.phase_history.specs.Legal.{IsAccepted, IsLegal}
@@ -21,36 +22,36 @@ use Rattle.phase_history.proofs.MemberLemmas.{Each-entry, Each-changed, holds_si
 use Rattle.phase_history.proofs.Refused.{Registers, registers_from, SignalsNow, signals_from, WaitsNow, waits_from}
 
 -- the facts of a member in a legal history
-pub record StandsWell (done top greatest : ℕ) (m : ℕ × Entry) : Type 0 where
-  pub below : m.1.signal_phase ≤ top
-  pub waits : mode_waits m.1.mode ≡ true → m.1.wait_phase ≤ done
-  pub used : m.0 ≤ greatest
+pub record StandsWell (done top greatest : ℕ) (m : Member) : Type 0 where
+  pub below : m.entry.signal_phase ≤ top
+  pub waits : mode_waits m.entry.mode ≡ true → m.entry.wait_phase ≤ done
+  pub used : m.task ≤ greatest
 
 abbrev pub IsSound : History → Type 0
 IsSound h = Each (StandsWell (done_of h) (top_of h) (greatest_used h)) (members_of h)
 
 -- what is no more than each signaller's phase, and than the top, is no more than done
-done_high : (now : Positions) (b : ℕ) → Each (λ (m : ℕ × Entry). mode_signals m.1.mode ≡ true → b ≤ m.1.signal_phase) now.members
+done_high : (now : Positions) (b : ℕ) → Each (λ (m : Member). mode_signals m.entry.mode ≡ true → b ≤ m.entry.signal_phase) now.members
     → b ≤ now.top → b ≤ done_at now
 done_high now b each top =
     least_or_high (signal_phases now.members) now.top b
-    (Each-picked (λ x. b ≤ x) (λ (m : ℕ × Entry). m.1.signal_phase)
-    (λ (m : ℕ × Entry). mode_signals m.1.mode) now.members each) top
+    (Each-picked (λ x. b ≤ x) (λ (m : Member). m.entry.signal_phase)
+    (λ (m : Member). mode_signals m.entry.mode) now.members each) top
 
 -- done is no more than each signaller's phase
 pub done_low : (now : Positions)
-    → Each (λ (m : ℕ × Entry). mode_signals m.1.mode ≡ true → done_at now ≤ m.1.signal_phase) now.members
+    → Each (λ (m : Member). mode_signals m.entry.mode ≡ true → done_at now ≤ m.entry.signal_phase) now.members
 done_low now =
-    Each-of_picked (λ x. done_at now ≤ x) (λ (m : ℕ × Entry). m.1.signal_phase)
-    (λ (m : ℕ × Entry). mode_signals m.1.mode) now.members
+    Each-of_picked (λ x. done_at now ≤ x) (λ (m : Member). m.entry.signal_phase)
+    (λ (m : Member). mode_signals m.entry.mode) now.members
     (least_or_low (signal_phases now.members) now.top)
 
 -- in a sound history done is no more than the top
 pub done_below_top : (h : History) → IsSound h → done_of h ≤ top_of h
 done_below_top h sound =
     least_or_top (signal_phases (members_of h)) (top_of h)
-    (Each-picked (λ x. x ≤ top_of h) (λ (m : ℕ × Entry). m.1.signal_phase)
-    (λ (m : ℕ × Entry). mode_signals m.1.mode) (members_of h)
+    (Each-picked (λ x. x ≤ top_of h) (λ (m : Member). m.entry.signal_phase)
+    (λ (m : Member). mode_signals m.entry.mode) (members_of h)
     (Each-from (StandsWell (done_of h) (top_of h) (greatest_used h)) _ (λ m good _. good.below) (members_of h) sound))
 
 -- the entry of a member is the one that is looked up
@@ -59,11 +60,11 @@ member_entry_is ms task e found = ap (λ o. unwrap_or o founder) found
 
 -- what stands well still does where done, top and the greatest number are no less
 stands_later : (done top greatest done' top' greatest' : ℕ) → done ≤ done' → top ≤ top' → greatest ≤ greatest'
-    → (m : ℕ × Entry) → StandsWell done top greatest m → StandsWell done' top' greatest' m
+    → (m : Member) → StandsWell done top greatest m → StandsWell done' top' greatest' m
 stands_later done top greatest done' top' greatest' a b c m good = record {
-  below = (let h : m.1.signal_phase ≤ top = good.below in omega arith);
-  waits = λ w. (let h : m.1.wait_phase ≤ done = good.waits w in omega arith);
-  used = (let h : m.0 ≤ greatest = good.used in omega arith);
+  below = (let h : m.entry.signal_phase ≤ top = good.below in omega arith);
+  waits = λ w. (let h : m.entry.wait_phase ≤ done = good.waits w in omega arith);
+  used = (let h : m.task ≤ greatest = good.used in omega arith);
 }
 
 -- what an event leaves: done is no less, the members stand well, and no complete phase changed
@@ -78,22 +79,22 @@ joins : (h : History) (e : Entry) (child : ℕ) (mode : Mode) (w : ℕ) → IsSo
     → entry_of (members_of h) parent ≡ Some e
     → (mode_signals mode ≡ true → mode_signals e.mode ≡ true) → (mode_waits mode ≡ true → w ≤ done_of h)
     → (greatest : ℕ) → greatest_used h ≤ greatest → child ≤ greatest
-    → (now : Positions) → now.members ≡ members_of h ++ (child, entry_at mode e.signal_phase w) ∷ [] → now.top ≡ top_of h
+    → (now : Positions) → now.members ≡ members_of h ++ member child (entry_at mode e.signal_phase w) ∷ [] → now.top ≡ top_of h
     → (done_of h ≤ done_at now) × Each (StandsWell (done_at now) now.top greatest) now.members
 joins h e child mode w sound parent found signals waits greatest grows new now members_are top_is =
     let lows = done_low (positions_of h) in
-    let P : Members → Type 0 = λ ms. Each (λ (m : ℕ × Entry). mode_signals m.1.mode ≡ true → done_of h ≤ m.1.signal_phase) ms in
+    let P : Members → Type 0 = λ ms. Each (λ (m : Member). mode_signals m.entry.mode ≡ true → done_of h ≤ m.entry.signal_phase) ms in
     let parent_low : mode_signals e.mode ≡ true → done_of h ≤ e.signal_phase = Each-entry _ (members_of h) parent e found lows in
-    let parent_good : StandsWell (done_of h) (top_of h) (greatest_used h) (parent, e) =
+    let parent_good : StandsWell (done_of h) (top_of h) (greatest_used h) (member parent e) =
     Each-entry _ (members_of h) parent e found sound in
     let all_low : P now.members = subst P (sym members_are)
-    (Each-push _ (members_of h) (child, entry_at mode e.signal_phase w) lows (λ s. parent_low (signals s))) in
+    (Each-push _ (members_of h) (member child (entry_at mode e.signal_phase w)) lows (λ s. parent_low (signals s))) in
     let top_low : done_of h ≤ now.top = (let a : done_of h ≤ top_of h = done_below_top h sound in omega arith) in
     let done_grows : done_of h ≤ done_at now = done_high now (done_of h) all_low top_low in
     let Q : Members → Type 0 = λ ms. Each (StandsWell (done_at now) now.top greatest) ms in (
       done_grows,
       subst Q (sym members_are)
-          (Each-push _ (members_of h) (child, entry_at mode e.signal_phase w)
+          (Each-push _ (members_of h) (member child (entry_at mode e.signal_phase w))
           (Each-from (StandsWell (done_of h) (top_of h) (greatest_used h)) (StandsWell (done_at now) now.top greatest)
           (stands_later _ _ _ _ _ _ done_grows (omega arith) grows) (members_of h) sound)
           (record {
@@ -108,13 +109,13 @@ steps_registered : (before : History) (parent child : ℕ) (mode : Mode) → IsS
 steps_registered before parent child mode sound r =
     let ms = members_of before in
     let is : member_entry ms parent ≡ r.entry = member_entry_is ms parent r.entry r.is_member in
-    let good : StandsWell (done_of before) (top_of before) (greatest_used before) (parent, r.entry) =
+    let good : StandsWell (done_of before) (top_of before) (greatest_used before) (member parent r.entry) =
     Each-entry _ ms parent r.entry r.is_member sound in
     let j = joins before r.entry child mode r.entry.wait_phase sound parent r.is_member
     (holds_signals r.entry.mode mode r.allowed) (λ w. good.waits (holds_waits r.entry.mode mode r.allowed w))
     (max child (greatest_used before)) (omega arith) (omega arith)
     (positions_of (Registered parent child mode ∷ before))
-    (ap (λ (e : Entry). ms ++ (child, entry_at mode e.signal_phase e.wait_phase) ∷ []) is) refl in
+    (ap (λ (e : Entry). ms ++ member child (entry_at mode e.signal_phase e.wait_phase) ∷ []) is) refl in
     record { grows = j.0; sound = j.1; same = λ value p h. refl }
 
 steps_registered_now : (before : History) (parent child : ℕ) → IsSound before
@@ -126,7 +127,7 @@ steps_registered_now before parent child sound r =
     (holds_signals r.entry.mode Wait r.allowed) (λ w. omega arith)
     (max child (greatest_used before)) (omega arith) (omega arith)
     (positions_of (RegisteredNow parent child ∷ before))
-    (ap (λ (e : Entry). ms ++ (child, entry_at Wait e.signal_phase (done_of before)) ∷ []) is) refl in
+    (ap (λ (e : Entry). ms ++ member child (entry_at Wait e.signal_phase (done_of before)) ∷ []) is) refl in
     record { grows = j.0; sound = j.1; same = λ value p h. refl }
 
 -- no list stands in a phase before the first
@@ -178,7 +179,7 @@ steps_signalled before task lists single sound r =
     ap (λ (e : Entry). max (top_of before) (e.signal_phase + n)) is in
     let top_low : done_of before ≤ now.top =
     (let a : done_of before ≤ top_of before = done_below_top before sound in omega arith) in
-    let all_low : Each (λ (m : ℕ × Entry). mode_signals m.1.mode ≡ true → done_of before ≤ m.1.signal_phase) now.members =
+    let all_low : Each (λ (m : Member). mode_signals m.entry.mode ≡ true → done_of before ≤ m.entry.signal_phase) now.members =
     Each-changed _ _ task (signalled n) r.entry ms r.is_member (λ m h. h) (λ h t. omega arith) lows in
     let done_grows : done_of before ≤ done_at now = done_high now (done_of before) all_low top_low in
     record {
@@ -219,7 +220,7 @@ steps_dropped : (before : History) (task : ℕ) → IsSound before → Steps bef
 steps_dropped before task sound =
     let ms = members_of before in
     let now = positions_of (Dropped task ∷ before) in
-    let test : ℕ × Entry → Bool = λ m. not (eqb m.0 task) in
+    let test : Member → Bool = λ m. not (eqb m.task task) in
     let done_grows : done_of before ≤ done_at now =
     done_high now (done_of before) (Each-filter _ test ms (done_low (positions_of before))) (done_below_top before sound) in
     record {

@@ -6,7 +6,7 @@ use Rattle.std.proofs.lemmas.List.FromFn.{length-map-range_with_len, get_or-map-
 use mathlib.Core.List.{IsPrefix}
 use Rattle.phase_base.specs.Limits.{Limits}
 use Rattle.phase_base.specs.Modes.{mode_signals}
-use Rattle.phase_base.specs.declared.entry.Entry.{Entry}
+use Rattle.phase_base.specs.declared.member.Member.{Member}
 use Rattle.phase_accum.specs.declared.outcome.Outcome.{Outcome}
 use Rattle.phase_accum.specs.declared.outcome.Outcome.TheVariants.{Empty}
 use Rattle.phase_history.specs.declared.event.Event.{Event}
@@ -82,18 +82,18 @@ stream_prefix value limits h longer legal legal_longer b =
 
 -- no member signals
 abbrev pub Quiet : Members → Type 0
-Quiet ms = Each (λ (m : ℕ × Entry). mode_signals m.1.mode ≡ true → ⊥) ms
+Quiet ms = Each (λ (m : Member). mode_signals m.entry.mode ≡ true → ⊥) ms
 
 quiet_from : (h : History) → HasNoSignaller h → Quiet (members_of h)
 quiet_from h none =
-    Each-of_picked (λ x. ⊥) (λ (m : ℕ × Entry). m.1.signal_phase) (λ (m : ℕ × Entry). mode_signals m.1.mode) (members_of h)
+    Each-of_picked (λ x. ⊥) (λ (m : Member). m.entry.signal_phase) (λ (m : Member). mode_signals m.entry.mode) (members_of h)
     (let P : List ℕ → Type 0 = λ xs. Each (λ x. ⊥) xs in subst P (sym none) tt)
 
 signal_phases_quiet : (ms : Members) → Quiet ms → signal_phases ms ≡ []
 signal_phases_quiet [] quiet = refl
 signal_phases_quiet (m ∷ ms) quiet =
-    elim (mode_signals m.1.mode) as (λ b. (mode_signals m.1.mode ≡ b)
-    → map (λ (m : ℕ × Entry). m.1.signal_phase) (cond b (m ∷ filter (λ (m : ℕ × Entry). mode_signals m.1.mode) ms) (filter (λ (m : ℕ × Entry). mode_signals m.1.mode) ms)) ≡ []) [
+    elim (mode_signals m.entry.mode) as (λ b. (mode_signals m.entry.mode ≡ b)
+    → map (λ (m : Member). m.entry.signal_phase) (cond b (m ∷ filter (λ (m : Member). mode_signals m.entry.mode) ms) (filter (λ (m : Member). mode_signals m.entry.mode) ms)) ≡ []) [
       | true ↦ λ t. absurd (quiet.0 t)
       | false ↦ λ t. signal_phases_quiet ms quiet.1
     ] refl
@@ -117,7 +117,7 @@ quiet_step limits before (Waited task n) legal accepted quiet =
     let r = waits_from limits before task n accepted.0 in
     (Each-changed _ _ task (waited n) r.entry (members_of before) r.is_member (λ m h. h) (λ h. h) quiet, refl)
 quiet_step limits before (Dropped task) legal accepted quiet =
-    (Each-filter _ (λ (m : ℕ × Entry). not (eqb m.0 task)) (members_of before) quiet, refl)
+    (Each-filter _ (λ (m : Member). not (eqb m.task task)) (members_of before) quiet, refl)
 
 done_quiet : (h : History) → Quiet (members_of h) → done_of h ≡ top_of h
 done_quiet h quiet = ap (λ xs. unwrap_or (least xs) (top_of h)) (signal_phases_quiet (members_of h) quiet)

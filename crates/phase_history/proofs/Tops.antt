@@ -3,7 +3,7 @@ use Rattle.std.proofs.Common.{◌≡◌, ◌+◌, ◌<◌, ◌≤◌, Bool, fals
 use Rattle.std.proofs.lemmas.Bool.{leb-false}
 use Rattle.phase_base.specs.Limits.{Limits}
 use Rattle.phase_base.specs.declared.entry.Entry.{Entry}
-use Rattle.phase_base.specs.Members.{entry_of, signalled}
+use Rattle.phase_base.specs.Members.{member, entry_of, signalled}
 use Rattle.phase_accum.specs.declared.single.Single.{Single}
 use Rattle.phase_history.specs.declared.event.Event.TheVariants.{Made, Registered, RegisteredNow, Signalled, Waited, Dropped}
 use Rattle.phase_history.specs.declared.refusal.SignalRefusal.{SignalRefusal}
@@ -34,7 +34,7 @@ top_within limits (RegisteredNow parent child ∷ before) legal = top_within lim
 top_within limits (Signalled task lists single ∷ before) legal =
     let ms = members_of before in
     let p : Passes (entry_of ms task) (signal_rows limits before lists single) = passes_from _ _ _ legal.1.0 in
-    let good : StandsWell (done_of before) (top_of before) (greatest_used before) (task, p.entry) =
+    let good : StandsWell (done_of before) (top_of before) (greatest_used before) (member task p.entry) =
     Each-entry _ ms task p.entry p.is_member (sound_of limits before legal.0) in
     let is : member_entry ms task ≡ p.entry = member_entry_is ms task p.entry p.is_member in
     let top_is : top_of (Signalled task lists single ∷ before) ≡ max (top_of before) (p.entry.signal_phase + length lists) =

@@ -7,7 +7,7 @@ use Rattle.phase_base.specs.declared.mode.Mode.TheVariants.{Wait, Single}
 use Rattle.phase_base.specs.declared.entry.Entry.{Entry}
 use Rattle.phase_history.specs.declared.event.Event.{Event}
 use Rattle.phase_history.specs.declared.event.Event.TheVariants.{Made, Registered, RegisteredNow, Signalled, Waited, Dropped}
-use Rattle.phase_base.specs.Members.{Members, entry_of, changed_at, without, signal_phases, least, signalled, waited}
+use Rattle.phase_base.specs.Members.{Members, member, entry_of, changed_at, without, signal_phases, least, signalled, waited}
 
 -- a list of events, the newest first
 abbrev pub History : Type 0
@@ -42,17 +42,14 @@ done_at now = unwrap_or (least (signal_phases now.members)) now.top
 -- what one event makes of the positions. A child stands at both phases of its parent; one that
 -- was registered now stands at the first phase that is not complete
 abbrev pub after_event : Event → Positions → Positions
-after_event (Made task) now = record { members = (task, founder) ∷ []; top = 0 }
+after_event (Made task) now = record { members = member task founder ∷ []; top = 0 }
 after_event (Registered parent child mode) now =
     let entry = member_entry now.members parent in
-    record now {
-      members = now.members ++ (child, entry_at mode entry.signal_phase entry.wait_phase) ∷ [];
-    }
+    let start = entry_at mode entry.signal_phase entry.wait_phase in
+    record now { members = now.members ++ member child start ∷ [] }
 after_event (RegisteredNow parent child) now =
-    let entry = member_entry now.members parent in
-    record now {
-      members = now.members ++ (child, entry_at Wait entry.signal_phase (done_at now)) ∷ [];
-    }
+    let start = entry_at Wait (member_entry now.members parent).signal_phase (done_at now) in
+    record now { members = now.members ++ member child start ∷ [] }
 after_event (Signalled task lists single) now =
     let entry = member_entry now.members task in
     record {

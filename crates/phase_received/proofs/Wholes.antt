@@ -7,6 +7,7 @@ use Rattle.phase_base.specs.Limits.{Limits}
 use Rattle.phase_base.specs.Members.{entry_of}
 use Rattle.phase_base.specs.Modes.{mode_signals, mode_waits}
 use Rattle.phase_base.specs.declared.entry.Entry.{Entry}
+use Rattle.phase_base.specs.declared.member.Member.{Member}
 use Rattle.phase_accum.specs.declared.outcome.Outcome.{Outcome}
 use Rattle.phase_history.specs.declared.event.Event.TheVariants.{Dropped}
 use Rattle.phase_history.specs.Histories.{History, IsBeginning, IsWaiter, HasNoSignaller, members_of, founder, done_of, start_of, wait_phase}
@@ -34,9 +35,9 @@ waits_at_end : (h : History) (task : ℕ) (entry : Entry) → HasNoSignaller h �
     → mode_waits entry.mode ≡ true
 waits_at_end h task entry none member =
     let P : List ℕ → Type 0 = λ xs. Each (λ x. ⊥) xs in
-    let quiet : Each (λ (m : ℕ × Entry). mode_signals m.1.mode ≡ true → ⊥) (members_of h) =
-    Each-of_picked (λ x. ⊥) (λ (m : ℕ × Entry). m.1.signal_phase) (λ (m : ℕ × Entry). mode_signals m.1.mode) (members_of h) (subst P (sym none) tt) in
-    waits_else entry.mode (false_of (mode_signals entry.mode) (Each-entry (λ (m : ℕ × Entry). mode_signals m.1.mode ≡ true → ⊥) (members_of h) task entry member quiet))
+    let quiet : Each (λ (m : Member). mode_signals m.entry.mode ≡ true → ⊥) (members_of h) =
+    Each-of_picked (λ x. ⊥) (λ (m : Member). m.entry.signal_phase) (λ (m : Member). mode_signals m.entry.mode) (members_of h) (subst P (sym none) tt) in
+    waits_else entry.mode (false_of (mode_signals entry.mode) (Each-entry (λ (m : Member). mode_signals m.entry.mode ≡ true → ⊥) (members_of h) task entry member quiet))
 
 pub whole_seen : (value : List ℤ → Outcome) (limits : Limits) (h : History) (task : ℕ) (entry : Entry)
     → IsLegal limits h → entry_of (members_of h) task ≡ Some entry → HasSeenEnd h task → HasWhole value h task

@@ -6,8 +6,9 @@ use Rattle.std.proofs.lemmas.List.{get_or_default, get_or_append_left, get_or_pu
 use Rattle.std.proofs.lemmas.List.Edits.{length-remove, get_or-remove_below, get_or-remove_above}
 use Rattle.phase_base.specs.Modes.{mode_signals, mode_waits}
 use Rattle.phase_base.specs.declared.entry.Entry.{Entry}
+use Rattle.phase_base.specs.declared.member.Member.{Member}
 use Rattle.phase_base.specs.declared.limits.TheConstants.{MEMBERS_MAX}
-use Rattle.phase_base.specs.Members.{Members, entry_of, changed_at, without, signal_phases, wait_phases}
+use Rattle.phase_base.specs.Members.{Members, member, entry_of, changed_at, without, signal_phases, wait_phases}
 use Rattle.phase_registry.specs.Rosters.{nobody, number_at, AreRising, IsRoster, is_used, add_refusal, roster}
 use Rattle.phase_registry.specs.Inside.{IsAt}
 use Rattle.phase_registry.specs.declared.refusal.AddRefusal.TheVariants.{NotNew, TooManyTasks}
@@ -41,21 +42,21 @@ AreFew-from_roster l greatest s w r = record {
 
 -- the numbers stay
 number_at-set : (l : Members) (k i j : ℕ) (e : Entry) → IsAt l k i
-    → number_at (set l i (k, e)) j ≡ number_at l j
+    → number_at (set l i (member k e)) j ≡ number_at l j
 number_at-set l k i j e at =
     ⊎_elim
     (λ (same : j ≡ i).
-    let D : ℕ × Entry = (0, nobody) in
-    let here : number_at (set l i (k, e)) i ≡ k =
-    ap (λ (m : ℕ × Entry). m.0) (get_or-set_same l i (k, e) D at.in_range) in
-    ap (number_at (set l i (k, e))) same ∙ here ∙ sym at.has_number ∙ sym (ap (number_at l) same))
-    (λ apart. ap (λ (m : ℕ × Entry). m.0) (get_or-set_other l i j (k, e) (0, nobody) apart))
+    let D : Member = member 0 nobody in
+    let here : number_at (set l i (member k e)) i ≡ k =
+    ap (λ (m : Member). m.task) (get_or-set_same l i (member k e) D at.in_range) in
+    ap (number_at (set l i (member k e))) same ∙ here ∙ sym at.has_number ∙ sym (ap (number_at l) same))
+    (λ apart. ap (λ (m : Member). m.task) (get_or-set_other l i j (member k e) (member 0 nobody) apart))
     (cases_eq j i)
 
 -- the member's number, whatever stands for one past the end
-pub IsAt-number : (l : Members) (k i : ℕ) (d : ℕ × Entry) → IsAt l k i → (get_or l i d).0 ≡ k
+pub IsAt-number : (l : Members) (k i : ℕ) (d : Member) → IsAt l k i → (get_or l i d).task ≡ k
 IsAt-number l k i d at =
-    ap (λ (m : ℕ × Entry). m.0) (get_or_default l i d (0, nobody) at.in_range) ∙ at.has_number
+    ap (λ (m : Member). m.task) (get_or_default l i d (member 0 nobody) at.in_range) ∙ at.has_number
 
 -- no earlier member has the number
 pub none_before : (l : Members) (k i : ℕ) → AreRising l → IsAt l k i
@@ -66,14 +67,14 @@ none_before l k i rising at j lt same =
     omega (arith, r, n, same)
 
 -- a change of one entry that keeps its mode
-pub IsRoster-changed : (l : Members) (greatest : Option ℕ) (s w k i : ℕ) (d : ℕ × Entry)
+pub IsRoster-changed : (l : Members) (greatest : Option ℕ) (s w k i : ℕ) (d : Member)
     (f : Entry → Entry) → IsRoster l greatest s w → IsAt l k i
     → ((e : Entry) → (f e).mode ≡ e.mode)
-    → IsRoster (set l i (k, f (get_or l i d).1)) greatest s w
+    → IsRoster (set l i (member k (f (get_or l i d).entry))) greatest s w
 IsRoster-changed l greatest s w k i d f r at kept =
-    let e = (get_or l i d).1 in
-    let now = set l i (k, f e) in
-    let long : length now ≡ length l = length-set l i (k, f e) in
+    let e = (get_or l i d).entry in
+    let now = set l i (member k (f e)) in
+    let long : length now ≡ length l = length-set l i (member k (f e)) in
     let numbers : (j : ℕ) → number_at now j ≡ number_at l j = λ j. number_at-set l k i j (f e) at in
     let is : now ≡ changed_at k f l = changed_at-place l k i d f at (none_before l k i r.rising at) in
     let found : entry_of l k ≡ Some e = entry_of-at l k i d r.rising at in
@@ -113,19 +114,19 @@ used_below (Some g) n number used new =
 
 -- how many signallers, and waiters, there are with one more member
 pub signallers-push : (l : Members) (number : ℕ) (e : Entry)
-    → length (signal_phases (l ++ (number, e) ∷ []))
+    → length (signal_phases (l ++ member number e ∷ []))
     ≡ length (signal_phases l) + cond (mode_signals e.mode) 1 0
 signallers-push l number e =
-    length-picked (λ x. mode_signals x.mode) (λ x. x.signal_phase) (l ++ (number, e) ∷ [])
+    length-picked (λ x. mode_signals x.mode) (λ x. x.signal_phase) (l ++ member number e ∷ [])
     ∙ weigh-push (λ x. cond (mode_signals x.mode) 1 0) l number e
     ∙ ap (λ n. n + cond (mode_signals e.mode) 1 0)
     (sym (length-picked (λ x. mode_signals x.mode) (λ x. x.signal_phase) l))
 
 pub waiters-push : (l : Members) (number : ℕ) (e : Entry)
-    → length (wait_phases (l ++ (number, e) ∷ []))
+    → length (wait_phases (l ++ member number e ∷ []))
     ≡ length (wait_phases l) + cond (mode_waits e.mode) 1 0
 waiters-push l number e =
-    length-picked (λ x. mode_waits x.mode) (λ x. x.wait_phase) (l ++ (number, e) ∷ [])
+    length-picked (λ x. mode_waits x.mode) (λ x. x.wait_phase) (l ++ member number e ∷ [])
     ∙ weigh-push (λ x. cond (mode_waits x.mode) 1 0) l number e
     ∙ ap (λ n. n + cond (mode_waits e.mode) 1 0)
     (sym (length-picked (λ x. mode_waits x.mode) (λ x. x.wait_phase) l))
@@ -153,15 +154,15 @@ addable_from l greatest number none =
 pub IsRoster-added : (l : Members) (greatest : Option ℕ) (s w s' w' number : ℕ) (e : Entry)
     → IsRoster l greatest s w → add_refusal (roster l greatest) number ≡ None
     → s' ≡ s + cond (mode_signals e.mode) 1 0 → w' ≡ w + cond (mode_waits e.mode) 1 0
-    → IsRoster (l ++ (number, e) ∷ []) (Some number) s' w'
+    → IsRoster (l ++ member number e ∷ []) (Some number) s' w'
 IsRoster-added l greatest s w s' w' number e r none s_is w_is =
     let a = addable_from l greatest number none in
-    let now = l ++ (number, e) ∷ [] in
+    let now = l ++ member number e ∷ [] in
     let long : length now ≡ length l + 1 = length-append _ _ in
     let before : (j : ℕ) → j < length l → number_at now j ≡ number_at l j =
-    λ j low. ap (λ (m : ℕ × Entry). m.0) (get_or_append_left l ((number, e) ∷ []) (0, nobody) j low) in
+    λ j low. ap (λ (m : Member). m.task) (get_or_append_left l (member number e ∷ []) (member 0 nobody) j low) in
     let last : number_at now (length l) ≡ number =
-    ap (λ (m : ℕ × Entry). m.0) (get_or_push l (number, e) (0, nobody) (length l) refl) in
+    ap (λ (m : Member). m.task) (get_or_push l (member number e) (member 0 nobody) (length l) refl) in
     let below : (j : ℕ) → j < length l → number_at l j < number =
     λ j low. used_below greatest (number_at l j) number (r.used j low) a.new in
     let at_last : (j : ℕ) → j < length now → (j < length l → ⊥) → number_at now j ≡ number =
@@ -198,21 +199,21 @@ IsRoster-added l greatest s w s' w' number e r none s_is w_is =
 -- ---- a member less
 
 -- what is left of the members is what is left of the places
-pub remove-place : (l : Members) (k i : ℕ) (d : ℕ × Entry) → AreRising l → IsAt l k i
+pub remove-place : (l : Members) (k i : ℕ) (d : Member) → AreRising l → IsAt l k i
     → remove l i ≡ without k l
 remove-place [] k i d rising at = absurd (omega (arith, at.in_range))
 remove-place (m ∷ l) k zero d rising at =
-    let same : m.0 ≡ k = at.has_number in
+    let same : m.task ≡ k = at.has_number in
     let gone = (AreApart-from_rising (m ∷ l) rising).0 in
     let rest : without k l ≡ l = without-absent l k (ap (entry_of l) (sym same) ∙ gone) in
-    sym (ap (λ b. cond (not b) (m ∷ without k l) (without k l)) (eq-eqb m.0 k same) ∙ rest)
+    sym (ap (λ b. cond (not b) (m ∷ without k l) (without k l)) (eq-eqb m.task k same) ∙ rest)
 remove-place (m ∷ l) k (suc i) d rising at =
-    let low : m.0 < k = (let r = rising 0 (suc i) (omega arith) at.in_range in
+    let low : m.task < k = (let r = rising 0 (suc i) (omega arith) at.in_range in
     let n : number_at l i ≡ k = at.has_number in omega arith) in
     let inner : IsAt l k i = record { in_range = omega (arith, at.in_range); has_number = at.has_number } in
     let rest = remove-place l k i d (λ a b lt in_range. rising (suc a) (suc b) (omega arith) (omega arith)) inner in
     ap (λ xs. m ∷ xs) rest
-    ∙ sym (ap (λ b. cond (not b) (m ∷ without k l) (without k l)) (ne_eqb m.0 k (λ same. omega arith)))
+    ∙ sym (ap (λ b. cond (not b) (m ∷ without k l) (without k l)) (ne_eqb m.task k (λ same. omega arith)))
 
 -- where the member at a place stood before
 record StoodAt (l now : Members) (i j : ℕ) : Type 0 where
@@ -228,24 +229,24 @@ stood_at l i j at in_range =
     (λ (low : j < i). record {
       place = j;
       in_range = omega arith;
-      number_is = ap (λ (m : ℕ × Entry). m.0) (get_or-remove_below l i (0, nobody) j low at);
+      number_is = ap (λ (m : Member). m.task) (get_or-remove_below l i (member 0 nobody) j low at);
       place_is = (λ h. refl, λ h. absurd (omega arith));
     })
     (λ (high : i ≤ j). record {
       place = j + 1;
       in_range = omega arith;
-      number_is = ap (λ (m : ℕ × Entry). m.0) (get_or-remove_above l i (0, nobody) j high at);
+      number_is = ap (λ (m : Member). m.task) (get_or-remove_above l i (member 0 nobody) j high at);
       place_is = (λ h. absurd (omega arith), λ h. refl);
     })
     (cases_lt j i)
 
-pub IsRoster-removed : (l : Members) (greatest : Option ℕ) (s w s' w' k i : ℕ) (d : ℕ × Entry)
+pub IsRoster-removed : (l : Members) (greatest : Option ℕ) (s w s' w' k i : ℕ) (d : Member)
     → IsRoster l greatest s w → IsAt l k i
-    → s' + cond (mode_signals (get_or l i d).1.mode) 1 0 ≡ s
-    → w' + cond (mode_waits (get_or l i d).1.mode) 1 0 ≡ w
+    → s' + cond (mode_signals (get_or l i d).entry.mode) 1 0 ≡ s
+    → w' + cond (mode_waits (get_or l i d).entry.mode) 1 0 ≡ w
     → IsRoster (remove l i) greatest s' w'
 IsRoster-removed l greatest s w s' w' k i d r at s_is w_is =
-    let e = (get_or l i d).1 in
+    let e = (get_or l i d).entry in
     let now = remove l i in
     let long : length now + 1 ≡ length l = length-remove l i at.in_range in
     let is : now ≡ without k l = remove-place l k i d r.rising at in
@@ -294,10 +295,10 @@ pub record IsCounted (e : Entry) (s w : ℕ) : Type 0 where
   pub signallers : cond (mode_signals e.mode) 1 0 ≤ s
   pub waiters : cond (mode_waits e.mode) 1 0 ≤ w
 
-pub IsCounted-at : (l : Members) (greatest : Option ℕ) (s w k i : ℕ) (d : ℕ × Entry)
-    → IsRoster l greatest s w → IsAt l k i → IsCounted (get_or l i d).1 s w
+pub IsCounted-at : (l : Members) (greatest : Option ℕ) (s w k i : ℕ) (d : Member)
+    → IsRoster l greatest s w → IsAt l k i → IsCounted (get_or l i d).entry s w
 IsCounted-at l greatest s w k i d r at =
-    let e = (get_or l i d).1 in
+    let e = (get_or l i d).entry in
     let found : entry_of l k ≡ Some e = entry_of-at l k i d r.rising at in
     let apart = AreApart-from_rising l r.rising in
     record {

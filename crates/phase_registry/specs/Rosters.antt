@@ -3,7 +3,7 @@ use Rattle.std.specs.Prelude.{◌≡◌, ℕ, ◌+◌, ◌^◌, ◌-◌, ◌<◌
 use Rattle.phase_base.specs.declared.limits.TheConstants.{MEMBERS_MAX}
 use Rattle.phase_base.specs.declared.mode.Mode.TheVariants.{Sig}
 use Rattle.phase_base.specs.declared.entry.Entry.{Entry}
-use Rattle.phase_base.specs.Members.{Members, signal_phases, wait_phases}
+use Rattle.phase_base.specs.Members.{Members, member, signal_phases, wait_phases}
 use Rattle.phase_registry.specs.declared.refusal.AddRefusal.{AddRefusal}
 use Rattle.phase_registry.specs.declared.refusal.AddRefusal.TheVariants.{NotNew, TooManyTasks}
 
@@ -30,7 +30,7 @@ add_refusal r number =
 
 -- the roster with one more member, behind the others
 abbrev pub added : ℕ → Entry → Roster → Roster
-added number entry r = roster (r.members ++ (number, entry) ∷ []) (Some number)
+added number entry r = roster (r.members ++ member number entry ∷ []) (Some number)
 
 -- the number above the greatest that was used, where a task number is left
 abbrev pub next_after : Option ℕ → Option ℕ
@@ -45,7 +45,7 @@ nobody = record { mode = Sig; signal_phase = 0; wait_phase = 0 }
 
 -- the number of the member at a place
 abbrev pub number_at : Members → ℕ → ℕ
-number_at members i = let member = slice_index_or members i (0, nobody) in member.0
+number_at members i = let found = slice_index_or members i (member 0 nobody) in found.task
 
 -- each member's number is below those of the later ones
 abbrev pub AreRising : Members → Type 0

@@ -6,7 +6,7 @@ ghost use Rattle.phase_registry.specs.Rosters.{Roster, roster, add_refusal, adde
 ghost use Rattle.phase_registry.specs.Inside.{IsAt, IsGapFor};
 
 use crate::refusal::AddRefusal;
-use phase_base::{Entry, MEMBERS_MAX, Mode};
+use phase_base::{Entry, MEMBERS_MAX, Member, Mode};
 use std::alloc::Global;
 use std::marker::Model;
 
@@ -16,7 +16,7 @@ use std::marker::Model;
 /// binary search, or where no smaller number is missing, one step.
 #[derive(Drop)]
 pub struct Registry {
-    members: Vec<(u64, Entry)>,
+    members: Vec<Member>,
     greatest: Option<u64>,
     signallers: u64,
     waiters: u64,
@@ -72,10 +72,11 @@ impl Registry {
         ensures absent { IfErr result (IsGapFor self.now.members number) }
     {
         let place = number as usize;
-        if place < self.members.len() && self.members[place].0 == number {
+        if place < self.members.len() && self.members[place].task == number {
             return Ok(place);
         }
-        self.members.binary_search_by_key(&number, |&(n, _)| n)
+        self.members
+            .binary_search_by_key(&number, |member| member.task)
     }
 
     /// Tells a task's entry, where it is registered.
@@ -85,7 +86,7 @@ impl Registry {
         ensures rising { AreRising self.now.members }
     {
         match self.search(number) {
-            Ok(place) => Some(self.members[place].1),
+            Ok(place) => Some(self.members[place].entry),
             Err(_) => None,
         }
     }
@@ -128,12 +129,15 @@ impl Registry {
         if let Some(refusal) = self.refusal(number) {
             return Err(refusal);
         }
-        let entry = Entry {
-            mode,
-            signal_phase,
-            wait_phase,
+        let member = Member {
+            task: number,
+            entry: Entry {
+                mode,
+                signal_phase,
+                wait_phase,
+            },
         };
-        let Ok(()) = self.members.push((number, entry)) else {
+        let Ok(()) = self.members.push(member) else {
             return Err(AddRefusal::OutOfMemory);
         };
         self.greatest = Some(number);
@@ -151,7 +155,7 @@ impl Registry {
         let Ok(place) = self.search(number) else {
             return false;
         };
-        let (_, entry) = self.members.remove(place);
+        let Member { entry, .. } = self.members.remove(place);
         self.signallers -= one_if(entry.mode.signals());
         self.waiters -= one_if(entry.mode.waits());
         true
@@ -166,7 +170,7 @@ impl Registry {
             ≡ roster (changed_at number (signalled phases) self.old.members) self.old.greatest }
     {
         if let Ok(place) = self.search(number) {
-            self.members[place].1.signal_phase += phases;
+            self.members[place].entry.signal_phase += phases;
         }
     }
 
@@ -179,7 +183,7 @@ impl Registry {
             ≡ roster (changed_at number (waited phases) self.old.members) self.old.greatest }
     {
         if let Ok(place) = self.search(number) {
-            self.members[place].1.wait_phase += phases;
+            self.members[place].entry.wait_phase += phases;
         }
     }
 
@@ -204,7 +208,11 @@ impl Registry {
     {
         let mut least = None;
         for member in &self.members {
-            least = lower(least, member.1.mode.signals(), member.1.signal_phase);
+            least = lower(
+                least,
+                member.entry.mode.signals(),
+                member.entry.signal_phase,
+            );
         }
         least
     }
@@ -216,7 +224,7 @@ impl Registry {
     {
         let mut least = None;
         for member in &self.members {
-            least = lower(least, member.1.mode.waits(), member.1.wait_phase);
+            least = lower(least, member.entry.mode.waits(), member.entry.wait_phase);
         }
         least
     }

@@ -4,7 +4,7 @@ use Rattle.std.specs.List.{fold}
 use Rattle.std.proofs.lemmas.List.{take_all}
 use Rattle.std.proofs.lemmas.List.Sums.{fold_more}
 use Rattle.phase_base.specs.Modes.{mode_signals}
-use Rattle.phase_base.specs.Members.{least, signal_phases}
+use Rattle.phase_base.specs.Members.{member, least, signal_phases}
 use Rattle.phase_registry.specs.Rosters.{Roster, nobody}
 use Rattle.phase_registry.proofs.Leasts.{lower, least-folded}
 use Rattle.phase_registry.proofs.registry.Registry.least_signal.Goals as goal
@@ -14,9 +14,9 @@ loop-member-preserved c =
     let members = c.deref-member-items.result.now in
     let i = c.loop-member.member-index in
     let so_far = c.loop-member.least in
-    let step : c.lower-least.result ≡ lower (λ e. mode_signals e.mode) (λ e. e.signal_phase) so_far (get_or members i (0, nobody)) = search rules in
-    step ∙ ap (λ o. lower (λ e. mode_signals e.mode) (λ e. e.signal_phase) o (get_or members i (0, nobody))) c.loop-member.invariant
-    ∙ sym (fold_more (lower (λ e. mode_signals e.mode) (λ e. e.signal_phase)) None members i (0, nobody) c.loop-member-test.true)
+    let step : c.lower-least.result ≡ lower (λ e. mode_signals e.mode) (λ e. e.signal_phase) so_far (get_or members i (member 0 nobody)) = search rules in
+    step ∙ ap (λ o. lower (λ e. mode_signals e.mode) (λ e. e.signal_phase) o (get_or members i (member 0 nobody))) c.loop-member.invariant
+    ∙ sym (fold_more (lower (λ e. mode_signals e.mode) (λ e. e.signal_phase)) None members i (member 0 nobody) c.loop-member-test.true)
 
 pub returns : goal.returns
 returns c =

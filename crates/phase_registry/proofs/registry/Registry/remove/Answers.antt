@@ -1,8 +1,8 @@
 -- the member at the number's place leaves
-use Rattle.std.proofs.Common.{◌≡◌, ◌≤◌, ℕ, ◌-◌, cond, get_or, sym, ap, subst, ◌∙◌, rules, arith}
+use Rattle.std.proofs.Common.{◌≡◌, ◌≤◌, ◌-◌, cond, get_or, sym, ap, subst, ◌∙◌, rules, arith}
 use Rattle.std.specs.Prelude.{is_some}
 use Rattle.phase_base.specs.Modes.{mode_signals, mode_waits}
-use Rattle.phase_base.specs.declared.entry.Entry.{Entry}
+use Rattle.phase_base.specs.declared.member.Member.{Member}
 use Rattle.phase_base.specs.Members.{Members, without}
 use Rattle.phase_registry.specs.Rosters.{Roster, roster, AreRising, IsRoster}
 use Rattle.phase_registry.specs.Inside.{IsAt}
@@ -18,9 +18,9 @@ overflow_sub-self c =
     let R : Roster → Type 0 = λ r. IsAt r.members c.args.number c.in-Ok.place in
     let at : IsAt l c.args.number c.in-Ok.place = subst R (sym c.self.view_is) c.in-Ok.ensures.found in
     let counted = IsCounted-at l _ _ _ c.args.number c.in-Ok.place d c.self.invariant at in
-    let S : ℕ × Entry → Type 0 = λ m. cond (mode_signals m.1.mode) 1 0 ≤ c.self.inside.signallers in
+    let S : Member → Type 0 = λ m. cond (mode_signals m.entry.mode) 1 0 ≤ c.self.inside.signallers in
     let low = subst S (sym c.remove.ensures.value) counted.signallers in
-    let one : c.one_if.result ≡ cond (mode_signals c.remove.result.1.mode) 1 0 = search rules in
+    let one : c.one_if.result ≡ cond (mode_signals c.remove.result.entry.mode) 1 0 = search rules in
     omega arith
 
 pub overflow_sub-self-2 : goal.overflow_sub-self-2
@@ -30,9 +30,9 @@ overflow_sub-self-2 c =
     let R : Roster → Type 0 = λ r. IsAt r.members c.args.number c.in-Ok.place in
     let at : IsAt l c.args.number c.in-Ok.place = subst R (sym c.self.view_is) c.in-Ok.ensures.found in
     let counted = IsCounted-at l _ _ _ c.args.number c.in-Ok.place d c.self.invariant at in
-    let S : ℕ × Entry → Type 0 = λ m. cond (mode_waits m.1.mode) 1 0 ≤ c.self.inside.waiters in
+    let S : Member → Type 0 = λ m. cond (mode_waits m.entry.mode) 1 0 ≤ c.self.inside.waiters in
     let low = subst S (sym c.remove.ensures.value) counted.waiters in
-    let one : c.one_if-2.result ≡ cond (mode_waits c.remove.result.1.mode) 1 0 = search rules in
+    let one : c.one_if-2.result ≡ cond (mode_waits c.remove.result.entry.mode) 1 0 = search rules in
     omega arith
 
 pub returns-in_default-clause-found : goal.returns-in_default-clause-found
@@ -52,12 +52,12 @@ invariant_of-self c =
     let R : Roster → Type 0 = λ r. IsAt r.members c.args.number c.in-Ok.place in
     let at : IsAt l c.args.number c.in-Ok.place = subst R (sym c.self.view_is) c.in-Ok.ensures.found in
     let counted = IsCounted-at l _ _ _ c.args.number c.in-Ok.place d c.self.invariant at in
-    let mode = ap (λ (m : ℕ × Entry). m.1.mode) c.remove.ensures.value in
-    let signals : c.one_if.result ≡ cond (mode_signals (get_or l c.in-Ok.place d).1.mode) 1 0 =
-    (let one : c.one_if.result ≡ cond (mode_signals c.remove.result.1.mode) 1 0 = search rules in
+    let mode = ap (λ (m : Member). m.entry.mode) c.remove.ensures.value in
+    let signals : c.one_if.result ≡ cond (mode_signals (get_or l c.in-Ok.place d).entry.mode) 1 0 =
+    (let one : c.one_if.result ≡ cond (mode_signals c.remove.result.entry.mode) 1 0 = search rules in
     one ∙ ap (λ m. cond (mode_signals m) 1 0) mode) in
-    let waits : c.one_if-2.result ≡ cond (mode_waits (get_or l c.in-Ok.place d).1.mode) 1 0 =
-    (let one : c.one_if-2.result ≡ cond (mode_waits c.remove.result.1.mode) 1 0 = search rules in
+    let waits : c.one_if-2.result ≡ cond (mode_waits (get_or l c.in-Ok.place d).entry.mode) 1 0 =
+    (let one : c.one_if-2.result ≡ cond (mode_waits c.remove.result.entry.mode) 1 0 = search rules in
     one ∙ ap (λ m. cond (mode_waits m) 1 0) mode) in
     let low = counted.signallers in
     let low_2 = counted.waiters in

@@ -2,7 +2,8 @@
 use Rattle.std.proofs.Common.{◌≡◌, ◌<◌, ℕ, ◌+◌, ◌^◌, Some, set, get_or, refl, sym, ap, subst, ◌∙◌, arith}
 use Rattle.std.specs.Prelude.{IfSome, Option}
 use Rattle.phase_base.specs.declared.entry.Entry.{Entry}
-use Rattle.phase_base.specs.Members.{entry_of, changed_at, signalled}
+use Rattle.phase_base.specs.declared.member.Member.{Member}
+use Rattle.phase_base.specs.Members.{member, entry_of, changed_at, signalled}
 use Rattle.phase_registry.specs.Rosters.{Roster, roster, AreRising, IsRoster}
 use Rattle.phase_registry.specs.Inside.{IsAt}
 use Rattle.phase_registry.proofs.Places.{not_member, entry_of-at, entry_of-gap, changed_at-place}
@@ -23,8 +24,8 @@ overflow_add-index_mut c =
     let is = entry_of-at members c.args.number c.in-Ok.place c.index_mut.result.now rising c.in-Ok.ensures.found in
     let here : c.index_mut.result.now ≡ get_or members c.in-Ok.place c.index_mut.result.now =
     c.index_mut.ensures.value ∙ ap (λ (r : Roster). get_or r.members c.in-Ok.place c.index_mut.result.now) c.self.view_is in
-    let found : entry_of members c.args.number ≡ Some c.index_mut.result.now.1 =
-    is ∙ ap (λ (m : ℕ × Entry). Some m.1) (sym here) in
+    let found : entry_of members c.args.number ≡ Some c.index_mut.result.now.entry =
+    is ∙ ap (λ (m : Member). Some m.entry) (sym here) in
     omega (arith, below_from _ _ _ found c.requires.below)
 
 pub invariant_of-self : goal.invariant_of-self
@@ -33,8 +34,8 @@ invariant_of-self c =
     let d = c.index_mut.result.now in
     let R : Roster → Type 0 = λ r. IsAt r.members c.args.number c.in-Ok.place in
     let at : IsAt l c.args.number c.in-Ok.place = subst R (sym c.self.view_is) c.in-Ok.ensures.found in
-    let M : ℕ × Entry → Type 0 = λ m. IsRoster (set l c.in-Ok.place (m.0, signalled c.args.phases m.1)) c.self.inside.greatest c.self.inside.signallers c.self.inside.waiters in
-    let N : ℕ → Type 0 = λ n. IsRoster (set l c.in-Ok.place (n, signalled c.args.phases (get_or l c.in-Ok.place d).1)) c.self.inside.greatest c.self.inside.signallers c.self.inside.waiters in
+    let M : Member → Type 0 = λ m. IsRoster (set l c.in-Ok.place (member m.task (signalled c.args.phases m.entry))) c.self.inside.greatest c.self.inside.signallers c.self.inside.waiters in
+    let N : ℕ → Type 0 = λ n. IsRoster (set l c.in-Ok.place (member n (signalled c.args.phases (get_or l c.in-Ok.place d).entry))) c.self.inside.greatest c.self.inside.signallers c.self.inside.waiters in
     subst M (sym c.index_mut.ensures.value) (subst N (sym (IsAt-number l c.args.number c.in-Ok.place d at))
     (IsRoster-changed l c.self.inside.greatest _ _ c.args.number c.in-Ok.place d (signalled c.args.phases) c.self.invariant at (λ e. refl)))
 
@@ -48,8 +49,8 @@ returns-in-Ok c =
     let R : Roster → Type 0 = λ r. IsAt r.members k place in
     let at : IsAt l k place = subst R (sym c.self.view_is) c.in-Ok.ensures.found in
     let rising = c.self.invariant.rising in
-    ap (λ (m : ℕ × Entry). roster (set l place (m.0, signalled c.args.phases m.1)) greatest) c.index_mut.ensures.value
-    ∙ ap (λ n. roster (set l place (n, signalled c.args.phases (get_or l place d).1)) greatest) (IsAt-number l k place d at)
+    ap (λ (m : Member). roster (set l place (member m.task (signalled c.args.phases m.entry))) greatest) c.index_mut.ensures.value
+    ∙ ap (λ n. roster (set l place (member n (signalled c.args.phases (get_or l place d).entry))) greatest) (IsAt-number l k place d at)
     ∙ ap (λ ms. roster ms greatest) (changed_at-place l k place d (signalled c.args.phases) at (none_before l k place rising at))
     ∙ ap (λ (r : Roster). roster (changed_at k (signalled c.args.phases) r.members) r.greatest) c.self.view_is
 
