@@ -22,7 +22,7 @@ use Rattle.phase_history.proofs.Steps.{member_entry_is}
 use Rattle.phase_core.proofs.NewCore.{done_of_boarded}
 use Rattle.phase_core.proofs.Boarded.{slowest_is}
 use Rattle.phase_core.proofs.Joining.{register_refusal_is}
-use Rattle.phase_ring.specs.Standings.{is, count_of}
+use Rattle.phase_ring.specs.Standings.{one_if_same, count_of}
 use Rattle.phase_ring.specs.Boards.{IsKept}
 use Rattle.phase_core.specs.Inside.{refusal_of_add}
 use Rattle.phase_core.specs.Cores.{CoreState, StandsFor, IsBoarded, IsCore, core_with, core_of}
@@ -52,7 +52,7 @@ pub registers_now : {A : Type 0} (op : Operation A) (reg new_reg : Roster) (b ne
     → entry_of reg.members parent ≡ Some e → register_now_refusal h parent child ≡ None
     → new_reg ≡ added child (entry_at Wait e.signal_phase b.done) reg
     → new.limits ≡ b.limits → new.done ≡ b.done → new.top ≡ b.top → sents new.ring ≡ sents b.ring
-    → ((p : ℕ) → standing new.ring Waiter p ≡ standing b.ring Waiter p + is b.done p)
+    → ((p : ℕ) → standing new.ring Waiter p ≡ standing b.ring Waiter p + one_if_same b.done p)
     → ((p : ℕ) → standing new.ring Signaller p ≡ standing b.ring Signaller p)
     → IsKept op new.ring new.limits.bound new.done new.top
     → JoinedNow op new_reg new (RegisteredNow parent child ∷ h)
@@ -73,7 +73,7 @@ registers_now {A} op reg new_reg b new h parent child e stands boarded found non
       signallers_are = λ p. (let m = others p in let t = boarded.signallers_are p in
           let c : count_of p (signal_phases want.members) ≡ count_of p (signal_phases reg.members) + 0 = counts-push Signaller p reg.members child x in omega arith);
       waiters_are = λ p. (let m = more p in let t = boarded.waiters_are p in
-          let c : count_of p (wait_phases want.members) ≡ count_of p (wait_phases reg.members) + is b.done p = counts-push Waiter p reg.members child x in omega arith);
+          let c : count_of p (wait_phases want.members) ≡ count_of p (wait_phases reg.members) + one_if_same b.done p = counts-push Waiter p reg.members child x in omega arith);
     } in
     let m : MayRegister h parent child Wait = registers_from h parent child Wait none in
     let high : greatest_used h < child = m.new_number in

@@ -9,8 +9,8 @@ use Rattle.phase_registry.specs.Rosters.{AreRising}
 use Rattle.phase_registry.proofs.Weights.{weigh, weigh-push, weigh-without, AreApart-from_rising, length-picked}
 use Rattle.phase_ring.specs.declared.role.Role.{Role}
 use Rattle.phase_ring.specs.declared.role.Role.TheVariants.{Signaller, Waiter}
-use Rattle.phase_ring.specs.Standings.{is, count_of, counted}
-use Rattle.phase_core.proofs.LeastCounts.{is-same}
+use Rattle.phase_ring.specs.Standings.{one_if_same, count_of, counted}
+use Rattle.phase_core.proofs.LeastCounts.{one-same}
 
 -- the phases at which the members stand in a role
 abbrev pub phases_of : Role → Members → List ℕ
@@ -20,14 +20,14 @@ phases_of Waiter ms = wait_phases ms
 -- how often a phase stands among those of the members that pass a test, as a sum
 count_of-picked : (test : Entry → Bool) (value : Entry → ℕ) (p : ℕ) (ms : Members)
     → count_of p (map (λ (m : Member). value m.entry) (filter (λ (m : Member). test m.entry) ms))
-    ≡ weigh (λ e. cond (test e) (is (value e) p) 0) ms
+    ≡ weigh (λ e. cond (test e) (one_if_same (value e) p) 0) ms
 count_of-picked test value p [] = refl
 count_of-picked test value p (m ∷ ms) =
     let rest = count_of-picked test value p ms in
     elim (test m.entry) as (λ b. count_of p (map (λ (x : Member). value x.entry)
     (cond b (m ∷ filter (λ (x : Member). test x.entry) ms)
     (filter (λ (x : Member). test x.entry) ms)))
-    ≡ cond b (is (value m.entry) p) 0 + weigh (λ e. cond (test e) (is (value e) p) 0) ms) [
+    ≡ cond b (one_if_same (value m.entry) p) 0 + weigh (λ e. cond (test e) (one_if_same (value e) p) 0) ms) [
       | true ↦ omega arith
       | false ↦ omega arith
     ]
@@ -77,10 +77,10 @@ count_of-few p (x ∷ xs) =
     let one = at_most x p in
     omega arith
   where
-    at_most : (m n : ℕ) → is m n ≤ 1
+    at_most : (m n : ℕ) → one_if_same m n ≤ 1
     at_most m n = elim (eqb m n) as (λ b. cond b 1 0 ≤ 1) [ true ↦ omega arith | false ↦ omega arith ]
 
 -- where a list has a number, some number stands in it
 pub some_counted : (xs : List ℕ) → (length xs ≡ 0 → ⊥) → (p : ℕ) × (0 < count_of p xs)
 some_counted [] some = absurd (some refl)
-some_counted (x ∷ xs) some = (x, let one = is-same x in omega arith)
+some_counted (x ∷ xs) some = (x, let one = one-same x in omega arith)

@@ -11,10 +11,10 @@ use Rattle.phase_ring.specs.declared.board.Board.{Board}
 use Rattle.phase_ring.specs.declared.role.Role.{Role}
 use Rattle.phase_ring.specs.declared.role.Role.TheVariants.{Signaller, Waiter}
 use Rattle.phase_ring.specs.Rings.{standing}
-use Rattle.phase_ring.specs.Standings.{is}
+use Rattle.phase_ring.specs.Standings.{one_if_same}
 use Rattle.phase_ring.specs.Boards.{IsKept}
 use Rattle.phase_core.specs.Cores.{StandsFor, IsBoarded, IsCore, core_of}
-use Rattle.phase_core.proofs.LeastCounts.{is-same}
+use Rattle.phase_core.proofs.LeastCounts.{one-same}
 use Rattle.phase_core.proofs.Boarded.{done_is}
 
 -- ---- a new core
@@ -26,7 +26,7 @@ pub record IsNew {A : Type 0} (op : Operation A) (reg : Roster) (b : Board A) (f
 
 pub made_core : {A : Type 0} (op : Operation A) (reg : Roster) (b : Board A) (first : ℕ)
     → reg ≡ roster (member first founder ∷ []) (Some first) → AreLimits b.limits → IsKept op b.ring b.limits.bound b.done b.top
-    → b.done ≡ 0 → b.top ≡ 0 → b.ring.base ≡ 0 → ((role : Role) (p : ℕ) → standing b.ring role p ≡ is 0 p)
+    → b.done ≡ 0 → b.top ≡ 0 → b.ring.base ≡ 0 → ((role : Role) (p : ℕ) → standing b.ring role p ≡ one_if_same 0 p)
     → IsNew op reg b first
 made_core {A} op reg b first reg_is are kept done top base standing_is =
     let want = roster (member first founder ∷ []) (Some first) in
@@ -40,7 +40,7 @@ made_core {A} op reg b first reg_is are kept done top base standing_is =
     let boarded : IsBoarded op want.members b.ring b.limits.bound b.done b.top = record {
       kept = kept;
       done_at = inl (omega arith);
-      base_at = (let w = standing_is Waiter b.ring.base in let z : is 0 b.ring.base ≡ is 0 0 = ap (is 0) base in let one = is-same 0 in omega arith);
+      base_at = (let w = standing_is Waiter b.ring.base in let z : one_if_same 0 b.ring.base ≡ one_if_same 0 0 = ap (one_if_same 0) base in let one = one-same 0 in omega arith);
       signallers_are = λ p. (let s = standing_is Signaller p in omega arith);
       waiters_are = λ p. (let s = standing_is Waiter p in omega arith);
     } in

@@ -23,7 +23,7 @@ use Rattle.phase_ring.specs.declared.board.Board.{Board}
 use Rattle.phase_ring.specs.declared.slot.Slot.{Slot}
 use Rattle.phase_ring.specs.declared.role.Role.TheVariants.{Signaller, Waiter}
 use Rattle.phase_ring.specs.Rings.{Ring, IsWithin, slot_at, standing, sents}
-use Rattle.phase_ring.specs.Standings.{is, count_of}
+use Rattle.phase_ring.specs.Standings.{one_if_same, count_of}
 use Rattle.phase_ring.specs.Boards.{IsKept}
 use Rattle.phase_ring.specs.Blocks.{joined_in, block_joined, BlockFits}
 use Rattle.phase_ring.proofs.Slots.{slot_at-some}
@@ -113,7 +113,7 @@ pub block_boarded : {A : Type 0} (op : Operation A) (reg new_reg : Roster) (b ne
     → entry_of reg.members task ≡ Some e → mode_signals e.mode ≡ true
     → new_reg ≡ roster (changed_at task (signalled n) reg.members) reg.greatest
     → new.ring.base ≡ b.ring.base
-    → ((p : ℕ) → standing new.ring Signaller p + is e.signal_phase p ≡ standing b.ring Signaller p + is (e.signal_phase + n) p)
+    → ((p : ℕ) → standing new.ring Signaller p + one_if_same e.signal_phase p ≡ standing b.ring Signaller p + one_if_same (e.signal_phase + n) p)
     → ((p : ℕ) → standing new.ring Waiter p ≡ standing b.ring Waiter p)
     → IsKept op new.ring new.limits.bound new.done new.top
     → (new.done ≡ new.top) ⊎ (0 < standing new.ring Signaller new.done)

@@ -18,12 +18,12 @@ use Rattle.phase_ring.specs.declared.role.Role.{Role}
 use Rattle.phase_ring.specs.declared.role.Role.TheVariants.{Signaller, Waiter}
 use Rattle.phase_ring.specs.Rings.{Ring, IsWithin, slot_at, with_slot, standing, sents}
 use Rattle.phase_ring.specs.Slots.{with_standing, standing_of, joined, first_of, merge_refusal, slot_value, IsUnused}
-use Rattle.phase_ring.specs.Standings.{is, other}
+use Rattle.phase_ring.specs.Standings.{one_if_same, other}
 use Rattle.phase_ring.specs.Boards.{IsKept}
 use Rattle.phase_ring.specs.Blocks.{joined_in, block_joined, BlockFits, value_in, value_at}
 use Rattle.phase_ring.proofs.Kept.{standing-within}
 use Rattle.phase_ring.proofs.Slots.{slot_at-some, slot_at-with_other, standing-with_same, merges}
-use Rattle.phase_ring.proofs.Moves.{Moves, is-same, is-other, leaves, enters}
+use Rattle.phase_ring.proofs.Moves.{Moves, one-same, one-other, leaves, enters}
 
 -- a phase that refuses nothing gets not too many sends
 pub few_joined : {A : Type 0} (slot : Slot A) (n : ℕ) (single : Option Single) → merge_refusal slot n single ≡ None → slot.count + n ≤ SENDS_MAX
@@ -126,7 +126,7 @@ pub record Hops {A : Type 0} (op : Operation A) (r new : Ring A) (bound done top
   pub kept : IsKept op new bound done top
   pub base_same : new.base ≡ r.base
   pub sents_same : sents new ≡ sents r
-  pub moved : (p : ℕ) → standing new role p + is q p ≡ standing r role p + is to p
+  pub moved : (p : ℕ) → standing new role p + one_if_same q p ≡ standing r role p + one_if_same to p
   pub others : (p : ℕ) → standing new (other role) p ≡ standing r (other role) p
 
 pub hops_on : {A : Type 0} (op : Operation A) (r r' new : Ring A) (bound done top q to : ℕ) (role : Role) → q < to → 0 < standing r role q
@@ -138,19 +138,19 @@ hops_on op r r' new bound done top q to role later some left entered = record {
   base_same = entered.base_same ∙ left.base_same;
   sents_same = entered.sents_same ∙ left.sents_same;
   moved = λ p. ⊎_elim
-      (λ here. let one = is-same q p here in let none = is-other to p (λ e. omega arith) in
+      (λ here. let one = one-same q p here in let none = one-other to p (λ e. omega arith) in
       let a : standing new role p ≡ standing r' role p = entered.apart p (λ e. omega arith) in
       let b : standing r' role p ≡ standing r role q - 1 = ap (standing r' role) here ∙ left.at in
       let c : standing r role p ≡ standing r role q = ap (standing r role) here in
       omega arith)
-      (λ apart. let none = is-other q p apart in
+      (λ apart. let none = one-other q p apart in
       let b : standing r' role p ≡ standing r role p = left.apart p apart in
       ⊎_elim
-      (λ next. let one = is-same to p next in
+      (λ next. let one = one-same to p next in
       let a : standing new role p ≡ standing r' role to + 1 = ap (standing new role) next ∙ entered.at in
       let d : standing r' role p ≡ standing r' role to = ap (standing r' role) next in
       omega arith)
-      (λ away. let none' = is-other to p away in
+      (λ away. let none' = one-other to p away in
       let a : standing new role p ≡ standing r' role p = entered.apart p away in
       omega arith)
       (cases_eq p to))
@@ -288,6 +288,6 @@ waiter_entering op r r1 r2 bound done top q to l later complete some entered =
 pub waits-there : {A : Type 0} (op : Operation A) (r r2 : Ring A) (bound done top q to : ℕ) → q < to → Hops op r r2 bound done top Waiter q to → 0 < standing r2 Waiter to
 waits-there op r r2 bound done top q to later s =
     let m = s.moved to in
-    let one = is-same to to refl in
-    let none = is-other q to (λ e. omega arith) in
+    let one = one-same to to refl in
+    let none = one-other q to (λ e. omega arith) in
     omega arith

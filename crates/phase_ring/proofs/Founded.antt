@@ -10,10 +10,10 @@ use Rattle.phase_ring.specs.declared.role.Role.{Role}
 use Rattle.phase_ring.specs.declared.role.Role.TheVariants.{Signaller, Waiter}
 use Rattle.phase_ring.specs.Slots.{IsUnused, empty_slot, standing_of, with_standing}
 use Rattle.phase_ring.specs.Rings.{Ring, IsWithin, fresh_ring, slot_at, with_slot, standing, standing_in}
-use Rattle.phase_ring.specs.Standings.{is}
+use Rattle.phase_ring.specs.Standings.{one_if_same}
 use Rattle.phase_ring.specs.Boards.{IsKept}
 use Rattle.phase_ring.proofs.Slots.{empty-standing, standing-in}
-use Rattle.phase_ring.proofs.Moves.{Moves, enters, is-same, is-other}
+use Rattle.phase_ring.proofs.Moves.{Moves, enters, one-same, one-other}
 
 -- ---- empty slots
 
@@ -78,7 +78,7 @@ next_within {A = A} op bound r r1 same m =
 pub record Founded {A : Type 0} (op : Operation A) (r : Ring A) (bound : ℕ) : Type 0 where
   pub kept : IsKept op r bound 0 0
   pub base : r.base ≡ 0
-  pub stands : (role : Role) (p : ℕ) → standing r role p ≡ is 0 p
+  pub stands : (role : Role) (p : ℕ) → standing r role p ≡ one_if_same 0 p
 
 pub founded : {A : Type 0} (op : Operation A) (bound : ℕ) (r r1 r2 : Ring A) → r ≡ fresh_ring op (bound + 1)
     → ((slot : Slot A) → slot_at r 0 ≡ Some slot → r1 ≡ with_slot 0 (with_standing Signaller (standing_of Signaller slot + 1) slot) r)
@@ -88,16 +88,16 @@ founded {A = A} op bound r r1 r2 same first second =
     let m = first_entered op bound r r1 same first in
     let n = enters op r1 r2 bound 0 0 0 Waiter m.kept (next_within op bound r r1 same m) (omega arith) second in
     let at : (role : Role) (p : ℕ) → (standing r2 role p ≡ standing r role p + 1) ⊎ (p ≡ 0 → ⊥) → (p ≡ 0) ⊎ (standing r2 role p ≡ standing r role p)
-    → standing r2 role p ≡ is 0 p = λ role p one none.
+    → standing r2 role p ≡ one_if_same 0 p = λ role p one none.
     let z = fresh_few op bound r role p same in
     ⊎_elim
-    (λ here. let i = is-same 0 p here in ⊎_elim (λ e. omega arith) (λ apart. absurd (apart here)) one)
-    (λ apart. let i = is-other 0 p apart in ⊎_elim (λ here. absurd (apart here)) (λ e. omega arith) none)
+    (λ here. let i = one-same 0 p here in ⊎_elim (λ e. omega arith) (λ apart. absurd (apart here)) one)
+    (λ apart. let i = one-other 0 p apart in ⊎_elim (λ here. absurd (apart here)) (λ e. omega arith) none)
     (cases_eq p 0) in
     record {
       kept = n.kept;
       base = n.base_same ∙ m.base_same ∙ ap (λ (x : Ring A). x.base) same;
-      stands = λ role p. elim role as (λ ro. standing r2 ro p ≡ is 0 p) [
+      stands = λ role p. elim role as (λ ro. standing r2 ro p ≡ one_if_same 0 p) [
         | Signaller ↦ at Signaller p
             (⊎_elim (λ here. inl (n.others p ∙ ap (standing r1 Signaller) here ∙ m.at ∙ ap (λ q. standing r Signaller q + 1) (sym here))) (λ apart. inr apart) (cases_eq p 0))
             (⊎_elim (λ here. inl here) (λ apart. inr (n.others p ∙ m.apart p apart)) (cases_eq p 0))

@@ -11,10 +11,10 @@ use Rattle.phase_ring.specs.declared.role.Role.{Role}
 use Rattle.phase_ring.specs.declared.role.Role.TheVariants.{Signaller, Waiter}
 use Rattle.phase_ring.specs.Slots.{standing_of, with_standing, sent}
 use Rattle.phase_ring.specs.Rings.{Ring, IsWithin, slot_at, with_slot, standing, standing_in, sents, KeepsSlots}
-use Rattle.phase_ring.specs.Standings.{is, other, takes_part, phase_for, counted}
+use Rattle.phase_ring.specs.Standings.{one_if_same, other, takes_part, phase_for, counted}
 use Rattle.phase_ring.specs.Boards.{IsKept}
 use Rattle.phase_ring.proofs.Slots.{IsPlace, standing-out, standing-in, slot_at-past}
-use Rattle.phase_ring.proofs.Moves.{is-same, is-other, enters, leaves}
+use Rattle.phase_ring.proofs.Moves.{one-same, one-other, enters, leaves}
 
 -- ---- slots
 
@@ -61,8 +61,8 @@ pub record Counts {A : Type 0} (op : Operation A) (r new : Ring A) (bound done t
   pub same : sents new ≡ sents r
   pub others : (p : ℕ) → standing new (other role) p ≡ standing r (other role) p
 
-counted-of : (role : Role) (entry : Entry) (q p : ℕ) → q ≡ phase_for role entry → takes_part role entry ≡ true → counted role entry p ≡ is q p
-counted-of role entry q p at takes = ap (λ b. cond b (is (phase_for role entry) p) 0) takes ∙ ap (λ n. is n p) (sym at)
+counted-of : (role : Role) (entry : Entry) (q p : ℕ) → q ≡ phase_for role entry → takes_part role entry ≡ true → counted role entry p ≡ one_if_same q p
+counted-of role entry q p at takes = ap (λ b. cond b (one_if_same (phase_for role entry) p) 0) takes ∙ ap (λ n. one_if_same n p) (sym at)
 
 pub entered : {A : Type 0} (op : Operation A) (r new : Ring A) (bound done top q : ℕ) (role : Role) (entry : Entry) → q ≡ phase_for role entry
     → takes_part role entry ≡ true → IsKept op r bound done top → (takes_part role entry ≡ true → 0 < standing r role (phase_for role entry))
@@ -74,8 +74,8 @@ entered op r new bound done top q role entry at takes k stands goes =
       record { kept = m.kept; same = m.sents_same; others = m.others },
       λ p. (let c = counted-of role entry q p at takes in
           ⊎_elim
-          (λ here. let one = is-same q p here in let a = ap (standing new role) here ∙ m.at in let b = ap (standing r role) here in omega arith)
-          (λ apart. let none = is-other q p apart in let a = m.apart p apart in omega arith)
+          (λ here. let one = one-same q p here in let a = ap (standing new role) here ∙ m.at in let b = ap (standing r role) here in omega arith)
+          (λ apart. let none = one-other q p apart in let a = m.apart p apart in omega arith)
           (cases_eq p q)),
     )
 
@@ -89,7 +89,7 @@ left op r new bound done top q role entry at takes k stands goes =
       record { kept = m.kept; same = m.sents_same; others = m.others },
       λ p. (let c = counted-of role entry q p at takes in
           ⊎_elim
-          (λ here. let one = is-same q p here in let a = ap (standing new role) here ∙ m.at in let b = ap (standing r role) here in omega arith)
-          (λ apart. let none = is-other q p apart in let a = m.apart p apart in omega arith)
+          (λ here. let one = one-same q p here in let a = ap (standing new role) here ∙ m.at in let b = ap (standing r role) here in omega arith)
+          (λ apart. let none = one-other q p apart in let a = m.apart p apart in omega arith)
           (cases_eq p q)),
     )

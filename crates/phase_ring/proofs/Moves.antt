@@ -7,15 +7,15 @@ use Rattle.phase_ring.specs.declared.role.Role.{Role}
 use Rattle.phase_ring.specs.declared.role.Role.TheVariants.{Signaller, Waiter}
 use Rattle.phase_ring.specs.Rings.{Ring, IsWithin, slot_at, with_slot, standing, sents}
 use Rattle.phase_ring.specs.Slots.{with_standing, standing_of}
-use Rattle.phase_ring.specs.Standings.{is, other}
+use Rattle.phase_ring.specs.Standings.{one_if_same, other}
 use Rattle.phase_ring.specs.Boards.{IsKept}
 use Rattle.phase_ring.proofs.Slots.{IsPlace, slot_at-some, standing-at, standing-with_at, standing-with_other, standing-with_same, sents-with, stands}
 
-pub is-same : (q p : ℕ) → p ≡ q → is q p ≡ 1
-is-same q p e = ap (λ b. cond b 1 0) (eq-eqb q p (sym e))
+pub one-same : (q p : ℕ) → p ≡ q → one_if_same q p ≡ 1
+one-same q p e = ap (λ b. cond b 1 0) (eq-eqb q p (sym e))
 
-pub is-other : (q p : ℕ) → (p ≡ q → ⊥) → is q p ≡ 0
-is-other q p apart = ap (λ b. cond b 1 0) (ne_eqb q p (λ e. apart (sym e)))
+pub one-other : (q p : ℕ) → (p ≡ q → ⊥) → one_if_same q p ≡ 0
+one-other q p apart = ap (λ b. cond b 1 0) (ne_eqb q p (λ e. apart (sym e)))
 
 -- a number of the role stands at a phase now
 pub record Moves {A : Type 0} (op : Operation A) (r new : Ring A) (bound done top : ℕ) (role : Role) (q n : ℕ) : Type 0 where

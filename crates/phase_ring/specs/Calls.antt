@@ -6,7 +6,7 @@ use Rattle.phase_ring.specs.declared.board.Board.{Board}
 use Rattle.phase_ring.specs.declared.role.Role.{Role}
 use Rattle.phase_ring.specs.declared.role.Role.TheVariants.{Signaller, Waiter}
 use Rattle.phase_ring.specs.Rings.{Ring, standing}
-use Rattle.phase_ring.specs.Standings.{is, other, counted}
+use Rattle.phase_ring.specs.Standings.{one_if_same, other, counted}
 
 -- ---- before a call
 
@@ -42,7 +42,8 @@ pub record KeepsBounds {A : Type 0} (old new : Board A) : Type 0 where
 
 -- one of the role has gone from a phase to another, and nobody else has moved
 pub record HasMoved {A : Type 0} (role : Role) (from to : ℕ) (old new : Ring A) : Type 0 where
-  pub moved : (p : ℕ) → standing new role p + is from p ≡ standing old role p + is to p
+  pub moved : (p : ℕ)
+      → standing new role p + one_if_same from p ≡ standing old role p + one_if_same to p
   pub others : (p : ℕ) → standing new (other role) p ≡ standing old (other role) p
 
 -- a signaller has gone on over the phases that it signalled, and the top is not below it

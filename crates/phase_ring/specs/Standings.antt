@@ -21,14 +21,15 @@ phase_for Signaller entry = entry.signal_phase
 phase_for Waiter entry = entry.wait_phase
 
 -- 1 where two numbers are the same, else 0
-abbrev pub is : ℕ → ℕ → ℕ
-is m n = if m == n then 1 else 0
+abbrev pub one_if_same : ℕ → ℕ → ℕ
+one_if_same m n = if m == n then 1 else 0
 
 -- how often a number stands in a list
 abbrev pub count_of : ℕ → List ℕ → ℕ
 count_of n [] = 0
-count_of n (m ∷ ms) = is m n + count_of n ms
+count_of n (m ∷ ms) = one_if_same m n + count_of n ms
 
 -- 1 where a task with this entry stands at the phase in the role, else 0
 abbrev pub counted : Role → Entry → ℕ → ℕ
-counted role entry phase = if takes_part role entry then is (phase_for role entry) phase else 0
+counted role entry phase =
+    if takes_part role entry then one_if_same (phase_for role entry) phase else 0

@@ -6,7 +6,7 @@ ghost use Rattle.phase_ring.specs.declared.role.Role.TheVariants.{Signaller, Wai
 ghost use Rattle.phase_ring.specs.Slots.{slot_value, joined, merge_refusal, IsUnused};
 ghost use Rattle.phase_ring.specs.Rings.{standing, sents, slot_at, with_slot, is_sealed, cleared};
 ghost use Rattle.phase_ring.specs.Rings.{IsWithin, KeepsSlots};
-ghost use Rattle.phase_ring.specs.Standings.{is, other, takes_part, phase_for, counted};
+ghost use Rattle.phase_ring.specs.Standings.{one_if_same, other, takes_part, phase_for, counted};
 ghost use Rattle.phase_ring.specs.Boards.{IsBoard};
 ghost use Rattle.phase_ring.specs.Blocks.{block_joined, block_values, BlockFits};
 ghost use Rattle.phase_ring.specs.Calls.{MaySignal, MayWait, IsSettled, KeepsBounds};
@@ -46,7 +46,7 @@ impl<A: Accumulate> Board<A> {
         ensures top { IfOk result (λ now. now.top ≡ 0) }
         ensures base { IfOk result (λ now. now.ring.base ≡ 0) }
         ensures standing { IfOk result (λ now. (role : Role) (p : ℕ)
-            → standing now.ring role p ≡ is 0 p) }
+            → standing now.ring role p ≡ one_if_same 0 p) }
     {
         let mut ring = SlotRing::<A>::with_bound(alloc, limits.bound())?;
         ring.enter(0, Role::Signaller);
@@ -289,7 +289,7 @@ impl<A: Accumulate> Board<A> {
         ensures keeps { KeepsBounds self.old self.new }
         ensures same { sents self.new.ring ≡ sents self.old.ring }
         ensures standing { (p : ℕ) → standing self.new.ring Waiter p
-            ≡ standing self.old.ring Waiter p + is self.old.done p }
+            ≡ standing self.old.ring Waiter p + one_if_same self.old.done p }
         ensures others { (p : ℕ)
             → standing self.new.ring Signaller p ≡ standing self.old.ring Signaller p }
     {

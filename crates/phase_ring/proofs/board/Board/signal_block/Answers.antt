@@ -5,7 +5,7 @@ use Rattle.phase_base.specs.declared.limits.TheConstants.{MEMBERS_MAX}
 use Rattle.phase_ring.specs.declared.role.Role.TheVariants.{Signaller, Waiter}
 use Rattle.phase_ring.specs.Rings.{Ring, standing, sents}
 use Rattle.phase_ring.specs.Boards.{IsKept}
-use Rattle.phase_ring.specs.Standings.{is}
+use Rattle.phase_ring.specs.Standings.{one_if_same}
 use Rattle.phase_ring.specs.Blocks.{block_joined}
 use Rattle.phase_ring.proofs.Slots.{sealed-high}
 use Rattle.phase_ring.proofs.Blocks.{joins_first, joins_within, joins_unused, joins_here, joins_next, joins_last}
@@ -132,7 +132,7 @@ returns g c =
         base = ap (λ (r : Ring g.row.A.Denot). r.base) o.same ∙ j.base_same;
         top = (let a = o.top in let b = c.max-self.ensures in let d = c.loop-pending.invariant.3 in omega arith);
         moves = record {
-          moved = λ p. (let a = o.moved.moved p in let d = j.stands Signaller p in let n = ap (λ k. is k p) to_is in omega arith);
+          moved = λ p. (let a = o.moved.moved p in let d = j.stands Signaller p in let n = ap (λ k. one_if_same k p) to_is in omega arith);
           others = λ p. o.moved.others p ∙ j.stands Waiter p;
         };
       };
