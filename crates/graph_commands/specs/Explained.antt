@@ -75,13 +75,14 @@ pub record IsNoJobExplained {W : Type 0} (known : Known) (name : List ℕ) (stat
   pub no_job : ExplainsNoJob known name status before after
   pub silent : new ≡ old
 
--- how a check and an evaluation end that explain: as without that, or the files tell no job
+-- how a check ends that explains: as without that, or the files tell no job
 abbrev pub CheckEndsExplained : {W : Type 0} → Known → List ℕ → ℕ → (W → Option (List ℕ))
     → Watched W → Watched W → WriterState → WriterState → Type 0
 CheckEndsExplained known name status contents old new before after =
     CheckEnds known name status contents old new before after
     ⊎ IsNoJobExplained known name status old new before after
 
+-- and how an evaluation does
 abbrev pub EvalEndsExplained : {W : Type 0} → Known → List ℕ → Option (List ℕ) → ℕ
     → (W → Option (List ℕ)) → Watched W → Watched W → WriterState → WriterState → Type 0
 EvalEndsExplained known name asked status contents old new before after =

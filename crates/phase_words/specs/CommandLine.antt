@@ -108,11 +108,12 @@ abbrev pub explain_of : Option Text → Explain
 explain_of None = No
 explain_of (Some value) = if bytes_eq value (codes "true") then Yes else No
 
--- a check, and an evaluation, with an explanation or without
+-- a check with an explanation or without
 abbrev pub check_by : Explain → Text → Asked
 check_by No name = check name
 check_by Yes name = check_explained name
 
+-- an evaluation with an explanation or without
 abbrev pub eval_by : Explain → Text → Option Text → Asked
 eval_by No name sink = eval name sink
 eval_by Yes name sink = eval_explained name sink
@@ -158,10 +159,11 @@ AskEval words name sink = Asks words (eval name sink)
 abbrev pub AskDraw : List Text → Text → Type 0
 AskDraw words name = Asks words (draw name)
 
--- the words ask for a check, and for an evaluation, and for an explanation of a fault
+-- the words ask for a check, and for an explanation of a fault
 abbrev pub AskCheckExplained : List Text → Text → Type 0
 AskCheckExplained words name = Asks words (check_explained name)
 
+-- the words ask for an evaluation, and for an explanation of a fault
 abbrev pub AskEvalExplained : List Text → Text → Option Text → Type 0
 AskEvalExplained words name sink = Asks words (eval_explained name sink)
 
