@@ -147,6 +147,28 @@ fn a_block_past_the_last_phase_is_spent(rt: HostRuntime) -> Result<(), Fail> {
 }
 
 #[test]
+fn a_block_of_new_phases_goes_up_to_the_limits(rt: HostRuntime) -> Result<(), Fail> {
+    let mut core = founded(rt.alloc(), 4, 6)?;
+    core.register(0, 1, Mode::Sig)?;
+    core.register(0, 2, Mode::Wait)?;
+    core.drop_task(0)?;
+    let mut out = [UNWRITTEN; 4];
+    assert_eq!(rt; signal(rt.alloc(), &mut core, 1, &[5])?, Ok(0));
+    assert_eq!(rt;
+        signal(rt.alloc(), &mut core, 1, &[6, 7, 8, 9])?,
+        Err(SignalRefusal::Ahead)
+    );
+    assert_eq!(rt; signal(rt.alloc(), &mut core, 1, &[6, 7, 8])?, Ok(1));
+    assert_eq!(rt; core.wait_block(2, &mut out), values(0, 4));
+    assert_eq!(rt;
+        signal(rt.alloc(), &mut core, 1, &[9, 10, 11])?,
+        Err(SignalRefusal::Spent)
+    );
+    assert_eq!(rt; signal(rt.alloc(), &mut core, 1, &[9, 10])?, Ok(4));
+    Ok(())
+}
+
+#[test]
 fn a_value_of_a_block_may_be_too_big(rt: HostRuntime) -> Result<(), Fail> {
     let mut core = founded(rt.alloc(), 2, 100)?;
     core.register(0, 1, Mode::Sig)?;

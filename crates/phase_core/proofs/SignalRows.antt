@@ -1,9 +1,9 @@
 -- The refusal of a signal: the rows of its phases by the ring's slots are those of any history that
 -- the core stands for.
-use Rattle.std.proofs.Common.{◌≡◌, ℕ, ℤ, ◌+◌, ◌<◌, ◌≤◌, Bool, true, false, ◌&&◌, cond, eqb, ltb, leb, List, [], ◌∷◌, ◌++◌, Option, Some, None, Err, length, refl, sym, ap, subst, ◌∙◌, arith, zero, suc, drop, slice_index_or, ⊎_elim}
+use Rattle.std.proofs.Common.{◌≡◌, ℕ, ℤ, ◌+◌, ◌<◌, ◌≤◌, Bool, true, false, not, ◌&&◌, cond, eqb, ltb, leb, List, [], ◌∷◌, ◌++◌, Option, Some, None, Err, length, refl, sym, ap, subst, ◌∙◌, arith, zero, suc, drop, slice_index_or, ⊎_elim}
 use Rattle.std.specs.Prelude.{is_some, IsSome}
 use Rattle.std.specs.Option.{option_map}
-use Rattle.std.proofs.lemmas.Bool.{leb-false, le-ltb, cases_lt}
+use Rattle.std.proofs.lemmas.Bool.{leb-true, leb-false, lt-leb, le-ltb, cases_lt}
 use Rattle.phase_base.specs.Limits.{Limits}
 use Rattle.phase_base.specs.Modes.{mode_waits}
 use Rattle.phase_base.specs.declared.entry.Entry.{Entry}
@@ -20,7 +20,7 @@ use Rattle.phase_history.specs.Phases.{sends_of_phase, named_in_phase}
 use Rattle.phase_history.specs.Refusals.{signal_refusal, is_ahead, phase_rows, list_rows}
 use Rattle.phase_base.specs.Lists.{first_row}
 use Rattle.phase_history.specs.Replies.{signal_reply, refused_or}
-use Rattle.phase_history.proofs.Refused.{no_row}
+use Rattle.phase_history.proofs.Refused.{no_row, first_row_none}
 use Rattle.phase_registry.specs.Rosters.{Roster}
 use Rattle.phase_ring.specs.declared.slot.Slot.{Slot}
 use Rattle.phase_ring.specs.Slots.{merge_refusal, IsUnused}
@@ -33,7 +33,9 @@ use Rattle.phase_core.specs.Cores.{StandsFor, IsBoarded, core_with}
 use Rattle.phase_core.proofs.RingSlots.{slot_keeps}
 use Rattle.std.proofs.lemmas.List.{drop_more}
 use Rattle.phase_ring.specs.Blocks.{BlockFits}
+use Rattle.phase_ring.specs.Boards.{IsKept}
 use Rattle.phase_core.specs.Blocks.{StandForLists, named_at, count_at, block_rows, IsOpen}
+use Rattle.phase_core.specs.Inside.{are_new}
 use Rattle.phase_core.proofs.CoreSteps.{none_from_top}
 
 -- ---- a table in two parts
@@ -278,12 +280,71 @@ unused_takes op slot n single unused few =
     ap (λ o. cond (differs o single) (Some merge.SingleDiffers) (cond (ltb SENDS_MAX (slot.count + n)) (Some merge.PhaseFull) None)) unused.named_is
     ∙ ap (λ b. cond b (Some merge.PhaseFull) None) (le-ltb SENDS_MAX (slot.count + n) fits)
 
+-- ---- a block of phases that no signal has joined
+
+all_four : (a b c d : Bool) → (a && b && c && d) ≡ true → (a ≡ true) × ((b ≡ true) × ((c ≡ true) × (d ≡ true)))
+all_four true true true d is = (refl, (refl, (refl, is)))
+all_four true true false d is = absurd (cc)
+all_four true false c d is = absurd (cc)
+all_four false b c d is = absurd (cc)
+
+not_true : (b : Bool) → not b ≡ true → b ≡ false
+not_true true is = absurd (cc)
+not_true false is = refl
+
+-- no row of the first phases of an entry applies
+new_row : (limits : Limits) (b : ℕ) (e : Entry) → mode_waits e.mode ≡ false → e.signal_phase < limits.phases_max → e.signal_phase < b + limits.bound
+    → first_row (phase_rows limits (Some b) 0 None 0 None e) ≡ None
+new_row limits b e waits far near =
+    first_row_none (phase_rows limits (Some b) 0 None 0 None e)
+    (ap (λ w. w && eqb e.signal_phase (e.wait_phase + 1)) waits, (lt-leb limits.phases_max e.signal_phase far, (lt-leb (b + limits.bound) e.signal_phase near, (refl, (refl, tt)))))
+
+-- and none of a block's
+new_rows : {A : Type 0} (op : Operation A) (limits : Limits) (r : Ring A) (done top : ℕ) (held : List (Parcel A)) (lists : List (List ℤ)) (single : Option Single) (e : Entry)
+    → IsKept op r limits.bound done top → mode_waits e.mode ≡ false → top ≤ e.signal_phase → e.signal_phase + length held ≤ limits.phases_max
+    → e.signal_phase + length held ≤ r.base + limits.bound → StandForLists op held lists → first_row (block_rows limits (Some r.base) r held single e) ≡ None
+new_rows op limits r done top [] lists single e kept waits above far near holds = refl
+new_rows op limits r done top (held ∷ more) [] single e kept waits above far near holds = absurd holds
+new_rows op limits r done top (held ∷ more) (sends ∷ lists) single e kept waits above far near holds =
+    let o = slot_at r e.signal_phase in
+    let rows = phase_rows limits (Some r.base) (count_at o) (named_at o) held.count single e in
+    let rest = block_rows limits (Some r.base) r more single (signalled 1 e) in
+    let up = kept.done_top in
+    let base = kept.base_done in
+    let row = new_row limits r.base e waits (omega arith) (omega arith) in
+    let few : held.count ≤ SENDS_MAX = (let n = holds.0.count_is in let most = holds.0.part_is.few in omega arith) in
+    let opened : IsOpen op r limits.bound done top (Some r.base) e.signal_phase = record { kept = kept; slowest_is = refl; low = omega arith } in
+    let none : None ≡ first_row rows =
+    phase_by_ring op limits (Some r.base) r done top e held single None None opened (sym row) refl
+    (λ slot at. unused_takes op slot held.count single (kept.unused e.signal_phase slot (omega arith) at above) few) in
+    first_row-append rows rest
+    ∙ ap (λ x. first_or x (first_row rest)) (sym none)
+    ∙ new_rows op limits r done top more lists single (signalled 1 e) kept waits (omega arith) (omega arith) (omega arith) holds.1
+
+abbrev or_zero : Option ℕ → ℕ
+or_zero None = 0
+or_zero (Some n) = n
+
+pub rows_of_new : {A : Type 0} (op : Operation A) (limits : Limits) (slowest : Option ℕ) (r : Ring A) (done top : ℕ) (held : List (Parcel A)) (lists : List (List ℤ)) (single : Option Single) (e : Entry)
+    (answer : Bool) → (IsSome slowest → IsOpen op r limits.bound done top slowest e.signal_phase) → StandForLists op held lists
+    → answer ≡ are_new limits slowest top (length held) e → answer ≡ true → None ≡ first_row (block_rows limits slowest r held single e)
+rows_of_new op limits None r done top held lists single e answer opened holds are so = absurd (cc)
+rows_of_new op limits (Some b) r done top held lists single e answer opened holds are so =
+    let is = opened refl in
+    let base : b ≡ r.base = ap or_zero is.slowest_is in
+    let all = all_four (not (mode_waits e.mode)) (leb top e.signal_phase) (leb (e.signal_phase + length held) limits.phases_max)
+    (leb (e.signal_phase + length held) (b + limits.bound)) (sym are ∙ so) in
+    let above = leb-true top e.signal_phase all.1.0 in
+    let far = leb-true (e.signal_phase + length held) limits.phases_max all.1.1.0 in
+    let near : e.signal_phase + length held ≤ b + limits.bound = leb-true (e.signal_phase + length held) (b + limits.bound) all.1.1.1 in
+    sym (ap (λ x. first_row (block_rows limits (Some x) r held single e)) base
+    ∙ new_rows op limits r done top held lists single e is.kept (not_true (mode_waits e.mode) all.0) above far (omega arith) holds)
+
 -- ---- the loop over a block's parcels
 
-pub record ListsLoop {A : Type 0} (op : Operation A) (limits : Limits) (slowest : Option ℕ) (r : Ring A) (lists : List (Parcel A)) (single : Option Single) (entry at : Entry) (i : ℕ) : Type 0 where
+pub record ListsLoop {A : Type 0} (limits : Limits) (slowest : Option ℕ) (r : Ring A) (lists : List (Parcel A)) (single : Option Single) (entry at : Entry) (i : ℕ) : Type 0 where
   pub phase_is : at.signal_phase ≡ entry.signal_phase + i
   pub left : first_row (block_rows limits slowest r (drop i lists) single at) ≡ first_row (block_rows limits slowest r lists single entry)
-  pub held : (rest : List (List ℤ)) → StandForLists op (drop i lists) rest → (all : List (List ℤ)) × StandForLists op lists all
 
 pub rows_at : {A : Type 0} (limits : Limits) (slowest : Option ℕ) (r : Ring A) (lists : List (Parcel A)) (held : Parcel A) (single : Option Single) (at : Entry) (i : ℕ) (o w : Option SignalRefusal)
     → first_row (block_rows limits slowest r (drop i lists) single at) ≡ w → i < length lists → held ≡ slice_index_or lists i held

@@ -1,9 +1,10 @@
 //! The refusals that the signals of a block meet in their phases.
-ghost use Rattle.std.specs.Prelude.{◌≡◌, ◌+◌, ◌≤◌, ℤ, List, None, IsSome, length};
+ghost use Rattle.std.specs.Prelude.{◌≡◌, ◌+◌, ◌≤◌, ℤ, List, None, IsSome, length, true};
 ghost use Rattle.phase_history.specs.Refusals.{phase_rows};
 ghost use Rattle.phase_base.specs.Lists.{first_row};
 ghost use Rattle.phase_ring.specs.Rings.{slot_at};
 ghost use Rattle.phase_core.specs.Blocks.{StandForLists, block_rows, count_at, named_at, IsOpen};
+ghost use Rattle.phase_core.specs.Inside.{are_new};
 
 use crate::refusal_rows;
 use phase_accum::{Accumulate, Pending, Single};
@@ -46,6 +47,38 @@ pub fn list_refusal<A: Accumulate>(
     }
 }
 
+// Whether a task that does not wait may signal so many phases from its own on, none of which any
+// signal has joined. Then no phase refuses its signal.
+fn are_open<A: Accumulate>(
+    board: &Board<A>,
+    slowest: Option<u64>,
+    entry: Entry,
+    phases: u64,
+) -> bool
+    requires { entry.signal_phase + phases ≤ 9223372036854775808 }
+    ensures { result ≡ are_new board.now.limits slowest board.now.top phases entry }
+{
+    let Some(slowest) = slowest else {
+        return false;
+    };
+    let end = entry.signal_phase + phases;
+    !entry.mode.waits()
+        && board.top <= entry.signal_phase
+        && end <= board.limits.phases_max()
+        && end.saturating_sub(slowest) <= board.limits.bound()
+}
+
+// Whether sends are held in each of them, which is always so. Only a condition of `prove!` asks it.
+fn are_held<A: Accumulate>(lists: &[Pending<A>]) -> bool
+    ensures always { result ≡ true }
+    ensures held { (sends : List (List ℤ)) × StandForLists A.operation lists.now sends }
+{
+    for pending in lists {
+        let _part = pending.part();
+    }
+    true
+}
+
 /// The first refusal that the signals of a block meet in their phases, the first of which is the
 /// entry's.
 pub fn lists_refusal<A: Accumulate>(
@@ -64,9 +97,13 @@ pub fn lists_refusal<A: Accumulate>(
     ensures held { result ≡ None
         → (sends : List (List ℤ)) × StandForLists A.operation lists.now sends }
 {
+    prove!(are_held(lists));
+    let phases = lists.len() as u64;
+    if are_open(board, slowest, entry, phases) {
+        return None;
+    }
     let mut at = entry;
     for pending in lists {
-        let _part = pending.part();
         let refusal = list_refusal(board, slowest, at, pending, single);
         if refusal.is_some() {
             return refusal;

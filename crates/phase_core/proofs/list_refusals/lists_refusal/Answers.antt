@@ -3,11 +3,11 @@ use Rattle.std.proofs.Common.{◌≤◌, List, [], length, refl, sym, ap, subst,
 use Rattle.phase_accum.specs.Parcels.{Parcel}
 use Rattle.phase_base.specs.Lists.{first_row}
 use Rattle.phase_core.specs.Blocks.{StandForLists, block_rows}
-use Rattle.phase_core.proofs.SignalRows.{rows_at, first_or-some, none-of, first_or-past, held_next, drop-past}
+use Rattle.phase_core.proofs.SignalRows.{rows_at, first_or-some, none-of, first_or-past, drop-past, rows_of_new}
 use Rattle.phase_core.proofs.list_refusals.lists_refusal.Goals as goal
 
 pub loop-pending-init : goal.loop-pending-init
-loop-pending-init g c = record { phase_is = omega arith; left = refl; held = λ rest holds. (rest, holds) }
+loop-pending-init g c = record { phase_is = omega arith; left = refl }
 
 pub list_refusal-refusal-requires : goal.list_refusal-refusal-requires
 list_refusal-refusal-requires g c some =
@@ -15,6 +15,13 @@ list_refusal-refusal-requires g c some =
     let low = opened.low in
     let is = c.loop-pending.invariant.phase_is in
     record { kept = opened.kept; slowest_is = opened.slowest_is; low = omega arith }
+
+pub returns-then-are_open-clause-rows : goal.returns-then-are_open-clause-rows
+returns-then-are_open-clause-rows g c =
+    let b = c.args.board.now in
+    let held = c.are_held.ensures.held in
+    rows_of_new g.A.Accumulate.operation b.limits c.args.slowest b.ring b.done b.top c.args.lists.now held.0 c.args.single.now c.args.entry c.are_open.result
+    c.requires.opened held.1 c.are_open.ensures c.if-are_open.true
 
 pub returns-then-is_some-clause-rows : goal.returns-then-is_some-clause-rows
 returns-then-is_some-clause-rows g c =
@@ -36,19 +43,12 @@ loop-pending-preserved g c =
     record {
       phase_is = omega arith;
       left = first_or-past c.list_refusal-refusal.result _ w none all;
-      held = held_next g.A.Accumulate.operation c.args.lists.now c.pending-item.result c.part-part.ensures.held.0 c.loop-pending.pending-index _ i.held
-          c.loop-pending-test.true c.pending-item.is c.part-part.ensures.held.1;
     }
 
 pub returns-clause-rows : goal.returns-clause-rows
 returns-clause-rows g c =
     let b = c.args.board.now in
     let past : length c.args.lists.now ≤ c.loop-pending.pending-index = c.loop-pending-test.false in
-    ap (λ (xs : List (Parcel g.row.A.Denot)). first_row (block_rows b.limits c.args.slowest b.ring xs c.args.single.now c.loop-pending.at)) (sym (drop-past c.args.lists.now c.loop-pending.pending-index past))
-    ∙ c.loop-pending.invariant.left
-
-pub returns-clause-held : goal.returns-clause-held
-returns-clause-held g c none =
-    let past : length c.args.lists.now ≤ c.loop-pending.pending-index = c.loop-pending-test.false in
-    let S : List (Parcel g.row.A.Denot) → Type 0 = λ xs. StandForLists g.A.Accumulate.operation xs [] in
-    c.loop-pending.invariant.held [] (subst S (sym (drop-past c.args.lists.now c.loop-pending.pending-index past)) tt)
+    let w = first_row (block_rows b.limits c.args.slowest b.ring c.args.lists.now c.args.single.now c.args.entry) in
+    ◌∙◌ {c = w} (ap (λ (xs : List (Parcel g.row.A.Denot)). first_row (block_rows b.limits c.args.slowest b.ring xs c.args.single.now c.loop-pending.at)) (sym (drop-past c.args.lists.now c.loop-pending.pending-index past)))
+    c.loop-pending.invariant.left
