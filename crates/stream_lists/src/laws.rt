@@ -1,9 +1,11 @@
-//! The number behind the constant. The contract of the function is the law.
+//! The numbers behind the constants. The contract of the function is the law.
 ghost use Rattle.std.specs.Prelude.{◌≡◌, ◌^◌};
 
+use crate::job::SAMPLES_MAX;
 use crate::span::LENGTH_MAX;
 
-/// The limit of a list, as a number of phases.
+/// The limits of a list, in phases, and of a source, in samples.
 pub fn limits_are()
-    ensures { LENGTH_MAX ≡ 2 ^ 97 }
+    ensures lengths { LENGTH_MAX ≡ 2 ^ 97 }
+    ensures samples { SAMPLES_MAX ≡ 67108864 }
 {}
