@@ -10,8 +10,7 @@ use Rattle.phase_accum.specs.Operations.{Operation, IsPartOf}
 use Rattle.phase_history.specs.Histories.{History, top_of}
 use Rattle.phase_history.specs.Phases.{first_named}
 use Rattle.phase_registry.specs.Rosters.{Roster}
-use Rattle.phase_ring.specs.declared.slot.Slot.{Slot}
-use Rattle.phase_ring.specs.Slots.{IsUnused, first_of, sent}
+use Rattle.phase_ring.specs.Slots.{Slot, IsUnused, first_of, sent}
 use Rattle.phase_ring.specs.Rings.{Ring, slot_at, sents, KeepsSlots}
 use Rattle.phase_ring.proofs.Kept.{option_map-some}
 use Rattle.phase_core.specs.Slots.{KeptSlot}

@@ -20,7 +20,7 @@ use Rattle.phase_history.specs.Refusals.{signal_refusal}
 use Rattle.phase_history.proofs.MemberLemmas.{wait_phases-signalled}
 use Rattle.phase_registry.specs.Rosters.{Roster, roster}
 use Rattle.phase_ring.specs.declared.board.Board.{Board}
-use Rattle.phase_ring.specs.declared.slot.Slot.{Slot}
+use Rattle.phase_ring.specs.Slots.{Slot}
 use Rattle.phase_ring.specs.declared.role.Role.TheVariants.{Signaller, Waiter}
 use Rattle.phase_ring.specs.Rings.{Ring, IsWithin, slot_at, standing, sents}
 use Rattle.phase_ring.specs.Standings.{one_if_same, count_of}

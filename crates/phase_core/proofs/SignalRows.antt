@@ -22,8 +22,7 @@ use Rattle.phase_base.specs.Lists.{first_row}
 use Rattle.phase_history.specs.Replies.{signal_reply, refused_or}
 use Rattle.phase_history.proofs.Refused.{no_row, first_row_none}
 use Rattle.phase_registry.specs.Rosters.{Roster}
-use Rattle.phase_ring.specs.declared.slot.Slot.{Slot}
-use Rattle.phase_ring.specs.Slots.{merge_refusal, IsUnused}
+use Rattle.phase_ring.specs.Slots.{Slot, merge_refusal, IsUnused}
 use Rattle.phase_ring.specs.Rings.{Ring, slot_at, IsWithin}
 use Rattle.phase_ring.specs.declared.slot.MergeRefusal.{MergeRefusal}
 use Rattle.phase_ring.specs.declared.slot.MergeRefusal.TheVariants as merge

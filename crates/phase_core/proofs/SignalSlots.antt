@@ -9,8 +9,7 @@ use Rattle.phase_accum.proofs.Parts.{IsPartOf-join}
 use Rattle.phase_history.specs.Phases.{list_in_phase, first_named, is_among}
 use Rattle.phase_history.specs.Legal.{AreLists}
 use Rattle.phase_history.proofs.BlockLeaves.{list_in_phase-first, first_named-twice, is_among-below, is_among-first}
-use Rattle.phase_ring.specs.declared.slot.Slot.{Slot}
-use Rattle.phase_ring.specs.Slots.{joined, merge_refusal}
+use Rattle.phase_ring.specs.Slots.{Slot, joined, merge_refusal}
 use Rattle.phase_ring.specs.Rings.{Ring, IsWithin, slot_at, with_slot}
 use Rattle.phase_ring.specs.Blocks.{joined_in, block_joined, BlockFits}
 use Rattle.phase_ring.proofs.Slots.{slot_at-some, changes}

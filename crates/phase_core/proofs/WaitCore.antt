@@ -19,9 +19,8 @@ use Rattle.phase_history.specs.Replies.{wait_reply, refused_or, got_at, wait_blo
 use Rattle.phase_history.proofs.MemberLemmas.{signal_phases-waited}
 use Rattle.phase_registry.specs.Rosters.{Roster, roster}
 use Rattle.phase_ring.specs.declared.board.Board.{Board}
-use Rattle.phase_ring.specs.declared.slot.Slot.{Slot}
 use Rattle.phase_ring.specs.declared.role.Role.TheVariants.{Signaller, Waiter}
-use Rattle.phase_ring.specs.Slots.{slot_value}
+use Rattle.phase_ring.specs.Slots.{Slot, slot_value}
 use Rattle.phase_ring.specs.Rings.{slot_at, standing, sents, KeepsSlots}
 use Rattle.phase_ring.specs.Standings.{one_if_same, count_of}
 use Rattle.phase_ring.specs.Boards.{IsKept}

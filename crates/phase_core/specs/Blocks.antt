@@ -12,7 +12,7 @@ use Rattle.phase_history.specs.declared.got.GotBlock.TheVariants as got
 use Rattle.phase_history.specs.declared.refusal.WaitRefusal.{WaitRefusal}
 use Rattle.phase_history.specs.declared.refusal.SignalRefusal.{SignalRefusal}
 use Rattle.phase_history.specs.Refusals.{phase_rows}
-use Rattle.phase_ring.specs.declared.slot.Slot.{Slot}
+use Rattle.phase_ring.specs.Slots.{Slot}
 use Rattle.phase_ring.specs.Rings.{Ring, slot_at}
 use Rattle.phase_ring.specs.Boards.{IsKept}
 

@@ -8,7 +8,7 @@ use Rattle.phase_history.specs.Histories.{History, members_of, top_of, greatest_
 use Rattle.phase_history.specs.Phases.{sends_of_phase, named_in_phase}
 use Rattle.phase_history.specs.Legal.{IsLegal}
 use Rattle.phase_registry.specs.Rosters.{Roster}
-use Rattle.phase_ring.specs.declared.slot.Slot.{Slot}
+use Rattle.phase_ring.specs.Slots.{Slot}
 use Rattle.phase_ring.specs.declared.role.Role.TheVariants.{Signaller, Waiter}
 use Rattle.phase_ring.specs.declared.board.Board.{Board}
 use Rattle.phase_ring.specs.Rings.{Ring, standing}

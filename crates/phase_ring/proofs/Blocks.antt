@@ -12,12 +12,11 @@ use Rattle.phase_accum.specs.Singles.{differs}
 use Rattle.phase_base.specs.declared.limits.TheConstants.{PHASES_MAX, SENDS_MAX}
 use Rattle.phase_accum.specs.Operations.{Operation, AccumulateLaws}
 use Rattle.phase_accum.specs.Parcels.{Parcel, StandsForSends}
-use Rattle.phase_ring.specs.declared.slot.Slot.{Slot}
 use Rattle.phase_ring.specs.declared.slot.MergeRefusal.TheVariants.{SingleDiffers, PhaseFull}
 use Rattle.phase_ring.specs.declared.role.Role.{Role}
 use Rattle.phase_ring.specs.declared.role.Role.TheVariants.{Signaller, Waiter}
 use Rattle.phase_ring.specs.Rings.{Ring, IsWithin, slot_at, with_slot, standing, sents}
-use Rattle.phase_ring.specs.Slots.{with_standing, standing_of, joined, first_of, merge_refusal, slot_value, IsUnused}
+use Rattle.phase_ring.specs.Slots.{Slot, with_standing, standing_of, joined, first_of, merge_refusal, slot_value, IsUnused}
 use Rattle.phase_ring.specs.Standings.{one_if_same, other}
 use Rattle.phase_ring.specs.Boards.{IsKept}
 use Rattle.phase_ring.specs.Blocks.{joined_in, block_joined, BlockFits, value_in, value_at}

@@ -5,10 +5,9 @@ use Rattle.std.proofs.lemmas.List.{length-replicate}
 use Rattle.std.proofs.lemmas.Option.{same_Some}
 use Rattle.std.proofs.lemmas.Bool.{le-ltb, cases_eq}
 use Rattle.phase_accum.specs.Operations.{Operation}
-use Rattle.phase_ring.specs.declared.slot.Slot.{Slot}
 use Rattle.phase_ring.specs.declared.role.Role.{Role}
 use Rattle.phase_ring.specs.declared.role.Role.TheVariants.{Signaller, Waiter}
-use Rattle.phase_ring.specs.Slots.{IsUnused, empty_slot, standing_of, with_standing}
+use Rattle.phase_ring.specs.Slots.{Slot, IsUnused, empty_slot, standing_of, with_standing}
 use Rattle.phase_ring.specs.Rings.{Ring, IsWithin, fresh_ring, slot_at, with_slot, standing, standing_in}
 use Rattle.phase_ring.specs.Standings.{one_if_same}
 use Rattle.phase_ring.specs.Boards.{IsKept}

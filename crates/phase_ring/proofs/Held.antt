@@ -8,9 +8,8 @@ use Rattle.circular_buffer.specs.Buffer.{keep_last}
 use Rattle.phase_accum.specs.Operations.{Operation}
 use Rattle.phase_ring.specs.declared.role.Role.{Role}
 use Rattle.phase_ring.specs.declared.role.Role.TheVariants.{Signaller, Waiter}
-use Rattle.phase_ring.specs.declared.slot.Slot.{Slot}
 use Rattle.phase_ring.specs.Rings.{IsRing}
-use Rattle.phase_ring.specs.Slots.{IsHeld, with_standing}
+use Rattle.phase_ring.specs.Slots.{Slot, IsHeld, with_standing}
 
 -- the slot of each place stands for some sends
 pub IsHeld-get : {A : Type 0} (op : Operation A) (slots : List (Slot A)) (capacity place : ℕ) (slot : Slot A)

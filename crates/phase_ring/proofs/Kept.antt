@@ -6,10 +6,9 @@ use Rattle.std.proofs.lemmas.Option.{same_Some, slice_get-map}
 use Rattle.std.proofs.lemmas.Bool.{cases_eq, cases_lt}
 use Rattle.phase_base.specs.declared.entry.Entry.{Entry}
 use Rattle.phase_accum.specs.Operations.{Operation}
-use Rattle.phase_ring.specs.declared.slot.Slot.{Slot}
 use Rattle.phase_ring.specs.declared.role.Role.{Role}
 use Rattle.phase_ring.specs.declared.role.Role.TheVariants.{Signaller, Waiter}
-use Rattle.phase_ring.specs.Slots.{standing_of, with_standing, sent}
+use Rattle.phase_ring.specs.Slots.{Slot, standing_of, with_standing, sent}
 use Rattle.phase_ring.specs.Rings.{Ring, IsWithin, slot_at, with_slot, standing, standing_in, sents, KeepsSlots}
 use Rattle.phase_ring.specs.Standings.{one_if_same, other, takes_part, phase_for, counted}
 use Rattle.phase_ring.specs.Boards.{IsKept}

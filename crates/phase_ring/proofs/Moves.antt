@@ -2,11 +2,10 @@
 use Rattle.std.proofs.Common.{◌≡◌, ℕ, ◌+◌, ◌-◌, cond, Some, refl, sym, ap, subst}
 use Rattle.std.proofs.lemmas.Bool.{eq-eqb, ne_eqb}
 use Rattle.phase_accum.specs.Operations.{Operation}
-use Rattle.phase_ring.specs.declared.slot.Slot.{Slot}
 use Rattle.phase_ring.specs.declared.role.Role.{Role}
 use Rattle.phase_ring.specs.declared.role.Role.TheVariants.{Signaller, Waiter}
 use Rattle.phase_ring.specs.Rings.{Ring, IsWithin, slot_at, with_slot, standing, sents}
-use Rattle.phase_ring.specs.Slots.{with_standing, standing_of}
+use Rattle.phase_ring.specs.Slots.{Slot, with_standing, standing_of}
 use Rattle.phase_ring.specs.Standings.{one_if_same, other}
 use Rattle.phase_ring.specs.Boards.{IsKept}
 use Rattle.phase_ring.proofs.Slots.{IsPlace, slot_at-some, standing-at, standing-with_at, standing-with_other, standing-with_same, sents-with, stands}

@@ -8,11 +8,10 @@ use Rattle.circular_buffer.proofs.Places.{slice_get-some, slice_get-set_same, sl
 use Rattle.phase_base.specs.declared.limits.TheConstants.{PHASES_MAX}
 use Rattle.phase_accum.specs.Operations.{Operation}
 use Rattle.phase_ring.proofs.Held.{length-moved}
-use Rattle.phase_ring.specs.declared.slot.Slot.{Slot}
 use Rattle.phase_ring.specs.declared.role.Role.{Role}
 use Rattle.phase_ring.specs.declared.role.Role.TheVariants.{Signaller, Waiter}
 use Rattle.phase_ring.specs.Rings.{Ring, ring, IsWithin, is_sealed, sealed_in, slot_at, with_slot, standing, standing_in, sents, KeepsSlots, released}
-use Rattle.phase_ring.specs.Slots.{sealed, standing_of, sent, with_standing, IsUnused, empty_slot}
+use Rattle.phase_ring.specs.Slots.{Slot, sealed, standing_of, sent, with_standing, IsUnused, empty_slot}
 use Rattle.phase_ring.specs.Boards.{IsKept}
 
 -- a phase within the ring has a slot

@@ -2,9 +2,8 @@
 use Rattle.std.specs.Prelude.{◌≡◌, ℕ, ◌+◌, ◌-◌, ◌<◌, ◌≤◌, List, [], ◌∷◌, ◌++◌, Option, Some, None, Bool, false, length, map, replicate, drop, slice_get, slice_set, if◌then◌else◌, nat_lt}
 use Rattle.std.specs.List.{All}
 use Rattle.phase_accum.specs.Operations.{Operation}
-use Rattle.phase_ring.specs.declared.slot.Slot.{Slot}
 use Rattle.phase_ring.specs.declared.role.Role.{Role}
-use Rattle.phase_ring.specs.Slots.{empty_slot, standing_of, sent, IsHeld}
+use Rattle.phase_ring.specs.Slots.{Slot, empty_slot, standing_of, sent, IsHeld}
 
 -- the phase of the first slot, and the slots
 pub record Ring (A : Type 0) : Type 0 where

@@ -1,5 +1,5 @@
 -- What a ring keeps of one phase.
-use Rattle.std.specs.Prelude.{◌≡◌, ℕ, ℤ, ◌+◌, List, Option, Some, None, true, false, if◌then◌else◌, nat_lt}
+use Rattle.std.specs.Prelude.{◌≡◌, ℕ, ℤ, ◌+◌, List, Option, Some, None, Bool, true, false, if◌then◌else◌, nat_lt}
 use Rattle.std.specs.Option.{option_and_then}
 use Rattle.phase_base.specs.declared.limits.TheConstants.{SENDS_MAX}
 use Rattle.phase_accum.specs.declared.outcome.Outcome.{Outcome}
@@ -8,11 +8,20 @@ use Rattle.phase_accum.specs.Singles.{differs}
 use Rattle.phase_accum.specs.Values.{applied}
 use Rattle.phase_accum.specs.Operations.{Operation}
 use Rattle.phase_accum.specs.Parcels.{Parcel, parcel, StandsForSends}
-use Rattle.phase_ring.specs.declared.slot.Slot.{Slot}
 use Rattle.phase_ring.specs.declared.slot.MergeRefusal.{MergeRefusal}
 use Rattle.phase_ring.specs.declared.slot.MergeRefusal.TheVariants.{SingleDiffers, PhaseFull}
 use Rattle.phase_ring.specs.declared.role.Role.{Role}
 use Rattle.phase_ring.specs.declared.role.Role.TheVariants.{Signaller, Waiter}
+
+-- the part and the number of the sends of a phase, what its first signal named (nothing yet where
+-- there is none, no single, or one), whether it is complete, and how many of each role stand at it
+pub record Slot (A : Type 0) : Type 0 where
+  pub part : A
+  pub count : ℕ
+  pub named : Option (Option Single)
+  pub sealed : Bool
+  pub signallers : ℕ
+  pub waiters : ℕ
 
 -- the slot of a phase that no signal has joined, and at which nobody stands
 abbrev pub empty_slot : {A : Type 0} → Operation A → Slot A

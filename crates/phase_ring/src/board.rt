@@ -1,9 +1,8 @@
 //! A ring with the first phase that is not complete, and the top.
 ghost use Rattle.std.specs.Prelude.{◌≡◌, ℕ, ◌<◌, ◌≤◌, ◌+◌, ◌⊎◌, max, true, false, OnOk, OnErr, IfOk, IfErr, Some, None, [], ◌∷◌, length, drop, ◌++◌};
-ghost use Rattle.phase_ring.specs.declared.slot.Slot.{Slot};
 ghost use Rattle.phase_ring.specs.declared.role.Role.{Role};
 ghost use Rattle.phase_ring.specs.declared.role.Role.TheVariants.{Signaller, Waiter};
-ghost use Rattle.phase_ring.specs.Slots.{slot_value, joined, merge_refusal, IsUnused};
+ghost use Rattle.phase_ring.specs.Slots.{Slot, slot_value, joined, merge_refusal, IsUnused};
 ghost use Rattle.phase_ring.specs.Rings.{standing, sents, slot_at, with_slot, is_sealed, cleared};
 ghost use Rattle.phase_ring.specs.Rings.{IsWithin, KeepsSlots};
 ghost use Rattle.phase_ring.specs.Standings.{one_if_same, other, takes_part, phase_for, counted};

@@ -4,13 +4,12 @@
 #![tactic(auto)]
 
 mod board;
-mod named;
+mod choice;
 mod role;
 mod slot;
 mod slot_ring;
 
 pub use board::Board;
-pub use named::Named;
 pub use role::Role;
 pub use slot::{MergeRefusal, Slot};
 pub use slot_ring::SlotRing;

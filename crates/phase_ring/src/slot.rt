@@ -1,11 +1,12 @@
 //! What a ring keeps of one phase.
-ghost use Rattle.std.specs.Prelude.{◌≡◌, ◌+◌, ◌≤◌};
+ghost use Rattle.std.specs.Prelude.{◌≡◌, ◌+◌, ◌-◌, ◌<◌, ◌≤◌};
 ghost use Rattle.phase_accum.specs.Singles.{differs};
 
-use crate::named::Named;
+use crate::choice::{Choice, choice_for, told};
 use crate::role::Role;
 use phase_accum::{self, Accumulate, Outcome, Pending, Single};
-use phase_base::SENDS_MAX;
+use phase_base::{MEMBERS_MAX, SENDS_MAX};
+use std::marker::Model;
 
 /// Why sends were not joined to those of a phase.
 #[derive(Clone, Copy, Debug, PartialEq, Eq, Hash)]
@@ -26,39 +27,60 @@ fn is_other(named: Option<Option<Single>>, single: Option<Single>) -> bool
     }
 }
 
-/// What a ring keeps of one phase.
-#[derive(Clone, Copy)]
+/// What a ring keeps of one phase, in few bytes: between threads a slot goes from one processor to
+/// another and back.
+#[derive(Drop)]
 pub struct Slot<A: Copy> {
-    /// The part of the sends.
-    pub part: A,
-    /// The number of the sends.
-    pub count: u64,
-    /// What the first signal named: nothing yet where there is none, no single, or one.
-    pub named: Named,
-    /// Whether the phase is complete.
-    pub sealed: bool,
-    /// How many signallers stand at the phase.
-    pub signallers: u32,
-    /// How many waiters stand at the phase.
-    pub waiters: u32,
+    part: A,
+    ends: (i64, i64),
+    count: u64,
+    signallers: u16,
+    waiters: u16,
+    choice: Choice,
+    sealed: bool,
+}
+
+impl<A: Copy> Model for Slot<A> {
+    ghost use Rattle.phase_ring.specs.Slots.{Slot};
+    ghost use Rattle.phase_ring.specs.Choices.{named_of, IsNamed};
+
+    ghost Value = { Slot A };
+
+    ghost view = { λ s. record {
+      part = s.part;
+      count = s.count;
+      named = named_of s.choice s.ends;
+      sealed = s.sealed;
+      signallers = s.signallers;
+      waiters = s.waiters;
+    } };
+
+    ghost invariant = { λ s. IsNamed s.choice s.ends };
 }
 
 impl<A: Copy> Slot<A> {
     ghost use Rattle.phase_ring.specs.Slots.{standing_of, with_standing, merge_refusal, sealed};
+
+    // Tells what the first signal named, where there is one.
+    fn named(&self) -> Option<Option<Single>>
+        ensures { result ≡ self.now.named }
+    {
+        told(self.choice, self.ends)
+    }
 
     /// Why so many more sends do not join the phase.
     pub fn refusal(&self, count: u64, single: &Option<Single>) -> Option<MergeRefusal>
         requires { self.now.count ≤ SENDS_MAX }
         ensures { result ≡ merge_refusal self.now count single.now }
     {
-        if is_other(self.named.get(), *single) {
+        if is_other(self.named(), *single) {
             return Some(MergeRefusal::SingleDiffers);
         }
         (count > SENDS_MAX - self.count).then_some(MergeRefusal::PhaseFull)
     }
 
     /// Tells how many of the role stand at the phase.
-    pub fn standing(&self, role: Role) -> u32
+    pub fn standing(&self, role: Role) -> u16
         ensures { result ≡ standing_of role self.now }
     {
         match role {
@@ -67,13 +89,25 @@ impl<A: Copy> Slot<A> {
         }
     }
 
-    /// Lets so many of the role stand at the phase.
-    pub fn stand(&mut self, role: Role, standing: u32)
-        ensures { self.new ≡ with_standing role standing self.old }
+    /// One more of the role stands at the phase.
+    pub fn enter(&mut self, role: Role)
+        requires { standing_of role self.old < MEMBERS_MAX }
+        ensures { self.new ≡ with_standing role (standing_of role self.old + 1) self.old }
     {
         match role {
-            Role::Signaller => self.signallers = standing,
-            Role::Waiter => self.waiters = standing,
+            Role::Signaller => self.signallers += 1,
+            Role::Waiter => self.waiters += 1,
+        }
+    }
+
+    /// One of the role, of which some stand at the phase, leaves it.
+    pub fn leave(&mut self, role: Role)
+        requires { 0 < standing_of role self.old }
+        ensures { self.new ≡ with_standing role (standing_of role self.old - 1) self.old }
+    {
+        match role {
+            Role::Signaller => self.signallers -= 1,
+            Role::Waiter => self.waiters -= 1,
         }
     }
 
@@ -93,13 +127,15 @@ impl<A: Accumulate> Slot<A> {
         ensures value { result ≡ empty_slot A.operation }
         ensures held { IsHeld A.operation result }
     {
+        let (choice, ends) = choice_for(&None);
         Slot {
             part: A::unit(),
+            ends,
             count: 0,
-            named: Named::of(None),
-            sealed: false,
             signallers: 0,
             waiters: 0,
+            choice,
+            sealed: false,
         }
     }
 
@@ -110,9 +146,11 @@ impl<A: Accumulate> Slot<A> {
         ensures value { self.new ≡ joined A.operation pending.now single.now self.old }
         ensures held { IsHeld A.operation self.new }
     {
+        let (choice, ends) = choice_for(&self.named().or(Some(*single)));
         self.part = A::join(self.part, pending.part());
         self.count += pending.count();
-        self.named = Named::of(self.named.get().or(Some(*single)));
+        self.choice = choice;
+        self.ends = ends;
     }
 
     // Joins the first sends of the phase. It only writes.
@@ -121,9 +159,11 @@ impl<A: Accumulate> Slot<A> {
         ensures value { self.new ≡ joined A.operation pending.now single.now self.old }
         ensures held { IsHeld A.operation self.new }
     {
+        let (choice, ends) = choice_for(&Some(*single));
         self.part = pending.part();
         self.count = pending.count();
-        self.named = Named::of(Some(*single));
+        self.choice = choice;
+        self.ends = ends;
     }
 
     /// Tells the value of the sends, with the single applied where one was named.
@@ -132,7 +172,7 @@ impl<A: Accumulate> Slot<A> {
         ensures { result ≡ slot_value A.operation self.now }
     {
         let outcome = self.part.finish();
-        match self.named.get().flatten() {
+        match self.named().flatten() {
             Some(single) => phase_accum::apply(single, outcome),
             None => outcome,
         }

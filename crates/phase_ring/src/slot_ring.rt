@@ -1,9 +1,8 @@
 //! The ring of slots.
 ghost use Rattle.std.specs.Prelude.{◌≡◌, ◌+◌, ◌-◌, ◌^◌, ◌<◌, ◌≤◌, [], None, Some, length, replicate, true, false, OnOk, OnErr, IfOk, IfErr};
 ghost use Rattle.circular_buffer.specs.Buffer.{buffer};
-ghost use Rattle.phase_ring.specs.declared.slot.Slot.{Slot};
 ghost use Rattle.phase_ring.specs.declared.role.Role.TheVariants.{Waiter};
-ghost use Rattle.phase_ring.specs.Slots.{empty_slot, IsHeld, IsUnused};
+ghost use Rattle.phase_ring.specs.Slots.{Slot, empty_slot, IsHeld, IsUnused};
 ghost use Rattle.phase_ring.specs.Slots.{with_standing, standing_of, joined, sealed, slot_value, merge_refusal};
 ghost use Rattle.phase_ring.specs.Rings.{Ring, standing, IsWithin, slot_at, with_slot, is_sealed};
 ghost use Rattle.phase_ring.specs.Rings.{fresh_ring, released, cleared};
@@ -201,7 +200,7 @@ impl<A: Accumulate> SlotRing<A> {
             self.new ≡ with_slot phase (with_standing role more slot) self.old }
     {
         match self.slots.get_mut((phase - self.base) as usize) {
-            Some(slot) => slot.stand(role, slot.standing(role) + 1),
+            Some(slot) => slot.enter(role),
             None => unreachable!(),
         }
     }
@@ -215,7 +214,7 @@ impl<A: Accumulate> SlotRing<A> {
             self.new ≡ with_slot phase (with_standing role fewer slot) self.old }
     {
         match self.slots.get_mut((phase - self.base) as usize) {
-            Some(slot) => slot.stand(role, slot.standing(role) - 1),
+            Some(slot) => slot.leave(role),
             None => unreachable!(),
         }
     }
@@ -225,7 +224,7 @@ impl<A: Accumulate> SlotRing<A> {
         requires { IsWithin self.now phase }
         ensures { result ≡ standing self.now role phase }
     {
-        self.slot(phase).standing(role)
+        u32::from(self.slot(phase).standing(role))
     }
 
     /// Gives up the first phase, at which no waiter stands, and has an empty slot for one more

@@ -1,7 +1,6 @@
 -- Only who stands at one slot changes, and its sends do not.
 use Rattle.std.proofs.Common.{◌-◌, sym, subst}
-use Rattle.phase_ring.specs.declared.slot.Slot.{Slot}
-use Rattle.phase_ring.specs.Slots.{IsHeld, with_standing}
+use Rattle.phase_ring.specs.Slots.{Slot, IsHeld, with_standing, standing_of}
 use Rattle.phase_ring.proofs.Held.{IsHeld-get, IsRing-set, IsHeld-standing}
 use Rattle.phase_ring.proofs.slot_ring.SlotRing.leave.Goals as goal
 
@@ -14,4 +13,4 @@ invariant_of-self g c =
     let held = IsHeld-get op items capacity _ slot c.self.invariant (sym c.in-Some.ensures.value) in
     let H : Slot g.row.A.Denot → Type 0 = IsHeld op in
     IsRing-set op items capacity _ _ c.self.invariant
-    (subst H {x = with_standing c.args.role (c.standing.result - 1) slot} (sym c.stand.ensures) (IsHeld-standing op c.args.role (c.standing.result - 1) slot held))
+    (subst H {x = with_standing c.args.role (standing_of c.args.role slot - 1) slot} (sym c.leave.ensures) (IsHeld-standing op c.args.role (standing_of c.args.role slot - 1) slot held))

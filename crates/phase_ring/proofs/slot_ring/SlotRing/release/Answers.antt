@@ -2,7 +2,7 @@
 use Rattle.std.proofs.Common.{◌≡◌, ◌++◌, [], ◌∷◌, drop, sym, subst, ap, ◌∙◌}
 use Rattle.circular_buffer.specs.Buffer.{Buffer, buffer, keep_last}
 use Rattle.phase_ring.specs.Rings.{IsRing}
-use Rattle.phase_ring.specs.declared.slot.Slot.{Slot}
+use Rattle.phase_ring.specs.Slots.{Slot}
 use Rattle.phase_ring.proofs.Held.{IsRing-released, moved_items}
 use Rattle.phase_ring.proofs.slot_ring.SlotRing.release.Goals as goal
 

@@ -1,7 +1,6 @@
 -- Only whether one slot is sealed changes, and its sends do not.
 use Rattle.std.proofs.Common.{sym, subst}
-use Rattle.phase_ring.specs.declared.slot.Slot.{Slot}
-use Rattle.phase_ring.specs.Slots.{IsHeld}
+use Rattle.phase_ring.specs.Slots.{Slot, IsHeld}
 use Rattle.phase_ring.proofs.Held.{IsHeld-get, IsRing-set}
 use Rattle.phase_ring.proofs.slot_ring.SlotRing.seal.Goals as goal
 
