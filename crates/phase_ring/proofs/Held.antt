@@ -38,12 +38,14 @@ pub length-moved : {X : Type 0} (xs : List X) (y : X) → 0 < length xs → leng
 length-moved [] y some = absurd (omega arith)
 length-moved (x ∷ xs) y some = let n : length (xs ++ y ∷ []) ≡ length xs + 1 = length-append xs (y ∷ []) in omega arith
 
+-- where it is full, the first one goes
 pub moved_items : {X : Type 0} (xs : List X) (y : X) (capacity : ℕ) → 0 < length xs → capacity ≡ length xs
-    → keep_last capacity (drop 1 xs ++ y ∷ []) ≡ drop 1 xs ++ y ∷ []
-moved_items xs y capacity some full =
-    let same : length (drop 1 xs ++ y ∷ []) ≡ length xs = length-moved xs y some in
-    let none : length (drop 1 xs ++ y ∷ []) - capacity ≡ 0 = omega arith in
-    ap (λ n. drop n (drop 1 xs ++ y ∷ [])) none
+    → keep_last capacity (xs ++ y ∷ []) ≡ drop 1 xs ++ y ∷ []
+moved_items [] y capacity some full = absurd (omega arith)
+moved_items (x ∷ xs) y capacity some full =
+    let more : length (xs ++ y ∷ []) ≡ length xs + 1 = length-append xs (y ∷ []) in
+    let one : length (x ∷ xs ++ y ∷ []) - capacity ≡ 1 = omega arith in
+    ap (λ n. drop n (x ∷ xs ++ y ∷ [])) one
 
 pub IsRing-released : {A : Type 0} (op : Operation A) (slots : List (Slot A)) (capacity : ℕ) (slot : Slot A)
     → IsRing op slots capacity → IsHeld op slot → IsRing op (drop 1 slots ++ slot ∷ []) capacity

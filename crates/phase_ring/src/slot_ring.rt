@@ -234,7 +234,7 @@ impl<A: Accumulate> SlotRing<A> {
         requires unwanted { standing self.old Waiter self.old.base ≡ 0 }
         ensures { self.new ≡ released A.operation self.old }
     {
-        self.slots.pop_front();
+        // The buffer is full, so its first slot goes.
         self.slots.push_back(Slot::<A>::empty());
         self.base += 1;
     }

@@ -1,6 +1,6 @@
 -- As many slots as before, each of which stands for some sends.
 use Rattle.std.proofs.Common.{◌≡◌, ◌++◌, [], ◌∷◌, drop, sym, subst, ap, ◌∙◌}
-use Rattle.circular_buffer.specs.Buffer.{Buffer, buffer, keep_last}
+use Rattle.circular_buffer.specs.Buffer.{Buffer, buffer}
 use Rattle.phase_ring.specs.Rings.{IsRing}
 use Rattle.phase_ring.specs.Slots.{Slot}
 use Rattle.phase_ring.proofs.Held.{IsRing-released, moved_items}
@@ -12,9 +12,6 @@ invariant_of-self g c =
     let B : Buffer (Slot g.row.A.Denot) → Type 0 = λ b. IsRing op b.items b.capacity in
     let xs = c.self.inside.slots.items in
     let n = c.self.inside.slots.capacity in
-    let gone : c.pop_front.new.self ≡ buffer (drop 1 xs) n = c.pop_front.ensures.items in
-    let items : c.push_back.new.self ≡ buffer (keep_last n (drop 1 xs ++ c.empty.result ∷ [])) n =
-    c.push_back.ensures.items ∙ ap (λ (b : Buffer (Slot g.row.A.Denot)). buffer (keep_last b.capacity (b.items ++ c.empty.result ∷ [])) b.capacity) gone in
     let is : c.push_back.new.self ≡ buffer (drop 1 xs ++ c.empty.result ∷ []) n =
-    items ∙ ap (λ ys. buffer ys n) (moved_items xs c.empty.result n c.self.invariant.some c.self.invariant.full) in
+    c.push_back.ensures.items ∙ ap (λ ys. buffer ys n) (moved_items xs c.empty.result n c.self.invariant.some c.self.invariant.full) in
     subst B (sym is) (IsRing-released op xs n c.empty.result c.self.invariant c.empty.ensures.held)
