@@ -14,6 +14,7 @@ mod phaser;
 #[cfg(test)]
 mod sends;
 #[cfg(test)]
+mod singles;
 mod sizes;
 #[cfg(test)]
 mod slots;
