@@ -1,5 +1,5 @@
 -- Sends that join phases in a row.
-use Rattle.std.proofs.Common.{◌≡◌, ℕ, ℤ, ◌+◌, ◌-◌, ◌<◌, ◌≤◌, true, false, cond, ltb, Bool, zero, suc, drop, slice_index_or, map, ◌++◌, append_assoc, List, [], ◌∷◌, Option, Some, None, max, length, refl, sym, ◌∙◌, ap, subst, arith, ⊎_elim}
+use Rattle.std.proofs.Common.{◌≡◌, ◌≢◌, ℕ, ℤ, ◌+◌, ◌-◌, ◌<◌, ◌≤◌, true, false, cond, ltb, Bool, zero, suc, drop, slice_index_or, map, ◌++◌, append_assoc, List, [], ◌∷◌, Option, Some, None, max, length, refl, sym, ◌∙◌, ap, ap₂, subst, arith, ⊎_elim}
 use Rattle.std.specs.Prelude.{slice_set}
 use Rattle.std.specs.List.{range_with_len}
 use Rattle.std.proofs.Math.Seq.{set-append_seam}
@@ -11,12 +11,16 @@ use Rattle.phase_accum.specs.declared.single.Single.{Single}
 use Rattle.phase_accum.specs.Singles.{differs}
 use Rattle.phase_base.specs.declared.limits.TheConstants.{PHASES_MAX, SENDS_MAX}
 use Rattle.phase_accum.specs.Operations.{Operation, AccumulateLaws}
-use Rattle.phase_accum.specs.Parcels.{Parcel, StandsForSends}
+use Rattle.phase_accum.specs.Parcels.{Parcel, parcel, StandsForSends}
+use Rattle.phase_accum.proofs.Parts.{StandsForSends-append}
+use Rattle.phase_ring.specs.declared.choice.Choice.{Choice}
+use Rattle.phase_ring.specs.declared.choice.Choice.TheVariants.{Unsignalled, Plain, Neg, Abs, Halve, Clamp}
+use Rattle.phase_ring.specs.Choices.{named_of}
 use Rattle.phase_ring.specs.declared.slot.MergeRefusal.TheVariants.{SingleDiffers, PhaseFull}
 use Rattle.phase_ring.specs.declared.role.Role.{Role}
 use Rattle.phase_ring.specs.declared.role.Role.TheVariants.{Signaller, Waiter}
 use Rattle.phase_ring.specs.Rings.{Ring, IsWithin, slot_at, with_slot, standing, sents}
-use Rattle.phase_ring.specs.Slots.{Slot, with_standing, standing_of, joined, first_of, merge_refusal, slot_value, IsUnused}
+use Rattle.phase_ring.specs.Slots.{Slot, with_standing, standing_of, joined, first_of, merge_refusal, slot_value, IsHeld, IsUnused}
 use Rattle.phase_ring.specs.Standings.{one_if_same, other}
 use Rattle.phase_ring.specs.Boards.{IsKept}
 use Rattle.phase_ring.specs.Blocks.{joined_in, block_joined, BlockFits, value_in, value_at}
@@ -34,6 +38,33 @@ few_joined slot n single none =
     second false true e = absurd (cc)
     second false false e = refl
 
+-- the slot with these parts is that which the sends have joined
+pub joined_slot : {A : Type 0} (op : Operation A) (slot : Slot A) (held : Parcel A) (single : Option Single) (x : A) (n : ℕ) (named : Option (Option Single))
+    → x ≡ op.join slot.part held.part → n ≡ slot.count + held.count → named ≡ first_of slot.named single
+    → record slot { part = x; count = n; named = named } ≡ joined op held single slot
+joined_slot {A} op slot held single x n named part count first =
+    ap (λ (y : A). record slot { part = y; count = n; named = named }) part
+    ∙ ap (λ (m : ℕ). record slot { part = op.join slot.part held.part; count = m; named = named }) count
+    ∙ ap (λ (o : Option (Option Single)). record slot { part = op.join slot.part held.part; count = slot.count + held.count; named = o }) first
+
+-- it stands for the slot's sends and then those that join
+pub joined_held : {A : Type 0} (op : Operation A) (slot : Slot A) (held : Parcel A) (ys : List ℤ) (x : A) (n : ℕ) → AccumulateLaws op
+    → IsHeld op slot → StandsForSends op held ys → slot.count + held.count ≤ SENDS_MAX
+    → x ≡ op.join slot.part held.part → n ≡ slot.count + held.count → (sends : List ℤ) × StandsForSends op (parcel x n) sends
+joined_held {A} op slot held ys x n laws own more few part count =
+    let own_parcel : Parcel A = parcel slot.part slot.count in
+    let P : Parcel A → Type 0 = λ k. StandsForSends op k (own.0 ++ ys) in
+    (own.0 ++ ys, subst P (ap₂ parcel (sym part) (sym count)) (StandsForSends-append op own_parcel held own.0 ys laws own.1 more few))
+
+-- what was named first stays
+pub first_stays : (choice : Choice) (ends : ℤ × ℤ) (single : Option Single) → choice ≢ Unsignalled → named_of choice ends ≡ first_of (named_of choice ends) single
+first_stays Unsignalled ends single other = absurd (other refl)
+first_stays Plain ends single other = refl
+first_stays Neg ends single other = refl
+first_stays Abs ends single other = refl
+first_stays Halve ends single other = refl
+first_stays Clamp ends single other = refl
+
 -- the first sends of a phase are all that its slot has then
 pub joined_first : {A : Type 0} (op : Operation A) (slot : Slot A) (held : Parcel A) (single : Option Single) (sends : List ℤ) → AccumulateLaws op
     → IsUnused op slot → StandsForSends op held sends
@@ -44,9 +75,7 @@ joined_first {A} op slot held single sends laws unused stands x n named x_is n_i
     x_is ∙ sym (laws.left_unit held.part sends stands.part_is) ∙ ap (λ y. op.join y held.part) (sym unused.part_is) in
     let count : n ≡ slot.count + held.count = (let z : slot.count ≡ 0 = unused.count_is in omega arith) in
     let first : named ≡ first_of slot.named single = named_is ∙ ap (λ o. first_of o single) (sym unused.named_is) in
-    ap (λ (y : A). record slot { part = y; count = n; named = named }) part
-    ∙ ap (λ (m : ℕ). record slot { part = op.join slot.part held.part; count = m; named = named }) count
-    ∙ ap (λ (o : Option (Option Single)). record slot { part = op.join slot.part held.part; count = slot.count + held.count; named = o }) first
+    joined_slot op slot held single x n named part count first
 
 -- later phases refuse nothing more where sends have joined an earlier one
 pub fits-later : {A : Type 0} (r : Ring A) (q p : ℕ) (x : Slot A) (rest : List (Parcel A)) (single : Option Single) → r.base ≤ q → q < p

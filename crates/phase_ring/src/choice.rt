@@ -1,5 +1,5 @@
 //! What the first signal of a phase named, in one byte and the ends of a clamp.
-ghost use Rattle.std.specs.Prelude.{◌≡◌};
+ghost use Rattle.std.specs.Prelude.{◌≡◌, Some};
 ghost use Rattle.phase_ring.specs.Choices.{named_of, IsNamed};
 
 use phase_accum::Single;
@@ -35,15 +35,12 @@ pub(crate) fn told(choice: Choice, ends: (i64, i64)) -> Option<Option<Single>>
     }
 }
 
-// The choice that says so, and the ends beside it, which are 0 but for a clamp.
-pub(crate) fn choice_for(named: &Option<Option<Single>>) -> (Choice, (i64, i64))
-    ensures named { named_of result.0 result.1 ≡ named.now }
+// The choice of a signal that names this, and the ends beside it, which are 0 but for a clamp.
+pub(crate) fn choice_for(single: &Option<Single>) -> (Choice, (i64, i64))
+    ensures named { named_of result.0 result.1 ≡ Some single.now }
     ensures ends { IsNamed result.0 result.1 }
 {
-    let Some(first) = named else {
-        return (Choice::Unsignalled, (0, 0));
-    };
-    match first {
+    match single {
         None => (Choice::Plain, (0, 0)),
         Some(Single::Neg) => (Choice::Neg, (0, 0)),
         Some(Single::Abs) => (Choice::Abs, (0, 0)),

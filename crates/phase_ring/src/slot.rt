@@ -127,14 +127,13 @@ impl<A: Accumulate> Slot<A> {
         ensures value { result ≡ empty_slot A.operation }
         ensures held { IsHeld A.operation result }
     {
-        let (choice, ends) = choice_for(&None);
         Slot {
             part: A::unit(),
-            ends,
+            ends: (0, 0),
             count: 0,
             signallers: 0,
             waiters: 0,
-            choice,
+            choice: Choice::Unsignalled,
             sealed: false,
         }
     }
@@ -146,9 +145,13 @@ impl<A: Accumulate> Slot<A> {
         ensures value { self.new ≡ joined A.operation pending.now single.now self.old }
         ensures held { IsHeld A.operation self.new }
     {
-        let (choice, ends) = choice_for(&self.named().or(Some(*single)));
         self.part = A::join(self.part, pending.part());
         self.count += pending.count();
+        // What the first signal named stays.
+        let Choice::Unsignalled = self.choice else {
+            return;
+        };
+        let (choice, ends) = choice_for(single);
         self.choice = choice;
         self.ends = ends;
     }
@@ -159,7 +162,7 @@ impl<A: Accumulate> Slot<A> {
         ensures value { self.new ≡ joined A.operation pending.now single.now self.old }
         ensures held { IsHeld A.operation self.new }
     {
-        let (choice, ends) = choice_for(&Some(*single));
+        let (choice, ends) = choice_for(single);
         self.part = pending.part();
         self.count = pending.count();
         self.choice = choice;
