@@ -15,6 +15,7 @@ mod phaser;
 mod sends;
 #[cfg(test)]
 mod singles;
+#[cfg(test)]
 mod sizes;
 #[cfg(test)]
 mod slots;
