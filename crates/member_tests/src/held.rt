@@ -72,10 +72,14 @@ fn holds<R: Wait>(rt: &R, alloc: Global, op: Op) -> Result<Option<i64>, Fail> {
 
 #[test]
 fn a_refused_value_is_put_next(rt: HostRuntime) -> Result<(), Fail> {
-    assert_eq!(rt; holds(&rt, rt.alloc(), Op::Sum)?, Some(11));
-    assert_eq!(rt; holds(&rt, rt.alloc(), Op::Product)?, Some(30));
-    assert_eq!(rt; holds(&rt, rt.alloc(), Op::Least)?, Some(5));
-    assert_eq!(rt; holds(&rt, rt.alloc(), Op::Greatest)?, Some(6));
-    assert_eq!(rt; holds(&rt, rt.alloc(), Op::Any)?, Some(5));
+    for (op, value) in [
+        (Op::Sum, 11),
+        (Op::Product, 30),
+        (Op::Least, 5),
+        (Op::Greatest, 6),
+        (Op::Any, 5),
+    ] {
+        assert_eq!(rt; holds(&rt, rt.alloc(), op)?, Some(value), "{op:?}");
+    }
     Ok(())
 }

@@ -60,11 +60,15 @@ fn meets<R: Wait>(rt: &R, alloc: Global, op: Op) -> Result<Option<Got>, Fail> {
 
 #[test]
 fn two_values_meet_under_each_operation(rt: HostRuntime) -> Result<(), Fail> {
-    assert_eq!(rt; meets(&rt, rt.alloc(), Op::Sum)?, first(-10));
-    assert_eq!(rt; meets(&rt, rt.alloc(), Op::Product)?, first(-24));
-    assert_eq!(rt; meets(&rt, rt.alloc(), Op::Least)?, first(-4));
-    assert_eq!(rt; meets(&rt, rt.alloc(), Op::Greatest)?, first(-6));
-    assert_eq!(rt; meets(&rt, rt.alloc(), Op::Any)?, first(-4));
+    for (op, value) in [
+        (Op::Sum, -10),
+        (Op::Product, -24),
+        (Op::Least, -4),
+        (Op::Greatest, -6),
+        (Op::Any, -4),
+    ] {
+        assert_eq!(rt; meets(&rt, rt.alloc(), op)?, first(value), "{op:?}");
+    }
     Ok(())
 }
 
