@@ -1,99 +1,15 @@
 //! A founder alone, and members that come and go, as calls on a phaser under sum.
-use phase_accum::{Outcome, Pending, SendFault, Sum};
+use crate::calls::{Answer, Call, Case, follow_all};
+use phase_accum::Sum;
 use phase_base::{Entry, Mode, Spec};
-use phase_core::{Got, PhaserCore, RegisterRefusal, SignalRefusal, WaitRefusal};
+use phase_core::{PhaserCore, RegisterRefusal, SignalRefusal, WaitRefusal};
 use std::test::Fail;
-
-/// A call on a phaser. A signal has the send that its task held.
-#[derive(Clone, Copy, Debug)]
-enum Call {
-    Add(u64, u64, Mode),
-    Signal(u64, Option<i64>),
-    Wait(u64),
-    Leave(u64),
-    Done,
-    Top,
-    NextNumber,
-    LeastWait,
-    HasSignaller,
-    View(u64),
-}
-
-/// What a call was answered.
-#[derive(Clone, Copy, Debug, PartialEq, Eq)]
-enum Answer {
-    Done,
-    NotAdded(RegisterRefusal),
-    Joined(u64),
-    NotJoined(SignalRefusal),
-    Value(u64, i64),
-    TooBig(u64),
-    Empty(u64),
-    Ended,
-    GetsNot(WaitRefusal),
-    NoMember,
-    Number(Option<u64>),
-    Is(bool),
-    Stands(Option<Entry>),
-}
-
-fn pending_of(send: Option<i64>) -> Result<Pending<Sum>, SendFault> {
-    let mut pending = Pending::new();
-    if let Some(value) = send {
-        pending.send(value)?;
-    }
-    Ok(pending)
-}
-
-fn what(got: Got) -> Answer {
-    match got {
-        Got::Value { phase, outcome } => match outcome {
-            Outcome::Value(value) => Answer::Value(phase, value),
-            Outcome::TooBig => Answer::TooBig(phase),
-            Outcome::Empty => Answer::Empty(phase),
-        },
-        Got::Ended => Answer::Ended,
-    }
-}
-
-fn reply_to(core: &mut PhaserCore<Sum>, call: Call) -> Result<Answer, SendFault> {
-    Ok(match call {
-        Call::Add(parent, child, mode) => match core.register(parent, child, mode) {
-            Ok(()) => Answer::Done,
-            Err(refusal) => Answer::NotAdded(refusal),
-        },
-        Call::Signal(task, send) => match core.signal(task, pending_of(send)?, None) {
-            Ok(phase) => Answer::Joined(phase),
-            Err((refusal, _)) => Answer::NotJoined(refusal),
-        },
-        Call::Wait(task) => match core.wait(task) {
-            Ok(got) => what(got),
-            Err(refusal) => Answer::GetsNot(refusal),
-        },
-        Call::Leave(task) => match core.drop_task(task) {
-            Ok(()) => Answer::Done,
-            Err(_) => Answer::NoMember,
-        },
-        Call::Done => Answer::Number(Some(core.done())),
-        Call::Top => Answer::Number(Some(core.top())),
-        Call::NextNumber => Answer::Number(core.next_number()),
-        Call::LeastWait => Answer::Number(core.least_wait()),
-        Call::HasSignaller => Answer::Is(core.has_signaller()),
-        Call::View(task) => Answer::Stands(core.view(task)),
-    })
-}
-
-/// Calls on a phaser of a bound, each with its answer.
-struct Case {
-    name: &'static str,
-    bound: u64,
-    calls: &'static [(Call, Answer)],
-}
 
 const CASES: [Case; 9] = [
     Case {
         name: "a founder gets what it sent",
         bound: 2,
+        phases: 100,
         calls: &[
             (Call::Signal(0, Some(5)), Answer::Joined(0)),
             (Call::Wait(0), Answer::Value(0, 5)),
@@ -113,6 +29,7 @@ const CASES: [Case; 9] = [
     Case {
         name: "a child has a mode that its parent's holds",
         bound: 2,
+        phases: 100,
         calls: &[
             (Call::Add(0, 1, Mode::Wait), Answer::Done),
             (
@@ -137,6 +54,7 @@ const CASES: [Case; 9] = [
     Case {
         name: "a signaller outlives the founder",
         bound: 2,
+        phases: 100,
         calls: &[
             (Call::Add(0, 1, Mode::Sig), Answer::Done),
             (Call::Add(0, 2, Mode::Wait), Answer::Done),
@@ -154,6 +72,7 @@ const CASES: [Case; 9] = [
     Case {
         name: "members come and go",
         bound: 2,
+        phases: 100,
         calls: &[
             (Call::Add(0, 1, Mode::Sig), Answer::Done),
             (Call::Add(0, 2, Mode::Wait), Answer::Done),
@@ -181,6 +100,7 @@ const CASES: [Case; 9] = [
     Case {
         name: "a late waiter gets what its parent has still to get",
         bound: 4,
+        phases: 100,
         calls: &[
             (Call::Add(0, 1, Mode::Sig), Answer::Done),
             (Call::Add(0, 2, Mode::Wait), Answer::Done),
@@ -201,6 +121,7 @@ const CASES: [Case; 9] = [
     Case {
         name: "the last signaller to leave ends the stream",
         bound: 4,
+        phases: 100,
         calls: &[
             (Call::Add(0, 1, Mode::Sig), Answer::Done),
             (Call::Add(0, 2, Mode::Sig), Answer::Done),
@@ -223,6 +144,7 @@ const CASES: [Case; 9] = [
     Case {
         name: "a task that leaves completes no phase of its own",
         bound: 4,
+        phases: 100,
         calls: &[
             (Call::Add(0, 1, Mode::Sig), Answer::Done),
             (Call::Leave(1), Answer::Done),
@@ -235,6 +157,7 @@ const CASES: [Case; 9] = [
     Case {
         name: "a child stands where its parent does",
         bound: 2,
+        phases: 100,
         calls: &[
             (Call::Signal(0, None), Answer::Joined(0)),
             (Call::Add(0, 1, Mode::SigWait), Answer::Done),
@@ -249,6 +172,7 @@ const CASES: [Case; 9] = [
     Case {
         name: "signals have no bound once the last waiter left",
         bound: 1,
+        phases: 100,
         calls: &[
             (Call::Add(0, 1, Mode::Sig), Answer::Done),
             (Call::Signal(0, None), Answer::Joined(0)),
@@ -271,18 +195,7 @@ const CASES: [Case; 9] = [
 
 #[test]
 fn calls_are_answered(rt: HostRuntime) -> Result<(), Fail> {
-    for case in &CASES {
-        let mut core = PhaserCore::new(rt.alloc(), Spec::new(case.bound, 100)?, 0)?;
-        for (call, answer) in case.calls {
-            assert_eq!(rt;
-                reply_to(&mut core, *call)?,
-                *answer,
-                "{}: {call:?}",
-                case.name
-            );
-        }
-    }
-    Ok(())
+    follow_all(&rt, rt.alloc(), &CASES)
 }
 
 #[test]
