@@ -124,14 +124,24 @@ pub fn written_whole(alloc: Global, script: &[u8]) -> Result<Vec<u8>, Fail> {
     Ok(output)
 }
 
+// What a replay of the script writes, in pieces of so many bytes or whole.
+fn written_in(alloc: Global, script: &str, size: Option<usize>) -> Result<Vec<u8>, Fail> {
+    match size {
+        Some(size) => written(alloc, script.as_bytes(), size),
+        None => written_whole(alloc, script.as_bytes()),
+    }
+}
+
 // The script has its replies, in whatever pieces it is read and they are written.
 fn has_its_replies(rt: &impl Abort, alloc: Global, case: &Replayed) -> Result<(), Fail> {
-    let replies = case.replies.as_bytes();
-    let whole = written_whole(alloc, case.script.as_bytes())?;
-    assert_eq!(rt; whole.as_slice(), replies, "{}", case.name);
-    for size in [1, 3, 65536] {
-        let got = written(alloc, case.script.as_bytes(), size)?;
-        assert_eq!(rt; got.as_slice(), replies, "{}, {size}", case.name);
+    for size in [None, Some(1), Some(3), Some(65536)] {
+        let got = written_in(alloc, case.script, size)?;
+        assert_eq!(rt;
+            got.as_slice(),
+            case.replies.as_bytes(),
+            "{}, {size:?}",
+            case.name
+        );
     }
     Ok(())
 }

@@ -46,15 +46,12 @@ fn phasers_of_all_bounds_are_made(rt: HostRuntime) -> Result<(), Fail> {
     Ok(())
 }
 
-// The founder signals and waits for the first 100 phases.
-fn pass_phases(rt: &impl Abort, alloc: Global, session: &mut Session) -> Result<(), Fail> {
-    for phase in 0..100u64 {
-        let signalled = format!(in alloc; "ok {phase}")?;
-        let value = format!(in alloc; "value {phase} 0")?;
-        let rows: Rows<'_> = &[("signal 0", &signalled), ("wait 0", &value)];
-        follow(rt, session, "passing", rows)?;
-    }
-    Ok(())
+// The founder signals and waits for the phase, which is its next.
+fn pass(rt: &impl Abort, alloc: Global, session: &mut Session, phase: u64) -> Result<(), Fail> {
+    let signalled = format!(in alloc; "ok {phase}")?;
+    let value = format!(in alloc; "value {phase} 0")?;
+    let rows: Rows<'_> = &[("signal 0", &signalled), ("wait 0", &value)];
+    follow(rt, session, "passing", rows)
 }
 
 // The founder registers 1,000 children.
@@ -82,7 +79,9 @@ fn children_of_a_late_phase_send_and_signal(rt: HostRuntime) -> Result<(), Fail>
     let name = "children of a late phase";
     let mut session = Session::new(rt.alloc());
     answers(&rt, &mut session, name, ("make sum 2 1000", "ok"))?;
-    pass_phases(&rt, rt.alloc(), &mut session)?;
+    for phase in 0..100u64 {
+        pass(&rt, rt.alloc(), &mut session, phase)?;
+    }
     add_children(&rt, rt.alloc(), &mut session)?;
     send_and_signal(&rt, rt.alloc(), &mut session)?;
     answers(&rt, &mut session, name, ("wait 7", "no not-yet"))?;
