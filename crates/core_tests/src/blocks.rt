@@ -1,260 +1,276 @@
 //! Blocks of phases, and waiters that join now, as calls on a phaser under sum.
-use phase_accum::{Outcome, Pending, SendFault, Single, Sum};
-use phase_base::{Mode, Spec};
-use phase_core::{Got, GotBlock, PhaserCore, RegisterRefusal, SignalRefusal, WaitRefusal};
-use std::alloc::Global;
+use crate::calls::{Answer, Call, Case, Phaser, UNWRITTEN, follow_all, lists_of};
+use phase_accum::Outcome::{TooBig, Value};
+use phase_accum::{Pending, Sum};
+use phase_base::Mode;
+use phase_core::{PhaserCore, RegisterRefusal, SignalRefusal, WaitRefusal};
 use std::test::Fail;
 
-/// A phaser with the founder alone.
-fn founded(alloc: Global, bound: u64, phases: u64) -> Result<PhaserCore<Sum>, Fail> {
-    Ok(PhaserCore::new(alloc, Spec::new(bound, phases)?, 0)?)
+const CASES: [Case; 11] = [
+    Case {
+        name: "a block is signalled and taken by others",
+        bound: 4,
+        phases: 100,
+        calls: &[
+            (Call::Add(0, 1, Mode::Sig), Answer::Done),
+            (Call::Add(0, 2, Mode::Wait), Answer::Done),
+            (Call::Leave(0), Answer::Done),
+            (Call::Block(1, &[5, 6, 7]), Answer::Joined(0)),
+            (Call::Take(2, 2), Answer::Values(0, 2)),
+            (
+                Call::Places,
+                Answer::Holds(Value(5), Value(6), UNWRITTEN, UNWRITTEN, UNWRITTEN),
+            ),
+            (
+                Call::Block(1, &[8, 9, 10, 11]),
+                Answer::NotJoined(SignalRefusal::Ahead),
+            ),
+            (Call::Block(1, &[8, 9]), Answer::Joined(3)),
+        ],
+    },
+    Case {
+        name: "a wait takes what is complete",
+        bound: 4,
+        phases: 100,
+        calls: &[
+            (Call::Add(0, 1, Mode::Sig), Answer::Done),
+            (Call::Add(0, 2, Mode::Wait), Answer::Done),
+            (Call::Leave(0), Answer::Done),
+            (Call::Block(1, &[7, 8, 9]), Answer::Joined(0)),
+            (Call::Take(2, 5), Answer::GetsNot(WaitRefusal::BadBlock)),
+            (Call::Take(2, 0), Answer::GetsNot(WaitRefusal::BadBlock)),
+            (Call::Take(2, 4), Answer::Values(0, 3)),
+            (
+                Call::Places,
+                Answer::Holds(Value(7), Value(8), Value(9), UNWRITTEN, UNWRITTEN),
+            ),
+            (Call::Take(2, 1), Answer::GetsNot(WaitRefusal::NotYet)),
+        ],
+    },
+    Case {
+        name: "a wait behind the last phase has ended",
+        bound: 4,
+        phases: 100,
+        calls: &[
+            (Call::Add(0, 1, Mode::Sig), Answer::Done),
+            (Call::Add(0, 2, Mode::Wait), Answer::Done),
+            (Call::Leave(0), Answer::Done),
+            (Call::Leave(1), Answer::Done),
+            (Call::Take(2, 1), Answer::Ended),
+            (
+                Call::Places,
+                Answer::Holds(UNWRITTEN, UNWRITTEN, UNWRITTEN, UNWRITTEN, UNWRITTEN),
+            ),
+        ],
+    },
+    Case {
+        name: "who also waits signals one phase at a time",
+        bound: 4,
+        phases: 100,
+        calls: &[
+            (
+                Call::Block(0, &[1, 2]),
+                Answer::NotJoined(SignalRefusal::SignalTwice),
+            ),
+            (Call::Block(0, &[1]), Answer::Joined(0)),
+            (Call::Take(0, 3), Answer::Values(0, 1)),
+            (
+                Call::Places,
+                Answer::Holds(Value(1), UNWRITTEN, UNWRITTEN, UNWRITTEN, UNWRITTEN),
+            ),
+        ],
+    },
+    Case {
+        name: "a block past the last phase is spent",
+        bound: 4,
+        phases: 2,
+        calls: &[
+            (Call::Add(0, 1, Mode::Sig), Answer::Done),
+            (
+                Call::Block(1, &[1, 2, 3]),
+                Answer::NotJoined(SignalRefusal::Spent),
+            ),
+        ],
+    },
+    Case {
+        name: "a block of new phases goes up to the limits",
+        bound: 4,
+        phases: 6,
+        calls: &[
+            (Call::Add(0, 1, Mode::Sig), Answer::Done),
+            (Call::Add(0, 2, Mode::Wait), Answer::Done),
+            (Call::Leave(0), Answer::Done),
+            (Call::Block(1, &[5]), Answer::Joined(0)),
+            (
+                Call::Block(1, &[6, 7, 8, 9]),
+                Answer::NotJoined(SignalRefusal::Ahead),
+            ),
+            (Call::Block(1, &[6, 7, 8]), Answer::Joined(1)),
+            (Call::Take(2, 4), Answer::Values(0, 4)),
+            (
+                Call::Block(1, &[9, 10, 11]),
+                Answer::NotJoined(SignalRefusal::Spent),
+            ),
+            (Call::Block(1, &[9, 10]), Answer::Joined(4)),
+        ],
+    },
+    Case {
+        name: "a value of a block may be too big",
+        bound: 2,
+        phases: 100,
+        calls: &[
+            (Call::Add(0, 1, Mode::Sig), Answer::Done),
+            (Call::Add(0, 2, Mode::Sig), Answer::Done),
+            (Call::Add(0, 3, Mode::Wait), Answer::Done),
+            (Call::Leave(0), Answer::Done),
+            (Call::Block(1, &[9223372036854775807, 1]), Answer::Joined(0)),
+            (Call::Block(2, &[1, 2]), Answer::Joined(0)),
+            (Call::Take(3, 2), Answer::Values(0, 2)),
+            (
+                Call::Places,
+                Answer::Holds(TooBig, Value(3), UNWRITTEN, UNWRITTEN, UNWRITTEN),
+            ),
+        ],
+    },
+    Case {
+        name: "a block joins phases that were signalled and new ones",
+        bound: 4,
+        phases: 100,
+        calls: &[
+            (Call::Add(0, 1, Mode::Sig), Answer::Done),
+            (Call::Add(0, 2, Mode::Sig), Answer::Done),
+            (Call::Add(0, 3, Mode::Wait), Answer::Done),
+            (Call::Leave(0), Answer::Done),
+            (Call::Block(1, &[1, 2]), Answer::Joined(0)),
+            (Call::Block(2, &[10, 20, 30, 40]), Answer::Joined(0)),
+            (Call::Take(3, 2), Answer::Values(0, 2)),
+            (
+                Call::Places,
+                Answer::Holds(Value(11), Value(22), UNWRITTEN, UNWRITTEN, UNWRITTEN),
+            ),
+            // Phases 5 and 6 have the slots of phases 0 and 1.
+            (Call::Block(1, &[3, 4, 5, 6]), Answer::Joined(2)),
+            (Call::Take(3, 2), Answer::Values(2, 2)),
+            (
+                Call::Places,
+                Answer::Holds(Value(33), Value(44), UNWRITTEN, UNWRITTEN, UNWRITTEN),
+            ),
+            (Call::Block(2, &[50, 60, 70]), Answer::Joined(4)),
+            (Call::Block(1, &[7]), Answer::Joined(6)),
+            (Call::Take(3, 2), Answer::Values(4, 2)),
+            (
+                Call::Places,
+                Answer::Holds(Value(55), Value(66), UNWRITTEN, UNWRITTEN, UNWRITTEN),
+            ),
+            (Call::Take(3, 2), Answer::Values(6, 1)),
+            (
+                Call::Places,
+                Answer::Holds(Value(77), Value(66), UNWRITTEN, UNWRITTEN, UNWRITTEN),
+            ),
+        ],
+    },
+    Case {
+        name: "the first signal of a phase names its single",
+        bound: 2,
+        phases: 100,
+        calls: &[
+            (Call::Add(0, 1, Mode::Single), Answer::Done),
+            (Call::SignalNeg(0, 5), Answer::Joined(0)),
+            (
+                Call::Signal(1, Some(6)),
+                Answer::NotJoined(SignalRefusal::SingleDiffers),
+            ),
+            (Call::SignalNeg(1, 6), Answer::Joined(0)),
+            (Call::Wait(1), Answer::Value(0, -11)),
+        ],
+    },
+    Case {
+        name: "a waiter joins at the next phase to complete",
+        bound: 4,
+        phases: 100,
+        calls: &[
+            (Call::Add(0, 1, Mode::Sig), Answer::Done),
+            (Call::Add(0, 2, Mode::Wait), Answer::Done),
+            (Call::Leave(0), Answer::Done),
+            (Call::Block(1, &[10, 20]), Answer::Joined(0)),
+            (Call::AddNow(2, 3), Answer::Joined(2)),
+            (Call::Take(3, 1), Answer::GetsNot(WaitRefusal::NotYet)),
+            (Call::Signal(1, None), Answer::Joined(2)),
+            (Call::Take(3, 1), Answer::Values(2, 1)),
+            (Call::Take(2, 1), Answer::Values(0, 1)),
+            (
+                Call::Places,
+                Answer::Holds(Value(10), UNWRITTEN, UNWRITTEN, UNWRITTEN, UNWRITTEN),
+            ),
+            (
+                Call::AddNow(1, 4),
+                Answer::NotAdded(RegisterRefusal::NotAllowed),
+            ),
+            (
+                Call::AddNow(9, 4),
+                Answer::NotAdded(RegisterRefusal::NoTask),
+            ),
+            (
+                Call::AddNow(2, 3),
+                Answer::NotAdded(RegisterRefusal::NotNew),
+            ),
+        ],
+    },
+    Case {
+        name: "a waiter joins behind complete phases and not at the top",
+        bound: 2,
+        phases: 100,
+        calls: &[
+            (Call::Add(0, 1, Mode::Sig), Answer::Done),
+            (Call::Signal(0, None), Answer::Joined(0)),
+            (Call::Signal(1, None), Answer::Joined(0)),
+            (Call::Signal(1, None), Answer::Joined(1)),
+            (Call::Top, Answer::Number(Some(2))),
+            (Call::AddNow(0, 2), Answer::Joined(1)),
+            (Call::Wait(2), Answer::GetsNot(WaitRefusal::NotYet)),
+        ],
+    },
+];
+
+#[test]
+fn calls_are_answered(rt: HostRuntime) -> Result<(), Fail> {
+    follow_all(&rt, rt.alloc(), &CASES)
 }
 
-/// A phaser whose task 1 signals and whose task 2 waits.
-fn stream(alloc: Global) -> Result<PhaserCore<Sum>, Fail> {
-    let mut core = founded(alloc, 4, 100)?;
-    core.register(0, 1, Mode::Sig)?;
-    core.register(0, 2, Mode::Wait)?;
-    core.drop_task(0)?;
-    Ok(core)
-}
-
-fn pending_of(value: i64) -> Result<Pending<Sum>, SendFault> {
-    let mut pending = Pending::new();
-    pending.send(value)?;
-    Ok(pending)
-}
-
-/// Signals a block of a send each, and tells its first phase, or its refusal.
-fn signal(
-    alloc: Global,
+/// Signals a block that is refused, and then the lists that came back but the first. Tells the
+/// refusal, how many came back, and what the second signal was answered.
+fn signal_again(
     core: &mut PhaserCore<Sum>,
     task: u64,
-    values: &[i64],
-) -> Result<Result<u64, SignalRefusal>, Fail> {
-    let mut lists = Vec::new(alloc);
-    for value in values {
-        lists.push(pending_of(*value)?)?;
-    }
-    Ok(match core.signal_block(task, lists, None) {
-        Ok(phase) => Ok(phase),
-        Err((refusal, _)) => Err(refusal),
-    })
-}
-
-/// What stands in a place that nobody wrote.
-const UNWRITTEN: Outcome = Outcome::Value(-1);
-
-fn values(phase: u64, count: u64) -> Result<GotBlock, WaitRefusal> {
-    Ok(GotBlock::Values { phase, count })
-}
-
-#[test]
-fn a_block_is_signalled_and_taken_by_others(rt: HostRuntime) -> Result<(), Fail> {
-    let mut core = stream(rt.alloc())?;
-    let mut out = [UNWRITTEN; 4];
-    assert_eq!(rt; signal(rt.alloc(), &mut core, 1, &[5, 6, 7])?, Ok(0));
-    assert_eq!(rt; core.wait_block(2, &mut out[..2]), values(0, 2));
-    assert_eq!(rt;
-        out,
-        [Outcome::Value(5), Outcome::Value(6), UNWRITTEN, UNWRITTEN]
-    );
-    assert_eq!(rt;
-        signal(rt.alloc(), &mut core, 1, &[8, 9, 10, 11])?,
-        Err(SignalRefusal::Ahead)
-    );
-    assert_eq!(rt; signal(rt.alloc(), &mut core, 1, &[8, 9])?, Ok(3));
-    Ok(())
-}
-
-#[test]
-fn a_wait_takes_what_is_complete(rt: HostRuntime) -> Result<(), Fail> {
-    let mut core = stream(rt.alloc())?;
-    let mut out = [UNWRITTEN; 5];
-    assert_eq!(rt; signal(rt.alloc(), &mut core, 1, &[7, 8, 9])?, Ok(0));
-    assert_eq!(rt; core.wait_block(2, &mut out), Err(WaitRefusal::BadBlock));
-    assert_eq!(rt;
-        core.wait_block(2, &mut out[..0]),
-        Err(WaitRefusal::BadBlock)
-    );
-    assert_eq!(rt; core.wait_block(2, &mut out[..4]), values(0, 3));
-    let [first, second, third, fourth, fifth] = out;
-    assert_eq!(rt; [first, second], [Outcome::Value(7), Outcome::Value(8)]);
-    assert_eq!(rt;
-        [third, fourth, fifth],
-        [Outcome::Value(9), UNWRITTEN, UNWRITTEN]
-    );
-    assert_eq!(rt; core.wait_block(2, &mut out[..1]), Err(WaitRefusal::NotYet));
-    Ok(())
-}
-
-#[test]
-fn a_wait_behind_the_last_phase_has_ended(rt: HostRuntime) -> Result<(), Fail> {
-    let mut core = stream(rt.alloc())?;
-    let mut out = [UNWRITTEN];
-    core.drop_task(1)?;
-    assert_eq!(rt; core.wait_block(2, &mut out), Ok(GotBlock::Ended));
-    assert_eq!(rt; out, [UNWRITTEN]);
-    Ok(())
+    lists: Vec<Pending<Sum>>,
+) -> Option<(SignalRefusal, usize, Result<u64, SignalRefusal>)> {
+    let (refusal, lists) = core.signal_block(task, lists, None).err()?;
+    let again = core.signal_lists(task, lists.get(1..)?, None);
+    Some((refusal, lists.len(), again))
 }
 
 #[test]
 fn a_refused_block_signals_nothing_and_hands_all_back(rt: HostRuntime) -> Result<(), Fail> {
-    let mut core = stream(rt.alloc())?;
-    let mut lists = Vec::new(rt.alloc());
-    for value in [1, 2, 3, 4, 5] {
-        lists.push(pending_of(value)?)?;
-    }
-    match core.signal_block(1, lists, None) {
-        Ok(_) => return Err(Fail::from("a block above the bound")),
-        Err((refusal, lists)) => {
-            assert_eq!(rt; refusal, SignalRefusal::BadBlock);
-            assert_eq!(rt; lists.len(), 5);
-            // They are in their order: the last four are taken as they are.
-            assert_eq!(rt; core.signal_lists(1, &lists[1..], None), Ok(0));
-        }
-    }
-    let mut out = [UNWRITTEN; 4];
-    assert_eq!(rt; core.wait_block(2, &mut out), values(0, 4));
-    assert_eq!(rt; out[0], Outcome::Value(2));
-    assert_eq!(rt; out[3], Outcome::Value(5));
-    Ok(())
-}
-
-#[test]
-fn who_also_waits_signals_one_phase_at_a_time(rt: HostRuntime) -> Result<(), Fail> {
-    let mut core = founded(rt.alloc(), 4, 100)?;
-    let mut out = [UNWRITTEN; 3];
+    let name = "a refused block signals nothing and hands all back";
+    let mut phaser = Phaser::new(rt.alloc(), 4, 100)?;
+    let stream = [
+        (Call::Add(0, 1, Mode::Sig), Answer::Done),
+        (Call::Add(0, 2, Mode::Wait), Answer::Done),
+        (Call::Leave(0), Answer::Done),
+    ];
+    phaser.follow(&rt, name, &stream)?;
+    let lists = lists_of(rt.alloc(), &[1, 2, 3, 4, 5])?;
+    // They are in their order: the last four are taken as they are.
     assert_eq!(rt;
-        signal(rt.alloc(), &mut core, 0, &[1, 2])?,
-        Err(SignalRefusal::SignalTwice)
+        signal_again(&mut phaser.core, 1, lists),
+        Some((SignalRefusal::BadBlock, 5, Ok(0)))
     );
-    assert_eq!(rt; signal(rt.alloc(), &mut core, 0, &[1])?, Ok(0));
-    assert_eq!(rt; core.wait_block(0, &mut out), values(0, 1));
-    assert_eq!(rt; out, [Outcome::Value(1), UNWRITTEN, UNWRITTEN]);
-    Ok(())
-}
-
-#[test]
-fn a_block_past_the_last_phase_is_spent(rt: HostRuntime) -> Result<(), Fail> {
-    let mut core = founded(rt.alloc(), 4, 2)?;
-    core.register(0, 1, Mode::Sig)?;
-    assert_eq!(rt;
-        signal(rt.alloc(), &mut core, 1, &[1, 2, 3])?,
-        Err(SignalRefusal::Spent)
-    );
-    Ok(())
-}
-
-#[test]
-fn a_block_of_new_phases_goes_up_to_the_limits(rt: HostRuntime) -> Result<(), Fail> {
-    let mut core = founded(rt.alloc(), 4, 6)?;
-    core.register(0, 1, Mode::Sig)?;
-    core.register(0, 2, Mode::Wait)?;
-    core.drop_task(0)?;
-    let mut out = [UNWRITTEN; 4];
-    assert_eq!(rt; signal(rt.alloc(), &mut core, 1, &[5])?, Ok(0));
-    assert_eq!(rt;
-        signal(rt.alloc(), &mut core, 1, &[6, 7, 8, 9])?,
-        Err(SignalRefusal::Ahead)
-    );
-    assert_eq!(rt; signal(rt.alloc(), &mut core, 1, &[6, 7, 8])?, Ok(1));
-    assert_eq!(rt; core.wait_block(2, &mut out), values(0, 4));
-    assert_eq!(rt;
-        signal(rt.alloc(), &mut core, 1, &[9, 10, 11])?,
-        Err(SignalRefusal::Spent)
-    );
-    assert_eq!(rt; signal(rt.alloc(), &mut core, 1, &[9, 10])?, Ok(4));
-    Ok(())
-}
-
-#[test]
-fn a_value_of_a_block_may_be_too_big(rt: HostRuntime) -> Result<(), Fail> {
-    let mut core = founded(rt.alloc(), 2, 100)?;
-    core.register(0, 1, Mode::Sig)?;
-    core.register(0, 2, Mode::Sig)?;
-    core.register(0, 3, Mode::Wait)?;
-    core.drop_task(0)?;
-    let most = 9223372036854775807;
-    assert_eq!(rt; signal(rt.alloc(), &mut core, 1, &[most, 1])?, Ok(0));
-    assert_eq!(rt; signal(rt.alloc(), &mut core, 2, &[1, 2])?, Ok(0));
-    let mut out = [UNWRITTEN; 2];
-    assert_eq!(rt; core.wait_block(3, &mut out), values(0, 2));
-    assert_eq!(rt; out, [Outcome::TooBig, Outcome::Value(3)]);
-    Ok(())
-}
-
-#[test]
-fn a_block_joins_phases_that_were_signalled_and_new_ones(rt: HostRuntime) -> Result<(), Fail> {
-    let mut core = founded(rt.alloc(), 4, 100)?;
-    core.register(0, 1, Mode::Sig)?;
-    core.register(0, 2, Mode::Sig)?;
-    core.register(0, 3, Mode::Wait)?;
-    core.drop_task(0)?;
-    let mut out = [UNWRITTEN; 2];
-    assert_eq!(rt; signal(rt.alloc(), &mut core, 1, &[1, 2])?, Ok(0));
-    assert_eq!(rt; signal(rt.alloc(), &mut core, 2, &[10, 20, 30, 40])?, Ok(0));
-    assert_eq!(rt; core.wait_block(3, &mut out), values(0, 2));
-    assert_eq!(rt; out, [Outcome::Value(11), Outcome::Value(22)]);
-    // Phases 5 and 6 have the slots of phases 0 and 1.
-    assert_eq!(rt; signal(rt.alloc(), &mut core, 1, &[3, 4, 5, 6])?, Ok(2));
-    assert_eq!(rt; core.wait_block(3, &mut out), values(2, 2));
-    assert_eq!(rt; out, [Outcome::Value(33), Outcome::Value(44)]);
-    assert_eq!(rt; signal(rt.alloc(), &mut core, 2, &[50, 60, 70])?, Ok(4));
-    assert_eq!(rt; signal(rt.alloc(), &mut core, 1, &[7])?, Ok(6));
-    assert_eq!(rt; core.wait_block(3, &mut out), values(4, 2));
-    assert_eq!(rt; out, [Outcome::Value(55), Outcome::Value(66)]);
-    assert_eq!(rt; core.wait_block(3, &mut out), values(6, 1));
-    assert_eq!(rt; out, [Outcome::Value(77), Outcome::Value(66)]);
-    Ok(())
-}
-
-#[test]
-fn the_first_signal_of_a_phase_names_its_single(rt: HostRuntime) -> Result<(), Fail> {
-    let mut core = founded(rt.alloc(), 2, 100)?;
-    core.register(0, 1, Mode::Single)?;
-    let neg = Some(Single::Neg);
-    assert_eq!(rt; core.signal(0, pending_of(5)?, neg), Ok(0));
-    assert_eq!(rt;
-        core.signal(1, pending_of(6)?, None),
-        Err((SignalRefusal::SingleDiffers, pending_of(6)?))
-    );
-    assert_eq!(rt; core.signal(1, pending_of(6)?, neg), Ok(0));
-    let outcome = Outcome::Value(-11);
-    assert_eq!(rt; core.wait(1), Ok(Got::Value { phase: 0, outcome }));
-    Ok(())
-}
-
-#[test]
-fn a_waiter_joins_at_the_next_phase_to_complete(rt: HostRuntime) -> Result<(), Fail> {
-    let mut core = stream(rt.alloc())?;
-    let mut out = [UNWRITTEN; 1];
-    assert_eq!(rt; signal(rt.alloc(), &mut core, 1, &[10, 20])?, Ok(0));
-    assert_eq!(rt; core.register_now(2, 3), Ok(2));
-    assert_eq!(rt; core.wait_block(3, &mut out), Err(WaitRefusal::NotYet));
-    assert_eq!(rt; core.signal(1, Pending::new(), None), Ok(2));
-    assert_eq!(rt; core.wait_block(3, &mut out), values(2, 1));
-    assert_eq!(rt; core.wait_block(2, &mut out), values(0, 1));
-    assert_eq!(rt; out, [Outcome::Value(10)]);
-    for (parent, child, refusal) in [
-        (1, 4, RegisterRefusal::NotAllowed),
-        (9, 4, RegisterRefusal::NoTask),
-        (2, 3, RegisterRefusal::NotNew),
-    ] {
-        assert_eq!(rt; core.register_now(parent, child), Err(refusal));
-    }
-    Ok(())
-}
-
-#[test]
-fn a_waiter_joins_behind_complete_phases_and_not_at_the_top(rt: HostRuntime) -> Result<(), Fail> {
-    let mut core = founded(rt.alloc(), 2, 100)?;
-    core.register(0, 1, Mode::Sig)?;
-    assert_eq!(rt; core.signal(0, Pending::new(), None), Ok(0));
-    assert_eq!(rt; core.signal(1, Pending::new(), None), Ok(0));
-    assert_eq!(rt; core.signal(1, Pending::new(), None), Ok(1));
-    assert_eq!(rt; core.top(), 2);
-    assert_eq!(rt; core.register_now(0, 2), Ok(1));
-    assert_eq!(rt; core.wait(2), Err(WaitRefusal::NotYet));
-    Ok(())
+    let taken = [
+        (Call::Take(2, 4), Answer::Values(0, 4)),
+        (
+            Call::Places,
+            Answer::Holds(Value(2), Value(3), Value(4), Value(5), UNWRITTEN),
+        ),
+    ];
+    phaser.follow(&rt, name, &taken)
 }

@@ -1,8 +1,9 @@
 //! Rings and phasers of many sizes, and founders of many numbers: where there is memory none is
 //! wanted.
-use phase_accum::{Outcome, Pending, Sum};
+use crate::calls::{Answer, Call, Phaser};
+use phase_accum::Sum;
 use phase_base::Spec;
-use phase_core::{Got, PhaserCore};
+use phase_core::PhaserCore;
 use phase_ring::SlotRing;
 use std::alloc::Global;
 use std::process::Abort;
@@ -29,21 +30,28 @@ const FOUNDERS: [(u64, Option<u64>); 12] = [
     (18446744073709551615, None),
 ];
 
+/// The base of a new ring of this bound.
+fn base_of(alloc: Global, bound: u64) -> Result<u64, Fail> {
+    let spec = Spec::new(bound, 10)?;
+    Ok(SlotRing::<Sum>::with_bound(alloc, spec.bound())?.base())
+}
+
+/// What the founder of a phaser of this bound is answered when it signals, and then waits.
+fn first_answers(alloc: Global, bound: u64) -> Result<(Answer, Answer), Fail> {
+    let mut phaser = Phaser::new(alloc, bound, 10)?;
+    let signalled = phaser.reply_to(Call::Signal(0, None))?;
+    Ok((signalled, phaser.reply_to(Call::Wait(0))?))
+}
+
 // There is a ring of this bound, and a phaser whose founder signals and waits.
 fn works_at(rt: &impl Abort, alloc: Global, bound: u64) -> Result<(), Fail> {
-    let spec = Spec::new(bound, 10)?;
-    let ring = SlotRing::<Sum>::with_bound(alloc, spec.bound())?;
-    assert_eq!(rt; ring.base(), 0);
-    let mut core = PhaserCore::<Sum>::new(alloc, spec, 0)?;
-    let Ok(phase) = core.signal(0, Pending::new(), None) else {
-        panic!(rt; "no signal at bound {bound}");
-    };
-    assert_eq!(rt; phase, 0);
-    let got = Got::Value {
-        phase: 0,
-        outcome: Outcome::Value(0),
-    };
-    assert_eq!(rt; core.wait(0), Ok(got), "at bound {bound}");
+    let base = base_of(alloc, bound)?;
+    let answers = first_answers(alloc, bound)?;
+    assert_eq!(rt;
+        (base, answers),
+        (0, (Answer::Joined(0), Answer::Value(0, 0))),
+        "at bound {bound}"
+    );
     Ok(())
 }
 
@@ -61,17 +69,21 @@ fn phasers_of_all_bounds_are_made(rt: HostRuntime) -> Result<(), Fail> {
     Ok(())
 }
 
+/// The number behind that of a phaser's founder, and whether the founder is a member.
+fn founded_by(alloc: Global, first: u64) -> Result<(Option<u64>, bool), Fail> {
+    let core = PhaserCore::<Sum>::new(alloc, Spec::new(2, 10)?, first)?;
+    Ok((core.next_number(), core.view(first).is_some()))
+}
+
 #[test]
 fn founders_of_all_numbers_found(rt: HostRuntime) -> Result<(), Fail> {
-    let spec = Spec::new(2, 10)?;
     for first in 0..1026u64 {
-        let core = PhaserCore::<Sum>::new(rt.alloc(), spec, first)?;
-        assert_eq!(rt; core.next_number(), Some(first + 1), "after {first}");
+        let founded = founded_by(rt.alloc(), first)?;
+        assert_eq!(rt; founded, (Some(first + 1), true), "after {first}");
     }
     for (first, next) in FOUNDERS {
-        let core = PhaserCore::<Sum>::new(rt.alloc(), spec, first)?;
-        assert_eq!(rt; core.next_number(), next, "after {first}");
-        assert!(rt; core.view(first).is_some());
+        let founded = founded_by(rt.alloc(), first)?;
+        assert_eq!(rt; founded, (next, true), "after {first}");
     }
     Ok(())
 }

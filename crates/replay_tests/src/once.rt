@@ -1,5 +1,6 @@
 //! Readers and writers that go wrong once and then work, and a reader that sees what was flushed.
 use phase_replay::{ReplayFault, Watched, replay};
+use std::alloc::Global;
 use std::cell::Cell;
 use std::io;
 use std::io::{Read, Write};
@@ -26,22 +27,33 @@ impl Read for Hiccup<'_> {
     }
 }
 
+/// How a replay of three lines ends whose read of this number fails, with how many reads it made and
+/// how many bytes it wrote.
+fn read_failing_at(alloc: Global, fails_at: usize) -> (Result<(), ReplayFault>, usize, usize) {
+    let mut reader = Watched::new(Hiccup {
+        rest: b"x\nx\nx\n",
+        reads: 0,
+        fails_at,
+    });
+    let mut output = Vec::new(alloc);
+    let mut writer = Watched::new(&mut output);
+    let outcome = replay(alloc, &mut reader, &mut writer);
+    (outcome, reader.into_inner().reads, output.len())
+}
+
 #[test]
-fn a_read_that_fails_once_is_the_last(rt: HostRuntime) -> Result<(), Fail> {
+fn a_read_that_fails_once_is_the_last(rt: HostRuntime) {
     for fails_at in 1..8usize {
-        let mut reader = Watched::new(Hiccup {
-            rest: b"x\nx\nx\n",
-            reads: 0,
-            fails_at,
-        });
-        let mut output = Vec::new(rt.alloc());
-        let mut writer = Watched::new(&mut output);
-        let outcome = replay(rt.alloc(), &mut reader, &mut writer);
-        assert_eq!(rt; outcome, Err(ReplayFault::ReadFault), "{fails_at}");
-        assert_eq!(rt; reader.into_inner().reads, fails_at, "{fails_at}");
-        assert_eq!(rt; output.len(), (fails_at - 1) / 2 * 9, "{fails_at}");
+        assert_eq!(rt;
+            read_failing_at(rt.alloc(), fails_at),
+            (
+                Err(ReplayFault::ReadFault),
+                fails_at,
+                (fails_at - 1) / 2 * 9
+            ),
+            "{fails_at}"
+        );
     }
-    Ok(())
 }
 
 /// How one call goes wrong.
@@ -83,10 +95,29 @@ impl Write for Stumbling {
     }
 }
 
+/// How a replay of two lines ends whose writer goes wrong at the call of this number, with how many
+/// calls its writer had and how many bytes it took.
+fn stumbling_at(alloc: Global, at: usize, wrong: Wrong) -> (Result<(), ReplayFault>, usize, usize) {
+    let mut reader = Watched::new(Hiccup {
+        rest: b"x\nx\n",
+        reads: 0,
+        fails_at: usize::MAX,
+    });
+    let mut writer = Watched::new(Stumbling {
+        got: 0,
+        calls: 0,
+        at,
+        wrong,
+    });
+    let outcome = replay(alloc, &mut reader, &mut writer);
+    let inner = writer.into_inner();
+    (outcome, inner.calls, inner.got)
+}
+
 // The calls of a replay of two lines, a byte a read: before each read a flush, with a write before
 // it where a reply waits. The writes are calls 3 and 6, and the flushes 1, 2, 4, 5, 7 and 8.
 #[test]
-fn a_write_or_flush_that_fails_once_is_the_last(rt: HostRuntime) -> Result<(), Fail> {
+fn a_write_or_flush_that_fails_once_is_the_last(rt: HostRuntime) {
     for (at, wrong, got) in [
         (3usize, Wrong::Write, 0usize),
         (6, Wrong::Write, 9),
@@ -98,24 +129,12 @@ fn a_write_or_flush_that_fails_once_is_the_last(rt: HostRuntime) -> Result<(), F
         (7, Wrong::Flush, 18),
         (8, Wrong::Flush, 18),
     ] {
-        let mut reader = Watched::new(Hiccup {
-            rest: b"x\nx\n",
-            reads: 0,
-            fails_at: usize::MAX,
-        });
-        let mut writer = Watched::new(Stumbling {
-            got: 0,
-            calls: 0,
-            at,
-            wrong,
-        });
-        let outcome = replay(rt.alloc(), &mut reader, &mut writer);
-        assert_eq!(rt; outcome, Err(ReplayFault::WriteFault), "{wrong:?} at {at}");
-        let inner = writer.into_inner();
-        assert_eq!(rt; inner.calls, at, "{wrong:?} at {at}");
-        assert_eq!(rt; inner.got, got, "{wrong:?} at {at}");
+        assert_eq!(rt;
+            stumbling_at(rt.alloc(), at, wrong),
+            (Err(ReplayFault::WriteFault), at, got),
+            "{wrong:?} at {at}"
+        );
     }
-    Ok(())
 }
 
 /// Gives a script `size` bytes a read, and looks at each read whether the replies to all lines so
@@ -165,34 +184,63 @@ impl Write for Holding<'_> {
     }
 }
 
+/// How a replay of a script ends that is read `size` bytes at a time.
+#[derive(Clone, Copy, Debug, PartialEq)]
+struct Ending {
+    outcome: Result<(), ReplayFault>,
+    read: u64,
+    is_answered: bool,
+    flushed: usize,
+}
+
+fn waited(alloc: Global, script: &[u8], size: usize) -> Ending {
+    let flushed = Cell::new(0usize);
+    let mut reader = Watched::new(Waiting {
+        rest: script,
+        size,
+        replies: 0,
+        flushed: &flushed,
+        is_answered: true,
+    });
+    let mut writer = Watched::new(Holding {
+        taken: 0,
+        flushed: &flushed,
+    });
+    let outcome = replay(alloc, &mut reader, &mut writer);
+    Ending {
+        outcome,
+        read: reader.count(),
+        is_answered: reader.into_inner().is_answered,
+        flushed: flushed.get(),
+    }
+}
+
+// The line, so many times.
+fn lines_of(alloc: Global, line: &[u8], lines: usize) -> Result<Vec<u8>, Fail> {
+    let mut script = Vec::new(alloc);
+    for _ in 0..lines {
+        script.extend_from_slice(line)?;
+    }
+    Ok(script)
+}
+
 #[test]
 fn each_read_finds_all_lines_before_it_answered(rt: HostRuntime) -> Result<(), Fail> {
     // Lines of 64 bytes and lines of 2, so that a read of 65,536 bytes ends with a line, and its
     // replies are fewer bytes than are handed over on the way, or more.
     let long = b"xxxxxxxxxxxxxxxxxxxxxxxxxxxxxxxxxxxxxxxxxxxxxxxxxxxxxxxxxxxxxxx\n";
     let rows: [(&[u8], usize, usize); 2] = [(long, 2048, 18_432), (b"x\n", 65_536, 589_824)];
-    for (line, lines, replies) in rows {
-        let mut script = Vec::new(rt.alloc());
-        for _ in 0..lines {
-            script.extend_from_slice(line)?;
-        }
+    for (line, lines, flushed) in rows {
+        let script = lines_of(rt.alloc(), line, lines)?;
         for size in [1usize, 3, 65_535, 65_536] {
-            let flushed = Cell::new(0usize);
-            let mut reader = Watched::new(Waiting {
-                rest: script.as_slice(),
-                size,
-                replies: 0,
-                flushed: &flushed,
+            let want = Ending {
+                outcome: Ok(()),
+                read: 131_072,
                 is_answered: true,
-            });
-            let mut writer = Watched::new(Holding {
-                taken: 0,
-                flushed: &flushed,
-            });
-            assert_eq!(rt; replay(rt.alloc(), &mut reader, &mut writer), Ok(()));
-            assert_eq!(rt; reader.count(), 131_072, "{size}");
-            assert!(rt; reader.into_inner().is_answered, "{lines}, {size}");
-            assert_eq!(rt; flushed.get(), replies, "{lines}, {size}");
+                flushed,
+            };
+            let got = waited(rt.alloc(), script.as_slice(), size);
+            assert_eq!(rt; got, want, "{lines}, {size}");
         }
     }
     Ok(())

@@ -86,122 +86,116 @@ fn taking(alloc: Global, size: usize) -> Choppy {
     }
 }
 
-#[test]
-fn each_line_has_its_reply(rt: HostRuntime) -> Result<(), Fail> {
-    let rows: [(&[u8], &[u8]); 14] = [
-        (b"", b""),
-        (b"make sum 2 100\n", b"ok\n"),
-        (b"make sum 2 100", b"ok\n"),
-        (b"make sum 2 100\r\n", b"ok\n"),
-        (b"make sum 2 100\r", b"ok\n"),
-        (b"make sum 2 100\r\r\n", b"bad line\n"),
-        (b"make sum 2 100 \n", b"bad line\n"),
-        (b"\n", b"bad line\n"),
-        (b"\r", b"bad line\n"),
-        (b"\r\n\n", b"bad line\nbad line\n"),
-        (b"\nmake sum 2 100", b"bad line\nok\n"),
-        (
-            b"make sum 2 100\n\nmake sum 2 100\n",
-            b"ok\nbad line\nno made\n",
-        ),
-        (
-            b"make sum 2 100\n\nmake sum 2 100\r",
-            b"ok\nbad line\nno made\n",
-        ),
-        (
-            b"make sum 2 100\r\nsend 0 5\nsignal 0\r\nwait 0\nsignal 0",
-            b"ok\nok\nok 0\nvalue 0 5\nok 1\n",
-        ),
-    ];
-    for (script, replies) in rows {
-        for size in [1, 3, 65536] {
-            let mut reader = Watched::new(pieces_of(script, size));
-            let mut writer = Watched::new(taking(rt.alloc(), size));
-            assert_eq!(rt;
-                replay(rt.alloc(), &mut reader, &mut writer),
-                Ok(()),
-                "{script:?}"
-            );
-            assert!(rt; !reader.has_failed() && !writer.has_failed());
-            assert_eq!(rt;
-                writer.into_inner().got.as_slice(),
-                replies,
-                "{script:?}, {size}"
-            );
-        }
+/// What a replay came to.
+#[derive(Drop)]
+struct Ending {
+    outcome: Result<(), ReplayFault>,
+    /// Whether its reader failed, and its writer.
+    failed: (bool, bool),
+    got: Vec<u8>,
+    writes: usize,
+}
+
+fn replayed(alloc: Global, reader: Pieces<'_>, writer: Choppy) -> Ending {
+    let mut reader = Watched::new(reader);
+    let mut writer = Watched::new(writer);
+    let outcome = replay(alloc, &mut reader, &mut writer);
+    let failed = (reader.has_failed(), writer.has_failed());
+    let writer = writer.into_inner();
+    Ending {
+        outcome,
+        failed,
+        writes: writer.writes,
+        got: writer.got,
     }
-    Ok(())
+}
+
+/// What a replay of the script writes where `size` bytes at most are read and written at a time.
+/// Neither its reader nor its writer may have failed.
+pub fn written(alloc: Global, script: &[u8], size: usize) -> Result<Vec<u8>, Fail> {
+    let run = replayed(alloc, pieces_of(script, size), taking(alloc, size));
+    run.outcome?;
+    if run.failed != (false, false) {
+        return Err(Fail::from("a reader or a writer that failed"));
+    }
+    Ok(run.got)
 }
 
 #[test]
-fn a_failed_read_comes_behind_the_replies_to_all_lines_read(rt: HostRuntime) -> Result<(), Fail> {
+fn a_failed_read_comes_behind_the_replies_to_all_lines_read(rt: HostRuntime) {
+    let replies = b"bad line\nbad line\nbad line\n";
     for fails_at in 0..7usize {
-        let mut reader = Watched::new(Pieces {
+        let reader = Pieces {
             rest: b"x\ny\nz\n",
             size: 1,
             reads: 0,
             fails_at,
-        });
-        let mut writer = Watched::new(taking(rt.alloc(), 65536));
-        let outcome = replay(rt.alloc(), &mut reader, &mut writer);
-        assert_eq!(rt; outcome, Err(ReplayFault::ReadFault), "{fails_at}");
-        assert!(rt; reader.has_failed() && !writer.has_failed());
-        let replies = b"bad line\nbad line\nbad line\n";
-        let got = writer.into_inner().got;
-        assert_eq!(rt; got.as_slice(), &replies[..fails_at / 2 * 9], "{fails_at}");
+        };
+        let run = replayed(rt.alloc(), reader, taking(rt.alloc(), 65536));
+        assert_eq!(rt;
+            (run.outcome, run.failed),
+            (Err(ReplayFault::ReadFault), (true, false)),
+            "{fails_at}"
+        );
+        assert_eq!(rt;
+            run.got.as_slice(),
+            &replies[..fails_at / 2 * 9],
+            "{fails_at}"
+        );
     }
-    Ok(())
+}
+
+// A replay of two lines, a byte a read and a write, whose writer stops at the write of the number.
+fn stopped(alloc: Global, stops_at: usize, stop: Stop) -> Ending {
+    let writer = Choppy {
+        got: Vec::new(alloc),
+        size: 1,
+        writes: 0,
+        stops_at,
+        stop,
+    };
+    replayed(alloc, pieces_of(b"x\ny", 1), writer)
 }
 
 #[test]
-fn a_failed_write_comes_behind_a_prefix_of_the_replies(rt: HostRuntime) -> Result<(), Fail> {
+fn a_failed_write_comes_behind_a_prefix_of_the_replies(rt: HostRuntime) {
+    let replies = b"bad line\nbad line\n";
     for stop in [Stop::Fails, Stop::TakesNothing, Stop::FailsToFlush] {
         for stops_at in 0..18usize {
-            let mut reader = Watched::new(pieces_of(b"x\ny", 1));
-            let mut writer = Watched::new(Choppy {
-                got: Vec::new(rt.alloc()),
-                size: 1,
-                writes: 0,
-                stops_at,
-                stop,
-            });
-            let outcome = replay(rt.alloc(), &mut reader, &mut writer);
+            let run = stopped(rt.alloc(), stops_at, stop);
             let flushes_then = stops_at % 9 == 0;
             if stop == Stop::FailsToFlush && !flushes_then {
-                assert_eq!(rt; outcome, Ok(()), "{stops_at}");
+                assert_eq!(rt; run.outcome, Ok(()), "{stops_at}");
             } else {
-                assert_eq!(rt; outcome, Err(ReplayFault::WriteFault), "{stops_at}");
-                assert!(rt; !reader.has_failed() && writer.has_failed());
-                let replies = b"bad line\nbad line\n";
-                let got = writer.into_inner().got;
-                assert_eq!(rt; got.as_slice(), &replies[..stops_at], "{stops_at}");
+                assert_eq!(rt;
+                    (run.outcome, run.failed),
+                    (Err(ReplayFault::WriteFault), (false, true)),
+                    "{stops_at}"
+                );
+                assert_eq!(rt; run.got.as_slice(), &replies[..stops_at], "{stops_at}");
             }
         }
     }
-    Ok(())
 }
 
 #[test]
 fn a_line_of_a_million_bytes_is_one_bad_line(rt: HostRuntime) -> Result<(), Fail> {
     let script = vec![in rt.alloc(); b'x'; 1_000_000]?;
-    let mut reader = Watched::new(pieces_of(script.as_slice(), 65536));
-    let mut writer = Watched::new(taking(rt.alloc(), 65536));
-    assert_eq!(rt; replay(rt.alloc(), &mut reader, &mut writer), Ok(()));
-    assert_eq!(rt;
-        writer.into_inner().got.as_slice(),
-        b"bad line\n".as_slice()
-    );
+    let reader = pieces_of(script.as_slice(), 65536);
+    let run = replayed(rt.alloc(), reader, taking(rt.alloc(), 65536));
+    assert_eq!(rt; run.outcome, Ok(()));
+    assert_eq!(rt; run.got.as_slice(), b"bad line\n".as_slice());
     Ok(())
 }
 
 #[test]
 fn many_replies_go_out_in_large_pieces(rt: HostRuntime) -> Result<(), Fail> {
     let script = vec![in rt.alloc(); b'\n'; 20_000]?;
-    let mut reader = Watched::new(pieces_of(script.as_slice(), 65536));
-    let mut writer = Watched::new(taking(rt.alloc(), usize::MAX));
-    assert_eq!(rt; replay(rt.alloc(), &mut reader, &mut writer), Ok(()));
-    let writer = writer.into_inner();
-    assert_eq!(rt; writer.got.len(), 180_000);
-    assert_eq!(rt; writer.writes, 3);
+    let reader = pieces_of(script.as_slice(), 65536);
+    let run = replayed(rt.alloc(), reader, taking(rt.alloc(), usize::MAX));
+    assert_eq!(rt;
+        (run.outcome, run.got.len(), run.writes),
+        (Ok(()), 180_000, 3)
+    );
     Ok(())
 }

@@ -1,6 +1,7 @@
 //! Scripts with phasers of many bounds and many tasks: where there is memory none is wanted.
 ghost use Rattle.std.specs.Prelude.{◌≤◌, IfOk};
 
+use crate::scripts::{Rows, answers, follow};
 use phase_session::Session;
 use std::alloc::{AllocError, Global};
 use std::process::Abort;
@@ -12,14 +13,6 @@ const BOUNDS: [u64; 19] = [
     32769, 50000, 65535, 65536,
 ];
 
-// Hands the line to the session, which must answer with the reply.
-fn answers(rt: &impl Abort, session: &mut Session, line: &str, reply: &str) -> Result<(), Fail> {
-    let got = session.line(line.as_bytes())?;
-    let text = got.bytes().strip_suffix(b"\n").unwrap_or(b"no line end");
-    assert_eq!(rt; text, reply.as_bytes(), "at '{line}'");
-    Ok(())
-}
-
 // How many bytes the reply to a line has, whatever was done with the session before.
 fn size_of_reply(session: &mut Session, line: &[u8]) -> Result<usize, AllocError>
     ensures { IfOk result (λ size. size ≤ 363) }
@@ -30,17 +23,14 @@ fn size_of_reply(session: &mut Session, line: &[u8]) -> Result<usize, AllocError
 
 // A phaser of this bound is made, and its founder sends, signals and waits.
 fn works_at(rt: &impl Abort, alloc: Global, operator: &str, bound: u64) -> Result<(), Fail> {
-    let mut session = Session::new(alloc);
     let make = format!(in alloc; "make {operator} {bound} 10")?;
-    answers(rt, &mut session, &make, "ok")?;
-    for (line, reply) in [
+    let rows: Rows<'_> = &[
+        (make.as_str(), "ok"),
         ("send 0 5", "ok"),
         ("signal 0", "ok 0"),
         ("wait 0", "value 0 5"),
-    ] {
-        answers(rt, &mut session, line, reply)?;
-    }
-    Ok(())
+    ];
+    follow(rt, &mut Session::new(alloc), &make, rows)
 }
 
 #[test]
@@ -56,50 +46,46 @@ fn phasers_of_all_bounds_are_made(rt: HostRuntime) -> Result<(), Fail> {
     Ok(())
 }
 
+// The founder signals and waits for the phase, which is its next.
+fn pass(rt: &impl Abort, alloc: Global, session: &mut Session, phase: u64) -> Result<(), Fail> {
+    let signalled = format!(in alloc; "ok {phase}")?;
+    let value = format!(in alloc; "value {phase} 0")?;
+    let rows: Rows<'_> = &[("signal 0", &signalled), ("wait 0", &value)];
+    follow(rt, session, "passing", rows)
+}
+
+// The founder registers 1,000 children.
+fn add_children(rt: &impl Abort, alloc: Global, session: &mut Session) -> Result<(), Fail> {
+    for child in 1..1001u64 {
+        let line = format!(in alloc; "add 0 {child} sigwait")?;
+        answers(rt, session, "adding", (&line, "ok"))?;
+    }
+    Ok(())
+}
+
+// Each of them sends its number and signals.
+fn send_and_signal(rt: &impl Abort, alloc: Global, session: &mut Session) -> Result<(), Fail> {
+    for child in 1..1001u64 {
+        let send = format!(in alloc; "send {child} {child}")?;
+        answers(rt, session, "sending", (&send, "ok"))?;
+        let signal = format!(in alloc; "signal {child}")?;
+        answers(rt, session, "sending", (&signal, "ok 100"))?;
+    }
+    Ok(())
+}
+
 #[test]
 fn children_of_a_late_phase_send_and_signal(rt: HostRuntime) -> Result<(), Fail> {
-    let alloc = rt.alloc();
-    let mut session = Session::new(alloc);
-    answers(&rt, &mut session, "make sum 2 1000", "ok")?;
+    let name = "children of a late phase";
+    let mut session = Session::new(rt.alloc());
+    answers(&rt, &mut session, name, ("make sum 2 1000", "ok"))?;
     for phase in 0..100u64 {
-        answers(
-            &rt,
-            &mut session,
-            "signal 0",
-            &format!(in alloc; "ok {phase}")?,
-        )?;
-        answers(
-            &rt,
-            &mut session,
-            "wait 0",
-            &format!(in alloc; "value {phase} 0")?,
-        )?;
+        pass(&rt, rt.alloc(), &mut session, phase)?;
     }
-    for child in 1..1001u64 {
-        answers(
-            &rt,
-            &mut session,
-            &format!(in alloc; "add 0 {child} sigwait")?,
-            "ok",
-        )?;
-    }
-    for child in 1..1001u64 {
-        answers(
-            &rt,
-            &mut session,
-            &format!(in alloc; "send {child} {child}")?,
-            "ok",
-        )?;
-        answers(
-            &rt,
-            &mut session,
-            &format!(in alloc; "signal {child}")?,
-            "ok 100",
-        )?;
-    }
-    answers(&rt, &mut session, "wait 7", "no not-yet")?;
+    add_children(&rt, rt.alloc(), &mut session)?;
+    send_and_signal(&rt, rt.alloc(), &mut session)?;
+    answers(&rt, &mut session, name, ("wait 7", "no not-yet"))?;
     assert_eq!(rt; size_of_reply(&mut session, b"wait 7")?, 11);
-    answers(&rt, &mut session, "signal 0", "ok 100")?;
-    answers(&rt, &mut session, "wait 7", "value 100 500500")?;
-    Ok(())
+    let rows: Rows<'_> = &[("signal 0", "ok 100"), ("wait 7", "value 100 500500")];
+    follow(&rt, &mut session, name, rows)
 }
