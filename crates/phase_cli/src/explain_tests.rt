@@ -209,11 +209,10 @@ const CASES: [Case; 4] = [
 ];
 
 /// Whether these words on a graph end with status 1, and write this to the fault stream alone.
-fn tells(alloc: Global, words: &[&str], graph: &str, wanted: &str) -> Result<bool, Fail> {
-    let samples = [("a.csv", "1\n")];
+fn tells(alloc: Global, words: &[&str], graph: &'static str, wanted: &str) -> Result<bool, Fail> {
     let files = Held {
         graph,
-        samples: samples.as_slice(),
+        samples: &[("a.csv", "1\n")],
         refused: None,
     };
     let told = run_on(alloc, words, files)?;

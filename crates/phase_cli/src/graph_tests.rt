@@ -64,8 +64,7 @@ const CHILD_DRAWN: &str = r#"digraph {
 }
 "#;
 
-/// Evaluations that end well, most of them.
-const LISTS: [Case; 16] = [
+const CASES: [Case; 24] = [
     Case {
         name: "a filter",
         graph: FIR,
@@ -238,10 +237,6 @@ const LISTS: [Case; 16] = [
         graph: CHILD,
         asked: &[(DRAW, &[], End::Well(CHILD_DRAWN))],
     },
-];
-
-/// Values that are too big, and what is refused.
-const FAULTS: [Case; 8] = [
     Case {
         name: "an output that is too big",
         graph: "phaser X sum 4\nphaser Y sum 4\nsource s s.csv -> X\n\
@@ -307,7 +302,7 @@ const FAULTS: [Case; 8] = [
 
 #[test]
 fn graphs_are_checked_evaluated_and_drawn(rt: HostRuntime) -> Result<(), Fail> {
-    for case in LISTS.iter().chain(FAULTS.iter()) {
+    for case in &CASES {
         for (words, samples, end) in case.asked {
             let files = Held {
                 graph: case.graph,
@@ -324,6 +319,22 @@ fn graphs_are_checked_evaluated_and_drawn(rt: HostRuntime) -> Result<(), Fail> {
     Ok(())
 }
 
+/// Whether a graph on these samples has this output, and the run ends well.
+fn evaluates(
+    alloc: Global,
+    graph: &str,
+    samples: &[(&str, &str)],
+    wanted: &str,
+) -> Result<bool, Fail> {
+    let files = Held {
+        graph,
+        samples,
+        refused: None,
+    };
+    let done = run_on(alloc, EVAL, files)?;
+    Ok(done.is_end(0, wanted, ""))
+}
+
 #[test]
 fn a_list_of_several_pieces(rt: HostRuntime) -> Result<(), Fail> {
     let mut samples = String::new(rt.alloc());
@@ -332,13 +343,8 @@ fn a_list_of_several_pieces(rt: HostRuntime) -> Result<(), Fail> {
     }
     let mut wanted = String::from_str(rt.alloc(), "out 9000\n")?;
     wanted.push_str(samples.as_str())?;
-    let samples = [("s.csv", samples.as_str())];
-    let files = Held {
-        graph: "phaser X sum 1\nsource s s.csv -> X\nsink out X\n",
-        samples: samples.as_slice(),
-        refused: None,
-    };
-    let done = run_on(rt.alloc(), EVAL, files)?;
-    assert!(rt; done.is_end(0, wanted.as_str(), ""));
+    let graph = "phaser X sum 1\nsource s s.csv -> X\nsink out X\n";
+    let files = [("s.csv", samples.as_str())];
+    assert!(rt; evaluates(rt.alloc(), graph, files.as_slice(), wanted.as_str())?);
     Ok(())
 }

@@ -225,9 +225,17 @@ fn words_are_answered(rt: HostRuntime) -> Result<(), Fail> {
     for case in &CASES {
         for words in case.words {
             let done = run(rt.alloc(), words, case.script.as_bytes())?;
-            assert_eq!(rt; done.status, case.status, "{}: {words:?}", case.name);
-            assert!(rt; case.output.is_of(&done.output), "{}: {words:?}", case.name);
-            assert!(rt; case.faults.is_of(&done.faults), "{}: {words:?}", case.name);
+            let shown = (
+                done.status,
+                case.output.is_of(&done.output),
+                case.faults.is_of(&done.faults),
+            );
+            assert_eq!(rt;
+                shown,
+                (case.status, true, true),
+                "{}: {words:?}",
+                case.name
+            );
         }
     }
     Ok(())

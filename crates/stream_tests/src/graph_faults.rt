@@ -44,7 +44,7 @@ const WORDS: [&str; 14] = [
     "taps", "mul", "single",
 ];
 
-const LINES: [Case; 9] = [
+const CASES: [Case; 13] = [
     Case {
         name: "the first kind of the first faulty line is told",
         around: "*",
@@ -238,9 +238,6 @@ const LINES: [Case; 9] = [
             (Some((4, FaultKind::OutBeforeIn)), &["join j A C -> B"]),
         ],
     },
-];
-
-const NAMES: [Case; 4] = [
     Case {
         name: "words of the grammar are no phaser's name",
         around: NAMED,
@@ -282,7 +279,7 @@ const NAMES: [Case; 4] = [
 
 #[test]
 fn the_first_fault_is_told(rt: HostRuntime) -> Result<(), Fail> {
-    for case in LINES.iter().chain(NAMES.iter()) {
+    for case in &CASES {
         for (fault, texts) in case.told {
             for text in *texts {
                 assert_eq!(rt;
