@@ -320,10 +320,10 @@ fn graphs_are_checked_evaluated_and_drawn(rt: HostRuntime) -> Result<(), Fail> {
 }
 
 /// Whether a graph on these samples has this output, and the run ends well.
-fn evaluates(
+fn evaluates<'a>(
     alloc: Global,
-    graph: &str,
-    samples: &[(&str, &str)],
+    graph: &'a str,
+    samples: &'a [(&'a str, &'a str)],
     wanted: &str,
 ) -> Result<bool, Fail> {
     let files = Held {
