@@ -72,22 +72,34 @@ fn drawn(alloc: Global, text: &str) -> Result<(Vec<u8>, Vec<u8>), Fail> {
     Ok((drawing_text(alloc, &graph)?, output))
 }
 
-#[test]
-fn each_kind_of_line_is_drawn(rt: HostRuntime) -> Result<(), Fail> {
-    let (text, written) = drawn(rt.alloc(), EVERY_KIND)?;
-    assert_eq!(rt; text.as_slice(), PICTURE.as_bytes());
-    assert_eq!(rt; written.as_slice(), PICTURE.as_bytes());
-    Ok(())
+/// A graph's text and its drawing.
+struct Case {
+    name: &'static str,
+    graph: &'static str,
+    drawing: &'static str,
 }
 
+const CASES: [Case; 2] = [
+    Case {
+        name: "each kind of line is drawn",
+        graph: EVERY_KIND,
+        drawing: PICTURE,
+    },
+    Case {
+        name: "no lines are a drawing of nothing",
+        graph: "# nothing\n",
+        drawing: "digraph {\n    rankdir=LR;\n}\n",
+    },
+];
+
 #[test]
-fn no_lines_are_a_drawing_of_nothing(rt: HostRuntime) -> Result<(), Fail> {
-    let (text, written) = drawn(rt.alloc(), "# nothing\n")?;
-    assert_eq!(rt;
-        text.as_slice(),
-        b"digraph {\n    rankdir=LR;\n}\n".as_slice()
-    );
-    assert_eq!(rt; written.as_slice(), text.as_slice());
+fn graphs_are_drawn(rt: HostRuntime) -> Result<(), Fail> {
+    for case in &CASES {
+        let (text, written) = drawn(rt.alloc(), case.graph)?;
+        let drawing = case.drawing.as_bytes();
+        assert_eq!(rt; text.as_slice(), drawing, "{}", case.name);
+        assert_eq!(rt; written.as_slice(), drawing, "{}, written", case.name);
+    }
     Ok(())
 }
 

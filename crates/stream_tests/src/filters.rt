@@ -8,46 +8,98 @@ fn made(fir: Result<Fir, FirFault>) -> Result<Fir, AllocError> {
     fir.map_err(|_fault| AllocError)
 }
 
-#[test]
-fn rounds_down_and_not_towards_zero(rt: HostRuntime) -> Result<(), Fail> {
-    let mut fir = made(Fir::new(rt.alloc(), &[1, 2, 1], 2))?;
-    assert_eq!(rt; fir.step(-1), Ok(-1));
-    assert_eq!(rt; fir.step(-1), Ok(-1));
-    assert_eq!(rt; fir.step(0), Ok(-1));
-    Ok(())
+/// What a step answers.
+#[derive(Clone, Copy, Debug)]
+enum Answer {
+    Value(i64),
+    TooBig,
+    SomeValue,
 }
 
-#[test]
-fn one_tap_of_one_answers_the_sample(rt: HostRuntime) -> Result<(), Fail> {
-    let mut fir = made(Fir::new(rt.alloc(), &[1], 0))?;
-    assert_eq!(rt; fir.step(7), Ok(7));
-    Ok(())
-}
-
-#[test]
-fn only_a_sum_out_of_range_is_too_big(rt: HostRuntime) -> Result<(), Fail> {
-    let mut fir = made(Fir::new(rt.alloc(), &[2], 0))?;
-    assert_eq!(rt; fir.step(VALUE_MAX), Err(TooBigValue));
-    assert_eq!(rt; fir.step(1), Ok(2));
-    let mut halved = made(Fir::new(rt.alloc(), &[2], 1))?;
-    assert_eq!(rt; halved.step(VALUE_MAX), Ok(VALUE_MAX));
-    assert_eq!(rt; halved.step(VALUE_MIN), Ok(VALUE_MIN));
-    Ok(())
-}
-
-#[test]
-fn sixty_four_greatest_taps_meet_the_extremes(rt: HostRuntime) -> Result<(), Fail> {
-    let taps = [2_147_483_647; 64];
-    let mut fir = made(Fir::new(rt.alloc(), &taps, 62))?;
-    assert_eq!(rt; fir.step(VALUE_MAX), Ok(4_294_967_293));
-    for _ in 0..62 {
-        assert!(rt; fir.step(VALUE_MAX).is_ok());
+fn is_so(found: Result<i64, TooBigValue>, wanted: Answer) -> bool {
+    match wanted {
+        Answer::Value(value) => found == Ok(value),
+        Answer::TooBig => found == Err(TooBigValue),
+        Answer::SomeValue => found.is_ok(),
     }
-    assert_eq!(rt; fir.step(VALUE_MAX), Ok(274_877_906_815));
-    for _ in 0..63 {
-        assert!(rt; fir.step(VALUE_MIN).is_ok());
+}
+
+/// So many steps of a filter on one sample, and what each of them answers.
+type Steps = (usize, i64, Answer);
+
+struct Case {
+    name: &'static str,
+    taps: &'static [i64],
+    shift: u32,
+    steps: &'static [Steps],
+}
+
+const CASES: [Case; 6] = [
+    Case {
+        name: "rounds down and not towards zero",
+        taps: &[1, 2, 1],
+        shift: 2,
+        steps: &[(2, -1, Answer::Value(-1)), (1, 0, Answer::Value(-1))],
+    },
+    Case {
+        name: "one tap of one answers the sample",
+        taps: &[1],
+        shift: 0,
+        steps: &[(1, 7, Answer::Value(7))],
+    },
+    Case {
+        name: "only a sum out of range is too big",
+        taps: &[2],
+        shift: 0,
+        steps: &[(1, VALUE_MAX, Answer::TooBig), (1, 1, Answer::Value(2))],
+    },
+    Case {
+        name: "a sum that is halved is in range",
+        taps: &[2],
+        shift: 1,
+        steps: &[
+            (1, VALUE_MAX, Answer::Value(VALUE_MAX)),
+            (1, VALUE_MIN, Answer::Value(VALUE_MIN)),
+        ],
+    },
+    Case {
+        name: "sixty-four greatest taps meet the extremes",
+        taps: &[2_147_483_647; 64],
+        shift: 62,
+        steps: &[
+            (1, VALUE_MAX, Answer::Value(4_294_967_293)),
+            (62, VALUE_MAX, Answer::SomeValue),
+            (1, VALUE_MAX, Answer::Value(274_877_906_815)),
+            (63, VALUE_MIN, Answer::SomeValue),
+            (1, VALUE_MIN, Answer::Value(-274_877_906_816)),
+        ],
+    },
+    Case {
+        name: "a sample that is no value is weighed too",
+        taps: &[1, 1],
+        shift: 0,
+        steps: &[
+            (1, i64::MIN, Answer::TooBig),
+            (1, 1, Answer::Value(VALUE_MIN)),
+        ],
+    },
+];
+
+#[test]
+fn a_filter_answers_its_steps(rt: HostRuntime) -> Result<(), Fail> {
+    for case in &CASES {
+        let mut fir = made(Fir::new(rt.alloc(), case.taps, case.shift))?;
+        for (count, sample, wanted) in case.steps {
+            for _ in 0..*count {
+                let found = fir.step(*sample);
+                assert!(rt;
+                    is_so(found, *wanted),
+                    "{}: {found:?} on {sample}, and not {wanted:?}",
+                    case.name
+                );
+            }
+        }
     }
-    assert_eq!(rt; fir.step(VALUE_MIN), Ok(-274_877_906_816));
     Ok(())
 }
 
@@ -65,14 +117,6 @@ fn every_count_of_taps_makes_a_window_of_as_many_samples(rt: HostRuntime) -> Res
 }
 
 #[test]
-fn a_sample_that_is_no_value_is_weighed_too(rt: HostRuntime) -> Result<(), Fail> {
-    let mut fir = made(Fir::new(rt.alloc(), &[1, 1], 0))?;
-    assert_eq!(rt; fir.step(i64::MIN), Err(TooBigValue));
-    assert_eq!(rt; fir.step(1), Ok(VALUE_MIN));
-    Ok(())
-}
-
-#[test]
 fn peers_and_turns(rt: HostRuntime) -> Result<(), Fail> {
     assert_eq!(rt; Peer::mix(2, 1, 11), Ok(-9));
     let mut split = Split::new(2);
@@ -85,17 +129,18 @@ fn peers_and_turns(rt: HostRuntime) -> Result<(), Fail> {
     Ok(())
 }
 
+/// Taps and a shift that no filter has.
+const BAD: [(&str, &[i64], u32); 4] = [
+    ("no taps", &[], 0),
+    ("too many taps", &[0; 65], 0),
+    ("a tap past its limit", &[2_147_483_648], 0),
+    ("a shift past its limit", &[1], 63),
+];
+
 #[test]
-fn bad_taps_are_refused(rt: HostRuntime) -> Result<(), Fail> {
-    let many = [0; 65];
-    assert!(rt; matches!(Fir::new(rt.alloc(), &[], 0), Err(FirFault::BadTaps)));
-    assert!(rt; matches!(Fir::new(rt.alloc(), &many, 0), Err(FirFault::BadTaps)));
-    assert!(rt;
-        matches!(
-            Fir::new(rt.alloc(), &[2_147_483_648], 0),
-            Err(FirFault::BadTaps)
-        )
-    );
-    assert!(rt; matches!(Fir::new(rt.alloc(), &[1], 63), Err(FirFault::BadTaps)));
-    Ok(())
+fn bad_taps_are_refused(rt: HostRuntime) {
+    for (name, taps, shift) in &BAD {
+        let fir = Fir::new(rt.alloc(), taps, *shift);
+        assert!(rt; matches!(fir, Err(FirFault::BadTaps)), "{name}");
+    }
 }

@@ -6,99 +6,122 @@ use std::test::Fail;
 use stream_job::{EvalFault, Job, JobRefusal, eval};
 use test_jobs::job_of;
 
-/// What the only sink of a graph gets, on samples of these texts.
-fn only_sink(
-    alloc: Global,
-    graph: &str,
-    samples: &[&str],
-) -> Result<Result<Vec<i64>, EvalFault>, Fail> {
-    let job = job_of(alloc, graph, samples)??;
+/// What the only sink of a graph gets, or why it gets nothing.
+#[derive(Drop)]
+enum Answer {
+    Values(Vec<i64>),
+    Fault(EvalFault),
+    Refused(JobRefusal),
+}
+
+/// What comes of a graph with one sink, on samples of these texts.
+fn answer_to(alloc: Global, graph: &str, samples: &[&str]) -> Result<Answer, Fail> {
+    let job = match job_of(alloc, graph, samples)? {
+        Ok(job) => job,
+        Err(refusal) => return Ok(Answer::Refused(refusal)),
+    };
     match eval(alloc, &job) {
-        Err(fault) => Ok(Err(fault)),
+        Err(fault) => Ok(Answer::Fault(fault)),
         Ok(lines) => {
             let mut lines = lines;
             match lines.pop() {
-                Some(line) => Ok(Ok(line.values)),
-                None => Ok(Ok(Vec::new(alloc))),
+                Some(line) => Ok(Answer::Values(line.values)),
+                None => Ok(Answer::Values(Vec::new(alloc))),
             }
         }
     }
 }
 
-/// The first value out of range of a graph with one sink, on samples of these texts.
-fn fault_of(alloc: Global, graph: &str, samples: &[&str]) -> Result<Option<EvalFault>, Fail> {
-    Ok(only_sink(alloc, graph, samples)?.err())
+/// What is to come of a graph.
+#[derive(Clone, Copy)]
+enum Wanted {
+    Values(&'static [i64]),
+    TooBig(Place, usize),
+    AnyMeets(u64),
+}
+
+fn is_so(answer: Answer, wanted: Wanted) -> bool {
+    match (answer, wanted) {
+        (Answer::Values(found), Wanted::Values(values)) => found.as_slice() == values,
+        (Answer::Fault(fault), Wanted::TooBig(place, phase)) => {
+            fault == EvalFault::TooBig { place, phase }
+        }
+        (Answer::Refused(refusal), Wanted::AnyMeets(line)) => {
+            refusal == JobRefusal::AnyMeets { line }
+        }
+        _ => false,
+    }
+}
+
+/// A graph with one sink, the samples of its sources, and what comes of them.
+struct Case {
+    name: &'static str,
+    graph: &'static str,
+    samples: &'static [&'static str],
+    wanted: Wanted,
 }
 
 const TWO_FILTERS: &str = "phaser X sum 2\nphaser Z sum 2\nphaser Y sum 2\n\
     source a a.csv -> X\nsource b b.csv -> Z\nfir f X -> Y shift 0 taps 2\n\
     fir g Z -> Y shift 0 taps 2\nsink out Y\n";
 
-#[test]
-fn the_fault_of_the_first_line_is_told_at_whatever_step(rt: HostRuntime) -> Result<(), Fail> {
-    let late = "1\n9223372036854775807\n";
-    let early = "9223372036854775807\n1\n";
-    assert_eq!(rt;
-        fault_of(rt.alloc(), TWO_FILTERS, &[late, early])?,
-        Some(EvalFault::TooBig {
-            place: Place::Task(2),
-            phase: 1
-        })
-    );
-    assert_eq!(rt;
-        fault_of(rt.alloc(), TWO_FILTERS, &["1\n1\n", early])?,
-        Some(EvalFault::TooBig {
-            place: Place::Task(3),
-            phase: 0
-        })
-    );
-    Ok(())
-}
-
 const FILTER_AND_SOURCE: &str = "phaser X sum 2\nphaser Y sum 2\nsource a a.csv -> X\n\
     source b b.csv -> Y\nfir f X -> Y shift 0 taps 2\nsink out Y\n";
-
-#[test]
-fn an_output_is_told_before_an_earlier_phase(rt: HostRuntime) -> Result<(), Fail> {
-    let largest = "9223372036854775807\n";
-    assert_eq!(rt;
-        fault_of(
-            rt.alloc(),
-            FILTER_AND_SOURCE,
-            &["1\n9223372036854775807\n", largest]
-        )?,
-        Some(EvalFault::TooBig {
-            place: Place::Task(2),
-            phase: 1
-        })
-    );
-    assert_eq!(rt;
-        fault_of(rt.alloc(), FILTER_AND_SOURCE, &["1\n1\n", largest])?,
-        Some(EvalFault::TooBig {
-            place: Place::Phaser(1),
-            phase: 0
-        })
-    );
-    Ok(())
-}
 
 const CHILD_WITHIN: &str = "phaser X any 2\nsource A a.csv -> X\n\
     source B b.csv -> X by A at 1\nsink out X\n";
 
-#[test]
-fn a_child_without_samples_meets_nobody(rt: HostRuntime) -> Result<(), Fail> {
-    let values = only_sink(rt.alloc(), CHILD_WITHIN, &["1\n2\n3\n", ""])?;
-    assert_eq!(rt; values?.as_slice(), [1, 2, 3].as_slice());
-    let met = job_of(rt.alloc(), CHILD_WITHIN, &["1\n2\n3\n", "4\n"])?;
-    assert_eq!(rt; met.err(), Some(JobRefusal::AnyMeets { line: 3 }));
-    Ok(())
-}
+const CASES: [Case; 7] = [
+    Case {
+        name: "the fault of the first line is told at a later step",
+        graph: TWO_FILTERS,
+        samples: &["1\n9223372036854775807\n", "9223372036854775807\n1\n"],
+        wanted: Wanted::TooBig(Place::Task(2), 1),
+    },
+    Case {
+        name: "the fault of the second line is told where the first has none",
+        graph: TWO_FILTERS,
+        samples: &["1\n1\n", "9223372036854775807\n1\n"],
+        wanted: Wanted::TooBig(Place::Task(3), 0),
+    },
+    Case {
+        name: "an output is told before an earlier phase",
+        graph: FILTER_AND_SOURCE,
+        samples: &["1\n9223372036854775807\n", "9223372036854775807\n"],
+        wanted: Wanted::TooBig(Place::Task(2), 1),
+    },
+    Case {
+        name: "a phase is told where no output is out of range",
+        graph: FILTER_AND_SOURCE,
+        samples: &["1\n1\n", "9223372036854775807\n"],
+        wanted: Wanted::TooBig(Place::Phaser(1), 0),
+    },
+    Case {
+        name: "a child without samples meets nobody",
+        graph: CHILD_WITHIN,
+        samples: &["1\n2\n3\n", ""],
+        wanted: Wanted::Values(&[1, 2, 3]),
+    },
+    Case {
+        name: "a child with a sample meets its parent",
+        graph: CHILD_WITHIN,
+        samples: &["1\n2\n3\n", "4\n"],
+        wanted: Wanted::AnyMeets(3),
+    },
+    Case {
+        name: "a phase that nobody takes may be out of range",
+        graph: "phaser X sum 2\nsource a a.csv -> X\nsource b b.csv -> X\nsink out X until 1\n",
+        samples: &["1\n9223372036854775807\n", "2\n1\n"],
+        wanted: Wanted::Values(&[3]),
+    },
+];
 
 #[test]
-fn a_phase_that_nobody_takes_may_be_out_of_range(rt: HostRuntime) -> Result<(), Fail> {
-    let graph = "phaser X sum 2\nsource a a.csv -> X\nsource b b.csv -> X\nsink out X until 1\n";
-    let values = only_sink(rt.alloc(), graph, &["1\n9223372036854775807\n", "2\n1\n"])?;
-    assert_eq!(rt; values?.as_slice(), [3].as_slice());
+fn jobs_are_made_and_evaluated(rt: HostRuntime) -> Result<(), Fail> {
+    for case in &CASES {
+        let answer = answer_to(rt.alloc(), case.graph, case.samples)?;
+        assert!(rt; is_so(answer, case.wanted), "{}", case.name);
+    }
     Ok(())
 }
 
@@ -109,7 +132,10 @@ fn more_than_a_million_samples_are_evaluated(rt: HostRuntime) -> Result<(), Fail
         text.push_str("7\n")?;
     }
     let graph = "phaser X sum 2\nsource a a.csv -> X\nsink out X\n";
-    let values = only_sink(rt.alloc(), graph, &[text.as_str()])??;
+    let answer = answer_to(rt.alloc(), graph, &[text.as_str()])?;
+    let Answer::Values(values) = answer else {
+        return Err(Fail::from(AllocError));
+    };
     assert_eq!(rt; values.len(), 1_100_000);
     assert!(rt; values.iter().all(|value| *value == 7));
     Ok(())

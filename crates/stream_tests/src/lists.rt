@@ -31,58 +31,75 @@ fn joined(alloc: Global) -> Result<Job, Fail> {
     Ok(Job::new(alloc, graph, lists)?)
 }
 
-/// Which input of task number `t` a phaser is, where there is such a task.
-fn input_of(job: &Job, t: usize, p: usize) -> Option<usize> {
-    if t < job.graph().tasks() {
-        return input_number(job.graph().task(t), p);
-    }
-    None
+/// What a job tells of one of its tasks, by number.
+#[derive(Clone, Copy, Debug)]
+enum Fact {
+    Tasks(usize),
+    /// Which input of the task a phaser is.
+    Input(usize, usize, Option<usize>),
+    /// Which of its outputs a phaser is.
+    Output(usize, usize, Option<usize>),
+    /// How many values seven of its steps take from one of its inputs.
+    TakenInSeven(usize, usize, u128),
+    Samples(usize, &'static [i64]),
 }
 
-/// Which of its outputs a phaser is, where there is such a task.
-fn output_of(job: &Job, t: usize, p: usize) -> Option<usize> {
-    if t < job.graph().tasks() {
-        return output_number(job.graph().task(t), p);
+fn holds(job: &Job, fact: Fact) -> bool {
+    let graph = job.graph();
+    match fact {
+        Fact::Tasks(count) => graph.tasks() == count,
+        Fact::Input(t, p, number) => {
+            t < graph.tasks() && input_number(graph.task(t), p) == number
+        }
+        Fact::Output(t, p, number) => {
+            t < graph.tasks() && output_number(graph.task(t), p) == number
+        }
+        Fact::TakenInSeven(t, k, count) => {
+            t < graph.tasks() && taken_count(graph.task(t), 7, k) == count
+        }
+        Fact::Samples(t, samples) => t < graph.tasks() && job.samples_of(t) == samples,
     }
-    None
 }
 
-/// How many values seven of its steps take from its input number `k`, where there is such a task.
-fn taken_in_seven(job: &Job, t: usize, k: usize) -> Option<u128> {
-    if t < job.graph().tasks() {
-        return Some(taken_count(job.graph().task(t), 7, k));
-    }
-    None
+struct Case {
+    name: &'static str,
+    facts: &'static [Fact],
 }
+
+const CASES: [Case; 3] = [
+    Case {
+        name: "a peer signals its second input first",
+        facts: &[
+            Fact::Output(PEER, 3, Some(0)),
+            Fact::Output(PEER, 4, Some(1)),
+            Fact::Output(PEER, 2, None),
+            Fact::Input(PEER, 3, Some(1)),
+            Fact::Input(PEER, 4, None),
+            Fact::Input(JOINER, 1, Some(1)),
+        ],
+    },
+    Case {
+        name: "a joiner takes from its inputs in turn",
+        facts: &[
+            Fact::TakenInSeven(JOINER, 0, 4),
+            Fact::TakenInSeven(JOINER, 1, 3),
+            Fact::TakenInSeven(PEER, 1, 7),
+        ],
+    },
+    Case {
+        name: "a source has its samples by its number among the tasks",
+        facts: &[Fact::Samples(SECOND_SOURCE, &[10, 20]), Fact::Tasks(6)],
+    },
+];
 
 #[test]
-fn a_peer_signals_its_second_input_first(rt: HostRuntime) -> Result<(), Fail> {
+fn a_job_tells_of_its_tasks(rt: HostRuntime) -> Result<(), Fail> {
     let job = joined(rt.alloc())?;
-    assert_eq!(rt; output_of(&job, PEER, 3), Some(0));
-    assert_eq!(rt; output_of(&job, PEER, 4), Some(1));
-    assert_eq!(rt; output_of(&job, PEER, 2), None);
-    assert_eq!(rt; input_of(&job, PEER, 3), Some(1));
-    assert_eq!(rt; input_of(&job, PEER, 4), None);
-    assert_eq!(rt; input_of(&job, JOINER, 1), Some(1));
-    Ok(())
-}
-
-#[test]
-fn a_joiner_takes_from_its_inputs_in_turn(rt: HostRuntime) -> Result<(), Fail> {
-    let job = joined(rt.alloc())?;
-    assert_eq!(rt; taken_in_seven(&job, JOINER, 0), Some(4));
-    assert_eq!(rt; taken_in_seven(&job, JOINER, 1), Some(3));
-    assert_eq!(rt; taken_in_seven(&job, PEER, 1), Some(7));
-    Ok(())
-}
-
-#[test]
-fn a_source_has_its_samples_by_its_number_among_the_tasks(rt: HostRuntime) -> Result<(), Fail> {
-    let job = joined(rt.alloc())?;
-    if SECOND_SOURCE < job.graph().tasks() {
-        assert_eq!(rt; job.samples_of(SECOND_SOURCE), [10, 20].as_slice());
+    for case in &CASES {
+        for fact in case.facts {
+            assert!(rt; holds(&job, *fact), "{}: {fact:?}", case.name);
+        }
     }
-    assert_eq!(rt; job.graph().tasks(), 6);
     Ok(())
 }
 

@@ -37,65 +37,81 @@ fn pieces_of(rest: &[u8], size: usize) -> Watched<Pieces<'_>> {
     })
 }
 
-#[test]
-fn each_record_is_one_number(rt: HostRuntime) -> Result<(), Fail> {
-    let rows: [(&[u8], &[i64]); 12] = [
-        (b"", &[]),
-        (b"\n\r\n\n", &[]),
-        (b"1\n2\n", &[1, 2]),
-        (b"1\n2", &[1, 2]),
-        (b"1\r\n-2\r\n\r\n3", &[1, -2, 3]),
-        (b"1\r2\r3", &[1, 2, 3]),
-        (b"1\r\r2", &[1, 2]),
-        (b"\"5\"6\n\"7", &[56, 7]),
-        (b"\"-8\"\n", &[-8]),
-        (b"0\n0", &[0, 0]),
-        (
-            b"9223372036854775807\n-9223372036854775807\n",
-            &[9223372036854775807, -9223372036854775807],
-        ),
-        (b"1000000000000000000", &[1000000000000000000]),
-    ];
-    for (text, samples) in rows {
-        let found = samples_of(rt.alloc(), text)?;
-        assert_eq!(rt; found.as_slice(), samples);
-        for size in [1, 3, 65536] {
-            let found = read_samples(rt.alloc(), &mut pieces_of(text, size))?;
-            assert_eq!(rt; found.as_slice(), samples);
-        }
+/// Texts, each with its samples, or with the number of its first bad record.
+struct Case {
+    name: &'static str,
+    texts: &'static [(&'static str, Result<&'static [i64], usize>)],
+}
+
+const CASES: [Case; 2] = [
+    Case {
+        name: "each record is one number",
+        texts: &[
+            ("", Ok(&[])),
+            ("\n\r\n\n", Ok(&[])),
+            ("1\n2\n", Ok(&[1, 2])),
+            ("1\n2", Ok(&[1, 2])),
+            ("1\r\n-2\r\n\r\n3", Ok(&[1, -2, 3])),
+            ("1\r2\r3", Ok(&[1, 2, 3])),
+            ("1\r\r2", Ok(&[1, 2])),
+            ("\"5\"6\n\"7", Ok(&[56, 7])),
+            ("\"-8\"\n", Ok(&[-8])),
+            ("0\n0", Ok(&[0, 0])),
+            (
+                "9223372036854775807\n-9223372036854775807\n",
+                Ok(&[9223372036854775807, -9223372036854775807]),
+            ),
+            ("1000000000000000000", Ok(&[1000000000000000000])),
+        ],
+    },
+    Case {
+        name: "the first other record is told",
+        texts: &[
+            ("value\n1\n", Err(1)),
+            ("1\n\"\"\n2\n", Err(2)),
+            ("1\nx\ny\n", Err(2)),
+            ("1\n\n2,3\n", Err(2)),
+            ("2,3\n1\n", Err(1)),
+            ("1,\n", Err(1)),
+            (",1\n", Err(1)),
+            ("1, 2", Err(1)),
+            ("01", Err(1)),
+            ("-0", Err(1)),
+            ("-", Err(1)),
+            ("+1", Err(1)),
+            (" 1", Err(1)),
+            ("1 ", Err(1)),
+            ("1.0", Err(1)),
+            ("-9223372036854775808", Err(1)),
+            ("7\n9223372036854775808", Err(2)),
+            ("18446744073709551617", Err(1)),
+        ],
+    },
+];
+
+/// Whether these samples were found, or this first bad record.
+fn is_so(found: Result<Vec<i64>, SampleFault>, wanted: Result<&[i64], usize>) -> bool {
+    match (found, wanted) {
+        (Ok(found), Ok(samples)) => found.as_slice() == samples,
+        (Err(fault), Err(number)) => fault == SampleFault::BadSample { number },
+        _ => false,
     }
-    Ok(())
 }
 
 #[test]
-fn the_first_other_record_is_told(rt: HostRuntime) -> Result<(), Fail> {
-    let rows: [(&[u8], usize); 18] = [
-        (b"value\n1\n", 1),
-        (b"1\n\"\"\n2\n", 2),
-        (b"1\nx\ny\n", 2),
-        (b"1\n\n2,3\n", 2),
-        (b"2,3\n1\n", 1),
-        (b"1,\n", 1),
-        (b",1\n", 1),
-        (b"1, 2", 1),
-        (b"01", 1),
-        (b"-0", 1),
-        (b"-", 1),
-        (b"+1", 1),
-        (b" 1", 1),
-        (b"1 ", 1),
-        (b"1.0", 1),
-        (b"-9223372036854775808", 1),
-        (b"7\n9223372036854775808", 2),
-        (b"18446744073709551617", 1),
-    ];
-    for (text, number) in rows {
-        let bad = SampleFault::BadSample { number };
-        let found = samples_of(rt.alloc(), text);
-        assert!(rt; found.map(|values| values.len()) == Err(bad));
-        for size in [1, 3, 65536] {
-            let found = read_samples(rt.alloc(), &mut pieces_of(text, size));
-            assert!(rt; found.map(|values| values.len()) == Err(bad));
+fn a_text_has_its_samples_or_its_first_bad_record(rt: HostRuntime) -> Result<(), Fail> {
+    for case in &CASES {
+        for (text, wanted) in case.texts {
+            let found = samples_of(rt.alloc(), text.as_bytes());
+            assert!(rt; is_so(found, *wanted), "{}: {text:?}", case.name);
+            for size in [1, 3, 65536] {
+                let found = read_samples(rt.alloc(), &mut pieces_of(text.as_bytes(), size));
+                assert!(rt;
+                    is_so(found, *wanted),
+                    "{}: {text:?}, {size} bytes a read",
+                    case.name
+                );
+            }
         }
     }
     Ok(())
