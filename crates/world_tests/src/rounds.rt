@@ -90,10 +90,8 @@ pub fn ran(alloc: Global, graph: &str, samples: &[&str]) -> Result<(Round, Strin
     Ok((round, text_of(alloc, world.lines())?))
 }
 
-/// What the sinks of a graph have at the end of a run in rotation, which all tasks have left. Or
-/// what the last round came to.
-pub fn lines_of(alloc: Global, graph: &str, samples: &[&str]) -> Result<String, Fail> {
-    let (round, lines) = ran(alloc, graph, samples)?;
+/// What the sinks had at the end of a run, which all tasks have left. Or what its last round came to.
+pub fn at_end(alloc: Global, (round, lines): (Round, String)) -> Result<String, Fail> {
     match round {
         Round::Gone => Ok(lines),
         _ => Ok(format!(in alloc; "{round:?}")?),

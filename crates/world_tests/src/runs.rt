@@ -1,6 +1,6 @@
 //! Runs to their end, in rotation and by given turns, and what whole lists have for them.
 use crate::jobs::{at_bound, job_of};
-use crate::rounds::{Round, evaluated, in_rotation, lines_of, one_round, text_of};
+use crate::rounds::{Round, at_end, evaluated, in_rotation, one_round, ran, text_of};
 use graph_worlds::run_turns;
 use std::alloc::Global;
 use std::test::Fail;
@@ -193,23 +193,22 @@ const CASES: [Case; 22] = [
     },
 ];
 
-/// What the sinks have after forty turns of each task, by which all have left. Or what a further
-/// round comes to.
-fn given(alloc: Global, graph: &str, samples: &[&str]) -> Result<String, Fail> {
+/// What the sinks have after forty turns of each task, by which all have left, and what a further round
+/// comes to.
+fn given(alloc: Global, graph: &str, samples: &[&str]) -> Result<(Round, String), Fail> {
     let job = job_of(alloc, graph, samples)?;
     let tasks = job.graph().tasks();
-    let mut world = run_turns(alloc, &job, &in_rotation(alloc, tasks, 40)?)?;
-    match one_round(&mut world, tasks)? {
-        Round::Gone => text_of(alloc, world.lines()),
-        round => Ok(format!(in alloc; "{round:?}")?),
-    }
+    let turns = in_rotation(alloc, tasks, 40)?;
+    let mut world = run_turns(alloc, &job, &turns)?;
+    let round = one_round(&mut world, tasks)?;
+    Ok((round, text_of(alloc, world.lines())?))
 }
 
 fn lines_by(way: Way, alloc: Global, case: &Case, bound: u64) -> Result<String, Fail> {
     let graph = at_bound(alloc, case.graph, bound)?;
     match way {
-        Way::Rotation => lines_of(alloc, &graph, case.samples),
-        Way::GivenTurns => given(alloc, &graph, case.samples),
+        Way::Rotation => at_end(alloc, ran(alloc, &graph, case.samples)?),
+        Way::GivenTurns => at_end(alloc, given(alloc, &graph, case.samples)?),
         Way::WholeLists => evaluated(alloc, &graph, case.samples),
     }
 }
@@ -217,9 +216,9 @@ fn lines_by(way: Way, alloc: Global, case: &Case, bound: u64) -> Result<String, 
 #[test]
 fn sinks_have_their_values_at_the_end(rt: HostRuntime) -> Result<(), Fail> {
     for case in &CASES {
-        for bound in BOUNDS {
-            for way in WAYS {
-                let lines = lines_by(way, rt.alloc(), case, bound)?;
+        for bound in &BOUNDS {
+            for way in &WAYS {
+                let lines = lines_by(*way, rt.alloc(), case, *bound)?;
                 assert_eq!(rt;
                     lines.as_str(),
                     case.lines,

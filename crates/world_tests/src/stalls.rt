@@ -20,7 +20,8 @@ fn to_one_bus(alloc: Global, bound: u64, samples: u64) -> Result<Job, Fail> {
     for _ in 0..samples {
         text.push_str("1\n")?;
     }
-    job_of(alloc, &at_bound(alloc, TO_ONE_BUS, bound)?, &[&text])
+    let graph = at_bound(alloc, TO_ONE_BUS, bound)?;
+    job_of(alloc, &graph, &[text.as_str()])
 }
 
 /// A bound, how many samples, what the last round comes to, and who is blocked on phasers then.

@@ -113,7 +113,8 @@ fn world_of<'a>(alloc: Global, job: &'a Job, before: Before) -> Result<World<'a>
     match before {
         Before::Opening => Ok(World::new(alloc, job)?),
         Before::GivenTurns(rounds) => {
-            Ok(run_turns(alloc, job, &in_rotation(alloc, tasks, rounds)?)?)
+            let turns = in_rotation(alloc, tasks, rounds)?;
+            Ok(run_turns(alloc, job, &turns)?)
         }
         Before::LastRound => {
             let mut world = World::new(alloc, job)?;
