@@ -1,9 +1,7 @@
 //! Runs that come to a value out of range.
-use crate::jobs::{at_bound, job_of};
-use crate::rounds::{Round, in_rotation, ran};
+use crate::jobs::at_bound;
+use crate::rounds::{Round, given, ran};
 use graph_base::Place;
-use graph_worlds::{RunTurnsFault, run_turns};
-use std::alloc::Global;
 use std::test::Fail;
 
 /// A graph with a `?` for the bound of each phaser, the samples of its sources, where a value is out
@@ -58,13 +56,6 @@ const CASES: [Case; 4] = [
     },
 ];
 
-/// Why forty given turns of each task came to no end.
-fn fault(alloc: Global, graph: &str, samples: &[&str]) -> Result<Option<RunTurnsFault>, Fail> {
-    let job = job_of(alloc, graph, samples)?;
-    let turns = in_rotation(alloc, job.graph().tasks(), 40)?;
-    Ok(run_turns(alloc, &job, &turns).err())
-}
-
 #[test]
 fn a_value_out_of_range_is_told(rt: HostRuntime) -> Result<(), Fail> {
     for case in &CASES {
@@ -76,8 +67,9 @@ fn a_value_out_of_range_is_told(rt: HostRuntime) -> Result<(), Fail> {
             let lines = case.lines.unwrap_or(lines.as_str());
             let wanted = (Round::TooBig { place, phase }, lines);
             assert_eq!(rt; told, wanted, "{}: in rotation, bound {bound}", case.name);
-            let told = fault(rt.alloc(), &graph, case.samples)?;
-            let wanted = Some(RunTurnsFault::TooBig { place, phase });
+            let (round, lines) = given(rt.alloc(), &graph, case.samples)?;
+            let told = (round, lines.as_str());
+            let wanted = (Round::TooBig { place, phase }, "");
             assert_eq!(rt;
                 told,
                 wanted,

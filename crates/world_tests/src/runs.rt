@@ -1,7 +1,6 @@
 //! Runs to their end, in rotation and by given turns, and what whole lists have for them.
-use crate::jobs::{at_bound, job_of};
-use crate::rounds::{Round, at_end, evaluated, in_rotation, one_round, ran, text_of};
-use graph_worlds::run_turns;
+use crate::jobs::at_bound;
+use crate::rounds::{at_end, evaluated, given, ran};
 use std::alloc::Global;
 use std::test::Fail;
 
@@ -192,17 +191,6 @@ const CASES: [Case; 22] = [
         lines: "3: 1 2\n4: 3 4\n5: 5 6 7\n",
     },
 ];
-
-/// What the sinks have after forty turns of each task, by which all have left, and what a further round
-/// comes to.
-fn given(alloc: Global, graph: &str, samples: &[&str]) -> Result<(Round, String), Fail> {
-    let job = job_of(alloc, graph, samples)?;
-    let tasks = job.graph().tasks();
-    let turns = in_rotation(alloc, tasks, 40)?;
-    let mut world = run_turns(alloc, &job, &turns)?;
-    let round = one_round(&mut world, tasks)?;
-    Ok((round, text_of(alloc, world.lines())?))
-}
 
 fn lines_by(way: Way, alloc: Global, case: &Case, bound: u64) -> Result<String, Fail> {
     let graph = at_bound(alloc, case.graph, bound)?;

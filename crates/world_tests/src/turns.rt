@@ -3,27 +3,17 @@ use crate::jobs::{at_bound, job_of};
 use crate::rounds::{in_rotation, last_round, text_of};
 use graph_base::Place;
 use graph_worlds::{Turned, World, run_turns};
-use std::alloc::Global;
+use std::alloc::{AllocError, Global};
 use std::test::Fail;
-use stream_lists::Job;
 
-/// What was done before the turns.
-#[derive(Clone, Copy)]
-enum Before {
-    Opening,
-    /// So many given turns of each task.
-    GivenTurns(usize),
-    /// Turns in rotation, until a round made no event.
-    LastRound,
-}
-
-/// A graph with a `?` for the bound of each phaser, the samples of its source, turns of its tasks
-/// with what each comes to, and what the sink has after them. The run is not stalled then.
+/// A graph with a `?` for the bound of each phaser, the samples of its source, turns of its tasks at the
+/// opening, or after a round in rotation that made no event, with what each comes to, and what the
+/// sink has after them. The run is not stalled then.
 struct Case {
     name: &'static str,
     graph: &'static str,
     samples: &'static str,
-    before: Before,
+    is_over: bool,
     turns: &'static [(usize, Turned)],
     lines: &'static str,
 }
@@ -35,31 +25,13 @@ const TOLD: Turned = Turned::TooBig {
     phase: 0,
 };
 
-const CASES: [Case; 5] = [
-    Case {
-        name: "turns in rotation end a run",
-        graph: "phaser X sum ?\nphaser Y sum ?\nsource s s.csv -> X\n\
-            fir f X -> Y shift 2 taps 1 2 1\nsink out Y\n",
-        samples: "-1\n-1\n0\n",
-        before: Before::GivenTurns(10),
-        turns: &[],
-        lines: "2: -1 -1 -1\n",
-    },
-    Case {
-        name: "no turns leave a run at its opening",
-        graph: "phaser X sum ?\nphaser Y sum ?\nsource s s.csv -> X\n\
-            fir f X -> Y shift 2 taps 1 2 1\nsink out Y\n",
-        samples: "-4\n",
-        before: Before::GivenTurns(0),
-        turns: &[],
-        lines: "2:\n",
-    },
+const CASES: [Case; 3] = [
     Case {
         name: "each turn makes one event",
         graph: "phaser X sum ?\nphaser Y sum ?\nsource s s.csv -> X\n\
             fir f X -> Y shift 2 taps 1 2 1\nsink out Y\n",
         samples: "-4\n",
-        before: Before::Opening,
+        is_over: false,
         turns: &[
             (1, Turned::Blocked),
             (0, Turned::Moved),
@@ -81,7 +53,7 @@ const CASES: [Case; 5] = [
         graph: "phaser X sum ?\nphaser Y sum ?\nsource s s.csv -> X\n\
             fir f X -> Y shift 0 taps 2\nsink out Y\n",
         samples: "1\n",
-        before: Before::Opening,
+        is_over: false,
         turns: &[
             (3, Turned::Gone),
             (4, Turned::Gone),
@@ -96,7 +68,7 @@ const CASES: [Case; 5] = [
         graph: "phaser X sum ?\nphaser Y sum ?\nsource s s.csv -> X\n\
             fir f X -> Y shift 0 taps 2\nsink out Y\n",
         samples: "9223372036854775807\n3\n",
-        before: Before::LastRound,
+        is_over: true,
         turns: &[
             (0, TOLD),
             (1, TOLD),
@@ -108,29 +80,16 @@ const CASES: [Case; 5] = [
     },
 ];
 
-fn world_of<'a>(alloc: Global, job: &'a Job, before: Before) -> Result<World<'a>, Fail> {
-    let tasks = job.graph().tasks();
-    match before {
-        Before::Opening => Ok(World::new(alloc, job)?),
-        Before::GivenTurns(rounds) => {
-            let turns = in_rotation(alloc, tasks, rounds)?;
-            Ok(run_turns(alloc, job, &turns)?)
-        }
-        Before::LastRound => {
-            let mut world = World::new(alloc, job)?;
-            let _round = last_round(&mut world, tasks)?;
-            Ok(world)
-        }
-    }
-}
-
 #[test]
 fn each_turn_comes_to_what_its_task_can_do(rt: HostRuntime) -> Result<(), Fail> {
     for case in &CASES {
         for bound in BOUNDS {
             let graph = at_bound(rt.alloc(), case.graph, bound)?;
             let job = job_of(rt.alloc(), &graph, &[case.samples])?;
-            let mut world = world_of(rt.alloc(), &job, case.before)?;
+            let mut world = World::new(rt.alloc(), &job)?;
+            if case.is_over {
+                let _round = last_round(&mut world, job.graph().tasks())?;
+            }
             for (task, expected) in case.turns {
                 let turned = world.turn(*task)?;
                 assert_eq!(rt;
@@ -143,6 +102,38 @@ fn each_turn_comes_to_what_its_task_can_do(rt: HostRuntime) -> Result<(), Fail> 
             let lines = text_of(rt.alloc(), world.lines())?;
             let left = (lines.as_str(), world.stalled());
             assert_eq!(rt; left, (case.lines, false), "{}: bound {bound}", case.name);
+        }
+    }
+    Ok(())
+}
+
+/// A filter.
+const FILTER: &str = "phaser X sum ?\nphaser Y sum ?\nsource s s.csv -> X\n\
+    fir f X -> Y shift 2 taps 1 2 1\nsink out Y\n";
+
+/// What the sinks have after so many given turns of each task, and whether the run is stalled then.
+fn given(alloc: Global, graph: &str, samples: &str, rounds: usize) -> Result<(String, bool), Fail> {
+    let job = job_of(alloc, graph, &[samples])?;
+    let turns = in_rotation(alloc, job.graph().tasks(), rounds)?;
+    match run_turns(alloc, &job, &turns) {
+        Ok(world) => Ok((text_of(alloc, world.lines())?, world.stalled())),
+        Err(_) => Err(Fail::from(AllocError)),
+    }
+}
+
+#[test]
+fn turns_in_rotation_end_a_run_and_no_turns_leave_it_at_its_opening(
+    rt: HostRuntime,
+) -> Result<(), Fail> {
+    for (rounds, samples, lines) in [(10, "-1\n-1\n0\n", "2: -1 -1 -1\n"), (0, "-4\n", "2:\n")] {
+        for bound in BOUNDS {
+            let graph = at_bound(rt.alloc(), FILTER, bound)?;
+            let (left, is_stalled) = given(rt.alloc(), &graph, samples, rounds)?;
+            assert_eq!(rt;
+                (left.as_str(), is_stalled),
+                (lines, false),
+                "{rounds} turns of each, bound {bound}"
+            );
         }
     }
     Ok(())
