@@ -1,12 +1,10 @@
 //! Gates that hold workers, and what they see of a run.
 use crate::children::SECOND_FILTER;
 use crate::jobs::{WORKERS, job_of, told};
-use std::alloc::Global;
-use std::sync::Wait;
 use std::sync::atomic::AtomicU64;
 use std::sync::atomic::Ordering::SeqCst;
 use std::test::Fail;
-use std::thread::{self, Threads};
+use std::thread;
 use stream_workers::Gate;
 
 // How often a worker that is held looks whether it may go on.
@@ -82,37 +80,46 @@ impl Gate for Behind {
 const FIR: &str = "phaser X sum 4\nphaser Y sum 4\nsource s s.csv -> X\n\
     fir f X -> Y shift 0 taps 1 1\nsink out Y\n";
 
-// Whether runs by 2 and 16 workers end so, with task 1 held in its step 2 until task 0 was in its step 3.
-fn held<R: Threads + Wait + Sync>(
-    rt: &R,
-    alloc: Global,
-    graph: &str,
-    wanted: &str,
-) -> Result<bool, Fail> {
-    let job = job_of(alloc, graph, &["1\n2\n3\n4\n"])?;
-    let mut is_so = true;
-    for workers in [2, 16] {
-        let gate = Behind {
-            ahead: AtomicU64::new(0),
-            missed: AtomicU64::new(0),
-        };
-        let told = told(rt, alloc, &job, workers, &gate)?;
-        is_so = is_so && told.as_str() == wanted;
-        is_so = is_so && (gate.ahead.load(SeqCst), gate.missed.load(SeqCst)) == (1, 0);
+/// A graph whose task 1 is held in its step 2 until task 0 is in its last, which is step 3, and what its
+/// run ends with.
+struct Held {
+    name: &'static str,
+    graph: &'static str,
+    wanted: &'static str,
+}
+
+const HELD: [Held; 2] = [
+    Held {
+        name: "a filter is held",
+        graph: FIR,
+        wanted: "out 4\n1\n3\n5\n7\n",
+    },
+    Held {
+        name: "a parent is held where it has just registered its child",
+        graph: SECOND_FILTER,
+        wanted: "out 4\n1\n3\n8\n7\n",
+    },
+];
+
+#[test]
+fn a_task_is_held_until_its_source_is_at_its_last_step(rt: HostRuntime) -> Result<(), Fail> {
+    for case in &HELD {
+        let job = job_of(rt.alloc(), case.graph, &["1\n2\n3\n4\n"])?;
+        for workers in [2, 16] {
+            let gate = Behind {
+                ahead: AtomicU64::new(0),
+                missed: AtomicU64::new(0),
+            };
+            let told = told(&rt, rt.alloc(), &job, workers, &gate)?;
+            let seen = (gate.ahead.load(SeqCst), gate.missed.load(SeqCst));
+            assert_eq!(rt;
+                (told.as_str(), seen),
+                (case.wanted, (1, 0)),
+                "{}: by {workers} workers",
+                case.name
+            );
+        }
     }
-    Ok(is_so)
-}
-
-#[test]
-fn a_filter_is_held_until_its_source_is_at_its_last_step(rt: HostRuntime) -> Result<(), Fail> {
-    assert!(rt; held(&rt, rt.alloc(), FIR, "out 4\n1\n3\n5\n7\n")?);
-    Ok(())
-}
-
-// The filter is held where it has just registered its child.
-#[test]
-fn a_parent_is_held_until_its_source_is_at_its_last_step(rt: HostRuntime) -> Result<(), Fail> {
-    assert!(rt; held(&rt, rt.alloc(), SECOND_FILTER, "out 4\n1\n3\n8\n7\n")?);
     Ok(())
 }
 

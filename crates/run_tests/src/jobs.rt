@@ -13,7 +13,8 @@ pub const WORKERS: [usize; 3] = [1, 2, 16];
 
 /// The job of a graph, on samples of these texts, one for each source.
 pub fn job_of(alloc: Global, graph: &str, samples: &[&str]) -> Result<Job, Fail> {
-    Ok(test_jobs::job_of(alloc, graph, samples)??)
+    let job = test_jobs::job_of(alloc, graph, samples)?;
+    Ok(job?)
 }
 
 // The name of a place that the graph has.

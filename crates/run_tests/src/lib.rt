@@ -15,4 +15,6 @@ mod random_graphs;
 #[cfg(test)]
 mod runs;
 #[cfg(test)]
+mod tasks;
+#[cfg(test)]
 mod toys;

@@ -5,17 +5,20 @@ use stream_lists::Job;
 
 /// The job of a graph, on samples of these texts, one for each source.
 pub fn job_of(alloc: Global, graph: &str, samples: &[&str]) -> Result<Job, Fail> {
-    Ok(test_jobs::job_of(alloc, graph, samples)??)
+    let job = test_jobs::job_of(alloc, graph, samples)?;
+    Ok(job?)
 }
 
 /// A graph's text, with this bound for each `?`.
 pub fn at_bound(alloc: Global, graph: &str, bound: u64) -> Result<String, Fail> {
+    let bound = format!(in alloc; "{bound}")?;
     let mut text = String::new(alloc);
-    for (i, part) in graph.split('?').enumerate() {
-        if i > 0 {
-            text.push_str(&format!(in alloc; "{bound}")?)?;
+    for letter in graph.chars() {
+        if letter == '?' {
+            text.push_str(&bound)?;
+        } else {
+            text.push(letter)?;
         }
-        text.push_str(part)?;
     }
     Ok(text)
 }

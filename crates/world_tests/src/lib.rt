@@ -4,19 +4,13 @@
 #![tactic(auto)]
 
 #[cfg(test)]
-mod bounds;
-#[cfg(test)]
-mod children;
-#[cfg(test)]
 mod faults;
-#[cfg(test)]
-mod given;
 #[cfg(test)]
 mod jobs;
 #[cfg(test)]
-mod kinds;
-#[cfg(test)]
 mod rounds;
+#[cfg(test)]
+mod runs;
 #[cfg(test)]
 mod stalls;
 #[cfg(test)]

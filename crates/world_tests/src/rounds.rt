@@ -3,7 +3,7 @@ ghost use Rattle.std.specs.Prelude.{◌≡◌};
 
 use crate::jobs::job_of;
 use graph_base::Place;
-use graph_worlds::{Turned, World};
+use graph_worlds::{RunTurnsFault, Turned, World, run_turns};
 use std::alloc::{AllocError, Global};
 use std::test::Fail;
 use stream_eval::{EvalFault, Lines, eval};
@@ -90,10 +90,26 @@ pub fn ran(alloc: Global, graph: &str, samples: &[&str]) -> Result<(Round, Strin
     Ok((round, text_of(alloc, world.lines())?))
 }
 
-/// What the sinks of a graph have at the end of a run in rotation, which all tasks have left. Or
-/// what the last round came to.
-pub fn lines_of(alloc: Global, graph: &str, samples: &[&str]) -> Result<String, Fail> {
-    let (round, lines) = ran(alloc, graph, samples)?;
+/// What the sinks of a graph have after forty given turns of each task, by which all have left, and
+/// what a further round comes to. Or which value was out of range before, and no lines.
+pub fn given(alloc: Global, graph: &str, samples: &[&str]) -> Result<(Round, String), Fail> {
+    let job = job_of(alloc, graph, samples)?;
+    let tasks = job.graph().tasks();
+    let turns = in_rotation(alloc, tasks, 40)?;
+    match run_turns(alloc, &job, &turns) {
+        Ok(mut world) => {
+            let round = one_round(&mut world, tasks)?;
+            Ok((round, text_of(alloc, world.lines())?))
+        }
+        Err(RunTurnsFault::TooBig { place, phase }) => {
+            Ok((Round::TooBig { place, phase }, String::new(alloc)))
+        }
+        Err(RunTurnsFault::OutOfMemory) => Err(Fail::from(AllocError)),
+    }
+}
+
+/// What the sinks had at the end of a run, which all tasks have left. Or what its last round came to.
+pub fn at_end(alloc: Global, (round, lines): (Round, String)) -> Result<String, Fail> {
     match round {
         Round::Gone => Ok(lines),
         _ => Ok(format!(in alloc; "{round:?}")?),

@@ -20,39 +20,53 @@ fn to_one_bus(alloc: Global, bound: u64, samples: u64) -> Result<Job, Fail> {
     for _ in 0..samples {
         text.push_str("1\n")?;
     }
-    job_of(alloc, &at_bound(alloc, TO_ONE_BUS, bound)?, &[&text])
+    let graph = at_bound(alloc, TO_ONE_BUS, bound)?;
+    job_of(alloc, &graph, &[text.as_str()])
 }
 
-/// A bound, and the fewest samples on which the graph comes to a stand under it. Where the sink has
-/// taken `k` values, the filter of the input has signalled `k + bound` and holds one more; so the
-/// source has signalled `k + 2 * bound + 1`, of which the other filter has every second one, `k` in
-/// all. So `k` is `2 * bound + 1`, and sample `4 * bound + 3` cannot be signalled.
-const STANDS: [(u64, u64); 2] = [(1, 7), (64, 259)];
-
-#[test]
-fn a_stalled_run_is_told(rt: HostRuntime) -> Result<(), Fail> {
-    for (bound, samples) in STANDS {
-        let job = to_one_bus(rt.alloc(), bound, samples)?;
-        let mut world = World::new(rt.alloc(), &job)?;
-        assert!(rt; !world.stalled());
-        let round = last_round(&mut world, job.graph().tasks())?;
-        assert_eq!(rt; round, Round::Blocked, "bound {bound}");
-        assert!(rt; world.stalled());
-    }
-    Ok(())
+/// A bound, how many samples, what the last round comes to, and who is blocked on phasers then.
+struct Case {
+    name: &'static str,
+    bound: u64,
+    samples: u64,
+    round: Round,
+    parked: &'static [(usize, &'static str)],
 }
 
-#[test]
-fn a_run_that_has_ended_is_not_stalled(rt: HostRuntime) -> Result<(), Fail> {
-    for (bound, samples) in [(1, 6), (64, 258)] {
-        let job = to_one_bus(rt.alloc(), bound, samples)?;
-        let mut world = World::new(rt.alloc(), &job)?;
-        let round = last_round(&mut world, job.graph().tasks())?;
-        assert_eq!(rt; round, Round::Gone, "bound {bound}");
-        assert!(rt; !world.stalled());
-    }
-    Ok(())
-}
+/// The fewest samples on which the graph comes to a stand, and one less. Where the sink has taken `k`
+/// values, the filter of the input has signalled `k + bound` and holds one more; so the source has
+/// signalled `k + 2 * bound + 1`, of which the other filter has every second one, `k` in all. So `k`
+/// is `2 * bound + 1`, and sample `4 * bound + 3` cannot be signalled.
+const CASES: [Case; 4] = [
+    Case {
+        name: "six samples of bound 1 come to an end",
+        bound: 1,
+        samples: 6,
+        round: Round::Gone,
+        parked: &[],
+    },
+    Case {
+        name: "seven samples of bound 1 come to a stand",
+        bound: 1,
+        samples: 7,
+        round: Round::Blocked,
+        parked: &[(0, "0 1 "), (1, "2 "), (2, ""), (3, "3 4 ")],
+    },
+    Case {
+        name: "258 samples of bound 64 come to an end",
+        bound: 64,
+        samples: 258,
+        round: Round::Gone,
+        parked: &[],
+    },
+    Case {
+        name: "259 samples of bound 64 come to a stand",
+        bound: 64,
+        samples: 259,
+        round: Round::Blocked,
+        parked: &[(0, "0 1 "), (1, "2 "), (2, ""), (3, "3 4 ")],
+    },
+];
 
 /// The tasks that were blocked on a phaser, in the order of their lines, each as its number and a
 /// space.
@@ -71,14 +85,27 @@ fn parked_on(alloc: Global, job: &Job, world: &World<'_>, phaser: usize) -> Resu
 }
 
 #[test]
-fn who_is_blocked_stands_in_the_list_of_its_phaser(rt: HostRuntime) -> Result<(), Fail> {
-    for (bound, samples) in STANDS {
-        let job = to_one_bus(rt.alloc(), bound, samples)?;
+fn a_run_stalls_where_each_task_is_blocked(rt: HostRuntime) -> Result<(), Fail> {
+    for case in &CASES {
+        let job = to_one_bus(rt.alloc(), case.bound, case.samples)?;
         let mut world = World::new(rt.alloc(), &job)?;
-        let _round = last_round(&mut world, job.graph().tasks())?;
-        for (phaser, expected) in [(0, "0 1 "), (1, "2 "), (2, ""), (3, "3 4 ")] {
-            let parked = parked_on(rt.alloc(), &job, &world, phaser)?;
-            assert_eq!(rt; parked.as_str(), expected, "bound {bound}, phaser {phaser}");
+        assert!(rt; !world.stalled(), "{}", case.name);
+        let round = last_round(&mut world, job.graph().tasks())?;
+        let is_stalled = case.round == Round::Blocked;
+        assert_eq!(rt;
+            (round, world.stalled()),
+            (case.round, is_stalled),
+            "{}",
+            case.name
+        );
+        for (phaser, expected) in case.parked {
+            let parked = parked_on(rt.alloc(), &job, &world, *phaser)?;
+            assert_eq!(rt;
+                parked.as_str(),
+                *expected,
+                "{}: phaser {phaser}",
+                case.name
+            );
         }
     }
     Ok(())

@@ -1,72 +1,140 @@
 //! Turns in a given order.
-use crate::jobs::job_of;
-use crate::rounds::{in_rotation, text_of};
+use crate::jobs::{at_bound, job_of};
+use crate::rounds::{in_rotation, last_round, text_of};
 use graph_base::Place;
-use graph_worlds::{RunTurnsFault, Turned, World, run_turns};
+use graph_worlds::{Turned, World, run_turns};
+use std::alloc::{AllocError, Global};
 use std::test::Fail;
 
+/// A graph with a `?` for the bound of each phaser, the samples of its source, turns of its tasks at the
+/// opening, or after a round in rotation that made no event, with what each comes to, and what the
+/// sink has after them. The run is not stalled then.
+struct Case {
+    name: &'static str,
+    graph: &'static str,
+    samples: &'static str,
+    is_over: bool,
+    turns: &'static [(usize, Turned)],
+    lines: &'static str,
+}
+
+const BOUNDS: [u64; 3] = [1, 4, 64];
+
+const TOLD: Turned = Turned::TooBig {
+    place: Place::Task(1),
+    phase: 0,
+};
+
+const CASES: [Case; 3] = [
+    Case {
+        name: "each turn makes one event",
+        graph: "phaser X sum ?\nphaser Y sum ?\nsource s s.csv -> X\n\
+            fir f X -> Y shift 2 taps 1 2 1\nsink out Y\n",
+        samples: "-4\n",
+        is_over: false,
+        turns: &[
+            (1, Turned::Blocked),
+            (0, Turned::Moved),
+            (2, Turned::Blocked),
+            (1, Turned::Moved),
+            (1, Turned::Moved),
+            (2, Turned::Moved),
+            (0, Turned::Ended),
+            (0, Turned::Gone),
+            (1, Turned::Moved),
+            (1, Turned::Ended),
+            (2, Turned::Ended),
+            (2, Turned::Gone),
+        ],
+        lines: "2: -1\n",
+    },
+    Case {
+        name: "a task that is not there is gone",
+        graph: "phaser X sum ?\nphaser Y sum ?\nsource s s.csv -> X\n\
+            fir f X -> Y shift 0 taps 2\nsink out Y\n",
+        samples: "1\n",
+        is_over: false,
+        turns: &[
+            (3, Turned::Gone),
+            (4, Turned::Gone),
+            (64, Turned::Gone),
+            (18446744073709551615, Turned::Gone),
+            (0, Turned::Moved),
+        ],
+        lines: "2:\n",
+    },
+    Case {
+        name: "after a value out of range each turn tells it",
+        graph: "phaser X sum ?\nphaser Y sum ?\nsource s s.csv -> X\n\
+            fir f X -> Y shift 0 taps 2\nsink out Y\n",
+        samples: "9223372036854775807\n3\n",
+        is_over: true,
+        turns: &[
+            (0, TOLD),
+            (1, TOLD),
+            (2, TOLD),
+            (3, TOLD),
+            (18446744073709551615, TOLD),
+        ],
+        lines: "2:\n",
+    },
+];
+
+#[test]
+fn each_turn_comes_to_what_its_task_can_do(rt: HostRuntime) -> Result<(), Fail> {
+    for case in &CASES {
+        for bound in BOUNDS {
+            let graph = at_bound(rt.alloc(), case.graph, bound)?;
+            let job = job_of(rt.alloc(), &graph, &[case.samples])?;
+            let mut world = World::new(rt.alloc(), &job)?;
+            if case.is_over {
+                let _round = last_round(&mut world, job.graph().tasks())?;
+            }
+            for (task, expected) in case.turns {
+                let turned = world.turn(*task)?;
+                assert_eq!(rt;
+                    turned,
+                    *expected,
+                    "{}: task {task}, bound {bound}",
+                    case.name
+                );
+            }
+            let lines = text_of(rt.alloc(), world.lines())?;
+            let left = (lines.as_str(), world.stalled());
+            assert_eq!(rt; left, (case.lines, false), "{}: bound {bound}", case.name);
+        }
+    }
+    Ok(())
+}
+
 /// A filter.
-const FILTER: &str = "phaser X sum 4\nphaser Y sum 4\nsource s s.csv -> X\n\
+const FILTER: &str = "phaser X sum ?\nphaser Y sum ?\nsource s s.csv -> X\n\
     fir f X -> Y shift 2 taps 1 2 1\nsink out Y\n";
 
-#[test]
-fn turns_in_rotation_end_a_run(rt: HostRuntime) -> Result<(), Fail> {
-    let job = job_of(rt.alloc(), FILTER, &["-1\n-1\n0\n"])?;
-    let world = run_turns(rt.alloc(), &job, &in_rotation(rt.alloc(), 3, 10)?)?;
-    assert_eq!(rt;
-        text_of(rt.alloc(), world.lines())?.as_str(),
-        "2: -1 -1 -1\n"
-    );
-    assert!(rt; !world.stalled());
-    Ok(())
-}
-
-#[test]
-fn each_turn_makes_one_event(rt: HostRuntime) -> Result<(), Fail> {
-    let job = job_of(rt.alloc(), FILTER, &["-4\n"])?;
-    let mut world = World::new(rt.alloc(), &job)?;
-    for (task, expected) in [
-        (1, Turned::Blocked),
-        (0, Turned::Moved),
-        (2, Turned::Blocked),
-        (1, Turned::Moved),
-        (1, Turned::Moved),
-        (2, Turned::Moved),
-        (0, Turned::Ended),
-        (0, Turned::Gone),
-        (1, Turned::Moved),
-        (1, Turned::Ended),
-        (2, Turned::Ended),
-        (2, Turned::Gone),
-    ] {
-        assert_eq!(rt; world.turn(task)?, expected, "task {task}");
+/// What the sinks have after so many given turns of each task, and whether the run is stalled then.
+fn given(alloc: Global, graph: &str, samples: &str, rounds: usize) -> Result<(String, bool), Fail> {
+    let job = job_of(alloc, graph, &[samples])?;
+    let turns = in_rotation(alloc, job.graph().tasks(), rounds)?;
+    match run_turns(alloc, &job, &turns) {
+        Ok(world) => Ok((text_of(alloc, world.lines())?, world.stalled())),
+        Err(_) => Err(Fail::from(AllocError)),
     }
-    assert_eq!(rt; text_of(rt.alloc(), world.lines())?.as_str(), "2: -1\n");
-    Ok(())
 }
 
 #[test]
-fn no_turns_leave_a_run_at_its_opening(rt: HostRuntime) -> Result<(), Fail> {
-    let job = job_of(rt.alloc(), FILTER, &["-4\n"])?;
-    let world = run_turns(rt.alloc(), &job, &[])?;
-    assert_eq!(rt; text_of(rt.alloc(), world.lines())?.as_str(), "2:\n");
-    assert!(rt; !world.stalled());
-    Ok(())
-}
-
-/// A filter that adds twice the sample before, and halves.
-const TWICE_THE_LAST: &str = "phaser X sum 4\nphaser Y sum 4\nsource s s.csv -> X\n\
-    fir f X -> Y shift 1 taps 1 2\nsink out Y\n";
-
-#[test]
-fn given_turns_stop_at_a_value_out_of_range(rt: HostRuntime) -> Result<(), Fail> {
-    let samples = "9223372036854775807\n9223372036854775807\n";
-    let job = job_of(rt.alloc(), TWICE_THE_LAST, &[samples])?;
-    let fault = run_turns(rt.alloc(), &job, &in_rotation(rt.alloc(), 3, 10)?).err();
-    let told = RunTurnsFault::TooBig {
-        place: Place::Task(1),
-        phase: 1,
-    };
-    assert_eq!(rt; fault, Some(told));
+fn turns_in_rotation_end_a_run_and_no_turns_leave_it_at_its_opening(
+    rt: HostRuntime,
+) -> Result<(), Fail> {
+    for (rounds, samples, lines) in [(10, "-1\n-1\n0\n", "2: -1 -1 -1\n"), (0, "-4\n", "2:\n")] {
+        for bound in BOUNDS {
+            let graph = at_bound(rt.alloc(), FILTER, bound)?;
+            let (left, is_stalled) = given(rt.alloc(), &graph, samples, rounds)?;
+            assert_eq!(rt;
+                (left.as_str(), is_stalled),
+                (lines, false),
+                "{rounds} turns of each, bound {bound}"
+            );
+        }
+    }
     Ok(())
 }
