@@ -131,18 +131,25 @@ const ASKED: [Asked; 10] = [
     },
 ];
 
+/// The first words of a case that ask for other files.
+fn first_wrong(alloc: Global, case: &Asked) -> Result<Option<Words>, Fail> {
+    for words in case.words {
+        let files = Held {
+            graph: case.graph,
+            samples: case.samples,
+            refused: None,
+        };
+        if asked_for(alloc, words, files)?.as_str() != case.files {
+            return Ok(Some(*words));
+        }
+    }
+    Ok(None)
+}
+
 #[test]
 fn files_are_asked_for_once_in_their_order(rt: HostRuntime) -> Result<(), Fail> {
     for case in &ASKED {
-        for words in case.words {
-            let files = Held {
-                graph: case.graph,
-                samples: case.samples,
-                refused: None,
-            };
-            let asked = asked_for(rt.alloc(), words, files)?;
-            assert_eq!(rt; asked.as_str(), case.files, "{}: {words:?}", case.name);
-        }
+        assert_eq!(rt; first_wrong(rt.alloc(), case)?, None, "{}", case.name);
     }
     Ok(())
 }

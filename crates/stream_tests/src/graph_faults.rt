@@ -277,19 +277,22 @@ const CASES: [Case; 13] = [
     },
 ];
 
+/// The first text of a case of which something else is told.
+fn first_wrong(alloc: Global, case: &Case) -> Result<Option<&'static str>, Fail> {
+    for (fault, texts) in case.told {
+        for text in *texts {
+            if fault_within(alloc, case.around, text)? != *fault {
+                return Ok(Some(*text));
+            }
+        }
+    }
+    Ok(None)
+}
+
 #[test]
 fn the_first_fault_is_told(rt: HostRuntime) -> Result<(), Fail> {
     for case in &CASES {
-        for (fault, texts) in case.told {
-            for text in *texts {
-                assert_eq!(rt;
-                    fault_within(rt.alloc(), case.around, text)?,
-                    *fault,
-                    "{}: '{text}'",
-                    case.name
-                );
-            }
-        }
+        assert_eq!(rt; first_wrong(rt.alloc(), case)?, None, "{}", case.name);
     }
     Ok(())
 }

@@ -141,24 +141,30 @@ fn more_than_a_million_samples_are_evaluated(rt: HostRuntime) -> Result<(), Fail
     Ok(())
 }
 
+/// Three phasers.
+fn phasers_at(alloc: Global, level: u32) -> Result<String, AllocError> {
+    format!(in alloc; "phaser A{level} sum 2\nphaser B{level} sum 2\nphaser C{level} sum 2\n")
+}
+
+/// Three joiners, each of all three phasers of a level and onto one of the next.
+fn joiners_at(alloc: Global, level: u32) -> Result<String, AllocError> {
+    let below = level.saturating_add(1);
+    format!(in alloc;
+        "join jA{below} A{level} B{level} C{level} -> A{below}\n\
+        join jB{below} A{level} B{level} C{level} -> B{below}\n\
+        join jC{below} A{level} B{level} C{level} -> C{below}\n"
+    )
+}
+
 /// Three joiners of all three phasers above them, twenty times over, below three sources.
 fn joiners_of_joiners(alloc: Global) -> Result<String, Fail> {
     let mut graph = String::new(alloc);
     for level in 0..21 {
-        for name in ["A", "B", "C"] {
-            graph.push_str(&format!(in alloc; "phaser {name}{level} sum 2\n")?)?;
-        }
+        graph.push_str(&phasers_at(alloc, level)?)?;
     }
-    for name in ["A", "B", "C"] {
-        graph.push_str(&format!(in alloc; "source s{name} s.csv -> {name}0\n")?)?;
-    }
+    graph.push_str("source sA s.csv -> A0\nsource sB s.csv -> B0\nsource sC s.csv -> C0\n")?;
     for level in 0..20 {
-        for name in ["A", "B", "C"] {
-            let below = level + 1;
-            graph.push_str(&format!(in alloc;
-                "join j{name}{below} A{level} B{level} C{level} -> {name}{below}\n"
-            )?)?;
-        }
+        graph.push_str(&joiners_at(alloc, level)?)?;
     }
     Ok(graph)
 }
