@@ -1,6 +1,4 @@
 //! Turns in a given order.
-ghost use Rattle.std.specs.Prelude.{◌≡◌};
-
 use crate::jobs::{at_bound, job_of};
 use crate::rounds::{in_rotation, one_round, text_of};
 use graph_base::Place;
@@ -86,9 +84,7 @@ const CASES: [Case; 3] = [
 fn first_wrong(
     world: &mut World<'_>,
     turns: &[(usize, Turned)],
-) -> Result<Option<usize>, AllocError>
-    ensures { world.new.job ≡ world.old.job }
-{
+) -> Result<Option<usize>, AllocError> {
     for (place, (task, expected)) in turns.iter().enumerate() {
         if world.turn(*task)? != *expected {
             return Ok(Some(place));
