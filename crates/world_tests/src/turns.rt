@@ -1,19 +1,19 @@
 //! Turns in a given order.
 use crate::jobs::{at_bound, job_of};
-use crate::rounds::{in_rotation, last_round, text_of};
+use crate::rounds::{in_rotation, one_round, text_of};
 use graph_base::Place;
 use graph_worlds::{Turned, World, run_turns};
 use std::alloc::{AllocError, Global};
 use std::test::Fail;
 
-/// A graph with a `?` for the bound of each phaser, the samples of its source, turns of its tasks at the
-/// opening, or after a round in rotation that made no event, with what each comes to, and what the
-/// sink has after them. The run is not stalled then.
+/// A graph with a `?` for the bound of each phaser, the samples of its source, how many rounds of turns
+/// its tasks have first, turns of them with what each comes to, and what the sink has after them. The
+/// run is not stalled then.
 struct Case {
     name: &'static str,
     graph: &'static str,
     samples: &'static str,
-    is_over: bool,
+    rounds: usize,
     turns: &'static [(usize, Turned)],
     lines: &'static str,
 }
@@ -31,7 +31,7 @@ const CASES: [Case; 3] = [
         graph: "phaser X sum ?\nphaser Y sum ?\nsource s s.csv -> X\n\
             fir f X -> Y shift 2 taps 1 2 1\nsink out Y\n",
         samples: "-4\n",
-        is_over: false,
+        rounds: 0,
         turns: &[
             (1, Turned::Blocked),
             (0, Turned::Moved),
@@ -53,7 +53,7 @@ const CASES: [Case; 3] = [
         graph: "phaser X sum ?\nphaser Y sum ?\nsource s s.csv -> X\n\
             fir f X -> Y shift 0 taps 2\nsink out Y\n",
         samples: "1\n",
-        is_over: false,
+        rounds: 0,
         turns: &[
             (3, Turned::Gone),
             (4, Turned::Gone),
@@ -68,7 +68,7 @@ const CASES: [Case; 3] = [
         graph: "phaser X sum ?\nphaser Y sum ?\nsource s s.csv -> X\n\
             fir f X -> Y shift 0 taps 2\nsink out Y\n",
         samples: "9223372036854775807\n3\n",
-        is_over: true,
+        rounds: 10,
         turns: &[
             (0, TOLD),
             (1, TOLD),
@@ -80,28 +80,44 @@ const CASES: [Case; 3] = [
     },
 ];
 
+/// The first of these turns that comes to something else, by its place among them.
+fn first_wrong(
+    world: &mut World<'_>,
+    turns: &[(usize, Turned)],
+) -> Result<Option<usize>, AllocError> {
+    for (place, (task, expected)) in turns.iter().enumerate() {
+        if world.turn(*task)? != *expected {
+            return Ok(Some(place));
+        }
+    }
+    Ok(None)
+}
+
+/// The first turn of a case that comes to something else, what the sink has then, and whether the run
+/// is stalled.
+fn turned(alloc: Global, case: &Case, bound: u64) -> Result<(Option<usize>, String, bool), Fail> {
+    let graph = at_bound(alloc, case.graph, bound)?;
+    let job = job_of(alloc, &graph, &[case.samples])?;
+    let mut world = World::new(alloc, &job)?;
+    for _ in 0..case.rounds {
+        one_round(&mut world, job.graph().tasks())?;
+    }
+    let wrong = first_wrong(&mut world, case.turns)?;
+    let lines = text_of(alloc, world.lines())?;
+    Ok((wrong, lines, world.stalled()))
+}
+
 #[test]
 fn each_turn_comes_to_what_its_task_can_do(rt: HostRuntime) -> Result<(), Fail> {
     for case in &CASES {
         for bound in BOUNDS {
-            let graph = at_bound(rt.alloc(), case.graph, bound)?;
-            let job = job_of(rt.alloc(), &graph, &[case.samples])?;
-            let mut world = World::new(rt.alloc(), &job)?;
-            if case.is_over {
-                let _round = last_round(&mut world, job.graph().tasks())?;
-            }
-            for (task, expected) in case.turns {
-                let turned = world.turn(*task)?;
-                assert_eq!(rt;
-                    turned,
-                    *expected,
-                    "{}: task {task}, bound {bound}",
-                    case.name
-                );
-            }
-            let lines = text_of(rt.alloc(), world.lines())?;
-            let left = (lines.as_str(), world.stalled());
-            assert_eq!(rt; left, (case.lines, false), "{}: bound {bound}", case.name);
+            let (wrong, lines, is_stalled) = turned(rt.alloc(), case, bound)?;
+            assert_eq!(rt;
+                (wrong, lines.as_str(), is_stalled),
+                (None, case.lines, false),
+                "{}: bound {bound}",
+                case.name
+            );
         }
     }
     Ok(())
