@@ -3,9 +3,9 @@ ghost use Rattle.std.specs.Prelude.{◌≡◌, ◌<◌, [], None, IfSome};
 ghost use denote.Param.Send.{IsSync};
 ghost use Rattle.phase_shared.specs.Regs.{phaser_place};
 
-use crate::received::{SumReceipts, SumReceiver, joins, signals};
+use crate::received::{SumReceipts, SumReceiver, joins, made_receiver, signals};
 use phase_accum::{Outcome, Sum};
-use phase_base::{Mode, Spec};
+use phase_base::Mode;
 use phase_core::Got;
 use phase_shared::{NoRule, Phaser};
 use std::alloc::Global;
@@ -218,8 +218,10 @@ fn are_of_one_stream(first: &[Outcome], others: &[Vec<Outcome>]) -> bool {
 fn threads_come_and_go(rt: HostRuntime) -> Result<(), Fail> {
     for parts in [2u64, 4, 16] {
         let alloc = rt.alloc();
-        let (phaser, founder) = Phaser::<Sum, NoRule>::make(alloc, Spec::new(2, 1000)?, NoRule)?;
-        let mut slot = Some(SumReceiver::new(founder, Vec::new(alloc)));
+        let Some((phaser, founder)) = made_receiver(alloc, 2) else {
+            panic!(rt; "there is memory")
+        };
+        let mut slot = Some(founder);
         let kept = by_parts(&rt, alloc, &phaser, &mut slot, parts, parts);
         let None = slot else { unreachable!() };
         let Some(kept) = kept else {

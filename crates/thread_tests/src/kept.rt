@@ -7,8 +7,9 @@ ghost use Rattle.phase_history.specs.Legal.{IsLegal};
 ghost use Rattle.phase_base.specs.Lists.{is_distinct};
 ghost use Rattle.phase_shared.specs.Regs.{phaser_place, phaser_limits};
 
+use crate::calls::{SumPhaser, SumReg, made};
 use phase_accum::Sum;
-use phase_base::{Mode, Spec};
+use phase_base::Mode;
 use phase_shared::{NoRule, Past, Phaser, Reg};
 use std::test::Fail;
 
@@ -91,19 +92,49 @@ fn child_beside(
     }
 }
 
+// A child signals two phases, and registers a child of its own, which comes out of a slot.
+fn grandchild_of(phaser: &SumPhaser, child: &mut SumReg) -> Option<(u64, SumReg)>
+    requires { child.old.at ≡ phaser_place phaser.now }
+    ensures at { child.new.at ≡ child.old.at }
+    ensures grandchild { IfSome result (λ made. made.1.at ≡ phaser_place phaser.now) }
+{
+    let second = signal_two(phaser, child)?;
+    let mut slot = child_beside(phaser, child, Mode::Sig);
+    let taken = reg_in(phaser, &mut slot);
+    let None = slot else { unreachable!() };
+    match taken {
+        Some(grandchild) => Some((second, grandchild)),
+        None => None,
+    }
+}
+
+// Joins the two pasts of a list, as they come out, and a third.
+fn joins_kept(
+    phaser: &SumPhaser,
+    pasts: &mut Vec<Past<Sum, NoRule>>,
+    last: Past<Sum, NoRule>,
+) -> Option<Past<Sum, NoRule>>
+    requires pasts { All (λ past. past.at ≡ phaser_place phaser.now) pasts.old.items }
+    requires last { last.at ≡ phaser_place phaser.now }
+    ensures { IfSome result (λ past. past.at ≡ phaser_place phaser.now) }
+{
+    let second = last_past(phaser, pasts)?;
+    let first = last_past(phaser, pasts)?;
+    Some(first.join(phaser, second).join(phaser, last))
+}
+
 #[test]
 fn kept_registrations_and_pasts(rt: HostRuntime) -> Result<(), Fail> {
     let alloc = rt.alloc();
-    let (phaser, mut founder) = Phaser::<Sum, NoRule>::make(alloc, Spec::new(2, 100)?, NoRule)?;
+    let Some((phaser, mut founder)) = made(alloc, 2) else {
+        panic!(rt; "there is memory")
+    };
     let Some(mut child) = child_beside(&phaser, &mut founder, Mode::Sig) else {
-        panic!(rt; "the founder holds a signaller, and there is memory")
+        panic!(rt; "the founder holds a signaller")
     };
-    let second = signal_two(&phaser, &mut child);
-    let mut slot = child_beside(&phaser, &mut child, Mode::Sig);
-    let Some(grandchild) = reg_in(&phaser, &mut slot) else {
-        panic!(rt; "the child holds a signaller, and there is memory")
+    let Some((second, grandchild)) = grandchild_of(&phaser, &mut child) else {
+        panic!(rt; "two phases have room, and the child holds a signaller")
     };
-    let None = slot else { unreachable!() };
     let (child, grandchild) = meet_apart(&phaser, child, grandchild);
     let phases = (child.phase(), grandchild.phase());
     let first = founder.leave(&rt, &phaser);
@@ -112,13 +143,9 @@ fn kept_registrations_and_pasts(rt: HostRuntime) -> Result<(), Fail> {
     let mut pasts = Vec::new(alloc);
     pasts.push(first)?;
     pasts.push(middle)?;
-    let child_past = last_past(&phaser, &mut pasts);
-    let founder_past = last_past(&phaser, &mut pasts);
-    let (Some(child_past), Some(founder_past)) = (child_past, founder_past) else {
-        panic!(rt; "two pasts were put into the list")
-    };
-    let _all = founder_past.join(&phaser, child_past).join(&phaser, last);
-    assert_eq!(rt; second, Some(1));
+    let all = joins_kept(&phaser, &mut pasts, last);
+    assert!(rt; all.is_some());
+    assert_eq!(rt; second, 1);
     assert_eq!(rt; phases, ((2, 0), (2, 0)));
     assert!(rt; pasts.is_empty());
     Ok(())

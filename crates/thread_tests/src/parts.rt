@@ -4,8 +4,9 @@ ghost use Rattle.phase_history.specs.Histories.{start_of, entry_at, has_dropped}
 ghost use Rattle.phase_history.specs.Sent.{sent_by};
 ghost use Rattle.phase_shared.specs.Regs.{phaser_place};
 
+use crate::calls::{goes_on, made};
 use phase_accum::Sum;
-use phase_base::{Mode, Spec};
+use phase_base::Mode;
 use phase_core::{RegisterRefusal, SignalRefusal};
 use phase_shared::{NoRule, Past, Phaser, Reg, laws};
 use std::sync::Wait;
@@ -64,19 +65,19 @@ fn leaves<R: Wait>(rt: &R, phaser: &Phaser<Sum, NoRule>, reg: Reg<Sum, NoRule>) 
 
 #[test]
 fn a_child_takes_its_part(rt: HostRuntime) -> Result<(), Fail> {
-    let (phaser, mut founder) = Phaser::<Sum, NoRule>::make(
-        rt.alloc(),
-        Spec::new(2, 1000)?,
-        NoRule,
-    )?;
-    assert!(rt; founder.next(&rt, &phaser, None).is_ok());
+    let Some((phaser, mut founder)) = made(rt.alloc(), 2) else {
+        panic!(rt; "there is memory")
+    };
+    let went_on = goes_on(&rt, &phaser, &mut founder, None).is_ok();
     let child = registers(&rt, &phaser, &mut founder, Mode::Sig);
     let Ok(mut child) = child else {
         panic!(rt; "the founder holds a signaller")
     };
-    assert_eq!(rt; child.phase(), (1, 1));
-    assert_eq!(rt; signals(&rt, &phaser, &mut child), Ok(1));
+    let phases = child.phase();
+    let signalled = signals(&rt, &phaser, &mut child);
     let _past = leaves(&rt, &phaser, child);
     let _past = leaves(&rt, &phaser, founder);
+    assert_eq!(rt; (went_on, phases), (true, (1, 1)));
+    assert_eq!(rt; signalled, Ok(1));
     Ok(())
 }

@@ -1,12 +1,13 @@
 //! Values that are put by one call.
-ghost use Rattle.std.specs.Prelude.{◌≡◌, ◌≢◌, OnOk, OnErr};
+ghost use Rattle.std.specs.Prelude.{◌≡◌, ◌≢◌, IfSome, OnOk, OnErr};
 ghost use Rattle.phase_accum.specs.declared.outcome.TheConstants.{NO_VALUE};
 ghost use Rattle.phase_shared.specs.Regs.{phaser_place};
 ghost use Rattle.phase_shared.specs.Puts.{IsFreeFor};
 
-use phase_accum::{Accumulate, Outcome, Single, Sum};
-use phase_base::{Mode, Spec};
-use phase_core::{Got, SignalRefusal};
+use crate::calls::{SumPhaser, SumReg, left, made_with_child, waited};
+use phase_accum::{Accumulate, Outcome, Single};
+use phase_base::Mode;
+use phase_core::{Got, SignalRefusal, WaitRefusal};
 use phase_shared::{NoRule, Phaser, Reg, Tried};
 use std::test::Fail;
 
@@ -34,71 +35,99 @@ fn value(phase: u64, value: i64) -> Got {
     }
 }
 
+type Waited = Result<Got, Tried<WaitRefusal>>;
+
+// The sender puts 4, 5 and 5 again once the founder has put 3 and waited: why the first 5 was
+// refused, what was held then, what the founder got, and what is held in the end.
+fn put_ahead(
+    phaser: &SumPhaser,
+    sender: &mut SumReg,
+    founder: &mut SumReg,
+) -> Option<((Tried<SignalRefusal>, u64), (Waited, u64))>
+    requires sender { (sender.old.at ≡ phaser_place phaser.now) × (sender.old.held.count ≡ 0) }
+    requires founder { (founder.old.at ≡ phaser_place phaser.now) × (founder.old.held.count ≡ 0) }
+    ensures at { (sender.new.at ≡ sender.old.at) × (founder.new.at ≡ founder.old.at) }
+    ensures none_held { IfSome result (λ seen. founder.new.held.count ≡ 0) }
+{
+    let Ok(0) = put(phaser, sender, 4, None) else {
+        return None;
+    };
+    let Err(ahead) = put(phaser, sender, 5, None) else {
+        return None;
+    };
+    let held = sender.pending();
+    let Ok(0) = put(phaser, founder, 3, None) else {
+        return None;
+    };
+    let got = waited(phaser, founder);
+    let Ok(1) = put(phaser, sender, 5, None) else {
+        return None;
+    };
+    Some(((ahead, held), (got, sender.pending())))
+}
+
+// The founder puts 6 with a single, which the sender did not name, and then without.
+fn put_without_a_single(
+    phaser: &SumPhaser,
+    founder: &mut SumReg,
+) -> Option<(Tried<SignalRefusal>, Waited)>
+    requires { (founder.old.at ≡ phaser_place phaser.now) × (founder.old.held.count ≡ 0) }
+    ensures at { founder.new.at ≡ founder.old.at }
+    ensures none_held { IfSome result (λ seen. founder.new.held.count ≡ 0) }
+{
+    let Err(differs) = put(phaser, founder, 6, Some(Single::neg())) else {
+        return None;
+    };
+    let Ok(1) = put(phaser, founder, 6, None) else {
+        return None;
+    };
+    Some((differs, waited(phaser, founder)))
+}
+
+// The founder, which is alone by now, puts 9 with a single.
+fn put_alone(phaser: &SumPhaser, founder: &mut SumReg) -> Option<Waited>
+    requires { (founder.old.at ≡ phaser_place phaser.now) × (founder.old.held.count ≡ 0) }
+    ensures { founder.new.at ≡ founder.old.at }
+{
+    let Ok(2) = put(phaser, founder, 9, Some(Single::neg())) else {
+        return None;
+    };
+    Some(waited(phaser, founder))
+}
+
 #[test]
 fn a_refused_value_is_put_again(rt: HostRuntime) -> Result<(), Fail> {
-    let (phaser, mut founder) = Phaser::<Sum, NoRule>::make(
-        rt.alloc(),
-        Spec::new(1, 100)?,
-        NoRule,
-    )?;
-    let Ok(mut sender) = founder.try_register(&phaser, Mode::Sig) else {
-        panic!(rt; "the founder is alone")
+    let Some((phaser, mut founder, mut sender)) = made_with_child(&rt, rt.alloc(), 1, Mode::Sig)
+    else {
+        panic!(rt; "the founder is alone, and there is memory")
     };
-    let Ok(0) = put(&phaser, &mut sender, 4, None) else {
-        panic!(rt; "phase 0 has room")
+    let Some((first, of_first)) = put_ahead(&phaser, &mut sender, &mut founder) else {
+        panic!(rt; "phase 0 has room, and phase 1 once the founder has waited")
     };
-    let Err(ahead) = put(&phaser, &mut sender, 5, None) else {
-        panic!(rt; "nobody has waited for phase 0")
-    };
-    assert_eq!(rt; ahead, Tried::Refused(SignalRefusal::Ahead));
-    assert_eq!(rt; sender.pending(), 1);
-    let Ok(0) = put(&phaser, &mut founder, 3, None) else {
-        panic!(rt; "the founder has not signalled phase 0")
-    };
-    let first = founder.try_wait(&phaser);
-    let Ok(1) = put(&phaser, &mut sender, 5, None) else {
-        panic!(rt; "phase 1 has room now")
-    };
-    assert_eq!(rt; sender.pending(), 0);
-    let Err(differs) = put(&phaser, &mut founder, 6, Some(Single::neg())) else {
+    let Some(second) = put_without_a_single(&phaser, &mut founder) else {
         panic!(rt; "the sender named no single for phase 1")
     };
-    assert_eq!(rt; differs, Tried::Refused(SignalRefusal::SingleDiffers));
-    let Ok(1) = put(&phaser, &mut founder, 6, None) else {
-        panic!(rt; "the founder names none either")
-    };
-    let second = founder.try_wait(&phaser);
-    let _past = sender.leave(&rt, &phaser);
-    let Ok(2) = put(&phaser, &mut founder, 9, Some(Single::neg())) else {
-        panic!(rt; "the founder is alone")
-    };
-    let third = founder.try_wait(&phaser);
-    let _last = founder.leave(&rt, &phaser);
-    assert_eq!(rt; first, Ok(value(0, 7)));
-    assert_eq!(rt; second, Ok(value(1, 11)));
-    assert_eq!(rt; third, Ok(value(2, -9)));
+    left(&rt, &phaser, sender);
+    let third = put_alone(&phaser, &mut founder);
+    left(&rt, &phaser, founder);
+    assert_eq!(rt; first, (Tried::Refused(SignalRefusal::Ahead), 1));
+    assert_eq!(rt; of_first, (Ok(value(0, 7)), 0));
+    let differs = Tried::Refused(SignalRefusal::SingleDiffers);
+    assert_eq!(rt; second, (differs, Ok(value(1, 11))));
+    assert_eq!(rt; third, Some(Ok(value(2, -9))));
     Ok(())
 }
 
 #[test]
 fn a_waiter_puts_nothing(rt: HostRuntime) -> Result<(), Fail> {
-    let (phaser, mut founder) = Phaser::<Sum, NoRule>::make(
-        rt.alloc(),
-        Spec::new(1, 100)?,
-        NoRule,
-    )?;
-    let Ok(mut waiter) = founder.try_register(&phaser, Mode::Wait) else {
-        panic!(rt; "the founder is alone")
+    let Some((phaser, founder, mut waiter)) = made_with_child(&rt, rt.alloc(), 1, Mode::Wait) else {
+        panic!(rt; "the founder is alone, and there is memory")
     };
-    let Err(refused) = put(&phaser, &mut waiter, 1, None) else {
-        panic!(rt; "its mode does not signal")
-    };
+    let refused = put(&phaser, &mut waiter, 1, None);
     let held = waiter.pending();
-    let _past = waiter.leave(&rt, &phaser);
-    let _last = founder.leave(&rt, &phaser);
-    assert_eq!(rt;
-        (refused, held),
-        (Tried::Refused(SignalRefusal::NoSignal), 0)
-    );
+    left(&rt, &phaser, waiter);
+    left(&rt, &phaser, founder);
+    let no_signal = Tried::Refused(SignalRefusal::NoSignal);
+    assert_eq!(rt; (refused, held), (Err(no_signal), 0));
     Ok(())
 }

@@ -2,17 +2,50 @@
 ghost use Rattle.std.specs.Prelude.{◌≡◌, IfSome};
 ghost use Rattle.phase_shared.specs.Regs.{phaser_place};
 
+use crate::calls::SumPhaser;
 use phase_accum::{Outcome, Sum};
 use phase_base::{Mode, Spec};
 use phase_core::Got;
 use phase_received::{Receipts, ReceiveFault, Receiver};
 use phase_shared::{NoRule, Phaser};
+use std::alloc::Global;
 use std::sync::Wait;
 use std::test::Fail;
 
 pub(crate) type SumReceiver = Receiver<Sum, NoRule>;
 
 pub(crate) type SumReceipts = Receipts<Sum, NoRule>;
+
+// A phaser with a bound, and its founder, which has got nothing yet.
+pub(crate) fn made_receiver(alloc: Global, bound: u64) -> Option<(SumPhaser, SumReceiver)>
+    ensures { IfSome result (λ made. made.1.at ≡ phaser_place made.0) }
+{
+    let Ok(limits) = Spec::new(bound, 1000) else {
+        return None;
+    };
+    let Ok((phaser, founder)) = Phaser::<Sum, NoRule>::make(alloc, limits, NoRule) else {
+        return None;
+    };
+    Some((phaser, SumReceiver::new(founder, Vec::new(alloc))))
+}
+
+// A child in a mode, where there is memory and the mode is held.
+pub(crate) fn registers<R: Wait>(
+    rt: &R,
+    alloc: Global,
+    phaser: &SumPhaser,
+    parent: &mut SumReceiver,
+    mode: Mode,
+) -> Option<SumReceiver>
+    requires { parent.old.at ≡ phaser_place phaser.now }
+    ensures at { parent.new.at ≡ parent.old.at }
+    ensures child { IfSome result (λ child. child.at ≡ phaser_place phaser.now) }
+{
+    match parent.register(rt, alloc, phaser, mode) {
+        Ok(child) => Some(child),
+        Err(_) => None,
+    }
+}
 
 // Sends a value and signals, and tells the phase.
 pub(crate) fn signals<R: Wait>(
@@ -46,6 +79,20 @@ pub(crate) fn joins(
     }
 }
 
+// Whether these are the lists.
+pub(crate) fn are_lists(
+    first: &[Outcome],
+    others: &[Vec<Outcome>],
+    expected: &[&[Outcome]],
+) -> bool {
+    let mut wanted = expected.iter();
+    let mut all = others.len() + 1 == expected.len() && wanted.next() == Some(&first);
+    for (list, wanted) in others.iter().zip(wanted) {
+        all = all && list.as_slice() == *wanted;
+    }
+    all
+}
+
 // Whether one signals with a value and waits, and the other waits for the same phase.
 fn go_on<R: Wait>(
     rt: &R,
@@ -63,57 +110,103 @@ fn go_on<R: Wait>(
     is_held && matches!(next, Ok(next) if next.got == got.ok())
 }
 
+// The founder goes through phases 0 and 1 with the waiter, and tells whether it has kept both.
+fn go_on_twice<R: Wait>(
+    rt: &R,
+    phaser: &SumPhaser,
+    founder: &mut SumReceiver,
+    waiter: &mut SumReceiver,
+) -> bool
+    requires founder { founder.old.at ≡ phaser_place phaser.now }
+    requires waiter { waiter.old.at ≡ phaser_place phaser.now }
+    ensures at { (founder.new.at ≡ founder.old.at) × (waiter.new.at ≡ waiter.old.at) }
+{
+    let first = go_on(rt, phaser, founder, waiter, 3);
+    let second = go_on(rt, phaser, founder, waiter, 4);
+    let kept = [Outcome::Value(3), Outcome::Value(4)];
+    first && second && founder.values() == kept.as_slice()
+}
+
+// A founder signals once more with 5, and tells whether it is one phase ahead of its waits.
+fn signals_ahead<R: Wait>(rt: &R, phaser: &SumPhaser, founder: &mut SumReceiver) -> bool
+    requires { founder.old.at ≡ phaser_place phaser.now }
+    ensures { founder.new.at ≡ founder.old.at }
+{
+    let phase = signals(rt, phaser, founder, 5);
+    phase == Some(2) && founder.reg().phase() == (3, 2)
+}
+
+// Whether the one that came late gets phase 2 and then the end, and the other gets phase 2.
+fn get_the_last<R: Wait>(
+    rt: &R,
+    phaser: &SumPhaser,
+    late: &mut SumReceiver,
+    waiter: &mut SumReceiver,
+) -> bool
+    requires late { late.old.at ≡ phaser_place phaser.now }
+    requires waiter { waiter.old.at ≡ phaser_place phaser.now }
+    ensures at { (late.new.at ≡ late.old.at) × (waiter.new.at ≡ waiter.old.at) }
+{
+    let outcome = Outcome::Value(5);
+    let value = Ok(Got::Value { phase: 2, outcome });
+    let is_empty = late.values().is_empty();
+    let got = late.wait(rt, phaser);
+    let ended = late.wait(rt, phaser);
+    let other = waiter.wait(rt, phaser);
+    is_empty && got == value && ended == Ok(Got::Ended) && other == value
+}
+
+// The same receiver, taken apart and put together.
+fn made_anew(receiver: SumReceiver) -> SumReceiver
+    ensures { result.at ≡ receiver.at }
+{
+    let (reg, values) = receiver.into_parts();
+    SumReceiver::new(reg, values)
+}
+
+fn all_joined(
+    phaser: &SumPhaser,
+    one: SumReceipts,
+    two: SumReceipts,
+    three: SumReceipts,
+) -> Option<SumReceipts>
+    requires one { one.at ≡ phaser_place phaser.now }
+    requires two { two.at ≡ phaser_place phaser.now }
+    requires three { three.at ≡ phaser_place phaser.now }
+{
+    let both = joins(phaser, one, two)?;
+    joins(phaser, both, three)
+}
+
 // A founder that signals and waits, a child that waits alone, and one that comes after a phase: each
 // keeps what it got, in order, and their receipts stand in the order in which they are joined.
 #[test]
 fn each_keeps_what_it_got(rt: HostRuntime) -> Result<(), Fail> {
     let alloc = rt.alloc();
-    let (phaser, founder) = Phaser::<Sum, NoRule>::make(alloc, Spec::new(2, 1000)?, NoRule)?;
-    let mut founder = SumReceiver::new(founder, Vec::new(alloc));
-    let Ok(mut waiter) = founder.register(&rt, alloc, &phaser, Mode::Wait) else {
-        panic!(rt; "the founder holds a waiter")
-    };
-    assert!(rt; go_on(&rt, &phaser, &mut founder, &mut waiter, 3));
-    assert!(rt; go_on(&rt, &phaser, &mut founder, &mut waiter, 4));
-    let Ok(mut late) = founder.register(&rt, alloc, &phaser, Mode::Wait) else {
-        panic!(rt; "the founder holds a waiter")
-    };
-    assert_eq!(rt;
-        founder.values(),
-        [Outcome::Value(3), Outcome::Value(4)].as_slice()
-    );
-    assert_eq!(rt; late.values().len(), 0);
-    assert_eq!(rt; founder.send(5), Ok(()));
-    assert_eq!(rt; founder.signal(&rt, &phaser, None), Ok(2));
-    assert_eq!(rt; founder.reg().phase(), (3, 2));
-    let one = founder.leave(&rt, alloc, &phaser);
-    let value = Got::Value {
-        phase: 2,
-        outcome: Outcome::Value(5),
-    };
-    assert_eq!(rt; late.wait(&rt, &phaser), Ok(value));
-    assert_eq!(rt; late.wait(&rt, &phaser), Ok(Got::Ended));
-    assert_eq!(rt; waiter.wait(&rt, &phaser), Ok(value));
-    let (reg, values) = waiter.into_parts();
-    let waiter = SumReceiver::new(reg, values);
-    let (two, three) = (
-        waiter.leave(&rt, alloc, &phaser),
-        late.leave(&rt, alloc, &phaser),
-    );
-    let both = joins(&phaser, one, two);
-    let Some(both) = both else {
+    let Some((phaser, mut founder)) = made_receiver(alloc, 2) else {
         panic!(rt; "there is memory")
     };
-    let all = joins(&phaser, both, three);
+    let Some(mut waiter) = registers(&rt, alloc, &phaser, &mut founder, Mode::Wait) else {
+        panic!(rt; "the founder holds a waiter")
+    };
+    let are_kept = go_on_twice(&rt, &phaser, &mut founder, &mut waiter);
+    let Some(mut late) = registers(&rt, alloc, &phaser, &mut founder, Mode::Wait) else {
+        panic!(rt; "the founder holds a waiter")
+    };
+    let is_ahead = signals_ahead(&rt, &phaser, &mut founder);
+    let one = founder.leave(&rt, alloc, &phaser);
+    let is_last = get_the_last(&rt, &phaser, &mut late, &mut waiter);
+    let two = made_anew(waiter).leave(&rt, alloc, &phaser);
+    let three = late.leave(&rt, alloc, &phaser);
+    let all = all_joined(&phaser, one, two, three);
     let Some(all) = all else {
         panic!(rt; "there is memory")
     };
     let (first, others) = all.lists();
-    assert_eq!(rt; first, [Outcome::Value(3), Outcome::Value(4)].as_slice());
-    assert_eq!(rt; others.len(), 2);
     let seen = [Outcome::Value(3), Outcome::Value(4), Outcome::Value(5)];
-    assert_eq!(rt; others[0].as_slice(), seen.as_slice());
-    assert_eq!(rt; others[1].as_slice(), [Outcome::Value(5)].as_slice());
+    let expected: [&[Outcome]; 3] = [&seen[..2], seen.as_slice(), &seen[2..]];
+    assert!(rt; are_lists(first, others, expected.as_slice()));
+    assert_eq!(rt; (are_kept, is_ahead, is_last), (true, true, true));
     Ok(())
 }
 
@@ -121,13 +214,14 @@ fn each_keeps_what_it_got(rt: HostRuntime) -> Result<(), Fail> {
 #[test]
 fn a_refused_wait_keeps_nothing(rt: HostRuntime) -> Result<(), Fail> {
     let alloc = rt.alloc();
-    let (phaser, founder) = Phaser::<Sum, NoRule>::make(alloc, Spec::new(2, 1000)?, NoRule)?;
-    let mut founder = SumReceiver::new(founder, Vec::new(alloc));
+    let Some((phaser, mut founder)) = made_receiver(alloc, 2) else {
+        panic!(rt; "there is memory")
+    };
     let early = founder.wait(&rt, &phaser);
-    assert!(rt; matches!(early, Err(ReceiveFault::Refused(_))));
-    assert_eq!(rt; founder.values().len(), 0);
+    let has_none = founder.values().is_empty();
     let (past, first, others) = founder.leave(&rt, alloc, &phaser).into_parts();
     drop(past);
-    assert_eq!(rt; (first.len(), others.len()), (0, 0));
+    assert!(rt; matches!(early, Err(ReceiveFault::Refused(_))));
+    assert_eq!(rt; (has_none, first.len(), others.len()), (true, 0, 0));
     Ok(())
 }

@@ -2,9 +2,12 @@
 ghost use Rattle.std.specs.Prelude.{◌≡◌, None, IfSome};
 ghost use Rattle.phase_shared.specs.Regs.{phaser_place};
 
-use crate::received::{SumReceipts, SumReceiver, joins, signals};
+use crate::calls::{left, made_with_child, registered};
+use crate::received::{
+    SumReceipts, SumReceiver, are_lists, joins, made_receiver, registers, signals,
+};
 use phase_accum::{Outcome, Sum};
-use phase_base::{Mode, Spec};
+use phase_base::Mode;
 use phase_core::Got;
 use phase_shared::{NoRule, Phaser, Reg};
 use std::alloc::Global;
@@ -88,18 +91,13 @@ fn stream<R: Threads + Wait + Sync>(
 
 #[test]
 fn two_threads(rt: HostRuntime) -> Result<(), Fail> {
-    let (phaser, mut founder) = Phaser::<Sum, NoRule>::make(
-        rt.alloc(),
-        Spec::new(1, 1000)?,
-        NoRule,
-    )?;
-    let Ok(sender) = founder.register(&rt, &phaser, Mode::Sig) else {
-        panic!(rt; "the founder holds a signaller")
+    let Some((phaser, mut founder, sender)) = made_with_child(&rt, rt.alloc(), 1, Mode::Sig) else {
+        panic!(rt; "the founder holds a signaller, and there is memory")
     };
-    let Ok(taker) = founder.register(&rt, &phaser, Mode::Wait) else {
+    let Some(taker) = registered(&phaser, &mut founder, Mode::Wait) else {
         panic!(rt; "the founder holds a waiter")
     };
-    let _past = founder.leave(&rt, &phaser);
+    left(&rt, &phaser, founder);
     assert_eq!(rt; stream(&rt, &phaser, sender, taker, 1000), (true, true));
     Ok(())
 }
@@ -227,34 +225,25 @@ fn take_three<R: Threads + Wait + Sync>(
     joins(phaser, one?, others?)
 }
 
-// Whether these are the lists.
-fn are_lists(first: &[Outcome], others: &[Vec<Outcome>], expected: &[&[Outcome]]) -> bool {
-    let mut wanted = expected.iter();
-    let mut all = others.len() + 1 == expected.len() && wanted.next() == Some(&first);
-    for (list, wanted) in others.iter().zip(wanted) {
-        all = all && list.as_slice() == *wanted;
-    }
-    all
-}
-
 // The lists are what the joined past says of the founder, the signaller, the waiter and the leaver.
 #[test]
 fn leave_mid_phase(rt: HostRuntime) -> Result<(), Fail> {
     let alloc = rt.alloc();
-    let (phaser, founder) = Phaser::<Sum, NoRule>::make(alloc, Spec::new(2, 1000)?, NoRule)?;
-    let mut founder = SumReceiver::new(founder, Vec::new(alloc));
-    let Ok(signaller) = founder.register(&rt, alloc, &phaser, Mode::Sig) else {
+    let Some((phaser, mut founder)) = made_receiver(alloc, 2) else {
+        panic!(rt; "there is memory")
+    };
+    let Some(signaller) = registers(&rt, alloc, &phaser, &mut founder, Mode::Sig) else {
         panic!(rt; "the founder holds a signaller")
     };
-    let Ok(waiter) = founder.register(&rt, alloc, &phaser, Mode::Wait) else {
+    let Some(waiter) = registers(&rt, alloc, &phaser, &mut founder, Mode::Wait) else {
         panic!(rt; "the founder holds a waiter")
     };
-    let Ok(leaver) = founder.register(&rt, alloc, &phaser, Mode::Sig) else {
+    let Some(leaver) = registers(&rt, alloc, &phaser, &mut founder, Mode::Sig) else {
         panic!(rt; "the founder holds a signaller")
     };
     let own = founder.leave(&rt, alloc, &phaser);
-    let receivers = (signaller, waiter, leaver);
     let parts = (Part::Signals(4), Part::Takes(4), Part::Sends(9));
+    let receivers = (signaller, waiter, leaver);
     let others = take_three(&rt, alloc, &phaser, receivers, parts);
     let Some(others) = others else {
         panic!(rt; "each does its part, and has memory")

@@ -2,6 +2,9 @@
 ghost use Rattle.std.specs.Prelude.{◌≡◌, IfSome};
 ghost use Rattle.phase_shared.specs.Regs.{phaser_place};
 
+use crate::calls::{
+    SumPhaser, SumReg, Turned, goes_on, left, made, made_with_child, registered, waited,
+};
 use phase_accum::{Outcome, Single, Sum};
 use phase_base::{Mode, Spec};
 use phase_core::{Got, RegisterRefusal, SignalRefusal, WaitRefusal};
@@ -86,18 +89,17 @@ fn leave_at_once(
     }
 }
 
-#[test]
-fn shared_refusals(rt: HostRuntime) -> Result<(), Fail> {
-    let (phaser, mut first) = Phaser::<Sum, NoRule>::make(rt.alloc(), Spec::new(2, 100)?, NoRule)?;
-    let Ok(mut second) = first.try_register(&phaser, Mode::Sig) else {
-        panic!(rt; "the founder is alone")
-    };
+// A child sends and signals, and its founder waits too early, and then in time.
+fn answers_in_turn(phaser: &SumPhaser, first: &mut SumReg, second: &mut SumReg) -> bool
+    requires first { first.old.at ≡ phaser_place phaser.now }
+    requires second { second.old.at ≡ phaser_place phaser.now }
+    ensures at { (first.new.at ≡ first.old.at) × (second.new.at ≡ second.old.at) }
+{
     let held = [
         (Call::Send(7), Answer::Held),
         (Call::Send(i64::MIN), Answer::NotHeld(SendRefusal::BadValue)),
         (Call::Signal, Answer::Joined(0)),
     ];
-    assert!(rt; are_answered(&phaser, &mut second, &held));
     let in_turn = [
         (
             Call::Wait,
@@ -106,7 +108,6 @@ fn shared_refusals(rt: HostRuntime) -> Result<(), Fail> {
         (Call::Signal, Answer::Joined(0)),
         (Call::Wait, value(0, 7)),
     ];
-    assert!(rt; are_answered(&phaser, &mut first, &in_turn));
     let ahead = [
         (Call::Signal, Answer::Joined(1)),
         (Call::Signal, Answer::Joined(2)),
@@ -115,46 +116,87 @@ fn shared_refusals(rt: HostRuntime) -> Result<(), Fail> {
             Answer::NotJoined(Tried::Refused(SignalRefusal::Ahead)),
         ),
     ];
-    assert!(rt; are_answered(&phaser, &mut second, &ahead));
+    let is_held = are_answered(phaser, second, &held);
+    let is_in_turn = are_answered(phaser, first, &in_turn);
+    let is_ahead = are_answered(phaser, second, &ahead);
+    is_held && is_in_turn && is_ahead
+}
 
-    let (mut first, second) = first.meet(&phaser, second);
-    assert_eq!(rt; (first.phase(), second.phase()), ((1, 1), (3, 0)));
-    assert_eq!(rt; (first.mode(), second.mode()), (Mode::Single, Mode::Sig));
-    let (has_left, past) = leave_at_once(&rt, &phaser, second);
-    assert!(rt; has_left);
+// Where a registration stands, and its mode.
+fn standing(reg: &SumReg) -> ((u64, u64), Mode) {
+    (reg.phase(), reg.mode())
+}
+
+// The same two, which have met.
+fn met(phaser: &SumPhaser, first: SumReg, second: SumReg) -> (SumReg, SumReg)
+    requires { (first.at ≡ phaser_place phaser.now) × (second.at ≡ phaser_place phaser.now) }
+    ensures { (result.0.at ≡ first.at) × (result.1.at ≡ second.at) }
+{
+    first.meet(phaser, second)
+}
+
+#[test]
+fn shared_refusals(rt: HostRuntime) -> Result<(), Fail> {
+    let Some((phaser, mut first, mut second)) = made_with_child(&rt, rt.alloc(), 2, Mode::Sig)
+    else {
+        panic!(rt; "the founder is alone, and there is memory")
+    };
+    let are_in_turn = answers_in_turn(&phaser, &mut first, &mut second);
+    let (mut first, second) = met(&phaser, first, second);
+    let stood = (standing(&first), standing(&second));
+    let (second_has_left, past) = leave_at_once(&rt, &phaser, second);
     let alone = [(Call::Signal, Answer::Joined(1)), (Call::Wait, value(1, 0))];
-    assert!(rt; are_answered(&phaser, &mut first, &alone));
-    let (has_left, last) = leave_at_once(&rt, &phaser, first);
-    assert!(rt; has_left);
+    let are_alone = are_answered(&phaser, &mut first, &alone);
+    let (first_has_left, last) = leave_at_once(&rt, &phaser, first);
     let _both = past.join(&phaser, last);
+    assert_eq!(rt; (are_in_turn, are_alone), (true, true));
+    assert_eq!(rt; stood, (((1, 1), Mode::Single), ((3, 0), Mode::Sig)));
+    assert_eq!(rt; (second_has_left, first_has_left), (true, true));
     Ok(())
+}
+
+// Why a child that signals is refused, where it is.
+fn signaller_refused<R: Wait>(
+    rt: &R,
+    phaser: &SumPhaser,
+    parent: &mut SumReg,
+) -> Option<Tried<RegisterRefusal>>
+    requires { parent.old.at ≡ phaser_place phaser.now }
+    ensures { parent.new.at ≡ parent.old.at }
+{
+    match parent.try_register(phaser, Mode::Sig) {
+        Ok(child) => {
+            left(rt, phaser, child);
+            None
+        }
+        Err(tried) => Some(tried),
+    }
+}
+
+// Sends a value, and tells what is held then.
+fn held_after(reg: &mut SumReg, value: i64) -> (Result<(), SendRefusal>, u64)
+    ensures { reg.new.at ≡ reg.old.at }
+{
+    let sent = reg.send(value);
+    (sent, reg.pending())
 }
 
 #[test]
 fn a_waiter_sends_nothing_and_has_no_signaller(rt: HostRuntime) -> Result<(), Fail> {
-    let (phaser, mut founder) = Phaser::<Sum, NoRule>::make(
-        rt.alloc(),
-        Spec::new(2, 100)?,
-        NoRule,
-    )?;
-    let Ok(mut waiter) = founder.try_register(&phaser, Mode::Wait) else {
-        panic!(rt; "the founder is alone")
+    let Some((phaser, mut founder, mut waiter)) = made_with_child(&rt, rt.alloc(), 2, Mode::Wait)
+    else {
+        panic!(rt; "the founder is alone, and there is memory")
     };
-    let refused = match waiter.try_register(&phaser, Mode::Sig) {
-        Ok(child) => {
-            let _past = child.leave(&rt, &phaser);
-            None
-        }
-        Err(tried) => Some(tried),
-    };
+    let refused = signaller_refused(&rt, &phaser, &mut waiter);
+    let of_waiter = held_after(&mut waiter, 5);
+    let of_founder = held_after(&mut founder, 5);
+    left(&rt, &phaser, founder);
+    let got = waited(&phaser, &mut waiter);
+    left(&rt, &phaser, waiter);
     assert_eq!(rt; refused, Some(Tried::Refused(RegisterRefusal::NotAllowed)));
-    assert_eq!(rt; waiter.send(5), Err(SendRefusal::NoSignal));
-    assert_eq!(rt; waiter.pending(), 0);
-    assert_eq!(rt; founder.send(5), Ok(()));
-    assert_eq!(rt; founder.pending(), 1);
-    let _past = founder.leave(&rt, &phaser);
-    assert_eq!(rt; waiter.try_wait(&phaser), Ok(Got::Ended));
-    let _past = waiter.leave(&rt, &phaser);
+    assert_eq!(rt; of_waiter, (Err(SendRefusal::NoSignal), 0));
+    assert_eq!(rt; of_founder, (Ok(()), 1));
+    assert_eq!(rt; got, Ok(Got::Ended));
     Ok(())
 }
 
@@ -187,31 +229,53 @@ fn turned(phase: u64, value: i64) -> Result<Next, SignalRefusal> {
     })
 }
 
+// The founder sends 5 and goes on twice.
+fn goes_on_alone<R: Wait>(
+    rt: &R,
+    phaser: &SumPhaser,
+    founder: &mut SumReg,
+) -> (bool, Turned, Turned)
+    requires { founder.old.at ≡ phaser_place phaser.now }
+    ensures { founder.new.at ≡ founder.old.at }
+{
+    let is_held = founder.send(5).is_ok();
+    let first = goes_on(rt, phaser, founder, None);
+    (is_held, first, goes_on(rt, phaser, founder, None))
+}
+
+// The signaller goes on, and then the waiter, with a single and without.
+fn go_on_apart<R: Wait>(
+    rt: &R,
+    phaser: &SumPhaser,
+    signaller: &mut SumReg,
+    waiter: &mut SumReg,
+) -> (Turned, Turned, Turned)
+    requires signaller { signaller.old.at ≡ phaser_place phaser.now }
+    requires waiter { waiter.old.at ≡ phaser_place phaser.now }
+    ensures at { (signaller.new.at ≡ signaller.old.at) × (waiter.new.at ≡ waiter.old.at) }
+{
+    let alone = goes_on(rt, phaser, signaller, None);
+    let refused = goes_on(rt, phaser, waiter, Some(Single::Abs));
+    (alone, refused, goes_on(rt, phaser, waiter, None))
+}
+
 #[test]
 fn a_founder_alone_goes_on_by_itself(rt: HostRuntime) -> Result<(), Fail> {
-    let (phaser, mut founder) = Phaser::<Sum, NoRule>::make(
-        rt.alloc(),
-        Spec::new(1, 1000)?,
-        NoRule,
-    )?;
-    let is_held = founder.send(5).is_ok();
-    let first = founder.next(&rt, &phaser, None);
-    let second = founder.next(&rt, &phaser, None);
-    let Ok(mut waiter) = founder.register(&rt, &phaser, Mode::Wait) else {
+    let Some((phaser, mut founder)) = made(rt.alloc(), 1) else {
+        panic!(rt; "there is memory")
+    };
+    let turned_alone = goes_on_alone(&rt, &phaser, &mut founder);
+    let Some(mut waiter) = registered(&phaser, &mut founder, Mode::Wait) else {
         panic!(rt; "the founder holds a waiter")
     };
-    let Ok(mut signaller) = founder.register(&rt, &phaser, Mode::Sig) else {
+    let Some(mut signaller) = registered(&phaser, &mut founder, Mode::Sig) else {
         panic!(rt; "the founder holds a signaller")
     };
-    let _past = founder.leave(&rt, &phaser);
-    let alone = signaller.next(&rt, &phaser, None);
-    let refused = waiter.next(&rt, &phaser, Some(Single::Abs));
-    let got = waiter.next(&rt, &phaser, None);
-    let _past = signaller.leave(&rt, &phaser);
-    let _past = waiter.leave(&rt, &phaser);
-    assert!(rt; is_held);
-    assert_eq!(rt; first, turned(0, 5));
-    assert_eq!(rt; second, turned(1, 0));
+    left(&rt, &phaser, founder);
+    let (alone, refused, got) = go_on_apart(&rt, &phaser, &mut signaller, &mut waiter);
+    left(&rt, &phaser, signaller);
+    left(&rt, &phaser, waiter);
+    assert_eq!(rt; turned_alone, (true, turned(0, 5), turned(1, 0)));
     let signalled = Some(2);
     assert_eq!(rt;
         alone,
@@ -277,13 +341,11 @@ fn are_registered<R: Wait>(
 // Where one allocation is refused, the same call can be made again.
 #[test]
 fn twenty_registrations(rt: HostRuntime) -> Result<(), Fail> {
-    let (phaser, mut founder) = Phaser::<Sum, NoRule>::make(
-        rt.alloc(),
-        Spec::new(2, 100)?,
-        NoRule,
-    )?;
+    let Some((phaser, mut founder)) = made(rt.alloc(), 2) else {
+        panic!(rt; "there is memory")
+    };
     let all = are_registered(&rt, &phaser, &mut founder, 20);
-    let _past = founder.leave(&rt, &phaser);
+    left(&rt, &phaser, founder);
     assert!(rt; all);
     Ok(())
 }
