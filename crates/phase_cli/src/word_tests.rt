@@ -241,10 +241,10 @@ fn words_are_answered(rt: HostRuntime) -> Result<(), Fail> {
     Ok(())
 }
 
-#[test]
-fn the_example_in_help_is_answered_so(rt: HostRuntime) -> Result<(), Fail> {
-    let mut script = String::new(rt.alloc());
-    let mut replies = String::new(rt.alloc());
+/// The script of the example in the help text, and its replies.
+fn example_of_help(alloc: Global) -> Result<(String, String), Fail> {
+    let mut script = String::new(alloc);
+    let mut replies = String::new(alloc);
     for line in HELP.lines() {
         // The example's lines alone have three columns.
         let mut columns = line
@@ -260,13 +260,21 @@ fn the_example_in_help_is_answered_so(rt: HostRuntime) -> Result<(), Fail> {
         replies.push_str(reply)?;
         replies.push_str("\n")?;
     }
-    assert_eq!(rt;
-        script.as_str(),
-        "make sum 2 100\nadd 0 1 sig\nsend 0 3\nsend 1 4\nsignal 1\nsignal 0\nwait 0\n"
-    );
-    assert_eq!(rt; replies.as_str(), "ok\nok\nok\nok\nok 0\nok 0\nvalue 0 7\n");
-    let done = run(rt.alloc(), ["replay"].as_slice(), script.as_bytes())?;
-    assert!(rt; done.is_end(0, replies.as_str(), ""));
+    Ok((script, replies))
+}
+
+const EXAMPLE: &str =
+    "make sum 2 100\nadd 0 1 sig\nsend 0 3\nsend 1 4\nsignal 1\nsignal 0\nwait 0\n";
+
+const ITS_REPLIES: &str = "ok\nok\nok\nok\nok 0\nok 0\nvalue 0 7\n";
+
+#[test]
+fn the_example_in_help_is_answered_so(rt: HostRuntime) -> Result<(), Fail> {
+    let (script, replies) = example_of_help(rt.alloc())?;
+    let is_so = script.as_str() == EXAMPLE && replies.as_str() == ITS_REPLIES;
+    assert!(rt; is_so, "{script} {replies}");
+    let done = run(rt.alloc(), ["replay"].as_slice(), EXAMPLE.as_bytes())?;
+    assert!(rt; done.is_end(0, ITS_REPLIES, ""));
     Ok(())
 }
 

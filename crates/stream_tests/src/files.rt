@@ -24,15 +24,51 @@ impl Files for TwoFiles {
     }
 }
 
+/// Names of files, each with its samples or its fault.
+const NAMES: [(&str, Result<&[i64], SampleFault>); 3] = [
+    ("ramp.csv", Ok(&[1, -2, 3])),
+    ("notes.csv", Err(SampleFault::BadSample { number: 3 })),
+    ("other.csv", Err(SampleFault::ReadFault)),
+];
+
+/// Whether a file has these samples, or this fault.
+fn has_samples<F: Files>(
+    alloc: Global,
+    files: &mut F,
+    name: &str,
+    wanted: Result<&[i64], SampleFault>,
+) -> bool {
+    match (read_sample_file(alloc, files, name), wanted) {
+        (Ok(found), Ok(samples)) => found.as_slice() == samples,
+        (Err(found), Err(fault)) => found == fault,
+        _ => false,
+    }
+}
+
 #[test]
 fn samples_are_read_by_the_name_of_their_file(rt: HostRuntime) -> Result<(), Fail> {
-    let ramp = read_sample_file(rt.alloc(), &mut TwoFiles, "ramp.csv")?;
-    assert_eq!(rt; ramp.as_slice(), [1, -2, 3].as_slice());
-    let notes = read_sample_file(rt.alloc(), &mut TwoFiles, "notes.csv").map(|v| v.len());
-    assert!(rt; notes == Err(SampleFault::BadSample { number: 3 }));
-    let other = read_sample_file(rt.alloc(), &mut TwoFiles, "other.csv").map(|v| v.len());
-    assert!(rt; other == Err(SampleFault::ReadFault));
+    for (name, wanted) in &NAMES {
+        assert!(rt;
+            has_samples(rt.alloc(), &mut TwoFiles, name, *wanted),
+            "{name}"
+        );
+    }
     Ok(())
+}
+
+/// Whether a file of at most `limit` bytes has this text, or is refused.
+fn has_text<F: Files>(
+    alloc: Global,
+    files: &mut F,
+    name: &str,
+    limit: usize,
+    wanted: Option<&[u8]>,
+) -> bool {
+    match (files.read(alloc, name, limit), wanted) {
+        (Ok(found), Some(text)) => found.as_slice() == text,
+        (Err(fault), None) => fault == FileFault::ReadFault,
+        _ => false,
+    }
 }
 
 #[test]
@@ -40,17 +76,14 @@ fn a_file_of_the_disk_is_read_within_its_limit(rt: HostRuntime) -> Result<(), Fa
     let name = "a_file_of_five_bytes.csv";
     fs::write(&rt, name, "1\n-2\n")?;
     let mut files = DiskFiles::new(&rt);
-    let whole = files.read(rt.alloc(), name, 5);
-    let long = files.read(rt.alloc(), name, 4).map(|text| text.len());
-    let samples = read_sample_file(rt.alloc(), &mut files, name);
+    let is_whole = has_text(rt.alloc(), &mut files, name, 5, Some(b"1\n-2\n"));
+    let is_long = has_text(rt.alloc(), &mut files, name, 4, None);
+    let has_samples = has_samples(rt.alloc(), &mut files, name, Ok(&[1, -2]));
     fs::remove_file(&rt, name)?;
-    let gone = files.read(rt.alloc(), name, 5).map(|text| text.len());
-    let folder = files.read(rt.alloc(), ".", 5).map(|text| text.len());
-    assert_eq!(rt; whole?.as_slice(), b"1\n-2\n".as_slice());
-    assert_eq!(rt; samples?.as_slice(), [1, -2].as_slice());
-    assert!(rt; long == Err(FileFault::ReadFault));
-    assert!(rt; gone == Err(FileFault::ReadFault));
-    assert!(rt; folder == Err(FileFault::ReadFault));
+    let is_gone = has_text(rt.alloc(), &mut files, name, 5, None);
+    let is_folder = has_text(rt.alloc(), &mut files, ".", 5, None);
+    assert_eq!(rt; (is_whole, is_long, has_samples), (true, true, true));
+    assert_eq!(rt; (is_gone, is_folder), (true, true));
     Ok(())
 }
 

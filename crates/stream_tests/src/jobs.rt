@@ -185,19 +185,26 @@ fn steps_of(job: &Job, t: usize) -> Option<u128> {
     None
 }
 
-#[test]
-fn a_job_is_made_of_lists_that_no_memory_holds(rt: HostRuntime) -> Result<(), Fail> {
-    let graph = joiners_of_joiners(rt.alloc())?;
-    let mut samples = String::new(rt.alloc());
+/// The job of that graph, with a thousand samples for each source.
+fn large_job(alloc: Global) -> Result<Job, Fail> {
+    let graph = joiners_of_joiners(alloc)?;
+    let mut samples = String::new(alloc);
     for _ in 0..1000 {
         samples.push_str("1\n")?;
     }
     let list = samples.as_str();
-    let job = job_of(rt.alloc(), graph.as_str(), &[list, list, list])??;
-    assert_eq!(rt; (job.graph().phasers(), job.graph().tasks()), (63, 63));
-    assert_eq!(rt; length_of(&job, 2), Some(1000));
-    assert_eq!(rt; length_of(&job, 3), Some(3000));
-    assert_eq!(rt; length_of(&job, 62), Some(3_486_784_401_000));
-    assert_eq!(rt; steps_of(&job, 62), Some(3_486_784_401_000));
+    Ok(job_of(alloc, graph.as_str(), &[list, list, list])??)
+}
+
+#[test]
+fn a_job_is_made_of_lists_that_no_memory_holds(rt: HostRuntime) -> Result<(), Fail> {
+    let job = large_job(rt.alloc())?;
+    let counts = (job.graph().phasers(), job.graph().tasks());
+    let lengths = (length_of(&job, 2), length_of(&job, 3), length_of(&job, 62));
+    let steps = steps_of(&job, 62);
+    drop(job);
+    assert_eq!(rt; counts, (63, 63));
+    assert_eq!(rt; lengths, (Some(1000), Some(3000), Some(3_486_784_401_000)));
+    assert_eq!(rt; steps, Some(3_486_784_401_000));
     Ok(())
 }

@@ -1,6 +1,7 @@
 //! Texts with the samples that they hold, or with the number of their first bad record.
 
 use sample_text::{SampleFault, read_samples, samples_of};
+use std::alloc::Global;
 use std::io;
 use std::io::Read;
 use std::test::Fail;
@@ -98,52 +99,72 @@ fn is_so(found: Result<Vec<i64>, SampleFault>, wanted: Result<&[i64], usize>) ->
     }
 }
 
+/// How many bytes a read gave where something else was found, 0 for a whole text.
+fn first_wrong(alloc: Global, text: &str, wanted: Result<&[i64], usize>) -> Option<usize> {
+    if !is_so(samples_of(alloc, text.as_bytes()), wanted) {
+        return Some(0);
+    }
+    for size in [1, 3, 65536] {
+        let mut pieces = pieces_of(text.as_bytes(), size);
+        if !is_so(read_samples(alloc, &mut pieces), wanted) {
+            return Some(size);
+        }
+    }
+    None
+}
+
 #[test]
 fn a_text_has_its_samples_or_its_first_bad_record(rt: HostRuntime) -> Result<(), Fail> {
     for case in &CASES {
         for (text, wanted) in case.texts {
-            let found = samples_of(rt.alloc(), text.as_bytes());
-            assert!(rt; is_so(found, *wanted), "{}: {text:?}", case.name);
-            for size in [1, 3, 65536] {
-                let found = read_samples(rt.alloc(), &mut pieces_of(text.as_bytes(), size));
-                assert!(rt;
-                    is_so(found, *wanted),
-                    "{}: {text:?}, {size} bytes a read",
-                    case.name
-                );
-            }
+            let wrong = first_wrong(rt.alloc(), text, *wanted);
+            assert_eq!(rt; wrong, None, "{}: {text:?}", case.name);
         }
     }
     Ok(())
 }
 
+/// What is found in five bytes, one a read, where a read fails, and whether the reader tells that.
+fn read_failing_at(alloc: Global, fails_at: usize) -> (Result<usize, SampleFault>, bool) {
+    let mut reader = Watched::new(Pieces {
+        rest: b"1\nx\n2",
+        size: 1,
+        reads: 0,
+        fails_at,
+    });
+    match read_samples(alloc, &mut reader) {
+        Ok(values) => (Ok(values.len()), reader.has_failed()),
+        Err(fault) => (Err(fault), reader.has_failed()),
+    }
+}
+
 #[test]
 fn a_read_that_fails_is_the_answer(rt: HostRuntime) -> Result<(), Fail> {
-    // Five bytes, one a read, and a sixth read for the end.
+    // A sixth read is for the end.
     for fails_at in 0..8 {
-        let mut reader = Watched::new(Pieces {
-            rest: b"1\nx\n2",
-            size: 1,
-            reads: 0,
-            fails_at,
-        });
-        let found = read_samples(rt.alloc(), &mut reader).map(|values| values.len());
         let fault = if fails_at < 6 {
             SampleFault::ReadFault
         } else {
             SampleFault::BadSample { number: 2 }
         };
-        assert!(rt; found == Err(fault));
-        assert_eq!(rt; reader.has_failed(), fails_at < 6);
+        let found = read_failing_at(rt.alloc(), fails_at);
+        assert!(rt; found == (Err(fault), fails_at < 6), "{fails_at}");
     }
     Ok(())
 }
 
+/// Whether a text is read as it is within five bytes, or is refused.
+fn is_read_within_five(alloc: Global, text: &[u8], is_whole: bool) -> bool {
+    let mut pieces = pieces_of(text, 2);
+    match read_text(alloc, &mut pieces, 5) {
+        Ok(found) => is_whole && found.as_slice() == text,
+        Err(fault) => !is_whole && fault == FileFault::ReadFault,
+    }
+}
+
 #[test]
 fn a_byte_past_the_limit_is_a_fault(rt: HostRuntime) -> Result<(), Fail> {
-    let text = read_text(rt.alloc(), &mut pieces_of(b"12345", 2), 5)?;
-    assert_eq!(rt; text.as_slice(), b"12345".as_slice());
-    let found = read_text(rt.alloc(), &mut pieces_of(b"123456", 2), 5);
-    assert!(rt; found.map(|text| text.len()) == Err(FileFault::ReadFault));
+    assert!(rt; is_read_within_five(rt.alloc(), b"12345", true));
+    assert!(rt; is_read_within_five(rt.alloc(), b"123456", false));
     Ok(())
 }

@@ -24,18 +24,26 @@ impl Read for Hiccup {
     }
 }
 
+/// A read, whether one has failed by then, and the bytes that were counted.
+fn read_once(
+    reader: &mut Watched<Hiccup>,
+    piece: &mut [u8],
+) -> (Result<usize, ReadFailed>, bool, u64) {
+    let read = reader.read(piece);
+    (read, reader.has_failed(), reader.count())
+}
+
 #[test]
 fn a_failed_read_is_not_tried_again(rt: HostRuntime) -> Result<(), Fail> {
     let mut reader = Watched::new(Hiccup { reads: 0 });
     let mut piece = [0u8; 4];
-    assert_eq!(rt; reader.read(piece.as_mut_slice()), Err(ReadFailed));
-    assert!(rt; reader.has_failed());
-    assert_eq!(rt; reader.count(), 0);
-    assert_eq!(rt; reader.read(piece.as_mut_slice()), Ok(1));
+    let first = read_once(&mut reader, piece.as_mut_slice());
+    let second = read_once(&mut reader, piece.as_mut_slice());
+    let reads = reader.into_inner().reads;
+    assert_eq!(rt; first, (Err(ReadFailed), true, 0));
+    assert_eq!(rt; second, (Ok(1), true, 1));
     assert_eq!(rt; piece.as_slice(), b"x\0\0\0".as_slice());
-    assert!(rt; reader.has_failed());
-    assert_eq!(rt; reader.count(), 1);
-    assert_eq!(rt; reader.into_inner().reads, 2);
+    assert_eq!(rt; reads, 2);
     Ok(())
 }
 
@@ -95,6 +103,15 @@ fn counting_but(once: Once) -> Counting {
     }
 }
 
+/// What is answered where one thing goes wrong, and the writes and flushes by then.
+fn send_but(once: Once) -> ((Result<(), WriteFailed>, bool), (usize, usize)) {
+    let mut writer = Watched::new(counting_but(once));
+    let sent = writer.send(b"abc");
+    let has_failed = writer.has_failed();
+    let inner = writer.into_inner();
+    ((sent, has_failed), (inner.writes, inner.flushes))
+}
+
 #[test]
 fn a_failed_write_or_flush_is_not_tried_again(rt: HostRuntime) -> Result<(), Fail> {
     for (once, writes, flushes) in [
@@ -102,29 +119,26 @@ fn a_failed_write_or_flush_is_not_tried_again(rt: HostRuntime) -> Result<(), Fai
         (Once::WriteTakesNothing, 1, 0),
         (Once::FlushFails, 1, 1),
     ] {
-        let mut writer = Watched::new(counting_but(once));
-        assert_eq!(rt; writer.send(b"abc"), Err(WriteFailed), "{once:?}");
-        assert!(rt; writer.has_failed(), "{once:?}");
-        let inner = writer.into_inner();
-        assert_eq!(rt; inner.writes, writes, "{once:?}");
-        assert_eq!(rt; inner.flushes, flushes, "{once:?}");
+        let wanted = ((Err(WriteFailed), true), (writes, flushes));
+        assert_eq!(rt; send_but(once), wanted, "{once:?}");
     }
     Ok(())
+}
+
+/// What is answered, and what was flushed, by how many calls.
+fn send_well(bytes: &[u8]) -> (Result<(), WriteFailed>, (usize, usize)) {
+    let mut writer = Watched::new(counting_but(Once::Nothing));
+    let sent = writer.send(bytes);
+    let inner = writer.into_inner();
+    (sent, (inner.flushed, inner.flushes))
 }
 
 #[test]
 fn what_is_sent_is_flushed(rt: HostRuntime) -> Result<(), Fail> {
     let bytes = vec![in rt.alloc(); b'x'; 1_000_000]?;
     for size in [0usize, 1, 65_535, 65_536, 65_537, 1_000_000] {
-        let mut writer = Watched::new(counting_but(Once::Nothing));
-        assert_eq!(rt;
-            writer.send(&bytes[..size.min(bytes.len())]),
-            Ok(()),
-            "{size}"
-        );
-        let inner = writer.into_inner();
-        assert_eq!(rt; inner.flushed, size, "{size}");
-        assert_eq!(rt; inner.flushes, 1, "{size}");
+        let sent = send_well(&bytes[..size.min(bytes.len())]);
+        assert_eq!(rt; sent, (Ok(()), (size, 1)), "{size}");
     }
     Ok(())
 }
