@@ -1,8 +1,8 @@
 //! A run of the program over any input and outputs.
-ghost use Rattle.std.specs.Prelude.{◌≡◌, ◌⊎◌};
+ghost use Rattle.std.specs.Prelude.{◌≡◌, ◌⊎◌, option_map};
 ghost use Rattle.phase_cli.specs.Ends.{AnswerEnds, AnswerStops, EndsAs, IsUnbegun};
 ghost use Rattle.phase_cli.specs.Ends.{LeavesAlone, MayEnd, MayEndAs};
-ghost use Rattle.phase_cli.specs.Inside.{IsAnswer, LeavesBy};
+ghost use Rattle.phase_cli.specs.Inside.{CheckEndsBy, EvalEndsBy, IsAnswer, LeavesBy};
 ghost use Rattle.replay_command.specs.Replays.{ReplayEnds};
 ghost use Rattle.phase_words.specs.CommandLine.{AreTaken, AskReplay, Asked, Asks, asked_of};
 ghost use Rattle.phase_words.specs.CommandLine.{graph_asked, texts};
@@ -89,25 +89,56 @@ fn run_call<R: Read, W: Write, E: Write, F: Files + Refuses>(
 {
     match call {
         Call::Replay => replay_and_report(alloc, input, output, faults),
-        Call::Check {
-            graph,
-            explain: Explain::No,
-        } => check_and_report(alloc, graph, output, faults, files),
-        Call::Check {
-            graph,
-            explain: Explain::Yes,
-        } => check_and_explain(alloc, graph, output, faults, files),
+        Call::Check { graph, explain } => run_check(alloc, graph, explain, output, faults, files),
         Call::Eval {
             graph,
             sink,
-            explain: Explain::No,
-        } => eval_and_report(alloc, graph, sink, output, faults, files),
-        Call::Eval {
-            graph,
-            sink,
-            explain: Explain::Yes,
-        } => eval_and_explain(alloc, graph, sink, output, faults, files),
+            explain,
+        } => run_eval(alloc, graph, sink, explain, output, faults, files),
         Call::Draw(graph) => draw_and_report(alloc, graph, output, faults, files),
+    }
+}
+
+/// Checks a graph, and explains a fault where that is asked for.
+fn run_check<W: Write, E: Write, F: Files + Refuses>(
+    alloc: Global,
+    graph: &str,
+    explain: Explain,
+    output: &mut Watched<W>,
+    faults: &mut Watched<E>,
+    files: &mut F,
+) -> u8
+    ensures status { (result ≡ 0) ⊎ ((result ≡ 1) ⊎ (result ≡ 5)) }
+    ensures ends { CheckEndsBy explain (F.file files.old) graph.now result W.contents
+        output.old output.new
+        (writer_state E.contents faults.old) (writer_state E.contents faults.new) }
+    ensures quiet { result ≡ 0 → faults.new ≡ faults.old }
+{
+    match explain {
+        Explain::No => check_and_report(alloc, graph, output, faults, files),
+        Explain::Yes => check_and_explain(alloc, graph, output, faults, files),
+    }
+}
+
+/// Evaluates a graph, and explains a fault where that is asked for.
+fn run_eval<W: Write, E: Write, F: Files + Refuses>(
+    alloc: Global,
+    graph: &str,
+    sink: Option<&str>,
+    explain: Explain,
+    output: &mut Watched<W>,
+    faults: &mut Watched<E>,
+    files: &mut F,
+) -> u8
+    ensures status { (result ≡ 0) ⊎ ((result ≡ 1) ⊎ ((result ≡ 3) ⊎ (result ≡ 5))) }
+    ensures ends { EvalEndsBy explain (F.file files.old) graph.now
+        (option_map (λ s. s.now) sink.entry) result W.contents output.old output.new
+        (writer_state E.contents faults.old) (writer_state E.contents faults.new) }
+    ensures quiet { result ≡ 0 → faults.new ≡ faults.old }
+{
+    match explain {
+        Explain::No => eval_and_report(alloc, graph, sink, output, faults, files),
+        Explain::Yes => eval_and_explain(alloc, graph, sink, output, faults, files),
     }
 }
 

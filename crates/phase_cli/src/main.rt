@@ -3,17 +3,7 @@
 #![tactic(auto)]
 
 mod cli;
-#[cfg(test)]
-mod explain_tests;
-#[cfg(test)]
-mod file_tests;
-#[cfg(test)]
-mod graph_tests;
 mod laws;
-#[cfg(test)]
-mod tests;
-#[cfg(test)]
-mod word_tests;
 
 use cli::run_cli;
 use graph_commands::TellingFiles;

@@ -3,8 +3,6 @@
 
 mod cli;
 mod laws;
-#[cfg(test)]
-mod tests;
 
 use cli::run_cli;
 use graph_commands::TellingFiles;

@@ -2,7 +2,5 @@
 #![tactic(auto)]
 
 mod replayed;
-#[cfg(test)]
-mod tests;
 
 pub use replayed::replay_and_report;

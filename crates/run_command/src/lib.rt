@@ -9,7 +9,5 @@
 #![tactic(auto)]
 
 mod graph_run;
-#[cfg(test)]
-mod tests;
 
 pub use graph_run::{run_and_explain, run_and_report};
