@@ -1,11 +1,14 @@
 -- What words ask for, and which statuses may come.
-use Rattle.std.proofs.Common.{◌≡◌, ◌≢◌, ◌⊎◌, inl, inr, ℕ, List, refl, sym, ◌∙◌, subst, arith}
+use Rattle.std.proofs.Common.{◌≡◌, ◌≢◌, ◌⊎◌, inl, inr, ℕ, List, Some, option_map, refl, sym, ◌∙◌, subst, arith}
 use Rattle.phase_cli.specs.Ends.{IsStatus, LeavesAlone, MayEnd, MayEndAs}
 use Rattle.phase_cli.specs.Inside.{IsAnswer, LeavesBy}
 use Rattle.phase_status.specs.Statuses.{Reports}
 use Rattle.phase_words.proofs.NoCalls.{asked-help-not-taken, asked-version-not-taken, refusal-not-help, refusal-not-taken, refusal-not-version, shown-not-taken, taken-or-not}
-use Rattle.phase_words.specs.CommandLine.{AreRefused, AreTaken, Asked, Asks, AskGraph, AskHelp, AskVersion, IsNoCall, asked_in, check, check_explained, draw, eval, eval_explained, graph_asked, replay}
+use Rattle.phase_words.specs.CommandLine.{AreRefused, AreTaken, Asked, Asks, AskGraph, AskHelp, AskVersion, IsNoCall, asked_in, asked_of, check, check_explained, draw, eval, eval_explained, graph_asked, replay}
+use Rattle.phase_words.specs.declared.call.Call.{Call}
+use Rattle.phase_words.specs.declared.call.Explain.TheVariants.{No, Yes}
 use Rattle.phase_words.specs.declared.call.NoCall.{NoCall}
+use Rattle.phase_words.specs.declared.call.Call.TheVariants as call
 use Rattle.phase_words.specs.declared.call.NoCall.TheVariants as no_call
 use Rattle.watched_io.specs.States.{WriterState}
 use Rattle.watched_io.specs.declared.fault.IoFault.TheVariants.{OutOfMemory}
@@ -18,30 +21,34 @@ pub asks-one : (words : List (List ℕ)) (one other : Asked) → Asks words one 
 asks-one words one other p q = sym p.command ∙ q.command
 
 -- a replay alone reads the input, and what goes by a graph alone opens files
-pub leaves-asked : {R F : Type 0} (words : List (List ℕ)) (what : Asked) (input rest : Watched R) (closed files : F)
-    → Asks words what → LeavesBy (graph_asked what) input rest closed files → LeavesAlone words input rest closed files
-leaves-asked words what input rest closed files asks leaves = record {
-  unread = λ other. unread-by what asks leaves other;
-  unopened = λ other. unopened-by what asks leaves other;
+pub leaves-asked : {R F : Type 0} (words : List (List ℕ)) (asked : Call) (input rest : Watched R) (closed files : F)
+    → Asks words (asked_of asked) → LeavesBy asked input rest closed files → LeavesAlone words input rest closed files
+leaves-asked words asked input rest closed files asks leaves = record {
+  unread = λ other. unread-by asked asks leaves other;
+  unopened = λ other. unopened-by asked asks leaves other;
 }
   where
-    unread-by : (what : Asked) → Asks words what → LeavesBy (graph_asked what) input rest closed files
+    unread-by : (asked : Call) → Asks words (asked_of asked) → LeavesBy asked input rest closed files
         → (Asks words replay → ⊥) → rest ≡ input
-    unread-by replay asks leaves other = absurd (other asks)
-    unread-by (check name) asks leaves other = leaves
-    unread-by (eval name sink) asks leaves other = leaves
-    unread-by (draw name) asks leaves other = leaves
-    unread-by (check_explained name) asks leaves other = leaves
-    unread-by (eval_explained name sink) asks leaves other = leaves
+    unread-by call.Replay asks leaves other = absurd (other asks)
+    unread-by (call.Check graph explain) asks leaves other = leaves
+    unread-by (call.Eval graph sink explain) asks leaves other = leaves
+    unread-by (call.Draw graph) asks leaves other = leaves
 
-    unopened-by : (what : Asked) → Asks words what → LeavesBy (graph_asked what) input rest closed files
+    opens : (what : Asked) (name : List ℕ) → Asks words what → graph_asked what ≡ Some name
         → ((name : List ℕ) → AskGraph words name → ⊥) → files ≡ closed
-    unopened-by replay asks leaves other = leaves
-    unopened-by (check name) asks leaves other = absurd (other name (record { what = check name; asks = asks; named = refl }))
-    unopened-by (eval name sink) asks leaves other = absurd (other name (record { what = eval name sink; asks = asks; named = refl }))
-    unopened-by (draw name) asks leaves other = absurd (other name (record { what = draw name; asks = asks; named = refl }))
-    unopened-by (check_explained name) asks leaves other = absurd (other name (record { what = check_explained name; asks = asks; named = refl }))
-    unopened-by (eval_explained name sink) asks leaves other = absurd (other name (record { what = eval_explained name sink; asks = asks; named = refl }))
+    opens what name asks named other = absurd (other name (record { what = what; asks = asks; named = named }))
+
+    unopened-by : (asked : Call) → Asks words (asked_of asked) → LeavesBy asked input rest closed files
+        → ((name : List ℕ) → AskGraph words name → ⊥) → files ≡ closed
+    unopened-by call.Replay asks leaves other = leaves
+    unopened-by (call.Check graph No) asks leaves other = opens (check graph.now) graph.now asks refl other
+    unopened-by (call.Check graph Yes) asks leaves other = opens (check_explained graph.now) graph.now asks refl other
+    unopened-by (call.Eval graph sink No) asks leaves other =
+        opens (eval graph.now (option_map (λ s. s.now) sink)) graph.now asks refl other
+    unopened-by (call.Eval graph sink Yes) asks leaves other =
+        opens (eval_explained graph.now (option_map (λ s. s.now) sink)) graph.now asks refl other
+    unopened-by (call.Draw graph) asks leaves other = opens (draw graph.now) graph.now asks refl other
 
 -- ---- statuses
 

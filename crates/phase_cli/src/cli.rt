@@ -2,11 +2,11 @@
 ghost use Rattle.std.specs.Prelude.{◌≡◌, ◌⊎◌, option_map};
 ghost use Rattle.phase_cli.specs.Ends.{AnswerEnds, AnswerStops, EndsAs, IsUnbegun};
 ghost use Rattle.phase_cli.specs.Ends.{LeavesAlone, MayEnd, MayEndAs};
-ghost use Rattle.phase_cli.specs.Inside.{CheckEndsBy, EvalEndsBy, IsAnswer, LeavesBy};
+ghost use Rattle.phase_cli.specs.Inside.{IsAnswer, LeavesBy};
 ghost use Rattle.replay_command.specs.Replays.{ReplayEnds};
 ghost use Rattle.phase_words.specs.CommandLine.{AreTaken, AskReplay, Asked, Asks, asked_of};
-ghost use Rattle.phase_words.specs.CommandLine.{graph_asked, texts};
-ghost use Rattle.watched_io.specs.States.{reader_state, writer_state};
+ghost use Rattle.phase_words.specs.CommandLine.{check_by, eval_by, texts};
+ghost use Rattle.watched_io.specs.States.{ReaderState, reader_state, writer_state};
 
 use graph_commands::{
     Refuses, check_and_explain, check_and_report, draw_and_report, eval_and_explain,
@@ -83,8 +83,7 @@ fn run_call<R: Read, W: Write, E: Write, F: Files + Refuses>(
         (reader_state R.remaining input.old) (reader_state R.remaining input.new)
         output.old output.new
         (writer_state E.contents faults.old) (writer_state E.contents faults.new) }
-    ensures left { LeavesBy (graph_asked (asked_of call.entry)) input.old input.new
-        files.old files.new }
+    ensures left { LeavesBy call.entry input.old input.new files.old files.new }
     ensures quiet { result ≡ 0 → faults.new ≡ faults.old }
 {
     match call {
@@ -108,8 +107,9 @@ fn run_check<W: Write, E: Write, F: Files + Refuses>(
     faults: &mut Watched<E>,
     files: &mut F,
 ) -> u8
-    ensures status { (result ≡ 0) ⊎ ((result ≡ 1) ⊎ (result ≡ 5)) }
-    ensures ends { CheckEndsBy explain (F.file files.old) graph.now result W.contents
+    ensures status { MayEndAs (check_by explain graph.now) result }
+    ensures ends { (input rest : ReaderState)
+        → EndsAs (check_by explain graph.now) (F.file files.old) W.contents result input rest
         output.old output.new
         (writer_state E.contents faults.old) (writer_state E.contents faults.new) }
     ensures quiet { result ≡ 0 → faults.new ≡ faults.old }
@@ -130,9 +130,10 @@ fn run_eval<W: Write, E: Write, F: Files + Refuses>(
     faults: &mut Watched<E>,
     files: &mut F,
 ) -> u8
-    ensures status { (result ≡ 0) ⊎ ((result ≡ 1) ⊎ ((result ≡ 3) ⊎ (result ≡ 5))) }
-    ensures ends { EvalEndsBy explain (F.file files.old) graph.now
-        (option_map (λ s. s.now) sink.entry) result W.contents output.old output.new
+    ensures status { MayEndAs (eval_by explain graph.now (option_map (λ s. s.now) sink.entry)) result }
+    ensures ends { (input rest : ReaderState)
+        → EndsAs (eval_by explain graph.now (option_map (λ s. s.now) sink.entry)) (F.file files.old)
+        W.contents result input rest output.old output.new
         (writer_state E.contents faults.old) (writer_state E.contents faults.new) }
     ensures quiet { result ≡ 0 → faults.new ≡ faults.old }
 {

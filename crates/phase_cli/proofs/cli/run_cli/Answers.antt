@@ -1,5 +1,5 @@
 use Rattle.std.proofs.Common.{inl, inr, refl, subst}
-use Rattle.phase_words.specs.CommandLine.{Asked, asked_of, texts}
+use Rattle.phase_words.specs.CommandLine.{Asked, texts}
 use Rattle.watched_io.specs.States.{reader_state, writer_state}
 use Rattle.phase_cli.specs.Ends.{EndsAs}
 use Rattle.phase_cli.proofs.Asking.{asks-one, leaves-asked, may-end-answered, may-end-asked, refused-silent, taken-memory}
@@ -35,7 +35,7 @@ returns-in-Ok-clause-answered g c = λ untaken. absurd (untaken c.in-Ok.ensures.
 
 pub returns-in-Ok-clause-left : goal.returns-in-Ok-clause-left
 returns-in-Ok-clause-left g c =
-    leaves-asked _ (asked_of c.in-Ok.call) _ _ _ _ c.in-Ok.ensures.call c.run_call.ensures.left
+    leaves-asked _ c.in-Ok.call _ _ _ _ c.in-Ok.ensures.call c.run_call.ensures.left
 
 -- ---- the words give no call
 
