@@ -1,8 +1,9 @@
--- How an error of clap is told.
-use Rattle.std.specs.Prelude.{◌≢◌, ⊤}
+-- How an error of clap is told, and what the command line is made of.
+use Rattle.std.specs.Prelude.{◌≢◌, codes, ⊤}
+use Rattle.clap.specs.Words.{App, Shape, new_app}
 use Rattle.clap.specs.declared.error.kind.ErrorKind.{ErrorKind}
 use Rattle.clap.specs.declared.error.kind.ErrorKind.TheVariants.{OutOfMemory}
-use Rattle.phase_words.specs.CommandLine.{IsShown}
+use Rattle.phase_words.specs.CommandLine.{IsShown, with_version, without_own_name}
 use Rattle.phase_words.specs.declared.call.NoCall.{NoCall}
 use Rattle.phase_words.specs.declared.call.NoCall.TheVariants as no_call
 
@@ -11,3 +12,11 @@ abbrev pub IsToldBy : ErrorKind → NoCall → Type 0
 IsToldBy kind (no_call.Shown text) = IsShown kind
 IsToldBy kind (no_call.Refused text) = (IsShown kind → ⊥) × (kind ≢ OutOfMemory)
 IsToldBy kind no_call.OutOfMemory = ⊤
+
+-- the program with no word and no command
+abbrev pub bare_app : App
+bare_app = with_version (without_own_name (new_app (codes "phase")))
+
+-- the command `replay`
+abbrev pub replay_shape : Shape
+replay_shape = (new_app (codes "replay")).top

@@ -1,10 +1,10 @@
 //! The words of the program, as clap reads them.
 ghost use Rattle.std.specs.Prelude.{◌≡◌, ◌↔◌, IfOk, IfErr, IsTrue, Some, false, option_map};
-ghost use Rattle.clap.specs.Words.{FailsBy, app_of, kind_of, rule_of, shape_of};
-ghost use Rattle.clap.specs.Words.{subcommand_rows_of};
+ghost use Rattle.clap.specs.Words.{FailsBy, Shape, app_of, kind_of, rule_of, shape_of};
+ghost use Rattle.clap.specs.Words.{subcommand_rows_of, with_subcommand};
 ghost use Rattle.clap.specs.declared.builder.command.Command.{out-Command};
 ghost use Rattle.phase_words.specs.CommandLine.{Asks, IsNoCall, IsShown};
-ghost use Rattle.phase_words.specs.Inside.{IsToldBy};
+ghost use Rattle.phase_words.specs.Inside.{IsToldBy, bare_app, replay_shape};
 ghost use Rattle.phase_words.specs.CommandLine.{asked_as, asked_by, asked_in, asked_of, check_shape};
 ghost use Rattle.phase_words.specs.CommandLine.{eval_shape, explain_of, explain_rule, graph_app, graph_rule};
 ghost use Rattle.phase_words.specs.CommandLine.{kinds_of, phase_app, sink_rule, texts};
@@ -86,20 +86,52 @@ fn eval_command<'a>(alloc: Global) -> Result<Command<'a>, AllocError>
         .arg(explain_word(alloc))
 }
 
-/// The program's command line.
-fn command<'a>(alloc: Global) -> Result<Command<'a>, AllocError>
-    ensures { IfOk result (λ c. app_of c ≡ phase_app) }
+/// A command line under the program's name, with no word and no command.
+pub(crate) fn bare_command<'a>(
+    alloc: Global,
+    name: &'a str,
+    about: &'a str,
+    end: &'a str,
+) -> Result<Command<'a>, AllocError>
+    ensures { IfOk result (λ c. app_of c ≡ bare_app) }
 {
     Command::new(alloc, "phase")
         .no_binary_name(true)
         .version(VERSION)
-        .about(ABOUT)
-        .after_help(END)
-        .bin_name("phase")?
-        .subcommand(Command::new(alloc, "replay").about(REPLAY).after_help(END))?
-        .subcommand(check_command(alloc)?)?
-        .subcommand(eval_command(alloc)?)?
-        .subcommand(graph_command(alloc, "draw", DRAW, DRAW_END)?)
+        .about(about)
+        .after_help(end)
+        .bin_name(name)
+}
+
+/// The command `replay`.
+fn replay_command<'a>(alloc: Global) -> Command<'a>
+    ensures shape { shape_of result ≡ replay_shape }
+    ensures local { (out-Command result).has_globals ≡ false }
+{
+    Command::new(alloc, "replay").about(REPLAY).after_help(END)
+}
+
+/// A command line with one more command, where there was memory for that.
+fn with_command<'a>(
+    top: Command<'a>,
+    command: Result<Command<'a>, AllocError>,
+) -> Result<Command<'a>, AllocError>
+    ensures { (shape : Shape)
+        → IfOk command.entry (λ c. shape_of c ≡ shape)
+        → IfOk command.entry (λ c. (out-Command c).has_globals ≡ false)
+        → IfOk result (λ c. app_of c ≡ with_subcommand (app_of top.entry) shape) }
+{
+    top.subcommand(command?)
+}
+
+/// The program's command line.
+fn command<'a>(alloc: Global) -> Result<Command<'a>, AllocError>
+    ensures { IfOk result (λ c. app_of c ≡ phase_app) }
+{
+    let top = bare_command(alloc, "phase", ABOUT, END)?.subcommand(replay_command(alloc))?;
+    let top = with_command(top, check_command(alloc))?;
+    let top = with_command(top, eval_command(alloc))?;
+    with_command(top, graph_command(alloc, "draw", DRAW, DRAW_END))
 }
 
 /// What the words ask for, by what clap found in them.

@@ -5,8 +5,8 @@ ghost use Rattle.phase_words.specs.CommandLine.{ExplainsNone, texts};
 ghost use Rattle.phase_words.specs.RunLine.{AsksRun, run_app, run_by, run_in, run_kinds_of, run_of};
 ghost use Rattle.phase_words.specs.RunLine.{workers_of, workers_rule};
 
-use crate::command_line::{explain_of, explain_word, graph_word, no_call, sink_word};
-use crate::help::{RUN, RUN_END, VERSION, WORKERS_WORD};
+use crate::command_line::{bare_command, explain_of, explain_word, graph_word, no_call, sink_word};
+use crate::help::{RUN, RUN_END, WORKERS_WORD};
 use crate::{NoCall, RunCall, WORKERS, WORKERS_MAX};
 use clap::builder::ValueParser;
 use clap::{Arg, ArgMatches, Command, Error};
@@ -28,12 +28,7 @@ fn workers_word<'a>(alloc: Global) -> Arg<'a>
 fn run_command<'a>(alloc: Global) -> Result<Command<'a>, AllocError>
     ensures { IfOk result (λ c. app_of c ≡ run_app) }
 {
-    Command::new(alloc, "phase")
-        .no_binary_name(true)
-        .version(VERSION)
-        .about(RUN)
-        .after_help(RUN_END)
-        .bin_name("phase run")?
+    bare_command(alloc, "phase run", RUN, RUN_END)?
         .arg(graph_word(alloc))?
         .arg(sink_word(alloc))?
         .arg(workers_word(alloc))?
