@@ -2,6 +2,10 @@
 //! in a crate of its own, since four crates of tests call it.
 #![tactic(auto)]
 
+ghost use Rattle.std.specs.Prelude.{◌≤◌, length, IfOk};
+ghost use Rattle.std.specs.List.{All};
+ghost use Rattle.phase_accum.specs.Sends.{AreSends};
+
 use graph_lang::read_graph;
 use sample_text::{TEXT_MAX, samples_of};
 use std::alloc::{AllocError, Global};
@@ -16,16 +20,25 @@ pub fn job_of(
     graph: &str,
     samples: &[&str],
 ) -> Result<Result<Job, JobRefusal>, Fail> {
+    let lists = lists_of(alloc, samples)?;
     let graph = read_graph(alloc, graph.as_bytes())?;
+    if lists.len() != graph.sources() {
+        return Err(Fail::from(AllocError));
+    }
+    Ok(Job::new(alloc, graph, lists))
+}
+
+/// The samples of these texts.
+fn lists_of(alloc: Global, texts: &[&str]) -> Result<Vec<Vec<i64>>, Fail>
+    ensures sends { IfOk result (λ lists. All (λ list. AreSends list.items) lists.items) }
+    ensures few { IfOk result (λ lists. All (λ list. length list.items ≤ TEXT_MAX) lists.items) }
+{
     let mut lists = Vec::new(alloc);
-    for text in samples {
+    for text in texts {
         if text.len() > TEXT_MAX {
             return Err(Fail::from(AllocError));
         }
         lists.push(samples_of(alloc, text.as_bytes())?)?;
     }
-    if lists.len() != graph.sources() {
-        return Err(Fail::from(AllocError));
-    }
-    Ok(Job::new(alloc, graph, lists))
+    Ok(lists)
 }
