@@ -20,6 +20,8 @@ pub record Task : Type 0 where
   pub taps : List ℤ
   pub shift : ℕ
   pub mul : ℤ
+  pub block : ℕ
+  pub joins_now : Bool
 
 -- the bytes of a name, with what it stands for
 abbrev pub Named : Type 0
@@ -49,6 +51,8 @@ no_task = record {
   taps = [];
   shift = 0;
   mul = pos 0;
+  block = 1;
+  joins_now = false;
 }
 
 -- the line of a phaser that is not there

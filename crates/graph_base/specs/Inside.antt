@@ -21,6 +21,8 @@ task_of line = record {
   taps = line.taps.items;
   shift = line.shift;
   mul = line.mul;
+  block = line.block;
+  joins_now = line.joins_now;
 }
 
 -- the graph of these lines, with the file of each source

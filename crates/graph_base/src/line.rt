@@ -63,4 +63,9 @@ pub struct TaskLine {
     pub shift: u32,
     /// The factor of a peer, of a magnitude of at most `FACTOR_MAX`.
     pub mul: i64,
+    /// The most steps that it makes in a block, 1 where the line names none.
+    pub block: u64,
+    /// Whether it is a sink that joins at the phase that is next to complete, where its parent
+    /// registers it.
+    pub joins_now: bool,
 }

@@ -1,19 +1,22 @@
 //! A phaser of a graph, under any of the operations.
-ghost use Rattle.std.specs.Prelude.{◌≡◌, ◌≢◌, [], ◌∷◌, Some, None, is_some, IfOk, IfErr, OnOk, OnErr};
+ghost use Rattle.std.specs.Prelude.{◌≡◌, ◌≢◌, ◌≤◌, ℕ, [], ◌∷◌, Ok, Some, None, is_some, length, IfOk, IfErr, OnOk, OnErr};
 ghost use Rattle.phase_base.specs.Limits.{Limits};
 ghost use Rattle.phase_base.specs.Members.{entry_of, signal_phases, wait_phases, least};
 ghost use Rattle.phase_accum.specs.Sends.{IsSend};
 ghost use Rattle.phase_accum.specs.Values.{value_by};
-ghost use Rattle.phase_history.specs.declared.event.Event.TheVariants.{Made, Registered, Dropped};
+ghost use Rattle.phase_history.specs.declared.event.Event.TheVariants.{Made, Registered, RegisteredNow, Dropped};
 ghost use Rattle.phase_history.specs.Histories.{History, members_of, done_of, greatest_used};
-ghost use Rattle.phase_history.specs.Refusals.{register_refusal, drop_refusal};
+ghost use Rattle.phase_history.specs.Refusals.{register_refusal, register_now_refusal, drop_refusal};
+ghost use Rattle.phase_history.specs.Phases.{stream_of};
+ghost use Rattle.phase_history.specs.Replies.{wait_block_reply, after_wait_block};
+ghost use Rattle.phase_core.specs.Blocks.{written};
 ghost use Rattle.phase_history.specs.Replies.{signal_reply, wait_reply, after_signal, after_wait};
 ghost use Rattle.phase_registry.specs.Rosters.{next_after};
 
 use crate::one_send::signal_one;
-use phase_accum::{Any, Greatest, Least, Op, Product, Single, Sum};
+use phase_accum::{Any, Greatest, Least, Op, Outcome, Product, Single, Sum};
 use phase_base::{Entry, Mode, Spec};
-use phase_core::{Got, NoTask, PhaserCore, RegisterRefusal, SignalRefusal, WaitRefusal};
+use phase_core::{Got, GotBlock, NoTask, PhaserCore, RegisterRefusal, SignalRefusal, WaitRefusal};
 use std::alloc::{AllocError, Global};
 
 /// A phaser of a graph, by its operation.
@@ -88,6 +91,59 @@ impl AnyCore {
             AnyCore::Least(core) => core.wait(task),
             AnyCore::Greatest(core) => core.wait(task),
             AnyCore::Any(core) => core.wait(task),
+        }
+    }
+
+    /// Waits for the task's phase, and answers it with the number of phases that are complete from
+    /// there on, at most one for each place, and writes their values in the first places; or answers
+    /// that no more will come. A refused wait writes nothing. It takes no memory.
+    pub fn wait_block(&mut self, task: u64, out: &mut [Outcome]) -> Result<GotBlock, WaitRefusal>
+        ensures reply { (op : Op) (limits : Limits) (h : History)
+            → CoreStandsFor self.old op limits h
+            → wait_block_reply limits h task (length out.old) ≡ result }
+        ensures after { (op : Op) (limits : Limits) (h : History)
+            → CoreStandsFor self.old op limits h
+            → CoreStandsFor self.new op limits (after_wait_block result task h) }
+        ensures out { (op : Op) (limits : Limits) (h : History)
+            → CoreStandsFor self.old op limits h
+            → out.new ≡ written result (stream_of (value_by op) h) out.old }
+        ensures err { OnErr result (self.new ≡ self.old) }
+    {
+        match self {
+            AnyCore::Sum(core) => core.wait_block(task, out),
+            AnyCore::Product(core) => core.wait_block(task, out),
+            AnyCore::Least(core) => core.wait_block(task, out),
+            AnyCore::Greatest(core) => core.wait_block(task, out),
+            AnyCore::Any(core) => core.wait_block(task, out),
+        }
+    }
+
+    /// Registers the task `child` in `Wait`, which the mode of `parent` has to hold, at the first
+    /// phase that is not complete, and answers that phase. The child's number is above every number
+    /// that was ever used on the phaser. It may take memory, which it asks for last.
+    pub fn register_now(&mut self, parent: u64, child: u64) -> Result<u64, RegisterRefusal>
+        ensures ok { IfOk result (λ phase. (op : Op) (limits : Limits) (h : History)
+            → CoreStandsFor self.old op limits h
+            → (register_now_refusal h parent child ≡ None) × (phase ≡ done_of h)) }
+        ensures refused { IfErr result (λ e. e ≢ RegisterRefusal.OutOfMemory
+            → (op : Op) (limits : Limits) (h : History)
+            → CoreStandsFor self.old op limits h
+            → register_now_refusal h parent child ≡ Some e) }
+        ensures out_of_memory { IfErr result (λ e. e ≡ RegisterRefusal.OutOfMemory
+            → (op : Op) (limits : Limits) (h : History)
+            → CoreStandsFor self.old op limits h
+            → register_now_refusal h parent child ≡ None) }
+        ensures after { OnOk result ((op : Op) (limits : Limits) (h : History)
+            → CoreStandsFor self.old op limits h
+            → CoreStandsFor self.new op limits (RegisteredNow parent child ∷ h)) }
+        ensures err { OnErr result (self.new ≡ self.old) }
+    {
+        match self {
+            AnyCore::Sum(core) => core.register_now(parent, child),
+            AnyCore::Product(core) => core.register_now(parent, child),
+            AnyCore::Least(core) => core.register_now(parent, child),
+            AnyCore::Greatest(core) => core.register_now(parent, child),
+            AnyCore::Any(core) => core.register_now(parent, child),
         }
     }
 

@@ -46,6 +46,7 @@ module _ (job : Job) (before after : Moment) (t p : ℕ) (is : IsGraph job.graph
       → BeginsAsBefore job before after t
   begins_same now moved = record {
     offset = moved.offset t;
+    above = λ u e. moved.offset u.task;
     parent = λ u e. moved.others_begun u.task (apart_from_parent job t u is there e);
     own_numbers = λ q. moved.numbers q t;
     numbers = λ q c a at. moved.numbers q c ∙ at;
@@ -120,6 +121,7 @@ pub calls_root : (job : Job) (m : Moment) (t : ℕ) (numbers : List ℕ) (seen :
     → IsFirstMoment job m t numbers seen → HasOwnCalls job m t
 calls_root job m t numbers seen is there root whole on first = record {
   offset = first.offset t;
+  above = λ u e. first.offset u.task;
   parent = λ u e. absurd (let no : None ≡ Some u = sym root ∙ e in cc);
   named = λ p n at. (own p n at).named;
   met_none = λ p n at. (own p n at).met_none;
@@ -169,6 +171,7 @@ module _ (job : Job) (before after : Moment) (t c : ℕ) (is : IsGraph job.graph
   calls_begin new boundary offset nowhere own = (
     record {
       offset = new.offset t ∙ own.offset;
+      above = λ u e. new.offset u.task ∙ own.above u e;
       parent = λ u e. new.others_begun u.task (above_apart u e) ∙ own.parent u e;
       named = λ p n at. (kept p n at).named;
       met_none = λ p n at. (kept p n at).met_none;
@@ -176,6 +179,11 @@ module _ (job : Job) (before after : Moment) (t c : ℕ) (is : IsGraph job.graph
     },
     record {
       offset = new.offset c ∙ offset;
+      above = λ u e.
+          (let same : child.parent ≡ u = same_Some child.parent u (sym child.has ∙ e) in
+          let at : u.task ≡ t = ap (λ (x : Parent). x.task) (sym same) ∙ child.by in
+          ap (λ x. after.offset x) at ∙ new.offset t ∙ own.offset
+          ∙ ap (λ x. (opening job).offset x) (sym at));
       parent = λ u e.
           (let same : child.parent ≡ u = same_Some child.parent u (sym child.has ∙ e) in
           ap (λ (x : Parent). after.begun x.task) (sym same) ∙ ap (λ x. after.begun x) child.by
@@ -193,6 +201,7 @@ module _ (job : Job) (before after : Moment) (t c : ℕ) (is : IsGraph job.graph
       same : BeginsAsBefore job before after t
       same = record {
         offset = new.offset t;
+        above = λ u e. new.offset u.task;
         parent = λ u e. new.others_begun u.task (above_apart u e);
         own_numbers = λ q. new.numbers_stay q t;
         numbers = λ q x a at. new.numbers_stay q x ∙ at;
@@ -211,6 +220,7 @@ module _ (job : Job) (before after : Moment) (t c : ℕ) (is : IsGraph job.graph
       → HasOwnCalls job after c
   child_stays same own quiet = record {
     offset = same.offset ∙ own.offset;
+    above = λ u e. same.above u e ∙ own.above u e;
     parent = λ u e. same.parent u e ∙ own.parent u e;
     named = λ p n at. (kept p n at).named;
     met_none = λ p n at. (kept p n at).met_none;
@@ -233,6 +243,7 @@ module _ (job : Job) (before after : Moment) (t c : ℕ) (is : IsGraph job.graph
     calls_seen job before after t p is there n now sees both.seen own,
     child_stays (record {
       offset = both.seen.moved.offset c;
+      above = λ u e. both.seen.moved.offset u.task;
       parent = λ u e.
           (let same : child.parent ≡ u = same_Some child.parent u (sym child.has ∙ e) in
           let at : u.task ≡ t = ap (λ (x : Parent). x.task) (sym same) ∙ child.by in
@@ -260,6 +271,7 @@ module _ (job : Job) (before after : Moment) (t c : ℕ) (is : IsGraph job.graph
         (own_on job before t p n own sees.numbered))))),
     record {
       offset = added.offset c ∙ own_c.offset;
+      above = λ u e. added.offset u.task ∙ own_c.above u e;
       parent = λ u e. added.begun u.task ∙ own_c.parent u e;
       named = λ q k at. (new q k at).named;
       met_none = λ q k at. (new q k at).met_none;
@@ -270,6 +282,7 @@ module _ (job : Job) (before after : Moment) (t c : ℕ) (is : IsGraph job.graph
       mine : BeginsAsBefore job before after t
       mine = record {
         offset = added.offset t;
+        above = λ u e. added.offset u.task;
         parent = λ u e. added.begun u.task;
         own_numbers = λ q. added.other_numbers q t (inr parent_apart);
         numbers = λ q x b at. numbers_stay q x b at (eq_case q p) (eq_case x c);

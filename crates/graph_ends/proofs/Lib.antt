@@ -6,3 +6,4 @@ pub mod OnPhasers
 pub mod OwnCalls
 pub mod Owns
 pub mod Wholes
+pub mod LeastStarts

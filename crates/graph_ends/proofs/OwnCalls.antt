@@ -146,6 +146,8 @@ own_new job m t p n h none =
 -- what a moment says of the beginning of a task, and of the numbers of all, is as it was, or more
 pub record BeginsAsBefore (job : Job) (before after : Moment) (t : ℕ) : Type 0 where
   pub offset : after.offset t ≡ before.offset t
+  pub above : (u : Parent) → (task_at job.graph t).parent ≡ Some u
+      → after.offset u.task ≡ before.offset u.task
   pub parent : (u : Parent) → (task_at job.graph t).parent ≡ Some u
       → after.begun u.task ≡ before.begun u.task
   pub own_numbers : (q : ℕ) → after.number q t ≡ before.number q t
@@ -174,6 +176,7 @@ pub calls_go_on : (job : Job) (before after : Moment) (t p n : ℕ)
     → AreOwn job after t p n (after.history p) → HasOwnCalls job after t
 calls_go_on job before after t p n same own numbered elsewhere here = record {
   offset = same.offset ∙ own.offset;
+  above = λ u e. same.above u e ∙ own.above u e;
   parent = λ u e. same.parent u e ∙ own.parent u e;
   named = λ q k at. (all q k at).named;
   met_none = λ q k at. (all q k at).met_none;

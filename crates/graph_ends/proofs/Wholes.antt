@@ -13,7 +13,13 @@ use Rattle.graph_base.specs.declared.line.Parent.{Parent}
 use Rattle.stream_lists.specs.Jobs.{Job}
 use Rattle.stream_lists.specs.Lists.{sinks_of, is_sink_at}
 use Rattle.stream_lists.specs.Ranges.{answer_of, is_too_big}
-use Rattle.graph_moments.specs.Moments.{Moment, HasRun, PhaserRan, TaskRan, IsOver, HasMetNone, OnLine, IsRegistered, Joined, IsChild, value_at}
+use Rattle.stream_lists.specs.Jobs.{with_starts, least}
+use Rattle.graph_moments.proofs.Started.{ready_as, run_started}
+use Rattle.std.specs.List.{range_with_len}
+use Rattle.std.specs.Prelude.{get_or}
+use Rattle.std.proofs.lemmas.List.FromFn.{get_or-map-range_with_len}
+use Rattle.graph_ends.proofs.LeastStarts.{opening_answer}
+use Rattle.graph_moments.specs.Moments.{Moment, started, HasRun, PhaserRan, TaskRan, IsOver, HasMetNone, OnLine, IsRegistered, IsChild, value_at}
 use Rattle.graph_moments.specs.Settled.{IsReady}
 use Rattle.graph_moments.proofs.OnLines.{on_phaser}
 use Rattle.graph_moments.proofs.Results.{map-filtered, sink_is}
@@ -122,16 +128,8 @@ module _ (job : Job) (ends : Ends) (is : IsGraph job.graph) (r : IsRunEnd job en
         let begun : m.begun u.task ≡ other.0.begun =
         begun_there job ends is r u.task other.0 other.1 in
         let at : o.begun u.task ≡ u.at = own.own.parent u e in
-        let enough : u.at ≤ other.0.begun = other.2 in
-        let few = has_some job t is there in
-        let first = has_number job o end t _ own (record { i = 0; few = few; phaser = refl }) in
-        let J : Option Parent → Type 0 = λ x. Joined o t x in
-        let joined : Joined o t (Some u) = subst J e (own.part.ran.joined _ first.n first.numbered) in
-        let mine : o.offset t ≡ o.offset u.task + u.at = joined.0 in
-        let opened : (opening job).offset t ≡ (opening job).offset u.task + u.at =
-        begins.offset t u there e in
-        let here : o.offset t ≡ (opening job).offset t = own.own.offset in (
-          omega arith,
+        let enough : u.at ≤ other.0.begun = other.2 in (
+          sym (own.own.above u e),
           omega arith,
           λ was. registered_there job ends is r u.task other.0 other.1,
         )
@@ -236,11 +234,21 @@ module _ (job : Job) (ends : Ends) (is : IsGraph job.graph) (r : IsRunEnd job en
           none (Some (Some end)) f = absurd (never end f)
 
 -- the answer of the job is what the sinks have taken
-pub answer_at_end : (job : Job) (ends : Ends) → IsReady job → IsRunEnd job ends
+pub answer_at_end : (job : Job) (ends : Ends) → IsReady job → job.starts ≡ [] → IsRunEnd job ends
     → answer_of job ≡ Ok (map (λ t. (t, lines_in (slice_get ends t))) (sinks_of job))
-answer_at_end job ends ready r =
+answer_at_end job ends ready none r =
     let m = whole job ends ready.graph r in
-    answer_is job m ready (has_run job ends ready.graph r) (is_over job ends ready.graph r)
+    let over = is_over job ends ready.graph r in
+    let count = length job.graph.tasks in
+    let starts : List ℕ = map (opening job).offset (range_with_len 0 count) in
+    let is_least : least job ≡ job = ap (λ s. with_starts s job) (sym none) in
+    sym (ap answer_of is_least)
+    ∙ sym (opening_answer job starts ready.graph
+    (λ t there now.
+    get_or-map-range_with_len (opening job).offset 0 count t t 0 there (omega arith)))
+    ∙ answer_is (started job m) m (ready_as job m ready)
+    (run_started job m (has_run job ends ready.graph r))
+    (record { quiet = over.quiet; gone = over.gone })
     (met_none job ends ready.graph r)
     ∙ ap (λ lines. Ok lines) (map-filtered (λ t. (t, m.taken t 0)) (λ t. (t, lines_in (slice_get ends t)))
     (is_sink_at job) 0 (length job.graph.tasks)

@@ -29,7 +29,7 @@ use phase_history::Event;
 /// Where a run is over, the answer of its job is what its sinks have taken. This is what threads that
 /// have run a graph to its end write.
 pub fn runs_end()
-    ensures { (job : Job) (ends : Ends) → IsReady job → IsRunEnd job ends
+    ensures { (job : Job) (ends : Ends) → IsReady job → job.starts ≡ [] → IsRunEnd job ends
         → answer_of job ≡ Ok (map (λ t. (t, lines_in (slice_get ends t))) (sinks_of job)) }
 {}
 

@@ -64,6 +64,8 @@ pub task-built : (names : List Named) (n : ℕ) (body : BodyWords) (ends : EndWo
       taps = taps;
       shift = shift;
       mul = mul;
+      block = 1;
+      joins_now = false;
     } ≡ task_line names n body ends
 task-built names n body ends kind inputs outputs parent until taps shift mul a b c d e f g h =
     rw (a, b, c, d, e, f, g, h) refl

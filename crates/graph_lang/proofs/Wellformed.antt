@@ -281,7 +281,7 @@ task-keeps before n name body ends formed sound counted above is =
       phaser = λ p below. refl;
       task = λ t below. get_or_append_left before.tasks (line ∷ []) no_task t below;
     } in
-    let new = IsTaskLine-new before n name body ends is.names formed.1 formed.2 sound in
+    let new = IsTaskLine-new before n name body ends is formed.1 formed.2 sound in
     record {
       few_phasers = is.few_phasers;
       few_tasks = omega (arith, long, few);

@@ -131,10 +131,12 @@ is_out_before_in before (task name body ends) =
 
 -- ---- parents
 
--- whether the parent, where there is one, is of a kind that may have children
+-- whether the parent, where there is one, is of a kind that may have children, and does not join now
 abbrev pub may_be_parent : Graph → Option Parent → Bool
 may_be_parent before None = true
-may_be_parent before (Some parent) = has_children (task_at before parent.task).kind
+may_be_parent before (Some parent) =
+    has_children (task_at before parent.task).kind
+    && not (task_at before parent.task).joins_now
 
 -- whether the parent of a line is of a kind that has no children
 abbrev pub is_bad_parent : Graph → Decl → Bool

@@ -1,5 +1,5 @@
 -- What the words of a line stand for, after the lines above it.
-use Rattle.std.specs.Prelude.{ℕ, List, [], ◌∷◌, map, Option, Some, None, option_map, ℤ, pos}
+use Rattle.std.specs.Prelude.{ℕ, false, List, [], ◌∷◌, map, Option, Some, None, option_map, ℤ, pos}
 use Rattle.phase_accum.specs.declared.single.Single.{Single}
 use Rattle.phase_accum.specs.declared.single.Single.TheVariants.{Neg, Abs, Halve, Clamp}
 use Rattle.graph_words.specs.Words.{Word}
@@ -108,4 +108,6 @@ task_line names n body ends = record {
   taps = taps_of body;
   shift = shift_of body;
   mul = factor_of body;
+  block = 1;
+  joins_now = false;
 }

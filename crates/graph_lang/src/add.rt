@@ -98,6 +98,8 @@ impl Draft {
             taps: numbers.taps,
             shift: numbers.shift,
             mul: numbers.factor,
+            block: 1,
+            joins_now: false,
         }))
     }
 

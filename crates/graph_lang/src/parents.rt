@@ -66,7 +66,7 @@ impl Draft {
             None => true,
             Some(parent) => match self.tasks.get(parent.task) {
                 None => true,
-                Some(above) => has_children(above.kind),
+                Some(above) => has_children(above.kind) && !above.joins_now,
             },
         }
     }

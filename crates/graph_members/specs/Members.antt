@@ -1,18 +1,23 @@
 -- What contracts see of a registration with its phaser, and what its calls do to the history that
 -- it has seen.
-use Rattle.std.specs.Prelude.{◌≡◌, ◌≢◌, ℕ, ℤ, [], ◌∷◌, ◌++◌, Option, Some, None, Result, Ok, Err, true}
+use Rattle.std.specs.Prelude.{◌≡◌, ◌≢◌, ℕ, ◌+◌, ℤ, List, [], ◌∷◌, ◌++◌, map, Option, Some, None, Result, Ok, Err, true}
 use Rattle.turn_lock.specs.Seats.{Place}
 use Rattle.phase_base.specs.Limits.{Limits, limits}
 use Rattle.phase_base.specs.Members.{entry_of}
 use Rattle.phase_base.specs.Modes.{mode_signals}
 use Rattle.phase_base.specs.declared.entry.Entry.{Entry}
 use Rattle.phase_base.specs.declared.mode.Mode.{Mode}
+use Rattle.phase_base.specs.declared.mode.Mode.TheVariants.{Wait}
 use Rattle.phase_accum.specs.Operations.{Operation}
 use Rattle.phase_accum.specs.Parcels.{Parcel, StandsForSends}
 use Rattle.phase_accum.specs.declared.outcome.TheConstants.{NO_VALUE}
 use Rattle.phase_accum.specs.declared.single.Single.{Single}
 use Rattle.phase_history.specs.declared.refusal.RegisterRefusal.{RegisterRefusal}
-use Rattle.phase_history.specs.Histories.{History, members_of}
+use Rattle.phase_history.specs.declared.event.Event.TheVariants.{RegisteredNow}
+use Rattle.phase_history.specs.Histories.{History, members_of, greatest_used, done_of}
+use Rattle.phase_history.specs.declared.refusal.SignalRefusal.{SignalRefusal}
+use Rattle.phase_history.specs.Refusals.{register_now_refusal}
+use Rattle.phase_history.specs.Replies.{signal_reply, after_signal}
 use Rattle.phase_history.specs.Legal.{IsLegal}
 use Rattle.phase_history.specs.Others.{OthersCame, OnlyUsed}
 use Rattle.phase_base.specs.Lists.{is_distinct}
@@ -110,6 +115,21 @@ Puts value single old new (Ok phase) =
     × (new.held ≡ None)
 Puts value single old new (Err refusal) = RefusesPut value single old new refusal
 
+-- ---- blocks
+
+-- one send a phase
+abbrev pub one_each : List ℤ → List (List ℤ)
+one_each values = map (λ v. v ∷ []) values
+
+-- a signal of these values, one a phase: events of others, and there the definition's answer; then
+-- the signal's event, where it was accepted
+pub record SignalsValues (limits : Limits) (me : ℕ) (values : List ℤ) (single : Option Single)
+    (old new : History) (answer : Result ℕ SignalRefusal) : Type 0 where
+  pub before : History
+  pub others : OthersCame (me ∷ []) old before
+  pub seen : new ≡ after_signal answer me (one_each values) single before
+  pub reply : signal_reply limits before me (one_each values) single ≡ answer
+
 -- ---- members that come and go
 
 -- a child: it is on its parent's phaser, has seen what its parent has, and holds nothing
@@ -124,6 +144,25 @@ pub record HasAdded (mode : Mode) (old new child : MemberState) : Type 0 where
 abbrev pub Adds : Mode → MemberState → MemberState → Result MemberState RegisterRefusal → Type 0
 Adds mode old new (Ok child) = HasAdded mode old new child
 Adds mode old new (Err refusal) = RefusesRegister old.number mode old.seen new.seen refusal
+
+-- a child that waits from the first phase on that is not complete: others' events, then the
+-- registration, which answers that phase
+pub record HasAddedNow (old new child : MemberState) (start : ℕ) : Type 0 where
+  pub before : History
+  pub others : OthersCame (old.number ∷ []) old.seen before
+  pub now : new.seen ≡ RegisteredNow old.number child.number ∷ before
+  pub reply : register_now_refusal before old.number child.number ≡ None
+  pub next : child.number ≡ greatest_used before + 1
+  pub start_is : start ≡ done_of before
+  pub at : child.at ≡ old.at
+  pub mode_is : child.mode ≡ Wait
+  pub seen : child.seen ≡ new.seen
+  pub none_held : child.held ≡ None
+
+-- such a child, or the refusal
+abbrev pub AddsNow : MemberState → MemberState → Result (MemberState × ℕ) RegisterRefusal → Type 0
+AddsNow old new (Ok child) = HasAddedNow old new child.0 child.1
+AddsNow old new (Err refusal) = RefusesRegister old.number Wait old.seen new.seen refusal
 
 -- what a member that left has seen: its own drop last
 pub record HasLeft (old : MemberState) (left : LeftState) : Type 0 where

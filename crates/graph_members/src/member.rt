@@ -1,16 +1,19 @@
 //! A registration with its phaser, which puts one value with each signal.
-ghost use Rattle.std.specs.Prelude.{◌≡◌, ◌≢◌, ◌↔◌, Err, IfOk, IfErr, IsOk};
+ghost use Rattle.std.specs.Prelude.{◌≡◌, ◌≢◌, ◌↔◌, ℤ, List, None, Err, IfOk, IfErr, IsOk};
 ghost use Rattle.phase_accum.specs.declared.outcome.TheConstants.{NO_VALUE};
+ghost use Rattle.phase_core.specs.Blocks.{StandForLists};
+ghost use Rattle.phase_shared.specs.Blocks.{SignalsBlock, WaitsBlock};
 ghost use Rattle.phase_shared.specs.Calls.{Tries, Waits};
 ghost use Rattle.phase_shared.specs.Regs.{phaser_place};
 ghost use Rattle.graph_members.specs.Members.{limits_on, member_state, IsMember, Stays, IsAlone};
-ghost use Rattle.graph_members.specs.Members.{HoldsOther, Puts, Adds, HasLeft};
+ghost use Rattle.graph_members.specs.Members.{HoldsOther, Puts, Adds, AddsNow, HasLeft};
+ghost use Rattle.graph_members.specs.Members.{one_each, SignalsValues};
 
 use crate::left::Left;
 use crate::refusal::PutRefusal;
-use phase_accum::{Accumulate, NO_VALUE, Single};
+use phase_accum::{Accumulate, NO_VALUE, Outcome, Pending, Single};
 use phase_base::Mode;
-use phase_core::{Got, RegisterRefusal, SignalRefusal, WaitRefusal};
+use phase_core::{Got, GotBlock, RegisterRefusal, SignalRefusal, WaitRefusal};
 use phase_shared::{NoRule, Phaser, Reg, Tried};
 use std::marker::Model;
 use std::sync::Wait;
@@ -141,6 +144,71 @@ impl<'a, A: Accumulate> Member<'a, A> {
                 reg,
                 held: None,
             }),
+            Err(tried) => Err(tried),
+        }
+    }
+
+    /// Signals as many phases in a row as there are parcels, a parcel each, with a single for all of
+    /// them or none, and answers the first. A refused block signals nothing, and none of it is held.
+    /// It takes no memory.
+    ///
+    /// No value may be held that was refused before.
+    pub fn try_put_block(
+        &mut self,
+        parcels: &[Pending<A>],
+        single: Option<Single>,
+    ) -> Result<u64, Tried<SignalRefusal>>
+        requires none_held { self.old.held ≡ None }
+        ensures call { let old = self.old in Tries (self.new ≡ old)
+            (SignalsBlock A.operation (limits_on old.at) old.number parcels.now single old.seen
+            self.new.seen) result }
+        // Of parcels of one send each it is the signal of those values.
+        ensures values { let old = self.old in (values : List ℤ)
+            → StandForLists A.operation parcels.now (one_each values)
+            → Tries (self.new ≡ old) (SignalsValues (limits_on old.at) old.number values single
+            old.seen self.new.seen) result }
+        ensures stays { Stays self.old self.new }
+        ensures held { self.new.held ≡ self.old.held }
+        ensures known { result ≢ Err (Tried.Refused SignalRefusal.NoTask) }
+        ensures alone { IsAlone self.old → result ≢ Err Tried.Busy }
+    {
+        self.reg.try_signal_lists(self.phaser, parcels, single)
+    }
+
+    /// Waits for its phase, and answers it with the number of phases that are complete from there
+    /// on, at most one for each place, and writes their values in the first places; or answers that
+    /// no more will come. It takes no memory.
+    pub fn try_get_block(&mut self, out: &mut [Outcome]) -> Result<GotBlock, Tried<WaitRefusal>>
+        ensures call { let old = self.old in Tries ((self.new ≡ old) × (out.new ≡ out.old))
+            (WaitsBlock A.operation.value (limits_on old.at) old.number old.seen self.new.seen
+            out.old out.new) result }
+        ensures stays { Stays self.old self.new }
+        ensures held { self.new.held ≡ self.old.held }
+        ensures known { result ≢ Err (Tried.Refused WaitRefusal.NoTask) }
+        ensures alone { IsAlone self.old → result ≢ Err Tried.Busy }
+    {
+        self.reg.try_wait_block(self.phaser, out)
+    }
+
+    /// Registers a child in `Wait`, at the first phase that is not complete, and answers it with that
+    /// phase. Its own mode has to hold `Wait`. It may take memory.
+    pub fn try_add_now(&mut self) -> Result<(Member<'a, A>, u64), Tried<RegisterRefusal>>
+        ensures call { Tries (self.new ≡ self.old) (AddsNow self.old self.new) result }
+        ensures stays { Stays self.old self.new }
+        ensures held { self.new.held ≡ self.old.held }
+        ensures known { result ≢ Err (Tried.Refused RegisterRefusal.NoTask) }
+        ensures alone { IsAlone self.old → result ≢ Err Tried.Busy }
+    {
+        match self.reg.try_register_now(self.phaser) {
+            Ok(reg) => {
+                let (_, start) = reg.phase();
+                let member = Member {
+                    phaser: self.phaser,
+                    reg,
+                    held: None,
+                };
+                Ok((member, start))
+            }
             Err(tried) => Err(tried),
         }
     }

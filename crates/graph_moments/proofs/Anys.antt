@@ -26,7 +26,7 @@ use Rattle.stream_lists.specs.Meetings.{is_any, overlap, meet_on, meets_on, meet
 use Rattle.stream_laws.proofs.Ordered.{place-at}
 use Rattle.stream_laws.proofs.ListLengths.{outputs_long}
 use Rattle.graph_moments.specs.Moments.{Moment, numbers_on, limits_at, value_at, PhaserRan}
-use Rattle.graph_moments.specs.Settled.{IsReady}
+use Rattle.graph_moments.specs.Settled.{IsReadyAt}
 use Rattle.graph_moments.proofs.Composed.{Agrees}
 use Rattle.graph_moments.proofs.Agreed.{AllAgree, agrees_at, sent_is, Found, found}
 use Rattle.graph_moments.proofs.Numbers.{numbers_distinct}
@@ -178,7 +178,7 @@ in_range t a (suc n) e =
 
 -- ---- the phaser
 
-pub are_gathered : (job : Job) (m : Moment) (p : ℕ) → IsReady job → p < length job.graph.phasers
+pub are_gathered : (job : Job) (m : Moment) (p : ℕ) → IsReadyAt job m → p < length job.graph.phasers
     → PhaserRan job m p
     → AllAgree (m.history p) (m.number p) (contribution_at job (schedule_of job) (numbers_of job) p)
     (range_with_len 0 (length job.graph.tasks))

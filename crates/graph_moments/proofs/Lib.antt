@@ -14,3 +14,4 @@ pub mod Tasks
 pub mod TooBigs
 pub mod Turns
 pub mod Whole
+pub mod Started

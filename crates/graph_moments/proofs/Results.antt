@@ -11,13 +11,13 @@ use Rattle.graph_base.specs.declared.line.Parent.{Parent}
 use Rattle.graph_base.specs.Graphs.{Task, task_at, is_sink}
 use Rattle.graph_base.specs.TaskLines.{IsParent, HasEnds}
 use Rattle.stream_lists.specs.declared.span.Span.{Span}
-use Rattle.stream_lists.specs.Jobs.{Job, samples_at, index_in}
+use Rattle.stream_lists.specs.Jobs.{Job, samples_at, start_at, index_in}
 use Rattle.stream_lists.specs.Spans.{spans_of, lengths_of, span_at, span_in, offset_of, takes_from, signalled_by, LooksAt, schedule_of}
 use Rattle.stream_lists.specs.Lists.{numbers_of, list_over, phase_in, contributions_on, taken_from, sink_over, sinks_of, is_sink_at, lines_of}
 use Rattle.stream_lists.proofs.SpansAbove.{spans_all}
 use Rattle.stream_laws.proofs.Ordered.{parent_waits}
 use Rattle.graph_moments.specs.Moments.{Moment, HasRun, IsRegistered, IsOver, IsChild, HasNotPassed, TakenOn, input_at, value_at}
-use Rattle.graph_moments.specs.Settled.{Stands, IsReady}
+use Rattle.graph_moments.specs.Settled.{Stands, IsReadyAt}
 use Rattle.graph_moments.proofs.Composed.{Composes}
 use Rattle.graph_moments.proofs.Entries.{prefix_whole, take_length}
 use Rattle.graph_moments.proofs.Steps.{taken_count}
@@ -25,14 +25,14 @@ use Rattle.graph_moments.proofs.Tasks.{stream_begins, taken_begins}
 use Rattle.graph_moments.proofs.Whole.{composes, over_ended, stands_all, reads_all, parent_of, FromParent, from_parent, awaited}
 
 -- each stream begins its phaser's list
-pub streams_begin : (job : Job) (m : Moment) (p : ℕ) → IsReady job → HasRun job m
+pub streams_begin : (job : Job) (m : Moment) (p : ℕ) → IsReadyAt job m → HasRun job m
     → p < length job.graph.phasers
     → IsPrefix (stream_of (value_at job p) (m.history p))
     (list_over job (schedule_of job) (numbers_of job) p)
 streams_begin job m p ready ran pp = stream_begins job m p (composes job m ready ran p pp)
 
 -- and is all of it where no task signals any more
-pub streams_whole : (job : Job) (m : Moment) (p : ℕ) → IsReady job → HasRun job m
+pub streams_whole : (job : Job) (m : Moment) (p : ℕ) → IsReadyAt job m → HasRun job m
     → p < length job.graph.phasers
     → HasNoSignaller (m.history p)
     → stream_of (value_at job p) (m.history p)
@@ -52,7 +52,7 @@ streams_whole job m p ready ran pp quiet =
     prefix_whole stream list (stream_begins job m p c) (omega arith)
 
 -- what a task has taken from an input begins what it takes from it
-pub taken_begin : (job : Job) (m : Moment) (t k : ℕ) → IsReady job → HasRun job m
+pub taken_begin : (job : Job) (m : Moment) (t k : ℕ) → IsReadyAt job m → HasRun job m
     → t < length job.graph.tasks → k < length (task_at job.graph t).inputs
     → IsPrefix (m.taken t k) (taken_from (numbers_of job) (task_at job.graph t) (span_in job t) k)
 taken_begin job m t k ready ran there lt = by (m.number x t) refl ((ran.tasks t there).inputs k lt)
@@ -78,7 +78,7 @@ taken_begin job m t k ready ran there lt = by (m.number x t) refl ((ran.tasks t 
 -- ---- at the end
 
 -- each task that the definitions have was registered on each phaser that it waits for
-pub came_in : (job : Job) (m : Moment) → IsReady job → HasRun job m → IsOver job m
+pub came_in : (job : Job) (m : Moment) → IsReadyAt job m → HasRun job m → IsOver job m
     → (fuel t k : ℕ) → t < fuel → t < length job.graph.tasks
     → k < length (task_at job.graph t).inputs
     → m.number (input_at (task_at job.graph t) k) t ≡ None → (span_in job t).live ≡ true → ⊥
@@ -97,7 +97,7 @@ came_in job m ready ran over (suc fuel) t k below there lt none live =
     by : (parent : Option Parent) → (task_at job.graph t).parent ≡ parent → IsChild parent
         → span_in job t
         ≡ span_at (task_at job.graph t) (length (samples_at job t)) (lengths_of job)
-        (offset_of (spans_of job) (task_at job.graph t).parent)
+        (offset_of (spans_of job) (start_at job t) (task_at job.graph t).parent)
         → ((u : Parent) (i : ℕ) → (task_at job.graph t).parent ≡ Some u
         → i < length (task_at job.graph u.task).inputs
         → m.number (input_at (task_at job.graph u.task) i) u.task ≡ None
@@ -109,10 +109,10 @@ came_in job m ready ran over (suc fuel) t k below there lt none live =
         parent_of job t u ready.graph there e in
         let above : u.task < t = ip.above in
         let fp : FromParent job t u =
-        from_parent job t (length (samples_at job t)) (task_at job.graph t) u
+        from_parent job t (length (samples_at job t)) (task_at job.graph t) (start_at job t) u
         (is ∙ ap (λ o.
         span_at (task_at job.graph t) (length (samples_at job t)) (lengths_of job)
-        (offset_of (spans_of job) o)) e) live in
+        (offset_of (spans_of job) (start_at job t) o)) e) live in
         let i = parent_waits job.graph t (task_at job.graph t) u k ip lt in
         number_case (m.number (input_at (task_at job.graph t) k) u.task) refl fp (omega arith)
         (λ n. up u i.0 e i.1 (ap (λ x. m.number x u.task) i.2 ∙ n) fp.live)
@@ -135,7 +135,7 @@ came_in job m ready ran over (suc fuel) t k below there lt none live =
             absurd (omega arith)
 
 -- and on each that it signals
-pub came_out : (job : Job) (m : Moment) → IsReady job → HasRun job m → IsOver job m → (t p j : ℕ)
+pub came_out : (job : Job) (m : Moment) → IsReadyAt job m → HasRun job m → IsOver job m → (t p j : ℕ)
     → t < length job.graph.tasks → p < length job.graph.phasers
     → index_in (signalled_by (task_at job.graph t)) p ≡ Some j → m.number p t ≡ None
     → (span_in job t).live ≡ true → ⊥
@@ -156,7 +156,7 @@ dead_span job t n task (Some o) is dead =
     absurd (let e : true ≡ false = sym (ap (λ (s : Span). s.live) is) ∙ dead in cc)
 
 -- what a task has taken from an input that its steps look at is all that it takes
-pub taken_whole : (job : Job) (m : Moment) (t k : ℕ) → IsReady job → HasRun job m → IsOver job m
+pub taken_whole : (job : Job) (m : Moment) (t k : ℕ) → IsReadyAt job m → HasRun job m → IsOver job m
     → t < length job.graph.tasks
     → k < length (task_at job.graph t).inputs → LooksAt (task_at job.graph t).kind 0 k
     → IsRegistered m t
@@ -178,7 +178,7 @@ taken_whole job m t k ready ran over there lt looks registered =
     prefix_whole (m.taken t k) (taken_from (numbers_of job) task span k)
     (taken_begin job m t k ready ran there lt) (omega arith)
 
-pub sinks_whole : (job : Job) (m : Moment) (t : ℕ) → IsReady job → HasRun job m → IsOver job m
+pub sinks_whole : (job : Job) (m : Moment) (t : ℕ) → IsReadyAt job m → HasRun job m → IsOver job m
     → t < length job.graph.tasks
     → (task_at job.graph t).kind ≡ Sink
     → m.taken t 0 ≡ taken_from (numbers_of job) (task_at job.graph t) (span_in job t) 0
@@ -247,7 +247,7 @@ sink_is Peer e = absurd (cc)
 sink_is Sink e = refl
 
 -- the lines of a job are what its sinks have taken
-pub lines_are : (job : Job) (m : Moment) → IsReady job → HasRun job m → IsOver job m
+pub lines_are : (job : Job) (m : Moment) → IsReadyAt job m → HasRun job m → IsOver job m
     → lines_of job ≡ map (λ t. (t, m.taken t 0)) (sinks_of job)
 lines_are job m ready ran over =
     map-filtered (sink_over job (schedule_of job) (numbers_of job)) (λ t. (t, m.taken t 0))

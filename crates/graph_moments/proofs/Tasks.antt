@@ -1,5 +1,5 @@
 -- A registered task whose inputs compose their lists stands in its span, and puts out its lists.
-use Rattle.std.proofs.Common.{◌≡◌, ℕ, zero, suc, ◌+◌, ◌-◌, ◌<◌, ◌≤◌, true, ◌&&◌, cond, leb, List, [], ◌∷◌, Option, Some, None, ℤ, length, map, get_or, take, drop, refl, sym, ap, subst, ◌∙◌, arith}
+use Rattle.std.proofs.Common.{◌≡◌, ℕ, zero, suc, ◌+◌, ◌-◌, ◌<◌, ◌≤◌, Bool, true, false, ◌&&◌, cond, leb, List, [], ◌∷◌, Option, Some, None, ℤ, length, map, get_or, take, drop, refl, sym, ap, subst, ◌∙◌, arith}
 use mathlib.Core.List.{IsPrefix}
 use Rattle.std.proofs.lemmas.List.{length-map, length-drop, get_or-map}
 use Rattle.std.proofs.lemmas.List.FromFn.{length-map-range_with_len, get_or-map-range_with_len}
@@ -23,26 +23,37 @@ use Rattle.stream_lists.specs.Spans.{spans_of, lengths_of, span_at, span_in, off
 use Rattle.stream_lists.specs.Lists.{contributions_on, number, numbers_of, list_over, phase_in, output_on, taken_by, taken_from}
 use Rattle.stream_laws.proofs.ListsAbove.{numbers_all}
 use Rattle.stream_laws.proofs.ListLengths.{length-numbers, outputs_long}
-use Rattle.graph_moments.specs.Moments.{Moment, input_at, taken_now, made_now, limits_at, value_at, PhaserRan, TaskRan, MayEnd, at_until, no_sample, no_input, OnInput, TakenOn, Joined, HasExchanged, first_input}
+use Rattle.graph_moments.specs.Moments.{Moment, BeginsBy, input_at, taken_now, made_now, limits_at, value_at, PhaserRan, TaskRan, MayEnd, at_until, no_sample, no_input, OnInput, TakenOn, Joined, HasExchanged, first_input}
 use Rattle.graph_moments.specs.Settled.{Stands, PutsOut}
 use Rattle.graph_moments.proofs.Composed.{Composes, HasRead}
 use Rattle.graph_moments.proofs.Entries.{prefix_whole, take_prefix, take_full, part_of_longer}
 use Rattle.graph_moments.proofs.Steps.{within_cut, cut_below, cut_until, has_inputs, enough-above, enough-below, takes-mono, taken_count, taken_most}
 use Rattle.graph_moments.proofs.OutputLists.{outputs_begin, length_made}
-use Rattle.std.specs.Prelude.{slice_range}
+use Rattle.std.specs.Prelude.{slice_range, max, if◌then◌else◌}
+use native.Mathlib.Nat.{zero-max}
 
 -- ---- where it stands
 
+-- the later of a start and a boundary
+begins_at : (now : Bool) (start offset boundary : ℕ) → start ≡ (if now then offset else 0)
+    → BeginsBy now offset boundary → max start boundary ≡ offset
+begins_at false start offset boundary first at =
+    let first : start ≡ 0 = first in let at : offset ≡ boundary = at in
+    ap (λ n. max n boundary) first ∙ zero-max boundary ∙ sym at
+begins_at true start offset boundary first at =
+    let first : start ≡ offset = first in let at : boundary ≤ offset = at in
+    ap (λ n. max n boundary) first ∙ (let most : max offset boundary ≡ offset = omega arith in most)
+
 -- a registered task's span begins at its offset
-pub registered_span : (job : Job) (m : Moment) (t : ℕ) (samples : ℕ) (task : Task)
-    (parent : Option Parent)
-    → span_in job t ≡ span_at task samples (lengths_of job) (offset_of (spans_of job) parent)
-    → Joined m t parent
+pub registered_span : (job : Job) (m : Moment) (t : ℕ) (samples : ℕ) (task : Task) (start : ℕ)
+    (now : Bool) (parent : Option Parent)
+    → span_in job t ≡ span_at task samples (lengths_of job) (offset_of (spans_of job) start parent)
+    → start ≡ (if now then m.offset t else 0) → Joined m t now parent
     → ((u : Parent) → parent ≡ Some u → Stands job m u.task)
     → span_in job t ≡ span_at task samples (lengths_of job) (Some (m.offset t))
-registered_span job m t samples task None is joined stands =
+registered_span job m t samples task start now None is first joined stands =
     is ∙ ap (λ n. span_at task samples (lengths_of job) (Some n)) (sym joined)
-registered_span job m t samples task (Some u) is joined stands =
+registered_span job m t samples task start now (Some u) is first joined stands =
     let s = stands u refl in
     let span = span_in job u.task in
     let begun : m.begun u.task ≤ span.steps = s.within in
@@ -50,9 +61,10 @@ registered_span job m t samples task (Some u) is joined stands =
     let test : leb u.at span.steps ≡ true = le-leb u.at span.steps (omega arith) in
     let both : (span.live && leb u.at span.steps) ≡ true =
     ap (λ b. b && leb u.at span.steps) s.live ∙ test in
-    let at : offset_of (spans_of job) (Some u) ≡ Some (m.offset t) =
-    ap (λ b. cond b (Some (span.offset + u.at)) None) both
-    ∙ ap (λ n. Some n) (ap (λ n. n + u.at) s.offset ∙ sym joined.0) in
+    let at : offset_of (spans_of job) start (Some u) ≡ Some (m.offset t) =
+    ap (λ b. cond b (Some (max start (span.offset + u.at))) None) both
+    ∙ ap (λ n. Some n) (ap (λ n. max start (n + u.at)) s.offset
+    ∙ begins_at now start (m.offset t) (m.offset u.task + u.at) first joined.0) in
     is ∙ ap (λ o. span_at task samples (lengths_of job) o) at
 
 -- ---- what it has taken

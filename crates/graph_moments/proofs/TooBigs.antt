@@ -29,7 +29,7 @@ use Rattle.stream_lists.specs.Ranges.{Where, is_out_of_range, are_made, takes_ph
 use Rattle.stream_laws.proofs.Ordered.{place-at, place_of_input}
 use Rattle.graph_moments.specs.Moments.{one, Moment, HasRun, TaskRan, HasEnded, IsRegistered, IsOver, OnOutput, OnInput, OnPhaser, PutOn, TakenOn, HasMetNone, input_at, taken_now, made_now, limits_at, value_at, HasExchanged}
 use Rattle.graph_base.specs.declared.place.Place.TheVariants as place
-use Rattle.graph_moments.specs.Settled.{Stands, PutsOut, IsReady, IsFaultAt, IsThere}
+use Rattle.graph_moments.specs.Settled.{Stands, PutsOut, IsReadyAt, IsFaultAt, IsThere}
 use Rattle.graph_moments.proofs.Composed.{Composes}
 use Rattle.graph_moments.proofs.OnLines.{signalled_within}
 use Rattle.graph_moments.proofs.Entries.{prefix_length, prefix_at, take_full, take_length, get_or-take, get_or-drop}
@@ -53,7 +53,7 @@ single_leaves (Some s) Empty e = absurd (cc)
 single_leaves (Some s) (Value v) e = absurd (cc)
 
 -- a task has taken this phase of its input number k, and the phase is too big
-pub met_is_fault : (job : Job) (m : Moment) (t k n : ℕ) → IsReady job → HasRun job m
+pub met_is_fault : (job : Job) (m : Moment) (t k n : ℕ) → IsReadyAt job m → HasRun job m
     → t < length job.graph.tasks → k < length (task_at job.graph t).inputs
     → IsRegistered m t → m.offset t ≤ n → n < m.offset t + length (m.taken t k)
     → n < done_of (m.history (input_at (task_at job.graph t) k))
@@ -96,7 +96,7 @@ met_is_fault job m t k n ready ran there lt registered low high complete met =
 
 -- entry i of what a task makes on phaser p, its output number j, over what it has taken, is out of
 -- range
-pub made_is_fault : (job : Job) (m : Moment) (t j p i : ℕ) → IsReady job → HasRun job m
+pub made_is_fault : (job : Job) (m : Moment) (t j p i : ℕ) → IsReadyAt job m → HasRun job m
     → t < length job.graph.tasks → p < length job.graph.phasers
     → IsRegistered m t → index_in (signalled_by (task_at job.graph t)) p ≡ Some j
     → are_made (task_at job.graph t).kind j ≡ true
@@ -142,7 +142,7 @@ puts_are_sends [] all = tt
 puts_are_sends (v ∷ put) all = (all.0.0, puts_are_sends put all.2)
 
 -- what a registered task has taken in the end, a peer's E too
-taken_all : (job : Job) (m : Moment) (t k : ℕ) → IsReady job → HasRun job m → IsOver job m
+taken_all : (job : Job) (m : Moment) (t k : ℕ) → IsReadyAt job m → HasRun job m → IsOver job m
     → t < length job.graph.tasks → k < length (task_at job.graph t).inputs
     → IsRegistered m t
     → takes_from (task_at job.graph t) (span_in job t).steps k ≤ length (m.taken t k)
@@ -218,7 +218,7 @@ slice_entry f n a k i fits lt =
     ∙ get_or-drop (map f (range_with_len 0 n)) a i Empty
     ∙ get_or-map-range_with_len f 0 n (a + i) (a + i) Empty (omega arith) at
 
-pub all_fit : (job : Job) (m : Moment) → IsReady job → HasRun job m → IsOver job m
+pub all_fit : (job : Job) (m : Moment) → IsReadyAt job m → HasRun job m → IsOver job m
     → HasMetNone job m → AreInRange job
 all_fit job m ready ran over none = record {
   outputs = λ t j makes.
@@ -326,11 +326,11 @@ all_fit job m ready ran over none = record {
 
 -- where no wait was answered a value that is too big, all fit, and the answer is what the sinks
 -- have taken
-pub fits : (job : Job) (m : Moment) → IsReady job → HasRun job m → IsOver job m → HasMetNone job m
+pub fits : (job : Job) (m : Moment) → IsReadyAt job m → HasRun job m → IsOver job m → HasMetNone job m
     → Fits job
 fits job m ready ran over none = fits_from job ready.graph (all_fit job m ready ran over none)
 
-pub answer_is : (job : Job) (m : Moment) → IsReady job → HasRun job m → IsOver job m
+pub answer_is : (job : Job) (m : Moment) → IsReadyAt job m → HasRun job m → IsOver job m
     → HasMetNone job m
     → answer_of job ≡ Ok (map (λ t. (t, m.taken t 0)) (sinks_of job))
 answer_is job m ready ran over none =

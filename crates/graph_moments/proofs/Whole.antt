@@ -1,5 +1,6 @@
 -- Every phaser of a run composes its list, and every registered task stands in its span.
 use Rattle.std.proofs.Common.{◌≡◌, ℕ, zero, suc, ◌+◌, ◌<◌, ◌≤◌, Bool, true, false, ◌&&◌, cond, leb, List, Option, Some, None, ℤ, length, refl, sym, ap, subst, ◌∙◌, arith, inl, inr}
+use Rattle.std.specs.Prelude.{max}
 use Rattle.std.specs.List.{range_with_len}
 use Rattle.std.proofs.lemmas.Bool.{and_parts, leb-true}
 use Rattle.std.proofs.lemmas.List.{length-map}
@@ -12,13 +13,13 @@ use Rattle.graph_base.specs.declared.line.Parent.{Parent}
 use Rattle.graph_base.specs.Graphs.{Task, task_at}
 use Rattle.graph_base.specs.TaskLines.{IsGraph, IsTaskLine, IsParent, has_children}
 use Rattle.stream_lists.specs.declared.span.Span.{Span}
-use Rattle.stream_lists.specs.Jobs.{Job, samples_at, index_in}
+use Rattle.stream_lists.specs.Jobs.{Job, samples_at, start_at, index_in}
 use Rattle.stream_lists.specs.Spans.{signalled_by, spans_of, lengths_of, span_at, span_in, offset_of, puts_on, LooksAt, schedule_of}
 use Rattle.stream_lists.specs.Lists.{numbers_of, output_on}
 use Rattle.stream_laws.proofs.Ordered.{looks-first, looked_above, place-at, parent_signals}
 use Rattle.stream_lists.proofs.SpansAbove.{parent-is, spans_all}
 use Rattle.graph_moments.specs.Moments.{one, Moment, input_at, made_now, taken_now, limits_at, TaskRan, HasEnded, OnOutput, PutOn, SilentOn, OnPhaser, IsChild, OnLine, HasNotPassed, Joined, IsRegistered, HasRun, IsOver, OnInput, TakenOn}
-use Rattle.graph_moments.specs.Settled.{Stands, PutsOut, IsReady}
+use Rattle.graph_moments.specs.Settled.{Stands, PutsOut, IsReadyAt}
 use Rattle.graph_moments.proofs.Composed.{IsAwaited, Composes, HasRead}
 use Rattle.graph_moments.proofs.Entries.{prefix_length}
 use Rattle.graph_moments.proofs.OnLines.{on_phaser}
@@ -42,13 +43,13 @@ Reads job m Q =
     → LooksAt (task_at job.graph t).kind 0 k → Composes job m (input_at (task_at job.graph t) k)
 
 pub joined_of : (job : Job) (m : Moment) (t : ℕ) → TaskRan job m t → IsRegistered m t
-    → Joined m t (task_at job.graph t).parent
+    → Joined m t (task_at job.graph t).joins_now (task_at job.graph t).parent
 joined_of job m t ran r = ran.joined r.0 r.1 r.2
 
-pub parent_registered : (m : Moment) (t : ℕ) (parent : Option Parent) (u : Parent)
-    → Joined m t parent → parent ≡ Some u → IsRegistered m u.task
-parent_registered m t None u j e = absurd (cc)
-parent_registered m t (Some v) u j e =
+pub parent_registered : (m : Moment) (t : ℕ) (now : Bool) (parent : Option Parent) (u : Parent)
+    → Joined m t now parent → parent ≡ Some u → IsRegistered m u.task
+parent_registered m t now None u j e = absurd (cc)
+parent_registered m t now (Some v) u j e =
     let same : v ≡ u = same_Some _ _ e in let P : Parent → Type 0 = λ w. IsRegistered m w.task in
     subst P same j.2
 
@@ -67,22 +68,22 @@ reads_input job m t k is ran there lt c =
     has_read_on job m t k (m.number (input_at task k) t) is px (ran.phasers (input_at task k) px) c
     ((ran.tasks t there).inputs k lt)
 
-pub stands : (job : Job) (m : Moment) → IsReady job → HasRun job m → (Q : ℕ → Type 0)
+pub stands : (job : Job) (m : Moment) → IsReadyAt job m → HasRun job m → (Q : ℕ → Type 0)
     → Inherits job Q → Reads job m Q
     → (fuel t : ℕ) → t < fuel → t < length job.graph.tasks → Q t → IsRegistered m t → Stands job m t
 stands job m ready ran Q inherits reads zero t below there q registered = absurd (omega arith)
 stands job m ready ran Q inherits reads (suc fuel) t below there q registered =
     let r : TaskRan job m t = ran.tasks t there in
     let task = task_at job.graph t in
-    let joined : Joined m t task.parent = joined_of job m t r registered in
+    let joined : Joined m t task.joins_now task.parent = joined_of job m t r registered in
     let parents : (u : Parent) → task.parent ≡ Some u → Stands job m u.task = λ u e. (
     let p : IsParent job.graph t task u = parent_of job t u ready.graph there e in
     let above : u.task < t = p.above in
     stands job m ready ran Q inherits reads fuel u.task (omega arith) (omega arith)
-    (inherits t u there e q) (parent_registered m t task.parent u joined e)) in
+    (inherits t u there e q) (parent_registered m t task.joins_now task.parent u joined e)) in
     let span_is =
-    registered_span job m t (length (samples_at job t)) task task.parent
-    (spans_all job t ready.graph there) joined parents in
+    registered_span job m t (length (samples_at job t)) task (start_at job t) task.joins_now
+    task.parent (spans_all job t ready.graph there) (ready.starts t there) joined parents in
     stands_from job m t ready.graph there r span_is
     (λ k lt looks.
     (let c = reads t k there q lt looks in
@@ -90,20 +91,21 @@ stands job m ready ran Q inherits reads (suc fuel) t below there q registered =
 
 -- ---- children that are not there yet
 
--- a live child's parent is live and comes to its boundary, where the child begins
+-- a live child's parent is live and comes to its boundary, where the child begins, or later
 pub record FromParent (job : Job) (t : ℕ) (u : Parent) : Type 0 where
   pub live : (span_in job u.task).live ≡ true
   pub comes : u.at ≤ (span_in job u.task).steps
-  pub at : (span_in job t).offset ≡ (span_in job u.task).offset + u.at
+  pub at : (span_in job u.task).offset + u.at ≤ (span_in job t).offset
 
-pub from_parent : (job : Job) (t n : ℕ) (task : Task) (u : Parent)
-    → span_in job t ≡ span_at task n (lengths_of job) (offset_of (spans_of job) (Some u))
+pub from_parent : (job : Job) (t n : ℕ) (task : Task) (start : ℕ) (u : Parent)
+    → span_in job t ≡ span_at task n (lengths_of job) (offset_of (spans_of job) start (Some u))
     → (span_in job t).live ≡ true → FromParent job t u
-from_parent job t n task u is live =
+from_parent job t n task start u is live =
     let span = span_in job u.task in
     let test = span.live && leb u.at span.steps in
     elim test as (λ b. (test ≡ b)
-    → span_in job t ≡ span_at task n (lengths_of job) (cond b (Some (span.offset + u.at)) None)
+    → span_in job t
+    ≡ span_at task n (lengths_of job) (cond b (Some (max start (span.offset + u.at))) None)
     → FromParent job t u) [
       | true ↦ λ e s.
           let both = and_parts span.live (leb u.at span.steps) e in
@@ -111,7 +113,8 @@ from_parent job t n task u is live =
             live =
                 both.0;
             comes = leb-true u.at span.steps both.1;
-            at = ap (λ (x : Span). x.offset) s;
+            at = (let begins : (span_in job t).offset ≡ max start (span.offset + u.at) =
+                ap (λ (x : Span). x.offset) s in omega arith);
           }
       | false ↦ λ e s.
           let dead : (span_in job t).live ≡ false = ap (λ (x : Span). x.live) s in
@@ -136,7 +139,7 @@ puts_short job m t j line ran plain lt =
     omega arith
 
 -- some other holds its first phase
-pub awaited : (job : Job) (m : Moment) → IsReady job → HasRun job m → (p : ℕ)
+pub awaited : (job : Job) (m : Moment) → IsReadyAt job m → HasRun job m → (p : ℕ)
     → p < length job.graph.phasers
     → ((t j : ℕ) → t < length job.graph.tasks
     → index_in (signalled_by (task_at job.graph t)) p ≡ Some j → IsRegistered m t → Stands job m t)
@@ -164,7 +167,7 @@ awaited job m ready ran p pp standing (suc fuel) t j below there place absent li
     by : (parent : Option Parent) → (task_at job.graph t).parent ≡ parent → IsChild parent
         → span_in job t
         ≡ span_at (task_at job.graph t) (length (samples_at job t)) (lengths_of job)
-        (offset_of (spans_of job) (task_at job.graph t).parent)
+        (offset_of (spans_of job) (start_at job t) (task_at job.graph t).parent)
         → ((u : Parent) → (task_at job.graph t).parent ≡ Some u → m.number p u.task ≡ None
         → (span_in job u.task).live ≡ true
         → IsAwaited (m.history p) ((span_in job u.task).offset, out))
@@ -175,10 +178,10 @@ awaited job m ready ran p pp standing (suc fuel) t j below there place absent li
         parent_of job t u ready.graph there e in
         let above : u.task < t = ip.above in
         let fp : FromParent job t u =
-        from_parent job t (length (samples_at job t)) (task_at job.graph t) u
+        from_parent job t (length (samples_at job t)) (task_at job.graph t) (start_at job t) u
         (is ∙ ap (λ o.
         span_at (task_at job.graph t) (length (samples_at job t)) (lengths_of job)
-        (offset_of (spans_of job) o)) e) live in
+        (offset_of (spans_of job) (start_at job t) o)) e) live in
         let i = parent_signals job.graph t (task_at job.graph t) u p j ip place in
         let there_u : u.task < length job.graph.tasks = omega arith in
         number_case (m.number p u.task) refl fp i.0 i.1 there_u (ran.tasks u.task there_u)
@@ -196,7 +199,7 @@ awaited job m ready ran p pp standing (suc fuel) t j below there place absent li
         number_case None none fp i at there_u ru short up =
             let rec : IsAwaited (m.history p) ((span_in job u.task).offset, out) = up none in
             let low : done_of (m.history p) ≤ (span_in job u.task).offset = rec.later in
-            let begins : (span_in job t).offset ≡ (span_in job u.task).offset + u.at = fp.at in
+            let begins : (span_in job u.task).offset + u.at ≤ (span_in job t).offset = fp.at in
             record { later = omega arith; held = rec.held }
         number_case (Some n) some fp i at there_u ru short up =
             let st : Stands job m u.task = standing u.task i there_u at (p, n, some) in
@@ -228,7 +231,7 @@ awaited job m ready ran p pp standing (suc fuel) t j below there place absent li
                 let early : m.begun u.task ≤ u.at = a.early in
                 let at_u : on.start.signal_phase ≡ m.offset u.task = on.at in
                 let span_u : (span_in job u.task).offset ≡ m.offset u.task = st.offset in
-                let begins : (span_in job t).offset ≡ (span_in job u.task).offset + u.at = fp.at in
+                let begins : (span_in job u.task).offset + u.at ≤ (span_in job t).offset = fp.at in
                 record {
                   later = omega arith;
                   held = λ quiet.
@@ -241,7 +244,7 @@ awaited job m ready ran p pp standing (suc fuel) t j below there place absent li
 -- ---- all phasers, in the order of their lines
 
 -- one phaser, where those above compose their lists
-compose_one : (job : Job) (m : Moment) → IsReady job → HasRun job m → (p : ℕ)
+compose_one : (job : Job) (m : Moment) → IsReadyAt job m → HasRun job m → (p : ℕ)
     → p < length job.graph.phasers
     → ((x : ℕ) → x < p → Composes job m x) → Composes job m p
 compose_one job m ready ran p pp above =
@@ -302,19 +305,19 @@ compose_one job m ready ran p pp above =
         refl
 
 -- every phaser composes its list
-pub compose_all : (job : Job) (m : Moment) → IsReady job → HasRun job m → (fuel p : ℕ) → p < fuel
+pub compose_all : (job : Job) (m : Moment) → IsReadyAt job m → HasRun job m → (fuel p : ℕ) → p < fuel
     → p < length job.graph.phasers → Composes job m p
 compose_all job m ready ran zero p below pp = absurd (omega arith)
 compose_all job m ready ran (suc fuel) p below pp =
     compose_one job m ready ran p pp
     (λ x less. compose_all job m ready ran fuel x (omega arith) (omega arith))
 
-pub composes : (job : Job) (m : Moment) → IsReady job → HasRun job m → (p : ℕ)
+pub composes : (job : Job) (m : Moment) → IsReadyAt job m → HasRun job m → (p : ℕ)
     → p < length job.graph.phasers → Composes job m p
 composes job m ready ran p pp = compose_all job m ready ran (suc p) p (omega arith) pp
 
 -- what a task has taken, from each input
-pub reads_all : (job : Job) (m : Moment) → IsReady job → HasRun job m → (t k : ℕ)
+pub reads_all : (job : Job) (m : Moment) → IsReadyAt job m → HasRun job m → (t k : ℕ)
     → t < length job.graph.tasks → k < length (task_at job.graph t).inputs → HasRead job m t k
 reads_all job m ready ran t k there lt =
     reads_input job m t k ready.graph ran there lt
@@ -322,7 +325,7 @@ reads_all job m ready ran t k there lt =
     ((ready.graph.tasks t there).inputs k 0 lt))
 
 -- every registered task stands in its span
-pub stands_all : (job : Job) (m : Moment) → IsReady job → HasRun job m → (t : ℕ)
+pub stands_all : (job : Job) (m : Moment) → IsReadyAt job m → HasRun job m → (t : ℕ)
     → t < length job.graph.tasks → IsRegistered m t → Stands job m t
 stands_all job m ready ran t there registered =
     stands job m ready ran (λ t. Unit {0}) (λ t u there e q. tt)
@@ -332,7 +335,7 @@ stands_all job m ready ran t there registered =
     (suc t) t (omega arith) there tt registered
 
 -- and puts out its lists
-pub puts_all : (job : Job) (m : Moment) → IsReady job → HasRun job m → (t j : ℕ)
+pub puts_all : (job : Job) (m : Moment) → IsReadyAt job m → HasRun job m → (t j : ℕ)
     → t < length job.graph.tasks → IsRegistered m t
     → j < length (signalled_by (task_at job.graph t)) → PutsOut job m t j
 puts_all job m ready ran t j there registered lt =
@@ -343,7 +346,7 @@ puts_all job m ready ran t j there registered lt =
 -- ---- where the run is over
 
 -- every registered task has ended
-pub over_ended : (job : Job) (m : Moment) → IsReady job → HasRun job m → IsOver job m → (t : ℕ)
+pub over_ended : (job : Job) (m : Moment) → IsReadyAt job m → HasRun job m → IsOver job m → (t : ℕ)
     → t < length job.graph.tasks → IsRegistered m t → HasEnded job m t
 over_ended job m ready ran over t there r = by ((ran.tasks t there).lines r.0 r.1 r.2)
   where

@@ -1,7 +1,7 @@
 -- A moment of a run of a graph: what has happened on each phaser, and how far each task has come.
 -- It knows no time, no turns and no threads: `HasRun` is what holds of it after any events that the
 -- tasks have made in the order of their own steps.
-use Rattle.std.specs.Prelude.{◌≡◌, ℕ, suc, ◌+◌, ◌<◌, ◌≤◌, ◌%◌, ℤ, List, [], ◌∷◌, length, map, take, drop, get_or, Option, Some, None, true, false, ◌⊎◌}
+use Rattle.std.specs.Prelude.{◌≡◌, ℕ, suc, ◌+◌, ◌<◌, ◌≤◌, ◌%◌, ℤ, List, [], ◌∷◌, length, map, take, drop, get_or, Option, Some, None, Bool, true, false, ◌⊎◌, if◌then◌else◌}
 use Rattle.std.specs.List.{range_with_len, filter_map, All}
 use mathlib.Core.List.{IsPrefix}
 use Rattle.phase_base.specs.Limits.{Limits, limits}
@@ -20,7 +20,7 @@ use Rattle.graph_base.specs.declared.line.Kind.{Kind}
 use Rattle.graph_base.specs.declared.line.Kind.TheVariants.{Source, Join, Peer}
 use Rattle.graph_base.specs.declared.line.Parent.{Parent}
 use Rattle.graph_base.specs.Graphs.{Task, task_at, phaser_at}
-use Rattle.stream_lists.specs.Jobs.{Job, samples_at, index_in}
+use Rattle.stream_lists.specs.Jobs.{Job, samples_at, index_in, with_starts}
 use Rattle.stream_lists.specs.Spans.{signalled_by, takes_from}
 use Rattle.stream_lists.specs.Lists.{value_by, number, output_list}
 use Rattle.stream_lists.specs.Ranges.{is_too_big}
@@ -69,6 +69,10 @@ numbers_on job m p = filter_map (m.number p) (range_with_len 0 (length job.graph
 -- task t is registered on some phaser
 abbrev pub IsRegistered : Moment → ℕ → Type 0
 IsRegistered m t = (p : ℕ) × (n : ℕ) × (m.number p t ≡ Some n)
+
+-- the job whose sinks that join now begin where they do at a moment
+abbrev pub started : Job → Moment → Job
+started job m = with_starts (map m.offset (range_with_len 0 (length job.graph.tasks))) job
 
 -- ---- one phaser
 
@@ -130,12 +134,17 @@ pub record OnInput (job : Job) (m : Moment) (t k p n : ℕ) : Type 0 where
   pub taken : m.taken t k ≡ map number (received_by (value_at job p) (m.history p) n)
   pub left : has_dropped (m.history p) n ≡ true → HasEnded job m t
 
+-- where a child begins: at its parent's boundary, or, where it joins now, there or later
+abbrev pub BeginsBy : Bool → ℕ → ℕ → Type 0
+BeginsBy false offset boundary = offset ≡ boundary
+BeginsBy true offset boundary = boundary ≤ offset
+
 -- where a task begins: at phase 0, or as a child where its parent had begun `at` steps
-abbrev pub Joined : Moment → ℕ → Option Parent → Type 0
-Joined m t None = m.offset t ≡ 0
-Joined m t (Some parent) =
-    (m.offset t ≡ m.offset parent.task + parent.at) × (parent.at ≤ m.begun parent.task)
-    × IsRegistered m parent.task
+abbrev pub Joined : Moment → ℕ → Bool → Option Parent → Type 0
+Joined m t now None = m.offset t ≡ 0
+Joined m t now (Some parent) =
+    BeginsBy now (m.offset t) (m.offset parent.task + parent.at)
+    × (parent.at ≤ m.begun parent.task) × IsRegistered m parent.task
 
 -- of a child that is not registered on phaser p, where its parent is as number n: the parent has
 -- begun at most the steps after which the child comes, and fewer where it has left
@@ -217,7 +226,8 @@ pub record TaskRan (job : Job) (m : Moment) (t : ℕ) : Type 0 where
   pub inputs : (k : ℕ) → k < length (task_at job.graph t).inputs
       → TakenOn job m t k (input_at (task_at job.graph t) k)
       (m.number (input_at (task_at job.graph t) k) t)
-  pub joined : (p n : ℕ) → m.number p t ≡ Some n → Joined m t (task_at job.graph t).parent
+  pub joined : (p n : ℕ) → m.number p t ≡ Some n
+      → Joined m t (task_at job.graph t).joins_now (task_at job.graph t).parent
   -- its children, on a phaser where it is itself registered and they are not
   pub children : (c p n : ℕ) (u : Parent) → c < length job.graph.tasks
       → (task_at job.graph c).parent ≡ Some u → u.task ≡ t

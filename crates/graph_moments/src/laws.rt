@@ -15,7 +15,7 @@ ghost use Rattle.stream_lists.specs.Lists.{numbers_of, list_of_phaser, taken_fro
 ghost use Rattle.stream_lists.specs.Ranges.{Where, first_too_big, answer_of, are_made};
 ghost use Rattle.stream_lists.specs.Ranges.{is_out_of_range};
 ghost use Rattle.stream_lists.specs.Spans.{span_in, signalled_by};
-ghost use Rattle.graph_moments.specs.Moments.{Moment, HasRun, IsOver, IsRegistered};
+ghost use Rattle.graph_moments.specs.Moments.{Moment, HasRun, IsOver, IsRegistered, started};
 ghost use Rattle.graph_moments.specs.Moments.{HasMetNone, AnsweredNone};
 ghost use Rattle.graph_moments.specs.Moments.{HasExchanged, value_at, input_at, made_now};
 ghost use Rattle.graph_moments.specs.Settled.{IsReady, Stands, PutsOut, IsFaultAt, IsThere};
@@ -26,10 +26,10 @@ ghost use Rattle.graph_moments.specs.Settled.{IsReady, Stands, PutsOut, IsFaultA
 pub fn streams()
     ensures begin { (job : Job) (m : Moment) (p : ℕ) → IsReady job → HasRun job m
         → p < length job.graph.phasers
-        → IsPrefix (stream_of (value_at job p) (m.history p)) (list_of_phaser job p) }
+        → IsPrefix (stream_of (value_at job p) (m.history p)) (list_of_phaser (started job m) p) }
     ensures whole { (job : Job) (m : Moment) (p : ℕ) → IsReady job → HasRun job m
         → p < length job.graph.phasers → HasNoSignaller (m.history p)
-        → stream_of (value_at job p) (m.history p) ≡ list_of_phaser job p }
+        → stream_of (value_at job p) (m.history p) ≡ list_of_phaser (started job m) p }
 {}
 
 /// What a task has taken from an input at some moment begins what it takes there in all its steps.
@@ -38,7 +38,8 @@ pub fn takes()
     ensures { (job : Job) (m : Moment) (t k : ℕ) → IsReady job → HasRun job m
         → t < length job.graph.tasks → k < length (task_at job.graph t).inputs
         → IsPrefix (m.taken t k)
-        (taken_from (numbers_of job) (task_at job.graph t) (span_in job t) k) }
+        (taken_from (numbers_of (started job m)) (task_at job.graph t)
+        (span_in (started job m) t) k) }
 {}
 
 /// A registered task is one that is live by the lines: it began at its offset, and has begun at
@@ -47,10 +48,10 @@ pub fn takes()
 /// come, or lets one leave too early.
 pub fn members()
     ensures stands { (job : Job) (m : Moment) (t : ℕ) → IsReady job → HasRun job m
-        → t < length job.graph.tasks → IsRegistered m t → Stands job m t }
+        → t < length job.graph.tasks → IsRegistered m t → Stands (started job m) m t }
     ensures puts { (job : Job) (m : Moment) (t j : ℕ) → IsReady job → HasRun job m
         → t < length job.graph.tasks → IsRegistered m t
-        → j < length (signalled_by (task_at job.graph t)) → PutsOut job m t j }
+        → j < length (signalled_by (task_at job.graph t)) → PutsOut (started job m) m t j }
 {}
 
 /// A value that is too big and that a task has taken is out of range by the graph's lines too, in
@@ -64,14 +65,14 @@ pub fn too_big_is_a_fault()
         → n < done_of (m.history (input_at (task_at job.graph t) k))
         → value_of_phase (value_at job (input_at (task_at job.graph t) k))
         (m.history (input_at (task_at job.graph t) k)) n ≡ TooBig
-        → IsFaultAt job (place.Phaser (input_at (task_at job.graph t) k), n) }
+        → IsFaultAt (started job m) (place.Phaser (input_at (task_at job.graph t) k), n) }
     ensures made { (job : Job) (m : Moment) (t j p i : ℕ) → IsReady job → HasRun job m
         → t < length job.graph.tasks → p < length job.graph.phasers → IsRegistered m t
         → index_in (signalled_by (task_at job.graph t)) p ≡ Some j
         → are_made (task_at job.graph t).kind j ≡ true → i < length (made_now job m t j)
         → HasExchanged (task_at job.graph t).kind j (suc i) (length (m.taken t 1))
         → is_out_of_range (get_or (made_now job m t j) i (pos 0)) ≡ true
-        → IsFaultAt job (place.Task t, i) }
+        → IsFaultAt (started job m) (place.Task t, i) }
     ensures tells { (job : Job) (at : Where) → IsGraph job.graph → IsThere job at
         → IsFaultAt job at → first_too_big job ≢ None }
 {}
@@ -81,7 +82,7 @@ pub fn too_big_is_a_fault()
 pub fn answers()
     ensures { (job : Job) (m : Moment) → IsReady job → HasRun job m → IsOver job m
         → HasMetNone job m
-        → answer_of job ≡ Ok (map (λ t. (t, m.taken t 0)) (sinks_of job)) }
+        → answer_of (started job m) ≡ Ok (map (λ t. (t, m.taken t 0)) (sinks_of job)) }
 {}
 
 /// Where no wait on any phaser was answered a value that is too big, no task has got one. So

@@ -21,10 +21,10 @@ use Rattle.stream_lists.specs.Jobs.{Job, samples_at, index_in}
 use Rattle.stream_lists.specs.Spans.{signalled_by}
 use Rattle.stream_lists.specs.Lists.{number}
 use Rattle.stream_laws.proofs.Ordered.{parent_signals, parent_waits}
-use Rattle.graph_moments.specs.Moments.{one, Moment, TaskRan, input_at, limits_at, value_at, IsRegistered, OnOutput, OnInput, OnPhaser, PutOn, TakenOn, SilentOn, OnLine, HasNotPassed, Joined, MayEnd, at_until, no_sample, no_input, HasEnded}
+use Rattle.graph_moments.specs.Moments.{one, Moment, TaskRan, input_at, limits_at, value_at, IsRegistered, OnOutput, OnInput, OnPhaser, PutOn, TakenOn, SilentOn, OnLine, HasNotPassed, Joined, BeginsBy, MayEnd, at_until, no_sample, no_input, HasEnded}
 use Rattle.graph_moves.specs.Moves.{HasGrown, Registers}
 use Rattle.graph_moves.proofs.Framed.{task_later}
-use Rattle.graph_moves.proofs.OwnEvents.{eq_case}
+use Rattle.graph_moves.proofs.OwnEvents.{eq_case, begins_there}
 use Rattle.graph_moments.proofs.OnLines.{on_phaser}
 use Rattle.graph_moments.proofs.Whole.{parent_of}
 use Rattle.graph_moves.proofs.Registering.{part_stays, read_not_signalled, signals_from, waits_from, silent_from}
@@ -332,17 +332,22 @@ child_begins job before after t p n c a mode u is there legal grown s parent chi
         (let above : u.task < c = par.above in let by : u.task ≡ t = s.by in omega arith)))
         ∙ s.numbered
 
-    child_joined : Joined after c (task_at job.graph c).parent
+    child_joined : Joined after c (task_at job.graph c).joins_now (task_at job.graph c).parent
     child_joined =
-        let P : Option Parent → Type 0 = λ o. Joined after c o in
+        let P : Option Parent → Type 0 = λ o. Joined after c (task_at job.graph c).joins_now o in
         let U : ℕ → Type 0 =
-        λ x. (after.offset c ≡ after.offset x + u.at) × (u.at ≤ after.begun x)
+        λ x. BeginsBy (task_at job.graph c).joins_now (after.offset c) (after.offset x + u.at)
+        × (u.at ≤ after.begun x)
         × IsRegistered after x in
         let off : after.offset c ≡ after.offset t + u.at =
         (s.same c).offset ∙ s.offset ∙ ap (λ y. y + u.at) (sym (s.same t).offset) in
         let begun : after.begun t ≡ before.begun t = (s.same t).begun in
         let b : before.begun t ≡ u.at = s.boundary in
-        subst P (sym s.parent) (subst U (sym s.by) (off, omega arith, (p, n, still_there)))
+        subst P (sym s.parent) (subst U (sym s.by) (
+          begins_there (task_at job.graph c).joins_now (after.offset c) (after.offset t + u.at) off,
+          omega arith,
+          (p, n, still_there),
+        ))
 
     lines : (q b : ℕ) → after.number q c ≡ Some b → (q ≡ p) ⊎ (q ≢ p)
         → OnLine (task_at job.graph c) q

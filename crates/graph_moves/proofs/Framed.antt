@@ -19,7 +19,8 @@ use Rattle.stream_lists.specs.Jobs.{Job, samples_at, index_in}
 use Rattle.stream_lists.specs.Spans.{signalled_by}
 use Rattle.stream_lists.specs.Lists.{number, output_list}
 use Rattle.stream_lists.proofs.Growing.{map-same}
-use Rattle.graph_moments.specs.Moments.{one, Moment, input_at, taken_now, made_now, limits_at, value_at, IsRegistered, TaskRan, HasEnded, RanOut, first_input, MayEnd, at_until, no_sample, no_input, OnOutput, OnInput, OnPhaser, PutOn, TakenOn, SilentOn, OnLine, HasNotPassed, Joined, AtMost, HasTaken, HasSamples, HasExchanged}
+use Rattle.graph_moves.proofs.OwnEvents.{begins}
+use Rattle.graph_moments.specs.Moments.{one, Moment, BeginsBy, input_at, taken_now, made_now, limits_at, value_at, IsRegistered, TaskRan, HasEnded, RanOut, first_input, MayEnd, at_until, no_sample, no_input, OnOutput, OnInput, OnPhaser, PutOn, TakenOn, SilentOn, OnLine, HasNotPassed, Joined, AtMost, HasTaken, HasSamples, HasExchanged}
 use Rattle.graph_moves.specs.Moves.{SameTask, HasGrown, PartStays, OthersMoved}
 use Rattle.graph_moments.proofs.OnLines.{on_phaser}
 use Rattle.graph_moments.proofs.Tasks.{first_looks}
@@ -282,18 +283,26 @@ task_later job before after t is there grown o ran = record {
         }
 
     joined : (parent : Option Parent) → (task_at job.graph t).parent ≡ parent
-        → Joined before t (task_at job.graph t).parent → Joined after t (task_at job.graph t).parent
+        → Joined before t (task_at job.graph t).joins_now (task_at job.graph t).parent
+        → Joined after t (task_at job.graph t).joins_now (task_at job.graph t).parent
     joined None e j =
-        let A : Option Parent → Type 0 = λ u. Joined after t u in
-        let B : Option Parent → Type 0 = λ u. Joined before t u in
+        let A : Option Parent → Type 0 = λ u. Joined after t (task_at job.graph t).joins_now u in
+        let B : Option Parent → Type 0 = λ u. Joined before t (task_at job.graph t).joins_now u in
         let b : before.offset t ≡ 0 = subst B e j in
         subst A (sym e) (o.same.offset ∙ b)
     joined (Some u) e j =
-        let A : Option Parent → Type 0 = λ u. Joined after t u in
-        let B : Option Parent → Type 0 = λ u. Joined before t u in
-        let b : (before.offset t ≡ before.offset u.task + u.at) × (u.at ≤ before.begun u.task)
+        let A : Option Parent → Type 0 = λ u. Joined after t (task_at job.graph t).joins_now u in
+        let B : Option Parent → Type 0 = λ u. Joined before t (task_at job.graph t).joins_now u in
+        let b : BeginsBy (task_at job.graph t).joins_now (before.offset t)
+        (before.offset u.task + u.at) × (u.at ≤ before.begun u.task)
         × IsRegistered before u.task = subst B e j in
         let up = o.parent u e in
         let low : u.at ≤ before.begun u.task = b.1 in
         let on : before.begun u.task ≤ after.begun u.task = up.1 in
-        subst A (sym e) (o.same.offset ∙ b.0 ∙ ap (λ n. n + u.at) (sym up.0), omega arith, up.2 b.2)
+        subst A (sym e) (
+          begins (task_at job.graph t).joins_now (after.offset t) (after.offset u.task + u.at)
+              (before.offset t) (before.offset u.task + u.at) o.same.offset
+              (ap (λ n. n + u.at) up.0) b.0,
+          omega arith,
+          up.2 b.2,
+        )

@@ -1,5 +1,5 @@
 -- One event of one task keeps what a moment has of the whole.
-use Rattle.std.proofs.Common.{◌≡◌, ◌≢◌, ℕ, ◌<◌, ◌≤◌, Bool, true, false, ◌||◌, cond, eqb, [], ◌∷◌, Some, ℤ, length, refl, sym, ap, subst, ◌∙◌, arith, ◌⊎◌, inl, inr}
+use Rattle.std.proofs.Common.{◌≡◌, ◌≢◌, ℕ, ◌<◌, ◌≤◌, Bool, true, false, ◌||◌, cond, eqb, List, [], ◌∷◌, Some, ℤ, length, map, refl, sym, ap, subst, ◌∙◌, arith, ◌⊎◌, inl, inr}
 use Rattle.std.proofs.lemmas.Bool.{eqb-true, ne_eqb}
 use Rattle.phase_accum.specs.declared.outcome.Outcome.{Outcome}
 use Rattle.phase_history.specs.declared.event.Event.{Event}
@@ -16,14 +16,14 @@ use Rattle.graph_base.specs.Graphs.{phaser_at}
 use Rattle.graph_base.specs.TaskLines.{IsGraph}
 use Rattle.stream_lists.specs.Jobs.{Job}
 use Rattle.stream_lists.proofs.Growing.{filter_map-same}
-use Rattle.graph_moments.specs.Moments.{Moment, HasRun, PhaserRan, TaskRan, limits_at, numbers_on, IsRegistered}
-use Rattle.graph_moves.specs.Moves.{HasGrown, HasMoved, Signals, Waits, Leaves}
+use Rattle.graph_moments.specs.Moments.{one, Moment, HasRun, PhaserRan, TaskRan, limits_at, numbers_on, IsRegistered}
+use Rattle.graph_moves.specs.Moves.{HasGrown, HasMoved, SignalsAll, Signals, WaitsAll, Waits, Leaves}
 use Rattle.graph_moments.proofs.Numbers.{in_numbers}
 use Rattle.graph_moments.proofs.OnLines.{on_phaser}
 use Rattle.graph_moves.proofs.Framed.{task_later, part_came}
 use Rattle.graph_moves.proofs.OwnEvents.{eq_case, history_by}
-use Rattle.graph_moves.proofs.OwnSignals.{own_signal}
-use Rattle.graph_moves.proofs.OwnWaits.{own_wait}
+use Rattle.graph_moves.proofs.OwnSignals.{own_signals}
+use Rattle.graph_moves.proofs.OwnWaits.{own_waits}
 use Rattle.graph_moves.proofs.OwnLeaves.{own_leave}
 
 -- what an event of number n leaves of a phaser's history
@@ -190,31 +190,31 @@ run_keeps job before after t p n event is there pp moved numbered leaves ran own
 -- ---- the three events
 
 -- a signal keeps what a moment has
-pub signal_keeps : (job : Job) (before after : Moment) (t j p n : ℕ) (v : ℤ) → IsGraph job.graph
+pub signals_keep : (job : Job) (before after : Moment) (t j p n : ℕ) (vs : List ℤ) → IsGraph job.graph
     → t < length job.graph.tasks → p < length job.graph.phasers
-    → Signals job before after t j p n v → HasRun job before → HasRun job after
-signal_keeps job before after t j p n v is there pp s ran =
-    run_keeps job before after t p n (Signalled n ((v ∷ []) ∷ []) (phaser_at job.graph p).single) is
+    → SignalsAll job before after t j p n vs → HasRun job before → HasRun job after
+signals_keep job before after t j p n vs is there pp s ran =
+    run_keeps job before after t p n (Signalled n (map one vs) (phaser_at job.graph p).single) is
     there pp s.moved s.numbered
     (record {
       legal = ((ran.phasers p pp).legal, s.moved.accepted);
       names = (refl, (ran.phasers p pp).names);
       by = λ x other. not_same n x (λ e. other (sym e));
       starts = λ x. refl;
-    }) ran (λ grown. own_signal job before after t j p n v is there s (ran.tasks t there))
+    }) ran (λ grown. own_signals job before after t j p n vs is there s (ran.tasks t there))
 
 -- so does a wait
-pub wait_keeps : (job : Job) (before after : Moment) (t k p n : ℕ) (outcome : Outcome)
+pub waits_keep : (job : Job) (before after : Moment) (t k p n : ℕ) (outcomes : List Outcome)
     → IsGraph job.graph → t < length job.graph.tasks → p < length job.graph.phasers
-    → Waits job before after t k p n outcome → HasRun job before → HasRun job after
-wait_keeps job before after t k p n outcome is there pp s ran =
-    run_keeps job before after t p n (Waited n 1) is there pp s.moved s.numbered
+    → WaitsAll job before after t k p n outcomes → HasRun job before → HasRun job after
+waits_keep job before after t k p n outcomes is there pp s ran =
+    run_keeps job before after t p n (Waited n (length outcomes)) is there pp s.moved s.numbered
     (record {
       legal = ((ran.phasers p pp).legal, s.moved.accepted);
       names = (ran.phasers p pp).names;
       by = λ x other. not_same n x (λ e. other (sym e));
       starts = λ x. refl;
-    }) ran (λ grown. own_wait job before after t k p n outcome is there s (ran.tasks t there))
+    }) ran (λ grown. own_waits job before after t k p n outcomes is there s (ran.tasks t there))
 
 -- and leaving
 pub leave_keeps : (job : Job) (before after : Moment) (t p n : ℕ) → IsGraph job.graph
@@ -228,3 +228,15 @@ leave_keeps job before after t p n is there pp s ran =
       by = λ x other. not_same n x (λ e. other (sym e));
       starts = λ x. refl;
     }) ran (λ grown. own_leave job before after t p n is there grown s (ran.tasks t there))
+
+-- one value, and one outcome
+pub signal_keeps : (job : Job) (before after : Moment) (t j p n : ℕ) (v : ℤ) → IsGraph job.graph
+    → t < length job.graph.tasks → p < length job.graph.phasers
+    → Signals job before after t j p n v → HasRun job before → HasRun job after
+signal_keeps job before after t j p n v = signals_keep job before after t j p n (v ∷ [])
+
+pub wait_keeps : (job : Job) (before after : Moment) (t k p n : ℕ) (outcome : Outcome)
+    → IsGraph job.graph → t < length job.graph.tasks → p < length job.graph.phasers
+    → Waits job before after t k p n outcome → HasRun job before → HasRun job after
+wait_keeps job before after t k p n outcome =
+    waits_keep job before after t k p n (outcome ∷ [])

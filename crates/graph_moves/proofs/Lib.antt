@@ -11,3 +11,5 @@ pub mod OwnSignals
 pub mod OwnWaits
 pub mod Registering
 pub mod Turned
+pub mod JoinsNow
+pub mod InBlocks

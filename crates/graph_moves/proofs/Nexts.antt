@@ -1,5 +1,5 @@
 -- One more step: what it takes, by kind.
-use Rattle.std.proofs.Common.{◌≡◌, ℕ, zero, suc, ◌+◌, ◌-◌, ◌*◌, ◌/◌, ◌%◌, ◌<◌, ◌≤◌, length, refl, sym, ap, subst, ◌∙◌, arith, ◌⊎◌, inl, inr}
+use Rattle.std.proofs.Common.{◌≡◌, ℕ, zero, suc, ◌+◌, ◌-◌, ◌*◌, ◌/◌, ◌%◌, ◌<◌, ◌≤◌, List, [], ◌∷◌, length, refl, sym, ap, subst, ◌∙◌, arith, ◌⊎◌, inl, inr}
 use Rattle.std.proofs.lemmas.Bool.{cases_lt}
 use Rattle.std.proofs.lemmas.Nat.{mod_below, div-add-mod', div-mul-add}
 use Rattle.graph_base.specs.declared.line.Kind.{Kind}
@@ -9,6 +9,7 @@ use Rattle.graph_base.specs.TaskLines.{HasEnds}
 use Rattle.stream_lists.specs.Spans.{turns_below, takes_from}
 use Rattle.graph_moments.specs.Moments.{first_input, HasTaken}
 use Rattle.graph_moments.proofs.Turns.{row}
+use Rattle.graph_moves.specs.Moves.{IsBlock, further}
 
 -- a quotient, by its remainder
 div_is : (n q r m : ℕ) → n ≡ q * m + r → r < m → n / m ≡ q
@@ -137,3 +138,65 @@ has_taken-peer task b n e has less =
     let most : b ≤ n + 1 = r.1 in
     let high : b ≤ suc n + 1 = omega arith in
     rw e (low, high)
+
+-- ---- steps in a block
+
+pub further-length : {X : Type 0} (n : ℕ) (xs : List X) → further n xs ≡ n + length xs
+further-length n [] = omega arith
+further-length n (x ∷ xs) =
+    let rest : further n xs ≡ n + length xs = further-length n xs in omega arith
+
+-- a block takes as many from the input that its steps wait for first
+pub has_taken-block : (task : Task) (b c k n : ℕ)
+    → HasEnds task.kind (length task.inputs) (length task.outputs) → k < length task.inputs
+    → k ≡ first_input task b → IsBlock task.kind c → n ≡ takes_from task b k
+    → HasTaken task (b + c) k (n + c)
+has_taken-block task b c k n ends lt first block count = by task.kind refl
+  where
+    one_step : c ≡ 1 → HasTaken task (b + c) k (n + c)
+    one_step one =
+        let B : ℕ → Type 0 = λ x. HasTaken task x k (n + c) in
+        let N : ℕ → Type 0 = λ x. HasTaken task (suc b) k x in
+        let steps : suc b ≡ b + c = omega arith in
+        let more : suc n ≡ n + c = omega arith in
+        subst B steps (subst N more (has_taken-next task b k n ends lt first count))
+
+    by : (kind : Kind) → task.kind ≡ kind → HasTaken task (b + c) k (n + c)
+    by Source e = has_taken_source task (b + c) k (n + c) e
+    by Fir e = (let t : takes_from task b k ≡ b = rw e refl in
+        let r : n + c ≡ b + c = omega arith in rw e r)
+    by Sink e = (let t : takes_from task b k ≡ b = rw e refl in
+        let r : n + c ≡ b + c = omega arith in rw e r)
+    by Split e = one_step (subst (λ kind. IsBlock kind c) e block)
+    by Join e = one_step (subst (λ kind. IsBlock kind c) e block)
+    by Peer e = one_step (subst (λ kind. IsBlock kind c) e block)
+
+-- and every other as many as before
+pub has_taken-else : (task : Task) (b c k n : ℕ)
+    → HasEnds task.kind (length task.inputs) (length task.outputs) → k < length task.inputs
+    → (k ≡ first_input task b → ⊥) → IsBlock task.kind c → n ≡ takes_from task b k
+    → HasTaken task (b + c) k n
+has_taken-else task b c k n ends lt not block count = by task.kind refl
+  where
+    one_step : c ≡ 1 → HasTaken task (b + c) k n
+    one_step one =
+        let B : ℕ → Type 0 = λ x. HasTaken task x k n in
+        let steps : suc b ≡ b + c = omega arith in
+        subst B steps (has_taken-stay task b k n ends lt not count)
+
+    one_input : length task.inputs ≡ 1 → first_input task b ≡ 0 → ⊥
+    one_input one first = not (let same : k ≡ first_input task b = omega arith in same)
+
+    by : (kind : Kind) → task.kind ≡ kind → HasTaken task (b + c) k n
+    by Source e = has_taken_source task (b + c) k n e
+    by Fir e =
+        (let H : Kind → Type 0 = λ kind. HasEnds kind (length task.inputs) (length task.outputs) in
+        let both : (length task.inputs ≡ 1) × (length task.outputs ≡ 1) = subst H e ends in
+        absurd (one_input both.0 (rw e refl)))
+    by Sink e =
+        (let H : Kind → Type 0 = λ kind. HasEnds kind (length task.inputs) (length task.outputs) in
+        let both : (length task.inputs ≡ 1) × (length task.outputs ≡ 0) = subst H e ends in
+        absurd (one_input both.0 (rw e refl)))
+    by Split e = one_step (subst (λ kind. IsBlock kind c) e block)
+    by Join e = one_step (subst (λ kind. IsBlock kind c) e block)
+    by Peer e = one_step (subst (λ kind. IsBlock kind c) e block)

@@ -257,7 +257,7 @@ opened_ran job m is o = record { phasers = phasers; tasks = tasks }
           refl;
       inputs = λ k lt. inputs k lt (m.number (input_at (task_at job.graph t) k) t) refl;
       joined = λ p n at.
-          (let P : Option Parent → Type 0 = λ u. Joined m t u in
+          (let P : Option Parent → Type 0 = λ u. Joined m t (task_at job.graph t).joins_now u in
           subst P (sym (a.rooted p n at)) (a.offset (a.rooted p n at)));
       children = λ c p n u there_c e same at none on.
           (let pp : p < length job.graph.phasers = on_phaser job t p is there (a.lines p n at) in

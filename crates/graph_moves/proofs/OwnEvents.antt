@@ -9,7 +9,7 @@ use Rattle.graph_base.specs.TaskLines.{IsGraph}
 use Rattle.stream_lists.specs.Jobs.{Job, samples_at}
 use Rattle.stream_lists.specs.Lists.{output_list}
 use Rattle.stream_lists.proofs.Growing.{map-same}
-use Rattle.graph_moments.specs.Moments.{Moment, taken_now, made_now, IsRegistered, Joined}
+use Rattle.graph_moments.specs.Moments.{Moment, BeginsBy, taken_now, made_now, IsRegistered, Joined}
 use Rattle.graph_moves.specs.Moves.{HasMoved}
 use Rattle.stream_lists.proofs.SpansAbove.{parent-is}
 
@@ -43,23 +43,36 @@ pub history_by : (job : Job) (before after : Moment) (t p : ℕ) (event : Event)
 history_by job before after t p event P q moved =
     history_where before after p event P q moved.here moved.elsewhere
 
+-- where a child begins is the same where both phases are
+pub begins : (b : Bool) (o n : ℕ) (p q : ℕ) → o ≡ p → n ≡ q → BeginsBy b p q → BeginsBy b o n
+begins b o n p q first second at =
+    subst (λ x. BeginsBy b x n) (sym first) (subst (λ x. BeginsBy b p x) (sym second) at)
+
+-- its parent's boundary is one that any child may begin at
+pub begins_there : (b : Bool) (o n : ℕ) → o ≡ n → BeginsBy b o n
+begins_there false o n same = same
+begins_there true o n same = omega arith
+
 -- its parent's part, where it has one
 pub joined_later : (job : Job) (before after : Moment) (t p : ℕ) (event : Event) → IsGraph job.graph
     → t < length job.graph.tasks → HasMoved job before after t p event
-    → Joined before t (task_at job.graph t).parent → Joined after t (task_at job.graph t).parent
+    → Joined before t (task_at job.graph t).joins_now (task_at job.graph t).parent
+    → Joined after t (task_at job.graph t).joins_now (task_at job.graph t).parent
 joined_later job before after t p event is there moved j = by ((task_at job.graph t).parent) refl j
   where
     by : (parent : Option Parent) → (task_at job.graph t).parent ≡ parent
-        → Joined before t (task_at job.graph t).parent → Joined after t (task_at job.graph t).parent
+        → Joined before t (task_at job.graph t).joins_now (task_at job.graph t).parent
+        → Joined after t (task_at job.graph t).joins_now (task_at job.graph t).parent
     by None e j =
-        let A : Option Parent → Type 0 = λ u. Joined after t u in
-        let B : Option Parent → Type 0 = λ u. Joined before t u in
+        let A : Option Parent → Type 0 = λ u. Joined after t (task_at job.graph t).joins_now u in
+        let B : Option Parent → Type 0 = λ u. Joined before t (task_at job.graph t).joins_now u in
         let b : before.offset t ≡ 0 = subst B e j in
         subst A (sym e) (moved.offset ∙ b)
     by (Some u) e j =
-        let A : Option Parent → Type 0 = λ u. Joined after t u in
-        let B : Option Parent → Type 0 = λ u. Joined before t u in
-        let b : (before.offset t ≡ before.offset u.task + u.at) × (u.at ≤ before.begun u.task)
+        let A : Option Parent → Type 0 = λ u. Joined after t (task_at job.graph t).joins_now u in
+        let B : Option Parent → Type 0 = λ u. Joined before t (task_at job.graph t).joins_now u in
+        let b : BeginsBy (task_at job.graph t).joins_now (before.offset t)
+        (before.offset u.task + u.at) × (u.at ≤ before.begun u.task)
         × IsRegistered before u.task = subst B e j in
         let above : u.task < t =
         (parent-is job.graph t (task_at job.graph t) u
@@ -69,8 +82,9 @@ joined_later job before after t p event is there moved j = by ((task_at job.grap
         let low : u.at ≤ before.begun u.task = b.1 in
         let begun : after.begun u.task ≡ before.begun u.task = s.begun in
         subst A (sym e) (
-          moved.offset ∙ b.0
-              ∙ ap (λ n. n + u.at) (sym s.offset),
+          begins (task_at job.graph t).joins_now (after.offset t) (after.offset u.task + u.at)
+              (before.offset t) (before.offset u.task + u.at) moved.offset
+              (ap (λ n. n + u.at) s.offset) b.0,
           omega arith,
           (b.2.0, b.2.1, moved.numbers b.2.0 u.task ∙ b.2.2),
         )

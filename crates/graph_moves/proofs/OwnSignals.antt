@@ -1,5 +1,5 @@
 -- A task's own signal keeps what a moment has of it.
-use Rattle.std.proofs.Common.{◌≡◌, ◌≢◌, ℕ, suc, ◌<◌, ◌≤◌, true, false, eqb, List, [], ◌∷◌, ◌++◌, Option, Some, None, ℤ, length, map, get_or, refl, sym, ap, subst, ◌∙◌, arith, ◌⊎◌, inl, inr}
+use Rattle.std.proofs.Common.{◌≡◌, ◌≢◌, ℕ, ◌+◌, ◌<◌, ◌≤◌, true, false, eqb, List, [], ◌∷◌, ◌++◌, Option, Some, None, ℤ, length, map, get_or, refl, sym, ap, subst, ◌∙◌, arith, ◌⊎◌, inl, inr}
 use mathlib.Core.List.{IsPrefix}
 use Rattle.std.proofs.lemmas.Bool.{eq-eqb}
 use Rattle.std.proofs.lemmas.List.{map-append}
@@ -19,14 +19,14 @@ use Rattle.stream_lists.specs.Spans.{signalled_by}
 use Rattle.stream_lists.specs.Lists.{number}
 use Rattle.stream_laws.proofs.Ordered.{place-at}
 use Rattle.graph_moments.specs.Moments.{one, Moment, input_at, made_now, value_at, TaskRan, OnOutput, OnInput, OnPhaser, PutOn, TakenOn, SilentOn, OnLine, HasNotPassed, AtMost, HasTaken, HasSamples, HasExchanged}
-use Rattle.graph_moves.specs.Moves.{MayBegin, Signals}
+use Rattle.graph_moves.specs.Moves.{further, MayBeginTo, SignalsAll, Signals}
 use Rattle.graph_moments.proofs.Steps.{no_inputs}
 use Rattle.graph_moves.proofs.OwnEvents.{eq_case, history_by, joined_later, made_still}
 
-pub own_signal : (job : Job) (before after : Moment) (t j p n : ℕ) (v : ℤ) → IsGraph job.graph
+pub own_signals : (job : Job) (before after : Moment) (t j p n : ℕ) (vs : List ℤ) → IsGraph job.graph
     → t < length job.graph.tasks
-    → Signals job before after t j p n v → TaskRan job before t → TaskRan job after t
-own_signal job before after t j p n v is there s ran = record {
+    → SignalsAll job before after t j p n vs → TaskRan job before t → TaskRan job after t
+own_signals job before after t j p n vs is there s ran = record {
   puts = λ i lt. puts i lt (eq_case i j);
   exchanged = λ i. exchanged i (eq_case i j);
   takes = λ k lt. takes k lt s.begun;
@@ -51,11 +51,11 @@ own_signal job before after t j p n v is there s ran = record {
     line = is.tasks t there
 
     event : Event
-    event = Signalled n ((v ∷ []) ∷ []) (phaser_at job.graph p).single
+    event = Signalled n (map one vs) (phaser_at job.graph p).single
 
     Begun : Type 0
-    Begun = ((task_at job.graph t).kind ≡ Source) × (after.begun t ≡ suc (before.begun t))
-        × MayBegin job before t ⊎ (after.begun t ≡ before.begun t)
+    Begun = ((task_at job.graph t).kind ≡ Source) × (after.begun t ≡ further (before.begun t) vs)
+        × MayBeginTo job before t (further (before.begun t) vs) ⊎ (after.begun t ≡ before.begun t)
 
     at_p : (j < length (signalled_by (task_at job.graph t)))
         × (get_or (signalled_by (task_at job.graph t)) j 0 ≡ p)
@@ -68,8 +68,8 @@ own_signal job before after t j p n v is there s ran = record {
         subst P (sym same) s.made
     puts i lt (inr apart) = by s.begun
       where
-        by : ((task_at job.graph t).kind ≡ Source) × (after.begun t ≡ suc (before.begun t))
-            × MayBegin job before t ⊎ (after.begun t ≡ before.begun t)
+        by : ((task_at job.graph t).kind ≡ Source) × (after.begun t ≡ further (before.begun t) vs)
+            × MayBeginTo job before t (further (before.begun t) vs) ⊎ (after.begun t ≡ before.begun t)
             → IsPrefix (after.put t i) (made_now job after t i)
         by (inl b) =
             let H : Kind → Type 0 =
@@ -104,8 +104,8 @@ own_signal job before after t j p n v is there s ran = record {
         subst A (sym (s.other_puts i apart)) (subst B (sym (s.taken 1)) (ran.exchanged i))
 
     takes : (k : ℕ) → k < length (task_at job.graph t).inputs
-        → ((task_at job.graph t).kind ≡ Source) × (after.begun t ≡ suc (before.begun t))
-        × MayBegin job before t ⊎ (after.begun t ≡ before.begun t)
+        → ((task_at job.graph t).kind ≡ Source) × (after.begun t ≡ further (before.begun t) vs)
+        × MayBeginTo job before t (further (before.begun t) vs) ⊎ (after.begun t ≡ before.begun t)
         → HasTaken (task_at job.graph t) (after.begun t) k (length (after.taken t k))
     takes k lt (inl b) =
         let none : length (task_at job.graph t).inputs ≡ 0 =
@@ -116,8 +116,8 @@ own_signal job before after t j p n v is there s ran = record {
         let D : ℕ → Type 0 = λ b. HasTaken (task_at job.graph t) b k (length (before.taken t k)) in
         subst A (sym (s.taken k)) (subst D (sym b) (ran.takes k lt))
 
-    samples : ((task_at job.graph t).kind ≡ Source) × (after.begun t ≡ suc (before.begun t))
-        × MayBegin job before t ⊎ (after.begun t ≡ before.begun t)
+    samples : ((task_at job.graph t).kind ≡ Source) × (after.begun t ≡ further (before.begun t) vs)
+        × MayBeginTo job before t (further (before.begun t) vs) ⊎ (after.begun t ≡ before.begun t)
         → HasSamples (task_at job.graph t).kind (after.begun t) (length (samples_at job t))
     samples (inl b) =
         let D : ℕ → Type 0 =
@@ -128,8 +128,8 @@ own_signal job before after t j p n v is there s ran = record {
         λ b. HasSamples (task_at job.graph t).kind b (length (samples_at job t)) in
         subst D (sym b) ran.samples
 
-    cut : ((task_at job.graph t).kind ≡ Source) × (after.begun t ≡ suc (before.begun t))
-        × MayBegin job before t ⊎ (after.begun t ≡ before.begun t)
+    cut : ((task_at job.graph t).kind ≡ Source) × (after.begun t ≡ further (before.begun t) vs)
+        × MayBeginTo job before t (further (before.begun t) vs) ⊎ (after.begun t ≡ before.begun t)
         → AtMost (after.begun t) (task_at job.graph t).until
     cut (inl b) =
         let D : ℕ → Type 0 = λ b. AtMost b (task_at job.graph t).until in subst D (sym b.1) b.2.cut
@@ -201,12 +201,12 @@ own_signal job before after t j p n v is there s ran = record {
             ap (λ x. after.history x) same ∙ s.moved.here
             ∙ ap (λ x. event ∷ before.history x) (sym same) in
             let more : sent_by (event ∷ before.history q) a
-            ≡ sent_by (before.history q) a ++ (v ∷ []) ∷ [] = rw mine refl in
-            let put : after.put t i ≡ before.put t i ++ v ∷ [] =
+            ≡ sent_by (before.history q) a ++ map one vs = rw mine refl in
+            let put : after.put t i ≡ before.put t i ++ vs =
             ap (λ x. after.put t x) at_j ∙ s.put
-            ∙ ap (λ x. before.put t x ++ v ∷ []) (sym at_j) in
-            ap (λ h. sent_by h a) now ∙ more ∙ ap (λ l. l ++ (v ∷ []) ∷ []) is_sent
-            ∙ sym (ap (λ l. map one l) put ∙ map-append one (before.put t i) (v ∷ []))
+            ∙ ap (λ x. before.put t x ++ vs) (sym at_j) in
+            ap (λ h. sent_by h a) now ∙ more ∙ ap (λ l. l ++ map one vs) is_sent
+            ∙ sym (ap (λ l. map one l) put ∙ map-append one (before.put t i) vs)
         sent i a e at is_sent (inr apart) =
             let other : i ≢ j =
             λ same. apart
@@ -250,12 +250,13 @@ own_signal job before after t j p n v is there s ran = record {
     children : (c q a : ℕ) (u : Parent) → c < length job.graph.tasks
         → (task_at job.graph c).parent ≡ Some u → u.task ≡ t
         → before.number q t ≡ Some a → before.number q c ≡ None → OnLine (task_at job.graph c) q
-        → ((task_at job.graph t).kind ≡ Source) × (after.begun t ≡ suc (before.begun t))
-        × MayBegin job before t ⊎ (after.begun t ≡ before.begun t)
+        → ((task_at job.graph t).kind ≡ Source) × (after.begun t ≡ further (before.begun t) vs)
+        × MayBeginTo job before t (further (before.begun t) vs) ⊎ (after.begun t ≡ before.begun t)
         → HasNotPassed after q a u
     children c q a u there_c e same at none on (inl b) =
-        let less : before.begun t < u.at = b.2.children q c a u there_c e same at none on in
-        let begun : after.begun u.task ≡ suc (before.begun t) =
+        let less : further (before.begun t) vs ≤ u.at =
+        b.2.children q c a u there_c e same at none on in
+        let begun : after.begun u.task ≡ further (before.begun t) vs =
         ap (λ x. after.begun x) same ∙ b.1 in
         record {
           early =
@@ -274,3 +275,9 @@ own_signal job before after t j p n v is there s ran = record {
           ended =
               λ gone. absurd (let f : true ≡ false = sym gone ∙ stays_dropped q a at in cc);
         }
+
+-- one value
+pub own_signal : (job : Job) (before after : Moment) (t j p n : ℕ) (v : ℤ) → IsGraph job.graph
+    → t < length job.graph.tasks
+    → Signals job before after t j p n v → TaskRan job before t → TaskRan job after t
+own_signal job before after t j p n v = own_signals job before after t j p n (v ∷ [])

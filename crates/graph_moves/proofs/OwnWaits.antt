@@ -1,7 +1,7 @@
 -- A task's own wait keeps what a moment has of it.
 use Rattle.std.proofs.Common.{◌≡◌, ◌≢◌, ℕ, zero, suc, ◌+◌, ◌<◌, ◌≤◌, true, false, List, [], ◌∷◌, ◌++◌, Option, Some, None, ℤ, length, map, get_or, refl, sym, ap, subst, ◌∙◌, arith, ◌⊎◌, inl, inr}
 use mathlib.Core.List.{IsPrefix}
-use Rattle.std.proofs.lemmas.List.{map-append, length-append}
+use Rattle.std.proofs.lemmas.List.{map-append, length-append, length-map}
 use Rattle.std.proofs.lemmas.List.FromFn.{length-map-range_with_len}
 use Rattle.std.proofs.lemmas.Option.{same_Some}
 use Rattle.phase_accum.specs.declared.outcome.Outcome.{Outcome}
@@ -19,9 +19,9 @@ use Rattle.stream_lists.specs.Jobs.{Job, samples_at, index_in}
 use Rattle.stream_lists.specs.Spans.{signalled_by}
 use Rattle.stream_lists.specs.Lists.{number}
 use Rattle.graph_moments.specs.Moments.{one, Moment, input_at, taken_now, made_now, value_at, TaskRan, first_input, OnOutput, OnInput, OnPhaser, PutOn, TakenOn, SilentOn, OnLine, HasNotPassed, AtMost, HasTaken, HasSamples, HasExchanged}
-use Rattle.graph_moves.specs.Moves.{MayBegin, Waits}
+use Rattle.graph_moves.specs.Moves.{further, MayBeginTo, IsBlock, WaitsAll, Waits}
 use Rattle.graph_moments.proofs.Entries.{IsPrefix-refl, prefix_length}
-use Rattle.graph_moves.proofs.Nexts.{has_taken-next, has_taken-stay, has_taken-peer}
+use Rattle.graph_moves.proofs.Nexts.{further-length, has_taken-block, has_taken-else, has_taken-peer}
 use Rattle.graph_moments.proofs.OutputLists.{outputs_begin}
 use Rattle.graph_moments.proofs.Tasks.{now_counts, now_at, exchanged_as}
 use Rattle.stream_laws.proofs.Ordered.{place_of_input}
@@ -68,10 +68,10 @@ made_more job before after t j put line ran lt le grows exchanged begins =
     exchanged)
     begins
 
-pub own_wait : (job : Job) (before after : Moment) (t k p n : ℕ) (outcome : Outcome)
+pub own_waits : (job : Job) (before after : Moment) (t k p n : ℕ) (outcomes : List Outcome)
     → IsGraph job.graph → t < length job.graph.tasks
-    → Waits job before after t k p n outcome → TaskRan job before t → TaskRan job after t
-own_wait job before after t k p n outcome is there s ran = record {
+    → WaitsAll job before after t k p n outcomes → TaskRan job before t → TaskRan job after t
+own_waits job before after t k p n outcomes is there s ran = record {
   puts = λ j lt.
       (let A : List ℤ → Type 0 = λ l. IsPrefix l (made_now job after t j) in
       subst A (sym (s.put j))
@@ -97,7 +97,7 @@ own_wait job before after t k p n outcome is there s ran = record {
       (eq_case i k);
   lines = λ q a at. ran.lines q a (sym (s.moved.numbers q t) ∙ at);
   joined = λ q a at.
-      joined_later job before after t p (Waited n 1) is there s.moved
+      joined_later job before after t p (Waited n (length outcomes)) is there s.moved
       (ran.joined q a (sym (s.moved.numbers q t) ∙ at));
   children =
       λ c q a u there_c e same at none on.
@@ -109,99 +109,114 @@ own_wait job before after t k p n outcome is there s ran = record {
     line = is.tasks t there
 
     event : Event
-    event = Waited n 1
+    event = Waited n (length outcomes)
 
     begun_grows : (k ≡ first_input (task_at job.graph t) (before.begun t))
-        × (after.begun t ≡ suc (before.begun t)) × MayBegin job before t
-        ⊎ ((task_at job.graph t).kind ≡ Peer) × (k ≡ 1) × (after.begun t ≡ before.begun t)
-        × (length (before.taken t 1) < before.begun t)
+        × (after.begun t ≡ further (before.begun t) outcomes)
+        × IsBlock (task_at job.graph t).kind (length outcomes)
+        × MayBeginTo job before t (further (before.begun t) outcomes)
+        ⊎ ((task_at job.graph t).kind ≡ Peer) × (k ≡ 1) × (length outcomes ≡ 1)
+        × (after.begun t ≡ before.begun t) × (length (before.taken t 1) < before.begun t)
         → before.begun t ≤ after.begun t
-    begun_grows (inl b) = let e : after.begun t ≡ suc (before.begun t) = b.1 in omega arith
-    begun_grows (inr b) = let e : after.begun t ≡ before.begun t = b.2 in omega arith
+    begun_grows (inl b) =
+        let e : after.begun t ≡ further (before.begun t) outcomes = b.1 in
+        let many = further-length (before.begun t) outcomes in omega arith
+    begun_grows (inr b) = let e : after.begun t ≡ before.begun t = b.3 in omega arith
 
     takes_grow : (i : ℕ) → (i ≡ k) ⊎ (i ≢ k) → IsPrefix (before.taken t i) (after.taken t i)
     takes_grow i (inl same) =
         let P : ℕ → Type 0 = λ i. IsPrefix (before.taken t i) (after.taken t i) in
-        subst P (sym same) (number outcome ∷ [], sym s.taken)
+        subst P (sym same) (map number outcomes, sym s.taken)
     takes_grow i (inr apart) =
         let A : List ℤ → Type 0 = λ l. IsPrefix (before.taken t i) l in
         subst A (sym (s.other_takes i apart)) (IsPrefix-refl (before.taken t i))
 
-    one_more : length (after.taken t k) ≡ suc (length (before.taken t k))
-    one_more =
-        ap length s.taken
-        ∙ (let l : length (before.taken t k ++ number outcome ∷ [])
-        ≡ length (before.taken t k) + 1 =
-        length-append (before.taken t k) (number outcome ∷ []) in
-        let r : length (before.taken t k ++ number outcome ∷ [])
-        ≡ suc (length (before.taken t k)) = omega arith in r)
+    more : length (after.taken t k) ≡ length (before.taken t k) + length outcomes
+    more =
+        ap length s.taken ∙ length-append (before.taken t k) (map number outcomes)
+        ∙ ap (λ x. length (before.taken t k) + x) (length-map outcomes number)
 
     takes : (i : ℕ) → i < length (task_at job.graph t).inputs → (i ≡ k) ⊎ (i ≢ k)
         → (k ≡ first_input (task_at job.graph t) (before.begun t))
-        × (after.begun t ≡ suc (before.begun t)) × MayBegin job before t
-        ⊎ ((task_at job.graph t).kind ≡ Peer) × (k ≡ 1) × (after.begun t ≡ before.begun t)
-        × (length (before.taken t 1) < before.begun t)
+        × (after.begun t ≡ further (before.begun t) outcomes)
+        × IsBlock (task_at job.graph t).kind (length outcomes)
+        × MayBeginTo job before t (further (before.begun t) outcomes)
+        ⊎ ((task_at job.graph t).kind ≡ Peer) × (k ≡ 1) × (length outcomes ≡ 1)
+        × (after.begun t ≡ before.begun t) × (length (before.taken t 1) < before.begun t)
         → HasTaken (task_at job.graph t) (after.begun t) i (length (after.taken t i))
     takes i lt (inl same) (inl b) =
         let task = task_at job.graph t in
         let K : ℕ → Type 0 = λ i. HasTaken task (after.begun t) i (length (after.taken t i)) in
         let B : ℕ → Type 0 = λ b. HasTaken task b k (length (after.taken t k)) in
-        let N : ℕ → Type 0 = λ n. HasTaken task (suc (before.begun t)) k n in
+        let N : ℕ → Type 0 = λ n. HasTaken task (further (before.begun t) outcomes) k n in
         subst K (sym same)
         (subst B (sym b.1)
-        (subst N (sym one_more)
-        (has_taken-next task (before.begun t) k (length (before.taken t k)) line.ends
-        s.few b.0 (b.2.taken k s.few))))
+        (subst N (sym more)
+        (subst (λ x. HasTaken task x k (length (before.taken t k) + length outcomes))
+        (sym (further-length (before.begun t) outcomes))
+        (has_taken-block task (before.begun t) (length outcomes) k (length (before.taken t k))
+        line.ends s.few b.0 b.2 (b.3.taken k s.few)))))
     takes i lt (inr apart) (inl b) =
         let task = task_at job.graph t in
         let B : ℕ → Type 0 = λ b. HasTaken task b i (length (after.taken t i)) in
-        let L : List ℤ → Type 0 = λ l. HasTaken task (suc (before.begun t)) i (length l) in
+        let L : List ℤ → Type 0 =
+        λ l. HasTaken task (further (before.begun t) outcomes) i (length l) in
         subst B (sym b.1)
         (subst L (sym (s.other_takes i apart))
-        (has_taken-stay task (before.begun t) i (length (before.taken t i)) line.ends lt
-        (λ e. apart (e ∙ sym b.0)) (b.2.taken i lt)))
+        (subst (λ x. HasTaken task x i (length (before.taken t i)))
+        (sym (further-length (before.begun t) outcomes))
+        (has_taken-else task (before.begun t) (length outcomes) i (length (before.taken t i))
+        line.ends lt (λ e. apart (e ∙ sym b.0)) b.2 (b.3.taken i lt))))
     takes i lt (inl same) (inr b) =
         let task = task_at job.graph t in
         let K : ℕ → Type 0 = λ i. HasTaken task (after.begun t) i (length (after.taken t i)) in
         let B : ℕ → Type 0 = λ b. HasTaken task b 1 (length (after.taken t 1)) in
         let N : ℕ → Type 0 = λ n. HasTaken task (before.begun t) 1 n in
-        let M : ℕ → Type 0 = λ x. length (after.taken t x) ≡ suc (length (before.taken t x)) in
+        let M : ℕ → Type 0 =
+        λ x. length (after.taken t x) ≡ length (before.taken t x) + length outcomes in
         let lt1 : 1 < length task.inputs =
         (let f : k < length task.inputs = s.few in let e : k ≡ 1 = b.1 in omega arith) in
+        let one_more : length (after.taken t 1) ≡ suc (length (before.taken t 1)) =
+        (let m : length (after.taken t 1) ≡ length (before.taken t 1) + length outcomes =
+        subst M b.1 more in let one : length outcomes ≡ 1 = b.2 in omega arith) in
         subst K (sym (same ∙ b.1))
-        (subst B (sym b.2)
-        (subst N (sym (subst M b.1 one_more))
+        (subst B (sym b.3)
+        (subst N (sym one_more)
         (has_taken-peer task (before.begun t) (length (before.taken t 1)) b.0
-        (ran.takes 1 lt1) b.3)))
+        (ran.takes 1 lt1) b.4)))
     takes i lt (inr apart) (inr b) =
         let task = task_at job.graph t in
         let B : ℕ → Type 0 = λ b. HasTaken task b i (length (after.taken t i)) in
         let L : List ℤ → Type 0 = λ l. HasTaken task (before.begun t) i (length l) in
-        subst B (sym b.2) (subst L (sym (s.other_takes i apart)) (ran.takes i lt))
+        subst B (sym b.3) (subst L (sym (s.other_takes i apart)) (ran.takes i lt))
 
     samples : (k ≡ first_input (task_at job.graph t) (before.begun t))
-        × (after.begun t ≡ suc (before.begun t)) × MayBegin job before t
-        ⊎ ((task_at job.graph t).kind ≡ Peer) × (k ≡ 1) × (after.begun t ≡ before.begun t)
-        × (length (before.taken t 1) < before.begun t)
+        × (after.begun t ≡ further (before.begun t) outcomes)
+        × IsBlock (task_at job.graph t).kind (length outcomes)
+        × MayBeginTo job before t (further (before.begun t) outcomes)
+        ⊎ ((task_at job.graph t).kind ≡ Peer) × (k ≡ 1) × (length outcomes ≡ 1)
+        × (after.begun t ≡ before.begun t) × (length (before.taken t 1) < before.begun t)
         → HasSamples (task_at job.graph t).kind (after.begun t) (length (samples_at job t))
     samples (inl b) =
         let D : ℕ → Type 0 =
         λ b. HasSamples (task_at job.graph t).kind b (length (samples_at job t)) in
-        subst D (sym b.1) b.2.samples
+        subst D (sym b.1) b.3.samples
     samples (inr b) =
         let D : ℕ → Type 0 =
         λ b. HasSamples (task_at job.graph t).kind b (length (samples_at job t)) in
-        subst D (sym b.2) ran.samples
+        subst D (sym b.3) ran.samples
 
     cut : (k ≡ first_input (task_at job.graph t) (before.begun t))
-        × (after.begun t ≡ suc (before.begun t)) × MayBegin job before t
-        ⊎ ((task_at job.graph t).kind ≡ Peer) × (k ≡ 1) × (after.begun t ≡ before.begun t)
-        × (length (before.taken t 1) < before.begun t)
+        × (after.begun t ≡ further (before.begun t) outcomes)
+        × IsBlock (task_at job.graph t).kind (length outcomes)
+        × MayBeginTo job before t (further (before.begun t) outcomes)
+        ⊎ ((task_at job.graph t).kind ≡ Peer) × (k ≡ 1) × (length outcomes ≡ 1)
+        × (after.begun t ≡ before.begun t) × (length (before.taken t 1) < before.begun t)
         → AtMost (after.begun t) (task_at job.graph t).until
     cut (inl b) =
-        let D : ℕ → Type 0 = λ b. AtMost b (task_at job.graph t).until in subst D (sym b.1) b.2.cut
+        let D : ℕ → Type 0 = λ b. AtMost b (task_at job.graph t).until in subst D (sym b.1) b.3.cut
     cut (inr b) =
-        let D : ℕ → Type 0 = λ b. AtMost b (task_at job.graph t).until in subst D (sym b.2) ran.cut
+        let D : ℕ → Type 0 = λ b. AtMost b (task_at job.graph t).until in subst D (sym b.3) ran.cut
 
     stays_dropped : (q a : ℕ) → before.number q t ≡ Some a → has_dropped (after.history q) a ≡ false
     stays_dropped q a at =
@@ -279,20 +294,20 @@ own_wait job before after t k p n outcome is there s ran = record {
         let b : OnInput job before t i q a = subst B at on in
         let here : q ≡ p = ap (λ x. input_at (task_at job.graph t) x) same ∙ s.place in
         let me : a ≡ n = same_Some a n (sym at ∙ ap (λ x. before.number x t) here ∙ s.numbered) in
-        let now : after.history q ≡ Waited n 1 ∷ before.history q =
+        let now : after.history q ≡ Waited n (length outcomes) ∷ before.history q =
         ap (λ x. after.history x) here ∙ s.moved.here
-        ∙ ap (λ x. Waited n 1 ∷ before.history x) (sym here) in
+        ∙ ap (λ x. Waited n (length outcomes) ∷ before.history x) (sym here) in
         let V : ℕ → ℕ → Type 0 =
-        λ x y. received_by (value_at job x) (Waited n 1 ∷ before.history x) y
-        ≡ received_by (value_at job x) (before.history x) y ++ outcome ∷ [] in
+        λ x y. received_by (value_at job x) (Waited n (length outcomes) ∷ before.history x) y
+        ≡ received_by (value_at job x) (before.history x) y ++ outcomes in
         let Q : ℕ → Type 0 = λ x. V x a in
         let N : ℕ → Type 0 = λ y. V p y in
-        let answer : received_by (value_at job q) (Waited n 1 ∷ before.history q) a
-        ≡ received_by (value_at job q) (before.history q) a ++ outcome ∷ [] =
+        let answer : received_by (value_at job q) (Waited n (length outcomes) ∷ before.history q) a
+        ≡ received_by (value_at job q) (before.history q) a ++ outcomes =
         subst Q (sym here) (subst N (sym me) s.answered) in
-        let taken : after.taken t i ≡ before.taken t i ++ number outcome ∷ [] =
+        let taken : after.taken t i ≡ before.taken t i ++ map number outcomes =
         ap (λ x. after.taken t x) same ∙ s.taken
-        ∙ ap (λ x. before.taken t x ++ number outcome ∷ []) (sym same) in
+        ∙ ap (λ x. before.taken t x ++ map number outcomes) (sym same) in
         subst S (sym (s.moved.numbers q t ∙ at)) (record {
           start = b.start;
           start_is =
@@ -300,11 +315,11 @@ own_wait job before after t k p n outcome is there s ran = record {
               (λ same. b.start_is) (λ apart. b.start_is);
           waits = b.waits;
           at = b.at ∙ sym s.moved.offset;
-          taken = taken ∙ ap (λ l. l ++ number outcome ∷ []) b.taken
+          taken = taken ∙ ap (λ l. l ++ map number outcomes) b.taken
               ∙ sym (ap (λ h. map number (received_by (value_at job q) h a)) now
               ∙ ap (λ l. map number l) answer
               ∙ map-append number (received_by (value_at job q) (before.history q) a)
-              (outcome ∷ []));
+              outcomes);
           left = λ gone. absurd (let f : true ≡ false = sym gone ∙ stays_dropped q a at in cc);
         })
     inputs i lt (Some a) at on (inr apart) =
@@ -333,13 +348,16 @@ own_wait job before after t k p n outcome is there s ran = record {
         → (task_at job.graph c).parent ≡ Some u → u.task ≡ t
         → before.number q t ≡ Some a → before.number q c ≡ None → OnLine (task_at job.graph c) q
         → (k ≡ first_input (task_at job.graph t) (before.begun t))
-        × (after.begun t ≡ suc (before.begun t)) × MayBegin job before t
-        ⊎ ((task_at job.graph t).kind ≡ Peer) × (k ≡ 1) × (after.begun t ≡ before.begun t)
-        × (length (before.taken t 1) < before.begun t)
+        × (after.begun t ≡ further (before.begun t) outcomes)
+        × IsBlock (task_at job.graph t).kind (length outcomes)
+        × MayBeginTo job before t (further (before.begun t) outcomes)
+        ⊎ ((task_at job.graph t).kind ≡ Peer) × (k ≡ 1) × (length outcomes ≡ 1)
+        × (after.begun t ≡ before.begun t) × (length (before.taken t 1) < before.begun t)
         → HasNotPassed after q a u
     children c q a u there_c e same at none on (inl b) =
-        let less : before.begun t < u.at = b.2.children q c a u there_c e same at none on in
-        let begun : after.begun u.task ≡ suc (before.begun t) =
+        let less : further (before.begun t) outcomes ≤ u.at =
+        b.3.children q c a u there_c e same at none on in
+        let begun : after.begun u.task ≡ further (before.begun t) outcomes =
         ap (λ x. after.begun x) same ∙ b.1 in
         record {
           early =
@@ -350,7 +368,7 @@ own_wait job before after t k p n outcome is there s ran = record {
     children c q a u there_c e same at none on (inr b) =
         let w : HasNotPassed before q a u = ran.children c q a u there_c e same at none on in
         let begun : after.begun u.task ≡ before.begun u.task =
-        ap (λ x. after.begun x) same ∙ b.2 ∙ ap (λ x. before.begun x) (sym same) in
+        ap (λ x. after.begun x) same ∙ b.3 ∙ ap (λ x. before.begun x) (sym same) in
         let early : before.begun u.task ≤ u.at = w.early in
         record {
           early =
@@ -358,3 +376,10 @@ own_wait job before after t k p n outcome is there s ran = record {
           ended =
               λ gone. absurd (let f : true ≡ false = sym gone ∙ stays_dropped q a at in cc);
         }
+
+-- one outcome
+pub own_wait : (job : Job) (before after : Moment) (t k p n : ℕ) (outcome : Outcome)
+    → IsGraph job.graph → t < length job.graph.tasks
+    → Waits job before after t k p n outcome → TaskRan job before t → TaskRan job after t
+own_wait job before after t k p n outcome =
+    own_waits job before after t k p n (outcome ∷ [])

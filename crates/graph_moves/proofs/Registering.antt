@@ -101,7 +101,7 @@ read_not_signalled job t k j line plain lt place =
 -- ---- where the parent stands
 
 -- the parent's entry
-parent_entry : (job : Job) (m : Moment) (p n a : ℕ) (mode : Mode)
+pub parent_entry : (job : Job) (m : Moment) (p n a : ℕ) (mode : Mode)
     → IsLegal (limits_at job p) (m.history p)
     → register_refusal (m.history p) n a mode ≡ None
     → (e : Entry) × HasCounted (m.history p) n e × (signal_phase (m.history p) n ≡ e.signal_phase)

@@ -8,7 +8,7 @@ use Rattle.phase_history.specs.declared.event.Event.TheVariants.{Registered, Sig
 use Rattle.phase_base.specs.declared.mode.Mode.{Mode}
 use Rattle.graph_base.specs.declared.line.Parent.{Parent}
 use Rattle.graph_base.specs.declared.line.Kind.{Kind}
-use Rattle.graph_base.specs.declared.line.Kind.TheVariants.{Source}
+use Rattle.graph_base.specs.declared.line.Kind.TheVariants.{Source, Fir, Split, Join, Peer, Sink}
 use Rattle.graph_base.specs.Graphs.{task_at, phaser_at}
 use Rattle.graph_base.specs.TaskLines.{IsGraph}
 use Rattle.stream_lists.specs.Jobs.{Job, samples_at}
@@ -16,7 +16,7 @@ use Rattle.stream_lists.specs.Spans.{signalled_by}
 use Rattle.stream_lists.specs.Lists.{output_list, number}
 use Rattle.stream_laws.proofs.Ordered.{place-at}
 use Rattle.graph_moments.specs.Moments.{Moment, HasRun, TaskRan, HasExchanged, HasSamples, made_now, taken_now}
-use Rattle.graph_moves.specs.Moves.{Signals, Waits, Leaves, Registers, SameTask, HasMoved}
+use Rattle.graph_moves.specs.Moves.{IsBlock, Signals, Waits, Leaves, Registers, SameTask, HasMoved}
 use Rattle.graph_moves.specs.Turned.{with_at, after_signal, after_wait, after_leave, after_register, IsAcceptedSignal, IsNextSignal, IsNextSample, IsAnsweredWait, IsFirstWait, IsExchangeWait, IsNextLeave, IsNextChild}
 use Rattle.graph_moments.proofs.Entries.{IsPrefix-trans, take_prefix, take_full, get_or-take}
 use Rattle.graph_moves.proofs.OwnEvents.{made_still, eq_case}
@@ -25,10 +25,10 @@ use Rattle.graph_moves.proofs.ChildJoins.{register_keeps}
 
 -- ---- a function with one place changed
 
-at_same : {X : Type 0} (p : ℕ) (x : X) (f : ℕ → X) → with_at p x f p ≡ x
+pub at_same : {X : Type 0} (p : ℕ) (x : X) (f : ℕ → X) → with_at p x f p ≡ x
 at_same p x f = let here : eqb p p ≡ true = eq-eqb p p refl in rw here refl
 
-at_other : {X : Type 0} (p : ℕ) (x : X) (f : ℕ → X) (q : ℕ) → q ≢ p → with_at p x f q ≡ f q
+pub at_other : {X : Type 0} (p : ℕ) (x : X) (f : ℕ → X) (q : ℕ) → q ≢ p → with_at p x f q ≡ f q
 at_other p x f q apart = let other : eqb q p ≡ false = ne_eqb q p (λ e. apart e) in rw other refl
 
 seam : (xs : List ℤ) (r : ℤ) (rs : List ℤ) → get_or (xs ++ r ∷ rs) (length xs) (pos 0) ≡ r
@@ -192,6 +192,15 @@ next_sample_keeps job m t j p n v is there pp s ran =
 
 -- ---- waits
 
+-- a step is a block of one
+pub one_step : (kind : Kind) → IsBlock kind 1
+one_step Source = tt
+one_step Fir = tt
+one_step Split = refl
+one_step Join = refl
+one_step Peer = refl
+one_step Sink = tt
+
 moved_wait : (job : Job) (m : Moment) (t k p n : ℕ) (outcome : Outcome) (begun : ℕ)
     → IsAnsweredWait job m t k p n outcome → m.begun t ≤ begun
     → HasMoved job m (after_wait t k p n outcome begun m) t p (Waited n 1)
@@ -240,7 +249,12 @@ first_wait_is job m t k p n outcome s =
       taken = taken_here m t k p n outcome (suc (m.begun t));
       other_takes = λ i apart. taken_else m t k p n outcome (suc (m.begun t)) i apart;
       put = λ j. refl;
-      begun = inl (s.first, at_same t (suc (m.begun t)) m.begun, s.may_begin);
+      begun = inl (
+        s.first,
+        at_same t (suc (m.begun t)) m.begun,
+        one_step (task_at job.graph t).kind,
+        s.may_begin,
+      );
     }
 
 pub first_wait_keeps : (job : Job) (m : Moment) (t k p n : ℕ) (outcome : Outcome)
@@ -266,7 +280,7 @@ exchange_wait_is job m t p n outcome s =
       taken = taken_here m t 1 p n outcome (m.begun t);
       other_takes = λ i apart. taken_else m t 1 p n outcome (m.begun t) i apart;
       put = λ j. refl;
-      begun = inr (s.peer, refl, at_same t (m.begun t) m.begun, s.behind);
+      begun = inr (s.peer, refl, refl, at_same t (m.begun t) m.begun, s.behind);
     }
 
 pub exchange_wait_keeps : (job : Job) (m : Moment) (t p n : ℕ) (outcome : Outcome)

@@ -1,10 +1,13 @@
 -- A moment after one event, as a function of the moment before, and when the event is the next one.
-use Rattle.std.specs.Prelude.{◌≡◌, ℕ, suc, ◌+◌, ◌<◌, ℤ, pos, [], ◌∷◌, ◌++◌, length, get_or, Some, None, true, if◌then◌else◌, ◌==◌}
+use Rattle.std.specs.Prelude.{◌≡◌, ℕ, suc, ◌+◌, ◌<◌, ℤ, pos, List, [], ◌∷◌, ◌++◌, length, map, take, drop, get_or, Some, None, true, if◌then◌else◌, ◌==◌}
+use mathlib.Core.List.{IsPrefix}
 use Rattle.phase_base.specs.Modes.{mode_signals, mode_waits}
 use Rattle.phase_base.specs.declared.mode.Mode.{Mode}
+use Rattle.phase_base.specs.declared.mode.Mode.TheVariants.{Wait}
 use Rattle.phase_accum.specs.declared.outcome.Outcome.{Outcome}
 use Rattle.phase_history.specs.declared.event.Event.{Event}
-use Rattle.phase_history.specs.declared.event.Event.TheVariants.{Registered, Signalled, Waited, Dropped}
+use Rattle.phase_history.specs.declared.event.Event.TheVariants.{Registered, RegisteredNow, Signalled, Waited, Dropped}
+use Rattle.phase_history.specs.Histories.{done_of}
 use Rattle.phase_history.specs.Phases.{received_by}
 use Rattle.phase_history.specs.Legal.{IsAccepted}
 use Rattle.graph_base.specs.Graphs.{task_at, phaser_at}
@@ -13,8 +16,8 @@ use Rattle.graph_base.specs.declared.line.Kind.TheVariants.{Source, Peer}
 use Rattle.stream_lists.specs.Jobs.{Job, samples_at, index_in}
 use Rattle.stream_lists.specs.Spans.{signalled_by}
 use Rattle.stream_lists.specs.Lists.{number}
-use Rattle.graph_moments.specs.Moments.{Moment, limits_at, value_at, input_at, made_now, first_input, HasExchanged, HasEnded, OnLine}
-use Rattle.graph_moves.specs.Moves.{IsStaying, MayBegin, NoneDue}
+use Rattle.graph_moments.specs.Moments.{one, Moment, limits_at, value_at, input_at, made_now, first_input, HasExchanged, HasEnded, OnLine}
+use Rattle.graph_moves.specs.Moves.{further, IsStaying, MayBegin, MayBeginTo, NoneDue, IsBlock}
 
 -- x at place p, and f elsewhere
 abbrev pub with_at : {X : Type 0} → ℕ → X → (ℕ → X) → ℕ → X
@@ -24,22 +27,31 @@ with_at p x f q = if q == p then x else f q
 abbrev pub with_event : ℕ → Event → Moment → Moment
 with_event p event m = record m { history = with_at p (event ∷ m.history p) m.history }
 
--- task t, as number n on phaser p, its output number j, has signalled v, and begun so many steps
-abbrev pub after_signal : Job → ℕ → ℕ → ℕ → ℕ → ℤ → ℕ → Moment → Moment
-after_signal job t j p n v begun m = record m {
-  history = with_at p (Signalled n ((v ∷ []) ∷ []) (phaser_at job.graph p).single ∷ m.history p)
+-- task t, as number n on phaser p, its output number j, has signalled these values, one a phase, and
+-- begun so many steps
+abbrev pub after_signals : Job → ℕ → ℕ → ℕ → ℕ → List ℤ → ℕ → Moment → Moment
+after_signals job t j p n vs begun m = record m {
+  history = with_at p (Signalled n (map one vs) (phaser_at job.graph p).single ∷ m.history p)
       m.history;
   begun = with_at t begun m.begun;
-  put = with_at t (with_at j (m.put t j ++ v ∷ []) (m.put t)) m.put;
+  put = with_at t (with_at j (m.put t j ++ vs) (m.put t)) m.put;
 }
 
--- task t, as number n on phaser p, its input number k, has got this outcome
-abbrev pub after_wait : ℕ → ℕ → ℕ → ℕ → Outcome → ℕ → Moment → Moment
-after_wait t k p n outcome begun m = record m {
-  history = with_at p (Waited n 1 ∷ m.history p) m.history;
+-- one value
+abbrev pub after_signal : Job → ℕ → ℕ → ℕ → ℕ → ℤ → ℕ → Moment → Moment
+after_signal job t j p n v = after_signals job t j p n (v ∷ [])
+
+-- task t, as number n on phaser p, its input number k, has got these outcomes
+abbrev pub after_waits : ℕ → ℕ → ℕ → ℕ → List Outcome → ℕ → Moment → Moment
+after_waits t k p n outcomes begun m = record m {
+  history = with_at p (Waited n (length outcomes) ∷ m.history p) m.history;
   begun = with_at t begun m.begun;
-  taken = with_at t (with_at k (m.taken t k ++ number outcome ∷ []) (m.taken t)) m.taken;
+  taken = with_at t (with_at k (m.taken t k ++ map number outcomes) (m.taken t)) m.taken;
 }
+
+-- one outcome
+abbrev pub after_wait : ℕ → ℕ → ℕ → ℕ → Outcome → ℕ → Moment → Moment
+after_wait t k p n outcome = after_waits t k p n (outcome ∷ [])
 
 -- number n has left phaser p
 abbrev pub after_leave : ℕ → ℕ → Moment → Moment
@@ -52,13 +64,26 @@ after_register p n c a mode m = record m {
   number = with_at p (with_at c (Some a) (m.number p)) m.number;
 }
 
--- the phaser accepts v from the task
-pub record IsAcceptedSignal (job : Job) (m : Moment) (t j p n : ℕ) (v : ℤ) : Type 0 where
+-- number n has registered task c now as number a on phaser p: it begins at the first phase that is
+-- not complete
+abbrev pub after_register_now : ℕ → ℕ → ℕ → ℕ → Moment → Moment
+after_register_now p n c a m = record m {
+  history = with_at p (RegisteredNow n a ∷ m.history p) m.history;
+  number = with_at p (with_at c (Some a) (m.number p)) m.number;
+  offset = with_at c (done_of (m.history p)) m.offset;
+}
+
+-- the phaser accepts these values from the task
+pub record IsAcceptedSignals (job : Job) (m : Moment) (t j p n : ℕ) (vs : List ℤ) : Type 0 where
   pub accepted : IsAccepted (limits_at job p) (m.history p)
-      (Signalled n ((v ∷ []) ∷ []) (phaser_at job.graph p).single)
+      (Signalled n (map one vs) (phaser_at job.graph p).single)
   pub numbered : m.number p t ≡ Some n
   pub place : index_in (signalled_by (task_at job.graph t)) p ≡ Some j
   pub staying : IsStaying m t
+
+-- it accepts one value
+abbrev pub IsAcceptedSignal : Job → Moment → ℕ → ℕ → ℕ → ℕ → ℤ → Type 0
+IsAcceptedSignal job m t j p n v = IsAcceptedSignals job m t j p n (v ∷ [])
 
 -- v is the next entry of what the task makes on the phaser
 pub record IsNextSignal (job : Job) (m : Moment) (t j p n : ℕ) (v : ℤ) : Type 0 where
@@ -76,15 +101,20 @@ pub record IsNextSample (job : Job) (m : Moment) (t j p n : ℕ) (v : ℤ) : Typ
   pub all_put : length (m.put t j) ≡ m.begun t
   pub sample : get_or (samples_at job t) (m.begun t) (pos 0) ≡ v
 
--- the phaser answers the task's wait with this outcome
-pub record IsAnsweredWait (job : Job) (m : Moment) (t k p n : ℕ) (outcome : Outcome) : Type 0 where
-  pub accepted : IsAccepted (limits_at job p) (m.history p) (Waited n 1)
+-- the phaser answers the task's wait with these outcomes
+pub record IsAnsweredWaits (job : Job) (m : Moment) (t k p n : ℕ) (outcomes : List Outcome) : Type
+    0 where
+  pub accepted : IsAccepted (limits_at job p) (m.history p) (Waited n (length outcomes))
   pub numbered : m.number p t ≡ Some n
   pub few : k < length (task_at job.graph t).inputs
   pub place : input_at (task_at job.graph t) k ≡ p
   pub staying : IsStaying m t
-  pub answered : received_by (value_at job p) (Waited n 1 ∷ m.history p) n
-      ≡ received_by (value_at job p) (m.history p) n ++ outcome ∷ []
+  pub answered : received_by (value_at job p) (Waited n (length outcomes) ∷ m.history p) n
+      ≡ received_by (value_at job p) (m.history p) n ++ outcomes
+
+-- it answers one outcome
+abbrev pub IsAnsweredWait : Job → Moment → ℕ → ℕ → ℕ → ℕ → Outcome → Type 0
+IsAnsweredWait job m t k p n outcome = IsAnsweredWaits job m t k p n (outcome ∷ [])
 
 -- the wait is the first of the task's next step
 pub record IsFirstWait (job : Job) (m : Moment) (t k p n : ℕ) (outcome : Outcome) : Type 0 where
@@ -130,3 +160,34 @@ pub record IsNextChild (job : Job) (m : Moment) (t p n c a : ℕ) (mode : Mode) 
       → length (m.put t i) ≡ m.begun t
   pub all_taken : (k : ℕ) → k < length (task_at job.graph t).inputs
       → input_at (task_at job.graph t) k ≡ p → length (m.taken t k) ≡ m.begun t
+
+-- the child comes at this boundary as a waiter, and joins now
+pub record IsNextChildNow (job : Job) (m : Moment) (t p n c a : ℕ) (u : Parent) : Type 0 where
+  pub child : IsNextChild job m t p n c a Wait u
+  pub now : (task_at job.graph c).joins_now ≡ true
+  pub nothing_taken : (k : ℕ) → m.taken c k ≡ []
+
+-- ---- several phases in one event
+
+-- they are the next entries of what the task makes on the phaser
+pub record IsNextSignals (job : Job) (m : Moment) (t j p n : ℕ) (vs : List ℤ) : Type 0 where
+  pub signal : IsAcceptedSignals job m t j p n vs
+  pub entries : IsPrefix (m.put t j ++ vs) (made_now job m t j)
+  pub exchanged : HasExchanged (task_at job.graph t).kind j (length (m.put t j) + length vs)
+      (length (m.taken t 1))
+
+-- they are the next samples
+pub record IsNextSamples (job : Job) (m : Moment) (t j p n : ℕ) (vs : List ℤ) : Type 0 where
+  pub signal : IsAcceptedSignals job m t j p n vs
+  pub source : (task_at job.graph t).kind ≡ Source
+  pub may_begin : MayBeginTo job m t (further (m.begun t) vs)
+  pub all_put : length (m.put t j) ≡ m.begun t
+  pub samples : vs ≡ take (length vs) (drop (m.begun t) (samples_at job t))
+
+-- the wait is the first of the task's next steps
+pub record IsFirstWaits (job : Job) (m : Moment) (t k p n : ℕ) (outcomes : List Outcome) : Type
+    0 where
+  pub wait : IsAnsweredWaits job m t k p n outcomes
+  pub first : k ≡ first_input (task_at job.graph t) (m.begun t)
+  pub block : IsBlock (task_at job.graph t).kind (length outcomes)
+  pub may_begin : MayBeginTo job m t (further (m.begun t) outcomes)

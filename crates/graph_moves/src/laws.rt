@@ -2,7 +2,7 @@
 //! here makes no call and has no effect: its contract is the law. So whoever makes events one by
 //! one, in any order of the tasks, has `HasRun` of every moment, and with it the laws of
 //! `graph_moments`.
-ghost use Rattle.std.specs.Prelude.{◌<◌, ℕ, ℤ, suc, [], ◌∷◌, length};
+ghost use Rattle.std.specs.Prelude.{◌<◌, ℕ, ℤ, suc, List, [], ◌∷◌, length};
 ghost use Rattle.phase_base.specs.declared.mode.Mode.{Mode};
 ghost use Rattle.phase_accum.specs.declared.outcome.Outcome.{Outcome};
 ghost use Rattle.graph_base.specs.TaskLines.{IsGraph};
@@ -15,9 +15,13 @@ ghost use Rattle.graph_moments.specs.Moments.{Moment, HasRun, PhaserRan, TaskRan
 ghost use Rattle.graph_moments.specs.Moments.{limits_at};
 ghost use Rattle.graph_moves.specs.Moves.{HasGrown, OthersMoved, PartStays, SameTask};
 ghost use Rattle.graph_moves.specs.Moves.{Signals, Waits, Leaves, Registers};
+ghost use Rattle.graph_moves.specs.Moves.{further, SignalsAll, WaitsAll, RegistersNow};
 ghost use Rattle.graph_moves.specs.Turned.{after_signal, after_wait, after_leave, after_register};
 ghost use Rattle.graph_moves.specs.Turned.{IsNextSample, IsNextSignal, IsFirstWait};
 ghost use Rattle.graph_moves.specs.Turned.{IsExchangeWait, IsNextLeave, IsNextChild};
+ghost use Rattle.graph_moves.specs.Turned.{after_signals, after_waits, after_register_now};
+ghost use Rattle.graph_moves.specs.Turned.{IsNextSamples, IsNextSignals, IsFirstWaits};
+ghost use Rattle.graph_moves.specs.Turned.{IsNextChildNow};
 ghost use Rattle.graph_moves.specs.Openings.{HasOpened};
 
 /// At the opening a run has done what every moment has: each phaser's founder has registered the
@@ -57,6 +61,28 @@ pub fn turns_keep()
         → HasRun job (after_register p n c a mode m) }
 {}
 
+/// After a block a run has what it had, too: several steps of a task in one event of its phaser, so
+/// many samples of a source, values that a filter puts, or phases that a filter or a sink waits for.
+/// A block of one is the event of `turns_keep`. And so it has after a sink has joined now.
+pub fn blocks_keep()
+    ensures samples { (job : Job) (m : Moment) (t j p n : ℕ) (vs : List ℤ)
+        → IsGraph job.graph → t < length job.graph.tasks → p < length job.graph.phasers
+        → IsNextSamples job m t j p n vs → HasRun job m
+        → HasRun job (after_signals job t j p n vs (further (m.begun t) vs) m) }
+    ensures signals { (job : Job) (m : Moment) (t j p n : ℕ) (vs : List ℤ)
+        → IsGraph job.graph → t < length job.graph.tasks → p < length job.graph.phasers
+        → IsNextSignals job m t j p n vs → HasRun job m
+        → HasRun job (after_signals job t j p n vs (m.begun t) m) }
+    ensures first_waits { (job : Job) (m : Moment) (t k p n : ℕ) (outcomes : List Outcome)
+        → IsGraph job.graph → t < length job.graph.tasks → p < length job.graph.phasers
+        → IsFirstWaits job m t k p n outcomes → HasRun job m
+        → HasRun job (after_waits t k p n outcomes (further (m.begun t) outcomes) m) }
+    ensures child_now { (job : Job) (m : Moment) (t p n c a : ℕ) (u : Parent)
+        → IsGraph job.graph → t < length job.graph.tasks
+        → IsNextChildNow job m t p n c a u → HasRun job m
+        → HasRun job (after_register_now p n c a m) }
+{}
+
 /// The moment after a next event is what the event makes of the moment before, as the relations of
 /// `specs/Moves.antt` say it. So who has a moment of one task's own takes that task's next events
 /// for `own_events_keep`, and need not say what other tasks have done.
@@ -80,6 +106,23 @@ pub fn next_events_are_moves()
         → Registers job m (after_register p n c a mode m) t p n c a mode u }
 {}
 
+/// The same of blocks and of a sink that joins now: one move each, with the whole list.
+pub fn next_blocks_are_moves()
+    ensures samples { (job : Job) (m : Moment) (t j p n : ℕ) (vs : List ℤ)
+        → IsNextSamples job m t j p n vs → TaskRan job m t
+        → SignalsAll job m (after_signals job t j p n vs (further (m.begun t) vs) m) t j p n vs }
+    ensures signals { (job : Job) (m : Moment) (t j p n : ℕ) (vs : List ℤ)
+        → IsNextSignals job m t j p n vs → TaskRan job m t
+        → SignalsAll job m (after_signals job t j p n vs (m.begun t) m) t j p n vs }
+    ensures first_waits { (job : Job) (m : Moment) (t k p n : ℕ) (outcomes : List Outcome)
+        → IsFirstWaits job m t k p n outcomes
+        → WaitsAll job m (after_waits t k p n outcomes (further (m.begun t) outcomes) m)
+        t k p n outcomes }
+    ensures child_now { (job : Job) (m : Moment) (t p n c a : ℕ) (u : Parent)
+        → IsNextChildNow job m t p n c a u
+        → RegistersNow job m (after_register_now p n c a m) t p n c a u }
+{}
+
 /// A task's own event keeps what a moment has of the task, where the histories of the phasers on
 /// its line grew legally, and a child's registration gives what it has of the child. For who knows
 /// of a run only what one task has seen, as a thread that moves one task does.
@@ -101,6 +144,27 @@ pub fn own_events_keep()
         (u : Parent) → IsGraph job.graph → t < length job.graph.tasks
         → IsLegal (limits_at job p) (before.history p) → HasGrown job before after c
         → Registers job before after t p n c a mode u
+        → TaskRan job before t → TaskRan job before c → TaskRan job after c }
+{}
+
+/// A task's own block keeps what a moment has of the task, too; and a sink's registration now that
+/// of its parent, and gives what it has of the sink.
+pub fn own_blocks_keep()
+    ensures signals { (job : Job) (before after : Moment) (t j p n : ℕ) (vs : List ℤ)
+        → IsGraph job.graph → t < length job.graph.tasks
+        → SignalsAll job before after t j p n vs → TaskRan job before t → TaskRan job after t }
+    ensures waits { (job : Job) (before after : Moment) (t k p n : ℕ) (outcomes : List Outcome)
+        → IsGraph job.graph → t < length job.graph.tasks
+        → WaitsAll job before after t k p n outcomes → TaskRan job before t
+        → TaskRan job after t }
+    ensures register_now { (job : Job) (before after : Moment) (t p n c a : ℕ) (u : Parent)
+        → IsGraph job.graph → t < length job.graph.tasks
+        → HasGrown job before after t → RegistersNow job before after t p n c a u
+        → TaskRan job before t → TaskRan job after t }
+    ensures child_now { (job : Job) (before after : Moment) (t p n c a : ℕ) (u : Parent)
+        → IsGraph job.graph → t < length job.graph.tasks
+        → IsLegal (limits_at job p) (before.history p)
+        → RegistersNow job before after t p n c a u
         → TaskRan job before t → TaskRan job before c → TaskRan job after c }
 {}
 

@@ -410,7 +410,8 @@ first_is job t numbers seen is there root all roots = record {
           inputs k lt
           ((first_moment job t numbers seen).number (input_at (task_at job.graph t) k) t) refl;
       joined = λ p n at.
-          (let J : Option Parent → Type 0 = λ u. Joined (first_moment job t numbers seen) t u in
+          (let J : Option Parent → Type 0 =
+          λ u. Joined (first_moment job t numbers seen) t (task_at job.graph t).joins_now u in
           subst J (sym root) zero_offset);
       children = λ c p n u below e same at none on.
           (let w = which p n at in

@@ -5,4 +5,4 @@ use Rattle.stream_lists.specs.Jobs.{Job}
 
 -- a job of no tasks
 abbrev pub no_job : Job
-no_job = record { graph = no_graph; samples = [] }
+no_job = record { graph = no_graph; samples = []; starts = [] }

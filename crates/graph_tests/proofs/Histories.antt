@@ -12,7 +12,7 @@ use Rattle.graph_moves.specs.Moves.{HasGrown, OthersMoved}
 use Rattle.graph_moves.specs.Turned.{with_at}
 use Rattle.graph_tests.specs.Runs.{TaskEvent, sample, signal, first_wait, exchange_wait, leave, child, after_turn, after_all}
 
-event_begins : (p q : ℕ) (event : Event) (h : ℕ → History)
+pub event_begins : (p q : ℕ) (event : Event) (h : ℕ → History)
     → IsBeginning (h q) (with_at p (event ∷ h p) h q)
 event_begins p q event h = by (eqb q p) refl
   where

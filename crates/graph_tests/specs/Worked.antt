@@ -41,7 +41,7 @@ worked_graph = record {
 
 -- the source has the samples 5 and 7
 abbrev pub worked : Job
-worked = record { graph = worked_graph; samples = (pos 5 ∷ pos 7 ∷ []) ∷ [] }
+worked = record { graph = worked_graph; samples = (pos 5 ∷ pos 7 ∷ []) ∷ []; starts = [] }
 
 -- the founder has registered a task that signals as 1 and a task that waits as 2, and has left
 abbrev pub founded : History

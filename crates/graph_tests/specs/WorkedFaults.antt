@@ -45,6 +45,7 @@ abbrev pub faulty : Job
 faulty = record {
   graph = faulty_graph;
   samples = (greatest ∷ []) ∷ (greatest ∷ []) ∷ (greatest ∷ []) ∷ [];
+  starts = [];
 }
 
 -- X has two signallers and a waiter

@@ -40,6 +40,7 @@ abbrev pub late : ℕ → Job
 late at = record {
   graph = late_graph at;
   samples = (pos 1 ∷ pos 2 ∷ pos 3 ∷ pos 4 ∷ []) ∷ [];
+  starts = [];
 }
 
 -- s is 1, out 2 and early 3; late begins so many steps after out
@@ -89,6 +90,7 @@ abbrev pub with_child : Job
 with_child = record {
   graph = child_graph;
   samples = (pos 1 ∷ pos 2 ∷ pos 3 ∷ pos 4 ∷ []) ∷ [];
+  starts = [];
 }
 
 -- on X, s is 1 and f is 2; on Y, f is 1 and out is 2; g begins two steps after f
@@ -138,7 +140,7 @@ crossed_graph = record {
 
 -- with these samples
 abbrev pub crossed : List ℤ → Job
-crossed samples = record { graph = crossed_graph; samples = samples ∷ [] }
+crossed samples = record { graph = crossed_graph; samples = samples ∷ []; starts = [] }
 
 -- the samples 1 to 6
 abbrev pub six : List ℤ

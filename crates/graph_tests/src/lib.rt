@@ -5,6 +5,7 @@
 #[cfg(test)]
 mod cores;
 mod ready;
+mod worked_blocks;
 mod worked_events;
 mod worked_faults;
 mod worked_parts;

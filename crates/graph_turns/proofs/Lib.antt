@@ -23,3 +23,7 @@ pub mod Telling
 pub mod Turning
 pub mod Waiting
 pub mod Whose
+pub mod Blocks
+pub mod BlockOwes
+pub mod Joins
+pub mod BlockReach

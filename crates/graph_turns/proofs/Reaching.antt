@@ -152,7 +152,7 @@ find-fewer f g (x ∷ xs) more e = by (g x) refl (f x) refl e (λ i. find-fewer 
         absurd (let now : true ≡ false = sym (more x was) ∙ is in cc)
 
 -- a task that misses a registration after missed one before
-missed : (job : Job) (before after : Moment) (c : ℕ)
+pub missed : (job : Job) (before after : Moment) (c : ℕ)
     → ((q : ℕ) → is_some (before.number q c) ≡ true → is_some (after.number q c) ≡ true)
     → is_some (first_missing job after c) ≡ true → is_some (first_missing job before c) ≡ true
 missed job before after c stays e =
@@ -175,8 +175,9 @@ to_come_stay : (job : Job) (before after : Moment)
     → (is_some (first_missing job before c) ≡ true) × SameTask before after c)
     → HasChildrenToCome job before → HasChildrenToCome job after
 to_come_stay job before after offsets still come = record {
-  offset = λ c u lt parent.
-      offsets c ∙ come.offset c u lt parent ∙ ap (λ x. x + u.at) (sym (offsets u.task));
+  offset = λ c u lt parent missing.
+      (let s = still c missing in
+      offsets c ∙ come.offset c u lt parent s.0 ∙ ap (λ x. x + u.at) (sym (offsets u.task)));
   nothing_begun = λ c lt missing.
       (let s = still c missing in s.1.begun ∙ come.nothing_begun c lt s.0);
   nothing_put = λ c j lt missing.
@@ -352,7 +353,7 @@ filter_map-beyond f g from (suc many) c same beyond =
     (filter_map-beyond f g (from + 1) many c same (omega arith))
 
 -- one number more
-length-joined : (f g : ℕ → Option ℕ) (from many c a : ℕ) → from ≤ c → c < from + many
+pub length-joined : (f g : ℕ → Option ℕ) (from many c a : ℕ) → from ≤ c → c < from + many
     → f c ≡ None → g c ≡ Some a → ((x : ℕ) → x ≢ c → g x ≡ f x)
     → length (filter_map g (range_with_len from many))
     ≡ suc (length (filter_map f (range_with_len from many)))
@@ -512,7 +513,7 @@ begun_reached job m is begun = record {
   modes = begun.modes;
   only_tasks = begun.only_tasks;
   to_come = record {
-    offset = begun.offset;
+    offset = λ c u lt parent missing. begun.offset c u lt parent;
     nothing_begun = λ c lt missing. (begun.opened.tasks c lt).nothing_begun;
     nothing_put = λ c j lt missing. (begun.opened.tasks c lt).nothing_put j;
     nothing_taken = λ c k lt missing. (begun.opened.tasks c lt).nothing_taken k;

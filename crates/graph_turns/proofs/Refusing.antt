@@ -50,7 +50,7 @@ differs-self None = refl
 differs-self (Some single) = ap not (same-self single)
 
 -- where all signals name the same, one more that does so joins them
-differs-none : (single : Option Single) (h : History) (s : ℕ) → NamesAll single h
+pub differs-none : (single : Option Single) (h : History) (s : ℕ) → NamesAll single h
     → differs (named_in_phase h s) single ≡ false
 differs-none single [] s all = refl
 differs-none single (Made task ∷ before) s all = differs-none single before s all

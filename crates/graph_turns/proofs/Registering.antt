@@ -371,7 +371,7 @@ child_next job m t c event is ran to_come live none due answer =
               signals = use_of.signals;
               waits = use_of.waits;
               boundary = sym d.comes.at;
-              offset = to_come.offset c d.comes.by d.there d.comes.is
+              offset = to_come.offset c d.comes.by d.there d.comes.is d.missing
                   ∙ ap (λ x. m.offset x + d.comes.by.at) d.comes.task;
               nothing_put = λ j place. to_come.nothing_put c j d.there d.missing;
               nothing_taken = λ k lt at. to_come.nothing_taken c k d.there d.missing;

@@ -4,3 +4,4 @@ pub mod Nexts
 pub mod Reached
 pub mod TaskEvents
 pub mod TaskPlaces
+pub mod NextBlocks

@@ -144,11 +144,12 @@ next_of job m t = if is_live job m t then of_live job m t (first_owed job m t) e
 
 -- ---- children to come
 
--- a child begins so many steps after its parent, and has done nothing where it is not registered
--- on all phasers of its line. The opening sets both, and no event of a live task changes them
+-- a child that is not registered on all phasers of its line begins so many steps after its parent,
+-- and has done nothing. The opening sets both, and no event of a live task changes them
 pub record HasChildrenToCome (job : Job) (m : Moment) : Type 0 where
   pub offset : (c : ℕ) (u : Parent) → c < length job.graph.tasks
-      → (task_at job.graph c).parent ≡ Some u → m.offset c ≡ m.offset u.task + u.at
+      → (task_at job.graph c).parent ≡ Some u → is_some (first_missing job m c) ≡ true
+      → m.offset c ≡ m.offset u.task + u.at
   pub nothing_begun : (c : ℕ) → c < length job.graph.tasks
       → is_some (first_missing job m c) ≡ true → m.begun c ≡ 0
   pub nothing_put : (c j : ℕ) → c < length job.graph.tasks

@@ -1,6 +1,6 @@
 //! What a turn makes is the task's next event. Each function here makes no call and has no effect:
 //! its contract is the law.
-ghost use Rattle.std.specs.Prelude.{◌≡◌, ◌≢◌, ◌<◌, ℕ, List, Option, Some, None};
+ghost use Rattle.std.specs.Prelude.{◌≡◌, ◌≢◌, ◌+◌, ◌-◌, ◌<◌, ◌≤◌, ℕ, List, Option, Some, None, false};
 ghost use Rattle.std.specs.Prelude.{IsSome, length, slice_get, ℤ};
 ghost use Rattle.phase_base.specs.declared.mode.Mode.{Mode};
 ghost use Rattle.phase_accum.specs.Sends.{AreSends};
@@ -10,12 +10,18 @@ ghost use Rattle.graph_base.specs.Registrations.{signalled_by};
 ghost use Rattle.graph_base.specs.TaskLines.{IsGraph};
 ghost use Rattle.stream_lists.specs.Jobs.{Job, samples_at};
 ghost use Rattle.stream_lists.specs.Ranges.{Where};
-ghost use Rattle.graph_moments.specs.Moments.{Moment, HasRun, input_at};
+ghost use Rattle.graph_base.specs.declared.line.Parent.{Parent};
+ghost use Rattle.graph_moments.specs.Moments.{Moment, HasRun, HasSamples, input_at};
+ghost use Rattle.graph_moves.specs.Moves.{further, MayBeginTo};
+ghost use Rattle.graph_moves.specs.Turned.{after_signals, after_waits};
+ghost use Rattle.graph_moves.specs.Turned.{IsNextSamples, IsNextSignals, IsFirstWaits};
+ghost use Rattle.graph_turns.specs.NextBlocks.{block_of, until_allows};
 ghost use Rattle.graph_turns.specs.TaskEvents.{TaskEvent, IsNext, after_turn};
 ghost use Rattle.graph_turns.specs.TaskEvents.{sample, signal, first_wait, exchange_wait};
 ghost use Rattle.graph_turns.specs.TaskEvents.{child, leave};
 ghost use Rattle.graph_turns.specs.Nexts.{first_due, HasChildrenToCome};
-ghost use Rattle.graph_turns.specs.Nexts.{first_missing, first_kept, registrations_at};
+ghost use Rattle.graph_turns.specs.Nexts.{first_missing, first_kept, first_owed, is_cut};
+ghost use Rattle.graph_turns.specs.Nexts.{registrations_at};
 ghost use Rattle.graph_turns.specs.Answers.{answer_of_turn, after_answer, after_turns, makes};
 ghost use Rattle.graph_turns.specs.Answers.{is_refused, turn_tells, output_at};
 ghost use Rattle.graph_turns.specs.Beginnings.{opening};
@@ -57,6 +63,45 @@ pub fn turns_stay_reached()
 {
     turns_make_next_events();
 }
+
+/// A block of a task that has all its registrations leads from a reached moment to one that is
+/// reached, as its steps one by one do.
+pub fn blocks_stay_reached()
+    ensures samples { (job : Job) (m : Moment) (t j p n : ℕ) (vs : List ℤ) → IsGraph job.graph
+        → t < length job.graph.tasks → p < length job.graph.phasers
+        → IsNextSamples job m t j p n vs → first_missing job m t ≡ None → IsReachable job m
+        → IsReachable job (after_signals job t j p n vs (further (m.begun t) vs) m) }
+    ensures signals { (job : Job) (m : Moment) (t j p n : ℕ) (vs : List ℤ) → IsGraph job.graph
+        → t < length job.graph.tasks → p < length job.graph.phasers
+        → IsNextSignals job m t j p n vs → first_missing job m t ≡ None → IsReachable job m
+        → IsReachable job (after_signals job t j p n vs (m.begun t) m) }
+    ensures first_waits { (job : Job) (m : Moment) (t k p n : ℕ) (outcomes : List Outcome)
+        → IsGraph job.graph → t < length job.graph.tasks → p < length job.graph.phasers
+        → IsFirstWaits job m t k p n outcomes → first_missing job m t ≡ None
+        → IsReachable job m
+        → IsReachable job (after_waits t k p n outcomes (further (m.begun t) outcomes) m) }
+{}
+
+/// The next block of a task has a step, where `until` allows one, and at most as many as its line
+/// names; none past `until`, and none past the boundary of a child that is still to come. Where
+/// nothing is owed and no child is due, the task may make as many of them as its samples allow.
+pub fn blocks_are_cut()
+    ensures some { (job : Job) (m : Moment) (t : ℕ) → IsGraph job.graph → HasRun job m
+        → t < length job.graph.tasks
+        → is_cut (task_at job.graph t).until (m.begun t) ≡ false → 1 ≤ block_of job m t }
+    ensures few { (job : Job) (m : Moment) (t : ℕ)
+        → block_of job m t ≤ (task_at job.graph t).block }
+    ensures until { (job : Job) (m : Moment) (t : ℕ) → block_of job m t
+        ≤ until_allows (task_at job.graph t).until (m.begun t) (task_at job.graph t).block }
+    ensures children { (job : Job) (m : Moment) (t c : ℕ) (u : Parent)
+        → c < length job.graph.tasks → (task_at job.graph c).parent ≡ Some u → u.task ≡ t
+        → m.begun t < u.at → block_of job m t ≤ u.at - m.begun t }
+    ensures may_begin { (job : Job) (m : Moment) (t steps : ℕ) → IsGraph job.graph
+        → HasRun job m → t < length job.graph.tasks → first_owed job m t ≡ None
+        → first_due job m t ≡ None → m.begun t ≤ steps → steps ≤ m.begun t + block_of job m t
+        → HasSamples (task_at job.graph t).kind steps (length (samples_at job t))
+        → MayBeginTo job m t steps }
+{}
 
 /// At a reached moment no turn is refused: a phaser accepts the task's call, or would not take it
 /// now, so that each turn has a word of the table. Of the samples it asks that each can be sent, as

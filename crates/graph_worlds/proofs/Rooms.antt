@@ -2,6 +2,7 @@
 use Rattle.std.proofs.Common.{◌≡◌, ℕ, ◌<◌, ◌≤◌, suc, Bool, true, false, cond, List, [], Option, Some, None, length, get_or, slice_get, set, ℤ, refl, sym, ap, subst, ◌∙◌, arith, inr}
 use Rattle.std.specs.Prelude.{IfSome, vec_len, vec_capacity}
 use Rattle.std.specs.List.{All}
+use Rattle.std.proofs.Common.{map}
 use Rattle.std.proofs.lemmas.List.{get_or-map}
 use Rattle.std.proofs.lemmas.List.Elements.{All-get_or, All-set}
 use Rattle.std.proofs.lemmas.Bool.{eq-eqb}
@@ -9,14 +10,17 @@ use Rattle.std.proofs.lemmas.Option.{slice_get_within, get_or_from_slice_get}
 use Rattle.phase_accum.specs.declared.outcome.Outcome.{Outcome}
 use Rattle.graph_base.specs.declared.line.Kind.TheVariants.{Sink}
 use Rattle.graph_base.specs.Graphs.{task_at}
-use Rattle.stream_lists.specs.Jobs.{Job}
+use Rattle.stream_lists.specs.Jobs.{Job, least}
 use Rattle.stream_lists.specs.Lists.{is_sink_at, sinks_of}
 use Rattle.stream_lists.specs.Spans.{span_in, takes_from}
 use Rattle.stream_eval.specs.Results.{sink_values}
 use Rattle.stream_eval.specs.declared.whole.Lines.{Lines}
-use Rattle.graph_moments.specs.Moments.{Moment, IsRegistered, input_at}
+use Rattle.stream_laws.proofs.Starts.{fewer_steps}
+use Rattle.graph_moments.specs.Moments.{Moment, IsRegistered, input_at, started}
 use Rattle.graph_moments.specs.Settled.{IsReady, Stands}
 use Rattle.graph_moments.proofs.Whole.{stands_all}
+use Rattle.graph_moments.proofs.Started.{run_started, ready_as}
+use Rattle.std.specs.List.{range_with_len}
 use Rattle.graph_moments.proofs.Steps.{has_inputs}
 use Rattle.graph_turns.specs.Nexts.{waits, number_on}
 use Rattle.graph_turns.specs.Answers.{makes, answer_of_turn, after_answer}
@@ -54,13 +58,18 @@ steps_left : (job : Job) (m : Moment) (t k p n : ℕ) (outcome : Outcome) → Is
     → IsReachable job (after_turn job (first_wait t k p n outcome) m)
     → m.number (input_at (task_at job.graph t) k) t
     ≡ Some (number_on m t (input_at (task_at job.graph t) k))
-    → suc (m.begun t) ≤ (span_in job t).steps
+    → suc (m.begun t) ≤ (span_in (least job) t).steps
 steps_left job m t k p n outcome ready live few reached numbered =
     let after = after_turn job (first_wait t k p n outcome) m in
     let q = input_at (task_at job.graph t) k in
     let registered : IsRegistered after t = (q, number_on m t q, numbered) in
-    let s : Stands job after t = stands_all job after ready reached.ran t live.there registered in
-    let within : after.begun t ≤ (span_in job t).steps = s.within in
+    let s : Stands (started job after) after t =
+    stands_all (started job after) after (ready_as job after ready) (run_started job after reached.ran)
+    t live.there registered in
+    let within : after.begun t ≤ (span_in (started job after) t).steps = s.within in
+    let most : (span_in (started job after) t).steps ≤ (span_in (least job) t).steps =
+    fewer_steps job (map after.offset (range_with_len 0 (length job.graph.tasks))) t ready.graph
+    live.there in
     let one : after.begun t ≡ suc (m.begun t) =
     ap (λ b. cond b (suc (m.begun t)) (m.begun t)) (eq-eqb t t refl) in
     omega arith
@@ -102,15 +111,15 @@ sink_room job old m t k p n outcome state sink next at found is answer =
         let all : length (m.taken t 0) ≡ takes_from (task_at job.graph t) (m.begun t) 0 =
         all_taken job m t at.graph (at.reached.ran.tasks t live.there) live.there b.step.none 0 some in
         let plain : takes_from (task_at job.graph t) (m.begun t) 0 ≡ m.begun t = rw kind refl in
-        let more : suc (m.begun t) ≤ (span_in job t).steps =
+        let more : suc (m.begun t) ≤ (span_in (least job) t).steps =
         steps_left job m t k p n outcome (record { graph = at.graph; apart = at.apart }) live few after
         numbered in
         let lt = slice_get_within old.lines.items i line read in
-        let enough : (span_in job line.task).steps ≤ vec_capacity line.values =
+        let enough : (span_in (least job) line.task).steps ≤ vec_capacity line.values =
         subst (HasRoom job) (get_or_from_slice_get old.lines.items i line line read)
         (All-get_or (HasRoom job) old.lines.items i line lt at.room) in
-        let same : (span_in job line.task).steps ≡ (span_in job t).steps =
-        ap (λ u. (span_in job u).steps) owner in
+        let same : (span_in (least job) line.task).steps ≡ (span_in (least job) t).steps =
+        ap (λ u. (span_in (least job) u).steps) owner in
         let items : vec_len line.values ≡ length line.values.items = line.values.ok.0 in
         omega arith
 
@@ -127,10 +136,10 @@ pub room_kept : (job : Job) (lines : List Lines) (i : ℕ) (read kept : Lines) �
     → vec_capacity kept.values ≡ vec_capacity read.values → All (HasRoom job) lines
     → All (HasRoom job) (set lines i kept)
 room_kept job lines i read kept lt is owner same all =
-    let was : (span_in job read.task).steps ≤ vec_capacity read.values =
+    let was : (span_in (least job) read.task).steps ≤ vec_capacity read.values =
     subst (HasRoom job) (sym is) (All-get_or (HasRoom job) lines i read lt all) in
-    let steps : (span_in job kept.task).steps ≡ (span_in job read.task).steps =
-    ap (λ u. (span_in job u).steps) owner in
+    let steps : (span_in (least job) kept.task).steps ≡ (span_in (least job) read.task).steps =
+    ap (λ u. (span_in (least job) u).steps) owner in
     let room : vec_capacity kept.values ≡ vec_capacity read.values = same in
     All-set (HasRoom job) lines i kept (omega arith) all
 

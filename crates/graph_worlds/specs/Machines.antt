@@ -4,7 +4,7 @@ use Rattle.std.specs.List.{All}
 use Rattle.phase_history.specs.Histories.{History, greatest_used}
 use Rattle.graph_base.specs.Graphs.{phaser_at, task_at}
 use Rattle.graph_base.specs.TaskLines.{IsGraph}
-use Rattle.stream_lists.specs.Jobs.{Job}
+use Rattle.stream_lists.specs.Jobs.{Job, least}
 use Rattle.stream_lists.specs.Lists.{sinks_of}
 use Rattle.stream_lists.specs.Meetings.{meeting_line}
 use Rattle.stream_lists.specs.Spans.{span_in}
@@ -37,9 +37,9 @@ abbrev pub UsesFew : Job → Moment → Type 0
 UsesFew job m = (p : ℕ) → p < length job.graph.phasers
     → greatest_used (m.history p) ≤ numbered (m.number p) (length job.graph.tasks)
 
--- a sink's line has room for all that the sink takes in its steps
+-- a sink's line has room for all that the sink takes in its steps, wherever it begins
 abbrev pub HasRoom : Job → Lines → Type 0
-HasRoom job line = (span_in job line.task).steps ≤ vec_capacity line.values
+HasRoom job line = (span_in (least job) line.task).steps ≤ vec_capacity line.values
 
 -- the machine stands at a moment that turns lead to: each core has the history of its phaser, each
 -- task is in its state, and the lines are what the sinks have taken

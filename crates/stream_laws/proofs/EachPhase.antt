@@ -1,18 +1,20 @@
 -- Which tasks have a value in a phase of a phaser's list.
-use Rattle.std.proofs.Common.{◌≡◌, ℕ, zero, suc, ◌+◌, ◌<◌, ◌≤◌, ◌⊎◌, inl, inr, Bool, true, false, ◌&&◌, length, map, get_or, ℤ, Some, None, refl, sym, ap, ◌∙◌, arith, List}
+use Rattle.std.proofs.Common.{◌≡◌, ℕ, zero, suc, ◌+◌, ◌<◌, ◌≤◌, ◌⊎◌, inl, inr, Bool, true, false, ◌&&◌, length, map, get_or, ℤ, Some, None, refl, sym, ap, subst, ◌∙◌, arith, List}
+use Rattle.std.specs.Prelude.{max}
+use native.Mathlib.Nat.{zero-max}
 use Rattle.std.specs.Prelude.{Option, max, nat_lt, nat_le, if◌then◌else◌, ◌↔◌}
 use Rattle.std.specs.List.{range_with_len, fold, list_any, find}
 use Rattle.std.specs.Option.{option_map}
 use Rattle.std.proofs.lemmas.Bool.{cases_lt, cases_order, and_parts, or_parts}
 use Rattle.std.proofs.lemmas.Bool.Decides.{nat_tests}
 use Rattle.std.proofs.lemmas.List.FromFn.{length-map-range_with_len}
-use Rattle.graph_base.specs.Graphs.{Task, task_at, phaser_at}
-use Rattle.graph_base.specs.TaskLines.{IsGraph, IsTaskLine, IsParent, has_children}
+use Rattle.graph_base.specs.Graphs.{Graph, Task, task_at, phaser_at}
+use Rattle.graph_base.specs.TaskLines.{IsGraph, IsTaskLine, IsParent, HasEnds, has_children}
 use Rattle.graph_base.specs.declared.line.Kind.{Kind}
 use Rattle.graph_base.specs.declared.line.Kind.TheVariants.{Source, Fir, Split, Join, Peer, Sink}
 use Rattle.phase_base.specs.declared.operation.Op.TheVariants.{Any}
 use Rattle.graph_base.specs.declared.line.Parent.{Parent}
-use Rattle.stream_lists.specs.Jobs.{Job, samples_at, index_in}
+use Rattle.stream_lists.specs.Jobs.{Job, samples_at, start_at, index_in}
 use Rattle.stream_lists.specs.Spans.{signalled_by, puts_on, offset_of, span_at, spans_of, lengths_of, span_in, end_on, end_of}
 use Rattle.stream_lists.specs.Lists.{Contribution, list_of_phaser}
 use Rattle.stream_lists.specs.Meetings.{is_any, overlap, meet_on, meets_on, meets_above, meeting_line}
@@ -130,16 +132,43 @@ pub record Begins (job : Job) (t : ℕ) (u : Parent) : Type 0 where
   pub offset : (span_in job t).offset ≡ (span_in job u.task).offset + u.at
   pub within : u.at ≤ (span_in job u.task).steps
 
--- where a task does not begin in phase 0, it is a child
+-- a task that signals joins with its parent
+pub signaller_stays : (graph : Graph) (t p j : ℕ) → IsGraph graph → t < length graph.tasks
+    → index_in (signalled_by (task_at graph t)) p ≡ Some j → (task_at graph t).joins_now ≡ false
+signaller_stays graph t p j is there place = by (task_at graph t).joins_now refl
+  where
+    few : j < length (signalled_by (task_at graph t))
+    few = (place-at (signalled_by (task_at graph t)) p j place).0
+
+    by : (b : Bool) → (task_at graph t).joins_now ≡ b → (task_at graph t).joins_now ≡ false
+    by false e = e
+    by true e =
+        let sink : (task_at graph t).kind ≡ Sink = ((is.tasks t there).now e).0 in
+        let H : Kind → Type 0 =
+        λ kind. HasEnds kind (length (task_at graph t).inputs)
+        (length (task_at graph t).outputs) in
+        let both : (length (task_at graph t).inputs ≡ 1)
+        × (length (task_at graph t).outputs ≡ 0) = subst H sink (is.tasks t there).ends in
+        let outs : signalled_by (task_at graph t) ≡ (task_at graph t).outputs = rw sink refl in
+        let none : length (signalled_by (task_at graph t)) ≡ 0 = ap length outs ∙ both.1 in
+        let below : j < length (signalled_by (task_at graph t)) = few in absurd (omega arith)
+
+pub signaller_starts : (job : Job) (t p j : ℕ) → IsGraph job.graph → t < length job.graph.tasks
+    → index_in (signalled_by (task_at job.graph t)) p ≡ Some j → start_at job t ≡ 0
+signaller_starts job t p j is there place =
+    let stays : (task_at job.graph t).joins_now ≡ false =
+    signaller_stays job.graph t p j is there place in rw stays refl
+
+-- where a task that signals does not begin in phase 0, it is a child
 begins : (job : Job) (t n : ℕ) → IsGraph job.graph → t < length job.graph.tasks
-    → n < (span_in job t).offset
+    → start_at job t ≡ 0 → n < (span_in job t).offset
     → (u : Parent) × ((task_at job.graph t).parent ≡ Some u) × Begins job t u
-begins job t n is there late =
+begins job t n is there first late =
     by (task_at job.graph t).parent refl (spans_all job t is there)
   where
     by : (parent : Option Parent) → (task_at job.graph t).parent ≡ parent
         → span_in job t ≡ span_at (task_at job.graph t) (length (samples_at job t)) (lengths_of job)
-        (offset_of (spans_of job) parent)
+        (offset_of (spans_of job) (start_at job t) parent)
         → (u : Parent) × ((task_at job.graph t).parent ≡ Some u) × Begins job t u
     by None e is_at =
         let none : (span_in job t).offset ≡ 0 = ap (λ (s : Span). s.offset) is_at in
@@ -150,7 +179,8 @@ begins job t n is there late =
         live_case : (b : Bool)
             → ((span_in job u.task).live && nat_le u.at (span_in job u.task).steps) ≡ b
             → span_in job t ≡ span_at (task_at job.graph t) (length (samples_at job t))
-            (lengths_of job) (if b then Some ((span_in job u.task).offset + u.at) else None)
+            (lengths_of job)
+            (if b then Some (max (start_at job t) ((span_in job u.task).offset + u.at)) else None)
             → (v : Parent) × ((task_at job.graph t).parent ≡ Some v) × Begins job t v
         live_case false dead at =
             let none : (span_in job t).offset ≡ 0 = ap (λ (s : Span). s.offset) at in
@@ -162,7 +192,9 @@ begins job t n is there late =
               e,
               record {
                 live = parts.0;
-                offset = ap (λ (s : Span). s.offset) at;
+                offset = ap (λ (s : Span). s.offset) at
+                    ∙ ap (λ n. max n ((span_in job u.task).offset + u.at)) first
+                    ∙ zero-max ((span_in job u.task).offset + u.at);
                 within = within;
               },
             )
@@ -182,7 +214,8 @@ some_entry job p n is (suc limit) t below there lt =
         → (v : ℕ) × HasEntry job p n v
     by (inr begun) ends rec = (t, entry_from job p n t there ends begun lt)
     by (inl late) ends rec =
-        let child = begins job t n is there late in
+        let child = begins job t n is there (signaller_starts job t p ends.output is there
+        ends.signals) late in
         let u = child.0 in
         let from : Begins job t u = child.2 in
         let line : IsTaskLine job.graph t (task_at job.graph t) = is.tasks t there in
@@ -229,7 +262,7 @@ BothEnter job t p u = (n : ℕ) × HasEntry job p n t × HasEntry job p n u
 abbrev Overlaps : ℕ → ℕ → ℕ → ℕ → Type 0
 Overlaps a ae b be = (a < ae) × (b < be) × (a < be) × (b < ae)
 
-overlap_parts : (a ae b be : ℕ) → overlap a ae b be ≡ true → Overlaps a ae b be
+pub overlap_parts : (a ae b be : ℕ) → overlap a ae b be ≡ true → Overlaps a ae b be
 overlap_parts a ae b be e =
     let three = and_parts (nat_lt a ae && nat_lt b be && nat_lt a be) (nat_lt b ae) e in
     let two = and_parts (nat_lt a ae && nat_lt b be) (nat_lt a be) three.0 in

@@ -15,7 +15,7 @@ use Rattle.phase_base.specs.declared.operation.Op.{Op}
 use Rattle.phase_base.specs.declared.operation.Op.TheVariants.{Sum, Product, Least, Greatest, Any}
 use Rattle.graph_base.specs.declared.line.Kind.{Kind}
 use Rattle.graph_base.specs.declared.line.Kind.TheVariants.{Source, Fir, Split, Join, Peer, Sink}
-use Rattle.stream_lists.specs.Jobs.{Job, samples_at, index_in}
+use Rattle.stream_lists.specs.Jobs.{Job, samples_at, start_at, index_in}
 use Rattle.stream_lists.specs.Spans.{signalled_by, takes_from, offset_of, span_at, spans_of, lengths_of, span_in, schedule_of}
 use Rattle.stream_lists.specs.Lists.{entry, taken_from, output_on, contribution_at, contribution_by, contributions_on, sends_in, value_by, number, phase_in, list_over, list_of_phaser, numbers_of, is_sink_at, sink_over, lines_of}
 use Rattle.stream_lists.specs.Ranges.{Fits}
@@ -322,7 +322,8 @@ sink_kind Peer e = absurd (cc)
 no_step : (job : Job) (t : ℕ) → IsGraph job.graph → t < length job.graph.tasks
     → (span_in job t).live ≡ false → (span_in job t).steps ≡ 0
 no_step job t is there dead =
-    by (offset_of (spans_of job) (task_at job.graph t).parent) (spans_all job t is there)
+    by (offset_of (spans_of job) (start_at job t) (task_at job.graph t).parent)
+    (spans_all job t is there)
   where
     by : (o : Option ℕ) → span_in job t ≡ span_at (task_at job.graph t) (length (samples_at job t))
         (lengths_of job) o → (span_in job t).steps ≡ 0

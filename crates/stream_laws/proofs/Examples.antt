@@ -1,5 +1,5 @@
 -- Worked graphs, computed in the definitions. Lines of a graph are separated by a slash.
-use Rattle.std.proofs.Common.{◌≡◌, [], ◌∷◌, List, ℕ, ℤ, pos, neg_ℤ, Some, None, Ok, Err, false, map, refl}
+use Rattle.std.proofs.Common.{◌≡◌, [], ◌∷◌, List, ℕ, ℤ, pos, neg_ℤ, Some, None, Ok, Err, true, false, map, refl}
 use Rattle.phase_accum.specs.declared.single.Single.{Single}
 use Rattle.phase_accum.specs.declared.single.Single.TheVariants.{Neg, Halve, Clamp}
 use Rattle.phase_base.specs.declared.operation.Op.{Op}
@@ -8,10 +8,11 @@ use Rattle.graph_base.specs.declared.line.Kind.TheVariants.{Source, Fir, Split, 
 use Rattle.graph_base.specs.declared.place.Place.TheVariants as place
 use Rattle.graph_base.specs.declared.line.PhaserLine.{PhaserLine}
 use Rattle.graph_base.specs.Graphs.{Task, no_graph, no_task}
-use Rattle.stream_lists.specs.Jobs.{Job}
+use Rattle.stream_lists.specs.Jobs.{Job, with_starts}
+use Rattle.stream_lists.specs.Lists.{list_of_phaser}
 use Rattle.stream_lists.specs.Ranges.{answer_of}
 use Rattle.stream_lists.specs.Meetings.{meet_on, meeting_line}
-use Rattle.stream_lists.specs.Spans.{spans_of}
+use Rattle.stream_lists.specs.Spans.{spans_of, span_in}
 
 -- ---- how the examples are written
 
@@ -60,6 +61,10 @@ sink line x = record no_task { line = line; inputs = x ∷ [] }
 abbrev pub added_by : ℕ → ℕ → Task → Task
 added_by p n task = record task { parent = Some (record { task = p; at = n }) }
 
+-- the task, where it joins now by number p at n
+abbrev pub joins_by : ℕ → ℕ → Task → Task
+joins_by p n task = record (added_by p n task) { joins_now = true }
+
 abbrev pub stops_at : ℕ → Task → Task
 stops_at n task = record task { until = Some n }
 
@@ -67,6 +72,7 @@ abbrev pub job_of : List PhaserLine → List Task → List (List ℤ) → Job
 job_of phasers tasks samples = record {
   graph = record no_graph { phasers = phasers; tasks = tasks };
   samples = samples;
+  starts = [];
 }
 
 -- whole numbers from 0 on as samples
@@ -688,3 +694,85 @@ child_within = record empty_child { samples = these (1 ∷ 2 ∷ 3 ∷ []) ∷ t
 
 child_within-line : meeting_line child_within ≡ Some 3
 child_within-line = refl
+
+-- ---- a sink that joins now
+
+-- phaser X sum / source s s.csv -> X / sink out X / sink late X by out at 2 now, whose late joins from
+-- this phase on
+abbrev joins_from : ℕ → Job
+joins_from n =
+    with_starts (0 ∷ 0 ∷ n ∷ [])
+    (job_of
+    (plain Sum ∷ [])
+    (source 2 0
+    ∷ sink 3 0
+    ∷ joins_by 1 2 (sink 4 0)
+    ∷ [])
+    ((these (1 ∷ 2 ∷ 3 ∷ 4 ∷ [])) ∷ []))
+
+-- the least phase is its parent's boundary, 2
+joins_from_0-answer : answer_of (joins_from 0)
+    ≡ Ok ((1, these (1 ∷ 2 ∷ 3 ∷ 4 ∷ [])) ∷ (2, these (3 ∷ 4 ∷ [])) ∷ [])
+joins_from_0-answer = refl
+
+joins_from_1-answer : answer_of (joins_from 1) ≡ answer_of (joins_from 0)
+joins_from_1-answer = refl
+
+joins_from_2-answer : answer_of (joins_from 2) ≡ answer_of (joins_from 0)
+joins_from_2-answer = refl
+
+-- from 3 on it has one step, with the value of phase 3
+joins_from_3-span : span_in (joins_from 3) 2 ≡ record { live = true; offset = 3; steps = 1 }
+joins_from_3-span = refl
+
+joins_from_3-answer : answer_of (joins_from 3)
+    ≡ Ok ((1, these (1 ∷ 2 ∷ 3 ∷ 4 ∷ [])) ∷ (2, these (4 ∷ [])) ∷ [])
+joins_from_3-answer = refl
+
+-- and from 4 on none
+joins_from_4-answer : answer_of (joins_from 4)
+    ≡ Ok ((1, these (1 ∷ 2 ∷ 3 ∷ 4 ∷ [])) ∷ (2, []) ∷ [])
+joins_from_4-answer = refl
+
+-- the list of the phaser is the same
+joins_from_4-list : list_of_phaser (joins_from 4) 0 ≡ list_of_phaser (joins_from 0) 0
+joins_from_4-list = refl
+
+-- the same without `now`: the starts make no difference
+abbrev late_from : ℕ → Job
+late_from n =
+    with_starts (0 ∷ 0 ∷ n ∷ [])
+    (job_of
+    (plain Sum ∷ [])
+    (source 2 0
+    ∷ sink 3 0
+    ∷ added_by 1 2 (sink 4 0)
+    ∷ [])
+    ((these (1 ∷ 2 ∷ 3 ∷ 4 ∷ [])) ∷ []))
+
+late_from_3-answer : answer_of (late_from 3)
+    ≡ Ok ((1, these (1 ∷ 2 ∷ 3 ∷ 4 ∷ [])) ∷ (2, these (3 ∷ 4 ∷ [])) ∷ [])
+late_from_3-answer = refl
+
+-- phaser X sum / source a a.csv -> X / source b b.csv -> X / sink out X until 0
+-- / sink late X by out at 0 now until 1, whose late joins from this phase on: it takes one value,
+-- and that of phase 3 is too big
+abbrev too_big_from : ℕ → Job
+too_big_from n =
+    with_starts (0 ∷ 0 ∷ 0 ∷ n ∷ [])
+    (job_of
+    (plain Sum ∷ [])
+    (source 2 0
+    ∷ source 3 0
+    ∷ stops_at 0 (sink 4 0)
+    ∷ joins_by 2 0 (stops_at 1 (sink 5 0))
+    ∷ [])
+    ((these (1 ∷ 1 ∷ 1 ∷ 9223372036854775807 ∷ []))
+    ∷ (these (1 ∷ 1 ∷ 1 ∷ 9223372036854775807 ∷ []))
+    ∷ []))
+
+too_big_from_0-answer : answer_of (too_big_from 0) ≡ Ok ((2, []) ∷ (3, these (2 ∷ [])) ∷ [])
+too_big_from_0-answer = refl
+
+too_big_from_3-answer : answer_of (too_big_from 3) ≡ Err (place.Phaser 0, 3)
+too_big_from_3-answer = refl

@@ -6,7 +6,7 @@ use Rattle.graph_base.specs.Graphs.{Task, task_at}
 use Rattle.graph_base.specs.TaskLines.{IsGraph, IsTaskLine, IsParent, HasEnds}
 use Rattle.graph_base.specs.declared.line.Kind.{Kind}
 use Rattle.graph_base.specs.declared.line.Kind.TheVariants.{Source, Fir, Split, Join, Peer, Sink}
-use Rattle.stream_lists.specs.Jobs.{Job, samples_at, index_in}
+use Rattle.stream_lists.specs.Jobs.{Job, samples_at, start_at, index_in}
 use Rattle.stream_lists.specs.Spans.{nowhere, signalled_by, LooksAt, offset_of, cut_at, span_at, spans_over, spans_of, lengths_of, enough_for, values_from, greatest, length_on, end_on, end_of}
 use Rattle.stream_lists.specs.declared.span.Span.{Span}
 use Rattle.stream_lists.proofs.Growing.{AreSameBelow, grown-whole, map-same, map-each}
@@ -79,11 +79,11 @@ same_spans job p xs ys is same (suc limit) t j below there place =
     let line : IsTaskLine job.graph t task = is.tasks t there in
     let samples = length (samples_at job t) in
     spans_are job xs t is there
-    ∙ (same_span task samples (offset_of (spans_over job xs) task.parent) xs ys line.ends
+    ∙ (same_span task samples (offset_of (spans_over job xs) (start_at job t) task.parent) xs ys line.ends
     (λ k lt looks. same (get_or task.inputs k 0)
     (looked_above job.graph t task j k p line place lt (looks-first task.kind j k looks)))
     ∙ (ap (span_at task samples ys)
-    (same_offset (spans_over job xs) (spans_over job ys) task.parent
+    (same_offset (spans_over job xs) (spans_over job ys) (start_at job t) task.parent
     (λ u e. (let parent : IsParent job.graph t task u = parent-is job.graph t task u line e in
     let above : u.task < t = parent.above in
     let on = parent_signals job.graph t task u p j parent place in

@@ -8,3 +8,5 @@ pub mod ListLengths
 pub mod ListsAbove
 pub mod OneSend
 pub mod Ordered
+pub mod Starts
+pub mod SameStarts

@@ -7,7 +7,7 @@ use Rattle.graph_base.specs.Graphs.{Task, task_at}
 use Rattle.graph_base.specs.TaskLines.{IsGraph, IsTaskLine, HasEnds}
 use Rattle.graph_base.specs.declared.line.Kind.{Kind}
 use Rattle.graph_base.specs.declared.line.Kind.TheVariants.{Source, Fir, Split, Join, Peer, Sink}
-use Rattle.stream_lists.specs.Jobs.{Job, samples_at, index_in}
+use Rattle.stream_lists.specs.Jobs.{Job, samples_at, start_at, index_in}
 use Rattle.stream_lists.specs.Spans.{signalled_by, LooksAt, puts_on, takes_from, turns_below, offset_of, cut_at, span_at, spans_of, lengths_of, span_in, enough_for, values_from, greatest, end_on, end_of, schedule_of}
 use Rattle.stream_lists.specs.Lists.{turn_at, mixed, mixed_at, taken_by, output_list, output_on, contribution_at, contribution_by, list_over, number, numbers_of, end_of_contribution, ends_on}
 use Rattle.stream_lists.specs.declared.span.Span.{Span}
@@ -32,7 +32,7 @@ steps_within job t is there =
     let samples = length (samples_at job t) in
     let Within : Span → Type 0 = λ span. span.steps
     ≤ enough_for task samples (values_from task (lengths_of job) span.offset) in
-    let above = offset_of (spans_of job) task.parent in
+    let above = offset_of (spans_of job) (start_at job t) task.parent in
     subst Within (sym (spans_all job t is there)) (by task samples above)
   where
     by : (task : Task) (samples : ℕ) (o : Option ℕ)

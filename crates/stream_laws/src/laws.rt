@@ -1,5 +1,6 @@
 //! The laws. The contract of each function is the law.
-ghost use Rattle.std.specs.Prelude.{◌≡◌, ◌-◌, ◌<◌, ◌≤◌, ◌↔◌, ℕ, ℤ, List, [], ◌∷◌, length, map, get_or, Some, None, true};
+ghost use Rattle.std.specs.Prelude.{◌≡◌, ◌+◌, ◌-◌, ◌<◌, ◌≤◌, ◌↔◌, ℕ, ℤ, List, [], ◌∷◌, length, map, get_or};
+ghost use Rattle.std.specs.Prelude.{Some, None, Bool, true, false, nat_le, ◌&&◌, if◌then◌else◌};
 ghost use Rattle.phase_accum.specs.declared.outcome.Outcome.TheVariants.{Empty};
 ghost use Rattle.graph_base.specs.Graphs.{Graph, Task, phaser_at, task_at};
 ghost use Rattle.graph_base.specs.declared.line.Kind.TheVariants.{Source};
@@ -8,13 +9,15 @@ ghost use Rattle.phase_base.specs.declared.operation.Op.TheVariants.{Any};
 ghost use Rattle.graph_base.specs.TaskLines.{HasEnds, IsGraph};
 ghost use Rattle.stream_laws.specs.Entries.{AreInRange, HasEntry, output_values, sends_at, Takes};
 ghost use Rattle.stream_laws.specs.Exact.{exact_lines, exact_lists};
-ghost use Rattle.stream_lists.specs.Jobs.{Job, index_in};
+ghost use Rattle.stream_lists.specs.Jobs.{Job, index_in, least, start_at, with_starts};
 ghost use Rattle.stream_lists.specs.Lists.{ends_on, entry, lines_of, list_of_phaser, list_over, contributions_on, number};
 ghost use Rattle.stream_lists.specs.Lists.{numbers_above, numbers_of, output_list, output_on};
 ghost use Rattle.stream_lists.specs.Meetings.{meet_on, meeting_line};
-ghost use Rattle.stream_lists.specs.Ranges.{Fits};
+ghost use Rattle.stream_lists.specs.Ranges.{Fits, answer_of};
 ghost use Rattle.stream_lists.specs.Spans.{greatest, lengths_of, LooksAt, puts_on, signalled_by, takes_from};
+ghost use Rattle.stream_lists.specs.Spans.{nowhere, offset_of};
 ghost use Rattle.stream_lists.specs.Spans.{span_in, span_of, spans_of, spans_up_to, schedule_of};
+ghost use Rattle.stream_lists.specs.declared.span.Span.{Span};
 
 /// A phaser has a place among those of a line where it stands there, and each input of a task stands
 /// at its own. A parent signals what its child signals, and waits for what its child waits for.
@@ -112,6 +115,32 @@ pub fn tasks_meet_in_a_phase()
     ensures { (job : Job) (t p u : ℕ) → IsGraph job.graph → t < length job.graph.tasks
         → u < length job.graph.tasks → (meet_on job.graph (spans_of job) t p u ≡ true)
         ↔ ((n : ℕ) × HasEntry job p n t × HasEntry job p n u) }
+{}
+
+/// The phases from which sinks join now move those sinks alone: each other task has its span, the
+/// phasers' lists are as long, the same tasks meet, and a sink that begins later makes no more
+/// steps. Where each task may begin as early, the job has the same answer, as where none joins now.
+/// A child that does not join now begins just `at` steps after its parent.
+pub fn starts_move_sinks_alone()
+    ensures child { (above : List Span) (u : Parent) → offset_of above 0 (Some u)
+        ≡ (let span = get_or above u.task nowhere in
+        if span.live && nat_le u.at span.steps then Some (span.offset + u.at) else None) }
+    ensures others { (job : Job) (starts : List ℕ) (t : ℕ) → IsGraph job.graph
+        → t < length job.graph.tasks → (task_at job.graph t).joins_now ≡ false
+        → span_in (with_starts starts job) t ≡ span_in job t }
+    ensures lengths { (job : Job) (starts : List ℕ) → IsGraph job.graph
+        → lengths_of (with_starts starts job) ≡ lengths_of job }
+    ensures meetings { (job : Job) (starts : List ℕ) → IsGraph job.graph
+        → meeting_line (with_starts starts job) ≡ meeting_line job }
+    ensures steps { (job : Job) (starts : List ℕ) (t : ℕ) → IsGraph job.graph
+        → t < length job.graph.tasks
+        → (span_in (with_starts starts job) t).steps ≤ (span_in (least job) t).steps }
+    ensures answer { (job : Job) (starts : List ℕ)
+        → ((t : ℕ) → start_at (with_starts starts job) t ≡ start_at job t)
+        → answer_of (with_starts starts job) ≡ answer_of job }
+    ensures none_joins { (job : Job) (starts : List ℕ)
+        → ((t : ℕ) → (task_at job.graph t).joins_now ≡ false)
+        → answer_of (with_starts starts job) ≡ answer_of job }
 {}
 
 /// A job fits exactly where each value that a filter or a peer makes is in range, at each of its

@@ -86,6 +86,7 @@ impl Job {
         ensures graph { result.now ≡ self.now.graph }
         ensures samples { length self.now.samples ≡ sources_of self.now.graph }
         ensures apart { meeting_line self.now ≡ None }
+        ensures least { self.now.starts ≡ [] }
     {
         &self.graph
     }
@@ -106,6 +107,7 @@ impl Job {
     pub fn span(&self, t: usize) -> Span
         requires { t < length self.now.graph.tasks }
         ensures span { result ≡ get_or (spans_of self.now) t nowhere }
+        ensures least { self.now.starts ≡ [] }
         ensures short { IsShort result }
     {
         self.spans[t]

@@ -5,15 +5,19 @@ use mathlib.Core.List.{IsPrefix}
 use Rattle.phase_accum.specs.declared.outcome.Outcome.{Outcome}
 use Rattle.phase_history.specs.Phases.{stream_of}
 use Rattle.stream_laws.proofs.ListsAbove.{lists_above}
-use Rattle.graph_moments.specs.Moments.{value_at}
+use Rattle.graph_moments.specs.Moments.{value_at, started}
+use Rattle.graph_moments.proofs.Started.{ready_as, run_started}
 use Rattle.graph_moments.proofs.Results.{streams_begin, streams_whole}
 use Rattle.graph_moments.proofs.laws.streams.Goals as goal
 
 pub returns-clause-begin : goal.returns-clause-begin
 returns-clause-begin c = λ job m p ready ran below.
-    (let L : List Outcome → Type 0 = λ l. IsPrefix (stream_of (value_at job p) (m.history p)) l in
-    subst L (sym (lists_above job p ready.graph below)) (streams_begin job m p ready ran below))
+    (let now = started job m in
+    let L : List Outcome → Type 0 = λ l. IsPrefix (stream_of (value_at job p) (m.history p)) l in
+    subst L (sym (lists_above now p ready.graph below))
+    (streams_begin now m p (ready_as job m ready) (run_started job m ran) below))
 
 pub returns-clause-whole : goal.returns-clause-whole
 returns-clause-whole c = λ job m p ready ran below quiet.
-    streams_whole job m p ready ran below quiet ∙ sym (lists_above job p ready.graph below)
+    streams_whole (started job m) m p (ready_as job m ready) (run_started job m ran) below quiet
+    ∙ sym (lists_above (started job m) p ready.graph below)

@@ -39,7 +39,7 @@ returns c =
     } in
     let is = is_run_end job c.requires.left.0 c.args.founders.items joined parts all.0 given all.1 all.2
     agree c.requires.left.1 known in
-    c.runs_end.ensures job all.0 ready is
+    c.runs_end.ensures job all.0 ready c.graph.ensures.least is
     ∙ ap (λ lines. Ok lines)
     (sinks_are job c.requires.left.0 c.args.founders.items joined parts all.0 given all.1 all.2
     agree c.requires.left.1 known
