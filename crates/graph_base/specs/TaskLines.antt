@@ -58,7 +58,8 @@ has_blocks Join = false
 has_blocks Peer = false
 has_blocks Sink = true
 
--- a block is a step, or several of a task of such a kind, at most the bound of each phaser of the line
+-- a block is a step, or several of a task of such a kind, at most the bound of each phaser of the
+-- line
 pub record HasBlock (graph : Graph) (task : Task) : Type 0 where
   pub some : 1 ≤ task.block
   pub kind : has_blocks task.kind ≡ false → task.block ≡ 1

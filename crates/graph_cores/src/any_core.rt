@@ -95,8 +95,8 @@ impl AnyCore {
     }
 
     /// Waits for the task's phase, and answers it with the number of phases that are complete from
-    /// there on, at most one for each place, and writes their values in the first places; or answers
-    /// that no more will come. A refused wait writes nothing. It takes no memory.
+    /// there on, at most one for each place, and writes their values in the first places; or
+    /// answers that no more will come. A refused wait writes nothing. It takes no memory.
     pub fn wait_block(&mut self, task: u64, out: &mut [Outcome]) -> Result<GotBlock, WaitRefusal>
         ensures reply { (op : Op) (limits : Limits) (h : History)
             → CoreStandsFor self.old op limits h

@@ -1,5 +1,5 @@
--- The phases at which tasks begin by the opening of a run are the least starts: a run whose sinks that
--- join now begin at their parents' boundaries has the answer with the least starts.
+-- The phases at which tasks begin by the opening of a run are the least starts: a run whose sinks
+-- that join now begin at their parents' boundaries has the answer with the least starts.
 use Rattle.std.proofs.Common.{◌≡◌, ℕ, zero, suc, ◌+◌, ◌<◌, ◌≤◌, ◌&&◌, Bool, true, false, List, [], ◌∷◌, length, map, get_or, Option, Some, None, refl, sym, ap, ◌∙◌, arith}
 use Rattle.std.specs.Prelude.{max, nat_le, if◌then◌else◌}
 use Rattle.std.specs.List.{range_with_len}
@@ -40,7 +40,8 @@ module _ (task : Task) (n : ℕ) (lengths : List ℕ) where
   gate_same : (b c : Bool) (o q : ℕ) → (b ≡ true → o ≡ q)
       → span_at task n lengths (if b && c then Some o else None)
       ≡ span_at task n lengths (if b && c then Some q else None)
-  gate_same true c o q same = ap (λ x. span_at task n lengths (if c then Some x else None)) (same refl)
+  gate_same true c o q same = ap (λ x. span_at task n lengths (if c then Some x else None))
+      (same refl)
   gate_same false c o q same = refl
 
 -- a live task begins where it does at the opening
@@ -81,7 +82,8 @@ live_offset job is (suc limit) t below there live =
         parent-is job.graph t (task_at job.graph t) u (is.tasks t there) e in
         let above : u.task < t = parent.above in
         let alive_above : s.live ≡ true =
-        gate_open (task_at job.graph t) n lengths s.live (nat_le u.at s.steps) (max 0 (s.offset + u.at))
+        gate_open (task_at job.graph t) n lengths s.live (nat_le u.at s.steps)
+        (max 0 (s.offset + u.at))
         alive in
         let first : (opening job).offset u.task ≡ s.offset =
         before u.task (omega arith) (omega arith) alive_above in
@@ -186,7 +188,8 @@ opening_schedule job starts is are =
     (λ q lt. same_span job starts q is (omega arith) are) in
     let lengths : lengths_of (with_starts starts job) ≡ lengths_of (least job) =
     lengths_stay job starts is ∙ sym (lengths_stay job [] is) in
-    ap (λ s. both s (lengths_of (with_starts starts job))) spans ∙ ap (both (spans_of (least job))) lengths
+    ap (λ s. both s (lengths_of (with_starts starts job))) spans
+    ∙ ap (both (spans_of (least job))) lengths
 
 -- a run that begins its tasks as the opening says has the answer with the least starts
 pub opening_answer : (job : Job) (starts : List ℕ) → IsGraph job.graph → AreOpenings job starts

@@ -34,9 +34,10 @@ pub record HasGiven (job : Job) (m : Moment) (t p a : ℕ) : Type 0 where
   pub is_child : IsChildOf job child t
   pub numbered : m.number p child ≡ Some a
 
--- what the calls of task t were, up to a moment of its own: it and its parent began where the opening
--- says, and a child when its parent had begun as many steps as it comes after; its signals named the
--- single of each phaser; no wait was answered a value that is too big; and whom it registered are its children
+-- what the calls of task t were, up to a moment of its own: it and its parent began where the
+-- opening says, and a child when its parent had begun as many steps as it comes after; its signals
+-- named the single of each phaser; no wait was answered a value that is too big; and whom it
+-- registered are its children
 pub record HasOwnCalls (job : Job) (m : Moment) (t : ℕ) : Type 0 where
   pub offset : m.offset t ≡ (opening job).offset t
   pub above : (u : Parent) → (task_at job.graph t).parent ≡ Some u

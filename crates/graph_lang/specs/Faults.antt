@@ -131,7 +131,8 @@ is_out_before_in before (task name body ends) =
 
 -- ---- parents
 
--- whether the parent, where there is one, is of a kind that may have children, and does not join now
+-- whether the parent, where there is one, is of a kind that may have children, and does not join
+-- now
 abbrev pub may_be_parent : Graph → Option Parent → Bool
 may_be_parent before None = true
 may_be_parent before (Some parent) =

@@ -148,9 +148,9 @@ impl<'a, A: Accumulate> Member<'a, A> {
         }
     }
 
-    /// Signals as many phases in a row as there are parcels, a parcel each, with a single for all of
-    /// them or none, and answers the first. A refused block signals nothing, and none of it is held.
-    /// It takes no memory.
+    /// Signals as many phases in a row as there are parcels, a parcel each, with a single for all
+    /// of them or none, and answers the first. A refused block signals nothing, and none of it is
+    /// held. It takes no memory.
     ///
     /// No value may be held that was refused before.
     pub fn try_put_block(
@@ -190,8 +190,8 @@ impl<'a, A: Accumulate> Member<'a, A> {
         self.reg.try_wait_block(self.phaser, out)
     }
 
-    /// Registers a child in `Wait`, at the first phase that is not complete, and answers it with that
-    /// phase. Its own mode has to hold `Wait`. It may take memory.
+    /// Registers a child in `Wait`, at the first phase that is not complete, and answers it with
+    /// that phase. Its own mode has to hold `Wait`. It may take memory.
     pub fn try_add_now(&mut self) -> Result<(Member<'a, A>, u64), Tried<RegisterRefusal>>
         ensures call { Tries (self.new ≡ self.old) (AddsNow self.old self.new) result }
         ensures stays { Stays self.old self.new }

@@ -26,11 +26,11 @@ use Rattle.stream_lists.specs.Meetings.{is_any, overlap, meet_on, meets_on, meet
 use Rattle.stream_laws.proofs.Ordered.{place-at}
 use Rattle.stream_laws.proofs.ListLengths.{outputs_long}
 use Rattle.graph_moments.specs.Moments.{Moment, numbers_on, limits_at, value_at, PhaserRan}
-use Rattle.graph_moments.specs.Settled.{IsReadyAt}
 use Rattle.graph_moments.proofs.Composed.{Agrees}
 use Rattle.graph_moments.proofs.Agreed.{AllAgree, agrees_at, sent_is, Found, found}
 use Rattle.graph_moments.proofs.Numbers.{numbers_distinct}
 use Rattle.graph_moments.proofs.Phasers.{AreGathered}
+use Rattle.graph_moments.proofs.Started.{IsReadyAt}
 
 -- ---- two members of a phaser with `any`
 

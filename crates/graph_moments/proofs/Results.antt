@@ -17,12 +17,13 @@ use Rattle.stream_lists.specs.Lists.{numbers_of, list_over, phase_in, contributi
 use Rattle.stream_lists.proofs.SpansAbove.{spans_all}
 use Rattle.stream_laws.proofs.Ordered.{parent_waits}
 use Rattle.graph_moments.specs.Moments.{Moment, HasRun, IsRegistered, IsOver, IsChild, HasNotPassed, TakenOn, input_at, value_at}
-use Rattle.graph_moments.specs.Settled.{Stands, IsReadyAt}
+use Rattle.graph_moments.specs.Settled.{Stands}
 use Rattle.graph_moments.proofs.Composed.{Composes}
 use Rattle.graph_moments.proofs.Entries.{prefix_whole, take_length}
 use Rattle.graph_moments.proofs.Steps.{taken_count}
 use Rattle.graph_moments.proofs.Tasks.{stream_begins, taken_begins}
 use Rattle.graph_moments.proofs.Whole.{composes, over_ended, stands_all, reads_all, parent_of, FromParent, from_parent, awaited}
+use Rattle.graph_moments.proofs.Started.{IsReadyAt}
 
 -- each stream begins its phaser's list
 pub streams_begin : (job : Job) (m : Moment) (p : ℕ) → IsReadyAt job m → HasRun job m
@@ -135,7 +136,8 @@ came_in job m ready ran over (suc fuel) t k below there lt none live =
             absurd (omega arith)
 
 -- and on each that it signals
-pub came_out : (job : Job) (m : Moment) → IsReadyAt job m → HasRun job m → IsOver job m → (t p j : ℕ)
+pub came_out : (job : Job) (m : Moment) → IsReadyAt job m → HasRun job m → IsOver job m
+    → (t p j : ℕ)
     → t < length job.graph.tasks → p < length job.graph.phasers
     → index_in (signalled_by (task_at job.graph t)) p ≡ Some j → m.number p t ≡ None
     → (span_in job t).live ≡ true → ⊥

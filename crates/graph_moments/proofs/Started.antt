@@ -4,11 +4,20 @@ use Rattle.std.specs.Prelude.{if◌then◌else◌, List}
 use Rattle.std.proofs.lemmas.List.FromFn.{get_or-map-range_with_len}
 use Rattle.graph_base.specs.Graphs.{task_at}
 use Rattle.graph_base.specs.TaskLines.{IsGraph}
-use Rattle.stream_lists.specs.Jobs.{Job, samples_at, index_in, with_starts}
+use Rattle.stream_lists.specs.Jobs.{Job, samples_at, start_at, index_in, with_starts}
 use Rattle.stream_lists.specs.Spans.{signalled_by}
+use Rattle.stream_lists.specs.Meetings.{meeting_line}
 use Rattle.stream_laws.proofs.Starts.{meetings_stay}
 use Rattle.graph_moments.specs.Moments.{Moment, HasRun, PhaserRan, TaskRan, HasEnded, OnOutput, OnInput, OnPhaser, PutOn, TakenOn, SilentOn, input_at, started}
-use Rattle.graph_moments.specs.Settled.{IsReady, IsReadyAt}
+use Rattle.graph_moments.specs.Settled.{IsReady}
+
+-- a graph that was read, no two tasks of which meet, in a job whose sinks that join now begin where
+-- they do at a moment
+pub record IsReadyAt (job : Job) (m : Moment) : Type 0 where
+  pub graph : IsGraph job.graph
+  pub apart : meeting_line job ≡ None
+  pub starts : (t : ℕ) → t < length job.graph.tasks → start_at job t
+      ≡ (if (task_at job.graph t).joins_now then m.offset t else 0)
 
 pub phaser_as : (job : Job) (starts : List ℕ) (m : Moment) (p : ℕ) → PhaserRan job m p
     → PhaserRan (with_starts starts job) m p

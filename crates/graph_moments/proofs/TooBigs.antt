@@ -29,7 +29,7 @@ use Rattle.stream_lists.specs.Ranges.{Where, is_out_of_range, are_made, takes_ph
 use Rattle.stream_laws.proofs.Ordered.{place-at, place_of_input}
 use Rattle.graph_moments.specs.Moments.{one, Moment, HasRun, TaskRan, HasEnded, IsRegistered, IsOver, OnOutput, OnInput, OnPhaser, PutOn, TakenOn, HasMetNone, input_at, taken_now, made_now, limits_at, value_at, HasExchanged}
 use Rattle.graph_base.specs.declared.place.Place.TheVariants as place
-use Rattle.graph_moments.specs.Settled.{Stands, PutsOut, IsReadyAt, IsFaultAt, IsThere}
+use Rattle.graph_moments.specs.Settled.{Stands, PutsOut, IsFaultAt, IsThere}
 use Rattle.graph_moments.proofs.Composed.{Composes}
 use Rattle.graph_moments.proofs.OnLines.{signalled_within}
 use Rattle.graph_moments.proofs.Entries.{prefix_length, prefix_at, take_full, take_length, get_or-take, get_or-drop}
@@ -39,6 +39,7 @@ use Rattle.graph_moments.proofs.Tasks.{now_counts, made_begins}
 use Rattle.graph_moments.proofs.Whole.{composes, over_ended, stands_all, reads_all, puts_all}
 use Rattle.graph_moments.proofs.Results.{came_in, came_out, lines_are}
 use Rattle.graph_moments.proofs.Faults.{phase_faults, output_faults_at}
+use Rattle.graph_moments.proofs.Started.{IsReadyAt}
 use Rattle.stream_laws.specs.Entries.{AreInRange, Takes}
 use Rattle.stream_laws.proofs.Fitting.{any-at, made_on, fits_from}
 
@@ -326,7 +327,8 @@ all_fit job m ready ran over none = record {
 
 -- where no wait was answered a value that is too big, all fit, and the answer is what the sinks
 -- have taken
-pub fits : (job : Job) (m : Moment) → IsReadyAt job m → HasRun job m → IsOver job m → HasMetNone job m
+pub fits : (job : Job) (m : Moment) → IsReadyAt job m → HasRun job m → IsOver job m
+    → HasMetNone job m
     → Fits job
 fits job m ready ran over none = fits_from job ready.graph (all_fit job m ready ran over none)
 

@@ -19,7 +19,7 @@ use Rattle.stream_lists.specs.Lists.{numbers_of, output_on}
 use Rattle.stream_laws.proofs.Ordered.{looks-first, looked_above, place-at, parent_signals}
 use Rattle.stream_lists.proofs.SpansAbove.{parent-is, spans_all}
 use Rattle.graph_moments.specs.Moments.{one, Moment, input_at, made_now, taken_now, limits_at, TaskRan, HasEnded, OnOutput, PutOn, SilentOn, OnPhaser, IsChild, OnLine, HasNotPassed, Joined, IsRegistered, HasRun, IsOver, OnInput, TakenOn}
-use Rattle.graph_moments.specs.Settled.{Stands, PutsOut, IsReadyAt}
+use Rattle.graph_moments.specs.Settled.{Stands, PutsOut}
 use Rattle.graph_moments.proofs.Composed.{IsAwaited, Composes, HasRead}
 use Rattle.graph_moments.proofs.Entries.{prefix_length}
 use Rattle.graph_moments.proofs.OnLines.{on_phaser}
@@ -27,6 +27,7 @@ use Rattle.graph_moments.proofs.OutputLists.{length_made, puts-few}
 use Rattle.graph_moments.proofs.Tasks.{registered_span, has_read_on, stands_from, puts_from, now_counts}
 use Rattle.graph_moments.proofs.Phasers.{At, EachAt, all_agree, composes_from}
 use Rattle.graph_moments.proofs.Anys.{in_range, are_gathered}
+use Rattle.graph_moments.proofs.Started.{IsReadyAt}
 
 -- ---- tasks, where the phasers that they read compose their lists
 
@@ -305,7 +306,8 @@ compose_one job m ready ran p pp above =
         refl
 
 -- every phaser composes its list
-pub compose_all : (job : Job) (m : Moment) → IsReadyAt job m → HasRun job m → (fuel p : ℕ) → p < fuel
+pub compose_all : (job : Job) (m : Moment) → IsReadyAt job m → HasRun job m → (fuel p : ℕ)
+    → p < fuel
     → p < length job.graph.phasers → Composes job m p
 compose_all job m ready ran zero p below pp = absurd (omega arith)
 compose_all job m ready ran (suc fuel) p below pp =

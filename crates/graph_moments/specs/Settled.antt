@@ -1,10 +1,10 @@
 -- What a moment of a run has of the lists that the definitions compose.
-use Rattle.std.specs.Prelude.{◌≡◌, ℕ, ◌-◌, ◌<◌, ◌≤◌, pos, Some, None, true, length, get_or, if◌then◌else◌}
+use Rattle.std.specs.Prelude.{◌≡◌, ℕ, ◌-◌, ◌<◌, ◌≤◌, pos, Some, None, true, length, get_or}
 use mathlib.Core.List.{IsPrefix}
 use Rattle.graph_base.specs.Graphs.{task_at}
 use Rattle.graph_base.specs.TaskLines.{IsGraph}
 use Rattle.graph_base.specs.declared.place.Place.TheVariants as place
-use Rattle.stream_lists.specs.Jobs.{Job, samples_at, start_at, index_in}
+use Rattle.stream_lists.specs.Jobs.{Job, samples_at, index_in}
 use Rattle.stream_lists.specs.Spans.{lengths_of, span_in, signalled_by, schedule_of}
 use Rattle.stream_lists.specs.Lists.{contributions_on, numbers_of, output_on}
 use Rattle.stream_lists.specs.Meetings.{meeting_line}
@@ -29,13 +29,6 @@ pub record PutsOut (job : Job) (m : Moment) (t j : ℕ) : Type 0 where
 pub record IsReady (job : Job) : Type 0 where
   pub graph : IsGraph job.graph
   pub apart : meeting_line job ≡ None
-
--- the same, where its sinks that join now begin where they do at a moment
-pub record IsReadyAt (job : Job) (m : Moment) : Type 0 where
-  pub graph : IsGraph job.graph
-  pub apart : meeting_line job ≡ None
-  pub starts : (t : ℕ) → t < length job.graph.tasks → start_at job t
-      ≡ (if (task_at job.graph t).joins_now then m.offset t else 0)
 
 -- the value at this place, over the lists of all phasers, is out of range and counts: the value of
 -- a phase that some task takes, or a value that a live task makes on one of its outputs

@@ -159,7 +159,8 @@ pub next_samples_keep : (job : Job) (m : Moment) (t j p n : ℕ) (vs : List ℤ)
     → IsNextSamples job m t j p n vs → HasRun job m
     → HasRun job (after_signals job t j p n vs (further (m.begun t) vs) m)
 next_samples_keep job m t j p n vs is there pp s ran =
-    signals_keep job m (after_signals job t j p n vs (further (m.begun t) vs) m) t j p n vs is there pp
+    signals_keep job m (after_signals job t j p n vs (further (m.begun t) vs) m) t j p n vs is there
+    pp
     (next_samples_are job m t j p n vs s (ran.tasks t there)) ran
 
 -- ---- waits
@@ -200,7 +201,8 @@ taken_else m t k p n outcomes begun i apart =
 -- the first wait of a step
 pub first_waits_are : (job : Job) (m : Moment) (t k p n : ℕ) (outcomes : List Outcome)
     → IsFirstWaits job m t k p n outcomes
-    → WaitsAll job m (after_waits t k p n outcomes (further (m.begun t) outcomes) m) t k p n outcomes
+    → WaitsAll job m (after_waits t k p n outcomes (further (m.begun t) outcomes) m) t k p n
+    outcomes
 first_waits_are job m t k p n outcomes s =
     record {
       moved = moved_wait job m t k p n outcomes (further (m.begun t) outcomes) s.wait
@@ -226,5 +228,6 @@ pub first_waits_keep : (job : Job) (m : Moment) (t k p n : ℕ) (outcomes : List
     → IsFirstWaits job m t k p n outcomes → HasRun job m
     → HasRun job (after_waits t k p n outcomes (further (m.begun t) outcomes) m)
 first_waits_keep job m t k p n outcomes is there pp s ran =
-    waits_keep job m (after_waits t k p n outcomes (further (m.begun t) outcomes) m) t k p n outcomes is there pp
+    waits_keep job m (after_waits t k p n outcomes (further (m.begun t) outcomes) m) t k p n
+    outcomes is there pp
     (first_waits_are job m t k p n outcomes s) ran

@@ -1,5 +1,5 @@
--- The registration of a sink that joins now keeps what a run has: the sink begins where its phaser's
--- first phase that is not complete is, which is its parent's boundary or later.
+-- The registration of a sink that joins now keeps what a run has: the sink begins where its
+-- phaser's first phase that is not complete is, which is its parent's boundary or later.
 use Rattle.std.proofs.Common.{◌≡◌, ◌≢◌, ℕ, ◌+◌, ◌<◌, ◌≤◌, Bool, true, false, cond, eqb, List, [], ◌∷◌, Option, Some, None, length, map, refl, sym, ap, subst, ◌∙◌, arith, ◌⊎◌, inl, inr}
 use Rattle.std.specs.Prelude.{is_some}
 use Rattle.std.proofs.lemmas.Bool.{ne_eqb, eq-eqb}
@@ -145,7 +145,8 @@ child_joins job before after t p n c a u is there legal s parent child = record 
       outputs q qq (index_in (signalled_by (task_at job.graph c)) q) refl (eq_case q p);
   inputs = λ k lt. inputs k lt;
   joined = λ q b at. joined;
-  children = λ d q b w there_d e same at none on. absurd (no_child job c d w is there_d e s.now same);
+  children = λ d q b w there_d e same at none on.
+      absurd (no_child job c d w is there_d e s.now same);
 }
   where
     sink : (task_at job.graph c).kind ≡ Sink

@@ -190,7 +190,8 @@ run_keeps job before after t p n event is there pp moved numbered leaves ran own
 -- ---- the three events
 
 -- a signal keeps what a moment has
-pub signals_keep : (job : Job) (before after : Moment) (t j p n : ℕ) (vs : List ℤ) → IsGraph job.graph
+pub signals_keep : (job : Job) (before after : Moment) (t j p n : ℕ) (vs : List ℤ)
+    → IsGraph job.graph
     → t < length job.graph.tasks → p < length job.graph.phasers
     → SignalsAll job before after t j p n vs → HasRun job before → HasRun job after
 signals_keep job before after t j p n vs is there pp s ran =

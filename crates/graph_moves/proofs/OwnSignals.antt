@@ -23,7 +23,8 @@ use Rattle.graph_moves.specs.Moves.{further, MayBeginTo, SignalsAll, Signals}
 use Rattle.graph_moments.proofs.Steps.{no_inputs}
 use Rattle.graph_moves.proofs.OwnEvents.{eq_case, history_by, joined_later, made_still}
 
-pub own_signals : (job : Job) (before after : Moment) (t j p n : ℕ) (vs : List ℤ) → IsGraph job.graph
+pub own_signals : (job : Job) (before after : Moment) (t j p n : ℕ) (vs : List ℤ)
+    → IsGraph job.graph
     → t < length job.graph.tasks
     → SignalsAll job before after t j p n vs → TaskRan job before t → TaskRan job after t
 own_signals job before after t j p n vs is there s ran = record {
@@ -69,7 +70,8 @@ own_signals job before after t j p n vs is there s ran = record {
     puts i lt (inr apart) = by s.begun
       where
         by : ((task_at job.graph t).kind ≡ Source) × (after.begun t ≡ further (before.begun t) vs)
-            × MayBeginTo job before t (further (before.begun t) vs) ⊎ (after.begun t ≡ before.begun t)
+            × MayBeginTo job before t (further (before.begun t) vs)
+            ⊎ (after.begun t ≡ before.begun t)
             → IsPrefix (after.put t i) (made_now job after t i)
         by (inl b) =
             let H : Kind → Type 0 =

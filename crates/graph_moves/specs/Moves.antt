@@ -137,8 +137,8 @@ Signals job before after t j p n v = SignalsAll job before after t j p n (v ∷ 
 
 -- task t, as number n on phaser p, which is its input number k, waits and is answered these
 -- outcomes
-pub record WaitsAll (job : Job) (before after : Moment) (t k p n : ℕ) (outcomes : List Outcome) : Type
-    0 where
+pub record WaitsAll (job : Job) (before after : Moment) (t k p n : ℕ) (outcomes : List Outcome)
+    : Type 0 where
   pub moved : HasMoved job before after t p (Waited n (length outcomes))
   pub numbered : before.number p t ≡ Some n
   pub few : k < length (task_at job.graph t).inputs
@@ -203,7 +203,8 @@ pub record Registers (job : Job) (before after : Moment) (t p n c a : ℕ) (mode
       → input_at (task_at job.graph t) k ≡ p → length (before.taken t k) ≡ before.begun t
 
 -- task t, as number n on phaser p, registers there its child, task c, a sink that joins now, as
--- number a, at the child's boundary or later; the child begins at the first phase that is not complete
+-- number a, at the child's boundary or later; the child begins at the first phase that is not
+-- complete
 pub record RegistersNow (job : Job) (before after : Moment) (t p n c a : ℕ) (u : Parent) : Type
     0 where
   pub child : c < length job.graph.tasks

@@ -27,8 +27,8 @@ with_at p x f q = if q == p then x else f q
 abbrev pub with_event : ℕ → Event → Moment → Moment
 with_event p event m = record m { history = with_at p (event ∷ m.history p) m.history }
 
--- task t, as number n on phaser p, its output number j, has signalled these values, one a phase, and
--- begun so many steps
+-- task t, as number n on phaser p, its output number j, has signalled these values, one a phase,
+-- and begun so many steps
 abbrev pub after_signals : Job → ℕ → ℕ → ℕ → ℕ → List ℤ → ℕ → Moment → Moment
 after_signals job t j p n vs begun m = record m {
   history = with_at p (Signalled n (map one vs) (phaser_at job.graph p).single ∷ m.history p)

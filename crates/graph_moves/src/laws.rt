@@ -62,8 +62,8 @@ pub fn turns_keep()
 {}
 
 /// After a block a run has what it had, too: several steps of a task in one event of its phaser, so
-/// many samples of a source, values that a filter puts, or phases that a filter or a sink waits for.
-/// A block of one is the event of `turns_keep`. And so it has after a sink has joined now.
+/// many samples of a source, values that a filter puts, or phases that a filter or a sink waits
+/// for. A block of one is the event of `turns_keep`. And so it has after a sink has joined now.
 pub fn blocks_keep()
     ensures samples { (job : Job) (m : Moment) (t j p n : ℕ) (vs : List ℤ)
         → IsGraph job.graph → t < length job.graph.tasks → p < length job.graph.phasers

@@ -110,7 +110,8 @@ none_before job m t steps p =
     (λ c. when_some (task_at job.graph c).parent (ByTask c)
     (λ u. where_so (u.task ≡ t) ((n : ℕ) → m.number p t ≡ Some n → Later job m steps p c u)
     (eqb u.task t) (λ same. eq-eqb u.task t same)
-    (when_some (m.number p t) (λ n. Later job m steps p c u) (λ n. comes_later job m steps p c u)))))
+    (when_some (m.number p t) (λ n. Later job m steps p c u)
+    (λ n. comes_later job m steps p c u)))))
 
 abbrev pub none_due : (job : Job) (m : Moment) (t p : ℕ) → Test (NoneDue job m t p)
 none_due job m t p = none_before job m t (suc (m.begun t)) p

@@ -1,5 +1,5 @@
--- A worked run in blocks: a source, a filter and a sink that make up to three steps in one event, and
--- a child of the sink that joins now, from the opening to the end.
+-- A worked run in blocks: a source, a filter and a sink that make up to three steps in one event,
+-- and a child of the sink that joins now, from the opening to the end.
 use Rattle.std.specs.Prelude.{ℕ, List, [], ◌∷◌, Option, Some, None, pos, codes, true}
 use Rattle.phase_accum.specs.declared.outcome.Outcome.TheVariants.{Value}
 use Rattle.phase_history.specs.Histories.{History}

@@ -22,8 +22,8 @@ use graph_moments::laws as moments;
 use graph_moves::laws as moves;
 use graph_turns::laws as turns;
 
-/// Events of one phase or several that are each the next one of their task lead from one moment of a
-/// run to another.
+/// Events of one phase or several that are each the next one of their task lead from one moment of
+/// a run to another.
 fn blocks_lead_on()
     ensures { (job : Job) (m : Moment) (events : List BlockEvent) → IsGraph job.graph
         → AreNextBlocks job m events → HasRun job m → HasRun job (after_blocks job m events) }

@@ -1,4 +1,5 @@
--- A block of a task leads to a moment that is reachable, and the next block of a source is its samples.
+-- A block of a task leads to a moment that is reachable, and the next block of a source is its
+-- samples.
 use Rattle.std.proofs.Common.{◌≡◌, ℕ, ◌+◌, ◌-◌, ◌<◌, ◌≤◌, false, List, ℤ, None, Some, length, map, refl, sym, ap, subst, ◌∙◌, arith, inl}
 use Rattle.std.specs.Prelude.{take, drop, min}
 use Rattle.std.proofs.lemmas.List.{length-take-le, length-drop}
@@ -76,7 +77,8 @@ abbrev pub sample_block : Job → Moment → ℕ → List ℤ
 sample_block job m t = take (sample_block_of job m t) (drop (m.begun t) (samples_at job t))
 
 -- where the phaser accepts them, they are its next event
-pub samples_next : (job : Job) (m : Moment) (t : ℕ) → IsGraph job.graph → HasRun job m → Live job m t
+pub samples_next : (job : Job) (m : Moment) (t : ℕ) → IsGraph job.graph → HasRun job m
+    → Live job m t
     → (task_at job.graph t).kind ≡ Source → first_owed job m t ≡ None → first_due job m t ≡ None
     → is_cut (task_at job.graph t).until (m.begun t) ≡ false
     → has_input_ended job m t (task_at job.graph t).kind ≡ false
@@ -108,7 +110,8 @@ samples_next job m t is ran live source none due uncut more accepted lists =
     let many : length vs ≡ steps =
     length-take-le steps (drop (m.begun t) (samples_at job t)) (omega arith) in
     let on_to : further (m.begun t) vs ≡ m.begun t + length vs = further-length (m.begun t) vs in
-    let T : Kind → Type 0 = λ k. HasSamples k (further (m.begun t) vs) (length (samples_at job t)) in
+    let T : Kind → Type 0 = λ k. HasSamples k (further (m.begun t) vs)
+    (length (samples_at job t)) in
     let enough : T Source = omega arith in
     record {
       signal = record {

@@ -1,5 +1,6 @@
--- The next block of a task: it has a step, and the task may make all its steps; its signal is refused
--- as Ahead or Spent alone; and its wait is answered as many values as are complete, at most its steps.
+-- The next block of a task: it has a step, and the task may make all its steps; its signal is
+-- refused as Ahead or Spent alone; and its wait is answered as many values as are complete, at most
+-- its steps.
 use Rattle.std.proofs.Common.{◌≡◌, ℕ, zero, suc, ◌+◌, ◌-◌, ◌<◌, ◌≤◌, Bool, true, false, not, ◌&&◌, cond, eqb, List, [], ◌∷◌, ◌++◌, Option, Some, None, is_some, length, map, ℤ, refl, sym, ap, subst, ◌∙◌, arith, ◌⊎◌, inl, inr}
 use Rattle.std.specs.Prelude.{min, nat_lt, nat_le, if◌then◌else◌, Ok, slice_range, take, drop}
 use Rattle.std.specs.List.{range_with_len, fold}

@@ -1,5 +1,5 @@
--- A sink that joins now: the registration by its parent is an event of the run, and the moment after
--- it is reachable.
+-- A sink that joins now: the registration by its parent is an event of the run, and the moment
+-- after it is reachable.
 use Rattle.std.proofs.Common.{◌≡◌, ◌≢◌, ℕ, zero, suc, ◌+◌, ◌<◌, ◌≤◌, Bool, true, false, not, cond, eqb, List, [], ◌∷◌, ◌++◌, Option, Some, None, is_some, length, map, get_or, refl, sym, ap, subst, ◌∙◌, arith, ◌⊎◌, inl, inr}
 use Rattle.std.specs.List.{find, range_with_len}
 use Rattle.std.proofs.lemmas.Bool.{eqb-true, eq-eqb, ne_eqb}
@@ -97,11 +97,13 @@ module _ (job : Job) (before after : Moment) (t p n c a : ℕ) (u : Parent) (is 
   misses_none = none (registrations_at job c) (λ i lt. here i lt)
     where
       none : (rs : List Registration)
-          → ((i : ℕ) → i < length rs → not (has_registered after c (get_or rs i no_registration)) ≡ false)
+          → ((i : ℕ) → i < length rs → not (has_registered after c (get_or rs i no_registration))
+          ≡ false)
           → find (λ r. not (has_registered after c r)) rs ≡ None
       none [] all = refl
       none (r ∷ rs) all =
-          ap (λ b. cond b (Some r) (find (λ r. not (has_registered after c r)) rs)) (all 0 (omega arith))
+          ap (λ b. cond b (Some r) (find (λ r. not (has_registered after c r)) rs))
+          (all 0 (omega arith))
           ∙ none rs (λ i lt. all (suc i) (omega arith))
 
       here : (i : ℕ) → i < length (registrations_at job c)
@@ -131,7 +133,8 @@ module _ (job : Job) (before after : Moment) (t p n c a : ℕ) (u : Parent) (is 
 
       of_child : (get_or (registrations_at job x) k no_registration).phaser ≡ p → x ≡ c → Mode_of
       of_child here same b start at start_is =
-          let f = find-some (λ r. not (has_registered before c r)) (registrations_at job c) missing.0
+          let f = find-some (λ r. not (has_registered before c r)) (registrations_at job c)
+          missing.0
           no_registration missing.1 in
           let i = f.1.0 in
           let L : ℕ → Type 0 = λ y. k < length (registrations_at job y) in
@@ -210,7 +213,8 @@ module _ (job : Job) (before after : Moment) (t p n c a : ℕ) (u : Parent) (is 
           ∙ ap (λ h. length (members_of h)) s.here
           ∙ ap (λ x. length (members_of (before.history x) ++ member a entry ∷ [])) (sym same) in
           let one = length-append (members_of (before.history q)) (member a entry ∷ []) in
-          let was : length (members_of (before.history q)) ≤ length (numbers_on job before q) = few in
+          let was : length (members_of (before.history q))
+          ≤ length (numbers_on job before q) = few in
           let joined : length (numbers_on job after q) ≡ suc (length (numbers_on job before q)) =
           length-joined (before.number q) (after.number q) 0 (length job.graph.tasks) c a
           (omega arith) (let lt : c < length job.graph.tasks = s.child in omega arith)
@@ -226,7 +230,8 @@ module _ (job : Job) (before after : Moment) (t p n c a : ℕ) (u : Parent) (is 
           ap length
           (filter_map-same (after.number q) (before.number q) 0 (length job.graph.tasks)
           (λ x less. s.other_numbers q x (inl apart))) in
-          let was : length (members_of (before.history q)) ≤ length (numbers_on job before q) = few in
+          let was : length (members_of (before.history q))
+          ≤ length (numbers_on job before q) = few in
           omega arith
 
   -- a child that misses a registration afterwards is another, and missed it before
@@ -254,7 +259,8 @@ module _ (job : Job) (before after : Moment) (t p n c a : ℕ) (u : Parent) (is 
   join_to_come come = record {
     offset = λ d v lt parent missing.
         (let w = still d missing in
-        w.1.offset ∙ come.offset d v lt parent w.0 ∙ ap (λ x. x + v.at) (sym (above d v lt parent)));
+        w.1.offset ∙ come.offset d v lt parent w.0 ∙ ap (λ x. x + v.at)
+        (sym (above d v lt parent)));
     nothing_begun = λ d lt missing.
         (let w = still d missing in w.1.begun ∙ come.nothing_begun d lt w.0);
     nothing_put = λ d j lt missing.

@@ -12,7 +12,8 @@ abbrev pub until_allows : Option ℕ → ℕ → ℕ → ℕ
 until_allows None begun steps = steps
 until_allows (Some until) begun steps = min steps (until - begun)
 
--- so many steps, but none past the boundary of this line's task, where it is a later child of task t
+-- so many steps, but none past the boundary of this line's task, where it is a later child of task
+-- t
 abbrev pub child_allows : ℕ → ℕ → Option Parent → ℕ → ℕ
 child_allows t begun None steps = steps
 child_allows t begun (Some parent) steps =

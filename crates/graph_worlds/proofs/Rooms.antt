@@ -64,7 +64,8 @@ steps_left job m t k p n outcome ready live few reached numbered =
     let q = input_at (task_at job.graph t) k in
     let registered : IsRegistered after t = (q, number_on m t q, numbered) in
     let s : Stands (started job after) after t =
-    stands_all (started job after) after (ready_as job after ready) (run_started job after reached.ran)
+    stands_all (started job after) after (ready_as job after ready)
+    (run_started job after reached.ran)
     t live.there registered in
     let within : after.begun t ≤ (span_in (started job after) t).steps = s.within in
     let most : (span_in (started job after) t).steps ≤ (span_in (least job) t).steps =

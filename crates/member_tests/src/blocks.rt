@@ -14,8 +14,8 @@ fn parcel(value: i64) -> Pending<Sum> {
     pending
 }
 
-// What two waits for at most four phases are answered and write, the first of a parent and the second
-// of the child that it registered now, with the phase that the child joins at.
+// What two waits for at most four phases are answered and write, the first of a parent and the
+// second of the child that it registered now, with the phase that the child joins at.
 #[derive(Clone, Copy, Debug, PartialEq)]
 struct Seen {
     first: Option<GotBlock>,
@@ -56,7 +56,8 @@ fn joined<R: Wait>(
     })
 }
 
-// The same between a child that signals and a founder that waits, once it has left the signals to it.
+// The same between a child that signals and a founder that waits, once it has left the signals to
+// it.
 fn waiting<R: Wait>(rt: &R, signaller: Member<'_, Sum>, waiter: Member<'_, Sum>) -> Option<Seen> {
     let (mut signaller, mut waiter) = (signaller, waiter);
     let seen = if puts_three(&mut signaller) {

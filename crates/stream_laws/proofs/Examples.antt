@@ -697,8 +697,8 @@ child_within-line = refl
 
 -- ---- a sink that joins now
 
--- phaser X sum / source s s.csv -> X / sink out X / sink late X by out at 2 now, whose late joins from
--- this phase on
+-- phaser X sum / source s s.csv -> X / sink out X / sink late X by out at 2 now, whose late joins
+-- from this phase on
 abbrev joins_from : ℕ → Job
 joins_from n =
     with_starts (0 ∷ 0 ∷ n ∷ [])

@@ -79,7 +79,8 @@ same_spans job p xs ys is same (suc limit) t j below there place =
     let line : IsTaskLine job.graph t task = is.tasks t there in
     let samples = length (samples_at job t) in
     spans_are job xs t is there
-    ∙ (same_span task samples (offset_of (spans_over job xs) (start_at job t) task.parent) xs ys line.ends
+    ∙ (same_span task samples (offset_of (spans_over job xs) (start_at job t) task.parent) xs ys
+    line.ends
     (λ k lt looks. same (get_or task.inputs k 0)
     (looked_above job.graph t task j k p line place lt (looks-first task.kind j k looks)))
     ∙ (ap (span_at task samples ys)

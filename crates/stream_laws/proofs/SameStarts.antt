@@ -1,5 +1,5 @@
--- The definitions read the starts by the schedule alone: jobs that differ in starts that nobody reads
--- have the same answer.
+-- The definitions read the starts by the schedule alone: jobs that differ in starts that nobody
+-- reads have the same answer.
 use Rattle.std.proofs.Common.{◌≡◌, ℕ, List, [], ◌∷◌, ◌++◌, length, map, Option, Some, None, refl, ap, ◌∙◌}
 use Rattle.std.specs.Prelude.{Result, Ok, Err, ℤ}
 use Rattle.std.specs.List.{range_with_len}
@@ -28,7 +28,8 @@ same_spans job starts xs same =
 same_lengths : (job : Job) (starts : List ℕ) → AreSameStarts job starts
     → lengths_of (with_starts starts job) ≡ lengths_of job
 same_lengths job starts same =
-    fold-same (λ above p. above ++ length_on job.graph (spans_over (with_starts starts job) above) p ∷ [])
+    fold-same (λ above p. above ++ length_on job.graph (spans_over (with_starts starts job) above) p
+    ∷ [])
     (λ above p. above ++ length_on job.graph (spans_over job above) p ∷ [])
     (range_with_len 0 (length job.graph.phasers)) []
     (λ above p. ap (λ spans. above ++ length_on job.graph spans p ∷ [])
@@ -47,7 +48,8 @@ same_schedule job starts same =
     } in
     let lengths = same_lengths job starts same in
     let spans : spans_of (with_starts starts job) ≡ spans_of job =
-    ap (spans_over (with_starts starts job)) lengths ∙ same_spans job starts (lengths_of job) same in
+    ap (spans_over (with_starts starts job)) lengths
+    ∙ same_spans job starts (lengths_of job) same in
     ap (λ s. both s (lengths_of (with_starts starts job))) spans ∙ ap (both (spans_of job)) lengths
 
 pub same_list : (job : Job) (starts : List ℕ) (p : ℕ) → HasSameSchedule job starts
@@ -63,7 +65,8 @@ same_too_big job starts same =
 pub same_lines : (job : Job) (starts : List ℕ) → HasSameSchedule job starts
     → lines_of (with_starts starts job) ≡ lines_of job
 same_lines job starts same =
-    ap (λ s. map (sink_over job s (numbers_up_to job s (length job.graph.phasers))) (sinks_of job)) same
+    ap (λ s. map (sink_over job s (numbers_up_to job s (length job.graph.phasers))) (sinks_of job))
+    same
 
 pub same_answer : (job : Job) (starts : List ℕ) → HasSameSchedule job starts
     → answer_of (with_starts starts job) ≡ answer_of job

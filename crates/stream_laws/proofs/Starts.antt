@@ -1,5 +1,5 @@
--- The phases at which sinks join now move those sinks alone: the lists of the phasers are as long, no
--- other task begins elsewhere, and the same tasks meet.
+-- The phases at which sinks join now move those sinks alone: the lists of the phasers are as long,
+-- no other task begins elsewhere, and the same tasks meet.
 use Rattle.std.proofs.Common.{◌-◌, ◌≡◌, ℕ, zero, suc, ◌+◌, ◌<◌, ◌≤◌, ◌⊎◌, inl, inr, Bool, true, false, ◌&&◌, ◌||◌, cond, List, [], ◌∷◌, ◌++◌, length, map, get_or, Option, Some, None, refl, sym, ap, ◌∙◌, arith}
 use Rattle.std.specs.Prelude.{nat_le, max, if◌then◌else◌}
 use Rattle.std.specs.List.{range_with_len, fold, list_any, find}
@@ -69,7 +69,8 @@ fold-same f g (p ∷ ps) xs same =
 pub lengths_stay : (job : Job) (starts : List ℕ) → IsGraph job.graph
     → lengths_of (with_starts starts job) ≡ lengths_of job
 lengths_stay job starts is =
-    fold-same (λ above p. above ++ length_on job.graph (spans_over (with_starts starts job) above) p ∷ [])
+    fold-same (λ above p. above ++ length_on job.graph (spans_over (with_starts starts job) above) p
+    ∷ [])
     (λ above p. above ++ length_on job.graph (spans_over job above) p ∷ [])
     (range_with_len 0 (length job.graph.phasers)) []
     (λ above p. ap (λ n. above ++ n ∷ []) (ap greatest
@@ -82,7 +83,8 @@ pub others_stay : (job : Job) (starts : List ℕ) (t : ℕ) → IsGraph job.grap
     → t < length job.graph.tasks → (task_at job.graph t).joins_now ≡ false
     → get_or (spans_of (with_starts starts job)) t nowhere ≡ get_or (spans_of job) t nowhere
 others_stay job starts t is there stays =
-    ap (λ xs. get_or (spans_over (with_starts starts job) xs) t nowhere) (lengths_stay job starts is)
+    ap (λ xs. get_or (spans_over (with_starts starts job) xs) t nowhere)
+    (lengths_stay job starts is)
     ∙ others_span job starts (lengths_of job) is (suc t) t (omega arith) there stays
 
 pub ends_stay : (job : Job) (starts : List ℕ) (p t : ℕ) → IsGraph job.graph
@@ -152,7 +154,8 @@ meet_stays job starts t p u is there there_u =
         dead (inr (now_ends job p u is there_u second))
         (inr (now_ends (with_starts starts job) p u is there_u second))
     by false false first second =
-        ap (λ (s : Span). overlap s.offset (end_of job.graph (spans_of (with_starts starts job)) p t)
+        ap (λ (s : Span). overlap s.offset (end_of job.graph (spans_of (with_starts starts job)) p
+        t)
         (get_or (spans_of (with_starts starts job)) u nowhere).offset
         (end_of job.graph (spans_of (with_starts starts job)) p u))
         (others_stay job starts t is there first)
@@ -162,7 +165,8 @@ meet_stays job starts t p u is there there_u =
         (others_stay job starts u is there_u second)
         ∙ ap (λ n. overlap (get_or (spans_of job) t nowhere).offset n
         (get_or (spans_of job) u nowhere).offset
-        (end_of job.graph (spans_of (with_starts starts job)) p u)) (ends_stay job starts p t is there)
+        (end_of job.graph (spans_of (with_starts starts job)) p u))
+        (ends_stay job starts p t is there)
         ∙ ap (λ n. overlap (get_or (spans_of job) t nowhere).offset
         (end_of job.graph (spans_of job) p t) (get_or (spans_of job) u nowhere).offset n)
         (ends_stay job starts p u is there_u)

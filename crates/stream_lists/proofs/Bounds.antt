@@ -311,20 +311,24 @@ span_reach job lengths n is are (suc limit) t below there =
         (let more : suc u.task ≤ t = omega arith in omega arith) in
         subst (λ (s : Span). Reaches s (reach n t)) (sym same) (omega arith)
 
-    root : (offset : ℕ) → offset_of (spans_up_to job lengths t) (start_at job t) (task_at job.graph t).parent
+    root : (offset : ℕ) → offset_of (spans_up_to job lengths t) (start_at job t)
+        (task_at job.graph t).parent
         ≡ Some offset → (task_at job.graph t).kind ≡ Join → offset ≡ 0
     root offset e join = none_case (task_at job.graph t).parent refl e
       where
         none_case : (parent : Option Parent) → (task_at job.graph t).parent ≡ parent
-            → offset_of (spans_up_to job lengths t) (start_at job t) parent ≡ Some offset → offset ≡ 0
+            → offset_of (spans_up_to job lengths t) (start_at job t) parent ≡ Some offset → offset
+            ≡ 0
         none_case None p f = let same : 0 ≡ offset = cc in omega arith
         none_case (Some u) p f =
             let parent : IsParent job.graph t (task_at job.graph t) u =
             parent-is job.graph t (task_at job.graph t) u line p in
             absurd (let b : true ≡ false = sym parent.child_kind ∙ ap has_children join in cc)
 
-    by : (o : Option ℕ) → offset_of (spans_up_to job lengths t) (start_at job t) (task_at job.graph t).parent ≡ o
-        → ((offset : ℕ) → offset_of (spans_up_to job lengths t) (start_at job t) (task_at job.graph t).parent
+    by : (o : Option ℕ) → offset_of (spans_up_to job lengths t) (start_at job t)
+        (task_at job.graph t).parent ≡ o
+        → ((offset : ℕ) → offset_of (spans_up_to job lengths t) (start_at job t)
+        (task_at job.graph t).parent
         ≡ Some offset → offset ≤ reach n t)
         → Reaches (span_at (task_at job.graph t) (length (samples_at job t)) lengths o)
         (reach n (suc t))

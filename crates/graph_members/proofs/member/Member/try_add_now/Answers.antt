@@ -6,5 +6,6 @@ use Rattle.graph_members.proofs.member.Member.try_add_now.Goals as goal
 pub returns-clause-alone : goal.returns-clause-alone
 returns-clause-alone g c = λ alone.
     let own = c.self.inside in
-    let apart = c.try_register_now.ensures.call.alone (only_used own.reg own.held c.args.self.now c.self.view_is alone) in
+    let apart = c.try_register_now.ensures.call.alone
+    (only_used own.reg own.held c.args.self.now c.self.view_is alone) in
     search rules
