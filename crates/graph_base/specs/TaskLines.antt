@@ -5,9 +5,8 @@ use Rattle.phase_base.specs.Limits.{IsBound}
 use Rattle.phase_base.specs.Lists.{is_distinct}
 use Rattle.phase_accum.specs.Singles.{CanBeNamed}
 use Rattle.stream_filters.specs.Filter.{AreTaps}
-use Rattle.graph_words.specs.Words.{Word, is_name, is_file}
-use Rattle.graph_base.specs.Graphs.{Task, Graph, IsPlace}
-use Rattle.graph_base.specs.Graphs.{task_at, phaser_at, name_at, sources_of}
+use Rattle.phase_base.specs.Words.{Word, is_name, is_file}
+use Rattle.graph_base.specs.Graphs.{Task, Graph, IsPlace, task_at, phaser_at, name_at, sources_of}
 use Rattle.graph_base.specs.Names.{place_of}
 use Rattle.graph_base.specs.declared.limits.TheConstants.{PHASERS_MAX, TASKS_MAX, ENDS_MAX, STEPS_MAX, FACTOR_MAX}
 use Rattle.graph_base.specs.declared.line.Kind.{Kind}

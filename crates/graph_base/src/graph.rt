@@ -1,21 +1,18 @@
 //! Graphs.
 ghost use Rattle.std.specs.Prelude.{◌≡◌, ◌<◌, ◌≤◌, ◌+◌, length, get_or, IsTrue, Some};
-ghost use Rattle.graph_words.specs.Words.{is_name, is_file};
-ghost use Rattle.graph_base.specs.Graphs.{Graph as GraphValue, IsPlace, sources_of};
-ghost use Rattle.graph_base.specs.Graphs.{task_at, phaser_at, file_at, name_at, name_among};
+ghost use Rattle.phase_base.specs.Words.{is_name, is_file};
+ghost use Rattle.graph_base.specs.Graphs.{Graph as GraphValue, IsPlace, sources_of, task_at, phaser_at, file_at, name_at, name_among};
 ghost use Rattle.graph_base.specs.TaskLines.{IsGraph, IsPhaserLine, IsTaskLine};
 ghost use Rattle.graph_base.specs.Names.{place_of, names_of};
-ghost use Rattle.graph_base.specs.Registrations.{registrations_of, no_registration};
-ghost use Rattle.graph_base.specs.Registrations.{as_input, as_output, ends_of, exchange_mode};
+ghost use Rattle.graph_base.specs.Registrations.{registrations_of, no_registration, as_input, as_output, ends_of, exchange_mode};
 ghost use Rattle.graph_base.specs.Inside.{task_of};
 
 use crate::limits::{ENDS_MAX, PHASERS_MAX, TASKS_MAX};
 use crate::line::{Kind, PhaserLine, TaskLine};
 use crate::place::Place;
 use crate::registration::Registration;
-use graph_words::{FILE_MAX, NAME_MAX};
 use indexmap::IndexMap;
-use phase_base::Mode;
+use phase_base::{FILE_MAX, Mode, NAME_MAX};
 use std::alloc::Global;
 use std::marker::Model;
 

@@ -7,7 +7,7 @@ use Rattle.std.proofs.lemmas.List.Elements.{filter-append}
 use Rattle.std.proofs.lemmas.List.Sums.{count_by_more_yes, length-filter}
 use Rattle.graph_base.specs.Graphs.{Graph, Task, no_task, task_at, file_at, is_source, source_number, sources_of}
 use Rattle.graph_lang.proofs.Grown.{each-push}
-use Rattle.sample_text.specs.Samples.{AreSamplesOf}
+use Rattle.graph_lang.specs.Samples.{AreSamplesOf}
 use Rattle.stream_lists.specs.Inside.{items_of}
 use Rattle.graph_commands.specs.FileJobs.{AreFirstSamples, Known}
 

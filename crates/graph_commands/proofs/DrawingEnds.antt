@@ -9,7 +9,7 @@ use Rattle.watched_io.specs.declared.fault.IoFault.{IoFault}
 use Rattle.watched_io.specs.declared.fault.IoFault.TheVariants as io_fault
 use Rattle.watched_io.specs.declared.watched.Watched.{Watched}
 use Rattle.graph_base.specs.Graphs.{Graph}
-use Rattle.graph_drawing.specs.Drawings.{drawing}
+use Rattle.graph_show.specs.Drawings.{drawing}
 use Rattle.graph_commands.specs.FileJobs.{IsGraphOf, Known}
 use Rattle.graph_commands.specs.GraphDrawings.{DrawEnds, ExplainsNoGraph}
 use Rattle.graph_commands.specs.GraphRuns.{job_line, job_status}
@@ -17,7 +17,7 @@ use Rattle.graph_commands.specs.declared.fault.JobFault.{JobFault}
 use Rattle.graph_commands.specs.declared.fault.JobFault.TheVariants as fault
 use Rattle.graph_commands.proofs.Ends.{not_zero, some_status}
 use Rattle.graph_commands.proofs.Needed.{needed-graph}
-use Rattle.phase_status.specs.Statuses.{Reports, Says, fault_line}
+use Rattle.watched_io.specs.Statuses.{Reports, Says, fault_line}
 
 -- the file tells no graph
 pub draw-no_graph : {W : Type 0} (contents : W → Option (List ℕ)) (known : Known) (name : List ℕ)

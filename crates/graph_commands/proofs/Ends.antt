@@ -14,7 +14,7 @@ use Rattle.graph_commands.specs.declared.fault.JobFault.TheVariants as fault
 use Rattle.graph_commands.proofs.Needed.{needed-graph}
 use Rattle.watched_io.specs.declared.fault.IoFault.TheVariants.{WriteFault}
 use Rattle.graph_commands.specs.GraphRuns.{AsksSink, CheckEnds, EvalEnds, IsNoJob, check_line, job_line, job_status, no_sink_line, sink_named, sinks_text, too_big_line}
-use Rattle.phase_status.specs.Statuses.{Reports, Says, fault_line}
+use Rattle.watched_io.specs.Statuses.{Reports, Says, fault_line}
 use Rattle.stream_lists.specs.Jobs.{Job}
 use Rattle.stream_lists.specs.Ranges.{Fits, first_too_big}
 

@@ -9,8 +9,8 @@ use Rattle.graph_lang.specs.declared.fault.FaultKind.TheVariants.{AnyMeets}
 use Rattle.graph_lang.specs.declared.fault.GraphFault.{GraphFault}
 use Rattle.graph_base.specs.declared.place.Place.TheVariants as place
 use Rattle.watched_io.specs.Files.{HasBytes, MayBeRefused, MayNeedMemory}
-use Rattle.sample_text.specs.Samples.{AreSamplesOf, HasBadSample}
-use Rattle.sample_text.specs.declared.sample.TheConstants.{TEXT_MAX}
+use Rattle.graph_lang.specs.Samples.{AreSamplesOf, HasBadSample}
+use Rattle.graph_lang.specs.declared.sample.TheConstants.{TEXT_MAX}
 use Rattle.stream_lists.specs.Jobs.{Job}
 use Rattle.stream_lists.specs.Meetings.{meeting_line}
 use Rattle.graph_commands.specs.declared.fault.JobFault.{JobFault}

@@ -4,13 +4,13 @@ use Rattle.std.specs.Prelude.{◌≡◌, ◌≢◌, ◌⊎◌, ℕ, List}
 use Rattle.std.specs.Io.KnownBytes.{Appends}
 use Rattle.std.specs.declared.option.Option.{Option}
 use Rattle.graph_base.specs.Graphs.{Graph}
-use Rattle.graph_drawing.specs.Drawings.{drawing}
+use Rattle.graph_show.specs.Drawings.{drawing}
 use Rattle.graph_commands.specs.FileJobs.{IsFaultOf, IsGraphOf, Known}
 use Rattle.graph_commands.specs.GraphRuns.{IsUnwritten, job_line, job_status}
 use Rattle.graph_commands.specs.declared.fault.JobFault.{JobFault}
 use Rattle.graph_commands.specs.declared.fault.JobFault.TheVariants as fault
 use Rattle.graph_commands.specs.declared.graph_file.TheConstants.{GRAPH_MAX}
-use Rattle.phase_status.specs.Statuses.{Says}
+use Rattle.watched_io.specs.Statuses.{Says}
 use Rattle.watched_io.specs.Files.{MayBeRefused, MayNeedMemory}
 use Rattle.watched_io.specs.Prefix.{AppendsPrefix}
 use Rattle.watched_io.specs.States.{WriterState, writer_state}

@@ -20,7 +20,7 @@ use Rattle.watched_io.specs.declared.fault.IoFault.TheVariants.{OutOfMemory, Rea
 use Rattle.watched_io.specs.Prefix.{AppendsPrefix}
 use Rattle.watched_io.specs.States.{WriterState, writer_state}
 use Rattle.watched_io.specs.declared.watched.Watched.{Watched}
-use Rattle.phase_status.specs.Statuses.{Says, fault_line}
+use Rattle.watched_io.specs.Statuses.{Says, fault_line}
 
 -- ---- what is written
 

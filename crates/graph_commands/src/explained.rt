@@ -1,17 +1,16 @@
 //! The job of a graph's file, or why there is none, told and explained.
 ghost use Rattle.std.specs.Prelude.{◌≡◌, ◌⊎◌, ℕ, List, [], IfOk, IfErr, OnOk};
-ghost use Rattle.graph_commands.specs.Explained.{Explained, ExplainsNoJob, IsFurther, IsTextOf, TellsRefusal};
-ghost use Rattle.graph_commands.specs.Explained.{record_wanted};
+ghost use Rattle.graph_commands.specs.Explained.{Explained, ExplainsNoJob, IsFurther, IsTextOf, TellsRefusal, record_wanted};
 ghost use Rattle.graph_commands.specs.FileJobs.{Explains, IsJobOf};
 ghost use Rattle.graph_commands.specs.GraphRuns.{job_status};
-ghost use Rattle.phase_status.specs.Statuses.{Says};
+ghost use Rattle.watched_io.specs.Statuses.{Says};
 ghost use Rattle.watched_io.specs.States.{writer_state};
 
 use crate::graph_faults::report_job_fault;
 use crate::job_file::job_of_graph;
 use crate::{GRAPH_MAX, JobFault, Refusal, Refuses};
-use graph_explain::explanation;
 use graph_lang::read_graph;
+use graph_show::explanation;
 use std::alloc::{AllocError, Global};
 use std::io::Write;
 use stream_lists::Job;

@@ -3,11 +3,10 @@ ghost use Rattle.std.specs.Prelude.{◌≡◌, ◌⊎◌, ℕ, List, Option, tru
 ghost use Rattle.std.specs.Io.KnownBytes.{Appends};
 ghost use Rattle.graph_commands.specs.Explained.{CheckEndsExplained, EvalEndsExplained};
 ghost use Rattle.graph_commands.specs.FileJobs.{IsJobOf, Known};
-ghost use Rattle.graph_commands.specs.GraphRuns.{AsksSink, CheckEnds, EvalEnds, check_line};
-ghost use Rattle.graph_commands.specs.GraphRuns.{sinks_text};
+ghost use Rattle.graph_commands.specs.GraphRuns.{AsksSink, CheckEnds, EvalEnds, check_line, sinks_text};
 ghost use Rattle.stream_eval.specs.Results.{sink_values};
 ghost use Rattle.stream_lists.specs.Lists.{lines_of};
-ghost use Rattle.phase_status.specs.Statuses.{Reports};
+ghost use Rattle.watched_io.specs.Statuses.{Reports};
 ghost use Rattle.watched_io.specs.declared.fault.IoFault.TheVariants.{WriteFault};
 ghost use Rattle.watched_io.specs.Prefix.{AppendsPrefix};
 ghost use Rattle.watched_io.specs.States.{writer_state};
@@ -19,12 +18,11 @@ use crate::sinks::{find_sink, values_of};
 use crate::{Refuses, read_job, write_lines, write_values};
 use graph_lang::Graph;
 use itoa::Buffer;
-use phase_status::{DONE, report, write_parts};
 use std::alloc::Global;
 use std::io::Write;
 use stream_eval::{EvalFault, Lines, eval};
 use stream_lists::Job;
-use watched_io::{Files, IoFault, Watched, WriteFailed};
+use watched_io::{DONE, Files, IoFault, Watched, WriteFailed, report, write_parts};
 
 /// Reads a graph and the samples of its sources, and answers the exit status: 0, with how many
 /// phasers and tasks there are on the output; 1 where the graph or the samples are refused; or 5

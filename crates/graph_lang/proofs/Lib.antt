@@ -10,3 +10,9 @@ mod Single
 mod Sound
 mod Wellformed
 mod WorkedText
+pub mod Commas
+mod Digits
+mod Fields
+mod Reading
+mod Shrinks
+mod Unique

@@ -8,7 +8,7 @@ use Rattle.std.proofs.lemmas.List.Elements.{All-weaker, All-map}
 use Rattle.std.proofs.lemmas.List.Sums.{AllPass-from_list_all}
 use Rattle.std.proofs.lemmas.List.Folds.{list_all-append}
 use Rattle.std.proofs.lemmas.Slice.Eq.{bytes_eq-Decides}
-use Rattle.graph_words.specs.Words.{Word}
+use Rattle.phase_base.specs.Words.{Word}
 use Rattle.graph_text.specs.Numbers.{nat_value, int_value}
 use Rattle.graph_text.specs.Decls.{task, BodyWords, source, fir, split, join, peer, sink, ByWords, EndWords, IsBody, AreEnds, may_have_parent}
 use Rattle.stream_filters.specs.declared.fir.TheConstants.{TAPS_MAX, TAP_MAX, SHIFT_MAX}

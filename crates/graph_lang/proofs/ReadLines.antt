@@ -1,7 +1,7 @@
 -- Lines that are read, one after another.
 use Rattle.std.proofs.Common.{ℕ, ◌≡◌, ◌<◌, ◌≤◌, ◌+◌, List, ◌∷◌, Bor, length, map, drop, get_or, refl, ap, sym, ◌∙◌, Result, Ok, Err, true, false, inl, inr, subst}
 use Rattle.std.proofs.lemmas.List.{drop_all}
-use Rattle.graph_words.specs.Words.{Word}
+use Rattle.phase_base.specs.Words.{Word}
 use Rattle.graph_text.specs.Texts.{words_of, are_printable, is_ignored}
 use Rattle.phase_base.specs.Lists.{without_cr}
 use Rattle.graph_text.specs.Plain.{plain}

@@ -9,7 +9,7 @@ use Rattle.std.proofs.lemmas.List.Sums.{sum_by_push}
 use Rattle.phase_base.specs.declared.limits.TheConstants.{BOUND_MAX}
 use Rattle.phase_accum.specs.Sends.{value_max}
 use Rattle.phase_accum.specs.Singles.{CanBeNamed}
-use Rattle.graph_words.specs.Words.{Word, is_name, is_file}
+use Rattle.phase_base.specs.Words.{Word, is_name, is_file}
 use Rattle.graph_text.specs.Numbers.{nat_value, int_value}
 use Rattle.phase_base.specs.declared.operation.Op.{Op}
 use Rattle.graph_text.specs.Decls.{Decl, phaser, task, FunctionWords, neg, abs, halve, clamp, BodyWords, source, fir, split, join, peer, sink, EndWords, IsBody, IsWellFormed}

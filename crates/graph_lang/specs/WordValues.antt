@@ -2,10 +2,9 @@
 use Rattle.std.specs.Prelude.{ℕ, false, List, [], ◌∷◌, map, Option, Some, None, option_map, ℤ, pos}
 use Rattle.phase_accum.specs.declared.single.Single.{Single}
 use Rattle.phase_accum.specs.declared.single.Single.TheVariants.{Neg, Abs, Halve, Clamp}
-use Rattle.graph_words.specs.Words.{Word}
+use Rattle.phase_base.specs.Words.{Word}
 use Rattle.graph_text.specs.Numbers.{nat_value, int_value}
-use Rattle.graph_text.specs.Decls.{FunctionWords, neg, abs, halve, clamp, ByWords, EndWords}
-use Rattle.graph_text.specs.Decls.{BodyWords, source, fir, split, join, peer, sink}
+use Rattle.graph_text.specs.Decls.{FunctionWords, neg, abs, halve, clamp, ByWords, EndWords, BodyWords, source, fir, split, join, peer, sink}
 use Rattle.graph_base.specs.Graphs.{Task, Named}
 use Rattle.graph_base.specs.Names.{phaser_named, task_named}
 use Rattle.phase_base.specs.declared.operation.Op.{Op}

@@ -3,7 +3,7 @@ ghost use Rattle.std.specs.Prelude.{◌≡◌, ◌++◌, ◌∷◌, [], IsTrue, 
 ghost use Rattle.std.specs.Option.{option_map_or};
 ghost use Rattle.std.specs.List.{list_all};
 ghost use Rattle.graph_text.specs.Numbers.{is_nat};
-ghost use Rattle.graph_words.specs.Words.{is_name, is_file};
+ghost use Rattle.phase_base.specs.Words.{is_name, is_file};
 ghost use Rattle.graph_text.specs.Decls.{IsBody, IsBy};
 ghost use Rattle.graph_text.specs.Lines.{body_of, ends_of, by_of, word_of};
 ghost use Rattle.graph_base.specs.Inside.{task_of};

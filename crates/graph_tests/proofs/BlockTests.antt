@@ -7,9 +7,9 @@ use Rattle.graph_base.specs.declared.line.Kind.TheVariants.{Source, Fir, Split, 
 use Rattle.graph_base.specs.Graphs.{task_at}
 use Rattle.graph_base.specs.TaskLines.{IsGraph}
 use Rattle.stream_lists.specs.Jobs.{Job, samples_at}
-use Rattle.graph_moments.specs.Moments.{Moment, HasRun, made_now, first_input}
-use Rattle.graph_moves.specs.Moves.{further, IsBlock}
-use Rattle.graph_moves.specs.Turned.{IsNextSignals, IsNextSamples, IsFirstWaits}
+use Rattle.graph_runs.specs.Moments.{Moment, HasRun, made_now, first_input}
+use Rattle.graph_runs.specs.Moves.{further, IsBlock}
+use Rattle.graph_runs.specs.Turned.{IsNextSignals, IsNextSamples, IsFirstWaits}
 use Rattle.graph_tests.specs.BlockRuns.{BlockEvent, samples, signals, first_waits, turn, after_block, after_blocks, IsNextBlock, AreNextBlocks}
 use Rattle.graph_tests.proofs.Tests as test
 use Rattle.graph_tests.proofs.Tests.{Test, Both, always, giving, both}

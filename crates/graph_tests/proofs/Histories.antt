@@ -6,10 +6,10 @@ use Rattle.phase_history.specs.Histories.{History, IsBeginning}
 use Rattle.phase_base.specs.Lists.{is_in}
 use Rattle.graph_base.specs.TaskLines.{IsGraph}
 use Rattle.stream_lists.specs.Jobs.{Job}
-use Rattle.graph_moments.specs.Moments.{Moment, HasRun}
-use Rattle.graph_moments.proofs.OnLines.{on_phaser}
-use Rattle.graph_moves.specs.Moves.{HasGrown, OthersMoved}
-use Rattle.graph_moves.specs.Turned.{with_at}
+use Rattle.graph_runs.specs.Moments.{Moment, HasRun}
+use Rattle.graph_runs.proofs.OnLines.{on_phaser}
+use Rattle.graph_runs.specs.Moves.{HasGrown, OthersMoved}
+use Rattle.graph_runs.specs.Turned.{with_at}
 use Rattle.graph_tests.specs.Runs.{TaskEvent, sample, signal, first_wait, exchange_wait, leave, child, after_turn, after_all}
 
 pub event_begins : (p q : ℕ) (event : Event) (h : ℕ → History)

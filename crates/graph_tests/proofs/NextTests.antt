@@ -17,11 +17,11 @@ use Rattle.graph_base.specs.Graphs.{Task, task_at, phaser_at, is_source}
 use Rattle.graph_base.specs.TaskLines.{IsGraph}
 use Rattle.stream_lists.specs.Jobs.{Job, samples_at, index_in}
 use Rattle.stream_lists.specs.Spans.{signalled_by, takes_from}
-use Rattle.stream_laws.proofs.Ordered.{place-at}
-use Rattle.graph_moments.specs.Moments.{one, Moment, HasRun, limits_at, value_at, input_at, made_now, first_input, OnLine, AtMost, HasSamples, HasExchanged, HasEnded, MayEnd, at_until, no_sample, no_input, RanOut}
-use Rattle.graph_moments.proofs.OnLines.{on_phaser}
-use Rattle.graph_moves.specs.Moves.{IsStaying, NoneDue, NoneBefore, MayBegin, MayBeginTo}
-use Rattle.graph_moves.specs.Turned.{IsAcceptedSignals, IsAcceptedSignal, IsNextSignal, IsNextSample, IsAnsweredWaits, IsAnsweredWait, IsFirstWait, IsExchangeWait, IsNextLeave, IsNextChild}
+use Rattle.stream_lists.proofs.Ordered.{place-at}
+use Rattle.graph_runs.specs.Moments.{one, Moment, HasRun, limits_at, value_at, input_at, made_now, first_input, OnLine, AtMost, HasSamples, HasExchanged, HasEnded, MayEnd, at_until, no_sample, no_input, RanOut}
+use Rattle.graph_runs.proofs.OnLines.{on_phaser}
+use Rattle.graph_runs.specs.Moves.{IsStaying, NoneDue, NoneBefore, MayBegin, MayBeginTo}
+use Rattle.graph_runs.specs.Turned.{IsAcceptedSignals, IsAcceptedSignal, IsNextSignal, IsNextSample, IsAnsweredWaits, IsAnsweredWait, IsFirstWait, IsExchangeWait, IsNextLeave, IsNextChild}
 use Rattle.graph_tests.specs.Runs.{TaskEvent, sample, signal, first_wait, exchange_wait, leave, child, IsThere, IsNext}
 use Rattle.graph_tests.proofs.Tests as test
 use Rattle.graph_tests.proofs.Tests.{Test, Both, never, always, giving, both, either, each, when_some, where_so}

@@ -12,9 +12,9 @@ use Rattle.graph_base.specs.Graphs.{task_at}
 use Rattle.graph_base.specs.TaskLines.{IsGraph}
 use Rattle.stream_lists.specs.Jobs.{Job, index_in}
 use Rattle.stream_lists.specs.Spans.{signalled_by}
-use Rattle.graph_moments.specs.Moments.{limits_at, input_at, OnLine}
-use Rattle.graph_moments.proofs.OnLines.{on_phaser}
-use Rattle.graph_moves.specs.Openings.{IsOpening, PhaserOpened, TaskOpened, HasOpened}
+use Rattle.graph_runs.specs.Moments.{limits_at, input_at, OnLine}
+use Rattle.graph_runs.proofs.OnLines.{on_phaser}
+use Rattle.graph_runs.specs.Openings.{IsOpening, PhaserOpened, TaskOpened, HasOpened}
 use Rattle.graph_tests.specs.Runs.{opened}
 use Rattle.graph_tests.proofs.Tests as test
 use Rattle.graph_tests.proofs.Tests.{Test, Both, never, always, giving, both, either, each, when_some, where_so}

@@ -6,11 +6,11 @@ use Rattle.phase_history.specs.declared.event.Event.TheVariants.{Made, Registere
 use Rattle.phase_history.specs.Histories.{History}
 use Rattle.phase_history.specs.Legal.{IsLegal}
 use Rattle.phase_history.specs.Others.{OthersCame, events_of}
-use Rattle.graph_moments.specs.Moments.{Moment, limits_at}
-use Rattle.graph_turns.specs.TaskPlaces.{registration_at}
-use Rattle.graph_turns.proofs.Signalling.{sendable}
-use Rattle.graph_parts.specs.Parts.{SeesOwn, put_event}
-use Rattle.graph_parts.specs.Places.{HasChildrenBy, IsFirstMoment, IsRootOn}
+use Rattle.graph_runs.specs.Moments.{Moment, limits_at}
+use Rattle.graph_runs.specs.TaskPlaces.{registration_at}
+use Rattle.graph_runs.proofs.Signalling.{sendable}
+use Rattle.graph_runs.specs.Parts.{SeesOwn, put_event}
+use Rattle.graph_runs.specs.Places.{HasChildrenBy, IsFirstMoment, IsRootOn}
 use Rattle.graph_tests.specs.Worked.{worked}
 use Rattle.graph_tests.specs.WorkedParts.{PeerKnows, peer_seen, x_before, e_before, e_signalled, peer_begins, peer_owes_e, peer_exchanges}
 use Rattle.graph_tests.proofs.Histories.{only_one}

@@ -8,8 +8,8 @@ use Rattle.phase_history.specs.Phases.{stream_of}
 use Rattle.graph_base.specs.TaskLines.{IsGraph}
 use Rattle.stream_lists.specs.Jobs.{Job}
 use Rattle.stream_lists.specs.Ranges.{is_too_big}
-use Rattle.graph_moments.specs.Moments.{Moment, HasRun, IsOver, AnsweredNone, value_at}
-use Rattle.graph_moments.proofs.OnLines.{on_phaser}
+use Rattle.graph_runs.specs.Moments.{Moment, HasRun, IsOver, AnsweredNone, value_at}
+use Rattle.graph_runs.proofs.OnLines.{on_phaser}
 use Rattle.graph_tests.specs.Runs.{TaskEvent, after_turn, after_all, IsNext, AreNext, HasRunThrough}
 use Rattle.graph_tests.proofs.Tests as test
 use Rattle.graph_tests.proofs.Tests.{Test, Both, never, always, giving, both, either, each, when_some}

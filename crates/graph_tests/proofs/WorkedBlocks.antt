@@ -3,9 +3,9 @@ use Rattle.std.proofs.Common.{◌≡◌, ℕ, List, [], ◌∷◌, true, pos, re
 use Rattle.phase_accum.specs.declared.outcome.Outcome.TheVariants.{Value}
 use Rattle.graph_base.specs.TaskLines.{IsGraph}
 use Rattle.stream_lists.specs.Jobs.{Job}
-use Rattle.graph_moments.specs.Moments.{Moment, HasRun}
-use Rattle.graph_moments.specs.Settled.{IsReady}
-use Rattle.graph_moves.specs.Turned.{IsNextChildNow}
+use Rattle.graph_runs.specs.Moments.{Moment, HasRun}
+use Rattle.graph_runs.specs.Settled.{IsReady}
+use Rattle.graph_runs.specs.Turned.{IsNextChildNow}
 use Rattle.graph_tests.specs.BlockRuns.{BlockEvent, AreNextBlocks, after_blocks}
 use Rattle.graph_tests.specs.WorkedBlocks.{in_blocks, before_join, by_out_at_3}
 use Rattle.graph_tests.proofs.GraphTests.{is_graph}

@@ -2,8 +2,8 @@
 use Rattle.std.proofs.Common.{◌≡◌, List, true, refl}
 use Rattle.graph_base.specs.TaskLines.{IsGraph}
 use Rattle.stream_lists.specs.Jobs.{Job}
-use Rattle.graph_moments.specs.Moments.{Moment, HasRun}
-use Rattle.graph_moments.specs.Settled.{IsReady}
+use Rattle.graph_runs.specs.Moments.{Moment, HasRun}
+use Rattle.graph_runs.specs.Settled.{IsReady}
 use Rattle.graph_tests.specs.Runs.{TaskEvent, AreNext, HasRunThrough, after_all}
 use Rattle.graph_tests.specs.Worked.{worked}
 use Rattle.graph_tests.proofs.GraphTests.{is_graph}

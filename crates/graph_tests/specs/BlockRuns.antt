@@ -2,10 +2,10 @@
 use Rattle.std.specs.Prelude.{ℕ, ℤ, List, [], ◌∷◌, length}
 use Rattle.phase_accum.specs.declared.outcome.Outcome.{Outcome}
 use Rattle.stream_lists.specs.Jobs.{Job}
-use Rattle.graph_moments.specs.Moments.{Moment, HasRun}
-use Rattle.graph_moves.specs.Moves.{further}
-use Rattle.graph_moves.specs.Turned.{after_signals, after_waits, IsNextSamples, IsNextSignals, IsFirstWaits}
-use Rattle.graph_turns.specs.TaskEvents.{TaskEvent, IsThere, after_turn, IsNext}
+use Rattle.graph_runs.specs.Moments.{Moment, HasRun}
+use Rattle.graph_runs.specs.Moves.{further}
+use Rattle.graph_runs.specs.Turned.{after_signals, after_waits, IsNextSamples, IsNextSignals, IsFirstWaits}
+use Rattle.graph_runs.specs.TaskEvents.{TaskEvent, IsThere, after_turn, IsNext}
 
 -- an event of task t on phaser p, where its number is n: these samples, or these values on output
 -- j, or these outcomes from input k; or an event of one step

@@ -2,8 +2,8 @@
 use Rattle.std.specs.Prelude.{ℕ, List, [], ◌∷◌, Option, None, get_or}
 use Rattle.phase_history.specs.Histories.{History}
 use Rattle.stream_lists.specs.Jobs.{Job}
-use Rattle.graph_moments.specs.Moments.{Moment, HasRun}
-pub use Rattle.graph_turns.specs.TaskEvents.{TaskEvent, sample, signal, first_wait, exchange_wait, leave, child, IsThere, after_turn, IsNext}
+use Rattle.graph_runs.specs.Moments.{Moment, HasRun}
+pub use Rattle.graph_runs.specs.TaskEvents.{TaskEvent, sample, signal, first_wait, exchange_wait, leave, child, IsThere, after_turn, IsNext}
 
 -- each of these events is the next one, where the run came so far
 abbrev pub AreNext : Job → Moment → List TaskEvent → Type 0

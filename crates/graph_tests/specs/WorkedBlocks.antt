@@ -8,8 +8,8 @@ use Rattle.graph_base.specs.declared.line.Parent.{Parent}
 use Rattle.graph_base.specs.declared.place.Place.TheVariants as place
 use Rattle.graph_base.specs.Graphs.{Graph, no_task}
 use Rattle.stream_lists.specs.Jobs.{Job}
-use Rattle.graph_moments.specs.Moments.{Moment}
-use Rattle.graph_moves.specs.Turned.{after_register_now}
+use Rattle.graph_runs.specs.Moments.{Moment}
+use Rattle.graph_runs.specs.Turned.{after_register_now}
 use Rattle.graph_tests.specs.Runs.{opened, sample, signal, first_wait, leave}
 use Rattle.graph_tests.specs.BlockRuns.{BlockEvent, samples, signals, first_waits, turn, after_block, after_blocks}
 use Rattle.graph_tests.specs.Worked.{bus, founded}

@@ -8,7 +8,7 @@ use Rattle.graph_base.specs.declared.line.Kind.TheVariants.{Source, Fir}
 use Rattle.graph_base.specs.declared.place.Place.TheVariants as place
 use Rattle.graph_base.specs.Graphs.{Graph, no_task}
 use Rattle.stream_lists.specs.Jobs.{Job}
-use Rattle.graph_moments.specs.Moments.{Moment}
+use Rattle.graph_runs.specs.Moments.{Moment}
 use Rattle.graph_tests.specs.Runs.{TaskEvent, sample, first_wait, opened, after_all}
 use Rattle.graph_tests.specs.Worked.{bus, founded}
 

@@ -3,10 +3,10 @@ use Rattle.std.specs.Prelude.{◌≡◌, ℕ, zero, suc, pos, [], ◌∷◌, Som
 use Rattle.phase_base.specs.declared.mode.Mode.TheVariants.{Sig, Wait, SigWait}
 use Rattle.phase_history.specs.declared.event.Event.TheVariants.{Made, Registered, Signalled, Dropped}
 use Rattle.phase_history.specs.Histories.{History}
-use Rattle.graph_moments.specs.Moments.{Moment}
-use Rattle.graph_turns.specs.TaskPlaces.{TaskPlace, StandsAt, at_start, value, exchange}
-use Rattle.graph_parts.specs.Parts.{HasPart}
-use Rattle.graph_parts.specs.Places.{owing, after_step}
+use Rattle.graph_runs.specs.Moments.{Moment}
+use Rattle.graph_runs.specs.TaskPlaces.{TaskPlace, StandsAt, at_start, value, exchange}
+use Rattle.graph_runs.specs.Parts.{HasPart}
+use Rattle.graph_runs.specs.Places.{owing, after_step}
 use Rattle.graph_tests.specs.Worked.{worked}
 
 -- what the peer has seen of X, E and Y where it begins: it is registered last

@@ -8,8 +8,8 @@ use Rattle.graph_base.specs.declared.line.PhaserLine.{PhaserLine}
 use Rattle.graph_base.specs.declared.place.Place.TheVariants as place
 use Rattle.graph_base.specs.Graphs.{Graph, no_task}
 use Rattle.stream_lists.specs.Jobs.{Job}
-use Rattle.graph_moments.specs.Moments.{Moment}
-use Rattle.graph_turns.specs.Answers.{after_turns}
+use Rattle.graph_runs.specs.Moments.{Moment}
+use Rattle.graph_runs.specs.Answers.{after_turns}
 use Rattle.graph_tests.specs.Runs.{opened}
 use Rattle.graph_tests.specs.Worked.{bus, founded}
 

@@ -1,5 +1,5 @@
 //! What a job tells is all that the laws of runs ask for.
-ghost use Rattle.graph_moments.specs.Settled.{IsReady};
+ghost use Rattle.graph_runs.specs.Settled.{IsReady};
 
 use stream_lists::Job;
 

@@ -4,23 +4,16 @@ ghost use Rattle.phase_accum.specs.declared.outcome.Outcome.TheVariants.{Value};
 ghost use Rattle.graph_base.specs.TaskLines.{IsGraph};
 ghost use Rattle.stream_lists.specs.Jobs.{Job};
 ghost use Rattle.stream_lists.specs.Ranges.{answer_of};
-ghost use Rattle.graph_moments.specs.Moments.{Moment, HasRun, TaskRan, started};
-ghost use Rattle.graph_moves.specs.Moves.{Signals, SignalsAll, WaitsAll, RegistersNow};
-ghost use Rattle.graph_moves.specs.Moves.{MayBeginTo};
-ghost use Rattle.graph_moves.specs.Turned.{IsFirstWaits};
-ghost use Rattle.graph_turns.specs.NextBlocks.{block_of};
-ghost use Rattle.graph_turns.specs.TaskEvents.{after_turn, sample};
+ghost use Rattle.graph_runs.specs.Moments.{Moment, HasRun, TaskRan, started};
+ghost use Rattle.graph_runs.specs.Moves.{Signals, SignalsAll, WaitsAll, RegistersNow, MayBeginTo};
+ghost use Rattle.graph_runs.specs.Turned.{IsFirstWaits};
+ghost use Rattle.graph_runs.specs.NextBlocks.{block_of};
+ghost use Rattle.graph_runs.specs.TaskEvents.{after_turn, sample};
 ghost use Rattle.graph_tests.specs.BlockRuns.{BlockEvent, AreNextBlocks, after_blocks};
-ghost use Rattle.graph_tests.specs.WorkedBlocks.{in_blocks, block_opening, block_end};
-ghost use Rattle.graph_tests.specs.WorkedBlocks.{after_three_samples, after_three_waits};
-ghost use Rattle.graph_tests.specs.WorkedBlocks.{after_three_signals, after_three_taken};
-ghost use Rattle.graph_tests.specs.WorkedBlocks.{after_one_sample, before_join, after_join};
-ghost use Rattle.graph_tests.specs.WorkedBlocks.{by_out_at_3};
+ghost use Rattle.graph_tests.specs.WorkedBlocks.{in_blocks, block_opening, block_end, after_three_samples, after_three_waits, after_three_signals, after_three_taken, after_one_sample, before_join, after_join, by_out_at_3};
 
 use crate::worked_run::turns_lead_on;
-use graph_moments::laws as moments;
-use graph_moves::laws as moves;
-use graph_turns::laws as turns;
+use graph_runs::{moments, moves, turns};
 
 /// Events of one phase or several that are each the next one of their task lead from one moment of
 /// a run to another.

@@ -9,14 +9,12 @@ ghost use Rattle.stream_lists.specs.Jobs.{Job};
 ghost use Rattle.stream_lists.specs.Lists.{list_of_phaser, numbers_of, taken_from};
 ghost use Rattle.stream_lists.specs.Ranges.{answer_of};
 ghost use Rattle.stream_lists.specs.Spans.{span_in};
-ghost use Rattle.graph_moments.specs.Moments.{Moment, HasRun, IsOver, HasMetNone, value_at};
-ghost use Rattle.graph_moments.specs.Settled.{Stands, PutsOut};
+ghost use Rattle.graph_runs.specs.Moments.{Moment, HasRun, IsOver, HasMetNone, value_at};
+ghost use Rattle.graph_runs.specs.Settled.{Stands, PutsOut};
 ghost use Rattle.graph_tests.specs.Runs.{TaskEvent, AreNext, HasRunThrough};
-ghost use Rattle.graph_tests.specs.Worked.{worked, worked_opening, worked_turns, worked_end};
-ghost use Rattle.graph_tests.specs.Worked.{after_peer, before_late, with_late, before_end};
+ghost use Rattle.graph_tests.specs.Worked.{worked, worked_opening, worked_turns, worked_end, after_peer, before_late, with_late, before_end};
 
-use graph_moments::laws as moments;
-use graph_moves::laws as moves;
+use graph_runs::{moments, moves};
 
 /// Events that are each the next one of their task lead from one moment of a run to another.
 pub(crate) fn turns_lead_on()

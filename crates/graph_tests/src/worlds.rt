@@ -1,8 +1,8 @@
 //! Runs of a graph at their opening: what each task does next, and what the sinks have. What is
 //! expected was worked out by hand.
-use graph_worlds::{Step, World};
 use std::alloc::Global;
 use std::test::Fail;
+use stream_job::{Step, World};
 use stream_lists::Job;
 
 /// A source, a peer, a splitter, a joiner, a sink and its child.
@@ -16,7 +16,7 @@ const AT_ONCE: &str = "phaser X sum 1\nsource s s.csv -> X until 0\nsink out X\n
 
 /// The job of a graph with one source, on samples of this text.
 fn job_of(alloc: Global, graph: &str, samples: &str) -> Result<Job, Fail> {
-    Ok(test_jobs::job_of(alloc, graph, &[samples])??)
+    Ok(stream_job::job_of(alloc, graph, &[samples])??)
 }
 
 #[test]

@@ -1,10 +1,10 @@
 //! Numbers of a line.
 ghost use Rattle.std.specs.Prelude.{◌≡◌, ◌<◌, ◌≤◌, ◌^◌, IfSome, IfNone, IsTrue, unsigned_abs};
 ghost use Rattle.std.specs.List.{list_all};
-ghost use Rattle.graph_words.specs.Words.{is_digit};
+ghost use Rattle.phase_base.specs.Words.{is_digit};
 ghost use Rattle.graph_text.specs.Numbers.{is_nat, nat_value, is_int, int_value};
 
-use graph_words::is_digit;
+use phase_base::is_digit;
 
 /// Whether each byte is a digit.
 fn are_digits(word: &[u8]) -> bool

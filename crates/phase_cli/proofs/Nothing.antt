@@ -8,8 +8,8 @@ use Rattle.phase_replay.specs.Replies.{replies_of}
 use Rattle.watched_io.specs.declared.fault.IoFault.TheVariants.{OutOfMemory}
 use Rattle.phase_replay.specs.declared.whole.TheConstants.{SCRIPT_MAX}
 use Rattle.phase_replay.proofs.Reading.{replays_nothing}
-use Rattle.phase_status.specs.Statuses.{Reports}
-use Rattle.replay_command.specs.Replays.{ReplayEnds}
+use Rattle.watched_io.specs.Statuses.{Reports}
+use Rattle.phase_replay.specs.Replays.{ReplayEnds}
 
 -- nothing is a prefix of the replies
 known_none : (unread : Option (List ℕ)) (old : WriterState) (count : ℕ) (failed : Bool)

@@ -1,6 +1,6 @@
 -- How a command of the program ends.
 use Rattle.std.specs.Prelude.{◌≡◌, ◌⊎◌, ℕ}
-use Rattle.phase_status.specs.Statuses.{Reports}
+use Rattle.watched_io.specs.Statuses.{Reports}
 use Rattle.phase_words.specs.declared.call.Call.{Call}
 use Rattle.phase_words.specs.declared.call.NoCall.{NoCall}
 use Rattle.watched_io.specs.States.{WriterState}

@@ -3,7 +3,7 @@ use Rattle.std.proofs.Common.{◌≡◌, ℕ, ◌+◌, ◌-◌, ◌≤◌, List,
 use Rattle.std.proofs.lemmas.Bool.{cond_both, cases_lt}
 use Rattle.std.proofs.lemmas.List.{take_all, take-take, take-append-le, length-take-le}
 use Rattle.phase_base.specs.Lists.{without_cr}
-use Rattle.phase_session.specs.Scripts.{ScriptState, reply_to, after_line}
+use Rattle.phase_replay.specs.Scripts.{ScriptState, reply_to, after_line}
 use Rattle.phase_replay.proofs.LongLine.{long_line}
 
 -- at most one byte is cut

@@ -2,7 +2,7 @@
 use Rattle.std.proofs.Common.{◌≡◌, ℕ, ◌≤◌, List, length, codes, None, ap}
 use Rattle.phase_script.specs.Commands.{command_of}
 use Rattle.phase_script.specs.ReplyLines.{reply_text}
-use Rattle.phase_session.specs.Scripts.{ScriptState, reply_to, after_line, reply_by, after_by}
+use Rattle.phase_replay.specs.Scripts.{ScriptState, reply_to, after_line, reply_by, after_by}
 use Rattle.phase_script.proofs.Grammar.{long_none}
 
 -- it is a bad line, and changes nothing

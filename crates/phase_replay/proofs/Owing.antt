@@ -12,8 +12,8 @@ use Rattle.phase_script.specs.Lines.{lines_after, lines_of}
 use Rattle.phase_base.specs.Lists.{without_cr}
 use Rattle.phase_replay.specs.Replies.{replies, replies_of}
 use Rattle.phase_replay.specs.Replayer.{Owes}
-use Rattle.phase_session.specs.Scripts.{ScriptState, start, reply_to, after_line}
-use Rattle.phase_session.specs.Session.{Stands}
+use Rattle.phase_replay.specs.Scripts.{ScriptState, start, reply_to, after_line}
+use Rattle.phase_replay.specs.Session.{Stands}
 use Rattle.phase_replay.proofs.Cutting.{AreAnsweredAlike, kept_alike, take-kept_more}
 
 -- a replayer that has read nothing owes the replies to the whole script

@@ -1,4 +1,8 @@
+pub mod HeldSends
 pub mod Inside
 pub mod Replay
 pub mod Replayer
+pub mod Replays
 pub mod Replies
+pub mod Scripts
+pub mod Session

@@ -7,8 +7,8 @@ use Rattle.watched_io.specs.declared.fault.IoFault.{IoFault}
 use Rattle.watched_io.specs.declared.fault.IoFault.TheVariants.{ReadFault, WriteFault, OutOfMemory}
 use Rattle.phase_script.specs.Lines.{lines_after}
 use Rattle.phase_replay.specs.Replies.{replies}
-use Rattle.phase_session.specs.Scripts.{ScriptState}
-use Rattle.phase_session.specs.Session.{Stands}
+use Rattle.phase_replay.specs.Scripts.{ScriptState}
+use Rattle.phase_replay.specs.Session.{Stands}
 use Rattle.phase_replay.specs.declared.replayer.Replayer.{Replayer}
 use Rattle.phase_replay.specs.declared.kept.TheConstants.{KEPT_MAX}
 

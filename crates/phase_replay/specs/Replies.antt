@@ -1,7 +1,7 @@
 -- What a script is answered: the reply lines of its lines, one after the other.
 use Rattle.std.specs.Prelude.{ℕ, List, [], ◌∷◌, ◌++◌}
 use Rattle.phase_script.specs.Lines.{lines_of}
-use Rattle.phase_session.specs.Scripts.{ScriptState, start, reply_to, after_line}
+use Rattle.phase_replay.specs.Scripts.{ScriptState, start, reply_to, after_line}
 
 -- the replies to the lines from a state on
 unfoldable pub replies : ScriptState → List (List ℕ) → List ℕ

@@ -2,14 +2,26 @@
 //!
 //! Wrap a reader and a writer by `Watched::new` and call `replay`, or hand a `Session` one line
 //! after the other. A line gives a command where `read` reads it.
+//!
+//! Sessions: the lines of a script of phaser calls, one at a time, each answered by one reply line.
+//! Make a `Session` and hand it one line after the other.
+//!
+//! The command `replay`: a replay of the input, and the report of its fault.
 #![tactic(auto)]
 
+mod any_phaser;
+mod block_sends;
+mod held_sends;
 mod kept;
 pub mod laws;
+mod replayed;
 mod replayer;
+mod script_phaser;
+mod session;
 mod whole;
 
 pub use phase_script::{Command, Op, Outcomes, Refusal, Reply, ReplyLine, Values, read};
-pub use phase_session::Session;
+pub use replayed::replay_and_report;
+pub use session::Session;
 pub use watched_io::{IoFault as ReplayFault, ReadFailed, Watched, WriteFailed};
 pub use whole::{PIECE_MAX, SCRIPT_MAX, replay};

@@ -4,8 +4,8 @@ ghost use Rattle.std.specs.Prelude.{◌≡◌, ◌<◌, true, length, List, [], 
 ghost use Rattle.std.specs.Io.KnownBytes.{Appends};
 ghost use Rattle.phase_script.specs.Cuts.{HasNoLf};
 ghost use Rattle.watched_io.specs.Prefix.{AppendsPrefix};
-ghost use Rattle.phase_session.specs.Scripts.{ScriptState, reply_to, after_line};
-ghost use Rattle.phase_session.specs.Session.{Stands};
+ghost use Rattle.phase_replay.specs.Scripts.{ScriptState, reply_to, after_line};
+ghost use Rattle.phase_replay.specs.Session.{Stands};
 
 use crate::Session;
 use crate::kept::Kept;

@@ -2,7 +2,7 @@
 //! output. It reads no words.
 #![tactic(auto)]
 
-use replay_command::replay_and_report;
+use phase_replay::replay_and_report;
 use std::process::ExitCode;
 use watched_io::Watched;
 

@@ -2,7 +2,7 @@
 use Rattle.std.proofs.Common.{◌≡◌, ◌≢◌, ◌⊎◌, inl, inr, ℕ, List, refl, arith}
 use Rattle.phase_run.specs.Ends.{AnswerEnds, AnswerStops, IsStatus, MayEnd, MayEndAsRun}
 use Rattle.phase_run.specs.Inside.{IsAnswer}
-use Rattle.phase_status.specs.Statuses.{Reports}
+use Rattle.watched_io.specs.Statuses.{Reports}
 use Rattle.phase_words.proofs.NoCalls.{none-or-some, one-some, refusal-none-shown, refusal-some, shown-some}
 use Rattle.phase_words.specs.CommandLine.{ExplainsNone}
 use Rattle.phase_words.specs.RunLine.{AreRunRefused, AreRunTaken, AskRunHelp, AskRunVersion, run_kinds_of}

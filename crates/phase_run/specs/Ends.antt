@@ -1,6 +1,6 @@
 -- How a run of the program may end, by what its words ask for.
 use Rattle.std.specs.Prelude.{◌≡◌, ◌⊎◌, ℕ, true, List}
-use Rattle.phase_status.specs.Statuses.{Reports}
+use Rattle.watched_io.specs.Statuses.{Reports}
 use Rattle.phase_words.specs.RunLine.{AreRunRefused, AreRunTaken, AskRunHelp, AskRunVersion, Run}
 use Rattle.watched_io.specs.States.{WriterState}
 use Rattle.watched_io.specs.Watched.{has_failed_of}

@@ -1,11 +1,11 @@
 -- How the program behind `phase run` ends.
 use Rattle.std.specs.Prelude.{◌≡◌, ◌⊎◌, ℕ, List, Option}
 use Rattle.graph_commands.specs.FileJobs.{Known}
-use Rattle.phase_status.specs.Statuses.{Reports}
+use Rattle.watched_io.specs.Statuses.{Reports}
 use Rattle.phase_words.specs.declared.call.Explain.{Explain}
 use Rattle.phase_words.specs.declared.call.Explain.TheVariants.{No, Yes}
 use Rattle.phase_words.specs.declared.call.NoCall.{NoCall}
-use Rattle.run_command.specs.Runs.{RunEnds, RunEndsExplained}
+use Rattle.phase_run.specs.Runs.{RunEnds, RunEndsExplained}
 use Rattle.watched_io.specs.States.{WriterState}
 use Rattle.watched_io.specs.declared.fault.IoFault.TheVariants.{OutOfMemory}
 use Rattle.watched_io.specs.declared.watched.Watched.{Watched}

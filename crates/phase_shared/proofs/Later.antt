@@ -14,14 +14,13 @@ use Rattle.phase_history.specs.declared.refusal.WaitRefusal.{WaitRefusal}
 use Rattle.phase_history.specs.Histories.{History}
 use Rattle.phase_history.specs.Others.{OthersCame}
 use Rattle.phase_history.proofs.OthersEvents.{OthersCame-refl, OthersCame-trans}
-use Rattle.phase_seats.specs.declared.rule.Terms.{Terms}
-use Rattle.phase_seats.specs.Rule.{Allows}
-use Rattle.phase_seats.specs.Calls.{Signals, Waits, MayWait, SignalsAndMayWait}
-use Rattle.phase_seats.specs.Entries.{entry_after_wait}
-use Rattle.phase_seats.specs.declared.tried.Tried.{Tried}
-use Rattle.phase_seats.specs.declared.tried.Tried.TheVariants.{Busy, Refused}
-use Rattle.phase_seats.proofs.Answering.{again}
-use Rattle.phase_shared.specs.Calls.{IsTry, IsCall, Tries, MaySignal}
+use Rattle.phase_shared.specs.declared.rule.Terms.{Terms}
+use Rattle.phase_shared.specs.Rule.{Allows}
+use Rattle.phase_shared.specs.Calls.{Signals, Waits, MayWait, SignalsAndMayWait, IsTry, IsCall, Tries, MaySignal}
+use Rattle.phase_shared.specs.Entries.{entry_after_wait}
+use Rattle.phase_shared.specs.declared.tried.Tried.{Tried}
+use Rattle.phase_shared.specs.declared.tried.Tried.TheVariants.{Busy, Refused}
+use Rattle.phase_shared.proofs.Answering.{again}
 use Rattle.phase_shared.specs.Regs.{RegState}
 
 -- where no wait was asked for it stands where its signal left it

@@ -12,8 +12,8 @@ use Rattle.phase_history.specs.declared.refusal.WaitRefusal.{WaitRefusal}
 use Rattle.phase_history.specs.Histories.{History}
 use Rattle.phase_history.specs.Others.{OthersCame}
 use Rattle.phase_history.proofs.OthersEvents.{OthersCame-trans}
-use Rattle.phase_seats.specs.declared.rule.Terms.{Terms}
-use Rattle.phase_seats.specs.Rule.{Allows}
+use Rattle.phase_shared.specs.declared.rule.Terms.{Terms}
+use Rattle.phase_shared.specs.Rule.{Allows}
 use Rattle.phase_shared.specs.Regs.{RegState}
 use Rattle.phase_shared.specs.Blocks.{SignalsBlock, WaitsBlock, MaySignalBlock}
 

@@ -5,3 +5,13 @@ pub mod OneValue
 pub mod PartSteps
 pub mod LaterBlocks
 pub mod BlockPartSteps
+pub mod Keeping
+pub mod Giving
+pub mod Answering
+pub mod Stepping
+pub mod SignalSteps
+pub mod WaitSteps
+pub mod RegisterSteps
+pub mod Meeting
+pub mod BlockSteps
+pub mod JoinSteps

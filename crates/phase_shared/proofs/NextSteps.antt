@@ -10,8 +10,7 @@ use Rattle.phase_base.specs.declared.entry.Entry.{Entry}
 use Rattle.std.specs.Prelude.{is_some, Ok}
 use Rattle.phase_accum.specs.declared.outcome.Outcome.{Outcome}
 use Rattle.phase_history.specs.declared.got.Got.{Got}
-use Rattle.phase_base.specs.Members.{entry_of, signalled, signal_phases}
-use Rattle.phase_base.specs.Members.{least as least_of}
+use Rattle.phase_base.specs.Members.{entry_of, signalled, signal_phases, least as least_of}
 use Rattle.phase_accum.specs.declared.single.Single.{Single}
 use Rattle.phase_history.specs.declared.event.Event.TheVariants.{Signalled}
 use Rattle.phase_history.specs.declared.refusal.WaitRefusal.{WaitRefusal}
@@ -26,7 +25,7 @@ use Rattle.phase_history.proofs.LawProofs.{turns_law}
 use Rattle.phase_history.proofs.MemberLemmas.{entry_of-changed_same}
 use Rattle.phase_shared.specs.Calls.{Waits}
 use Rattle.phase_shared.specs.Nexts.{MadeWhere, MayWait}
-use Rattle.phase_seats.proofs.Giving.{member_after}
+use Rattle.phase_shared.proofs.Giving.{member_after}
 
 same_some : {A : Type 0} (x y : A) → Some x ≡ Some y → x ≡ y
 same_some x y e = cc

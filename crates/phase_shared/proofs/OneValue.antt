@@ -10,12 +10,12 @@ use Rattle.phase_history.specs.declared.refusal.SignalRefusal.{SignalRefusal}
 use Rattle.phase_history.specs.Histories.{History}
 use Rattle.phase_history.specs.Others.{OthersCame}
 use Rattle.phase_history.specs.Replies.{after_signal}
-use Rattle.phase_seats.specs.declared.tried.Tried.{Tried}
-use Rattle.phase_seats.specs.declared.rule.Terms.{Terms}
-use Rattle.phase_seats.specs.Rule.{Allows}
+use Rattle.phase_shared.specs.declared.tried.Tried.{Tried}
+use Rattle.phase_shared.specs.declared.rule.Terms.{Terms}
+use Rattle.phase_shared.specs.Rule.{Allows}
 use Rattle.phase_shared.specs.Regs.{RegState}
 use Rattle.phase_shared.specs.Calls.{Signals, Tries, MaySignal}
-use Rattle.phase_seats.proofs.Answering.{Tries-map}
+use Rattle.phase_shared.proofs.Answering.{Tries-map}
 use Rattle.phase_shared.specs.Puts.{SignalsValue, MayPut}
 use Rattle.phase_shared.specs.OneSends.{HasOneSend}
 

@@ -10,7 +10,7 @@ use Rattle.phase_history.specs.Histories.{History}
 use Rattle.phase_shared.specs.declared.next.Next.{Next}
 use Rattle.phase_shared.specs.Regs.{RegState}
 use Rattle.phase_shared.specs.Calls.{Signals, Waits}
-pub use Rattle.phase_seats.specs.Calls.{MayWait, HasSignalledAndMayWait, SignalsAndMayWait}
+pub use Rattle.phase_shared.specs.Calls.{MayWait, HasSignalledAndMayWait, SignalsAndMayWait}
 
 -- a call that is made where it can be, with its answer; else there is none, and nothing came
 abbrev pub MadeWhere : {X : Type 0} → Bool → (X → Type 0) → Type 0 → Option X → Type 0

@@ -8,8 +8,8 @@ use Rattle.phase_history.specs.declared.refusal.SignalRefusal.{SignalRefusal}
 use Rattle.phase_history.specs.Histories.{History}
 use Rattle.phase_history.specs.Replies.{signal_reply, after_signal}
 use Rattle.phase_history.specs.Others.{OthersCame}
-use Rattle.phase_seats.specs.declared.rule.Terms.{Terms}
-use Rattle.phase_seats.specs.Rule.{Allows, IsGoodAt}
+use Rattle.phase_shared.specs.declared.rule.Terms.{Terms}
+use Rattle.phase_shared.specs.Rule.{Allows, IsGoodAt}
 use Rattle.phase_shared.specs.Regs.{RegState}
 
 -- a signal of one phase whose one send is this value: events of others, and there the definition's

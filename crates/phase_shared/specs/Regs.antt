@@ -7,12 +7,12 @@ use Rattle.phase_base.specs.declared.entry.Entry.{Entry}
 use Rattle.phase_accum.specs.Parcels.{Parcel}
 use Rattle.phase_history.specs.Histories.{History}
 use Rattle.phase_base.specs.Lists.{is_distinct}
-use Rattle.phase_seats.specs.declared.view.View.{View}
-use Rattle.phase_seats.specs.declared.view.View.TheVariants.{Spent}
-use Rattle.phase_seats.specs.Views.{resting, known_of}
-use Rattle.phase_seats.specs.declared.rule.Terms.{Terms}
-use Rattle.phase_seats.specs.Rule.{Allows, IsGoodAt, IsSeatOfTask}
-use Rattle.phase_seats.specs.LockedPhasers.{locked_place, locked_terms}
+use Rattle.phase_shared.specs.declared.view.View.{View}
+use Rattle.phase_shared.specs.declared.view.View.TheVariants.{Spent}
+use Rattle.phase_shared.specs.Views.{resting, known_of}
+use Rattle.phase_shared.specs.declared.rule.Terms.{Terms}
+use Rattle.phase_shared.specs.Rule.{Allows, IsGoodAt, IsSeatOfTask}
+use Rattle.phase_shared.specs.LockedPhasers.{locked_place, locked_terms}
 use Rattle.phase_shared.specs.declared.phaser.Phaser.{Phaser}
 
 -- a registration: its phaser, its number, its mode and phases, the sends that it holds, and the

@@ -4,15 +4,14 @@ ghost use Rattle.std.specs.Prelude.{◌≡◌, IfErr, length};
 ghost use Rattle.phase_shared.specs.Regs.{phaser_place, phaser_terms, phaser_limits};
 ghost use Rattle.phase_shared.specs.Calls.{IsTry, Tries};
 ghost use Rattle.phase_shared.specs.Entries.{entry_stays};
-ghost use Rattle.phase_shared.specs.Blocks.{SignalsBlock, WaitsBlock, MaySignalBlock};
-ghost use Rattle.phase_shared.specs.Blocks.{entry_after_block, entry_after_values, without_lists};
+ghost use Rattle.phase_shared.specs.Blocks.{SignalsBlock, WaitsBlock, MaySignalBlock, entry_after_block, entry_after_values, without_lists};
 ghost use Rattle.phase_shared.specs.Joins.{RegistersNow};
 
 use crate::phaser::Phaser;
 use crate::reg::Reg;
+use crate::{SignalRule, Tried, block_steps, join_steps};
 use phase_accum::{Accumulate, Outcome, Pending, Single};
 use phase_core::{GotBlock, RegisterRefusal, SignalRefusal, WaitRefusal};
-use phase_seats::{SignalRule, Tried, block_steps, join_steps};
 
 impl<A: Accumulate, K: SignalRule> Reg<A, K> {
     /// Signals as many phases in a row as there are lists of sends, the first its own, a list each,

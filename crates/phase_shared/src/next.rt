@@ -1,17 +1,17 @@
 //! A registration's next phase, by one call.
 ghost use Rattle.std.specs.Prelude.{◌≡◌, ◌≢◌, true, Some, Ok, Err, is_ok, ◌&&◌};
 ghost use Rattle.phase_base.specs.Modes.{mode_signals, mode_waits};
-ghost use Rattle.phase_seats.specs.Rule.{IsGoodAt};
+ghost use Rattle.phase_shared.specs.Rule.{IsGoodAt};
 ghost use Rattle.phase_shared.specs.Regs.{phaser_place, phaser_terms, phaser_limits};
 ghost use Rattle.phase_shared.specs.Calls.{IsCall, Waits, MaySignal, HeldAfter};
 ghost use Rattle.phase_shared.specs.Entries.{entry_after_wait, entry_after_next};
 ghost use Rattle.phase_shared.specs.Nexts.{GoesOrRefuses};
 
+use crate::SignalRule;
 use crate::phaser::Phaser;
 use crate::reg::Reg;
 use phase_accum::{Accumulate, Single};
 use phase_core::{Got, SignalRefusal};
-use phase_seats::SignalRule;
 use std::sync::Wait;
 
 /// What a registration did in a phase.

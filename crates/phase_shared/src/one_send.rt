@@ -11,9 +11,9 @@ ghost use Rattle.phase_shared.specs.Regs.{phaser_place, phaser_terms, phaser_lim
 
 use crate::phaser::Phaser;
 use crate::reg::Reg;
+use crate::{SignalRule, Tried};
 use phase_accum::Accumulate;
 use phase_core::SignalRefusal;
-use phase_seats::{SignalRule, Tried};
 
 /// The rule that allows the signals of one send.
 #[derive(Clone, Copy, Debug, PartialEq, Eq)]

@@ -2,12 +2,12 @@
 ghost use Rattle.std.specs.Prelude.{◌≡◌, ◌++◌, true};
 ghost use Rattle.phase_history.specs.Others.{OthersCame};
 ghost use Rattle.phase_base.specs.Lists.{is_distinct};
-ghost use Rattle.phase_seats.specs.Rule.{IsGoodAt};
+ghost use Rattle.phase_shared.specs.Rule.{IsGoodAt};
 ghost use Rattle.phase_shared.specs.Regs.{phaser_place, phaser_terms, IsGoodOn};
 
 use crate::phaser::Phaser;
+use crate::{PhaserSeat, SignalRule, steps};
 use phase_accum::Accumulate;
-use phase_seats::{PhaserSeat, SignalRule, steps};
 use std::marker::Model;
 
 /// What registrations that left have seen: one history, and the numbers of those whose calls it

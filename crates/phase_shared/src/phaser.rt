@@ -4,13 +4,13 @@ ghost use Rattle.phase_accum.specs.Parcels.{StandsForSends};
 ghost use Rattle.phase_history.specs.declared.event.Event.TheVariants.{Made};
 ghost use Rattle.phase_history.specs.Histories.{founder};
 ghost use Rattle.phase_history.specs.Others.{OnlyUsed};
-ghost use Rattle.phase_seats.specs.Rule.{IsGoodAt};
+ghost use Rattle.phase_shared.specs.Rule.{IsGoodAt};
 ghost use Rattle.phase_shared.specs.Regs.{phaser_place, phaser_terms, phaser_limits};
 
 use crate::reg::Reg;
+use crate::{LockedPhaser, SignalRule, Terms};
 use phase_accum::{Accumulate, Pending};
 use phase_base::{Entry, Mode, Spec};
-use phase_seats::{LockedPhaser, SignalRule, Terms};
 use std::alloc::{AllocError, Global};
 
 /// A phaser between threads, which use it by shared reference. Each has registrations of its own.

@@ -11,9 +11,9 @@ ghost use Rattle.phase_shared.specs.Puts.{SignalsValue, IsFreeFor, MayPut};
 use crate::phaser::Phaser;
 use crate::refusal::SendRefusal;
 use crate::reg::Reg;
+use crate::{SignalRule, Tried};
 use phase_accum::{Accumulate, Single};
 use phase_core::SignalRefusal;
-use phase_seats::{SignalRule, Tried};
 
 impl<A: Accumulate, K: SignalRule> Reg<A, K> {
     /// Signals its phase with this value as its one send, and a single or none, and answers that

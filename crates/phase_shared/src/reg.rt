@@ -9,9 +9,9 @@ ghost use Rattle.phase_history.specs.Histories.{members_of};
 ghost use Rattle.phase_shared.specs.Regs.{IsGoodOn};
 
 use crate::refusal::SendRefusal;
+use crate::{PhaserSeat, SignalRule};
 use phase_accum::{Accumulate, Pending, SendFault};
 use phase_base::{Entry, Mode};
-use phase_seats::{PhaserSeat, SignalRule};
 use std::marker::Model;
 
 /// One registration on a phaser, which any one thread has at a time.

@@ -3,21 +3,19 @@ ghost use Rattle.std.specs.Prelude.{◌≡◌, ◌≢◌, [], ◌∷◌, Err, If
 ghost use Rattle.std.specs.Result.{result_ok};
 ghost use Rattle.phase_accum.specs.Parcels.{StandsForSends};
 ghost use Rattle.phase_history.specs.Others.{OnlyUsed, OthersCame};
-ghost use Rattle.phase_seats.specs.Rule.{IsGoodAt};
+ghost use Rattle.phase_shared.specs.Rule.{IsGoodAt};
 ghost use Rattle.phase_shared.specs.Regs.{phaser_place, phaser_terms, phaser_limits};
-ghost use Rattle.phase_shared.specs.Calls.{IsTry, Tries, Signals, Waits, Registers};
-ghost use Rattle.phase_shared.specs.Calls.{MaySignal, Leaves};
-ghost use Rattle.phase_shared.specs.Entries.{entry_stays, entry_after_signal};
-ghost use Rattle.phase_shared.specs.Entries.{entry_after_wait, entry_after_both};
+ghost use Rattle.phase_shared.specs.Calls.{IsTry, Tries, Signals, Waits, Registers, MaySignal, Leaves};
+ghost use Rattle.phase_shared.specs.Entries.{entry_stays, entry_after_signal, entry_after_wait, entry_after_both};
 ghost use Rattle.phase_shared.specs.Nexts.{SignalsAndMayWait};
 
 use crate::past::Past;
 use crate::phaser::Phaser;
 use crate::reg::Reg;
+use crate::{SignalRule, Tried, steps};
 use phase_accum::{Accumulate, Pending, Single};
 use phase_base::Mode;
 use phase_core::{Got, RegisterRefusal, SignalRefusal, WaitRefusal};
-use phase_seats::{SignalRule, Tried, steps};
 
 impl<A: Accumulate, K: SignalRule> Reg<A, K> {
     /// Signals its phase, with the sends that it holds and a single or none, and answers that

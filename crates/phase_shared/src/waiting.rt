@@ -2,23 +2,20 @@
 ghost use Rattle.std.specs.Prelude.{◌≡◌, ◌≢◌, [], ◌∷◌, Err, OnOk, OnErr};
 ghost use Rattle.std.specs.Result.{result_ok};
 ghost use Rattle.phase_accum.specs.Parcels.{StandsForSends};
-ghost use Rattle.phase_seats.specs.Rule.{IsGoodAt};
+ghost use Rattle.phase_shared.specs.Rule.{IsGoodAt};
 ghost use Rattle.phase_shared.specs.Regs.{phaser_place, phaser_terms, phaser_limits};
-ghost use Rattle.phase_shared.specs.Calls.{IsCall, Signals, Waits, Registers};
-ghost use Rattle.phase_shared.specs.Calls.{MaySignal, Leaves};
-ghost use Rattle.phase_shared.specs.Entries.{entry_stays, entry_after_signal};
-ghost use Rattle.phase_shared.specs.Entries.{entry_after_wait, entry_after_both};
+ghost use Rattle.phase_shared.specs.Calls.{IsCall, Signals, Waits, Registers, MaySignal, Leaves};
+ghost use Rattle.phase_shared.specs.Entries.{entry_stays, entry_after_signal, entry_after_wait, entry_after_both};
 ghost use Rattle.phase_shared.specs.Nexts.{SignalsAndMayWait};
 
 use crate::past::Past;
 use crate::phaser::Phaser;
-use crate::refusal;
 use crate::reg::Reg;
+use crate::{SignalRule, Tried, refusal};
 use crossbeam_utils::Backoff;
 use phase_accum::{Accumulate, Single};
 use phase_base::Mode;
 use phase_core::{Got, RegisterRefusal, SignalRefusal, WaitRefusal};
-use phase_seats::{SignalRule, Tried};
 use std::sync::Wait;
 
 impl<A: Accumulate, K: SignalRule> Reg<A, K> {

@@ -1,4 +1,4 @@
-//! Tests of scripts and their replays, by public calls: of `phase_script`, `phase_session` and
+//! Tests of scripts and their replays, by public calls: of `phase_script`, `phase_replay` and
 //! `phase_replay`. They stand in a crate of their own, since a crate is proved anew with its tests.
 #![tactic(auto)]
 

@@ -1,6 +1,6 @@
 //! Scripts, and sessions that are handed them line by line.
+use phase_replay::Session;
 use phase_script::ReplyLine;
-use phase_session::Session;
 use std::alloc::Global;
 use std::process::Abort;
 use std::test::Fail;

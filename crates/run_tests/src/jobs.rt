@@ -13,7 +13,7 @@ pub const WORKERS: [usize; 3] = [1, 2, 16];
 
 /// The job of a graph, on samples of these texts, one for each source.
 pub fn job_of(alloc: Global, graph: &str, samples: &[&str]) -> Result<Job, Fail> {
-    let job = test_jobs::job_of(alloc, graph, samples)?;
+    let job = stream_job::job_of(alloc, graph, samples)?;
     Ok(job?)
 }
 

@@ -5,3 +5,15 @@ pub mod Given
 pub mod Growing
 pub mod InRange
 pub mod SpansAbove
+pub mod EachPhase
+pub mod Exacts
+pub mod Examples
+pub mod Fitting
+pub mod LawExamples
+pub mod LengthsAbove
+pub mod ListLengths
+pub mod ListsAbove
+pub mod OneSend
+pub mod Ordered
+pub mod Starts
+pub mod SameStarts

@@ -1,3 +1,5 @@
+pub mod Entries
+pub mod Exact
 pub mod Inside
 pub mod Jobs
 pub mod Lists

@@ -2,12 +2,20 @@
 //! definitions of a graph's lists stand here, as the values that any run of it gives.
 //!
 //! Make a `Job` of a graph and the samples of its sources. `stream_eval` composes its lists.
+//!
+//! Laws of the lists of a graph: what decides spans, lists and lengths; who has a value in which
+//! phase; that a job fits exactly where each value is in range, and has the lists of whole numbers
+//! without any range then.
+//!
+//! A caller has a law by calling it, as `list_laws::exact_where_it_fits`: the function does nothing, and
+//! its contract is the law.
 #![tactic(auto)]
 
 mod counts;
 mod job;
 pub mod laws;
 mod lengths;
+pub mod list_laws;
 mod meetings;
 mod number;
 mod places;

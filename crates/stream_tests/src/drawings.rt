@@ -1,7 +1,7 @@
 //! Worked drawings of graphs.
 
-use graph_drawing::{drawing_text, write_drawing};
 use graph_lang::read_graph;
+use graph_show::{drawing_text, write_drawing};
 use std::alloc::Global;
 use std::io;
 use std::io::{ErrorKind, Write};

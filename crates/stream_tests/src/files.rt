@@ -1,6 +1,6 @@
 //! Samples in files that are held in memory.
 
-use sample_text::{SampleFault, read_sample_file};
+use graph_lang::{SampleFault, read_sample_file};
 use std::alloc::Global;
 use std::fs;
 use std::test::Fail;

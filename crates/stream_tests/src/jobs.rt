@@ -3,8 +3,7 @@
 use graph_lang::Place;
 use std::alloc::{AllocError, Global};
 use std::test::Fail;
-use stream_job::{EvalFault, Job, JobRefusal, eval};
-use test_jobs::job_of;
+use stream_job::{EvalFault, Job, JobRefusal, eval, job_of};
 
 /// What the only sink of a graph gets, or why it gets nothing.
 #[derive(Drop)]

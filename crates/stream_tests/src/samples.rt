@@ -1,6 +1,6 @@
 //! Texts with the samples that they hold, or with the number of their first bad record.
 
-use sample_text::{SampleFault, read_samples, samples_of};
+use graph_lang::{SampleFault, read_samples, samples_of};
 use std::alloc::Global;
 use std::io;
 use std::io::Read;

@@ -4,20 +4,20 @@ use Rattle.std.specs.Global.{Global}
 use Rattle.std.specs.Prelude.{Vec, slice_get, get_or, ◌==◌, if◌then◌else◌}
 use Rattle.phase_history.specs.Histories.{History}
 use Rattle.stream_lists.specs.Jobs.{Job}
-use Rattle.graph_members.specs.Members.{Spot}
-use Rattle.graph_members.specs.AnyMembers.{left_in}
-use Rattle.graph_members.specs.declared.any_left.AnyLeft.{AnyLeft}
-use Rattle.graph_moments.specs.Moments.{Moment}
-use Rattle.graph_ends.specs.TaskEnds.{HasLeftAt, HasNumbers, HasFoundedAndLeft}
-use Rattle.graph_openings.specs.Openings.{HaveFoundersLeft}
-use Rattle.graph_openings.specs.declared.founder.FounderLeft.{FounderLeft}
-use Rattle.graph_tasks.specs.Ends.{IsEnded, IsLeftOn, given_to as given_by}
-use Rattle.graph_tasks.specs.declared.child.Child.{Child}
-use Rattle.graph_tasks.specs.declared.ended.Ended.{Ended}
-use Rattle.graph_tasks.proofs.Seeding.{each-push, found-push, last_at}
-use Rattle.stream_ends.specs.Joinings.{IsAt}
-use Rattle.stream_ends.specs.TaskLefts.{given_to, IsLeftOf, IsTaskLeft, AreFounders}
-use Rattle.stream_ends.specs.declared.task_left.TaskLeft.{TaskLeft}
+use Rattle.stream_members.specs.Members.{Spot}
+use Rattle.stream_members.specs.AnyMembers.{left_in}
+use Rattle.stream_members.specs.declared.any_left.AnyLeft.{AnyLeft}
+use Rattle.graph_runs.specs.Moments.{Moment}
+use Rattle.graph_runs.specs.TaskEnds.{HasLeftAt, HasNumbers, HasFoundedAndLeft}
+use Rattle.stream_tasks.specs.Openings.{HaveFoundersLeft}
+use Rattle.stream_tasks.specs.declared.founder.FounderLeft.{FounderLeft}
+use Rattle.stream_tasks.specs.Ends.{IsEnded, IsLeftOn, given_to as given_by}
+use Rattle.stream_tasks.specs.declared.child.Child.{Child}
+use Rattle.stream_tasks.specs.declared.ended.Ended.{Ended}
+use Rattle.stream_tasks.proofs.Seeding.{each-push, found-push, last_at}
+use Rattle.stream_tasks.specs.Joinings.{IsAt}
+use Rattle.stream_tasks.specs.TaskLefts.{given_to, IsLeftOf, IsTaskLeft, AreFounders}
+use Rattle.stream_tasks.specs.declared.task_left.TaskLeft.{TaskLeft}
 use Rattle.stream_workers.specs.Inside.{Follows}
 
 -- ---- lists

@@ -1,8 +1,8 @@
 -- What tasks of a run leave behind.
 use Rattle.std.specs.Prelude.{◌≡◌, ℕ, List, slice_get, Option, Some}
-use Rattle.graph_members.specs.Members.{Spot}
-use Rattle.graph_tasks.specs.declared.ended.Ended.{Ended}
-use Rattle.graph_tasks.specs.Ends.{IsEnded}
+use Rattle.stream_members.specs.Members.{Spot}
+use Rattle.stream_tasks.specs.declared.ended.Ended.{Ended}
+use Rattle.stream_tasks.specs.Ends.{IsEnded}
 use Rattle.stream_lists.specs.Jobs.{Job}
 
 -- each of these that came has left all its phasers

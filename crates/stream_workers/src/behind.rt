@@ -1,18 +1,16 @@
 //! A run of a graph on worker threads.
 ghost use Rattle.std.specs.Prelude.{◌≡◌, length, IfOk};
-ghost use Rattle.graph_openings.specs.Openings.{ArePhasers, AreFoundersFrom, HaveFoundersLeft};
-ghost use Rattle.graph_openings.specs.Openings.{spot_at};
+ghost use Rattle.stream_tasks.specs.Openings.{ArePhasers, AreFoundersFrom, HaveFoundersLeft, spot_at};
 ghost use Rattle.stream_workers.specs.Ended.{AreEnded};
 
 use crate::endings::{dismiss_all, run_slots};
 use crate::opening::open_pool;
-use graph_members::{AnyPhaser, AnyReg};
-use graph_openings::{FounderLeft, dismiss_founders, found, leave_all};
-use graph_tasks::{Ended, Gate, Run};
 use std::alloc::Global;
 use std::sync::Wait;
 use std::thread::Threads;
 use stream_lists::Job;
+use stream_members::{AnyPhaser, AnyReg};
+use stream_tasks::{Ended, FounderLeft, Gate, Run, dismiss_founders, found, leave_all};
 use worker_pool::Fault;
 
 /// What the founders and the tasks of a run have left behind, the last task's first.

@@ -3,10 +3,10 @@ ghost use Rattle.std.specs.Prelude.{◌≡◌, ◌+◌, [], length, IfOk, OnOk};
 ghost use Rattle.stream_workers.specs.Ended.{AreEnded};
 
 use crate::slot::{Place, Slot};
-use graph_tasks::{Ended, Gate, Run};
 use std::alloc::Global;
 use std::sync::Wait;
 use std::thread::Threads;
+use stream_tasks::{Ended, Gate, Run};
 use worker_pool::{Fault, Pool};
 
 /// Runs the tasks of a pool by so many workers, and gives what each leaves behind, the last task's

@@ -1,25 +1,23 @@
 //! What the founders and the tasks of a run leave behind, taken to the end.
 ghost use Rattle.std.specs.Prelude.{◌≡◌, [], ℕ, Ok, Some, length, map, get_or, slice_get, IfOk, IfSome};
-ghost use Rattle.graph_ends.specs.TaskEnds.{HasLeftAt};
-ghost use Rattle.graph_members.specs.Members.{Spot};
-ghost use Rattle.graph_openings.specs.Openings.{HaveFoundersLeft};
-ghost use Rattle.graph_tasks.specs.Ends.{IsEnded};
-ghost use Rattle.graph_tasks.specs.declared.ended.Ended.{Ended as EndedValue};
-ghost use Rattle.stream_ends.specs.TaskLefts.{IsTaskLeft};
-ghost use Rattle.stream_ends.specs.Joinings.{IsAt};
-ghost use Rattle.stream_ends.specs.declared.task_left.TaskLeft.{TaskLeft as TaskLeftValue};
+ghost use Rattle.graph_runs.specs.TaskEnds.{HasLeftAt};
+ghost use Rattle.stream_members.specs.Members.{Spot};
+ghost use Rattle.stream_tasks.specs.Openings.{HaveFoundersLeft};
+ghost use Rattle.stream_tasks.specs.Ends.{IsEnded};
+ghost use Rattle.stream_tasks.specs.declared.ended.Ended.{Ended as EndedValue};
+ghost use Rattle.stream_tasks.specs.TaskLefts.{IsTaskLeft};
+ghost use Rattle.stream_tasks.specs.Joinings.{IsAt};
+ghost use Rattle.stream_tasks.specs.declared.task_left.TaskLeft.{TaskLeft as TaskLeftValue};
 ghost use Rattle.stream_eval.specs.Results.{sink_values};
 ghost use Rattle.stream_lists.specs.Jobs.{Job as JobValue};
 ghost use Rattle.stream_lists.specs.Ranges.{answer_of};
 ghost use Rattle.stream_workers.specs.Inside.{Follows, given_on};
 
-use graph_members::AnyLeft;
-use graph_openings::FounderLeft;
-use graph_tasks::{Child, Ended, Run};
 use std::alloc::{AllocError, Global};
-use stream_ends::{Given, Part, TaskLeft, finish};
 use stream_eval::Lines;
 use stream_lists::Job;
+use stream_members::AnyLeft;
+use stream_tasks::{Child, Ended, FounderLeft, Given, Part, Run, TaskLeft, finish};
 
 /// The numbers that a task gave to its children.
 fn given_of(alloc: Global, children: Vec<Child>) -> Result<Vec<Given>, AllocError>

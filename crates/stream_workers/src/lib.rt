@@ -22,5 +22,5 @@ mod opening;
 mod slot;
 mod whole;
 
-pub use graph_tasks::{Gate, Open};
+pub use stream_tasks::{Gate, Open};
 pub use whole::{RunFault, run};

@@ -1,15 +1,14 @@
 //! The tasks of a run before their first turn.
 ghost use Rattle.std.specs.Prelude.{◌≡◌, ◌+◌, ◌<◌, length, IfOk, OnOk};
-ghost use Rattle.graph_openings.specs.Openings.{AreFounders};
+ghost use Rattle.stream_tasks.specs.Openings.{AreFounders};
 
 use crate::endings::dismiss_all;
 use crate::slot::{Place, Slot};
-use graph_openings::Founder;
-use graph_steps::parent_of;
-use graph_tasks::{Gate, Run, Task, Unregistered};
+use graph_runs::parent_of;
 use std::alloc::{AllocError, Global};
 use std::sync::Wait;
 use stream_lists::Job;
+use stream_tasks::{Founder, Gate, Run, Task, Unregistered};
 use worker_pool::Pool;
 
 /// Makes a task's place: the founders register a task without a parent, and another one waits for

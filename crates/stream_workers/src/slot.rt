@@ -1,10 +1,10 @@
 //! A task of a graph in a pool of workers.
 ghost use Rattle.std.specs.Prelude.{◌≡◌, IfOk, IfSome};
-ghost use Rattle.graph_tasks.specs.Ends.{IsEnded};
+ghost use Rattle.stream_tasks.specs.Ends.{IsEnded};
 
-use graph_tasks::{Ended, Gate, Run, Task, Unregistered};
 use std::mem;
 use std::sync::Wait;
+use stream_tasks::{Ended, Gate, Run, Task, Unregistered};
 use worker_pool::{Fault, Turned, Work};
 
 /// A task of a graph, or its place before it is registered.
@@ -88,17 +88,17 @@ pub struct Slot<'a, J: Run, G: Gate> {
 }
 
 // How far a task came, for the workers.
-fn turned(turned: graph_tasks::Turned) -> Turned {
+fn turned(turned: stream_tasks::Turned) -> Turned {
     match turned {
-        graph_tasks::Turned::Moved(phaser) => Turned::Moved(phaser),
-        graph_tasks::Turned::Ready => Turned::Ready,
-        graph_tasks::Turned::Blocked(phaser) => Turned::Blocked(phaser),
-        graph_tasks::Turned::Busy => Turned::Busy,
-        graph_tasks::Turned::Registered(child) => Turned::Child(child),
-        graph_tasks::Turned::Gone => Turned::Gone,
-        graph_tasks::Turned::TooBig => Turned::Failed(Fault::TooBig),
-        graph_tasks::Turned::OutOfMemory => Turned::Failed(Fault::OutOfMemory),
-        graph_tasks::Turned::Stuck => Turned::Failed(Fault::Stalled),
+        stream_tasks::Turned::Moved(phaser) => Turned::Moved(phaser),
+        stream_tasks::Turned::Ready => Turned::Ready,
+        stream_tasks::Turned::Blocked(phaser) => Turned::Blocked(phaser),
+        stream_tasks::Turned::Busy => Turned::Busy,
+        stream_tasks::Turned::Registered(child) => Turned::Child(child),
+        stream_tasks::Turned::Gone => Turned::Gone,
+        stream_tasks::Turned::TooBig => Turned::Failed(Fault::TooBig),
+        stream_tasks::Turned::OutOfMemory => Turned::Failed(Fault::OutOfMemory),
+        stream_tasks::Turned::Stuck => Turned::Failed(Fault::Stalled),
     }
 }
 

@@ -1,8 +1,15 @@
 //! Tests of a lock and of a phaser between threads, by their public calls: of `turn_lock`,
 //! `phase_shared` and `phase_received`. They stand in a crate of their own, since a crate is proved
 //! anew with its tests.
+//!
+//! Tests of blocks of phases and of late waiters between threads, by the public calls of
+//! `phase_shared`. They stand in a crate of their own, since a crate is proved anew with its tests.
 #![tactic(auto)]
 
+#[cfg(test)]
+mod block_tries;
+#[cfg(test)]
+mod blocks;
 #[cfg(test)]
 mod calls;
 #[cfg(test)]
@@ -25,3 +32,5 @@ mod receiver_tries;
 mod threads;
 #[cfg(test)]
 mod tries;
+#[cfg(test)]
+mod worked_laws;

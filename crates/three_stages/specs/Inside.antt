@@ -7,7 +7,7 @@ use Rattle.phase_accum.specs.Values.{sum_value}
 use Rattle.phase_history.specs.Legal.{IsLegal}
 use Rattle.phase_base.specs.Lists.{is_in}
 use Rattle.phase_history.specs.Phases.{received_by}
-use Rattle.phase_seats.specs.declared.rule.Terms.{Terms}
+use Rattle.phase_shared.specs.declared.rule.Terms.{Terms}
 use Rattle.phase_shared.specs.Regs.{PastState}
 use Rattle.phase_received.specs.Whole.{HasWhole}
 

@@ -5,7 +5,7 @@ use Rattle.stream_eval.specs.Results.{sink_values}
 use Rattle.graph_commands.specs.OutputTexts.{sink_text, text_of}
 use Rattle.graph_base.specs.Graphs.{name_at}
 use Rattle.graph_base.specs.declared.place.Place.TheVariants as place
-use Rattle.phase_status.proofs.Items.{flat_map-map-push, flat_map-map-rest}
+use Rattle.watched_io.proofs.Items.{flat_map-map-push, flat_map-map-rest}
 use Rattle.graph_commands.proofs.Putting.{Puts-append, prefix_behind, prefix_of_put, prefix_within}
 use Rattle.graph_commands.proofs.lines.write_lines.Goals as goal
 

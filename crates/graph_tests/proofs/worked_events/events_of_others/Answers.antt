@@ -3,7 +3,7 @@ use Rattle.std.proofs.Common.{◌≡◌, ℕ, [], ◌∷◌, refl, arith, subst}
 use Rattle.phase_base.specs.declared.mode.Mode.TheVariants.{Wait}
 use Rattle.phase_history.specs.declared.event.Event.TheVariants.{Registered}
 use Rattle.phase_history.specs.Others.{events_of}
-use Rattle.graph_moves.proofs.Registering.{others_register}
+use Rattle.graph_runs.proofs.Registering.{others_register}
 use Rattle.graph_tests.specs.Worked.{worked, after_peer, before_late, with_late, late_registers, lane_turns, by_out}
 use Rattle.graph_tests.proofs.Histories.{turn_begins, turns_begin, grown, only_one}
 use Rattle.graph_tests.proofs.WorkedRun.{worked-is}

@@ -2,11 +2,11 @@
 use Rattle.std.proofs.Common.{◌≡◌, ℕ, zero, suc, ◌+◌, ◌<◌, pos, length, refl, arith}
 use Rattle.std.specs.Prelude.{slice_get, nat_lt}
 use Rattle.graph_base.specs.Graphs.{task_at}
-use Rattle.graph_moments.specs.Moments.{made_now}
-use Rattle.graph_turns.specs.Nexts.{has_left}
+use Rattle.graph_runs.specs.Moments.{made_now}
+use Rattle.graph_runs.specs.Nexts.{has_left}
 use Rattle.phase_accum.specs.declared.outcome.Outcome.TheVariants.{Value}
-use Rattle.graph_turns.specs.TaskEvents.{sample}
-use Rattle.graph_turns.specs.TaskPlaces.{StandsAt, TaskPlace, registration_at, lacking, nothing}
+use Rattle.graph_runs.specs.TaskEvents.{sample}
+use Rattle.graph_runs.specs.TaskPlaces.{StandsAt, TaskPlace, registration_at, lacking, nothing}
 use Rattle.graph_tests.specs.Worked.{worked, worked_opening}
 use Rattle.graph_tests.specs.WorkedPlaces.{source_at, peer_at, after_sample}
 use Rattle.graph_tests.proofs.WorkedRun.{worked-is}

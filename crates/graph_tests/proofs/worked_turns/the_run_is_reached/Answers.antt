@@ -7,9 +7,9 @@ use Rattle.phase_history.specs.Histories.{start_of}
 use Rattle.graph_base.specs.declared.line.Parent.{Parent}
 use Rattle.graph_base.specs.Graphs.{task_at}
 use Rattle.graph_base.specs.Registrations.{no_registration}
-use Rattle.graph_turns.specs.Answers.{after_turns}
-use Rattle.graph_turns.specs.Nexts.{registrations_at}
-use Rattle.graph_turns.specs.Reached.{HasMode, HasModes, HasOnlyTasks, HasBegun}
+use Rattle.graph_runs.specs.Answers.{after_turns}
+use Rattle.graph_runs.specs.Nexts.{registrations_at}
+use Rattle.graph_runs.specs.Reached.{HasMode, HasModes, HasOnlyTasks, HasBegun}
 use Rattle.graph_tests.specs.Worked.{worked, worked_histories, worked_numbers, worked_offsets, worked_opening, worked_order, by_out}
 use Rattle.graph_tests.proofs.OpeningTests.{has_opened}
 use Rattle.graph_tests.proofs.WorkedRun.{worked-is}

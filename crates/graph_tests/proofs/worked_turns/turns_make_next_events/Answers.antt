@@ -3,8 +3,8 @@ use Rattle.std.proofs.Common.{◌≡◌, ℕ, zero, suc, ◌+◌, ◌<◌, true,
 use Rattle.std.proofs.lemmas.Option.{same_Some}
 use Rattle.graph_base.specs.declared.line.Parent.{Parent}
 use Rattle.graph_base.specs.Graphs.{task_at}
-use Rattle.graph_turns.specs.TaskEvents.{sample, leave}
-use Rattle.graph_turns.specs.Nexts.{HasChildrenToCome, first_missing}
+use Rattle.graph_runs.specs.TaskEvents.{sample, leave}
+use Rattle.graph_runs.specs.Nexts.{HasChildrenToCome, first_missing}
 use Rattle.graph_tests.specs.Worked.{worked, worked_opening, before_late, late_registers, before_end, by_out}
 use Rattle.graph_tests.proofs.worked_turns.turns_make_next_events.Goals as goal
 

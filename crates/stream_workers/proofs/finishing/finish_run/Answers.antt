@@ -1,6 +1,6 @@
 -- The phasers are those that are meant; founders and tasks have left them.
 use Rattle.std.proofs.Common.{sym, subst, ◌∙◌}
-use Rattle.stream_ends.specs.TaskLefts.{IsTaskLeft}
+use Rattle.stream_tasks.specs.TaskLefts.{IsTaskLeft}
 use Rattle.stream_workers.proofs.Lefts.{founders_are}
 use Rattle.stream_workers.proofs.finishing.finish_run.Goals as goal
 

@@ -1,9 +1,9 @@
 -- What it knows, with the numbers that it gave told in another way.
 use Rattle.std.proofs.Common.{sym, ap, map, ◌∙◌}
-use Rattle.graph_members.specs.AnyMembers.{left_in}
-use Rattle.graph_tasks.specs.Ends.{given_to as given_by}
-use Rattle.graph_turns.specs.TaskPlaces.{registration_at}
-use Rattle.stream_ends.specs.TaskLefts.{given_to}
+use Rattle.stream_members.specs.AnyMembers.{left_in}
+use Rattle.stream_tasks.specs.Ends.{given_to as given_by}
+use Rattle.graph_runs.specs.TaskPlaces.{registration_at}
+use Rattle.stream_tasks.specs.TaskLefts.{given_to}
 use Rattle.stream_workers.proofs.Lefts.{has_left, is_left, same_given}
 use Rattle.stream_workers.proofs.finishing.task_left.Goals as goal
 

@@ -1,5 +1,5 @@
 use Rattle.std.proofs.Common.{◌≡◌, ◌+◌, ℕ, length}
-use Rattle.graph_members.specs.Members.{Spot}
+use Rattle.stream_members.specs.Members.{Spot}
 use Rattle.stream_lists.specs.Jobs.{Job}
 use Rattle.stream_workers.proofs.Lefts.{AllEnded, AllLeft}
 use Rattle.stream_workers.proofs.finishing.tasks_left.Given as goal

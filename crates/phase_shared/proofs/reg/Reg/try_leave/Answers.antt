@@ -3,10 +3,9 @@ use Rattle.std.specs.Prelude.{is_some}
 use Rattle.phase_history.specs.Histories.{History}
 use Rattle.phase_history.specs.Others.{OnlyUsed}
 use Rattle.phase_base.specs.Lists.{is_distinct}
-use Rattle.phase_seats.specs.Views.{known_of}
-use Rattle.phase_seats.specs.Views.{resting}
-use Rattle.phase_seats.specs.Rule.{IsGoodAt, IsSeatOfTask}
-use Rattle.phase_seats.specs.declared.view.View.{View}
+use Rattle.phase_shared.specs.Views.{known_of, resting}
+use Rattle.phase_shared.specs.Rule.{IsGoodAt, IsSeatOfTask}
+use Rattle.phase_shared.specs.declared.view.View.{View}
 use Rattle.phase_shared.specs.Regs.{RegState, reg_state, phaser_place, phaser_terms}
 use Rattle.phase_shared.proofs.Opening.{opened, closed}
 use Rattle.phase_shared.proofs.reg.Reg.try_leave.Goals as goal

@@ -2,8 +2,8 @@ use Rattle.std.proofs.Common.{◌≡◌, Some, true, false, sym, subst, ap, ◌�
 use Rattle.std.specs.Prelude.{is_some, Ok}
 use Rattle.turn_lock.specs.Seats.{seat_view, IsSameSeat}
 use Rattle.phase_history.specs.declared.refusal.RegisterRefusal.TheVariants.{NoTask}
-use Rattle.phase_seats.specs.Views.{known_of}
-use Rattle.phase_seats.specs.Steps.{RegistersSeatNow}
+use Rattle.phase_shared.specs.Views.{known_of}
+use Rattle.phase_shared.specs.Steps.{RegistersSeatNow}
 use Rattle.phase_shared.specs.Calls.{IsTry, Tries}
 use Rattle.phase_shared.specs.Joins.{RegistersNow}
 use Rattle.phase_shared.specs.Entries.{entry_stays}

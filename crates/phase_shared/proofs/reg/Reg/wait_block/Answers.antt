@@ -6,7 +6,7 @@ use Rattle.phase_history.specs.declared.refusal.WaitRefusal.TheVariants.{NotYet,
 use Rattle.phase_shared.specs.Regs.{phaser_terms}
 use Rattle.phase_shared.specs.Calls.{Tries}
 use Rattle.phase_shared.specs.Blocks.{WaitsBlock, entry_after_values}
-use Rattle.phase_seats.proofs.Answering.{again}
+use Rattle.phase_shared.proofs.Answering.{again}
 use Rattle.phase_shared.proofs.Later.{waits_on_as, accepted, refused}
 use Rattle.phase_shared.proofs.LaterBlocks.{waits_block_later}
 use Rattle.phase_shared.proofs.reg.Reg.wait_block.Goals as goal

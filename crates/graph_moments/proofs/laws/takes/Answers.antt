@@ -1,9 +1,0 @@
--- Every phaser that it reads composes its list.
-use Rattle.graph_moments.specs.Moments.{started}
-use Rattle.graph_moments.proofs.Started.{ready_as, run_started}
-use Rattle.graph_moments.proofs.Results.{taken_begin}
-use Rattle.graph_moments.proofs.laws.takes.Goals as goal
-
-pub returns : goal.returns
-returns c = λ job m t k ready ran.
-    taken_begin (started job m) m t k (ready_as job m ready) (run_started job m ran)

@@ -1,0 +1,17 @@
+pub mod Answers
+pub mod Beginnings
+pub mod Moments
+pub mod Moves
+pub mod NextBlocks
+pub mod Nexts
+pub mod Openings
+pub mod Parts
+pub mod Places
+pub mod Reached
+pub mod RunEnds
+pub mod Settled
+pub mod Steps
+pub mod TaskEnds
+pub mod TaskEvents
+pub mod TaskPlaces
+pub mod Turned

@@ -1,0 +1,13 @@
+pub mod Blocking
+pub mod Cores
+pub mod Inside
+pub mod Machines
+pub mod Parking
+pub mod Places
+pub mod Plans
+pub mod Runs
+pub mod Stalls
+pub mod TaskLists
+pub mod Tellings
+pub mod Turning
+pub mod Worlds

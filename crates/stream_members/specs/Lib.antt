@@ -1,0 +1,3 @@
+pub mod AnyMembers
+pub mod AnyPhasers
+pub mod Members

@@ -1,0 +1,17 @@
+mod Holding
+mod Turning
+mod Waiting
+mod Ending
+mod Gone
+mod ChildHolds
+pub mod Seeding
+mod StillRegistering
+mod Leaving
+mod Delivering
+mod FoundingLemmas
+mod Rows
+pub mod Added
+pub mod Agreed
+pub mod EndEnding
+pub mod Gathered
+pub mod TakingIn

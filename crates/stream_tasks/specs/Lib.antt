@@ -1,0 +1,15 @@
+pub mod Agreeing
+pub mod Deliveries
+pub mod Ends
+pub mod EndsInside
+pub mod Founders
+pub mod Gatherings
+pub mod Holds
+pub mod Inside
+pub mod Joinings
+pub mod Openings
+pub mod Registering
+pub mod Runs
+pub mod Seeds
+pub mod TaskLefts
+pub mod Tasks

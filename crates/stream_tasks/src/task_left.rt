@@ -1,0 +1,37 @@
+//! What a task leaves behind.
+
+use smallvec::SmallVec;
+use stream_members::AnyLeft;
+
+/// The numbers that a task gave to a child, in the order of the child's registrations.
+#[derive(Drop)]
+pub struct Given {
+    /// The child's number among the tasks.
+    pub task: usize,
+    /// Its numbers.
+    pub numbers: SmallVec<u64, 9>,
+}
+
+/// What a task knows of itself that has left all its phasers.
+#[derive(Drop)]
+pub struct Part {
+    /// How many steps it has begun.
+    pub begun: u64,
+    /// Its numbers on its phasers, in the order of its registrations.
+    pub numbers: SmallVec<u64, 9>,
+    /// What it has taken, where it is a sink.
+    pub lines: Vec<i64>,
+    /// The numbers that it gave to its children, the first one of each child counts.
+    pub given: Vec<Given>,
+}
+
+/// What a task leaves behind that has left all its phasers. It may be thrown away.
+#[derive(Drop)]
+pub struct TaskLeft<'a> {
+    /// Its number among the tasks.
+    pub task: usize,
+    /// What it knows of itself.
+    pub part: Part,
+    /// What it has seen of its phasers, in the order of its registrations.
+    pub lefts: Vec<AnyLeft<'a>>,
+}
