@@ -1,9 +1,7 @@
 //! Tests of a lock and of a phaser between threads, by their public calls: of `turn_lock`,
-//! `phase_shared` and `phase_received`. They stand in a crate of their own, since a crate is proved
-//! anew with its tests.
-//!
-//! Tests of blocks of phases and of late waiters between threads, by the public calls of
-//! `phase_shared`. They stand in a crate of their own, since a crate is proved anew with its tests.
+//! `phase_shared`, with blocks of phases and late waiters, and `phase_received`. They stand in a
+//! crate of their own, since a crate is proved anew with its tests. `counting` is an example of a
+//! lock's rule.
 #![tactic(auto)]
 
 #[cfg(test)]
@@ -14,6 +12,7 @@ mod blocks;
 mod calls;
 #[cfg(test)]
 mod churn;
+pub mod counting;
 #[cfg(test)]
 mod head;
 #[cfg(test)]

@@ -2,17 +2,14 @@
 ghost use Rattle.std.specs.Prelude.{◌≡◌, ◌+◌, ◌-◌, ◌*◌, ◌%◌, ◌^◌, ◌<◌, None, Some};
 ghost use Rattle.std.specs.Prelude.{IfOk, IfErr, IsOk};
 ghost use denote.Param.Send.{IsSync};
-ghost use Rattle.turn_lock.specs.Counting.{tally, IsCounted, Grabs, first_half, second_half, both};
+ghost use Rattle.thread_tests.specs.Counting.{tally, IsCounted, Grabs, first_half, second_half, both};
 ghost use Rattle.turn_lock.specs.Seats.{lock_name, IsSeatOf, IsTurnOf, IsSameSeat};
 ghost use Rattle.turn_lock.specs.Seats.{seat_view, turn_value, turn_view};
 
-use crate::lock::TurnLock;
-use crate::rule::{Learns, Tells, TurnRule};
-use crate::seat::{Seat, Turn};
-use atomic_table::{Join, Split};
 use std::alloc::{AllocError, Global};
 use std::sync::Wait;
 use std::thread::{Threads, join};
+use turn_lock::{Join, Learns, Seat, Split, Tells, Turn, TurnLock, TurnRule};
 
 /// What a seat of a counter knows. No value of it is made.
 pub struct Tally {

@@ -1,6 +1,6 @@
 use Rattle.turn_lock.specs.Seats.{seat_number, seat_view, lock_name}
-use Rattle.turn_lock.proofs.Summing.{takes_sum}
-use Rattle.turn_lock.proofs.counting.add_one.Goals as goal
+use Rattle.thread_tests.proofs.Summing.{takes_sum}
+use Rattle.thread_tests.proofs.counting.add_one.Goals as goal
 
 -- the seat has a part of the right to know the sum
 pub take-turn-requires-clause-rule : goal.take-turn-requires-clause-rule

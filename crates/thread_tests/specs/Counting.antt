@@ -5,7 +5,7 @@ use Rattle.std.specs.Prelude.{◌≡◌, ◌≢◌, ℕ, ◌+◌, ◌-◌, ◌/�
 use Rattle.std.specs.Prelude.{[], ◌∷◌}
 use mathlib.Core.Option.{some}
 use lib.ListN.{get_elem?}
-use Rattle.turn_lock.specs.declared.counting.Tally.{Tally}
+use Rattle.thread_tests.specs.declared.counting.Tally.{Tally}
 
 -- a view with these parts and this count, which took this sum or none
 abbrev pub tally : ℕ → ℕ → Option ℕ → Tally

@@ -1,7 +1,7 @@
 use Rattle.std.proofs.Common.{◌≡◌, ℕ, ◌<◌, Some, arith, ap, sym, ◌∙◌}
 use Rattle.turn_lock.specs.Seats.{seat_number, seat_view, turn_number, turn_view, lock_name}
-use Rattle.turn_lock.proofs.Summing.{takes_sum, gives_sum}
-use Rattle.turn_lock.proofs.counting.read_sum.Goals as goal
+use Rattle.thread_tests.proofs.Summing.{takes_sum, gives_sum}
+use Rattle.thread_tests.proofs.counting.read_sum.Goals as goal
 
 -- the seat has a part of the right to know the sum
 pub take-turn-requires-clause-rule : goal.take-turn-requires-clause-rule

@@ -1,6 +1,6 @@
 use Rattle.turn_lock.specs.Seats.{seat_number, seat_view, lock_name}
-use Rattle.turn_lock.proofs.Summing.{takes_sum, not_busy}
-use Rattle.turn_lock.proofs.counting.try_add_one.Goals as goal
+use Rattle.thread_tests.proofs.Summing.{takes_sum, not_busy}
+use Rattle.thread_tests.proofs.counting.try_add_one.Goals as goal
 
 -- the seat has a part of the right to know the sum
 pub try_take-requires-clause-rule : goal.try_take-requires-clause-rule

@@ -1,7 +1,7 @@
 use Rattle.std.proofs.Common.{ℕ, ◌+◌, Some, arith, ap, sym, ◌∙◌}
 use Rattle.turn_lock.specs.Seats.{turn_number, turn_view, lock_name}
-use Rattle.turn_lock.proofs.Summing.{gives_sum}
-use Rattle.turn_lock.proofs.counting.add_to.Goals as goal
+use Rattle.thread_tests.proofs.Summing.{gives_sum}
+use Rattle.thread_tests.proofs.counting.add_to.Goals as goal
 
 -- what is given is the sum that was taken, and one more
 pub give-requires-clause-rule : goal.give-requires-clause-rule

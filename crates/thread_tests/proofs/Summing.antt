@@ -6,9 +6,9 @@ use mathlib.Core.Option.{some, some-injective, some-ne-none}
 use native.Mathlib.Decide.{ℕ_discrete}
 use lib.ListN.{get_elem?}
 use Rattle.atomic_table.proofs.Lists.{at_set, at_snoc, at_longer, set_here, set_else, set_again}
-use Rattle.turn_lock.specs.declared.counting.Tally.{Tally}
+use Rattle.thread_tests.specs.declared.counting.Tally.{Tally}
 use Rattle.turn_lock.specs.Steps.{Takes, GivesBack, Looks, Forks, Merges, Busy}
-use Rattle.turn_lock.specs.Counting.{tally, total, counted, IsSumOf, IsCounted, Grabs, first_half, second_half, both}
+use Rattle.thread_tests.specs.Counting.{tally, total, counted, IsSumOf, IsCounted, Grabs, first_half, second_half, both}
 use Rattle.turn_lock.proofs.Keeping.{within}
 
 -- the total after a change of one view

@@ -1,5 +1,5 @@
 use Rattle.std.proofs.Common.{◌+◌, ◌-◌, ◌*◌}
-use Rattle.turn_lock.proofs.counting.+count_apart+fn-count_apart-join+arg2+fn-count_apart-join+arg3.Given as goal
+use Rattle.thread_tests.proofs.counting.+count_apart+fn-count_apart-join+arg2+fn-count_apart-join+arg3.Given as goal
 
 -- a thread has fewer parts than all
 abbrev pub decreases-count_apart : goal.decreases-count_apart

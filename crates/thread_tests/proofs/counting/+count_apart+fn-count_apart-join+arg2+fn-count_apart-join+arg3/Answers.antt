@@ -1,8 +1,8 @@
 use Rattle.std.proofs.Common.{◌≡◌, ◌-◌, ◌/◌, arith, ap}
-use Rattle.turn_lock.specs.Counting.{both}
+use Rattle.thread_tests.specs.Counting.{both}
 use Rattle.turn_lock.specs.Seats.{seat_number, seat_view, lock_name}
-use Rattle.turn_lock.proofs.Summing.{forks_sum, merges_sum, looks_sum, halves_joined}
-use Rattle.turn_lock.proofs.counting.+count_apart+fn-count_apart-join+arg2+fn-count_apart-join+arg3.Goals as goal
+use Rattle.thread_tests.proofs.Summing.{forks_sum, merges_sum, looks_sum, halves_joined}
+use Rattle.thread_tests.proofs.counting.+count_apart+fn-count_apart-join+arg2+fn-count_apart-join+arg3.Goals as goal
 
 -- with more than one part there is one for each half
 pub split-left-requires-clause-rule : goal.split-left-requires-clause-rule

@@ -1,7 +1,7 @@
 use Rattle.std.proofs.Common.{◌≡◌, ◌+◌, None}
-use Rattle.turn_lock.specs.Counting.{tally}
+use Rattle.thread_tests.specs.Counting.{tally}
 use Rattle.turn_lock.specs.Seats.{seat_place, seat_view}
-use Rattle.turn_lock.proofs.counting.count_up.Given as goal
+use Rattle.thread_tests.proofs.counting.count_up.Given as goal
 
 -- the seat of the same lock has counted once for each turn so far
 abbrev pub invariant-loop-i : goal.invariant-loop-i
