@@ -1,11 +1,10 @@
-//! Graphs, read from their text: the phasers and the tasks that its lines declare, or its first
-//! fault. The first calls are `read_graph`, `Graph::tasks` and `Graph::task`; what one needs of
-//! `graph_base` is handed on.
+//! Graphs and samples, read from their texts: the phasers and the tasks that a graph's lines
+//! declare, or its first fault; and the values of a stream, one number a record.
 //!
-//! Samples of a stream as text: records of one number each, as the crate `csv` reads records.
-//!
-//! `read_samples` reads them from a watched reader, `read_sample_file` from a file, and
-//! `samples_of` takes a text that was read already.
+//! The first calls are `read_graph`, `Graph::tasks` and `Graph::task`; what one needs of
+//! `graph_base` is handed on. `read_samples` reads samples from a watched reader,
+//! `read_sample_file` from a file, as the crate `csv` reads records, and `samples_of` takes a text
+//! that was read already.
 #![tactic(auto)]
 
 mod add;

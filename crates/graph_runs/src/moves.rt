@@ -1,7 +1,7 @@
 //! How a run goes on: what it has at its opening, and that each next event keeps it. Each function
 //! here makes no call and has no effect: its contract is the law. So whoever makes events one by
 //! one, in any order of the tasks, has `HasRun` of every moment, and with it the laws of
-//! `graph_runs`.
+//! `moments`.
 ghost use Rattle.std.specs.Prelude.{◌<◌, ℕ, ℤ, suc, List, [], ◌∷◌, length};
 ghost use Rattle.phase_base.specs.declared.mode.Mode.{Mode};
 ghost use Rattle.phase_accum.specs.declared.outcome.Outcome.{Outcome};

@@ -1,16 +1,14 @@
 //! A graph and its faults, for people: its drawing, and what explains a fault of its text.
 //!
-//! The drawing of a graph, as text for Graphviz: phasers as ellipses with their operation and bound,
-//! tasks as boxes with their kind, an arrow for each wait and each signal, and children dashed to
-//! their parents.
+//! The drawing is text for Graphviz: phasers as ellipses with their operation and bound, tasks as
+//! boxes with their kind, an arrow for each wait and each signal, and children dashed to their
+//! parents. `write_drawing` writes it; `drawing_text` gives it as bytes.
 //!
-//! `write_drawing` writes it; `drawing_text` gives it as bytes.
+//! A fault is explained by its line, with the word that is at fault marked, and by what was expected
+//! in its place: by `explanation`.
 //!
-//! Faults of a graph's text, explained to a person: the line, with the word that is at fault marked, and
-//! what was expected in its place. The first call is `explanation`.
-//!
-//! Proved: how the lines are laid out, and that the marked place is one of the faulty line. Only tested:
-//! which word is marked, and what is said to be expected.
+//! Proved: how the lines of an explanation are laid out, and that the marked place is one of the
+//! faulty line. Only tested: which word is marked, and what is said to be expected.
 #![tactic(auto)]
 
 mod above;

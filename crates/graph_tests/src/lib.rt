@@ -1,9 +1,7 @@
-//! Tests of runs of graphs: whole runs, event by event, and each law of them used once; and of the
-//! phasers of a graph, by their calls.
-//!
-//! Tests of runs of graphs on one thread, from the opening to the end, by public calls. What is
-//! expected was worked out by hand. They stand in a crate of their own, since a crate is proved anew
-//! with its tests.
+//! Tests of runs of graphs, by their public calls: whole runs on one thread, event by event and from
+//! the opening to the end, each law of them used once, and the phasers of a graph. What is expected
+//! was worked out by hand. They stand in a crate of their own, since a crate is proved anew with its
+//! tests.
 #![tactic(auto)]
 
 #[cfg(test)]

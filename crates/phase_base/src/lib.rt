@@ -1,9 +1,7 @@
-//! What every layer of a phaser speaks of: the modes in which a task is registered, the entry of a
-//! registered task, the limits that a phaser is made with, and the operations on the sends of a
-//! phase, by their words. The first calls are `Spec::new` and `Op::read`.
-//!
-//! The words of a graph's text: which are names, and which are files. The first calls are `is_name`
-//! and `is_file`.
+//! What every layer speaks of: the modes in which a task is registered, the entry of a registered
+//! task, the limits that a phaser is made with, the operations on the sends of a phase, and the
+//! words by which texts name them. The first calls are `Spec::new` and `Op::read`; of the words of a
+//! graph's text `is_name` and `is_file`.
 #![tactic(auto)]
 
 mod entry;

@@ -1,12 +1,8 @@
 //! Scripts of phaser calls: each line of a script is answered by one reply line.
 //!
-//! Wrap a reader and a writer by `Watched::new` and call `replay`, or hand a `Session` one line
-//! after the other. A line gives a command where `read` reads it.
-//!
-//! Sessions: the lines of a script of phaser calls, one at a time, each answered by one reply line.
-//! Make a `Session` and hand it one line after the other.
-//!
-//! The command `replay`: a replay of the input, and the report of its fault.
+//! Wrap a reader and a writer by `Watched::new` and call `replay`, or make a `Session` and hand it
+//! one line after the other. A line gives a command where `read` reads it. `replay_and_report` is
+//! the command `replay` of the program: it replays the input, and reports its fault.
 #![tactic(auto)]
 
 mod any_phaser;

@@ -1,6 +1,5 @@
-//! The program behind `phase run`: it runs a graph of filters over phasers on worker threads.
-//!
-//! The command `run` on graphs: what `eval` answers, by a run on worker threads.
+//! The program behind `phase run`: it runs a graph of filters over phasers on worker threads, and
+//! answers as `eval` does.
 //!
 //! `run_and_report` reads the job of a graph's file as `eval` does, runs it, and answers the exit
 //! status; `run_and_explain` also explains a fault of the files behind its line.

@@ -1,6 +1,5 @@
--- Blocks of phases, which one step signals or waits for: what each step answers, and how the
+-- Blocks of phases, which one call signals or waits for: what each step answers, and how the
 -- history that its task has seen goes on.
--- Blocks of phases, which one call signals or waits for.
 use Rattle.std.specs.Prelude.{◌≡◌, ℕ, ◌+◌, ℤ, List, [], ◌∷◌, Option, Some, None, Result, length, Ok, Err}
 use Rattle.phase_base.specs.Limits.{Limits}
 use Rattle.phase_base.specs.declared.entry.Entry.{Entry}

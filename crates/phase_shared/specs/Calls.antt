@@ -1,7 +1,7 @@
--- What each step of a seat answers, and how the history that its task has seen goes on: by events
--- of others, up to the moment of the call, and then by the call's own event, where it makes one.
 -- What each call of a registration answers, and what the registration has seen and where it stands
--- after it. The records of single calls are those of the steps of its seat.
+-- after it. The records of single calls are those of the steps of its seat: the history that its
+-- task has seen goes on by events of others, up to the moment of the call, and then by the call's
+-- own event, where it makes one.
 use Rattle.std.specs.Prelude.{◌≡◌, ℕ, ℤ, Bool, true, false, List, [], ◌∷◌, Option, Result, Ok, Err, None, Some, min, ◌+◌, ◌-◌, ◌^◌, ◌≢◌}
 use Rattle.phase_base.specs.Limits.{Limits}
 use Rattle.phase_base.specs.declared.mode.Mode.{Mode}

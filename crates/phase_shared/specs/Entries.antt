@@ -1,5 +1,4 @@
--- Where a task stands after a call, by what was answered. Its mode stays.
--- Where a registration stands after a call, by what was answered. Its mode stays.
+-- Where a task and its registration stand after a call, by what was answered. The mode stays.
 use Rattle.std.specs.Prelude.{ℕ, ◌+◌, Option, Some, None}
 use Rattle.phase_base.specs.declared.entry.Entry.{Entry}
 use Rattle.phase_history.specs.declared.got.Got.{Got}

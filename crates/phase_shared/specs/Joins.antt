@@ -1,4 +1,3 @@
--- A waiter that joins now: what its registration answers.
 -- A waiter that joins now: what its registration answers, and how the history that its parent has
 -- seen goes on.
 use Rattle.std.specs.Prelude.{◌≡◌, ℕ, ◌+◌, [], ◌∷◌, None, Result, Ok, Err}

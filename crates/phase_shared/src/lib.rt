@@ -100,25 +100,21 @@
 //! Proved: what the clauses say, for any number of threads. Only tested: that a call succeeds where
 //! it can, and that a waiting call comes back. Not promised: that a phase is ever complete, that a
 //! `Busy` could not have been avoided, and any order of the events of threads that never told each
-//! other anything.
+//! other anything, when a turn of the lock is free, and when a pause ends.
 //!
-//! A phaser under a lock: what the seats of its lock know, and each call as a step of a seat. It is
-//! for whoever writes the registrations of a phaser between threads, as `phase_shared` does.
-//!
-//! A **seat** speaks for a registration. Its view, which stands in proofs alone, is the history
-//! that it has seen, and the numbers that it speaks for. The **rule** of the lock is that there is
-//! one legal history that the phaser stands for, of which each seat has seen a beginning that holds
-//! all events of its numbers. A **step** takes the turn, calls the phaser of one thread, and gives
-//! the turn back; or it finds the turn taken, and then nothing changed.
-//!
-//! Not promised: that a turn is ever free, and when a pause ends.
+//! **Inside** is a phaser under a lock, `LockedPhaser`. A **seat** of the lock speaks for a
+//! registration. Its view, which stands in proofs alone, is the history that it has seen, and the
+//! numbers that it speaks for. The **rule** of the lock is that there is one legal history that the
+//! phaser stands for, of which each seat has seen a beginning that holds all events of its numbers.
+//! A **step** takes the turn, calls the phaser of one thread, and gives the turn back; or it finds
+//! the turn taken, and then nothing changed.
 #![tactic(auto)]
 
-pub mod block_steps;
+mod block_steps;
 mod blocks;
 mod ghost_steps;
 mod hints;
-pub mod join_steps;
+mod join_steps;
 pub mod laws;
 mod locked;
 mod next;
@@ -129,14 +125,13 @@ mod putting;
 mod refusal;
 mod reg;
 mod rule;
-pub mod steps;
+mod steps;
 mod tried;
 mod trying;
 mod view;
 mod waiting;
 mod waiting_blocks;
 
-pub use locked::LockedPhaser;
 pub use next::Next;
 pub use past::Past;
 pub use phaser::Phaser;
@@ -144,4 +139,3 @@ pub use refusal::SendRefusal;
 pub use reg::Reg;
 pub use rule::{NoRule, SignalRule, Terms};
 pub use tried::Tried;
-pub use view::{PhaserSeat, View};

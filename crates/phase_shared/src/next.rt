@@ -7,9 +7,9 @@ ghost use Rattle.phase_shared.specs.Calls.{IsCall, Waits, MaySignal, HeldAfter};
 ghost use Rattle.phase_shared.specs.Entries.{entry_after_wait, entry_after_next};
 ghost use Rattle.phase_shared.specs.Nexts.{GoesOrRefuses};
 
-use crate::SignalRule;
 use crate::phaser::Phaser;
 use crate::reg::Reg;
+use crate::rule::SignalRule;
 use phase_accum::{Accumulate, Single};
 use phase_core::{Got, SignalRefusal};
 use std::sync::Wait;

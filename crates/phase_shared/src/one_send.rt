@@ -11,7 +11,8 @@ ghost use Rattle.phase_shared.specs.Regs.{phaser_place, phaser_terms, phaser_lim
 
 use crate::phaser::Phaser;
 use crate::reg::Reg;
-use crate::{SignalRule, Tried};
+use crate::rule::SignalRule;
+use crate::tried::Tried;
 use phase_accum::Accumulate;
 use phase_core::SignalRefusal;
 

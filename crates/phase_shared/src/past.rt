@@ -6,7 +6,9 @@ ghost use Rattle.phase_shared.specs.Rule.{IsGoodAt};
 ghost use Rattle.phase_shared.specs.Regs.{phaser_place, phaser_terms, IsGoodOn};
 
 use crate::phaser::Phaser;
-use crate::{PhaserSeat, SignalRule, steps};
+use crate::rule::SignalRule;
+use crate::steps;
+use crate::view::PhaserSeat;
 use phase_accum::Accumulate;
 use std::marker::Model;
 

@@ -7,8 +7,9 @@ ghost use Rattle.phase_history.specs.Others.{OnlyUsed};
 ghost use Rattle.phase_shared.specs.Rule.{IsGoodAt};
 ghost use Rattle.phase_shared.specs.Regs.{phaser_place, phaser_terms, phaser_limits};
 
+use crate::locked::LockedPhaser;
 use crate::reg::Reg;
-use crate::{LockedPhaser, SignalRule, Terms};
+use crate::rule::{SignalRule, Terms};
 use phase_accum::{Accumulate, Pending};
 use phase_base::{Entry, Mode, Spec};
 use std::alloc::{AllocError, Global};

@@ -11,7 +11,8 @@ ghost use Rattle.phase_shared.specs.Puts.{SignalsValue, IsFreeFor, MayPut};
 use crate::phaser::Phaser;
 use crate::refusal::SendRefusal;
 use crate::reg::Reg;
-use crate::{SignalRule, Tried};
+use crate::rule::SignalRule;
+use crate::tried::Tried;
 use phase_accum::{Accumulate, Single};
 use phase_core::SignalRefusal;
 

@@ -1,7 +1,7 @@
 //! Why a call of a registration was refused.
 ghost use Rattle.std.specs.Prelude.{◌≡◌, ◌≢◌, ◌⊎◌, IfSome, IfNone};
 
-use crate::Tried;
+use crate::tried::Tried;
 use crossbeam_utils::Backoff;
 use phase_accum::NO_VALUE;
 use phase_base::SENDS_MAX;

@@ -9,7 +9,8 @@ ghost use Rattle.phase_history.specs.Histories.{members_of};
 ghost use Rattle.phase_shared.specs.Regs.{IsGoodOn};
 
 use crate::refusal::SendRefusal;
-use crate::{PhaserSeat, SignalRule};
+use crate::rule::SignalRule;
+use crate::view::PhaserSeat;
 use phase_accum::{Accumulate, Pending, SendFault};
 use phase_base::{Entry, Mode};
 use std::marker::Model;

@@ -10,8 +10,10 @@ ghost use Rattle.phase_shared.specs.Nexts.{SignalsAndMayWait};
 
 use crate::past::Past;
 use crate::phaser::Phaser;
+use crate::refusal;
 use crate::reg::Reg;
-use crate::{SignalRule, Tried, refusal};
+use crate::rule::SignalRule;
+use crate::tried::Tried;
 use crossbeam_utils::Backoff;
 use phase_accum::{Accumulate, Single};
 use phase_base::Mode;

@@ -7,8 +7,10 @@ ghost use Rattle.phase_shared.specs.Blocks.{SignalsBlock, WaitsBlock, MaySignalB
 ghost use Rattle.phase_shared.specs.Joins.{RegistersNow};
 
 use crate::phaser::Phaser;
+use crate::refusal;
 use crate::reg::Reg;
-use crate::{SignalRule, Tried, refusal};
+use crate::rule::SignalRule;
+use crate::tried::Tried;
 use crossbeam_utils::Backoff;
 use phase_accum::{Accumulate, Outcome, Pending, Single};
 use phase_core::{GotBlock, RegisterRefusal, SignalRefusal, WaitRefusal};

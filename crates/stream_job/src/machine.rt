@@ -1,6 +1,6 @@
 //! All phasers and all tasks of a graph.
 
-use crate::AnyCore;
+use crate::any_core::AnyCore;
 use crate::task_state::TaskState;
 use stream_eval::Lines;
 

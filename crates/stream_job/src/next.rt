@@ -10,7 +10,7 @@ ghost use Rattle.stream_job.specs.Plans.{IsPlan};
 ghost use Rattle.graph_runs.specs.Moments.{Moment, limits_at};
 ghost use Rattle.graph_runs.specs.Nexts.{next_of, at_boundary, without_child, is_live, is_due, comes_by, first_due, has_signaller, is_cut, next_step};
 
-use crate::AnyCore;
+use crate::any_core::AnyCore;
 use crate::machine::Machine;
 use crate::plan::Plan;
 use crate::step::Step;

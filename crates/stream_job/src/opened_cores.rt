@@ -6,7 +6,7 @@ ghost use Rattle.graph_runs.specs.Moments.{limits_at};
 ghost use Rattle.stream_job.specs.Cores.{CoreStandsFor};
 ghost use Rattle.graph_runs.specs.Beginnings.{roots_joined, opening};
 
-use crate::AnyCore;
+use crate::any_core::AnyCore;
 use crate::roots::root_mode;
 use phase_base::{PHASES_MAX, Spec};
 use phase_core::RegisterRefusal;

@@ -17,7 +17,7 @@ ghost use Rattle.stream_job.specs.Blocking.{AreBlocked};
 ghost use Rattle.stream_job.specs.Machines.{next_by};
 ghost use Rattle.stream_job.specs.Plans.{IsPlan};
 
-use crate::AnyCore;
+use crate::any_core::AnyCore;
 use crate::machine::Machine;
 use crate::parked::Parked;
 use crate::plan::Plan;

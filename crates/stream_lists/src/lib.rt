@@ -3,12 +3,10 @@
 //!
 //! Make a `Job` of a graph and the samples of its sources. `stream_eval` composes its lists.
 //!
-//! Laws of the lists of a graph: what decides spans, lists and lengths; who has a value in which
-//! phase; that a job fits exactly where each value is in range, and has the lists of whole numbers
-//! without any range then.
-//!
-//! A caller has a law by calling it, as `list_laws::exact_where_it_fits`: the function does nothing, and
-//! its contract is the law.
+//! **Laws.** `list_laws` has what decides spans, lists and lengths; who has a value in which phase;
+//! that a job fits exactly where each value is in range, and has the lists of whole numbers without
+//! any range then; `laws` the numbers behind the constants. A caller has a law by calling it, as
+//! `list_laws::exact_where_it_fits`: the function does nothing, and its contract is the law.
 #![tactic(auto)]
 
 mod counts;

@@ -5,10 +5,11 @@ ghost use Rattle.graph_runs.specs.Nexts.{registrations_at};
 ghost use Rattle.stream_tasks.specs.Openings.{AreFounders};
 ghost use Rattle.stream_tasks.specs.Seeds.{seed_state, IsReady};
 
+use crate::founder::Founder;
+use crate::founders::register_root;
 use crate::run::Run;
 use crate::seed::Seed;
 use crate::task::Task;
-use crate::{Founder, register_root};
 use phase_core::RegisterRefusal;
 use std::alloc::Global;
 use std::sync::Wait;

@@ -1,22 +1,24 @@
-//! A task of a graph with its registrations, as it goes from thread to thread: whoever has it makes
-//! its next event. The first calls are `Task::found`, `Unregistered::new` and `Task::turn`.
+//! A task of a graph with its registrations, as it goes from thread to thread, from how a run
+//! between threads begins to how it ends.
 //!
-//! How a run between threads begins: its phasers are made, each with its founder; the founders
-//! register the tasks without a parent, and leave.
+//! **Beginning.** The phasers of a run are made, each with its founder; the founders register the
+//! tasks without a parent, and leave.
 //!
 //! ```text
 //! let (phasers, regs) = open_phasers(&rt, alloc, &job)?;            // in the order of the lines
 //! let mut founders = found(&rt, alloc, &phasers, regs)?;            // who borrow the phasers
-//! let member = register_root(&rt, &mut founders, &job, t, i)?;      // registration i of task t
 //! let lefts = leave_all(&rt, alloc, founders)?;                     // what the founders have seen
 //! ```
 //!
 //! Founders and members cannot be thrown away: where memory is wanting on the way, the founders made
 //! so far leave. Each function waits where it says so.
 //!
-//! The end of a run between threads: what the tasks and the founders of the phasers leave behind is
-//! put together, phaser by phaser, and what they say of one another is compared. Where it agrees,
-//! what the sinks have taken is the answer of the job.
+//! **Going on.** Whoever has a task makes its next event: `Task::found`, `Unregistered::new` and
+//! `Task::turn`.
+//!
+//! **Ending.** What the tasks and the founders leave behind is put together, phaser by phaser, and
+//! what they say of one another is compared. Where it agrees, what the sinks have taken is the
+//! answer of the job.
 //!
 //! ```text
 //! let lines = finish(alloc, &job, founders, &gave, tasks)?;  // None where something differs
@@ -55,7 +57,7 @@ mod unregistered;
 pub use child::Child;
 pub use ended::Ended;
 pub use founder::{Founder, FounderLeft};
-pub use founders::{dismiss_founders, found, leave_all, register_root};
+pub use founders::{dismiss_founders, found, leave_all};
 pub use gate::{Gate, Open};
 pub use phasers::open_phasers;
 pub use run::Run;

@@ -1,15 +1,13 @@
-//! Readers, writers and files.
+//! Readers, writers and files; and how a run of the program ends.
 //!
 //! A reader or a writer is watched: beside it stands whether one of its calls failed, and how many
 //! bytes its reads gave. Wrap it by `Watched::new`, and call `Watched::read` or `Watched::send`;
 //! `read_text` reads all that a reader has left, up to a limit. `Files` is what a caller reads
 //! files by, and `DiskFiles` reads those of the disk.
 //!
-//! How a run of the program ends: its exit statuses, and what then stands on its streams.
-//!
-//! `report` tells a fault by its line and `say` any other line; `show_help`, `refuse` and
-//! `refuse_words` answer where the words of the command line ask for nothing that is run. Each but
-//! `say` answers the status.
+//! A run ends with an exit status, from `DONE` on. `report` tells a fault by its line and `say` any
+//! other line; `show_help`, `refuse` and `refuse_words` answer where the words of the command line
+//! ask for nothing that is run. Each but `say` answers the status.
 #![tactic(auto)]
 
 mod disk;

@@ -1,6 +1,6 @@
 use Rattle.std.proofs.Common.{inl, inr, refl, arith}
 use Rattle.graph_commands.proofs.Ends.{check-written}
-use Rattle.graph_commands.proofs.graph_runs.check_and_explain.Goals as goal
+use Rattle.graph_commands.proofs.answered.check_and_explain.Goals as goal
 
 -- the files tell no job, which was told and explained
 pub returns-in-Err-clause-status : goal.returns-in-Err-clause-status

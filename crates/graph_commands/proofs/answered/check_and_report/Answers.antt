@@ -1,5 +1,5 @@
 use Rattle.graph_commands.proofs.Ends.{check-no_job, check-written}
-use Rattle.graph_commands.proofs.graph_runs.check_and_report.Goals as goal
+use Rattle.graph_commands.proofs.answered.check_and_report.Goals as goal
 
 -- the files tell no job
 pub returns-in-Err-clause-ends : goal.returns-in-Err-clause-ends

@@ -1,5 +1,5 @@
 use Rattle.std.proofs.Common.{inl, inr, refl, arith}
-use Rattle.graph_commands.proofs.graph_runs.eval_and_explain.Goals as goal
+use Rattle.graph_commands.proofs.answered.eval_and_explain.Goals as goal
 
 -- the files tell no job, which was told and explained
 pub returns-in-Err-clause-status : goal.returns-in-Err-clause-status

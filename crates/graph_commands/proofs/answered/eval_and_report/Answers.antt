@@ -1,5 +1,5 @@
 use Rattle.graph_commands.proofs.Ends.{eval-no_job}
-use Rattle.graph_commands.proofs.graph_runs.eval_and_report.Goals as goal
+use Rattle.graph_commands.proofs.answered.eval_and_report.Goals as goal
 
 -- the files tell no job
 pub returns-in-Err-clause-ends : goal.returns-in-Err-clause-ends

@@ -1,7 +1,7 @@
 use Rattle.std.proofs.Common.{rules}
 use Rattle.graph_commands.proofs.Places.{place-first_too_big}
 use Rattle.graph_commands.proofs.Ends.{eval-no_memory, eval-too_big, eval-written}
-use Rattle.graph_commands.proofs.graph_runs.eval_job.Goals as goal
+use Rattle.graph_commands.proofs.answered.eval_job.Goals as goal
 
 -- the place is one of the graph
 pub report_too_big-requires : goal.report_too_big-requires

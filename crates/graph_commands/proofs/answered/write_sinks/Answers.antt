@@ -1,5 +1,5 @@
 use Rattle.graph_commands.proofs.Places.{sinks-within}
-use Rattle.graph_commands.proofs.graph_runs.write_sinks.Goals as goal
+use Rattle.graph_commands.proofs.answered.write_sinks.Goals as goal
 
 -- each sink is a task of the graph
 pub write_lines-requires : goal.write_lines-requires
