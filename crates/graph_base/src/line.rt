@@ -1,7 +1,6 @@
 //! What a line of a graph's text declares.
 
-use phase_accum::Single;
-use phase_base::Op;
+use phase_accum::{Op, Single};
 
 /// What a task does.
 #[derive(Clone, Copy, Debug, PartialEq, Eq)]

@@ -5,24 +5,24 @@ ghost use Rattle.graph_commands.specs.Explained.{CheckEndsExplained, EvalEndsExp
 ghost use Rattle.graph_commands.specs.FileJobs.{IsJobOf, Known};
 ghost use Rattle.graph_commands.specs.GraphRuns.{AsksSink, CheckEnds, EvalEnds, check_line, sinks_text};
 ghost use Rattle.stream_eval.specs.Results.{sink_values};
-ghost use Rattle.stream_lists.specs.Lists.{lines_of};
-ghost use Rattle.watched_io.specs.Statuses.{Reports};
-ghost use Rattle.watched_io.specs.declared.fault.IoFault.TheVariants.{WriteFault};
-ghost use Rattle.watched_io.specs.Prefix.{AppendsPrefix};
-ghost use Rattle.watched_io.specs.States.{writer_state};
-ghost use Rattle.watched_io.specs.Watched.{has_failed_of, inner_of};
+ghost use Rattle.stream_eval.specs.stream_lists.Lists.{lines_of};
+ghost use Rattle.graph_show.specs.watched_io.Statuses.{Reports};
+ghost use Rattle.graph_show.specs.watched_io.declared.fault.IoFault.TheVariants.{WriteFault};
+ghost use Rattle.graph_show.specs.watched_io.Prefix.{AppendsPrefix};
+ghost use Rattle.graph_show.specs.watched_io.States.{writer_state};
+ghost use Rattle.graph_show.specs.watched_io.Watched.{has_failed_of, inner_of};
 
 use crate::explained::read_job_or_explain;
 use crate::graph_faults::{report_job_fault, report_no_sink, report_too_big};
 use crate::sinks::{find_sink, values_of};
 use crate::{Refuses, read_job, write_lines, write_values};
-use graph_lang::Graph;
+use graph_show::graph_lang::Graph;
+use graph_show::watched_io::{DONE, Files, IoFault, Watched, WriteFailed, report, write_parts};
 use itoa::Buffer;
 use std::alloc::Global;
 use std::io::Write;
+use stream_eval::stream_lists::Job;
 use stream_eval::{EvalFault, Lines, eval};
-use stream_lists::Job;
-use watched_io::{DONE, Files, IoFault, Watched, WriteFailed, report, write_parts};
 
 /// Reads a graph and the samples of its sources, and answers the exit status: 0, with how many
 /// phasers and tasks there are on the output; 1 where the graph or the samples are refused; or 5

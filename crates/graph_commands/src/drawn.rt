@@ -1,15 +1,15 @@
 //! A drawing of a graph, and the reports of its faults.
 ghost use Rattle.std.specs.Prelude.{◌≡◌, ◌⊎◌, OnOk, IfErr};
 ghost use Rattle.graph_commands.specs.GraphDrawings.{DrawEnds};
-ghost use Rattle.watched_io.specs.Statuses.{Reports};
-ghost use Rattle.watched_io.specs.States.{writer_state};
+ghost use Rattle.graph_show.specs.watched_io.Statuses.{Reports};
+ghost use Rattle.graph_show.specs.watched_io.States.{writer_state};
 
 use crate::graph_faults::report_job_fault;
 use crate::read_graph_file;
+use graph_show::watched_io::{DONE, Files, IoFault, Watched, report};
 use graph_show::write_drawing;
 use std::alloc::Global;
 use std::io::Write;
-use watched_io::{DONE, Files, IoFault, Watched, report};
 
 /// Reads a graph, and no samples of its sources, and answers the exit status: 0, with the graph's
 /// drawing on the output, as text for Graphviz; 1 where the graph is refused; or 5 after a fault. The

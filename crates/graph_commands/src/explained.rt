@@ -3,18 +3,18 @@ ghost use Rattle.std.specs.Prelude.{◌≡◌, ◌⊎◌, ℕ, List, [], IfOk, I
 ghost use Rattle.graph_commands.specs.Explained.{Explained, ExplainsNoJob, IsFurther, IsTextOf, TellsRefusal, record_wanted};
 ghost use Rattle.graph_commands.specs.FileJobs.{Explains, IsJobOf};
 ghost use Rattle.graph_commands.specs.GraphRuns.{job_status};
-ghost use Rattle.watched_io.specs.Statuses.{Says};
-ghost use Rattle.watched_io.specs.States.{writer_state};
+ghost use Rattle.graph_show.specs.watched_io.Statuses.{Says};
+ghost use Rattle.graph_show.specs.watched_io.States.{writer_state};
 
 use crate::graph_faults::report_job_fault;
 use crate::job_file::job_of_graph;
 use crate::{GRAPH_MAX, JobFault, Refusal, Refuses};
-use graph_lang::read_graph;
 use graph_show::explanation;
+use graph_show::graph_lang::read_graph;
+use graph_show::watched_io::{Files, Watched};
 use std::alloc::{AllocError, Global};
 use std::io::Write;
-use stream_lists::Job;
-use watched_io::{Files, Watched};
+use stream_eval::stream_lists::Job;
 
 /// Makes the job of a graph's file, as `read_job` does. Where there is none it tells why, and then
 /// explains it to a person, and answers the status: 1 where the graph or the samples are refused, and

@@ -1,10 +1,10 @@
 //! Files that tell a person why they refuse one.
 ghost use Rattle.std.specs.Prelude.{◌≡◌, ◌≤◌, length, IfOk};
 
+use graph_show::watched_io::{DiskFiles, FileFault, Files};
 use std::alloc::Global;
 use std::fs::File;
 use std::io::ErrorKind;
-use watched_io::{DiskFiles, FileFault, Files};
 
 /// Why a file was refused, as far as the system tells. It is said to a person, and nothing is proved
 /// of it.

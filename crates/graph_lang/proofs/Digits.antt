@@ -7,7 +7,7 @@ use Rattle.std.proofs.lemmas.List.{length-take-le}
 use Rattle.std.proofs.lemmas.Str.Parse.{numerals_by_value, tells_digits, digit_at}
 use Rattle.std.proofs.lemmas.Fmt.{decimal-digits_value, decimal_is_IsNumeral, first_decimal, length-decimal-le, decimal_digit, decimal_injective}
 use Rattle.std.proofs.Math.Nat.{pow-le-pow_right}
-use Rattle.phase_accum.specs.Sends.{value_max, IsSend}
+use Rattle.graph_base.specs.phase_accum.Sends.{value_max, IsSend}
 use lib.IntN.{ℤ, pos, negsuc}
 use Rattle.std.proofs.Math.Seq.{take-length}
 

@@ -2,7 +2,7 @@
 use Rattle.std.proofs.Common.{ℕ, ℤ, List, option_map, ◌≡◌, ◌&&◌, Bool, true, false, Some, None, Option, IfSome, IsTrue, refl, ap, ◌∙◌}
 use Rattle.std.specs.List.{list_all}
 use Rattle.std.proofs.lemmas.List.Folds.{list_all-append}
-use Rattle.phase_base.specs.Words.{is_name}
+use Rattle.graph_text.specs.phase_base.Words.{is_name}
 use Rattle.graph_base.specs.Graphs.{Named}
 use Rattle.graph_base.specs.declared.line.Kind.{Kind}
 use Rattle.graph_base.specs.declared.line.Parent.{Parent}

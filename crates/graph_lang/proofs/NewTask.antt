@@ -8,16 +8,16 @@ use Rattle.std.proofs.lemmas.List.Elements.{All-weaker, All-map}
 use Rattle.std.proofs.lemmas.List.Sums.{AllPass-from_list_all}
 use Rattle.std.proofs.lemmas.List.Folds.{list_all-append}
 use Rattle.std.proofs.lemmas.Slice.Eq.{bytes_eq-Decides}
-use Rattle.phase_base.specs.Words.{Word}
+use Rattle.graph_text.specs.phase_base.Words.{Word}
 use Rattle.graph_text.specs.Numbers.{nat_value, int_value}
 use Rattle.graph_text.specs.Decls.{task, BodyWords, source, fir, split, join, peer, sink, ByWords, EndWords, IsBody, AreEnds, may_have_parent}
-use Rattle.stream_filters.specs.declared.fir.TheConstants.{TAPS_MAX, TAP_MAX, SHIFT_MAX}
+use Rattle.graph_base.specs.stream_filters.declared.fir.TheConstants.{TAPS_MAX, TAP_MAX, SHIFT_MAX}
 use Rattle.graph_base.specs.Graphs.{Graph, Task, Named, IsPlace, task_at, phaser_at}
 use Rattle.graph_base.specs.Names.{place_of, phaser_number, task_number, phaser_named, task_named}
 use Rattle.graph_lang.specs.WordValues.{or_zero, numbers_of, parent_of, task_line, kind_of_body, inputs_of, outputs_of, taps_of, shift_of, factor_of}
 use Rattle.graph_lang.specs.Faults.{kind_of, is_body_within, are_ends_within, is_count_within, is_tap_within, phasers_of, are_distinct, is_phaser, is_parent_known, is_in_order, is_exchange_below, may_be_parent, is_among, holds_for, is_plain, is_held}
 use Rattle.graph_base.specs.TaskLines.{IsGraph, IsTaskLine, IsParent, AreNames, HasEnds, HasTaps, HasFactor, IsExchangeBelow, has_children, AreAmong}
-use Rattle.phase_base.specs.Lists.{is_distinct}
+use Rattle.graph_text.specs.phase_base.Lists.{is_distinct}
 use Rattle.graph_base.specs.declared.limits.TheConstants.{TASKS_MAX, ENDS_MAX, STEPS_MAX, FACTOR_MAX}
 use Rattle.graph_base.specs.declared.line.Kind.{Kind}
 use Rattle.graph_base.specs.declared.line.Kind.TheVariants as kind

@@ -1,9 +1,9 @@
 -- A worked text: its lines declare the graph that is written out here, which so is well formed.
 use Rattle.std.proofs.Common.{ℕ, ◌≡◌, true, false, inl, sym, ap, List, [], ◌∷◌, Some, None, Ok, codes, inr, refl, pos, negsuc}
-use Rattle.phase_accum.specs.declared.single.Single.TheVariants.{Clamp}
+use Rattle.graph_base.specs.phase_accum.declared.single.Single.TheVariants.{Clamp}
 use Rattle.graph_text.specs.Texts.{is_ignored}
 use Rattle.graph_text.specs.Decls.{Decl, phaser, task, clamp, source, sink, Declares}
-use Rattle.phase_base.specs.declared.operation.Op.TheVariants.{Sum, Least}
+use Rattle.graph_text.specs.phase_base.declared.operation.Op.TheVariants.{Sum, Least}
 use Rattle.graph_base.specs.declared.line.Kind.TheVariants.{Source, Sink}
 use Rattle.graph_base.specs.declared.place.Place.TheVariants as place
 use Rattle.graph_base.specs.Graphs.{Graph, no_graph, no_task}

@@ -2,7 +2,7 @@
 use Rattle.std.specs.Prelude.{◌≡◌, option_map, ℕ, not, List, [], ◌∷◌, Option, Result, Ok, Err}
 use Rattle.graph_text.specs.Numbers.{nat_value}
 use Rattle.graph_text.specs.Decls.{BodyWords, EndWords, Decl}
-use Rattle.phase_base.specs.Lists.{first_row}
+use Rattle.graph_text.specs.phase_base.Lists.{first_row}
 use Rattle.graph_base.specs.Graphs.{Graph, Task}
 use Rattle.graph_lang.specs.WordValues.{taps_of, shift_of, factor_of}
 use Rattle.graph_lang.specs.declared.within.Numbers.{Numbers}

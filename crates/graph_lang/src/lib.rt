@@ -23,10 +23,14 @@ mod within;
 
 pub use fault::{FaultKind, GraphFault, GraphRefusal};
 pub use file::read_sample_file;
+pub use graph_base;
 pub use graph_base::{
     ENDS_MAX, FACTOR_MAX, Graph, Kind, Mode, Op, PHASERS_MAX, Parent, PhaserLine, Place,
-    Registration, STEPS_MAX, TASKS_MAX, TaskLine,
+    Registration, STEPS_MAX, TASKS_MAX, TaskLine, phase_accum, stream_filters,
 };
+pub use graph_text;
+pub use graph_text::phase_base;
 pub use read::read_graph;
 pub use sample::{TEXT_MAX, read_samples, samples_of};
 pub use text_fault::SampleFault;
+pub use watched_io;

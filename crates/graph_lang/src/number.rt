@@ -2,7 +2,7 @@
 ghost use Rattle.std.specs.Prelude.{◌≡◌, ◌≤◌, ◌<◌, ℕ, ℤ, IfSome, IfNone, IsTrue, ◌↔◌, length};
 ghost use Rattle.std.specs.Fmt.{decimal, signed_decimal};
 ghost use Rattle.std.specs.Str.Parse.{AllDigits, digits_value};
-ghost use Rattle.phase_accum.specs.Sends.{IsSend, value_max};
+ghost use Rattle.graph_base.specs.phase_accum.Sends.{IsSend, value_max};
 ghost use Rattle.graph_lang.specs.TextInside.{HasOneForm};
 
 /// The number that the digits spell, up to the greatest value.

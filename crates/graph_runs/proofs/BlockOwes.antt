@@ -4,13 +4,13 @@ use Rattle.std.proofs.Common.{◌≡◌, ◌≢◌, ℕ, ◌+◌, ◌<◌, ◌�
 use Rattle.std.specs.Prelude.{drop}
 use mathlib.Core.List.{IsPrefix}
 use Rattle.std.proofs.lemmas.List.{append-nil, append_assoc, length-append, length-map}
-use Rattle.stream_filters.specs.Filter.{outputs, output_after}
-use Rattle.stream_filters.proofs.Outputs.{outputs-push}
-use Rattle.phase_accum.specs.declared.outcome.Outcome.{Outcome}
-use Rattle.graph_base.specs.declared.line.Kind.{Kind}
-use Rattle.graph_base.specs.declared.line.Kind.TheVariants.{Fir}
-use Rattle.graph_base.specs.Graphs.{task_at}
-use Rattle.graph_base.specs.TaskLines.{IsGraph, HasEnds}
+use Rattle.stream_lists.specs.stream_filters.Filter.{outputs, output_after}
+use Rattle.stream_lists.proofs.stream_filters_lemmas.Outputs.{outputs-push}
+use Rattle.phase_history.specs.phase_accum.declared.outcome.Outcome.{Outcome}
+use Rattle.stream_lists.specs.graph_base.declared.line.Kind.{Kind}
+use Rattle.stream_lists.specs.graph_base.declared.line.Kind.TheVariants.{Fir}
+use Rattle.stream_lists.specs.graph_base.Graphs.{task_at}
+use Rattle.stream_lists.specs.graph_base.TaskLines.{IsGraph, HasEnds}
 use Rattle.stream_lists.specs.Jobs.{Job}
 use Rattle.stream_lists.specs.Spans.{signalled_by, puts_on}
 use Rattle.stream_lists.specs.Lists.{number}

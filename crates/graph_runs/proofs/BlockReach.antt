@@ -5,9 +5,9 @@ use Rattle.std.specs.Prelude.{take, drop, min}
 use Rattle.std.proofs.lemmas.List.{length-take-le, length-drop}
 use Rattle.phase_history.specs.Legal.{AreLists}
 use Rattle.phase_history.specs.Refusals.{signal_refusal}
-use Rattle.graph_base.specs.declared.line.Kind.{Kind}
-use Rattle.graph_base.specs.declared.line.Kind.TheVariants.{Source}
-use Rattle.graph_base.specs.Graphs.{task_at, phaser_at}
+use Rattle.stream_lists.specs.graph_base.declared.line.Kind.{Kind}
+use Rattle.stream_lists.specs.graph_base.declared.line.Kind.TheVariants.{Source}
+use Rattle.stream_lists.specs.graph_base.Graphs.{task_at, phaser_at}
 use Rattle.stream_lists.specs.Jobs.{samples_at, index_in, Job}
 use Rattle.stream_lists.specs.Spans.{signalled_by, puts_on}
 use Rattle.graph_runs.specs.Moments.{OnLine, HasSamples, limits_at, Moment, HasRun, one}
@@ -21,9 +21,9 @@ use Rattle.graph_runs.proofs.Boundaries.{all_put, made_many, goes_on}
 use Rattle.graph_runs.proofs.Calling.{source_ends}
 use Rattle.graph_runs.proofs.PlacesLemmas.{place_of_output}
 use Rattle.graph_runs.proofs.Signalling.{Live, number_there, stays}
-use Rattle.phase_accum.specs.declared.outcome.Outcome.{Outcome}
+use Rattle.phase_history.specs.phase_accum.declared.outcome.Outcome.{Outcome}
 use Rattle.phase_history.specs.declared.event.Event.TheVariants.{Signalled, Waited}
-use Rattle.graph_base.specs.TaskLines.{IsGraph}
+use Rattle.stream_lists.specs.graph_base.TaskLines.{IsGraph}
 use Rattle.graph_runs.specs.Moves.{further}
 use Rattle.graph_runs.specs.Turned.{after_signals, after_waits, IsNextSignals, IsNextSamples, IsFirstWaits}
 use Rattle.graph_runs.proofs.InBlocks.{next_signals_are, next_samples_are, first_waits_are, next_signals_keep, next_samples_keep, first_waits_keep}

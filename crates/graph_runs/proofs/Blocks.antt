@@ -8,15 +8,15 @@ use Rattle.std.proofs.lemmas.Bool.{and_right, le-ltb, lt-leb, leb-false, lt-ltb,
 use Rattle.std.proofs.lemmas.List.{length-map, length-take-le, length-drop}
 use Rattle.std.proofs.lemmas.List.FromFn.{length-range_with_len}
 use Rattle.std.proofs.lemmas.Bool.Decides.{nat_tests}
-use Rattle.phase_base.specs.Members.{least, wait_phases, signalled}
-use Rattle.phase_base.specs.Modes.{mode_signals, mode_waits, is_single}
-use Rattle.phase_base.specs.declared.entry.Entry.{Entry}
-use Rattle.phase_base.specs.declared.limits.TheConstants.{SENDS_MAX}
-use Rattle.phase_base.specs.declared.mode.Mode.{Mode}
-use Rattle.phase_base.specs.Lists.{first_row}
-use Rattle.phase_accum.specs.declared.outcome.Outcome.{Outcome}
-use Rattle.phase_accum.specs.declared.single.Single.{Single}
-use Rattle.phase_accum.specs.Singles.{differs}
+use Rattle.phase_history.specs.phase_base.Members.{least, wait_phases, signalled}
+use Rattle.phase_history.specs.phase_base.Modes.{mode_signals, mode_waits, is_single}
+use Rattle.phase_history.specs.phase_base.declared.entry.Entry.{Entry}
+use Rattle.phase_history.specs.phase_base.declared.limits.TheConstants.{SENDS_MAX}
+use Rattle.phase_history.specs.phase_base.declared.mode.Mode.{Mode}
+use Rattle.phase_history.specs.phase_base.Lists.{first_row}
+use Rattle.phase_history.specs.phase_accum.declared.outcome.Outcome.{Outcome}
+use Rattle.phase_history.specs.phase_accum.declared.single.Single.{Single}
+use Rattle.phase_history.specs.phase_accum.Singles.{differs}
 use Rattle.phase_history.specs.declared.event.Event.TheVariants.{Waited}
 use Rattle.phase_history.specs.declared.got.GotBlock.TheVariants as block
 use Rattle.phase_history.specs.declared.refusal.SignalRefusal.{SignalRefusal}
@@ -28,12 +28,12 @@ use Rattle.phase_history.specs.Replies.{wait_block_reply, refused_or, got_block_
 use Rattle.phase_history.specs.Sent.{NamesAll}
 use Rattle.phase_history.specs.Legal.{IsAccepted}
 use Rattle.phase_history.proofs.BlockAnswers.{block_answers_law}
-use Rattle.graph_base.specs.declared.line.Kind.{Kind}
-use Rattle.graph_base.specs.declared.line.Kind.TheVariants.{Source, Fir, Split, Join, Peer, Sink}
-use Rattle.graph_base.specs.declared.line.Parent.{Parent}
-use Rattle.graph_base.specs.Graphs.{task_at, phaser_at}
-use Rattle.graph_base.specs.TaskLines.{IsGraph}
-use Rattle.graph_base.specs.declared.limits.TheConstants.{TASKS_MAX}
+use Rattle.stream_lists.specs.graph_base.declared.line.Kind.{Kind}
+use Rattle.stream_lists.specs.graph_base.declared.line.Kind.TheVariants.{Source, Fir, Split, Join, Peer, Sink}
+use Rattle.stream_lists.specs.graph_base.declared.line.Parent.{Parent}
+use Rattle.stream_lists.specs.graph_base.Graphs.{task_at, phaser_at}
+use Rattle.stream_lists.specs.graph_base.TaskLines.{IsGraph}
+use Rattle.stream_lists.specs.graph_base.declared.limits.TheConstants.{TASKS_MAX}
 use Rattle.stream_lists.specs.Jobs.{Job, samples_at}
 use Rattle.graph_runs.specs.Moments.{one, Moment, HasRun, TaskRan, AtMost, HasSamples, limits_at, value_at}
 use Rattle.graph_runs.specs.Moves.{MayBeginTo, NoneBefore, NoneDue}

@@ -2,10 +2,10 @@
 use Rattle.std.proofs.Common.{◌≡◌, ℕ, ◌+◌, Bool, true, false, ◌||◌, cond, Option, Some, None, length, get_or, pos, refl, subst}
 use Rattle.phase_history.specs.Histories.{greatest_used}
 use Rattle.phase_history.specs.Refusals.{register_refusal, drop_refusal}
-use Rattle.graph_base.specs.declared.line.Kind.{Kind}
-use Rattle.graph_base.specs.declared.line.Kind.TheVariants.{Source, Fir, Split, Join, Peer, Sink}
-use Rattle.graph_base.specs.declared.registration.Registration.{Registration}
-use Rattle.graph_base.specs.Graphs.{task_at}
+use Rattle.stream_lists.specs.graph_base.declared.line.Kind.{Kind}
+use Rattle.stream_lists.specs.graph_base.declared.line.Kind.TheVariants.{Source, Fir, Split, Join, Peer, Sink}
+use Rattle.stream_lists.specs.graph_base.declared.registration.Registration.{Registration}
+use Rattle.stream_lists.specs.graph_base.Graphs.{task_at}
 use Rattle.stream_lists.specs.Jobs.{Job, samples_at}
 use Rattle.graph_runs.specs.Moments.{Moment, input_at}
 use Rattle.graph_runs.specs.TaskEvents.{TaskEvent, sample, signal, first_wait, exchange_wait, leave, child}

@@ -75,3 +75,4 @@ pub mod OwnCalls
 pub mod Owns
 pub mod Wholes
 pub mod LeastStarts
+pub use Rattle.phase_history.proofs as phase_history_lemmas

@@ -2,29 +2,29 @@
 use Rattle.std.proofs.Common.{◌≡◌, ℕ, ◌+◌, ◌-◌, ◌<◌, ◌≤◌, Bool, true, false, not, ◌&&◌, cond, eqb, [], ◌∷◌, Option, Some, None, is_some, length, get_or, ℤ, refl, sym, ap, subst, ◌∙◌, arith, ◌⊎◌, inl, inr}
 use Rattle.std.specs.Prelude.{Result, Ok, Err, unwrap_or}
 use Rattle.std.proofs.lemmas.Bool.{and_left, and_right, ne_eqb, false_from_ne_true, cases_lt, not-true}
-use Rattle.phase_base.specs.Members.{entry_of}
-use Rattle.phase_base.specs.Modes.{holds, mode_signals, mode_waits}
-use Rattle.phase_base.specs.declared.mode.Mode.{Mode}
-use Rattle.phase_accum.specs.declared.outcome.Outcome.{Outcome}
+use Rattle.phase_history.specs.phase_base.Members.{entry_of}
+use Rattle.phase_history.specs.phase_base.Modes.{holds, mode_signals, mode_waits}
+use Rattle.phase_history.specs.phase_base.declared.mode.Mode.{Mode}
+use Rattle.phase_history.specs.phase_accum.declared.outcome.Outcome.{Outcome}
 use Rattle.phase_history.specs.declared.got.Got.{Got}
 use Rattle.phase_history.specs.declared.got.Got.TheVariants as got
 use Rattle.phase_history.specs.declared.refusal.SignalRefusal.{SignalRefusal}
 use Rattle.phase_history.specs.declared.refusal.SignalRefusal.TheVariants as signal_refusals
 use Rattle.phase_history.specs.declared.refusal.WaitRefusal.{WaitRefusal}
 use Rattle.phase_history.specs.declared.refusal.WaitRefusal.TheVariants as wait_refusals
-use Rattle.phase_base.specs.declared.entry.Entry.{Entry}
+use Rattle.phase_history.specs.phase_base.declared.entry.Entry.{Entry}
 use Rattle.phase_history.specs.Histories.{members_of, done_of, has_dropped, greatest_used, IsAlive}
 use Rattle.phase_history.specs.Refusals.{signal_refusal, drop_refusal, register_refusal, refusal_at}
 use Rattle.phase_history.specs.Replies.{wait_reply}
 use Rattle.phase_history.proofs.Alive.{alive_law}
-use Rattle.graph_base.specs.declared.line.Kind.TheVariants.{Peer}
-use Rattle.graph_base.specs.declared.limits.TheConstants.{TASKS_MAX}
-use Rattle.graph_base.specs.declared.place.Place.TheVariants as place
-use Rattle.graph_base.specs.declared.registration.Registration.{Registration}
-use Rattle.graph_base.specs.Graphs.{task_at, phaser_at}
-use Rattle.graph_base.specs.Registrations.{ends_of, as_input, as_output, no_registration}
-use Rattle.graph_base.specs.TaskLines.{IsGraph}
-use Rattle.graph_base.proofs.Registered.{registrations-plain, length-registrations, end-input, end-output}
+use Rattle.stream_lists.specs.graph_base.declared.line.Kind.TheVariants.{Peer}
+use Rattle.stream_lists.specs.graph_base.declared.limits.TheConstants.{TASKS_MAX}
+use Rattle.stream_lists.specs.graph_base.declared.place.Place.TheVariants as place
+use Rattle.stream_lists.specs.graph_base.declared.registration.Registration.{Registration}
+use Rattle.stream_lists.specs.graph_base.Graphs.{task_at, phaser_at}
+use Rattle.stream_lists.specs.graph_base.Registrations.{ends_of, as_input, as_output, no_registration}
+use Rattle.stream_lists.specs.graph_base.TaskLines.{IsGraph}
+use Rattle.stream_lists.proofs.graph_base_lemmas.Registered.{registrations-plain, length-registrations, end-input, end-output}
 use Rattle.stream_lists.specs.Jobs.{Job, index_in}
 use Rattle.stream_lists.specs.Spans.{signalled_by}
 use Rattle.stream_lists.specs.Ranges.{are_made, is_out_of_range}

@@ -6,11 +6,11 @@ use mathlib.Core.List.{IsPrefix}
 use Rattle.std.proofs.lemmas.List.FromFn.{length-map-range_with_len, get_or-map-range_with_len}
 use Rattle.std.proofs.lemmas.Bool.{le-leb}
 use Rattle.std.proofs.lemmas.Nat.{mod_below}
-use Rattle.stream_filters.specs.Filter.{outputs, output_at, output_after}
-use Rattle.graph_base.specs.declared.line.Kind.{Kind}
-use Rattle.graph_base.specs.declared.line.Kind.TheVariants.{Source, Fir, Split, Join, Peer, Sink}
-use Rattle.graph_base.specs.Graphs.{Task}
-use Rattle.graph_base.specs.TaskLines.{HasEnds, has_children}
+use Rattle.stream_lists.specs.stream_filters.Filter.{outputs, output_at, output_after}
+use Rattle.stream_lists.specs.graph_base.declared.line.Kind.{Kind}
+use Rattle.stream_lists.specs.graph_base.declared.line.Kind.TheVariants.{Source, Fir, Split, Join, Peer, Sink}
+use Rattle.stream_lists.specs.graph_base.Graphs.{Task}
+use Rattle.stream_lists.specs.graph_base.TaskLines.{HasEnds, has_children}
 use Rattle.stream_lists.specs.Spans.{turns_below, takes_from, puts_on, signalled_by, LooksAt}
 use Rattle.stream_lists.specs.Lists.{entry, every, turn_at, in_turn, mixed_at, mixed, output_list}
 use Rattle.stream_lists.proofs.ListLengths.{steps_long}

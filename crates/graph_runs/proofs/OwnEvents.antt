@@ -3,9 +3,9 @@ use Rattle.std.proofs.Common.{◌≡◌, ◌≢◌, ℕ, ◌+◌, ◌<◌, ◌�
 use Rattle.std.proofs.lemmas.Bool.{eqb-true, eq-eqb}
 use Rattle.phase_history.specs.declared.event.Event.{Event}
 use Rattle.phase_history.specs.Histories.{History}
-use Rattle.graph_base.specs.declared.line.Parent.{Parent}
-use Rattle.graph_base.specs.Graphs.{task_at}
-use Rattle.graph_base.specs.TaskLines.{IsGraph}
+use Rattle.stream_lists.specs.graph_base.declared.line.Parent.{Parent}
+use Rattle.stream_lists.specs.graph_base.Graphs.{task_at}
+use Rattle.stream_lists.specs.graph_base.TaskLines.{IsGraph}
 use Rattle.stream_lists.specs.Jobs.{Job, samples_at}
 use Rattle.stream_lists.specs.Lists.{output_list}
 use Rattle.stream_lists.proofs.Growing.{map-same}

@@ -9,11 +9,11 @@ use Rattle.phase_history.specs.declared.event.Event.TheVariants.{Signalled}
 use Rattle.phase_history.specs.Histories.{has_dropped, start_of}
 use Rattle.phase_history.specs.Phases.{received_by}
 use Rattle.phase_history.specs.Sent.{sent_by, IsSilent}
-use Rattle.graph_base.specs.declared.line.Kind.{Kind}
-use Rattle.graph_base.specs.declared.line.Kind.TheVariants.{Source}
-use Rattle.graph_base.specs.declared.line.Parent.{Parent}
-use Rattle.graph_base.specs.Graphs.{Task, task_at, phaser_at}
-use Rattle.graph_base.specs.TaskLines.{IsGraph, IsTaskLine, HasEnds}
+use Rattle.stream_lists.specs.graph_base.declared.line.Kind.{Kind}
+use Rattle.stream_lists.specs.graph_base.declared.line.Kind.TheVariants.{Source}
+use Rattle.stream_lists.specs.graph_base.declared.line.Parent.{Parent}
+use Rattle.stream_lists.specs.graph_base.Graphs.{Task, task_at, phaser_at}
+use Rattle.stream_lists.specs.graph_base.TaskLines.{IsGraph, IsTaskLine, HasEnds}
 use Rattle.stream_lists.specs.Jobs.{Job, samples_at, index_in}
 use Rattle.stream_lists.specs.Spans.{signalled_by}
 use Rattle.stream_lists.specs.Lists.{number}

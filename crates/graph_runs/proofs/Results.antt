@@ -5,11 +5,11 @@ use Rattle.std.specs.List.{range_with_len, filter}
 use Rattle.std.proofs.lemmas.List.FromFn.{length-map-range_with_len}
 use Rattle.phase_history.specs.Histories.{done_of, HasNoSignaller}
 use Rattle.phase_history.specs.Phases.{stream_of, value_of_phase}
-use Rattle.graph_base.specs.declared.line.Kind.{Kind}
-use Rattle.graph_base.specs.declared.line.Kind.TheVariants.{Source, Fir, Split, Join, Peer, Sink}
-use Rattle.graph_base.specs.declared.line.Parent.{Parent}
-use Rattle.graph_base.specs.Graphs.{Task, task_at, is_sink}
-use Rattle.graph_base.specs.TaskLines.{IsParent, HasEnds}
+use Rattle.stream_lists.specs.graph_base.declared.line.Kind.{Kind}
+use Rattle.stream_lists.specs.graph_base.declared.line.Kind.TheVariants.{Source, Fir, Split, Join, Peer, Sink}
+use Rattle.stream_lists.specs.graph_base.declared.line.Parent.{Parent}
+use Rattle.stream_lists.specs.graph_base.Graphs.{Task, task_at, is_sink}
+use Rattle.stream_lists.specs.graph_base.TaskLines.{IsParent, HasEnds}
 use Rattle.stream_lists.specs.declared.span.Span.{Span}
 use Rattle.stream_lists.specs.Jobs.{Job, samples_at, start_at, index_in}
 use Rattle.stream_lists.specs.Spans.{spans_of, lengths_of, span_at, span_in, offset_of, takes_from, signalled_by, LooksAt, schedule_of}

@@ -2,14 +2,14 @@
 use Rattle.std.proofs.Common.{◌≡◌, ℕ, ◌+◌, ◌<◌, ◌≤◌, false, List, [], ◌∷◌, Option, Some, None, Ok, length, map, slice_get, refl, sym, ap, subst, ◌∙◌, arith}
 use Rattle.std.specs.List.{All, range_with_len}
 use Rattle.std.proofs.lemmas.Option.{same_Some}
-use Rattle.phase_accum.specs.declared.outcome.Outcome.{Outcome}
+use Rattle.phase_history.specs.phase_accum.declared.outcome.Outcome.{Outcome}
 use Rattle.phase_history.specs.Others.{OthersCame}
 use Rattle.phase_history.proofs.Beginnings.{IsBeginning-refl}
 use Rattle.phase_history.proofs.OthersEvents.{IsBeginning-others}
-use Rattle.graph_base.specs.Graphs.{task_at}
-use Rattle.graph_base.specs.TaskLines.{IsGraph}
-use Rattle.graph_base.specs.declared.line.Kind.TheVariants.{Sink}
-use Rattle.graph_base.specs.declared.line.Parent.{Parent}
+use Rattle.stream_lists.specs.graph_base.Graphs.{task_at}
+use Rattle.stream_lists.specs.graph_base.TaskLines.{IsGraph}
+use Rattle.stream_lists.specs.graph_base.declared.line.Kind.TheVariants.{Sink}
+use Rattle.stream_lists.specs.graph_base.declared.line.Parent.{Parent}
 use Rattle.stream_lists.specs.Jobs.{Job, with_starts, least}
 use Rattle.stream_lists.specs.Lists.{sinks_of, is_sink_at}
 use Rattle.stream_lists.specs.Ranges.{answer_of, is_too_big}

@@ -1,13 +1,13 @@
 -- The drawing of a graph, as text for Graphviz.
 use Rattle.std.specs.Prelude.{ℕ, List, [], ◌∷◌, ◌++◌, length, Option, None, Some, codes, decimal}
 use Rattle.std.specs.List.{concat, flat_map, range_with_len}
-use Rattle.phase_base.specs.OperationWords.{operation_word}
-use Rattle.graph_base.specs.Graphs.{Graph, name_at, phaser_at, task_at}
-use Rattle.graph_base.specs.Registrations.{signalled_by}
-use Rattle.graph_base.specs.declared.line.Kind.{Kind}
-use Rattle.graph_base.specs.declared.line.Kind.TheVariants.{Source, Fir, Split, Join, Peer, Sink}
-use Rattle.graph_base.specs.declared.line.Parent.{Parent}
-use Rattle.graph_base.specs.declared.place.Place.TheVariants as place
+use Rattle.graph_lang.specs.phase_base.OperationWords.{operation_word}
+use Rattle.graph_lang.specs.graph_base.Graphs.{Graph, name_at, phaser_at, task_at}
+use Rattle.graph_lang.specs.graph_base.Registrations.{signalled_by}
+use Rattle.graph_lang.specs.graph_base.declared.line.Kind.{Kind}
+use Rattle.graph_lang.specs.graph_base.declared.line.Kind.TheVariants.{Source, Fir, Split, Join, Peer, Sink}
+use Rattle.graph_lang.specs.graph_base.declared.line.Parent.{Parent}
+use Rattle.graph_lang.specs.graph_base.declared.place.Place.TheVariants as place
 
 -- the first word of the line of a task
 abbrev pub kind_word : Kind → List ℕ

@@ -3,7 +3,7 @@
 use Rattle.std.specs.Prelude.{◌≡◌, ◌⊎◌, ◌≤◌, ◌+◌, ◌==◌, ℕ, List, [], ◌∷◌, length, map, take, replicate, codes, Some, if◌then◌else◌, slice_get}
 use Rattle.std.specs.List.{concat}
 use Rattle.graph_lang.specs.declared.fault.GraphFault.{GraphFault}
-use Rattle.graph_text.specs.Texts.{is_printable, lines_of}
+use Rattle.graph_lang.specs.graph_text.Texts.{is_printable, lines_of}
 
 -- a byte as it is shown: one that no line may have is a question mark
 abbrev pub shown : ℕ → ℕ

@@ -1,6 +1,6 @@
 //! What the lines above a faulty one declare.
 
-use graph_text::{begins_comment, without_cr, words_of};
+use graph_lang::graph_text::{begins_comment, without_cr, words_of};
 use std::alloc::{AllocError, Global};
 
 /// The words of each line above, but for those that are ignored.

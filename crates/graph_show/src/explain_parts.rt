@@ -1,6 +1,7 @@
 //! What may stand at a place of a line, and what a person is told of it.
 
-use phase_base::{Op, is_digit, is_file, is_name};
+use graph_lang::Op;
+use graph_lang::phase_base::{is_digit, is_file, is_name};
 
 /// What may stand at a place of a line.
 #[derive(Clone, Copy)]

@@ -6,8 +6,8 @@ ghost use Rattle.graph_show.specs.Explanations.{ExplainsLine, Marks, blank_under
 use crate::above::Above;
 use crate::grammar::Reading;
 use crate::mark::mark_of;
+use graph_lang::graph_text::{are_printable, lines_of, without_cr, words_of};
 use graph_lang::{FaultKind, GraphFault};
-use graph_text::{are_printable, lines_of, without_cr, words_of};
 use std::alloc::{AllocError, Global};
 
 /// A byte as it is shown.

@@ -24,3 +24,5 @@ mod parts;
 
 pub use drawing::{drawing_text, write_drawing};
 pub use explained::explanation;
+pub use graph_lang;
+pub use graph_lang::{graph_base, phase_accum, watched_io};

@@ -1,9 +1,9 @@
 //! Numbers of a line that are past their limits.
 
 use crate::explain_parts::Part;
+use graph_lang::phase_base::BOUND_MAX;
+use graph_lang::stream_filters::{SHIFT_MAX, TAP_MAX, TAPS_MAX};
 use graph_lang::{ENDS_MAX, FACTOR_MAX, STEPS_MAX};
-use phase_base::BOUND_MAX;
-use stream_filters::{SHIFT_MAX, TAP_MAX, TAPS_MAX};
 
 /// The greatest magnitude of an end of a clamp.
 const CLAMP_MAX: u64 = 9_223_372_036_854_775_807;

@@ -1,11 +1,11 @@
 //! The nodes of a drawing.
 ghost use Rattle.std.specs.Prelude.{◌≡◌, ◌++◌, ◌<◌, length, OnOk};
 ghost use Rattle.std.specs.List.{flat_map, range_with_len};
-ghost use Rattle.phase_base.specs.OperationWords.{operation_word};
+ghost use Rattle.graph_lang.specs.phase_base.OperationWords.{operation_word};
 ghost use Rattle.graph_show.specs.Drawings.{box, ellipse, kind_word, phaser_node, task_node};
 
 use crate::parts::put;
-use graph_base::{Graph, Kind, Op, Place};
+use graph_lang::{Graph, Kind, Op, Place};
 use itoa::Buffer;
 use std::alloc::AllocError;
 

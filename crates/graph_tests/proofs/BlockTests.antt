@@ -1,15 +1,15 @@
 -- Tests of the next event of a task, where it is of several phases.
 use Rattle.std.proofs.Common.{◌≡◌, ℕ, ◌<◌, List, [], ◌∷◌, ◌++◌, ℤ, length, take, drop, eqb}
 use mathlib.Core.List.{IsPrefix}
-use Rattle.phase_accum.specs.declared.outcome.Outcome.{Outcome}
-use Rattle.graph_base.specs.declared.line.Kind.{Kind}
-use Rattle.graph_base.specs.declared.line.Kind.TheVariants.{Source, Fir, Split, Join, Peer, Sink}
-use Rattle.graph_base.specs.Graphs.{task_at}
-use Rattle.graph_base.specs.TaskLines.{IsGraph}
-use Rattle.stream_lists.specs.Jobs.{Job, samples_at}
-use Rattle.graph_runs.specs.Moments.{Moment, HasRun, made_now, first_input}
-use Rattle.graph_runs.specs.Moves.{further, IsBlock}
-use Rattle.graph_runs.specs.Turned.{IsNextSignals, IsNextSamples, IsFirstWaits}
+use Rattle.stream_job.specs.phase_accum.declared.outcome.Outcome.{Outcome}
+use Rattle.stream_job.specs.graph_base.declared.line.Kind.{Kind}
+use Rattle.stream_job.specs.graph_base.declared.line.Kind.TheVariants.{Source, Fir, Split, Join, Peer, Sink}
+use Rattle.stream_job.specs.graph_base.Graphs.{task_at}
+use Rattle.stream_job.specs.graph_base.TaskLines.{IsGraph}
+use Rattle.stream_job.specs.stream_lists.Jobs.{Job, samples_at}
+use Rattle.stream_job.specs.graph_runs.Moments.{Moment, HasRun, made_now, first_input}
+use Rattle.stream_job.specs.graph_runs.Moves.{further, IsBlock}
+use Rattle.stream_job.specs.graph_runs.Turned.{IsNextSignals, IsNextSamples, IsFirstWaits}
 use Rattle.graph_tests.specs.BlockRuns.{BlockEvent, samples, signals, first_waits, turn, after_block, after_blocks, IsNextBlock, AreNextBlocks}
 use Rattle.graph_tests.proofs.Tests as test
 use Rattle.graph_tests.proofs.Tests.{Test, Both, always, giving, both}

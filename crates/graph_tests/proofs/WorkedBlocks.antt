@@ -1,17 +1,17 @@
 -- The worked run in blocks: its graph, its events, and its parts from one moment to another.
 use Rattle.std.proofs.Common.{◌≡◌, ℕ, List, [], ◌∷◌, true, pos, refl, arith}
-use Rattle.phase_accum.specs.declared.outcome.Outcome.TheVariants.{Value}
-use Rattle.graph_base.specs.TaskLines.{IsGraph}
-use Rattle.stream_lists.specs.Jobs.{Job}
-use Rattle.graph_runs.specs.Moments.{Moment, HasRun}
-use Rattle.graph_runs.specs.Settled.{IsReady}
-use Rattle.graph_runs.specs.Turned.{IsNextChildNow}
+use Rattle.stream_job.specs.phase_accum.declared.outcome.Outcome.TheVariants.{Value}
+use Rattle.stream_job.specs.graph_base.TaskLines.{IsGraph}
+use Rattle.stream_job.specs.stream_lists.Jobs.{Job}
+use Rattle.stream_job.specs.graph_runs.Moments.{Moment, HasRun}
+use Rattle.stream_job.specs.graph_runs.Settled.{IsReady}
+use Rattle.stream_job.specs.graph_runs.Turned.{IsNextChildNow}
 use Rattle.graph_tests.specs.BlockRuns.{BlockEvent, AreNextBlocks, after_blocks}
 use Rattle.graph_tests.specs.WorkedBlocks.{in_blocks, before_join, by_out_at_3}
 use Rattle.graph_tests.proofs.GraphTests.{is_graph}
 use Rattle.graph_tests.proofs.NextTests.{is_child_of}
 use Rattle.graph_tests.proofs.BlockTests.{are_next_blocks}
-use Rattle.phase_base.specs.declared.mode.Mode.TheVariants.{Wait}
+use Rattle.stream_job.specs.phase_base.declared.mode.Mode.TheVariants.{Wait}
 
 pub in_blocks-is : IsGraph in_blocks.graph
 in_blocks-is = (is_graph in_blocks.graph).sound refl

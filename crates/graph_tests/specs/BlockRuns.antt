@@ -1,11 +1,11 @@
 -- Runs of a graph whose tasks make several steps in one event.
 use Rattle.std.specs.Prelude.{ℕ, ℤ, List, [], ◌∷◌, length}
-use Rattle.phase_accum.specs.declared.outcome.Outcome.{Outcome}
-use Rattle.stream_lists.specs.Jobs.{Job}
-use Rattle.graph_runs.specs.Moments.{Moment, HasRun}
-use Rattle.graph_runs.specs.Moves.{further}
-use Rattle.graph_runs.specs.Turned.{after_signals, after_waits, IsNextSamples, IsNextSignals, IsFirstWaits}
-use Rattle.graph_runs.specs.TaskEvents.{TaskEvent, IsThere, after_turn, IsNext}
+use Rattle.stream_job.specs.phase_accum.declared.outcome.Outcome.{Outcome}
+use Rattle.stream_job.specs.stream_lists.Jobs.{Job}
+use Rattle.stream_job.specs.graph_runs.Moments.{Moment, HasRun}
+use Rattle.stream_job.specs.graph_runs.Moves.{further}
+use Rattle.stream_job.specs.graph_runs.Turned.{after_signals, after_waits, IsNextSamples, IsNextSignals, IsFirstWaits}
+use Rattle.stream_job.specs.graph_runs.TaskEvents.{TaskEvent, IsThere, after_turn, IsNext}
 
 -- an event of task t on phaser p, where its number is n: these samples, or these values on output
 -- j, or these outcomes from input k; or an event of one step

@@ -1,15 +1,15 @@
 -- A worked run in blocks: a source, a filter and a sink that make up to three steps in one event,
 -- and a child of the sink that joins now, from the opening to the end.
 use Rattle.std.specs.Prelude.{ℕ, List, [], ◌∷◌, Option, Some, None, pos, codes, true}
-use Rattle.phase_accum.specs.declared.outcome.Outcome.TheVariants.{Value}
-use Rattle.phase_history.specs.Histories.{History}
-use Rattle.graph_base.specs.declared.line.Kind.TheVariants.{Source, Fir}
-use Rattle.graph_base.specs.declared.line.Parent.{Parent}
-use Rattle.graph_base.specs.declared.place.Place.TheVariants as place
-use Rattle.graph_base.specs.Graphs.{Graph, no_task}
-use Rattle.stream_lists.specs.Jobs.{Job}
-use Rattle.graph_runs.specs.Moments.{Moment}
-use Rattle.graph_runs.specs.Turned.{after_register_now}
+use Rattle.stream_job.specs.phase_accum.declared.outcome.Outcome.TheVariants.{Value}
+use Rattle.stream_job.specs.phase_history.Histories.{History}
+use Rattle.stream_job.specs.graph_base.declared.line.Kind.TheVariants.{Source, Fir}
+use Rattle.stream_job.specs.graph_base.declared.line.Parent.{Parent}
+use Rattle.stream_job.specs.graph_base.declared.place.Place.TheVariants as place
+use Rattle.stream_job.specs.graph_base.Graphs.{Graph, no_task}
+use Rattle.stream_job.specs.stream_lists.Jobs.{Job}
+use Rattle.stream_job.specs.graph_runs.Moments.{Moment}
+use Rattle.stream_job.specs.graph_runs.Turned.{after_register_now}
 use Rattle.graph_tests.specs.Runs.{opened, sample, signal, first_wait, leave}
 use Rattle.graph_tests.specs.BlockRuns.{BlockEvent, samples, signals, first_waits, turn, after_block, after_blocks}
 use Rattle.graph_tests.specs.Worked.{bus, founded}

@@ -1,10 +1,12 @@
 //! Phasers of a graph under each operation, with the members that a graph's tasks are.
-use phase_accum::{NO_VALUE, Op, Outcome, Single, VALUE_MAX};
-use phase_base::{Entry, Mode, Spec};
-use phase_history::{Got, GotBlock, NoTask, RegisterRefusal, SignalRefusal, WaitRefusal};
 use std::alloc::Global;
 use std::test::Fail;
 use stream_job::AnyCore;
+use stream_job::phase_accum::{NO_VALUE, Op, Outcome, Single, VALUE_MAX};
+use stream_job::phase_base::{Entry, Mode, Spec};
+use stream_job::phase_history::{
+    Got, GotBlock, NoTask, RegisterRefusal, SignalRefusal, WaitRefusal,
+};
 
 const ALL: [Op; 5] = [Op::Sum, Op::Product, Op::Least, Op::Greatest, Op::Any];
 

@@ -1,8 +1,8 @@
 //! Runs that come to a value out of range.
 use crate::jobs::at_bound;
 use crate::rounds::{Round, given, ran};
-use graph_base::Place;
 use std::test::Fail;
+use stream_job::graph_base::Place;
 
 /// A graph with a `?` for the bound of each phaser, the samples of its sources, where a value is out
 /// of range, and what the sinks have by then, or nothing where that is open.

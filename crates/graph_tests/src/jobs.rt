@@ -1,7 +1,7 @@
 //! Jobs of graphs and samples that are written as text.
 use std::alloc::Global;
 use std::test::Fail;
-use stream_lists::Job;
+use stream_job::Job;
 
 /// The job of a graph, on samples of these texts, one for each source.
 pub fn job_of(alloc: Global, graph: &str, samples: &[&str]) -> Result<Job, Fail> {

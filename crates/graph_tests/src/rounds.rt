@@ -2,11 +2,10 @@
 ghost use Rattle.std.specs.Prelude.{◌≡◌};
 
 use crate::jobs::job_of;
-use graph_base::Place;
 use std::alloc::{AllocError, Global};
 use std::test::Fail;
-use stream_eval::{EvalFault, Lines, eval};
-use stream_job::{RunTurnsFault, Turned, World, run_turns};
+use stream_job::graph_base::Place;
+use stream_job::{EvalFault, Lines, RunTurnsFault, Turned, World, eval, run_turns};
 
 /// What a round of turns came to, one turn for each task.
 #[derive(Clone, Copy, Debug, PartialEq, Eq)]

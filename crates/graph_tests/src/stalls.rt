@@ -5,8 +5,7 @@ use crate::jobs::{at_bound, job_of};
 use crate::rounds::{Round, last_round};
 use std::alloc::Global;
 use std::test::Fail;
-use stream_job::World;
-use stream_lists::Job;
+use stream_job::{Job, World};
 
 /// A splitter, of whose outputs one has a filter that signals with a filter of the splitter's input,
 /// and the other nobody that takes.

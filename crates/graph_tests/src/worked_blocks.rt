@@ -1,19 +1,19 @@
 //! A whole run in blocks, with a sink that joins now, and each law of blocks used at it.
 ghost use Rattle.std.specs.Prelude.{◌≡◌, ℕ, List, [], ◌∷◌, Ok, pos};
-ghost use Rattle.phase_accum.specs.declared.outcome.Outcome.TheVariants.{Value};
-ghost use Rattle.graph_base.specs.TaskLines.{IsGraph};
-ghost use Rattle.stream_lists.specs.Jobs.{Job};
-ghost use Rattle.stream_lists.specs.Ranges.{answer_of};
-ghost use Rattle.graph_runs.specs.Moments.{Moment, HasRun, TaskRan, started};
-ghost use Rattle.graph_runs.specs.Moves.{Signals, SignalsAll, WaitsAll, RegistersNow, MayBeginTo};
-ghost use Rattle.graph_runs.specs.Turned.{IsFirstWaits};
-ghost use Rattle.graph_runs.specs.NextBlocks.{block_of};
-ghost use Rattle.graph_runs.specs.TaskEvents.{after_turn, sample};
+ghost use Rattle.stream_job.specs.phase_accum.declared.outcome.Outcome.TheVariants.{Value};
+ghost use Rattle.stream_job.specs.graph_base.TaskLines.{IsGraph};
+ghost use Rattle.stream_job.specs.stream_lists.Jobs.{Job};
+ghost use Rattle.stream_job.specs.stream_lists.Ranges.{answer_of};
+ghost use Rattle.stream_job.specs.graph_runs.Moments.{Moment, HasRun, TaskRan, started};
+ghost use Rattle.stream_job.specs.graph_runs.Moves.{Signals, SignalsAll, WaitsAll, RegistersNow, MayBeginTo};
+ghost use Rattle.stream_job.specs.graph_runs.Turned.{IsFirstWaits};
+ghost use Rattle.stream_job.specs.graph_runs.NextBlocks.{block_of};
+ghost use Rattle.stream_job.specs.graph_runs.TaskEvents.{after_turn, sample};
 ghost use Rattle.graph_tests.specs.BlockRuns.{BlockEvent, AreNextBlocks, after_blocks};
 ghost use Rattle.graph_tests.specs.WorkedBlocks.{in_blocks, block_opening, block_end, after_three_samples, after_three_waits, after_three_signals, after_three_taken, after_one_sample, before_join, after_join, by_out_at_3};
 
 use crate::worked_run::turns_lead_on;
-use graph_runs::{moments, moves, turns};
+use stream_job::graph_runs::{moments, moves, turns};
 
 /// Events of one phase or several that are each the next one of their task lead from one moment of
 /// a run to another.

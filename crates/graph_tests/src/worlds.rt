@@ -2,8 +2,7 @@
 //! expected was worked out by hand.
 use std::alloc::Global;
 use std::test::Fail;
-use stream_job::{Step, World};
-use stream_lists::Job;
+use stream_job::{Job, Step, World};
 
 /// A source, a peer, a splitter, a joiner, a sink and its child.
 const WORKED: &str = "phaser X sum 2\nphaser E sum 2\nphaser Y sum 2\nphaser A sum 2\n\

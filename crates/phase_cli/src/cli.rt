@@ -4,17 +4,17 @@ ghost use Rattle.phase_cli.specs.Ends.{AnswerEnds, AnswerStops, EndsAs, IsUnbegu
 ghost use Rattle.phase_cli.specs.Inside.{IsAnswer, LeavesBy};
 ghost use Rattle.phase_replay.specs.Replays.{ReplayEnds};
 ghost use Rattle.phase_words.specs.CommandLine.{AreTaken, AskReplay, Asked, Asks, asked_of, check_by, eval_by, texts};
-ghost use Rattle.watched_io.specs.States.{ReaderState, reader_state, writer_state};
+ghost use Rattle.phase_replay.specs.watched_io.States.{ReaderState, reader_state, writer_state};
 
 use graph_commands::{
     Refuses, check_and_explain, check_and_report, draw_and_report, eval_and_explain,
     eval_and_report,
 };
-use phase_replay::replay_and_report;
+use phase_replay::watched_io::{Files, refuse, report, show_help};
+use phase_replay::{ReplayFault as IoFault, Watched, replay_and_report};
 use phase_words::{Call, Explain, NoCall, read_words};
 use std::alloc::Global;
 use std::io::{Read, Write};
-use watched_io::{Files, IoFault, Watched, refuse, report, show_help};
 
 /// Runs the program on its words, without its own name, and answers its exit status: 0 where what
 /// was asked for is done, or help or the version was shown, 1 where a graph or its samples are

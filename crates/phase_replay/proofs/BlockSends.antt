@@ -1,8 +1,8 @@
 -- The sends of a block, one for each value.
 use Rattle.std.proofs.Common.{◌≡◌, ℕ, ◌+◌, ◌<◌, List, [], ◌∷◌, ◌++◌, ℤ, length, take, get_or, sym, ◌∙◌, ap, subst, refl}
 use Rattle.std.proofs.lemmas.List.{length-append, take_more}
-use Rattle.phase_accum.specs.Operations.{Operation}
-use Rattle.phase_accum.specs.Parcels.{Parcel, StandsForSends}
+use Rattle.phase_script.specs.phase_accum.Operations.{Operation}
+use Rattle.phase_script.specs.phase_accum.Parcels.{Parcel, StandsForSends}
 use Rattle.phase_core.specs.Blocks.{StandForLists}
 use Rattle.phase_replay.specs.Scripts.{one_each}
 

@@ -12,3 +12,4 @@ pub mod Obeying
 pub mod Operations
 pub mod Scripted
 pub mod Short
+pub use Rattle.watched_io.proofs as watched_io_lemmas

@@ -6,3 +6,4 @@ pub mod Replays
 pub mod Replies
 pub mod Scripts
 pub mod Session
+pub use Rattle.watched_io.specs as watched_io

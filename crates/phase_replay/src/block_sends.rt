@@ -1,14 +1,14 @@
 //! The sends of a block of phases.
 ghost use Rattle.std.specs.Prelude.{◌≡◌, ◌<◌, [], ◌∷◌, ◌++◌, IfOk, length};
-ghost use Rattle.phase_accum.specs.Parcels.{StandsForSends};
-ghost use Rattle.phase_accum.specs.Sends.{IsSend};
+ghost use Rattle.phase_script.specs.phase_accum.Parcels.{StandsForSends};
+ghost use Rattle.phase_script.specs.phase_accum.Sends.{IsSend};
 ghost use Rattle.phase_core.specs.Blocks.{StandForLists};
 ghost use Rattle.phase_script.specs.Commands.{IsBlock};
 ghost use Rattle.phase_script.specs.declared.values.TheConstants.{VALUES_MAX};
 ghost use Rattle.phase_replay.specs.Scripts.{one_each};
 
-use phase_accum::{Accumulate, Pending};
 use phase_script::VALUES_MAX;
+use phase_script::phase_accum::{Accumulate, Pending};
 use std::alloc::{AllocError, Global};
 use std::marker::Model;
 
@@ -33,7 +33,7 @@ pub struct BlockSends<A: Accumulate> {
 
 impl<A: Accumulate> Model for BlockSends<A> {
     ghost use Rattle.std.specs.Prelude.{◌≡◌, ◌≤◌, List, length, take};
-    ghost use Rattle.phase_accum.specs.Parcels.{Parcel};
+    ghost use Rattle.phase_script.specs.phase_accum.Parcels.{Parcel};
     ghost use Rattle.phase_script.specs.declared.values.TheConstants.{VALUES_MAX};
 
     ghost Value = { List (Parcel A) };

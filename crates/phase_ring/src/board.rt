@@ -3,19 +3,17 @@ ghost use Rattle.std.specs.Prelude.{◌≡◌, ℕ, ◌<◌, ◌≤◌, ◌+◌,
 ghost use Rattle.phase_ring.specs.declared.role.Role.{Role};
 ghost use Rattle.phase_ring.specs.declared.role.Role.TheVariants.{Signaller, Waiter};
 ghost use Rattle.phase_ring.specs.Slots.{Slot, slot_value, joined, merge_refusal, IsUnused};
-ghost use Rattle.phase_ring.specs.Rings.{standing, sents, slot_at, with_slot, is_sealed, cleared};
-ghost use Rattle.phase_ring.specs.Rings.{IsWithin, KeepsSlots};
+ghost use Rattle.phase_ring.specs.Rings.{standing, sents, slot_at, with_slot, is_sealed, cleared, IsWithin, KeepsSlots};
 ghost use Rattle.phase_ring.specs.Standings.{one_if_same, other, takes_part, phase_for, counted};
 ghost use Rattle.phase_ring.specs.Boards.{IsBoard};
 ghost use Rattle.phase_ring.specs.Blocks.{block_joined, block_values, BlockFits};
-ghost use Rattle.phase_ring.specs.Calls.{MaySignal, MayWait, IsSettled, KeepsBounds};
+ghost use Rattle.phase_ring.specs.Calls.{MaySignal, MayWait, IsSettled, KeepsBounds, HasMoved, HasSignalled, HasWaited, HasLeft};
 ghost use Rattle.phase_ring.specs.Inside.{MayGoOn};
-ghost use Rattle.phase_ring.specs.Calls.{HasMoved, HasSignalled, HasWaited, HasLeft};
 
 use crate::role::Role;
 use crate::slot_ring::SlotRing;
+use phase_accum::phase_base::{Entry, MEMBERS_MAX, PHASES_MAX, Spec};
 use phase_accum::{Accumulate, Outcome, Pending, Single};
-use phase_base::{Entry, MEMBERS_MAX, PHASES_MAX, Spec};
 use std::alloc::{AllocError, Global};
 
 /// The phases that are kept while a waiter is registered, and which of them are complete.

@@ -2,16 +2,14 @@
 ghost use Rattle.std.specs.Prelude.{◌≡◌, ◌+◌, ◌-◌, ◌^◌, ◌<◌, ◌≤◌, [], None, Some, length, replicate, true, false, OnOk, OnErr, IfOk, IfErr};
 ghost use Rattle.circular_buffer.specs.Buffer.{buffer};
 ghost use Rattle.phase_ring.specs.declared.role.Role.TheVariants.{Waiter};
-ghost use Rattle.phase_ring.specs.Slots.{Slot, empty_slot, IsHeld, IsUnused};
-ghost use Rattle.phase_ring.specs.Slots.{with_standing, standing_of, joined, sealed, slot_value, merge_refusal};
-ghost use Rattle.phase_ring.specs.Rings.{Ring, standing, IsWithin, slot_at, with_slot, is_sealed};
-ghost use Rattle.phase_ring.specs.Rings.{fresh_ring, released, cleared};
+ghost use Rattle.phase_ring.specs.Slots.{Slot, empty_slot, IsHeld, IsUnused, with_standing, standing_of, joined, sealed, slot_value, merge_refusal};
+ghost use Rattle.phase_ring.specs.Rings.{Ring, standing, IsWithin, slot_at, with_slot, is_sealed, fresh_ring, released, cleared};
 
 use crate::role::Role;
 use crate::slot::{MergeRefusal, Slot};
 use circular_buffer::HeapCircularBuffer;
+use phase_accum::phase_base::{BOUND_MAX, MEMBERS_MAX, SENDS_MAX};
 use phase_accum::{Accumulate, Outcome, Pending, Single};
-use phase_base::{BOUND_MAX, MEMBERS_MAX, SENDS_MAX};
 use std::alloc::{AllocError, Global};
 use std::marker::Model;
 

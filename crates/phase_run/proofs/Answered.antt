@@ -3,13 +3,13 @@ use Rattle.std.proofs.Common.{◌≡◌, ◌≢◌, ◌⊎◌, inl, inr, ℕ, �
 use Rattle.std.specs.declared.option.Option.{Option}
 use Rattle.graph_commands.specs.FileJobs.{IsJobOf, Known}
 use Rattle.graph_commands.specs.GraphRuns.{EvalEnds, EvalStops}
-use Rattle.watched_io.specs.Statuses.{Says}
+use Rattle.graph_commands.specs.watched_io.Statuses.{Says}
 use Rattle.phase_run.specs.Runs.{RunEnds, RunStops, stalled_line}
-use Rattle.stream_lists.specs.Jobs.{Job}
-use Rattle.stream_lists.specs.Lists.{lines_of}
-use Rattle.stream_lists.specs.Ranges.{Fits, Where, answer_of, first_too_big}
-use Rattle.watched_io.specs.States.{WriterState}
-use Rattle.watched_io.specs.declared.watched.Watched.{Watched}
+use Rattle.graph_commands.specs.stream_lists.Jobs.{Job}
+use Rattle.graph_commands.specs.stream_lists.Lists.{lines_of}
+use Rattle.graph_commands.specs.stream_lists.Ranges.{Fits, Where, answer_of, first_too_big}
+use Rattle.graph_commands.specs.watched_io.States.{WriterState}
+use Rattle.graph_commands.specs.watched_io.declared.watched.Watched.{Watched}
 
 -- ---- what an answer says
 

@@ -4,10 +4,10 @@ use Rattle.std.specs.declared.option.Option.{Option}
 use Rattle.graph_commands.specs.Explained.{IsNoJobExplained}
 use Rattle.graph_commands.specs.FileJobs.{IsJobOf, Known}
 use Rattle.graph_commands.specs.GraphRuns.{Evaluates, EvaluatesPrefix, IsNoJob, IsNoSink, IsTooBig, IsUnwritten}
-use Rattle.watched_io.specs.Statuses.{Says}
-use Rattle.stream_lists.specs.Jobs.{Job}
-use Rattle.watched_io.specs.States.{WriterState, writer_state}
-use Rattle.watched_io.specs.declared.watched.Watched.{Watched}
+use Rattle.graph_commands.specs.watched_io.Statuses.{Says}
+use Rattle.graph_commands.specs.stream_lists.Jobs.{Job}
+use Rattle.graph_commands.specs.watched_io.States.{WriterState, writer_state}
+use Rattle.graph_commands.specs.watched_io.declared.watched.Watched.{Watched}
 
 -- the line of a run of which every task that was left waited for another
 abbrev pub stalled_line : List ℕ

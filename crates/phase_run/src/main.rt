@@ -15,8 +15,8 @@ mod laws;
 
 use cli::run_cli;
 use graph_commands::TellingFiles;
+use graph_commands::watched_io::{Watched, own_words, refuse_words};
 use std::process::ExitCode;
-use watched_io::{Watched, own_words, refuse_words};
 
 fn main(rt: HostRuntime) -> ExitCode {
     let mut faults = Watched::new(rt.stderr());

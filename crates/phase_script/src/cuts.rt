@@ -1,7 +1,7 @@
 //! Where lines end.
 ghost use Rattle.std.specs.Prelude.{◌≡◌, ◌<◌, ◌≤◌, ◌+◌, ◌∷◌, ◌++◌, take, drop, length, slice_index, MatchOption};
 ghost use Rattle.phase_script.specs.Cuts.{HasNoLf};
-ghost use Rattle.phase_base.specs.Lists.{without_cr};
+ghost use Rattle.phase_accum.specs.phase_base.Lists.{without_cr};
 
 const CR: u8 = 13;
 

@@ -2,20 +2,20 @@
 use Rattle.std.proofs.Common.{◌≡◌, ℕ, false, cond, eqb, List, [], ◌∷◌, ◌++◌, Option, Some, refl, sym, ap, subst, ◌∙◌, inl}
 use Rattle.std.specs.Prelude.{is_some}
 use Rattle.turn_lock.specs.Steps.{GivesBack}
-use Rattle.phase_base.specs.Limits.{Limits}
-use Rattle.phase_base.specs.declared.entry.Entry.{Entry}
-use Rattle.phase_accum.specs.Operations.{Operation}
-use Rattle.phase_history.specs.declared.event.Event.{Event}
-use Rattle.phase_base.specs.Members.{entry_of}
-use Rattle.phase_history.specs.Histories.{History, members_of}
-use Rattle.phase_history.specs.Legal.{IsLegal}
+use Rattle.phase_core.specs.phase_base.Limits.{Limits}
+use Rattle.phase_core.specs.phase_base.declared.entry.Entry.{Entry}
+use Rattle.phase_core.specs.phase_accum.Operations.{Operation}
+use Rattle.phase_core.specs.phase_history.declared.event.Event.{Event}
+use Rattle.phase_core.specs.phase_base.Members.{entry_of}
+use Rattle.phase_core.specs.phase_history.Histories.{History, members_of}
+use Rattle.phase_core.specs.phase_history.Legal.{IsLegal}
 use Rattle.phase_core.specs.Cores.{CoreState, StandsFor}
 use Rattle.phase_shared.specs.declared.view.View.{View}
 use Rattle.phase_shared.specs.declared.rule.Terms.{Terms}
-use Rattle.phase_history.specs.Others.{IsUsed, is_by, events_of, OthersCame}
+use Rattle.phase_core.specs.phase_history.Others.{IsUsed, is_by, events_of, OthersCame}
 use Rattle.phase_shared.specs.Views.{knowledge, resting, turning, known_of, speaks_of}
 use Rattle.phase_shared.specs.Rule.{Allows, IsGoodAt, HasOneHistory, StandsWithin, TookAt, IsSeatOfTask, AfterTake, Keeps}
-use Rattle.phase_history.proofs.Used.{IsUsed-member, IsUsed-longer, entry_of-others}
+use Rattle.phase_core.proofs.phase_history_lemmas.Used.{IsUsed-member, IsUsed-longer, entry_of-others}
 use Rattle.phase_shared.proofs.Keeping.{gives, one_of, or_false, is_in_self}
 
 same_some : {A : Type 0} (x y : A) → Some x ≡ Some y → x ≡ y

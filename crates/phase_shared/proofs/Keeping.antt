@@ -7,22 +7,22 @@ use lib.ListN.{get_elem?}
 use Rattle.atomic_table.proofs.Lists.{at_set, at_longer, set_here, set_else}
 use Rattle.turn_lock.specs.Steps.{Busy}
 use Rattle.turn_lock.proofs.Keeping.{within}
-use Rattle.phase_base.specs.Limits.{Limits}
-use Rattle.phase_history.specs.Histories.{History}
-use Rattle.phase_history.specs.Legal.{IsLegal}
+use Rattle.phase_core.specs.phase_base.Limits.{Limits}
+use Rattle.phase_core.specs.phase_history.Histories.{History}
+use Rattle.phase_core.specs.phase_history.Legal.{IsLegal}
 use Rattle.phase_shared.specs.declared.view.Knowledge.{Knowledge}
 use Rattle.phase_shared.specs.declared.view.View.{View}
 use Rattle.phase_shared.specs.declared.view.View.TheVariants.{Resting, Turning, Joining, Spent}
-use Rattle.phase_history.specs.Others.{IsUsed, events_of, OnlyUsed, OthersCame}
-use Rattle.phase_base.specs.Lists.{is_distinct, is_in}
+use Rattle.phase_core.specs.phase_history.Others.{IsUsed, events_of, OnlyUsed, OthersCame}
+use Rattle.phase_core.specs.phase_base.Lists.{is_distinct, is_in}
 use Rattle.phase_shared.specs.Views.{knowledge, resting, turning, speaks_of, is_turning}
 use Rattle.phase_shared.specs.Rule.{Allows, IsGood, IsSound, Kept, Took, Learned, HasOneHistory, StandsWithin, founding}
-use Rattle.phase_accum.specs.Operations.{Operation}
+use Rattle.phase_core.specs.phase_accum.Operations.{Operation}
 use Rattle.phase_core.specs.Cores.{CoreState, StandsFor}
-use Rattle.phase_history.specs.declared.event.Event.TheVariants.{Made}
+use Rattle.phase_core.specs.phase_history.declared.event.Event.TheVariants.{Made}
 use Rattle.phase_shared.specs.declared.rule.Terms.{Terms}
-use Rattle.phase_history.proofs.OthersEvents.{OthersCame-refl, OthersCame-trans, OthersCame-fewer}
-use Rattle.phase_history.proofs.Used.{IsUsed-longer, OnlyUsed-others}
+use Rattle.phase_core.proofs.phase_history_lemmas.OthersEvents.{OthersCame-refl, OthersCame-trans, OthersCame-fewer}
+use Rattle.phase_core.proofs.phase_history_lemmas.Used.{IsUsed-longer, OnlyUsed-others}
 
 same_some : {A : Type 0} (x y : A) → Some x ≡ Some y → x ≡ y
 same_some x y e = cc

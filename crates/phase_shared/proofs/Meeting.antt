@@ -2,10 +2,10 @@
 use Rattle.std.proofs.Common.{◌≡◌, ◌≢◌, ℕ, false, true, not, eqb, List, [], ◌∷◌, ◌++◌, refl, sym, subst, ap, ◌∙◌}
 use Rattle.std.specs.Prelude.{◌||◌, ◌&&◌}
 use Rattle.std.proofs.lemmas.Bool.{eq-eqb}
-use Rattle.phase_base.specs.declared.entry.Entry.{Entry}
-use Rattle.phase_history.specs.Histories.{History}
-use Rattle.phase_history.specs.Others.{OthersCame}
-use Rattle.phase_base.specs.Lists.{is_distinct}
+use Rattle.phase_core.specs.phase_base.declared.entry.Entry.{Entry}
+use Rattle.phase_core.specs.phase_history.Histories.{History}
+use Rattle.phase_core.specs.phase_history.Others.{OthersCame}
+use Rattle.phase_core.specs.phase_base.Lists.{is_distinct}
 use Rattle.phase_shared.specs.declared.view.View.{View}
 use Rattle.phase_shared.specs.declared.rule.Terms.{Terms}
 use Rattle.phase_shared.specs.Views.{resting, known_of}

@@ -4,27 +4,27 @@ use Rattle.std.specs.Prelude.{◌||◌, is_some, Result, Err}
 use Rattle.std.proofs.lemmas.Bool.Decides.{nat_tests}
 use Rattle.std.proofs.lemmas.Bool.{eqb-true, ne_eqb}
 use Rattle.turn_lock.specs.Steps.{GivesBack, Forks}
-use Rattle.phase_base.specs.Limits.{Limits}
-use Rattle.phase_base.specs.declared.mode.Mode.{Mode}
-use Rattle.phase_base.specs.declared.entry.Entry.{Entry}
-use Rattle.phase_accum.specs.Operations.{Operation}
-use Rattle.phase_history.specs.declared.event.Event.{Event}
-use Rattle.phase_history.specs.declared.event.Event.TheVariants.{Registered}
-use Rattle.phase_history.specs.declared.refusal.RegisterRefusal.{RegisterRefusal}
-use Rattle.phase_history.specs.declared.refusal.RegisterRefusal.TheVariants as register
-use Rattle.phase_history.specs.Histories.{History, start_of, greatest_used, members_of, entry_at, signal_phase, wait_phase}
-use Rattle.phase_base.specs.Members.{entry_of}
-use Rattle.phase_history.proofs.MemberLemmas.{entry_of-push_new, entry_of-push_old}
-use Rattle.phase_history.proofs.Steps.{sound_of, member_entry_is}
-use Rattle.phase_history.specs.Refusals.{register_refusal}
-use Rattle.phase_history.specs.Legal.{IsLegal}
+use Rattle.phase_core.specs.phase_base.Limits.{Limits}
+use Rattle.phase_core.specs.phase_base.declared.mode.Mode.{Mode}
+use Rattle.phase_core.specs.phase_base.declared.entry.Entry.{Entry}
+use Rattle.phase_core.specs.phase_accum.Operations.{Operation}
+use Rattle.phase_core.specs.phase_history.declared.event.Event.{Event}
+use Rattle.phase_core.specs.phase_history.declared.event.Event.TheVariants.{Registered}
+use Rattle.phase_core.specs.phase_history.declared.refusal.RegisterRefusal.{RegisterRefusal}
+use Rattle.phase_core.specs.phase_history.declared.refusal.RegisterRefusal.TheVariants as register
+use Rattle.phase_core.specs.phase_history.Histories.{History, start_of, greatest_used, members_of, entry_at, signal_phase, wait_phase}
+use Rattle.phase_core.specs.phase_base.Members.{entry_of}
+use Rattle.phase_core.proofs.phase_history_lemmas.MemberLemmas.{entry_of-push_new, entry_of-push_old}
+use Rattle.phase_core.proofs.phase_history_lemmas.Steps.{sound_of, member_entry_is}
+use Rattle.phase_core.specs.phase_history.Refusals.{register_refusal}
+use Rattle.phase_core.specs.phase_history.Legal.{IsLegal}
 use Rattle.phase_core.specs.Cores.{CoreState, StandsFor}
-use Rattle.phase_history.proofs.Refused.{registers_from}
-use Rattle.phase_history.proofs.Answered.{register_refusal-never}
+use Rattle.phase_core.proofs.phase_history_lemmas.Refused.{registers_from}
+use Rattle.phase_core.proofs.phase_history_lemmas.Answered.{register_refusal-never}
 use Rattle.phase_shared.specs.declared.view.View.{View}
 use Rattle.phase_shared.specs.declared.rule.Terms.{Terms}
-use Rattle.phase_history.specs.Others.{IsUsed, is_by, OthersCame}
-use Rattle.phase_base.specs.Lists.{is_in}
+use Rattle.phase_core.specs.phase_history.Others.{IsUsed, is_by, OthersCame}
+use Rattle.phase_core.specs.phase_base.Lists.{is_in}
 use Rattle.phase_shared.specs.Views.{knowledge, resting, turning, known_of, speaks_of, first_part, other_part, SpeaksForTwo}
 use Rattle.phase_shared.specs.Rule.{Allows, IsGoodAt, HasOneHistory, StandsWithin, IsSeatOfTask}
 use Rattle.phase_shared.specs.Calls.{Tries, number_after, next_child, RefusesRegister}
@@ -32,8 +32,8 @@ use Rattle.phase_shared.specs.Entries.{entry_stays}
 use Rattle.phase_shared.specs.Steps.{IsStep}
 use Rattle.phase_shared.specs.declared.tried.Tried.{Tried}
 use Rattle.phase_shared.specs.declared.tried.Tried.TheVariants.{Refused}
-use Rattle.phase_history.proofs.Used.{IsUsed-longer}
-use Rattle.phase_history.proofs.Received.{start_of-above, fresh}
+use Rattle.phase_core.proofs.phase_history_lemmas.Used.{IsUsed-longer}
+use Rattle.phase_core.proofs.phase_history_lemmas.Received.{start_of-above, fresh}
 use Rattle.phase_shared.proofs.Keeping.{gives, forks, or_false, is_in_self, eqb_refl}
 use Rattle.phase_shared.proofs.Giving.{AfterCall, after_call, gives_same, stays, station, told_entry}
 

@@ -3,11 +3,11 @@ use Rattle.std.proofs.Common.{◌≡◌, ◌≢◌, ℕ, true, false, [], ◌∷
 use Rattle.std.specs.Prelude.{Result, Err, is_some}
 use Rattle.std.specs.Result.{result_ok}
 use Rattle.turn_lock.specs.Steps.{GivesBack}
-use Rattle.phase_base.specs.Members.{entry_of}
-use Rattle.phase_base.specs.declared.entry.Entry.{Entry}
-use Rattle.phase_accum.specs.Operations.{Operation}
-use Rattle.phase_history.specs.Histories.{History, members_of}
-use Rattle.phase_history.specs.Others.{OnlyUsed}
+use Rattle.phase_core.specs.phase_base.Members.{entry_of}
+use Rattle.phase_core.specs.phase_base.declared.entry.Entry.{Entry}
+use Rattle.phase_core.specs.phase_accum.Operations.{Operation}
+use Rattle.phase_core.specs.phase_history.Histories.{History, members_of}
+use Rattle.phase_core.specs.phase_history.Others.{OnlyUsed}
 use Rattle.phase_core.specs.Cores.{CoreState, StandsFor}
 use Rattle.phase_shared.specs.declared.view.View.{View}
 use Rattle.phase_shared.specs.declared.rule.Terms.{Terms}

@@ -2,23 +2,23 @@
 use Rattle.std.proofs.Common.{◌≡◌, ℕ, ℤ, Bool, true, false, List, [], ◌∷◌, Some, refl, ap, ◌∙◌}
 use Rattle.std.specs.Prelude.{Ok, Err, Result, is_some, IsErr}
 use Rattle.std.specs.Result.{result_ok}
-use Rattle.phase_accum.specs.Operations.{Operation}
-use Rattle.phase_history.specs.declared.event.Event.TheVariants.{Waited}
-use Rattle.phase_history.specs.declared.got.Got.{Got}
-use Rattle.phase_history.specs.declared.got.Got.TheVariants as got
-use Rattle.phase_history.specs.declared.refusal.WaitRefusal.{WaitRefusal}
-use Rattle.phase_base.specs.Members.{entry_of, waited}
-use Rattle.phase_history.specs.Histories.{History, members_of}
-use Rattle.phase_history.specs.Replies.{wait_reply, after_wait}
+use Rattle.phase_core.specs.phase_accum.Operations.{Operation}
+use Rattle.phase_core.specs.phase_history.declared.event.Event.TheVariants.{Waited}
+use Rattle.phase_core.specs.phase_history.declared.got.Got.{Got}
+use Rattle.phase_core.specs.phase_history.declared.got.Got.TheVariants as got
+use Rattle.phase_core.specs.phase_history.declared.refusal.WaitRefusal.{WaitRefusal}
+use Rattle.phase_core.specs.phase_base.Members.{entry_of, waited}
+use Rattle.phase_core.specs.phase_history.Histories.{History, members_of}
+use Rattle.phase_core.specs.phase_history.Replies.{wait_reply, after_wait}
 use Rattle.phase_core.specs.Cores.{CoreState, StandsFor}
-use Rattle.phase_history.proofs.MemberLemmas.{is_some-entry_of-changed, entry_of-changed_same}
-use Rattle.phase_base.specs.declared.entry.Entry.{Entry}
+use Rattle.phase_core.proofs.phase_history_lemmas.MemberLemmas.{is_some-entry_of-changed, entry_of-changed_same}
+use Rattle.phase_core.specs.phase_base.declared.entry.Entry.{Entry}
 use Rattle.phase_shared.specs.Entries.{entry_after_wait}
-use Rattle.phase_base.specs.Limits.{Limits}
-use Rattle.phase_accum.specs.declared.outcome.Outcome.{Outcome}
+use Rattle.phase_core.specs.phase_base.Limits.{Limits}
+use Rattle.phase_core.specs.phase_accum.declared.outcome.Outcome.{Outcome}
 use Rattle.phase_shared.specs.Rule.{Allows, Keeps}
 use Rattle.phase_shared.specs.Calls.{MayWait}
-use Rattle.phase_history.proofs.OthersEvents.{OthersCame-refl}
+use Rattle.phase_core.proofs.phase_history_lemmas.OthersEvents.{OthersCame-refl}
 use Rattle.phase_shared.proofs.Giving.{OwnCame, own_event}
 
 -- what a wait adds is its task's own

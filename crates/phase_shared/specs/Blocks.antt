@@ -1,20 +1,20 @@
 -- Blocks of phases, which one call signals or waits for: what each step answers, and how the
 -- history that its task has seen goes on.
 use Rattle.std.specs.Prelude.{◌≡◌, ℕ, ◌+◌, ℤ, List, [], ◌∷◌, Option, Some, None, Result, length, Ok, Err}
-use Rattle.phase_base.specs.Limits.{Limits}
-use Rattle.phase_base.specs.declared.entry.Entry.{Entry}
-use Rattle.phase_accum.specs.Operations.{Operation}
-use Rattle.phase_accum.specs.Parcels.{Parcel}
-use Rattle.phase_accum.specs.declared.outcome.Outcome.{Outcome}
-use Rattle.phase_accum.specs.declared.single.Single.{Single}
-use Rattle.phase_history.specs.declared.got.GotBlock.{GotBlock}
-use Rattle.phase_history.specs.declared.got.GotBlock.TheVariants.{Values, Ended}
-use Rattle.phase_history.specs.declared.refusal.SignalRefusal.{SignalRefusal}
-use Rattle.phase_history.specs.declared.refusal.WaitRefusal.{WaitRefusal}
-use Rattle.phase_history.specs.Histories.{History}
-use Rattle.phase_history.specs.Phases.{stream_of}
-use Rattle.phase_history.specs.Replies.{signal_reply, after_signal, wait_block_reply, after_wait_block}
-use Rattle.phase_history.specs.Others.{OthersCame}
+use Rattle.phase_core.specs.phase_base.Limits.{Limits}
+use Rattle.phase_core.specs.phase_base.declared.entry.Entry.{Entry}
+use Rattle.phase_core.specs.phase_accum.Operations.{Operation}
+use Rattle.phase_core.specs.phase_accum.Parcels.{Parcel}
+use Rattle.phase_core.specs.phase_accum.declared.outcome.Outcome.{Outcome}
+use Rattle.phase_core.specs.phase_accum.declared.single.Single.{Single}
+use Rattle.phase_core.specs.phase_history.declared.got.GotBlock.{GotBlock}
+use Rattle.phase_core.specs.phase_history.declared.got.GotBlock.TheVariants.{Values, Ended}
+use Rattle.phase_core.specs.phase_history.declared.refusal.SignalRefusal.{SignalRefusal}
+use Rattle.phase_core.specs.phase_history.declared.refusal.WaitRefusal.{WaitRefusal}
+use Rattle.phase_core.specs.phase_history.Histories.{History}
+use Rattle.phase_core.specs.phase_history.Phases.{stream_of}
+use Rattle.phase_core.specs.phase_history.Replies.{signal_reply, after_signal, wait_block_reply, after_wait_block}
+use Rattle.phase_core.specs.phase_history.Others.{OthersCame}
 use Rattle.phase_core.specs.Blocks.{StandForLists, written}
 use Rattle.phase_shared.specs.declared.rule.Terms.{Terms}
 use Rattle.phase_shared.specs.Rule.{Allows, IsGoodAt}

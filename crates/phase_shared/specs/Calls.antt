@@ -3,22 +3,22 @@
 -- task has seen goes on by events of others, up to the moment of the call, and then by the call's
 -- own event, where it makes one.
 use Rattle.std.specs.Prelude.{◌≡◌, ℕ, ℤ, Bool, true, false, List, [], ◌∷◌, Option, Result, Ok, Err, None, Some, min, ◌+◌, ◌-◌, ◌^◌, ◌≢◌}
-use Rattle.phase_base.specs.Limits.{Limits}
-use Rattle.phase_base.specs.declared.mode.Mode.{Mode}
-use Rattle.phase_accum.specs.Operations.{Operation}
-use Rattle.phase_accum.specs.Parcels.{Parcel, StandsForSends}
-use Rattle.phase_accum.specs.declared.outcome.Outcome.{Outcome}
-use Rattle.phase_accum.specs.declared.single.Single.{Single}
-use Rattle.phase_history.specs.declared.event.Event.TheVariants.{Registered, Dropped}
-use Rattle.phase_history.specs.declared.got.Got.{Got}
-use Rattle.phase_history.specs.declared.refusal.RegisterRefusal.{RegisterRefusal}
-use Rattle.phase_history.specs.declared.refusal.RegisterRefusal.TheVariants as register
-use Rattle.phase_history.specs.declared.refusal.SignalRefusal.{SignalRefusal}
-use Rattle.phase_history.specs.declared.refusal.WaitRefusal.{WaitRefusal}
-use Rattle.phase_history.specs.Histories.{History, greatest_used, entry_at}
-use Rattle.phase_history.specs.Refusals.{register_refusal}
-use Rattle.phase_history.specs.Replies.{signal_reply, after_signal, wait_reply, after_wait}
-use Rattle.phase_history.specs.Others.{OthersCame, OnlyUsed}
+use Rattle.phase_core.specs.phase_base.Limits.{Limits}
+use Rattle.phase_core.specs.phase_base.declared.mode.Mode.{Mode}
+use Rattle.phase_core.specs.phase_accum.Operations.{Operation}
+use Rattle.phase_core.specs.phase_accum.Parcels.{Parcel, StandsForSends}
+use Rattle.phase_core.specs.phase_accum.declared.outcome.Outcome.{Outcome}
+use Rattle.phase_core.specs.phase_accum.declared.single.Single.{Single}
+use Rattle.phase_core.specs.phase_history.declared.event.Event.TheVariants.{Registered, Dropped}
+use Rattle.phase_core.specs.phase_history.declared.got.Got.{Got}
+use Rattle.phase_core.specs.phase_history.declared.refusal.RegisterRefusal.{RegisterRefusal}
+use Rattle.phase_core.specs.phase_history.declared.refusal.RegisterRefusal.TheVariants as register
+use Rattle.phase_core.specs.phase_history.declared.refusal.SignalRefusal.{SignalRefusal}
+use Rattle.phase_core.specs.phase_history.declared.refusal.WaitRefusal.{WaitRefusal}
+use Rattle.phase_core.specs.phase_history.Histories.{History, greatest_used, entry_at}
+use Rattle.phase_core.specs.phase_history.Refusals.{register_refusal}
+use Rattle.phase_core.specs.phase_history.Replies.{signal_reply, after_signal, wait_reply, after_wait}
+use Rattle.phase_core.specs.phase_history.Others.{OthersCame, OnlyUsed}
 use Rattle.phase_shared.specs.declared.view.View.{View}
 use Rattle.phase_shared.specs.declared.rule.Terms.{Terms}
 use Rattle.phase_shared.specs.Views.{resting}
@@ -26,7 +26,7 @@ use Rattle.phase_shared.specs.Rule.{Allows, IsGoodAt}
 use Rattle.phase_shared.specs.declared.tried.Tried.{Tried}
 use Rattle.phase_shared.specs.declared.tried.Tried.TheVariants.{Busy, Refused}
 use Rattle.std.specs.Result.{result_ok}
-use Rattle.phase_base.specs.declared.entry.Entry.{Entry}
+use Rattle.phase_core.specs.phase_base.declared.entry.Entry.{Entry}
 use Rattle.phase_shared.specs.Regs.{RegState}
 
 -- a refused try: the turn was another's and all stayed as it was, or the call is refused

@@ -12,3 +12,8 @@ pub mod Regs
 pub mod Rule
 pub mod Steps
 pub mod Views
+pub use Rattle.phase_core.specs.phase_accum as phase_accum
+pub use Rattle.phase_core.specs.phase_base as phase_base
+pub use Rattle.phase_core.specs as phase_core
+pub use Rattle.phase_core.specs.phase_history as phase_history
+pub use Rattle.turn_lock.specs as turn_lock

@@ -1,6 +1,6 @@
 -- What contracts see of a phaser under a lock.
 use Rattle.turn_lock.specs.Seats.{Place, lock_name, lock_place}
-use Rattle.phase_base.specs.Limits.{Limits}
+use Rattle.phase_core.specs.phase_base.Limits.{Limits}
 use Rattle.phase_shared.specs.declared.rule.Terms.{Terms}
 use Rattle.phase_shared.specs.declared.locked.LockedPhaser.{LockedPhaser}
 

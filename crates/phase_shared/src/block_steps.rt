@@ -1,8 +1,8 @@
 //! The steps of a seat for a block of phases.
 ghost use Rattle.std.specs.Prelude.{◌≡◌, ℤ, List, [], ◌∷◌, length, true};
 ghost use Rattle.turn_lock.specs.Seats.{IsSeatAt, IsSameSeat, seat_view};
-ghost use Rattle.phase_history.specs.Histories.{History};
-ghost use Rattle.phase_history.specs.Others.{OthersCame};
+ghost use Rattle.phase_core.specs.phase_history.Histories.{History};
+ghost use Rattle.phase_core.specs.phase_history.Others.{OthersCame};
 ghost use Rattle.phase_core.specs.Blocks.{StandForLists};
 ghost use Rattle.phase_shared.specs.Views.{known_of};
 ghost use Rattle.phase_shared.specs.Rule.{IsGoodAt, IsSeatOfTask};
@@ -17,8 +17,8 @@ use crate::rule::SignalRule;
 use crate::steps::{enter, put_back, tried_of};
 use crate::tried::Tried;
 use crate::view::PhaserSeat;
-use phase_accum::{Accumulate, Outcome, Pending, Single};
-use phase_base::Entry;
+use phase_core::phase_accum::{Accumulate, Outcome, Pending, Single};
+use phase_core::phase_base::Entry;
 use phase_core::{GotBlock, SignalRefusal, WaitRefusal};
 use std::marker::Brand;
 

@@ -12,7 +12,7 @@ use crate::reg::Reg;
 use crate::rule::SignalRule;
 use crate::tried::Tried;
 use crate::{block_steps, join_steps};
-use phase_accum::{Accumulate, Outcome, Pending, Single};
+use phase_core::phase_accum::{Accumulate, Outcome, Pending, Single};
 use phase_core::{GotBlock, RegisterRefusal, SignalRefusal, WaitRefusal};
 
 impl<A: Accumulate, K: SignalRule> Reg<A, K> {

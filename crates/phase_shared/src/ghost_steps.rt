@@ -3,8 +3,8 @@ ghost use Rattle.std.specs.Prelude.{◌≡◌};
 
 use crate::rule::{SignalRule, Terms};
 use crate::view::View;
-use phase_accum::Accumulate;
 use phase_core::PhaserCore;
+use phase_core::phase_accum::Accumulate;
 use std::marker::{Brand, PhantomData};
 use turn_lock::{Join, Learns, Split, Tells};
 

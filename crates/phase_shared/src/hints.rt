@@ -1,7 +1,7 @@
 //! When a waiting call tries again. No contract speaks of it: a wrong number costs time alone.
 use crossbeam_utils::CachePadded;
-use phase_accum::Accumulate;
 use phase_core::PhaserCore;
+use phase_core::phase_accum::Accumulate;
 use std::sync::Wait;
 use std::sync::atomic::AtomicU64;
 use std::sync::atomic::Ordering::SeqCst;

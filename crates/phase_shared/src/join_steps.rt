@@ -14,9 +14,9 @@ use crate::rule::SignalRule;
 use crate::steps::{child_of, enter, put_back, split};
 use crate::tried::Tried;
 use crate::view::PhaserSeat;
-use phase_accum::Accumulate;
-use phase_base::Entry;
 use phase_core::RegisterRefusal;
+use phase_core::phase_accum::Accumulate;
+use phase_core::phase_base::Entry;
 use std::marker::Brand;
 
 // Registers a child that joins now. The answer is the child's number, seat and entry.

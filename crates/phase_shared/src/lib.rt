@@ -134,8 +134,11 @@ mod waiting_blocks;
 
 pub use next::Next;
 pub use past::Past;
+pub use phase_core;
+pub use phase_core::{phase_accum, phase_base};
 pub use phaser::Phaser;
 pub use refusal::SendRefusal;
 pub use reg::Reg;
 pub use rule::{NoRule, SignalRule, Terms};
 pub use tried::Tried;
+pub use turn_lock;

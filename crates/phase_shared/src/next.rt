@@ -1,6 +1,6 @@
 //! A registration's next phase, by one call.
 ghost use Rattle.std.specs.Prelude.{◌≡◌, ◌≢◌, true, Some, Ok, Err, is_ok, ◌&&◌};
-ghost use Rattle.phase_base.specs.Modes.{mode_signals, mode_waits};
+ghost use Rattle.phase_core.specs.phase_base.Modes.{mode_signals, mode_waits};
 ghost use Rattle.phase_shared.specs.Rule.{IsGoodAt};
 ghost use Rattle.phase_shared.specs.Regs.{phaser_place, phaser_terms, phaser_limits};
 ghost use Rattle.phase_shared.specs.Calls.{IsCall, Waits, MaySignal, HeldAfter};
@@ -10,7 +10,7 @@ ghost use Rattle.phase_shared.specs.Nexts.{GoesOrRefuses};
 use crate::phaser::Phaser;
 use crate::reg::Reg;
 use crate::rule::SignalRule;
-use phase_accum::{Accumulate, Single};
+use phase_core::phase_accum::{Accumulate, Single};
 use phase_core::{Got, SignalRefusal};
 use std::sync::Wait;
 

@@ -3,8 +3,8 @@ ghost use Rattle.std.specs.Prelude.{◌≡◌, ◌≢◌, ◌⊎◌, IfSome, IfN
 
 use crate::tried::Tried;
 use crossbeam_utils::Backoff;
-use phase_accum::NO_VALUE;
-use phase_base::SENDS_MAX;
+use phase_core::phase_accum::NO_VALUE;
+use phase_core::phase_base::SENDS_MAX;
 use phase_core::{SignalRefusal, WaitRefusal};
 use thiserror::Error;
 

@@ -2,10 +2,10 @@
 ghost use Rattle.std.specs.Prelude.{◌≡◌, ℤ, List, [], ◌∷◌, true, false, IfOk, IfErr, IsOk, IsErr};
 ghost use Rattle.turn_lock.specs.Seats.{IsSeatAt, IsTurnAt, IsSameSeat, seat_view, turn_number, turn_view, turn_value};
 ghost use Rattle.turn_lock.specs.Steps.{GivesBack};
-ghost use Rattle.phase_accum.specs.Parcels.{StandsForSends};
-ghost use Rattle.phase_history.specs.Histories.{History};
-ghost use Rattle.phase_history.specs.Replies.{wait_reply, after_wait};
-ghost use Rattle.phase_history.specs.Others.{OnlyUsed, OthersCame};
+ghost use Rattle.phase_core.specs.phase_accum.Parcels.{StandsForSends};
+ghost use Rattle.phase_core.specs.phase_history.Histories.{History};
+ghost use Rattle.phase_core.specs.phase_history.Replies.{wait_reply, after_wait};
+ghost use Rattle.phase_core.specs.phase_history.Others.{OnlyUsed, OthersCame};
 ghost use Rattle.phase_shared.specs.declared.view.View.TheVariants.{Resting};
 ghost use Rattle.phase_shared.specs.Views.{known_of, joining, first_part, other_part, SpeaksForOne, SpeaksForTwo};
 ghost use Rattle.phase_shared.specs.Rule.{HasOneHistory, AfterTake, IsGoodAt, IsSeatOfTask, LearnedAt, HaveMet};
@@ -21,8 +21,8 @@ use crate::locked::LockedPhaser;
 use crate::rule::SignalRule;
 use crate::tried::Tried;
 use crate::view::{PhaserSeat, PhaserTurn};
-use phase_accum::{Accumulate, Pending, Single};
-use phase_base::{Entry, Mode};
+use phase_core::phase_accum::{Accumulate, Pending, Single};
+use phase_core::phase_base::{Entry, Mode};
 use phase_core::{Got, PhaserCore, RegisterRefusal, SignalRefusal, WaitRefusal};
 use std::marker::Brand;
 

@@ -1,8 +1,8 @@
 //! The calls of a registration that wait for nobody.
 ghost use Rattle.std.specs.Prelude.{◌≡◌, ◌≢◌, [], ◌∷◌, Err, IfOk, IfErr, IsOk, OnOk, OnErr};
 ghost use Rattle.std.specs.Result.{result_ok};
-ghost use Rattle.phase_accum.specs.Parcels.{StandsForSends};
-ghost use Rattle.phase_history.specs.Others.{OnlyUsed, OthersCame};
+ghost use Rattle.phase_core.specs.phase_accum.Parcels.{StandsForSends};
+ghost use Rattle.phase_core.specs.phase_history.Others.{OnlyUsed, OthersCame};
 ghost use Rattle.phase_shared.specs.Rule.{IsGoodAt};
 ghost use Rattle.phase_shared.specs.Regs.{phaser_place, phaser_terms, phaser_limits};
 ghost use Rattle.phase_shared.specs.Calls.{IsTry, Tries, Signals, Waits, Registers, MaySignal, Leaves};
@@ -15,8 +15,8 @@ use crate::reg::Reg;
 use crate::rule::SignalRule;
 use crate::steps;
 use crate::tried::Tried;
-use phase_accum::{Accumulate, Pending, Single};
-use phase_base::Mode;
+use phase_core::phase_accum::{Accumulate, Pending, Single};
+use phase_core::phase_base::Mode;
 use phase_core::{Got, RegisterRefusal, SignalRefusal, WaitRefusal};
 
 impl<A: Accumulate, K: SignalRule> Reg<A, K> {

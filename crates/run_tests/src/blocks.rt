@@ -1,11 +1,11 @@
 //! Blocks that members put and get, and a child that joins now.
-use phase_accum::{Outcome, Pending, Sum};
-use phase_base::{Mode, Spec};
-use phase_core::{GotBlock, SignalRefusal};
-use phase_shared::{NoRule, Phaser, Tried};
 use std::sync::Wait;
 use std::test::Fail;
-use stream_members::Member;
+use stream_job::phase_accum::{Outcome, Pending, Sum};
+use stream_job::phase_base::{Mode, Spec};
+use stream_job::phase_core::{GotBlock, SignalRefusal};
+use stream_workers::phase_shared::{NoRule, Phaser, Tried};
+use stream_workers::stream_members::Member;
 
 // A parcel of this one value.
 fn parcel(value: i64) -> Pending<Sum> {

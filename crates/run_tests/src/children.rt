@@ -1,7 +1,7 @@
 //! Runs of graphs with children on worker threads. What is expected was worked out by hand.
 use crate::runs::{Case, last_run};
 use std::test::Fail;
-use stream_lists::JobRefusal;
+use stream_job::JobRefusal;
 
 // How often a graph is run by each number of workers.
 const RUNS: u32 = 10;

@@ -3,12 +3,12 @@ use Rattle.std.proofs.Common.{◌≡◌, ◌≢◌, ℕ, zero, suc, ◌<◌, Boo
 use Rattle.std.specs.List.{find, range_with_len}
 use Rattle.std.proofs.lemmas.Bool.{eqb-true, eq-eqb, ne_eqb}
 use Rattle.std.proofs.lemmas.Option.{same_Some}
-use Rattle.phase_base.specs.declared.mode.Mode.{Mode}
-use Rattle.phase_history.specs.declared.event.Event.{Event}
-use Rattle.phase_history.specs.declared.event.Event.TheVariants.{Signalled, Waited, Dropped}
-use Rattle.graph_base.specs.declared.line.Parent.{Parent}
-use Rattle.graph_base.specs.Graphs.{task_at, phaser_at}
-use Rattle.stream_lists.specs.Jobs.{Job}
+use Rattle.phase_core.specs.phase_base.declared.mode.Mode.{Mode}
+use Rattle.phase_core.specs.phase_history.declared.event.Event.{Event}
+use Rattle.phase_core.specs.phase_history.declared.event.Event.TheVariants.{Signalled, Waited, Dropped}
+use Rattle.graph_lang.specs.graph_base.declared.line.Parent.{Parent}
+use Rattle.graph_lang.specs.graph_base.Graphs.{task_at, phaser_at}
+use Rattle.stream_eval.specs.stream_lists.Jobs.{Job}
 use Rattle.graph_runs.specs.Moments.{Moment}
 use Rattle.graph_runs.specs.Moves.{HasMoved, SameTask, Registers}
 use Rattle.graph_runs.proofs.Turned.{next_sample_is, next_signal_is, first_wait_is, exchange_wait_is, next_leave_is, next_child_is}

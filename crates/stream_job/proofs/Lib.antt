@@ -24,3 +24,5 @@ pub mod Stepping
 pub mod LeftAlone
 pub mod Staying
 pub mod BlockedLists
+pub use Rattle.graph_runs.proofs as graph_runs_lemmas
+pub use Rattle.stream_eval.proofs.stream_lists_lemmas as stream_lists_lemmas

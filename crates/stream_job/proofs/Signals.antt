@@ -1,20 +1,20 @@
 -- The turn of a task that signals.
 use Rattle.std.proofs.Common.{◌≡◌, ◌≢◌, ℕ, ℤ, List, zero, suc, ◌+◌, ◌<◌, ◌≤◌, Bool, true, false, cond, not, [], ◌∷◌, Option, Some, None, length, get_or, slice_get, set, map, pos, refl, sym, ap, subst, ◌∙◌, arith}
 use Rattle.std.specs.Prelude.{Result, Ok, Err, nat_le, unsigned_abs}
-use Rattle.stream_filters.specs.Range.{ranged}
-use Rattle.stream_filters.specs.declared.fault.TooBigValue.{TooBigValue}
-use Rattle.phase_accum.specs.Sends.{IsSend}
-use Rattle.phase_accum.specs.declared.single.Single.{Single}
-use Rattle.phase_history.specs.declared.event.Event.TheVariants.{Signalled}
-use Rattle.phase_history.specs.declared.refusal.SignalRefusal.{SignalRefusal}
-use Rattle.phase_history.specs.declared.refusal.SignalRefusal.TheVariants as refusals
-use Rattle.phase_history.specs.Histories.{History, signal_phase}
-use Rattle.phase_history.specs.Refusals.{signal_refusal}
-use Rattle.phase_history.specs.Replies.{signal_reply, refused_or}
-use Rattle.graph_base.specs.Graphs.{task_at, phaser_at, Task}
-use Rattle.graph_base.specs.Registrations.{signalled_by}
-use Rattle.stream_lists.specs.Jobs.{Job, samples_at}
-use Rattle.stream_lists.specs.Ranges.{is_out_of_range, are_made}
+use Rattle.graph_lang.specs.stream_filters.Range.{ranged}
+use Rattle.graph_lang.specs.stream_filters.declared.fault.TooBigValue.{TooBigValue}
+use Rattle.phase_core.specs.phase_accum.Sends.{IsSend}
+use Rattle.phase_core.specs.phase_accum.declared.single.Single.{Single}
+use Rattle.phase_core.specs.phase_history.declared.event.Event.TheVariants.{Signalled}
+use Rattle.phase_core.specs.phase_history.declared.refusal.SignalRefusal.{SignalRefusal}
+use Rattle.phase_core.specs.phase_history.declared.refusal.SignalRefusal.TheVariants as refusals
+use Rattle.phase_core.specs.phase_history.Histories.{History, signal_phase}
+use Rattle.phase_core.specs.phase_history.Refusals.{signal_refusal}
+use Rattle.phase_core.specs.phase_history.Replies.{signal_reply, refused_or}
+use Rattle.graph_lang.specs.graph_base.Graphs.{task_at, phaser_at, Task}
+use Rattle.graph_lang.specs.graph_base.Registrations.{signalled_by}
+use Rattle.stream_eval.specs.stream_lists.Jobs.{Job, samples_at}
+use Rattle.stream_eval.specs.stream_lists.Ranges.{is_out_of_range, are_made}
 use Rattle.stream_eval.specs.Results.{sink_values}
 use Rattle.graph_runs.specs.Moments.{Moment, limits_at, made_now}
 use Rattle.graph_runs.specs.Turned.{with_at}
@@ -42,17 +42,17 @@ use Rattle.stream_job.specs.declared.machine.Machine.{Machine}
 use Rattle.stream_job.specs.declared.task_state.TaskState.{TaskState}
 use Rattle.stream_job.specs.declared.made.Made.TheVariants.{Event, Blocked, OutOfRange}
 use Rattle.stream_job.specs.declared.turned.Turned.TheVariants.{Moved}
-use Rattle.graph_base.specs.declared.line.Kind.{Kind}
-use Rattle.graph_base.specs.declared.line.Kind.TheVariants.{Source, Fir, Split, Join, Peer, Sink}
-use Rattle.stream_lists.specs.Spans.{puts_on}
+use Rattle.graph_lang.specs.graph_base.declared.line.Kind.{Kind}
+use Rattle.graph_lang.specs.graph_base.declared.line.Kind.TheVariants.{Source, Fir, Split, Join, Peer, Sink}
+use Rattle.stream_eval.specs.stream_lists.Spans.{puts_on}
 use Rattle.graph_runs.proofs.Boundaries.{made_many}
 use Rattle.graph_runs.specs.declared.owed.Owed.TheVariants as code
 use Rattle.stream_job.proofs.Ending.{number_of_output}
 use Rattle.stream_job.proofs.Lively.{live_next}
 use Rattle.stream_job.proofs.WhatNext.{signals_owes, signals_step, samples_begins}
 use Rattle.stream_job.proofs.Events.{after_own, unchanged}
-use Rattle.phase_base.specs.Limits.{Limits}
-use Rattle.graph_base.specs.declared.place.Place.TheVariants as place
+use Rattle.phase_core.specs.phase_base.Limits.{Limits}
+use Rattle.graph_lang.specs.graph_base.declared.place.Place.TheVariants as place
 
 -- ---- a call that the phaser would not take now
 

@@ -2,31 +2,31 @@
 use Rattle.std.proofs.Common.{◌≡◌, ◌≢◌, ℕ, ◌+◌, Bool, true, false, not, eqb, ◌&&◌, ◌||◌, cond, ℤ, pos, List, [], ◌∷◌, Option, Some, None, is_some, get_or, refl, sym, ap, subst, ◌∙◌}
 use Rattle.std.specs.Prelude.{Result, Ok, Err, nat_le, nat_lt, length, unsigned_abs}
 use Rattle.std.proofs.lemmas.Option.{same_Some}
-use Rattle.phase_base.specs.Limits.{Limits}
-use Rattle.phase_base.specs.declared.limits.TheConstants.{SENDS_MAX}
-use Rattle.phase_base.specs.Modes.{mode_signals, mode_waits, is_single}
-use Rattle.phase_base.specs.Members.{entry_of, least, wait_phases}
-use Rattle.phase_base.specs.declared.entry.Entry.{Entry}
-use Rattle.phase_accum.specs.declared.outcome.Outcome.{Outcome}
-use Rattle.phase_accum.specs.declared.single.Single.{Single}
-use Rattle.phase_history.specs.declared.got.Got.{Got}
-use Rattle.phase_history.specs.declared.got.Got.TheVariants as got
-use Rattle.phase_history.specs.declared.refusal.SignalRefusal.TheVariants as signal
-use Rattle.phase_history.specs.declared.refusal.WaitRefusal.TheVariants as wait
-use Rattle.phase_history.specs.Histories.{History, positions_of, members_of, done_of, wait_phase}
-use Rattle.phase_history.specs.Phases.{sends_of_phase, named_in_phase}
-use Rattle.phase_history.specs.Refusals.{refusal_at, signal_rows, wait_rows, signal_refusal, is_ahead, is_bad_block, differs, register_refusal, drop_refusal}
-use Rattle.phase_base.specs.Lists.{first_row}
-use Rattle.phase_history.specs.Replies.{wait_reply, refused_or, got_at}
-use Rattle.phase_accum.specs.Sends.{AreSends, value_max}
-use Rattle.stream_filters.specs.declared.fault.TooBigValue.{TooBigValue}
-use Rattle.stream_filters.specs.Range.{ranged}
-use Rattle.graph_base.specs.declared.place.Place.TheVariants as place
-use Rattle.graph_base.specs.declared.registration.Registration.{Registration}
-use Rattle.graph_base.specs.Graphs.{task_at, phaser_at}
-use Rattle.graph_base.specs.TaskLines.{IsGraph}
-use Rattle.stream_lists.specs.Jobs.{Job, samples_at}
-use Rattle.stream_lists.specs.Ranges.{are_made, is_out_of_range}
+use Rattle.phase_core.specs.phase_base.Limits.{Limits}
+use Rattle.phase_core.specs.phase_base.declared.limits.TheConstants.{SENDS_MAX}
+use Rattle.phase_core.specs.phase_base.Modes.{mode_signals, mode_waits, is_single}
+use Rattle.phase_core.specs.phase_base.Members.{entry_of, least, wait_phases}
+use Rattle.phase_core.specs.phase_base.declared.entry.Entry.{Entry}
+use Rattle.phase_core.specs.phase_accum.declared.outcome.Outcome.{Outcome}
+use Rattle.phase_core.specs.phase_accum.declared.single.Single.{Single}
+use Rattle.phase_core.specs.phase_history.declared.got.Got.{Got}
+use Rattle.phase_core.specs.phase_history.declared.got.Got.TheVariants as got
+use Rattle.phase_core.specs.phase_history.declared.refusal.SignalRefusal.TheVariants as signal
+use Rattle.phase_core.specs.phase_history.declared.refusal.WaitRefusal.TheVariants as wait
+use Rattle.phase_core.specs.phase_history.Histories.{History, positions_of, members_of, done_of, wait_phase}
+use Rattle.phase_core.specs.phase_history.Phases.{sends_of_phase, named_in_phase}
+use Rattle.phase_core.specs.phase_history.Refusals.{refusal_at, signal_rows, wait_rows, signal_refusal, is_ahead, is_bad_block, differs, register_refusal, drop_refusal}
+use Rattle.phase_core.specs.phase_base.Lists.{first_row}
+use Rattle.phase_core.specs.phase_history.Replies.{wait_reply, refused_or, got_at}
+use Rattle.phase_core.specs.phase_accum.Sends.{AreSends, value_max}
+use Rattle.graph_lang.specs.stream_filters.declared.fault.TooBigValue.{TooBigValue}
+use Rattle.graph_lang.specs.stream_filters.Range.{ranged}
+use Rattle.graph_lang.specs.graph_base.declared.place.Place.TheVariants as place
+use Rattle.graph_lang.specs.graph_base.declared.registration.Registration.{Registration}
+use Rattle.graph_lang.specs.graph_base.Graphs.{task_at, phaser_at}
+use Rattle.graph_lang.specs.graph_base.TaskLines.{IsGraph}
+use Rattle.stream_eval.specs.stream_lists.Jobs.{Job, samples_at}
+use Rattle.stream_eval.specs.stream_lists.Ranges.{are_made, is_out_of_range}
 use Rattle.graph_runs.specs.Moments.{Moment, limits_at, value_at, input_at}
 use Rattle.graph_runs.specs.TaskEvents.{TaskEvent, sample, signal, first_wait, exchange_wait}
 use Rattle.graph_runs.specs.Nexts.{Next, registers, leaves, samples, signals, waits, exchanges, has_signaller, next_of, number_on, first_missing, first_kept, waits_first}

@@ -1,16 +1,16 @@
 -- A task whose call is blocked stays so until there is an event on the phaser of the call.
 use Rattle.std.proofs.Common.{◌≡◌, ◌≢◌, ℕ, ◌+◌, true, false, not, ◌&&◌, ◌||◌, cond, ℤ, pos, [], ◌∷◌, length, get_or, refl, sym, ap, subst, ◌∙◌, ◌⊎◌, inl, inr}
 use Rattle.std.specs.Prelude.{unwrap_or, nat_le}
-use Rattle.phase_accum.specs.declared.outcome.Outcome.{Outcome}
-use Rattle.phase_history.specs.Histories.{History, done_of}
-use Rattle.phase_history.specs.Refusals.{signal_refusal}
-use Rattle.phase_history.specs.Replies.{wait_reply}
-use Rattle.graph_base.specs.declared.line.Kind.{Kind}
-use Rattle.graph_base.specs.declared.line.Kind.TheVariants.{Source, Fir, Split, Join, Peer, Sink}
-use Rattle.graph_base.specs.declared.place.Place.TheVariants as place
-use Rattle.graph_base.specs.Graphs.{task_at, phaser_at}
-use Rattle.stream_lists.specs.Jobs.{Job, samples_at}
-use Rattle.stream_lists.specs.Ranges.{are_made, is_out_of_range}
+use Rattle.phase_core.specs.phase_accum.declared.outcome.Outcome.{Outcome}
+use Rattle.phase_core.specs.phase_history.Histories.{History, done_of}
+use Rattle.phase_core.specs.phase_history.Refusals.{signal_refusal}
+use Rattle.phase_core.specs.phase_history.Replies.{wait_reply}
+use Rattle.graph_lang.specs.graph_base.declared.line.Kind.{Kind}
+use Rattle.graph_lang.specs.graph_base.declared.line.Kind.TheVariants.{Source, Fir, Split, Join, Peer, Sink}
+use Rattle.graph_lang.specs.graph_base.declared.place.Place.TheVariants as place
+use Rattle.graph_lang.specs.graph_base.Graphs.{task_at, phaser_at}
+use Rattle.stream_eval.specs.stream_lists.Jobs.{Job, samples_at}
+use Rattle.stream_eval.specs.stream_lists.Ranges.{are_made, is_out_of_range}
 use Rattle.graph_runs.specs.Moments.{Moment, limits_at, value_at, input_at, made_now, first_input}
 use Rattle.graph_runs.specs.Moves.{SameTask}
 use Rattle.graph_runs.proofs.Framed.{made_same}

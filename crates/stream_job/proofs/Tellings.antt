@@ -1,11 +1,11 @@
 -- What the code tells of a turn is what the table tells.
 use Rattle.std.proofs.Common.{◌≡◌, ◌≢◌, ℕ, ◌<◌, ◌≤◌, true, false, List, [], Option, Some, None, length, get_or, refl, sym, ap, subst, ◌∙◌, arith, inr}
 use Rattle.std.proofs.lemmas.List.{length-set}
-use Rattle.graph_base.specs.declared.limits.TheConstants.{TASKS_MAX}
-use Rattle.graph_base.specs.Graphs.{task_at}
-use Rattle.graph_base.specs.TaskLines.{IsGraph}
-use Rattle.stream_lists.specs.Jobs.{Job}
-use Rattle.stream_lists.specs.Ranges.{Where}
+use Rattle.graph_lang.specs.graph_base.declared.limits.TheConstants.{TASKS_MAX}
+use Rattle.graph_lang.specs.graph_base.Graphs.{task_at}
+use Rattle.graph_lang.specs.graph_base.TaskLines.{IsGraph}
+use Rattle.stream_eval.specs.stream_lists.Jobs.{Job}
+use Rattle.stream_eval.specs.stream_lists.Ranges.{Where}
 use Rattle.graph_runs.specs.Moments.{Moment, input_at}
 use Rattle.graph_runs.proofs.OnLines.{on_phaser}
 use Rattle.graph_runs.specs.TaskEvents.{TaskEvent, IsNext, sample, signal, first_wait, exchange_wait, leave, child}

@@ -5,24 +5,24 @@ use Rattle.std.specs.List.{All}
 use Rattle.std.proofs.lemmas.List.{length-map}
 use Rattle.std.proofs.lemmas.Option.{slice_get_within}
 use Rattle.std.proofs.lemmas.Bool.{eq-eqb, eqb-true, ne_eqb}
-use Rattle.phase_accum.specs.declared.outcome.Outcome.{Outcome}
-use Rattle.phase_accum.specs.declared.outcome.Outcome.TheVariants as outcomes
-use Rattle.phase_base.specs.Limits.{Limits}
-use Rattle.phase_history.specs.declared.event.Event.TheVariants.{Waited}
-use Rattle.phase_history.specs.declared.got.Got.{Got}
-use Rattle.phase_history.specs.declared.got.Got.TheVariants as got
-use Rattle.phase_history.specs.declared.refusal.WaitRefusal.{WaitRefusal}
-use Rattle.phase_history.specs.declared.refusal.WaitRefusal.TheVariants as refusals
-use Rattle.phase_history.specs.Histories.{History, wait_phase, done_of}
-use Rattle.phase_history.specs.Phases.{value_of_phase}
-use Rattle.phase_history.specs.Refusals.{wait_refusal}
-use Rattle.phase_history.specs.Replies.{wait_reply, refused_or}
-use Rattle.graph_base.specs.declared.line.Kind.TheVariants.{Source, Fir, Split, Join, Peer, Sink}
-use Rattle.graph_base.specs.declared.line.Kind.{Kind}
-use Rattle.graph_base.specs.declared.place.Place.TheVariants as place
-use Rattle.graph_base.specs.Graphs.{Task, task_at, is_sink}
-use Rattle.stream_lists.specs.Jobs.{Job}
-use Rattle.stream_lists.specs.Lists.{number, sinks_of, is_sink_at}
+use Rattle.phase_core.specs.phase_accum.declared.outcome.Outcome.{Outcome}
+use Rattle.phase_core.specs.phase_accum.declared.outcome.Outcome.TheVariants as outcomes
+use Rattle.phase_core.specs.phase_base.Limits.{Limits}
+use Rattle.phase_core.specs.phase_history.declared.event.Event.TheVariants.{Waited}
+use Rattle.phase_core.specs.phase_history.declared.got.Got.{Got}
+use Rattle.phase_core.specs.phase_history.declared.got.Got.TheVariants as got
+use Rattle.phase_core.specs.phase_history.declared.refusal.WaitRefusal.{WaitRefusal}
+use Rattle.phase_core.specs.phase_history.declared.refusal.WaitRefusal.TheVariants as refusals
+use Rattle.phase_core.specs.phase_history.Histories.{History, wait_phase, done_of}
+use Rattle.phase_core.specs.phase_history.Phases.{value_of_phase}
+use Rattle.phase_core.specs.phase_history.Refusals.{wait_refusal}
+use Rattle.phase_core.specs.phase_history.Replies.{wait_reply, refused_or}
+use Rattle.graph_lang.specs.graph_base.declared.line.Kind.TheVariants.{Source, Fir, Split, Join, Peer, Sink}
+use Rattle.graph_lang.specs.graph_base.declared.line.Kind.{Kind}
+use Rattle.graph_lang.specs.graph_base.declared.place.Place.TheVariants as place
+use Rattle.graph_lang.specs.graph_base.Graphs.{Task, task_at, is_sink}
+use Rattle.stream_eval.specs.stream_lists.Jobs.{Job}
+use Rattle.stream_eval.specs.stream_lists.Lists.{number, sinks_of, is_sink_at}
 use Rattle.stream_eval.specs.Results.{sink_values}
 use Rattle.graph_runs.specs.Moments.{Moment, limits_at, value_at, input_at, first_input}
 use Rattle.graph_runs.proofs.Tasks.{first_looks}

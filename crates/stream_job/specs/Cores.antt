@@ -1,14 +1,14 @@
 -- The histories that a phaser of a graph stands for, whatever its operation.
 use Rattle.std.specs.Prelude.{◌≡◌}
-use Rattle.phase_base.specs.Limits.{Limits}
-use Rattle.phase_base.specs.declared.operation.Op.{Op}
-use Rattle.phase_base.specs.declared.operation.Op.TheVariants.{Sum, Product, Least, Greatest, Any}
-use Rattle.phase_accum.specs.Sums.{sum_operation}
-use Rattle.phase_accum.specs.Products.{product_operation}
-use Rattle.phase_accum.specs.Leasts.{least_operation}
-use Rattle.phase_accum.specs.Greatests.{greatest_operation}
-use Rattle.phase_accum.specs.Anys.{any_operation}
-use Rattle.phase_history.specs.Histories.{History}
+use Rattle.phase_core.specs.phase_base.Limits.{Limits}
+use Rattle.phase_core.specs.phase_base.declared.operation.Op.{Op}
+use Rattle.phase_core.specs.phase_base.declared.operation.Op.TheVariants.{Sum, Product, Least, Greatest, Any}
+use Rattle.phase_core.specs.phase_accum.Sums.{sum_operation}
+use Rattle.phase_core.specs.phase_accum.Products.{product_operation}
+use Rattle.phase_core.specs.phase_accum.Leasts.{least_operation}
+use Rattle.phase_core.specs.phase_accum.Greatests.{greatest_operation}
+use Rattle.phase_core.specs.phase_accum.Anys.{any_operation}
+use Rattle.phase_core.specs.phase_history.Histories.{History}
 use Rattle.phase_core.specs.Cores.{StandsFor}
 use Rattle.stream_job.specs.declared.any_core.AnyCore.{AnyCore}
 use Rattle.stream_job.specs.declared.any_core.AnyCore.TheVariants as core

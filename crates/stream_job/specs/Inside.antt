@@ -1,21 +1,21 @@
 -- What the code keeps while tasks take turns: what a wait tells, and when a call is blocked.
 use Rattle.std.specs.Prelude.{◌≡◌, ℕ, ◌+◌, ◌≤◌, ℤ, List, [], ◌∷◌, ◌++◌, Option, Some, None, slice_get, set, get_or, Bool, true, false, ◌&&◌, ◌||◌, nat_le, Ok, Err, ◌≢◌}
 use Rattle.std.specs.Vec.{vec_len, vec_capacity}
-use Rattle.phase_accum.specs.declared.outcome.Outcome.{Outcome}
+use Rattle.phase_core.specs.phase_accum.declared.outcome.Outcome.{Outcome}
 use Rattle.graph_runs.specs.Answers.{Told, answer_to, was_blocked, answer_of_turn, after_answer}
 use Rattle.stream_eval.specs.declared.whole.Lines.{Lines}
-use Rattle.phase_base.specs.Limits.{Limits}
-use Rattle.phase_base.specs.declared.entry.Entry.{Entry}
-use Rattle.phase_base.specs.Members.{entry_of, least, wait_phases}
-use Rattle.phase_history.specs.Histories.{History, members_of, done_of}
-use Rattle.phase_history.specs.Refusals.{is_ahead}
-use Rattle.stream_lists.specs.Jobs.{Job}
+use Rattle.phase_core.specs.phase_base.Limits.{Limits}
+use Rattle.phase_core.specs.phase_base.declared.entry.Entry.{Entry}
+use Rattle.phase_core.specs.phase_base.Members.{entry_of, least, wait_phases}
+use Rattle.phase_core.specs.phase_history.Histories.{History, members_of, done_of}
+use Rattle.phase_core.specs.phase_history.Refusals.{is_ahead}
+use Rattle.stream_eval.specs.stream_lists.Jobs.{Job}
 use Rattle.graph_runs.specs.Moments.{Moment}
 use Rattle.graph_runs.specs.Nexts.{Next, has_signaller, next_of}
 use Rattle.graph_runs.specs.TaskPlaces.{Owed, nothing, value, exchange}
 use Rattle.graph_runs.specs.Reached.{IsReachable}
-use Rattle.phase_accum.specs.declared.outcome.Outcome.TheVariants as outcome
-use Rattle.graph_base.specs.declared.place.Place.TheVariants as place
+use Rattle.phase_core.specs.phase_accum.declared.outcome.Outcome.TheVariants as outcome
+use Rattle.graph_lang.specs.graph_base.declared.place.Place.TheVariants as place
 use Rattle.graph_runs.specs.Answers as answers
 use Rattle.graph_runs.specs.Nexts as turns
 use Rattle.stream_job.specs.Machines.{IsMachine, IsMachineAt, UsesFew}

@@ -1,13 +1,13 @@
 -- The moments that a machine stands for.
 use Rattle.std.specs.Prelude.{◌≡◌, ℕ, zero, suc, ◌+◌, ◌<◌, ◌≤◌, List, Bool, true, ◌||◌, Option, Some, None, is_some, if◌then◌else◌, length, map, slice_get, vec_capacity}
 use Rattle.std.specs.List.{All}
-use Rattle.phase_history.specs.Histories.{History, greatest_used}
-use Rattle.graph_base.specs.Graphs.{phaser_at, task_at}
-use Rattle.graph_base.specs.TaskLines.{IsGraph}
-use Rattle.stream_lists.specs.Jobs.{Job, least}
-use Rattle.stream_lists.specs.Lists.{sinks_of}
-use Rattle.stream_lists.specs.Meetings.{meeting_line}
-use Rattle.stream_lists.specs.Spans.{span_in}
+use Rattle.phase_core.specs.phase_history.Histories.{History, greatest_used}
+use Rattle.graph_lang.specs.graph_base.Graphs.{phaser_at, task_at}
+use Rattle.graph_lang.specs.graph_base.TaskLines.{IsGraph}
+use Rattle.stream_eval.specs.stream_lists.Jobs.{Job, least}
+use Rattle.stream_eval.specs.stream_lists.Lists.{sinks_of}
+use Rattle.stream_eval.specs.stream_lists.Meetings.{meeting_line}
+use Rattle.stream_eval.specs.stream_lists.Spans.{span_in}
 use Rattle.stream_eval.specs.Results.{sink_values}
 use Rattle.stream_eval.specs.declared.whole.Lines.{Lines}
 use Rattle.graph_runs.specs.Moments.{Moment, limits_at}

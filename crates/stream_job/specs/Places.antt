@@ -1,9 +1,9 @@
 -- The place that the fields of a task's state have.
 use Rattle.std.specs.Prelude.{◌≡◌, ℕ, ℤ, List, [], ◌∷◌, ◌++◌, ◌+◌, ◌≤◌, Some, slice_get}
-use Rattle.graph_base.specs.declared.line.Kind.TheVariants.{Sink}
-use Rattle.graph_base.specs.Graphs.{Task, task_at}
-use Rattle.stream_lists.specs.Jobs.{Job}
-use Rattle.stream_lists.specs.Lists.{sinks_of}
+use Rattle.graph_lang.specs.graph_base.declared.line.Kind.TheVariants.{Sink}
+use Rattle.graph_lang.specs.graph_base.Graphs.{Task, task_at}
+use Rattle.stream_eval.specs.stream_lists.Jobs.{Job}
+use Rattle.stream_eval.specs.stream_lists.Lists.{sinks_of}
 use Rattle.graph_runs.specs.Moments.{Moment}
 use Rattle.graph_runs.specs.TaskPlaces.{TaskPlace, StandsAt, owed_after_wait}
 use Rattle.graph_runs.specs.Steps.{HasFilter, owed_of}

@@ -1,7 +1,7 @@
 -- The moments that a world stands for.
 use Rattle.std.specs.Prelude.{ℕ, List, Option}
-use Rattle.stream_lists.specs.Jobs.{Job}
-use Rattle.stream_lists.specs.Ranges.{Where}
+use Rattle.stream_eval.specs.stream_lists.Jobs.{Job}
+use Rattle.stream_eval.specs.stream_lists.Ranges.{Where}
 use Rattle.graph_runs.specs.Moments.{Moment}
 use Rattle.stream_job.specs.declared.machine.Machine.{Machine}
 use Rattle.stream_job.specs.Machines.{IsMachineAt}

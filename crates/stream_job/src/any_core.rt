@@ -1,20 +1,20 @@
 //! A phaser of a graph, under any of the operations.
 ghost use Rattle.std.specs.Prelude.{◌≡◌, ◌≢◌, ◌≤◌, ℕ, [], ◌∷◌, Ok, Some, None, is_some, length, IfOk, IfErr, OnOk, OnErr};
-ghost use Rattle.phase_base.specs.Limits.{Limits};
-ghost use Rattle.phase_base.specs.Members.{entry_of, signal_phases, wait_phases, least};
-ghost use Rattle.phase_accum.specs.Sends.{IsSend};
-ghost use Rattle.phase_accum.specs.Values.{value_by};
-ghost use Rattle.phase_history.specs.declared.event.Event.TheVariants.{Made, Registered, RegisteredNow, Dropped};
-ghost use Rattle.phase_history.specs.Histories.{History, members_of, done_of, greatest_used};
-ghost use Rattle.phase_history.specs.Refusals.{register_refusal, register_now_refusal, drop_refusal};
-ghost use Rattle.phase_history.specs.Phases.{stream_of};
-ghost use Rattle.phase_history.specs.Replies.{wait_block_reply, after_wait_block, signal_reply, wait_reply, after_signal, after_wait};
+ghost use Rattle.phase_core.specs.phase_base.Limits.{Limits};
+ghost use Rattle.phase_core.specs.phase_base.Members.{entry_of, signal_phases, wait_phases, least};
+ghost use Rattle.phase_core.specs.phase_accum.Sends.{IsSend};
+ghost use Rattle.phase_core.specs.phase_accum.Values.{value_by};
+ghost use Rattle.phase_core.specs.phase_history.declared.event.Event.TheVariants.{Made, Registered, RegisteredNow, Dropped};
+ghost use Rattle.phase_core.specs.phase_history.Histories.{History, members_of, done_of, greatest_used};
+ghost use Rattle.phase_core.specs.phase_history.Refusals.{register_refusal, register_now_refusal, drop_refusal};
+ghost use Rattle.phase_core.specs.phase_history.Phases.{stream_of};
+ghost use Rattle.phase_core.specs.phase_history.Replies.{wait_block_reply, after_wait_block, signal_reply, wait_reply, after_signal, after_wait};
 ghost use Rattle.phase_core.specs.Blocks.{written};
-ghost use Rattle.phase_registry.specs.Rosters.{next_after};
+ghost use Rattle.phase_core.specs.phase_registry.Rosters.{next_after};
 
 use crate::one_send::signal_one;
-use phase_accum::{Any, Greatest, Least, Op, Outcome, Product, Single, Sum};
-use phase_base::{Entry, Mode, Spec};
+use phase_core::phase_accum::{Any, Greatest, Least, Op, Outcome, Product, Single, Sum};
+use phase_core::phase_base::{Entry, Mode, Spec};
 use phase_core::{Got, GotBlock, NoTask, PhaserCore, RegisterRefusal, SignalRefusal, WaitRefusal};
 use std::alloc::{AllocError, Global};
 

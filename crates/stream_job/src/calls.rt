@@ -1,18 +1,18 @@
 //! The calls of a task on its phasers.
 ghost use Rattle.std.specs.Prelude.{◌≡◌, ◌≢◌, ◌<◌, [], ◌∷◌, length, Some, None, IfErr, OnOk, OnErr};
-ghost use Rattle.phase_accum.specs.Sends.{IsSend};
-ghost use Rattle.phase_accum.specs.Values.{value_by};
-ghost use Rattle.phase_history.specs.declared.event.Event.TheVariants.{Dropped, Registered};
-ghost use Rattle.phase_history.specs.Refusals.{drop_refusal, register_refusal};
-ghost use Rattle.phase_history.specs.Replies.{signal_reply, wait_reply, after_signal, after_wait};
-ghost use Rattle.graph_base.specs.Graphs.{phaser_at};
+ghost use Rattle.phase_core.specs.phase_accum.Sends.{IsSend};
+ghost use Rattle.phase_core.specs.phase_accum.Values.{value_by};
+ghost use Rattle.phase_core.specs.phase_history.declared.event.Event.TheVariants.{Dropped, Registered};
+ghost use Rattle.phase_core.specs.phase_history.Refusals.{drop_refusal, register_refusal};
+ghost use Rattle.phase_core.specs.phase_history.Replies.{signal_reply, wait_reply, after_signal, after_wait};
+ghost use Rattle.graph_lang.specs.graph_base.Graphs.{phaser_at};
 ghost use Rattle.graph_runs.specs.Moments.{Moment, limits_at, value_at};
 ghost use Rattle.graph_runs.specs.Turned.{with_at};
 
 use crate::machine::Machine;
-use phase_base::Mode;
+use phase_core::phase_base::Mode;
 use phase_core::{Got, NoTask, RegisterRefusal, SignalRefusal, WaitRefusal};
-use stream_lists::Job;
+use stream_eval::stream_lists::Job;
 
 impl Machine {
     ghost use Rattle.stream_job.specs.Machines.{IsMachineAt, IsMachine, HasCores};

@@ -29,12 +29,16 @@ mod turns;
 mod world;
 
 pub use any_core::AnyCore;
+pub use graph_lang::{graph_base, stream_filters};
+pub use graph_runs;
+pub use phase_core;
+pub use phase_core::{phase_accum, phase_base, phase_history};
 pub use runs::{RunTurnsFault, run_turns};
 pub use step::Step;
-pub use stream_eval::{EvalFault, Lines, eval};
-pub use stream_lists::{
+pub use stream_eval::stream_lists::{
     Job, JobRefusal, LENGTH_MAX, Span, input_number, laws, number_of, output_number, taken_count,
 };
+pub use stream_eval::{EvalFault, Lines, eval};
 pub use text_jobs::job_of;
 pub use turned::Turned;
 pub use world::World;

@@ -2,7 +2,7 @@
 ghost use Rattle.std.specs.Prelude.{◌≡◌};
 
 use crate::turned::Turned;
-use graph_base::Place;
+use graph_lang::Place;
 
 /// What the call of a turn did, and where.
 #[derive(Clone, Copy)]

@@ -1,10 +1,10 @@
 //! What a task does next.
 ghost use Rattle.std.specs.Prelude.{◌≡◌, ◌<◌, ◌&&◌, nat_le, not, true, is_some, length, Some, None};
-ghost use Rattle.phase_base.specs.Limits.{Limits};
-ghost use Rattle.phase_base.specs.Members.{entry_of};
-ghost use Rattle.phase_history.specs.Histories.{History, members_of, done_of};
+ghost use Rattle.phase_core.specs.phase_base.Limits.{Limits};
+ghost use Rattle.phase_core.specs.phase_base.Members.{entry_of};
+ghost use Rattle.phase_core.specs.phase_history.Histories.{History, members_of, done_of};
 ghost use Rattle.stream_job.specs.Cores.{CoreStandsFor};
-ghost use Rattle.graph_base.specs.Graphs.{phaser_at, task_at};
+ghost use Rattle.graph_lang.specs.graph_base.Graphs.{phaser_at, task_at};
 ghost use Rattle.stream_job.specs.Machines.{next_by};
 ghost use Rattle.stream_job.specs.Plans.{IsPlan};
 ghost use Rattle.graph_runs.specs.Moments.{Moment, limits_at};
@@ -15,10 +15,10 @@ use crate::machine::Machine;
 use crate::plan::Plan;
 use crate::step::Step;
 use crate::task_state::TaskState;
-use graph_base::{Op, Parent};
+use graph_lang::{Op, Parent};
 use graph_runs::{Owed, first_input_of, input_of, is_source, kind_of, parent_of, until_of};
-use phase_base::Entry;
-use stream_lists::Job;
+use phase_core::phase_base::Entry;
+use stream_eval::stream_lists::Job;
 
 impl Machine {
     ghost use Rattle.stream_job.specs.Places.{IsTaskAt};

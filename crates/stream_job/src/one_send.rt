@@ -1,12 +1,12 @@
 //! A signal of one send.
 ghost use Rattle.std.specs.Prelude.{◌≡◌, [], ◌∷◌, OnErr};
-ghost use Rattle.phase_accum.specs.Parcels.{StandsForSends};
-ghost use Rattle.phase_accum.specs.Sends.{IsSend};
-ghost use Rattle.phase_history.specs.Histories.{History};
-ghost use Rattle.phase_history.specs.Replies.{signal_reply, after_signal};
+ghost use Rattle.phase_core.specs.phase_accum.Parcels.{StandsForSends};
+ghost use Rattle.phase_core.specs.phase_accum.Sends.{IsSend};
+ghost use Rattle.phase_core.specs.phase_history.Histories.{History};
+ghost use Rattle.phase_core.specs.phase_history.Replies.{signal_reply, after_signal};
 ghost use Rattle.phase_core.specs.Cores.{StandsFor};
 
-use phase_accum::{Accumulate, Pending, Single};
+use phase_core::phase_accum::{Accumulate, Pending, Single};
 use phase_core::{PhaserCore, SignalRefusal};
 
 // The pending sends of a task that holds this one alone.

@@ -1,8 +1,8 @@
 //! The tasks of a graph at its opening.
 ghost use Rattle.std.specs.Prelude.{◌≡◌, ◌<◌, ◌≤◌, ℕ, length, slice_get, Some, IfOk};
 ghost use Rattle.std.specs.List.{filter, range_with_len};
-ghost use Rattle.graph_base.specs.TaskLines.{IsGraph};
-ghost use Rattle.stream_lists.specs.Lists.{is_sink_at};
+ghost use Rattle.graph_lang.specs.graph_base.TaskLines.{IsGraph};
+ghost use Rattle.stream_eval.specs.stream_lists.Lists.{is_sink_at};
 ghost use Rattle.graph_runs.specs.Nexts.{registrations_at};
 ghost use Rattle.graph_runs.specs.TaskPlaces.{registration_at};
 ghost use Rattle.graph_runs.specs.Beginnings.{root_number, opening};
@@ -13,7 +13,7 @@ use crate::task_state::TaskState;
 use graph_runs::{Owed, first_filter, is_sink, parent_of};
 use smallvec::SmallVec;
 use std::alloc::{AllocError, Global};
-use stream_lists::Job;
+use stream_eval::stream_lists::Job;
 
 /// The numbers of task number `t` on its phasers, none of a child's. It takes no memory.
 fn root_numbers(alloc: Global, job: &Job, t: usize) -> SmallVec<u64, 9>

@@ -6,7 +6,7 @@ ghost use Rattle.stream_job.specs.Tellings.{IsOnPhaser, parked_with};
 
 use crate::made::Made;
 use crate::task_list::{TaskList, no_marks};
-use graph_base::TASKS_MAX;
+use graph_lang::TASKS_MAX;
 use std::alloc::{AllocError, Global};
 use std::marker::Model;
 

@@ -1,17 +1,17 @@
 //! What the turns of a task ask of the lines of its graph, found once.
 ghost use Rattle.std.specs.Prelude.{◌≡◌, ◌<◌, ◌≤◌, ℕ, true, false, Some, length, IfOk};
-ghost use Rattle.phase_accum.specs.Sends.{AreSends};
-ghost use Rattle.graph_base.specs.declared.line.Parent.{Parent as ParentValue};
-ghost use Rattle.graph_base.specs.Graphs.{source_number, task_at};
-ghost use Rattle.stream_lists.specs.Jobs.{samples_at};
+ghost use Rattle.phase_core.specs.phase_accum.Sends.{AreSends};
+ghost use Rattle.graph_lang.specs.graph_base.declared.line.Parent.{Parent as ParentValue};
+ghost use Rattle.graph_lang.specs.graph_base.Graphs.{source_number, task_at};
+ghost use Rattle.stream_eval.specs.stream_lists.Jobs.{samples_at};
 ghost use Rattle.graph_runs.specs.Nexts.{comes_by};
 ghost use Rattle.stream_job.specs.Plans.{IsPlan, IsTaskPlan, NoneComes, children_of, is_child_of};
 
 use crate::task_state::TaskState;
-use graph_base::Parent;
+use graph_lang::Parent;
 use graph_runs::{is_source, kind_of, parent_of};
 use std::alloc::{AllocError, Global};
-use stream_lists::Job;
+use stream_eval::stream_lists::Job;
 
 /// What the turns of one task ask.
 #[derive(Drop)]

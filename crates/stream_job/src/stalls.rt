@@ -1,12 +1,12 @@
 //! Whether no task can move.
 ghost use Rattle.std.specs.Prelude.{◌≡◌, ◌<◌, ◌&&◌, ◌||◌, ℕ, true, false, nat_le, length, get_or, Some};
 ghost use Rattle.std.specs.List.{list_any, list_all, range_with_len};
-ghost use Rattle.phase_base.specs.Limits.{Limits};
-ghost use Rattle.phase_base.specs.Members.{least, wait_phases};
-ghost use Rattle.phase_history.specs.Histories.{History, members_of, done_of};
-ghost use Rattle.phase_history.specs.Refusals.{is_ahead};
-ghost use Rattle.graph_base.specs.Graphs.{phaser_at, task_at};
-ghost use Rattle.graph_base.specs.Registrations.{signalled_by};
+ghost use Rattle.phase_core.specs.phase_base.Limits.{Limits};
+ghost use Rattle.phase_core.specs.phase_base.Members.{least, wait_phases};
+ghost use Rattle.phase_core.specs.phase_history.Histories.{History, members_of, done_of};
+ghost use Rattle.phase_core.specs.phase_history.Refusals.{is_ahead};
+ghost use Rattle.graph_lang.specs.graph_base.Graphs.{phaser_at, task_at};
+ghost use Rattle.graph_lang.specs.graph_base.Registrations.{signalled_by};
 ghost use Rattle.stream_job.specs.Cores.{CoreStandsFor};
 ghost use Rattle.graph_runs.specs.Moments.{Moment, limits_at, input_at};
 ghost use Rattle.graph_runs.specs.Nexts.{has_signaller, is_live, number_on, signals};
@@ -22,10 +22,10 @@ use crate::machine::Machine;
 use crate::parked::Parked;
 use crate::plan::Plan;
 use crate::step::Step;
-use graph_base::{Op, TASKS_MAX};
+use graph_lang::{Op, TASKS_MAX};
 use graph_runs::{Owed, input_of, output_of};
-use phase_base::PHASES_MAX;
-use stream_lists::Job;
+use phase_core::phase_base::PHASES_MAX;
+use stream_eval::stream_lists::Job;
 
 impl Machine {
     ghost use Rattle.stream_job.specs.Machines.{IsMachineAt, IsMachine, IsLiveIn};

@@ -3,7 +3,7 @@ ghost use Rattle.std.specs.Prelude.{◌≡◌, ◌<◌, ℕ, [], get_or, length,
 ghost use Rattle.std.specs.List.{All};
 ghost use Rattle.stream_job.specs.Parking.{with_task};
 
-use graph_base::TASKS_MAX;
+use graph_lang::TASKS_MAX;
 use smallvec::SmallVec;
 use std::alloc::Global;
 use std::marker::Model;

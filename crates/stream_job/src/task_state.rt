@@ -1,15 +1,15 @@
 //! How far a task has come.
 ghost use Rattle.std.specs.Prelude.{◌≡◌, ◌<◌, not, is_some, length, List, ℤ};
-ghost use Rattle.graph_base.specs.Graphs.{task_at};
+ghost use Rattle.graph_lang.specs.graph_base.Graphs.{task_at};
 ghost use Rattle.graph_runs.specs.Steps.{HasFilter};
 ghost use Rattle.graph_runs.specs.Moments.{Moment};
 ghost use Rattle.graph_runs.specs.Nexts.{first_missing, is_live};
 ghost use Rattle.graph_runs.specs.TaskPlaces.{StandsAt};
 
+use graph_lang::stream_filters::Fir;
 use graph_runs::{Owed, owed_after_wait};
 use smallvec::SmallVec;
-use stream_filters::Fir;
-use stream_lists::Job;
+use stream_eval::stream_lists::Job;
 
 /// Where a task stands.
 #[derive(Drop)]

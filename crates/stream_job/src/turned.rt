@@ -1,7 +1,7 @@
 //! What a turn answers.
 ghost use Rattle.std.specs.Prelude.{◌≡◌, None};
 
-use graph_base::Place;
+use graph_lang::Place;
 
 /// What a turn of a task answers.
 #[derive(Clone, Copy, Debug, PartialEq, Eq)]

@@ -1,7 +1,7 @@
 //! The turn of a task, by what it does next.
 ghost use Rattle.std.specs.Prelude.{◌≡◌, ◌<◌, ℕ, true, length, map, slice_get, Some, None, Ok, IfSome, IfOk, OnOk, OnErr, if◌then◌else◌};
 ghost use Rattle.std.specs.List.{All};
-ghost use Rattle.stream_filters.specs.Range.{ranged};
+ghost use Rattle.graph_lang.specs.stream_filters.Range.{ranged};
 ghost use Rattle.graph_runs.specs.Moments.{Moment};
 ghost use Rattle.graph_runs.specs.Answers.{next_value};
 ghost use Rattle.graph_runs.specs.Nexts as turns;
@@ -9,8 +9,8 @@ ghost use Rattle.graph_runs.specs.Nexts.{is_live, number_on};
 ghost use Rattle.stream_job.specs.Turning.{IsRegistration, HadTurn, told_of};
 ghost use Rattle.stream_job.specs.Inside.{IsNextIn, told_got, with_line, HasRoomIn};
 ghost use Rattle.stream_job.specs.Plans.{IsPlan};
-ghost use Rattle.stream_lists.specs.Jobs.{Job as JobValue};
-ghost use Rattle.stream_lists.specs.Lists.{is_sink_at};
+ghost use Rattle.stream_eval.specs.stream_lists.Jobs.{Job as JobValue};
+ghost use Rattle.stream_eval.specs.stream_lists.Lists.{is_sink_at};
 ghost use Rattle.stream_eval.specs.Results.{sink_values};
 
 use crate::machine::Machine;
@@ -19,15 +19,15 @@ use crate::plan::Plan;
 use crate::step::Step;
 use crate::task_state::TaskState;
 use crate::turned::Turned;
-use graph_base::Place;
+use graph_lang::Place;
 use graph_runs::{
     Owed, input_of, is_sink, number_taken, output_of, owed_after_exchange, owed_after_signal,
     owed_after_wait, turns as laws,
 };
-use phase_accum::Outcome;
+use phase_core::phase_accum::Outcome;
 use phase_core::{Got, RegisterRefusal};
 use std::alloc::AllocError;
-use stream_lists::Job;
+use stream_eval::stream_lists::Job;
 
 impl Machine {
     ghost use Rattle.stream_job.specs.Machines.{IsMachine, IsMachineAt, IsLiveIn, HasRoom, next_by};

@@ -1,7 +1,7 @@
 //! A run of a graph on one thread.
 ghost use Rattle.std.specs.Prelude.{◌≡◌, ◌≢◌, ◌<◌, ℕ, Some, None, [], length, get_or, map, IfOk, OnOk, OnErr, false};
 ghost use Rattle.stream_eval.specs.Results.{sink_values};
-ghost use Rattle.stream_lists.specs.Lists.{sinks_of};
+ghost use Rattle.stream_eval.specs.stream_lists.Lists.{sinks_of};
 ghost use Rattle.graph_runs.specs.Moments.{Moment};
 ghost use Rattle.graph_runs.specs.Beginnings.{opening};
 ghost use Rattle.graph_runs.specs.Nexts.{next_of};
@@ -12,11 +12,11 @@ use crate::parked::Parked;
 use crate::plan::Plan;
 use crate::step::Step;
 use crate::turned::Turned;
-use graph_base::Place;
+use graph_lang::Place;
 use std::alloc::{AllocError, Global};
 use std::marker::Model;
 use stream_eval::Lines;
-use stream_lists::Job;
+use stream_eval::stream_lists::Job;
 
 /// A run of a graph on one thread, which goes on by turns of its tasks.
 ///

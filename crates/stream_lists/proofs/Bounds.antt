@@ -2,8 +2,7 @@
 -- phases. A joiner of m inputs is m times as long as the shortest of them, of which one stands m
 -- phasers above its output or further; sources that follow each other add 2 ^ 26 phases each.
 use Rattle.std.proofs.Common.{◌≡◌, ℕ, zero, suc, ◌+◌, ◌-◌, ◌*◌, ◌%◌, ◌<◌, ◌≤◌, Bool, true, false, ◌&&◌, List, [], ◌∷◌, length, map, get_or, Some, None, ℤ, refl, sym, ap, subst, ◌∙◌, arith, ◌⊎◌, inl, inr}
-use Rattle.std.specs.Prelude.{Option, min, max, nat_le, if◌then◌else◌}
-use Rattle.std.specs.Prelude.{Vec}
+use Rattle.std.specs.Prelude.{Option, min, max, nat_le, if◌then◌else◌, Vec}
 use Rattle.std.specs.Global.{Global}
 use Rattle.std.specs.List.{All, range_with_len, fold}
 use Rattle.std.proofs.lemmas.Bool.{cases_lt, and_parts}
@@ -14,7 +13,7 @@ use Rattle.std.proofs.Math.Nat.{add-mul}
 use native.Mathlib.Nat.{zero-max}
 use Rattle.graph_base.specs.Graphs.{Graph, Task, task_at, source_number}
 use Rattle.graph_base.specs.TaskLines.{IsGraph, IsTaskLine, IsParent, HasEnds, has_children}
-use Rattle.phase_base.specs.Lists.{is_distinct}
+use Rattle.graph_base.specs.phase_base.Lists.{is_distinct}
 use Rattle.graph_base.specs.declared.line.Kind.{Kind}
 use Rattle.graph_base.specs.declared.line.Kind.TheVariants.{Source, Fir, Split, Join, Peer, Sink}
 use Rattle.graph_base.specs.declared.line.Parent.{Parent}

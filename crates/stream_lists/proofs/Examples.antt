@@ -1,9 +1,9 @@
 -- Worked graphs, computed in the definitions. Lines of a graph are separated by a slash.
 use Rattle.std.proofs.Common.{◌≡◌, [], ◌∷◌, List, ℕ, ℤ, pos, neg_ℤ, Some, None, Ok, Err, true, false, map, refl}
-use Rattle.phase_accum.specs.declared.single.Single.{Single}
-use Rattle.phase_accum.specs.declared.single.Single.TheVariants.{Neg, Halve, Clamp}
-use Rattle.phase_base.specs.declared.operation.Op.{Op}
-use Rattle.phase_base.specs.declared.operation.Op.TheVariants.{Sum, Product, Least, Greatest, Any}
+use Rattle.graph_base.specs.phase_accum.declared.single.Single.{Single}
+use Rattle.graph_base.specs.phase_accum.declared.single.Single.TheVariants.{Neg, Halve, Clamp}
+use Rattle.graph_base.specs.phase_base.declared.operation.Op.{Op}
+use Rattle.graph_base.specs.phase_base.declared.operation.Op.TheVariants.{Sum, Product, Least, Greatest, Any}
 use Rattle.graph_base.specs.declared.line.Kind.TheVariants.{Source, Fir, Split, Join, Peer}
 use Rattle.graph_base.specs.declared.place.Place.TheVariants as place
 use Rattle.graph_base.specs.declared.line.PhaserLine.{PhaserLine}

@@ -1,14 +1,14 @@
 -- A block with one value a phase.
 use Rattle.std.proofs.Common.{◌≡◌, ℕ, ℤ, List, [], ◌∷◌, Option, refl, sym, ap, ◌∙◌}
 use Rattle.std.specs.Prelude.{Result, Ok, Err}
-use Rattle.phase_base.specs.Limits.{Limits}
-use Rattle.phase_accum.specs.Operations.{Operation, AccumulateLaws}
-use Rattle.phase_accum.specs.Parcels.{Parcel}
-use Rattle.phase_accum.specs.declared.single.Single.{Single}
-use Rattle.phase_core.specs.Blocks.{StandForLists}
-use Rattle.phase_history.specs.declared.refusal.SignalRefusal.{SignalRefusal}
-use Rattle.phase_history.specs.Histories.{History}
-use Rattle.phase_history.specs.Replies.{after_signal}
+use Rattle.phase_shared.specs.phase_base.Limits.{Limits}
+use Rattle.phase_shared.specs.phase_accum.Operations.{Operation, AccumulateLaws}
+use Rattle.phase_shared.specs.phase_accum.Parcels.{Parcel}
+use Rattle.phase_shared.specs.phase_accum.declared.single.Single.{Single}
+use Rattle.phase_shared.specs.phase_core.Blocks.{StandForLists}
+use Rattle.phase_shared.specs.phase_history.declared.refusal.SignalRefusal.{SignalRefusal}
+use Rattle.phase_shared.specs.phase_history.Histories.{History}
+use Rattle.phase_shared.specs.phase_history.Replies.{after_signal}
 use Rattle.phase_shared.specs.declared.tried.Tried.{Tried}
 use Rattle.phase_shared.specs.declared.tried.Tried.TheVariants.{Busy, Refused}
 use Rattle.phase_shared.specs.Blocks.{SignalsBlock}

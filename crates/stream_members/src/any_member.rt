@@ -1,7 +1,7 @@
 //! A member under one of the operations.
 ghost use Rattle.std.specs.Prelude.{◌≡◌, ◌≢◌, ◌↔◌, Err, IfOk, IfErr, IsOk};
-ghost use Rattle.phase_accum.specs.declared.outcome.TheConstants.{NO_VALUE};
-ghost use Rattle.phase_accum.specs.Values.{value_by};
+ghost use Rattle.phase_shared.specs.phase_accum.declared.outcome.TheConstants.{NO_VALUE};
+ghost use Rattle.phase_shared.specs.phase_accum.Values.{value_by};
 ghost use Rattle.phase_shared.specs.Calls.{Tries, Waits};
 ghost use Rattle.stream_members.specs.Members.{limits_on, IsMember, Stays, IsAlone, HoldsOther, Puts, HasLeft};
 ghost use Rattle.stream_members.specs.AnyMembers.{member_in, member_op, left_in, left_op, AddsAny};
@@ -9,10 +9,10 @@ ghost use Rattle.stream_members.specs.AnyMembers.{member_in, member_op, left_in,
 use crate::any_left::AnyLeft;
 use crate::member::Member;
 use crate::refusal::PutRefusal;
-use phase_accum::{Any, Greatest, Least, Product, Single, Sum};
-use phase_base::Mode;
-use phase_core::{Got, RegisterRefusal, SignalRefusal, WaitRefusal};
 use phase_shared::Tried;
+use phase_shared::phase_accum::{Any, Greatest, Least, Product, Single, Sum};
+use phase_shared::phase_base::Mode;
+use phase_shared::phase_core::{Got, RegisterRefusal, SignalRefusal, WaitRefusal};
 use std::sync::Wait;
 
 /// A member, by the operation of its phaser. Each call is the one of `Member` of the same name.

@@ -1,7 +1,7 @@
 //! A registration with its phaser, which puts one value with each signal.
 ghost use Rattle.std.specs.Prelude.{◌≡◌, ◌≢◌, ◌↔◌, ℤ, List, None, Err, IfOk, IfErr, IsOk};
-ghost use Rattle.phase_accum.specs.declared.outcome.TheConstants.{NO_VALUE};
-ghost use Rattle.phase_core.specs.Blocks.{StandForLists};
+ghost use Rattle.phase_shared.specs.phase_accum.declared.outcome.TheConstants.{NO_VALUE};
+ghost use Rattle.phase_shared.specs.phase_core.Blocks.{StandForLists};
 ghost use Rattle.phase_shared.specs.Blocks.{SignalsBlock, WaitsBlock};
 ghost use Rattle.phase_shared.specs.Calls.{Tries, Waits};
 ghost use Rattle.phase_shared.specs.Regs.{phaser_place};
@@ -9,9 +9,9 @@ ghost use Rattle.stream_members.specs.Members.{limits_on, member_state, IsMember
 
 use crate::left::Left;
 use crate::refusal::PutRefusal;
-use phase_accum::{Accumulate, NO_VALUE, Outcome, Pending, Single};
-use phase_base::Mode;
-use phase_core::{Got, GotBlock, RegisterRefusal, SignalRefusal, WaitRefusal};
+use phase_shared::phase_accum::{Accumulate, NO_VALUE, Outcome, Pending, Single};
+use phase_shared::phase_base::Mode;
+use phase_shared::phase_core::{Got, GotBlock, RegisterRefusal, SignalRefusal, WaitRefusal};
 use phase_shared::{NoRule, Phaser, Reg, Tried};
 use std::marker::Model;
 use std::sync::Wait;

@@ -1,5 +1,5 @@
 //! Why a value was not put.
-use phase_core::SignalRefusal;
+use phase_shared::phase_core::SignalRefusal;
 
 /// Why a value was not put. The variants stand in the order in which they are checked.
 #[derive(Clone, Copy, Debug, PartialEq, Eq)]

@@ -2,13 +2,13 @@
 use Rattle.std.proofs.Common.{◌≡◌, ℕ, zero, suc, ◌+◌, ◌<◌, ◌≤◌, Bool, true, false, cond, List, [], ◌∷◌, Option, Some, None, ℤ, length, map, get_or, slice_get, refl, sym, ap, subst, ◌∙◌, arith, ◌⊎◌, inl, inr}
 use Rattle.std.specs.List.{filter, range_with_len}
 use Rattle.std.proofs.lemmas.Option.{slice_get-get_or}
-use Rattle.phase_history.specs.Histories.{History}
-use Rattle.phase_history.specs.Legal.{IsLegal}
-use Rattle.phase_history.specs.Others.{OthersCame}
-use Rattle.phase_base.specs.Lists.{is_in}
-use Rattle.phase_base.specs.Limits.{Limits}
-use Rattle.stream_lists.specs.Jobs.{Job}
-use Rattle.stream_lists.specs.Lists.{sinks_of, is_sink_at}
+use Rattle.graph_runs.specs.phase_history.Histories.{History}
+use Rattle.graph_runs.specs.phase_history.Legal.{IsLegal}
+use Rattle.graph_runs.specs.phase_history.Others.{OthersCame}
+use Rattle.graph_runs.specs.phase_base.Lists.{is_in}
+use Rattle.graph_runs.specs.phase_base.Limits.{Limits}
+use Rattle.stream_eval.specs.stream_lists.Jobs.{Job}
+use Rattle.stream_eval.specs.stream_lists.Lists.{sinks_of, is_sink_at}
 use Rattle.graph_runs.specs.Moments.{limits_at}
 use Rattle.stream_members.specs.Members.{Spot, limits_on}
 use Rattle.stream_members.specs.AnyMembers.{left_in}

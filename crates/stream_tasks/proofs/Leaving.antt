@@ -2,7 +2,7 @@
 use Rattle.std.proofs.Common.{◌≡◌, ℕ, zero, suc, ◌+◌, ◌<◌, ◌≤◌, Bool, true, false, cond, eqb, List, [], ◌∷◌, ◌++◌, Some, length, map, take, get_or, refl, sym, ap, subst, ◌∙◌, arith}
 use Rattle.std.specs.Global.{Global}
 use Rattle.std.specs.Prelude.{slice_get, ◌==◌, Vec}
-use Rattle.stream_lists.specs.Jobs.{Job}
+use Rattle.stream_eval.specs.stream_lists.Jobs.{Job}
 use Rattle.stream_members.specs.Members.{Spot}
 use Rattle.stream_members.specs.declared.any_left.AnyLeft.{AnyLeft}
 use Rattle.graph_runs.specs.TaskEnds.{HasLeftAt, HasNumbers}

@@ -5,13 +5,13 @@ use Rattle.std.specs.Vec.{with_item}
 use Rattle.std.specs.Prelude.{slice_get, is_some, Option, Bool, Vec}
 use Rattle.std.proofs.lemmas.List.{length-set, get_or-set_same}
 use Rattle.std.proofs.lemmas.Option.{slice_get-get_or, same_Some}
-use Rattle.stream_filters.specs.Filter.{FirState}
-use Rattle.phase_history.specs.Histories.{History}
-use Rattle.graph_base.specs.declared.line.Kind.TheVariants.{Sink}
-use Rattle.graph_base.specs.declared.registration.Registration.{Registration}
-use Rattle.graph_base.specs.Graphs.{task_at, phaser_at}
-use Rattle.graph_base.specs.TaskLines.{IsGraph}
-use Rattle.stream_lists.specs.Jobs.{Job}
+use Rattle.stream_eval.specs.stream_filters.Filter.{FirState}
+use Rattle.graph_runs.specs.phase_history.Histories.{History}
+use Rattle.graph_runs.specs.graph_base.declared.line.Kind.TheVariants.{Sink}
+use Rattle.graph_runs.specs.graph_base.declared.registration.Registration.{Registration}
+use Rattle.graph_runs.specs.graph_base.Graphs.{task_at, phaser_at}
+use Rattle.graph_runs.specs.graph_base.TaskLines.{IsGraph}
+use Rattle.stream_eval.specs.stream_lists.Jobs.{Job}
 use Rattle.graph_runs.specs.Moments.{Moment}
 use Rattle.graph_runs.specs.Moves.{SameTask}
 use Rattle.stream_members.specs.Members.{Spot}
@@ -30,7 +30,7 @@ use Rattle.graph_runs.proofs.KnownOthers.{known_moved}
 use Rattle.graph_runs.proofs.FollowsPlace.{seen_follows, put_follows}
 use Rattle.graph_runs.proofs.Signalling.{owed}
 use Rattle.graph_runs.proofs.Standing.{of_output}
-use Rattle.graph_base.specs.Registrations.{signalled_by}
+use Rattle.graph_runs.specs.graph_base.Registrations.{signalled_by}
 use Rattle.graph_runs.proofs.TellsNext.{next_value_is, owes_as}
 use Rattle.graph_runs.specs.Turned.{after_signal}
 use Rattle.graph_runs.specs.Steps.{owed_of, HasFilter}

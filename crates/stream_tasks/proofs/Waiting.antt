@@ -3,19 +3,19 @@ use Rattle.std.proofs.Common.{◌≡◌, ◌≢◌, ℕ, zero, suc, ◌+◌, ◌
 use Rattle.std.specs.Global.{Global}
 use Rattle.std.specs.Vec.{with_item}
 use Rattle.std.specs.Prelude.{slice_get, Option, Bool, Vec}
-use Rattle.stream_filters.specs.Filter.{FirState}
-use Rattle.phase_accum.specs.Values.{value_by}
-use Rattle.phase_accum.specs.declared.outcome.Outcome.{Outcome}
-use Rattle.phase_history.specs.declared.event.Event.TheVariants.{Waited}
-use Rattle.phase_history.specs.declared.got.Got.TheVariants.{Ended}
-use Rattle.phase_history.specs.Histories.{History}
-use Rattle.phase_history.specs.Replies.{wait_reply}
-use Rattle.phase_history.specs.Phases.{received_by}
-use Rattle.graph_base.specs.declared.line.Kind.TheVariants as kind
-use Rattle.graph_base.specs.Graphs.{Task, task_at, phaser_at}
-use Rattle.graph_base.specs.TaskLines.{IsGraph}
-use Rattle.stream_lists.specs.Jobs.{Job, samples_at}
-use Rattle.stream_lists.specs.Lists.{number}
+use Rattle.stream_eval.specs.stream_filters.Filter.{FirState}
+use Rattle.graph_runs.specs.phase_accum.Values.{value_by}
+use Rattle.graph_runs.specs.phase_accum.declared.outcome.Outcome.{Outcome}
+use Rattle.graph_runs.specs.phase_history.declared.event.Event.TheVariants.{Waited}
+use Rattle.graph_runs.specs.phase_history.declared.got.Got.TheVariants.{Ended}
+use Rattle.graph_runs.specs.phase_history.Histories.{History}
+use Rattle.graph_runs.specs.phase_history.Replies.{wait_reply}
+use Rattle.graph_runs.specs.phase_history.Phases.{received_by}
+use Rattle.graph_runs.specs.graph_base.declared.line.Kind.TheVariants as kind
+use Rattle.graph_runs.specs.graph_base.Graphs.{Task, task_at, phaser_at}
+use Rattle.graph_runs.specs.graph_base.TaskLines.{IsGraph}
+use Rattle.stream_eval.specs.stream_lists.Jobs.{Job, samples_at}
+use Rattle.stream_eval.specs.stream_lists.Lists.{number}
 use Rattle.graph_runs.specs.Moments.{Moment, input_at, first_input, limits_at, value_at}
 use Rattle.stream_members.specs.Members.{Spot, limits_on}
 use Rattle.stream_members.specs.AnyMembers.{member_in, member_op}

@@ -1,7 +1,7 @@
 -- What a task leaves behind.
 use Rattle.std.specs.Prelude.{◌≡◌, ℕ, ◌<◌, ◌≤◌, ◌==◌, List, [], ◌∷◌, length, map, slice_get, Some, true, false, if◌then◌else◌}
-use Rattle.graph_base.specs.Graphs.{phaser_at}
-use Rattle.stream_lists.specs.Jobs.{Job}
+use Rattle.graph_runs.specs.graph_base.Graphs.{phaser_at}
+use Rattle.stream_eval.specs.stream_lists.Jobs.{Job}
 use Rattle.graph_runs.specs.Moments.{Moment, limits_at}
 use Rattle.stream_members.specs.Members.{Spot, limits_on}
 use Rattle.stream_members.specs.AnyMembers.{left_in, left_op}

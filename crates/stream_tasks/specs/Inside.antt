@@ -1,20 +1,20 @@
 -- What the code keeps of a task between threads: its children, its seed, and what it holds.
 use Rattle.std.specs.Prelude.{◌≡◌, ℕ, ◌<◌, ◌≤◌, List, [], ◌∷◌, length, slice_get, Some, false, ◌++◌, Option, ◌+◌, slice_set, None, ◌≢◌}
-use Rattle.stream_lists.specs.Jobs.{Job}
+use Rattle.stream_eval.specs.stream_lists.Jobs.{Job}
 use Rattle.graph_runs.specs.Moments.{Moment}
 use Rattle.stream_members.specs.Members.{Spot}
 use Rattle.graph_runs.specs.TaskPlaces.{registration_at}
 use Rattle.stream_tasks.specs.declared.task_left.Given.{Given as GivenNumbers}
-use Rattle.phase_accum.specs.declared.outcome.Outcome.{Outcome}
-use Rattle.stream_lists.specs.Lists.{number}
-use Rattle.stream_lists.specs.Ranges.{is_too_big}
+use Rattle.graph_runs.specs.phase_accum.declared.outcome.Outcome.{Outcome}
+use Rattle.stream_eval.specs.stream_lists.Lists.{number}
+use Rattle.stream_eval.specs.stream_lists.Ranges.{is_too_big}
 use Rattle.stream_members.specs.AnyMembers.{member_in}
 use Rattle.stream_members.specs.declared.any_member.AnyMember.{AnyMember}
-use Rattle.graph_base.specs.declared.registration.Registration.{Registration}
+use Rattle.graph_runs.specs.graph_base.declared.registration.Registration.{Registration}
 use Rattle.graph_runs.specs.Nexts.{registrations_at, is_cut}
 use Rattle.graph_runs.specs.declared.owed.Owed.TheVariants.{Nothing}
-use Rattle.graph_base.specs.declared.line.Parent.{Parent}
-use Rattle.graph_base.specs.Graphs.{task_at}
+use Rattle.graph_runs.specs.graph_base.declared.line.Parent.{Parent}
+use Rattle.graph_runs.specs.graph_base.Graphs.{task_at}
 use Rattle.graph_runs.specs.Places.{HasChildrenBy}
 use Rattle.stream_tasks.specs.declared.child.Child.{Child}
 use Rattle.stream_tasks.specs.declared.task_state.TaskState.{TaskState}

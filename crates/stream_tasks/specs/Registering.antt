@@ -1,10 +1,10 @@
 -- A child while its parent registers it: the parent's moment serves both.
 use Rattle.std.specs.Prelude.{◌≡◌, ℕ, ◌<◌, List, length, get_or, slice_get, Option, Some, None, false}
-use Rattle.phase_base.specs.declared.mode.Mode.{Mode}
-use Rattle.phase_history.specs.declared.event.Event.{Event}
-use Rattle.phase_history.specs.declared.event.Event.TheVariants.{Registered}
-use Rattle.phase_history.specs.Histories.{History}
-use Rattle.stream_lists.specs.Jobs.{Job}
+use Rattle.graph_runs.specs.phase_base.declared.mode.Mode.{Mode}
+use Rattle.graph_runs.specs.phase_history.declared.event.Event.{Event}
+use Rattle.graph_runs.specs.phase_history.declared.event.Event.TheVariants.{Registered}
+use Rattle.graph_runs.specs.phase_history.Histories.{History}
+use Rattle.stream_eval.specs.stream_lists.Jobs.{Job}
 use Rattle.graph_runs.specs.Moments.{Moment}
 use Rattle.stream_members.specs.Members.{Spot}
 use Rattle.stream_members.specs.AnyMembers.{member_in, member_op}

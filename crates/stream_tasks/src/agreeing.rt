@@ -1,13 +1,13 @@
 //! Whether what the tasks know of one another agrees.
 ghost use Rattle.std.specs.Prelude.{◌≡◌, ◌<◌, ℕ, true, length, slice_get, IfSome, None};
-ghost use Rattle.graph_base.specs.TaskLines.{IsGraph};
+ghost use Rattle.graph_runs.specs.graph_base.TaskLines.{IsGraph};
 ghost use Rattle.stream_tasks.specs.declared.task_left.Part.{Part as PartValue};
 ghost use Rattle.stream_tasks.specs.Joinings.{IsAt};
 ghost use Rattle.stream_tasks.specs.TaskLefts.{given_to};
 ghost use Rattle.stream_tasks.specs.Agreeing.{Agrees};
 
 use crate::task_left::{Given, Part};
-use stream_lists::Job;
+use stream_eval::stream_lists::Job;
 
 /// What task number `t` knows of itself, where it came.
 pub(crate) fn part_at(parts: &[Option<Part>], t: usize) -> Option<&Part>

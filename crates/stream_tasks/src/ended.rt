@@ -1,6 +1,6 @@
 //! What a task leaves behind.
 ghost use Rattle.std.specs.Prelude.{◌≡◌, ℕ, IfOk};
-ghost use Rattle.stream_lists.specs.Jobs.{Job};
+ghost use Rattle.stream_eval.specs.stream_lists.Jobs.{Job};
 ghost use Rattle.stream_members.specs.Members.{Spot};
 ghost use Rattle.stream_tasks.specs.TaskLefts.{IsTaskLeft};
 ghost use Rattle.stream_tasks.specs.Ends.{IsEnded};

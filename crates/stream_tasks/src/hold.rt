@@ -1,17 +1,17 @@
 //! What a task holds of a phaser.
 ghost use Rattle.std.specs.Prelude.{◌≡◌, IfErr, IfOk, OnErr, OnOk};
-ghost use Rattle.stream_lists.specs.Lists.{number};
+ghost use Rattle.stream_eval.specs.stream_lists.Lists.{number};
 ghost use Rattle.stream_tasks.specs.Holds.{GoesOn, HasSignalled, HasGot, HasSeenOthers, Leaves};
 ghost use Rattle.stream_tasks.specs.Inside.{IsGivenAs};
 ghost use Rattle.stream_tasks.specs.Registering.{AddsTo};
 
 use crate::held::Held;
-use phase_accum::{Outcome, Single};
-use phase_base::Mode;
-use phase_core::{Got, RegisterRefusal, SignalRefusal, WaitRefusal, laws};
-use phase_shared::Tried;
+use graph_runs::phase_accum::{Outcome, Single};
+use graph_runs::phase_base::Mode;
 use std::mem;
 use std::sync::Wait;
+use stream_members::phase_core::{Got, RegisterRefusal, SignalRefusal, WaitRefusal, laws};
+use stream_members::phase_shared::Tried;
 use stream_members::{AnyLeft, AnyMember, PutRefusal};
 
 /// What a task holds of a phaser: its registration, until it leaves.

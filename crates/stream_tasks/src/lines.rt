@@ -1,14 +1,14 @@
 //! What the sinks have taken.
 ghost use Rattle.std.specs.Prelude.{◌≡◌, ◌<◌, length, map, IfOk};
 ghost use Rattle.stream_eval.specs.Results.{sink_values};
-ghost use Rattle.stream_lists.specs.Lists.{is_sink_at, sinks_of};
+ghost use Rattle.stream_eval.specs.stream_lists.Lists.{is_sink_at, sinks_of};
 ghost use Rattle.stream_tasks.specs.TaskLefts.{part_lines, lines_at};
 
 use crate::task_left::Part;
-use graph_base::Kind;
+use graph_runs::graph_base::Kind;
 use std::alloc::{AllocError, Global};
 use stream_eval::Lines;
-use stream_lists::Job;
+use stream_eval::stream_lists::Job;
 
 /// Whether task number `t` is a sink.
 fn is_sink(job: &Job, t: usize) -> bool

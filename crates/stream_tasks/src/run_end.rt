@@ -2,7 +2,7 @@
 ghost use Rattle.std.specs.Prelude.{◌≡◌, ◌<◌, [], ℕ, Ok, length, map, get_or, IfOk, IfSome};
 ghost use Rattle.stream_members.specs.Members.{Spot};
 ghost use Rattle.stream_eval.specs.Results.{sink_values};
-ghost use Rattle.stream_lists.specs.Ranges.{answer_of};
+ghost use Rattle.stream_eval.specs.stream_lists.Ranges.{answer_of};
 ghost use Rattle.stream_tasks.specs.declared.task_left.TaskLeft.{TaskLeft as TaskLeftValue};
 ghost use Rattle.stream_tasks.specs.Joinings.{IsAt};
 ghost use Rattle.stream_tasks.specs.TaskLefts.{IsTaskLeft, AreFounders};
@@ -15,7 +15,7 @@ use crate::task_left::TaskLeft;
 use graph_runs::ends::runs_end;
 use std::alloc::{AllocError, Global};
 use stream_eval::Lines;
-use stream_lists::Job;
+use stream_eval::stream_lists::Job;
 use stream_members::AnyLeft;
 
 /// What the sinks have taken, where what the tasks and the founders leave behind agrees: then it is

@@ -4,7 +4,7 @@ ghost use Rattle.stream_members.specs.Members.{Spot};
 ghost use Rattle.stream_tasks.specs.Openings.{IsRootMember};
 ghost use Rattle.stream_tasks.specs.Seeds.{seed_state, IsSeed, HasRoom, HasReceived, AreChildrenBelow};
 ghost use Rattle.stream_tasks.specs.Inside.{TellsChild};
-ghost use Rattle.stream_lists.specs.Jobs.{Job as JobValue};
+ghost use Rattle.stream_eval.specs.stream_lists.Jobs.{Job as JobValue};
 
 use crate::child::Child;
 use crate::hold::Hold;
@@ -13,7 +13,7 @@ use graph_runs::{Owed, first_filter, parent_of};
 use smallvec::SmallVec;
 use std::alloc::{AllocError, Global};
 use std::sync::Wait;
-use stream_lists::Job;
+use stream_eval::stream_lists::Job;
 use stream_members::AnyMember;
 
 /// A task before it is registered on all phasers of its line, with all the memory that it will

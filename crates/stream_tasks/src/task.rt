@@ -1,7 +1,7 @@
 //! A task with its registrations.
 ghost use Rattle.std.specs.Prelude.{◌≡◌, length, None, IfErr, IfOk};
 ghost use Rattle.stream_tasks.specs.Ends.{IsEnded};
-ghost use Rattle.graph_base.specs.Graphs.{task_at};
+ghost use Rattle.graph_runs.specs.graph_base.Graphs.{task_at};
 ghost use Rattle.graph_runs.specs.Nexts.{registrations_at};
 ghost use Rattle.stream_tasks.specs.Seeds.{seed_state, IsSeed, HasRoom, HasReceived};
 
@@ -16,7 +16,7 @@ use graph_runs::beginnings::roots_begin;
 use graph_runs::ends::first_calls;
 use std::marker::{Model, PhantomData};
 use std::sync::Wait;
-use stream_lists::Job;
+use stream_eval::stream_lists::Job;
 
 /// A task of a run with its registrations: whoever has it makes its next event.
 ///

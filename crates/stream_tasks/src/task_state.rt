@@ -8,7 +8,7 @@ use crate::hold::Hold;
 use graph_runs::Owed;
 use smallvec::SmallVec;
 use std::sync::Wait;
-use stream_filters::Fir;
+use stream_eval::stream_filters::Fir;
 use stream_members::AnyLeft;
 
 /// How far a task has come, with its registrations.

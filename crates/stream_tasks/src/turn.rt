@@ -1,8 +1,8 @@
 //! One event of a task.
 ghost use Rattle.std.specs.Prelude.{◌≡◌, ◌≢◌, ◌<◌, ℕ, [], ◌∷◌, ◌++◌, Ok, true, false, vec_len, vec_capacity};
-ghost use Rattle.graph_base.specs.Graphs.{task_at};
-ghost use Rattle.graph_base.specs.declared.line.Kind.TheVariants as kind;
-ghost use Rattle.stream_lists.specs.Jobs.{Job as JobValue};
+ghost use Rattle.graph_runs.specs.graph_base.Graphs.{task_at};
+ghost use Rattle.graph_runs.specs.graph_base.declared.line.Kind.TheVariants as kind;
+ghost use Rattle.stream_eval.specs.stream_lists.Jobs.{Job as JobValue};
 ghost use Rattle.stream_members.specs.Members.{Spot};
 ghost use Rattle.graph_runs.specs.declared.owed.Owed.TheVariants.{Value, Exchange, Nothing};
 ghost use Rattle.graph_runs.specs.Nexts.{is_cut};
@@ -17,7 +17,7 @@ use graph_runs::{
     Owed, first_input_of, input_of, is_sink, is_source, kind_of, output_of, owed_after_exchange,
     owed_after_signal, owed_after_wait, until_of,
 };
-use stream_lists::Job;
+use stream_eval::stream_lists::Job;
 
 impl<'a> TaskState<'a> {
     /// Makes the next event, where it can and no child comes first.

@@ -2,10 +2,10 @@
 use Rattle.std.proofs.Common.{◌≡◌, ℕ, zero, suc, List, [], ◌∷◌, ◌++◌, length, Some, None, sym, subst}
 use Rattle.std.specs.Prelude.{take, Option, IfSome}
 use Rattle.std.proofs.Math.Seq.{take-append_seam}
-use Rattle.stream_members.specs.Members.{Spot}
+use Rattle.stream_tasks.specs.stream_members.Members.{Spot}
 use Rattle.stream_tasks.specs.declared.ended.Ended.{Ended}
 use Rattle.stream_tasks.specs.Ends.{IsEnded}
-use Rattle.stream_lists.specs.Jobs.{Job}
+use Rattle.stream_tasks.specs.stream_lists.Jobs.{Job}
 use Rattle.stream_workers.specs.Ended.{AreEnded}
 
 -- one that has ended, if there is one, stands in an option

@@ -2,13 +2,13 @@
 use Rattle.std.proofs.Common.{◌≡◌, ℕ, ℤ, zero, suc, ◌<◌, List, [], ◌∷◌, ◌++◌, length, map, Option, Some, None, refl, sym, ap, subst, ◌∙◌, arith}
 use Rattle.std.specs.Global.{Global}
 use Rattle.std.specs.Prelude.{Vec, slice_get, get_or, ◌==◌, if◌then◌else◌}
-use Rattle.phase_history.specs.Histories.{History}
-use Rattle.stream_lists.specs.Jobs.{Job}
-use Rattle.stream_members.specs.Members.{Spot}
-use Rattle.stream_members.specs.AnyMembers.{left_in}
-use Rattle.stream_members.specs.declared.any_left.AnyLeft.{AnyLeft}
-use Rattle.graph_runs.specs.Moments.{Moment}
-use Rattle.graph_runs.specs.TaskEnds.{HasLeftAt, HasNumbers, HasFoundedAndLeft}
+use Rattle.stream_tasks.specs.phase_history.Histories.{History}
+use Rattle.stream_tasks.specs.stream_lists.Jobs.{Job}
+use Rattle.stream_tasks.specs.stream_members.Members.{Spot}
+use Rattle.stream_tasks.specs.stream_members.AnyMembers.{left_in}
+use Rattle.stream_tasks.specs.stream_members.declared.any_left.AnyLeft.{AnyLeft}
+use Rattle.stream_tasks.specs.graph_runs.Moments.{Moment}
+use Rattle.stream_tasks.specs.graph_runs.TaskEnds.{HasLeftAt, HasNumbers, HasFoundedAndLeft}
 use Rattle.stream_tasks.specs.Openings.{HaveFoundersLeft}
 use Rattle.stream_tasks.specs.declared.founder.FounderLeft.{FounderLeft}
 use Rattle.stream_tasks.specs.Ends.{IsEnded, IsLeftOn, given_to as given_by}

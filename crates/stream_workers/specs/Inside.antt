@@ -1,13 +1,13 @@
 -- What the code keeps while runs end.
 use Rattle.std.specs.Prelude.{ℕ, Option, Some, None}
-use Rattle.stream_members.specs.Members.{Spot}
+use Rattle.stream_tasks.specs.stream_members.Members.{Spot}
 use Rattle.stream_tasks.specs.Ends.{IsEnded}
 use Rattle.stream_tasks.specs.declared.ended.Ended.{Ended}
 use Rattle.stream_tasks.specs.declared.child.Child.{Child}
 use Rattle.stream_tasks.specs.TaskLefts.{IsTaskLeft}
 use Rattle.stream_tasks.specs.declared.task_left.Given.{Given}
 use Rattle.stream_tasks.specs.declared.task_left.TaskLeft.{TaskLeft}
-use Rattle.stream_lists.specs.Jobs.{Job}
+use Rattle.stream_tasks.specs.stream_lists.Jobs.{Job}
 
 -- where a task has ended, this is what it has left
 abbrev pub Follows : Job → (ℕ → Spot) → Option Ended → Option TaskLeft → Type 0

@@ -8,8 +8,8 @@ use crate::opening::open_pool;
 use std::alloc::Global;
 use std::sync::Wait;
 use std::thread::Threads;
-use stream_lists::Job;
-use stream_members::{AnyPhaser, AnyReg};
+use stream_tasks::stream_lists::Job;
+use stream_tasks::stream_members::{AnyPhaser, AnyReg};
 use stream_tasks::{Ended, FounderLeft, Gate, Run, dismiss_founders, found, leave_all};
 use worker_pool::Fault;
 

@@ -1,22 +1,22 @@
 //! What the founders and the tasks of a run leave behind, taken to the end.
 ghost use Rattle.std.specs.Prelude.{◌≡◌, [], ℕ, Ok, Some, length, map, get_or, slice_get, IfOk, IfSome};
-ghost use Rattle.graph_runs.specs.TaskEnds.{HasLeftAt};
-ghost use Rattle.stream_members.specs.Members.{Spot};
+ghost use Rattle.stream_tasks.specs.graph_runs.TaskEnds.{HasLeftAt};
+ghost use Rattle.stream_tasks.specs.stream_members.Members.{Spot};
 ghost use Rattle.stream_tasks.specs.Openings.{HaveFoundersLeft};
 ghost use Rattle.stream_tasks.specs.Ends.{IsEnded};
 ghost use Rattle.stream_tasks.specs.declared.ended.Ended.{Ended as EndedValue};
 ghost use Rattle.stream_tasks.specs.TaskLefts.{IsTaskLeft};
 ghost use Rattle.stream_tasks.specs.Joinings.{IsAt};
 ghost use Rattle.stream_tasks.specs.declared.task_left.TaskLeft.{TaskLeft as TaskLeftValue};
-ghost use Rattle.stream_eval.specs.Results.{sink_values};
-ghost use Rattle.stream_lists.specs.Jobs.{Job as JobValue};
-ghost use Rattle.stream_lists.specs.Ranges.{answer_of};
+ghost use Rattle.stream_tasks.specs.stream_eval.Results.{sink_values};
+ghost use Rattle.stream_tasks.specs.stream_lists.Jobs.{Job as JobValue};
+ghost use Rattle.stream_tasks.specs.stream_lists.Ranges.{answer_of};
 ghost use Rattle.stream_workers.specs.Inside.{Follows, given_on};
 
 use std::alloc::{AllocError, Global};
-use stream_eval::Lines;
-use stream_lists::Job;
-use stream_members::AnyLeft;
+use stream_tasks::stream_eval::Lines;
+use stream_tasks::stream_lists::Job;
+use stream_tasks::stream_members::AnyLeft;
 use stream_tasks::{Child, Ended, FounderLeft, Given, Part, Run, TaskLeft, finish};
 
 /// The numbers that a task gave to its children.

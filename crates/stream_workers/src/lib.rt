@@ -22,5 +22,6 @@ mod opening;
 mod slot;
 mod whole;
 
-pub use stream_tasks::{Gate, Open};
+pub use stream_tasks::{Gate, Open, phase_shared, stream_members};
 pub use whole::{RunFault, run};
+pub use worker_pool;

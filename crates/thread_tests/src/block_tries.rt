@@ -1,9 +1,9 @@
 //! Blocks of phases and waiters that join now, call by call.
 use crate::blocks::{UNWRITTEN, lists_of, pair_on};
-use phase_accum::{Outcome, Sum};
-use phase_base::{Mode, Spec};
-use phase_core::{Got, GotBlock, RegisterRefusal, SignalRefusal, WaitRefusal};
-use phase_shared::{NoRule, Phaser, Tried};
+use phase_received::phase_accum::{Outcome, Sum};
+use phase_received::phase_base::{Mode, Spec};
+use phase_received::phase_core::{Got, GotBlock, RegisterRefusal, SignalRefusal, WaitRefusal};
+use phase_received::phase_shared::{NoRule, Phaser, Tried};
 use std::test::Fail;
 
 #[test]

@@ -2,7 +2,7 @@
 use Rattle.std.proofs.Common.{◌∙◌, sym, subst}
 use Rattle.std.specs.Prelude.{List}
 use mathlib.Core.List.{IsPrefix}
-use Rattle.phase_accum.specs.declared.outcome.Outcome.{Outcome}
+use Rattle.phase_history.specs.phase_accum.declared.outcome.Outcome.{Outcome}
 use Rattle.phase_history.specs.Phases.{stream_of}
 use Rattle.stream_lists.proofs.ListsAbove.{lists_above}
 use Rattle.graph_runs.specs.Moments.{value_at, started}

@@ -1,5 +1,5 @@
 -- By what the table looks at, and then by the law of the event.
-use Rattle.graph_base.specs.TaskLines.{IsGraph}
+use Rattle.stream_lists.specs.graph_base.TaskLines.{IsGraph}
 use Rattle.stream_lists.specs.Jobs.{Job}
 use Rattle.graph_runs.specs.Moments.{Moment, HasRun}
 use Rattle.graph_runs.specs.TaskEvents.{TaskEvent, sample, signal, first_wait, exchange_wait, leave, child, after_turn, IsNext}

@@ -1,6 +1,6 @@
 -- By what the turn answers, and for turns in a row one after the other.
 use Rattle.std.proofs.Common.{◌≡◌, ℕ, List, [], ◌∷◌, refl, ap, ◌∙◌}
-use Rattle.graph_base.specs.TaskLines.{IsGraph}
+use Rattle.stream_lists.specs.graph_base.TaskLines.{IsGraph}
 use Rattle.stream_lists.specs.Jobs.{Job}
 use Rattle.graph_runs.specs.Moments.{Moment, HasRun}
 use Rattle.graph_runs.specs.TaskEvents.{TaskEvent, after_turn}

@@ -1,6 +1,6 @@
 -- Each is the next event, as a test says.
 use Rattle.std.proofs.Common.{[], ◌∷◌, pos, refl, arith}
-use Rattle.phase_accum.specs.declared.outcome.Outcome.TheVariants.{Value}
+use Rattle.stream_job.specs.phase_accum.declared.outcome.Outcome.TheVariants.{Value}
 use Rattle.graph_tests.specs.WorkedBlocks.{in_blocks, block_opening, three_samples, three_waits, three_signals, after_three_samples, after_three_waits}
 use Rattle.graph_tests.proofs.BlockTests.{is_next_block}
 use Rattle.graph_tests.proofs.WorkedBlocks.{in_blocks-is}

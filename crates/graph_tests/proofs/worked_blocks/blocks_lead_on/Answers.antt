@@ -1,8 +1,8 @@
 -- Event by event, by the laws.
 use Rattle.std.proofs.Common.{[], ◌∷◌}
-use Rattle.graph_base.specs.TaskLines.{IsGraph}
-use Rattle.stream_lists.specs.Jobs.{Job}
-use Rattle.graph_runs.specs.Moments.{Moment, HasRun}
+use Rattle.stream_job.specs.graph_base.TaskLines.{IsGraph}
+use Rattle.stream_job.specs.stream_lists.Jobs.{Job}
+use Rattle.stream_job.specs.graph_runs.Moments.{Moment, HasRun}
 use Rattle.graph_tests.specs.BlockRuns.{BlockEvent, samples, signals, first_waits, turn, after_block, IsNextBlock}
 use Rattle.graph_tests.proofs.BlockTests.{run_in_blocks}
 use Rattle.graph_tests.proofs.worked_blocks.blocks_lead_on.Goals as goal

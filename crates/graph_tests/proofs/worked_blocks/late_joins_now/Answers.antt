@@ -1,6 +1,6 @@
 -- By the laws, from the moment before.
 use Rattle.std.proofs.Common.{ℕ, [], ◌∷◌, refl, arith}
-use Rattle.phase_history.specs.declared.event.Event.TheVariants.{RegisteredNow}
+use Rattle.stream_job.specs.phase_history.declared.event.Event.TheVariants.{RegisteredNow}
 use Rattle.graph_tests.specs.WorkedBlocks.{in_blocks, before_join, after_join, by_out_at_3}
 use Rattle.graph_tests.proofs.Histories.{event_begins, grown}
 use Rattle.graph_tests.proofs.WorkedBlocks.{in_blocks-is, late-next}

@@ -1,8 +1,8 @@
 -- One fact of each premise does not hold.
 use Rattle.std.proofs.Common.{◌≡◌, ◌<◌, ◌≤◌, ℕ, List, length, [], ◌∷◌, Option, Some, None, refl, arith, inr}
-use Rattle.graph_base.specs.Graphs.{task_at}
-use Rattle.stream_lists.specs.Jobs.{samples_at}
-use Rattle.graph_runs.specs.Moments.{MayEnd, at_until, no_sample, no_input}
+use Rattle.stream_job.specs.graph_base.Graphs.{task_at}
+use Rattle.stream_job.specs.stream_lists.Jobs.{samples_at}
+use Rattle.stream_job.specs.graph_runs.Moments.{MayEnd, at_until, no_sample, no_input}
 use Rattle.graph_tests.specs.Worked.{worked, after_peer, by_out}
 use Rattle.graph_tests.proofs.worked_events.events_that_are_not_next.Goals as goal
 

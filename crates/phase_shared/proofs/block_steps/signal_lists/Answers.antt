@@ -2,12 +2,12 @@ use Rattle.std.proofs.Common.{◌≡◌, ℕ, ℤ, List, [], ◌∷◌, length, 
 use Rattle.std.specs.Prelude.{is_some, Result}
 use Rattle.std.specs.Result.{result_ok}
 use Rattle.turn_lock.specs.Seats.{seat_view, turn_view, turn_value, turn_number, IsSameSeat}
-use Rattle.phase_history.specs.declared.refusal.SignalRefusal.{SignalRefusal}
-use Rattle.phase_history.specs.declared.refusal.SignalRefusal.TheVariants as signal
-use Rattle.phase_history.specs.Histories.{History, signal_phase}
-use Rattle.phase_history.specs.Refusals.{signal_refusal}
-use Rattle.phase_history.specs.Replies.{signal_reply, after_signal}
-use Rattle.phase_history.proofs.Answered.{signal_refusal-never}
+use Rattle.phase_core.specs.phase_history.declared.refusal.SignalRefusal.{SignalRefusal}
+use Rattle.phase_core.specs.phase_history.declared.refusal.SignalRefusal.TheVariants as signal
+use Rattle.phase_core.specs.phase_history.Histories.{History, signal_phase}
+use Rattle.phase_core.specs.phase_history.Refusals.{signal_refusal}
+use Rattle.phase_core.specs.phase_history.Replies.{signal_reply, after_signal}
+use Rattle.phase_core.proofs.phase_history_lemmas.Answered.{signal_refusal-never}
 use Rattle.phase_core.specs.Blocks.{StandForLists}
 use Rattle.phase_core.specs.Cores.{StandsFor}
 use Rattle.phase_core.proofs.SignalSlots.{lists-length}

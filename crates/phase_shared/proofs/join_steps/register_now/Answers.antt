@@ -1,12 +1,12 @@
 use Rattle.std.proofs.Common.{◌≡◌, [], ◌∷◌, None, true, false, refl, sym, ap, ◌∙◌, rules}
 use Rattle.turn_lock.specs.Seats.{seat_view, turn_view, turn_value, turn_number, IsSameSeat}
-use Rattle.phase_base.specs.declared.entry.Entry.{Entry}
-use Rattle.phase_history.specs.declared.event.Event.{Event}
-use Rattle.phase_base.specs.declared.mode.Mode.TheVariants.{Wait}
-use Rattle.phase_history.specs.declared.event.Event.TheVariants.{RegisteredNow}
-use Rattle.phase_history.specs.declared.refusal.RegisterRefusal.TheVariants as register
-use Rattle.phase_history.specs.Histories.{History, done_of, entry_at}
-use Rattle.phase_history.specs.Refusals.{register_now_refusal}
+use Rattle.phase_core.specs.phase_base.declared.entry.Entry.{Entry}
+use Rattle.phase_core.specs.phase_history.declared.event.Event.{Event}
+use Rattle.phase_core.specs.phase_base.declared.mode.Mode.TheVariants.{Wait}
+use Rattle.phase_core.specs.phase_history.declared.event.Event.TheVariants.{RegisteredNow}
+use Rattle.phase_core.specs.phase_history.declared.refusal.RegisterRefusal.TheVariants as register
+use Rattle.phase_core.specs.phase_history.Histories.{History, done_of, entry_at}
+use Rattle.phase_core.specs.phase_history.Refusals.{register_now_refusal}
 use Rattle.phase_core.specs.Cores.{StandsFor}
 use Rattle.phase_shared.specs.LockedPhasers.{locked_place, locked_terms}
 use Rattle.phase_shared.specs.Views.{resting, known_of}

@@ -6,7 +6,7 @@ use Rattle.phase_shared.specs.Views.{knowledge, known_of}
 use Rattle.phase_shared.specs.Rule.{StandsWithin, HasOneHistory, TookAt, IsSeatOfTask}
 use Rattle.phase_shared.specs.declared.view.View.{View}
 use Rattle.std.specs.Prelude.{is_some}
-use Rattle.phase_history.proofs.Used.{IsUsed-member}
+use Rattle.phase_core.proofs.phase_history_lemmas.Used.{IsUsed-member}
 use Rattle.phase_shared.proofs.Keeping.{takes, never_busy, is_in_self}
 use Rattle.phase_shared.proofs.Giving.{entered}
 use Rattle.phase_shared.proofs.steps.enter.Goals as goal

@@ -2,13 +2,13 @@ use Rattle.std.proofs.Common.{◌≡◌, ◌∷◌, Ok, Err, true, ap, refl, ◌
 use Rattle.std.specs.Prelude.{Result, IsOk, is_some}
 use Rattle.phase_shared.specs.LockedPhasers.{locked_terms}
 use Rattle.turn_lock.specs.Seats.{turn_view, turn_value, turn_number}
-use Rattle.phase_base.specs.Members.{entry_of}
-use Rattle.phase_history.specs.declared.event.Event.TheVariants.{Dropped}
+use Rattle.phase_core.specs.phase_base.Members.{entry_of}
+use Rattle.phase_core.specs.phase_history.declared.event.Event.TheVariants.{Dropped}
 use Rattle.phase_shared.specs.Views.{resting, known_of, speaks_of}
 use Rattle.phase_shared.specs.Rule.{StandsWithin}
 use Rattle.phase_shared.specs.declared.view.View.{View}
 use Rattle.phase_shared.proofs.Giving.{gives_own, own_none, own_event, lent, after_call, AfterCall}
-use Rattle.phase_history.specs.declared.refusal.NoTask.{NoTask}
+use Rattle.phase_core.specs.phase_history.declared.refusal.NoTask.{NoTask}
 use Rattle.phase_shared.proofs.steps.leave.Goals as goal
 
 -- an accepted drop answers nothing else

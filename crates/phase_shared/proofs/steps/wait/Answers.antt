@@ -2,13 +2,13 @@ use Rattle.std.proofs.Common.{◌≡◌, [], ◌∷◌, true, false, refl, sym, 
 use Rattle.std.specs.Prelude.{Result, is_some}
 use Rattle.std.specs.Result.{result_ok}
 use Rattle.turn_lock.specs.Seats.{seat_view, turn_view, turn_value, turn_number, IsSameSeat}
-use Rattle.phase_history.specs.declared.got.Got.{Got}
-use Rattle.phase_history.specs.declared.refusal.WaitRefusal.{WaitRefusal}
-use Rattle.phase_history.specs.declared.refusal.WaitRefusal.TheVariants as wait
-use Rattle.phase_history.specs.Histories.{wait_phase}
-use Rattle.phase_history.specs.Refusals.{wait_refusal}
-use Rattle.phase_history.specs.Replies.{got_at, wait_reply, after_wait}
-use Rattle.phase_history.proofs.Answered.{wait_refusal-never}
+use Rattle.phase_core.specs.phase_history.declared.got.Got.{Got}
+use Rattle.phase_core.specs.phase_history.declared.refusal.WaitRefusal.{WaitRefusal}
+use Rattle.phase_core.specs.phase_history.declared.refusal.WaitRefusal.TheVariants as wait
+use Rattle.phase_core.specs.phase_history.Histories.{wait_phase}
+use Rattle.phase_core.specs.phase_history.Refusals.{wait_refusal}
+use Rattle.phase_core.specs.phase_history.Replies.{got_at, wait_reply, after_wait}
+use Rattle.phase_core.proofs.phase_history_lemmas.Answered.{wait_refusal-never}
 use Rattle.phase_shared.specs.LockedPhasers.{locked_terms}
 use Rattle.phase_shared.specs.Views.{resting, turning, known_of, speaks_of}
 use Rattle.phase_shared.specs.Rule.{StandsWithin}

@@ -2,8 +2,8 @@
 use Rattle.std.proofs.Common.{◌≡◌, ℕ, [], ◌∷◌, ◌++◌, length, sym, ap, subst, ◌∙◌, arith}
 use Rattle.std.specs.Prelude.{slice_get}
 use Rattle.std.proofs.lemmas.List.{length-append}
-use Rattle.graph_base.specs.Graphs.{phaser_at}
-use Rattle.stream_lists.specs.Jobs.{Job}
+use Rattle.graph_lang.specs.graph_base.Graphs.{phaser_at}
+use Rattle.stream_eval.specs.stream_lists.Jobs.{Job}
 use Rattle.graph_runs.specs.Moments.{limits_at}
 use Rattle.stream_job.specs.declared.any_core.AnyCore.{AnyCore}
 use Rattle.stream_job.specs.Cores.{CoreStandsFor}

@@ -1,8 +1,8 @@
 -- The fields stand at the opening.
 use Rattle.std.proofs.Common.{ap, ◌∙◌, arith}
 use Rattle.std.specs.Prelude.{slice_get}
-use Rattle.graph_base.specs.Graphs.{is_sink}
-use Rattle.stream_lists.specs.Lists.{sinks_of}
+use Rattle.graph_lang.specs.graph_base.Graphs.{is_sink}
+use Rattle.stream_eval.specs.stream_lists.Lists.{sinks_of}
 use Rattle.stream_job.proofs.OpeningTasks.{opening_stands, sink_is}
 use Rattle.stream_job.proofs.opened_tasks.opened_task.Goals as goal
 

@@ -3,8 +3,8 @@ use Rattle.std.proofs.Common.{◌≡◌, ℕ, ◌+◌, ◌≤◌, [], ◌∷◌,
 use Rattle.std.specs.Prelude.{slice_get}
 use Rattle.std.specs.List.{filter, range_with_len}
 use Rattle.std.proofs.lemmas.List.{length-append}
-use Rattle.stream_lists.specs.Lists.{is_sink_at}
-use Rattle.stream_lists.proofs.Firsts.{filter-skip, filter-take}
+use Rattle.stream_eval.specs.stream_lists.Lists.{is_sink_at}
+use Rattle.stream_eval.proofs.stream_lists_lemmas.Firsts.{filter-skip, filter-take}
 use Rattle.graph_runs.specs.Beginnings.{opening}
 use Rattle.stream_job.specs.Places.{IsTaskAt}
 use Rattle.stream_job.proofs.OpeningPhasers.{each-push}

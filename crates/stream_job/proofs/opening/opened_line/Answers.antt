@@ -1,9 +1,9 @@
 -- The span that a job keeps is the one with the least starts.
 use Rattle.std.proofs.Common.{rules, ◌≡◌, ◌≤◌, ℕ, [], length, sym, ap, subst, ◌∙◌, arith}
 use Rattle.std.specs.Prelude.{vec_capacity}
-use Rattle.stream_lists.specs.declared.span.Span.{Span}
-use Rattle.stream_lists.specs.Jobs.{Job, with_starts, least}
-use Rattle.stream_lists.specs.Spans.{span_in}
+use Rattle.stream_eval.specs.stream_lists.declared.span.Span.{Span}
+use Rattle.stream_eval.specs.stream_lists.Jobs.{Job, with_starts, least}
+use Rattle.stream_eval.specs.stream_lists.Spans.{span_in}
 use Rattle.stream_job.proofs.opening.opened_line.Goals as goal
 
 pub returns-clause-room : goal.returns-clause-room

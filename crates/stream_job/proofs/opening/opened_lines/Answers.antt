@@ -4,8 +4,8 @@ use Rattle.std.specs.List.{range_with_len, filter}
 use Rattle.std.proofs.lemmas.List.{map_push}
 use Rattle.std.proofs.lemmas.List.Elements.{All-push}
 use Rattle.stream_eval.specs.Results.{sink_values}
-use Rattle.stream_lists.specs.Lists.{is_sink_at}
-use Rattle.stream_lists.proofs.Firsts.{filter-skip, filter-take}
+use Rattle.stream_eval.specs.stream_lists.Lists.{is_sink_at}
+use Rattle.stream_eval.proofs.stream_lists_lemmas.Firsts.{filter-skip, filter-take}
 use Rattle.stream_job.specs.Machines.{HasRoom}
 use Rattle.stream_job.proofs.opening.opened_lines.Goals as goal
 use Rattle.stream_job.proofs.opening.opened_lines.Goals.{then-is_sink+in_ok-opened_line+in_ok-push, else-is_sink}

@@ -1,7 +1,7 @@
 use Rattle.std.proofs.Common.{◌≡◌, [], map}
 use Rattle.std.specs.List.{range_with_len, filter, All}
 use Rattle.stream_eval.specs.Results.{sink_values}
-use Rattle.stream_lists.specs.Lists.{is_sink_at}
+use Rattle.stream_eval.specs.stream_lists.Lists.{is_sink_at}
 use Rattle.stream_job.specs.Machines.{HasRoom}
 use Rattle.stream_job.proofs.opening.opened_lines.Given as goal
 

@@ -1,7 +1,7 @@
 -- Nor does this task.
 use Rattle.std.proofs.Common.{◌≡◌, ◌≤◌, Some, ◌∙◌, arith}
-use Rattle.graph_base.specs.declared.line.Parent.{Parent}
-use Rattle.graph_base.specs.Graphs.{task_at}
+use Rattle.graph_lang.specs.graph_base.declared.line.Parent.{Parent}
+use Rattle.graph_lang.specs.graph_base.Graphs.{task_at}
 use Rattle.stream_job.proofs.Searching.{one_more}
 use Rattle.stream_job.proofs.plan.next_child.Goals as goal
 

@@ -1,5 +1,5 @@
 use Rattle.std.proofs.Common.{◌≡◌, ◌≤◌}
-use Rattle.graph_base.specs.Graphs.{source_number}
+use Rattle.graph_lang.specs.graph_base.Graphs.{source_number}
 use Rattle.stream_job.proofs.plan.sources_above.Given as goal
 
 -- the sources above this task

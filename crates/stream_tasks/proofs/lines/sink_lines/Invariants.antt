@@ -1,7 +1,7 @@
 use Rattle.std.proofs.Common.{◌≡◌, ℕ, ◌≤◌, map, length, slice_get}
 use Rattle.std.specs.List.{range_with_len, filter}
 use Rattle.stream_eval.specs.Results.{sink_values}
-use Rattle.stream_lists.specs.Lists.{is_sink_at}
+use Rattle.stream_eval.specs.stream_lists.Lists.{is_sink_at}
 use Rattle.stream_tasks.specs.TaskLefts.{lines_at}
 use Rattle.stream_tasks.proofs.lines.sink_lines.Given as goal
 

@@ -1,8 +1,8 @@
 -- What it knows, with the numbers that it gave told in another way.
 use Rattle.std.proofs.Common.{sym, ap, map, ◌∙◌}
-use Rattle.stream_members.specs.AnyMembers.{left_in}
+use Rattle.stream_tasks.specs.stream_members.AnyMembers.{left_in}
 use Rattle.stream_tasks.specs.Ends.{given_to as given_by}
-use Rattle.graph_runs.specs.TaskPlaces.{registration_at}
+use Rattle.stream_tasks.specs.graph_runs.TaskPlaces.{registration_at}
 use Rattle.stream_tasks.specs.TaskLefts.{given_to}
 use Rattle.stream_workers.proofs.Lefts.{has_left, is_left, same_given}
 use Rattle.stream_workers.proofs.finishing.task_left.Goals as goal

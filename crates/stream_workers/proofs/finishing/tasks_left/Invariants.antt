@@ -1,6 +1,6 @@
 use Rattle.std.proofs.Common.{◌≡◌, ◌+◌, ℕ, length}
-use Rattle.stream_members.specs.Members.{Spot}
-use Rattle.stream_lists.specs.Jobs.{Job}
+use Rattle.stream_tasks.specs.stream_members.Members.{Spot}
+use Rattle.stream_tasks.specs.stream_lists.Jobs.{Job}
 use Rattle.stream_workers.proofs.Lefts.{AllEnded, AllLeft}
 use Rattle.stream_workers.proofs.finishing.tasks_left.Given as goal
 

@@ -1,7 +1,7 @@
 -- One more value is held.
 use Rattle.std.proofs.Common.{◌≡◌, ◌<◌, ◌≤◌, ℤ, pos, [], ◌∷◌, length, get_or, nat_abs, w64, to_z, of_z, subst, arith}
 use Rattle.std.proofs.lemmas.Int.{ints}
-use Rattle.phase_accum.specs.Parcels.{StandsForSends}
+use Rattle.phase_script.specs.phase_accum.Parcels.{StandsForSends}
 use Rattle.phase_script.specs.Numbers.{most}
 use Rattle.phase_replay.proofs.BlockSends.{stand_more, one_longer}
 use Rattle.phase_replay.proofs.block_sends.BlockSends.hold_each.Goals as goal

@@ -1,6 +1,6 @@
 -- The sends join their phase, and the task goes on to the next one.
 use Rattle.std.proofs.Common.{ℕ, ◌+◌, ◌<◌, [], ◌∷◌, max, sym, ap, subst, ◌∙◌, arith}
-use Rattle.phase_base.specs.Limits.{Limits}
+use Rattle.phase_accum.specs.phase_base.Limits.{Limits}
 use Rattle.phase_ring.specs.declared.role.Role.TheVariants.{Signaller, Waiter}
 use Rattle.phase_ring.specs.Rings.{Ring, sents}
 use Rattle.phase_ring.specs.Boards.{IsKept}

@@ -1,8 +1,8 @@
 use Rattle.std.proofs.Common.{[], ◌∷◌, sym, subst, refl}
-use Rattle.phase_base.specs.Limits.{Limits}
-use Rattle.phase_history.specs.declared.event.Event.TheVariants.{Made}
-use Rattle.phase_history.specs.Histories.{founder}
-use Rattle.phase_history.specs.Legal.{IsLegal}
+use Rattle.phase_core.specs.phase_base.Limits.{Limits}
+use Rattle.phase_core.specs.phase_history.declared.event.Event.TheVariants.{Made}
+use Rattle.phase_core.specs.phase_history.Histories.{founder}
+use Rattle.phase_core.specs.phase_history.Legal.{IsLegal}
 use Rattle.phase_shared.specs.Rule.{IsSeatOfTask}
 use Rattle.phase_shared.specs.declared.view.View.{View}
 use Rattle.phase_shared.proofs.Keeping.{founds}

@@ -1,8 +1,8 @@
 use Rattle.std.proofs.Common.{◌≡◌, [], ◌∷◌, Some, true, false, sym, subst, ap, ◌∙◌}
 use Rattle.std.specs.Prelude.{is_some}
-use Rattle.phase_history.specs.Histories.{History}
-use Rattle.phase_history.specs.Others.{OnlyUsed}
-use Rattle.phase_base.specs.Lists.{is_distinct}
+use Rattle.phase_core.specs.phase_history.Histories.{History}
+use Rattle.phase_core.specs.phase_history.Others.{OnlyUsed}
+use Rattle.phase_core.specs.phase_base.Lists.{is_distinct}
 use Rattle.phase_shared.specs.Views.{known_of, resting}
 use Rattle.phase_shared.specs.Rule.{IsGoodAt, IsSeatOfTask}
 use Rattle.phase_shared.specs.declared.view.View.{View}

@@ -1,7 +1,7 @@
 use Rattle.std.proofs.Common.{◌≡◌, Some, true, false, sym, subst, ap, ◌∙◌, rules}
 use Rattle.std.specs.Prelude.{is_some, Ok}
 use Rattle.turn_lock.specs.Seats.{seat_view, IsSameSeat}
-use Rattle.phase_history.specs.declared.refusal.RegisterRefusal.TheVariants.{NoTask}
+use Rattle.phase_core.specs.phase_history.declared.refusal.RegisterRefusal.TheVariants.{NoTask}
 use Rattle.phase_shared.specs.Views.{known_of}
 use Rattle.phase_shared.specs.Steps.{RegistersSeatNow}
 use Rattle.phase_shared.specs.Calls.{IsTry, Tries}

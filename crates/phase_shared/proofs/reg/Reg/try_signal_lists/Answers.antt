@@ -1,6 +1,6 @@
 use Rattle.std.proofs.Common.{◌≡◌, length, Some, true, false, refl, sym, subst, ap, ◌∙◌}
 use Rattle.std.specs.Prelude.{is_some}
-use Rattle.phase_history.specs.declared.refusal.SignalRefusal.TheVariants.{NoTask}
+use Rattle.phase_core.specs.phase_history.declared.refusal.SignalRefusal.TheVariants.{NoTask}
 use Rattle.phase_shared.specs.Regs.{RegState, reg_state, phaser_place, phaser_terms}
 use Rattle.phase_shared.specs.Blocks.{SignalsBlock, MaySignalBlock, entry_after_block}
 use Rattle.phase_shared.proofs.Opening.{opened, closed, reg_is, is_try}

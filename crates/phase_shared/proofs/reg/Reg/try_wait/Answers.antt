@@ -1,6 +1,6 @@
 use Rattle.std.proofs.Common.{◌≡◌, true, false, refl, sym, ap, ◌∙◌}
 use Rattle.std.specs.Prelude.{is_some}
-use Rattle.phase_history.specs.declared.refusal.WaitRefusal.TheVariants.{NoTask}
+use Rattle.phase_core.specs.phase_history.declared.refusal.WaitRefusal.TheVariants.{NoTask}
 use Rattle.phase_shared.specs.Regs.{phaser_place, phaser_terms}
 use Rattle.phase_shared.specs.Calls.{Waits}
 use Rattle.phase_shared.specs.Entries.{entry_after_wait}

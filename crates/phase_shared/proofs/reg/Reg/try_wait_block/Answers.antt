@@ -1,7 +1,7 @@
 use Rattle.std.proofs.Common.{◌≡◌, Some, true, false, refl, sym, ap, ◌∙◌}
 use Rattle.std.specs.Prelude.{is_some}
 use Rattle.turn_lock.specs.Seats.{IsSameSeat}
-use Rattle.phase_history.specs.declared.refusal.WaitRefusal.TheVariants.{NoTask}
+use Rattle.phase_core.specs.phase_history.declared.refusal.WaitRefusal.TheVariants.{NoTask}
 use Rattle.phase_shared.specs.Regs.{RegState, reg_state, phaser_place, phaser_terms}
 use Rattle.phase_shared.specs.Blocks.{WaitsBlock, entry_after_values}
 use Rattle.phase_shared.proofs.Opening.{opened, closed, same_reg, reg_is, is_try_as}

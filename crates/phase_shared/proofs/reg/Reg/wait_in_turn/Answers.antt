@@ -1,8 +1,8 @@
 use Rattle.std.proofs.Common.{Err, subst, ap, ◌∙◌}
-use Rattle.phase_history.specs.Histories.{History, wait_phase}
-use Rattle.phase_history.specs.Legal.{IsLegal}
-use Rattle.phase_history.specs.Refusals.{wait_refusal}
-use Rattle.phase_history.specs.Replies.{got_at}
+use Rattle.phase_core.specs.phase_history.Histories.{History, wait_phase}
+use Rattle.phase_core.specs.phase_history.Legal.{IsLegal}
+use Rattle.phase_core.specs.phase_history.Refusals.{wait_refusal}
+use Rattle.phase_core.specs.phase_history.Replies.{got_at}
 use Rattle.phase_shared.specs.Regs.{phaser_limits}
 use Rattle.phase_shared.specs.Calls.{Waits}
 use Rattle.phase_shared.proofs.Answering.{refused_is}

@@ -2,8 +2,8 @@
 use Rattle.std.proofs.Common.{◌≡◌, ◌<◌, ◌≤◌, ◌+◌, cond, length, get_or, ap, sym, subst, ◌∙◌, refl, arith}
 use Rattle.std.proofs.lemmas.Bool.{lt-ltb, le-ltb}
 use Rattle.std.proofs.lemmas.Option.{slice_get_read}
-use Rattle.graph_base.specs.Graphs.{task_at}
-use Rattle.graph_base.specs.Registrations.{registrations_of, no_registration}
+use Rattle.graph_lang.specs.graph_base.Graphs.{task_at}
+use Rattle.graph_lang.specs.graph_base.Registrations.{registrations_of, no_registration}
 use Rattle.graph_runs.specs.Nexts.{registrations_at, leaves}
 use Rattle.graph_runs.specs.Answers as answers
 use Rattle.stream_job.specs.declared.turned.Turned.TheVariants.{Moved, Ended}

@@ -1,8 +1,8 @@
 -- The loop goes through the registrations, and stops at the one on the phaser.
 use Rattle.std.proofs.Common.{◌≡◌, ◌<◌, length, get_or, refl, sym, ap, ◌∙◌, arith}
 use Rattle.std.proofs.lemmas.Option.{slice_get_read}
-use Rattle.graph_base.specs.Graphs.{task_at}
-use Rattle.graph_base.specs.Registrations.{registrations_of, no_registration}
+use Rattle.graph_lang.specs.graph_base.Graphs.{task_at}
+use Rattle.graph_lang.specs.graph_base.Registrations.{registrations_of, no_registration}
 use Rattle.graph_runs.specs.Nexts.{registrations_at}
 use Rattle.graph_runs.specs.TaskPlaces.{registration_at}
 use Rattle.graph_runs.proofs.Signalling.{live-is}

@@ -1,13 +1,13 @@
 -- The child takes the next number on the phaser of its first registration that is missing.
 use Rattle.std.proofs.Common.{◌≡◌, ◌<◌, ◌≤◌, ◌+◌, [], ◌∷◌, ◌++◌, length, get_or, refl, sym, ap, subst, ◌∙◌, arith}
 use Rattle.std.proofs.lemmas.Option.{slice_get_read}
-use Rattle.graph_base.specs.Graphs.{task_at, phaser_at}
-use Rattle.graph_base.specs.Registrations.{registrations_of, no_registration}
-use Rattle.graph_base.specs.declared.registration.Registration.{Registration}
+use Rattle.graph_lang.specs.graph_base.Graphs.{task_at, phaser_at}
+use Rattle.graph_lang.specs.graph_base.Registrations.{registrations_of, no_registration}
+use Rattle.graph_lang.specs.graph_base.declared.registration.Registration.{Registration}
 use Rattle.graph_runs.specs.Moments.{limits_at}
 use Rattle.graph_runs.specs.Nexts.{registrations_at, registers}
 use Rattle.graph_runs.specs.TaskPlaces.{registration_at}
-use Rattle.phase_history.specs.Histories.{greatest_used}
+use Rattle.phase_core.specs.phase_history.Histories.{greatest_used}
 use Rattle.stream_job.specs.declared.task_state.TaskState.{TaskState}
 use Rattle.stream_job.proofs.Lively.{live_next}
 use Rattle.stream_job.proofs.Setting.{read_same, set_read}

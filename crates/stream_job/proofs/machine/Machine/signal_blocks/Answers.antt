@@ -1,6 +1,6 @@
 -- By the number of the output's registration.
 use Rattle.std.proofs.Common.{◌≡◌, length, get_or, refl, ap, sym, ◌∙◌, arith}
-use Rattle.graph_base.specs.Graphs.{task_at, phaser_at}
+use Rattle.graph_lang.specs.graph_base.Graphs.{task_at, phaser_at}
 use Rattle.graph_runs.specs.Moments.{limits_at}
 use Rattle.graph_runs.specs.Nexts.{number_on}
 use Rattle.graph_runs.specs.Answers.{output_at}

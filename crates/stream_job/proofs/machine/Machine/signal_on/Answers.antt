@@ -1,7 +1,7 @@
 -- The core of the phaser is set, and the others stay.
 use Rattle.std.proofs.Common.{◌≡◌, [], ◌∷◌, ap, sym, ◌∙◌, subst, to_z-of_z}
-use Rattle.phase_history.specs.Replies.{signal_reply, after_signal}
-use Rattle.graph_base.specs.Graphs.{phaser_at}
+use Rattle.phase_core.specs.phase_history.Replies.{signal_reply, after_signal}
+use Rattle.graph_lang.specs.graph_base.Graphs.{phaser_at}
 use Rattle.graph_runs.specs.Moments.{limits_at}
 use Rattle.stream_job.specs.Cores.{CoreStandsFor}
 use Rattle.stream_job.proofs.Setting.{set_core, lent_core}

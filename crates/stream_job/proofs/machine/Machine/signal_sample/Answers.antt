@@ -1,7 +1,7 @@
 -- The next sample is signalled as the number that stands at the registration of the output.
 use Rattle.std.proofs.Common.{rules, ◌≡◌, ◌<◌, ◌+◌, ◌*◌, length, get_or, pos, refl, sym, ap, subst, ◌∙◌, arith, SFits, w64, to_z-of_z}
 use Rattle.std.proofs.lemmas.Option.{slice_get_read}
-use Rattle.phase_accum.specs.Sends.{IsSend}
+use Rattle.phase_core.specs.phase_accum.Sends.{IsSend}
 use Rattle.graph_runs.specs.Nexts.{samples}
 use Rattle.stream_job.proofs.Lively.{has_state}
 use Rattle.stream_job.proofs.Setting.{set_read}

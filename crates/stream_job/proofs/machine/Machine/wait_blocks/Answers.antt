@@ -1,6 +1,6 @@
 -- By the number of the input's registration.
 use Rattle.std.proofs.Common.{◌≡◌, length, get_or, ap, sym, ◌∙◌, arith}
-use Rattle.graph_base.specs.Graphs.{task_at, phaser_at}
+use Rattle.graph_lang.specs.graph_base.Graphs.{task_at, phaser_at}
 use Rattle.graph_runs.specs.Moments.{limits_at, input_at}
 use Rattle.graph_runs.specs.Nexts.{number_on}
 use Rattle.stream_job.specs.Places.{place_of}

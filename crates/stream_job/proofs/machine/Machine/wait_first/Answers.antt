@@ -2,13 +2,13 @@
 use Rattle.std.proofs.Common.{rules, SFits, w64, ◌≡◌, ◌<◌, ◌≤◌, length, get_or, map, set, refl, sym, ap, subst, ◌∙◌, arith, to_z-of_z}
 use Rattle.std.specs.Prelude.{Ok, IfSome}
 use Rattle.std.specs.List.{All}
-use Rattle.phase_base.specs.declared.limits.TheConstants.{PHASES_MAX}
+use Rattle.phase_core.specs.phase_base.declared.limits.TheConstants.{PHASES_MAX}
 use Rattle.std.proofs.lemmas.Option.{slice_get_read}
-use Rattle.phase_history.specs.Replies.{after_wait}
+use Rattle.phase_core.specs.phase_history.Replies.{after_wait}
 use Rattle.stream_eval.specs.Results.{sink_values}
-use Rattle.stream_lists.specs.Lists.{number as number_of}
-use Rattle.phase_history.specs.declared.got.Got.TheVariants as got
-use Rattle.graph_base.specs.Graphs.{task_at}
+use Rattle.stream_eval.specs.stream_lists.Lists.{number as number_of}
+use Rattle.phase_core.specs.phase_history.declared.got.Got.TheVariants as got
+use Rattle.graph_lang.specs.graph_base.Graphs.{task_at}
 use Rattle.graph_runs.specs.Nexts.{waits}
 use Rattle.graph_runs.specs.Turned.{with_at}
 use Rattle.graph_runs.specs.Steps.{HasFilter}

@@ -1,6 +1,6 @@
 -- What is owed, and the filter, are those of the step.
 use Rattle.std.proofs.Common.{refl, [], ◌∷◌, ◌++◌, ap, subst, ◌∙◌, to_z-of_z}
-use Rattle.graph_base.specs.Graphs.{task_at}
+use Rattle.graph_lang.specs.graph_base.Graphs.{task_at}
 use Rattle.graph_runs.specs.TaskPlaces.{owed_after_wait}
 use Rattle.graph_runs.specs.Steps.{HasFilter}
 use Rattle.stream_job.proofs.task_state.TaskState.take.Goals as goal

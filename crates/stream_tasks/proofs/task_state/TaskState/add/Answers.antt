@@ -1,7 +1,7 @@
 -- The parent's moment serves the child after each answer.
 use Rattle.std.proofs.Common.{◌≡◌, ◌<◌, ℕ, List, [], ◌∷◌, ◌++◌, length, sym, subst, ap, ◌∙◌, arith}
 use Rattle.std.proofs.lemmas.Option.{slice_get_within, same_Some}
-use Rattle.phase_base.specs.declared.mode.Mode.{Mode}
+use Rattle.graph_runs.specs.phase_base.declared.mode.Mode.{Mode}
 use Rattle.stream_members.specs.AnyMembers.{member_in}
 use Rattle.stream_members.specs.declared.any_member.AnyMember.{AnyMember}
 use Rattle.graph_runs.specs.TaskPlaces.{registration_at}

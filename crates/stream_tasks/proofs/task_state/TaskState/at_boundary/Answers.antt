@@ -1,6 +1,6 @@
 -- `until` allows a step or not.
 use Rattle.std.proofs.Common.{◌≡◌, true, false, ℕ, sym, subst, ap, ◌∙◌}
-use Rattle.graph_base.specs.Graphs.{task_at}
+use Rattle.graph_runs.specs.graph_base.Graphs.{task_at}
 use Rattle.graph_runs.specs.Nexts.{is_cut}
 use Rattle.graph_runs.specs.Steps.{owed_of}
 use Rattle.graph_runs.proofs.TellsNext.{ended_cut}

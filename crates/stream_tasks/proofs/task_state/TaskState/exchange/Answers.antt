@@ -4,7 +4,7 @@ use Rattle.std.proofs.lemmas.Int.{to_z-of_z as signed}
 use Rattle.graph_runs.specs.TaskPlaces as turns
 use Rattle.graph_runs.specs.TaskPlaces.{owed_after_exchange}
 use Rattle.graph_runs.specs.Steps.{owed_of}
-use Rattle.graph_base.specs.Graphs.{task_at}
+use Rattle.graph_runs.specs.graph_base.Graphs.{task_at}
 use Rattle.graph_runs.specs.Nexts.{registrations_at}
 use Rattle.stream_tasks.specs.Holds.{GoesOn, HasGot}
 use Rattle.stream_tasks.proofs.Turning.{task_sees, whole_moves}

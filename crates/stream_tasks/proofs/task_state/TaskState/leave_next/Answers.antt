@@ -1,8 +1,8 @@
 -- It has ended, and its children are all there.
 use Rattle.std.proofs.Common.{◌≡◌, ◌<◌, ◌≤◌, ℕ, length, refl, sym, subst, ap, ◌∙◌, arith, get_or}
 use Rattle.std.specs.Vec.{with_item}
-use Rattle.graph_base.specs.Graphs.{task_at}
-use Rattle.graph_base.specs.Registrations.{registrations_of, no_registration}
+use Rattle.graph_runs.specs.graph_base.Graphs.{task_at}
+use Rattle.graph_runs.specs.graph_base.Registrations.{registrations_of, no_registration}
 use Rattle.graph_runs.specs.TaskPlaces.{registration_at}
 use Rattle.stream_tasks.specs.Tasks.{IsTask}
 use Rattle.graph_runs.specs.Nexts.{registrations_at}

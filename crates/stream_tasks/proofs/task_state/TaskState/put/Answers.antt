@@ -4,8 +4,8 @@ use Rattle.graph_runs.specs.Nexts.{registrations_at}
 use Rattle.graph_runs.specs.TaskPlaces.{owed_after_signal}
 use Rattle.graph_runs.specs.Steps.{owed_of}
 use Rattle.std.specs.Prelude.{Ok}
-use Rattle.graph_base.specs.Graphs.{task_at, phaser_at}
-use Rattle.stream_lists.specs.Jobs.{Job}
+use Rattle.graph_runs.specs.graph_base.Graphs.{task_at, phaser_at}
+use Rattle.stream_eval.specs.stream_lists.Jobs.{Job}
 use Rattle.graph_runs.specs.Moments.{Moment}
 use Rattle.graph_runs.specs.declared.owed.Owed.TheVariants.{Value}
 use Rattle.stream_tasks.specs.Holds.{GoesOn, HasSignalled}

@@ -1,9 +1,9 @@
 -- The value is the next sample.
 use Rattle.std.proofs.Common.{◌≡◌, ◌<◌, ◌≤◌, ℕ, suc, ◌+◌, false, length, refl, sym, subst, ap, ◌∙◌, arith, get_or, pos, rules, FitsSigned, to_z, of_z, w64}
 use Rattle.std.proofs.lemmas.Int.{to_z-of_z as signed}
-use Rattle.graph_base.specs.Graphs.{task_at, phaser_at}
-use Rattle.graph_base.specs.Registrations.{signalled_by}
-use Rattle.stream_lists.specs.Jobs.{samples_at}
+use Rattle.graph_runs.specs.graph_base.Graphs.{task_at, phaser_at}
+use Rattle.graph_runs.specs.graph_base.Registrations.{signalled_by}
+use Rattle.stream_eval.specs.stream_lists.Jobs.{samples_at}
 use Rattle.graph_runs.specs.Steps.{owed_of}
 use Rattle.graph_runs.proofs.TellsNext.{ended_no_sample}
 use Rattle.stream_tasks.specs.Holds.{GoesOn, HasSignalled}
