@@ -10,7 +10,7 @@ use Rattle.phase_core.specs.phase_base.Members.{entry_of}
 use Rattle.phase_core.specs.phase_history.Histories.{History, members_of}
 use Rattle.phase_core.specs.phase_history.Legal.{IsLegal}
 use Rattle.phase_core.specs.Cores.{CoreState, StandsFor}
-use Rattle.phase_shared.specs.declared.view.View.{View}
+use Rattle.phase_shared.specs.declared.seats.view.View.{View}
 use Rattle.phase_shared.specs.declared.rule.Terms.{Terms}
 use Rattle.phase_core.specs.phase_history.Others.{IsUsed, is_by, events_of, OthersCame}
 use Rattle.phase_shared.specs.Views.{knowledge, resting, turning, known_of, speaks_of}

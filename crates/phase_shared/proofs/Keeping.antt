@@ -10,9 +10,9 @@ use Rattle.turn_lock.proofs.Keeping.{within}
 use Rattle.phase_core.specs.phase_base.Limits.{Limits}
 use Rattle.phase_core.specs.phase_history.Histories.{History}
 use Rattle.phase_core.specs.phase_history.Legal.{IsLegal}
-use Rattle.phase_shared.specs.declared.view.Knowledge.{Knowledge}
-use Rattle.phase_shared.specs.declared.view.View.{View}
-use Rattle.phase_shared.specs.declared.view.View.TheVariants.{Resting, Turning, Joining, Spent}
+use Rattle.phase_shared.specs.declared.seats.view.Knowledge.{Knowledge}
+use Rattle.phase_shared.specs.declared.seats.view.View.{View}
+use Rattle.phase_shared.specs.declared.seats.view.View.TheVariants.{Resting, Turning, Joining, Spent}
 use Rattle.phase_core.specs.phase_history.Others.{IsUsed, events_of, OnlyUsed, OthersCame}
 use Rattle.phase_core.specs.phase_base.Lists.{is_distinct, is_in}
 use Rattle.phase_shared.specs.Views.{knowledge, resting, turning, speaks_of, is_turning}

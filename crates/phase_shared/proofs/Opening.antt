@@ -7,7 +7,7 @@ use Rattle.std.proofs.Common.{◌≡◌, ℕ, [], ◌∷◌, Option, Some, refl,
 use Rattle.turn_lock.specs.declared.seat.Seat.{Seat}
 use Rattle.atomic_table.specs.Seated.{TableId}
 use Rattle.phase_core.specs.phase_base.declared.entry.Entry.{Entry}
-use Rattle.phase_shared.specs.declared.view.View.{View}
+use Rattle.phase_shared.specs.declared.seats.view.View.{View}
 use Rattle.phase_shared.specs.declared.rule.Terms.{Terms}
 use Rattle.phase_shared.specs.Rule.{Allows, IsSeatOfTask}
 use Rattle.std.specs.Prelude.{Result, Ok, Err, IsErr}

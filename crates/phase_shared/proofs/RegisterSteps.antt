@@ -21,7 +21,7 @@ use Rattle.phase_core.specs.phase_history.Legal.{IsLegal}
 use Rattle.phase_core.specs.Cores.{CoreState, StandsFor}
 use Rattle.phase_core.proofs.phase_history_lemmas.Refused.{registers_from}
 use Rattle.phase_core.proofs.phase_history_lemmas.Answered.{register_refusal-never}
-use Rattle.phase_shared.specs.declared.view.View.{View}
+use Rattle.phase_shared.specs.declared.seats.view.View.{View}
 use Rattle.phase_shared.specs.declared.rule.Terms.{Terms}
 use Rattle.phase_core.specs.phase_history.Others.{IsUsed, is_by, OthersCame}
 use Rattle.phase_core.specs.phase_base.Lists.{is_in}

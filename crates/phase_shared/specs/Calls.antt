@@ -19,7 +19,7 @@ use Rattle.phase_core.specs.phase_history.Histories.{History, greatest_used, ent
 use Rattle.phase_core.specs.phase_history.Refusals.{register_refusal}
 use Rattle.phase_core.specs.phase_history.Replies.{signal_reply, after_signal, wait_reply, after_wait}
 use Rattle.phase_core.specs.phase_history.Others.{OthersCame, OnlyUsed}
-use Rattle.phase_shared.specs.declared.view.View.{View}
+use Rattle.phase_shared.specs.declared.seats.view.View.{View}
 use Rattle.phase_shared.specs.declared.rule.Terms.{Terms}
 use Rattle.phase_shared.specs.Views.{resting}
 use Rattle.phase_shared.specs.Rule.{Allows, IsGoodAt}

@@ -2,7 +2,7 @@
 use Rattle.turn_lock.specs.Seats.{Place, lock_name, lock_place}
 use Rattle.phase_core.specs.phase_base.Limits.{Limits}
 use Rattle.phase_shared.specs.declared.rule.Terms.{Terms}
-use Rattle.phase_shared.specs.declared.locked.LockedPhaser.{LockedPhaser}
+use Rattle.phase_shared.specs.declared.seats.locked.LockedPhaser.{LockedPhaser}
 
 module _ {A K : Type 0} where
   -- which phaser it is

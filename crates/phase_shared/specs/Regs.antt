@@ -7,8 +7,8 @@ use Rattle.phase_core.specs.phase_base.declared.entry.Entry.{Entry}
 use Rattle.phase_core.specs.phase_accum.Parcels.{Parcel}
 use Rattle.phase_core.specs.phase_history.Histories.{History}
 use Rattle.phase_core.specs.phase_base.Lists.{is_distinct}
-use Rattle.phase_shared.specs.declared.view.View.{View}
-use Rattle.phase_shared.specs.declared.view.View.TheVariants.{Spent}
+use Rattle.phase_shared.specs.declared.seats.view.View.{View}
+use Rattle.phase_shared.specs.declared.seats.view.View.TheVariants.{Spent}
 use Rattle.phase_shared.specs.Views.{resting, known_of}
 use Rattle.phase_shared.specs.declared.rule.Terms.{Terms}
 use Rattle.phase_shared.specs.Rule.{Allows, IsGoodAt, IsSeatOfTask}

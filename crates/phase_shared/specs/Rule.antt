@@ -11,9 +11,9 @@ use Rattle.phase_core.specs.phase_base.Members.{entry_of}
 use Rattle.phase_core.specs.phase_history.Histories.{History, members_of}
 use Rattle.phase_core.specs.phase_history.Legal.{IsLegal}
 use Rattle.phase_core.specs.Cores.{CoreState, StandsFor}
-use Rattle.phase_shared.specs.declared.view.Knowledge.{Knowledge}
-use Rattle.phase_shared.specs.declared.view.View.{View}
-use Rattle.phase_shared.specs.declared.view.View.TheVariants.{Resting, Turning, Joining, Spent}
+use Rattle.phase_shared.specs.declared.seats.view.Knowledge.{Knowledge}
+use Rattle.phase_shared.specs.declared.seats.view.View.{View}
+use Rattle.phase_shared.specs.declared.seats.view.View.TheVariants.{Resting, Turning, Joining, Spent}
 use Rattle.phase_shared.specs.declared.rule.Terms.{Terms}
 use Rattle.phase_core.specs.phase_history.Others.{OthersCame, IsUsed}
 use Rattle.phase_core.specs.phase_base.Lists.{is_distinct, is_in}

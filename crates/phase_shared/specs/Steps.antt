@@ -9,7 +9,7 @@ use Rattle.phase_core.specs.phase_base.declared.mode.Mode.TheVariants.{Wait}
 use Rattle.phase_core.specs.phase_history.declared.refusal.RegisterRefusal.{RegisterRefusal}
 use Rattle.phase_core.specs.phase_history.Histories.{History, entry_at}
 use Rattle.phase_core.specs.phase_history.Others.{OnlyUsed}
-use Rattle.phase_shared.specs.declared.view.View.{View}
+use Rattle.phase_shared.specs.declared.seats.view.View.{View}
 use Rattle.phase_shared.specs.declared.rule.Terms.{Terms}
 use Rattle.phase_shared.specs.declared.tried.Tried.{Tried}
 use Rattle.phase_shared.specs.declared.tried.Tried.TheVariants.{Busy, Refused}

@@ -10,8 +10,8 @@ ghost use Rattle.phase_shared.specs.Joins.{RegistersNow};
 use crate::phaser::Phaser;
 use crate::reg::Reg;
 use crate::rule::SignalRule;
+use crate::seats::{block_steps, join_steps};
 use crate::tried::Tried;
-use crate::{block_steps, join_steps};
 use phase_core::phase_accum::{Accumulate, Outcome, Pending, Single};
 use phase_core::{GotBlock, RegisterRefusal, SignalRefusal, WaitRefusal};
 

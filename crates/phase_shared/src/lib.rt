@@ -110,13 +110,8 @@
 //! the turn taken, and then nothing changed.
 #![tactic(auto)]
 
-mod block_steps;
 mod blocks;
-mod ghost_steps;
-mod hints;
-mod join_steps;
 pub mod laws;
-mod locked;
 mod next;
 pub mod one_send;
 mod past;
@@ -125,10 +120,9 @@ mod putting;
 mod refusal;
 mod reg;
 mod rule;
-mod steps;
+mod seats;
 mod tried;
 mod trying;
-mod view;
 mod waiting;
 mod waiting_blocks;
 

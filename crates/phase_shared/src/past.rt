@@ -7,8 +7,8 @@ ghost use Rattle.phase_shared.specs.Regs.{phaser_place, phaser_terms, IsGoodOn};
 
 use crate::phaser::Phaser;
 use crate::rule::SignalRule;
-use crate::steps;
-use crate::view::PhaserSeat;
+use crate::seats::steps;
+use crate::seats::view::PhaserSeat;
 use phase_core::phase_accum::Accumulate;
 use std::marker::Model;
 

@@ -7,9 +7,9 @@ ghost use Rattle.phase_core.specs.phase_history.Others.{OnlyUsed};
 ghost use Rattle.phase_shared.specs.Rule.{IsGoodAt};
 ghost use Rattle.phase_shared.specs.Regs.{phaser_place, phaser_terms, phaser_limits};
 
-use crate::locked::LockedPhaser;
 use crate::reg::Reg;
 use crate::rule::{SignalRule, Terms};
+use crate::seats::locked::LockedPhaser;
 use phase_core::phase_accum::{Accumulate, Pending};
 use phase_core::phase_base::{Entry, Mode, Spec};
 use std::alloc::{AllocError, Global};

@@ -10,7 +10,7 @@ ghost use Rattle.phase_shared.specs.Regs.{IsGoodOn};
 
 use crate::refusal::SendRefusal;
 use crate::rule::SignalRule;
-use crate::view::PhaserSeat;
+use crate::seats::view::PhaserSeat;
 use phase_core::phase_accum::{Accumulate, Pending, SendFault};
 use phase_core::phase_base::{Entry, Mode};
 use std::marker::Model;

@@ -13,7 +13,7 @@ use crate::past::Past;
 use crate::phaser::Phaser;
 use crate::reg::Reg;
 use crate::rule::SignalRule;
-use crate::steps;
+use crate::seats::steps;
 use crate::tried::Tried;
 use phase_core::phase_accum::{Accumulate, Pending, Single};
 use phase_core::phase_base::Mode;

@@ -15,8 +15,8 @@ use Rattle.graph_runs.specs.TaskPlaces.{registration_at}
 use Rattle.graph_runs.proofs.TurnRegistering.{is_for}
 use Rattle.graph_runs.specs.TaskEnds.{TaskEnd, HasLeftAt}
 use Rattle.graph_runs.specs.RunEnds.{Ends, HasCome}
-use Rattle.stream_tasks.specs.declared.task_left.Part.{Part}
-use Rattle.stream_tasks.specs.declared.task_left.TaskLeft.{TaskLeft}
+use Rattle.stream_tasks.specs.declared.ending.task_left.Part.{Part}
+use Rattle.stream_tasks.specs.declared.ending.task_left.TaskLeft.{TaskLeft}
 use Rattle.stream_tasks.specs.Joinings.{IsAt, HasPlaceFor, HasGrownTo, HaveGrown, IsTakenIn}
 use Rattle.stream_tasks.specs.Gatherings.{Tells, AreGathered}
 use Rattle.stream_tasks.specs.TaskLefts.{IsLeftOf, IsTaskLeft, end_of}

@@ -8,7 +8,7 @@ use Rattle.graph_runs.specs.phase_base.Lists.{is_in}
 use Rattle.graph_runs.specs.graph_base.declared.line.Parent.{Parent}
 use Rattle.graph_runs.specs.graph_base.Graphs.{task_at}
 use Rattle.stream_eval.specs.stream_lists.Jobs.{Job}
-use Rattle.stream_tasks.specs.declared.task_left.Part.{Part}
+use Rattle.stream_tasks.specs.declared.ending.task_left.Part.{Part}
 use Rattle.stream_tasks.specs.Joinings.{IsAt}
 use Rattle.stream_tasks.specs.TaskLefts.{given_to}
 use Rattle.stream_tasks.specs.Agreeing.{Agrees}

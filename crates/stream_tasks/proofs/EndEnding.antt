@@ -16,7 +16,7 @@ use Rattle.stream_members.specs.declared.any_left.AnyLeft.{AnyLeft}
 use Rattle.graph_runs.specs.Nexts.{registrations_at}
 use Rattle.graph_runs.specs.TaskEnds.{TaskEnd, FounderEnd}
 use Rattle.graph_runs.specs.RunEnds.{Ends, HasCome, IsRegisteredOn, HasWhole, IsRunEnd, lines_in}
-use Rattle.stream_tasks.specs.declared.task_left.Part.{Part}
+use Rattle.stream_tasks.specs.declared.ending.task_left.Part.{Part}
 use Rattle.stream_tasks.specs.Joinings.{IsAt}
 use Rattle.stream_tasks.specs.Gatherings.{Tells, AreGathered}
 use Rattle.stream_tasks.specs.TaskLefts.{given_to, AreFounders, part_lines, lines_at}

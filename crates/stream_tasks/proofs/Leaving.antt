@@ -8,8 +8,8 @@ use Rattle.stream_members.specs.declared.any_left.AnyLeft.{AnyLeft}
 use Rattle.graph_runs.specs.TaskEnds.{HasLeftAt, HasNumbers}
 use Rattle.stream_tasks.specs.TaskLefts as ends
 use Rattle.stream_tasks.specs.TaskLefts.{IsTaskLeft}
-use Rattle.stream_tasks.specs.declared.task_left.Given.{Given}
-use Rattle.stream_tasks.specs.declared.task_left.TaskLeft.{TaskLeft}
+use Rattle.stream_tasks.specs.declared.ending.task_left.Given.{Given}
+use Rattle.stream_tasks.specs.declared.ending.task_left.TaskLeft.{TaskLeft}
 use Rattle.stream_tasks.specs.Ends.{IsEnded, given_to}
 use Rattle.stream_tasks.specs.Inside.{HaveSameNumbers}
 use Rattle.stream_tasks.specs.declared.child.Child.{Child}

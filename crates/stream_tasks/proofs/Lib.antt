@@ -1,7 +1,7 @@
 mod Holding
 mod Turning
 mod Waiting
-mod Ending
+mod EndingLemmas
 mod Gone
 mod ChildHolds
 pub mod Seeding

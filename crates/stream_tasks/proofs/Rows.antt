@@ -22,7 +22,7 @@ use Rattle.graph_runs.specs.TaskPlaces.{registration_at}
 use Rattle.graph_runs.specs.TaskEnds.{HasFoundedAndLeft}
 use Rattle.stream_tasks.specs.Openings.{IsOfLine, ArePhasers, AreFoundersFrom, spot_at, IsFounderOn, AreFounders, IsRootMember, HaveFoundersLeft}
 use Rattle.stream_tasks.specs.Founders.{FounderState, IsRoot, IsLeftOf}
-use Rattle.stream_tasks.specs.declared.founder.FounderLeft.{FounderLeft}
+use Rattle.stream_tasks.specs.declared.opening.founder.FounderLeft.{FounderLeft}
 
 -- ---- lists
 

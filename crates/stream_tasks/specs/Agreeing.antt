@@ -6,7 +6,7 @@ use Rattle.graph_runs.specs.graph_base.Graphs.{task_at}
 use Rattle.stream_eval.specs.stream_lists.Jobs.{Job}
 use Rattle.graph_runs.specs.Nexts.{registrations_at}
 use Rattle.graph_runs.specs.TaskPlaces.{registration_at}
-use Rattle.stream_tasks.specs.declared.task_left.Part.{Part}
+use Rattle.stream_tasks.specs.declared.ending.task_left.Part.{Part}
 use Rattle.stream_tasks.specs.Joinings.{IsAt}
 use Rattle.stream_tasks.specs.TaskLefts.{given_to}
 

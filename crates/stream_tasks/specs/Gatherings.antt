@@ -9,7 +9,7 @@ use Rattle.stream_members.specs.AnyMembers.{left_in}
 use Rattle.stream_members.specs.declared.any_left.AnyLeft.{AnyLeft}
 use Rattle.graph_runs.specs.TaskEnds.{TaskEnd, HasLeftAt}
 use Rattle.graph_runs.specs.RunEnds.{Ends, HasCome, IsRegisteredOn}
-use Rattle.stream_tasks.specs.declared.task_left.Part.{Part}
+use Rattle.stream_tasks.specs.declared.ending.task_left.Part.{Part}
 use Rattle.stream_tasks.specs.Joinings.{IsAt, HasGrownTo}
 use Rattle.stream_tasks.specs.TaskLefts.{given_to}
 

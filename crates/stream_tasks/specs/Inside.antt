@@ -4,7 +4,7 @@ use Rattle.stream_eval.specs.stream_lists.Jobs.{Job}
 use Rattle.graph_runs.specs.Moments.{Moment}
 use Rattle.stream_members.specs.Members.{Spot}
 use Rattle.graph_runs.specs.TaskPlaces.{registration_at}
-use Rattle.stream_tasks.specs.declared.task_left.Given.{Given as GivenNumbers}
+use Rattle.stream_tasks.specs.declared.ending.task_left.Given.{Given as GivenNumbers}
 use Rattle.graph_runs.specs.phase_accum.declared.outcome.Outcome.{Outcome}
 use Rattle.stream_eval.specs.stream_lists.Lists.{number}
 use Rattle.stream_eval.specs.stream_lists.Ranges.{is_too_big}

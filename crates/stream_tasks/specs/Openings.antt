@@ -15,7 +15,7 @@ use Rattle.graph_runs.specs.TaskPlaces.{registration_at}
 use Rattle.graph_runs.specs.Places.{IsRootOn}
 use Rattle.graph_runs.specs.TaskEnds.{HasFoundedAndLeft}
 use Rattle.stream_tasks.specs.Founders.{FounderState}
-use Rattle.stream_tasks.specs.declared.founder.FounderLeft.{FounderLeft}
+use Rattle.stream_tasks.specs.declared.opening.founder.FounderLeft.{FounderLeft}
 
 -- ---- phasers
 

@@ -10,9 +10,9 @@ use Rattle.stream_members.specs.declared.any_left.AnyLeft.{AnyLeft}
 use Rattle.graph_runs.specs.TaskPlaces.{registration_at}
 use Rattle.graph_runs.specs.TaskEnds.{TaskEnd, HasLeftAt, HasFoundedAndLeft}
 use Rattle.stream_tasks.specs.Joinings.{IsAt}
-use Rattle.stream_tasks.specs.declared.task_left.Given.{Given}
-use Rattle.stream_tasks.specs.declared.task_left.Part.{Part}
-use Rattle.stream_tasks.specs.declared.task_left.TaskLeft.{TaskLeft}
+use Rattle.stream_tasks.specs.declared.ending.task_left.Given.{Given}
+use Rattle.stream_tasks.specs.declared.ending.task_left.Part.{Part}
+use Rattle.stream_tasks.specs.declared.ending.task_left.TaskLeft.{TaskLeft}
 
 -- the numbers that were given to task c, and none where it stands nowhere
 abbrev pub given_to : List Given → ℕ → List ℕ

@@ -7,7 +7,7 @@ ghost use Rattle.stream_tasks.specs.Ends.{IsEnded};
 ghost use Rattle.stream_tasks.specs.Inside.{HaveSameNumbers};
 
 use crate::child::Child;
-use crate::task_left::{Given, Part, TaskLeft};
+use crate::ending::task_left::{Given, Part, TaskLeft};
 use smallvec::SmallVec;
 use std::alloc::{AllocError, Global};
 use stream_members::AnyLeft;

@@ -28,27 +28,18 @@
 //! have all left, none is known where it is.
 #![tactic(auto)]
 
-mod agreeing;
 mod child;
 mod children;
 mod delivery;
 mod ended;
-mod founder;
-mod founders;
-mod founding;
+mod ending;
 mod gate;
-mod gathering;
-mod given_numbers;
 mod held;
 mod hold;
-mod joining;
-mod lines;
-mod phasers;
+mod opening;
 mod run;
-mod run_end;
 mod seed;
 mod task;
-mod task_left;
 mod task_state;
 mod turn;
 mod turned;
@@ -56,20 +47,20 @@ mod unregistered;
 
 pub use child::Child;
 pub use ended::Ended;
-pub use founder::{Founder, FounderLeft};
-pub use founders::{dismiss_founders, found, leave_all};
+pub use ending::run_end::finish;
+pub use ending::task_left::{Given, Part, TaskLeft};
 pub use gate::{Gate, Open};
 pub use graph_runs;
 pub use graph_runs::graph_base;
-pub use phasers::open_phasers;
+pub use opening::founder::{Founder, FounderLeft};
+pub use opening::founders::{dismiss_founders, found, leave_all};
+pub use opening::phasers::open_phasers;
 pub use run::Run;
-pub use run_end::finish;
 pub use seed::Seed;
 pub use stream_eval;
 pub use stream_eval::stream_lists;
 pub use stream_members;
 pub use stream_members::phase_shared;
 pub use task::Task;
-pub use task_left::{Given, Part, TaskLeft};
 pub use turned::Turned;
 pub use unregistered::Unregistered;

@@ -10,14 +10,14 @@ use Rattle.stream_tasks.specs.stream_members.declared.any_left.AnyLeft.{AnyLeft}
 use Rattle.stream_tasks.specs.graph_runs.Moments.{Moment}
 use Rattle.stream_tasks.specs.graph_runs.TaskEnds.{HasLeftAt, HasNumbers, HasFoundedAndLeft}
 use Rattle.stream_tasks.specs.Openings.{HaveFoundersLeft}
-use Rattle.stream_tasks.specs.declared.founder.FounderLeft.{FounderLeft}
+use Rattle.stream_tasks.specs.declared.opening.founder.FounderLeft.{FounderLeft}
 use Rattle.stream_tasks.specs.Ends.{IsEnded, IsLeftOn, given_to as given_by}
 use Rattle.stream_tasks.specs.declared.child.Child.{Child}
 use Rattle.stream_tasks.specs.declared.ended.Ended.{Ended}
 use Rattle.stream_tasks.proofs.Seeding.{each-push, found-push, last_at}
 use Rattle.stream_tasks.specs.Joinings.{IsAt}
 use Rattle.stream_tasks.specs.TaskLefts.{given_to, IsLeftOf, IsTaskLeft, AreFounders}
-use Rattle.stream_tasks.specs.declared.task_left.TaskLeft.{TaskLeft}
+use Rattle.stream_tasks.specs.declared.ending.task_left.TaskLeft.{TaskLeft}
 use Rattle.stream_workers.specs.Inside.{Follows}
 
 -- ---- lists

@@ -5,8 +5,8 @@ use Rattle.stream_tasks.specs.Ends.{IsEnded}
 use Rattle.stream_tasks.specs.declared.ended.Ended.{Ended}
 use Rattle.stream_tasks.specs.declared.child.Child.{Child}
 use Rattle.stream_tasks.specs.TaskLefts.{IsTaskLeft}
-use Rattle.stream_tasks.specs.declared.task_left.Given.{Given}
-use Rattle.stream_tasks.specs.declared.task_left.TaskLeft.{TaskLeft}
+use Rattle.stream_tasks.specs.declared.ending.task_left.Given.{Given}
+use Rattle.stream_tasks.specs.declared.ending.task_left.TaskLeft.{TaskLeft}
 use Rattle.stream_tasks.specs.stream_lists.Jobs.{Job}
 
 -- where a task has ended, this is what it has left

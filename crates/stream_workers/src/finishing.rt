@@ -7,7 +7,7 @@ ghost use Rattle.stream_tasks.specs.Ends.{IsEnded};
 ghost use Rattle.stream_tasks.specs.declared.ended.Ended.{Ended as EndedValue};
 ghost use Rattle.stream_tasks.specs.TaskLefts.{IsTaskLeft};
 ghost use Rattle.stream_tasks.specs.Joinings.{IsAt};
-ghost use Rattle.stream_tasks.specs.declared.task_left.TaskLeft.{TaskLeft as TaskLeftValue};
+ghost use Rattle.stream_tasks.specs.declared.ending.task_left.TaskLeft.{TaskLeft as TaskLeftValue};
 ghost use Rattle.stream_tasks.specs.stream_eval.Results.{sink_values};
 ghost use Rattle.stream_tasks.specs.stream_lists.Jobs.{Job as JobValue};
 ghost use Rattle.stream_tasks.specs.stream_lists.Ranges.{answer_of};

@@ -4,7 +4,7 @@ use Rattle.phase_core.specs.phase_history.Histories.{History}
 use Rattle.phase_core.specs.phase_history.Others.{OthersCame}
 use Rattle.phase_core.specs.phase_base.Lists.{is_distinct}
 use Rattle.phase_shared.specs.Views.{known_of, resting}
-use Rattle.phase_shared.specs.declared.view.View.{View}
+use Rattle.phase_shared.specs.declared.seats.view.View.{View}
 use Rattle.phase_shared.specs.Regs.{phaser_terms}
 use Rattle.phase_shared.specs.Rule.{IsGoodAt}
 use Rattle.phase_shared.proofs.past.Past.join.Goals as goal

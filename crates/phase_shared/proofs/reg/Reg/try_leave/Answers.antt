@@ -5,7 +5,7 @@ use Rattle.phase_core.specs.phase_history.Others.{OnlyUsed}
 use Rattle.phase_core.specs.phase_base.Lists.{is_distinct}
 use Rattle.phase_shared.specs.Views.{known_of, resting}
 use Rattle.phase_shared.specs.Rule.{IsGoodAt, IsSeatOfTask}
-use Rattle.phase_shared.specs.declared.view.View.{View}
+use Rattle.phase_shared.specs.declared.seats.view.View.{View}
 use Rattle.phase_shared.specs.Regs.{RegState, reg_state, phaser_place, phaser_terms}
 use Rattle.phase_shared.proofs.Opening.{opened, closed}
 use Rattle.phase_shared.proofs.reg.Reg.try_leave.Goals as goal

@@ -6,7 +6,7 @@ use Rattle.graph_runs.specs.Steps.{owed_of}
 use Rattle.graph_runs.proofs.TellsNext.{ended_cut}
 use Rattle.stream_tasks.specs.Tasks.{place_of}
 use Rattle.stream_tasks.specs.Inside.{MayStep}
-use Rattle.stream_tasks.proofs.Ending.{at_end, all_now}
+use Rattle.stream_tasks.proofs.EndingLemmas.{at_end, all_now}
 use Rattle.stream_tasks.proofs.task_state.TaskState.at_boundary.Goals as goal
 
 pub returns-then-is_cut : goal.returns-then-is_cut

@@ -10,7 +10,7 @@ use Rattle.graph_runs.specs.Steps.{owed_of, HasFilter}
 use Rattle.stream_tasks.specs.Holds.{GoesOn, HasGot}
 use Rattle.stream_tasks.proofs.Turning.{task_sees, whole_moves}
 use Rattle.stream_tasks.proofs.Waiting.{task_takes, input_on}
-use Rattle.stream_tasks.proofs.Ending.{runs_out, task_lines}
+use Rattle.stream_tasks.proofs.EndingLemmas.{runs_out, task_lines}
 use Rattle.stream_tasks.proofs.task_state.TaskState.first_wait.Goals as goal
 
 pub owed_after_wait-self-requires-clause-filter : goal.owed_after_wait-self-requires-clause-filter

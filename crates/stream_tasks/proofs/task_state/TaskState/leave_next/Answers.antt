@@ -6,7 +6,7 @@ use Rattle.graph_runs.specs.graph_base.Registrations.{registrations_of, no_regis
 use Rattle.graph_runs.specs.TaskPlaces.{registration_at}
 use Rattle.stream_tasks.specs.Tasks.{IsTask}
 use Rattle.graph_runs.specs.Nexts.{registrations_at}
-use Rattle.stream_tasks.proofs.Ending.{task_leaves}
+use Rattle.stream_tasks.proofs.EndingLemmas.{task_leaves}
 use Rattle.stream_tasks.proofs.task_state.TaskState.leave_next.Goals as goal
 
 pub returns-in-Ok : goal.returns-in-Ok

@@ -10,7 +10,7 @@ use Rattle.stream_tasks.specs.Holds.{GoesOn, HasSignalled}
 use Rattle.stream_tasks.specs.Tasks.{place_of}
 use Rattle.stream_tasks.proofs.Turning.{task_sees, output_on}
 use Rattle.stream_tasks.proofs.Waiting.{task_samples}
-use Rattle.stream_tasks.proofs.Ending.{at_end}
+use Rattle.stream_tasks.proofs.EndingLemmas.{at_end}
 use Rattle.stream_tasks.proofs.task_state.TaskState.put_sample.Goals as goal
 
 pub returns-in_default : goal.returns-in_default
