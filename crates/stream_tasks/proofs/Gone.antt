@@ -1,11 +1,9 @@
 -- What a task leaves behind that has left all its phasers.
-use Rattle.std.proofs.Common.{◌≡◌, ◌≢◌, ℕ, zero, suc, ◌<◌, ◌≤◌, Bool, true, false, cond, eqb, List, [], ◌∷◌, Some, length, map, get_or, refl, sym, ap, subst, ◌∙◌, arith}
-use Rattle.std.specs.Prelude.{slice_get, ◌==◌}
+use Rattle.std.proofs.Common.{◌≡◌, ℕ, zero, suc, ◌<◌, ◌≤◌, Bool, true, false, cond, eqb, List, [], ◌∷◌, Some, length, map, get_or, refl, sym, ap, subst, ◌∙◌, arith}
+use Rattle.std.specs.Prelude.{slice_get}
 use Rattle.std.proofs.lemmas.Bool.{eqb-true, eq-eqb}
 use Rattle.std.proofs.lemmas.List.{length-map}
-use Rattle.std.proofs.lemmas.Option.{slice_get-get_or, slice_get_within, same_Some, get_or_from_slice_get}
-use Rattle.graph_runs.specs.phase_history.Histories.{History}
-use Rattle.graph_runs.specs.graph_base.Graphs.{task_at}
+use Rattle.std.proofs.lemmas.Option.{slice_get-get_or, slice_get_within, same_Some}
 use Rattle.stream_eval.specs.stream_lists.Jobs.{Job}
 use Rattle.graph_runs.specs.Moments.{Moment}
 use Rattle.stream_members.specs.Members.{Spot}
@@ -13,12 +11,11 @@ use Rattle.stream_members.specs.AnyMembers.{left_in}
 use Rattle.stream_members.specs.declared.any_left.AnyLeft.{AnyLeft}
 use Rattle.graph_runs.specs.Nexts.{registrations_at}
 use Rattle.graph_runs.specs.TaskPlaces.{registration_at}
-use Rattle.graph_runs.specs.TaskEnds.{TaskEnd, HasLeftAt, HasNumbers, IsChildOf}
-use Rattle.stream_tasks.specs.Ends.{IsGone, IsEnded, IsLeftOn, ended_of, given_to}
-use Rattle.stream_tasks.specs.Tasks.{HasLeftOn, HasHolds, IsTaskAt, IsTask, place_of}
+use Rattle.graph_runs.specs.TaskEnds.{HasNumbers}
+use Rattle.stream_tasks.specs.TaskLefts.{IsGone, IsTaskLeft, left_by, given_to}
+use Rattle.stream_tasks.specs.Tasks.{HasLeftOn, HasHolds, IsTask, place_of}
 use Rattle.stream_tasks.specs.declared.hold.Hold.{Hold}
 use Rattle.stream_tasks.specs.declared.child.Child.{Child}
-use Rattle.stream_tasks.specs.declared.ended.Ended.{Ended}
 use Rattle.stream_tasks.specs.declared.task_state.TaskState.{TaskState}
 
 -- the history that was seen of the phaser at place i
@@ -66,10 +63,10 @@ seen_all job spots m t holds lefts has i less = by lefts has.off i less
         let l = get_or (x ∷ ls) i x in
         sym (off i l found).seen ∙ sym (seen_at (x ∷ ls) i l found)
 
--- a task that is gone has ended
-pub gone_ended : (job : Job) (spots : ℕ → Spot) (s : TaskState) → IsGone s → IsTask job spots s
-    → IsEnded job spots (ended_of s)
-gone_ended job spots s gone task =
+-- a task that is gone has left all its phasers
+pub gone_left : (job : Job) (spots : ℕ → Spot) (s : TaskState) → IsGone s → IsTask job spots s
+    → IsTaskLeft job spots (left_by s)
+gone_left job spots s gone task =
     let whole = task.whole in
     let m = (task.stands gone.met).0 in
     let at = (task.stands gone.met).1 in
@@ -80,7 +77,7 @@ gone_ended job spots s gone task =
     record {
       there = whole.there;
       moment = m;
-      left = record {
+      has_left = record {
         part = at.part;
         own = at.own;
         at = place_of s;
@@ -96,7 +93,7 @@ gone_ended job spots s gone task =
             (let known = whole.children.all c child.parent child.there child.has child.by in
             given_holds job m s.children.items c known.0 known.1.0 at.given known.1.1 known.1.2);
       };
-      lefts = λ i n l number left.
+      members = λ i n l number left.
           (let off = at.holds.off i l left in
           let less = slice_get_within s.numbers.items i n number in
           let same : Some off.number ≡ Some n =
@@ -105,6 +102,6 @@ gone_ended job spots s gone task =
             op = off.op;
             at = off.at;
             limits = off.limits;
-            numbers = off.numbers ∙ ap (λ x. x ∷ []) (same_Some off.number n same);
+            numbers_are = off.numbers ∙ ap (λ x. x ∷ []) (same_Some off.number n same);
           });
     }

@@ -4,9 +4,8 @@ mod Waiting
 mod EndingLemmas
 mod Gone
 mod ChildHolds
-pub mod Seeding
+mod Seeding
 mod StillRegistering
-mod Leaving
 mod Delivering
 mod FoundingLemmas
 mod Rows

@@ -1,10 +1,9 @@
 -- What the code keeps of a task between threads: its children, its seed, and what it holds.
-use Rattle.std.specs.Prelude.{◌≡◌, ℕ, ◌<◌, ◌≤◌, List, [], ◌∷◌, length, slice_get, Some, false, ◌++◌, Option, ◌+◌, slice_set, None, ◌≢◌}
+use Rattle.std.specs.Prelude.{◌≡◌, ℕ, ◌<◌, ◌≤◌, [], ◌∷◌, length, slice_get, Some, false, ◌++◌, Option, ◌+◌, slice_set, None, ◌≢◌}
 use Rattle.stream_eval.specs.stream_lists.Jobs.{Job}
 use Rattle.graph_runs.specs.Moments.{Moment}
 use Rattle.stream_members.specs.Members.{Spot}
 use Rattle.graph_runs.specs.TaskPlaces.{registration_at}
-use Rattle.stream_tasks.specs.declared.ending.task_left.Given.{Given as GivenNumbers}
 use Rattle.graph_runs.specs.phase_accum.declared.outcome.Outcome.{Outcome}
 use Rattle.stream_eval.specs.stream_lists.Lists.{number}
 use Rattle.stream_eval.specs.stream_lists.Ranges.{is_too_big}
@@ -23,14 +22,6 @@ use Rattle.stream_tasks.specs.declared.hold.Hold.TheVariants.{On}
 use Rattle.stream_tasks.specs.Registering.{IsRegistering}
 use Rattle.stream_tasks.specs.Tasks.{IsTaskAt, IsTask}
 use Rattle.stream_tasks.specs.declared.hold.Given.TheVariants as given
-
--- these children, one after the other, were given these numbers
-abbrev pub HaveSameNumbers : List Child → List GivenNumbers → Type 0
-HaveSameNumbers [] [] = Unit {0}
-HaveSameNumbers (child ∷ children) (told ∷ more) =
-    (told.task ≡ child.task) × (told.numbers.items ≡ child.numbers.items)
-    × HaveSameNumbers children more
-HaveSameNumbers children told = ⊥
 
 -- a number that is given for an outcome
 abbrev pub IsGivenAs : Outcome → Given → Type 0

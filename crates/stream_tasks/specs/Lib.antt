@@ -1,6 +1,5 @@
 pub mod Agreeing
 pub mod Deliveries
-pub mod Ends
 pub mod EndsInside
 pub mod Founders
 pub mod Gatherings

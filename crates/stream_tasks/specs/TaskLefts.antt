@@ -1,5 +1,5 @@
--- What a task leaves behind, as the end of a run knows it.
-use Rattle.std.specs.Prelude.{◌≡◌, ℕ, ℤ, ◌<◌, get_or, List, [], ◌∷◌, length, map, slice_get, Option, Some, None, ◌==◌, if◌then◌else◌}
+-- What a task leaves behind, and what the end of a run knows of it.
+use Rattle.std.specs.Prelude.{◌≡◌, ℕ, ℤ, ◌<◌, ◌≤◌, get_or, List, [], ◌∷◌, length, map, slice_get, Option, Some, None, true, false, ◌==◌, if◌then◌else◌}
 use Rattle.graph_runs.specs.phase_history.Legal.{IsLegal}
 use Rattle.graph_runs.specs.graph_base.Graphs.{phaser_at}
 use Rattle.stream_eval.specs.stream_lists.Jobs.{Job}
@@ -10,14 +10,29 @@ use Rattle.stream_members.specs.declared.any_left.AnyLeft.{AnyLeft}
 use Rattle.graph_runs.specs.TaskPlaces.{registration_at}
 use Rattle.graph_runs.specs.TaskEnds.{TaskEnd, HasLeftAt, HasFoundedAndLeft}
 use Rattle.stream_tasks.specs.Joinings.{IsAt}
-use Rattle.stream_tasks.specs.declared.ending.task_left.Given.{Given}
+use Rattle.stream_tasks.specs.declared.child.Child.{Child}
 use Rattle.stream_tasks.specs.declared.ending.task_left.Part.{Part}
 use Rattle.stream_tasks.specs.declared.ending.task_left.TaskLeft.{TaskLeft}
+use Rattle.stream_tasks.specs.declared.task_state.TaskState.{TaskState}
+
+-- a task that has left as many phasers as it has numbers, and met nothing that ends all
+pub record IsGone (s : TaskState) : Type 0 where
+  pub met : s.met ≡ false
+  pub over : s.over ≡ true
+  pub left : length s.numbers.items ≤ length s.lefts.items
+
+-- what a task in this state leaves behind
+abbrev pub left_by : TaskState → TaskLeft
+left_by s = record {
+  task = s.number;
+  part = record { begun = s.begun; numbers = s.numbers; lines = s.lines; given = s.children };
+  lefts = s.lefts;
+}
 
 -- the numbers that were given to task c, and none where it stands nowhere
-abbrev pub given_to : List Given → ℕ → List ℕ
+abbrev pub given_to : List Child → ℕ → List ℕ
 given_to [] c = []
-given_to (given ∷ more) c = if given.task == c then given.numbers.items else given_to more c
+given_to (child ∷ more) c = if child.task == c then child.numbers.items else given_to more c
 
 -- the end of a task that knows this of itself, and has seen this
 abbrev pub end_of : ℕ → Part → List AnyLeft → TaskEnd

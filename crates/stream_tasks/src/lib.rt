@@ -31,7 +31,6 @@
 mod child;
 mod children;
 mod delivery;
-mod ended;
 mod ending;
 mod gate;
 mod held;
@@ -46,9 +45,8 @@ mod turned;
 mod unregistered;
 
 pub use child::Child;
-pub use ended::Ended;
 pub use ending::run_end::finish;
-pub use ending::task_left::{Given, Part, TaskLeft};
+pub use ending::task_left::{Part, TaskLeft};
 pub use gate::{Gate, Open};
 pub use graph_runs;
 pub use graph_runs::graph_base;

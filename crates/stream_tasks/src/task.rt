@@ -1,14 +1,14 @@
 //! A task with its registrations.
 ghost use Rattle.std.specs.Prelude.{◌≡◌, length, None, IfErr, IfOk};
-ghost use Rattle.stream_tasks.specs.Ends.{IsEnded};
+ghost use Rattle.stream_tasks.specs.TaskLefts.{IsTaskLeft};
 ghost use Rattle.graph_runs.specs.graph_base.Graphs.{task_at};
 ghost use Rattle.graph_runs.specs.Nexts.{registrations_at};
 ghost use Rattle.stream_tasks.specs.Seeds.{seed_state, IsSeed, HasRoom, HasReceived};
 
-use crate::ended::Ended;
 use crate::gate::Gate;
 use crate::run::Run;
 use crate::seed::Seed;
+use crate::ending::task_left::TaskLeft;
 use crate::task_state::TaskState;
 use crate::turned::Turned;
 use crate::unregistered::Unregistered;
@@ -142,8 +142,8 @@ impl<'a, J: Run> Task<'a, J> {
     }
 
     /// Gives what it leaves behind, where it has left all its phasers. Else it comes back.
-    pub fn end<W: Wait>(self, rt: &W) -> Result<Ended<'a>, Self>
-        ensures { IfOk result (IsEnded J.job J.spots) }
+    pub fn end<W: Wait>(self, rt: &W) -> Result<TaskLeft<'a>, Self>
+        ensures { IfOk result (IsTaskLeft J.job J.spots) }
     {
         if !self.state.is_gone() {
             return Err(self);

@@ -1,10 +1,10 @@
 //! How far a task has come, with its registrations.
 ghost use Rattle.std.specs.Prelude.{◌≡◌, true};
-ghost use Rattle.stream_tasks.specs.Ends.{IsGone, ended_of};
+ghost use Rattle.stream_tasks.specs.TaskLefts.{IsGone, left_by};
 
 use crate::child::Child;
-use crate::ended::Ended;
 use crate::hold::Hold;
+use crate::ending::task_left::{Part, TaskLeft};
 use graph_runs::Owed;
 use smallvec::SmallVec;
 use std::sync::Wait;
@@ -58,8 +58,8 @@ impl<'a> TaskState<'a> {
     }
 
     /// What it leaves behind. It leaves by waiting where it still has to.
-    pub fn end<W: Wait>(self, rt: &W) -> Ended<'a>
-        ensures { result ≡ ended_of self.entry }
+    pub fn end<W: Wait>(self, rt: &W) -> TaskLeft<'a>
+        ensures { result ≡ left_by self.entry }
     {
         let TaskState {
             number,
@@ -79,13 +79,15 @@ impl<'a> TaskState<'a> {
         } = self;
         dismiss_all(rt, holds);
         dismiss_all(rt, child_holds);
-        Ended {
-            number,
-            begun,
-            lines,
-            numbers,
+        TaskLeft {
+            task: number,
+            part: Part {
+                begun,
+                numbers,
+                lines,
+                given: children,
+            },
             lefts,
-            children,
         }
     }
 }

@@ -1,3 +1,2 @@
-pub mod Ended
-pub mod Inside
+pub mod TasksLeft
 pub use Rattle.stream_tasks.specs.stream_members as stream_members

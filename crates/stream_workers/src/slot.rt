@@ -1,10 +1,10 @@
 //! A task of a graph in a pool of workers.
 ghost use Rattle.std.specs.Prelude.{◌≡◌, IfOk, IfSome};
-ghost use Rattle.stream_tasks.specs.Ends.{IsEnded};
+ghost use Rattle.stream_tasks.specs.TaskLefts.{IsTaskLeft};
 
 use std::mem;
 use std::sync::Wait;
-use stream_tasks::{Ended, Gate, Run, Task, Unregistered};
+use stream_tasks::{Gate, Run, Task, TaskLeft, Unregistered};
 use worker_pool::{Fault, Turned, Work};
 
 /// A task of a graph, or its place before it is registered.
@@ -59,12 +59,12 @@ impl<'a, J: Run> Place<'a, J> {
 
     /// Gives what the task leaves behind, or nothing where it never came. `Err` tells that it has not
     /// left all its phasers; then it leaves them, by waiting.
-    pub fn end<W: Wait>(self, rt: &W) -> Result<Option<Ended<'a>>, Fault>
-        ensures { IfOk result (λ end. IfSome end (IsEnded J.job J.spots)) }
+    pub fn end<W: Wait>(self, rt: &W) -> Result<Option<TaskLeft<'a>>, Fault>
+        ensures { IfOk result (λ end. IfSome end (IsTaskLeft J.job J.spots)) }
     {
         match self {
             Place::Task(task) => match task.end(rt) {
-                Ok(ended) => Ok(Some(ended)),
+                Ok(left) => Ok(Some(left)),
                 Err(task) => {
                     task.dismiss(rt);
                     Err(Fault::Stalled)

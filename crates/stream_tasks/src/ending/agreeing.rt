@@ -6,7 +6,8 @@ ghost use Rattle.stream_tasks.specs.Joinings.{IsAt};
 ghost use Rattle.stream_tasks.specs.TaskLefts.{given_to};
 ghost use Rattle.stream_tasks.specs.Agreeing.{Agrees};
 
-use crate::ending::task_left::{Given, Part};
+use crate::child::Child;
+use crate::ending::task_left::Part;
 use stream_eval::stream_lists::Job;
 
 /// What task number `t` knows of itself, where it came.
@@ -21,7 +22,7 @@ pub(crate) fn part_at(parts: &[Option<Part>], t: usize) -> Option<&Part>
 }
 
 /// The numbers that were given to task number `c`, and none where it stands nowhere.
-fn given_to(given: &[Given], c: usize) -> &[u64]
+fn given_to(given: &[Child], c: usize) -> &[u64]
     ensures { result.now ≡ given_to given.now c }
 {
     for i in 0..given.len() {

@@ -1,16 +1,8 @@
 //! What a task leaves behind.
 
+use crate::child::Child;
 use smallvec::SmallVec;
 use stream_members::AnyLeft;
-
-/// The numbers that a task gave to a child, in the order of the child's registrations.
-#[derive(Drop)]
-pub struct Given {
-    /// The child's number among the tasks.
-    pub task: usize,
-    /// Its numbers.
-    pub numbers: SmallVec<u64, 9>,
-}
 
 /// What a task knows of itself that has left all its phasers.
 #[derive(Drop)]
@@ -21,8 +13,8 @@ pub struct Part {
     pub numbers: SmallVec<u64, 9>,
     /// What it has taken, where it is a sink.
     pub lines: Vec<i64>,
-    /// The numbers that it gave to its children, the first one of each child counts.
-    pub given: Vec<Given>,
+    /// Its children, with the numbers that it gave them. The first one of each child counts.
+    pub given: Vec<Child>,
 }
 
 /// What a task leaves behind that has left all its phasers. It may be thrown away.

@@ -11,5 +11,5 @@ finish-requires-clause-left g c = (
       c.in_ok-lefts.lefts.items c.deref.result.now c.requires.job c.in_ok-lefts.ensures.lefts
       (c.deref.ensures.value ∙ c.in_ok-lefts.ensures.gave) c.requires.founders,
   λ t left at. subst (λ j. IsTaskLeft j g.J.Run.spots left) (sym c.requires.job)
-      (c.in_ok-tasks.ensures.each g.J.Run.job g.J.Run.spots c.requires.tasks t left at),
+      (c.requires.tasks t left at),
 )
