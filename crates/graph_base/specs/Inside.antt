@@ -41,5 +41,5 @@ graph_view graph =
     graph_of graph.names.entries graph.phasers.items graph.tasks.items graph.files.items
 
 -- what holds of the fields of every graph
-abbrev pub IsKept : Inside → Type 0
-IsKept graph = IsGraph (graph_view graph)
+abbrev pub IsGraphInside : Inside → Type 0
+IsGraphInside graph = IsGraph (graph_view graph)

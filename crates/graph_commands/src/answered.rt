@@ -66,7 +66,7 @@ pub fn check_and_explain<W: Write, E: Write, F: Files + Refuses>(
     }
 }
 
-/// Answers 0 where the output was written, and else tells that a write failed and answers 5.
+/// Returns 0 where the output was written, and else tells that a write failed and answers 5.
 pub fn report_written<E: Write>(written: Result<(), WriteFailed>, faults: &mut Watched<E>) -> u8
     ensures done { OnOk written ((result ≡ 0) × (faults.new ≡ faults.old)) }
     ensures stops { OnErr written ((result ≡ 5) × Reports WriteFault

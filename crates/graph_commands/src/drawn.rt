@@ -34,7 +34,7 @@ pub fn draw_and_report<W: Write, E: Write, F: Files>(
     }
 }
 
-/// Answers 0 where a drawing was written, and else tells why not and answers 5.
+/// Returns 0 where a drawing was written, and else tells why not and answers 5.
 fn report_drawn<E: Write>(drawn: Result<(), IoFault>, faults: &mut Watched<E>) -> u8
     ensures done { OnOk drawn ((result ≡ 0) × (faults.new ≡ faults.old)) }
     ensures stops { IfErr drawn (λ fault. (result ≡ 5) × Reports fault

@@ -8,7 +8,7 @@ ghost use Rattle.graph_show.specs.watched_io.States.{writer_state};
 
 use crate::graph_faults::report_job_fault;
 use crate::job_file::job_of_graph;
-use crate::{GRAPH_MAX, JobFault, Refusal, Refuses};
+use crate::{FileRefusal, GRAPH_MAX, JobFault, Refuses};
 use graph_show::explanation;
 use graph_show::graph_lang::read_graph;
 use graph_show::watched_io::{Files, Watched};
@@ -123,7 +123,7 @@ fn record_explained(alloc: Global) -> Result<Vec<u8>, AllocError>
 }
 
 /// The name of a file, and why it was refused.
-fn refusal_explained(alloc: Global, name: &str, why: Refusal) -> Result<Vec<u8>, AllocError>
+fn refusal_explained(alloc: Global, name: &str, why: FileRefusal) -> Result<Vec<u8>, AllocError>
     ensures { IfOk result (λ more. TellsRefusal more.items) }
 {
     let mut more = Vec::new(alloc);
@@ -136,12 +136,12 @@ fn refusal_explained(alloc: Global, name: &str, why: Refusal) -> Result<Vec<u8>,
 }
 
 /// Why a file was refused, for a person.
-fn told_of(why: Refusal) -> &'static str {
+fn told_of(why: FileRefusal) -> &'static str {
     match why {
-        Refusal::Missing => "there is no such file",
-        Refusal::Folder => "it is a folder",
-        Refusal::NotAllowed => "there is no permission to read it",
-        Refusal::TooLong => "it is too long",
-        Refusal::Other => "it cannot be read",
+        FileRefusal::Missing => "there is no such file",
+        FileRefusal::Folder => "it is a folder",
+        FileRefusal::NotAllowed => "there is no permission to read it",
+        FileRefusal::TooLong => "it is too long",
+        FileRefusal::Other => "it cannot be read",
     }
 }

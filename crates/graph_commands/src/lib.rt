@@ -35,7 +35,7 @@ pub use graph_file::{GRAPH_MAX, read_graph_file};
 pub use graph_show::watched_io;
 pub use job_file::read_job;
 pub use lines::{write_lines, write_values};
-pub use refused::{Refusal, Refuses, TellingFiles};
+pub use refused::{FileRefusal, Refuses, TellingFiles};
 pub use sinks::find_sink;
 pub use sources::read_sources;
 pub use stream_eval::stream_lists;

@@ -18,7 +18,7 @@ use Rattle.graph_base.specs.Names.{place_of}
 use Rattle.graph_lang.specs.WordValues.{phaser_line, single_of, task_line, kind_of_body, files_in}
 use Rattle.graph_lang.specs.Faults.{kind_of, is_bound_within, is_function_within}
 use Rattle.graph_base.specs.TaskLines.{IsGraph, IsPhaserLine, IsTaskLine, AreRising}
-use Rattle.graph_lang.specs.Reads.{Reads, Steps, with_line, told, fault_at}
+use Rattle.graph_lang.specs.Reads.{Reads, Steps, with_line, line_outcome, fault_at}
 use Rattle.graph_base.specs.declared.limits.TheConstants.{PHASERS_MAX}
 use Rattle.graph_lang.specs.declared.fault.FaultKind.{FaultKind}
 use Rattle.graph_lang.specs.declared.fault.FaultKind.TheVariants.{Limit, Twice, Syntax}
@@ -328,11 +328,11 @@ pub record IsBefore (n : ℕ) (graph : Graph) : Type 0 where
 
 told-keeps : (before after : Graph) (n : ℕ) (d : Decl) (fault : Option FaultKind)
     → kind_of before d ≡ fault → IsWellFormed d → IsBefore n before
-    → Ok after ≡ told n before d fault → IsBefore (n + 1) after
-told-keeps before after n d (Some kind) e formed is told =
-    let clash : Ok after ≡ fault_at n kind = told in absurd (cc)
-told-keeps before after n d None e formed is told =
-    let same : Ok after ≡ Ok (with_line before n d) = told in
+    → Ok after ≡ line_outcome n before d fault → IsBefore (n + 1) after
+told-keeps before after n d (Some kind) e formed is line_outcome =
+    let clash : Ok after ≡ fault_at n kind = line_outcome in absurd (cc)
+told-keeps before after n d None e formed is line_outcome =
+    let same : Ok after ≡ Ok (with_line before n d) = line_outcome in
     let one : after ≡ with_line before n d = cc in
     subst (IsBefore (n + 1)) (sym one) (record {
       counted = omega arith;

@@ -21,7 +21,7 @@ use std::alloc::{AllocError, Global};
 // ---- phasers
 
 /// The greatest magnitude of an end of a clamp.
-const CLAMP_MAX: u64 = VALUE_MAX as u64;
+const MAGNITUDE_MAX: u64 = VALUE_MAX as u64;
 
 /// The single of a function whose numbers are within their limits.
 pub(crate) fn single_of(function: Function<'_>) -> Option<Single>
@@ -34,8 +34,8 @@ pub(crate) fn single_of(function: Function<'_>) -> Option<Single>
         Function::Abs => Some(Single::abs()),
         Function::Halve => Some(Single::halve()),
         Function::Clamp(low, high) => {
-            let low = int_within(low, CLAMP_MAX)?;
-            let high = int_within(high, CLAMP_MAX)?;
+            let low = int_within(low, MAGNITUDE_MAX)?;
+            let high = int_within(high, MAGNITUDE_MAX)?;
             Single::clamp(low, high).ok()
         }
     }

@@ -12,7 +12,7 @@ use Rattle.stream_lists.proofs.graph_base_lemmas.Registered.{registrations-phase
 use Rattle.stream_lists.specs.Jobs.{Job, samples_at}
 use Rattle.stream_lists.specs.Spans.{signalled_by, takes_from, puts_on, LooksAt}
 use Rattle.stream_lists.proofs.EachPhase.{find_none}
-use Rattle.graph_runs.specs.Moments.{Moment, TaskRan, HasEnded, HasTaken, HasExchanged, HasSamples, AtMost, MayEnd, at_until, no_sample, no_input, RanOut, made_now, taken_now, first_input, input_at}
+use Rattle.graph_runs.specs.Moments.{Moment, TaskRan, HasEnded, HasTaken, HasExchanged, HasSamples, AtMost, MayStop, at_until, no_sample, no_input, RanOut, made_now, taken_now, first_input, input_at}
 use Rattle.graph_runs.proofs.Entries.{prefix_whole}
 use Rattle.graph_runs.proofs.OutputLists.{length_made}
 use Rattle.graph_runs.proofs.StepsLemmas.{taken_count}
@@ -230,7 +230,7 @@ pub goes_on : (job : Job) (m : Moment) (t : ℕ)
     → has_input_ended job m t (task_at job.graph t).kind ≡ false → HasEnded job m t → ⊥
 goes_on job m t uncut more ended = by ended.may_end
   where
-    by : MayEnd m (task_at job.graph t) t (length (samples_at job t)) → ⊥
+    by : MayStop m (task_at job.graph t) t (length (samples_at job t)) → ⊥
     by (at_until e) =
         let cut : is_cut (task_at job.graph t).until (m.begun t) ≡ true =
         ap (λ o. is_cut o (m.begun t)) e ∙ eq-eqb (m.begun t) (m.begun t) refl in

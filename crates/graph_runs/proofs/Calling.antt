@@ -20,7 +20,7 @@ use Rattle.stream_lists.specs.graph_base.Registrations.{no_registration}
 use Rattle.stream_lists.specs.graph_base.TaskLines.{IsGraph, HasEnds}
 use Rattle.stream_lists.specs.Jobs.{Job, samples_at, index_in}
 use Rattle.stream_lists.specs.Spans.{signalled_by, puts_on}
-use Rattle.graph_runs.specs.Moments.{Moment, HasRun, HasEnded, MayEnd, at_until, no_sample, no_input, OnLine, limits_at, value_at, input_at, first_input, made_now}
+use Rattle.graph_runs.specs.Moments.{Moment, HasRun, HasEnded, MayStop, at_until, no_sample, no_input, OnLine, limits_at, value_at, input_at, first_input, made_now}
 use Rattle.graph_runs.proofs.OnLines.{on_phaser}
 use Rattle.graph_runs.proofs.Tasks.{first_looks}
 use Rattle.graph_runs.specs.Turned.{IsAnsweredWait}
@@ -235,13 +235,13 @@ until_is (Some until) b e = ap (λ u. Some u) (eqb-true until b e)
 may_end : (job : Job) (m : Moment) (t : ℕ)
     → (is_cut (task_at job.graph t).until (m.begun t)
     || has_input_ended job m t (task_at job.graph t).kind) ≡ true
-    → MayEnd m (task_at job.graph t) t (length (samples_at job t))
+    → MayStop m (task_at job.graph t) t (length (samples_at job t))
 may_end job m t e =
     by (or_true (is_cut (task_at job.graph t).until (m.begun t))
     (has_input_ended job m t (task_at job.graph t).kind) e)
   where
     End : Type 0
-    End = MayEnd m (task_at job.graph t) t (length (samples_at job t))
+    End = MayStop m (task_at job.graph t) t (length (samples_at job t))
 
     out : ((task_at job.graph t).kind ≡ Source → ⊥)
         → has_run_out m (task_at job.graph t) t

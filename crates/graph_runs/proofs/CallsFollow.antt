@@ -21,7 +21,7 @@ use Rattle.stream_lists.specs.Ranges.{is_too_big}
 use Rattle.graph_runs.specs.Moments.{Moment, limits_at}
 use Rattle.graph_runs.proofs.Whole.{parent_of}
 use Rattle.graph_runs.proofs.OwnEvents.{eq_case}
-use Rattle.graph_runs.specs.Parts.{SeesOthers, SeesOwn, HasMovedOn, HasSeen, HasPut, HasGot, HasLeft, put_event, IsAnsweredBy}
+use Rattle.graph_runs.specs.Parts.{SeesOthers, SeesOwn, HasMovedOn, HasSeen, HasPut, HasGot, LeavesPart, put_event, IsAnsweredBy}
 use Rattle.graph_runs.specs.Places.{IsRootOn, IsFirstMoment, HasNewChild, HasSeenBoth, HasAddedChild}
 use Rattle.graph_runs.specs.Beginnings.{opening}
 use Rattle.graph_runs.specs.Nexts.{registrations_at}
@@ -90,7 +90,7 @@ module _ (job : Job) (before after : Moment) (t p : ℕ) (is : IsGraph job.graph
       (own_came job before t p n (before.history p) last sees.others was))
 
   pub calls_left : (n : ℕ) (last : History) → SeesOwn job before t p n (Dropped n) last
-      → HasLeft job before after t p (Dropped n ∷ last)
+      → LeavesPart job before after t p (Dropped n ∷ last)
       → HasOwnCalls job before t → HasOwnCalls job after t
   calls_left n last sees left own =
       goes_on n (Dropped n ∷ last) left.moved sees.numbered own

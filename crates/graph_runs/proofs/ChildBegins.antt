@@ -21,7 +21,7 @@ use Rattle.stream_lists.specs.Jobs.{Job, samples_at, index_in}
 use Rattle.stream_lists.specs.Spans.{signalled_by}
 use Rattle.stream_lists.specs.Lists.{number}
 use Rattle.stream_lists.proofs.Ordered.{parent_signals, parent_waits}
-use Rattle.graph_runs.specs.Moments.{one, Moment, TaskRan, input_at, limits_at, value_at, IsRegistered, OnOutput, OnInput, OnPhaser, PutOn, TakenOn, SilentOn, OnLine, HasNotPassed, Joined, BeginsBy, MayEnd, at_until, no_sample, no_input, HasEnded}
+use Rattle.graph_runs.specs.Moments.{one, Moment, TaskRan, input_at, limits_at, value_at, IsRegistered, OnOutput, OnInput, OnPhaser, PutOn, TakenOn, SilentOn, OnLine, HasNotPassed, Joined, BeginsBy, MayStop, at_until, no_sample, no_input, HasEnded}
 use Rattle.graph_runs.specs.Moves.{HasGrown, Registers}
 use Rattle.graph_runs.proofs.Framed.{task_later}
 use Rattle.graph_runs.proofs.OwnEvents.{eq_case, begins_there}
@@ -212,9 +212,9 @@ child_begins job before after t p n c a mode u is there legal grown s parent chi
         by (inl out) = absurd (let f : Some out.0 ≡ None = sym out.1 ∙ none in cc)
 
     -- elsewhere its number is the same
-    may_end_as : MayEnd (record after { number = before.number }) (task_at job.graph c) c
+    may_end_as : MayStop (record after { number = before.number }) (task_at job.graph c) c
         (length (samples_at job c))
-        → MayEnd after (task_at job.graph c) c (length (samples_at job c))
+        → MayStop after (task_at job.graph c) c (length (samples_at job c))
     may_end_as (at_until e) = at_until e
     may_end_as (no_sample source few) = no_sample source few
     may_end_as (no_input not out) = no_input not out

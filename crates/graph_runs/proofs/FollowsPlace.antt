@@ -26,7 +26,7 @@ use Rattle.graph_runs.proofs.Lacking.{first_none}
 use Rattle.graph_runs.proofs.PlacesLemmas.{place_of_output}
 use Rattle.graph_runs.proofs.PlacesFollow.{LeavesOne, leave_stands}
 use Rattle.graph_runs.proofs.Stepping.{puts_stand, peer_in_turn, sample_lacks}
-use Rattle.graph_runs.specs.Parts.{HasPart, HasSeen, HasPut, HasGot, HasLeft, BeginsStep}
+use Rattle.graph_runs.specs.Parts.{HasPart, HasSeen, HasPut, HasGot, LeavesPart, BeginsStep}
 use Rattle.graph_runs.specs.Places.{owing, after_step, after_leaving}
 use Rattle.graph_runs.proofs.TellsNext.{staying_at, owes_as, ranged_value, is_first}
 
@@ -185,7 +185,7 @@ exchanged_follows job m after t p x outcome at now is there part stands none owe
 pub left_follows : (job : Job) (m after : Moment) (t p n : ℕ) (at : TaskPlace) (before : History)
     → IsGraph job.graph → t < length job.graph.tasks → StandsAt job m t at
     → at.left < length at.numbers → (registration_at job t at.left).phaser ≡ p
-    → m.number p t ≡ Some n → HasLeft job m after t p (Dropped n ∷ before)
+    → m.number p t ≡ Some n → LeavesPart job m after t p (Dropped n ∷ before)
     → StandsAt job after t (after_leaving at)
 left_follows job m after t p n at before is there stands room here numbered s =
     let first : eqb n n ≡ true = eq-eqb n n refl in

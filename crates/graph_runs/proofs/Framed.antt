@@ -20,7 +20,7 @@ use Rattle.stream_lists.specs.Spans.{signalled_by}
 use Rattle.stream_lists.specs.Lists.{number, output_list}
 use Rattle.stream_lists.proofs.Growing.{map-same}
 use Rattle.graph_runs.proofs.OwnEvents.{begins}
-use Rattle.graph_runs.specs.Moments.{one, Moment, BeginsBy, input_at, taken_now, made_now, limits_at, value_at, IsRegistered, TaskRan, HasEnded, RanOut, first_input, MayEnd, at_until, no_sample, no_input, OnOutput, OnInput, OnPhaser, PutOn, TakenOn, SilentOn, OnLine, HasNotPassed, Joined, AtMost, HasTaken, HasSamples, HasExchanged}
+use Rattle.graph_runs.specs.Moments.{one, Moment, BeginsBy, input_at, taken_now, made_now, limits_at, value_at, IsRegistered, TaskRan, HasEnded, RanOut, first_input, MayStop, at_until, no_sample, no_input, OnOutput, OnInput, OnPhaser, PutOn, TakenOn, SilentOn, OnLine, HasNotPassed, Joined, AtMost, HasTaken, HasSamples, HasExchanged}
 use Rattle.graph_runs.specs.Moves.{SameTask, HasGrown, PartStays, OthersMoved}
 use Rattle.graph_runs.proofs.OnLines.{on_phaser}
 use Rattle.graph_runs.proofs.Tasks.{first_looks}
@@ -92,8 +92,8 @@ ran_out_later job before after t k grown on same out =
 
 pub may_end_later : (job : Job) (before after : Moment) (t : ℕ) → IsGraph job.graph
     → t < length job.graph.tasks → HasGrown job before after t
-    → SameTask before after t → MayEnd before (task_at job.graph t) t (length (samples_at job t))
-    → MayEnd after (task_at job.graph t) t (length (samples_at job t))
+    → SameTask before after t → MayStop before (task_at job.graph t) t (length (samples_at job t))
+    → MayStop after (task_at job.graph t) t (length (samples_at job t))
 may_end_later job before after t is there grown same (at_until e) =
     at_until (e ∙ ap (λ b. Some b) (sym same.begun))
 may_end_later job before after t is there grown same (no_sample source few) =

@@ -33,7 +33,7 @@ use Rattle.graph_runs.proofs.OwnSignals.{own_signal}
 use Rattle.graph_runs.proofs.OwnWaits.{own_wait}
 use Rattle.graph_runs.proofs.OwnLeaves.{own_leave}
 use Rattle.graph_runs.proofs.Turned.{next_signal_is, next_sample_is, first_wait_is, exchange_wait_is, next_leave_is}
-use Rattle.graph_runs.specs.Parts.{HasPart, SeesOthers, SeesOwn, IsNextValue, IsNextOfSamples, BeginsStep, IsExchange, HasMovedOn, HasSeen, HasPut, HasGot, HasLeft}
+use Rattle.graph_runs.specs.Parts.{HasPart, SeesOthers, SeesOwn, IsNextValue, IsNextOfSamples, BeginsStep, IsExchange, HasMovedOn, HasSeen, HasPut, HasGot, LeavesPart}
 
 -- ---- one history later
 
@@ -346,7 +346,7 @@ module _ (job : Job) (m : Moment) (t p n : ℕ) (before : History) (is : IsGraph
     dropping = record { numbered = sees.numbered; others = sees.others; legal = sees.legal.0 }
 
     pub left_phaser : HasEnded job m t → NoneDue job m t p
-        → HasLeft job m (after_leave p n now) t p (Dropped n ∷ before)
+        → LeavesPart job m (after_leave p n now) t p (Dropped n ∷ before)
     left_phaser ended none =
         let after = after_leave p n now in
         let part_now = later_part job m t p n before dropping is there part in

@@ -23,7 +23,7 @@ use Rattle.stream_lists.specs.Spans.{spans_of, lengths_of, span_at, span_in, off
 use Rattle.stream_lists.specs.Lists.{contributions_on, number, numbers_of, list_over, phase_in, output_on, taken_by, taken_from}
 use Rattle.stream_lists.proofs.ListsAbove.{numbers_all}
 use Rattle.stream_lists.proofs.ListLengths.{length-numbers, outputs_long}
-use Rattle.graph_runs.specs.Moments.{Moment, BeginsBy, input_at, taken_now, made_now, limits_at, value_at, PhaserRan, TaskRan, MayEnd, at_until, no_sample, no_input, OnInput, TakenOn, Joined, HasExchanged, first_input}
+use Rattle.graph_runs.specs.Moments.{Moment, BeginsBy, input_at, taken_now, made_now, limits_at, value_at, PhaserRan, TaskRan, MayStop, at_until, no_sample, no_input, OnInput, TakenOn, Joined, HasExchanged, first_input}
 use Rattle.graph_runs.specs.Settled.{Stands, PutsOut}
 use Rattle.graph_runs.proofs.Composed.{Composes, HasRead}
 use Rattle.graph_runs.proofs.Entries.{prefix_whole, take_prefix, take_full, part_of_longer}
@@ -237,7 +237,7 @@ stands_from job m t is there ran span_is reads = record {
         value_is k lt in
         omega arith))
 
-    stops : MayEnd m (task_at job.graph t) t (length (samples_at job t))
+    stops : MayStop m (task_at job.graph t) t (length (samples_at job t))
         → cut_at (task_at job.graph t).until
         (enough_for (task_at job.graph t) (length (samples_at job t))
         (values_from (task_at job.graph t) (lengths_of job) (m.offset t))) ≤ m.begun t

@@ -15,7 +15,7 @@ use Rattle.stream_lists.specs.graph_base.TaskLines.{IsGraph}
 use Rattle.stream_lists.proofs.graph_base_lemmas.Registered.{registrations-phasers}
 use Rattle.stream_lists.specs.Jobs.{Job, samples_at}
 use Rattle.stream_lists.specs.Spans.{signalled_by, puts_on}
-use Rattle.graph_runs.specs.Moments.{Moment, TaskRan, HasEnded, MayEnd, at_until, no_sample, no_input, RanOut, HasSamples, OnLine, made_now, input_at, first_input}
+use Rattle.graph_runs.specs.Moments.{Moment, TaskRan, HasEnded, MayStop, at_until, no_sample, no_input, RanOut, HasSamples, OnLine, made_now, input_at, first_input}
 use Rattle.graph_runs.proofs.Tasks.{first_looks}
 use Rattle.graph_runs.specs.Moves.{IsStaying, NoneDue, MayBegin}
 use Rattle.graph_runs.specs.Answers.{output_at, next_value}
@@ -236,7 +236,7 @@ next_wait_at job m t at is there part stands none owed_is never uncut children =
 
 ended_by : (job : Job) (m : Moment) (t : ℕ) (at : TaskPlace) → t < length job.graph.tasks
     → HasPart job m t → StandsAt job m t at → at.owed ≡ nothing
-    → MayEnd m (task_at job.graph t) t (length (samples_at job t)) → HasEnded job m t
+    → MayStop m (task_at job.graph t) t (length (samples_at job t)) → HasEnded job m t
 ended_by job m t at there part stands owed_is may_end = record {
   all_put = λ j lt.
       all_put job m t part.ran there (owes_as job m t at nothing stands owed_is) j lt;

@@ -155,17 +155,17 @@ told_event job m (leave t p n) =
 told_event job m event = Moved
 
 -- of an answer; nothing where the phaser refuses the call for another reason
-abbrev pub told : Job → Moment → Answer → Option Told
-told job m (makes event) = Some (told_event job m event)
-told job m is_blocked = Some Blocked
-told job m is_gone = Some Gone
-told job m (has_made at) = Some (TooBig at)
-told job m is_refused = None
+abbrev pub word_of_answer : Job → Moment → Answer → Option Told
+word_of_answer job m (makes event) = Some (told_event job m event)
+word_of_answer job m is_blocked = Some Blocked
+word_of_answer job m is_gone = Some Gone
+word_of_answer job m (has_made at) = Some (TooBig at)
+word_of_answer job m is_refused = None
 
 -- a turn of task t. After a value out of range each turn tells it again
 abbrev pub turn_tells : Job → Option Where → Moment → ℕ → Option Told
 turn_tells job (Some at) m t = Some (TooBig at)
-turn_tells job None m t = told job m (answer_of_turn job m t)
+turn_tells job None m t = word_of_answer job m (answer_of_turn job m t)
 
 -- ---- turns in a row
 

@@ -104,17 +104,17 @@ first_input task i = of task.kind
 
 -- why a task makes no further step: `until`, no sample, or the input that its next step would wait
 -- for first has ended
-pub data MayEnd (m : Moment) (task : Task) (t samples : ℕ) : Type 0 where
-  at_until : task.until ≡ Some (m.begun t) → MayEnd m task t samples
-  no_sample : task.kind ≡ Source → samples ≤ m.begun t → MayEnd m task t samples
+pub data MayStop (m : Moment) (task : Task) (t samples : ℕ) : Type 0 where
+  at_until : task.until ≡ Some (m.begun t) → MayStop m task t samples
+  no_sample : task.kind ≡ Source → samples ≤ m.begun t → MayStop m task t samples
   no_input : (task.kind ≡ Source → ⊥) → RanOut m task t (first_input task (m.begun t))
-      → MayEnd m task t samples
+      → MayStop m task t samples
 
 -- task t has come to the end of its last step: all that its steps put is put, and it makes no more
 pub record HasEnded (job : Job) (m : Moment) (t : ℕ) : Type 0 where
   pub all_put : (j : ℕ) → j < length (signalled_by (task_at job.graph t))
       → m.put t j ≡ made_now job m t j
-  pub may_end : MayEnd m (task_at job.graph t) t (length (samples_at job t))
+  pub may_end : MayStop m (task_at job.graph t) t (length (samples_at job t))
 
 -- task t as number n on phaser p, which is its output number j
 pub record OnOutput (job : Job) (m : Moment) (t j p n : ℕ) : Type 0 where

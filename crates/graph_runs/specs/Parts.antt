@@ -128,7 +128,7 @@ pub record HasGot (job : Job) (before after : Moment) (t k p : ℕ) (outcome : O
   pub staying : IsStaying after t
 
 -- task t has left phaser p, and has ended still
-pub record HasLeft (job : Job) (before after : Moment) (t p : ℕ) (now : History) : Type 0 where
+pub record LeavesPart (job : Job) (before after : Moment) (t p : ℕ) (now : History) : Type 0 where
   pub moved : HasMovedOn job before after t p now
   pub same : SameTask before after t
   pub ended : HasEnded job after t

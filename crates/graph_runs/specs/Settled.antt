@@ -9,14 +9,14 @@ use Rattle.stream_lists.specs.Spans.{lengths_of, span_in, signalled_by, schedule
 use Rattle.stream_lists.specs.Lists.{contributions_on, numbers_of, output_on}
 use Rattle.stream_lists.specs.Meetings.{meeting_line}
 use Rattle.stream_lists.specs.Ranges.{Where, is_fault, are_made, is_out_of_range}
-use Rattle.graph_runs.specs.Moments.{Moment, MayEnd, HasEnded, value_at}
+use Rattle.graph_runs.specs.Moments.{Moment, MayStop, HasEnded, value_at}
 
 -- a registered task is one that the definitions have, at its offset and within its steps
 pub record Stands (job : Job) (m : Moment) (t : ℕ) : Type 0 where
   pub live : (span_in job t).live ≡ true
   pub offset : (span_in job t).offset ≡ m.offset t
   pub within : m.begun t ≤ (span_in job t).steps
-  pub ended : MayEnd m (task_at job.graph t) t (length (samples_at job t))
+  pub ended : MayStop m (task_at job.graph t) t (length (samples_at job t))
       → m.begun t ≡ (span_in job t).steps
 
 -- what it has put on output number j begins its output list there, and is all of it where it has

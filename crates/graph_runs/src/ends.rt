@@ -13,7 +13,7 @@ ghost use Rattle.stream_lists.specs.Lists.{sinks_of};
 ghost use Rattle.stream_lists.specs.Ranges.{answer_of, is_too_big};
 ghost use Rattle.graph_runs.specs.Moments.{Moment};
 ghost use Rattle.graph_runs.specs.Settled.{IsReady};
-ghost use Rattle.graph_runs.specs.Parts.{SeesOthers, SeesOwn, HasSeen, HasPut, HasGot, HasLeft, put_event, IsAnsweredBy};
+ghost use Rattle.graph_runs.specs.Parts.{SeesOthers, SeesOwn, HasSeen, HasPut, HasGot, LeavesPart, put_event, IsAnsweredBy};
 ghost use Rattle.graph_runs.specs.Places.{IsRootOn, IsFirstMoment, HasNewChild, HasSeenBoth, HasAddedChild};
 ghost use Rattle.graph_runs.specs.Beginnings.{opening};
 ghost use Rattle.graph_runs.specs.Nexts.{registrations_at};
@@ -65,7 +65,7 @@ pub fn own_calls()
     ensures left { (job : Job) (m after : Moment) (t p n : ℕ) (before : History)
         → IsGraph job.graph → t < length job.graph.tasks
         → SeesOwn job m t p n (Event.Dropped n) before
-        → HasLeft job m after t p (Event.Dropped n ∷ before)
+        → LeavesPart job m after t p (Event.Dropped n ∷ before)
         → HasOwnCalls job m t → HasOwnCalls job after t }
 {}
 

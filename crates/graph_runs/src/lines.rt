@@ -22,7 +22,7 @@ fn line_of(job: &Job, t: usize) -> &TaskLine
     job.graph().task(t)
 }
 
-/// Tells what task number `t` does. It takes no memory.
+/// Returns what task number `t` does. It takes no memory.
 pub fn kind_of(job: &Job, t: usize) -> Kind
     requires { t < length job.now.graph.tasks }
     ensures { result ≡ (task_at job.now.graph t).kind }
@@ -30,7 +30,7 @@ pub fn kind_of(job: &Job, t: usize) -> Kind
     line_of(job, t).kind
 }
 
-/// Tells which task registers task number `t`, and when. It takes no memory.
+/// Returns which task registers task number `t`, and when. It takes no memory.
 pub fn parent_of(job: &Job, t: usize) -> Option<Parent>
     requires { t < length job.now.graph.tasks }
     ensures { result ≡ (task_at job.now.graph t).parent }
@@ -38,7 +38,7 @@ pub fn parent_of(job: &Job, t: usize) -> Option<Parent>
     line_of(job, t).parent
 }
 
-/// Tells after how many steps task number `t` leaves, where its line says so. It takes no memory.
+/// Returns after how many steps task number `t` leaves, where its line says so. It takes no memory.
 pub fn until_of(job: &Job, t: usize) -> Option<u64>
     requires { t < length job.now.graph.tasks }
     ensures { result ≡ (task_at job.now.graph t).until }
@@ -46,14 +46,14 @@ pub fn until_of(job: &Job, t: usize) -> Option<u64>
     line_of(job, t).until
 }
 
-/// Tells whether a task of this kind is a source. It takes no memory.
+/// Returns whether a task of this kind is a source. It takes no memory.
 pub fn is_source(kind: Kind) -> bool
     ensures { result ≡ is_source kind }
 {
     matches!(kind, Kind::Source)
 }
 
-/// Tells whether task number `t` is a sink. It takes no memory.
+/// Returns whether task number `t` is a sink. It takes no memory.
 pub fn is_sink(job: &Job, t: usize) -> bool
     requires { t < length job.now.graph.tasks }
     ensures { result ≡ is_sink_at job.now t }
@@ -61,7 +61,7 @@ pub fn is_sink(job: &Job, t: usize) -> bool
     matches!(kind_of(job, t), Kind::Sink)
 }
 
-/// Tells the phaser that is input `k` of task number `t`. It takes no memory.
+/// Returns the phaser that is input `k` of task number `t`. It takes no memory.
 pub fn input_of(job: &Job, t: usize, k: usize) -> usize
     requires task { t < length job.now.graph.tasks }
     requires input { k < length (task_at job.now.graph t).inputs }
@@ -71,8 +71,8 @@ pub fn input_of(job: &Job, t: usize, k: usize) -> usize
     line_of(job, t).inputs[k]
 }
 
-/// Tells the input that the step of task number `t` after `steps` others waits for first. It takes
-/// no memory.
+/// Returns the input that the step of task number `t` after `steps` others waits for first. It
+/// takes no memory.
 pub fn first_input_of(job: &Job, t: usize, steps: u64) -> usize
     requires { t < length job.now.graph.tasks }
     ensures input { result ≡ first_input (task_at job.now.graph t) steps }
@@ -94,8 +94,8 @@ fn first_input(task: &TaskLine, steps: u64) -> usize
     }
 }
 
-/// Tells which registration of task number `t` is on its output `j`, and the phaser of it. It takes
-/// no memory.
+/// Returns which registration of task number `t` is on its output `j`, and the phaser of it. It
+/// takes no memory.
 pub fn output_of(job: &Job, t: usize, j: usize) -> (usize, usize)
     requires graph { IsGraph job.now.graph }
     requires task { t < length job.now.graph.tasks }

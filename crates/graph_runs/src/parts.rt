@@ -8,7 +8,7 @@ ghost use Rattle.stream_lists.specs.graph_base.TaskLines.{IsGraph};
 ghost use Rattle.stream_lists.specs.Jobs.{Job};
 ghost use Rattle.graph_runs.specs.Moments.{Moment, HasEnded, RanOut, input_at};
 ghost use Rattle.graph_runs.specs.Moves.{IsStaying, NoneDue};
-ghost use Rattle.graph_runs.specs.Parts.{HasPart, SeesOthers, SeesOwn, HasSeen, put_event, IsAnsweredBy, IsAnsweredEnd, IsNextValue, IsNextOfSamples, HasPut, BeginsStep, IsExchange, HasGot, HasLeft};
+ghost use Rattle.graph_runs.specs.Parts.{HasPart, SeesOthers, SeesOwn, HasSeen, put_event, IsAnsweredBy, IsAnsweredEnd, IsNextValue, IsNextOfSamples, HasPut, BeginsStep, IsExchange, HasGot, LeavesPart};
 
 use phase_history::Event;
 
@@ -67,5 +67,5 @@ pub fn leaves()
     ensures { (job : Job) (m : Moment) (t p n : ℕ) (before : History) → IsGraph job.graph
         → t < length job.graph.tasks → HasPart job m t
         → SeesOwn job m t p n (Event.Dropped n) before → HasEnded job m t → NoneDue job m t p
-        → (after : Moment) × HasLeft job m after t p (Event.Dropped n ∷ before) }
+        → (after : Moment) × LeavesPart job m after t p (Event.Dropped n ∷ before) }
 {}

@@ -13,7 +13,7 @@ ghost use Rattle.graph_runs.specs.Moves.{IsStaying, NoneDue};
 ghost use Rattle.graph_runs.specs.Answers.{output_at};
 ghost use Rattle.graph_runs.specs.Nexts.{is_cut};
 ghost use Rattle.graph_runs.specs.TaskPlaces.{nothing, value, exchange, TaskPlace, StandsAt, registration_at, owed_after_wait, owed_after_signal, owed_after_exchange};
-ghost use Rattle.graph_runs.specs.Parts.{HasPart, HasSeen, HasPut, HasGot, HasLeft, IsNextValue, IsNextOfSamples, BeginsStep, IsExchange};
+ghost use Rattle.graph_runs.specs.Parts.{HasPart, HasSeen, HasPut, HasGot, LeavesPart, IsNextValue, IsNextOfSamples, BeginsStep, IsExchange};
 ghost use Rattle.graph_runs.specs.Places.{owing, after_step, after_leaving, HasChildrenBy};
 
 use phase_history::Event;
@@ -104,6 +104,6 @@ pub fn follow()
         (before : History) → IsGraph job.graph → t < length job.graph.tasks
         → StandsAt job m t at → at.left < length at.numbers
         → (registration_at job t at.left).phaser ≡ p → m.number p t ≡ Some n
-        → HasLeft job m after t p (Event.Dropped n ∷ before)
+        → LeavesPart job m after t p (Event.Dropped n ∷ before)
         → StandsAt job after t (after_leaving at) }
 {}

@@ -11,8 +11,8 @@ use stream_lists::Job;
 use stream_lists::graph_base::Kind;
 use stream_lists::stream_filters::{Fir, Peer};
 
-/// Tells what task number `t` owes after the first wait of a step, which got `x`. It began `begun`
-/// steps before this one. A filter takes `x`. It takes no memory.
+/// Returns what task number `t` owes after the first wait of a step, which got `x`. It began
+/// `begun` steps before this one. A filter takes `x`. It takes no memory.
 pub fn owed_after_wait(job: &Job, t: usize, begun: u64, filter: &mut Option<Fir>, x: i64) -> Owed
     requires task { t < length job.now.graph.tasks }
     requires filter { (taken : List ℤ) × HasFilter (task_at job.now.graph t) filter.old taken }
@@ -38,7 +38,7 @@ pub fn owed_after_wait(job: &Job, t: usize, begun: u64, filter: &mut Option<Fir>
     }
 }
 
-/// Tells what task number `t` owes after it has signalled `x` on this output: a peer that has
+/// Returns what task number `t` owes after it has signalled `x` on this output: a peer that has
 /// signalled E waits there. It takes no memory.
 pub fn owed_after_signal(job: &Job, t: usize, output: usize, x: i64) -> Owed
     requires { t < length job.now.graph.tasks }
@@ -50,8 +50,8 @@ pub fn owed_after_signal(job: &Job, t: usize, output: usize, x: i64) -> Owed
     Owed::Nothing
 }
 
-/// Tells what task number `t`, a peer that took `x` from X, owes after it got `e` on E. It takes no
-/// memory.
+/// Returns what task number `t`, a peer that took `x` from X, owes after it got `e` on E. It takes
+/// no memory.
 pub fn owed_after_exchange(job: &Job, t: usize, x: i64, e: i64) -> Owed
     requires { t < length job.now.graph.tasks }
     ensures { owed_of result

@@ -4,7 +4,7 @@ ghost use Rattle.stream_lists.specs.Lists.{number};
 
 use phase_history::phase_accum::Outcome;
 
-/// Tells the number that a task takes of a value, which is 0 where there is none or it is out of
+/// Returns the number that a task takes of a value, which is 0 where there is none or it is out of
 /// range. It takes no memory.
 pub fn number_taken(outcome: Outcome) -> i64
     ensures { result ≡ number outcome }

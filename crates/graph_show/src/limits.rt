@@ -6,7 +6,7 @@ use graph_lang::stream_filters::{SHIFT_MAX, TAP_MAX, TAPS_MAX};
 use graph_lang::{ENDS_MAX, FACTOR_MAX, STEPS_MAX};
 
 /// The greatest magnitude of an end of a clamp.
-const CLAMP_MAX: u64 = 9_223_372_036_854_775_807;
+const MAGNITUDE_MAX: u64 = 9_223_372_036_854_775_807;
 
 /// The magnitude of a number, where 64 bits have it.
 fn magnitude(word: &[u8]) -> Option<u64> {
@@ -40,7 +40,11 @@ pub(crate) fn limit_passed(part: Part, word: &[u8]) -> Option<&'static str> {
             "a factor of a magnitude of at most 2147483647",
         ),
         Part::Steps => (0, STEPS_MAX, "at most 4611686018427387904 steps"),
-        Part::Low | Part::High => (0, CLAMP_MAX, "a magnitude of at most 9223372036854775807"),
+        Part::Low | Part::High => (
+            0,
+            MAGNITUDE_MAX,
+            "a magnitude of at most 9223372036854775807",
+        ),
         _ => return None,
     };
     if is_outside(word, least, most) {

@@ -18,7 +18,7 @@ use Rattle.stream_job.specs.graph_base.TaskLines.{IsGraph}
 use Rattle.stream_job.specs.stream_lists.Jobs.{Job, samples_at, index_in}
 use Rattle.stream_job.specs.stream_lists.Spans.{signalled_by, takes_from}
 use Rattle.stream_job.proofs.stream_lists_lemmas.Ordered.{place-at}
-use Rattle.stream_job.specs.graph_runs.Moments.{one, Moment, HasRun, limits_at, value_at, input_at, made_now, first_input, OnLine, AtMost, HasSamples, HasExchanged, HasEnded, MayEnd, at_until, no_sample, no_input, RanOut}
+use Rattle.stream_job.specs.graph_runs.Moments.{one, Moment, HasRun, limits_at, value_at, input_at, made_now, first_input, OnLine, AtMost, HasSamples, HasExchanged, HasEnded, MayStop, at_until, no_sample, no_input, RanOut}
 use Rattle.stream_job.proofs.graph_runs_lemmas.OnLines.{on_phaser}
 use Rattle.stream_job.specs.graph_runs.Moves.{IsStaying, NoneDue, NoneBefore, MayBegin, MayBeginTo}
 use Rattle.stream_job.specs.graph_runs.Turned.{IsAcceptedSignals, IsAcceptedSignal, IsNextSignal, IsNextSample, IsAnsweredWaits, IsAnsweredWait, IsFirstWait, IsExchangeWait, IsNextLeave, IsNextChild}
@@ -193,9 +193,9 @@ ran_out m task t k =
     (both (test.is_empty (signal_phases (members_of h)))
     (test.is_at_most (done_of h) (m.offset t + length (m.taken t k))))
 
-abbrev pub may_end : (m : Moment) (task : Task) (t samples : ℕ) → Test (MayEnd m task t samples)
+abbrev pub may_end : (m : Moment) (task : Task) (t samples : ℕ) → Test (MayStop m task t samples)
 may_end m task t samples =
-    let End = MayEnd m task t samples in
+    let End = MayStop m task t samples in
     either End (giving (λ e. at_until e) (test.is_some_of task.until (m.begun t)))
     (either End (giving (λ b. no_sample b.left b.right)
     (both (is_source_kind task.kind) (test.is_at_most samples (m.begun t))))

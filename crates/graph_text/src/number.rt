@@ -31,7 +31,7 @@ pub(crate) fn is_int(word: &[u8]) -> bool
     }
 }
 
-/// Tells the number that a word writes, where it is at most the limit. It takes no memory.
+/// Returns the number that a word writes, where it is at most the limit. It takes no memory.
 pub fn nat_within(word: &[u8], limit: u64) -> Option<u64>
     requires nat { IsTrue (is_nat word.now) }
     requires limit { limit < 2 ^ 63 }
@@ -48,7 +48,7 @@ pub fn nat_within(word: &[u8], limit: u64) -> Option<u64>
     if value > limit { None } else { Some(value) }
 }
 
-/// Tells the number that a word, perhaps with a minus, writes, where its magnitude is at most the
+/// Returns the number that a word, perhaps with a minus, writes, where its magnitude is at most the
 /// limit. It takes no memory.
 pub fn int_within(word: &[u8], limit: u64) -> Option<i64>
     requires int { IsTrue (is_int word.now) }

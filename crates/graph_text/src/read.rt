@@ -401,7 +401,7 @@ fn read<'w, 'a>(words: &'w [&'a [u8]]) -> Option<Line<'w, 'a>>
     }
 }
 
-/// Tells what the words of a line declare, or that they declare nothing. It takes no memory.
+/// Returns what the words of a line declare, or that they declare nothing. It takes no memory.
 pub fn line_at<'w, 'a>(words: &'w [&'a [u8]]) -> Option<Line<'w, 'a>>
     ensures found { IfSome result (λ line. Spells (plain words.now) (decl_of line)) }
     ensures none { IfNone result ((d : Decl) → ¬ (Spells (plain words.now) d)) }

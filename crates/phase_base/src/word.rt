@@ -84,7 +84,7 @@ fn are_word_bytes(word: &[u8]) -> bool
     word.iter().all(|b| 33 <= *b && *b <= 126)
 }
 
-/// Gives a name as text. It takes no memory.
+/// Returns a name as text. It takes no memory.
 pub fn name_text(word: &[u8]) -> &str
     requires { IsTrue (is_name word.now) }
     ensures { result.now ≡ word.now }
@@ -95,7 +95,7 @@ pub fn name_text(word: &[u8]) -> &str
     }
 }
 
-/// Gives the word that names a file as text. It takes no memory.
+/// Returns the word that names a file as text. It takes no memory.
 pub fn file_text(word: &[u8]) -> &str
     requires { IsTrue (is_file word.now) }
     ensures { result.now ≡ word.now }

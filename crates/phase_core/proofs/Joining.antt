@@ -24,7 +24,7 @@ use Rattle.phase_ring.specs.declared.role.Role.{Role}
 use Rattle.phase_ring.specs.declared.role.Role.TheVariants.{Signaller, Waiter}
 use Rattle.phase_ring.specs.Rings.{Ring, standing, sents}
 use Rattle.phase_ring.specs.Standings.{count_of, counted, takes_part, phase_for}
-use Rattle.phase_ring.specs.Boards.{IsKept}
+use Rattle.phase_ring.specs.Boards.{IsRingAt}
 use Rattle.phase_core.specs.Slots.{KeptSlot}
 use Rattle.phase_core.specs.Inside.{refusal_of_add}
 use Rattle.phase_core.specs.Cores.{CoreState, IsSlotOf, StandsFor, IsBoarded, IsCore, core_with, core_of}
@@ -144,7 +144,7 @@ pub registers_core : {A : Type 0} (op : Operation A) (reg new_reg : Roster) (b n
     → new_reg ≡ added child (entry_at mode e.signal_phase e.wait_phase) reg
     → new.limits ≡ b.limits → new.done ≡ b.done → new.top ≡ b.top → sents new.ring ≡ sents b.ring
     → ((role : Role) (p : ℕ) → standing new.ring role p ≡ standing b.ring role p + counted role (entry_at mode e.signal_phase e.wait_phase) p)
-    → IsKept op new.ring new.limits.bound new.done new.top
+    → IsRingAt op new.ring new.limits.bound new.done new.top
     → Joined op new_reg new (Registered parent child mode ∷ h)
 registers_core {A} op reg new_reg b new h parent child mode e stands boarded a reg_is limits_is done_is top_is same more kept =
     let x = entry_at mode e.signal_phase e.wait_phase in

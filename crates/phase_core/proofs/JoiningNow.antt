@@ -23,7 +23,7 @@ use Rattle.phase_core.proofs.NewCore.{done_of_boarded}
 use Rattle.phase_core.proofs.Boarded.{slowest_is}
 use Rattle.phase_core.proofs.Joining.{register_refusal_is}
 use Rattle.phase_ring.specs.Standings.{one_if_same, count_of}
-use Rattle.phase_ring.specs.Boards.{IsKept}
+use Rattle.phase_ring.specs.Boards.{IsRingAt}
 use Rattle.phase_core.specs.Inside.{refusal_of_add}
 use Rattle.phase_core.specs.Cores.{CoreState, StandsFor, IsBoarded, IsCore, core_with, core_of}
 use Rattle.phase_core.proofs.RingSlots.{same_slots}
@@ -54,7 +54,7 @@ pub registers_now : {A : Type 0} (op : Operation A) (reg new_reg : Roster) (b ne
     → new.limits ≡ b.limits → new.done ≡ b.done → new.top ≡ b.top → sents new.ring ≡ sents b.ring
     → ((p : ℕ) → standing new.ring Waiter p ≡ standing b.ring Waiter p + one_if_same b.done p)
     → ((p : ℕ) → standing new.ring Signaller p ≡ standing b.ring Signaller p)
-    → IsKept op new.ring new.limits.bound new.done new.top
+    → IsRingAt op new.ring new.limits.bound new.done new.top
     → JoinedNow op new_reg new (RegisteredNow parent child ∷ h)
 registers_now {A} op reg new_reg b new h parent child e stands boarded found none reg_is limits_is done_is top_is same more others kept =
     let x = entry_at Wait e.signal_phase b.done in

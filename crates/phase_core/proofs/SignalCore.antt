@@ -24,7 +24,7 @@ use Rattle.phase_ring.specs.Slots.{Slot}
 use Rattle.phase_ring.specs.declared.role.Role.TheVariants.{Signaller, Waiter}
 use Rattle.phase_ring.specs.Rings.{Ring, IsWithin, slot_at, standing, sents}
 use Rattle.phase_ring.specs.Standings.{one_if_same, count_of}
-use Rattle.phase_ring.specs.Boards.{IsKept}
+use Rattle.phase_ring.specs.Boards.{IsRingAt}
 use Rattle.phase_ring.specs.Blocks.{joined_in, block_joined, BlockFits}
 use Rattle.phase_ring.proofs.Slots.{slot_at-some}
 use Rattle.phase_core.specs.Cores.{CoreState, StandsFor, IsBoarded, sent_of, core_with, core_of}
@@ -115,7 +115,7 @@ pub block_boarded : {A : Type 0} (op : Operation A) (reg new_reg : Roster) (b ne
     → new.ring.base ≡ b.ring.base
     → ((p : ℕ) → standing new.ring Signaller p + one_if_same e.signal_phase p ≡ standing b.ring Signaller p + one_if_same (e.signal_phase + n) p)
     → ((p : ℕ) → standing new.ring Waiter p ≡ standing b.ring Waiter p)
-    → IsKept op new.ring new.limits.bound new.done new.top
+    → IsRingAt op new.ring new.limits.bound new.done new.top
     → (new.done ≡ new.top) ⊎ (0 < standing new.ring Signaller new.done)
     → IsBoarded op new_reg.members new.ring new.limits.bound new.done new.top
 block_boarded {A} op reg new_reg b new task n e boarded found signals reg_is base moved others kept stops =

@@ -32,7 +32,7 @@ use Rattle.phase_core.specs.Cores.{StandsFor, IsBoarded, core_with}
 use Rattle.phase_core.proofs.RingSlots.{slot_keeps}
 use Rattle.std.proofs.lemmas.List.{drop_more}
 use Rattle.phase_ring.specs.Blocks.{BlockFits}
-use Rattle.phase_ring.specs.Boards.{IsKept}
+use Rattle.phase_ring.specs.Boards.{IsRingAt}
 use Rattle.phase_core.specs.Blocks.{StandForLists, named_at, count_at, block_rows, IsOpen}
 use Rattle.phase_core.specs.Inside.{are_new}
 use Rattle.phase_core.proofs.CoreSteps.{none_from_top}
@@ -300,7 +300,7 @@ new_row limits b e waits far near =
 
 -- and none of a block's
 new_rows : {A : Type 0} (op : Operation A) (limits : Limits) (r : Ring A) (done top : ℕ) (held : List (Parcel A)) (lists : List (List ℤ)) (single : Option Single) (e : Entry)
-    → IsKept op r limits.bound done top → mode_waits e.mode ≡ false → top ≤ e.signal_phase → e.signal_phase + length held ≤ limits.phases_max
+    → IsRingAt op r limits.bound done top → mode_waits e.mode ≡ false → top ≤ e.signal_phase → e.signal_phase + length held ≤ limits.phases_max
     → e.signal_phase + length held ≤ r.base + limits.bound → StandForLists op held lists → first_row (block_rows limits (Some r.base) r held single e) ≡ None
 new_rows op limits r done top [] lists single e kept waits above far near holds = refl
 new_rows op limits r done top (held ∷ more) [] single e kept waits above far near holds = absurd holds

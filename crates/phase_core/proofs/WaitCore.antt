@@ -23,7 +23,7 @@ use Rattle.phase_ring.specs.declared.role.Role.TheVariants.{Signaller, Waiter}
 use Rattle.phase_ring.specs.Slots.{Slot, slot_value}
 use Rattle.phase_ring.specs.Rings.{slot_at, standing, sents, KeepsSlots}
 use Rattle.phase_ring.specs.Standings.{one_if_same, count_of}
-use Rattle.phase_ring.specs.Boards.{IsKept}
+use Rattle.phase_ring.specs.Boards.{IsRingAt}
 use Rattle.phase_ring.proofs.Slots.{slot_at-some}
 use Rattle.phase_ring.proofs.Kept.{standing-within}
 use Rattle.phase_core.specs.Cores.{CoreState, StandsFor, IsBoarded, sent_of, core_of, core_with}
@@ -108,7 +108,7 @@ pub boarded_waited : {A : Type 0} (op : Operation A) (reg new_reg : Roster) (b n
     → new.done ≡ b.done → new.top ≡ b.top
     → ((p : ℕ) → standing new.ring Waiter p + one_if_same e.wait_phase p ≡ standing b.ring Waiter p + one_if_same (e.wait_phase + n) p)
     → ((p : ℕ) → standing new.ring Signaller p ≡ standing b.ring Signaller p)
-    → IsKept op new.ring new.limits.bound new.done new.top → 0 < standing new.ring Waiter new.ring.base
+    → IsRingAt op new.ring new.limits.bound new.done new.top → 0 < standing new.ring Waiter new.ring.base
     → IsBoarded op new_reg.members new.ring new.limits.bound new.done new.top
 boarded_waited op reg new_reg b new task n e boarded found waits reg_is done_is top_is moved others kept stops =
     let members : new_reg.members ≡ changed_at task (waited n) reg.members = ap (λ (r : Roster). r.members) reg_is in

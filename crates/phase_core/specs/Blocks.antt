@@ -14,7 +14,7 @@ use Rattle.phase_history.specs.declared.refusal.SignalRefusal.{SignalRefusal}
 use Rattle.phase_history.specs.Refusals.{phase_rows}
 use Rattle.phase_ring.specs.Slots.{Slot}
 use Rattle.phase_ring.specs.Rings.{Ring, slot_at}
-use Rattle.phase_ring.specs.Boards.{IsKept}
+use Rattle.phase_ring.specs.Boards.{IsRingAt}
 
 -- these lists of sends are held, a list by each parcel
 abbrev pub StandForLists : {A : Type 0} → Operation A → List (Parcel A) → List (List ℤ) → Type 0
@@ -47,7 +47,7 @@ block_rows limits slowest r (held ∷ more) single entry =
 -- is not complete
 pub record IsOpen {A : Type 0} (op : Operation A) (r : Ring A) (bound done top : ℕ) (slowest : Option ℕ) (phase : ℕ)
     : Type 0 where
-  pub kept : IsKept op r bound done top
+  pub kept : IsRingAt op r bound done top
   pub slowest_is : slowest ≡ Some r.base
   pub low : done ≤ phase
 

@@ -83,14 +83,14 @@ impl<A: Accumulate> PhaserCore<A> {
         Ok(PhaserCore { registry, board })
     }
 
-    /// Tells a task's mode and phases, where it is registered.
+    /// Returns a task's mode and phases, where it is registered.
     pub fn view(&self, task: u64) -> Option<Entry>
         ensures { result ≡ entry_of self.now.members task }
     {
         self.registry.get(task)
     }
 
-    /// Tells the first phase that is not complete, counted from 0. The phases below it are.
+    /// Returns the first phase that is not complete, counted from 0. The phases below it are.
     ///
     /// Where no waiter is registered, it looks at each task.
     pub fn done(&self) -> u64
@@ -102,7 +102,7 @@ impl<A: Accumulate> PhaserCore<A> {
         self.registry.least_signal().unwrap_or(self.board.top)
     }
 
-    /// Tells one more than the greatest phase that was ever signalled, or 0.
+    /// Returns one more than the greatest phase that was ever signalled, or 0.
     pub fn top(&self) -> u64
         ensures top { (h : History) → StandsFor A.operation self.now h → result ≡ top_of h }
         // A phaser stands for some history, whatever was done with it before.
@@ -111,14 +111,14 @@ impl<A: Accumulate> PhaserCore<A> {
         self.board.top
     }
 
-    /// Tells the number above every number that a task of the phaser ever had, where one is left.
+    /// Returns the number above every number that a task of the phaser ever had, where one is left.
     pub fn next_number(&self) -> Option<u64>
         ensures { result ≡ next_after (Some self.now.greatest) }
     {
         self.registry.next_number()
     }
 
-    /// Tells the least wait phase of the waiters, where one is registered.
+    /// Returns the least wait phase of the waiters, where one is registered.
     pub fn least_wait(&self) -> Option<u64>
         ensures { result ≡ least (wait_phases self.now.members) }
     {
@@ -128,7 +128,7 @@ impl<A: Accumulate> PhaserCore<A> {
         Some(self.board.ring.base())
     }
 
-    /// Tells whether a signaller is registered.
+    /// Returns whether a signaller is registered.
     pub fn has_signaller(&self) -> bool
         ensures { result ≡ is_some (least (signal_phases self.now.members)) }
     {

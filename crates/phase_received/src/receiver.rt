@@ -7,7 +7,7 @@ ghost use Rattle.phase_shared.specs.phase_accum.declared.outcome.TheConstants.{N
 ghost use Rattle.phase_shared.specs.phase_accum.Parcels.{StandsForSends};
 ghost use Rattle.phase_shared.specs.phase_history.Phases.{received_by};
 ghost use Rattle.phase_shared.specs.Rule.{IsGoodAt};
-ghost use Rattle.phase_shared.specs.Regs.{phaser_place, phaser_terms, phaser_limits};
+ghost use Rattle.phase_shared.specs.Regs.{phaser_lock, phaser_terms, phaser_limits};
 ghost use Rattle.phase_shared.specs.Calls.{IsCall, Signals, Waits, Registers, MaySignal, Leaves, HeldAfter};
 ghost use Rattle.phase_shared.specs.Entries.{entry_stays, entry_after_signal, entry_after_wait, entry_after_next};
 ghost use Rattle.phase_shared.specs.Nexts.{GoesOrRefuses};
@@ -72,7 +72,7 @@ impl<A: Accumulate, K: SignalRule> Receiver<A, K> {
         Receiver { reg, values }
     }
 
-    /// Gives back the registration and what it got.
+    /// Returns the registration and what it got.
     pub fn into_parts(self) -> (Reg<A, K>, Vec<Outcome>)
         ensures reg { result.0 ≡ self }
         ensures values { result.1.items ≡ received_of A.operation self }
@@ -81,14 +81,14 @@ impl<A: Accumulate, K: SignalRule> Receiver<A, K> {
         (reg, values)
     }
 
-    /// Shows what it got.
+    /// Returns what it got.
     pub fn values(&self) -> &[Outcome]
         ensures { result.now ≡ received_of A.operation self.now }
     {
         self.values.as_slice()
     }
 
-    /// Shows its registration, to be read alone.
+    /// Returns its registration, to be read alone.
     pub fn reg(&self) -> &Reg<A, K>
         ensures { result.now ≡ self.now }
     {
@@ -126,7 +126,7 @@ impl<A: Accumulate, K: SignalRule> Receiver<A, K> {
         phaser: &Phaser<A, K>,
         single: Option<Single>,
     ) -> Result<u64, SignalRefusal>
-        requires at { self.old.at ≡ phaser_place phaser.now }
+        requires at { self.old.at ≡ phaser_lock phaser.now }
         requires rule { MaySignal A.operation K.allows (phaser_terms phaser.now) self.old single }
 
         ensures call { let old = self.old in
@@ -150,7 +150,7 @@ impl<A: Accumulate, K: SignalRule> Receiver<A, K> {
         rt: &W,
         phaser: &Phaser<A, K>,
     ) -> Result<Got, ReceiveFault<WaitRefusal>>
-        requires at { self.old.at ≡ phaser_place phaser.now }
+        requires at { self.old.at ≡ phaser_lock phaser.now }
 
         ensures call { let old = self.old in
             IsCall K.allows (phaser_terms phaser.now) (ReceiveFault.Refused WaitRefusal.NoTask)
@@ -188,7 +188,7 @@ impl<A: Accumulate, K: SignalRule> Receiver<A, K> {
         phaser: &Phaser<A, K>,
         single: Option<Single>,
     ) -> Result<Next, ReceiveFault<SignalRefusal>>
-        requires at { self.old.at ≡ phaser_place phaser.now }
+        requires at { self.old.at ≡ phaser_lock phaser.now }
         requires rule { mode_signals self.old.entry.mode ≡ true
             → MaySignal A.operation K.allows (phaser_terms phaser.now) self.old single }
 
@@ -227,7 +227,7 @@ impl<A: Accumulate, K: SignalRule> Receiver<A, K> {
         parent: &mut Reg<A, K>,
         mode: Mode,
     ) -> Result<Receiver<A, K>, RegisterRefusal>
-        requires at { parent.old.at ≡ phaser_place phaser.now }
+        requires at { parent.old.at ≡ phaser_lock phaser.now }
 
         ensures call { let old = parent.old in
             IsCall K.allows (phaser_terms phaser.now) RegisterRefusal.NoTask entry_stays
@@ -256,7 +256,7 @@ impl<A: Accumulate, K: SignalRule> Receiver<A, K> {
         phaser: &Phaser<A, K>,
         mode: Mode,
     ) -> Result<Receiver<A, K>, RegisterRefusal>
-        requires at { self.old.at ≡ phaser_place phaser.now }
+        requires at { self.old.at ≡ phaser_lock phaser.now }
 
         ensures call { let old = self.old in
             IsCall K.allows (phaser_terms phaser.now) RegisterRefusal.NoTask entry_stays
@@ -274,7 +274,7 @@ impl<A: Accumulate, K: SignalRule> Receiver<A, K> {
     ///
     /// Who has seen the end of the stream has received exactly the stream from its start on.
     pub fn leave<W: Wait>(self, rt: &W, alloc: Global, phaser: &Phaser<A, K>) -> Receipts<A, K>
-        requires at { self.at ≡ phaser_place phaser.now }
+        requires at { self.at ≡ phaser_lock phaser.now }
 
         ensures call { Leaves self.number self.seen result.seen }
         ensures received { received_of A.operation self

@@ -8,12 +8,12 @@ use Rattle.phase_script.specs.ReplyLines.{WholeReply, Accepted, Signalled, Joine
 use Rattle.phase_script.specs.Commands.{command_of, mode_of, ends_of, clamp_after, single_of, make_of, add_of, now_of, send_of, signal_of, signal_with, ints_of, few_values, values_of, block_of, take_with, take_of, wait_of, drop_of, command_after}
 use Rattle.phase_script.specs.Numbers.{nat_of, int_of}
 use Rattle.phase_script.specs.Lines.{lines_of}
-use Rattle.phase_replay.specs.Scripts.{ScriptState, start, reply_by, after_line, command_reply, after_command}
+use Rattle.phase_replay.specs.Scripts.{ScriptState, start, reply_of_line, after_line, command_reply, after_command}
 
 -- the replies to the lines from a state on, as data
 abbrev replies_from : ScriptState → List (List ℕ) → List WholeReply
 replies_from state [] = []
-replies_from state (line ∷ lines) = reply_by state (command_of line) ∷ replies_from (after_line state line) lines
+replies_from state (line ∷ lines) = reply_of_line state (command_of line) ∷ replies_from (after_line state line) lines
 
 -- the replies to a script, as data
 abbrev answers : List ℕ → List WholeReply

@@ -53,7 +53,7 @@ use Rattle.phase_script.proofs.ReplyLines.{reply_short}
 use Rattle.phase_replay.specs.declared.script_phaser.ScriptPhaser.{ScriptPhaser}
 use Rattle.phase_replay.specs.declared.any_phaser.AnyPhaser.{AnyPhaser}
 use Rattle.phase_replay.specs.declared.any_phaser.AnyPhaser.TheVariants as phaser
-use Rattle.phase_replay.specs.Scripts.{ScriptState, NoPhaser, OnePhaser, Held, held_by, done_unless, script_reply, taken_reply, refused_or_reply, block_refusal, one_each, value_reply, phaser_reply, command_reply, reply_by, reply_to}
+use Rattle.phase_replay.specs.Scripts.{ScriptState, NoPhaser, OnePhaser, Held, held_by, done_unless, script_reply, taken_reply, refused_or_reply, block_refusal, one_each, value_reply, phaser_reply, command_reply, reply_of_line, reply_line_of}
 use Rattle.phase_replay.specs.Session.{PhaserStandsFor, AnyStandsFor, MaybeStandsFor}
 
 -- ---- replies without a phase
@@ -267,12 +267,12 @@ state_is_reply (Some p) NoPhaser command stands fits = absurd stands
 state_is_reply (Some p) (OnePhaser operation limits h held) command stands fits = any_is_reply p operation limits h held command stands fits
 
 line_is_reply : (p : Option AnyPhaser) (state : ScriptState) (line : List ℕ) (o : Option WholeCommand) → MaybeStandsFor p state
-    → IfSome o (λ c. IsCommand c × (line ≡ spelling c)) → IsReply (reply_by state o)
+    → IfSome o (λ c. IsCommand c × (line ≡ spelling c)) → IsReply (reply_of_line state o)
 line_is_reply p state line None stands fits = tt
 line_is_reply p state line (Some command) stands fits = state_is_reply p state command stands fits.0
 
 -- the reply line to a script line has at most 363 bytes
 pub short_reply : (p : Option AnyPhaser) (state : ScriptState) (line : List ℕ) → MaybeStandsFor p state
-    → length (reply_to state line) ≤ 363
-unfolding reply_to
+    → length (reply_line_of state line) ≤ 363
+unfolding reply_line_of
 short_reply p state line stands = reply_short _ (line_is_reply p state line (command_of line) stands (found_at line (command_of line) refl))

@@ -286,9 +286,9 @@ after_command (OnePhaser operation limits h held) command =
     (held_after limits h held command)
 
 -- the reply to a line that gives this command, or none
-abbrev pub reply_by : ScriptState → Option WholeCommand → WholeReply
-reply_by state (Some command) = command_reply state command
-reply_by state None = BadLine
+abbrev pub reply_of_line : ScriptState → Option WholeCommand → WholeReply
+reply_of_line state (Some command) = command_reply state command
+reply_of_line state None = BadLine
 
 -- the reply is `ok` alone, or with the phase of a waiter that joins now: the line was done
 abbrev pub IsOkReply : WholeReply → Type 0
@@ -310,8 +310,8 @@ after_by state (Some command) = after_command state command
 after_by state None = state
 
 -- the reply line to a script line
-unfoldable pub reply_to : ScriptState → List ℕ → List ℕ
-reply_to state line = reply_text (reply_by state (command_of line))
+unfoldable pub reply_line_of : ScriptState → List ℕ → List ℕ
+reply_line_of state line = reply_text (reply_of_line state (command_of line))
 
 -- what a script line leaves
 unfoldable pub after_line : ScriptState → List ℕ → ScriptState

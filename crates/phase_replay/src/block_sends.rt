@@ -81,7 +81,7 @@ impl<A: Accumulate> BlockSends<A> {
         }
     }
 
-    /// Gives the sends that are held, phase by phase.
+    /// Returns the sends that are held, phase by phase.
     pub fn as_slice(&self) -> &[Pending<A>]
         ensures { result.now ≡ self.now }
     {

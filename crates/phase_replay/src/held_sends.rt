@@ -31,7 +31,7 @@ impl<A: Accumulate> HeldSends<A> {
         }
     }
 
-    /// Tells what the task holds.
+    /// Returns what the task holds.
     pub fn of(&self, task: u64) -> Pending<A>
         ensures { result ≡ held_at A.operation self.now task }
     {

@@ -8,8 +8,8 @@
 mod any_phaser;
 mod block_sends;
 mod held_sends;
-mod kept;
 pub mod laws;
+mod line_prefix;
 mod replayed;
 mod replayer;
 mod script_phaser;

@@ -3,7 +3,7 @@ ghost use Rattle.std.specs.Prelude.{◌≡◌, ◌≤◌, ℕ, ℤ, List, length
 ghost use Rattle.phase_script.specs.ReplyLines.{whole_reply, Tells, IsOneLine};
 ghost use Rattle.phase_script.specs.declared.reply_line.TheConstants.{REPLY_MAX};
 ghost use Rattle.phase_script.specs.Commands.{whole_command, command_of, IsCommand};
-ghost use Rattle.phase_replay.specs.Scripts.{ScriptState, start, reply_to, after_line, command_reply, after_command, state_after, reply_by, IsOkReply, MayWantMemory};
+ghost use Rattle.phase_replay.specs.Scripts.{ScriptState, start, reply_line_of, after_line, command_reply, after_command, state_after, reply_of_line, IsOkReply, MayWantMemory};
 ghost use Rattle.phase_replay.specs.Session.{MaybeStandsFor};
 
 use crate::any_phaser::AnyPhaser;
@@ -104,7 +104,7 @@ impl Model for Session {
     ghost invariant = { λ s. IsSession s.phaser };
 }
 
-#[tactic(auto, unfolding(crate::specs::Session::Stands, crate::specs::Session::MaybeStandsFor, crate::specs::Scripts::start, crate::specs::Scripts::reply_to, crate::specs::Scripts::after_line))]
+#[tactic(auto, unfolding(crate::specs::Session::Stands, crate::specs::Session::MaybeStandsFor, crate::specs::Scripts::start, crate::specs::Scripts::reply_line_of, crate::specs::Scripts::after_line))]
 impl Session {
     ghost use Rattle.phase_replay.specs.Session.{Stands, StandsForLines};
 
@@ -124,16 +124,16 @@ impl Session {
     ///
     /// Want of memory comes only from a `make`, `add`, `now` or `send` that would be answered `ok`, and
     /// leaves the session unchanged.
-    #[tactic(auto, using(crate::proofs::Scripted::state_after_push), unfolding(crate::specs::Session::Stands, crate::specs::Scripts::reply_to, crate::specs::Scripts::after_line))]
+    #[tactic(auto, using(crate::proofs::Scripted::state_after_push), unfolding(crate::specs::Session::Stands, crate::specs::Scripts::reply_line_of, crate::specs::Scripts::after_line))]
     pub fn line(&mut self, line: &[u8]) -> Result<ReplyLine, AllocError>
         ensures reply { IfOk result (λ reply. (state : ScriptState) → Stands self.old state
-            → reply ≡ reply_to state line.now) }
+            → reply ≡ reply_line_of state line.now) }
         ensures after { OnOk result ((state : ScriptState) → Stands self.old state
             → Stands self.new (after_line state line.now)) }
         ensures err { OnErr result (self.new ≡ self.old) }
         // Memory is wanted only where the line would be answered `ok`.
         ensures memory { OnErr result ((state : ScriptState) → Stands self.old state
-            → IsOkReply (reply_by state (command_of line.now))) }
+            → IsOkReply (reply_of_line state (command_of line.now))) }
         // Only a `make`, an `add`, a `now` or a `send` wants it.
         ensures asks { OnErr result (MayWantMemory (command_of line.now)) }
         // A reply is one line, of at most 363 bytes.
@@ -142,7 +142,7 @@ impl Session {
         ensures stands { (state : ScriptState) × Stands self.old state }
         // The same over the lines so far: the session then stands for them with this one.
         ensures script { IfOk result (λ reply. (lines : List (List ℕ))
-            → StandsForLines self.old lines → (reply ≡ reply_to (state_after lines) line.now)
+            → StandsForLines self.old lines → (reply ≡ reply_line_of (state_after lines) line.now)
             × StandsForLines self.new (lines ++ line.now ∷ [])) }
     {
         let mut reply = ReplyLine::new();
@@ -152,15 +152,15 @@ impl Session {
 
     /// The same as `line`, with the reply in place of the line that `reply` had. Want of memory leaves
     /// that line too.
-    #[tactic(auto, unfolding(crate::specs::Session::Stands, crate::specs::Scripts::reply_to, crate::specs::Scripts::after_line))]
+    #[tactic(auto, unfolding(crate::specs::Session::Stands, crate::specs::Scripts::reply_line_of, crate::specs::Scripts::after_line))]
     pub fn answer(&mut self, line: &[u8], reply: &mut ReplyLine) -> Result<(), AllocError>
         ensures reply { OnOk result ((state : ScriptState) → Stands self.old state
-            → reply.new ≡ reply_to state line.now) }
+            → reply.new ≡ reply_line_of state line.now) }
         ensures after { OnOk result ((state : ScriptState) → Stands self.old state
             → Stands self.new (after_line state line.now)) }
         ensures err { OnErr result ((self.new ≡ self.old) × (reply.new ≡ reply.old)) }
         ensures memory { OnErr result ((state : ScriptState) → Stands self.old state
-            → IsOkReply (reply_by state (command_of line.now))) }
+            → IsOkReply (reply_of_line state (command_of line.now))) }
         ensures asks { OnErr result (MayWantMemory (command_of line.now)) }
         ensures one_line { OnOk result (IsOneLine reply.new × (length reply.new ≤ REPLY_MAX)) }
         ensures stands { (state : ScriptState) × Stands self.old state }

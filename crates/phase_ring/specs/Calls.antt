@@ -59,7 +59,7 @@ pub record HasWaited {A : Type 0} (from to : ℕ) (old new : Board A) : Type 0 w
   pub moves : HasMoved Waiter from to old.ring new.ring
 
 -- a task with the entry stands nowhere any more, and the limits and the top stay
-pub record HasLeft {A : Type 0} (entry : Entry) (old new : Board A) : Type 0 where
+pub record HasLeftBoard {A : Type 0} (entry : Entry) (old new : Board A) : Type 0 where
   pub limits : new.limits ≡ old.limits
   pub top : new.top ≡ old.top
   pub stands : (role : Role) (p : ℕ)

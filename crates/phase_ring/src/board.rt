@@ -7,7 +7,7 @@ ghost use Rattle.phase_ring.specs.Rings.{standing, sents, slot_at, with_slot, is
 ghost use Rattle.phase_ring.specs.Standings.{one_if_same, other, takes_part, phase_for, counted};
 ghost use Rattle.phase_ring.specs.Boards.{IsBoard};
 ghost use Rattle.phase_ring.specs.Blocks.{block_joined, block_values, BlockFits};
-ghost use Rattle.phase_ring.specs.Calls.{MaySignal, MayWait, IsSettled, KeepsBounds, HasMoved, HasSignalled, HasWaited, HasLeft};
+ghost use Rattle.phase_ring.specs.Calls.{MaySignal, MayWait, IsSettled, KeepsBounds, HasMoved, HasSignalled, HasWaited, HasLeftBoard};
 ghost use Rattle.phase_ring.specs.Inside.{MayGoOn};
 
 use crate::role::Role;
@@ -164,8 +164,8 @@ impl<A: Accumulate> Board<A> {
         self.go_on(phase, next);
     }
 
-    /// Tells the value of a waiter's phase, which is complete, and moves the waiter on to the next
-    /// one.
+    /// Returns the value of a waiter's phase, which is complete, and moves the waiter on to the
+    /// next one.
     pub fn wait(&mut self, phase: u64) -> Outcome
         requires invariant { IsBoard A.operation self.old }
         requires may { MayWait phase (phase + 1) self.old }
@@ -300,7 +300,7 @@ impl<A: Accumulate> Board<A> {
             → 0 < standing self.old.ring role (phase_for role entry) }
         requires waiter { (p : ℕ) × (counted Waiter entry p < standing self.old.ring Waiter p) }
         ensures invariant { IsBoard A.operation self.new }
-        ensures left { HasLeft entry self.old self.new }
+        ensures left { HasLeftBoard entry self.old self.new }
         ensures slots { KeepsSlots (sents self.old.ring) (sents self.new.ring) }
         ensures settled { IsSettled self.new }
         ensures stops { 0 < standing self.new.ring Waiter self.new.ring.base }

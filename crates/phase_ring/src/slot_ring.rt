@@ -58,7 +58,7 @@ impl<A: Accumulate> SlotRing<A> {
         }
     }
 
-    /// Tells the phase of the first slot.
+    /// Returns the phase of the first slot.
     pub fn base(&self) -> u64
         ensures { result ≡ self.now.base }
     {
@@ -179,7 +179,7 @@ impl<A: Accumulate> SlotRing<A> {
         }
     }
 
-    /// Tells the value of a complete phase, with the single applied that its first signal named.
+    /// Returns the value of a complete phase, with the single applied that its first signal named.
     pub fn value(&self, phase: u64) -> Outcome
         requires within { IsWithin self.now phase }
         requires complete { is_sealed self.now phase ≡ true }
@@ -217,7 +217,7 @@ impl<A: Accumulate> SlotRing<A> {
         }
     }
 
-    /// Tells how many of the role stand at the phase.
+    /// Returns how many of the role stand at the phase.
     pub fn standing(&self, phase: u64, role: Role) -> u32
         requires { IsWithin self.now phase }
         ensures { result ≡ standing self.now role phase }

@@ -15,7 +15,7 @@ pub fn lf_of(bytes: &[u8]) -> Option<usize>
     bytes.iter().position(|byte| *byte == LF)
 }
 
-/// Gives the line less one CR at its end.
+/// Returns the line less one CR at its end.
 pub fn without_cr(line: &[u8]) -> &[u8]
     ensures { result.now ≡ without_cr line.now }
 {

@@ -92,7 +92,7 @@ RefusesRegister me mode old new refusal =
     OthersCame (me ∷ []) old new × (register_refusal new me (next_child new) mode ≡ Some refusal)
 
 -- for the code: a seat whose task has left
-pub record HasLeft {K : Type 0} (allows : K → Allows) (terms : Terms K) (me : ℕ) (old : History)
+pub record LeavesSeat {K : Type 0} (allows : K → Allows) (terms : Terms K) (me : ℕ) (old : History)
     (v : View) : Type 0 where
   pub before : History
   pub others : OthersCame (me ∷ []) old before

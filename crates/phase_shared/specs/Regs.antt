@@ -37,8 +37,8 @@ IsGoodOn {K} allows at seen = (terms : Terms K) → at.1 ≡ Some terms → IsGo
 
 module _ {A K : Type 0} where
   -- which phaser it is
-  abbrev pub phaser_place : Phaser A K → Place (Terms K)
-  phaser_place p = locked_place p.locked
+  abbrev pub phaser_lock : Phaser A K → Place (Terms K)
+  phaser_lock p = locked_place p.locked
 
   -- the limits and the rule that it was made with
   abbrev pub phaser_terms : Phaser A K → Terms K

@@ -28,12 +28,12 @@
 //! **A registration in a thread.** No closure can hold one, as it cannot be thrown away. Lend it to
 //! the thread, or lend an `Option` that the thread takes it from. Each call asks that the
 //! registration is on the phaser that it names, so a function that is passed both has a `requires`
-//! with `phaser_place`, and so has a closure. A whole program, whose founder and its child each
+//! with `phaser_lock`, and so has a closure. A whole program, whose founder and its child each
 //! send a value in a thread of its own, and leave:
 //!
 //! ```text
 //! ghost use Rattle.std.specs.Prelude.{◌≡◌, None, IfSome};
-//! ghost use Rattle.phase_shared.specs.Regs.{phaser_place};
+//! ghost use Rattle.phase_shared.specs.Regs.{phaser_lock};
 //!
 //! use phase_accum::Sum;
 //! use phase_base::{Mode, Spec};
@@ -49,7 +49,7 @@
 //!     slot: &mut Option<Reg<Sum, NoRule>>,
 //!     value: i64,
 //! )
-//!     requires { IfSome slot.old (λ reg. reg.at ≡ phaser_place phaser.now) }
+//!     requires { IfSome slot.old (λ reg. reg.at ≡ phaser_lock phaser.now) }
 //!     ensures { slot.new ≡ None }
 //! {
 //!     let Some(mut reg) = slot.take() else { return };
@@ -65,17 +65,17 @@
 //!     mut one: Option<Reg<Sum, NoRule>>,
 //!     mut other: Option<Reg<Sum, NoRule>>,
 //! )
-//!     requires one { IfSome one (λ reg. reg.at ≡ phaser_place phaser.now) }
-//!     requires other { IfSome other (λ reg. reg.at ≡ phaser_place phaser.now) }
+//!     requires one { IfSome one (λ reg. reg.at ≡ phaser_lock phaser.now) }
+//!     requires other { IfSome other (λ reg. reg.at ≡ phaser_lock phaser.now) }
 //! {
 //!     let _both = join_mut(
 //!         rt,
 //!         &mut ||
-//!             requires { IfSome one (λ reg. reg.at ≡ phaser_place phaser.now) }
+//!             requires { IfSome one (λ reg. reg.at ≡ phaser_lock phaser.now) }
 //!             ensures { one.exit ≡ None }
 //!         { take_part(rt, phaser, &mut one, 4) },
 //!         &mut ||
-//!             requires { IfSome other (λ reg. reg.at ≡ phaser_place phaser.now) }
+//!             requires { IfSome other (λ reg. reg.at ≡ phaser_lock phaser.now) }
 //!             ensures { other.exit ≡ None }
 //!         { take_part(rt, phaser, &mut other, 3) },
 //!     );

@@ -7,7 +7,7 @@ ghost use Rattle.phase_shared.specs.Calls.{IsTry, Tries};
 ghost use Rattle.phase_shared.specs.Entries.{entry_after_signal};
 ghost use Rattle.phase_shared.specs.OneSends.{allows_one_send};
 ghost use Rattle.phase_shared.specs.Puts.{SignalsValue};
-ghost use Rattle.phase_shared.specs.Regs.{phaser_place, phaser_terms, phaser_limits};
+ghost use Rattle.phase_shared.specs.Regs.{phaser_lock, phaser_terms, phaser_limits};
 
 use crate::phaser::Phaser;
 use crate::reg::Reg;
@@ -30,7 +30,7 @@ pub fn try_signal_value<A: Accumulate>(
     reg: &mut Reg<A, OneSend>,
     value: i64,
 ) -> Result<u64, Tried<SignalRefusal>>
-    requires at { reg.old.at ≡ phaser_place phaser.now }
+    requires at { reg.old.at ≡ phaser_lock phaser.now }
     requires signals { mode_signals reg.old.entry.mode ≡ true }
     requires value { value ≢ NO_VALUE }
     requires none_held { reg.old.held.count ≡ 0 }

@@ -5,7 +5,7 @@ ghost use Rattle.phase_core.specs.phase_history.declared.event.Event.TheVariants
 ghost use Rattle.phase_core.specs.phase_history.Histories.{founder};
 ghost use Rattle.phase_core.specs.phase_history.Others.{OnlyUsed};
 ghost use Rattle.phase_shared.specs.Rule.{IsGoodAt};
-ghost use Rattle.phase_shared.specs.Regs.{phaser_place, phaser_terms, phaser_limits};
+ghost use Rattle.phase_shared.specs.Regs.{phaser_lock, phaser_terms, phaser_limits};
 
 use crate::reg::Reg;
 use crate::rule::{SignalRule, Terms};
@@ -42,7 +42,7 @@ impl<A: Accumulate, K: SignalRule> Phaser<A, K> {
     ) -> Result<(Phaser<A, K>, Reg<A, K>), AllocError>
         ensures limits { IfOk result (λ made. phaser_limits made.0 ≡ limits) }
         ensures rule { IfOk result (λ made. (phaser_terms made.0).rule ≡ rule) }
-        ensures at { IfOk result (λ made. made.1.at ≡ phaser_place made.0) }
+        ensures at { IfOk result (λ made. made.1.at ≡ phaser_lock made.0) }
         ensures founder { IfOk result (λ made.
             (made.1.number ≡ 0) × (made.1.seen ≡ Made 0 ∷ []) × (made.1.entry ≡ founder)) }
         ensures none_held { IfOk result (λ made.

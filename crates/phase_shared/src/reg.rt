@@ -78,7 +78,7 @@ impl<A: Accumulate, K: SignalRule> Reg<A, K> {
         }
     }
 
-    /// Tells how many sends it holds.
+    /// Returns how many sends it holds.
     pub fn pending(&self) -> u64
         ensures value { result ≡ self.now.held.count }
         // There are sends that it holds, so many.
@@ -99,14 +99,14 @@ impl<A: Accumulate, K: SignalRule> Reg<A, K> {
         let _number = self.number;
     }
 
-    /// Tells its number, which nobody else has on its phaser.
+    /// Returns its number, which nobody else has on its phaser.
     pub fn number(&self) -> u64
         ensures { result ≡ self.now.number }
     {
         self.number
     }
 
-    /// Tells its mode.
+    /// Returns its mode.
     pub fn mode(&self) -> Mode
         ensures value { result ≡ self.now.entry.mode }
         // It is registered in the history that it has seen, in this mode and at these phases.
@@ -116,7 +116,7 @@ impl<A: Accumulate, K: SignalRule> Reg<A, K> {
         self.entry.mode
     }
 
-    /// Tells its signal phase and its wait phase.
+    /// Returns its signal phase and its wait phase.
     pub fn phase(&self) -> (u64, u64)
         ensures value { result ≡ (self.now.entry.signal_phase, self.now.entry.wait_phase) }
         ensures entry { entry_of (members_of self.now.seen) self.now.number

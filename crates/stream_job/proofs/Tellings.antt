@@ -10,7 +10,7 @@ use Rattle.graph_runs.specs.Moments.{Moment, input_at}
 use Rattle.graph_runs.proofs.OnLines.{on_phaser}
 use Rattle.graph_runs.specs.TaskEvents.{TaskEvent, IsNext, sample, signal, first_wait, exchange_wait, leave, child}
 use Rattle.graph_runs.specs.Nexts.{Next, is_not_live, registers, leaves, samples, signals, waits, exchanges, next_of}
-use Rattle.graph_runs.specs.Answers.{Answer, makes, is_blocked, is_gone, has_made, is_refused, answer_to, answer_of_turn, after_answer, told, turn_tells, was_blocked}
+use Rattle.graph_runs.specs.Answers.{Answer, makes, is_blocked, is_gone, has_made, is_refused, answer_to, answer_of_turn, after_answer, word_of_answer, turn_tells, was_blocked}
 use Rattle.graph_runs.specs.Reached.{IsReachable}
 use Rattle.graph_runs.proofs.Signalling.{live-is}
 use Rattle.graph_runs.proofs.Turning.{turn_makes_next}
@@ -30,10 +30,10 @@ use Rattle.stream_job.proofs.Lively.{live_next}
 use Rattle.stream_job.proofs.Stalling.{leave_moves, register_moves}
 use Rattle.stream_job.proofs.Stepping.{sample_output, signal_output, wait_input, exchange_input}
 
--- ---- what is told
+-- ---- what is word_of_answer
 
 pub tells_so : (job : Job) (m : Moment) (t : ℕ) (answer : Answer) (it : Made)
-    → Shows job m t answer it → told job m answer ≡ Some (told_of (told_by it t))
+    → Shows job m t answer it → word_of_answer job m answer ≡ Some (told_of (told_by it t))
 tells_so job m t (makes event) (made.Event p word) s = ap (λ w. Some w) s.1
 tells_so job m t (makes event) (made.Blocked p) s = absurd s
 tells_so job m t (makes event) (made.OutOfRange step) s = absurd s
@@ -48,7 +48,7 @@ tells_so job m t is_gone (made.OutOfRange step) s = absurd s
 tells_so job m t is_gone made.Nothing s = refl
 tells_so job m t (has_made at) (made.Event p word) s = absurd s
 tells_so job m t (has_made at) (made.Blocked p) s = absurd s
-tells_so job m t (has_made at) (made.OutOfRange step) s = ap (λ x. told job m (has_made x)) s
+tells_so job m t (has_made at) (made.OutOfRange step) s = ap (λ x. word_of_answer job m (has_made x)) s
 tells_so job m t (has_made at) made.Nothing s = absurd s
 tells_so job m t is_refused (made.Event p word) s = absurd s
 tells_so job m t is_refused (made.Blocked p) s = absurd s

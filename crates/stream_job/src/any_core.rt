@@ -200,8 +200,8 @@ impl AnyCore {
         }
     }
 
-    /// Tells the number above every number that a task of the phaser ever had, where one is left. It
-    /// takes no memory.
+    /// Returns the number above every number that a task of the phaser ever had, where one is left.
+    /// It takes no memory.
     pub fn next_number(&self) -> Option<u64>
         ensures { (op : Op) (limits : Limits) (h : History)
             → CoreStandsFor self.now op limits h
@@ -216,7 +216,7 @@ impl AnyCore {
         }
     }
 
-    /// Tells a task's mode and phases, where it is registered. It takes no memory.
+    /// Returns a task's mode and phases, where it is registered. It takes no memory.
     pub fn view(&self, task: u64) -> Option<Entry>
         ensures { (op : Op) (limits : Limits) (h : History)
             → CoreStandsFor self.now op limits h
@@ -231,7 +231,7 @@ impl AnyCore {
         }
     }
 
-    /// Tells the first phase that is not complete, counted from 0. It takes no memory.
+    /// Returns the first phase that is not complete, counted from 0. It takes no memory.
     ///
     /// Where no waiter is registered, it looks at each task.
     pub fn done(&self) -> u64
@@ -248,7 +248,7 @@ impl AnyCore {
         }
     }
 
-    /// Tells the least wait phase of the waiters, where one is registered. It takes no memory.
+    /// Returns the least wait phase of the waiters, where one is registered. It takes no memory.
     pub fn least_wait(&self) -> Option<u64>
         ensures { (op : Op) (limits : Limits) (h : History)
             → CoreStandsFor self.now op limits h
@@ -263,7 +263,7 @@ impl AnyCore {
         }
     }
 
-    /// Tells whether a signaller is registered. It takes no memory.
+    /// Returns whether a signaller is registered. It takes no memory.
     pub fn has_signaller(&self) -> bool
         ensures { (op : Op) (limits : Limits) (h : History)
             → CoreStandsFor self.now op limits h

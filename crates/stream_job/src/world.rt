@@ -84,7 +84,7 @@ impl<'a> World<'a> {
         })
     }
 
-    /// Tells what task number `task` does next: nothing, where it is not live or there is none of
+    /// Returns what task number `task` does next: nothing, where it is not live or there is none of
     /// this number. It takes no memory.
     pub fn next(&self, task: usize) -> Step
         ensures next { (m : Moment) → IsWorldAt self.now m
@@ -95,8 +95,8 @@ impl<'a> World<'a> {
         self.machine.next(self.job, &self.plan, task)
     }
 
-    /// Lends each sink's number and what it has taken so far, in the order of the lines. It takes no
-    /// memory.
+    /// Returns each sink's number and what it has taken so far, in the order of the lines. It takes
+    /// no memory.
     pub fn lines(&self) -> &[Lines]
         ensures { (m : Moment) → IsWorldAt self.now m → map sink_values result.now
             ≡ map (λ t. (t, m.taken t 0)) (sinks_of self.now.job) }
@@ -104,7 +104,7 @@ impl<'a> World<'a> {
         &self.machine.lines
     }
 
-    /// Lends the tasks that were blocked on a phaser since its last event. It takes no memory.
+    /// Returns the tasks that were blocked on a phaser since its last event. It takes no memory.
     pub fn parked(&self, phaser: usize) -> &[usize]
         requires { phaser < length self.now.job.graph.phasers }
         ensures { result.now ≡ get_or self.now.parked phaser [] }
@@ -112,7 +112,7 @@ impl<'a> World<'a> {
         self.parked.on(phaser)
     }
 
-    /// Tells whether no task can move: some task is live, and the turn of each live task would be
+    /// Returns whether no task can move: some task is live, and the turn of each live task would be
     /// blocked. After a value out of range no run is stalled. It takes no memory.
     ///
     /// It looks at each task, and asks the phasers for those alone that stand in no list of `parked`.

@@ -6,7 +6,7 @@ ghost use Rattle.stream_lists.specs.Lists.{number};
 
 use graph_base::phase_accum::Outcome;
 
-/// Tells the number of a value, which is 0 where there is none or it is out of range. It takes no
+/// Returns the number of a value, which is 0 where there is none or it is out of range. It takes no
 /// memory.
 pub fn number_of(outcome: Outcome) -> i64
     requires range { IsInRange outcome }

@@ -8,12 +8,12 @@ use Rattle.phase_shared.specs.phase_history.Others.{OnlyUsed}
 use Rattle.phase_shared.specs.declared.rule.NoRule.{NoRule}
 use Rattle.phase_shared.specs.declared.phaser.Phaser.{Phaser}
 use Rattle.phase_shared.specs.Rule.{Allows}
-use Rattle.phase_shared.specs.Regs.{RegState, IsGoodOn, phaser_place, phaser_terms}
+use Rattle.phase_shared.specs.Regs.{RegState, IsGoodOn, phaser_lock, phaser_terms}
 use Rattle.stream_members.specs.Members.{MemberState, limits_on, member_state, IsMember, IsAlone}
 
 -- a registration on this phaser is a member
 pub is_member : {A : Type 0} (allows : NoRule → Allows) (phaser : Phaser A NoRule) (reg : RegState A NoRule)
-    (held : Option ℤ) → reg.at ≡ phaser_place phaser → IsGoodOn allows reg.at reg.seen
+    (held : Option ℤ) → reg.at ≡ phaser_lock phaser → IsGoodOn allows reg.at reg.seen
     → entry_of (members_of reg.seen) reg.number ≡ Some reg.entry → IsMember (member_state reg held)
 is_member allows phaser reg held at good entry = record {
   legal = subst (λ place. IsLegal (limits_on place) reg.seen) (sym at)

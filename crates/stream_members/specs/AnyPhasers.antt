@@ -5,7 +5,7 @@ use Rattle.phase_shared.specs.phase_base.declared.mode.Mode.TheVariants.{Single}
 use Rattle.phase_shared.specs.phase_base.declared.operation.Op.{Op}
 use Rattle.phase_shared.specs.phase_base.declared.operation.Op.TheVariants.{Sum, Product, Least, Greatest, Any}
 use Rattle.phase_shared.specs.phase_history.declared.event.Event.TheVariants.{Made}
-use Rattle.phase_shared.specs.Regs.{phaser_place}
+use Rattle.phase_shared.specs.Regs.{phaser_lock}
 use Rattle.stream_members.specs.Members.{Spot, MemberState, member_state}
 use Rattle.stream_members.specs.declared.any_phaser.AnyPhaser.{AnyPhaser}
 use Rattle.stream_members.specs.declared.any_phaser.AnyPhaser.TheVariants as phaser
@@ -22,11 +22,11 @@ phaser_op (phaser.Any p) = Any
 
 -- which phaser it is
 abbrev pub phaser_spot : AnyPhaser → Spot
-phaser_spot (phaser.Sum p) = phaser_place p
-phaser_spot (phaser.Product p) = phaser_place p
-phaser_spot (phaser.Least p) = phaser_place p
-phaser_spot (phaser.Greatest p) = phaser_place p
-phaser_spot (phaser.Any p) = phaser_place p
+phaser_spot (phaser.Sum p) = phaser_lock p
+phaser_spot (phaser.Product p) = phaser_lock p
+phaser_spot (phaser.Least p) = phaser_lock p
+phaser_spot (phaser.Greatest p) = phaser_lock p
+phaser_spot (phaser.Any p) = phaser_lock p
 
 -- the operation of the phaser that it is on
 abbrev pub reg_op : AnyReg → Op

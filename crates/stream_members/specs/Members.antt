@@ -165,7 +165,7 @@ AddsNow old new (Ok child) = HasAddedNow old new child.0 child.1
 AddsNow old new (Err refusal) = RefusesRegister old.number Wait old.seen new.seen refusal
 
 -- what a member that left has seen: its own drop last
-pub record HasLeft (old : MemberState) (left : LeftState) : Type 0 where
+pub record HasLeftPhaser (old : MemberState) (left : LeftState) : Type 0 where
   pub at : left.at ≡ old.at
   pub numbers : left.numbers ≡ old.number ∷ []
   pub leaves : Leaves old.number old.seen left.seen

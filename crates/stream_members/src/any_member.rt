@@ -3,7 +3,7 @@ ghost use Rattle.std.specs.Prelude.{◌≡◌, ◌≢◌, ◌↔◌, Err, IfOk, 
 ghost use Rattle.phase_shared.specs.phase_accum.declared.outcome.TheConstants.{NO_VALUE};
 ghost use Rattle.phase_shared.specs.phase_accum.Values.{value_by};
 ghost use Rattle.phase_shared.specs.Calls.{Tries, Waits};
-ghost use Rattle.stream_members.specs.Members.{limits_on, IsMember, Stays, IsAlone, HoldsOther, Puts, HasLeft};
+ghost use Rattle.stream_members.specs.Members.{limits_on, IsMember, Stays, IsAlone, HoldsOther, Puts, HasLeftPhaser};
 ghost use Rattle.stream_members.specs.AnyMembers.{member_in, member_op, left_in, left_op, AddsAny};
 
 use crate::any_left::AnyLeft;
@@ -76,14 +76,14 @@ impl<'a> AnyMember<'a> {
         each!(self, one => one.look())
     }
 
-    /// Tells its number, which nobody else has on its phaser.
+    /// Returns its number, which nobody else has on its phaser.
     pub fn number(&self) -> u64
         ensures { result ≡ (member_in self.now).number }
     {
         each!(self, one => one.number())
     }
 
-    /// Tells the value that it holds, where one was refused.
+    /// Returns the value that it holds, where one was refused.
     pub fn held(&self) -> Option<i64>
         ensures { result ≡ (member_in self.now).held }
     {
@@ -149,7 +149,7 @@ impl<'a> AnyMember<'a> {
     /// Ends the registration: the value that it holds is in no phase. Where another is in the
     /// middle of a call it comes back as it was. It takes no memory.
     pub fn try_leave(self) -> Result<AnyLeft<'a>, AnyMember<'a>>
-        ensures ok { IfOk result (λ left. HasLeft (member_in self.entry) (left_in left)
+        ensures ok { IfOk result (λ left. HasLeftPhaser (member_in self.entry) (left_in left)
             × (left_op left ≡ member_op self.entry)) }
         ensures err { IfErr result (λ back. back ≡ self.entry) }
         ensures alone { IsAlone (member_in self.entry) → IsOk result }
@@ -180,7 +180,7 @@ impl<'a> AnyMember<'a> {
 
     /// Ends the registration, as `try_leave` does. It waits for its turn.
     pub fn leave<W: Wait>(self, rt: &W) -> AnyLeft<'a>
-        ensures left { HasLeft (member_in self.entry) (left_in result) }
+        ensures left { HasLeftPhaser (member_in self.entry) (left_in result) }
         ensures op { left_op result ≡ member_op self.entry }
     {
         match self {

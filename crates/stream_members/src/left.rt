@@ -18,14 +18,14 @@ pub struct Left<'a, A: Accumulate> {
 
 impl<'a, A: Accumulate> Model for Left<'a, A> {
     ghost use Rattle.std.specs.Prelude.{◌≡◌};
-    ghost use Rattle.phase_shared.specs.Regs.{phaser_place};
+    ghost use Rattle.phase_shared.specs.Regs.{phaser_lock};
     ghost use Rattle.stream_members.specs.Members.{LeftState};
 
     ghost Value = { LeftState };
 
     ghost view = { λ l. l.past };
 
-    ghost invariant = { λ l. l.past.at ≡ phaser_place l.phaser.now };
+    ghost invariant = { λ l. l.past.at ≡ phaser_lock l.phaser.now };
 }
 
 impl<'a, A: Accumulate> Left<'a, A> {

@@ -4,8 +4,8 @@ ghost use Rattle.phase_shared.specs.phase_accum.declared.outcome.TheConstants.{N
 ghost use Rattle.phase_shared.specs.phase_core.Blocks.{StandForLists};
 ghost use Rattle.phase_shared.specs.Blocks.{SignalsBlock, WaitsBlock};
 ghost use Rattle.phase_shared.specs.Calls.{Tries, Waits};
-ghost use Rattle.phase_shared.specs.Regs.{phaser_place};
-ghost use Rattle.stream_members.specs.Members.{limits_on, member_state, IsMember, Stays, IsAlone, HoldsOther, Puts, Adds, AddsNow, HasLeft, one_each, SignalsValues};
+ghost use Rattle.phase_shared.specs.Regs.{phaser_lock};
+ghost use Rattle.stream_members.specs.Members.{limits_on, member_state, IsMember, Stays, IsAlone, HoldsOther, Puts, Adds, AddsNow, HasLeftPhaser, one_each, SignalsValues};
 
 use crate::left::Left;
 use crate::refusal::PutRefusal;
@@ -34,21 +34,21 @@ pub struct Member<'a, A: Accumulate> {
 
 impl<'a, A: Accumulate> Model for Member<'a, A> {
     ghost use Rattle.std.specs.Prelude.{◌≡◌};
-    ghost use Rattle.phase_shared.specs.Regs.{phaser_place};
+    ghost use Rattle.phase_shared.specs.Regs.{phaser_lock};
     ghost use Rattle.stream_members.specs.Members.{MemberState, member_state, HoldsJust};
 
     ghost Value = { MemberState };
 
     ghost view = { λ m. member_state m.reg m.held };
 
-    ghost invariant = { λ m. (m.reg.at ≡ phaser_place m.phaser.now)
+    ghost invariant = { λ m. (m.reg.at ≡ phaser_lock m.phaser.now)
         × HoldsJust A.operation m.reg.held m.held };
 }
 
 impl<'a, A: Accumulate> Member<'a, A> {
     /// Makes one of a registration that holds no sends, and its phaser.
     pub fn of(phaser: &'a Phaser<A, NoRule>, reg: Reg<A, NoRule>) -> Member<'a, A>
-        requires at { reg.at ≡ phaser_place phaser.now }
+        requires at { reg.at ≡ phaser_lock phaser.now }
         requires none_held { reg.held.count ≡ 0 }
         ensures { result ≡ member_state reg None }
     {
@@ -67,14 +67,14 @@ impl<'a, A: Accumulate> Member<'a, A> {
         self.reg.look();
     }
 
-    /// Tells its number, which nobody else has on its phaser.
+    /// Returns its number, which nobody else has on its phaser.
     pub fn number(&self) -> u64
         ensures { result ≡ self.now.number }
     {
         self.reg.number()
     }
 
-    /// Tells the value that it holds, where one was refused.
+    /// Returns the value that it holds, where one was refused.
     pub fn held(&self) -> Option<i64>
         ensures { result ≡ self.now.held }
     {
@@ -231,7 +231,7 @@ impl<'a, A: Accumulate> Member<'a, A> {
     /// Ends the registration: the value that it holds is in no phase. Where another is in the
     /// middle of a call it comes back as it was. It takes no memory.
     pub fn try_leave(self) -> Result<Left<'a, A>, Member<'a, A>>
-        ensures ok { IfOk result (HasLeft self.entry) }
+        ensures ok { IfOk result (HasLeftPhaser self.entry) }
         ensures err { IfErr result (λ back. back ≡ self.entry) }
         ensures alone { IsAlone self.entry → IsOk result }
     {
@@ -244,7 +244,7 @@ impl<'a, A: Accumulate> Member<'a, A> {
 
     /// Ends the registration, as `try_leave` does. It waits for its turn.
     pub fn leave<W: Wait>(self, rt: &W) -> Left<'a, A>
-        ensures { HasLeft self.entry result }
+        ensures { HasLeftPhaser self.entry result }
     {
         let Member {
             phaser,

@@ -15,7 +15,7 @@ use Rattle.graph_runs.specs.TaskPlaces.{registration_at}
 use Rattle.graph_runs.proofs.TurnRegistering.{is_for}
 use Rattle.graph_runs.specs.TaskEnds.{TaskEnd, HasLeftAt}
 use Rattle.graph_runs.specs.RunEnds.{Ends, HasCome}
-use Rattle.stream_tasks.specs.declared.ending.task_left.Part.{Part}
+use Rattle.stream_tasks.specs.declared.ending.task_left.TaskKnowledge.{TaskKnowledge}
 use Rattle.stream_tasks.specs.declared.ending.task_left.TaskLeft.{TaskLeft}
 use Rattle.stream_tasks.specs.Joinings.{IsAt, HasPlaceFor, HasGrownTo, HaveGrown, IsTakenIn}
 use Rattle.stream_tasks.specs.Gatherings.{Tells, AreGathered}
@@ -48,18 +48,18 @@ none_gathered job founders = record {
     nobody zero end has = (cc)
     nobody (suc t) end has = (cc)
 
-    nothing : (t : ℕ) (part : Option Part) → slice_get {X = Option Part} [] t ≡ Some part → ⊥
+    nothing : (t : ℕ) (part : Option TaskKnowledge) → slice_get {X = Option TaskKnowledge} [] t ≡ Some part → ⊥
     nothing zero part has = (cc)
     nothing (suc t) part has = (cc)
 
 -- ---- the next
 
 -- what both lists have at a place
-tells_more : (parts : List (Option Part)) (ends : Ends) (part : Option Part)
+tells_more : (parts : List (Option TaskKnowledge)) (ends : Ends) (part : Option TaskKnowledge)
     (end : Option TaskEnd) → length parts ≡ length ends
-    → ((t : ℕ) (a : Option Part) (b : Option TaskEnd) → slice_get parts t ≡ Some a
+    → ((t : ℕ) (a : Option TaskKnowledge) (b : Option TaskEnd) → slice_get parts t ≡ Some a
     → slice_get ends t ≡ Some b → Tells a b) → Tells part end
-    → (t : ℕ) (a : Option Part) (b : Option TaskEnd) → slice_get (parts ++ part ∷ []) t ≡ Some a
+    → (t : ℕ) (a : Option TaskKnowledge) (b : Option TaskEnd) → slice_get (parts ++ part ∷ []) t ≡ Some a
     → slice_get (ends ++ end ∷ []) t ≡ Some b → Tells a b
 tells_more parts ends part end long tells last t a b one two =
     by (in_longer parts part a t one) (in_longer ends end b t two)
@@ -68,7 +68,7 @@ tells_more parts ends part end long tells last t a b one two =
         → (slice_get ends t ≡ Some b) ⊎ ((t ≡ length ends) × (end ≡ b)) → Tells a b
     by (inl f) (inl g) = tells t a b f g
     by (inr f) (inr g) =
-        let T : Option Part → Type 0 = λ x. Tells x b in
+        let T : Option TaskKnowledge → Type 0 = λ x. Tells x b in
         let U : Option TaskEnd → Type 0 = λ x. Tells part x in
         subst T f.1 (subst U g.1 last)
     by (inl f) (inr g) =
@@ -80,12 +80,12 @@ tells_more parts ends part end long tells last t a b one two =
         let at : t ≡ length parts = f.0 in
         absurd (omega arith)
 
-longer : (parts : List (Option Part)) (ends : Ends) (part : Option Part) (end : Option TaskEnd)
+longer : (parts : List (Option TaskKnowledge)) (ends : Ends) (part : Option TaskKnowledge) (end : Option TaskEnd)
     → length parts ≡ length ends → length (parts ++ part ∷ []) ≡ length (ends ++ end ∷ [])
 longer parts ends part end long =
     length-append parts (part ∷ []) ∙ ap (λ n. n + 1) long ∙ sym (length-append ends (end ∷ []))
 
-pub add_absent : (job : Job) (founders joined : List (Option AnyLeft)) (parts : List (Option Part))
+pub add_absent : (job : Job) (founders joined : List (Option AnyLeft)) (parts : List (Option TaskKnowledge))
     (ends : Ends) → AreGathered job founders joined parts ends
     → AreGathered job founders joined (parts ++ None ∷ []) (ends ++ None ∷ [])
 add_absent job founders joined parts ends so = record {
@@ -113,7 +113,7 @@ seen_at [] (suc i) h e = absurd (cc)
 seen_at (l ∷ lefts) zero h e = (l, refl, same_Some (left_in l).seen h e)
 seen_at (l ∷ lefts) (suc i) h e = seen_at lefts i h e
 
-module _ (job : Job) (spots : ℕ → Spot) (t : ℕ) (part : Part) (lefts : List AnyLeft)
+module _ (job : Job) (spots : ℕ → Spot) (t : ℕ) (part : TaskKnowledge) (lefts : List AnyLeft)
     (there : t < length job.graph.tasks) (m : Moment) (left_at : HasLeftAt job m (end_of t part lefts))
     (members : (i n : ℕ) (one : AnyLeft) → slice_get part.numbers.items i ≡ Some n
     → slice_get lefts i ≡ Some one → IsLeftOf job spots (registration_at job t i).phaser (n ∷ []) one) where
@@ -157,7 +157,7 @@ module _ (job : Job) (spots : ℕ → Spot) (t : ℕ) (part : Part) (lefts : Lis
         (s.0, (members i n s.0 number s.1).numbers_are, s.2, taken i s.0 s.1));
   }
 
-  pub add_came : (founders old new : List (Option AnyLeft)) (parts : List (Option Part))
+  pub add_came : (founders old new : List (Option AnyLeft)) (parts : List (Option TaskKnowledge))
       (ends : Ends) → length ends ≡ t → AreGathered job founders old parts ends
       → length new ≡ length old → HaveGrown old new
       → ((i : ℕ) (one : AnyLeft) → slice_get lefts i ≡ Some one
@@ -198,7 +198,7 @@ module _ (job : Job) (spots : ℕ → Spot) (t : ℕ) (part : Part) (lefts : Lis
 -- ---- as the code finds it
 
 -- a task that has left, as task t
-pub record IsLeftAs (job : Job) (spots : ℕ → Spot) (t : ℕ) (part : Part) (lefts : List AnyLeft)
+pub record IsLeftAs (job : Job) (spots : ℕ → Spot) (t : ℕ) (part : TaskKnowledge) (lefts : List AnyLeft)
     : Type 0 where
   pub there : t < length job.graph.tasks
   pub moment : Moment

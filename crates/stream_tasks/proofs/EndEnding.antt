@@ -16,7 +16,7 @@ use Rattle.stream_members.specs.declared.any_left.AnyLeft.{AnyLeft}
 use Rattle.graph_runs.specs.Nexts.{registrations_at}
 use Rattle.graph_runs.specs.TaskEnds.{TaskEnd, FounderEnd}
 use Rattle.graph_runs.specs.RunEnds.{Ends, HasCome, IsRegisteredOn, HasWhole, IsRunEnd, lines_in}
-use Rattle.stream_tasks.specs.declared.ending.task_left.Part.{Part}
+use Rattle.stream_tasks.specs.declared.ending.task_left.TaskKnowledge.{TaskKnowledge}
 use Rattle.stream_tasks.specs.Joinings.{IsAt}
 use Rattle.stream_tasks.specs.Gatherings.{Tells, AreGathered}
 use Rattle.stream_tasks.specs.TaskLefts.{given_to, AreFounders, part_lines, lines_at}
@@ -42,19 +42,19 @@ map-filtered f h test a (suc n) same =
     ]
 
 module _ (job : Job) (spots : ℕ → Spot) (founders joined : List (Option AnyLeft))
-    (parts : List (Option Part)) (ends : Ends) (gave : ℕ → List ℕ)
+    (parts : List (Option TaskKnowledge)) (ends : Ends) (gave : ℕ → List ℕ)
     (g : AreGathered job founders joined parts ends)
     (many : length ends ≡ length job.graph.tasks)
     (agree : (c : ℕ) → c < length job.graph.tasks → Agrees job parts c)
     (founded : AreFounders job spots founders gave)
     (known : (p : ℕ) → p < length job.graph.phasers → AreOfTasks job parts p (gave p)) where
   -- the end of a part
-  record HasEnd (t : ℕ) (part : Part) : Type 0 where
+  record HasEnd (t : ℕ) (part : TaskKnowledge) : Type 0 where
     end : TaskEnd
     has : HasCome ends t end
     tells : Tells (Some part) (Some end)
 
-  end_of_part : (t : ℕ) (part : Part) → IsAt parts t part → HasEnd t part
+  end_of_part : (t : ℕ) (part : TaskKnowledge) → IsAt parts t part → HasEnd t part
   end_of_part t part at =
       let low : t < length parts = below_length parts t (Some part) at in
       let same : length parts ≡ length ends = g.long in
@@ -67,7 +67,7 @@ module _ (job : Job) (spots : ℕ → Spot) (founders joined : List (Option AnyL
       by (Some end) is tells = record { end = end; has = is; tells = tells }
 
   record HasPartOf (t : ℕ) (end : TaskEnd) : Type 0 where
-    part : Part
+    part : TaskKnowledge
     at : IsAt parts t part
     tells : Tells (Some part) (Some end)
 
@@ -79,7 +79,7 @@ module _ (job : Job) (spots : ℕ → Spot) (founders joined : List (Option AnyL
       slice_get-get_or parts t None (omega arith) in
       by (get_or parts t None) is (g.tells t (get_or parts t None) (Some end) is has)
     where
-      by : (o : Option Part) → slice_get parts t ≡ Some o → Tells o (Some end) → HasPartOf t end
+      by : (o : Option TaskKnowledge) → slice_get parts t ≡ Some o → Tells o (Some end) → HasPartOf t end
       by None is tells = absurd tells
       by (Some part) is tells = record { part = part; at = is; tells = tells }
 
@@ -163,7 +163,7 @@ module _ (job : Job) (spots : ℕ → Spot) (founders joined : List (Option AnyL
       children : (c : ℕ) (end : TaskEnd) {t : ℕ} (above : HasPartOf t end)
           → end.given c ≡ given_to above.part.given.items c
           → (given_to above.part.given.items c ≡ [])
-          ⊎ ((other : Part) × IsAt parts c other
+          ⊎ ((other : TaskKnowledge) × IsAt parts c other
           × (other.numbers.items ≡ given_to above.part.given.items c))
           → (end.given c ≡ [])
           ⊎ ((other : TaskEnd) × HasCome ends c other × (other.numbers ≡ end.given c))
@@ -182,7 +182,7 @@ module _ (job : Job) (spots : ℕ → Spot) (founders joined : List (Option AnyL
       ap lines_in is ∙ by (get_or ends t None) (get_or parts t None)
       (g.tells t (get_or parts t None) (get_or ends t None) at is)
     where
-      by : (o : Option TaskEnd) (p : Option Part) → Tells p o → lines_in (Some o) ≡ part_lines p
+      by : (o : Option TaskEnd) (p : Option TaskKnowledge) → Tells p o → lines_in (Some o) ≡ part_lines p
       by None None tells = refl
       by None (Some part) tells = absurd tells
       by (Some end) None tells = absurd tells

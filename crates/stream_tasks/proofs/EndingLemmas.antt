@@ -29,7 +29,7 @@ use Rattle.graph_runs.specs.TaskPlaces as turns
 use Rattle.graph_runs.specs.TaskPlaces.{StandsAt, registration_at}
 use Rattle.graph_runs.proofs.Reaching.{one_registration}
 use Rattle.graph_runs.specs.Turned.{after_leave}
-use Rattle.graph_runs.specs.Parts.{HasPart, HasSeen, SeesOthers, SeesOwn, HasMovedOn, HasLeft}
+use Rattle.graph_runs.specs.Parts.{HasPart, HasSeen, SeesOthers, SeesOwn, HasMovedOn, LeavesPart}
 use Rattle.graph_runs.specs.Places.{HasChildrenBy, IsNumbered}
 use Rattle.graph_runs.proofs.PartsLemmas.{with_history, sees_end, left_phaser}
 use Rattle.graph_runs.proofs.KnownOthers.{known_moved}
@@ -350,7 +350,7 @@ task_leaves job spots s p old new left lefts met over few here looked g more roo
   where
     leaver : (job : Job) (spots : ℕ → Spot) (m : Moment) (t p : ℕ) (old new : Hold) (left : AnyLeft)
         → Leaves old new left → IsHeldOn job spots m t p old
-        → (x : AnyMember) × ((old ≡ On x) × (new ≡ Gone) × holds.HasLeft x left × IsOn job spots m t p x)
+        → (x : AnyMember) × ((old ≡ On x) × (new ≡ Gone) × holds.LeavesPart x left × IsOn job spots m t p x)
     leaver job spots m t p (On x) new left g on = (x, (refl, g.0, g.1, on))
     leaver job spots m t p Gone new left g on = absurd on
 

@@ -12,7 +12,7 @@ use Rattle.graph_runs.specs.phase_history.declared.refusal.RegisterRefusal.{Regi
 use Rattle.graph_runs.specs.phase_history.declared.refusal.RegisterRefusal.TheVariants as why
 use Rattle.graph_runs.specs.phase_history.Legal.{IsLegal}
 use Rattle.stream_members.specs.phase_shared.Calls.{RefusesRegister}
-use Rattle.stream_members.specs.Members.{MemberState, HasAdded, HasLeft, Stays, IsMember, limits_on}
+use Rattle.stream_members.specs.Members.{MemberState, HasAdded, HasLeftPhaser, Stays, IsMember, limits_on}
 use Rattle.stream_members.specs.AnyMembers.{member_in, member_op, left_in, left_op}
 use Rattle.stream_members.specs.declared.any_member.AnyMember.{AnyMember}
 use Rattle.stream_members.specs.declared.any_left.AnyLeft.{AnyLeft}
@@ -161,7 +161,7 @@ leaves_last gave before is = record {
 }
 
 pub leaves : (member : AnyMember) (left : AnyLeft) (gave : List ℕ)
-    → IsFounder (member_in member) gave → HasLeft (member_in member) (left_in left)
+    → IsFounder (member_in member) gave → HasLeftPhaser (member_in member) (left_in left)
     → left_op left ≡ member_op member → IsLeftOf (founder_state member gave) left
 leaves member left gave is has op =
     let before = has.leaves.before in

@@ -9,7 +9,7 @@ use Rattle.stream_members.specs.AnyMembers.{left_in}
 use Rattle.stream_members.specs.declared.any_left.AnyLeft.{AnyLeft}
 use Rattle.graph_runs.specs.TaskEnds.{TaskEnd, HasLeftAt}
 use Rattle.graph_runs.specs.RunEnds.{Ends, HasCome, IsRegisteredOn}
-use Rattle.stream_tasks.specs.declared.ending.task_left.Part.{Part}
+use Rattle.stream_tasks.specs.declared.ending.task_left.TaskKnowledge.{TaskKnowledge}
 use Rattle.stream_tasks.specs.Joinings.{IsAt, HasGrownTo}
 use Rattle.stream_tasks.specs.TaskLefts.{given_to}
 
@@ -25,7 +25,7 @@ pub record HasGathered (job : Job) (ends : Ends) (p : ℕ) (founder all : AnyLef
       → IsRegisteredOn job ends u j p n other → t ≡ u
 
 -- a task's part tells its end
-abbrev pub Tells : Option Part → Option TaskEnd → Type 0
+abbrev pub Tells : Option TaskKnowledge → Option TaskEnd → Type 0
 Tells None None = Unit {0}
 Tells (Some part) (Some end) =
     (end.begun ≡ part.begun) × (end.numbers ≡ part.numbers.items)
@@ -34,12 +34,12 @@ Tells part end = ⊥
 
 -- these ends are of the first tasks, whose parts are these, and stand put together
 pub record AreGathered (job : Job) (founders joined : List (Option AnyLeft))
-    (parts : List (Option Part)) (ends : Ends) : Type 0 where
+    (parts : List (Option TaskKnowledge)) (ends : Ends) : Type 0 where
   pub long : length parts ≡ length ends
   pub joined_long : length joined ≡ length founders
   pub tasks : (t : ℕ) (end : TaskEnd) → HasCome ends t end
       → (end.task ≡ t) × (t < length job.graph.tasks) × ((m : Moment) × HasLeftAt job m end)
-  pub tells : (t : ℕ) (part : Option Part) (end : Option TaskEnd)
+  pub tells : (t : ℕ) (part : Option TaskKnowledge) (end : Option TaskEnd)
       → slice_get parts t ≡ Some part → slice_get ends t ≡ Some end → Tells part end
   pub phasers : (p : ℕ) (founder : AnyLeft) → IsAt founders p founder
       → (all : AnyLeft) × IsAt joined p all × HasGathered job ends p founder all

@@ -90,7 +90,7 @@ GoesOn P (On old) Gone = ⊥
 GoesOn P Gone new = new ≡ Gone
 
 -- what it has seen of a phaser that it has left
-pub record HasLeft (old : AnyMember) (left : AnyLeft) : Type 0 where
+pub record LeavesHold (old : AnyMember) (left : AnyLeft) : Type 0 where
   pub op : left_op left ≡ member_op old
   pub at : (left_in left).at ≡ (member_in old).at
   pub numbers : (left_in left).numbers ≡ (member_in old).number ∷ []
@@ -101,5 +101,5 @@ pub record HasLeft (old : AnyMember) (left : AnyLeft) : Type 0 where
 
 -- a hold that has left
 abbrev pub Leaves : Hold → Hold → AnyLeft → Type 0
-Leaves (On old) new left = (new ≡ Gone) × HasLeft old left
+Leaves (On old) new left = (new ≡ Gone) × LeavesHold old left
 Leaves Gone new left = ⊥

@@ -11,7 +11,7 @@ use Rattle.graph_runs.specs.TaskPlaces.{registration_at}
 use Rattle.graph_runs.specs.TaskEnds.{TaskEnd, HasLeftAt, HasFoundedAndLeft}
 use Rattle.stream_tasks.specs.Joinings.{IsAt}
 use Rattle.stream_tasks.specs.declared.child.Child.{Child}
-use Rattle.stream_tasks.specs.declared.ending.task_left.Part.{Part}
+use Rattle.stream_tasks.specs.declared.ending.task_left.TaskKnowledge.{TaskKnowledge}
 use Rattle.stream_tasks.specs.declared.ending.task_left.TaskLeft.{TaskLeft}
 use Rattle.stream_tasks.specs.declared.task_state.TaskState.{TaskState}
 
@@ -35,7 +35,7 @@ given_to [] c = []
 given_to (child ∷ more) c = if child.task == c then child.numbers.items else given_to more c
 
 -- the end of a task that knows this of itself, and has seen this
-abbrev pub end_of : ℕ → Part → List AnyLeft → TaskEnd
+abbrev pub end_of : ℕ → TaskKnowledge → List AnyLeft → TaskEnd
 end_of t part lefts = record {
   task = t;
   begun = part.begun;
@@ -75,10 +75,10 @@ AreFounders job spots founders gave = (p : ℕ) → p < length job.graph.phasers
     → (founder : AnyLeft) × IsAt founders p founder × IsFounderLeft job spots p (gave p) founder
 
 -- what a task has taken, and nothing where it never came
-abbrev pub part_lines : Option Part → List ℤ
+abbrev pub part_lines : Option TaskKnowledge → List ℤ
 part_lines None = []
 part_lines (Some part) = part.lines.items
 
 -- the same of task t
-abbrev pub lines_at : List (Option Part) → ℕ → List ℤ
+abbrev pub lines_at : List (Option TaskKnowledge) → ℕ → List ℤ
 lines_at parts t = part_lines (get_or parts t None)

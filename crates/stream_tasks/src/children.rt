@@ -10,7 +10,7 @@ ghost use Rattle.stream_tasks.specs.Tasks.{HasAllNow, HasNoneDue, IsDue, IsMissi
 use crate::child::Child;
 use crate::hold::Hold;
 use crate::task_state::TaskState;
-use crate::turned::Turned;
+use crate::went::Went;
 use graph_runs::Owed;
 use graph_runs::graph_base::Registration;
 use stream_eval::stream_lists::Job;
@@ -67,7 +67,7 @@ impl<'a> TaskState<'a> {
 
     /// Makes the next registration of the child at place `i` among its children, which it is
     /// registering. Where all are made it answers `Registered`, without an event.
-    pub fn register(&mut self, job: &Job, i: usize) -> Turned
+    pub fn register(&mut self, job: &Job, i: usize) -> Went
         requires whole { IsWhole job.now self.old }
         requires met { self.old.met ≡ false }
         requires registering { (spots : ℕ → Spot) × IsRegistering job.now spots self.old i }
@@ -78,22 +78,22 @@ impl<'a> TaskState<'a> {
         let child = self.children[i].task;
         let made = self.children[i].numbers.len();
         if made >= job.graph().registrations(child) {
-            return Turned::Registered(child);
+            return Went::Registered(child);
         }
         if !self.has_room(i) {
             self.met = true;
-            return Turned::Stuck;
+            return Went::Stuck;
         }
         let registration = job.graph().registration(child, made);
         let Some(k) = place_on(job, self.number, registration.phaser) else {
             self.met = true;
-            return Turned::Stuck;
+            return Went::Stuck;
         };
         self.add(job, i, k, registration)
     }
 
     /// Makes the next registration of the child at place `i`, on registration `k` of its own.
-    fn add(&mut self, job: &Job, i: usize, k: usize, registration: Registration) -> Turned
+    fn add(&mut self, job: &Job, i: usize, k: usize, registration: Registration) -> Went
         requires whole { IsWhole job.now self.old }
         requires room { HasChildRoom self.old i }
         requires next { (spots : ℕ → Spot) × IsNextOn job.now spots self.old i k registration }
@@ -104,7 +104,7 @@ impl<'a> TaskState<'a> {
         match self.holds[k].add(registration.mode) {
             Ok(member) => {
                 self.keep(i, member);
-                Turned::Moved(registration.phaser)
+                Went::Moved(registration.phaser)
             }
             Err(held) => held.on(registration.phaser),
         }

@@ -1,6 +1,6 @@
 //! Why a call of a registration made no event.
 
-use crate::turned::Turned;
+use crate::went::Went;
 
 /// Why a call of a registration made no event.
 #[derive(Clone, Copy, Debug, PartialEq, Eq)]
@@ -17,12 +17,12 @@ pub enum Held {
 
 impl Held {
     /// How far a task came whose call on phaser `p` made no event.
-    pub fn on(self, p: usize) -> Turned {
+    pub fn on(self, p: usize) -> Went {
         match self {
-            Held::Busy => Turned::Busy,
-            Held::Blocked => Turned::Blocked(p),
-            Held::OutOfMemory => Turned::OutOfMemory,
-            Held::Stuck => Turned::Stuck,
+            Held::Busy => Went::Busy,
+            Held::Blocked => Went::Blocked(p),
+            Held::OutOfMemory => Went::OutOfMemory,
+            Held::Stuck => Went::Stuck,
         }
     }
 }

@@ -5,13 +5,13 @@ ghost use Rattle.graph_runs.specs.graph_base.Graphs.{task_at};
 ghost use Rattle.graph_runs.specs.Nexts.{registrations_at};
 ghost use Rattle.stream_tasks.specs.Seeds.{seed_state, IsSeed, HasRoom, HasReceived};
 
+use crate::ending::task_left::TaskLeft;
 use crate::gate::Gate;
 use crate::run::Run;
 use crate::seed::Seed;
-use crate::ending::task_left::TaskLeft;
 use crate::task_state::TaskState;
-use crate::turned::Turned;
 use crate::unregistered::Unregistered;
+use crate::went::Went;
 use graph_runs::beginnings::roots_begin;
 use graph_runs::ends::first_calls;
 use std::marker::{Model, PhantomData};
@@ -89,9 +89,9 @@ impl<'a, J: Run> Task<'a, J> {
     /// Where a child comes it registers the child on the phasers of its line, one after the other,
     /// and then answers `Registered` until `deliver` has given the child. It takes memory for a
     /// sink's list, and where it registers.
-    pub fn turn<G: Gate>(&mut self, gate: &G) -> Turned {
+    pub fn turn<G: Gate>(&mut self, gate: &G) -> Went {
         if self.state.met {
-            return Turned::Stuck;
+            return Went::Stuck;
         }
         if let Some(i) = self.registering {
             return self.state.register(self.job, i);
@@ -99,13 +99,13 @@ impl<'a, J: Run> Task<'a, J> {
         match self.state.due(self.job) {
             Some(i) => {
                 self.registering = self.state.begin(i);
-                Turned::Ready
+                Went::Ready
             }
             None => self.state.turn(self.job, gate),
         }
     }
 
-    /// Gives the child of this number, of which `turn` has answered that it is registered, as a
+    /// Returns the child of this number, of which `turn` has answered that it is registered, as a
     /// task of its own. Else it comes back. It takes no memory.
     pub fn deliver(
         &mut self,
@@ -141,7 +141,7 @@ impl<'a, J: Run> Task<'a, J> {
         state.dismiss(rt);
     }
 
-    /// Gives what it leaves behind, where it has left all its phasers. Else it comes back.
+    /// Returns what it leaves behind, where it has left all its phasers. Else it comes back.
     pub fn end<W: Wait>(self, rt: &W) -> Result<TaskLeft<'a>, Self>
         ensures { IfOk result (IsTaskLeft J.job J.spots) }
     {

@@ -3,8 +3,8 @@ ghost use Rattle.std.specs.Prelude.{◌≡◌, true};
 ghost use Rattle.stream_tasks.specs.TaskLefts.{IsGone, left_by};
 
 use crate::child::Child;
+use crate::ending::task_left::{TaskKnowledge, TaskLeft};
 use crate::hold::Hold;
-use crate::ending::task_left::{Part, TaskLeft};
 use graph_runs::Owed;
 use smallvec::SmallVec;
 use std::sync::Wait;
@@ -81,7 +81,7 @@ impl<'a> TaskState<'a> {
         dismiss_all(rt, child_holds);
         TaskLeft {
             task: number,
-            part: Part {
+            part: TaskKnowledge {
                 begun,
                 numbers,
                 lines,

@@ -12,7 +12,7 @@ ghost use Rattle.stream_tasks.specs.Inside.{MayStep};
 use crate::gate::Gate;
 use crate::hold::Given;
 use crate::task_state::TaskState;
-use crate::turned::Turned;
+use crate::went::Went;
 use graph_runs::{
     Owed, first_input_of, input_of, is_sink, is_source, kind_of, output_of, owed_after_exchange,
     owed_after_signal, owed_after_wait, until_of,
@@ -21,7 +21,7 @@ use stream_eval::stream_lists::Job;
 
 impl<'a> TaskState<'a> {
     /// Makes the next event, where it can and no child comes first.
-    pub fn turn<G: Gate>(&mut self, job: &Job, gate: &G) -> Turned
+    pub fn turn<G: Gate>(&mut self, job: &Job, gate: &G) -> Went
         requires task { (spots : ℕ → Spot) × IsTask job.now spots self.old }
         requires met { self.old.met ≡ false }
         requires children { HasNoneDue job.now self.old }
@@ -35,14 +35,14 @@ impl<'a> TaskState<'a> {
                 output,
                 value: Ok(value),
             } => self.put(job, output, value),
-            Owed::Value { .. } => self.meet(Turned::TooBig),
+            Owed::Value { .. } => self.meet(Went::TooBig),
             Owed::Exchange { x } => self.exchange(job, x),
             Owed::Nothing => self.at_boundary(job, gate),
         }
     }
 
     /// Has met what ends all.
-    pub fn meet(&mut self, turned: Turned) -> Turned
+    pub fn meet(&mut self, turned: Went) -> Went
         ensures keeps { (job : JobValue) (spots : ℕ → Spot) → IsWhole job self.old
             → IsTask job spots self.new }
         ensures result { result ≡ turned }
@@ -52,7 +52,7 @@ impl<'a> TaskState<'a> {
     }
 
     /// Leaves the next of its phasers.
-    fn leave_next(&mut self, job: &Job) -> Turned
+    fn leave_next(&mut self, job: &Job) -> Went
         requires task { (spots : ℕ → Spot) × IsTask job.now spots self.old }
         requires met { self.old.met ≡ false }
         requires over { self.old.over ≡ true }
@@ -60,20 +60,20 @@ impl<'a> TaskState<'a> {
     {
         let k = self.lefts.len();
         if k >= self.holds.len() {
-            return Turned::Gone;
+            return Went::Gone;
         }
         let p = job.graph().registration(self.number, k).phaser;
         match self.holds[k].leave() {
             Ok(left) => {
                 self.lefts.push_reserved(left);
-                Turned::Moved(p)
+                Went::Moved(p)
             }
             Err(held) => held.on(p),
         }
     }
 
     /// Puts the value that it owes on an output.
-    fn put(&mut self, job: &Job, output: usize, value: i64) -> Turned
+    fn put(&mut self, job: &Job, output: usize, value: i64) -> Went
         requires task { (spots : ℕ → Spot) × IsTask job.now spots self.old }
         requires met { self.old.met ≡ false }
         requires over { self.old.over ≡ false }
@@ -84,14 +84,14 @@ impl<'a> TaskState<'a> {
         match self.holds[k].put(value, job.graph().phaser(p).single) {
             Ok(()) => {
                 self.owed = owed_after_signal(job, self.number, output, value);
-                Turned::Moved(p)
+                Went::Moved(p)
             }
             Err(held) => held.on(p),
         }
     }
 
     /// Waits on E for a peer, which took `x` from X.
-    fn exchange(&mut self, job: &Job, x: i64) -> Turned
+    fn exchange(&mut self, job: &Job, x: i64) -> Went
         requires task { (spots : ℕ → Spot) × IsTask job.now spots self.old }
         requires met { self.old.met ≡ false }
         requires over { self.old.over ≡ false }
@@ -102,16 +102,16 @@ impl<'a> TaskState<'a> {
         match self.holds[1].get() {
             Ok(Given::Value(e)) => {
                 self.owed = owed_after_exchange(job, self.number, x, e);
-                Turned::Moved(p)
+                Went::Moved(p)
             }
-            Ok(Given::TooBig) => self.meet(Turned::TooBig),
-            Ok(Given::Ended) => self.meet(Turned::Stuck),
+            Ok(Given::TooBig) => self.meet(Went::TooBig),
+            Ok(Given::Ended) => self.meet(Went::Stuck),
             Err(held) => held.on(p),
         }
     }
 
     /// Goes on between two steps, where no child comes first.
-    fn at_boundary<G: Gate>(&mut self, job: &Job, gate: &G) -> Turned
+    fn at_boundary<G: Gate>(&mut self, job: &Job, gate: &G) -> Went
         requires task { (spots : ℕ → Spot) × IsTask job.now spots self.old }
         requires met { self.old.met ≡ false }
         requires over { self.old.over ≡ false }
@@ -121,7 +121,7 @@ impl<'a> TaskState<'a> {
     {
         if is_cut(until_of(job, self.number), self.begun) {
             self.over = true;
-            return Turned::Ready;
+            return Went::Ready;
         }
         if is_source(kind_of(job, self.number)) {
             self.put_sample(job, gate)
@@ -131,18 +131,18 @@ impl<'a> TaskState<'a> {
     }
 
     /// Begins a step of a source, by a signal with its next sample.
-    fn put_sample<G: Gate>(&mut self, job: &Job, gate: &G) -> Turned
+    fn put_sample<G: Gate>(&mut self, job: &Job, gate: &G) -> Went
         requires step { MayStep job.now self.old }
         requires kind { (task_at job.now.graph self.old.number).kind ≡ kind.Source }
         ensures { Keeps job.now self.old self.new }
     {
         let Some(sample) = self.samples.get(self.begun as usize) else {
             self.over = true;
-            return Turned::Ready;
+            return Went::Ready;
         };
         let value = *sample;
         let Some(next) = self.begun.checked_add(1) else {
-            return self.meet(Turned::Stuck);
+            return self.meet(Went::Stuck);
         };
         enter(gate, &mut self.entered, self.number, self.begun);
         let (k, p) = output_of(job, self.number, 0);
@@ -150,24 +150,24 @@ impl<'a> TaskState<'a> {
             Ok(()) => {
                 self.begun = next;
                 self.entered = false;
-                Turned::Moved(p)
+                Went::Moved(p)
             }
             Err(held) => held.on(p),
         }
     }
 
     /// Begins a step of another task, by its first wait.
-    fn first_wait<G: Gate>(&mut self, job: &Job, gate: &G) -> Turned
+    fn first_wait<G: Gate>(&mut self, job: &Job, gate: &G) -> Went
         requires step { MayStep job.now self.old }
         requires kind { (task_at job.now.graph self.old.number).kind ≢ kind.Source }
         ensures { Keeps job.now self.old self.new }
     {
         let sink = is_sink(job, self.number);
         if !make_room(&mut self.lines, sink) {
-            return Turned::OutOfMemory;
+            return Went::OutOfMemory;
         }
         let Some(next) = self.begun.checked_add(1) else {
-            return self.meet(Turned::Stuck);
+            return self.meet(Went::Stuck);
         };
         enter(gate, &mut self.entered, self.number, self.begun);
         let k = first_input_of(job, self.number, self.begun);
@@ -178,12 +178,12 @@ impl<'a> TaskState<'a> {
                 self.owed = owed_after_wait(job, self.number, self.begun, &mut self.filter, x);
                 self.begun = next;
                 self.entered = false;
-                Turned::Moved(p)
+                Went::Moved(p)
             }
-            Ok(Given::TooBig) => self.meet(Turned::TooBig),
+            Ok(Given::TooBig) => self.meet(Went::TooBig),
             Ok(Given::Ended) => {
                 self.over = true;
-                Turned::Ready
+                Went::Ready
             }
             Err(held) => held.on(p),
         }

@@ -2,7 +2,7 @@
 ghost use Rattle.std.specs.Prelude.{◌≡◌, ◌+◌, [], length, IfOk, OnOk};
 ghost use Rattle.stream_workers.specs.TasksLeft.{AreTasksLeft};
 
-use crate::slot::{Place, Slot};
+use crate::slot::{Slot, TaskSlot};
 use std::alloc::Global;
 use std::sync::Wait;
 use std::thread::Threads;
@@ -47,7 +47,7 @@ pub fn dismiss_all<J: Run, G: Gate, W: Wait>(rt: &W, pool: Pool<Slot<'_, J, G>>)
 // Takes a task apart, and puts what it leaves behind to the others.
 fn end_one<'a, J: Run, W: Wait>(
     rt: &W,
-    place: Place<'a, J>,
+    place: TaskSlot<'a, J>,
     ends: &mut Vec<Option<TaskLeft<'a>>>,
 ) -> Result<(), Fault>
     ensures many { OnOk result (length ends.new.items ≡ length ends.old.items + 1) }

@@ -1,6 +1,6 @@
 //! Blocks of phases from one thread to another.
 ghost use Rattle.std.specs.Prelude.{◌≡◌, None, IfSome, IfOk};
-ghost use Rattle.phase_received.specs.phase_shared.Regs.{phaser_place};
+ghost use Rattle.phase_received.specs.phase_shared.Regs.{phaser_lock};
 
 use phase_received::phase_accum::{Outcome, Pending, SendFault, Sum};
 use phase_received::phase_base::{Mode, Spec};
@@ -50,8 +50,8 @@ pub fn pair_on<R: Wait + Abort>(
     alloc: Global,
     limits: Spec,
 ) -> Result<(Phaser<Sum, NoRule>, Reg<Sum, NoRule>, Reg<Sum, NoRule>), AllocError>
-    ensures { IfOk result (λ made. (made.1.at ≡ phaser_place made.0)
-        × (made.2.at ≡ phaser_place made.0) × (made.1.held.count ≡ 0)) }
+    ensures { IfOk result (λ made. (made.1.at ≡ phaser_lock made.0)
+        × (made.2.at ≡ phaser_lock made.0) × (made.1.held.count ≡ 0)) }
 {
     let (phaser, mut founder) = Phaser::<Sum, NoRule>::make(alloc, limits, NoRule)?;
     let Ok(sender) = founder.register(rt, &phaser, Mode::Sig) else {
@@ -73,7 +73,7 @@ fn send_blocks<R: Wait>(
     blocks: u64,
     size: u64,
 ) -> bool
-    requires { IfSome slot.old (λ reg. (reg.at ≡ phaser_place phaser.now)
+    requires { IfSome slot.old (λ reg. (reg.at ≡ phaser_lock phaser.now)
         × (reg.held.count ≡ 0)) }
     ensures { slot.new ≡ None }
 {
@@ -116,7 +116,7 @@ fn receive_blocks<R: Wait>(
     count: u64,
     out: &mut [Outcome],
 ) -> bool
-    requires { IfSome slot.old (λ reg. reg.at ≡ phaser_place phaser.now) }
+    requires { IfSome slot.old (λ reg. reg.at ≡ phaser_lock phaser.now) }
     ensures { slot.new ≡ None }
 {
     let Some(mut reg) = slot.take() else {
@@ -151,7 +151,7 @@ fn stream<R: Threads + Wait + Sync>(
     sizes: (u64, u64),
     out: &mut [Outcome],
 ) -> (bool, bool)
-    requires { (regs.0.at ≡ phaser_place phaser.now) × (regs.1.at ≡ phaser_place phaser.now)
+    requires { (regs.0.at ≡ phaser_lock phaser.now) × (regs.1.at ≡ phaser_lock phaser.now)
         × (regs.0.held.count ≡ 0) }
 {
     let mut first = Some(regs.0);
@@ -160,12 +160,12 @@ fn stream<R: Threads + Wait + Sync>(
     let all = join_mut(
         rt,
         &mut || -> bool
-            requires { IfSome first (λ reg. (reg.at ≡ phaser_place phaser.now)
+            requires { IfSome first (λ reg. (reg.at ≡ phaser_lock phaser.now)
                 × (reg.held.count ≡ 0)) }
             ensures { first.exit ≡ None }
         { send_blocks(rt, alloc, phaser, &mut first, sizes.0, sizes.1) },
         &mut || -> bool
-            requires { IfSome second (λ reg. reg.at ≡ phaser_place phaser.now) }
+            requires { IfSome second (λ reg. reg.at ≡ phaser_lock phaser.now) }
             ensures { second.exit ≡ None }
         { receive_blocks(rt, phaser, &mut second, count, out) },
     );

@@ -11,7 +11,7 @@ ghost use Rattle.phase_shared.specs.Views.{known_of, joining, first_part, other_
 ghost use Rattle.phase_shared.specs.Rule.{HasOneHistory, AfterTake, IsGoodAt, IsSeatOfTask, LearnedAt, HaveMet};
 ghost use Rattle.phase_core.specs.Cores.{StandsFor};
 ghost use Rattle.phase_shared.specs.Steps.{IsStep, RegistersSeat};
-ghost use Rattle.phase_shared.specs.Calls.{Tries, Waits, HasLeft, SignalsAndMayWait, number_after, tried};
+ghost use Rattle.phase_shared.specs.Calls.{Tries, Waits, LeavesSeat, SignalsAndMayWait, number_after, tried};
 ghost use Rattle.phase_shared.specs.Entries.{entry_stays, entry_after_wait, entry_after_both};
 ghost use Rattle.phase_shared.specs.LockedPhasers.{locked_place, locked_terms, locked_limits};
 
@@ -150,7 +150,7 @@ pub fn leave<A: Accumulate, K: SignalRule>(
     requires seat { IsSeatAt (locked_place phaser.now) seat }
     requires at { IsSeatOfTask K.allows (locked_terms phaser.now) me entry (seat_view seat) }
     ensures seat { IfOk result (λ s. IsSeatAt (locked_place phaser.now) s) }
-    ensures ok { IfOk result (λ s. HasLeft K.allows (locked_terms phaser.now) me
+    ensures ok { IfOk result (λ s. LeavesSeat K.allows (locked_terms phaser.now) me
         (known_of (seat_view seat)).seen (seat_view s)) }
     ensures err { IfErr result (λ s. IsSameSeat seat s) }
     ensures alone { OnlyUsed (me ∷ []) (known_of (seat_view seat)).seen → IsOk result }

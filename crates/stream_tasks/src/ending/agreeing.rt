@@ -1,19 +1,19 @@
 //! Whether what the tasks know of one another agrees.
 ghost use Rattle.std.specs.Prelude.{◌≡◌, ◌<◌, ℕ, true, length, slice_get, IfSome, None};
 ghost use Rattle.graph_runs.specs.graph_base.TaskLines.{IsGraph};
-ghost use Rattle.stream_tasks.specs.declared.ending.task_left.Part.{Part as PartValue};
+ghost use Rattle.stream_tasks.specs.declared.ending.task_left.TaskKnowledge.{TaskKnowledge as TaskKnowledgeValue};
 ghost use Rattle.stream_tasks.specs.Joinings.{IsAt};
 ghost use Rattle.stream_tasks.specs.TaskLefts.{given_to};
 ghost use Rattle.stream_tasks.specs.Agreeing.{Agrees};
 
 use crate::child::Child;
-use crate::ending::task_left::Part;
+use crate::ending::task_left::TaskKnowledge;
 use stream_eval::stream_lists::Job;
 
 /// What task number `t` knows of itself, where it came.
-pub(crate) fn part_at(parts: &[Option<Part>], t: usize) -> Option<&Part>
+pub(crate) fn part_at(parts: &[Option<TaskKnowledge>], t: usize) -> Option<&TaskKnowledge>
     ensures some { IfSome result (λ part. IsAt parts.now t part.now) }
-    ensures none { result ≡ None → (part : PartValue) → IsAt parts.now t part → ⊥ }
+    ensures none { result ≡ None → (part : TaskKnowledgeValue) → IsAt parts.now t part → ⊥ }
 {
     match parts.get(t) {
         Some(Some(part)) => Some(part),
@@ -35,7 +35,7 @@ fn given_to(given: &[Child], c: usize) -> &[u64]
 
 /// Whether what task number `c` and its parent know of one another agrees: it came where it has
 /// none, and else with just the numbers that its parent gave it, after the steps at which it comes.
-fn agrees(job: &Job, parts: &[Option<Part>], c: usize) -> bool
+fn agrees(job: &Job, parts: &[Option<TaskKnowledge>], c: usize) -> bool
     requires { c < length job.now.graph.tasks }
     ensures { result ≡ true → Agrees job.now parts.now c }
 {
@@ -54,7 +54,7 @@ fn agrees(job: &Job, parts: &[Option<Part>], c: usize) -> bool
 }
 
 /// Whether what all tasks know of one another agrees.
-pub fn all_agree(job: &Job, parts: &[Option<Part>]) -> bool
+pub fn all_agree(job: &Job, parts: &[Option<TaskKnowledge>]) -> bool
     ensures { result ≡ true → (c : ℕ) → c < length job.now.graph.tasks → Agrees job.now parts.now c }
 {
     for c in 0..job.graph().tasks() {

@@ -11,7 +11,7 @@ ghost use Rattle.stream_tasks.specs.Gatherings.{AreGathered};
 ghost use Rattle.stream_tasks.specs.TaskLefts.{IsTaskLeft, IsLeftOf};
 
 use crate::ending::joining::take_all_in;
-use crate::ending::task_left::{Part, TaskLeft};
+use crate::ending::task_left::{TaskKnowledge, TaskLeft};
 use std::alloc::{AllocError, Global};
 use stream_eval::stream_lists::Job;
 use stream_members::AnyLeft;
@@ -23,7 +23,7 @@ pub fn gather<'a>(
     job: &Job,
     joined: &mut Vec<Option<AnyLeft<'a>>>,
     tasks: Vec<Option<TaskLeft<'a>>>,
-) -> Result<Option<Vec<Option<Part>>>, AllocError>
+) -> Result<Option<Vec<Option<TaskKnowledge>>>, AllocError>
     requires graph { IsGraph job.now.graph }
     requires phasers { length joined.old.items ≡ length job.now.graph.phasers }
     requires tasks { length tasks.items ≡ length job.now.graph.tasks }

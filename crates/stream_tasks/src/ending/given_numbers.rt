@@ -5,11 +5,11 @@ ghost use Rattle.graph_runs.specs.TaskPlaces.{registration_at};
 ghost use Rattle.stream_tasks.specs.Agreeing.{IsOfTask, AreOfTasks, HasNumberOn};
 
 use crate::ending::agreeing::part_at;
-use crate::ending::task_left::Part;
+use crate::ending::task_left::TaskKnowledge;
 use stream_eval::stream_lists::Job;
 
 /// Whether task number `t`, which knows this of itself, has this number on phaser `p`.
-fn has_number(job: &Job, part: &Part, t: usize, p: usize, number: u64) -> bool
+fn has_number(job: &Job, part: &TaskKnowledge, t: usize, p: usize, number: u64) -> bool
     requires { t < length job.now.graph.tasks }
     ensures { result ≡ true → HasNumberOn job.now part.now t p number }
 {
@@ -23,7 +23,7 @@ fn has_number(job: &Job, part: &Part, t: usize, p: usize, number: u64) -> bool
 }
 
 /// Whether a task that came has this number on phaser `p`.
-fn is_of_task(job: &Job, parts: &[Option<Part>], p: usize, number: u64) -> bool
+fn is_of_task(job: &Job, parts: &[Option<TaskKnowledge>], p: usize, number: u64) -> bool
     ensures { result ≡ true → IsOfTask job.now parts.now p number }
 {
     for t in 0..job.graph().tasks() {
@@ -38,7 +38,7 @@ fn is_of_task(job: &Job, parts: &[Option<Part>], p: usize, number: u64) -> bool
 }
 
 /// Whether each of these numbers is that of a task on phaser `p`.
-fn are_of_tasks(job: &Job, parts: &[Option<Part>], p: usize, gave: &[u64]) -> bool
+fn are_of_tasks(job: &Job, parts: &[Option<TaskKnowledge>], p: usize, gave: &[u64]) -> bool
     ensures { result ≡ true → AreOfTasks job.now parts.now p gave.now }
 {
     for k in 0..gave.len() {
@@ -50,7 +50,7 @@ fn are_of_tasks(job: &Job, parts: &[Option<Part>], p: usize, gave: &[u64]) -> bo
 }
 
 /// Whether the numbers that the founders of the phasers gave are those of tasks.
-pub fn all_of_tasks(job: &Job, parts: &[Option<Part>], gave: &[Vec<u64>]) -> bool
+pub fn all_of_tasks(job: &Job, parts: &[Option<TaskKnowledge>], gave: &[Vec<u64>]) -> bool
     ensures { result ≡ true → (p : ℕ) → p < length gave.now
         → AreOfTasks job.now parts.now p (get_or (map (λ g. g.items) gave.now) p []) }
 {

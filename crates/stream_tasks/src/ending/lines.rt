@@ -4,7 +4,7 @@ ghost use Rattle.stream_eval.specs.Results.{sink_values};
 ghost use Rattle.stream_eval.specs.stream_lists.Lists.{is_sink_at, sinks_of};
 ghost use Rattle.stream_tasks.specs.TaskLefts.{part_lines, lines_at};
 
-use crate::ending::task_left::Part;
+use crate::ending::task_left::TaskKnowledge;
 use graph_runs::graph_base::Kind;
 use std::alloc::{AllocError, Global};
 use stream_eval::Lines;
@@ -19,7 +19,7 @@ fn is_sink(job: &Job, t: usize) -> bool
 }
 
 /// What a task has taken, and nothing where it never came.
-fn lines_of(alloc: Global, part: Option<Part>) -> Vec<i64>
+fn lines_of(alloc: Global, part: Option<TaskKnowledge>) -> Vec<i64>
     ensures { result.items ≡ part_lines part }
 {
     match part {
@@ -32,7 +32,7 @@ fn lines_of(alloc: Global, part: Option<Part>) -> Vec<i64>
 pub fn sink_lines(
     alloc: Global,
     job: &Job,
-    parts: Vec<Option<Part>>,
+    parts: Vec<Option<TaskKnowledge>>,
 ) -> Result<Vec<Lines>, AllocError>
     requires { length parts.items ≡ length job.now.graph.tasks }
     ensures { IfOk result (λ lines. map sink_values lines.items

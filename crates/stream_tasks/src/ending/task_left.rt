@@ -6,7 +6,7 @@ use stream_members::AnyLeft;
 
 /// What a task knows of itself that has left all its phasers.
 #[derive(Drop)]
-pub struct Part {
+pub struct TaskKnowledge {
     /// How many steps it has begun.
     pub begun: u64,
     /// Its numbers on its phasers, in the order of its registrations.
@@ -23,7 +23,7 @@ pub struct TaskLeft<'a> {
     /// Its number among the tasks.
     pub task: usize,
     /// What it knows of itself.
-    pub part: Part,
+    pub part: TaskKnowledge,
     /// What it has seen of its phasers, in the order of its registrations.
     pub lefts: Vec<AnyLeft<'a>>,
 }

@@ -3,7 +3,7 @@ use Rattle.std.proofs.Common.{◌≡◌, ℕ, Option, Some, None, true, is_some,
 use Rattle.stream_lists.specs.Jobs.{Job}
 use Rattle.stream_lists.specs.Ranges.{Where}
 use Rattle.graph_runs.specs.Moments.{Moment}
-use Rattle.graph_runs.specs.Answers.{Answer, makes, is_blocked, is_gone, has_made, is_refused, answer_of_turn, told, turn_tells}
+use Rattle.graph_runs.specs.Answers.{Answer, makes, is_blocked, is_gone, has_made, is_refused, answer_of_turn, word_of_answer, turn_tells}
 use Rattle.graph_runs.proofs.NotRefused.{IsTold}
 use Rattle.graph_runs.proofs.Telling.{turn_told}
 use Rattle.graph_runs.proofs.turns.no_turn_is_refused.Goals as goal
@@ -17,7 +17,7 @@ returns-clause-told c = λ job m t met is samples reached.
     word met job m t (turn_told job m t is samples reached)
   where
     of_answer : (job : Job) (m : Moment) (answer : Answer) → IsTold answer
-        → is_some (told job m answer) ≡ true
+        → is_some (word_of_answer job m answer) ≡ true
     of_answer job m (makes event) is = refl
     of_answer job m is_blocked is = refl
     of_answer job m is_gone is = refl

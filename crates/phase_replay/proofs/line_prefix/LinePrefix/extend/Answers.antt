@@ -1,6 +1,6 @@
 use Rattle.std.proofs.Common.{◌≡◌, take, arith, rules}
 use Rattle.phase_replay.proofs.Keeping.{kept_extended}
-use Rattle.phase_replay.proofs.kept.Kept.extend.Goals as goal
+use Rattle.phase_replay.proofs.line_prefix.LinePrefix.extend.Goals as goal
 
 -- The bytes that have room stand behind those kept before.
 pub returns : goal.returns

@@ -2,7 +2,7 @@
 
 /// How far a task came by one turn.
 #[derive(Clone, Copy, Debug, PartialEq, Eq)]
-pub enum Turned {
+pub enum Went {
     /// It made an event on this phaser.
     Moved(usize),
     /// It goes on, without an event.

@@ -1,51 +1,51 @@
 //! The prefix of a line, as far as any line of the grammar goes.
 ghost use Rattle.std.specs.Prelude.{◌≡◌, ◌≤◌, List, [], ◌++◌, ℕ, length, take, nat_eq};
-ghost use Rattle.phase_replay.specs.declared.kept.TheConstants.{KEPT_MAX};
+ghost use Rattle.phase_replay.specs.declared.line_prefix.TheConstants.{PREFIX_MAX};
 
 use phase_script::LINE_MAX;
 use std::marker::Model;
 
 /// The bytes of the longest line of the grammar, its CR, and a byte that shows a longer line.
-pub const KEPT_MAX: usize = LINE_MAX + 2;
+pub const PREFIX_MAX: usize = LINE_MAX + 2;
 
-/// The first `KEPT_MAX` bytes of a line that may have any length.
+/// The first `PREFIX_MAX` bytes of a line that may have any length.
 #[derive(Drop)]
-pub struct Kept {
-    buf: [u8; KEPT_MAX],
+pub struct LinePrefix {
+    buf: [u8; PREFIX_MAX],
     len: usize,
 }
 
-impl Model for Kept {
+impl Model for LinePrefix {
     ghost Value = { List ℕ };
 
     ghost view = { λ k. take k.len k.buf };
 
-    ghost invariant = { λ k. k.len ≤ KEPT_MAX };
+    ghost invariant = { λ k. k.len ≤ PREFIX_MAX };
 }
 
-impl Kept {
+impl LinePrefix {
     /// Makes the prefix of a line of which no byte has come.
-    pub fn new() -> Kept
+    pub fn new() -> LinePrefix
         ensures { result ≡ [] }
     {
-        Kept {
-            buf: [0; KEPT_MAX],
+        LinePrefix {
+            buf: [0; PREFIX_MAX],
             len: 0,
         }
     }
 
-    /// Tells whether no byte of the line has come.
+    /// Returns whether no byte of the line has come.
     pub fn is_empty(&self) -> bool
         ensures { result ≡ nat_eq (length self.now) 0 }
     {
         self.len == 0
     }
 
-    /// Takes the line's next bytes, of which those past `KEPT_MAX` are forgotten.
+    /// Takes the line's next bytes, of which those past `PREFIX_MAX` are forgotten.
     pub fn extend(&mut self, bytes: &[u8])
-        ensures { self.new ≡ take KEPT_MAX (self.old ++ bytes.now) }
+        ensures { self.new ≡ take PREFIX_MAX (self.old ++ bytes.now) }
     {
-        let count = bytes.len().min(KEPT_MAX - self.len);
+        let count = bytes.len().min(PREFIX_MAX - self.len);
         self.buf[self.len..self.len + count].copy_from_slice(&bytes[..count]);
         self.len += count;
     }
@@ -57,7 +57,7 @@ impl Kept {
         self.len = 0;
     }
 
-    /// Gives the bytes that are kept.
+    /// Returns the bytes that are kept.
     pub fn bytes(&self) -> &[u8]
         ensures { result.now ≡ self.now }
     {
