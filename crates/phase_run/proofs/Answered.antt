@@ -1,15 +1,15 @@
 -- How a run of a graph ends, from what its parts promise.
 use Rattle.std.proofs.Common.{◌≡◌, ◌≢◌, ◌⊎◌, inl, inr, ℕ, ℤ, List, Ok, Err, Some, None, refl, sym, ap, rules, arith}
 use Rattle.std.specs.declared.option.Option.{Option}
-use Rattle.graph_commands.specs.FileJobs.{IsJobOf, Known}
-use Rattle.graph_commands.specs.GraphRuns.{EvalEnds, EvalStops}
-use Rattle.graph_commands.specs.watched_io.Statuses.{Says}
+use Rattle.stream_workers.specs.graph_commands.FileJobs.{IsJobOf, Known}
+use Rattle.stream_workers.specs.graph_commands.GraphRuns.{EvalEnds, EvalStops}
+use Rattle.stream_workers.specs.graph_commands.watched_io.Statuses.{Says}
 use Rattle.phase_run.specs.Runs.{RunEnds, RunStops, stalled_line}
-use Rattle.graph_commands.specs.stream_lists.Jobs.{Job}
-use Rattle.graph_commands.specs.stream_lists.Lists.{lines_of}
-use Rattle.graph_commands.specs.stream_lists.Ranges.{Fits, Where, answer_of, first_too_big}
-use Rattle.graph_commands.specs.watched_io.States.{WriterState}
-use Rattle.graph_commands.specs.watched_io.declared.watched.Watched.{Watched}
+use Rattle.stream_workers.specs.graph_commands.stream_lists.Jobs.{Job}
+use Rattle.stream_workers.specs.graph_commands.stream_lists.Lists.{lines_of}
+use Rattle.stream_workers.specs.graph_commands.stream_lists.Ranges.{Fits, Where, answer_of, first_too_big}
+use Rattle.stream_workers.specs.graph_commands.watched_io.States.{WriterState}
+use Rattle.stream_workers.specs.graph_commands.watched_io.declared.watched.Watched.{Watched}
 
 -- ---- what an answer says
 

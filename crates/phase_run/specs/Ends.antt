@@ -1,11 +1,11 @@
 -- How a run of the program may end, by what its words ask for.
 use Rattle.std.specs.Prelude.{◌≡◌, ◌⊎◌, ℕ, true, List}
-use Rattle.graph_commands.specs.watched_io.Statuses.{Reports}
+use Rattle.stream_workers.specs.graph_commands.watched_io.Statuses.{Reports}
 use Rattle.phase_words.specs.RunLine.{AreRunRefused, AreRunTaken, AskRunHelp, AskRunVersion, Run}
-use Rattle.graph_commands.specs.watched_io.States.{WriterState}
-use Rattle.graph_commands.specs.watched_io.Watched.{has_failed_of}
-use Rattle.graph_commands.specs.watched_io.declared.fault.IoFault.TheVariants.{OutOfMemory, WriteFault}
-use Rattle.graph_commands.specs.watched_io.declared.watched.Watched.{Watched}
+use Rattle.stream_workers.specs.graph_commands.watched_io.States.{WriterState}
+use Rattle.stream_workers.specs.graph_commands.watched_io.Watched.{has_failed_of}
+use Rattle.stream_workers.specs.graph_commands.watched_io.declared.fault.IoFault.TheVariants.{OutOfMemory, WriteFault}
+use Rattle.stream_workers.specs.graph_commands.watched_io.declared.watched.Watched.{Watched}
 
 -- the statuses of a run of a graph
 abbrev pub MayEndAsRun : ℕ → Type 0

@@ -1,13 +1,13 @@
 -- How a run of a graph ends: its status, and what stands on its streams then.
 use Rattle.std.specs.Prelude.{◌≡◌, ◌≢◌, ◌⊎◌, ℕ, List, codes}
 use Rattle.std.specs.declared.option.Option.{Option}
-use Rattle.graph_commands.specs.Explained.{IsNoJobExplained}
-use Rattle.graph_commands.specs.FileJobs.{IsJobOf, Known}
-use Rattle.graph_commands.specs.GraphRuns.{Evaluates, EvaluatesPrefix, IsNoJob, IsNoSink, IsTooBig, IsUnwritten}
-use Rattle.graph_commands.specs.watched_io.Statuses.{Says}
-use Rattle.graph_commands.specs.stream_lists.Jobs.{Job}
-use Rattle.graph_commands.specs.watched_io.States.{WriterState, writer_state}
-use Rattle.graph_commands.specs.watched_io.declared.watched.Watched.{Watched}
+use Rattle.stream_workers.specs.graph_commands.Explained.{IsNoJobExplained}
+use Rattle.stream_workers.specs.graph_commands.FileJobs.{IsJobOf, Known}
+use Rattle.stream_workers.specs.graph_commands.GraphRuns.{Evaluates, EvaluatesPrefix, IsNoJob, IsNoSink, IsTooBig, IsUnwritten}
+use Rattle.stream_workers.specs.graph_commands.watched_io.Statuses.{Says}
+use Rattle.stream_workers.specs.graph_commands.stream_lists.Jobs.{Job}
+use Rattle.stream_workers.specs.graph_commands.watched_io.States.{WriterState, writer_state}
+use Rattle.stream_workers.specs.graph_commands.watched_io.declared.watched.Watched.{Watched}
 
 -- the line of a run of which every task that was left waited for another
 abbrev pub stalled_line : List ℕ

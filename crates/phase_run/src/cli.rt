@@ -5,16 +5,18 @@ ghost use Rattle.phase_run.specs.Inside.{IsAnswer, RunEndsBy};
 ghost use Rattle.phase_words.specs.CommandLine.{texts};
 ghost use Rattle.phase_words.specs.RunLine.{AreRunTaken, AskRun, AskRunExplained, run_of};
 ghost use Rattle.phase_run.specs.Runs.{RunEnds, RunEndsExplained};
-ghost use Rattle.graph_commands.specs.watched_io.States.{writer_state};
+ghost use Rattle.stream_workers.specs.graph_commands.watched_io.States.{writer_state};
 
 use crate::graph_run::{run_and_explain, run_and_report};
-use graph_commands::Refuses;
-use graph_commands::watched_io::{Files, IoFault, Watched, refuse, report, show_help};
 use phase_words::{Explain, NoCall, RunCall, read_run_words};
 use std::alloc::Global;
 use std::io::Write;
 use std::sync::Wait;
 use std::thread::Threads;
+use stream_workers::graph_commands::Refuses;
+use stream_workers::graph_commands::watched_io::{
+    Files, IoFault, Watched, refuse, report, show_help,
+};
 
 /// Runs the program on its words, those behind `phase run`, and answers its exit status: 0 where the
 /// graph was run, or help or the version was shown, 1 where the graph or its samples are refused, or no

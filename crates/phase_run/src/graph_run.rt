@@ -1,21 +1,21 @@
 //! A run of a graph, and the reports of its faults.
 ghost use Rattle.std.specs.Prelude.{◌≡◌, ◌⊎◌, ℕ, List, Option, option_map};
-ghost use Rattle.graph_commands.specs.FileJobs.{IsJobOf, Known};
-ghost use Rattle.graph_commands.specs.GraphRuns.{AsksSink};
-ghost use Rattle.graph_commands.specs.watched_io.Statuses.{Says};
+ghost use Rattle.stream_workers.specs.graph_commands.FileJobs.{IsJobOf, Known};
+ghost use Rattle.stream_workers.specs.graph_commands.GraphRuns.{AsksSink};
+ghost use Rattle.stream_workers.specs.graph_commands.watched_io.Statuses.{Says};
 ghost use Rattle.phase_run.specs.Runs.{RunEnds, RunEndsExplained, stalled_line};
-ghost use Rattle.graph_commands.specs.watched_io.States.{writer_state};
+ghost use Rattle.stream_workers.specs.graph_commands.watched_io.States.{writer_state};
 
-use graph_commands::stream_lists::Job;
-use graph_commands::watched_io::{Files, IoFault, STALLED, Watched, report, say};
-use graph_commands::{
-    Refuses, find_sink, read_job, read_job_or_explain, report_job_fault, report_no_sink,
-    report_too_big, report_written, write_sinks,
-};
 use std::alloc::Global;
 use std::io::Write;
 use std::sync::Wait;
 use std::thread::Threads;
+use stream_workers::graph_commands::stream_lists::Job;
+use stream_workers::graph_commands::watched_io::{Files, IoFault, STALLED, Watched, report, say};
+use stream_workers::graph_commands::{
+    Refuses, find_sink, read_job, read_job_or_explain, report_job_fault, report_no_sink,
+    report_too_big, report_written, write_sinks,
+};
 use stream_workers::{Open, RunFault, run};
 
 /// Reads a graph and the samples of its sources, runs it by so many worker threads, of which the

@@ -14,9 +14,9 @@ mod graph_run;
 mod laws;
 
 use cli::run_cli;
-use graph_commands::TellingFiles;
-use graph_commands::watched_io::{Watched, own_words, refuse_words};
 use std::process::ExitCode;
+use stream_workers::graph_commands::TellingFiles;
+use stream_workers::graph_commands::watched_io::{Watched, own_words, refuse_words};
 
 fn main(rt: HostRuntime) -> ExitCode {
     let mut faults = Watched::new(rt.stderr());

@@ -1,4 +1,4 @@
-use Rattle.graph_commands.proofs.Ends.{eval-no_job}
+use Rattle.stream_workers.proofs.graph_commands_lemmas.Ends.{eval-no_job}
 use Rattle.phase_run.proofs.Answered.{ends-as}
 use Rattle.phase_run.proofs.graph_run.run_and_report.Goals as goal
 

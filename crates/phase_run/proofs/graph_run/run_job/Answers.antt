@@ -1,6 +1,6 @@
 use Rattle.std.proofs.Common.{rules}
-use Rattle.graph_commands.proofs.Ends.{eval-no_memory, eval-too_big, eval-written}
-use Rattle.graph_commands.proofs.Places.{place-first_too_big}
+use Rattle.stream_workers.proofs.graph_commands_lemmas.Ends.{eval-no_memory, eval-too_big, eval-written}
+use Rattle.stream_workers.proofs.graph_commands_lemmas.Places.{place-first_too_big}
 use Rattle.phase_run.proofs.Answered.{answer-fits, answer-lines, ends-as, ends-stalled}
 use Rattle.phase_run.proofs.graph_run.run_job.Goals as goal
 
