@@ -99,8 +99,8 @@
 //!
 //! Proved: what the clauses say, for any number of threads. Only tested: that a call succeeds where
 //! it can, and that a waiting call comes back. Not promised: that a phase is ever complete, that a
-//! `Busy` could not have been avoided, and any order of the events of threads that never told each
-//! other anything, when a turn of the lock is free, and when a pause ends.
+//! `Busy` could not have been avoided, when the turn of the lock is free, when a pause ends, and any
+//! order of the events of threads that never told each other anything.
 //!
 //! **Inside** is a phaser under a lock, `LockedPhaser`. A **seat** of the lock speaks for a
 //! registration. Its view, which stands in proofs alone, is the history that it has seen, and the
