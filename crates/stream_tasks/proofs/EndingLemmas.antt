@@ -350,7 +350,7 @@ task_leaves job spots s p old new left lefts met over few here looked g more roo
   where
     leaver : (job : Job) (spots : ℕ → Spot) (m : Moment) (t p : ℕ) (old new : Hold) (left : AnyLeft)
         → Leaves old new left → IsHeldOn job spots m t p old
-        → (x : AnyMember) × ((old ≡ On x) × (new ≡ Gone) × holds.LeavesPart x left × IsOn job spots m t p x)
+        → (x : AnyMember) × ((old ≡ On x) × (new ≡ Gone) × holds.LeavesHold x left × IsOn job spots m t p x)
     leaver job spots m t p (On x) new left g on = (x, (refl, g.0, g.1, on))
     leaver job spots m t p Gone new left g on = absurd on
 
