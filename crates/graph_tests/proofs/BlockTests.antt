@@ -1,5 +1,5 @@
 -- Tests of the next event of a task, where it is of several phases.
-use Rattle.std.proofs.Common.{◌≡◌, ℕ, ◌<◌, List, [], ◌∷◌, ◌++◌, ℤ, length, take, drop, eqb}
+use Rattle.std.proofs.Common.{◌≡◌, ℕ, ◌+◌, ◌<◌, List, [], ◌∷◌, ◌++◌, ℤ, length, take, drop, eqb}
 use mathlib.Core.List.{IsPrefix}
 use Rattle.stream_job.specs.phase_accum.declared.outcome.Outcome.{Outcome}
 use Rattle.stream_job.specs.graph_base.declared.line.Kind.{Kind}

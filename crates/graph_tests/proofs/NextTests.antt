@@ -1,5 +1,5 @@
 -- Tests of the next event of a task.
-use Rattle.std.proofs.Common.{◌≡◌, ℕ, zero, suc, ◌+◌, ◌<◌, Bool, true, false, ◌||◌, cond, eqb, eq-eqb, List, [], ◌∷◌, ◌++◌, Option, Some, None, is_some, is_none, ℤ, pos, length, get_or, take, drop, unsigned_abs, refl, sym, ◌∙◌, ap, arith, inl, inr}
+use Rattle.std.proofs.Common.{◌≡◌, ℕ, zero, suc, ◌+◌, ◌<◌, ◌≤◌, Bool, true, false, ◌||◌, cond, eqb, eq-eqb, List, [], ◌∷◌, ◌++◌, Option, Some, None, is_some, is_none, ℤ, pos, length, map, get_or, take, drop, unsigned_abs, refl, sym, ◌∙◌, ap, arith, inl, inr}
 use Rattle.std.specs.List.{position_from}
 use Rattle.stream_job.specs.phase_base.Modes.{mode_signals, mode_waits}
 use Rattle.stream_job.specs.phase_base.Members.{signal_phases}
