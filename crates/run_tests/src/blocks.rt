@@ -1,4 +1,6 @@
 //! Blocks that members put and get, and a child that joins now.
+ghost use Rattle.std.specs.Prelude.{◌≡◌, None};
+
 use std::sync::Wait;
 use std::test::Fail;
 use stream_job::phase_accum::{Outcome, Pending, Sum};
@@ -26,7 +28,10 @@ struct Seen {
 }
 
 // Whether 5, 6 and 7 are put in a block, and then two more are ahead, and none of them is put.
-fn puts_three(signaller: &mut Member<'_, Sum>) -> bool {
+fn puts_three(signaller: &mut Member<'_, Sum>) -> bool
+    requires { signaller.old.held ≡ None }
+    ensures { signaller.new.held ≡ None }
+{
     let three = signaller.try_put_block(&[parcel(5), parcel(6), parcel(7)], None);
     let ahead = signaller.try_put_block(&[parcel(8), parcel(9)], None);
     three == Ok(0) && ahead == Err(Tried::Refused(SignalRefusal::Ahead))
@@ -37,7 +42,9 @@ fn joined<R: Wait>(
     rt: &R,
     signaller: &mut Member<'_, Sum>,
     waiter: &mut Member<'_, Sum>,
-) -> Option<Seen> {
+) -> Option<Seen>
+    requires { signaller.old.held ≡ None }
+{
     let mut values = [Outcome::Empty; 4];
     let first = waiter.try_get_block(&mut values).ok();
     let Ok((mut late, start)) = waiter.try_add_now() else {
@@ -56,9 +63,10 @@ fn joined<R: Wait>(
     })
 }
 
-// The same between a child that signals and a founder that waits, once it has left the signals to
-// it.
-fn waiting<R: Wait>(rt: &R, signaller: Member<'_, Sum>, waiter: Member<'_, Sum>) -> Option<Seen> {
+// What is got between a signaller that holds nothing and a waiter, which then leave.
+fn waiting<R: Wait>(rt: &R, signaller: Member<'_, Sum>, waiter: Member<'_, Sum>) -> Option<Seen>
+    requires { signaller.held ≡ None }
+{
     let (mut signaller, mut waiter) = (signaller, waiter);
     let seen = if puts_three(&mut signaller) {
         joined(rt, &mut signaller, &mut waiter)
