@@ -11,7 +11,7 @@ use Rattle.graph_tests.proofs.worked_turns.turns_make_next_events.Goals as goal
 -- of all tasks late alone is a child, and it alone is not there
 late_to_come : HasChildrenToCome worked before_late
 late_to_come = record {
-  offset = offset;
+  offset = λ c u lt e missing. offset c u lt e;
   nothing_begun = begun;
   nothing_put = put;
   nothing_taken = taken;
