@@ -1,8 +1,8 @@
 //! Blocks of phases, and waiters that join now, as calls on a phaser under sum.
 use crate::calls::{Answer, Call, Case, Phaser, UNWRITTEN, follow_all, lists_of};
-use phase_accum::Outcome::{TooBig, Value};
-use phase_accum::{Pending, Sum};
-use phase_base::Mode;
+use phase_core::phase_accum::Outcome::{TooBig, Value};
+use phase_core::phase_accum::{Pending, Sum};
+use phase_core::phase_base::Mode;
 use phase_core::{PhaserCore, RegisterRefusal, SignalRefusal, WaitRefusal};
 use std::test::Fail;
 

@@ -1,5 +1,5 @@
 //! The mode table, and the edges of the limits.
-use phase_base::{Mode, Spec, SpecFault};
+use phase_core::phase_base::{Mode, Spec, SpecFault};
 
 /// A bound and a number of phases, and whether they are taken.
 struct Limits {

@@ -1,6 +1,6 @@
 //! Numbers that are used once, and as many members as may be, as calls on a registry.
-use phase_base::{Entry, Mode};
-use phase_registry::{AddRefusal, Registry};
+use phase_core::phase_base::{Entry, Mode};
+use phase_core::phase_registry::{AddRefusal, Registry};
 use std::alloc::Global;
 use std::process::Abort;
 

@@ -1,7 +1,7 @@
 //! A founder alone, and members that come and go, as calls on a phaser under sum.
 use crate::calls::{Answer, Call, Case, follow_all};
-use phase_accum::Sum;
-use phase_base::{Entry, Mode, Spec};
+use phase_core::phase_accum::Sum;
+use phase_core::phase_base::{Entry, Mode, Spec};
 use phase_core::{PhaserCore, RegisterRefusal, SignalRefusal, WaitRefusal};
 use std::test::Fail;
 

@@ -1,9 +1,9 @@
 //! The five operations through a task's pending sends, and each other public function once.
-use phase_accum::{
+use phase_core::phase_accum::{
     Accumulate, Any, BadClamp, Greatest, Least, NO_VALUE, Outcome, Pending, Product, Range,
     SendFault, Single, Sum, VALUE_MAX, apply,
 };
-use phase_base::Op;
+use phase_core::phase_base::Op;
 
 fn outcome_of<A: Accumulate>(values: &[i64]) -> Result<Outcome, SendFault> {
     let mut pending = Pending::<A>::new();

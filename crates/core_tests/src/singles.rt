@@ -1,6 +1,6 @@
 //! What a phase keeps of the single that its first signal named.
-use phase_accum::{Outcome, Pending, Range, Single, Sum};
-use phase_base::{Mode, Spec};
+use phase_core::phase_accum::{Outcome, Pending, Range, Single, Sum};
+use phase_core::phase_base::{Mode, Spec};
 use phase_core::{Got, PhaserCore, WaitRefusal};
 use std::alloc::Global;
 use std::test::Fail;

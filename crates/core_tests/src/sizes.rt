@@ -1,10 +1,10 @@
 //! Rings and phasers of many sizes, and founders of many numbers: where there is memory none is
 //! wanted.
 use crate::calls::{Answer, Call, Phaser};
-use phase_accum::Sum;
-use phase_base::Spec;
 use phase_core::PhaserCore;
-use phase_ring::SlotRing;
+use phase_core::phase_accum::Sum;
+use phase_core::phase_base::Spec;
+use phase_core::phase_ring::SlotRing;
 use std::alloc::Global;
 use std::process::Abort;
 use std::test::Fail;

@@ -1,14 +1,14 @@
 -- Worked graphs, and that their lines are lines of a graph.
-use Rattle.std.proofs.Common.{ℕ, ◌≡◌, ◌<◌, [], ◌∷◌, Some, None, refl, arith}
+use Rattle.std.proofs.Common.{ℕ, ◌≡◌, ◌<◌, ◌≤◌, [], ◌∷◌, Some, None, true, refl, arith}
 use Rattle.std.specs.List.{All, Contains}
 use Rattle.std.proofs.lemmas.List.Elements.{All-cons, All-nil}
-use Rattle.phase_base.specs.declared.operation.Op.TheVariants.{Sum}
+use Rattle.phase_accum.specs.phase_base.declared.operation.Op.TheVariants.{Sum}
 use Rattle.graph_base.specs.declared.line.Kind.TheVariants.{Source, Peer, Sink}
 use Rattle.graph_base.specs.declared.place.Place.TheVariants as place
 use Rattle.graph_base.specs.Graphs.{Graph, no_task, no_phaser, no_graph, name_at, sources_of, source_number, task_at, phaser_at}
 use Rattle.graph_base.specs.TaskLines.{IsTaskLine}
 use Rattle.graph_base.specs.Registrations.{registrations_of, signalled_by}
-use Rattle.phase_base.specs.declared.mode.Mode.TheVariants as mode
+use Rattle.phase_accum.specs.phase_base.declared.mode.Mode.TheVariants as mode
 use Rattle.phase_accum.specs.declared.single.Single.TheVariants.{Neg}
 
 one : (P : ℕ → Type 0) (p : ℕ) → P p → All P (p ∷ [])
@@ -27,6 +27,7 @@ late_sink = record {
         kind = Sink;
         inputs = 0 ∷ [];
         parent = Some (record { task = 1; at = 2 });
+        joins_now = true;
       }
       ∷ [];
   files = (115 ∷ 46 ∷ 99 ∷ 115 ∷ 118 ∷ []) ∷ [];
@@ -59,6 +60,13 @@ late_sink-first = record {
   factor = refl;
   until = tt;
   parent = tt;
+  block = record {
+    some = omega arith;
+    kind = λ e. refl;
+    inputs = All-nil (λ p. 1 ≤ (phaser_at late_sink p).bound);
+    outputs = one (λ p. 1 ≤ (phaser_at late_sink p).bound) 0 (omega arith);
+  };
+  now = λ e. absurd (cc);
 }
 
 -- the late sink waits for X, as its parent does
@@ -81,7 +89,15 @@ late_sink-child = record {
     child_kind = refl;
     waits = one (Contains (0 ∷ [])) 0 (0, omega arith, refl);
     signals = All-nil (Contains []);
+    stays = refl;
   };
+  block = record {
+    some = omega arith;
+    kind = λ e. refl;
+    inputs = one (λ p. 1 ≤ (phaser_at late_sink p).bound) 0 (omega arith);
+    outputs = All-nil (λ p. 1 ≤ (phaser_at late_sink p).bound);
+  };
+  now = λ e. (refl, refl);
 }
 
 -- ---- registrations

@@ -1,7 +1,7 @@
 -- A graph as lists: what its lines declare.
 use Rattle.std.specs.Prelude.{ℕ, ◌<◌, ◌==◌, List, [], ◌∷◌, length, take, get_or, ℤ, pos, Option, None, Bool, true, false, if◌then◌else◌}
 use Rattle.std.specs.List.{count_by}
-use Rattle.phase_base.specs.declared.operation.Op.TheVariants.{Sum}
+use Rattle.phase_accum.specs.phase_base.declared.operation.Op.TheVariants.{Sum}
 use Rattle.graph_base.specs.declared.line.Kind.{Kind}
 use Rattle.graph_base.specs.declared.line.Kind.TheVariants.{Source, Fir, Split, Join, Peer, Sink}
 use Rattle.graph_base.specs.declared.line.Parent.{Parent}
@@ -20,6 +20,8 @@ pub record Task : Type 0 where
   pub taps : List ℤ
   pub shift : ℕ
   pub mul : ℤ
+  pub block : ℕ
+  pub joins_now : Bool
 
 -- the bytes of a name, with what it stands for
 abbrev pub Named : Type 0
@@ -49,6 +51,8 @@ no_task = record {
   taps = [];
   shift = 0;
   mul = pos 0;
+  block = 1;
+  joins_now = false;
 }
 
 -- the line of a phaser that is not there

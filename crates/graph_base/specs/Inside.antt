@@ -21,6 +21,8 @@ task_of line = record {
   taps = line.taps.items;
   shift = line.shift;
   mul = line.mul;
+  block = line.block;
+  joins_now = line.joins_now;
 }
 
 -- the graph of these lines, with the file of each source
@@ -39,5 +41,5 @@ graph_view graph =
     graph_of graph.names.entries graph.phasers.items graph.tasks.items graph.files.items
 
 -- what holds of the fields of every graph
-abbrev pub IsKept : Inside → Type 0
-IsKept graph = IsGraph (graph_view graph)
+abbrev pub IsGraphInside : Inside → Type 0
+IsGraphInside graph = IsGraph (graph_view graph)

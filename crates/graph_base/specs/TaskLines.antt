@@ -1,13 +1,12 @@
 -- What holds of each line of a graph that was read.
-use Rattle.std.specs.Prelude.{ℕ, ◌≡◌, ◌<◌, ◌≤◌, List, [], ◌∷◌, ◌++◌, ◌==◌, ◌&&◌, not, length, get_or, ℤ, pos, unsigned_abs, Some, None, IfSome, IsTrue, Bool, true, false}
+use Rattle.std.specs.Prelude.{ℕ, ◌≡◌, ◌<◌, ◌≤◌, List, [], ◌∷◌, ◌++◌, ◌==◌, ◌&&◌, not, length, get_or, ℤ, pos, unsigned_abs, Some, None, IfSome, IsSome, IsTrue, Bool, true, false}
 use Rattle.std.specs.List.{All, Contains, list_any}
-use Rattle.phase_base.specs.Limits.{IsBound}
-use Rattle.phase_base.specs.Lists.{is_distinct}
+use Rattle.phase_accum.specs.phase_base.Limits.{IsBound}
+use Rattle.phase_accum.specs.phase_base.Lists.{is_distinct}
 use Rattle.phase_accum.specs.Singles.{CanBeNamed}
 use Rattle.stream_filters.specs.Filter.{AreTaps}
-use Rattle.graph_words.specs.Words.{Word, is_name, is_file}
-use Rattle.graph_base.specs.Graphs.{Task, Graph, IsPlace}
-use Rattle.graph_base.specs.Graphs.{task_at, phaser_at, name_at, sources_of}
+use Rattle.phase_accum.specs.phase_base.Words.{Word, is_name, is_file}
+use Rattle.graph_base.specs.Graphs.{Task, Graph, IsPlace, task_at, phaser_at, name_at, sources_of}
 use Rattle.graph_base.specs.Names.{place_of}
 use Rattle.graph_base.specs.declared.limits.TheConstants.{PHASERS_MAX, TASKS_MAX, ENDS_MAX, STEPS_MAX, FACTOR_MAX}
 use Rattle.graph_base.specs.declared.line.Kind.{Kind}
@@ -49,6 +48,27 @@ has_children Join = false
 has_children Peer = false
 has_children Sink = true
 
+-- the kinds whose steps may be made in blocks
+abbrev pub has_blocks : Kind → Bool
+has_blocks Source = true
+has_blocks Fir = true
+has_blocks Split = false
+has_blocks Join = false
+has_blocks Peer = false
+has_blocks Sink = true
+
+-- a block is a step, or several of a task of such a kind, at most the bound of each phaser of the
+-- line
+pub record HasBlock (graph : Graph) (task : Task) : Type 0 where
+  pub some : 1 ≤ task.block
+  pub kind : has_blocks task.kind ≡ false → task.block ≡ 1
+  pub inputs : All (λ p. task.block ≤ (phaser_at graph p).bound) task.inputs
+  pub outputs : All (λ p. task.block ≤ (phaser_at graph p).bound) task.outputs
+
+-- a task that joins now is a sink and a child
+abbrev pub MayJoinNow : Task → Type 0
+MayJoinNow task = task.joins_now ≡ true → (task.kind ≡ Sink) × IsSome task.parent
+
 -- each of these numbers is among those
 abbrev pub AreAmong : List ℕ → List ℕ → Type 0
 AreAmong ps qs = All (λ p. Contains qs p) ps
@@ -60,6 +80,7 @@ pub record IsParent (graph : Graph) (t : ℕ) (task : Task) (parent : Parent) : 
   pub steps : parent.at ≤ STEPS_MAX
   pub kind : has_children (task_at graph parent.task).kind ≡ true
   pub child_kind : has_children task.kind ≡ true
+  pub stays : (task_at graph parent.task).joins_now ≡ false
   pub waits : AreAmong task.inputs (task_at graph parent.task).inputs
   pub signals : AreAmong task.outputs (task_at graph parent.task).outputs
 
@@ -81,6 +102,8 @@ pub record IsTaskLine (graph : Graph) (t : ℕ) (task : Task) : Type 0 where
   pub factor : HasFactor task.kind task.mul
   pub until : IfSome task.until (λ steps. steps ≤ STEPS_MAX)
   pub parent : IfSome task.parent (λ parent. IsParent graph t task parent)
+  pub block : HasBlock graph task
+  pub now : MayJoinNow task
 
 -- the line of a phaser
 pub record IsPhaserLine (phaser : PhaserLine) : Type 0 where

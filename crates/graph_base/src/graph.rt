@@ -1,21 +1,18 @@
 //! Graphs.
 ghost use Rattle.std.specs.Prelude.{◌≡◌, ◌<◌, ◌≤◌, ◌+◌, length, get_or, IsTrue, Some};
-ghost use Rattle.graph_words.specs.Words.{is_name, is_file};
-ghost use Rattle.graph_base.specs.Graphs.{Graph as GraphValue, IsPlace, sources_of};
-ghost use Rattle.graph_base.specs.Graphs.{task_at, phaser_at, file_at, name_at, name_among};
+ghost use Rattle.phase_accum.specs.phase_base.Words.{is_name, is_file};
+ghost use Rattle.graph_base.specs.Graphs.{Graph as GraphValue, IsPlace, sources_of, task_at, phaser_at, file_at, name_at, name_among};
 ghost use Rattle.graph_base.specs.TaskLines.{IsGraph, IsPhaserLine, IsTaskLine};
 ghost use Rattle.graph_base.specs.Names.{place_of, names_of};
-ghost use Rattle.graph_base.specs.Registrations.{registrations_of, no_registration};
-ghost use Rattle.graph_base.specs.Registrations.{as_input, as_output, ends_of, exchange_mode};
+ghost use Rattle.graph_base.specs.Registrations.{registrations_of, no_registration, as_input, as_output, ends_of, exchange_mode};
 ghost use Rattle.graph_base.specs.Inside.{task_of};
 
 use crate::limits::{ENDS_MAX, PHASERS_MAX, TASKS_MAX};
 use crate::line::{Kind, PhaserLine, TaskLine};
 use crate::place::Place;
 use crate::registration::Registration;
-use graph_words::{FILE_MAX, NAME_MAX};
 use indexmap::IndexMap;
-use phase_base::Mode;
+use phase_accum::phase_base::{FILE_MAX, Mode, NAME_MAX};
 use std::alloc::Global;
 use std::marker::Model;
 
@@ -38,11 +35,11 @@ impl Model for Graph {
 
     ghost Value = { GraphValue };
 
-    ghost use Rattle.graph_base.specs.Inside.{graph_view, IsKept};
+    ghost use Rattle.graph_base.specs.Inside.{graph_view, IsGraphInside};
 
     ghost view = { graph_view };
 
-    ghost invariant = { IsKept };
+    ghost invariant = { IsGraphInside };
 }
 
 impl Graph {
@@ -68,7 +65,7 @@ impl Graph {
         }
     }
 
-    /// Tells how many phasers the graph has, at most `PHASERS_MAX`. It takes no memory.
+    /// Returns how many phasers the graph has, at most `PHASERS_MAX`. It takes no memory.
     pub fn phasers(&self) -> usize
         ensures count { result ≡ length self.now.phasers }
         ensures few { result ≤ PHASERS_MAX }
@@ -77,7 +74,7 @@ impl Graph {
         self.phasers.len()
     }
 
-    /// Tells how many tasks the graph has, at most `TASKS_MAX`. It takes no memory.
+    /// Returns how many tasks the graph has, at most `TASKS_MAX`. It takes no memory.
     pub fn tasks(&self) -> usize
         ensures count { result ≡ length self.now.tasks }
         ensures few { result ≤ TASKS_MAX }
@@ -86,14 +83,14 @@ impl Graph {
         self.tasks.len()
     }
 
-    /// Tells how many tasks of the graph are sources. It takes no memory.
+    /// Returns how many tasks of the graph are sources. It takes no memory.
     pub fn sources(&self) -> usize
         ensures count { result ≡ sources_of self.now }
     {
         self.files.len()
     }
 
-    /// Lends the line of phaser number `p`. It takes no memory.
+    /// Returns the line of phaser number `p`. It takes no memory.
     pub fn phaser(&self, p: usize) -> &PhaserLine
         requires { p < length self.now.phasers }
         ensures phaser { result.now ≡ phaser_at self.now p }
@@ -102,7 +99,7 @@ impl Graph {
         &self.phasers[p]
     }
 
-    /// Lends the line of task number `t`. It takes no memory.
+    /// Returns the line of task number `t`. It takes no memory.
     pub fn task(&self, t: usize) -> &TaskLine
         requires { t < length self.now.tasks }
         ensures task { task_of result.now ≡ task_at self.now t }
@@ -111,8 +108,8 @@ impl Graph {
         &self.tasks[t]
     }
 
-    /// Tells on how many phasers task number `t` is registered, at most `ENDS_MAX + 1`. It takes no
-    /// memory.
+    /// Returns on how many phasers task number `t` is registered, at most `ENDS_MAX + 1`. It takes
+    /// no memory.
     pub fn registrations(&self, t: usize) -> usize
         requires { t < length self.now.tasks }
         ensures count { result ≡ length (registrations_of self.now (task_at self.now t)) }
@@ -122,8 +119,8 @@ impl Graph {
         task.inputs.len() + task.outputs.len()
     }
 
-    /// Gives registration number `k` of task number `t`, from 0 on: its inputs and then its outputs,
-    /// and of a peer X, E and Y. It takes no memory.
+    /// Returns registration number `k` of task number `t`, from 0 on: its inputs and then its
+    /// outputs, and of a peer X, E and Y. It takes no memory.
     pub fn registration(&self, t: usize, k: usize) -> Registration
         requires task { t < length self.now.tasks }
         requires number { k < length (registrations_of self.now (task_at self.now t)) }
@@ -158,7 +155,7 @@ impl Graph {
         }
     }
 
-    /// Lends the file of source number `source`, as it is written, of 1 to `FILE_MAX` bytes. It
+    /// Returns the file of source number `source`, as it is written, of 1 to `FILE_MAX` bytes. It
     /// takes no memory.
     pub fn file(&self, source: usize) -> &str
         requires { source < sources_of self.now }
@@ -169,7 +166,7 @@ impl Graph {
         self.files[source].as_str()
     }
 
-    /// Lends the name of a phaser or a task, of 1 to `NAME_MAX` bytes. It takes no memory.
+    /// Returns the name of a phaser or a task, of 1 to `NAME_MAX` bytes. It takes no memory.
     pub fn name(&self, place: Place) -> &str
         requires { IsPlace self.now place }
         ensures name { result.now ≡ name_at self.now place }

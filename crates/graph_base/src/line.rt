@@ -1,7 +1,6 @@
 //! What a line of a graph's text declares.
 
-use phase_accum::Single;
-use phase_base::Op;
+use phase_accum::{Op, Single};
 
 /// What a task does.
 #[derive(Clone, Copy, Debug, PartialEq, Eq)]
@@ -63,4 +62,9 @@ pub struct TaskLine {
     pub shift: u32,
     /// The factor of a peer, of a magnitude of at most `FACTOR_MAX`.
     pub mul: i64,
+    /// The most steps that it makes in a block, 1 where the line names none.
+    pub block: u64,
+    /// Whether it is a sink that joins at the phase that is next to complete, where its parent
+    /// registers it.
+    pub joins_now: bool,
 }

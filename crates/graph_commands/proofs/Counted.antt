@@ -5,10 +5,10 @@ use Rattle.std.specs.Global.{Global}
 use Rattle.std.proofs.lemmas.List.{length-map, map_push}
 use Rattle.std.proofs.lemmas.List.Elements.{filter-append}
 use Rattle.std.proofs.lemmas.List.Sums.{count_by_more_yes, length-filter}
-use Rattle.graph_base.specs.Graphs.{Graph, Task, no_task, task_at, file_at, is_source, source_number, sources_of}
-use Rattle.graph_lang.proofs.Grown.{each-push}
-use Rattle.sample_text.specs.Samples.{AreSamplesOf}
-use Rattle.stream_lists.specs.Inside.{items_of}
+use Rattle.graph_show.specs.graph_base.Graphs.{Graph, Task, no_task, task_at, file_at, is_source, source_number, sources_of}
+use Rattle.graph_show.proofs.graph_lang_lemmas.Grown.{each-push}
+use Rattle.graph_show.specs.graph_lang.Samples.{AreSamplesOf}
+use Rattle.stream_eval.specs.stream_lists.Inside.{items_of}
 use Rattle.graph_commands.specs.FileJobs.{AreFirstSamples, Known}
 
 -- what is counted in front is no more than all

@@ -3,13 +3,13 @@ use Rattle.std.proofs.Common.{◌≡◌, inl, inr, ℕ, true, List, Ok, Err, ref
 use Rattle.std.specs.Prelude.{IfErr, OnOk, Result}
 use Rattle.std.specs.Io.KnownBytes.{Appends}
 use Rattle.std.specs.declared.option.Option.{Option}
-use Rattle.watched_io.specs.Prefix.{AppendsPrefix}
-use Rattle.watched_io.specs.States.{WriterState}
-use Rattle.watched_io.specs.declared.fault.IoFault.{IoFault}
-use Rattle.watched_io.specs.declared.fault.IoFault.TheVariants as io_fault
-use Rattle.watched_io.specs.declared.watched.Watched.{Watched}
-use Rattle.graph_base.specs.Graphs.{Graph}
-use Rattle.graph_drawing.specs.Drawings.{drawing}
+use Rattle.graph_show.specs.watched_io.Prefix.{AppendsPrefix}
+use Rattle.graph_show.specs.watched_io.States.{WriterState}
+use Rattle.graph_show.specs.watched_io.declared.fault.IoFault.{IoFault}
+use Rattle.graph_show.specs.watched_io.declared.fault.IoFault.TheVariants as io_fault
+use Rattle.graph_show.specs.watched_io.declared.watched.Watched.{Watched}
+use Rattle.graph_show.specs.graph_base.Graphs.{Graph}
+use Rattle.graph_show.specs.Drawings.{drawing}
 use Rattle.graph_commands.specs.FileJobs.{IsGraphOf, Known}
 use Rattle.graph_commands.specs.GraphDrawings.{DrawEnds, ExplainsNoGraph}
 use Rattle.graph_commands.specs.GraphRuns.{job_line, job_status}
@@ -17,7 +17,7 @@ use Rattle.graph_commands.specs.declared.fault.JobFault.{JobFault}
 use Rattle.graph_commands.specs.declared.fault.JobFault.TheVariants as fault
 use Rattle.graph_commands.proofs.Ends.{not_zero, some_status}
 use Rattle.graph_commands.proofs.Needed.{needed-graph}
-use Rattle.phase_status.specs.Statuses.{Reports, Says, fault_line}
+use Rattle.graph_show.specs.watched_io.Statuses.{Reports, Says, fault_line}
 
 -- the file tells no graph
 pub draw-no_graph : {W : Type 0} (contents : W → Option (List ℕ)) (known : Known) (name : List ℕ)

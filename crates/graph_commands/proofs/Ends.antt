@@ -3,20 +3,20 @@ use Rattle.std.proofs.Common.{◌≡◌, ◌<◌, inl, inr, ℕ, true, List, Ok,
 use Rattle.std.specs.Prelude.{OnOk, OnErr, Result}
 use Rattle.std.specs.Io.KnownBytes.{Appends}
 use Rattle.std.specs.declared.option.Option.{Option}
-use Rattle.watched_io.specs.Prefix.{AppendsPrefix}
-use Rattle.watched_io.specs.States.{WriterState}
-use Rattle.watched_io.specs.declared.watched.Watched.{Watched}
-use Rattle.graph_base.specs.Graphs.{name_at}
-use Rattle.graph_base.specs.declared.place.Place.{Place}
+use Rattle.graph_show.specs.watched_io.Prefix.{AppendsPrefix}
+use Rattle.graph_show.specs.watched_io.States.{WriterState}
+use Rattle.graph_show.specs.watched_io.declared.watched.Watched.{Watched}
+use Rattle.graph_show.specs.graph_base.Graphs.{name_at}
+use Rattle.graph_show.specs.graph_base.declared.place.Place.{Place}
 use Rattle.graph_commands.specs.FileJobs.{Explains, IsJobOf, Known}
 use Rattle.graph_commands.specs.declared.fault.JobFault.{JobFault}
 use Rattle.graph_commands.specs.declared.fault.JobFault.TheVariants as fault
 use Rattle.graph_commands.proofs.Needed.{needed-graph}
-use Rattle.watched_io.specs.declared.fault.IoFault.TheVariants.{WriteFault}
+use Rattle.graph_show.specs.watched_io.declared.fault.IoFault.TheVariants.{WriteFault}
 use Rattle.graph_commands.specs.GraphRuns.{AsksSink, CheckEnds, EvalEnds, IsNoJob, check_line, job_line, job_status, no_sink_line, sink_named, sinks_text, too_big_line}
-use Rattle.phase_status.specs.Statuses.{Reports, Says, fault_line}
-use Rattle.stream_lists.specs.Jobs.{Job}
-use Rattle.stream_lists.specs.Ranges.{Fits, first_too_big}
+use Rattle.graph_show.specs.watched_io.Statuses.{Reports, Says, fault_line}
+use Rattle.stream_eval.specs.stream_lists.Jobs.{Job}
+use Rattle.stream_eval.specs.stream_lists.Ranges.{Fits, first_too_big}
 
 -- no fault is told with the status 0
 pub not_zero : (status n : ℕ) → status ≡ n → 0 < n → status ≡ 0 → ⊥

@@ -1,13 +1,13 @@
 -- Why there is no job of a graph's text, and its status.
 use Rattle.std.proofs.Common.{◌≡◌, ◌⊎◌, inl, inr, ℕ, List, Ok, sym, subst}
-use Rattle.graph_base.specs.Graphs.{Graph, no_graph}
+use Rattle.graph_show.specs.graph_base.Graphs.{Graph, no_graph}
 use Rattle.graph_commands.specs.Explained.{IsFurther, IsTextOf, Tells}
 use Rattle.graph_commands.specs.FileJobs.{IsGraphOf, Known}
 use Rattle.graph_commands.specs.GraphRuns.{job_status}
 use Rattle.graph_commands.specs.declared.fault.JobFault.{JobFault}
 use Rattle.graph_commands.specs.declared.fault.JobFault.TheVariants as fault
-use Rattle.graph_lang.specs.Reads.{Reads}
-use Rattle.graph_text.specs.Texts.{lines_of}
+use Rattle.graph_show.specs.graph_lang.Reads.{Reads}
+use Rattle.graph_show.specs.graph_text.Texts.{lines_of}
 
 -- a fault of the files has the status 1 or 5
 pub one-or-five : (found : JobFault) (status : ℕ) → status ≡ job_status found → (status ≡ 1) ⊎ (status ≡ 5)

@@ -3,8 +3,8 @@ use Rattle.std.proofs.Common.{◌≡◌, ℕ, List, [], ◌++◌, refl, sym, ◌
 use Rattle.std.specs.Io.KnownBytes.{Appends}
 use Rattle.std.proofs.KnownBytes.{Appends-nil, Appends-trans}
 use Rattle.std.specs.declared.option.Option.{Option}
-use Rattle.watched_io.specs.Prefix.{AppendsPrefix}
-use Rattle.watched_io.proofs.Writing.{prefix_of_prefix}
+use Rattle.graph_show.specs.watched_io.Prefix.{AppendsPrefix}
+use Rattle.graph_show.proofs.watched_io_lemmas.Writing.{prefix_of_prefix}
 use Rattle.graph_commands.specs.Inside.{Puts}
 
 -- all the bytes wait

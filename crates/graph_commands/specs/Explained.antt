@@ -6,12 +6,12 @@ use Rattle.graph_commands.specs.GraphRuns.{CheckEnds, EvalEnds, job_line, job_st
 use Rattle.graph_commands.specs.declared.fault.JobFault.{JobFault}
 use Rattle.graph_commands.specs.declared.fault.JobFault.TheVariants as fault
 use Rattle.graph_commands.specs.declared.graph_file.TheConstants.{GRAPH_MAX}
-use Rattle.graph_explain.specs.Explanations.{ExplainsLine}
-use Rattle.phase_status.specs.Statuses.{Says}
+use Rattle.graph_show.specs.Explanations.{ExplainsLine}
+use Rattle.graph_show.specs.watched_io.Statuses.{Says}
 use Rattle.std.specs.declared.option.Option.{Option}
-use Rattle.watched_io.specs.Files.{HasBytes}
-use Rattle.watched_io.specs.States.{WriterState}
-use Rattle.watched_io.specs.declared.watched.Watched.{Watched}
+use Rattle.graph_show.specs.watched_io.Files.{HasBytes}
+use Rattle.graph_show.specs.watched_io.States.{WriterState}
+use Rattle.graph_show.specs.watched_io.declared.watched.Watched.{Watched}
 
 -- the text is that of the file of this name
 pub record IsTextOf (known : Known) (name text : List ℕ) : Type 0 where

@@ -4,23 +4,23 @@ use Rattle.std.specs.List.{concat, find, flat_map, range_with_len}
 use Rattle.std.specs.Str.{bytes_eq}
 use Rattle.std.specs.Io.KnownBytes.{Appends}
 use Rattle.std.specs.declared.option.Option.{Option}
-use Rattle.graph_base.specs.Graphs.{Graph, name_at}
-use Rattle.graph_lang.specs.declared.fault.FaultKind.{FaultKind}
-use Rattle.graph_lang.specs.declared.fault.FaultKind.TheVariants.{Syntax, Limit, Twice, Unknown, OutBeforeIn, BadParent, NotHeld, AnyMeets}
-use Rattle.graph_base.specs.declared.place.Place.{Place}
-use Rattle.graph_base.specs.declared.place.Place.TheVariants as place
-use Rattle.stream_lists.specs.Jobs.{Job}
-use Rattle.stream_lists.specs.Lists.{is_sink_at, lines_of}
-use Rattle.stream_lists.specs.Ranges.{Fits, first_too_big}
+use Rattle.graph_show.specs.graph_base.Graphs.{Graph, name_at}
+use Rattle.graph_show.specs.graph_lang.declared.fault.FaultKind.{FaultKind}
+use Rattle.graph_show.specs.graph_lang.declared.fault.FaultKind.TheVariants.{Syntax, Limit, Twice, Unknown, OutBeforeIn, BadParent, NotHeld, AnyMeets}
+use Rattle.graph_show.specs.graph_base.declared.place.Place.{Place}
+use Rattle.graph_show.specs.graph_base.declared.place.Place.TheVariants as place
+use Rattle.stream_eval.specs.stream_lists.Jobs.{Job}
+use Rattle.stream_eval.specs.stream_lists.Lists.{is_sink_at, lines_of}
+use Rattle.stream_eval.specs.stream_lists.Ranges.{Fits, first_too_big}
 use Rattle.graph_commands.specs.OutputTexts.{text_of, value_text}
 use Rattle.graph_commands.specs.FileJobs.{Explains, IsJobOf, Known}
 use Rattle.graph_commands.specs.declared.fault.JobFault.{JobFault}
 use Rattle.graph_commands.specs.declared.fault.JobFault.TheVariants as fault
-use Rattle.watched_io.specs.declared.fault.IoFault.TheVariants.{OutOfMemory, ReadFault, WriteFault}
-use Rattle.watched_io.specs.Prefix.{AppendsPrefix}
-use Rattle.watched_io.specs.States.{WriterState, writer_state}
-use Rattle.watched_io.specs.declared.watched.Watched.{Watched}
-use Rattle.phase_status.specs.Statuses.{Says, fault_line}
+use Rattle.graph_show.specs.watched_io.declared.fault.IoFault.TheVariants.{OutOfMemory, ReadFault, WriteFault}
+use Rattle.graph_show.specs.watched_io.Prefix.{AppendsPrefix}
+use Rattle.graph_show.specs.watched_io.States.{WriterState, writer_state}
+use Rattle.graph_show.specs.watched_io.declared.watched.Watched.{Watched}
+use Rattle.graph_show.specs.watched_io.Statuses.{Says, fault_line}
 
 -- ---- what is written
 

@@ -1,16 +1,15 @@
 //! A drawing of a graph, and the reports of its faults.
 ghost use Rattle.std.specs.Prelude.{◌≡◌, ◌⊎◌, OnOk, IfErr};
 ghost use Rattle.graph_commands.specs.GraphDrawings.{DrawEnds};
-ghost use Rattle.phase_status.specs.Statuses.{Reports};
-ghost use Rattle.watched_io.specs.States.{writer_state};
+ghost use Rattle.graph_show.specs.watched_io.Statuses.{Reports};
+ghost use Rattle.graph_show.specs.watched_io.States.{writer_state};
 
 use crate::graph_faults::report_job_fault;
 use crate::read_graph_file;
-use graph_drawing::write_drawing;
-use phase_status::{DONE, report};
+use graph_show::watched_io::{DONE, Files, IoFault, Watched, report};
+use graph_show::write_drawing;
 use std::alloc::Global;
 use std::io::Write;
-use watched_io::{Files, IoFault, Watched};
 
 /// Reads a graph, and no samples of its sources, and answers the exit status: 0, with the graph's
 /// drawing on the output, as text for Graphviz; 1 where the graph is refused; or 5 after a fault. The
@@ -35,7 +34,7 @@ pub fn draw_and_report<W: Write, E: Write, F: Files>(
     }
 }
 
-/// Answers 0 where a drawing was written, and else tells why not and answers 5.
+/// Returns 0 where a drawing was written, and else tells why not and answers 5.
 fn report_drawn<E: Write>(drawn: Result<(), IoFault>, faults: &mut Watched<E>) -> u8
     ensures done { OnOk drawn ((result ≡ 0) × (faults.new ≡ faults.old)) }
     ensures stops { IfErr drawn (λ fault. (result ≡ 5) × Reports fault

@@ -1,21 +1,20 @@
 //! The job of a graph's file, or why there is none, told and explained.
 ghost use Rattle.std.specs.Prelude.{◌≡◌, ◌⊎◌, ℕ, List, [], IfOk, IfErr, OnOk};
-ghost use Rattle.graph_commands.specs.Explained.{Explained, ExplainsNoJob, IsFurther, IsTextOf, TellsRefusal};
-ghost use Rattle.graph_commands.specs.Explained.{record_wanted};
+ghost use Rattle.graph_commands.specs.Explained.{Explained, ExplainsNoJob, IsFurther, IsTextOf, TellsRefusal, record_wanted};
 ghost use Rattle.graph_commands.specs.FileJobs.{Explains, IsJobOf};
 ghost use Rattle.graph_commands.specs.GraphRuns.{job_status};
-ghost use Rattle.phase_status.specs.Statuses.{Says};
-ghost use Rattle.watched_io.specs.States.{writer_state};
+ghost use Rattle.graph_show.specs.watched_io.Statuses.{Says};
+ghost use Rattle.graph_show.specs.watched_io.States.{writer_state};
 
 use crate::graph_faults::report_job_fault;
 use crate::job_file::job_of_graph;
-use crate::{GRAPH_MAX, JobFault, Refusal, Refuses};
-use graph_explain::explanation;
-use graph_lang::read_graph;
+use crate::{FileRefusal, GRAPH_MAX, JobFault, Refuses};
+use graph_show::explanation;
+use graph_show::graph_lang::read_graph;
+use graph_show::watched_io::{Files, Watched};
 use std::alloc::{AllocError, Global};
 use std::io::Write;
-use stream_lists::Job;
-use watched_io::{Files, Watched};
+use stream_eval::stream_lists::Job;
 
 /// Makes the job of a graph's file, as `read_job` does. Where there is none it tells why, and then
 /// explains it to a person, and answers the status: 1 where the graph or the samples are refused, and
@@ -124,7 +123,7 @@ fn record_explained(alloc: Global) -> Result<Vec<u8>, AllocError>
 }
 
 /// The name of a file, and why it was refused.
-fn refusal_explained(alloc: Global, name: &str, why: Refusal) -> Result<Vec<u8>, AllocError>
+fn refusal_explained(alloc: Global, name: &str, why: FileRefusal) -> Result<Vec<u8>, AllocError>
     ensures { IfOk result (λ more. TellsRefusal more.items) }
 {
     let mut more = Vec::new(alloc);
@@ -137,12 +136,12 @@ fn refusal_explained(alloc: Global, name: &str, why: Refusal) -> Result<Vec<u8>,
 }
 
 /// Why a file was refused, for a person.
-fn told_of(why: Refusal) -> &'static str {
+fn told_of(why: FileRefusal) -> &'static str {
     match why {
-        Refusal::Missing => "there is no such file",
-        Refusal::Folder => "it is a folder",
-        Refusal::NotAllowed => "there is no permission to read it",
-        Refusal::TooLong => "it is too long",
-        Refusal::Other => "it cannot be read",
+        FileRefusal::Missing => "there is no such file",
+        FileRefusal::Folder => "it is a folder",
+        FileRefusal::NotAllowed => "there is no permission to read it",
+        FileRefusal::TooLong => "it is too long",
+        FileRefusal::Other => "it cannot be read",
     }
 }

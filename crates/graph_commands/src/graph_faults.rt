@@ -1,17 +1,15 @@
 //! The lines of a graph's faults.
 ghost use Rattle.std.specs.Prelude.{◌≡◌};
-ghost use Rattle.graph_base.specs.Graphs.{IsPlace, name_at};
-ghost use Rattle.graph_commands.specs.GraphRuns.{graph_line, job_line, job_status, kind_text};
-ghost use Rattle.graph_commands.specs.GraphRuns.{no_sink_line, samples_line, too_big_line};
-ghost use Rattle.phase_status.specs.Statuses.{Says};
-ghost use Rattle.watched_io.specs.States.{writer_state};
+ghost use Rattle.graph_show.specs.graph_base.Graphs.{IsPlace, name_at};
+ghost use Rattle.graph_commands.specs.GraphRuns.{graph_line, job_line, job_status, kind_text, no_sink_line, samples_line, too_big_line};
+ghost use Rattle.graph_show.specs.watched_io.Statuses.{Says};
+ghost use Rattle.graph_show.specs.watched_io.States.{writer_state};
 
 use crate::JobFault;
-use graph_lang::{FaultKind, Graph, GraphFault, Place};
+use graph_show::graph_lang::{FaultKind, Graph, GraphFault, Place};
+use graph_show::watched_io::{GRAPH_REFUSED, IoFault, TOO_BIG, Watched, report, say};
 use itoa::Buffer;
-use phase_status::{GRAPH_REFUSED, TOO_BIG, report, say};
 use std::io::Write;
-use watched_io::{IoFault, Watched};
 
 /// The word for a kind of fault.
 fn word_of(kind: FaultKind) -> &'static str

@@ -5,10 +5,10 @@ ghost use Rattle.graph_commands.specs.FileJobs.{Explains, IsGraphOf, IsJobOf};
 use crate::JobFault;
 use crate::graph_file::read_graph_file;
 use crate::sources::read_sources;
-use graph_lang::{FaultKind, Graph, GraphFault};
+use graph_show::graph_lang::{FaultKind, Graph, GraphFault};
+use graph_show::watched_io::Files;
 use std::alloc::Global;
-use stream_lists::{Job, JobRefusal};
-use watched_io::Files;
+use stream_eval::stream_lists::{Job, JobRefusal};
 
 /// Makes the job of a graph's file: reads the graph, then the samples of each source in the order
 /// of the lines, live or not, each read and checked before the next.

@@ -9,12 +9,12 @@
 //! same values.
 #![tactic(auto)]
 
+mod answered;
 mod drawn;
 mod explained;
 mod fault;
 mod graph_faults;
 mod graph_file;
-mod graph_runs;
 mod job_file;
 pub mod laws;
 mod lines;
@@ -23,17 +23,19 @@ mod refused;
 mod sinks;
 mod sources;
 
+pub use answered::{
+    check_and_explain, check_and_report, eval_and_explain, eval_and_report, report_written,
+    write_sinks,
+};
 pub use drawn::draw_and_report;
 pub use explained::read_job_or_explain;
 pub use fault::JobFault;
 pub use graph_faults::{report_job_fault, report_no_sink, report_too_big};
 pub use graph_file::{GRAPH_MAX, read_graph_file};
-pub use graph_runs::{
-    check_and_explain, check_and_report, eval_and_explain, eval_and_report, report_written,
-    write_sinks,
-};
+pub use graph_show::watched_io;
 pub use job_file::read_job;
 pub use lines::{write_lines, write_values};
-pub use refused::{Refusal, Refuses, TellingFiles};
+pub use refused::{FileRefusal, Refuses, TellingFiles};
 pub use sinks::find_sink;
 pub use sources::read_sources;
+pub use stream_eval::stream_lists;

@@ -2,13 +2,13 @@
 ghost use Rattle.std.specs.Prelude.{◌≡◌, ◌≤◌, ◌++◌, ◌+◌, List, ℕ, [], length, take, true, OnOk, OnErr};
 ghost use Rattle.std.specs.Io.KnownBytes.{Appends};
 ghost use Rattle.graph_commands.specs.Inside.{Puts};
-ghost use Rattle.watched_io.specs.declared.text.TheConstants.{CHUNK_MAX};
-ghost use Rattle.watched_io.specs.Prefix.{AppendsPrefix};
-ghost use Rattle.watched_io.specs.Watched.{has_failed_of, inner_of};
+ghost use Rattle.graph_show.specs.watched_io.declared.text.TheConstants.{CHUNK_MAX};
+ghost use Rattle.graph_show.specs.watched_io.Prefix.{AppendsPrefix};
+ghost use Rattle.graph_show.specs.watched_io.Watched.{has_failed_of, inner_of};
 
+use graph_show::watched_io::{CHUNK_MAX, Watched, WriteFailed};
 use std::io::Write;
 use std::marker::Model;
-use watched_io::{CHUNK_MAX, Watched, WriteFailed};
 
 /// The end of a text, of at most `CHUNK_MAX` bytes, which waits to be written. It stands on the
 /// stack.

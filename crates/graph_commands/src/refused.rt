@@ -1,15 +1,15 @@
 //! Files that tell a person why they refuse one.
 ghost use Rattle.std.specs.Prelude.{◌≡◌, ◌≤◌, length, IfOk};
 
+use graph_show::watched_io::{DiskFiles, FileFault, Files};
 use std::alloc::Global;
 use std::fs::File;
 use std::io::ErrorKind;
-use watched_io::{DiskFiles, FileFault, Files};
 
 /// Why a file was refused, as far as the system tells. It is said to a person, and nothing is proved
 /// of it.
 #[derive(Clone, Copy, Debug, PartialEq, Eq, Hash)]
-pub enum Refusal {
+pub enum FileRefusal {
     /// There is none of this name.
     Missing,
     /// It is a folder.
@@ -26,7 +26,7 @@ pub enum Refusal {
 pub trait Refuses {
     /// The name of the file that was refused last, and why, where that is kept. Nothing is promised of
     /// it.
-    fn refused(&self) -> Option<(&str, Refusal)>;
+    fn refused(&self) -> Option<(&str, FileRefusal)>;
 }
 
 /// The files of the disk, as `DiskFiles` reads them, and why one was refused.
@@ -34,7 +34,7 @@ pub trait Refuses {
 pub struct TellingFiles<'a, R> {
     rt: &'a R,
     files: DiskFiles<'a, R>,
-    refused: Option<(String, Refusal)>,
+    refused: Option<(String, FileRefusal)>,
 }
 
 impl<'a, R> TellingFiles<'a, R> {
@@ -49,21 +49,21 @@ impl<'a, R> TellingFiles<'a, R> {
 }
 
 /// Why the system refused an opening.
-fn why_unopened(kind: ErrorKind) -> Refusal {
+fn why_unopened(kind: ErrorKind) -> FileRefusal {
     match kind {
-        ErrorKind::NotFound => Refusal::Missing,
-        ErrorKind::PermissionDenied => Refusal::NotAllowed,
-        _ => Refusal::Other,
+        ErrorKind::NotFound => FileRefusal::Missing,
+        ErrorKind::PermissionDenied => FileRefusal::NotAllowed,
+        _ => FileRefusal::Other,
     }
 }
 
 /// Asks the system why a file of a name was refused. No byte of it is read.
-fn why_refused<R: std::rt::Files>(rt: &R, name: &str, limit: usize) -> Refusal {
+fn why_refused<R: std::rt::Files>(rt: &R, name: &str, limit: usize) -> FileRefusal {
     match rt.metadata(name) {
-        Ok(found) if found.is_dir() => Refusal::Folder,
-        Ok(found) if found.len() > limit as u64 => Refusal::TooLong,
+        Ok(found) if found.is_dir() => FileRefusal::Folder,
+        Ok(found) if found.len() > limit as u64 => FileRefusal::TooLong,
         Ok(_) => match File::open(rt, name) {
-            Ok(_) => Refusal::Other,
+            Ok(_) => FileRefusal::Other,
             Err(error) => why_unopened(error.kind()),
         },
         Err(error) => why_unopened(error.kind()),
@@ -85,7 +85,7 @@ impl<R: std::rt::Files> Files for TellingFiles<'_, R> {
 }
 
 impl<R> Refuses for TellingFiles<'_, R> {
-    fn refused(&self) -> Option<(&str, Refusal)> {
+    fn refused(&self) -> Option<(&str, FileRefusal)> {
         match &self.refused {
             Some((name, why)) => Some((name.as_str(), *why)),
             None => None,

@@ -1,19 +1,17 @@
 //! The samples of the sources of a graph.
 ghost use Rattle.std.specs.Prelude.{◌≡◌, ◌<◌, ◌≤◌, ℕ, List, length, true, IfOk, IfErr};
 ghost use Rattle.std.specs.List.{All};
-ghost use Rattle.phase_accum.specs.Sends.{AreSends};
-ghost use Rattle.sample_text.specs.Samples.{AreSamplesOf};
-ghost use Rattle.sample_text.specs.declared.sample.TheConstants.{TEXT_MAX};
-ghost use Rattle.graph_base.specs.Graphs.{is_source, source_number, sources_of, task_at};
-ghost use Rattle.stream_lists.specs.Inside.{items_of};
-ghost use Rattle.graph_commands.specs.FileJobs.{AreFirstSamples, AreSamples, Explains, IsGraphOf};
-ghost use Rattle.graph_commands.specs.FileJobs.{IsReached, file_of};
+ghost use Rattle.graph_show.specs.phase_accum.Sends.{AreSends};
+ghost use Rattle.graph_show.specs.graph_lang.Samples.{AreSamplesOf};
+ghost use Rattle.graph_show.specs.graph_lang.declared.sample.TheConstants.{TEXT_MAX};
+ghost use Rattle.graph_show.specs.graph_base.Graphs.{is_source, source_number, sources_of, task_at};
+ghost use Rattle.stream_eval.specs.stream_lists.Inside.{items_of};
+ghost use Rattle.graph_commands.specs.FileJobs.{AreFirstSamples, AreSamples, Explains, IsGraphOf, IsReached, file_of};
 
 use crate::JobFault;
-use graph_lang::{Graph, Kind, Place};
-use sample_text::{SampleFault, read_sample_file};
+use graph_show::graph_lang::{Graph, Kind, Place, SampleFault, read_sample_file};
+use graph_show::watched_io::Files;
 use std::alloc::Global;
-use watched_io::Files;
 
 /// Whether task number `t` is a source.
 fn is_source_line(graph: &Graph, t: usize) -> bool

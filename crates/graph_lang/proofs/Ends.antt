@@ -2,7 +2,7 @@
 use Rattle.std.proofs.Common.{ℕ, ℤ, List, option_map, ◌≡◌, ◌&&◌, Bool, true, false, Some, None, Option, IfSome, IsTrue, refl, ap, ◌∙◌}
 use Rattle.std.specs.List.{list_all}
 use Rattle.std.proofs.lemmas.List.Folds.{list_all-append}
-use Rattle.graph_words.specs.Words.{is_name}
+use Rattle.graph_text.specs.phase_base.Words.{is_name}
 use Rattle.graph_base.specs.Graphs.{Named}
 use Rattle.graph_base.specs.declared.line.Kind.{Kind}
 use Rattle.graph_base.specs.declared.line.Parent.{Parent}
@@ -64,6 +64,8 @@ pub task-built : (names : List Named) (n : ℕ) (body : BodyWords) (ends : EndWo
       taps = taps;
       shift = shift;
       mul = mul;
+      block = 1;
+      joins_now = false;
     } ≡ task_line names n body ends
 task-built names n body ends kind inputs outputs parent until taps shift mul a b c d e f g h =
     rw (a, b, c, d, e, f, g, h) refl

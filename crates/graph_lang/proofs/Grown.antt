@@ -1,5 +1,5 @@
 -- The lines of a graph stay lines of it when it grows.
-use Rattle.std.proofs.Common.{ℕ, ◌≡◌, ◌<◌, ◌≤◌, ◌⊎◌, inl, inr, List, [], ◌∷◌, ◌++◌, length, get_or, Option, Some, None, IfSome, sym, ap, ◌∙◌, subst, arith}
+use Rattle.std.proofs.Common.{ℕ, ◌≡◌, ◌<◌, ◌≤◌, false, true, ◌⊎◌, inl, inr, List, [], ◌∷◌, ◌++◌, length, get_or, Option, Some, None, IfSome, sym, ap, ◌∙◌, subst, arith}
 use Rattle.std.proofs.lemmas.List.{get_or_append_left, get_or_push, length_push}
 use Rattle.std.proofs.lemmas.List.Elements.{All-weaker}
 use Rattle.std.proofs.lemmas.Bool.{cases_lt}
@@ -44,6 +44,7 @@ IsParent-stays before after t task parent grows few is =
       steps = is.steps;
       kind = ap (λ above. has_children above.kind) same ∙ is.kind;
       child_kind = is.child_kind;
+      stays = ap (λ above. above.joins_now) same ∙ is.stays;
       waits = subst Waits (sym same) is.waits;
       signals = subst Signals (sym same) is.signals;
     }
@@ -70,4 +71,23 @@ IsTaskLine-stays before after t task grows few is =
       until = is.until;
       parent = weaken_some task.parent (IsParent before t task) (IsParent after t task)
           (λ parent. IsParent-stays before after t task parent grows few) is.parent;
+      block = record {
+        some = is.block.some;
+        kind = is.block.kind;
+        inputs = λ k d lt.
+            (let same : (phaser_at after (get_or task.inputs k d)).bound
+            ≡ (phaser_at before (get_or task.inputs k d)).bound =
+            ap (λ line. line.bound) (grows.phaser (get_or task.inputs k d) (is.inputs k d lt)) in
+            let was : task.block ≤ (phaser_at before (get_or task.inputs k d)).bound =
+            is.block.inputs k d lt in
+            omega arith);
+        outputs = λ k d lt.
+            (let same : (phaser_at after (get_or task.outputs k d)).bound
+            ≡ (phaser_at before (get_or task.outputs k d)).bound =
+            ap (λ line. line.bound) (grows.phaser (get_or task.outputs k d) (is.outputs k d lt)) in
+            let was : task.block ≤ (phaser_at before (get_or task.outputs k d)).bound =
+            is.block.outputs k d lt in
+            omega arith);
+      };
+      now = is.now;
     }

@@ -1,6 +1,6 @@
 -- Lines with two faults, computed in the definitions: the earlier kind is the one that is told.
 use Rattle.std.proofs.Common.{◌≡◌, [], ◌∷◌, Some, None, refl, codes}
-use Rattle.phase_base.specs.declared.operation.Op.TheVariants.{Sum}
+use Rattle.graph_text.specs.phase_base.declared.operation.Op.TheVariants.{Sum}
 use Rattle.graph_text.specs.Decls.{phaser, task, fir, join, peer, sink, clamp, EndWords}
 use Rattle.graph_base.specs.Graphs.{Graph, no_phaser, no_task}
 use Rattle.graph_base.specs.declared.line.Kind.TheVariants.{Split}

@@ -10,3 +10,11 @@ mod Single
 mod Sound
 mod Wellformed
 mod WorkedText
+pub mod Commas
+mod Digits
+mod Fields
+mod Reading
+mod Shrinks
+mod Unique
+pub use Rattle.graph_base.proofs as graph_base_lemmas
+pub use Rattle.watched_io.proofs as watched_io_lemmas

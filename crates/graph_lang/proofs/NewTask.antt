@@ -8,16 +8,16 @@ use Rattle.std.proofs.lemmas.List.Elements.{All-weaker, All-map}
 use Rattle.std.proofs.lemmas.List.Sums.{AllPass-from_list_all}
 use Rattle.std.proofs.lemmas.List.Folds.{list_all-append}
 use Rattle.std.proofs.lemmas.Slice.Eq.{bytes_eq-Decides}
-use Rattle.graph_words.specs.Words.{Word}
+use Rattle.graph_text.specs.phase_base.Words.{Word}
 use Rattle.graph_text.specs.Numbers.{nat_value, int_value}
 use Rattle.graph_text.specs.Decls.{task, BodyWords, source, fir, split, join, peer, sink, ByWords, EndWords, IsBody, AreEnds, may_have_parent}
-use Rattle.stream_filters.specs.declared.fir.TheConstants.{TAPS_MAX, TAP_MAX, SHIFT_MAX}
+use Rattle.graph_base.specs.stream_filters.declared.fir.TheConstants.{TAPS_MAX, TAP_MAX, SHIFT_MAX}
 use Rattle.graph_base.specs.Graphs.{Graph, Task, Named, IsPlace, task_at, phaser_at}
 use Rattle.graph_base.specs.Names.{place_of, phaser_number, task_number, phaser_named, task_named}
 use Rattle.graph_lang.specs.WordValues.{or_zero, numbers_of, parent_of, task_line, kind_of_body, inputs_of, outputs_of, taps_of, shift_of, factor_of}
 use Rattle.graph_lang.specs.Faults.{kind_of, is_body_within, are_ends_within, is_count_within, is_tap_within, phasers_of, are_distinct, is_phaser, is_parent_known, is_in_order, is_exchange_below, may_be_parent, is_among, holds_for, is_plain, is_held}
-use Rattle.graph_base.specs.TaskLines.{IsTaskLine, IsParent, AreNames, HasEnds, HasTaps, HasFactor, IsExchangeBelow, has_children, AreAmong}
-use Rattle.phase_base.specs.Lists.{is_distinct}
+use Rattle.graph_base.specs.TaskLines.{IsGraph, IsTaskLine, IsParent, AreNames, HasEnds, HasTaps, HasFactor, IsExchangeBelow, has_children, AreAmong}
+use Rattle.graph_text.specs.phase_base.Lists.{is_distinct}
 use Rattle.graph_base.specs.declared.limits.TheConstants.{TASKS_MAX, ENDS_MAX, STEPS_MAX, FACTOR_MAX}
 use Rattle.graph_base.specs.declared.line.Kind.{Kind}
 use Rattle.graph_base.specs.declared.line.Kind.TheVariants as kind
@@ -297,11 +297,13 @@ new-parent before are child (Some by) known at may holds allowed =
     let above = task_at before (or_zero (task_named before.names by.parent)) in
     let held = both (list_all (is_among above.inputs) child.inputs)
     (list_all (is_among above.outputs) child.outputs) holds in
+    let may_be = both (has_children above.kind) (not above.joins_now) may in
     record {
       above = task-below before are by.parent known;
       steps = leb-true (nat_value by.at) STEPS_MAX at;
-      kind = may;
+      kind = may_be.0;
       child_kind = allowed;
+      stays = not-true above.joins_now may_be.1;
       waits = all-among child.inputs above.inputs held.0;
       signals = all-among child.outputs above.outputs held.1;
     }
@@ -323,16 +325,21 @@ numbered before n body ends =
       steps = is.steps;
       kind = is.kind;
       child_kind = is.child_kind;
+      stays = is.stays;
       waits = is.waits;
       signals = is.signals;
     })
 
 pub IsTaskLine-new : (before : Graph) (n : ℕ) (name : Word) (body : BodyWords) (ends : EndWords)
-    → AreNames before → IsBody body → AreEnds (may_have_parent body) ends
+    → IsGraph before → IsBody body → AreEnds (may_have_parent body) ends
     → IsSound before name body ends
     → IsTaskLine before (length before.tasks) (task_line before.names n body ends)
-IsTaskLine-new before n name body ends are is_body are_ends sound =
+IsTaskLine-new before n name body ends is is_body are_ends sound =
     let names = before.names in
+    let are : AreNames before = is.names in
+    let Below : ℕ → Type 0 = λ p. p < length before.phasers in
+    let Room : ℕ → Type 0 = λ p. 1 ≤ (phaser_at before p).bound in
+    let room : (p : ℕ) → Below p → Room p = λ p lt. (is.phasers p lt).bound.0 in
     let known = both (list_all (is_phaser names) (inputs_of body))
     (list_all (is_phaser names) (outputs_of body))
     (sym (list_all-append (is_phaser names) (inputs_of body) (outputs_of body)) ∙ sound.phasers) in
@@ -362,4 +369,13 @@ IsTaskLine-new before n name body ends are is_body are_ends sound =
       parent = numbered before n body ends
           (new-parent before are (task_line names 0 body ends) ends.by sound.known sound.at sound.may
           sound.holds allowed);
+      block = record {
+        some = omega arith;
+        kind = λ _. refl;
+        inputs = All-weaker Below Room room (numbers_of names (inputs_of body))
+            (numbers-below before are (inputs_of body) known.0);
+        outputs = All-weaker Below Room room (numbers_of names (outputs_of body))
+            (numbers-below before are (outputs_of body) known.1);
+      };
+      now = λ e. absurd (let no : false ≡ true = e in cc);
     }

@@ -1,13 +1,13 @@
 -- Lines that are read, one after another.
 use Rattle.std.proofs.Common.{ℕ, ◌≡◌, ◌<◌, ◌≤◌, ◌+◌, List, ◌∷◌, Bor, length, map, drop, get_or, refl, ap, sym, ◌∙◌, Result, Ok, Err, true, false, inl, inr, subst}
 use Rattle.std.proofs.lemmas.List.{drop_all}
-use Rattle.graph_words.specs.Words.{Word}
+use Rattle.graph_text.specs.phase_base.Words.{Word}
 use Rattle.graph_text.specs.Texts.{words_of, are_printable, is_ignored}
-use Rattle.phase_base.specs.Lists.{without_cr}
+use Rattle.graph_text.specs.phase_base.Lists.{without_cr}
 use Rattle.graph_text.specs.Plain.{plain}
 use Rattle.graph_text.specs.Decls.{Decl, Declares, Spells}
 use Rattle.graph_base.specs.Graphs.{Graph, no_graph}
-use Rattle.graph_lang.specs.Reads.{Steps, Reads, Tells, fault_at, told}
+use Rattle.graph_lang.specs.Reads.{Steps, Reads, Tells, fault_at, line_outcome}
 use Rattle.graph_lang.specs.Inside.{TellsDecl, TellsFault}
 use Rattle.graph_lang.specs.Faults.{kind_of}
 use Rattle.graph_lang.specs.declared.fault.FaultKind.TheVariants.{Syntax}
@@ -46,7 +46,7 @@ step-syntax n before line going none = inr (inl (going, none, refl))
 -- a line of the grammar
 pub step-declared : (n : ℕ) (before : Graph) (line : List ℕ) (d : Decl)
     (outcome : Result Graph GraphFault) → is_ignored line ≡ false → Declares line d
-    → outcome ≡ told n before d (kind_of before d) → Steps n before line outcome
+    → outcome ≡ line_outcome n before d (kind_of before d) → Steps n before line outcome
 step-declared n before line d outcome going declared tells = inr (inr (going, d, declared, tells))
 
 -- a line of the grammar that stopped the reading

@@ -2,7 +2,7 @@
 use Rattle.std.proofs.Common.{ℕ, ◌≡◌, ◌+◌, List, [], ◌∷◌, ap, sym, ◌∙◌, Result, Ok, Err, true, false, inl, inr, subst}
 use Rattle.graph_base.specs.Graphs.{Graph}
 use Rattle.graph_lang.specs.Faults.{kind_of}
-use Rattle.graph_lang.specs.Reads.{Steps, Reads, told}
+use Rattle.graph_lang.specs.Reads.{Steps, Reads, line_outcome}
 use Rattle.graph_lang.specs.declared.fault.GraphFault.{GraphFault}
 use Rattle.graph_text.proofs.Spelled.{one_declaration}
 
@@ -25,7 +25,7 @@ one_step n before line a b (inr (inr (p, d, dd, x))) (inr (inl (q, none, y))) =
     absurd (none d dd)
 one_step n before line a b (inr (inr (p, d, dd, x))) (inr (inr (q, e, de, y))) =
     let same : d ≡ e = one_declaration _ d e dd.spells de.spells in
-    x ∙ ap (λ d. told n before d (kind_of before d)) same ∙ sym y
+    x ∙ ap (λ d. line_outcome n before d (kind_of before d)) same ∙ sym y
 
 pub one_reading_from : (n : ℕ) (before : Graph) (lines : List (List ℕ))
     (a b : Result Graph GraphFault) → Reads n before lines a → Reads n before lines b → a ≡ b

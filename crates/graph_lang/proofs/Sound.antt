@@ -1,17 +1,16 @@
 -- What holds of a line that has no fault.
 use Rattle.std.proofs.Common.{ℕ, List, ◌<◌, ◌≤◌, arith, [], ◌∷◌, ◌++◌, ap, sym, ◌∙◌, ◌≡◌, ◌&&◌, ◌||◌, Bool, true, false, not, Option, Some, None, is_some, if◌then◌else◌, refl, nat_lt, length}
 use Rattle.std.specs.List.{list_all}
-use Rattle.phase_base.specs.Lists.{first_row}
+use Rattle.graph_text.specs.phase_base.Lists.{first_row}
 use Rattle.std.proofs.lemmas.Bool.Decides.{nat_tests}
-use Rattle.graph_words.specs.Words.{Word}
-use Rattle.phase_base.specs.declared.operation.Op.{Op}
+use Rattle.graph_text.specs.phase_base.Words.{Word}
+use Rattle.graph_text.specs.phase_base.declared.operation.Op.{Op}
 use Rattle.graph_text.specs.Decls.{phaser, task, FunctionWords, BodyWords, ByWords, EndWords}
 use Rattle.graph_base.specs.Graphs.{Graph, Task}
 use Rattle.graph_base.specs.Names.{place_of}
 use Rattle.graph_lang.specs.WordValues.{task_line, files_in}
-use Rattle.graph_lang.specs.Faults.{kind_of, phasers_of, is_past_limit, are_distinct, is_phaser, is_parent_known, is_in_order, may_be_parent, is_held}
+use Rattle.graph_lang.specs.Faults.{kind_of, phasers_of, is_past_limit, are_distinct, is_phaser, is_parent_known, is_in_order, may_be_parent, is_held, is_phaser_within}
 use Rattle.graph_lang.specs.Inside.{last_kind}
-use Rattle.graph_lang.specs.Faults.{is_phaser_within}
 use Rattle.graph_lang.specs.Reads.{with_line}
 use Rattle.graph_base.specs.declared.limits.TheConstants.{PHASERS_MAX}
 use Rattle.graph_lang.specs.declared.fault.FaultKind.TheVariants.{Limit, Twice, Unknown, OutBeforeIn, BadParent, NotHeld}

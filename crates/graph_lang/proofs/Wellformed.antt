@@ -6,19 +6,19 @@ use Rattle.std.proofs.lemmas.Bool.{cases_lt}
 use Rattle.std.proofs.lemmas.List.{get_or_append_left, length_push, length-append}
 use Rattle.std.proofs.lemmas.List.Elements.{All-nil, All-cons, All-append}
 use Rattle.std.proofs.lemmas.List.Sums.{sum_by_push}
-use Rattle.phase_base.specs.declared.limits.TheConstants.{BOUND_MAX}
-use Rattle.phase_accum.specs.Sends.{value_max}
-use Rattle.phase_accum.specs.Singles.{CanBeNamed}
-use Rattle.graph_words.specs.Words.{Word, is_name, is_file}
+use Rattle.graph_text.specs.phase_base.declared.limits.TheConstants.{BOUND_MAX}
+use Rattle.graph_base.specs.phase_accum.Sends.{value_max}
+use Rattle.graph_base.specs.phase_accum.Singles.{CanBeNamed}
+use Rattle.graph_text.specs.phase_base.Words.{Word, is_name, is_file}
 use Rattle.graph_text.specs.Numbers.{nat_value, int_value}
-use Rattle.phase_base.specs.declared.operation.Op.{Op}
+use Rattle.graph_text.specs.phase_base.declared.operation.Op.{Op}
 use Rattle.graph_text.specs.Decls.{Decl, phaser, task, FunctionWords, neg, abs, halve, clamp, BodyWords, source, fir, split, join, peer, sink, EndWords, IsBody, IsWellFormed}
 use Rattle.graph_base.specs.Graphs.{Graph, no_graph, no_task, no_phaser, Task, IsPlace, is_same_place, task_at, sources_among, is_source}
 use Rattle.graph_base.specs.Names.{place_of}
 use Rattle.graph_lang.specs.WordValues.{phaser_line, single_of, task_line, kind_of_body, files_in}
 use Rattle.graph_lang.specs.Faults.{kind_of, is_bound_within, is_function_within}
 use Rattle.graph_base.specs.TaskLines.{IsGraph, IsPhaserLine, IsTaskLine, AreRising}
-use Rattle.graph_lang.specs.Reads.{Reads, Steps, with_line, told, fault_at}
+use Rattle.graph_lang.specs.Reads.{Reads, Steps, with_line, line_outcome, fault_at}
 use Rattle.graph_base.specs.declared.limits.TheConstants.{PHASERS_MAX}
 use Rattle.graph_lang.specs.declared.fault.FaultKind.{FaultKind}
 use Rattle.graph_lang.specs.declared.fault.FaultKind.TheVariants.{Limit, Twice, Syntax}
@@ -281,7 +281,7 @@ task-keeps before n name body ends formed sound counted above is =
       phaser = λ p below. refl;
       task = λ t below. get_or_append_left before.tasks (line ∷ []) no_task t below;
     } in
-    let new = IsTaskLine-new before n name body ends is.names formed.1 formed.2 sound in
+    let new = IsTaskLine-new before n name body ends is formed.1 formed.2 sound in
     record {
       few_phasers = is.few_phasers;
       few_tasks = omega (arith, long, few);
@@ -328,11 +328,11 @@ pub record IsBefore (n : ℕ) (graph : Graph) : Type 0 where
 
 told-keeps : (before after : Graph) (n : ℕ) (d : Decl) (fault : Option FaultKind)
     → kind_of before d ≡ fault → IsWellFormed d → IsBefore n before
-    → Ok after ≡ told n before d fault → IsBefore (n + 1) after
-told-keeps before after n d (Some kind) e formed is told =
-    let clash : Ok after ≡ fault_at n kind = told in absurd (cc)
-told-keeps before after n d None e formed is told =
-    let same : Ok after ≡ Ok (with_line before n d) = told in
+    → Ok after ≡ line_outcome n before d fault → IsBefore (n + 1) after
+told-keeps before after n d (Some kind) e formed is line_outcome =
+    let clash : Ok after ≡ fault_at n kind = line_outcome in absurd (cc)
+told-keeps before after n d None e formed is line_outcome =
+    let same : Ok after ≡ Ok (with_line before n d) = line_outcome in
     let one : after ≡ with_line before n d = cc in
     subst (IsBefore (n + 1)) (sym one) (record {
       counted = omega arith;

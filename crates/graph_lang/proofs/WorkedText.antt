@@ -1,14 +1,14 @@
 -- A worked text: its lines declare the graph that is written out here, which so is well formed.
 use Rattle.std.proofs.Common.{ℕ, ◌≡◌, true, false, inl, sym, ap, List, [], ◌∷◌, Some, None, Ok, codes, inr, refl, pos, negsuc}
-use Rattle.phase_accum.specs.declared.single.Single.TheVariants.{Clamp}
+use Rattle.graph_base.specs.phase_accum.declared.single.Single.TheVariants.{Clamp}
 use Rattle.graph_text.specs.Texts.{is_ignored}
 use Rattle.graph_text.specs.Decls.{Decl, phaser, task, clamp, source, sink, Declares}
-use Rattle.phase_base.specs.declared.operation.Op.TheVariants.{Sum, Least}
+use Rattle.graph_text.specs.phase_base.declared.operation.Op.TheVariants.{Sum, Least}
 use Rattle.graph_base.specs.declared.line.Kind.TheVariants.{Source, Sink}
 use Rattle.graph_base.specs.declared.place.Place.TheVariants as place
 use Rattle.graph_base.specs.Graphs.{Graph, no_graph, no_task}
 use Rattle.graph_base.specs.TaskLines.{IsGraph}
-use Rattle.graph_lang.specs.Reads.{Reads, Steps, with_line, told}
+use Rattle.graph_lang.specs.Reads.{Reads, Steps, with_line, line_outcome}
 use Rattle.graph_lang.specs.Faults.{kind_of}
 use Rattle.graph_lang.proofs.Wellformed.{reads_give_graph}
 
@@ -70,7 +70,7 @@ ignored n before line e = inl (e, refl)
 declared : (n : ℕ) (before : Graph) (line : List ℕ) (d : Decl) → is_ignored line ≡ false
     → Declares line d → kind_of before d ≡ None → Steps n before line (Ok (with_line before n d))
 declared n before line d words declares e =
-    inr (inr (words, d, declares, sym (ap (told n before d) e)))
+    inr (inr (words, d, declares, sym (ap (line_outcome n before d) e)))
 
 -- the graph after each line
 abbrev with_x : Graph

@@ -2,7 +2,7 @@
 use Rattle.std.specs.Prelude.{◌≡◌, option_map, ℕ, not, List, [], ◌∷◌, Option, Result, Ok, Err}
 use Rattle.graph_text.specs.Numbers.{nat_value}
 use Rattle.graph_text.specs.Decls.{BodyWords, EndWords, Decl}
-use Rattle.phase_base.specs.Lists.{first_row}
+use Rattle.graph_text.specs.phase_base.Lists.{first_row}
 use Rattle.graph_base.specs.Graphs.{Graph, Task}
 use Rattle.graph_lang.specs.WordValues.{taps_of, shift_of, factor_of}
 use Rattle.graph_lang.specs.declared.within.Numbers.{Numbers}
@@ -10,7 +10,7 @@ use Rattle.graph_lang.specs.declared.within.EndNumbers.{EndNumbers}
 use Rattle.graph_lang.specs.Faults.{is_in_order, may_be_parent, is_held, kind_of}
 use Rattle.graph_lang.specs.declared.fault.FaultKind.{FaultKind}
 use Rattle.graph_lang.specs.declared.fault.FaultKind.TheVariants.{OutBeforeIn, BadParent, NotHeld}
-use Rattle.graph_lang.specs.Reads.{told, Steps}
+use Rattle.graph_lang.specs.Reads.{line_outcome, Steps}
 use Rattle.graph_lang.specs.declared.fault.GraphRefusal.{GraphRefusal}
 use Rattle.graph_lang.specs.declared.fault.GraphRefusal.TheVariants as refusal
 
@@ -37,8 +37,8 @@ last_kind before t = first_row (
 
 -- what line n of the grammar, which declares d, comes to, unless memory ran out
 abbrev pub TellsDecl : ℕ → Graph → Decl → Result Graph GraphRefusal → Type 0
-TellsDecl n before d (Ok after) = Ok after ≡ told n before d (kind_of before d)
-TellsDecl n before d (Err (refusal.Fault f)) = Err f ≡ told n before d (kind_of before d)
+TellsDecl n before d (Ok after) = Ok after ≡ line_outcome n before d (kind_of before d)
+TellsDecl n before d (Err (refusal.Fault f)) = Err f ≡ line_outcome n before d (kind_of before d)
 TellsDecl n before d (Err refusal.OutOfMemory) = Unit {0}
 
 -- why a line stopped the reading, unless memory ran out

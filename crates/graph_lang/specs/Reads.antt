@@ -32,9 +32,9 @@ abbrev pub fault_at : ℕ → FaultKind → Result Graph GraphFault
 fault_at n kind = Err (record { line = n; kind = kind })
 
 -- what line n of the grammar comes to, by its first kind of fault
-abbrev pub told : ℕ → Graph → Decl → Option FaultKind → Result Graph GraphFault
-told n before d (Some kind) = fault_at n kind
-told n before d None = Ok (with_line before n d)
+abbrev pub line_outcome : ℕ → Graph → Decl → Option FaultKind → Result Graph GraphFault
+line_outcome n before d (Some kind) = fault_at n kind
+line_outcome n before d None = Ok (with_line before n d)
 
 -- line n, after the lines above it: it is ignored, or it is not in the grammar, or it declares d
 abbrev pub Steps : ℕ → Graph → List ℕ → Result Graph GraphFault → Type 0
@@ -43,7 +43,7 @@ Steps n before line outcome =
     ⊎ ((is_ignored line ≡ false) × ((d : Decl) → ¬ (Declares line d))
     × (outcome ≡ fault_at n Syntax))
     ⊎ ((is_ignored line ≡ false)
-    × (d : Decl) × Declares line d × (outcome ≡ told n before d (kind_of before d)))
+    × (d : Decl) × Declares line d × (outcome ≡ line_outcome n before d (kind_of before d)))
 
 -- the lines from number n on, after the lines above them: the graph that all of them declare, or
 -- the first fault

@@ -1,14 +1,13 @@
 -- What the words of a line stand for, after the lines above it.
-use Rattle.std.specs.Prelude.{ℕ, List, [], ◌∷◌, map, Option, Some, None, option_map, ℤ, pos}
-use Rattle.phase_accum.specs.declared.single.Single.{Single}
-use Rattle.phase_accum.specs.declared.single.Single.TheVariants.{Neg, Abs, Halve, Clamp}
-use Rattle.graph_words.specs.Words.{Word}
+use Rattle.std.specs.Prelude.{ℕ, false, List, [], ◌∷◌, map, Option, Some, None, option_map, ℤ, pos}
+use Rattle.graph_base.specs.phase_accum.declared.single.Single.{Single}
+use Rattle.graph_base.specs.phase_accum.declared.single.Single.TheVariants.{Neg, Abs, Halve, Clamp}
+use Rattle.graph_text.specs.phase_base.Words.{Word}
 use Rattle.graph_text.specs.Numbers.{nat_value, int_value}
-use Rattle.graph_text.specs.Decls.{FunctionWords, neg, abs, halve, clamp, ByWords, EndWords}
-use Rattle.graph_text.specs.Decls.{BodyWords, source, fir, split, join, peer, sink}
+use Rattle.graph_text.specs.Decls.{FunctionWords, neg, abs, halve, clamp, ByWords, EndWords, BodyWords, source, fir, split, join, peer, sink}
 use Rattle.graph_base.specs.Graphs.{Task, Named}
 use Rattle.graph_base.specs.Names.{phaser_named, task_named}
-use Rattle.phase_base.specs.declared.operation.Op.{Op}
+use Rattle.graph_text.specs.phase_base.declared.operation.Op.{Op}
 use Rattle.graph_base.specs.declared.line.Kind.{Kind}
 use Rattle.graph_base.specs.declared.line.Kind.TheVariants as kind
 use Rattle.graph_base.specs.declared.line.Parent.{Parent}
@@ -108,4 +107,6 @@ task_line names n body ends = record {
   taps = taps_of body;
   shift = shift_of body;
   mul = factor_of body;
+  block = 1;
+  joins_now = false;
 }

@@ -3,12 +3,11 @@ ghost use Rattle.std.specs.Prelude.{◌≡◌, ◌++◌, ◌==◌, nat_lt, IsTru
 ghost use Rattle.std.specs.Str.{bytes_eq};
 ghost use Rattle.std.specs.List.{list_all, list_any};
 ghost use Rattle.graph_text.specs.Plain.{plain};
-ghost use Rattle.graph_words.specs.Words.{is_name};
+ghost use Rattle.graph_text.specs.phase_base.Words.{is_name};
 ghost use Rattle.graph_text.specs.Lines.{body_of};
 ghost use Rattle.graph_base.specs.Names.{names_of, phaser_named};
 ghost use Rattle.graph_lang.specs.WordValues.{inputs_of, outputs_of, numbers_of, kind_of_body};
-ghost use Rattle.graph_lang.specs.Faults.{are_distinct, is_phaser, is_among, phasers_of};
-ghost use Rattle.graph_lang.specs.Faults.{is_exchange_below};
+ghost use Rattle.graph_lang.specs.Faults.{are_distinct, is_phaser, is_among, phasers_of, is_exchange_below};
 
 use crate::draft::phaser_named;
 use graph_base::{Kind, Place};

@@ -2,7 +2,7 @@
 ghost use Rattle.std.specs.Prelude.{◌≡◌, ◌||◌, ◌&&◌, ◌∷◌, [], not, is_some, option_map, IsTrue, IfSome, Some, None, if◌then◌else◌};
 ghost use Rattle.std.specs.List.{list_all};
 ghost use Rattle.graph_text.specs.Plain.{plain};
-ghost use Rattle.graph_words.specs.Words.{is_name};
+ghost use Rattle.graph_text.specs.phase_base.Words.{is_name};
 ghost use Rattle.graph_text.specs.Decls.{IsBy};
 ghost use Rattle.graph_text.specs.Lines.{by_of};
 ghost use Rattle.graph_text.specs.Numbers.{nat_value};
@@ -10,8 +10,7 @@ ghost use Rattle.graph_base.specs.Names.{names_of, place_of};
 ghost use Rattle.graph_base.specs.Inside.{task_of};
 ghost use Rattle.graph_lang.specs.WordValues.{parent_of};
 ghost use Rattle.graph_base.specs.TaskLines.{has_children};
-ghost use Rattle.graph_lang.specs.Faults.{is_parent_known, is_in_order, may_be_parent};
-ghost use Rattle.graph_lang.specs.Faults.{is_held, holds_for, is_plain, are_distinct};
+ghost use Rattle.graph_lang.specs.Faults.{is_parent_known, is_in_order, may_be_parent, is_held, holds_for, is_plain, are_distinct};
 ghost use Rattle.graph_lang.specs.Inside.{last_kind};
 
 use crate::body::{are_among, are_distinct, are_in_order, is_exchange_below};
@@ -66,7 +65,7 @@ impl Draft {
             None => true,
             Some(parent) => match self.tasks.get(parent.task) {
                 None => true,
-                Some(above) => has_children(above.kind),
+                Some(above) => has_children(above.kind) && !above.joins_now,
             },
         }
     }

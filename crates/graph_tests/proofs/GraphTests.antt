@@ -1,23 +1,23 @@
 -- Tests of a graph: that it is one as they are read.
-use Rattle.std.proofs.Common.{◌≡◌, ℕ, suc, ◌<◌, ◌≤◌, All, Contains, IfSome, IsTrue, Bool, true, false, cond, List, [], ◌∷◌, ◌++◌, Option, Some, None, ℤ, pos, length, bytes_eq, get_or, unsigned_abs, refl, sym, ap, ◌∙◌, arith}
+use Rattle.std.proofs.Common.{◌≡◌, ℕ, suc, ◌<◌, ◌≤◌, All, Contains, IfSome, IsSome, is_some, IsTrue, Bool, true, false, not, cond, List, [], ◌∷◌, ◌++◌, Option, Some, None, ℤ, pos, length, bytes_eq, get_or, unsigned_abs, refl, sym, ap, ◌∙◌, arith}
 use Rattle.std.proofs.lemmas.List.Elements.{All-nil, All-cons}
 use Rattle.std.proofs.lemmas.Option.{same_Some}
 use Rattle.std.proofs.lemmas.Slice.Eq.{bytes_eq-Decides}
-use Rattle.phase_base.specs.declared.limits.TheConstants.{BOUND_MAX}
-use Rattle.phase_accum.specs.declared.single.Single.{Single}
-use Rattle.phase_accum.specs.Singles.{CanBeNamed}
-use Rattle.graph_words.specs.Words.{Word, is_name, is_file}
-use Rattle.graph_base.specs.declared.limits.TheConstants.{PHASERS_MAX, TASKS_MAX, ENDS_MAX, STEPS_MAX, FACTOR_MAX}
-use Rattle.graph_base.specs.declared.line.Kind.{Kind}
-use Rattle.graph_base.specs.declared.line.Kind.TheVariants.{Source, Fir, Split, Join, Peer, Sink}
-use Rattle.graph_base.specs.declared.line.Parent.{Parent}
-use Rattle.graph_base.specs.declared.line.PhaserLine.{PhaserLine}
-use Rattle.graph_base.specs.declared.place.Place.{Place}
-use Rattle.graph_base.specs.declared.place.Place.TheVariants as at_place
-use Rattle.graph_base.specs.Graphs.{Graph, Task, Named, IsPlace, name_at, task_at, phaser_at, sources_of}
-use Rattle.graph_base.specs.Names.{place_of}
-use Rattle.graph_base.specs.TaskLines.{IsGraph, IsTaskLine, IsPhaserLine, IsParent, AreNames, AreRising, AreAmong, HasEnds, HasTaps, HasFactor, IsExchangeBelow, has_children}
-use Rattle.phase_base.specs.Lists.{is_distinct}
+use Rattle.stream_job.specs.phase_base.declared.limits.TheConstants.{BOUND_MAX}
+use Rattle.stream_job.specs.phase_accum.declared.single.Single.{Single}
+use Rattle.stream_job.specs.phase_accum.Singles.{CanBeNamed}
+use Rattle.stream_job.specs.phase_base.Words.{Word, is_name, is_file}
+use Rattle.stream_job.specs.graph_base.declared.limits.TheConstants.{PHASERS_MAX, TASKS_MAX, ENDS_MAX, STEPS_MAX, FACTOR_MAX}
+use Rattle.stream_job.specs.graph_base.declared.line.Kind.{Kind}
+use Rattle.stream_job.specs.graph_base.declared.line.Kind.TheVariants.{Source, Fir, Split, Join, Peer, Sink}
+use Rattle.stream_job.specs.graph_base.declared.line.Parent.{Parent}
+use Rattle.stream_job.specs.graph_base.declared.line.PhaserLine.{PhaserLine}
+use Rattle.stream_job.specs.graph_base.declared.place.Place.{Place}
+use Rattle.stream_job.specs.graph_base.declared.place.Place.TheVariants as at_place
+use Rattle.stream_job.specs.graph_base.Graphs.{Graph, Task, Named, IsPlace, name_at, task_at, phaser_at, sources_of}
+use Rattle.stream_job.specs.graph_base.Names.{place_of}
+use Rattle.stream_job.specs.graph_base.TaskLines.{IsGraph, IsTaskLine, IsPhaserLine, IsParent, AreNames, AreRising, AreAmong, HasEnds, HasTaps, HasFactor, HasBlock, MayJoinNow, IsExchangeBelow, has_children, has_blocks}
+use Rattle.stream_job.specs.phase_base.Lists.{is_distinct}
 use Rattle.graph_tests.proofs.Tests as test
 use Rattle.graph_tests.proofs.Tests.{Test, Both, never, always, giving, both, either, each, when_some, where_so}
 
@@ -114,14 +114,47 @@ is_parent graph t task parent =
       steps = b.right.left;
       kind = b.right.right.left;
       child_kind = b.right.right.right.left;
-      waits = b.right.right.right.right.left;
-      signals = b.right.right.right.right.right;
+      stays = b.right.right.right.right.left;
+      waits = b.right.right.right.right.right.left;
+      signals = b.right.right.right.right.right.right;
     })
     (both (test.is_below parent.task t)
     (both (test.is_at_most parent.at STEPS_MAX)
     (both (test.is_true (has_children above.kind))
     (both (test.is_true (has_children task.kind))
-    (both (are_among task.inputs above.inputs) (are_among task.outputs above.outputs))))))
+    (both (test.is_false above.joins_now)
+    (both (are_among task.inputs above.inputs) (are_among task.outputs above.outputs)))))))
+
+abbrev pub has_block : (graph : Graph) (task : Task) → Test (HasBlock graph task)
+has_block graph task =
+    let Room : ℕ → Type 0 = λ p. task.block ≤ (phaser_at graph p).bound in
+    giving (λ b. record {
+      some = b.left;
+      kind = b.right.left;
+      inputs = b.right.right.left;
+      outputs = b.right.right.right;
+    })
+    (both (test.is_at_most 1 task.block)
+    (both
+    (where_so (has_blocks task.kind ≡ false) (task.block ≡ 1) (not (has_blocks task.kind))
+    (λ e. rw e refl) (test.is_equal task.block 1))
+    (both (all_of Room task.inputs (λ p. test.is_at_most task.block (phaser_at graph p).bound))
+    (all_of Room task.outputs (λ p. test.is_at_most task.block (phaser_at graph p).bound)))))
+
+abbrev pub is_sink_kind : (kind : Kind) → Test (kind ≡ Sink)
+is_sink_kind Sink = always refl
+is_sink_kind Source = never
+is_sink_kind Fir = never
+is_sink_kind Split = never
+is_sink_kind Join = never
+is_sink_kind Peer = never
+
+abbrev pub may_join_now : (task : Task) → Test (MayJoinNow task)
+may_join_now task =
+    where_so (task.joins_now ≡ true) ((task.kind ≡ Sink) × IsSome task.parent) task.joins_now
+    (λ now. now)
+    (giving (λ b. (b.left, b.right))
+    (both (is_sink_kind task.kind) (test.is_true (is_some task.parent))))
 
 abbrev pub is_task_line : (graph : Graph) (t : ℕ) (task : Task) → Test (IsTaskLine graph t task)
 is_task_line graph t task =
@@ -139,7 +172,9 @@ is_task_line graph t task =
       taps = b.right.right.right.left;
       factor = b.right.right.right.right.left;
       until = b.right.right.right.right.right.left;
-      parent = b.right.right.right.right.right.right;
+      parent = b.right.right.right.right.right.right.left;
+      block = b.right.right.right.right.right.right.right.left;
+      now = b.right.right.right.right.right.right.right.right;
     })
     (both
     (both (has_ends task.kind (length task.inputs) (length task.outputs))
@@ -154,8 +189,9 @@ is_task_line graph t task =
     (both (has_factor task.kind task.mul)
     (both (if_some task.until (λ steps. steps ≤ STEPS_MAX)
     (λ steps. test.is_at_most steps STEPS_MAX))
-    (if_some task.parent (λ parent. IsParent graph t task parent)
-    (λ parent. is_parent graph t task parent))))))))
+    (both (if_some task.parent (λ parent. IsParent graph t task parent)
+    (λ parent. is_parent graph t task parent))
+    (both (has_block graph task) (may_join_now task)))))))))
 
 -- ---- the line of a phaser, without a single
 

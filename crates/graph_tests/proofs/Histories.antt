@@ -1,18 +1,18 @@
 -- How histories grow by the events of a run.
 use Rattle.std.proofs.Common.{◌≡◌, ◌≢◌, ℕ, ◌<◌, ◌||◌, Bool, true, false, cond, eqb, eqb-true, eq-eqb, List, [], ◌∷◌, ◌++◌, length, refl, sym, ap, ◌∙◌, arith}
 use Rattle.std.proofs.lemmas.List.{append_assoc}
-use Rattle.phase_history.specs.declared.event.Event.{Event}
-use Rattle.phase_history.specs.Histories.{History, IsBeginning}
-use Rattle.phase_base.specs.Lists.{is_in}
-use Rattle.graph_base.specs.TaskLines.{IsGraph}
-use Rattle.stream_lists.specs.Jobs.{Job}
-use Rattle.graph_moments.specs.Moments.{Moment, HasRun}
-use Rattle.graph_moments.proofs.OnLines.{on_phaser}
-use Rattle.graph_moves.specs.Moves.{HasGrown, OthersMoved}
-use Rattle.graph_moves.specs.Turned.{with_at}
+use Rattle.stream_job.specs.phase_history.declared.event.Event.{Event}
+use Rattle.stream_job.specs.phase_history.Histories.{History, IsBeginning}
+use Rattle.stream_job.specs.phase_base.Lists.{is_in}
+use Rattle.stream_job.specs.graph_base.TaskLines.{IsGraph}
+use Rattle.stream_job.specs.stream_lists.Jobs.{Job}
+use Rattle.stream_job.specs.graph_runs.Moments.{Moment, HasRun}
+use Rattle.stream_job.proofs.graph_runs_lemmas.OnLines.{on_phaser}
+use Rattle.stream_job.specs.graph_runs.Moves.{HasGrown, OthersMoved}
+use Rattle.stream_job.specs.graph_runs.Turned.{with_at}
 use Rattle.graph_tests.specs.Runs.{TaskEvent, sample, signal, first_wait, exchange_wait, leave, child, after_turn, after_all}
 
-event_begins : (p q : ℕ) (event : Event) (h : ℕ → History)
+pub event_begins : (p q : ℕ) (event : Event) (h : ℕ → History)
     → IsBeginning (h q) (with_at p (event ∷ h p) h q)
 event_begins p q event h = by (eqb q p) refl
   where

@@ -1,3 +1,4 @@
+pub mod BlockTests
 pub mod GraphTests
 pub mod Histories
 pub mod NextTests
@@ -5,4 +6,5 @@ pub mod OpeningTests
 pub mod PeerAlone
 pub mod RunTests
 pub mod Tests
+pub mod WorkedBlocks
 pub mod WorkedRun

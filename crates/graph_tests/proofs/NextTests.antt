@@ -1,26 +1,27 @@
 -- Tests of the next event of a task.
-use Rattle.std.proofs.Common.{◌≡◌, ℕ, zero, suc, ◌+◌, ◌<◌, Bool, true, false, ◌||◌, cond, eqb, eq-eqb, List, [], ◌∷◌, ◌++◌, Option, Some, None, is_some, is_none, ℤ, pos, length, get_or, take, drop, unsigned_abs, refl, sym, ◌∙◌, ap, arith, inl, inr}
+use Rattle.std.proofs.Common.{◌≡◌, ℕ, zero, suc, ◌+◌, ◌<◌, ◌≤◌, Bool, true, false, ◌||◌, cond, eqb, eq-eqb, List, [], ◌∷◌, ◌++◌, Option, Some, None, is_some, is_none, ℤ, pos, length, map, get_or, take, drop, unsigned_abs, refl, sym, ◌∙◌, ap, arith, inl, inr}
 use Rattle.std.specs.List.{position_from}
-use Rattle.phase_base.specs.Modes.{mode_signals, mode_waits}
-use Rattle.phase_base.specs.Members.{signal_phases}
-use Rattle.phase_base.specs.declared.mode.Mode.{Mode}
-use Rattle.phase_accum.specs.declared.outcome.Outcome.{Outcome}
-use Rattle.phase_accum.specs.Sends.{value_max}
-use Rattle.phase_history.specs.Histories.{members_of, done_of, wait_phase, has_dropped}
-use Rattle.phase_history.specs.Phases.{stream_of, received_by}
-use Rattle.phase_history.specs.Refusals.{register_refusal, signal_refusal, wait_refusal, drop_refusal}
-use Rattle.graph_base.specs.declared.line.Kind.{Kind}
-use Rattle.graph_base.specs.declared.line.Kind.TheVariants.{Source, Fir, Split, Join, Peer, Sink}
-use Rattle.graph_base.specs.declared.line.Parent.{Parent}
-use Rattle.graph_base.specs.Graphs.{Task, task_at, phaser_at, is_source}
-use Rattle.graph_base.specs.TaskLines.{IsGraph}
-use Rattle.stream_lists.specs.Jobs.{Job, samples_at, index_in}
-use Rattle.stream_lists.specs.Spans.{signalled_by, takes_from}
-use Rattle.stream_laws.proofs.Ordered.{place-at}
-use Rattle.graph_moments.specs.Moments.{Moment, HasRun, limits_at, value_at, input_at, made_now, first_input, OnLine, AtMost, HasSamples, HasExchanged, HasEnded, MayEnd, at_until, no_sample, no_input, RanOut}
-use Rattle.graph_moments.proofs.OnLines.{on_phaser}
-use Rattle.graph_moves.specs.Moves.{IsStaying, NoneDue, MayBegin}
-use Rattle.graph_moves.specs.Turned.{IsAcceptedSignal, IsNextSignal, IsNextSample, IsAnsweredWait, IsFirstWait, IsExchangeWait, IsNextLeave, IsNextChild}
+use Rattle.stream_job.specs.phase_base.Modes.{mode_signals, mode_waits}
+use Rattle.stream_job.specs.phase_base.Members.{signal_phases}
+use Rattle.stream_job.specs.phase_base.declared.mode.Mode.{Mode}
+use Rattle.stream_job.specs.phase_accum.declared.outcome.Outcome.{Outcome}
+use Rattle.stream_job.specs.phase_accum.Sends.{value_max}
+use Rattle.stream_job.specs.phase_history.Legal.{AreLists}
+use Rattle.stream_job.specs.phase_history.Histories.{members_of, done_of, wait_phase, has_dropped}
+use Rattle.stream_job.specs.phase_history.Phases.{stream_of, received_by}
+use Rattle.stream_job.specs.phase_history.Refusals.{register_refusal, signal_refusal, wait_refusal, drop_refusal}
+use Rattle.stream_job.specs.graph_base.declared.line.Kind.{Kind}
+use Rattle.stream_job.specs.graph_base.declared.line.Kind.TheVariants.{Source, Fir, Split, Join, Peer, Sink}
+use Rattle.stream_job.specs.graph_base.declared.line.Parent.{Parent}
+use Rattle.stream_job.specs.graph_base.Graphs.{Task, task_at, phaser_at, is_source}
+use Rattle.stream_job.specs.graph_base.TaskLines.{IsGraph}
+use Rattle.stream_job.specs.stream_lists.Jobs.{Job, samples_at, index_in}
+use Rattle.stream_job.specs.stream_lists.Spans.{signalled_by, takes_from}
+use Rattle.stream_job.proofs.stream_lists_lemmas.Ordered.{place-at}
+use Rattle.stream_job.specs.graph_runs.Moments.{one, Moment, HasRun, limits_at, value_at, input_at, made_now, first_input, OnLine, AtMost, HasSamples, HasExchanged, HasEnded, MayStop, at_until, no_sample, no_input, RanOut}
+use Rattle.stream_job.proofs.graph_runs_lemmas.OnLines.{on_phaser}
+use Rattle.stream_job.specs.graph_runs.Moves.{IsStaying, NoneDue, NoneBefore, MayBegin, MayBeginTo}
+use Rattle.stream_job.specs.graph_runs.Turned.{IsAcceptedSignals, IsAcceptedSignal, IsNextSignal, IsNextSample, IsAnsweredWaits, IsAnsweredWait, IsFirstWait, IsExchangeWait, IsNextLeave, IsNextChild}
 use Rattle.graph_tests.specs.Runs.{TaskEvent, sample, signal, first_wait, exchange_wait, leave, child, IsThere, IsNext}
 use Rattle.graph_tests.proofs.Tests as test
 use Rattle.graph_tests.proofs.Tests.{Test, Both, never, always, giving, both, either, each, when_some, where_so}
@@ -84,30 +85,36 @@ stays job m t p =
     (λ q. when_some (m.number q t) (λ n. has_dropped (m.history q) n ≡ false)
     (λ n. test.is_false (has_dropped (m.history q) n))))
 
--- a child that is not there comes after more steps
+-- a child that is not there comes after so many steps, or more
 abbrev pub Later : Job → Moment → ℕ → ℕ → ℕ → Parent → Type 0
-Later job m t p c u = m.number p c ≡ None → OnLine (task_at job.graph c) p → m.begun t < u.at
+Later job m steps p c u =
+    m.number p c ≡ None → OnLine (task_at job.graph c) p → steps ≤ u.at
 
-abbrev pub comes_later : (job : Job) (m : Moment) (t p c : ℕ) (u : Parent)
-    → Test (Later job m t p c u)
-comes_later job m t p c u =
-    where_so (m.number p c ≡ None) (OnLine (task_at job.graph c) p → m.begun t < u.at)
+abbrev pub comes_later : (job : Job) (m : Moment) (steps p c : ℕ) (u : Parent)
+    → Test (Later job m steps p c u)
+comes_later job m steps p c u =
+    where_so (m.number p c ≡ None) (OnLine (task_at job.graph c) p → steps ≤ u.at)
     (is_none (m.number p c)) (λ none. rw none refl)
-    (where_so (OnLine (task_at job.graph c) p) (m.begun t < u.at) (on_line (task_at job.graph c) p)
-    (on_line-is (task_at job.graph c) p) (test.is_below (m.begun t) u.at))
+    (where_so (OnLine (task_at job.graph c) p) (steps ≤ u.at) (on_line (task_at job.graph c) p)
+    (on_line-is (task_at job.graph c) p) (test.is_at_most steps u.at))
 
-abbrev pub none_due : (job : Job) (m : Moment) (t p : ℕ) → Test (NoneDue job m t p)
-none_due job m t p =
+abbrev pub none_before : (job : Job) (m : Moment) (t steps p : ℕ)
+    → Test (NoneBefore job m t steps p)
+none_before job m t steps p =
     let ByTask : ℕ → Parent → Type 0 =
-    λ c u. u.task ≡ t → (n : ℕ) → m.number p t ≡ Some n → Later job m t p c u in
+    λ c u. u.task ≡ t → (n : ℕ) → m.number p t ≡ Some n → Later job m steps p c u in
     let Due : ℕ → Type 0 =
     λ c. (u : Parent) → (task_at job.graph c).parent ≡ Some u → ByTask c u in
     giving (λ all c n u there e by at none on. all c there u e by n at none on)
     (each (length job.graph.tasks) Due
     (λ c. when_some (task_at job.graph c).parent (ByTask c)
-    (λ u. where_so (u.task ≡ t) ((n : ℕ) → m.number p t ≡ Some n → Later job m t p c u)
+    (λ u. where_so (u.task ≡ t) ((n : ℕ) → m.number p t ≡ Some n → Later job m steps p c u)
     (eqb u.task t) (λ same. eq-eqb u.task t same)
-    (when_some (m.number p t) (λ n. Later job m t p c u) (λ n. comes_later job m t p c u)))))
+    (when_some (m.number p t) (λ n. Later job m steps p c u)
+    (λ n. comes_later job m steps p c u)))))
+
+abbrev pub none_due : (job : Job) (m : Moment) (t p : ℕ) → Test (NoneDue job m t p)
+none_due job m t p = none_before job m t (suc (m.begun t)) p
 
 abbrev pub at_most : (n : ℕ) (limit : Option ℕ) → Test (AtMost n limit)
 at_most n None = always tt
@@ -130,9 +137,9 @@ has_exchanged Sink j put taken = always tt
 has_exchanged Peer zero put taken = always tt
 has_exchanged Peer (suc j) put taken = test.is_at_most put taken
 
-abbrev pub may_begin : (job : Job) (m : Moment) (t p : ℕ)
-    → Test (Given job m t p → MayBegin job m t)
-may_begin job m t p =
+abbrev pub may_begin_to : (job : Job) (m : Moment) (t p steps : ℕ)
+    → Test (Given job m t p → MayBeginTo job m t steps)
+may_begin_to job m t p steps =
     let task = task_at job.graph t in
     giving (λ b g. record {
       taken = b.left;
@@ -143,9 +150,14 @@ may_begin job m t p =
     })
     (both (each (length task.inputs) (λ k. length (m.taken t k) ≡ takes_from task (m.begun t) k)
     (λ k. test.is_equal (length (m.taken t k)) (takes_from task (m.begun t) k)))
-    (both (at_most (suc (m.begun t)) task.until)
-    (both (has_samples task.kind (suc (m.begun t)) (length (samples_at job t)))
-    (each (length job.graph.phasers) (λ q. NoneDue job m t q) (λ q. none_due job m t q)))))
+    (both (at_most steps task.until)
+    (both (has_samples task.kind steps (length (samples_at job t)))
+    (each (length job.graph.phasers) (λ q. NoneBefore job m t steps q)
+    (λ q. none_before job m t steps q)))))
+
+abbrev pub may_begin : (job : Job) (m : Moment) (t p : ℕ)
+    → Test (Given job m t p → MayBegin job m t)
+may_begin job m t p = may_begin_to job m t p (suc (m.begun t))
 
 -- ---- the end of a task
 
@@ -181,9 +193,9 @@ ran_out m task t k =
     (both (test.is_empty (signal_phases (members_of h)))
     (test.is_at_most (done_of h) (m.offset t + length (m.taken t k))))
 
-abbrev pub may_end : (m : Moment) (task : Task) (t samples : ℕ) → Test (MayEnd m task t samples)
+abbrev pub may_end : (m : Moment) (task : Task) (t samples : ℕ) → Test (MayStop m task t samples)
 may_end m task t samples =
-    let End = MayEnd m task t samples in
+    let End = MayStop m task t samples in
     either End (giving (λ e. at_until e) (test.is_some_of task.until (m.begun t)))
     (either End (giving (λ b. no_sample b.left b.right)
     (both (is_source_kind task.kind) (test.is_at_most samples (m.begun t))))
@@ -200,25 +212,31 @@ has_ended job m t =
 
 -- ---- signals
 
-abbrev pub is_accepted_signal : (job : Job) (m : Moment) (t j p n : ℕ) (v : ℤ)
-    → Test (Given job m t p → IsAcceptedSignal job m t j p n v)
-is_accepted_signal job m t j p n v =
+abbrev pub are_lists : (vs : List ℤ) → Test (AreLists (map one vs))
+are_lists [] = always tt
+are_lists (v ∷ vs) =
+    giving (λ b. ((record { small = b.left }, tt), omega arith, b.right))
+    (both (test.is_at_most (unsigned_abs v) value_max) (are_lists vs))
+
+abbrev pub is_accepted_signals : (job : Job) (m : Moment) (t j p n : ℕ) (vs : List ℤ)
+    → Test (Given job m t p → IsAcceptedSignals job m t j p n vs)
+is_accepted_signals job m t j p n vs =
     let single = (phaser_at job.graph p).single in
     giving (λ b g. record {
-      accepted = (
-        b.left,
-        ((record { small = b.right.left }, tt), omega arith, tt),
-        (g.graph.phasers p g.there.phaser).single,
-      );
+      accepted = (b.left, b.right.left, (g.graph.phasers p g.there.phaser).single);
       numbered = b.right.right.left;
       place = b.right.right.right.left;
       staying = b.right.right.right.right g;
     })
-    (both (test.is_none (signal_refusal (limits_at job p) (m.history p) n ((v ∷ []) ∷ []) single))
-    (both (test.is_at_most (unsigned_abs v) value_max)
+    (both (test.is_none (signal_refusal (limits_at job p) (m.history p) n (map one vs) single))
+    (both (are_lists vs)
     (both (test.is_some_of (m.number p t) n)
     (both (test.is_some_of (index_in (signalled_by (task_at job.graph t)) p) j)
     (stays job m t p)))))
+
+abbrev pub is_accepted_signal : (job : Job) (m : Moment) (t j p n : ℕ) (v : ℤ)
+    → Test (Given job m t p → IsAcceptedSignal job m t j p n v)
+is_accepted_signal job m t j p n v = is_accepted_signals job m t j p n (v ∷ [])
 
 abbrev pub is_next_signal : (job : Job) (m : Moment) (t j p n : ℕ) (v : ℤ)
     → Test (Given job m t p → IsNextSignal job m t j p n v)
@@ -254,12 +272,13 @@ is_next_sample job m t j p n v =
 
 -- ---- waits
 
-abbrev pub is_answered_wait : (job : Job) (m : Moment) (t k p n : ℕ) (outcome : Outcome)
-    → Test (Given job m t p → IsAnsweredWait job m t k p n outcome)
-is_answered_wait job m t k p n outcome =
+abbrev pub is_answered_waits : (job : Job) (m : Moment) (t k p n : ℕ) (outcomes : List Outcome)
+    → Test (Given job m t p → IsAnsweredWaits job m t k p n outcomes)
+is_answered_waits job m t k p n outcomes =
     let task = task_at job.graph t in
     let value = value_at job p in
     let h = m.history p in
+    let many = length outcomes in
     giving (λ b g. record {
       accepted = (b.left, b.right.left);
       numbered = b.right.right.left;
@@ -269,13 +288,17 @@ is_answered_wait job m t k p n outcome =
       answered = (let mine : eqb n n ≡ true = eq-eqb n n refl in
           rw mine (ap (λ l. received_by value h n ++ l) b.right.right.right.right.right.right));
     })
-    (both (test.is_none (wait_refusal (limits_at job p) h n 1))
-    (both (test.is_at_most (wait_phase h n + 1) (done_of h))
+    (both (test.is_none (wait_refusal (limits_at job p) h n many))
+    (both (test.is_at_most (wait_phase h n + many) (done_of h))
     (both (test.is_some_of (m.number p t) n)
     (both (test.is_below k (length task.inputs))
     (both (test.is_equal (input_at task k) p)
     (both (stays job m t p)
-    (test.is_answer (take 1 (drop (wait_phase h n) (stream_of value h))) outcome)))))))
+    (test.are_outcomes (take many (drop (wait_phase h n) (stream_of value h))) outcomes)))))))
+
+abbrev pub is_answered_wait : (job : Job) (m : Moment) (t k p n : ℕ) (outcome : Outcome)
+    → Test (Given job m t p → IsAnsweredWait job m t k p n outcome)
+is_answered_wait job m t k p n outcome = is_answered_waits job m t k p n (outcome ∷ [])
 
 abbrev pub is_first_wait : (job : Job) (m : Moment) (t k p n : ℕ) (outcome : Outcome)
     → Test (Given job m t p → IsFirstWait job m t k p n outcome)

@@ -1,16 +1,16 @@
 -- What the peer of the worked run sees: legal histories, and events of others before its own.
 use Rattle.std.proofs.Common.{◌≡◌, ℕ, zero, suc, ◌<◌, leb-true, [], ◌∷◌, ◌++◌, None, get_or, pos, refl, sym, ap, subst, ◌∙◌, arith}
-use Rattle.phase_base.specs.Limits.{AreLimits}
-use Rattle.phase_base.specs.declared.mode.Mode.TheVariants.{Sig}
-use Rattle.phase_history.specs.declared.event.Event.TheVariants.{Made, Registered, Signalled, Waited, Dropped}
-use Rattle.phase_history.specs.Histories.{History}
-use Rattle.phase_history.specs.Legal.{IsLegal}
-use Rattle.phase_history.specs.Others.{OthersCame, events_of}
-use Rattle.graph_moments.specs.Moments.{Moment, limits_at}
-use Rattle.graph_turns.specs.TaskPlaces.{registration_at}
-use Rattle.graph_turns.proofs.Signalling.{sendable}
-use Rattle.graph_parts.specs.Parts.{SeesOwn, put_event}
-use Rattle.graph_parts.specs.Places.{HasChildrenBy, IsFirstMoment, IsRootOn}
+use Rattle.stream_job.specs.phase_base.Limits.{AreLimits}
+use Rattle.stream_job.specs.phase_base.declared.mode.Mode.TheVariants.{Sig}
+use Rattle.stream_job.specs.phase_history.declared.event.Event.TheVariants.{Made, Registered, Signalled, Waited, Dropped}
+use Rattle.stream_job.specs.phase_history.Histories.{History}
+use Rattle.stream_job.specs.phase_history.Legal.{IsLegal}
+use Rattle.stream_job.specs.phase_history.Others.{OthersCame, events_of}
+use Rattle.stream_job.specs.graph_runs.Moments.{Moment, limits_at}
+use Rattle.stream_job.specs.graph_runs.TaskPlaces.{registration_at}
+use Rattle.stream_job.proofs.graph_runs_lemmas.Signalling.{sendable}
+use Rattle.stream_job.specs.graph_runs.Parts.{SeesOwn, put_event}
+use Rattle.stream_job.specs.graph_runs.Places.{HasChildrenBy, IsFirstMoment, IsRootOn}
 use Rattle.graph_tests.specs.Worked.{worked}
 use Rattle.graph_tests.specs.WorkedParts.{PeerKnows, peer_seen, x_before, e_before, e_signalled, peer_begins, peer_owes_e, peer_exchanges}
 use Rattle.graph_tests.proofs.Histories.{only_one}

@@ -3,8 +3,8 @@
 use Rattle.std.proofs.Common.{◌≡◌, ◌≢◌, ℕ, zero, suc, ◌<◌, ◌≤◌, Bool, true, false, not, ◌&&◌, ◌||◌, eqb, leb, eqb-true, eq-eqb, leb-true, List, [], ◌∷◌, Option, Some, None, ℤ, pos, negsuc, refl, ap, subst, ◌∙◌, arith, ◌⊎◌, inl, inr}
 use Rattle.std.proofs.lemmas.Bool.{and_parts, cases_lt}
 use Rattle.std.proofs.lemmas.Option.{same_Some}
-use Rattle.phase_accum.specs.declared.outcome.Outcome.{Outcome}
-use Rattle.phase_accum.specs.declared.outcome.Outcome.TheVariants.{Value, Empty, TooBig}
+use Rattle.stream_job.specs.phase_accum.declared.outcome.Outcome.{Outcome}
+use Rattle.stream_job.specs.phase_accum.declared.outcome.Outcome.TheVariants.{Value, Empty, TooBig}
 
 -- a test of a fact
 pub record Test (P : Type 0) : Type 0 where
@@ -142,8 +142,10 @@ is_outcome Empty TooBig = never
 is_outcome TooBig (Value b) = never
 is_outcome TooBig Empty = never
 
--- the list is this outcome alone
-abbrev pub is_answer : (xs : List Outcome) (o : Outcome) → Test (xs ≡ o ∷ [])
-is_answer [] o = never
-is_answer (x ∷ []) o = giving (λ same. ap (λ h. h ∷ []) same) (is_outcome x o)
-is_answer (x ∷ y ∷ xs) o = never
+abbrev pub are_outcomes : (xs ys : List Outcome) → Test (xs ≡ ys)
+are_outcomes [] [] = always refl
+are_outcomes [] (y ∷ ys) = never
+are_outcomes (x ∷ xs) [] = never
+are_outcomes (x ∷ xs) (y ∷ ys) =
+    giving (λ b. ap (λ h. h ∷ xs) b.left ∙ ap (λ l. y ∷ l) b.right)
+    (both (is_outcome x y) (are_outcomes xs ys))

@@ -1,9 +1,9 @@
 -- The worked run: its graph, and its parts from one moment to another.
 use Rattle.std.proofs.Common.{◌≡◌, List, true, refl}
-use Rattle.graph_base.specs.TaskLines.{IsGraph}
-use Rattle.stream_lists.specs.Jobs.{Job}
-use Rattle.graph_moments.specs.Moments.{Moment, HasRun}
-use Rattle.graph_moments.specs.Settled.{IsReady}
+use Rattle.stream_job.specs.graph_base.TaskLines.{IsGraph}
+use Rattle.stream_job.specs.stream_lists.Jobs.{Job}
+use Rattle.stream_job.specs.graph_runs.Moments.{Moment, HasRun}
+use Rattle.stream_job.specs.graph_runs.Settled.{IsReady}
 use Rattle.graph_tests.specs.Runs.{TaskEvent, AreNext, HasRunThrough, after_all}
 use Rattle.graph_tests.specs.Worked.{worked}
 use Rattle.graph_tests.proofs.GraphTests.{is_graph}

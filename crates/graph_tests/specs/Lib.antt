@@ -1,5 +1,7 @@
+pub mod BlockRuns
 pub mod Runs
 pub mod Worked
+pub mod WorkedBlocks
 pub mod WorkedFaults
 pub mod WorkedParts
 pub mod WorkedPlaces

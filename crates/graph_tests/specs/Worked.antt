@@ -1,18 +1,18 @@
 -- A worked run: a source, a peer alone on its exchange, a splitter, a joiner, a sink with `until`,
 -- and its child, from the opening to the end.
 use Rattle.std.specs.Prelude.{ℕ, List, [], ◌∷◌, ◌++◌, take, Option, Some, None, pos, codes}
-use Rattle.phase_base.specs.declared.mode.Mode.TheVariants.{Sig, Wait, SigWait}
-use Rattle.phase_accum.specs.declared.outcome.Outcome.TheVariants.{Value}
-use Rattle.phase_history.specs.declared.event.Event.TheVariants.{Made, Registered, Dropped}
-use Rattle.phase_history.specs.Histories.{History}
-use Rattle.phase_base.specs.declared.operation.Op.TheVariants.{Sum}
-use Rattle.graph_base.specs.declared.line.Kind.TheVariants.{Source, Split, Join, Peer}
-use Rattle.graph_base.specs.declared.line.Parent.{Parent}
-use Rattle.graph_base.specs.declared.line.PhaserLine.{PhaserLine}
-use Rattle.graph_base.specs.declared.place.Place.TheVariants as place
-use Rattle.graph_base.specs.Graphs.{Graph, no_task}
-use Rattle.stream_lists.specs.Jobs.{Job}
-use Rattle.graph_moments.specs.Moments.{Moment}
+use Rattle.stream_job.specs.phase_base.declared.mode.Mode.TheVariants.{Sig, Wait, SigWait}
+use Rattle.stream_job.specs.phase_accum.declared.outcome.Outcome.TheVariants.{Value}
+use Rattle.stream_job.specs.phase_history.declared.event.Event.TheVariants.{Made, Registered, Dropped}
+use Rattle.stream_job.specs.phase_history.Histories.{History}
+use Rattle.stream_job.specs.phase_base.declared.operation.Op.TheVariants.{Sum}
+use Rattle.stream_job.specs.graph_base.declared.line.Kind.TheVariants.{Source, Split, Join, Peer}
+use Rattle.stream_job.specs.graph_base.declared.line.Parent.{Parent}
+use Rattle.stream_job.specs.graph_base.declared.line.PhaserLine.{PhaserLine}
+use Rattle.stream_job.specs.graph_base.declared.place.Place.TheVariants as place
+use Rattle.stream_job.specs.graph_base.Graphs.{Graph, no_task}
+use Rattle.stream_job.specs.stream_lists.Jobs.{Job}
+use Rattle.stream_job.specs.graph_runs.Moments.{Moment}
 use Rattle.graph_tests.specs.Runs.{TaskEvent, sample, signal, first_wait, exchange_wait, leave, child, opened, after_turn, after_all}
 
 -- phaser NAME sum 4
@@ -41,7 +41,7 @@ worked_graph = record {
 
 -- the source has the samples 5 and 7
 abbrev pub worked : Job
-worked = record { graph = worked_graph; samples = (pos 5 ∷ pos 7 ∷ []) ∷ [] }
+worked = record { graph = worked_graph; samples = (pos 5 ∷ pos 7 ∷ []) ∷ []; starts = [] }
 
 -- the founder has registered a task that signals as 1 and a task that waits as 2, and has left
 abbrev pub founded : History

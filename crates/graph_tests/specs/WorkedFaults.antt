@@ -1,14 +1,14 @@
 -- A run that meets a value that is too big, and in which a filter makes one.
 use Rattle.std.specs.Prelude.{ℕ, ℤ, List, [], ◌∷◌, Option, Some, None, pos, codes, take}
-use Rattle.phase_base.specs.declared.mode.Mode.TheVariants.{Sig, Wait}
-use Rattle.phase_accum.specs.declared.outcome.Outcome.TheVariants.{Value, TooBig}
-use Rattle.phase_history.specs.declared.event.Event.TheVariants.{Made, Registered, Dropped}
-use Rattle.phase_history.specs.Histories.{History}
-use Rattle.graph_base.specs.declared.line.Kind.TheVariants.{Source, Fir}
-use Rattle.graph_base.specs.declared.place.Place.TheVariants as place
-use Rattle.graph_base.specs.Graphs.{Graph, no_task}
-use Rattle.stream_lists.specs.Jobs.{Job}
-use Rattle.graph_moments.specs.Moments.{Moment}
+use Rattle.stream_job.specs.phase_base.declared.mode.Mode.TheVariants.{Sig, Wait}
+use Rattle.stream_job.specs.phase_accum.declared.outcome.Outcome.TheVariants.{Value, TooBig}
+use Rattle.stream_job.specs.phase_history.declared.event.Event.TheVariants.{Made, Registered, Dropped}
+use Rattle.stream_job.specs.phase_history.Histories.{History}
+use Rattle.stream_job.specs.graph_base.declared.line.Kind.TheVariants.{Source, Fir}
+use Rattle.stream_job.specs.graph_base.declared.place.Place.TheVariants as place
+use Rattle.stream_job.specs.graph_base.Graphs.{Graph, no_task}
+use Rattle.stream_job.specs.stream_lists.Jobs.{Job}
+use Rattle.stream_job.specs.graph_runs.Moments.{Moment}
 use Rattle.graph_tests.specs.Runs.{TaskEvent, sample, first_wait, opened, after_all}
 use Rattle.graph_tests.specs.Worked.{bus, founded}
 
@@ -45,6 +45,7 @@ abbrev pub faulty : Job
 faulty = record {
   graph = faulty_graph;
   samples = (greatest ∷ []) ∷ (greatest ∷ []) ∷ (greatest ∷ []) ∷ [];
+  starts = [];
 }
 
 -- X has two signallers and a waiter

@@ -1,12 +1,12 @@
 -- The worked run as its peer alone sees it, up to where the peer owes its value on Y.
 use Rattle.std.specs.Prelude.{◌≡◌, ℕ, zero, suc, pos, [], ◌∷◌, Some, None, Ok}
-use Rattle.phase_base.specs.declared.mode.Mode.TheVariants.{Sig, Wait, SigWait}
-use Rattle.phase_history.specs.declared.event.Event.TheVariants.{Made, Registered, Signalled, Dropped}
-use Rattle.phase_history.specs.Histories.{History}
-use Rattle.graph_moments.specs.Moments.{Moment}
-use Rattle.graph_turns.specs.TaskPlaces.{TaskPlace, StandsAt, at_start, value, exchange}
-use Rattle.graph_parts.specs.Parts.{HasPart}
-use Rattle.graph_parts.specs.Places.{owing, after_step}
+use Rattle.stream_job.specs.phase_base.declared.mode.Mode.TheVariants.{Sig, Wait, SigWait}
+use Rattle.stream_job.specs.phase_history.declared.event.Event.TheVariants.{Made, Registered, Signalled, Dropped}
+use Rattle.stream_job.specs.phase_history.Histories.{History}
+use Rattle.stream_job.specs.graph_runs.Moments.{Moment}
+use Rattle.stream_job.specs.graph_runs.TaskPlaces.{TaskPlace, StandsAt, at_start, value, exchange}
+use Rattle.stream_job.specs.graph_runs.Parts.{HasPart}
+use Rattle.stream_job.specs.graph_runs.Places.{owing, after_step}
 use Rattle.graph_tests.specs.Worked.{worked}
 
 -- what the peer has seen of X, E and Y where it begins: it is registered last

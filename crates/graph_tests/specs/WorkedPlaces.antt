@@ -1,9 +1,9 @@
 -- Where the source and the peer of the worked run stand at its opening, and its first moments.
 use Rattle.std.specs.Prelude.{[], ◌∷◌, pos}
-use Rattle.phase_accum.specs.declared.outcome.Outcome.TheVariants.{Value}
-use Rattle.graph_moments.specs.Moments.{Moment}
-use Rattle.graph_turns.specs.TaskEvents.{sample, first_wait, after_turn}
-use Rattle.graph_turns.specs.TaskPlaces.{TaskPlace, at_start}
+use Rattle.stream_job.specs.phase_accum.declared.outcome.Outcome.TheVariants.{Value}
+use Rattle.stream_job.specs.graph_runs.Moments.{Moment}
+use Rattle.stream_job.specs.graph_runs.TaskEvents.{sample, first_wait, after_turn}
+use Rattle.stream_job.specs.graph_runs.TaskPlaces.{TaskPlace, at_start}
 use Rattle.graph_tests.specs.Worked.{worked, worked_opening}
 
 -- the source is on X as 1

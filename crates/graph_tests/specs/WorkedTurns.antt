@@ -1,15 +1,15 @@
 -- Graphs whose tasks take their turns in rotation, from the opening on.
 use Rattle.std.specs.Prelude.{ℕ, zero, suc, ℤ, List, [], ◌∷◌, Some, None, pos, codes}
-use Rattle.phase_base.specs.declared.mode.Mode.TheVariants.{Sig, Wait}
-use Rattle.phase_base.specs.declared.operation.Op.TheVariants.{Sum}
-use Rattle.phase_history.specs.declared.event.Event.TheVariants.{Made, Registered, Dropped}
-use Rattle.graph_base.specs.declared.line.Kind.TheVariants.{Source, Fir, Split}
-use Rattle.graph_base.specs.declared.line.PhaserLine.{PhaserLine}
-use Rattle.graph_base.specs.declared.place.Place.TheVariants as place
-use Rattle.graph_base.specs.Graphs.{Graph, no_task}
-use Rattle.stream_lists.specs.Jobs.{Job}
-use Rattle.graph_moments.specs.Moments.{Moment}
-use Rattle.graph_turns.specs.Answers.{after_turns}
+use Rattle.stream_job.specs.phase_base.declared.mode.Mode.TheVariants.{Sig, Wait}
+use Rattle.stream_job.specs.phase_base.declared.operation.Op.TheVariants.{Sum}
+use Rattle.stream_job.specs.phase_history.declared.event.Event.TheVariants.{Made, Registered, Dropped}
+use Rattle.stream_job.specs.graph_base.declared.line.Kind.TheVariants.{Source, Fir, Split}
+use Rattle.stream_job.specs.graph_base.declared.line.PhaserLine.{PhaserLine}
+use Rattle.stream_job.specs.graph_base.declared.place.Place.TheVariants as place
+use Rattle.stream_job.specs.graph_base.Graphs.{Graph, no_task}
+use Rattle.stream_job.specs.stream_lists.Jobs.{Job}
+use Rattle.stream_job.specs.graph_runs.Moments.{Moment}
+use Rattle.stream_job.specs.graph_runs.Answers.{after_turns}
 use Rattle.graph_tests.specs.Runs.{opened}
 use Rattle.graph_tests.specs.Worked.{bus, founded}
 
@@ -40,6 +40,7 @@ abbrev pub late : ℕ → Job
 late at = record {
   graph = late_graph at;
   samples = (pos 1 ∷ pos 2 ∷ pos 3 ∷ pos 4 ∷ []) ∷ [];
+  starts = [];
 }
 
 -- s is 1, out 2 and early 3; late begins so many steps after out
@@ -89,6 +90,7 @@ abbrev pub with_child : Job
 with_child = record {
   graph = child_graph;
   samples = (pos 1 ∷ pos 2 ∷ pos 3 ∷ pos 4 ∷ []) ∷ [];
+  starts = [];
 }
 
 -- on X, s is 1 and f is 2; on Y, f is 1 and out is 2; g begins two steps after f
@@ -138,7 +140,7 @@ crossed_graph = record {
 
 -- with these samples
 abbrev pub crossed : List ℤ → Job
-crossed samples = record { graph = crossed_graph; samples = samples ∷ [] }
+crossed samples = record { graph = crossed_graph; samples = samples ∷ []; starts = [] }
 
 -- the samples 1 to 6
 abbrev pub six : List ℤ

@@ -1,10 +1,12 @@
 //! Phasers of a graph under each operation, with the members that a graph's tasks are.
-use graph_cores::AnyCore;
-use phase_accum::{NO_VALUE, Op, Outcome, Single, VALUE_MAX};
-use phase_base::{Entry, Mode, Spec};
-use phase_history::{Got, NoTask, RegisterRefusal, SignalRefusal, WaitRefusal};
 use std::alloc::Global;
 use std::test::Fail;
+use stream_job::AnyCore;
+use stream_job::phase_accum::{NO_VALUE, Op, Outcome, Single, VALUE_MAX};
+use stream_job::phase_base::{Entry, Mode, Spec};
+use stream_job::phase_history::{
+    Got, GotBlock, NoTask, RegisterRefusal, SignalRefusal, WaitRefusal,
+};
 
 const ALL: [Op; 5] = [Op::Sum, Op::Product, Op::Least, Op::Greatest, Op::Any];
 
@@ -155,5 +157,56 @@ fn the_least_value_is_sent(rt: HostRuntime) -> Result<(), Fail> {
     assert_eq!(rt; core.signal_one(1, NO_VALUE + 1, None), Ok(0));
     assert_eq!(rt; core.signal_one(2, 3, None), Ok(0));
     assert_eq!(rt; core.wait(3), value(0, NO_VALUE + 1));
+    Ok(())
+}
+
+#[test]
+fn a_block_has_the_complete_phases(rt: HostRuntime) -> Result<(), Fail> {
+    for (op, expected) in [
+        (Op::Sum, 3),
+        (Op::Product, -4),
+        (Op::Least, -1),
+        (Op::Greatest, 4),
+        (Op::Any, 4),
+    ] {
+        let mut core = opened(rt.alloc(), op)?;
+        let mut out = [Outcome::Empty; 3];
+        let early = core.wait_block(3, &mut out[..2]);
+        assert_eq!(rt; early, Err(WaitRefusal::NotYet), "{op:?}");
+        assert_eq!(rt; core.signal_one(1, 4, None), Ok(0));
+        assert_eq!(rt; core.signal_one(1, 4, None), Ok(1));
+        assert_eq!(rt; core.signal_one(2, -1, None), Ok(0));
+        let long = core.wait_block(3, &mut out);
+        assert_eq!(rt; long, Err(WaitRefusal::BadBlock), "{op:?}");
+        let got = core.wait_block(3, &mut out[..2]);
+        assert_eq!(rt; got, Ok(GotBlock::Values { phase: 0, count: 1 }), "{op:?}");
+        let value = Outcome::Value(expected);
+        assert_eq!(rt; out, [value, Outcome::Empty, Outcome::Empty], "{op:?}");
+        let signaller = core.wait_block(1, &mut out[..2]);
+        assert_eq!(rt; signaller, Err(WaitRefusal::NoWait), "{op:?}");
+    }
+    Ok(())
+}
+
+#[test]
+fn a_waiter_joins_now(rt: HostRuntime) -> Result<(), Fail> {
+    for op in ALL {
+        let mut core = opened(rt.alloc(), op)?;
+        assert_eq!(rt; core.signal_one(1, 4, None), Ok(0));
+        assert_eq!(rt; core.signal_one(2, 4, None), Ok(0));
+        assert_eq!(rt; core.register_now(3, 4), Ok(1), "{op:?}");
+        let entry = Entry {
+            mode: Mode::Wait,
+            signal_phase: 0,
+            wait_phase: 1,
+        };
+        assert_eq!(rt; core.view(4), Some(entry), "{op:?}");
+        assert_eq!(rt; core.wait(4), Err(WaitRefusal::NotYet));
+        let taken = core.register_now(3, 2);
+        assert_eq!(rt; taken, Err(RegisterRefusal::NotNew), "{op:?}");
+        let signaller = core.register_now(1, 5);
+        assert_eq!(rt; signaller, Err(RegisterRefusal::NotAllowed), "{op:?}");
+        assert_eq!(rt; core.register_now(0, 5), Err(RegisterRefusal::NoTask));
+    }
     Ok(())
 }

@@ -1,7 +1,7 @@
 //! What a job tells is all that the laws of runs ask for.
-ghost use Rattle.graph_moments.specs.Settled.{IsReady};
+ghost use Rattle.stream_job.specs.graph_runs.Settled.{IsReady};
 
-use stream_lists::Job;
+use stream_job::Job;
 
 /// Each job that was made is ready: its graph was read, and no two tasks meet. It takes no memory.
 fn a_job_is_ready(job: &Job)

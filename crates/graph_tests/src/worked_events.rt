@@ -1,18 +1,15 @@
 //! Single events of the worked run, and the laws of one event used at them.
 ghost use Rattle.std.specs.Prelude.{ℕ, ℤ, pos};
-ghost use Rattle.phase_base.specs.declared.mode.Mode.TheVariants.{Wait};
-ghost use Rattle.phase_accum.specs.declared.outcome.Outcome.{Outcome};
-ghost use Rattle.phase_accum.specs.declared.outcome.Outcome.TheVariants.{Value};
-ghost use Rattle.graph_moments.specs.Moments.{HasRun, TaskRan, HasEnded};
-ghost use Rattle.graph_moves.specs.Moves.{Signals, Waits, Leaves, Registers, PartStays};
-ghost use Rattle.graph_moves.specs.Turned.{IsNextSample, IsNextSignal, IsFirstWait, IsNextLeave};
-ghost use Rattle.graph_tests.specs.Worked.{after_peer, after_samples};
-ghost use Rattle.graph_tests.specs.Worked.{worked, worked_opening, after_sample, after_first_wait};
-ghost use Rattle.graph_tests.specs.Worked.{after_signal_on_e, after_exchange, by_out};
-ghost use Rattle.graph_tests.specs.Worked.{before_late, with_late, before_end, worked_end};
+ghost use Rattle.stream_job.specs.phase_base.declared.mode.Mode.TheVariants.{Wait};
+ghost use Rattle.stream_job.specs.phase_accum.declared.outcome.Outcome.{Outcome};
+ghost use Rattle.stream_job.specs.phase_accum.declared.outcome.Outcome.TheVariants.{Value};
+ghost use Rattle.stream_job.specs.graph_runs.Moments.{HasRun, TaskRan, HasEnded};
+ghost use Rattle.stream_job.specs.graph_runs.Moves.{Signals, Waits, Leaves, Registers, PartStays};
+ghost use Rattle.stream_job.specs.graph_runs.Turned.{IsNextSample, IsNextSignal, IsFirstWait, IsNextLeave};
+ghost use Rattle.graph_tests.specs.Worked.{after_peer, after_samples, worked, worked_opening, after_sample, after_first_wait, after_signal_on_e, after_exchange, by_out, before_late, with_late, before_end, worked_end};
 
 use crate::worked_run::a_run_from_its_opening_to_its_end;
-use graph_moves::laws;
+use stream_job::graph_runs::moves as laws;
 
 /// The first events of the source and of the peer, that out registers late, and that late leaves.
 fn events_as_moves()

@@ -1,14 +1,13 @@
 //! A run that meets a value that is too big, and in which a filter makes one.
 ghost use Rattle.std.specs.Prelude.{◌≢◌, None};
-ghost use Rattle.graph_base.specs.declared.place.Place.TheVariants as place;
-ghost use Rattle.stream_lists.specs.Ranges.{first_too_big};
-ghost use Rattle.graph_moments.specs.Moments.{HasRun};
-ghost use Rattle.graph_moments.specs.Settled.{IsFaultAt};
+ghost use Rattle.stream_job.specs.graph_base.declared.place.Place.TheVariants as place;
+ghost use Rattle.stream_job.specs.stream_lists.Ranges.{first_too_big};
+ghost use Rattle.stream_job.specs.graph_runs.Moments.{HasRun};
+ghost use Rattle.stream_job.specs.graph_runs.Settled.{IsFaultAt};
 ghost use Rattle.graph_tests.specs.WorkedFaults.{faulty, faulty_moment};
 
 use crate::worked_run::turns_lead_on;
-use graph_moments::laws as moments;
-use graph_moves::laws as moves;
+use stream_job::graph_runs::{moments, moves};
 
 /// Phase 0 of X, which out has taken, and step 0 of the filter have a value that is too big, by the
 /// graph's lines too; so the job does not fit.

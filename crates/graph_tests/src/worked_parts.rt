@@ -1,15 +1,13 @@
 //! The peer of the worked run alone, by the laws of parts: from its beginning to where it owes its
 //! value on Y.
 ghost use Rattle.std.specs.Prelude.{pos, ◌∷◌};
-ghost use Rattle.phase_history.specs.declared.event.Event.TheVariants.{Waited};
-ghost use Rattle.graph_moments.specs.Moments.{Moment};
-ghost use Rattle.graph_parts.specs.Parts.{IsNextValue};
+ghost use Rattle.stream_job.specs.phase_history.declared.event.Event.TheVariants.{Waited};
+ghost use Rattle.stream_job.specs.graph_runs.Moments.{Moment};
+ghost use Rattle.stream_job.specs.graph_runs.Parts.{IsNextValue};
 ghost use Rattle.graph_tests.specs.Worked.{worked};
-ghost use Rattle.graph_tests.specs.WorkedParts.{PeerKnows, peer_seen, x_before, e_before};
-ghost use Rattle.graph_tests.specs.WorkedParts.{e_signalled, peer_begins, peer_owes_e};
-ghost use Rattle.graph_tests.specs.WorkedParts.{peer_exchanges, peer_owes_y};
+ghost use Rattle.graph_tests.specs.WorkedParts.{PeerKnows, peer_seen, x_before, e_before, e_signalled, peer_begins, peer_owes_e, peer_exchanges, peer_owes_y};
 
-use graph_parts::{beginnings, laws, places};
+use stream_job::graph_runs::{beginnings, parts as laws, places};
 
 /// Registered on X, E and Y, it begins.
 fn the_peer_begins()

@@ -2,21 +2,19 @@
 //! functions make no call and have no effect: what a law says of the run is the contract here.
 ghost use Rattle.std.specs.Prelude.{◌≡◌, ◌<◌, ℕ, List, [], ◌∷◌, Ok, pos, length};
 ghost use mathlib.Core.List.{IsPrefix};
-ghost use Rattle.phase_history.specs.Phases.{stream_of};
-ghost use Rattle.graph_base.specs.Graphs.{task_at};
-ghost use Rattle.graph_base.specs.TaskLines.{IsGraph};
-ghost use Rattle.stream_lists.specs.Jobs.{Job};
-ghost use Rattle.stream_lists.specs.Lists.{list_of_phaser, numbers_of, taken_from};
-ghost use Rattle.stream_lists.specs.Ranges.{answer_of};
-ghost use Rattle.stream_lists.specs.Spans.{span_in};
-ghost use Rattle.graph_moments.specs.Moments.{Moment, HasRun, IsOver, HasMetNone, value_at};
-ghost use Rattle.graph_moments.specs.Settled.{Stands, PutsOut};
+ghost use Rattle.stream_job.specs.phase_history.Phases.{stream_of};
+ghost use Rattle.stream_job.specs.graph_base.Graphs.{task_at};
+ghost use Rattle.stream_job.specs.graph_base.TaskLines.{IsGraph};
+ghost use Rattle.stream_job.specs.stream_lists.Jobs.{Job};
+ghost use Rattle.stream_job.specs.stream_lists.Lists.{list_of_phaser, numbers_of, taken_from};
+ghost use Rattle.stream_job.specs.stream_lists.Ranges.{answer_of};
+ghost use Rattle.stream_job.specs.stream_lists.Spans.{span_in};
+ghost use Rattle.stream_job.specs.graph_runs.Moments.{Moment, HasRun, IsOver, HasMetNone, value_at, started};
+ghost use Rattle.stream_job.specs.graph_runs.Settled.{Stands, PutsOut};
 ghost use Rattle.graph_tests.specs.Runs.{TaskEvent, AreNext, HasRunThrough};
-ghost use Rattle.graph_tests.specs.Worked.{worked, worked_opening, worked_turns, worked_end};
-ghost use Rattle.graph_tests.specs.Worked.{after_peer, before_late, with_late, before_end};
+ghost use Rattle.graph_tests.specs.Worked.{worked, worked_opening, worked_turns, worked_end, after_peer, before_late, with_late, before_end};
 
-use graph_moments::laws as moments;
-use graph_moves::laws as moves;
+use stream_job::graph_runs::{moments, moves};
 
 /// Events that are each the next one of their task lead from one moment of a run to another.
 pub(crate) fn turns_lead_on()
@@ -47,8 +45,8 @@ fn a_moment_on_the_way()
         (list_of_phaser worked 0) }
     ensures taken { IsPrefix (after_peer.taken 1 0)
         (taken_from (numbers_of worked) (task_at worked.graph 1) (span_in worked 1) 0) }
-    ensures stands { Stands worked after_peer 1 }
-    ensures put { PutsOut worked after_peer 1 1 }
+    ensures stands { Stands (started worked after_peer) after_peer 1 }
+    ensures put { PutsOut (started worked after_peer) after_peer 1 1 }
 {
     a_run_from_its_opening_to_its_end();
     moments::streams();

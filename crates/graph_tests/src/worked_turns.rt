@@ -1,28 +1,20 @@
 //! The table of turns at the worked runs: what each turn makes, and what it tells.
-ghost use Rattle.std.specs.Prelude.{◌≡◌, ◌≢◌, ℕ, [], ◌∷◌, Some, None, IsSome, Ok, map, pos};
-ghost use Rattle.std.specs.Prelude.{true, false};
-ghost use Rattle.graph_base.specs.declared.place.Place.TheVariants as place;
-ghost use Rattle.graph_moments.specs.Moments.{HasRun};
-ghost use Rattle.graph_turns.specs.TaskEvents.{IsNext, sample};
-ghost use Rattle.graph_turns.specs.Answers.{answers_in_turn, makes, turn_tells, is_stalled};
-ghost use Rattle.graph_turns.specs.Answers.{answer_of_turn, after_answer, after_turns, is_refused};
-ghost use Rattle.graph_turns.specs.Beginnings.{opening};
-ghost use Rattle.graph_turns.specs.Reached.{HasBegun, IsReachable};
-ghost use Rattle.graph_turns.specs.Nexts.{first_kept};
-ghost use Rattle.graph_turns.specs.TaskPlaces.{StandsAt, registration_at, value};
-ghost use Rattle.graph_turns.specs.Answers.{Moved, Ended, Blocked, Gone, TooBig};
-ghost use Rattle.graph_tests.specs.Worked.{worked, worked_opening, worked_turns, worked_order};
-ghost use Rattle.graph_tests.specs.Worked.{after_signal_on_e, with_late, before_end, worked_end};
-ghost use Rattle.graph_tests.specs.Worked.{before_late, late_registers};
-ghost use Rattle.graph_tests.specs.Worked.{founded, founded_exchange};
+ghost use Rattle.std.specs.Prelude.{◌≡◌, ◌≢◌, ℕ, [], ◌∷◌, Some, None, IsSome, Ok, map, pos, true, false};
+ghost use Rattle.stream_job.specs.graph_base.declared.place.Place.TheVariants as place;
+ghost use Rattle.stream_job.specs.graph_runs.Moments.{HasRun};
+ghost use Rattle.stream_job.specs.graph_runs.TaskEvents.{IsNext, sample};
+ghost use Rattle.stream_job.specs.graph_runs.Answers.{answers_in_turn, makes, turn_tells, is_stalled, answer_of_turn, after_answer, after_turns, is_refused, Moved, Ended, Blocked, Gone, TooBig};
+ghost use Rattle.stream_job.specs.graph_runs.Beginnings.{opening};
+ghost use Rattle.stream_job.specs.graph_runs.Reached.{HasBegun, IsReachable};
+ghost use Rattle.stream_job.specs.graph_runs.Nexts.{first_kept};
+ghost use Rattle.stream_job.specs.graph_runs.TaskPlaces.{StandsAt, registration_at, value};
+ghost use Rattle.graph_tests.specs.Worked.{worked, worked_opening, worked_turns, worked_order, after_signal_on_e, with_late, before_end, worked_end, before_late, late_registers, founded, founded_exchange};
 ghost use Rattle.graph_tests.specs.WorkedFaults.{faulty, faulty_moment, before_fault};
-ghost use Rattle.graph_tests.specs.WorkedPlaces.{source_at, peer_at};
-ghost use Rattle.graph_tests.specs.WorkedPlaces.{after_sample, after_peer_wait};
-ghost use Rattle.graph_tests.specs.WorkedTurns.{late, late_after, with_child, child_after};
-ghost use Rattle.graph_tests.specs.WorkedTurns.{crossed, crossed_after, six, seven};
+ghost use Rattle.graph_tests.specs.WorkedPlaces.{source_at, peer_at, after_sample, after_peer_wait};
+ghost use Rattle.graph_tests.specs.WorkedTurns.{late, late_after, with_child, child_after, crossed, crossed_after, six, seven};
 
 use crate::worked_run::a_run_from_its_opening_to_its_end;
-use graph_turns::laws as turns;
+use stream_job::graph_runs::turns;
 
 /// By turns of the tasks in this order each turn makes the event that the run has next.
 fn turns_make_the_run()

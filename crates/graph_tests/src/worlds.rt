@@ -1,9 +1,8 @@
 //! Runs of a graph at their opening: what each task does next, and what the sinks have. What is
 //! expected was worked out by hand.
-use graph_worlds::{Step, World};
 use std::alloc::Global;
 use std::test::Fail;
-use stream_lists::Job;
+use stream_job::{Job, Step, World};
 
 /// A source, a peer, a splitter, a joiner, a sink and its child.
 const WORKED: &str = "phaser X sum 2\nphaser E sum 2\nphaser Y sum 2\nphaser A sum 2\n\
@@ -16,7 +15,7 @@ const AT_ONCE: &str = "phaser X sum 1\nsource s s.csv -> X until 0\nsink out X\n
 
 /// The job of a graph with one source, on samples of this text.
 fn job_of(alloc: Global, graph: &str, samples: &str) -> Result<Job, Fail> {
-    Ok(test_jobs::job_of(alloc, graph, &[samples])??)
+    Ok(stream_job::job_of(alloc, graph, &[samples])??)
 }
 
 #[test]

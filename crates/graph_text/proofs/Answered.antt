@@ -1,6 +1,6 @@
 -- What the reading of a line answers.
 use Rattle.std.proofs.Common.{◌≡◌, List, ap, sym, ◌∙◌, Option, Some, None, IfSome, IfNone, option_map}
-use Rattle.graph_words.specs.Words.{Word}
+use Rattle.phase_base.specs.Words.{Word}
 use Rattle.graph_text.specs.Decls.{Decl, Spells}
 use Rattle.graph_text.specs.Lines.{decl_of}
 use Rattle.graph_text.specs.Inside.{line_at}

@@ -2,7 +2,7 @@
 use Rattle.std.proofs.Common.{ℕ, suc, ◌≡◌, ◌==◌, ◌<◌, ◌≤◌, ◌+◌, List, [], ◌∷◌, Bool, true, false, Bor, length, take, drop, get_or, refl, ap, sym, ◌∙◌, arith, drop-cons, Some, None, subst, ne_eqb}
 use Rattle.std.specs.List.{take-map, drop-map, prefix_len}
 use Rattle.std.proofs.lemmas.List.{drop_all}
-use Rattle.graph_words.specs.Words.{Word}
+use Rattle.phase_base.specs.Words.{Word}
 use Rattle.graph_text.specs.Plain.{plain}
 use Rattle.graph_text.specs.Inside.{some_at}
 

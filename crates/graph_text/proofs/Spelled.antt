@@ -3,15 +3,14 @@ use Rattle.std.proofs.Common.{suc, ◌≡◌, ◌+◌, ◌==◌, Bool, true, fal
 use Rattle.std.specs.List.{list_all, prefix_len}
 use Rattle.std.proofs.Math.Seq.{take-append_seam, drop-append_seam}
 use Rattle.std.specs.Str.{bytes_eq}
-use Rattle.graph_words.specs.Words.{Word, is_name}
+use Rattle.phase_base.specs.Words.{Word, is_name}
 use Rattle.std.proofs.lemmas.Option.{same_Some}
 use Rattle.graph_text.proofs.Digits.{both}
 use Rattle.phase_base.specs.OperationWords.{operation_word}
 use Rattle.phase_base.specs.declared.operation.Op.{Op}
 use Rattle.phase_base.specs.declared.operation.Op.TheVariants.{Sum, Product, Least, Greatest, Any}
 use Rattle.graph_text.specs.Numbers.{is_nat, is_int}
-use Rattle.graph_text.specs.Decls.{Decl, phaser, task, FunctionWords, neg, abs, halve, clamp, ByWords, EndWords, BodyWords, source, fir, split, join, peer, sink}
-use Rattle.graph_text.specs.Decls.{spelling, function_words, single_words, by_words, until_words, end_words, kind_word, body_words, IsFunction, IsBody, AreEnds, AreSome, IsWellFormed, may_have_parent, Spells}
+use Rattle.graph_text.specs.Decls.{Decl, phaser, task, FunctionWords, neg, abs, halve, clamp, ByWords, EndWords, BodyWords, source, fir, split, join, peer, sink, spelling, function_words, single_words, by_words, until_words, end_words, kind_word, body_words, IsFunction, IsBody, AreEnds, AreSome, IsWellFormed, may_have_parent, Spells}
 use Rattle.graph_text.specs.Inside.{word_at, after, begins, some_at, operation_at, clamp_at, function_named, function_at, single_at, by_at, until_at, ends_at, source_at, fir_at, split_at, join_at, peer_at, sink_at, body_at, phaser_at, task_at, line_at}
 
 -- ---- words

@@ -7,13 +7,12 @@ use Rattle.std.proofs.lemmas.List.{append_assoc, take-append-drop}
 use Rattle.std.proofs.lemmas.List.Folds.{length-prefix_len}
 use Rattle.std.proofs.lemmas.Option.{cond_some, same_Some}
 use Rattle.std.proofs.lemmas.Slice.Eq.{bytes_eq-Decides}
-use Rattle.graph_words.specs.Words.{Word, is_name, is_file}
+use Rattle.phase_base.specs.Words.{Word, is_name, is_file}
 use Rattle.phase_base.specs.OperationWords.{operation_of, operation_word}
 use Rattle.phase_base.specs.declared.operation.Op.{Op}
 use Rattle.phase_base.proofs.OperationWords.{operation-read}
 use Rattle.graph_text.specs.Numbers.{is_nat, is_int}
-use Rattle.graph_text.specs.Decls.{Decl, phaser, task, FunctionWords, neg, abs, halve, ByWords, EndWords, BodyWords}
-use Rattle.graph_text.specs.Decls.{function_words, single_words, by_words, until_words, end_words, kind_word, body_words, IsFunction, IsBody, IsBy, AreEnds, AreSome, may_have_parent, Spells}
+use Rattle.graph_text.specs.Decls.{Decl, phaser, task, FunctionWords, neg, abs, halve, ByWords, EndWords, BodyWords, function_words, single_words, by_words, until_words, end_words, kind_word, body_words, IsFunction, IsBody, IsBy, AreEnds, AreSome, may_have_parent, Spells}
 use Rattle.graph_text.specs.Inside.{Found, ◌>>=◌, word_at, after, begins, some_at, operation_at, clamp_at, function_named, function_at, single_at, by_at, until_at, ends_at, source_at, fir_at, split_at, join_at, peer_at, sink_at, body_at, phaser_at, task_at, line_at}
 
 -- ---- words

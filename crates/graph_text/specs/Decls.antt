@@ -2,7 +2,7 @@
 -- as they are written.
 use Rattle.std.specs.Prelude.{ℕ, ◌≡◌, ◌≤◌, Bool, true, false, List, [], ◌∷◌, ◌++◌, length, Option, Some, None, IsTrue, IfSome, codes}
 use Rattle.std.specs.List.{list_all}
-use Rattle.graph_words.specs.Words.{Word, is_name, is_file}
+use Rattle.phase_base.specs.Words.{Word, is_name, is_file}
 use Rattle.graph_text.specs.Texts.{words_of, are_printable}
 use Rattle.phase_base.specs.OperationWords.{operation_word}
 use Rattle.phase_base.specs.declared.operation.Op.{Op}

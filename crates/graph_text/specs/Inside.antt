@@ -4,7 +4,7 @@ use Rattle.std.specs.Prelude.{◌==◌, ◌&&◌, Bool, false, List, [], ◌∷�
 use Rattle.std.specs.List.{prefix_len}
 use Rattle.std.specs.Str.{bytes_eq}
 use Rattle.std.specs.Borrow.{Bor}
-use Rattle.graph_words.specs.Words.{Word, is_name, is_file}
+use Rattle.phase_base.specs.Words.{Word, is_name, is_file}
 use Rattle.phase_base.specs.OperationWords.{operation_of}
 use Rattle.phase_base.specs.declared.operation.Op.{Op}
 use Rattle.graph_text.specs.Numbers.{is_nat, is_int}

@@ -4,3 +4,4 @@ pub mod Lines
 pub mod Numbers
 pub mod Plain
 pub mod Texts
+pub use Rattle.phase_base.specs as phase_base

@@ -3,7 +3,7 @@ use Rattle.std.specs.Prelude.{ℕ, ◌==◌, ◌&&◌, not, Bool, false, if◌th
 use Rattle.std.specs.Str.{bytes_eq}
 use Rattle.std.specs.Str.Parse.{digits_value}
 use Rattle.std.specs.List.{list_all}
-use Rattle.graph_words.specs.Words.{Word, is_digit}
+use Rattle.phase_base.specs.Words.{Word, is_digit}
 
 -- `0`, or digits of which the first is not 0
 abbrev pub is_nat : Word → Bool

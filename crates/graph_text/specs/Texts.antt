@@ -2,7 +2,7 @@
 use Rattle.std.specs.Prelude.{ℕ, ◌-◌, ◌==◌, ◌||◌, Bool, true, not, if◌then◌else◌, List, [], ◌∷◌, length, map, take, filter, slice_index}
 use Rattle.std.specs.List.{slice_split, list_all}
 use Rattle.phase_base.specs.Lists.{without_cr}
-use Rattle.graph_words.specs.Words.{Word, is_word_byte}
+use Rattle.phase_base.specs.Words.{Word, is_word_byte}
 
 -- whether a byte ends a line
 abbrev pub is_line_feed : ℕ → Bool

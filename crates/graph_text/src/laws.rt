@@ -1,9 +1,9 @@
 //! Laws of the grammar of a line. The contract of each function is the law.
 ghost use Rattle.std.specs.Prelude.{◌≡◌, List};
-ghost use Rattle.graph_words.specs.Words.{Word};
+ghost use Rattle.phase_base.specs.Words.{Word};
 ghost use Rattle.graph_text.specs.Decls.{Decl, Spells};
 
-pub use graph_words::laws::limits_are;
+pub use phase_base::words_laws::limits_are;
 
 /// Words declare one thing at most.
 pub fn one_declaration()

@@ -1,10 +1,10 @@
 //! Numbers of a line.
 ghost use Rattle.std.specs.Prelude.{◌≡◌, ◌<◌, ◌≤◌, ◌^◌, IfSome, IfNone, IsTrue, unsigned_abs};
 ghost use Rattle.std.specs.List.{list_all};
-ghost use Rattle.graph_words.specs.Words.{is_digit};
+ghost use Rattle.phase_base.specs.Words.{is_digit};
 ghost use Rattle.graph_text.specs.Numbers.{is_nat, nat_value, is_int, int_value};
 
-use graph_words::is_digit;
+use phase_base::is_digit;
 
 /// Whether each byte is a digit.
 fn are_digits(word: &[u8]) -> bool
@@ -31,7 +31,7 @@ pub(crate) fn is_int(word: &[u8]) -> bool
     }
 }
 
-/// Tells the number that a word writes, where it is at most the limit. It takes no memory.
+/// Returns the number that a word writes, where it is at most the limit. It takes no memory.
 pub fn nat_within(word: &[u8], limit: u64) -> Option<u64>
     requires nat { IsTrue (is_nat word.now) }
     requires limit { limit < 2 ^ 63 }
@@ -48,7 +48,7 @@ pub fn nat_within(word: &[u8], limit: u64) -> Option<u64>
     if value > limit { None } else { Some(value) }
 }
 
-/// Tells the number that a word, perhaps with a minus, writes, where its magnitude is at most the
+/// Returns the number that a word, perhaps with a minus, writes, where its magnitude is at most the
 /// limit. It takes no memory.
 pub fn int_within(word: &[u8], limit: u64) -> Option<i64>
     requires int { IsTrue (is_int word.now) }

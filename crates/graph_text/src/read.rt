@@ -1,25 +1,16 @@
 //! Reading the words of a line, one after another.
 ghost use Rattle.std.specs.Prelude.{◌≡◌, ◌≤◌, map, length, option_map, codes, IfSome, IfNone};
 ghost use Rattle.graph_text.specs.Plain.{plain};
-ghost use Rattle.graph_words.specs.Words.{is_name as is_name_word, is_file as is_file_word};
+ghost use Rattle.phase_base.specs.Words.{is_name as is_name_word, is_file as is_file_word};
 ghost use Rattle.graph_text.specs.Numbers.{is_nat as is_nat_word, is_int as is_int_word};
 ghost use Rattle.graph_text.specs.Decls.{Decl, Spells, may_have_parent};
 ghost use Rattle.std.specs.List.{prefix_len};
-ghost use Rattle.graph_text.specs.Inside.{found_word, found_words, found_operation, found_function};
-ghost use Rattle.graph_text.specs.Inside.{found_single};
-ghost use Rattle.graph_text.specs.Lines.{body_of, ends_of};
-ghost use Rattle.graph_text.specs.Inside.{found_by, found_until, found_body};
-ghost use Rattle.graph_text.specs.Lines.{decl_of};
-ghost use Rattle.graph_text.specs.Inside.{word_at, after, begins, some_at, operation_at};
-ghost use Rattle.graph_text.specs.Inside.{clamp_at, function_named, function_at};
-ghost use Rattle.graph_text.specs.Inside.{single_at, by_at, until_at, ends_at, source_at, fir_at};
-ghost use Rattle.graph_text.specs.Inside.{split_at, join_at, peer_at, sink_at, body_at};
-ghost use Rattle.graph_text.specs.Inside.{phaser_at, task_at, line_at};
+ghost use Rattle.graph_text.specs.Inside.{found_word, found_words, found_operation, found_function, found_single, found_by, found_until, found_body, word_at, after, begins, some_at, operation_at, clamp_at, function_named, function_at, single_at, by_at, until_at, ends_at, source_at, fir_at, split_at, join_at, peer_at, sink_at, body_at, phaser_at, task_at, line_at};
+ghost use Rattle.graph_text.specs.Lines.{body_of, ends_of, decl_of};
 
 use crate::line::{Body, By, Ends, Function, Line, PhaserWords, TaskWords};
 use crate::number::{is_int, is_nat};
-use graph_words::{is_file, is_name};
-use phase_base::Op;
+use phase_base::{Op, is_file, is_name};
 
 // ---- words
 
@@ -410,7 +401,7 @@ fn read<'w, 'a>(words: &'w [&'a [u8]]) -> Option<Line<'w, 'a>>
     }
 }
 
-/// Tells what the words of a line declare, or that they declare nothing. It takes no memory.
+/// Returns what the words of a line declare, or that they declare nothing. It takes no memory.
 pub fn line_at<'w, 'a>(words: &'w [&'a [u8]]) -> Option<Line<'w, 'a>>
     ensures found { IfSome result (λ line. Spells (plain words.now) (decl_of line)) }
     ensures none { IfNone result ((d : Decl) → ¬ (Spells (plain words.now) d)) }

@@ -8,14 +8,14 @@ ghost use Rattle.graph_text.specs.Plain.{plain};
 
 use std::alloc::{AllocError, Global};
 
-/// Gives the pieces of a text between its line feeds. It takes memory for their places.
+/// Returns the pieces of a text between its line feeds. It takes memory for their places.
 pub fn lines_of(alloc: Global, text: &[u8]) -> Result<Vec<&[u8]>, AllocError>
     ensures { IfOk result (λ pieces. plain pieces.items ≡ slice_split is_line_feed text.now) }
 {
     text.split(|b| *b == b'\n').collect(alloc)
 }
 
-/// Gives a line without the one carriage return at its end.
+/// Returns a line without the one carriage return at its end.
 pub fn without_cr(line: &[u8]) -> &[u8]
     ensures { result.now ≡ without_cr line.now }
 {
@@ -25,7 +25,7 @@ pub fn without_cr(line: &[u8]) -> &[u8]
     }
 }
 
-/// Gives the words of a line. It takes memory for their places.
+/// Returns the words of a line. It takes memory for their places.
 pub fn words_of(alloc: Global, line: &[u8]) -> Result<Vec<&[u8]>, AllocError>
     ensures { IfOk result (λ words. plain words.items ≡ words_of line.now) }
 {

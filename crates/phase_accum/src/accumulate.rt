@@ -14,21 +14,21 @@ use crate::outcome::Outcome;
 pub trait Accumulate: Copy {
     ghost operation: { Operation Self };
 
-    /// Gives the part of no send.
+    /// Returns the part of no send.
     fn unit() -> Self
         ensures { result ≡ operation.unit };
 
-    /// Gives the part of one send.
+    /// Returns the part of one send.
     fn of(value: i64) -> Self
         requires { IsSend value }
         ensures { result ≡ operation.of value };
 
-    /// Gives the part of the sends of `first`, and then of those of `second`.
+    /// Returns the part of the sends of `first`, and then of those of `second`.
     fn join(first: Self, second: Self) -> Self
         requires { MayJoin operation first second }
         ensures { result ≡ operation.join first second };
 
-    /// Gives the value of the sends.
+    /// Returns the value of the sends.
     fn finish(self) -> Outcome
         ensures { result ≡ operation.finish self };
 

@@ -89,7 +89,7 @@ impl<A: Accumulate> Pending<A> {
         Ok(())
     }
 
-    /// Tells how many sends are held.
+    /// Returns how many sends are held.
     pub fn count(&self) -> u64
         ensures value { result ≡ self.now.count }
         ensures few { result ≤ SENDS_MAX }
@@ -97,7 +97,7 @@ impl<A: Accumulate> Pending<A> {
         self.count
     }
 
-    /// Tells the part of the sends that are held.
+    /// Returns the part of the sends that are held.
     pub fn part(&self) -> A
         ensures value { result ≡ self.now.part }
         ensures held { (sends : List ℤ) × StandsForSends A.operation self.now sends }

@@ -43,7 +43,7 @@ impl Range {
         Ok(Range { low, high })
     }
 
-    /// Tells the low end.
+    /// Returns the low end.
     pub fn low(self) -> i64
         ensures value { result ≡ self.0 }
         ensures range { IsRange self }
@@ -51,7 +51,7 @@ impl Range {
         self.low
     }
 
-    /// Tells the high end.
+    /// Returns the high end.
     pub fn high(self) -> i64
         ensures value { result ≡ self.1 }
         ensures range { IsRange self }

@@ -19,28 +19,28 @@ pub enum Single {
 }
 
 impl Single {
-    /// Gives the single that changes the sign.
+    /// Returns the single that changes the sign.
     pub fn neg() -> Single
         ensures { result ≡ Single.Neg }
     {
         Single::Neg
     }
 
-    /// Gives the single that takes the magnitude.
+    /// Returns the single that takes the magnitude.
     pub fn abs() -> Single
         ensures { result ≡ Single.Abs }
     {
         Single::Abs
     }
 
-    /// Gives the single that divides by two, rounded down.
+    /// Returns the single that divides by two, rounded down.
     pub fn halve() -> Single
         ensures { result ≡ Single.Halve }
     {
         Single::Halve
     }
 
-    /// Gives the single that takes the nearest value of the range from `low` to `high`, both ends
+    /// Returns the single that takes the nearest value of the range from `low` to `high`, both ends
     /// included. `BadClamp` where `low` is above `high`, or an end is `NO_VALUE`.
     pub fn clamp(low: i64, high: i64) -> Result<Single, BadClamp>
         ensures ok { (result ≡ Ok (Single.Clamp (low, high))) ↔ IsRange (low, high) }

@@ -1,2 +1,4 @@
 mod Examples
 pub mod OperationWords
+mod Ascii
+mod WordExamples

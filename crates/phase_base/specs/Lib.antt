@@ -3,3 +3,4 @@ pub mod Lists
 pub mod Members
 pub mod Modes
 pub mod OperationWords
+pub mod Words

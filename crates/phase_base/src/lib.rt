@@ -1,6 +1,7 @@
-//! What every layer of a phaser speaks of: the modes in which a task is registered, the entry of a
-//! registered task, the limits that a phaser is made with, and the operations on the sends of a
-//! phase, by their words. The first calls are `Spec::new` and `Op::read`.
+//! What every layer speaks of: the modes in which a task is registered, the entry of a registered
+//! task, the limits that a phaser is made with, the operations on the sends of a phase, and the
+//! words by which texts name them. The first calls are `Spec::new` and `Op::read`; of the words of a
+//! graph's text `is_name` and `is_file`.
 #![tactic(auto)]
 
 mod entry;
@@ -10,6 +11,8 @@ mod member;
 mod mode;
 mod operation;
 mod spec;
+mod word;
+pub mod words_laws;
 
 pub use entry::Entry;
 pub use limits::{BOUND_MAX, MEMBERS_MAX, PHASES_MAX, SENDS_MAX};
@@ -17,3 +20,4 @@ pub use member::Member;
 pub use mode::Mode;
 pub use operation::Op;
 pub use spec::{Spec, SpecFault};
+pub use word::{FILE_MAX, NAME_MAX, file_text, is_digit, is_file, is_name, name_text};

@@ -17,7 +17,7 @@ pub enum Mode {
 }
 
 impl Mode {
-    /// Tells whether a task in this mode may register a child in the mode `other`: the capability
+    /// Returns whether a task in this mode may register a child in the mode `other`: the capability
     /// rule of phasers (ICS 2008).
     pub fn holds(self, other: Mode) -> bool
         ensures { result ≡ holds self other }
@@ -30,14 +30,14 @@ impl Mode {
         }
     }
 
-    /// Tells whether a task in this mode is a signaller.
+    /// Returns whether a task in this mode is a signaller.
     pub fn signals(self) -> bool
         ensures { result ≡ mode_signals self }
     {
         self.holds(Mode::Sig)
     }
 
-    /// Tells whether a task in this mode is a waiter.
+    /// Returns whether a task in this mode is a waiter.
     pub fn waits(self) -> bool
         ensures { result ≡ mode_waits self }
     {

@@ -19,8 +19,8 @@ pub enum Op {
 }
 
 impl Op {
-    /// Tells which operation a word stands for: `sum`, `product`, `least`, `greatest` or `any`. It
-    /// takes no memory.
+    /// Returns which operation a word stands for: `sum`, `product`, `least`, `greatest` or `any`.
+    /// It takes no memory.
     pub fn read(word: &[u8]) -> Option<Op>
         ensures { result ≡ operation_of word.now }
     {

@@ -57,7 +57,7 @@ impl Spec {
         Ok(Spec { bound, phases_max })
     }
 
-    /// Tells how far the signallers may be ahead of the slowest waiter, in phases.
+    /// Returns how far the signallers may be ahead of the slowest waiter, in phases.
     pub fn bound(self) -> u64
         ensures value { result ≡ self.bound }
         ensures limits { AreLimits self }
@@ -65,7 +65,7 @@ impl Spec {
         self.bound
     }
 
-    /// Tells how many phases the phaser may have.
+    /// Returns how many phases the phaser may have.
     pub fn phases_max(self) -> u64
         ensures value { result ≡ self.phases_max }
         ensures limits { AreLimits self }

@@ -2,7 +2,7 @@
 use Rattle.std.proofs.Common.{◌≡◌, ◌≢◌, ◌⊎◌, inl, inr, ℕ, List, Some, option_map, refl, sym, ◌∙◌, subst, arith}
 use Rattle.phase_cli.specs.Ends.{IsStatus, LeavesAlone, MayEnd, MayEndAs}
 use Rattle.phase_cli.specs.Inside.{IsAnswer, LeavesBy}
-use Rattle.phase_status.specs.Statuses.{Reports}
+use Rattle.phase_replay.specs.watched_io.Statuses.{Reports}
 use Rattle.phase_words.proofs.NoCalls.{asked-help-not-taken, asked-version-not-taken, refusal-not-help, refusal-not-taken, refusal-not-version, shown-not-taken, taken-or-not}
 use Rattle.phase_words.specs.CommandLine.{AreRefused, AreTaken, Asked, Asks, AskGraph, AskHelp, AskVersion, IsNoCall, asked_in, asked_of, check, check_explained, draw, eval, eval_explained, graph_asked, replay}
 use Rattle.phase_words.specs.declared.call.Call.{Call}
@@ -10,9 +10,9 @@ use Rattle.phase_words.specs.declared.call.Explain.TheVariants.{No, Yes}
 use Rattle.phase_words.specs.declared.call.NoCall.{NoCall}
 use Rattle.phase_words.specs.declared.call.Call.TheVariants as call
 use Rattle.phase_words.specs.declared.call.NoCall.TheVariants as no_call
-use Rattle.watched_io.specs.States.{WriterState}
-use Rattle.watched_io.specs.declared.fault.IoFault.TheVariants.{OutOfMemory}
-use Rattle.watched_io.specs.declared.watched.Watched.{Watched}
+use Rattle.phase_replay.specs.watched_io.States.{WriterState}
+use Rattle.phase_replay.specs.watched_io.declared.fault.IoFault.TheVariants.{OutOfMemory}
+use Rattle.phase_replay.specs.watched_io.declared.watched.Watched.{Watched}
 
 -- ---- what words ask for
 

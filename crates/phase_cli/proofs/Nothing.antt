@@ -1,15 +1,15 @@
 -- Where nothing was read and nothing was written, for memory ran out over the words.
 use Rattle.std.proofs.Common.{◌≡◌, Bool, List, [], ℕ, Option, Some, None, refl, arith}
 use Rattle.std.proofs.KnownBytes.{Appends-nil}
-use Rattle.watched_io.specs.States.{ReaderState, WriterState}
-use Rattle.watched_io.proofs.Giving.{reads_nothing}
+use Rattle.phase_replay.specs.watched_io.States.{ReaderState, WriterState}
+use Rattle.phase_replay.proofs.watched_io_lemmas.Giving.{reads_nothing}
 use Rattle.phase_replay.specs.Replay.{RepliesPrefix}
 use Rattle.phase_replay.specs.Replies.{replies_of}
-use Rattle.watched_io.specs.declared.fault.IoFault.TheVariants.{OutOfMemory}
+use Rattle.phase_replay.specs.watched_io.declared.fault.IoFault.TheVariants.{OutOfMemory}
 use Rattle.phase_replay.specs.declared.whole.TheConstants.{SCRIPT_MAX}
 use Rattle.phase_replay.proofs.Reading.{replays_nothing}
-use Rattle.phase_status.specs.Statuses.{Reports}
-use Rattle.replay_command.specs.Replays.{ReplayEnds}
+use Rattle.phase_replay.specs.watched_io.Statuses.{Reports}
+use Rattle.phase_replay.specs.Replays.{ReplayEnds}
 
 -- nothing is a prefix of the replies
 known_none : (unread : Option (List ℕ)) (old : WriterState) (count : ℕ) (failed : Bool)

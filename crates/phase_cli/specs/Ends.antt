@@ -4,14 +4,14 @@ use Rattle.graph_commands.specs.Explained.{CheckEndsExplained, EvalEndsExplained
 use Rattle.graph_commands.specs.FileJobs.{Known}
 use Rattle.graph_commands.specs.GraphDrawings.{DrawEnds}
 use Rattle.graph_commands.specs.GraphRuns.{CheckEnds, EvalEnds}
-use Rattle.replay_command.specs.Replays.{ReplayEnds}
+use Rattle.phase_replay.specs.Replays.{ReplayEnds}
 use Rattle.phase_replay.specs.Replay.{HasCause}
-use Rattle.phase_status.specs.Statuses.{Reports}
+use Rattle.phase_replay.specs.watched_io.Statuses.{Reports}
 use Rattle.phase_words.specs.CommandLine.{AreRefused, AreTaken, Asked, Asks, AskGraph, AskHelp, AskReplay, AskVersion, check, check_explained, draw, eval, eval_explained, replay}
-use Rattle.watched_io.specs.States.{ReaderState, WriterState, writer_state}
-use Rattle.watched_io.specs.declared.fault.IoFault.{IoFault}
-use Rattle.watched_io.specs.declared.fault.IoFault.TheVariants.{OutOfMemory}
-use Rattle.watched_io.specs.declared.watched.Watched.{Watched}
+use Rattle.phase_replay.specs.watched_io.States.{ReaderState, WriterState, writer_state}
+use Rattle.phase_replay.specs.watched_io.declared.fault.IoFault.{IoFault}
+use Rattle.phase_replay.specs.watched_io.declared.fault.IoFault.TheVariants.{OutOfMemory}
+use Rattle.phase_replay.specs.watched_io.declared.watched.Watched.{Watched}
 
 -- the statuses of the program
 abbrev pub IsStatus : ℕ → Type 0

@@ -1,11 +1,11 @@
 -- How a command of the program ends.
 use Rattle.std.specs.Prelude.{◌≡◌, ◌⊎◌, ℕ}
-use Rattle.phase_status.specs.Statuses.{Reports}
+use Rattle.phase_replay.specs.watched_io.Statuses.{Reports}
 use Rattle.phase_words.specs.declared.call.Call.{Call}
 use Rattle.phase_words.specs.declared.call.NoCall.{NoCall}
-use Rattle.watched_io.specs.States.{WriterState}
-use Rattle.watched_io.specs.declared.fault.IoFault.TheVariants.{OutOfMemory}
-use Rattle.watched_io.specs.declared.watched.Watched.{Watched}
+use Rattle.phase_replay.specs.watched_io.States.{WriterState}
+use Rattle.phase_replay.specs.watched_io.declared.fault.IoFault.TheVariants.{OutOfMemory}
+use Rattle.phase_replay.specs.watched_io.declared.watched.Watched.{Watched}
 use Rattle.phase_words.specs.declared.call.Call.TheVariants as call
 use Rattle.phase_words.specs.declared.call.NoCall.TheVariants as no_call
 

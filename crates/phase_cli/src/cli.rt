@@ -1,23 +1,20 @@
 //! A run of the program over any input and outputs.
 ghost use Rattle.std.specs.Prelude.{◌≡◌, ◌⊎◌, option_map};
-ghost use Rattle.phase_cli.specs.Ends.{AnswerEnds, AnswerStops, EndsAs, IsUnbegun};
-ghost use Rattle.phase_cli.specs.Ends.{LeavesAlone, MayEnd, MayEndAs};
+ghost use Rattle.phase_cli.specs.Ends.{AnswerEnds, AnswerStops, EndsAs, IsUnbegun, LeavesAlone, MayEnd, MayEndAs};
 ghost use Rattle.phase_cli.specs.Inside.{IsAnswer, LeavesBy};
-ghost use Rattle.replay_command.specs.Replays.{ReplayEnds};
-ghost use Rattle.phase_words.specs.CommandLine.{AreTaken, AskReplay, Asked, Asks, asked_of};
-ghost use Rattle.phase_words.specs.CommandLine.{check_by, eval_by, texts};
-ghost use Rattle.watched_io.specs.States.{ReaderState, reader_state, writer_state};
+ghost use Rattle.phase_replay.specs.Replays.{ReplayEnds};
+ghost use Rattle.phase_words.specs.CommandLine.{AreTaken, AskReplay, Asked, Asks, asked_of, check_by, eval_by, texts};
+ghost use Rattle.phase_replay.specs.watched_io.States.{ReaderState, reader_state, writer_state};
 
 use graph_commands::{
     Refuses, check_and_explain, check_and_report, draw_and_report, eval_and_explain,
     eval_and_report,
 };
-use phase_status::{refuse, report, show_help};
+use phase_replay::watched_io::{Files, refuse, report, show_help};
+use phase_replay::{ReplayFault as IoFault, Watched, replay_and_report};
 use phase_words::{Call, Explain, NoCall, read_words};
-use replay_command::replay_and_report;
 use std::alloc::Global;
 use std::io::{Read, Write};
-use watched_io::{Files, IoFault, Watched};
 
 /// Runs the program on its words, without its own name, and answers its exit status: 0 where what
 /// was asked for is done, or help or the version was shown, 1 where a graph or its samples are

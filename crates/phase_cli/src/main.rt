@@ -7,9 +7,9 @@ mod laws;
 
 use cli::run_cli;
 use graph_commands::TellingFiles;
-use phase_status::{own_words, refuse_words};
+use phase_replay::Watched;
+use phase_replay::watched_io::{own_words, refuse_words};
 use std::process::ExitCode;
-use watched_io::Watched;
 
 fn main(rt: HostRuntime) -> ExitCode {
     let mut faults = Watched::new(rt.stderr());

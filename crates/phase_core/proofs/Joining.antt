@@ -2,18 +2,18 @@
 use Rattle.std.proofs.Common.{◌≡◌, ℕ, ◌+◌, ◌<◌, ◌≤◌, true, false, not, cond, leb, [], ◌∷◌, Option, Some, None, length, unwrap_or, refl, sym, ap, subst, ◌∙◌, arith, ⊎_elim, inl, inr}
 use Rattle.std.specs.Prelude.{IsSome}
 use Rattle.std.specs.Option.{option_map}
-use Rattle.phase_base.specs.Limits.{Limits}
-use Rattle.phase_base.specs.Modes.{holds, mode_waits}
-use Rattle.phase_base.specs.declared.mode.Mode.{Mode}
-use Rattle.phase_base.specs.declared.entry.Entry.{Entry}
-use Rattle.phase_base.specs.declared.limits.TheConstants.{MEMBERS_MAX}
-use Rattle.phase_base.specs.Members.{Members, entry_of, signal_phases, wait_phases, least}
-use Rattle.phase_accum.specs.Operations.{Operation}
+use Rattle.phase_registry.specs.phase_base.Limits.{Limits}
+use Rattle.phase_registry.specs.phase_base.Modes.{holds, mode_waits}
+use Rattle.phase_registry.specs.phase_base.declared.mode.Mode.{Mode}
+use Rattle.phase_registry.specs.phase_base.declared.entry.Entry.{Entry}
+use Rattle.phase_registry.specs.phase_base.declared.limits.TheConstants.{MEMBERS_MAX}
+use Rattle.phase_registry.specs.phase_base.Members.{Members, entry_of, signal_phases, wait_phases, least}
+use Rattle.phase_history.specs.phase_accum.Operations.{Operation}
 use Rattle.phase_history.specs.declared.event.Event.TheVariants.{Registered}
 use Rattle.phase_history.specs.declared.refusal.RegisterRefusal.TheVariants as register
 use Rattle.phase_history.specs.Histories.{History, entry_at, greatest_used}
 use Rattle.phase_history.specs.Refusals.{register_refusal, refusal_at, register_rows}
-use Rattle.phase_base.specs.Lists.{first_row}
+use Rattle.phase_registry.specs.phase_base.Lists.{first_row}
 use Rattle.phase_history.proofs.MemberLemmas.{holds_signals, holds_waits}
 use Rattle.phase_history.proofs.Refused.{Registers as MayRegister, registers_from}
 use Rattle.phase_registry.specs.declared.refusal.AddRefusal.TheVariants as add
@@ -24,7 +24,7 @@ use Rattle.phase_ring.specs.declared.role.Role.{Role}
 use Rattle.phase_ring.specs.declared.role.Role.TheVariants.{Signaller, Waiter}
 use Rattle.phase_ring.specs.Rings.{Ring, standing, sents}
 use Rattle.phase_ring.specs.Standings.{count_of, counted, takes_part, phase_for}
-use Rattle.phase_ring.specs.Boards.{IsKept}
+use Rattle.phase_ring.specs.Boards.{IsRingAt}
 use Rattle.phase_core.specs.Slots.{KeptSlot}
 use Rattle.phase_core.specs.Inside.{refusal_of_add}
 use Rattle.phase_core.specs.Cores.{CoreState, IsSlotOf, StandsFor, IsBoarded, IsCore, core_with, core_of}
@@ -144,7 +144,7 @@ pub registers_core : {A : Type 0} (op : Operation A) (reg new_reg : Roster) (b n
     → new_reg ≡ added child (entry_at mode e.signal_phase e.wait_phase) reg
     → new.limits ≡ b.limits → new.done ≡ b.done → new.top ≡ b.top → sents new.ring ≡ sents b.ring
     → ((role : Role) (p : ℕ) → standing new.ring role p ≡ standing b.ring role p + counted role (entry_at mode e.signal_phase e.wait_phase) p)
-    → IsKept op new.ring new.limits.bound new.done new.top
+    → IsRingAt op new.ring new.limits.bound new.done new.top
     → Joined op new_reg new (Registered parent child mode ∷ h)
 registers_core {A} op reg new_reg b new h parent child mode e stands boarded a reg_is limits_is done_is top_is same more kept =
     let x = entry_at mode e.signal_phase e.wait_phase in

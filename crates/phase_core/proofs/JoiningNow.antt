@@ -3,12 +3,12 @@ use Rattle.std.proofs.Common.{◌≡◌, ℕ, ◌+◌, ◌++◌, ◌<◌, true, 
 use Rattle.std.specs.Prelude.{IsSome}
 use Rattle.std.specs.Option.{option_map}
 use Rattle.std.proofs.lemmas.Option.{same_Some}
-use Rattle.phase_base.specs.Limits.{Limits}
-use Rattle.phase_base.specs.Modes.{holds, mode_waits}
-use Rattle.phase_base.specs.declared.mode.Mode.{Mode}
-use Rattle.phase_base.specs.declared.entry.Entry.{Entry}
-use Rattle.phase_base.specs.Members.{member, entry_of, signal_phases, wait_phases}
-use Rattle.phase_accum.specs.Operations.{Operation}
+use Rattle.phase_registry.specs.phase_base.Limits.{Limits}
+use Rattle.phase_registry.specs.phase_base.Modes.{holds, mode_waits}
+use Rattle.phase_registry.specs.phase_base.declared.mode.Mode.{Mode}
+use Rattle.phase_registry.specs.phase_base.declared.entry.Entry.{Entry}
+use Rattle.phase_registry.specs.phase_base.Members.{member, entry_of, signal_phases, wait_phases}
+use Rattle.phase_history.specs.phase_accum.Operations.{Operation}
 use Rattle.phase_history.specs.declared.event.Event.TheVariants.{RegisteredNow}
 use Rattle.phase_history.specs.Histories.{History, entry_at, members_of, member_entry, done_of, greatest_used}
 use Rattle.phase_history.specs.Refusals.{register_now_refusal}
@@ -17,13 +17,13 @@ use Rattle.phase_registry.specs.Rosters.{Roster, add_refusal, added}
 use Rattle.phase_ring.specs.declared.board.Board.{Board}
 use Rattle.phase_ring.specs.declared.role.Role.TheVariants.{Signaller, Waiter}
 use Rattle.phase_ring.specs.Rings.{Ring, standing, sents}
-use Rattle.phase_base.specs.declared.mode.Mode.TheVariants.{Single, SigWait, Sig, Wait}
+use Rattle.phase_registry.specs.phase_base.declared.mode.Mode.TheVariants.{Single, SigWait, Sig, Wait}
 use Rattle.phase_history.proofs.Steps.{member_entry_is}
 use Rattle.phase_core.proofs.NewCore.{done_of_boarded}
 use Rattle.phase_core.proofs.Boarded.{slowest_is}
 use Rattle.phase_core.proofs.Joining.{register_refusal_is}
 use Rattle.phase_ring.specs.Standings.{one_if_same, count_of}
-use Rattle.phase_ring.specs.Boards.{IsKept}
+use Rattle.phase_ring.specs.Boards.{IsRingAt}
 use Rattle.phase_core.specs.Inside.{refusal_of_add}
 use Rattle.phase_core.specs.Cores.{CoreState, StandsFor, IsBoarded, IsCore, core_with, core_of}
 use Rattle.phase_core.proofs.RingSlots.{same_slots}
@@ -54,7 +54,7 @@ pub registers_now : {A : Type 0} (op : Operation A) (reg new_reg : Roster) (b ne
     → new.limits ≡ b.limits → new.done ≡ b.done → new.top ≡ b.top → sents new.ring ≡ sents b.ring
     → ((p : ℕ) → standing new.ring Waiter p ≡ standing b.ring Waiter p + one_if_same b.done p)
     → ((p : ℕ) → standing new.ring Signaller p ≡ standing b.ring Signaller p)
-    → IsKept op new.ring new.limits.bound new.done new.top
+    → IsRingAt op new.ring new.limits.bound new.done new.top
     → JoinedNow op new_reg new (RegisteredNow parent child ∷ h)
 registers_now {A} op reg new_reg b new h parent child e stands boarded found none reg_is limits_is done_is top_is same more others kept =
     let x = entry_at Wait e.signal_phase b.done in

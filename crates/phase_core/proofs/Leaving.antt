@@ -2,10 +2,10 @@
 use Rattle.std.proofs.Common.{◌≡◌, ℕ, ◌+◌, ◌<◌, ◌≤◌, ◌⊎◌, true, [], ◌∷◌, Some, None, length, refl, sym, ap, subst, ◌∙◌, arith, inl, inr}
 use Rattle.std.specs.Prelude.{IsSome}
 use Rattle.std.proofs.lemmas.Option.{same_Some}
-use Rattle.phase_base.specs.Limits.{Limits}
-use Rattle.phase_base.specs.declared.entry.Entry.{Entry}
-use Rattle.phase_base.specs.Members.{Members, entry_of, without, wait_phases, least}
-use Rattle.phase_accum.specs.Operations.{Operation}
+use Rattle.phase_registry.specs.phase_base.Limits.{Limits}
+use Rattle.phase_registry.specs.phase_base.declared.entry.Entry.{Entry}
+use Rattle.phase_registry.specs.phase_base.Members.{Members, entry_of, without, wait_phases, least}
+use Rattle.phase_history.specs.phase_accum.Operations.{Operation}
 use Rattle.phase_history.specs.declared.event.Event.TheVariants.{Dropped}
 use Rattle.phase_history.specs.declared.refusal.NoTask.{NoTask}
 use Rattle.phase_history.specs.Histories.{History}
@@ -16,7 +16,7 @@ use Rattle.phase_ring.specs.declared.role.Role.{Role}
 use Rattle.phase_ring.specs.declared.role.Role.TheVariants.{Signaller, Waiter}
 use Rattle.phase_ring.specs.Rings.{Ring, standing, sents, KeepsSlots}
 use Rattle.phase_ring.specs.Standings.{count_of, counted, takes_part, phase_for}
-use Rattle.phase_ring.specs.Boards.{IsKept}
+use Rattle.phase_ring.specs.Boards.{IsRingAt}
 use Rattle.phase_core.specs.Slots.{KeptSlot}
 use Rattle.phase_core.specs.Cores.{CoreState, IsSlotOf, StandsFor, IsBoarded, core_with, core_of}
 use Rattle.phase_core.proofs.LeastCounts.{signaller-counted, waiter-counted}
@@ -61,7 +61,7 @@ pub drops_core : {A : Type 0} (op : Operation A) (reg new_reg : Roster) (b new :
     → new.limits ≡ b.limits → new.top ≡ b.top → KeepsSlots (sents b.ring) (sents new.ring)
     → ((role : Role) (p : ℕ) → standing new.ring role p + counted role e p ≡ standing b.ring role p)
     → (new.done ≡ new.top) ⊎ (0 < standing new.ring Signaller new.done) → 0 < standing new.ring Waiter new.ring.base
-    → IsKept op new.ring new.limits.bound new.done new.top
+    → IsRingAt op new.ring new.limits.bound new.done new.top
     → Joined op new_reg new (Dropped task ∷ h)
 drops_core {A} op reg new_reg b new h task e stands boarded used rising found reg_is limits_is top_is slots less settled stops kept =
     let want = roster (without task reg.members) reg.greatest in

@@ -14,3 +14,5 @@ pub mod SignalReply
 pub mod SignalRows
 pub mod SignalSlots
 pub mod WaitCore
+pub use Rattle.phase_history.proofs.phase_accum_lemmas as phase_accum_lemmas
+pub use Rattle.phase_history.proofs as phase_history_lemmas

@@ -1,9 +1,9 @@
 -- A new core, and what the readers tell.
 use Rattle.std.proofs.Common.{◌≡◌, ℕ, [], ◌∷◌, Option, Some, None, unwrap_or, refl, sym, ◌∙◌, ap, subst, arith, inl, inr}
 use Rattle.std.specs.Prelude.{IsSome}
-use Rattle.phase_base.specs.Limits.{AreLimits}
-use Rattle.phase_base.specs.Members.{member, signal_phases, least}
-use Rattle.phase_accum.specs.Operations.{Operation}
+use Rattle.phase_registry.specs.phase_base.Limits.{AreLimits}
+use Rattle.phase_registry.specs.phase_base.Members.{member, signal_phases, least}
+use Rattle.phase_history.specs.phase_accum.Operations.{Operation}
 use Rattle.phase_history.specs.declared.event.Event.TheVariants.{Made}
 use Rattle.phase_history.specs.Histories.{History, founder, members_of, done_of}
 use Rattle.phase_registry.specs.Rosters.{Roster, roster, next_after}
@@ -12,7 +12,7 @@ use Rattle.phase_ring.specs.declared.role.Role.{Role}
 use Rattle.phase_ring.specs.declared.role.Role.TheVariants.{Signaller, Waiter}
 use Rattle.phase_ring.specs.Rings.{standing}
 use Rattle.phase_ring.specs.Standings.{one_if_same}
-use Rattle.phase_ring.specs.Boards.{IsKept}
+use Rattle.phase_ring.specs.Boards.{IsRingAt}
 use Rattle.phase_core.specs.Cores.{StandsFor, IsBoarded, IsCore, core_of}
 use Rattle.phase_core.proofs.LeastCounts.{one-same}
 use Rattle.phase_core.proofs.Boarded.{done_is}
@@ -25,7 +25,7 @@ pub record IsNew {A : Type 0} (op : Operation A) (reg : Roster) (b : Board A) (f
   pub holds : IsCore op reg b
 
 pub made_core : {A : Type 0} (op : Operation A) (reg : Roster) (b : Board A) (first : ℕ)
-    → reg ≡ roster (member first founder ∷ []) (Some first) → AreLimits b.limits → IsKept op b.ring b.limits.bound b.done b.top
+    → reg ≡ roster (member first founder ∷ []) (Some first) → AreLimits b.limits → IsRingAt op b.ring b.limits.bound b.done b.top
     → b.done ≡ 0 → b.top ≡ 0 → b.ring.base ≡ 0 → ((role : Role) (p : ℕ) → standing b.ring role p ≡ one_if_same 0 p)
     → IsNew op reg b first
 made_core {A} op reg b first reg_is are kept done top base standing_is =

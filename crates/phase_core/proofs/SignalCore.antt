@@ -4,15 +4,15 @@ use Rattle.std.specs.Prelude.{IfSome, IsSome}
 use Rattle.std.proofs.lemmas.List.{length-set}
 use Rattle.std.proofs.lemmas.Option.{same_Some}
 use Rattle.std.proofs.lemmas.Bool.{cases_lt}
-use Rattle.phase_base.specs.Limits.{Limits}
-use Rattle.phase_base.specs.Modes.{mode_signals}
-use Rattle.phase_base.specs.declared.limits.TheConstants.{MEMBERS_MAX}
-use Rattle.phase_base.specs.declared.entry.Entry.{Entry}
-use Rattle.phase_base.specs.Members.{Members, entry_of, changed_at, signal_phases, wait_phases, least, signalled}
-use Rattle.phase_accum.specs.declared.single.Single.{Single}
-use Rattle.phase_accum.specs.Singles.{CanBeNamed}
-use Rattle.phase_accum.specs.Operations.{Operation, AccumulateLaws, IsPartOf}
-use Rattle.phase_accum.specs.Parcels.{Parcel}
+use Rattle.phase_registry.specs.phase_base.Limits.{Limits}
+use Rattle.phase_registry.specs.phase_base.Modes.{mode_signals}
+use Rattle.phase_registry.specs.phase_base.declared.limits.TheConstants.{MEMBERS_MAX}
+use Rattle.phase_registry.specs.phase_base.declared.entry.Entry.{Entry}
+use Rattle.phase_registry.specs.phase_base.Members.{Members, entry_of, changed_at, signal_phases, wait_phases, least, signalled}
+use Rattle.phase_history.specs.phase_accum.declared.single.Single.{Single}
+use Rattle.phase_history.specs.phase_accum.Singles.{CanBeNamed}
+use Rattle.phase_history.specs.phase_accum.Operations.{Operation, AccumulateLaws, IsPartOf}
+use Rattle.phase_history.specs.phase_accum.Parcels.{Parcel}
 use Rattle.phase_history.specs.declared.event.Event.TheVariants.{Signalled}
 use Rattle.phase_history.specs.Histories.{History, members_of, top_of, signal_phase}
 use Rattle.phase_history.specs.Phases.{sends_of_phase, named_in_phase, list_in_phase, first_named, is_among}
@@ -24,7 +24,7 @@ use Rattle.phase_ring.specs.Slots.{Slot}
 use Rattle.phase_ring.specs.declared.role.Role.TheVariants.{Signaller, Waiter}
 use Rattle.phase_ring.specs.Rings.{Ring, IsWithin, slot_at, standing, sents}
 use Rattle.phase_ring.specs.Standings.{one_if_same, count_of}
-use Rattle.phase_ring.specs.Boards.{IsKept}
+use Rattle.phase_ring.specs.Boards.{IsRingAt}
 use Rattle.phase_ring.specs.Blocks.{joined_in, block_joined, BlockFits}
 use Rattle.phase_ring.proofs.Slots.{slot_at-some}
 use Rattle.phase_core.specs.Cores.{CoreState, StandsFor, IsBoarded, sent_of, core_with, core_of}
@@ -115,7 +115,7 @@ pub block_boarded : {A : Type 0} (op : Operation A) (reg new_reg : Roster) (b ne
     → new.ring.base ≡ b.ring.base
     → ((p : ℕ) → standing new.ring Signaller p + one_if_same e.signal_phase p ≡ standing b.ring Signaller p + one_if_same (e.signal_phase + n) p)
     → ((p : ℕ) → standing new.ring Waiter p ≡ standing b.ring Waiter p)
-    → IsKept op new.ring new.limits.bound new.done new.top
+    → IsRingAt op new.ring new.limits.bound new.done new.top
     → (new.done ≡ new.top) ⊎ (0 < standing new.ring Signaller new.done)
     → IsBoarded op new_reg.members new.ring new.limits.bound new.done new.top
 block_boarded {A} op reg new_reg b new task n e boarded found signals reg_is base moved others kept stops =

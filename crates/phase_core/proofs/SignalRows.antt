@@ -4,21 +4,21 @@ use Rattle.std.proofs.Common.{◌≡◌, ℕ, ℤ, ◌+◌, ◌<◌, ◌≤◌, 
 use Rattle.std.specs.Prelude.{is_some, IsSome}
 use Rattle.std.specs.Option.{option_map}
 use Rattle.std.proofs.lemmas.Bool.{leb-true, leb-false, lt-leb, le-ltb, cases_lt}
-use Rattle.phase_base.specs.Limits.{Limits}
-use Rattle.phase_base.specs.Modes.{mode_waits}
-use Rattle.phase_base.specs.declared.entry.Entry.{Entry}
-use Rattle.phase_base.specs.declared.limits.TheConstants.{SENDS_MAX}
-use Rattle.phase_base.specs.Members.{wait_phases, least, signalled}
-use Rattle.phase_accum.specs.declared.single.Single.{Single}
-use Rattle.phase_accum.specs.Singles.{differs}
-use Rattle.phase_accum.specs.Operations.{Operation}
-use Rattle.phase_accum.specs.Parcels.{Parcel, StandsForSends}
+use Rattle.phase_registry.specs.phase_base.Limits.{Limits}
+use Rattle.phase_registry.specs.phase_base.Modes.{mode_waits}
+use Rattle.phase_registry.specs.phase_base.declared.entry.Entry.{Entry}
+use Rattle.phase_registry.specs.phase_base.declared.limits.TheConstants.{SENDS_MAX}
+use Rattle.phase_registry.specs.phase_base.Members.{wait_phases, least, signalled}
+use Rattle.phase_history.specs.phase_accum.declared.single.Single.{Single}
+use Rattle.phase_history.specs.phase_accum.Singles.{differs}
+use Rattle.phase_history.specs.phase_accum.Operations.{Operation}
+use Rattle.phase_history.specs.phase_accum.Parcels.{Parcel, StandsForSends}
 use Rattle.phase_history.specs.declared.refusal.SignalRefusal.{SignalRefusal}
 use Rattle.phase_history.specs.declared.refusal.SignalRefusal.TheVariants as signal
 use Rattle.phase_history.specs.Histories.{History, signal_phase, members_of, top_of}
 use Rattle.phase_history.specs.Phases.{sends_of_phase, named_in_phase}
 use Rattle.phase_history.specs.Refusals.{signal_refusal, is_ahead, phase_rows, list_rows}
-use Rattle.phase_base.specs.Lists.{first_row}
+use Rattle.phase_registry.specs.phase_base.Lists.{first_row}
 use Rattle.phase_history.specs.Replies.{signal_reply, refused_or}
 use Rattle.phase_history.proofs.Refused.{no_row, first_row_none}
 use Rattle.phase_registry.specs.Rosters.{Roster}
@@ -32,7 +32,7 @@ use Rattle.phase_core.specs.Cores.{StandsFor, IsBoarded, core_with}
 use Rattle.phase_core.proofs.RingSlots.{slot_keeps}
 use Rattle.std.proofs.lemmas.List.{drop_more}
 use Rattle.phase_ring.specs.Blocks.{BlockFits}
-use Rattle.phase_ring.specs.Boards.{IsKept}
+use Rattle.phase_ring.specs.Boards.{IsRingAt}
 use Rattle.phase_core.specs.Blocks.{StandForLists, named_at, count_at, block_rows, IsOpen}
 use Rattle.phase_core.specs.Inside.{are_new}
 use Rattle.phase_core.proofs.CoreSteps.{none_from_top}
@@ -300,7 +300,7 @@ new_row limits b e waits far near =
 
 -- and none of a block's
 new_rows : {A : Type 0} (op : Operation A) (limits : Limits) (r : Ring A) (done top : ℕ) (held : List (Parcel A)) (lists : List (List ℤ)) (single : Option Single) (e : Entry)
-    → IsKept op r limits.bound done top → mode_waits e.mode ≡ false → top ≤ e.signal_phase → e.signal_phase + length held ≤ limits.phases_max
+    → IsRingAt op r limits.bound done top → mode_waits e.mode ≡ false → top ≤ e.signal_phase → e.signal_phase + length held ≤ limits.phases_max
     → e.signal_phase + length held ≤ r.base + limits.bound → StandForLists op held lists → first_row (block_rows limits (Some r.base) r held single e) ≡ None
 new_rows op limits r done top [] lists single e kept waits above far near holds = refl
 new_rows op limits r done top (held ∷ more) [] single e kept waits above far near holds = absurd holds

@@ -2,19 +2,19 @@
 use Rattle.std.proofs.Common.{◌≡◌, ℕ, ◌+◌, ◌<◌, ◌≤◌, ◌⊎◌, true, Bool, [], ◌∷◌, Option, Some, None, Ok, length, unwrap_or, refl, sym, ◌∙◌, ap, subst, arith, ⊎_elim, inl, inr, zero, suc, ◌-◌, cond, map, take, drop, min, List, ◌++◌, Result}
 use Rattle.std.specs.Prelude.{is_some, slice_range}
 use Rattle.std.proofs.lemmas.Option.{same_Some}
-use Rattle.phase_base.specs.Modes.{mode_waits}
-use Rattle.phase_base.specs.declared.entry.Entry.{Entry}
-use Rattle.phase_base.specs.declared.limits.TheConstants.{MEMBERS_MAX}
-use Rattle.phase_base.specs.Members.{entry_of, changed_at, signal_phases, wait_phases, least, waited}
-use Rattle.phase_accum.specs.declared.outcome.Outcome.{Outcome}
-use Rattle.phase_accum.specs.Operations.{Operation, AccumulateLaws}
+use Rattle.phase_registry.specs.phase_base.Modes.{mode_waits}
+use Rattle.phase_registry.specs.phase_base.declared.entry.Entry.{Entry}
+use Rattle.phase_registry.specs.phase_base.declared.limits.TheConstants.{MEMBERS_MAX}
+use Rattle.phase_registry.specs.phase_base.Members.{entry_of, changed_at, signal_phases, wait_phases, least, waited}
+use Rattle.phase_history.specs.phase_accum.declared.outcome.Outcome.{Outcome}
+use Rattle.phase_history.specs.phase_accum.Operations.{Operation, AccumulateLaws}
 use Rattle.phase_history.specs.declared.event.Event.TheVariants.{Waited}
 use Rattle.phase_history.specs.declared.got.Got.TheVariants as got
 use Rattle.phase_history.specs.declared.refusal.WaitRefusal.{WaitRefusal}
 use Rattle.phase_history.specs.Histories.{History, done_of, members_of, wait_phase}
 use Rattle.phase_history.specs.Phases.{value_of_phase, stream_of}
 use Rattle.phase_history.specs.Refusals.{wait_refusal, plain_wait_rows, refusal_at, wait_rows_at}
-use Rattle.phase_base.specs.Lists.{first_row}
+use Rattle.phase_registry.specs.phase_base.Lists.{first_row}
 use Rattle.phase_history.specs.Replies.{wait_reply, refused_or, got_at, wait_block_reply, got_block_at}
 use Rattle.phase_history.proofs.MemberLemmas.{signal_phases-waited}
 use Rattle.phase_registry.specs.Rosters.{Roster, roster}
@@ -23,7 +23,7 @@ use Rattle.phase_ring.specs.declared.role.Role.TheVariants.{Signaller, Waiter}
 use Rattle.phase_ring.specs.Slots.{Slot, slot_value}
 use Rattle.phase_ring.specs.Rings.{slot_at, standing, sents, KeepsSlots}
 use Rattle.phase_ring.specs.Standings.{one_if_same, count_of}
-use Rattle.phase_ring.specs.Boards.{IsKept}
+use Rattle.phase_ring.specs.Boards.{IsRingAt}
 use Rattle.phase_ring.proofs.Slots.{slot_at-some}
 use Rattle.phase_ring.proofs.Kept.{standing-within}
 use Rattle.phase_core.specs.Cores.{CoreState, StandsFor, IsBoarded, sent_of, core_of, core_with}
@@ -36,15 +36,14 @@ use Rattle.phase_core.proofs.RingSlots.{kept_slots, slot_keeps}
 use Rattle.std.proofs.lemmas.Bool.{lt-ltb, le-ltb}
 use Rattle.phase_history.proofs.Steps.{member_entry_is}
 use Rattle.phase_ring.specs.Blocks.{value_at, value_in, block_values}
-use Rattle.std.specs.List.{range_with_len}
+use Rattle.std.specs.List.{range_with_len, All}
 use Rattle.phase_history.specs.declared.refusal.WaitRefusal.TheVariants as wait
 use Rattle.phase_history.specs.declared.got.GotBlock.TheVariants as got_block
 use Rattle.std.proofs.lemmas.List.FromFn.{take-map-range_with_len, length-range_with_len}
 use Rattle.std.proofs.lemmas.List.{length-take, length-drop, length-map, take-append-le}
 use Rattle.std.proofs.lemmas.List.Elements.{All-take, All-drop}
-use Rattle.std.specs.List.{All}
-use Rattle.phase_base.specs.Limits.{Limits}
-use Rattle.phase_accum.specs.Values.{IsInRange}
+use Rattle.phase_registry.specs.phase_base.Limits.{Limits}
+use Rattle.phase_history.specs.phase_accum.Values.{IsInRange}
 use Rattle.phase_history.specs.declared.got.GotBlock.{GotBlock}
 use Rattle.phase_history.specs.Legal.{IsLegal}
 use Rattle.phase_history.proofs.BlockAnswers.{block_tells}
@@ -109,7 +108,7 @@ pub boarded_waited : {A : Type 0} (op : Operation A) (reg new_reg : Roster) (b n
     → new.done ≡ b.done → new.top ≡ b.top
     → ((p : ℕ) → standing new.ring Waiter p + one_if_same e.wait_phase p ≡ standing b.ring Waiter p + one_if_same (e.wait_phase + n) p)
     → ((p : ℕ) → standing new.ring Signaller p ≡ standing b.ring Signaller p)
-    → IsKept op new.ring new.limits.bound new.done new.top → 0 < standing new.ring Waiter new.ring.base
+    → IsRingAt op new.ring new.limits.bound new.done new.top → 0 < standing new.ring Waiter new.ring.base
     → IsBoarded op new_reg.members new.ring new.limits.bound new.done new.top
 boarded_waited op reg new_reg b new task n e boarded found waits reg_is done_is top_is moved others kept stops =
     let members : new_reg.members ≡ changed_at task (waited n) reg.members = ap (λ (r : Roster). r.members) reg_is in

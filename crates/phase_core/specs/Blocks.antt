@@ -1,12 +1,12 @@
 -- Blocks of phases: what their sends are, and the rows of a block's signals by the ring.
 use Rattle.std.specs.Prelude.{◌≡◌, ℕ, ◌+◌, ◌≤◌, ℤ, List, [], ◌∷◌, ◌++◌, Option, Some, None, Bool, Result, Ok, Err, drop, slice_range}
-use Rattle.phase_base.specs.Limits.{Limits}
-use Rattle.phase_base.specs.declared.entry.Entry.{Entry}
-use Rattle.phase_base.specs.Members.{signalled}
-use Rattle.phase_accum.specs.declared.single.Single.{Single}
-use Rattle.phase_accum.specs.Operations.{Operation}
-use Rattle.phase_accum.specs.Parcels.{Parcel, StandsForSends}
-use Rattle.phase_accum.specs.declared.outcome.Outcome.{Outcome}
+use Rattle.phase_registry.specs.phase_base.Limits.{Limits}
+use Rattle.phase_registry.specs.phase_base.declared.entry.Entry.{Entry}
+use Rattle.phase_registry.specs.phase_base.Members.{signalled}
+use Rattle.phase_history.specs.phase_accum.declared.single.Single.{Single}
+use Rattle.phase_history.specs.phase_accum.Operations.{Operation}
+use Rattle.phase_history.specs.phase_accum.Parcels.{Parcel, StandsForSends}
+use Rattle.phase_history.specs.phase_accum.declared.outcome.Outcome.{Outcome}
 use Rattle.phase_history.specs.declared.got.GotBlock.{GotBlock}
 use Rattle.phase_history.specs.declared.got.GotBlock.TheVariants as got
 use Rattle.phase_history.specs.declared.refusal.WaitRefusal.{WaitRefusal}
@@ -14,7 +14,7 @@ use Rattle.phase_history.specs.declared.refusal.SignalRefusal.{SignalRefusal}
 use Rattle.phase_history.specs.Refusals.{phase_rows}
 use Rattle.phase_ring.specs.Slots.{Slot}
 use Rattle.phase_ring.specs.Rings.{Ring, slot_at}
-use Rattle.phase_ring.specs.Boards.{IsKept}
+use Rattle.phase_ring.specs.Boards.{IsRingAt}
 
 -- these lists of sends are held, a list by each parcel
 abbrev pub StandForLists : {A : Type 0} → Operation A → List (Parcel A) → List (List ℤ) → Type 0
@@ -47,7 +47,7 @@ block_rows limits slowest r (held ∷ more) single entry =
 -- is not complete
 pub record IsOpen {A : Type 0} (op : Operation A) (r : Ring A) (bound done top : ℕ) (slowest : Option ℕ) (phase : ℕ)
     : Type 0 where
-  pub kept : IsKept op r bound done top
+  pub kept : IsRingAt op r bound done top
   pub slowest_is : slowest ≡ Some r.base
   pub low : done ≤ phase
 

@@ -1,9 +1,9 @@
 -- What a core keeps, and the histories that it stands for.
 use Rattle.std.specs.Prelude.{◌≡◌, ℕ, ◌+◌, ◌<◌, ◌≤◌, ◌⊎◌, List, [], Some, IsSome, length, map, slice_get, unwrap_or}
-use Rattle.phase_base.specs.Limits.{Limits}
-use Rattle.phase_accum.specs.Operations.{Operation, IsPartOf}
+use Rattle.phase_registry.specs.phase_base.Limits.{Limits}
+use Rattle.phase_history.specs.phase_accum.Operations.{Operation, IsPartOf}
 use Rattle.phase_core.specs.Slots.{KeptSlot}
-use Rattle.phase_base.specs.Members.{Members, signal_phases, wait_phases, least}
+use Rattle.phase_registry.specs.phase_base.Members.{Members, signal_phases, wait_phases, least}
 use Rattle.phase_history.specs.Histories.{History, members_of, top_of, greatest_used}
 use Rattle.phase_history.specs.Phases.{sends_of_phase, named_in_phase}
 use Rattle.phase_history.specs.Legal.{IsLegal}
@@ -13,7 +13,7 @@ use Rattle.phase_ring.specs.declared.role.Role.TheVariants.{Signaller, Waiter}
 use Rattle.phase_ring.specs.declared.board.Board.{Board}
 use Rattle.phase_ring.specs.Rings.{Ring, standing}
 use Rattle.phase_ring.specs.Standings.{count_of}
-use Rattle.phase_ring.specs.Boards.{IsKept}
+use Rattle.phase_ring.specs.Boards.{IsRingAt}
 
 -- the limits, the members, the greatest number used, the top, and a slot for each phase from the
 -- base on, as far as phases are kept
@@ -82,7 +82,7 @@ core_of r board = core_with r board.limits board.ring board.top
 -- each phase as the members say
 pub record IsBoarded {A : Type 0} (op : Operation A) (members : Members) (r : Ring A)
     (bound done top : ℕ) : Type 0 where
-  pub kept : IsKept op r bound done top
+  pub kept : IsRingAt op r bound done top
   pub done_at : (done ≡ top) ⊎ (0 < standing r Signaller done)
   pub base_at : 0 < standing r Waiter r.base
   pub signallers_are : (p : ℕ) → standing r Signaller p ≡ count_of p (signal_phases members)

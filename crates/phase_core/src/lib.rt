@@ -10,7 +10,12 @@ mod refusal_rows;
 mod signalling;
 mod waiting;
 
+pub use phase_history;
 pub use phase_history::{
     Call, Event, Got, GotBlock, NoTask, RegisterRefusal, Reply, SignalRefusal, WaitRefusal, laws,
+    phase_accum,
 };
+pub use phase_registry;
+pub use phase_registry::phase_base;
+pub use phase_ring;
 pub use phaser_core::PhaserCore;

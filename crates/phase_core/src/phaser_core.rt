@@ -1,14 +1,14 @@
 //! The phaser itself, for one thread: what it keeps, how it is made, and its readers.
 ghost use Rattle.std.specs.Prelude.{◌≡◌, ℕ, [], ◌∷◌, Some, is_some, IfOk};
-ghost use Rattle.phase_base.specs.Members.{entry_of, signal_phases, wait_phases, least};
+ghost use Rattle.phase_registry.specs.phase_base.Members.{entry_of, signal_phases, wait_phases, least};
 ghost use Rattle.phase_history.specs.declared.event.Event.TheVariants.{Made};
 ghost use Rattle.phase_history.specs.Histories.{History, done_of, top_of};
 ghost use Rattle.phase_registry.specs.Rosters.{next_after};
 ghost use Rattle.phase_core.specs.Cores.{StandsFor};
 
-use phase_accum::Accumulate;
-use phase_base::{Entry, Mode, Spec};
+use phase_history::phase_accum::Accumulate;
 use phase_registry::Registry;
+use phase_registry::phase_base::{Entry, Mode, Spec};
 use phase_ring::Board;
 use std::alloc::{AllocError, Global};
 use std::marker::Model;
@@ -83,14 +83,14 @@ impl<A: Accumulate> PhaserCore<A> {
         Ok(PhaserCore { registry, board })
     }
 
-    /// Tells a task's mode and phases, where it is registered.
+    /// Returns a task's mode and phases, where it is registered.
     pub fn view(&self, task: u64) -> Option<Entry>
         ensures { result ≡ entry_of self.now.members task }
     {
         self.registry.get(task)
     }
 
-    /// Tells the first phase that is not complete, counted from 0. The phases below it are.
+    /// Returns the first phase that is not complete, counted from 0. The phases below it are.
     ///
     /// Where no waiter is registered, it looks at each task.
     pub fn done(&self) -> u64
@@ -102,7 +102,7 @@ impl<A: Accumulate> PhaserCore<A> {
         self.registry.least_signal().unwrap_or(self.board.top)
     }
 
-    /// Tells one more than the greatest phase that was ever signalled, or 0.
+    /// Returns one more than the greatest phase that was ever signalled, or 0.
     pub fn top(&self) -> u64
         ensures top { (h : History) → StandsFor A.operation self.now h → result ≡ top_of h }
         // A phaser stands for some history, whatever was done with it before.
@@ -111,14 +111,14 @@ impl<A: Accumulate> PhaserCore<A> {
         self.board.top
     }
 
-    /// Tells the number above every number that a task of the phaser ever had, where one is left.
+    /// Returns the number above every number that a task of the phaser ever had, where one is left.
     pub fn next_number(&self) -> Option<u64>
         ensures { result ≡ next_after (Some self.now.greatest) }
     {
         self.registry.next_number()
     }
 
-    /// Tells the least wait phase of the waiters, where one is registered.
+    /// Returns the least wait phase of the waiters, where one is registered.
     pub fn least_wait(&self) -> Option<u64>
         ensures { result ≡ least (wait_phases self.now.members) }
     {
@@ -128,7 +128,7 @@ impl<A: Accumulate> PhaserCore<A> {
         Some(self.board.ring.base())
     }
 
-    /// Tells whether a signaller is registered.
+    /// Returns whether a signaller is registered.
     pub fn has_signaller(&self) -> bool
         ensures { result ≡ is_some (least (signal_phases self.now.members)) }
     {

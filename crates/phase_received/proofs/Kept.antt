@@ -1,14 +1,14 @@
 -- What a registration has received, where its number stayed.
 use Rattle.std.proofs.Common.{◌≡◌, List, ap, ◌∙◌}
 use Rattle.std.specs.Prelude.{Result, Ok, Err}
-use Rattle.phase_base.specs.declared.mode.Mode.{Mode}
-use Rattle.phase_accum.specs.Operations.{Operation}
-use Rattle.phase_accum.specs.declared.outcome.Outcome.{Outcome}
-use Rattle.phase_history.specs.Phases.{received_by}
-use Rattle.phase_history.specs.declared.refusal.RegisterRefusal.{RegisterRefusal}
+use Rattle.phase_shared.specs.phase_base.declared.mode.Mode.{Mode}
+use Rattle.phase_shared.specs.phase_accum.Operations.{Operation}
+use Rattle.phase_shared.specs.phase_accum.declared.outcome.Outcome.{Outcome}
+use Rattle.phase_shared.specs.phase_history.Phases.{received_by}
+use Rattle.phase_shared.specs.phase_history.declared.refusal.RegisterRefusal.{RegisterRefusal}
 use Rattle.phase_shared.specs.Regs.{RegState}
-use Rattle.phase_seats.specs.declared.tried.Tried.{Tried}
-use Rattle.phase_seats.specs.declared.tried.Tried.TheVariants.{Busy, Refused}
+use Rattle.phase_shared.specs.declared.tried.Tried.{Tried}
+use Rattle.phase_shared.specs.declared.tried.Tried.TheVariants.{Busy, Refused}
 use Rattle.phase_shared.specs.Calls.{Registers, Tries}
 use Rattle.phase_shared.proofs.PartSteps.{parent_stays, refused_register}
 use Rattle.phase_received.specs.Received.{received_of}

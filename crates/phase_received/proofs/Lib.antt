@@ -1,3 +1,4 @@
 pub mod Wholes
 pub mod Lists
 pub mod Kept
+pub use Rattle.phase_shared.proofs.turn_lock_lemmas as turn_lock_lemmas

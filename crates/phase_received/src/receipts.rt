@@ -1,12 +1,12 @@
 //! A past with what each registration that went into it got.
 ghost use Rattle.std.specs.Prelude.{◌≡◌, ◌∷◌, ◌++◌, [], map, true, IfOk, IfErr};
-ghost use Rattle.phase_history.specs.Others.{OthersCame};
-ghost use Rattle.phase_base.specs.Lists.{is_distinct};
+ghost use Rattle.phase_shared.specs.phase_history.Others.{OthersCame};
+ghost use Rattle.phase_shared.specs.phase_base.Lists.{is_distinct};
 ghost use Rattle.phase_shared.specs.Rule.{IsGoodAt};
-ghost use Rattle.phase_shared.specs.Regs.{phaser_place, phaser_terms};
+ghost use Rattle.phase_shared.specs.Regs.{phaser_lock, phaser_terms};
 ghost use Rattle.phase_received.specs.Received.{all_received};
 
-use phase_accum::{Accumulate, Outcome};
+use phase_shared::phase_accum::{Accumulate, Outcome};
 use phase_shared::{Past, Phaser, SignalRule};
 use std::alloc::Global;
 use std::marker::Model;
@@ -49,7 +49,7 @@ impl<A: Accumulate, K: SignalRule> Receipts<A, K> {
         }
     }
 
-    /// Shows what the first registration got, the first value first, and then what each other one
+    /// Returns what the first registration got, the first value first, and then what each other one
     /// did.
     pub fn lists(&self) -> (&[Outcome], &[Vec<Outcome>])
         ensures { result.0.now ∷ map (λ list. list.items) result.1.now
@@ -58,7 +58,7 @@ impl<A: Accumulate, K: SignalRule> Receipts<A, K> {
         (self.first.as_slice(), self.others.as_slice())
     }
 
-    /// Gives back the past, what the first registration got, and what each other one did.
+    /// Returns the past, what the first registration got, and what each other one did.
     pub fn into_parts(self) -> (Past<A, K>, Vec<Outcome>, Vec<Vec<Outcome>>)
         ensures past { result.0 ≡ self }
         ensures lists { result.1.items ∷ map (λ list. list.items) result.2.items
@@ -81,7 +81,7 @@ impl<A: Accumulate, K: SignalRule> Receipts<A, K> {
         phaser: &Phaser<A, K>,
         other: Receipts<A, K>,
     ) -> Result<Receipts<A, K>, (Receipts<A, K>, Receipts<A, K>)>
-        requires at { (self.at ≡ phaser_place phaser.now) × (other.at ≡ phaser_place phaser.now) }
+        requires at { (self.at ≡ phaser_lock phaser.now) × (other.at ≡ phaser_lock phaser.now) }
 
         ensures first { IfOk result (λ both. OthersCame self.numbers self.seen both.seen) }
         ensures second { IfOk result (λ both. OthersCame other.numbers other.seen both.seen) }

@@ -1,17 +1,15 @@
 //! A registration with all that it got.
 ghost use Rattle.std.specs.Prelude.{◌≡◌, ◌≢◌, ◌↔◌, ◌<◌, ◌+◌, ℤ, List, [], ◌∷◌, ◌++◌, Some, Err, IfOk, OnOk, OnErr, true, false, is_ok, ◌&&◌};
 ghost use Rattle.std.specs.Vec.{vec_len, vec_capacity};
-ghost use Rattle.phase_base.specs.Modes.{mode_signals};
-ghost use Rattle.phase_base.specs.declared.limits.TheConstants.{SENDS_MAX};
-ghost use Rattle.phase_accum.specs.declared.outcome.TheConstants.{NO_VALUE};
-ghost use Rattle.phase_accum.specs.Parcels.{StandsForSends};
-ghost use Rattle.phase_history.specs.Phases.{received_by};
+ghost use Rattle.phase_shared.specs.phase_base.Modes.{mode_signals};
+ghost use Rattle.phase_shared.specs.phase_base.declared.limits.TheConstants.{SENDS_MAX};
+ghost use Rattle.phase_shared.specs.phase_accum.declared.outcome.TheConstants.{NO_VALUE};
+ghost use Rattle.phase_shared.specs.phase_accum.Parcels.{StandsForSends};
+ghost use Rattle.phase_shared.specs.phase_history.Phases.{received_by};
 ghost use Rattle.phase_shared.specs.Rule.{IsGoodAt};
-ghost use Rattle.phase_shared.specs.Regs.{phaser_place, phaser_terms, phaser_limits};
-ghost use Rattle.phase_shared.specs.Calls.{IsCall, Signals, Waits, Registers};
-ghost use Rattle.phase_shared.specs.Calls.{MaySignal, Leaves, HeldAfter};
-ghost use Rattle.phase_shared.specs.Entries.{entry_stays, entry_after_signal};
-ghost use Rattle.phase_shared.specs.Entries.{entry_after_wait, entry_after_next};
+ghost use Rattle.phase_shared.specs.Regs.{phaser_lock, phaser_terms, phaser_limits};
+ghost use Rattle.phase_shared.specs.Calls.{IsCall, Signals, Waits, Registers, MaySignal, Leaves, HeldAfter};
+ghost use Rattle.phase_shared.specs.Entries.{entry_stays, entry_after_signal, entry_after_wait, entry_after_next};
 ghost use Rattle.phase_shared.specs.Nexts.{GoesOrRefuses};
 ghost use Rattle.phase_shared.specs.Parts.{with_got, with_any};
 ghost use Rattle.phase_received.specs.Received.{received_of, IsPastOf, Receives};
@@ -22,9 +20,9 @@ mod trying;
 use crate::fault::ReceiveFault;
 use crate::laws;
 use crate::receipts::Receipts;
-use phase_accum::{Accumulate, Outcome, Single};
-use phase_base::Mode;
-use phase_core::{Got, RegisterRefusal, SignalRefusal, WaitRefusal};
+use phase_shared::phase_accum::{Accumulate, Outcome, Single};
+use phase_shared::phase_base::Mode;
+use phase_shared::phase_core::{Got, RegisterRefusal, SignalRefusal, WaitRefusal};
 use phase_shared::{Next, Phaser, Reg, SendRefusal, SignalRule};
 use std::alloc::Global;
 use std::marker::Model;
@@ -74,7 +72,7 @@ impl<A: Accumulate, K: SignalRule> Receiver<A, K> {
         Receiver { reg, values }
     }
 
-    /// Gives back the registration and what it got.
+    /// Returns the registration and what it got.
     pub fn into_parts(self) -> (Reg<A, K>, Vec<Outcome>)
         ensures reg { result.0 ≡ self }
         ensures values { result.1.items ≡ received_of A.operation self }
@@ -83,14 +81,14 @@ impl<A: Accumulate, K: SignalRule> Receiver<A, K> {
         (reg, values)
     }
 
-    /// Shows what it got.
+    /// Returns what it got.
     pub fn values(&self) -> &[Outcome]
         ensures { result.now ≡ received_of A.operation self.now }
     {
         self.values.as_slice()
     }
 
-    /// Shows its registration, to be read alone.
+    /// Returns its registration, to be read alone.
     pub fn reg(&self) -> &Reg<A, K>
         ensures { result.now ≡ self.now }
     {
@@ -128,7 +126,7 @@ impl<A: Accumulate, K: SignalRule> Receiver<A, K> {
         phaser: &Phaser<A, K>,
         single: Option<Single>,
     ) -> Result<u64, SignalRefusal>
-        requires at { self.old.at ≡ phaser_place phaser.now }
+        requires at { self.old.at ≡ phaser_lock phaser.now }
         requires rule { MaySignal A.operation K.allows (phaser_terms phaser.now) self.old single }
 
         ensures call { let old = self.old in
@@ -152,7 +150,7 @@ impl<A: Accumulate, K: SignalRule> Receiver<A, K> {
         rt: &W,
         phaser: &Phaser<A, K>,
     ) -> Result<Got, ReceiveFault<WaitRefusal>>
-        requires at { self.old.at ≡ phaser_place phaser.now }
+        requires at { self.old.at ≡ phaser_lock phaser.now }
 
         ensures call { let old = self.old in
             IsCall K.allows (phaser_terms phaser.now) (ReceiveFault.Refused WaitRefusal.NoTask)
@@ -190,7 +188,7 @@ impl<A: Accumulate, K: SignalRule> Receiver<A, K> {
         phaser: &Phaser<A, K>,
         single: Option<Single>,
     ) -> Result<Next, ReceiveFault<SignalRefusal>>
-        requires at { self.old.at ≡ phaser_place phaser.now }
+        requires at { self.old.at ≡ phaser_lock phaser.now }
         requires rule { mode_signals self.old.entry.mode ≡ true
             → MaySignal A.operation K.allows (phaser_terms phaser.now) self.old single }
 
@@ -229,7 +227,7 @@ impl<A: Accumulate, K: SignalRule> Receiver<A, K> {
         parent: &mut Reg<A, K>,
         mode: Mode,
     ) -> Result<Receiver<A, K>, RegisterRefusal>
-        requires at { parent.old.at ≡ phaser_place phaser.now }
+        requires at { parent.old.at ≡ phaser_lock phaser.now }
 
         ensures call { let old = parent.old in
             IsCall K.allows (phaser_terms phaser.now) RegisterRefusal.NoTask entry_stays
@@ -258,7 +256,7 @@ impl<A: Accumulate, K: SignalRule> Receiver<A, K> {
         phaser: &Phaser<A, K>,
         mode: Mode,
     ) -> Result<Receiver<A, K>, RegisterRefusal>
-        requires at { self.old.at ≡ phaser_place phaser.now }
+        requires at { self.old.at ≡ phaser_lock phaser.now }
 
         ensures call { let old = self.old in
             IsCall K.allows (phaser_terms phaser.now) RegisterRefusal.NoTask entry_stays
@@ -276,7 +274,7 @@ impl<A: Accumulate, K: SignalRule> Receiver<A, K> {
     ///
     /// Who has seen the end of the stream has received exactly the stream from its start on.
     pub fn leave<W: Wait>(self, rt: &W, alloc: Global, phaser: &Phaser<A, K>) -> Receipts<A, K>
-        requires at { self.at ≡ phaser_place phaser.now }
+        requires at { self.at ≡ phaser_lock phaser.now }
 
         ensures call { Leaves self.number self.seen result.seen }
         ensures received { received_of A.operation self

@@ -5,5 +5,6 @@
 mod refusal;
 mod registry;
 
+pub use phase_base;
 pub use refusal::AddRefusal;
 pub use registry::Registry;

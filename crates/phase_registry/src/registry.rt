@@ -79,7 +79,7 @@ impl Registry {
             .binary_search_by_key(&number, |member| member.task)
     }
 
-    /// Tells a task's entry, where it is registered.
+    /// Returns a task's entry, where it is registered.
     pub fn get(&self, number: u64) -> Option<Entry>
         ensures entry { result ≡ entry_of self.now.members number }
         ensures few { length self.now.members ≤ MEMBERS_MAX }
@@ -187,22 +187,22 @@ impl Registry {
         }
     }
 
-    /// Tells how many tasks are registered that signal.
+    /// Returns how many tasks are registered that signal.
     pub fn signallers(&self) -> u64
         ensures { result ≡ length (signal_phases self.now.members) }
     {
         self.signallers
     }
 
-    /// Tells how many tasks are registered that wait.
+    /// Returns how many tasks are registered that wait.
     pub fn waiters(&self) -> u64
         ensures { result ≡ length (wait_phases self.now.members) }
     {
         self.waiters
     }
 
-    /// Tells the least signal phase of the tasks that signal, where one is registered. It looks at
-    /// each task.
+    /// Returns the least signal phase of the tasks that signal, where one is registered. It looks
+    /// at each task.
     pub fn least_signal(&self) -> Option<u64>
         ensures { result ≡ least (signal_phases self.now.members) }
     {
@@ -217,8 +217,8 @@ impl Registry {
         least
     }
 
-    /// Tells the least wait phase of the tasks that wait, where one is registered. It looks at each
-    /// task.
+    /// Returns the least wait phase of the tasks that wait, where one is registered. It looks at
+    /// each task.
     pub fn least_wait(&self) -> Option<u64>
         ensures { result ≡ least (wait_phases self.now.members) }
     {
@@ -229,8 +229,8 @@ impl Registry {
         least
     }
 
-    /// Tells the number above every number that was ever added, where one is left: 0 at first, and
-    /// none once 2^64 - 1 was added.
+    /// Returns the number above every number that was ever added, where one is left: 0 at first,
+    /// and none once 2^64 - 1 was added.
     pub fn next_number(&self) -> Option<u64>
         ensures { result ≡ next_after self.now.greatest }
     {

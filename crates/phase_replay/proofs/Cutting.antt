@@ -2,8 +2,8 @@
 use Rattle.std.proofs.Common.{◌≡◌, ℕ, ◌+◌, ◌-◌, ◌≤◌, List, ◌++◌, length, take, slice_index, nat_eq, sym, ◌∙◌, ap, arith, inl, inr}
 use Rattle.std.proofs.lemmas.Bool.{cond_both, cases_lt}
 use Rattle.std.proofs.lemmas.List.{take_all, take-take, take-append-le, length-take-le}
-use Rattle.phase_base.specs.Lists.{without_cr}
-use Rattle.phase_session.specs.Scripts.{ScriptState, reply_to, after_line}
+use Rattle.phase_core.specs.phase_base.Lists.{without_cr}
+use Rattle.phase_replay.specs.Scripts.{ScriptState, reply_line_of, after_line}
 use Rattle.phase_replay.proofs.LongLine.{long_line}
 
 -- at most one byte is cut
@@ -15,7 +15,7 @@ length-without_cr line =
 
 -- two lines have one reply, and leave one state behind
 pub record AreAnsweredAlike (state : ScriptState) (line other : List ℕ) : Type 0 where
-  pub reply : reply_to state line ≡ reply_to state other
+  pub reply : reply_line_of state line ≡ reply_line_of state other
   pub after : after_line state line ≡ after_line state other
 
 pub long_lines_alike : (state : ScriptState) (line other : List ℕ) → 362 ≤ length line → 362 ≤ length other → AreAnsweredAlike state line other
@@ -33,7 +33,7 @@ kept_alike state prefix = elim (cases_lt 363 (length prefix)) [
       (omega (arith, length-without_cr (take 363 prefix)))
       (omega (arith, length-without_cr prefix))
   | inr short ↦ let same : take 363 prefix ≡ prefix = take_all 363 prefix short in record {
-    reply = ap (λ l. reply_to state (without_cr l)) same;
+    reply = ap (λ l. reply_line_of state (without_cr l)) same;
     after = ap (λ l. after_line state (without_cr l)) same;
   }
 ]

@@ -5,4 +5,11 @@ pub mod LongLine
 pub mod Noted
 pub mod Owing
 pub mod Reading
-pub mod Replayed
+pub mod ReplayedLemmas
+mod Examples
+pub mod BlockSends
+pub mod Obeying
+pub mod Operations
+pub mod Scripted
+pub mod Short
+pub use Rattle.watched_io.proofs as watched_io_lemmas

@@ -9,11 +9,11 @@ use Rattle.phase_replay.specs.declared.replayer.Replayer.{Replayer}
 use Rattle.phase_script.specs.Cuts.{HasNoLf}
 use Rattle.phase_script.proofs.CutAtLf.{lines_after-prefix}
 use Rattle.phase_script.specs.Lines.{lines_after, lines_of}
-use Rattle.phase_base.specs.Lists.{without_cr}
+use Rattle.phase_core.specs.phase_base.Lists.{without_cr}
 use Rattle.phase_replay.specs.Replies.{replies, replies_of}
 use Rattle.phase_replay.specs.Replayer.{Owes}
-use Rattle.phase_session.specs.Scripts.{ScriptState, start, reply_to, after_line}
-use Rattle.phase_session.specs.Session.{Stands}
+use Rattle.phase_replay.specs.Scripts.{ScriptState, start, reply_line_of, after_line}
+use Rattle.phase_replay.specs.Session.{Stands}
 use Rattle.phase_replay.proofs.Cutting.{AreAnsweredAlike, kept_alike, take-kept_more}
 
 -- a replayer that has read nothing owes the replies to the whole script
@@ -47,7 +47,7 @@ owes_more old new bs later owed none session out kept owes =
 
 -- the reply to a line stands behind the replies that waited
 pub record Answers (old new : Replayer) (line : List ℕ) : Type 0 where
-  pub reply : (state : ScriptState) → Stands old.session state → new.out.items ≡ old.out.items ++ reply_to state line
+  pub reply : (state : ScriptState) → Stands old.session state → new.out.items ≡ old.out.items ++ reply_line_of state line
   pub after : (state : ScriptState) → Stands old.session state → Stands new.session (after_line state line)
   pub begun : new.kept ≡ []
 
@@ -56,7 +56,7 @@ owes_next : (old new : Replayer) (state : ScriptState) (line whole later owed : 
     → Stands old.session state → owed ≡ old.out.items ++ replies state (whole ∷ lines_after [] later) → Owes new later owed
 unfolding replies
 owes_next old new state line whole later owed answers alike stands owed_is =
-    let out : new.out.items ≡ old.out.items ++ reply_to state whole =
+    let out : new.out.items ≡ old.out.items ++ reply_line_of state whole =
     answers.reply state stands ∙ ap (λ reply. old.out.items ++ reply) alike.reply in
     record {
       state = after_line state whole;
@@ -84,7 +84,7 @@ owes_answered_whole old new line end later owed empty none cut answers owes =
     let lines : lines_after owes.prefix (end ++ 10 ∷ later) ≡ without_cr end ∷ lines_after [] later =
     lines_after-prefix owes.prefix end (10 ∷ later) none ∙ ap (λ prefix. lines_after (prefix ++ end) (10 ∷ later)) no_prefix in
     let alike : AreAnsweredAlike owes.state line (without_cr end) = record {
-      reply = ap (reply_to owes.state) cut;
+      reply = ap (reply_line_of owes.state) cut;
       after = ap (after_line owes.state) cut;
     } in
     owes_next old new owes.state line (without_cr end) later owed answers alike owes.stands

@@ -1,4 +1,9 @@
+pub mod HeldSends
 pub mod Inside
 pub mod Replay
 pub mod Replayer
+pub mod Replays
 pub mod Replies
+pub mod Scripts
+pub mod Session
+pub use Rattle.watched_io.specs as watched_io

@@ -7,10 +7,10 @@ use Rattle.watched_io.specs.declared.fault.IoFault.{IoFault}
 use Rattle.watched_io.specs.declared.fault.IoFault.TheVariants.{ReadFault, WriteFault, OutOfMemory}
 use Rattle.phase_script.specs.Lines.{lines_after}
 use Rattle.phase_replay.specs.Replies.{replies}
-use Rattle.phase_session.specs.Scripts.{ScriptState}
-use Rattle.phase_session.specs.Session.{Stands}
+use Rattle.phase_replay.specs.Scripts.{ScriptState}
+use Rattle.phase_replay.specs.Session.{Stands}
 use Rattle.phase_replay.specs.declared.replayer.Replayer.{Replayer}
-use Rattle.phase_replay.specs.declared.kept.TheConstants.{KEPT_MAX}
+use Rattle.phase_replay.specs.declared.line_prefix.TheConstants.{PREFIX_MAX}
 
 -- the replies that wait to be written
 abbrev pub waiting_of : Replayer → List ℕ
@@ -21,7 +21,7 @@ pub record Owes (replayer : Replayer) (later owed : List ℕ) : Type 0 where
   pub state : ScriptState
   pub prefix : List ℕ
   pub stands : Stands replayer.session state
-  pub kept : replayer.kept ≡ take KEPT_MAX prefix
+  pub kept : replayer.kept ≡ take PREFIX_MAX prefix
   pub owed_is : owed ≡ waiting_of replayer ++ replies state (lines_after prefix later)
 
 -- a prefix of `owed` was written, and with `later` still to be read the replayer owes the rest

@@ -1,15 +1,28 @@
 //! Scripts of phaser calls: each line of a script is answered by one reply line.
 //!
-//! Wrap a reader and a writer by `Watched::new` and call `replay`, or hand a `Session` one line
-//! after the other. A line gives a command where `read` reads it.
+//! Wrap a reader and a writer by `Watched::new` and call `replay`, or make a `Session` and hand it
+//! one line after the other. A line gives a command where `read` reads it. `replay_and_report` is
+//! the command `replay` of the program: it replays the input, and reports its fault.
 #![tactic(auto)]
 
-mod kept;
+mod any_phaser;
+mod block_sends;
+mod held_sends;
 pub mod laws;
+mod line_prefix;
+mod replayed;
 mod replayer;
+mod script_phaser;
+mod session;
 mod whole;
 
-pub use phase_script::{Command, Op, Outcomes, Refusal, Reply, ReplyLine, Values, read};
-pub use phase_session::Session;
+pub use phase_core::phase_base;
+pub use phase_script;
+pub use phase_script::{
+    Command, Op, Outcomes, Refusal, Reply, ReplyLine, Values, phase_accum, read,
+};
+pub use replayed::replay_and_report;
+pub use session::Session;
+pub use watched_io;
 pub use watched_io::{IoFault as ReplayFault, ReadFailed, Watched, WriteFailed};
 pub use whole::{PIECE_MAX, SCRIPT_MAX, replay};

@@ -4,11 +4,11 @@ ghost use Rattle.std.specs.Prelude.{◌≡◌, ◌<◌, true, length, List, [], 
 ghost use Rattle.std.specs.Io.KnownBytes.{Appends};
 ghost use Rattle.phase_script.specs.Cuts.{HasNoLf};
 ghost use Rattle.watched_io.specs.Prefix.{AppendsPrefix};
-ghost use Rattle.phase_session.specs.Scripts.{ScriptState, reply_to, after_line};
-ghost use Rattle.phase_session.specs.Session.{Stands};
+ghost use Rattle.phase_replay.specs.Scripts.{ScriptState, reply_line_of, after_line};
+ghost use Rattle.phase_replay.specs.Session.{Stands};
 
 use crate::Session;
-use crate::kept::Kept;
+use crate::line_prefix::LinePrefix;
 use phase_script::{ReplyLine, lf_of, without_cr};
 use std::alloc::{AllocError, Global};
 use std::io::Write;
@@ -25,7 +25,7 @@ fn answer_line(
     out: &mut Vec<u8>,
 ) -> Result<(), AllocError>
     ensures reply { OnOk result ((state : ScriptState) → Stands session.old state
-        → out.new.items ≡ out.old.items ++ reply_to state line.now) }
+        → out.new.items ≡ out.old.items ++ reply_line_of state line.now) }
 
     ensures after { OnOk result ((state : ScriptState) → Stands session.old state
         → Stands session.new (after_line state line.now)) }
@@ -41,7 +41,7 @@ fn answer_line(
 #[derive(Drop)]
 pub struct Replayer {
     session: Session,
-    kept: Kept,
+    kept: LinePrefix,
     reply: ReplyLine,
     out: Vec<u8>,
 }
@@ -57,7 +57,7 @@ impl Replayer {
     {
         Replayer {
             session: Session::new(alloc),
-            kept: Kept::new(),
+            kept: LinePrefix::new(),
             reply: ReplyLine::new(),
             out: Vec::new(alloc),
         }

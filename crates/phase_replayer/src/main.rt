@@ -2,9 +2,8 @@
 //! output. It reads no words.
 #![tactic(auto)]
 
-use replay_command::replay_and_report;
+use phase_replay::{Watched, replay_and_report};
 use std::process::ExitCode;
-use watched_io::Watched;
 
 fn main(rt: HostRuntime) -> ExitCode {
     let status = replay_and_report(

@@ -9,7 +9,7 @@ use Rattle.phase_accum.specs.declared.outcome.Outcome.{Outcome}
 use Rattle.std.proofs.lemmas.Bool.{cases_eq, cases_lt, ltb-false}
 use Rattle.phase_accum.specs.declared.single.Single.{Single}
 use Rattle.phase_accum.specs.Singles.{differs}
-use Rattle.phase_base.specs.declared.limits.TheConstants.{PHASES_MAX, SENDS_MAX}
+use Rattle.phase_accum.specs.phase_base.declared.limits.TheConstants.{PHASES_MAX, SENDS_MAX}
 use Rattle.phase_accum.specs.Operations.{Operation, AccumulateLaws}
 use Rattle.phase_accum.specs.Parcels.{Parcel, parcel, StandsForSends}
 use Rattle.phase_accum.proofs.Parts.{StandsForSends-append}
@@ -22,7 +22,7 @@ use Rattle.phase_ring.specs.declared.role.Role.TheVariants.{Signaller, Waiter}
 use Rattle.phase_ring.specs.Rings.{Ring, IsWithin, slot_at, with_slot, standing, sents}
 use Rattle.phase_ring.specs.Slots.{Slot, with_standing, standing_of, joined, first_of, merge_refusal, slot_value, IsHeld, IsUnused}
 use Rattle.phase_ring.specs.Standings.{one_if_same, other}
-use Rattle.phase_ring.specs.Boards.{IsKept}
+use Rattle.phase_ring.specs.Boards.{IsRingAt}
 use Rattle.phase_ring.specs.Blocks.{joined_in, block_joined, BlockFits, value_in, value_at}
 use Rattle.phase_ring.proofs.Kept.{standing-within}
 use Rattle.phase_ring.proofs.Slots.{slot_at-some, slot_at-with_other, standing-with_same, merges}
@@ -88,18 +88,18 @@ fits-later r q p x (held ∷ rest) single low later fits = (
 
 -- up to phase q the parcels have joined, and these are left
 pub record Joining {A : Type 0} (op : Operation A) (r0 r : Ring A) (bound done top q : ℕ) (rest : List (Parcel A)) (single : Option Single) (want : Ring A) : Type 0 where
-  pub kept : IsKept op r bound done (max top q)
+  pub kept : IsRingAt op r bound done (max top q)
   pub base_same : r.base ≡ r0.base
   pub stands : (role : Role) (p : ℕ) → standing r role p ≡ standing r0 role p
   pub fits : BlockFits r q rest single
   pub left : block_joined op q rest single r ≡ want
 
 pub joins_first : {A : Type 0} (op : Operation A) (r : Ring A) (bound done top q : ℕ) (lists : List (Parcel A)) (single : Option Single)
-    → IsKept op r bound done top → 0 < standing r Signaller q → BlockFits r q lists single
+    → IsRingAt op r bound done top → 0 < standing r Signaller q → BlockFits r q lists single
     → Joining op r r bound done top q lists single (block_joined op q lists single r)
 joins_first {A} op r bound done top q lists single k some fits =
     let low : q ≤ top = ⊎_elim (λ above. absurd (let z = k.signals_high q above in omega arith)) (λ x. x) (cases_lt top q) in
-    let T : ℕ → Type 0 = λ t. IsKept op r bound done t in
+    let T : ℕ → Type 0 = λ t. IsRingAt op r bound done t in
     record {
       kept = subst T (let e : top ≡ max top q = omega arith in e) k;
       base_same = refl;
@@ -134,7 +134,7 @@ joins_next {A} op r0 r new bound done top q held rest single want j low ahead ne
     let x = joined op held single slot.0 in
     let e : new ≡ with_slot q x r = goes slot.0 slot.1 in
     let J : Ring A → Type 0 = λ y. Joining op r0 y bound done top (q + 1) rest single want in
-    let K : ℕ → Type 0 = λ t. IsKept op (with_slot q x r) bound done t in
+    let K : ℕ → Type 0 = λ t. IsRingAt op (with_slot q x r) bound done t in
     subst J (sym e) (record {
       kept = subst K (let m : max (max top q) (q + 1) ≡ max top (q + 1) = omega arith in m)
           (merges op r bound done (max top q) q slot.0 x j.kept w.0 slot.1 (omega arith) near refl refl refl);
@@ -151,7 +151,7 @@ joins_next {A} op r0 r new bound done top q held rest single want j low ahead ne
 -- ---- one of the role goes from a phase to a later one
 
 pub record Hops {A : Type 0} (op : Operation A) (r new : Ring A) (bound done top : ℕ) (role : Role) (q to : ℕ) : Type 0 where
-  pub kept : IsKept op new bound done top
+  pub kept : IsRingAt op new bound done top
   pub base_same : new.base ≡ r.base
   pub sents_same : sents new ≡ sents r
   pub moved : (p : ℕ) → standing new role p + one_if_same q p ≡ standing r role p + one_if_same to p
@@ -193,14 +193,14 @@ pub record SignallerLeft {A : Type 0} (op : Operation A) (r r1 : Ring A) (bound 
   pub room : standing r1 Signaller to ≡ standing r Signaller to
 
 -- a phase from done to the top lies within the ring
-pub signaller-within : {A : Type 0} (op : Operation A) (r : Ring A) (bound done top q : ℕ) → IsKept op r bound done top → done ≤ q → q ≤ top → IsWithin r q
+pub signaller-within : {A : Type 0} (op : Operation A) (r : Ring A) (bound done top q : ℕ) → IsRingAt op r bound done top → done ≤ q → q ≤ top → IsWithin r q
 signaller-within op r bound done top q k low high =
     let a = k.base_done in
     let b = k.top_bound in
     let c = k.long in
     record { low = omega arith; high = omega arith }
 
-pub signaller_leaving : {A : Type 0} (op : Operation A) (r r1 : Ring A) (bound done top q to : ℕ) → IsKept op r bound done top → done ≤ q → q < to → to ≤ top
+pub signaller_leaving : {A : Type 0} (op : Operation A) (r r1 : Ring A) (bound done top q to : ℕ) → IsRingAt op r bound done top → done ≤ q → q < to → to ≤ top
     → ((slot : Slot A) → slot_at r q ≡ Some slot → r1 ≡ with_slot q (with_standing Signaller (standing_of Signaller slot - 1) slot) r)
     → SignallerLeft op r r1 bound done top q to
 signaller_leaving op r r1 bound done top q to k low later high left =
@@ -272,7 +272,7 @@ value_at-slot op r p v w value =
     value slot.0 slot.1 ∙ sym (ap (value_in op) slot.1)
 
 -- each phase of the block lies within the ring
-pub block-within : {A : Type 0} (op : Operation A) (r : Ring A) (bound done top q p : ℕ) → IsKept op r bound done top → 0 < standing r Waiter q
+pub block-within : {A : Type 0} (op : Operation A) (r : Ring A) (bound done top q p : ℕ) → IsRingAt op r bound done top → 0 < standing r Waiter q
     → q ≤ p → p ≤ done → IsWithin r p
 block-within op r bound done top q p k some low high =
     let t = k.done_top in
@@ -288,7 +288,7 @@ pub record WaiterLeft {A : Type 0} (op : Operation A) (r r1 : Ring A) (bound don
   pub next : IsWithin r1 to
   pub room : standing r1 Waiter to ≡ standing r Waiter to
 
-pub waiter_leaving : {A : Type 0} (op : Operation A) (r r1 : Ring A) (bound done top q to : ℕ) → IsKept op r bound done top → q < to → to ≤ done → 0 < standing r Waiter q
+pub waiter_leaving : {A : Type 0} (op : Operation A) (r r1 : Ring A) (bound done top q to : ℕ) → IsRingAt op r bound done top → q < to → to ≤ done → 0 < standing r Waiter q
     → ((slot : Slot A) → slot_at r q ≡ Some slot → r1 ≡ with_slot q (with_standing Waiter (standing_of Waiter slot - 1) slot) r)
     → WaiterLeft op r r1 bound done top q to
 waiter_leaving op r r1 bound done top q to k later complete some left =

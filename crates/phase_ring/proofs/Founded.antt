@@ -10,7 +10,7 @@ use Rattle.phase_ring.specs.declared.role.Role.TheVariants.{Signaller, Waiter}
 use Rattle.phase_ring.specs.Slots.{Slot, IsUnused, empty_slot, standing_of, with_standing}
 use Rattle.phase_ring.specs.Rings.{Ring, IsWithin, fresh_ring, slot_at, with_slot, standing, standing_in}
 use Rattle.phase_ring.specs.Standings.{one_if_same}
-use Rattle.phase_ring.specs.Boards.{IsKept}
+use Rattle.phase_ring.specs.Boards.{IsRingAt}
 use Rattle.phase_ring.proofs.Slots.{empty-standing, standing-in}
 use Rattle.phase_ring.proofs.Moves.{Moves, enters, one-same, one-other}
 
@@ -29,7 +29,7 @@ standing_in-fresh op role (suc n) (suc i) = standing_in-fresh op role n i
 standing-fresh : {A : Type 0} (op : Operation A) (n : ℕ) (role : Role) (p : ℕ) → standing (fresh_ring op n) role p ≡ 0
 standing-fresh op n role p = standing-in (fresh_ring op n) role p (omega arith) ∙ standing_in-fresh op role n (p - 0)
 
-kept_fresh : {A : Type 0} (op : Operation A) (bound : ℕ) → IsKept op (fresh_ring op (bound + 1)) bound 0 0
+kept_fresh : {A : Type 0} (op : Operation A) (bound : ℕ) → IsRingAt op (fresh_ring op (bound + 1)) bound 0 0
 kept_fresh {A} op bound = record {
   long = length-replicate (bound + 1) (empty_slot op);
   base_done = omega arith;
@@ -62,7 +62,7 @@ pub first_entered : {A : Type 0} (op : Operation A) (bound : ℕ) (r r1 : Ring A
     → ((slot : Slot A) → slot_at r 0 ≡ Some slot → r1 ≡ with_slot 0 (with_standing Signaller (standing_of Signaller slot + 1) slot) r)
     → Moves op r r1 bound 0 0 Signaller 0 (standing r Signaller 0 + 1)
 first_entered {A} op bound r r1 same entered =
-    let K : Ring A → Type 0 = λ x. IsKept op x bound 0 0 in
+    let K : Ring A → Type 0 = λ x. IsRingAt op x bound 0 0 in
     enters op r r1 bound 0 0 0 Signaller (subst K (sym same) (kept_fresh op bound)) (fresh_within op bound r same) (omega arith, omega arith) entered
 
 pub next_within : {A : Type 0} (op : Operation A) (bound : ℕ) (r r1 : Ring A) → r ≡ fresh_ring op (bound + 1)
@@ -75,7 +75,7 @@ next_within {A = A} op bound r r1 same m =
 
 -- and a waiter
 pub record Founded {A : Type 0} (op : Operation A) (r : Ring A) (bound : ℕ) : Type 0 where
-  pub kept : IsKept op r bound 0 0
+  pub kept : IsRingAt op r bound 0 0
   pub base : r.base ≡ 0
   pub stands : (role : Role) (p : ℕ) → standing r role p ≡ one_if_same 0 p
 

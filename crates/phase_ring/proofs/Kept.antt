@@ -4,14 +4,14 @@ use Rattle.std.proofs.Common.{◌≡◌, ℕ, ◌+◌, ◌-◌, ◌<◌, true, c
 use Rattle.std.specs.Option.{option_map}
 use Rattle.std.proofs.lemmas.Option.{same_Some, slice_get-map}
 use Rattle.std.proofs.lemmas.Bool.{cases_eq, cases_lt}
-use Rattle.phase_base.specs.declared.entry.Entry.{Entry}
+use Rattle.phase_accum.specs.phase_base.declared.entry.Entry.{Entry}
 use Rattle.phase_accum.specs.Operations.{Operation}
 use Rattle.phase_ring.specs.declared.role.Role.{Role}
 use Rattle.phase_ring.specs.declared.role.Role.TheVariants.{Signaller, Waiter}
 use Rattle.phase_ring.specs.Slots.{Slot, standing_of, with_standing, sent}
 use Rattle.phase_ring.specs.Rings.{Ring, IsWithin, slot_at, with_slot, standing, standing_in, sents, KeepsSlots}
 use Rattle.phase_ring.specs.Standings.{one_if_same, other, takes_part, phase_for, counted}
-use Rattle.phase_ring.specs.Boards.{IsKept}
+use Rattle.phase_ring.specs.Boards.{IsRingAt}
 use Rattle.phase_ring.proofs.Slots.{IsPlace, standing-out, standing-in, slot_at-past}
 use Rattle.phase_ring.proofs.Moves.{one-same, one-other, enters, leaves}
 
@@ -45,7 +45,7 @@ standing-within r role p some = record {
 }
 
 -- and more may come there
-pub standing-place : {A : Type 0} (op : Operation A) (r : Ring A) (bound done top p : ℕ) (role : Role) → IsKept op r bound done top
+pub standing-place : {A : Type 0} (op : Operation A) (r : Ring A) (bound done top p : ℕ) (role : Role) → IsRingAt op r bound done top
     → 0 < standing r role p → IsPlace role p done top
 standing-place op r bound done top p Signaller k some = (
   ⊎_elim (λ under. absurd (let z = k.signals_low p under in omega arith)) (λ x. x) (cases_lt p done),
@@ -56,7 +56,7 @@ standing-place op r bound done top p Waiter k some =
 
 -- a task with the entry stands at its phase of the role, or stands there no more
 pub record Counts {A : Type 0} (op : Operation A) (r new : Ring A) (bound done top : ℕ) (role : Role) : Type 0 where
-  pub kept : IsKept op new bound done top
+  pub kept : IsRingAt op new bound done top
   pub same : sents new ≡ sents r
   pub others : (p : ℕ) → standing new (other role) p ≡ standing r (other role) p
 
@@ -64,7 +64,7 @@ counted-of : (role : Role) (entry : Entry) (q p : ℕ) → q ≡ phase_for role 
 counted-of role entry q p at takes = ap (λ b. cond b (one_if_same (phase_for role entry) p) 0) takes ∙ ap (λ n. one_if_same n p) (sym at)
 
 pub entered : {A : Type 0} (op : Operation A) (r new : Ring A) (bound done top q : ℕ) (role : Role) (entry : Entry) → q ≡ phase_for role entry
-    → takes_part role entry ≡ true → IsKept op r bound done top → (takes_part role entry ≡ true → 0 < standing r role (phase_for role entry))
+    → takes_part role entry ≡ true → IsRingAt op r bound done top → (takes_part role entry ≡ true → 0 < standing r role (phase_for role entry))
     → ((slot : Slot A) → slot_at r q ≡ Some slot → new ≡ with_slot q (with_standing role (standing_of role slot + 1) slot) r)
     → Counts op r new bound done top role × ((p : ℕ) → standing new role p ≡ standing r role p + counted role entry p)
 entered op r new bound done top q role entry at takes k stands goes =
@@ -79,7 +79,7 @@ entered op r new bound done top q role entry at takes k stands goes =
     )
 
 pub left : {A : Type 0} (op : Operation A) (r new : Ring A) (bound done top q : ℕ) (role : Role) (entry : Entry) → q ≡ phase_for role entry
-    → takes_part role entry ≡ true → IsKept op r bound done top → (takes_part role entry ≡ true → 0 < standing r role (phase_for role entry))
+    → takes_part role entry ≡ true → IsRingAt op r bound done top → (takes_part role entry ≡ true → 0 < standing r role (phase_for role entry))
     → ((slot : Slot A) → slot_at r q ≡ Some slot → new ≡ with_slot q (with_standing role (standing_of role slot - 1) slot) r)
     → Counts op r new bound done top role × ((p : ℕ) → standing new role p + counted role entry p ≡ standing r role p)
 left op r new bound done top q role entry at takes k stands goes =

@@ -7,7 +7,7 @@ use Rattle.phase_ring.specs.declared.role.Role.TheVariants.{Signaller, Waiter}
 use Rattle.phase_ring.specs.Rings.{Ring, IsWithin, slot_at, with_slot, standing, sents}
 use Rattle.phase_ring.specs.Slots.{Slot, with_standing, standing_of}
 use Rattle.phase_ring.specs.Standings.{one_if_same, other}
-use Rattle.phase_ring.specs.Boards.{IsKept}
+use Rattle.phase_ring.specs.Boards.{IsRingAt}
 use Rattle.phase_ring.proofs.Slots.{IsPlace, slot_at-some, standing-at, standing-with_at, standing-with_other, standing-with_same, sents-with, stands}
 
 pub one-same : (q p : ℕ) → p ≡ q → one_if_same q p ≡ 1
@@ -18,7 +18,7 @@ one-other q p apart = ap (λ b. cond b 1 0) (ne_eqb q p (λ e. apart (sym e)))
 
 -- a number of the role stands at a phase now
 pub record Moves {A : Type 0} (op : Operation A) (r new : Ring A) (bound done top : ℕ) (role : Role) (q n : ℕ) : Type 0 where
-  pub kept : IsKept op new bound done top
+  pub kept : IsRingAt op new bound done top
   pub base_same : new.base ≡ r.base
   pub sents_same : sents new ≡ sents r
   pub at : standing new role q ≡ n
@@ -26,7 +26,7 @@ pub record Moves {A : Type 0} (op : Operation A) (r new : Ring A) (bound done to
   pub others : (p : ℕ) → standing new (other role) p ≡ standing r (other role) p
 
 moves_on : {A : Type 0} (op : Operation A) (r : Ring A) (bound done top q n : ℕ) (slot : Slot A) (role : Role)
-    → IsKept op r bound done top → IsWithin r q → IsPlace role q done top → slot_at r q ≡ Some slot
+    → IsRingAt op r bound done top → IsWithin r q → IsPlace role q done top → slot_at r q ≡ Some slot
     → Moves op r (with_slot q (with_standing role n slot) r) bound done top role q n
 moves_on op r bound done top q n slot Signaller k w place found = record {
   kept = stands op r bound done top q n slot Signaller k w found place;
@@ -47,7 +47,7 @@ moves_on op r bound done top q n slot Waiter k w place found = record {
 
 -- one leaves
 pub leaves : {A : Type 0} (op : Operation A) (r new : Ring A) (bound done top q : ℕ) (role : Role)
-    → IsKept op r bound done top → IsWithin r q → IsPlace role q done top
+    → IsRingAt op r bound done top → IsWithin r q → IsPlace role q done top
     → ((slot : Slot A) → slot_at r q ≡ Some slot → new ≡ with_slot q (with_standing role (standing_of role slot - 1) slot) r)
     → Moves op r new bound done top role q (standing r role q - 1)
 leaves {A} op r new bound done top q role k w place left =
@@ -59,7 +59,7 @@ leaves {A} op r new bound done top q role k w place left =
 
 -- one enters
 pub enters : {A : Type 0} (op : Operation A) (r new : Ring A) (bound done top q : ℕ) (role : Role)
-    → IsKept op r bound done top → IsWithin r q → IsPlace role q done top
+    → IsRingAt op r bound done top → IsWithin r q → IsPlace role q done top
     → ((slot : Slot A) → slot_at r q ≡ Some slot → new ≡ with_slot q (with_standing role (standing_of role slot + 1) slot) r)
     → Moves op r new bound done top role q (standing r role q + 1)
 enters {A} op r new bound done top q role k w place entered =

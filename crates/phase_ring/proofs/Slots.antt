@@ -5,14 +5,14 @@ use Rattle.std.proofs.lemmas.List.{length-set}
 use Rattle.std.proofs.lemmas.Bool.{le-ltb, lt-ltb, cases_eq, cases_lt}
 use Rattle.std.proofs.lemmas.Option.{same_Some, slice_get_past}
 use Rattle.circular_buffer.proofs.Places.{slice_get-some, slice_get-set_same, slice_get-set_other, slice_get-last}
-use Rattle.phase_base.specs.declared.limits.TheConstants.{PHASES_MAX}
+use Rattle.phase_accum.specs.phase_base.declared.limits.TheConstants.{PHASES_MAX}
 use Rattle.phase_accum.specs.Operations.{Operation}
 use Rattle.phase_ring.proofs.Held.{length-moved}
 use Rattle.phase_ring.specs.declared.role.Role.{Role}
 use Rattle.phase_ring.specs.declared.role.Role.TheVariants.{Signaller, Waiter}
 use Rattle.phase_ring.specs.Rings.{Ring, ring, IsWithin, is_sealed, sealed_in, slot_at, with_slot, standing, standing_in, sents, KeepsSlots, released}
 use Rattle.phase_ring.specs.Slots.{Slot, sealed, standing_of, sent, with_standing, IsUnused, empty_slot}
-use Rattle.phase_ring.specs.Boards.{IsKept}
+use Rattle.phase_ring.specs.Boards.{IsRingAt}
 
 -- a phase within the ring has a slot
 pub slot_at-some : {A : Type 0} (r : Ring A) (p : ℕ) → IsWithin r p → (slot : Slot A) × (slot_at r p ≡ Some slot)
@@ -100,7 +100,7 @@ standing-with_same r q old new role w found same p =
     (cases_eq p q)
 
 -- a phase below the top has a slot, where done is not below the base
-pub done-within : {A : Type 0} (op : Operation A) (r : Ring A) (bound done top : ℕ) → IsKept op r bound done top → done ≤ top → IsWithin r done
+pub done-within : {A : Type 0} (op : Operation A) (r : Ring A) (bound done top : ℕ) → IsRingAt op r bound done top → done ≤ top → IsWithin r done
 done-within op r bound done top k below =
     let a : r.base ≤ done = k.base_done in
     let b : top ≤ r.base + bound = k.top_bound in
@@ -108,24 +108,24 @@ done-within op r bound done top k below =
     record { low = a; high = omega arith }
 
 -- a slot is sealed where its phase is below done
-pub sealed-kept : {A : Type 0} (op : Operation A) (r : Ring A) (bound done top p : ℕ) → IsKept op r bound done top → IsWithin r p
+pub sealed-kept : {A : Type 0} (op : Operation A) (r : Ring A) (bound done top p : ℕ) → IsRingAt op r bound done top → IsWithin r p
     → is_sealed r p ≡ ltb p done
 sealed-kept op r bound done top p k w =
     let slot = slot_at-some r p w in
     ap sealed_in slot.1 ∙ k.sealed_below p slot.0 w.low slot.1
 
-pub sealed-low : {A : Type 0} (op : Operation A) (r : Ring A) (bound done top p : ℕ) → IsKept op r bound done top → IsWithin r p → p < done
+pub sealed-low : {A : Type 0} (op : Operation A) (r : Ring A) (bound done top p : ℕ) → IsRingAt op r bound done top → IsWithin r p → p < done
     → is_sealed r p ≡ true
 sealed-low op r bound done top p k w low = sealed-kept op r bound done top p k w ∙ lt-ltb p done low
 
-pub sealed-high : {A : Type 0} (op : Operation A) (r : Ring A) (bound done top p : ℕ) → IsKept op r bound done top → IsWithin r p → done ≤ p
+pub sealed-high : {A : Type 0} (op : Operation A) (r : Ring A) (bound done top p : ℕ) → IsRingAt op r bound done top → IsWithin r p → done ≤ p
     → is_sealed r p ≡ false
 sealed-high op r bound done top p k w high = sealed-kept op r bound done top p k w ∙ le-ltb p done high
 
 -- one more phase is complete
-pub seals : {A : Type 0} (op : Operation A) (r : Ring A) (bound done top : ℕ) (slot : Slot A) → IsKept op r bound done top → done < top
+pub seals : {A : Type 0} (op : Operation A) (r : Ring A) (bound done top : ℕ) (slot : Slot A) → IsRingAt op r bound done top → done < top
     → slot_at r done ≡ Some slot → standing r Signaller done ≡ 0
-    → IsKept op (with_slot done (sealed slot) r) bound (done + 1) top
+    → IsRingAt op (with_slot done (sealed slot) r) bound (done + 1) top
 seals {A} op r bound done top slot k below found none =
     let a : r.base ≤ done = k.base_done in
     let b : top ≤ r.base + bound = k.top_bound in
@@ -207,8 +207,8 @@ standing-released op r role some none p =
     (cases_lt p (r.base + 1))
 
 -- the first phase is given up, where nobody waits for it
-pub releases : {A : Type 0} (op : Operation A) (r : Ring A) (bound done top : ℕ) → IsKept op r bound done top → r.base < done
-    → standing r Waiter r.base ≡ 0 → IsKept op (released op r) bound done top
+pub releases : {A : Type 0} (op : Operation A) (r : Ring A) (bound done top : ℕ) → IsRingAt op r bound done top → r.base < done
+    → standing r Waiter r.base ≡ 0 → IsRingAt op (released op r) bound done top
 releases {A} op r bound done top k below none =
     let c : length r.slots ≡ bound + 1 = k.long in
     let high : done ≤ top = k.done_top in
@@ -244,7 +244,7 @@ releases {A} op r bound done top k below none =
     none_some x e = absurd (cc)
 
 -- where nobody waits for the base, but somebody for some phase, the base is below done
-pub waiter-above : {A : Type 0} (op : Operation A) (r : Ring A) (bound done top p : ℕ) → IsKept op r bound done top
+pub waiter-above : {A : Type 0} (op : Operation A) (r : Ring A) (bound done top p : ℕ) → IsRingAt op r bound done top
     → standing r Waiter r.base ≡ 0 → 0 < standing r Waiter p → r.base < done
 waiter-above op r bound done top p k none some =
     ⊎_elim (λ out. absurd (let z = standing-out r Waiter p out in omega arith))
@@ -271,8 +271,8 @@ abbrev pub IsPlace : Role → ℕ → ℕ → ℕ → Type 0
 IsPlace Signaller q done top = (done ≤ q) × (q ≤ top)
 IsPlace Waiter q done top = q ≤ done
 
-pub stands : {A : Type 0} (op : Operation A) (r : Ring A) (bound done top q n : ℕ) (slot : Slot A) (role : Role) → IsKept op r bound done top
-    → IsWithin r q → slot_at r q ≡ Some slot → IsPlace role q done top → IsKept op (with_slot q (with_standing role n slot) r) bound done top
+pub stands : {A : Type 0} (op : Operation A) (r : Ring A) (bound done top q n : ℕ) (slot : Slot A) (role : Role) → IsRingAt op r bound done top
+    → IsWithin r q → slot_at r q ≡ Some slot → IsPlace role q done top → IsRingAt op (with_slot q (with_standing role n slot) r) bound done top
 stands {A} op r bound done top q n slot Signaller k w found place =
     let a : done ≤ q = place.0 in
     let b : q ≤ top = place.1 in
@@ -308,10 +308,10 @@ stands {A} op r bound done top q n slot Waiter k w found place =
     }
 
 -- sends join a phase, and the top is above it then
-pub merges : {A : Type 0} (op : Operation A) (r : Ring A) (bound done top q : ℕ) (slot new : Slot A) → IsKept op r bound done top
+pub merges : {A : Type 0} (op : Operation A) (r : Ring A) (bound done top q : ℕ) (slot new : Slot A) → IsRingAt op r bound done top
     → IsWithin r q → slot_at r q ≡ Some slot → q < r.base + bound → q < PHASES_MAX
     → new.signallers ≡ slot.signallers → new.waiters ≡ slot.waiters → new.sealed ≡ slot.sealed
-    → IsKept op (with_slot q new r) bound done (max top (q + 1))
+    → IsRingAt op (with_slot q new r) bound done (max top (q + 1))
 merges {A} op r bound done top q slot new k w found ahead near signallers waiters seal =
     let t : done ≤ top = k.done_top in
     let b : top ≤ r.base + bound = k.top_bound in

@@ -1,6 +1,6 @@
 -- What holds of a board between any two steps of a call, while a waiter is registered.
 use Rattle.std.specs.Prelude.{◌≡◌, ℕ, ◌+◌, ◌<◌, ◌≤◌, Some, length, nat_lt}
-use Rattle.phase_base.specs.declared.limits.TheConstants.{PHASES_MAX}
+use Rattle.phase_accum.specs.phase_base.declared.limits.TheConstants.{PHASES_MAX}
 use Rattle.phase_accum.specs.Operations.{Operation}
 use Rattle.phase_ring.specs.declared.board.Board.{Board}
 use Rattle.phase_ring.specs.declared.role.Role.TheVariants.{Signaller, Waiter}
@@ -19,7 +19,7 @@ UnusedFrom {A} op r top = (p : ℕ) (slot : Slot A)
 
 -- the ring has bound + 1 slots from the base on, with done and the top among their phases; the
 -- signallers stand from done to the top, and the waiters up to done
-pub record IsKept {A : Type 0} (op : Operation A) (r : Ring A) (bound done top : ℕ) : Type 0 where
+pub record IsRingAt {A : Type 0} (op : Operation A) (r : Ring A) (bound done top : ℕ) : Type 0 where
   pub long : length r.slots ≡ bound + 1
   pub base_done : r.base ≤ done
   pub done_top : done ≤ top
@@ -33,4 +33,4 @@ pub record IsKept {A : Type 0} (op : Operation A) (r : Ring A) (bound done top :
 
 -- the same of a board's own ring, bound, done and top
 abbrev pub IsBoard : {A : Type 0} → Operation A → Board A → Type 0
-IsBoard op board = IsKept op board.ring board.limits.bound board.done board.top
+IsBoard op board = IsRingAt op board.ring board.limits.bound board.done board.top

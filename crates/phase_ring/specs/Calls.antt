@@ -1,7 +1,7 @@
 -- What a call of a board asks of it, and what it leaves.
 use Rattle.std.specs.Prelude.{◌≡◌, ℕ, ◌+◌, ◌<◌, ◌≤◌, ◌⊎◌, max}
-use Rattle.phase_base.specs.declared.entry.Entry.{Entry}
-use Rattle.phase_base.specs.declared.limits.TheConstants.{MEMBERS_MAX, PHASES_MAX}
+use Rattle.phase_accum.specs.phase_base.declared.entry.Entry.{Entry}
+use Rattle.phase_accum.specs.phase_base.declared.limits.TheConstants.{MEMBERS_MAX, PHASES_MAX}
 use Rattle.phase_ring.specs.declared.board.Board.{Board}
 use Rattle.phase_ring.specs.declared.role.Role.{Role}
 use Rattle.phase_ring.specs.declared.role.Role.TheVariants.{Signaller, Waiter}
@@ -59,7 +59,7 @@ pub record HasWaited {A : Type 0} (from to : ℕ) (old new : Board A) : Type 0 w
   pub moves : HasMoved Waiter from to old.ring new.ring
 
 -- a task with the entry stands nowhere any more, and the limits and the top stay
-pub record HasLeft {A : Type 0} (entry : Entry) (old new : Board A) : Type 0 where
+pub record HasLeftBoard {A : Type 0} (entry : Entry) (old new : Board A) : Type 0 where
   pub limits : new.limits ≡ old.limits
   pub top : new.top ≡ old.top
   pub stands : (role : Role) (p : ℕ)

@@ -3,19 +3,17 @@ ghost use Rattle.std.specs.Prelude.{◌≡◌, ℕ, ◌<◌, ◌≤◌, ◌+◌,
 ghost use Rattle.phase_ring.specs.declared.role.Role.{Role};
 ghost use Rattle.phase_ring.specs.declared.role.Role.TheVariants.{Signaller, Waiter};
 ghost use Rattle.phase_ring.specs.Slots.{Slot, slot_value, joined, merge_refusal, IsUnused};
-ghost use Rattle.phase_ring.specs.Rings.{standing, sents, slot_at, with_slot, is_sealed, cleared};
-ghost use Rattle.phase_ring.specs.Rings.{IsWithin, KeepsSlots};
+ghost use Rattle.phase_ring.specs.Rings.{standing, sents, slot_at, with_slot, is_sealed, cleared, IsWithin, KeepsSlots};
 ghost use Rattle.phase_ring.specs.Standings.{one_if_same, other, takes_part, phase_for, counted};
 ghost use Rattle.phase_ring.specs.Boards.{IsBoard};
 ghost use Rattle.phase_ring.specs.Blocks.{block_joined, block_values, BlockFits};
-ghost use Rattle.phase_ring.specs.Calls.{MaySignal, MayWait, IsSettled, KeepsBounds};
+ghost use Rattle.phase_ring.specs.Calls.{MaySignal, MayWait, IsSettled, KeepsBounds, HasMoved, HasSignalled, HasWaited, HasLeftBoard};
 ghost use Rattle.phase_ring.specs.Inside.{MayGoOn};
-ghost use Rattle.phase_ring.specs.Calls.{HasMoved, HasSignalled, HasWaited, HasLeft};
 
 use crate::role::Role;
 use crate::slot_ring::SlotRing;
+use phase_accum::phase_base::{Entry, MEMBERS_MAX, PHASES_MAX, Spec};
 use phase_accum::{Accumulate, Outcome, Pending, Single};
-use phase_base::{Entry, MEMBERS_MAX, PHASES_MAX, Spec};
 use std::alloc::{AllocError, Global};
 
 /// The phases that are kept while a waiter is registered, and which of them are complete.
@@ -166,8 +164,8 @@ impl<A: Accumulate> Board<A> {
         self.go_on(phase, next);
     }
 
-    /// Tells the value of a waiter's phase, which is complete, and moves the waiter on to the next
-    /// one.
+    /// Returns the value of a waiter's phase, which is complete, and moves the waiter on to the
+    /// next one.
     pub fn wait(&mut self, phase: u64) -> Outcome
         requires invariant { IsBoard A.operation self.old }
         requires may { MayWait phase (phase + 1) self.old }
@@ -302,7 +300,7 @@ impl<A: Accumulate> Board<A> {
             → 0 < standing self.old.ring role (phase_for role entry) }
         requires waiter { (p : ℕ) × (counted Waiter entry p < standing self.old.ring Waiter p) }
         ensures invariant { IsBoard A.operation self.new }
-        ensures left { HasLeft entry self.old self.new }
+        ensures left { HasLeftBoard entry self.old self.new }
         ensures slots { KeepsSlots (sents self.old.ring) (sents self.new.ring) }
         ensures settled { IsSettled self.new }
         ensures stops { 0 < standing self.new.ring Waiter self.new.ring.base }

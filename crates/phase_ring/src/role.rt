@@ -2,7 +2,7 @@
 ghost use Rattle.std.specs.Prelude.{◌≡◌};
 ghost use Rattle.phase_ring.specs.Standings.{takes_part, phase_for};
 
-use phase_base::Entry;
+use phase_accum::phase_base::Entry;
 
 /// In which of its two ways a task stands at a phase.
 #[derive(Clone, Copy, Debug, PartialEq, Eq)]
@@ -14,7 +14,7 @@ pub enum Role {
 }
 
 impl Role {
-    /// Tells whether a task with this entry stands anywhere in the role.
+    /// Returns whether a task with this entry stands anywhere in the role.
     pub fn is_of(self, entry: Entry) -> bool
         ensures { result ≡ takes_part self entry }
     {
@@ -24,7 +24,7 @@ impl Role {
         }
     }
 
-    /// Tells at which phase a task with this entry stands in the role, where it does.
+    /// Returns at which phase a task with this entry stands in the role, where it does.
     pub fn phase_of(self, entry: Entry) -> u64
         ensures { result ≡ phase_for self entry }
     {

@@ -4,8 +4,8 @@ ghost use Rattle.phase_accum.specs.Singles.{differs};
 
 use crate::choice::{Choice, choice_for, told};
 use crate::role::Role;
+use phase_accum::phase_base::{MEMBERS_MAX, SENDS_MAX};
 use phase_accum::{self, Accumulate, Outcome, Pending, Single};
-use phase_base::{MEMBERS_MAX, SENDS_MAX};
 use std::marker::Model;
 
 /// Why sends were not joined to those of a phase.
@@ -17,7 +17,7 @@ pub enum MergeRefusal {
     PhaseFull,
 }
 
-/// Tells whether a signal that names `single`, or none, joins signals that named otherwise.
+/// Returns whether a signal that names `single`, or none, joins signals that named otherwise.
 fn is_other(named: Option<Option<Single>>, single: Option<Single>) -> bool
     ensures { result ≡ differs named single }
 {
@@ -79,7 +79,7 @@ impl<A: Copy> Slot<A> {
         (count > SENDS_MAX - self.count).then_some(MergeRefusal::PhaseFull)
     }
 
-    /// Tells how many of the role stand at the phase.
+    /// Returns how many of the role stand at the phase.
     pub fn standing(&self, role: Role) -> u16
         ensures { result ≡ standing_of role self.now }
     {
@@ -169,7 +169,7 @@ impl<A: Accumulate> Slot<A> {
         self.ends = ends;
     }
 
-    /// Tells the value of the sends, with the single applied where one was named.
+    /// Returns the value of the sends, with the single applied where one was named.
     pub fn value(&self) -> Outcome
         requires { IsHeld A.operation self.now }
         ensures { result ≡ slot_value A.operation self.now }

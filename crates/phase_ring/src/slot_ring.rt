@@ -2,16 +2,14 @@
 ghost use Rattle.std.specs.Prelude.{◌≡◌, ◌+◌, ◌-◌, ◌^◌, ◌<◌, ◌≤◌, [], None, Some, length, replicate, true, false, OnOk, OnErr, IfOk, IfErr};
 ghost use Rattle.circular_buffer.specs.Buffer.{buffer};
 ghost use Rattle.phase_ring.specs.declared.role.Role.TheVariants.{Waiter};
-ghost use Rattle.phase_ring.specs.Slots.{Slot, empty_slot, IsHeld, IsUnused};
-ghost use Rattle.phase_ring.specs.Slots.{with_standing, standing_of, joined, sealed, slot_value, merge_refusal};
-ghost use Rattle.phase_ring.specs.Rings.{Ring, standing, IsWithin, slot_at, with_slot, is_sealed};
-ghost use Rattle.phase_ring.specs.Rings.{fresh_ring, released, cleared};
+ghost use Rattle.phase_ring.specs.Slots.{Slot, empty_slot, IsHeld, IsUnused, with_standing, standing_of, joined, sealed, slot_value, merge_refusal};
+ghost use Rattle.phase_ring.specs.Rings.{Ring, standing, IsWithin, slot_at, with_slot, is_sealed, fresh_ring, released, cleared};
 
 use crate::role::Role;
 use crate::slot::{MergeRefusal, Slot};
 use circular_buffer::HeapCircularBuffer;
+use phase_accum::phase_base::{BOUND_MAX, MEMBERS_MAX, SENDS_MAX};
 use phase_accum::{Accumulate, Outcome, Pending, Single};
-use phase_base::{BOUND_MAX, MEMBERS_MAX, SENDS_MAX};
 use std::alloc::{AllocError, Global};
 use std::marker::Model;
 
@@ -60,7 +58,7 @@ impl<A: Accumulate> SlotRing<A> {
         }
     }
 
-    /// Tells the phase of the first slot.
+    /// Returns the phase of the first slot.
     pub fn base(&self) -> u64
         ensures { result ≡ self.now.base }
     {
@@ -181,7 +179,7 @@ impl<A: Accumulate> SlotRing<A> {
         }
     }
 
-    /// Tells the value of a complete phase, with the single applied that its first signal named.
+    /// Returns the value of a complete phase, with the single applied that its first signal named.
     pub fn value(&self, phase: u64) -> Outcome
         requires within { IsWithin self.now phase }
         requires complete { is_sealed self.now phase ≡ true }
@@ -219,7 +217,7 @@ impl<A: Accumulate> SlotRing<A> {
         }
     }
 
-    /// Tells how many of the role stand at the phase.
+    /// Returns how many of the role stand at the phase.
     pub fn standing(&self, phase: u64, role: Role) -> u32
         requires { IsWithin self.now phase }
         ensures { result ≡ standing self.now role phase }

@@ -2,15 +2,15 @@
 use Rattle.std.proofs.Common.{◌≡◌, ◌≢◌, ◌⊎◌, inl, inr, ℕ, List, refl, arith}
 use Rattle.phase_run.specs.Ends.{AnswerEnds, AnswerStops, IsStatus, MayEnd, MayEndAsRun}
 use Rattle.phase_run.specs.Inside.{IsAnswer}
-use Rattle.phase_status.specs.Statuses.{Reports}
+use Rattle.stream_workers.specs.graph_commands.watched_io.Statuses.{Reports}
 use Rattle.phase_words.proofs.NoCalls.{none-or-some, one-some, refusal-none-shown, refusal-some, shown-some}
 use Rattle.phase_words.specs.CommandLine.{ExplainsNone}
 use Rattle.phase_words.specs.RunLine.{AreRunRefused, AreRunTaken, AskRunHelp, AskRunVersion, run_kinds_of}
 use Rattle.phase_words.specs.declared.call.NoCall.{NoCall}
 use Rattle.phase_words.specs.declared.call.NoCall.TheVariants as no_call
-use Rattle.watched_io.specs.States.{WriterState}
-use Rattle.watched_io.specs.declared.fault.IoFault.TheVariants.{OutOfMemory}
-use Rattle.watched_io.specs.declared.watched.Watched.{Watched}
+use Rattle.stream_workers.specs.graph_commands.watched_io.States.{WriterState}
+use Rattle.stream_workers.specs.graph_commands.watched_io.declared.fault.IoFault.TheVariants.{OutOfMemory}
+use Rattle.stream_workers.specs.graph_commands.watched_io.declared.watched.Watched.{Watched}
 
 -- ---- words that are taken
 

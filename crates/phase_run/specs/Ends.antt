@@ -1,11 +1,11 @@
 -- How a run of the program may end, by what its words ask for.
 use Rattle.std.specs.Prelude.{◌≡◌, ◌⊎◌, ℕ, true, List}
-use Rattle.phase_status.specs.Statuses.{Reports}
+use Rattle.stream_workers.specs.graph_commands.watched_io.Statuses.{Reports}
 use Rattle.phase_words.specs.RunLine.{AreRunRefused, AreRunTaken, AskRunHelp, AskRunVersion, Run}
-use Rattle.watched_io.specs.States.{WriterState}
-use Rattle.watched_io.specs.Watched.{has_failed_of}
-use Rattle.watched_io.specs.declared.fault.IoFault.TheVariants.{OutOfMemory, WriteFault}
-use Rattle.watched_io.specs.declared.watched.Watched.{Watched}
+use Rattle.stream_workers.specs.graph_commands.watched_io.States.{WriterState}
+use Rattle.stream_workers.specs.graph_commands.watched_io.Watched.{has_failed_of}
+use Rattle.stream_workers.specs.graph_commands.watched_io.declared.fault.IoFault.TheVariants.{OutOfMemory, WriteFault}
+use Rattle.stream_workers.specs.graph_commands.watched_io.declared.watched.Watched.{Watched}
 
 -- the statuses of a run of a graph
 abbrev pub MayEndAsRun : ℕ → Type 0

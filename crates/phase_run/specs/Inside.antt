@@ -1,14 +1,14 @@
 -- How the program behind `phase run` ends.
 use Rattle.std.specs.Prelude.{◌≡◌, ◌⊎◌, ℕ, List, Option}
-use Rattle.graph_commands.specs.FileJobs.{Known}
-use Rattle.phase_status.specs.Statuses.{Reports}
+use Rattle.stream_workers.specs.graph_commands.FileJobs.{Known}
+use Rattle.stream_workers.specs.graph_commands.watched_io.Statuses.{Reports}
 use Rattle.phase_words.specs.declared.call.Explain.{Explain}
 use Rattle.phase_words.specs.declared.call.Explain.TheVariants.{No, Yes}
 use Rattle.phase_words.specs.declared.call.NoCall.{NoCall}
-use Rattle.run_command.specs.Runs.{RunEnds, RunEndsExplained}
-use Rattle.watched_io.specs.States.{WriterState}
-use Rattle.watched_io.specs.declared.fault.IoFault.TheVariants.{OutOfMemory}
-use Rattle.watched_io.specs.declared.watched.Watched.{Watched}
+use Rattle.phase_run.specs.Runs.{RunEnds, RunEndsExplained}
+use Rattle.stream_workers.specs.graph_commands.watched_io.States.{WriterState}
+use Rattle.stream_workers.specs.graph_commands.watched_io.declared.fault.IoFault.TheVariants.{OutOfMemory}
+use Rattle.stream_workers.specs.graph_commands.watched_io.declared.watched.Watched.{Watched}
 use Rattle.phase_words.specs.declared.call.NoCall.TheVariants as no_call
 
 -- how a run ends, by whether a fault is explained

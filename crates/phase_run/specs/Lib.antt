@@ -1,2 +1,3 @@
 pub mod Ends
 pub mod Inside
+pub mod Runs

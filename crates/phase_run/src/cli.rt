@@ -1,23 +1,22 @@
 //! A run of the program over any outputs and files.
 ghost use Rattle.std.specs.Prelude.{◌≡◌, ◌⊎◌, ℕ, List, Option};
-ghost use Rattle.phase_run.specs.Ends.{AnswerEnds, AnswerStops, IsUnbegun, MayEnd};
-ghost use Rattle.phase_run.specs.Inside.{IsAnswer};
-ghost use Rattle.phase_run.specs.Ends.{MayEndAsRun};
-ghost use Rattle.phase_run.specs.Inside.{RunEndsBy};
+ghost use Rattle.phase_run.specs.Ends.{AnswerEnds, AnswerStops, IsUnbegun, MayEnd, MayEndAsRun};
+ghost use Rattle.phase_run.specs.Inside.{IsAnswer, RunEndsBy};
 ghost use Rattle.phase_words.specs.CommandLine.{texts};
 ghost use Rattle.phase_words.specs.RunLine.{AreRunTaken, AskRun, AskRunExplained, run_of};
-ghost use Rattle.run_command.specs.Runs.{RunEnds, RunEndsExplained};
-ghost use Rattle.watched_io.specs.States.{writer_state};
+ghost use Rattle.phase_run.specs.Runs.{RunEnds, RunEndsExplained};
+ghost use Rattle.stream_workers.specs.graph_commands.watched_io.States.{writer_state};
 
-use graph_commands::Refuses;
-use phase_status::{refuse, report, show_help};
+use crate::graph_run::{run_and_explain, run_and_report};
 use phase_words::{Explain, NoCall, RunCall, read_run_words};
-use run_command::{run_and_explain, run_and_report};
 use std::alloc::Global;
 use std::io::Write;
 use std::sync::Wait;
 use std::thread::Threads;
-use watched_io::{Files, IoFault, Watched};
+use stream_workers::graph_commands::Refuses;
+use stream_workers::graph_commands::watched_io::{
+    Files, IoFault, Watched, refuse, report, show_help,
+};
 
 /// Runs the program on its words, those behind `phase run`, and answers its exit status: 0 where the
 /// graph was run, or help or the version was shown, 1 where the graph or its samples are refused, or no

@@ -1,14 +1,22 @@
-//! The program behind `phase run`: it runs a graph of filters over phasers on worker threads.
+//! The program behind `phase run`: it runs a graph of filters over phasers on worker threads, and
+//! answers as `eval` does.
+//!
+//! `run_and_report` reads the job of a graph's file as `eval` does, runs it, and answers the exit
+//! status; `run_and_explain` also explains a fault of the files behind its line.
+//!
+//! Proved: what is written at status 0 is what `eval` writes, and each other status has its cause. Only
+//! tested: that a run comes back, and that `phase: stalled` is told only where every task that is left
+//! waits for another.
 #![tactic(auto)]
 
 mod cli;
+mod graph_run;
 mod laws;
 
 use cli::run_cli;
-use graph_commands::TellingFiles;
-use phase_status::{own_words, refuse_words};
 use std::process::ExitCode;
-use watched_io::Watched;
+use stream_workers::graph_commands::TellingFiles;
+use stream_workers::graph_commands::watched_io::{Watched, own_words, refuse_words};
 
 fn main(rt: HostRuntime) -> ExitCode {
     let mut faults = Watched::new(rt.stderr());

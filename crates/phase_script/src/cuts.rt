@@ -1,7 +1,7 @@
 //! Where lines end.
 ghost use Rattle.std.specs.Prelude.{◌≡◌, ◌<◌, ◌≤◌, ◌+◌, ◌∷◌, ◌++◌, take, drop, length, slice_index, MatchOption};
 ghost use Rattle.phase_script.specs.Cuts.{HasNoLf};
-ghost use Rattle.phase_base.specs.Lists.{without_cr};
+ghost use Rattle.phase_accum.specs.phase_base.Lists.{without_cr};
 
 const CR: u8 = 13;
 
@@ -15,7 +15,7 @@ pub fn lf_of(bytes: &[u8]) -> Option<usize>
     bytes.iter().position(|byte| *byte == LF)
 }
 
-/// Gives the line less one CR at its end.
+/// Returns the line less one CR at its end.
 pub fn without_cr(line: &[u8]) -> &[u8]
     ensures { result.now ≡ without_cr line.now }
 {

@@ -54,7 +54,7 @@ impl Outcomes {
         self.count += 1;
     }
 
-    /// Gives what the phases gave.
+    /// Returns what the phases gave.
     pub fn as_slice(&self) -> &[Outcome]
         ensures outcomes { result.now ≡ self.now }
         ensures few { length self.now ≤ VALUES_MAX }

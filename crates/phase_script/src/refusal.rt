@@ -51,7 +51,7 @@ pub enum Refusal {
 }
 
 impl Refusal {
-    /// Gives the text that follows `no` and a space, in small letters and hyphens.
+    /// Returns the text that follows `no` and a space, in small letters and hyphens.
     pub fn reason(self) -> &'static [u8]
         ensures { result.now ≡ reason_text self }
     {

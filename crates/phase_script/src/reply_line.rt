@@ -134,7 +134,7 @@ impl ReplyLine {
         }
     }
 
-    /// Gives the bytes of the line, up to and with its LF.
+    /// Returns the bytes of the line, up to and with its LF.
     pub fn bytes(&self) -> &[u8]
         ensures { result.now ≡ self.now }
     {

@@ -5,16 +5,12 @@ mod words;
 
 ghost use Rattle.std.specs.Prelude.{◌≡◌, ◌≤◌, List, ℤ, nat_abs, IfSome, Some, option_map};
 ghost use Rattle.phase_script.specs.Numbers.{most};
-ghost use Rattle.phase_script.specs.Commands.{WholeCommand, whole_command, maybe_whole};
-ghost use Rattle.phase_script.specs.Commands.{IsCommand, spelling, command_of, command_after};
-ghost use Rattle.phase_script.specs.Commands.{mode_of, single_of, clamp_after, ends_of};
-ghost use Rattle.phase_script.specs.Commands.{clamp_of, make_of, add_of, now_of, send_of, signal_of};
-ghost use Rattle.phase_script.specs.Commands.{block_of, values_of, wait_of, take_of, take_with, drop_of};
+ghost use Rattle.phase_script.specs.Commands.{WholeCommand, whole_command, maybe_whole, IsCommand, spelling, command_of, command_after, mode_of, single_of, clamp_after, ends_of, clamp_of, make_of, add_of, now_of, send_of, signal_of, block_of, values_of, wait_of, take_of, take_with, drop_of};
 
 use crate::{Command, VALUES_MAX, Values};
 use number::{int, nat};
-use phase_accum::Single;
-use phase_base::{Mode, Op};
+use phase_accum::phase_base::Mode;
+use phase_accum::{Op, Single};
 use words::cut;
 
 /// The bytes of the longest line of the grammar, a `block` of `VALUES_MAX` values.

@@ -52,7 +52,7 @@ impl Values {
         self.count += 1;
     }
 
-    /// Gives the values.
+    /// Returns the values.
     pub fn as_slice(&self) -> &[i64]
         ensures values { result.now ≡ self.now }
         ensures few { length self.now ≤ VALUES_MAX }

@@ -5,3 +5,15 @@ pub mod OneValue
 pub mod PartSteps
 pub mod LaterBlocks
 pub mod BlockPartSteps
+pub mod Keeping
+pub mod Giving
+pub mod Answering
+pub mod Stepping
+pub mod SignalSteps
+pub mod WaitSteps
+pub mod RegisterSteps
+pub mod Meeting
+pub mod BlockSteps
+pub mod JoinSteps
+pub use Rattle.phase_core.proofs.phase_history_lemmas as phase_history_lemmas
+pub use Rattle.turn_lock.proofs as turn_lock_lemmas

@@ -1,21 +1,21 @@
 -- A signal with one value.
 use Rattle.std.proofs.Common.{◌≡◌, ℕ, ℤ, List, [], ◌∷◌, Option, refl, sym, ap, subst, ◌∙◌}
 use Rattle.std.specs.Prelude.{Result, length}
-use Rattle.phase_base.specs.Limits.{Limits}
-use Rattle.phase_accum.specs.Operations.{Operation, AccumulateLaws}
-use Rattle.phase_accum.specs.Parcels.{Parcel, StandsForSends}
-use Rattle.phase_accum.proofs.Parts.{one_send-same}
-use Rattle.phase_accum.specs.declared.single.Single.{Single}
-use Rattle.phase_history.specs.declared.refusal.SignalRefusal.{SignalRefusal}
-use Rattle.phase_history.specs.Histories.{History}
-use Rattle.phase_history.specs.Others.{OthersCame}
-use Rattle.phase_history.specs.Replies.{after_signal}
-use Rattle.phase_seats.specs.declared.tried.Tried.{Tried}
-use Rattle.phase_seats.specs.declared.rule.Terms.{Terms}
-use Rattle.phase_seats.specs.Rule.{Allows}
+use Rattle.phase_core.specs.phase_base.Limits.{Limits}
+use Rattle.phase_core.specs.phase_accum.Operations.{Operation, AccumulateLaws}
+use Rattle.phase_core.specs.phase_accum.Parcels.{Parcel, StandsForSends}
+use Rattle.phase_core.proofs.phase_accum_lemmas.Parts.{one_send-same}
+use Rattle.phase_core.specs.phase_accum.declared.single.Single.{Single}
+use Rattle.phase_core.specs.phase_history.declared.refusal.SignalRefusal.{SignalRefusal}
+use Rattle.phase_core.specs.phase_history.Histories.{History}
+use Rattle.phase_core.specs.phase_history.Others.{OthersCame}
+use Rattle.phase_core.specs.phase_history.Replies.{after_signal}
+use Rattle.phase_shared.specs.declared.tried.Tried.{Tried}
+use Rattle.phase_shared.specs.declared.rule.Terms.{Terms}
+use Rattle.phase_shared.specs.Rule.{Allows}
 use Rattle.phase_shared.specs.Regs.{RegState}
 use Rattle.phase_shared.specs.Calls.{Signals, Tries, MaySignal}
-use Rattle.phase_seats.proofs.Answering.{Tries-map}
+use Rattle.phase_shared.proofs.Answering.{Tries-map}
 use Rattle.phase_shared.specs.Puts.{SignalsValue, MayPut}
 use Rattle.phase_shared.specs.OneSends.{HasOneSend}
 

@@ -1,24 +1,22 @@
 -- A registration is taken apart and put together.
-use Rattle.turn_lock.specs.Seats.{IsSameSeat}
-use Rattle.phase_accum.specs.Parcels.{Parcel}
-use Rattle.phase_seats.specs.Views.{known_of}
-use Rattle.phase_shared.specs.Regs.{RegState, reg_state}
+use Rattle.turn_lock.specs.Seats.{IsSameSeat, seat_place, seat_view}
+use Rattle.phase_core.specs.phase_accum.Parcels.{Parcel}
+use Rattle.phase_shared.specs.Views.{known_of}
+use Rattle.phase_shared.specs.Regs.{RegState, reg_state, IsReg, index_in, view_in}
 use Rattle.std.proofs.Common.{◌≡◌, ℕ, [], ◌∷◌, Option, Some, refl, sym, ap, subst, ◌∙◌}
 use Rattle.turn_lock.specs.declared.seat.Seat.{Seat}
-use Rattle.turn_lock.specs.Seats.{seat_place, seat_view}
 use Rattle.atomic_table.specs.Seated.{TableId}
-use Rattle.phase_base.specs.declared.entry.Entry.{Entry}
-use Rattle.phase_seats.specs.declared.view.View.{View}
-use Rattle.phase_seats.specs.declared.rule.Terms.{Terms}
-use Rattle.phase_seats.specs.Rule.{Allows, IsSeatOfTask}
-use Rattle.phase_shared.specs.Regs.{IsReg, index_in, view_in}
+use Rattle.phase_core.specs.phase_base.declared.entry.Entry.{Entry}
+use Rattle.phase_shared.specs.declared.seats.view.View.{View}
+use Rattle.phase_shared.specs.declared.rule.Terms.{Terms}
+use Rattle.phase_shared.specs.Rule.{Allows, IsSeatOfTask}
 use Rattle.std.specs.Prelude.{Result, Ok, Err, IsErr}
 use Rattle.std.specs.Result.{result_ok}
-use Rattle.phase_history.specs.Histories.{History}
-use Rattle.phase_history.specs.Others.{OnlyUsed}
-use Rattle.phase_seats.specs.declared.tried.Tried.{Tried}
-use Rattle.phase_seats.specs.declared.tried.Tried.TheVariants.{Busy, Refused}
-use Rattle.phase_seats.specs.Steps.{IsStep}
+use Rattle.phase_core.specs.phase_history.Histories.{History}
+use Rattle.phase_core.specs.phase_history.Others.{OnlyUsed}
+use Rattle.phase_shared.specs.declared.tried.Tried.{Tried}
+use Rattle.phase_shared.specs.declared.tried.Tried.TheVariants.{Busy, Refused}
+use Rattle.phase_shared.specs.Steps.{IsStep}
 use Rattle.phase_shared.specs.Calls.{IsTry, Tries}
 use Rattle.phase_shared.specs.Entries.{entry_stays}
 

@@ -2,42 +2,42 @@
 use Rattle.std.proofs.Common.{◌≡◌, ℕ, ◌≤◌, ℤ, Bool, true, false, cond, List, [], ◌∷◌, ◌++◌, map, Option, Some, None, Ok, Err, eqb, refl, sym, ap, ap₂, subst, ◌∙◌, arith}
 use Rattle.std.specs.Prelude.{Result, ◌||◌, unwrap_or}
 use Rattle.std.proofs.lemmas.Bool.{eq-eqb}
-use Rattle.phase_base.specs.Limits.{Limits}
-use Rattle.phase_base.specs.Members.{entry_of}
-use Rattle.phase_base.specs.Modes.{mode_signals, mode_waits}
-use Rattle.phase_base.specs.declared.entry.Entry.{Entry}
-use Rattle.phase_base.specs.declared.mode.Mode.{Mode}
-use Rattle.phase_accum.specs.declared.outcome.Outcome.{Outcome}
-use Rattle.phase_accum.specs.declared.outcome.Outcome.TheVariants.{Empty}
-use Rattle.phase_accum.specs.declared.single.Single.{Single}
-use Rattle.phase_accum.specs.Operations.{Operation}
-use Rattle.phase_accum.specs.Parcels.{Parcel}
-use Rattle.phase_history.specs.declared.event.Event.TheVariants.{Registered}
-use Rattle.phase_history.specs.declared.got.Got.{Got}
-use Rattle.phase_history.specs.declared.got.Got.TheVariants.{Value, Ended}
-use Rattle.phase_history.specs.declared.refusal.RegisterRefusal.{RegisterRefusal}
-use Rattle.phase_history.specs.declared.refusal.RegisterRefusal.TheVariants as register
-use Rattle.phase_history.specs.declared.refusal.SignalRefusal.{SignalRefusal}
-use Rattle.phase_history.specs.declared.refusal.WaitRefusal.{WaitRefusal}
-use Rattle.phase_history.specs.Histories.{History, HasNoSignaller, members_of, founder, signal_phase, wait_phase, done_of, start_of, entry_at, has_dropped}
-use Rattle.phase_history.specs.Phases.{received_by}
-use Rattle.phase_history.specs.Legal.{IsLegal}
-use Rattle.phase_history.specs.Others.{OthersCame}
-use Rattle.phase_base.specs.Lists.{is_in}
-use Rattle.phase_history.specs.Laws.{HasNoEvents}
-use Rattle.phase_history.specs.Sent.{sent_by}
-use Rattle.phase_history.proofs.LawProofs.{above_law, answers_law}
-use Rattle.phase_history.proofs.Answered.{ended_tells}
-use Rattle.phase_history.proofs.OthersEvents.{received_by-others, sent_by-others}
-use Rattle.phase_history.proofs.Gathered.{no_lists}
-use Rattle.phase_history.proofs.Sendings.{length-sent_by}
+use Rattle.phase_core.specs.phase_base.Limits.{Limits}
+use Rattle.phase_core.specs.phase_base.Members.{entry_of}
+use Rattle.phase_core.specs.phase_base.Modes.{mode_signals, mode_waits}
+use Rattle.phase_core.specs.phase_base.declared.entry.Entry.{Entry}
+use Rattle.phase_core.specs.phase_base.declared.mode.Mode.{Mode}
+use Rattle.phase_core.specs.phase_accum.declared.outcome.Outcome.{Outcome}
+use Rattle.phase_core.specs.phase_accum.declared.outcome.Outcome.TheVariants.{Empty}
+use Rattle.phase_core.specs.phase_accum.declared.single.Single.{Single}
+use Rattle.phase_core.specs.phase_accum.Operations.{Operation}
+use Rattle.phase_core.specs.phase_accum.Parcels.{Parcel}
+use Rattle.phase_core.specs.phase_history.declared.event.Event.TheVariants.{Registered}
+use Rattle.phase_core.specs.phase_history.declared.got.Got.{Got}
+use Rattle.phase_core.specs.phase_history.declared.got.Got.TheVariants.{Value, Ended}
+use Rattle.phase_core.specs.phase_history.declared.refusal.RegisterRefusal.{RegisterRefusal}
+use Rattle.phase_core.specs.phase_history.declared.refusal.RegisterRefusal.TheVariants as register
+use Rattle.phase_core.specs.phase_history.declared.refusal.SignalRefusal.{SignalRefusal}
+use Rattle.phase_core.specs.phase_history.declared.refusal.WaitRefusal.{WaitRefusal}
+use Rattle.phase_core.specs.phase_history.Histories.{History, HasNoSignaller, members_of, founder, signal_phase, wait_phase, done_of, start_of, entry_at, has_dropped}
+use Rattle.phase_core.specs.phase_history.Phases.{received_by}
+use Rattle.phase_core.specs.phase_history.Legal.{IsLegal}
+use Rattle.phase_core.specs.phase_history.Others.{OthersCame}
+use Rattle.phase_core.specs.phase_base.Lists.{is_in}
+use Rattle.phase_core.specs.phase_history.Laws.{HasNoEvents}
+use Rattle.phase_core.specs.phase_history.Sent.{sent_by}
+use Rattle.phase_core.proofs.phase_history_lemmas.LawProofs.{above_law, answers_law}
+use Rattle.phase_core.proofs.phase_history_lemmas.Answered.{ended_tells}
+use Rattle.phase_core.proofs.phase_history_lemmas.OthersEvents.{received_by-others, sent_by-others}
+use Rattle.phase_core.proofs.phase_history_lemmas.Gathered.{no_lists}
+use Rattle.phase_core.proofs.phase_history_lemmas.Sendings.{length-sent_by}
 use Rattle.phase_shared.specs.declared.next.Next.{Next}
 use Rattle.phase_shared.specs.Calls.{Signals, Waits, HasRegistered, RefusesRegister, Leaves}
 use Rattle.phase_shared.specs.Nexts.{MadeWhere, GoesNext, RefusesNext}
 use Rattle.phase_shared.specs.Regs.{RegState}
 use Rattle.phase_shared.specs.Parts.{with_got, with_any, PartStays, HasNoPart, SendsHeld, Gets, SendsAndGets}
-use Rattle.phase_seats.proofs.Keeping.{is_in_self}
-use Rattle.phase_seats.proofs.Giving.{member_after}
+use Rattle.phase_shared.proofs.Keeping.{is_in_self}
+use Rattle.phase_shared.proofs.Giving.{member_after}
 
 -- ---- while others' events come
 

@@ -1,11 +1,11 @@
 -- What a call on a block of phases adds to its task's own part of the history.
 use Rattle.std.specs.Prelude.{◌≡◌, ◌≤◌, ℕ, ℤ, List, ◌++◌, take, length}
-use Rattle.phase_accum.specs.Operations.{Operation}
-use Rattle.phase_accum.specs.Parcels.{Parcel}
-use Rattle.phase_accum.specs.declared.outcome.Outcome.{Outcome}
-use Rattle.phase_history.specs.Histories.{History}
-use Rattle.phase_history.specs.Phases.{received_by}
-use Rattle.phase_history.specs.Sent.{sent_by}
+use Rattle.phase_core.specs.phase_accum.Operations.{Operation}
+use Rattle.phase_core.specs.phase_accum.Parcels.{Parcel}
+use Rattle.phase_core.specs.phase_accum.declared.outcome.Outcome.{Outcome}
+use Rattle.phase_core.specs.phase_history.Histories.{History}
+use Rattle.phase_core.specs.phase_history.Phases.{received_by}
+use Rattle.phase_core.specs.phase_history.Sent.{sent_by}
 use Rattle.phase_core.specs.Blocks.{StandForLists}
 
 -- the task has sent one list more for each parcel, in their order

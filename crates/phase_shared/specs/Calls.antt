@@ -1,23 +1,126 @@
 -- What each call of a registration answers, and what the registration has seen and where it stands
--- after it. The records of single calls are those of the steps of its seat.
-use Rattle.std.specs.Prelude.{◌≡◌, ◌≢◌, ℕ, ℤ, Bool, true, false, List, [], ◌∷◌, Option, Result, Ok, Err}
+-- after it. The records of single calls are those of the steps of its seat: the history that its
+-- task has seen goes on by events of others, up to the moment of the call, and then by the call's
+-- own event, where it makes one.
+use Rattle.std.specs.Prelude.{◌≡◌, ℕ, ℤ, Bool, true, false, List, [], ◌∷◌, Option, Result, Ok, Err, None, Some, min, ◌+◌, ◌-◌, ◌^◌, ◌≢◌}
+use Rattle.phase_core.specs.phase_base.Limits.{Limits}
+use Rattle.phase_core.specs.phase_base.declared.mode.Mode.{Mode}
+use Rattle.phase_core.specs.phase_accum.Operations.{Operation}
+use Rattle.phase_core.specs.phase_accum.Parcels.{Parcel, StandsForSends}
+use Rattle.phase_core.specs.phase_accum.declared.outcome.Outcome.{Outcome}
+use Rattle.phase_core.specs.phase_accum.declared.single.Single.{Single}
+use Rattle.phase_core.specs.phase_history.declared.event.Event.TheVariants.{Registered, Dropped}
+use Rattle.phase_core.specs.phase_history.declared.got.Got.{Got}
+use Rattle.phase_core.specs.phase_history.declared.refusal.RegisterRefusal.{RegisterRefusal}
+use Rattle.phase_core.specs.phase_history.declared.refusal.RegisterRefusal.TheVariants as register
+use Rattle.phase_core.specs.phase_history.declared.refusal.SignalRefusal.{SignalRefusal}
+use Rattle.phase_core.specs.phase_history.declared.refusal.WaitRefusal.{WaitRefusal}
+use Rattle.phase_core.specs.phase_history.Histories.{History, greatest_used, entry_at}
+use Rattle.phase_core.specs.phase_history.Refusals.{register_refusal}
+use Rattle.phase_core.specs.phase_history.Replies.{signal_reply, after_signal, wait_reply, after_wait}
+use Rattle.phase_core.specs.phase_history.Others.{OthersCame, OnlyUsed}
+use Rattle.phase_shared.specs.declared.seats.view.View.{View}
+use Rattle.phase_shared.specs.declared.rule.Terms.{Terms}
+use Rattle.phase_shared.specs.Views.{resting}
+use Rattle.phase_shared.specs.Rule.{Allows, IsGoodAt}
+use Rattle.phase_shared.specs.declared.tried.Tried.{Tried}
+use Rattle.phase_shared.specs.declared.tried.Tried.TheVariants.{Busy, Refused}
 use Rattle.std.specs.Result.{result_ok}
-use Rattle.phase_base.specs.declared.entry.Entry.{Entry}
-use Rattle.phase_base.specs.declared.mode.Mode.{Mode}
-use Rattle.phase_accum.specs.Operations.{Operation}
-use Rattle.phase_accum.specs.Parcels.{Parcel, StandsForSends}
-use Rattle.phase_accum.specs.declared.single.Single.{Single}
-use Rattle.phase_history.specs.declared.event.Event.TheVariants.{Dropped}
-use Rattle.phase_history.specs.declared.refusal.RegisterRefusal.{RegisterRefusal}
-use Rattle.phase_history.specs.Histories.{History}
-use Rattle.phase_history.specs.Histories.{entry_at}
-use Rattle.phase_history.specs.Others.{OnlyUsed, OthersCame}
+use Rattle.phase_core.specs.phase_base.declared.entry.Entry.{Entry}
 use Rattle.phase_shared.specs.Regs.{RegState}
-use Rattle.phase_seats.specs.declared.rule.Terms.{Terms}
-use Rattle.phase_seats.specs.Rule.{Allows, IsGoodAt}
-use Rattle.phase_seats.specs.declared.tried.Tried.{Tried}
-use Rattle.phase_seats.specs.declared.tried.Tried.TheVariants.{Busy, Refused}
-pub use Rattle.phase_seats.specs.Calls.{Refuses, Tries, Signals, Waits, number_after, next_child, HasRegistered, RefusesRegister}
+
+-- a refused try: the turn was another's and all stayed as it was, or the call is refused
+abbrev pub Refuses : {R : Type 0} → Type 0 → (R → Type 0) → Tried R → Type 0
+Refuses same call Busy = same
+Refuses same call (Refused refusal) = call refusal
+
+-- a try: the turn was another's and all stayed as it was, or the call has its answer
+abbrev pub Tries : {X R : Type 0} → Type 0 → (Result X R → Type 0) → Result X (Tried R) → Type 0
+Tries same call (Ok answer) = call (Ok answer)
+Tries same call (Err tried) = Refuses same (λ refusal. call (Err refusal)) tried
+
+-- for the code: an answer of a call under the turn, as a try tells it
+abbrev pub tried : {X R : Type 0} → Result X R → Result X (Tried R)
+tried (Ok answer) = Ok answer
+tried (Err refusal) = Err (Refused refusal)
+
+-- a signal: events of others, and there the definition's answer, with sends that the task holds;
+-- then the signal's event, where it was accepted
+pub record Signals {A : Type 0} (op : Operation A) (limits : Limits) (me : ℕ) (held : Parcel A)
+    (single : Option Single) (old new : History) (answer : Result ℕ SignalRefusal) : Type 0 where
+  pub before : History
+  pub sends : List ℤ
+  pub others : OthersCame (me ∷ []) old before
+  pub stands : StandsForSends op held sends
+  pub seen : new ≡ after_signal answer me (sends ∷ []) single before
+  -- the same, whichever sends those are that the task holds
+  pub reply : (xs : List ℤ) → StandsForSends op held xs
+      → signal_reply limits before me (xs ∷ []) single ≡ answer
+
+-- a wait: events of others, and there the definition's answer; then the wait's event, where it got
+-- a value
+pub record Waits (value : List ℤ → Outcome) (limits : Limits) (me : ℕ) (old new : History)
+    (answer : Result Got WaitRefusal) : Type 0 where
+  pub before : History
+  pub others : OthersCame (me ∷ []) old before
+  pub seen : new ≡ after_wait answer me before
+  pub reply : wait_reply value limits before me ≡ answer
+
+-- the number above this one, or where there is none, the last number
+abbrev pub number_after : ℕ → ℕ
+number_after greatest = min (greatest + 1) (2 ^ 64 - 1)
+
+-- the number that the next child is given
+abbrev pub next_child : History → ℕ
+next_child h = number_after (greatest_used h)
+
+-- an accepted registration: events of others, and there a child with the number above all that
+-- were used; then its event
+pub record HasRegistered (me child : ℕ) (mode : Mode) (old new : History) : Type 0 where
+  pub before : History
+  pub others : OthersCame (me ∷ []) old before
+  pub seen : new ≡ Registered me child mode ∷ before
+  pub reply : register_refusal before me child mode ≡ None
+  pub next : child ≡ greatest_used before + 1
+
+-- a refused registration: events of others, and there the definition's refusal, or want of memory
+-- where the definition accepts
+abbrev pub RefusesRegister : ℕ → Mode → History → History → RegisterRefusal → Type 0
+RefusesRegister me mode old new register.OutOfMemory =
+    OthersCame (me ∷ []) old new × (register_refusal new me (next_child new) mode ≡ None)
+RefusesRegister me mode old new refusal =
+    OthersCame (me ∷ []) old new × (register_refusal new me (next_child new) mode ≡ Some refusal)
+
+-- for the code: a seat whose task has left
+pub record LeavesSeat {K : Type 0} (allows : K → Allows) (terms : Terms K) (me : ℕ) (old : History)
+    (v : View) : Type 0 where
+  pub before : History
+  pub others : OthersCame (me ∷ []) old before
+  pub rests : v ≡ resting (Dropped me ∷ before) (me ∷ [])
+  pub good : IsGoodAt allows terms (Dropped me ∷ before)
+
+-- for the code: a wait right after, where one is asked for. Where it got nothing, nothing came
+abbrev pub MayWait : Bool → (List ℤ → Outcome) → Limits → ℕ → History → History → Option Got
+    → Type 0
+MayWait true value limits me old new (Some got) = Waits value limits me old new (Ok got)
+MayWait false value limits me old new (Some got) = ⊥
+MayWait asked value limits me old new None = new ≡ old
+
+-- for the code: an accepted signal, up to the middle, and then such a wait
+pub record HasSignalledAndMayWait {A : Type 0} (asked : Bool) (op : Operation A) (limits : Limits)
+    (me : ℕ) (held : Parcel A) (single : Option Single) (old new : History)
+    (answer : ℕ × Option Got) : Type 0 where
+  pub middle : History
+  pub signals : Signals op limits me held single old middle (Ok answer.0)
+  pub waits : MayWait asked op.value limits me middle new answer.1
+
+-- for the code: the same, or the signal is refused, and then there is no wait
+abbrev pub SignalsAndMayWait : {A : Type 0} → Bool → Operation A → Limits → ℕ → Parcel A
+    → Option Single → History → History → Result (ℕ × Option Got) SignalRefusal → Type 0
+SignalsAndMayWait asked op limits me held single old new (Ok answer) =
+    HasSignalledAndMayWait asked op limits me held single old new answer
+SignalsAndMayWait asked op limits me held single old new (Err refusal) =
+    Signals op limits me held single old new (Err refusal)
 
 -- a try of a registration, of which `answered` says what it answered and what was seen by it. It
 -- stays on its phaser, under its number and in its mode, and has seen a good history; it stands

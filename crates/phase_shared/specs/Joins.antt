@@ -1,13 +1,27 @@
 -- A waiter that joins now: what its registration answers, and how the history that its parent has
 -- seen goes on.
-use Rattle.std.specs.Prelude.{◌≡◌, [], Result, Ok, Err}
-use Rattle.phase_base.specs.declared.mode.Mode.TheVariants.{Wait}
-use Rattle.phase_accum.specs.Operations.{Operation}
-use Rattle.phase_accum.specs.Parcels.{StandsForSends}
-use Rattle.phase_history.specs.declared.refusal.RegisterRefusal.{RegisterRefusal}
+use Rattle.std.specs.Prelude.{◌≡◌, ℕ, ◌+◌, [], ◌∷◌, None, Result, Ok, Err}
+use Rattle.phase_core.specs.phase_base.declared.entry.Entry.{Entry}
+use Rattle.phase_core.specs.phase_base.declared.mode.Mode.TheVariants.{Wait}
+use Rattle.phase_core.specs.phase_history.declared.event.Event.TheVariants.{RegisteredNow}
+use Rattle.phase_core.specs.phase_history.Histories.{History, greatest_used, done_of, entry_at}
+use Rattle.phase_core.specs.phase_history.Refusals.{register_now_refusal}
+use Rattle.phase_core.specs.phase_history.Others.{OthersCame}
+use Rattle.phase_core.specs.phase_accum.Operations.{Operation}
+use Rattle.phase_core.specs.phase_accum.Parcels.{StandsForSends}
+use Rattle.phase_core.specs.phase_history.declared.refusal.RegisterRefusal.{RegisterRefusal}
 use Rattle.phase_shared.specs.Regs.{RegState}
 use Rattle.phase_shared.specs.Calls.{RefusesRegister}
-pub use Rattle.phase_seats.specs.Joins.{HasRegisteredNow}
+
+-- an accepted registration of a waiter that joins now: events of others, and there a child with the
+-- number above all that were used, at the first phase that is not complete; then its event
+pub record HasRegisteredNow (me child : ℕ) (parent start : Entry) (old new : History) : Type 0 where
+  pub before : History
+  pub others : OthersCame (me ∷ []) old before
+  pub seen : new ≡ RegisteredNow me child ∷ before
+  pub reply : register_now_refusal before me child ≡ None
+  pub next : child ≡ greatest_used before + 1
+  pub entry : start ≡ entry_at Wait parent.signal_phase (done_of before)
 
 -- the child of such a registration, whose parent has then seen this: it is on the parent's phaser,
 -- has seen what the parent has, and holds nothing

@@ -1,13 +1,19 @@
-pub use Rattle.phase_seats.specs.Views
-pub use Rattle.phase_seats.specs.Rule
-pub use Rattle.phase_seats.specs.LockedPhasers
+pub mod BlockParts
+pub mod Blocks
 pub mod Calls
-pub mod Regs
 pub mod Entries
+pub mod Joins
+pub mod LockedPhasers
 pub mod Nexts
-pub mod Puts
 pub mod OneSends
 pub mod Parts
-pub mod Blocks
-pub mod Joins
-pub mod BlockParts
+pub mod Puts
+pub mod Regs
+pub mod Rule
+pub mod Steps
+pub mod Views
+pub use Rattle.phase_core.specs.phase_accum as phase_accum
+pub use Rattle.phase_core.specs.phase_base as phase_base
+pub use Rattle.phase_core.specs as phase_core
+pub use Rattle.phase_core.specs.phase_history as phase_history
+pub use Rattle.turn_lock.specs as turn_lock

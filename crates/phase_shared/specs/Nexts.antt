@@ -1,16 +1,16 @@
 -- A task's next phase: its signal where its mode signals, and then its wait where its mode waits.
 use Rattle.std.specs.Prelude.{◌≡◌, Bool, true, false, Option, Some, None, IsSome, Result, Ok, Err}
-use Rattle.phase_base.specs.Limits.{Limits}
-use Rattle.phase_base.specs.Modes.{mode_signals, mode_waits}
-use Rattle.phase_accum.specs.Operations.{Operation}
-use Rattle.phase_accum.specs.declared.single.Single.{Single}
-use Rattle.phase_history.specs.declared.refusal.SignalRefusal.{SignalRefusal}
-use Rattle.phase_history.specs.declared.refusal.SignalRefusal.TheVariants as signal
-use Rattle.phase_history.specs.Histories.{History}
+use Rattle.phase_core.specs.phase_base.Limits.{Limits}
+use Rattle.phase_core.specs.phase_base.Modes.{mode_signals, mode_waits}
+use Rattle.phase_core.specs.phase_accum.Operations.{Operation}
+use Rattle.phase_core.specs.phase_accum.declared.single.Single.{Single}
+use Rattle.phase_core.specs.phase_history.declared.refusal.SignalRefusal.{SignalRefusal}
+use Rattle.phase_core.specs.phase_history.declared.refusal.SignalRefusal.TheVariants as signal
+use Rattle.phase_core.specs.phase_history.Histories.{History}
 use Rattle.phase_shared.specs.declared.next.Next.{Next}
 use Rattle.phase_shared.specs.Regs.{RegState}
 use Rattle.phase_shared.specs.Calls.{Signals, Waits}
-pub use Rattle.phase_seats.specs.Calls.{MayWait, HasSignalledAndMayWait, SignalsAndMayWait}
+pub use Rattle.phase_shared.specs.Calls.{MayWait, HasSignalledAndMayWait, SignalsAndMayWait}
 
 -- a call that is made where it can be, with its answer; else there is none, and nothing came
 abbrev pub MadeWhere : {X : Type 0} → Bool → (X → Type 0) → Type 0 → Option X → Type 0

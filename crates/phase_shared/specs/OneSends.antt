@@ -1,7 +1,7 @@
 -- The rule of the example: every signal has exactly one send.
 use Rattle.std.specs.Prelude.{◌≡◌, ℤ, List, [], ◌∷◌, length}
 use Rattle.phase_shared.specs.declared.one_send.OneSend.{OneSend}
-use Rattle.phase_seats.specs.Rule.{Allows}
+use Rattle.phase_shared.specs.Rule.{Allows}
 
 -- one phase is signalled, with one send
 pub record HasOneSend (lists : List (List ℤ)) : Type 0 where

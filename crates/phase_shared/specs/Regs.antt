@@ -2,17 +2,17 @@
 use Rattle.std.specs.Prelude.{◌≡◌, ℕ, List, [], Option, Some, None, true, is_some}
 use Rattle.turn_lock.specs.declared.seat.Seat.{Seat}
 use Rattle.turn_lock.specs.Seats.{Place, seat_place, seat_view}
-use Rattle.phase_base.specs.Limits.{Limits}
-use Rattle.phase_base.specs.declared.entry.Entry.{Entry}
-use Rattle.phase_accum.specs.Parcels.{Parcel}
-use Rattle.phase_history.specs.Histories.{History}
-use Rattle.phase_base.specs.Lists.{is_distinct}
-use Rattle.phase_seats.specs.declared.view.View.{View}
-use Rattle.phase_seats.specs.declared.view.View.TheVariants.{Spent}
-use Rattle.phase_seats.specs.Views.{resting, known_of}
-use Rattle.phase_seats.specs.declared.rule.Terms.{Terms}
-use Rattle.phase_seats.specs.Rule.{Allows, IsGoodAt, IsSeatOfTask}
-use Rattle.phase_seats.specs.LockedPhasers.{locked_place, locked_terms}
+use Rattle.phase_core.specs.phase_base.Limits.{Limits}
+use Rattle.phase_core.specs.phase_base.declared.entry.Entry.{Entry}
+use Rattle.phase_core.specs.phase_accum.Parcels.{Parcel}
+use Rattle.phase_core.specs.phase_history.Histories.{History}
+use Rattle.phase_core.specs.phase_base.Lists.{is_distinct}
+use Rattle.phase_shared.specs.declared.seats.view.View.{View}
+use Rattle.phase_shared.specs.declared.seats.view.View.TheVariants.{Spent}
+use Rattle.phase_shared.specs.Views.{resting, known_of}
+use Rattle.phase_shared.specs.declared.rule.Terms.{Terms}
+use Rattle.phase_shared.specs.Rule.{Allows, IsGoodAt, IsSeatOfTask}
+use Rattle.phase_shared.specs.LockedPhasers.{locked_place, locked_terms}
 use Rattle.phase_shared.specs.declared.phaser.Phaser.{Phaser}
 
 -- a registration: its phaser, its number, its mode and phases, the sends that it holds, and the
@@ -37,8 +37,8 @@ IsGoodOn {K} allows at seen = (terms : Terms K) → at.1 ≡ Some terms → IsGo
 
 module _ {A K : Type 0} where
   -- which phaser it is
-  abbrev pub phaser_place : Phaser A K → Place (Terms K)
-  phaser_place p = locked_place p.locked
+  abbrev pub phaser_lock : Phaser A K → Place (Terms K)
+  phaser_lock p = locked_place p.locked
 
   -- the limits and the rule that it was made with
   abbrev pub phaser_terms : Phaser A K → Terms K

@@ -1,18 +1,19 @@
 //! The calls of a registration on blocks of phases, and on a waiter that joins now, that wait for
 //! nobody.
 ghost use Rattle.std.specs.Prelude.{◌≡◌, IfErr, length};
-ghost use Rattle.phase_shared.specs.Regs.{phaser_place, phaser_terms, phaser_limits};
+ghost use Rattle.phase_shared.specs.Regs.{phaser_lock, phaser_terms, phaser_limits};
 ghost use Rattle.phase_shared.specs.Calls.{IsTry, Tries};
 ghost use Rattle.phase_shared.specs.Entries.{entry_stays};
-ghost use Rattle.phase_shared.specs.Blocks.{SignalsBlock, WaitsBlock, MaySignalBlock};
-ghost use Rattle.phase_shared.specs.Blocks.{entry_after_block, entry_after_values, without_lists};
+ghost use Rattle.phase_shared.specs.Blocks.{SignalsBlock, WaitsBlock, MaySignalBlock, entry_after_block, entry_after_values, without_lists};
 ghost use Rattle.phase_shared.specs.Joins.{RegistersNow};
 
 use crate::phaser::Phaser;
 use crate::reg::Reg;
-use phase_accum::{Accumulate, Outcome, Pending, Single};
+use crate::rule::SignalRule;
+use crate::seats::{block_steps, join_steps};
+use crate::tried::Tried;
+use phase_core::phase_accum::{Accumulate, Outcome, Pending, Single};
 use phase_core::{GotBlock, RegisterRefusal, SignalRefusal, WaitRefusal};
-use phase_seats::{SignalRule, Tried, block_steps, join_steps};
 
 impl<A: Accumulate, K: SignalRule> Reg<A, K> {
     /// Signals as many phases in a row as there are lists of sends, the first its own, a list each,
@@ -26,7 +27,7 @@ impl<A: Accumulate, K: SignalRule> Reg<A, K> {
         lists: Vec<Pending<A>>,
         single: Option<Single>,
     ) -> Result<u64, (Tried<SignalRefusal>, Vec<Pending<A>>)>
-        requires at { self.old.at ≡ phaser_place phaser.now }
+        requires at { self.old.at ≡ phaser_lock phaser.now }
         requires none_held { self.old.held.count ≡ 0 }
         requires rule { MaySignalBlock A.operation K.allows (phaser_terms phaser.now) self.old
             lists.items single }
@@ -52,7 +53,7 @@ impl<A: Accumulate, K: SignalRule> Reg<A, K> {
         lists: &[Pending<A>],
         single: Option<Single>,
     ) -> Result<u64, Tried<SignalRefusal>>
-        requires at { self.old.at ≡ phaser_place phaser.now }
+        requires at { self.old.at ≡ phaser_lock phaser.now }
         requires none_held { self.old.held.count ≡ 0 }
         requires rule { MaySignalBlock A.operation K.allows (phaser_terms phaser.now) self.old
             lists.now single }
@@ -88,7 +89,7 @@ impl<A: Accumulate, K: SignalRule> Reg<A, K> {
         phaser: &Phaser<A, K>,
         out: &mut [Outcome],
     ) -> Result<GotBlock, Tried<WaitRefusal>>
-        requires at { self.old.at ≡ phaser_place phaser.now }
+        requires at { self.old.at ≡ phaser_lock phaser.now }
 
         ensures call { let old = self.old in
             IsTry K.allows (phaser_terms phaser.now) WaitRefusal.NoTask entry_after_values
@@ -119,7 +120,7 @@ impl<A: Accumulate, K: SignalRule> Reg<A, K> {
         &mut self,
         phaser: &Phaser<A, K>,
     ) -> Result<Reg<A, K>, Tried<RegisterRefusal>>
-        requires at { self.old.at ≡ phaser_place phaser.now }
+        requires at { self.old.at ≡ phaser_lock phaser.now }
 
         ensures call { let old = self.old in
             IsTry K.allows (phaser_terms phaser.now) RegisterRefusal.NoTask entry_stays

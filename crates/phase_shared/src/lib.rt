@@ -28,12 +28,12 @@
 //! **A registration in a thread.** No closure can hold one, as it cannot be thrown away. Lend it to
 //! the thread, or lend an `Option` that the thread takes it from. Each call asks that the
 //! registration is on the phaser that it names, so a function that is passed both has a `requires`
-//! with `phaser_place`, and so has a closure. A whole program, whose founder and its child each
+//! with `phaser_lock`, and so has a closure. A whole program, whose founder and its child each
 //! send a value in a thread of its own, and leave:
 //!
 //! ```text
 //! ghost use Rattle.std.specs.Prelude.{◌≡◌, None, IfSome};
-//! ghost use Rattle.phase_shared.specs.Regs.{phaser_place};
+//! ghost use Rattle.phase_shared.specs.Regs.{phaser_lock};
 //!
 //! use phase_accum::Sum;
 //! use phase_base::{Mode, Spec};
@@ -49,7 +49,7 @@
 //!     slot: &mut Option<Reg<Sum, NoRule>>,
 //!     value: i64,
 //! )
-//!     requires { IfSome slot.old (λ reg. reg.at ≡ phaser_place phaser.now) }
+//!     requires { IfSome slot.old (λ reg. reg.at ≡ phaser_lock phaser.now) }
 //!     ensures { slot.new ≡ None }
 //! {
 //!     let Some(mut reg) = slot.take() else { return };
@@ -65,17 +65,17 @@
 //!     mut one: Option<Reg<Sum, NoRule>>,
 //!     mut other: Option<Reg<Sum, NoRule>>,
 //! )
-//!     requires one { IfSome one (λ reg. reg.at ≡ phaser_place phaser.now) }
-//!     requires other { IfSome other (λ reg. reg.at ≡ phaser_place phaser.now) }
+//!     requires one { IfSome one (λ reg. reg.at ≡ phaser_lock phaser.now) }
+//!     requires other { IfSome other (λ reg. reg.at ≡ phaser_lock phaser.now) }
 //! {
 //!     let _both = join_mut(
 //!         rt,
 //!         &mut ||
-//!             requires { IfSome one (λ reg. reg.at ≡ phaser_place phaser.now) }
+//!             requires { IfSome one (λ reg. reg.at ≡ phaser_lock phaser.now) }
 //!             ensures { one.exit ≡ None }
 //!         { take_part(rt, phaser, &mut one, 4) },
 //!         &mut ||
-//!             requires { IfSome other (λ reg. reg.at ≡ phaser_place phaser.now) }
+//!             requires { IfSome other (λ reg. reg.at ≡ phaser_lock phaser.now) }
 //!             ensures { other.exit ≡ None }
 //!         { take_part(rt, phaser, &mut other, 3) },
 //!     );
@@ -99,8 +99,15 @@
 //!
 //! Proved: what the clauses say, for any number of threads. Only tested: that a call succeeds where
 //! it can, and that a waiting call comes back. Not promised: that a phase is ever complete, that a
-//! `Busy` could not have been avoided, and any order of the events of threads that never told each
-//! other anything.
+//! `Busy` could not have been avoided, when the turn of the lock is free, when a pause ends, and any
+//! order of the events of threads that never told each other anything.
+//!
+//! **Inside** is a phaser under a lock, `LockedPhaser`. A **seat** of the lock speaks for a
+//! registration. Its view, which stands in proofs alone, is the history that it has seen, and the
+//! numbers that it speaks for. The **rule** of the lock is that there is one legal history that the
+//! phaser stands for, of which each seat has seen a beginning that holds all events of its numbers.
+//! A **step** takes the turn, calls the phaser of one thread, and gives the turn back; or it finds
+//! the turn taken, and then nothing changed.
 #![tactic(auto)]
 
 mod blocks;
@@ -112,13 +119,20 @@ mod phaser;
 mod putting;
 mod refusal;
 mod reg;
+mod rule;
+mod seats;
+mod tried;
 mod trying;
 mod waiting;
 mod waiting_blocks;
 
 pub use next::Next;
 pub use past::Past;
-pub use phase_seats::{NoRule, SignalRule, Terms, Tried};
+pub use phase_core;
+pub use phase_core::{phase_accum, phase_base};
 pub use phaser::Phaser;
 pub use refusal::SendRefusal;
 pub use reg::Reg;
+pub use rule::{NoRule, SignalRule, Terms};
+pub use tried::Tried;
+pub use turn_lock;

@@ -1,17 +1,17 @@
 //! A registration's next phase, by one call.
 ghost use Rattle.std.specs.Prelude.{◌≡◌, ◌≢◌, true, Some, Ok, Err, is_ok, ◌&&◌};
-ghost use Rattle.phase_base.specs.Modes.{mode_signals, mode_waits};
-ghost use Rattle.phase_seats.specs.Rule.{IsGoodAt};
-ghost use Rattle.phase_shared.specs.Regs.{phaser_place, phaser_terms, phaser_limits};
+ghost use Rattle.phase_core.specs.phase_base.Modes.{mode_signals, mode_waits};
+ghost use Rattle.phase_shared.specs.Rule.{IsGoodAt};
+ghost use Rattle.phase_shared.specs.Regs.{phaser_lock, phaser_terms, phaser_limits};
 ghost use Rattle.phase_shared.specs.Calls.{IsCall, Waits, MaySignal, HeldAfter};
 ghost use Rattle.phase_shared.specs.Entries.{entry_after_wait, entry_after_next};
 ghost use Rattle.phase_shared.specs.Nexts.{GoesOrRefuses};
 
 use crate::phaser::Phaser;
 use crate::reg::Reg;
-use phase_accum::{Accumulate, Single};
+use crate::rule::SignalRule;
+use phase_core::phase_accum::{Accumulate, Single};
 use phase_core::{Got, SignalRefusal};
-use phase_seats::SignalRule;
 use std::sync::Wait;
 
 /// What a registration did in a phase.
@@ -36,7 +36,7 @@ impl<A: Accumulate, K: SignalRule> Reg<A, K> {
         phaser: &Phaser<A, K>,
         single: Option<Single>,
     ) -> Result<Next, SignalRefusal>
-        requires at { self.old.at ≡ phaser_place phaser.now }
+        requires at { self.old.at ≡ phaser_lock phaser.now }
         requires rule { mode_signals self.old.entry.mode ≡ true
             → MaySignal A.operation K.allows (phaser_terms phaser.now) self.old single }
 
@@ -82,7 +82,7 @@ impl<A: Accumulate, K: SignalRule> Reg<A, K> {
 
     // Waits where nothing but time can be in the way.
     fn wait_in_turn<W: Wait>(&mut self, rt: &W, phaser: &Phaser<A, K>) -> Got
-        requires at { self.old.at ≡ phaser_place phaser.now }
+        requires at { self.old.at ≡ phaser_lock phaser.now }
         requires waits { mode_waits self.old.entry.mode ≡ true }
         requires signalled { mode_signals self.old.entry.mode ≡ true
             → self.old.entry.signal_phase ≢ self.old.entry.wait_phase }

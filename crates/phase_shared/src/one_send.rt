@@ -1,19 +1,20 @@
 //! A rule as an example: every signal has exactly one send.
 ghost use Rattle.std.specs.Prelude.{◌≡◌, ◌≢◌, [], ◌∷◌, true, None, OnOk, OnErr};
-ghost use Rattle.phase_base.specs.Modes.{mode_signals};
-ghost use Rattle.phase_accum.specs.declared.outcome.TheConstants.{NO_VALUE};
-ghost use Rattle.phase_accum.specs.Parcels.{StandsForSends};
+ghost use Rattle.phase_core.specs.phase_base.Modes.{mode_signals};
+ghost use Rattle.phase_core.specs.phase_accum.declared.outcome.TheConstants.{NO_VALUE};
+ghost use Rattle.phase_core.specs.phase_accum.Parcels.{StandsForSends};
 ghost use Rattle.phase_shared.specs.Calls.{IsTry, Tries};
 ghost use Rattle.phase_shared.specs.Entries.{entry_after_signal};
 ghost use Rattle.phase_shared.specs.OneSends.{allows_one_send};
 ghost use Rattle.phase_shared.specs.Puts.{SignalsValue};
-ghost use Rattle.phase_shared.specs.Regs.{phaser_place, phaser_terms, phaser_limits};
+ghost use Rattle.phase_shared.specs.Regs.{phaser_lock, phaser_terms, phaser_limits};
 
 use crate::phaser::Phaser;
 use crate::reg::Reg;
-use phase_accum::Accumulate;
+use crate::rule::SignalRule;
+use crate::tried::Tried;
 use phase_core::SignalRefusal;
-use phase_seats::{SignalRule, Tried};
+use phase_core::phase_accum::Accumulate;
 
 /// The rule that allows the signals of one send.
 #[derive(Clone, Copy, Debug, PartialEq, Eq)]
@@ -29,7 +30,7 @@ pub fn try_signal_value<A: Accumulate>(
     reg: &mut Reg<A, OneSend>,
     value: i64,
 ) -> Result<u64, Tried<SignalRefusal>>
-    requires at { reg.old.at ≡ phaser_place phaser.now }
+    requires at { reg.old.at ≡ phaser_lock phaser.now }
     requires signals { mode_signals reg.old.entry.mode ≡ true }
     requires value { value ≢ NO_VALUE }
     requires none_held { reg.old.held.count ≡ 0 }

@@ -1,13 +1,15 @@
 //! What registrations that left have seen.
 ghost use Rattle.std.specs.Prelude.{◌≡◌, ◌++◌, true};
-ghost use Rattle.phase_history.specs.Others.{OthersCame};
-ghost use Rattle.phase_base.specs.Lists.{is_distinct};
-ghost use Rattle.phase_seats.specs.Rule.{IsGoodAt};
-ghost use Rattle.phase_shared.specs.Regs.{phaser_place, phaser_terms, IsGoodOn};
+ghost use Rattle.phase_core.specs.phase_history.Others.{OthersCame};
+ghost use Rattle.phase_core.specs.phase_base.Lists.{is_distinct};
+ghost use Rattle.phase_shared.specs.Rule.{IsGoodAt};
+ghost use Rattle.phase_shared.specs.Regs.{phaser_lock, phaser_terms, IsGoodOn};
 
 use crate::phaser::Phaser;
-use phase_accum::Accumulate;
-use phase_seats::{PhaserSeat, SignalRule, steps};
+use crate::rule::SignalRule;
+use crate::seats::steps;
+use crate::seats::view::PhaserSeat;
+use phase_core::phase_accum::Accumulate;
 use std::marker::Model;
 
 /// What registrations that left have seen: one history, and the numbers of those whose calls it
@@ -43,7 +45,7 @@ impl<A: Accumulate, K: SignalRule> Past<A, K> {
     /// Makes one past of two. Its history begins with what each had seen, and has no later event of
     /// a registration that went into it. It waits for nobody and takes no memory.
     pub fn join(self, phaser: &Phaser<A, K>, other: Past<A, K>) -> Past<A, K>
-        requires at { (self.at ≡ phaser_place phaser.now) × (other.at ≡ phaser_place phaser.now) }
+        requires at { (self.at ≡ phaser_lock phaser.now) × (other.at ≡ phaser_lock phaser.now) }
 
         ensures first { OthersCame self.numbers self.seen result.seen }
         ensures second { OthersCame other.numbers other.seen result.seen }

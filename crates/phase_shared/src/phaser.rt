@@ -1,16 +1,17 @@
 //! A phaser that many threads use.
 ghost use Rattle.std.specs.Prelude.{◌≡◌, [], ◌∷◌, IfOk};
-ghost use Rattle.phase_accum.specs.Parcels.{StandsForSends};
-ghost use Rattle.phase_history.specs.declared.event.Event.TheVariants.{Made};
-ghost use Rattle.phase_history.specs.Histories.{founder};
-ghost use Rattle.phase_history.specs.Others.{OnlyUsed};
-ghost use Rattle.phase_seats.specs.Rule.{IsGoodAt};
-ghost use Rattle.phase_shared.specs.Regs.{phaser_place, phaser_terms, phaser_limits};
+ghost use Rattle.phase_core.specs.phase_accum.Parcels.{StandsForSends};
+ghost use Rattle.phase_core.specs.phase_history.declared.event.Event.TheVariants.{Made};
+ghost use Rattle.phase_core.specs.phase_history.Histories.{founder};
+ghost use Rattle.phase_core.specs.phase_history.Others.{OnlyUsed};
+ghost use Rattle.phase_shared.specs.Rule.{IsGoodAt};
+ghost use Rattle.phase_shared.specs.Regs.{phaser_lock, phaser_terms, phaser_limits};
 
 use crate::reg::Reg;
-use phase_accum::{Accumulate, Pending};
-use phase_base::{Entry, Mode, Spec};
-use phase_seats::{LockedPhaser, SignalRule, Terms};
+use crate::rule::{SignalRule, Terms};
+use crate::seats::locked::LockedPhaser;
+use phase_core::phase_accum::{Accumulate, Pending};
+use phase_core::phase_base::{Entry, Mode, Spec};
 use std::alloc::{AllocError, Global};
 
 /// A phaser between threads, which use it by shared reference. Each has registrations of its own.
@@ -41,7 +42,7 @@ impl<A: Accumulate, K: SignalRule> Phaser<A, K> {
     ) -> Result<(Phaser<A, K>, Reg<A, K>), AllocError>
         ensures limits { IfOk result (λ made. phaser_limits made.0 ≡ limits) }
         ensures rule { IfOk result (λ made. (phaser_terms made.0).rule ≡ rule) }
-        ensures at { IfOk result (λ made. made.1.at ≡ phaser_place made.0) }
+        ensures at { IfOk result (λ made. made.1.at ≡ phaser_lock made.0) }
         ensures founder { IfOk result (λ made.
             (made.1.number ≡ 0) × (made.1.seen ≡ Made 0 ∷ []) × (made.1.entry ≡ founder)) }
         ensures none_held { IfOk result (λ made.

@@ -1,9 +1,9 @@
 //! A signal of a registration with one value, by one call.
 ghost use Rattle.std.specs.Prelude.{◌≡◌, ◌≢◌, [], ◌∷◌, true, false, OnOk, OnErr};
-ghost use Rattle.phase_base.specs.Modes.{mode_signals};
-ghost use Rattle.phase_accum.specs.declared.outcome.TheConstants.{NO_VALUE};
-ghost use Rattle.phase_accum.specs.Parcels.{StandsForSends};
-ghost use Rattle.phase_shared.specs.Regs.{phaser_place, phaser_terms, phaser_limits};
+ghost use Rattle.phase_core.specs.phase_base.Modes.{mode_signals};
+ghost use Rattle.phase_core.specs.phase_accum.declared.outcome.TheConstants.{NO_VALUE};
+ghost use Rattle.phase_core.specs.phase_accum.Parcels.{StandsForSends};
+ghost use Rattle.phase_shared.specs.Regs.{phaser_lock, phaser_terms, phaser_limits};
 ghost use Rattle.phase_shared.specs.Calls.{IsTry, Tries};
 ghost use Rattle.phase_shared.specs.Entries.{entry_after_signal};
 ghost use Rattle.phase_shared.specs.Puts.{SignalsValue, IsFreeFor, MayPut};
@@ -11,9 +11,10 @@ ghost use Rattle.phase_shared.specs.Puts.{SignalsValue, IsFreeFor, MayPut};
 use crate::phaser::Phaser;
 use crate::refusal::SendRefusal;
 use crate::reg::Reg;
-use phase_accum::{Accumulate, Single};
+use crate::rule::SignalRule;
+use crate::tried::Tried;
 use phase_core::SignalRefusal;
-use phase_seats::{SignalRule, Tried};
+use phase_core::phase_accum::{Accumulate, Single};
 
 impl<A: Accumulate, K: SignalRule> Reg<A, K> {
     /// Signals its phase with this value as its one send, and a single or none, and answers that
@@ -27,7 +28,7 @@ impl<A: Accumulate, K: SignalRule> Reg<A, K> {
         value: i64,
         single: Option<Single>,
     ) -> Result<u64, Tried<SignalRefusal>>
-        requires at { self.old.at ≡ phaser_place phaser.now }
+        requires at { self.old.at ≡ phaser_lock phaser.now }
         requires value { value ≢ NO_VALUE }
         requires free { IsFreeFor A.operation self.old.held value }
         requires rule { MayPut K.allows (phaser_terms phaser.now) self.old value single }

@@ -1,11 +1,11 @@
 //! Why a call of a registration was refused.
 ghost use Rattle.std.specs.Prelude.{◌≡◌, ◌≢◌, ◌⊎◌, IfSome, IfNone};
 
+use crate::tried::Tried;
 use crossbeam_utils::Backoff;
-use phase_accum::NO_VALUE;
-use phase_base::SENDS_MAX;
+use phase_core::phase_accum::NO_VALUE;
+use phase_core::phase_base::SENDS_MAX;
 use phase_core::{SignalRefusal, WaitRefusal};
-use phase_seats::Tried;
 use thiserror::Error;
 
 /// Why a send was refused. The variants stand in the order in which they are checked.

@@ -1,17 +1,18 @@
 //! A registration, and what it reads and holds without a turn.
 ghost use Rattle.std.specs.Prelude.{◌≡◌, ◌≢◌, ◌↔◌, ◌+◌, ℤ, List, [], ◌∷◌, ◌++◌, Some, Err, OnOk, OnErr, true, false};
-ghost use Rattle.phase_base.specs.declared.limits.TheConstants.{SENDS_MAX};
-ghost use Rattle.phase_base.specs.Members.{entry_of};
-ghost use Rattle.phase_base.specs.Modes.{mode_signals};
-ghost use Rattle.phase_accum.specs.declared.outcome.TheConstants.{NO_VALUE};
-ghost use Rattle.phase_accum.specs.Parcels.{StandsForSends};
-ghost use Rattle.phase_history.specs.Histories.{members_of};
+ghost use Rattle.phase_core.specs.phase_base.declared.limits.TheConstants.{SENDS_MAX};
+ghost use Rattle.phase_core.specs.phase_base.Members.{entry_of};
+ghost use Rattle.phase_core.specs.phase_base.Modes.{mode_signals};
+ghost use Rattle.phase_core.specs.phase_accum.declared.outcome.TheConstants.{NO_VALUE};
+ghost use Rattle.phase_core.specs.phase_accum.Parcels.{StandsForSends};
+ghost use Rattle.phase_core.specs.phase_history.Histories.{members_of};
 ghost use Rattle.phase_shared.specs.Regs.{IsGoodOn};
 
 use crate::refusal::SendRefusal;
-use phase_accum::{Accumulate, Pending, SendFault};
-use phase_base::{Entry, Mode};
-use phase_seats::{PhaserSeat, SignalRule};
+use crate::rule::SignalRule;
+use crate::seats::view::PhaserSeat;
+use phase_core::phase_accum::{Accumulate, Pending, SendFault};
+use phase_core::phase_base::{Entry, Mode};
 use std::marker::Model;
 
 /// One registration on a phaser, which any one thread has at a time.
@@ -77,7 +78,7 @@ impl<A: Accumulate, K: SignalRule> Reg<A, K> {
         }
     }
 
-    /// Tells how many sends it holds.
+    /// Returns how many sends it holds.
     pub fn pending(&self) -> u64
         ensures value { result ≡ self.now.held.count }
         // There are sends that it holds, so many.
@@ -98,14 +99,14 @@ impl<A: Accumulate, K: SignalRule> Reg<A, K> {
         let _number = self.number;
     }
 
-    /// Tells its number, which nobody else has on its phaser.
+    /// Returns its number, which nobody else has on its phaser.
     pub fn number(&self) -> u64
         ensures { result ≡ self.now.number }
     {
         self.number
     }
 
-    /// Tells its mode.
+    /// Returns its mode.
     pub fn mode(&self) -> Mode
         ensures value { result ≡ self.now.entry.mode }
         // It is registered in the history that it has seen, in this mode and at these phases.
@@ -115,7 +116,7 @@ impl<A: Accumulate, K: SignalRule> Reg<A, K> {
         self.entry.mode
     }
 
-    /// Tells its signal phase and its wait phase.
+    /// Returns its signal phase and its wait phase.
     pub fn phase(&self) -> (u64, u64)
         ensures value { result ≡ (self.now.entry.signal_phase, self.now.entry.wait_phase) }
         ensures entry { entry_of (members_of self.now.seen) self.now.number

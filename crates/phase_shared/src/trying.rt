@@ -1,23 +1,23 @@
 //! The calls of a registration that wait for nobody.
 ghost use Rattle.std.specs.Prelude.{◌≡◌, ◌≢◌, [], ◌∷◌, Err, IfOk, IfErr, IsOk, OnOk, OnErr};
 ghost use Rattle.std.specs.Result.{result_ok};
-ghost use Rattle.phase_accum.specs.Parcels.{StandsForSends};
-ghost use Rattle.phase_history.specs.Others.{OnlyUsed, OthersCame};
-ghost use Rattle.phase_seats.specs.Rule.{IsGoodAt};
-ghost use Rattle.phase_shared.specs.Regs.{phaser_place, phaser_terms, phaser_limits};
-ghost use Rattle.phase_shared.specs.Calls.{IsTry, Tries, Signals, Waits, Registers};
-ghost use Rattle.phase_shared.specs.Calls.{MaySignal, Leaves};
-ghost use Rattle.phase_shared.specs.Entries.{entry_stays, entry_after_signal};
-ghost use Rattle.phase_shared.specs.Entries.{entry_after_wait, entry_after_both};
+ghost use Rattle.phase_core.specs.phase_accum.Parcels.{StandsForSends};
+ghost use Rattle.phase_core.specs.phase_history.Others.{OnlyUsed, OthersCame};
+ghost use Rattle.phase_shared.specs.Rule.{IsGoodAt};
+ghost use Rattle.phase_shared.specs.Regs.{phaser_lock, phaser_terms, phaser_limits};
+ghost use Rattle.phase_shared.specs.Calls.{IsTry, Tries, Signals, Waits, Registers, MaySignal, Leaves};
+ghost use Rattle.phase_shared.specs.Entries.{entry_stays, entry_after_signal, entry_after_wait, entry_after_both};
 ghost use Rattle.phase_shared.specs.Nexts.{SignalsAndMayWait};
 
 use crate::past::Past;
 use crate::phaser::Phaser;
 use crate::reg::Reg;
-use phase_accum::{Accumulate, Pending, Single};
-use phase_base::Mode;
+use crate::rule::SignalRule;
+use crate::seats::steps;
+use crate::tried::Tried;
+use phase_core::phase_accum::{Accumulate, Pending, Single};
+use phase_core::phase_base::Mode;
 use phase_core::{Got, RegisterRefusal, SignalRefusal, WaitRefusal};
-use phase_seats::{SignalRule, Tried, steps};
 
 impl<A: Accumulate, K: SignalRule> Reg<A, K> {
     /// Signals its phase, with the sends that it holds and a single or none, and answers that
@@ -27,7 +27,7 @@ impl<A: Accumulate, K: SignalRule> Reg<A, K> {
         phaser: &Phaser<A, K>,
         single: Option<Single>,
     ) -> Result<u64, Tried<SignalRefusal>>
-        requires at { self.old.at ≡ phaser_place phaser.now }
+        requires at { self.old.at ≡ phaser_lock phaser.now }
         requires rule { MaySignal A.operation K.allows (phaser_terms phaser.now) self.old single }
 
         ensures call { let old = self.old in
@@ -52,7 +52,7 @@ impl<A: Accumulate, K: SignalRule> Reg<A, K> {
         single: Option<Single>,
         waits: bool,
     ) -> Result<(u64, Option<Got>), Tried<SignalRefusal>>
-        requires at { self.old.at ≡ phaser_place phaser.now }
+        requires at { self.old.at ≡ phaser_lock phaser.now }
         requires rule { MaySignal A.operation K.allows (phaser_terms phaser.now) self.old single }
 
         ensures call { let old = self.old in
@@ -89,7 +89,7 @@ impl<A: Accumulate, K: SignalRule> Reg<A, K> {
     /// Waits for its phase, and answers it with its value, or that no more will come. It takes no
     /// memory.
     pub fn try_wait(&mut self, phaser: &Phaser<A, K>) -> Result<Got, Tried<WaitRefusal>>
-        requires at { self.old.at ≡ phaser_place phaser.now }
+        requires at { self.old.at ≡ phaser_lock phaser.now }
 
         ensures call { let old = self.old in
             IsTry K.allows (phaser_terms phaser.now) WaitRefusal.NoTask entry_after_wait
@@ -115,7 +115,7 @@ impl<A: Accumulate, K: SignalRule> Reg<A, K> {
         phaser: &Phaser<A, K>,
         mode: Mode,
     ) -> Result<Reg<A, K>, Tried<RegisterRefusal>>
-        requires at { self.old.at ≡ phaser_place phaser.now }
+        requires at { self.old.at ≡ phaser_lock phaser.now }
 
         ensures call { let old = self.old in
             IsTry K.allows (phaser_terms phaser.now) RegisterRefusal.NoTask entry_stays
@@ -143,7 +143,7 @@ impl<A: Accumulate, K: SignalRule> Reg<A, K> {
     /// Ends the registration: the sends that it holds are in no phase. Where another is in the
     /// middle of a call it comes back as it was. It takes no memory.
     pub fn try_leave(self, phaser: &Phaser<A, K>) -> Result<Past<A, K>, Reg<A, K>>
-        requires at { self.at ≡ phaser_place phaser.now }
+        requires at { self.at ≡ phaser_lock phaser.now }
 
         ensures ok { IfOk result (λ past. Leaves self.number self.seen past.seen) }
         ensures numbers { IfOk result (λ past. past.numbers ≡ self.number ∷ []) }
@@ -176,7 +176,7 @@ impl<A: Accumulate, K: SignalRule> Reg<A, K> {
     /// The same two registrations, which now have seen one history: it begins with what each had
     /// seen. It waits for nobody and takes no memory.
     pub fn meet(self, phaser: &Phaser<A, K>, other: Reg<A, K>) -> (Reg<A, K>, Reg<A, K>)
-        requires at { (self.at ≡ phaser_place phaser.now) × (other.at ≡ phaser_place phaser.now) }
+        requires at { (self.at ≡ phaser_lock phaser.now) × (other.at ≡ phaser_lock phaser.now) }
 
         ensures one { result.0.seen ≡ result.1.seen }
         ensures apart { result.0.number ≢ result.1.number }

@@ -1,24 +1,23 @@
 //! The calls of a registration that may wait.
 ghost use Rattle.std.specs.Prelude.{◌≡◌, ◌≢◌, [], ◌∷◌, Err, OnOk, OnErr};
 ghost use Rattle.std.specs.Result.{result_ok};
-ghost use Rattle.phase_accum.specs.Parcels.{StandsForSends};
-ghost use Rattle.phase_seats.specs.Rule.{IsGoodAt};
-ghost use Rattle.phase_shared.specs.Regs.{phaser_place, phaser_terms, phaser_limits};
-ghost use Rattle.phase_shared.specs.Calls.{IsCall, Signals, Waits, Registers};
-ghost use Rattle.phase_shared.specs.Calls.{MaySignal, Leaves};
-ghost use Rattle.phase_shared.specs.Entries.{entry_stays, entry_after_signal};
-ghost use Rattle.phase_shared.specs.Entries.{entry_after_wait, entry_after_both};
+ghost use Rattle.phase_core.specs.phase_accum.Parcels.{StandsForSends};
+ghost use Rattle.phase_shared.specs.Rule.{IsGoodAt};
+ghost use Rattle.phase_shared.specs.Regs.{phaser_lock, phaser_terms, phaser_limits};
+ghost use Rattle.phase_shared.specs.Calls.{IsCall, Signals, Waits, Registers, MaySignal, Leaves};
+ghost use Rattle.phase_shared.specs.Entries.{entry_stays, entry_after_signal, entry_after_wait, entry_after_both};
 ghost use Rattle.phase_shared.specs.Nexts.{SignalsAndMayWait};
 
 use crate::past::Past;
 use crate::phaser::Phaser;
 use crate::refusal;
 use crate::reg::Reg;
+use crate::rule::SignalRule;
+use crate::tried::Tried;
 use crossbeam_utils::Backoff;
-use phase_accum::{Accumulate, Single};
-use phase_base::Mode;
+use phase_core::phase_accum::{Accumulate, Single};
+use phase_core::phase_base::Mode;
 use phase_core::{Got, RegisterRefusal, SignalRefusal, WaitRefusal};
-use phase_seats::{SignalRule, Tried};
 use std::sync::Wait;
 
 impl<A: Accumulate, K: SignalRule> Reg<A, K> {
@@ -31,7 +30,7 @@ impl<A: Accumulate, K: SignalRule> Reg<A, K> {
         phaser: &Phaser<A, K>,
         single: Option<Single>,
     ) -> Result<u64, SignalRefusal>
-        requires at { self.old.at ≡ phaser_place phaser.now }
+        requires at { self.old.at ≡ phaser_lock phaser.now }
         requires rule { MaySignal A.operation K.allows (phaser_terms phaser.now) self.old single }
 
         ensures call { let old = self.old in
@@ -58,7 +57,7 @@ impl<A: Accumulate, K: SignalRule> Reg<A, K> {
         single: Option<Single>,
         waits: bool,
     ) -> Result<(u64, Option<Got>), SignalRefusal>
-        requires at { self.old.at ≡ phaser_place phaser.now }
+        requires at { self.old.at ≡ phaser_lock phaser.now }
         requires rule { MaySignal A.operation K.allows (phaser_terms phaser.now) self.old single }
 
         ensures call { let old = self.old in
@@ -104,7 +103,7 @@ impl<A: Accumulate, K: SignalRule> Reg<A, K> {
     /// Waits for its phase, and answers it with its value, or that no more will come. It waits
     /// until the phase is complete, or no signaller is registered. It takes no memory.
     pub fn wait<W: Wait>(&mut self, rt: &W, phaser: &Phaser<A, K>) -> Result<Got, WaitRefusal>
-        requires at { self.old.at ≡ phaser_place phaser.now }
+        requires at { self.old.at ≡ phaser_lock phaser.now }
 
         ensures call { let old = self.old in
             IsCall K.allows (phaser_terms phaser.now) WaitRefusal.NoTask entry_after_wait
@@ -148,7 +147,7 @@ impl<A: Accumulate, K: SignalRule> Reg<A, K> {
         phaser: &Phaser<A, K>,
         mode: Mode,
     ) -> Result<Reg<A, K>, RegisterRefusal>
-        requires at { self.old.at ≡ phaser_place phaser.now }
+        requires at { self.old.at ≡ phaser_lock phaser.now }
 
         ensures call { let old = self.old in
             IsCall K.allows (phaser_terms phaser.now) RegisterRefusal.NoTask entry_stays
@@ -172,7 +171,7 @@ impl<A: Accumulate, K: SignalRule> Reg<A, K> {
     /// Ends the registration: the sends that it holds are in no phase. It waits for its turn, and
     /// takes no memory.
     pub fn leave<W: Wait>(self, rt: &W, phaser: &Phaser<A, K>) -> Past<A, K>
-        requires at { self.at ≡ phaser_place phaser.now }
+        requires at { self.at ≡ phaser_lock phaser.now }
 
         ensures call { Leaves self.number self.seen result.seen }
         ensures numbers { result.numbers ≡ self.number ∷ [] }

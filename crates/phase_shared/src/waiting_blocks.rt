@@ -1,19 +1,19 @@
 //! The calls of a registration on blocks of phases, and on a waiter that joins now, that may wait.
 ghost use Rattle.std.specs.Prelude.{◌≡◌, ◌≢◌, Err, IfErr, length};
-ghost use Rattle.phase_shared.specs.Regs.{phaser_place, phaser_terms, phaser_limits};
+ghost use Rattle.phase_shared.specs.Regs.{phaser_lock, phaser_terms, phaser_limits};
 ghost use Rattle.phase_shared.specs.Calls.{IsCall};
 ghost use Rattle.phase_shared.specs.Entries.{entry_stays};
-ghost use Rattle.phase_shared.specs.Blocks.{SignalsBlock, WaitsBlock, MaySignalBlock};
-ghost use Rattle.phase_shared.specs.Blocks.{entry_after_block, entry_after_values, without_lists};
+ghost use Rattle.phase_shared.specs.Blocks.{SignalsBlock, WaitsBlock, MaySignalBlock, entry_after_block, entry_after_values, without_lists};
 ghost use Rattle.phase_shared.specs.Joins.{RegistersNow};
 
 use crate::phaser::Phaser;
 use crate::refusal;
 use crate::reg::Reg;
+use crate::rule::SignalRule;
+use crate::tried::Tried;
 use crossbeam_utils::Backoff;
-use phase_accum::{Accumulate, Outcome, Pending, Single};
+use phase_core::phase_accum::{Accumulate, Outcome, Pending, Single};
 use phase_core::{GotBlock, RegisterRefusal, SignalRefusal, WaitRefusal};
-use phase_seats::{SignalRule, Tried};
 use std::sync::Wait;
 
 impl<A: Accumulate, K: SignalRule> Reg<A, K> {
@@ -30,7 +30,7 @@ impl<A: Accumulate, K: SignalRule> Reg<A, K> {
         lists: Vec<Pending<A>>,
         single: Option<Single>,
     ) -> Result<u64, (SignalRefusal, Vec<Pending<A>>)>
-        requires at { self.old.at ≡ phaser_place phaser.now }
+        requires at { self.old.at ≡ phaser_lock phaser.now }
         requires none_held { self.old.held.count ≡ 0 }
         requires rule { MaySignalBlock A.operation K.allows (phaser_terms phaser.now) self.old
             lists.items single }
@@ -58,7 +58,7 @@ impl<A: Accumulate, K: SignalRule> Reg<A, K> {
         lists: &[Pending<A>],
         single: Option<Single>,
     ) -> Result<u64, SignalRefusal>
-        requires at { self.old.at ≡ phaser_place phaser.now }
+        requires at { self.old.at ≡ phaser_lock phaser.now }
         requires none_held { self.old.held.count ≡ 0 }
         requires rule { MaySignalBlock A.operation K.allows (phaser_terms phaser.now) self.old
             lists.now single }
@@ -97,7 +97,7 @@ impl<A: Accumulate, K: SignalRule> Reg<A, K> {
         phaser: &Phaser<A, K>,
         out: &mut [Outcome],
     ) -> Result<GotBlock, WaitRefusal>
-        requires at { self.old.at ≡ phaser_place phaser.now }
+        requires at { self.old.at ≡ phaser_lock phaser.now }
 
         ensures call { let old = self.old in
             IsCall K.allows (phaser_terms phaser.now) WaitRefusal.NoTask entry_after_values
@@ -129,7 +129,7 @@ impl<A: Accumulate, K: SignalRule> Reg<A, K> {
         rt: &W,
         phaser: &Phaser<A, K>,
     ) -> Result<Reg<A, K>, RegisterRefusal>
-        requires at { self.old.at ≡ phaser_place phaser.now }
+        requires at { self.old.at ≡ phaser_lock phaser.now }
 
         ensures call { let old = self.old in
             IsCall K.allows (phaser_terms phaser.now) RegisterRefusal.NoTask entry_stays

@@ -1,6 +1,6 @@
 //! Blocks of phases in scripts: lines that signal or wait for several phases.
 use crate::scripts::{Script, follow_all};
-use phase_script::{Command, Values, read};
+use phase_replay::{Command, Values, read};
 use std::process::Abort;
 use std::test::Fail;
 

@@ -1,6 +1,6 @@
 //! A phase and a phaser that are full.
 use crate::scripts::{Rows, Script, answers, follow};
-use phase_session::Session;
+use phase_replay::Session;
 use std::alloc::Global;
 use std::process::Abort;
 use std::test::Fail;

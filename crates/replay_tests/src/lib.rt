@@ -1,5 +1,5 @@
-//! Tests of scripts and their replays, by public calls: of `phase_script`, `phase_session` and
-//! `phase_replay`. They stand in a crate of their own, since a crate is proved anew with its tests.
+//! Tests of scripts and their replays, by public calls: of `phase_script` and `phase_replay`. They
+//! stand in a crate of their own, since a crate is proved anew with its tests.
 #![tactic(auto)]
 
 #[cfg(test)]

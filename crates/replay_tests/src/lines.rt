@@ -1,7 +1,7 @@
 //! The grammar and the reply lines at chosen texts, which no clause names.
-use phase_accum::{Range, Single};
-use phase_base::Mode;
-use phase_script::{Command, Op, Outcomes, Refusal, Reply, ReplyLine, Values, read};
+use phase_replay::phase_accum::{Range, Single};
+use phase_replay::phase_base::Mode;
+use phase_replay::{Command, Op, Outcomes, Refusal, Reply, ReplyLine, Values, read};
 use std::test::Fail;
 
 /// Lines that are no command.

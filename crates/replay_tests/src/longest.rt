@@ -1,8 +1,9 @@
 //! The longest line that is read, and the longest reply.
 use crate::blocks::reads_block;
 use crate::replies::written_whole;
-use phase_accum::Outcome;
-use phase_script::{LINE_MAX, Outcomes, REPLY_MAX, Reply, ReplyLine, VALUES_MAX};
+use phase_replay::phase_accum::Outcome;
+use phase_replay::phase_script::{LINE_MAX, REPLY_MAX, VALUES_MAX};
+use phase_replay::{Outcomes, Reply, ReplyLine};
 use std::alloc::Global;
 use std::test::Fail;
 

@@ -1,6 +1,5 @@
 //! Scripts, and sessions that are handed them line by line.
-use phase_script::ReplyLine;
-use phase_session::Session;
+use phase_replay::{ReplyLine, Session};
 use std::alloc::Global;
 use std::process::Abort;
 use std::test::Fail;

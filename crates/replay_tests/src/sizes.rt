@@ -2,7 +2,7 @@
 ghost use Rattle.std.specs.Prelude.{◌≤◌, IfOk};
 
 use crate::scripts::{Rows, answers, follow};
-use phase_session::Session;
+use phase_replay::Session;
 use std::alloc::{AllocError, Global};
 use std::process::Abort;
 use std::test::Fail;

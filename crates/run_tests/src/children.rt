@@ -1,7 +1,7 @@
 //! Runs of graphs with children on worker threads. What is expected was worked out by hand.
 use crate::runs::{Case, last_run};
 use std::test::Fail;
-use stream_lists::JobRefusal;
+use stream_job::JobRefusal;
 
 // How often a graph is run by each number of workers.
 const RUNS: u32 = 10;
@@ -113,7 +113,7 @@ fn runs_with_children_end_with_their_values(rt: HostRuntime) -> Result<(), Fail>
 fn a_source_that_hands_over_early_is_refused(rt: HostRuntime) -> Result<(), Fail> {
     let early = "phaser X any 2\nsource A a.csv -> X\n\
         source B b.csv -> X by A at 2\nsink out X\n";
-    let refused = test_jobs::job_of(rt.alloc(), early, &["1\n2\n3\n", "4\n5\n"])?;
+    let refused = stream_job::job_of(rt.alloc(), early, &["1\n2\n3\n", "4\n5\n"])?;
     assert!(rt; matches!(refused, Err(JobRefusal::AnyMeets { line: 3 })));
     Ok(())
 }

@@ -1,11 +1,10 @@
 //! Jobs of graphs that are given as text, and what their runs end with, as text.
-use graph_base::{Graph, Place};
 use std::alloc::{AllocError, Global};
 use std::sync::Wait;
 use std::test::Fail;
 use std::thread::Threads;
-use stream_eval::Lines;
-use stream_lists::Job;
+use stream_job::graph_base::{Graph, Place};
+use stream_job::{Job, Lines};
 use stream_workers::{Gate, RunFault, run};
 
 /// The numbers of workers of each test.
@@ -13,7 +12,7 @@ pub const WORKERS: [usize; 3] = [1, 2, 16];
 
 /// The job of a graph, on samples of these texts, one for each source.
 pub fn job_of(alloc: Global, graph: &str, samples: &[&str]) -> Result<Job, Fail> {
-    let job = test_jobs::job_of(alloc, graph, samples)?;
+    let job = stream_job::job_of(alloc, graph, samples)?;
     Ok(job?)
 }
 

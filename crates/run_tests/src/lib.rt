@@ -1,17 +1,26 @@
-//! Tests of runs on worker threads, by their public calls: of `worker_pool` and `stream_workers`. They
-//! stand in a crate of their own, since a crate is proved anew with its tests.
+//! Tests of runs on worker threads, by their public calls: of `worker_pool` and `stream_workers`; and
+//! of members of a phaser between threads, of `stream_members`. They stand in a crate of their own,
+//! since a crate is proved anew with its tests.
 #![tactic(auto)]
 
+#[cfg(test)]
+mod blocks;
 #[cfg(test)]
 mod children;
 #[cfg(test)]
 mod gates;
 #[cfg(test)]
+mod held;
+#[cfg(test)]
 mod jobs;
+#[cfg(test)]
+mod meeting;
 #[cfg(test)]
 mod pools;
 #[cfg(test)]
 mod random_graphs;
+#[cfg(test)]
+mod refused;
 #[cfg(test)]
 mod runs;
 #[cfg(test)]

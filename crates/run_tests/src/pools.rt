@@ -5,7 +5,7 @@ use std::alloc::Global;
 use std::sync::Wait;
 use std::test::Fail;
 use std::thread::Threads;
-use worker_pool::{Fault, Pool};
+use stream_workers::worker_pool::{Fault, Pool};
 
 /// Tasks that meet at a first place of this number and bound, by each number of workers: how their
 /// run ends, and how many were taken at that place.

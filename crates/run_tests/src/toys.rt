@@ -2,7 +2,7 @@
 use std::sync::atomic::AtomicU64;
 use std::sync::atomic::Ordering::SeqCst;
 use std::thread;
-use worker_pool::{Fault, Turned, Work};
+use stream_workers::worker_pool::{Fault, Progress, Work};
 
 // How often a task that is held looks whether it may go on.
 const LOOKS: u32 = 100_000;
@@ -43,23 +43,23 @@ impl Place {
     }
 
     // Puts one, where there is room.
-    fn put(&self) -> Turned {
+    fn put(&self) -> Progress {
         self.turns.fetch_add(1, SeqCst);
         if self.is_full() {
-            return Turned::Blocked(self.number);
+            return Progress::Blocked(self.number);
         }
         self.put.fetch_add(1, SeqCst);
-        Turned::Moved(self.number)
+        Progress::Moved(self.number)
     }
 
     // Takes one, where there is one.
-    fn take(&self) -> Turned {
+    fn take(&self) -> Progress {
         self.turns.fetch_add(1, SeqCst);
         if self.put.load(SeqCst) <= self.taken() {
-            return Turned::Blocked(self.number);
+            return Progress::Blocked(self.number);
         }
         self.taken.fetch_add(1, SeqCst);
-        Turned::Moved(self.number)
+        Progress::Moved(self.number)
     }
 
     /// Waits until so many were put. Tells whether it saw them.
@@ -141,8 +141,8 @@ pub enum Toy<'a> {
 
 impl<'a> Toy<'a> {
     // One less to do; done where none is left.
-    fn moved(&mut self, turned: Turned) -> Turned {
-        if let Turned::Moved(_) = turned {
+    fn moved(&mut self, turned: Progress) -> Progress {
+        if let Progress::Moved(_) = turned {
             match self {
                 Toy::Source { left, .. } | Toy::Sink { left, .. } => {
                     *left = left.saturating_sub(1);
@@ -154,7 +154,7 @@ impl<'a> Toy<'a> {
     }
 
     // Takes one, and is then held until so many were put.
-    fn held(&mut self, at: &'a Place, until: u64) -> Turned {
+    fn held(&mut self, at: &'a Place, until: u64) -> Progress {
         if at.taken() == 0 {
             return at.take();
         }
@@ -163,7 +163,7 @@ impl<'a> Toy<'a> {
     }
 
     // Puts one, and is then held until so many were put.
-    fn meets(&mut self, at: &'a Place, has_put: bool, until: u64) -> Turned {
+    fn meets(&mut self, at: &'a Place, has_put: bool, until: u64) -> Progress {
         if has_put {
             *self = Toy::Done;
             return seen_by(at, until);
@@ -177,10 +177,10 @@ impl<'a> Toy<'a> {
     }
 
     // Waits at one place once it has seen what was put at the other.
-    fn late(&mut self, at: &'a Place, go: &'a Place, has_looked: bool) -> Turned {
+    fn late(&mut self, at: &'a Place, go: &'a Place, has_looked: bool) -> Progress {
         if has_looked {
             *self = Toy::Done;
-            return Turned::Gone;
+            return Progress::Gone;
         }
         *self = Toy::Late {
             at,
@@ -188,13 +188,13 @@ impl<'a> Toy<'a> {
             has_looked: true,
         };
         match seen_by(go, 1) {
-            Turned::Ready => Turned::Blocked(at.number),
+            Progress::Ready => Progress::Blocked(at.number),
             turned => turned,
         }
     }
 
     // Puts one at one place, waits, and puts one at the other.
-    fn tells(&mut self, at: &'a Place, go: &'a Place, turns: u64) -> Turned {
+    fn tells(&mut self, at: &'a Place, go: &'a Place, turns: u64) -> Progress {
         *self = match turns {
             0 | 1 => Toy::Tells {
                 at,
@@ -205,13 +205,13 @@ impl<'a> Toy<'a> {
         };
         match turns {
             0 => at.put(),
-            1 => Turned::Blocked(go.number),
+            1 => Progress::Blocked(go.number),
             _ => go.put(),
         }
     }
 
     // Waits at one place, puts one there, and is held until one was put at the other.
-    fn tried(&mut self, at: &'a Place, go: &'a Place, turns: u64) -> Turned {
+    fn tried(&mut self, at: &'a Place, go: &'a Place, turns: u64) -> Progress {
         *self = match turns {
             0 | 1 => Toy::Tried {
                 at,
@@ -221,42 +221,42 @@ impl<'a> Toy<'a> {
             _ => Toy::Done,
         };
         match turns {
-            0 => Turned::Blocked(at.number),
+            0 => Progress::Blocked(at.number),
             1 => at.put(),
             _ => seen_by(go, 1),
         }
     }
 
-    fn parent(&mut self, child: usize, left: u64) -> Turned {
+    fn parent(&mut self, child: usize, left: u64) -> Progress {
         if left == 0 {
             *self = Toy::Done;
-            return Turned::Child(child);
+            return Progress::Child(child);
         }
         *self = Toy::Parent {
             child,
             left: left.wrapping_sub(1),
         };
-        Turned::Ready
+        Progress::Ready
     }
 
-    fn fails(&mut self, fault: Fault, left: u64) -> Turned {
+    fn fails(&mut self, fault: Fault, left: u64) -> Progress {
         if left == 0 {
-            return Turned::Failed(fault);
+            return Progress::Failed(fault);
         }
         *self = Toy::Fails {
             fault,
             left: left.wrapping_sub(1),
         };
-        Turned::Ready
+        Progress::Ready
     }
 }
 
 // Fails as a value too big would, where it has waited for too long.
-fn seen_by(at: &Place, until: u64) -> Turned {
+fn seen_by(at: &Place, until: u64) -> Progress {
     if at.sees_put(until) {
-        Turned::Ready
+        Progress::Ready
     } else {
-        Turned::Failed(Fault::TooBig)
+        Progress::Failed(Fault::TooBig)
     }
 }
 
@@ -275,9 +275,9 @@ impl<'a> Work for Toy<'a> {
         }
     }
 
-    fn turn(&mut self) -> Turned {
+    fn turn(&mut self) -> Progress {
         match *self {
-            Toy::Source { left: 0, .. } | Toy::Sink { left: 0, .. } | Toy::Done => Turned::Gone,
+            Toy::Source { left: 0, .. } | Toy::Sink { left: 0, .. } | Toy::Done => Progress::Gone,
             Toy::Source { at, .. } => self.moved(at.put()),
             Toy::Sink { at, .. } => self.moved(at.take()),
             Toy::Held { at, until } => self.held(at, until),
@@ -286,8 +286,8 @@ impl<'a> Work for Toy<'a> {
             Toy::Tells { at, go, turns } => self.tells(at, go, turns),
             Toy::Tried { at, go, turns } => self.tried(at, go, turns),
             Toy::Parent { child, left } => self.parent(child, left),
-            Toy::Child { .. } => Turned::Failed(Fault::OutOfMemory),
-            Toy::Endless => Turned::Ready,
+            Toy::Child { .. } => Progress::Failed(Fault::OutOfMemory),
+            Toy::Endless => Progress::Ready,
             Toy::Fails { fault, left } => self.fails(fault, left),
         }
     }

@@ -4,9 +4,9 @@ use Rattle.std.specs.Prelude.{Result}
 use Rattle.std.specs.List.{position_from}
 use Rattle.std.proofs.lemmas.List.{take_more}
 use Rattle.std.proofs.lemmas.List.FromFn.{length-map-range_with_len, get_or-map-range_with_len}
-use Rattle.stream_filters.specs.Filter.{FirState, StandsFor, outputs, output_at, output_after}
-use Rattle.stream_filters.specs.Range.{ranged}
-use Rattle.stream_filters.specs.declared.fault.TooBigValue.{TooBigValue}
+use Rattle.stream_lists.specs.stream_filters.Filter.{FirState, StandsFor, outputs, output_at, output_after}
+use Rattle.stream_lists.specs.stream_filters.Range.{ranged}
+use Rattle.stream_lists.specs.stream_filters.declared.fault.TooBigValue.{TooBigValue}
 use Rattle.stream_lists.specs.Ranges.{is_out_of_range}
 use Rattle.stream_eval.proofs.Made.{MadeSoFar, MadeSoFar-none, MadeSoFar-more, MadeSoFar-fault, MadeSoFar-all}
 

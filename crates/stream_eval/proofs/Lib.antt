@@ -7,3 +7,4 @@ pub mod Made
 pub mod Mixing
 pub mod Sendable
 pub mod Sends
+pub use Rattle.stream_lists.proofs as stream_lists_lemmas

@@ -17,4 +17,6 @@ mod taken_values;
 mod whole;
 
 pub use fault::EvalFault;
+pub use stream_lists;
+pub use stream_lists::stream_filters;
 pub use whole::{Lines, eval};

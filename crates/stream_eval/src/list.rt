@@ -1,15 +1,15 @@
 //! The lists that tasks make of what they took.
 ghost use Rattle.std.specs.Prelude.{◌≡◌, ◌<◌, ◌≤◌, ℕ, [], length, map, get_or, pos, IfOk, IfSome, None, Some, Err};
 ghost use Rattle.std.specs.List.{All, position_from};
-ghost use Rattle.phase_accum.specs.Sends.{AreSends};
-ghost use Rattle.stream_filters.specs.Filter.{AreTaps, outputs};
+ghost use Rattle.stream_lists.specs.phase_accum.Sends.{AreSends};
+ghost use Rattle.stream_lists.specs.stream_filters.Filter.{AreTaps, outputs};
 ghost use Rattle.stream_lists.specs.Lists.{entry, every, in_turn, mixed};
 ghost use Rattle.stream_lists.specs.Ranges.{is_out_of_range};
 ghost use Rattle.stream_eval.specs.declared.list.ListFault.TheVariants as fault;
 
-use graph_base::ENDS_MAX;
 use std::alloc::{AllocError, Global};
-use stream_filters::{Fir, Peer};
+use stream_lists::graph_base::ENDS_MAX;
+use stream_lists::stream_filters::{Fir, Peer};
 
 /// Why no list was made.
 #[derive(Clone, Copy, Debug, PartialEq, Eq)]

@@ -11,7 +11,7 @@ use crate::sums::product;
 pub struct Peer;
 
 impl Peer {
-    /// Answers `mul * x - e`, or `TooBigValue` where that is out of range. It takes no memory.
+    /// Returns `mul * x - e`, or `TooBigValue` where that is out of range. It takes no memory.
     pub fn mix(mul: i64, x: i64, e: i64) -> Result<i64, TooBigValue>
         ensures { result ≡ ranged ((mul *ℤ x) -ℤ e) }
     {

@@ -41,7 +41,7 @@ impl RoundRobin {
         RoundRobin { count: m, next: 0 }
     }
 
-    /// Answers which place has the next turn: 0, 1, .., m - 1, 0, and so on. It takes no memory.
+    /// Returns which place has the next turn: 0, 1, .., m - 1, 0, and so on. It takes no memory.
     pub fn turn(&mut self) -> usize
         ensures turn { (n : ℕ) → HasTurned self.old n → result ≡ turn_after self.old.count n }
         ensures turned { (n : ℕ) → HasTurned self.old n → HasTurned self.new (n + 1) }

@@ -2,8 +2,7 @@
 -- phases. A joiner of m inputs is m times as long as the shortest of them, of which one stands m
 -- phasers above its output or further; sources that follow each other add 2 ^ 26 phases each.
 use Rattle.std.proofs.Common.{◌≡◌, ℕ, zero, suc, ◌+◌, ◌-◌, ◌*◌, ◌%◌, ◌<◌, ◌≤◌, Bool, true, false, ◌&&◌, List, [], ◌∷◌, length, map, get_or, Some, None, ℤ, refl, sym, ap, subst, ◌∙◌, arith, ◌⊎◌, inl, inr}
-use Rattle.std.specs.Prelude.{Option, min, max, nat_le, if◌then◌else◌}
-use Rattle.std.specs.Prelude.{Vec}
+use Rattle.std.specs.Prelude.{Option, min, max, nat_le, if◌then◌else◌, Vec}
 use Rattle.std.specs.Global.{Global}
 use Rattle.std.specs.List.{All, range_with_len, fold}
 use Rattle.std.proofs.lemmas.Bool.{cases_lt, and_parts}
@@ -11,13 +10,14 @@ use Rattle.std.proofs.lemmas.Bool.Decides.{nat_tests}
 use Rattle.std.proofs.lemmas.List.{length-map, get_or-map, get_or_default}
 use Rattle.std.proofs.lemmas.Nat.{div-add-mod', mul-le}
 use Rattle.std.proofs.Math.Nat.{add-mul}
+use native.Mathlib.Nat.{zero-max}
 use Rattle.graph_base.specs.Graphs.{Graph, Task, task_at, source_number}
 use Rattle.graph_base.specs.TaskLines.{IsGraph, IsTaskLine, IsParent, HasEnds, has_children}
-use Rattle.phase_base.specs.Lists.{is_distinct}
+use Rattle.graph_base.specs.phase_base.Lists.{is_distinct}
 use Rattle.graph_base.specs.declared.line.Kind.{Kind}
 use Rattle.graph_base.specs.declared.line.Kind.TheVariants.{Source, Fir, Split, Join, Peer, Sink}
 use Rattle.graph_base.specs.declared.line.Parent.{Parent}
-use Rattle.stream_lists.specs.Jobs.{Job, samples_at}
+use Rattle.stream_lists.specs.Jobs.{Job, samples_at, start_at}
 use Rattle.stream_lists.specs.Spans.{nowhere, turns_below, puts_on, run_out, first_run_out, enough_for, cut_at, offset_of, values_from, span_at, span_of, spans_up_to, spans_over, end_on, end_of, length_on, lengths_up_to}
 use Rattle.stream_lists.specs.declared.span.Span.{Span}
 use Rattle.stream_lists.specs.declared.span.TheConstants.{LENGTH_MAX}
@@ -244,22 +244,23 @@ abbrev pub Reaches : Span → ℕ → Type 0
 Reaches span most = span.offset + span.steps ≤ most
 
 -- an offset is at most where the parent has come to
-offset_reach : (above : List Span) (parent : Option Parent) (most : ℕ)
+offset_reach : (above : List Span) (start : ℕ) (parent : Option Parent) (most : ℕ) → start ≡ 0
     → ((u : Parent) → parent ≡ Some u → Reaches (get_or above u.task nowhere) most)
-    → (offset : ℕ) → offset_of above parent ≡ Some offset → offset ≤ most
-offset_reach above None most each offset e =
+    → (offset : ℕ) → offset_of above start parent ≡ Some offset → offset ≤ most
+offset_reach above start None most first each offset e =
     let none : 0 ≡ offset = some_same 0 offset e in omega arith
   where
     some_same : (a b : ℕ) → Some a ≡ Some b → a ≡ b
     some_same a b f = cc
-offset_reach above (Some u) most each offset e =
+offset_reach above start (Some u) most first each offset e =
     by ((get_or above u.task nowhere).live && nat_le u.at (get_or above u.task nowhere).steps)
     refl e
   where
     by : (b : Bool)
         → ((get_or above u.task nowhere).live && nat_le u.at (get_or above u.task nowhere).steps)
         ≡ b
-        → (if b then Some ((get_or above u.task nowhere).offset + u.at) else None) ≡ Some offset
+        → (if b then Some (max start ((get_or above u.task nowhere).offset + u.at)) else None)
+        ≡ Some offset
         → offset ≤ most
     by false dead f = absurd (cc)
     by true live f =
@@ -267,20 +268,23 @@ offset_reach above (Some u) most each offset e =
         let parts = and_parts span.live (nat_le u.at span.steps) live in
         let within : u.at ≤ span.steps = grind (arith, nat_tests, parts.1) in
         let reaches : span.offset + span.steps ≤ most = each u refl in
-        let same : span.offset + u.at ≡ offset = cc in omega arith
+        let same : max start (span.offset + u.at) ≡ offset = cc in
+        let least : max start (span.offset + u.at) ≡ span.offset + u.at =
+        ap (λ n. max n (span.offset + u.at)) first ∙ zero-max (span.offset + u.at) in omega arith
 
 -- what is known of a job's graph and samples
 pub record IsGiven (job : Job) : Type 0 where
   pub graph : IsGraph job.graph
   pub few : (t : ℕ) → length (samples_at job t) ≤ 67108864
+  pub least : (t : ℕ) → start_at job t ≡ 0
 
 span_reach : (job : Job) (lengths : List ℕ) (n : ℕ) → IsGiven job → AreBounded lengths n
     → (limit t : ℕ) → t < limit → t < length job.graph.tasks
     → Reaches (span_of job lengths (spans_up_to job lengths t) t) (reach n (suc t))
 span_reach job lengths n is are zero t below there = absurd (omega arith)
 span_reach job lengths n is are (suc limit) t below there =
-    by (offset_of (spans_up_to job lengths t) task.parent) refl
-    (offset_reach (spans_up_to job lengths t) task.parent (reach n t)
+    by (offset_of (spans_up_to job lengths t) (start_at job t) task.parent) refl
+    (offset_reach (spans_up_to job lengths t) (start_at job t) task.parent (reach n t) (is.least t)
     (λ u e. parent_case u e
     (λ (v : ℕ) less. span_reach job lengths n is are limit v (omega arith) (omega arith))))
   where
@@ -306,20 +310,24 @@ span_reach job lengths n is are (suc limit) t below there =
         (let more : suc u.task ≤ t = omega arith in omega arith) in
         subst (λ (s : Span). Reaches s (reach n t)) (sym same) (omega arith)
 
-    root : (offset : ℕ) → offset_of (spans_up_to job lengths t) (task_at job.graph t).parent
+    root : (offset : ℕ) → offset_of (spans_up_to job lengths t) (start_at job t)
+        (task_at job.graph t).parent
         ≡ Some offset → (task_at job.graph t).kind ≡ Join → offset ≡ 0
     root offset e join = none_case (task_at job.graph t).parent refl e
       where
         none_case : (parent : Option Parent) → (task_at job.graph t).parent ≡ parent
-            → offset_of (spans_up_to job lengths t) parent ≡ Some offset → offset ≡ 0
+            → offset_of (spans_up_to job lengths t) (start_at job t) parent ≡ Some offset → offset
+            ≡ 0
         none_case None p f = let same : 0 ≡ offset = cc in omega arith
         none_case (Some u) p f =
             let parent : IsParent job.graph t (task_at job.graph t) u =
             parent-is job.graph t (task_at job.graph t) u line p in
             absurd (let b : true ≡ false = sym parent.child_kind ∙ ap has_children join in cc)
 
-    by : (o : Option ℕ) → offset_of (spans_up_to job lengths t) (task_at job.graph t).parent ≡ o
-        → ((offset : ℕ) → offset_of (spans_up_to job lengths t) (task_at job.graph t).parent
+    by : (o : Option ℕ) → offset_of (spans_up_to job lengths t) (start_at job t)
+        (task_at job.graph t).parent ≡ o
+        → ((offset : ℕ) → offset_of (spans_up_to job lengths t) (start_at job t)
+        (task_at job.graph t).parent
         ≡ Some offset → offset ≤ reach n t)
         → Reaches (span_at (task_at job.graph t) (length (samples_at job t)) lengths o)
         (reach n (suc t))
@@ -459,10 +467,23 @@ given_few : (graph : Graph) (samples : List (Vec ℤ Global))
 given_few graph samples few t =
     short-one (λ list. list.items) samples (source_number graph.tasks t) 67108864 few
 
+-- the least starts
+pub no_start : (b : Bool) (n : ℕ) → n ≡ 0 → (if b then n else 0) ≡ 0
+no_start true n none = none
+no_start false n none = refl
+
+pub start_of_given : (graph : Graph) (samples : List (Vec ℤ Global)) (t : ℕ)
+    → start_at (given graph samples) t ≡ 0
+start_of_given graph samples t = no_start (task_at graph t).joins_now 0 refl
+
 pub stage_given : (graph : Graph) (samples : List (Vec ℤ Global)) (lengths : List ℕ)
     → IsStage graph samples lengths → IsGiven (given graph samples)
 stage_given graph samples lengths stage =
-    record { graph = stage.read; few = given_few graph samples stage.few }
+    record {
+      graph = stage.read;
+      few = given_few graph samples stage.few;
+      least = λ t. start_of_given graph samples t;
+    }
 
 -- the lengths at each stage are short
 pub stage_lengths : (graph : Graph) (samples : List (Vec ℤ Global)) (lengths : List ℕ)

@@ -1,10 +1,10 @@
 -- The span of a task, over the spans of the tasks above it, or of all tasks.
 use Rattle.std.proofs.Common.{◌≡◌, ℕ, ◌+◌, ◌<◌, List, length, get_or, Some, None, refl, ap, subst}
-use Rattle.std.specs.Prelude.{Option, IfSome, nat_le, ◌&&◌, if◌then◌else◌}
+use Rattle.std.specs.Prelude.{Option, max, IfSome, nat_le, ◌&&◌, if◌then◌else◌}
 use Rattle.graph_base.specs.Graphs.{Graph, Task, task_at}
 use Rattle.graph_base.specs.TaskLines.{IsGraph, IsTaskLine, IsParent}
 use Rattle.graph_base.specs.declared.line.Parent.{Parent}
-use Rattle.stream_lists.specs.Jobs.{Job, samples_at}
+use Rattle.stream_lists.specs.Jobs.{Job, samples_at, start_at}
 use Rattle.stream_lists.specs.Spans.{nowhere, offset_of, span_at, span_of, spans_up_to, spans_over, lengths_of, spans_of, span_in}
 use Rattle.stream_lists.specs.declared.span.Span.{Span}
 use Rattle.stream_lists.proofs.Growing.{grown-at, grown-whole}
@@ -15,12 +15,13 @@ parent-is graph t task u line e =
     let P : Option Parent → Type 0 = λ o. IfSome o (λ parent. IsParent graph t task parent) in
     subst P e line.parent
 
-pub same_offset : (xs ys : List Span) (parent : Option Parent)
+pub same_offset : (xs ys : List Span) (start : ℕ) (parent : Option Parent)
     → ((u : Parent) → parent ≡ Some u → get_or xs u.task nowhere ≡ get_or ys u.task nowhere)
-    → offset_of xs parent ≡ offset_of ys parent
-same_offset xs ys None same = refl
-same_offset xs ys (Some u) same =
-    ap (λ (s : Span). if s.live && nat_le u.at s.steps then Some (s.offset + u.at) else None)
+    → offset_of xs start parent ≡ offset_of ys start parent
+same_offset xs ys start None same = refl
+same_offset xs ys start (Some u) same =
+    ap (λ (s : Span). if s.live && nat_le u.at s.steps
+    then Some (max start (s.offset + u.at)) else None)
     (same u refl)
 
 -- over lists of any lengths
@@ -31,7 +32,7 @@ spans_are job lengths t is there =
     let task = task_at job.graph t in
     grown-whole (span_of job lengths) (length job.graph.tasks) t nowhere there
     (λ xs ys same. ap (span_at task (length (samples_at job t)) lengths)
-    (same_offset xs ys task.parent
+    (same_offset xs ys (start_at job t) task.parent
     (λ u e. same u.task (parent-is job.graph t task u (is.tasks t there) e).above)))
 
 pub spans_above : (job : Job) (t : ℕ) → t < length job.graph.tasks

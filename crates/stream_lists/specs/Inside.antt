@@ -1,8 +1,8 @@
 -- What a job keeps.
-use Rattle.std.specs.Prelude.{◌≡◌, ◌≤◌, ◌+◌, ℕ, ℤ, List, length, map, Vec, None}
+use Rattle.std.specs.Prelude.{◌≡◌, ◌≤◌, ◌+◌, ℕ, ℤ, List, [], length, map, Vec, None}
 use Rattle.std.specs.Global.{Global}
 use Rattle.std.specs.List.{All}
-use Rattle.phase_accum.specs.Sends.{AreSends}
+use Rattle.graph_base.specs.phase_accum.Sends.{AreSends}
 use Rattle.graph_base.specs.Graphs.{Graph, sources_of}
 use Rattle.graph_base.specs.TaskLines.{IsGraph}
 use Rattle.graph_base.specs.declared.limits.TheConstants.{PHASERS_MAX}
@@ -22,9 +22,10 @@ JobValue = Job
 abbrev pub items_of : List (Vec ℤ Global) → List (List ℤ)
 items_of lists = map (λ list. list.items) lists
 
--- a graph with these samples
+-- a graph with these samples, whose sinks that join now begin at the least phase that they may
 abbrev pub given : Graph → List (Vec ℤ Global) → Job
-given graph samples = record { graph = graph; samples = items_of samples }
+given graph samples =
+    record { graph = graph; samples = items_of samples; starts = [] }
 
 -- the graph and the samples that a job keeps
 abbrev pub job_view : Inside → JobValue

@@ -1,17 +1,32 @@
 -- A graph with the samples of its sources.
-use Rattle.std.specs.Prelude.{ℕ, ℤ, List, [], ◌==◌, Option, get_or}
+use Rattle.std.specs.Prelude.{ℕ, ℤ, List, [], ◌==◌, Option, get_or, if◌then◌else◌}
 use Rattle.std.specs.List.{position_from}
-use Rattle.graph_base.specs.Graphs.{Graph, source_number}
+use Rattle.graph_base.specs.Graphs.{Graph, source_number, task_at}
 
--- a graph, and the samples of each source, in the order of the lines
+-- a graph, the samples of each source, in the order of the lines, and for each task the phase at
+-- which it may begin at the earliest, 0 where the list has none. Of tasks that do not join now no
+-- definition looks at it
 pub record Job : Type 0 where
   pub graph : Graph
   pub samples : List (List ℤ)
+  pub starts : List ℕ
 
 -- the samples of task number t, where it is a source; of another task those of the next source
 -- below it, if there is one, and no definition looks at them
 abbrev pub samples_at : Job → ℕ → List ℤ
 samples_at job t = get_or job.samples (source_number job.graph.tasks t) []
+
+-- the earliest phase at which task t begins, where it joins now. Of other tasks it is 0
+abbrev pub start_at : Job → ℕ → ℕ
+start_at job t = if (task_at job.graph t).joins_now then get_or job.starts t 0 else 0
+
+-- the job with these starts in place of its own
+abbrev pub with_starts : List ℕ → Job → Job
+with_starts starts job = record job { starts = starts }
+
+-- the job whose sinks that join now begin at the least phase that they may
+abbrev pub least : Job → Job
+least job = with_starts [] job
 
 -- the place of a phaser among those of a line
 abbrev pub index_in : List ℕ → ℕ → Option ℕ

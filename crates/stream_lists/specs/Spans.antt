@@ -4,7 +4,7 @@ use Rattle.std.specs.Prelude.{◌≡◌, ℕ, zero, suc, ◌+◌, ◌-◌, ◌*�
 use Rattle.std.specs.List.{range_with_len, fold}
 use Rattle.graph_base.specs.Graphs.{Graph, Task, task_at}
 pub use Rattle.graph_base.specs.Registrations.{signalled_by}
-use Rattle.stream_lists.specs.Jobs.{Job, samples_at, index_in}
+use Rattle.stream_lists.specs.Jobs.{Job, samples_at, start_at, index_in}
 use Rattle.stream_lists.specs.declared.span.Span.{Span}
 use Rattle.graph_base.specs.declared.line.Parent.{Parent}
 use Rattle.graph_base.specs.declared.line.Kind.{Kind}
@@ -69,12 +69,13 @@ cut_at None n = n
 cut_at (Some until) n = min until n
 
 -- the offset of a task, where it is live: a child's is `at` steps after its parent's, if the parent
--- makes as many
-abbrev pub offset_of : List Span → Option Parent → Option ℕ
-offset_of above None = Some 0
-offset_of above (Some parent) =
+-- makes as many, and at least its start
+abbrev pub offset_of : List Span → ℕ → Option Parent → Option ℕ
+offset_of above start None = Some 0
+offset_of above start (Some parent) =
     let span = get_or above parent.task nowhere in
-    if span.live && nat_le parent.at span.steps then Some (span.offset + parent.at) else None
+    if span.live && nat_le parent.at span.steps
+    then Some (max start (span.offset + parent.at)) else None
 
 -- ---- all tasks, over phasers' lists of these lengths
 
@@ -95,7 +96,7 @@ span_at task samples lengths (Some offset) = record {
 abbrev pub span_of : Job → List ℕ → List Span → ℕ → Span
 span_of job lengths above t =
     let task = task_at job.graph t in
-    span_at task (length (samples_at job t)) lengths (offset_of above task.parent)
+    span_at task (length (samples_at job t)) lengths (offset_of above (start_at job t) task.parent)
 
 -- the spans of the first n tasks
 abbrev pub spans_up_to : Job → List ℕ → ℕ → List Span

@@ -32,7 +32,7 @@ pub(crate) fn put_count(task: &TaskLine, steps: u128, j: usize) -> u128
     steps
 }
 
-/// Tells how many values so many steps take from input number `k`: of a joiner's inputs each has
+/// Returns how many values so many steps take from input number `k`: of a joiner's inputs each has
 /// its turn. It takes no memory.
 pub fn taken_count(task: &TaskLine, steps: u128, k: usize) -> u128
     requires ends { HasEnds task.now.kind (length task.now.inputs.items)

@@ -1,7 +1,7 @@
 //! A graph with the samples of its sources.
 ghost use Rattle.std.specs.Prelude.{◌≡◌, ◌<◌, ◌≤◌, ℕ, [], length, get_or, Some, None, IfOk, Err};
 ghost use Rattle.std.specs.List.{All};
-ghost use Rattle.phase_accum.specs.Sends.{AreSends};
+ghost use Rattle.graph_base.specs.phase_accum.Sends.{AreSends};
 ghost use Rattle.graph_base.specs.Graphs.{is_source, phaser_at, task_at, source_number, sources_of};
 ghost use Rattle.graph_base.specs.Inside.{task_of};
 ghost use Rattle.graph_base.specs.TaskLines.{IsTaskLine};
@@ -81,16 +81,17 @@ impl Job {
         })
     }
 
-    /// Lends the graph. It takes no memory.
+    /// Returns the graph. It takes no memory.
     pub fn graph(&self) -> &Graph
         ensures graph { result.now ≡ self.now.graph }
         ensures samples { length self.now.samples ≡ sources_of self.now.graph }
         ensures apart { meeting_line self.now ≡ None }
+        ensures least { self.now.starts ≡ [] }
     {
         &self.graph
     }
 
-    /// Lends the samples of a source, none where there is no such source. Sources are numbered
+    /// Returns the samples of a source, none where there is no such source. Sources are numbered
     /// among themselves, in the order of their lines. It takes no memory.
     pub fn samples(&self, source: usize) -> &[i64]
         ensures value { result.now ≡ get_or self.now.samples source [] }
@@ -102,16 +103,17 @@ impl Job {
         }
     }
 
-    /// Tells how far task number `t` comes. It takes no memory.
+    /// Returns how far task number `t` comes. It takes no memory.
     pub fn span(&self, t: usize) -> Span
         requires { t < length self.now.graph.tasks }
         ensures span { result ≡ get_or (spans_of self.now) t nowhere }
+        ensures least { self.now.starts ≡ [] }
         ensures short { IsShort result }
     {
         self.spans[t]
     }
 
-    /// Tells how long the list of phaser number `p` is, in phases. It takes no memory.
+    /// Returns how long the list of phaser number `p` is, in phases. It takes no memory.
     pub fn length(&self, p: usize) -> u128
         requires { p < length self.now.graph.phasers }
         ensures length { result ≡ get_or (lengths_of self.now) p 0 }
@@ -152,8 +154,8 @@ impl Job {
         self.graph.task(t)
     }
 
-    /// Lends the samples of task number `t`, where it is a source. Of another task they are those of
-    /// the next source below it, or none, and are of no use. It takes no memory.
+    /// Returns the samples of task number `t`, where it is a source. Of another task they are those
+    /// of the next source below it, or none, and are of no use. It takes no memory.
     pub fn samples_of(&self, t: usize) -> &[i64]
         requires { t < length self.now.graph.tasks }
         ensures value { result.now ≡ samples_at self.now t }

@@ -14,17 +14,17 @@ fn place_of(phasers: &[usize], p: usize) -> Option<usize>
     phasers.iter().position(|q| *q == p)
 }
 
-/// Tells which input of a task phaser number `p` is, the first being 0, or that it is none of them.
-/// It takes no memory.
+/// Returns which input of a task phaser number `p` is, the first being 0, or that it is none of
+/// them. It takes no memory.
 pub fn input_number(task: &TaskLine, p: usize) -> Option<usize>
     ensures { result ≡ index_in (task_of task.now).inputs p }
 {
     place_of(&task.inputs, p)
 }
 
-/// Tells which output of a task phaser number `p` is, in the order in which a step signals them, or
-/// that it is none of them. A peer's output 0 is its second input, which it signals too. It takes
-/// no memory.
+/// Returns which output of a task phaser number `p` is, in the order in which a step signals them,
+/// or that it is none of them. A peer's output 0 is its second input, which it signals too. It
+/// takes no memory.
 pub fn output_number(task: &TaskLine, p: usize) -> Option<usize>
     ensures number { result ≡ index_in (signalled_by (task_of task.now)) p }
     ensures turn { (j : ℕ) → result ≡ Some j → task.now.kind ≡ Split

@@ -129,7 +129,7 @@ fn known_span(spans: &[Span], t: usize) -> Span
 /// The offset of a task with this parent, or none, where it is live.
 fn offset_from(above: &[Span], parent: Option<Parent>) -> Option<u128>
     requires { All IsShort above.now }
-    ensures offset { result ≡ offset_of above.now parent }
+    ensures offset { result ≡ offset_of above.now 0 parent }
     ensures short { IfSome result (λ offset. offset ≤ LENGTH_MAX) }
 {
     match parent {

@@ -1,12 +1,12 @@
 //! Worked drawings of graphs.
 
-use graph_drawing::{drawing_text, write_drawing};
-use graph_lang::read_graph;
+use graph_show::graph_lang::read_graph;
+use graph_show::watched_io::{IoFault, Watched};
+use graph_show::{drawing_text, write_drawing};
 use std::alloc::Global;
 use std::io;
 use std::io::{ErrorKind, Write};
 use std::test::Fail;
-use watched_io::{IoFault, Watched};
 
 /// A graph with a task of each kind, a phaser with a single, and a child.
 const EVERY_KIND: &str = "\

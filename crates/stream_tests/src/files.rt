@@ -1,10 +1,10 @@
 //! Samples in files that are held in memory.
 
-use sample_text::{SampleFault, read_sample_file};
+use graph_show::graph_lang::{SampleFault, read_sample_file};
+use graph_show::watched_io::{DiskFiles, FileFault, Files, IoFault};
 use std::alloc::Global;
 use std::fs;
 use std::test::Fail;
-use watched_io::{DiskFiles, FileFault, Files, IoFault};
 
 /// Two files, of which one has samples, and no other.
 #[derive(Drop)]

@@ -1,7 +1,9 @@
 //! Filters, splitters, joiners and peers step by step.
 use std::alloc::AllocError;
 use std::test::*;
-use stream_filters::{Fir, FirFault, Join, Peer, Split, TooBigValue, VALUE_MAX, VALUE_MIN};
+use stream_job::stream_filters::{
+    Fir, FirFault, Join, Peer, Split, TooBigValue, VALUE_MAX, VALUE_MIN,
+};
 
 /// The filter, or that memory ran out.
 fn made(fir: Result<Fir, FirFault>) -> Result<Fir, AllocError> {

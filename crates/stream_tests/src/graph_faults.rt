@@ -1,6 +1,6 @@
 //! Texts of graphs with their first faulty line and its kind, and lines that are let through.
 
-use graph_lang::{FaultKind, GraphFault, GraphRefusal, read_graph};
+use graph_show::graph_lang::{FaultKind, GraphFault, GraphRefusal, read_graph};
 use std::alloc::Global;
 use std::test::Fail;
 

@@ -1,7 +1,7 @@
 //! Worked texts of graphs, and what is read of them.
 
-use graph_lang::{Graph, Kind, Op, Parent, PhaserLine, Place, TaskLine, read_graph};
-use phase_accum::Single;
+use graph_show::graph_lang::{Graph, Kind, Op, Parent, PhaserLine, Place, TaskLine, read_graph};
+use graph_show::phase_accum::Single;
 use std::alloc::Global;
 use std::test::Fail;
 

@@ -1,10 +1,9 @@
 //! Jobs that are made and evaluated: which value out of range is told, who meets whom, and lists of
 //! any length. What is expected was worked out by hand.
-use graph_lang::Place;
+use graph_show::graph_lang::Place;
 use std::alloc::{AllocError, Global};
 use std::test::Fail;
-use stream_job::{EvalFault, Job, JobRefusal, eval};
-use test_jobs::job_of;
+use stream_job::{EvalFault, Job, JobRefusal, eval, job_of};
 
 /// What the only sink of a graph gets, or why it gets nothing.
 #[derive(Drop)]

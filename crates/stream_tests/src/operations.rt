@@ -1,6 +1,6 @@
 //! The words of operations.
 
-use graph_lang::Op;
+use graph_show::graph_lang::Op;
 
 /// Five words are operations, and others are none.
 const WORDS: [(&str, Option<Op>); 11] = [

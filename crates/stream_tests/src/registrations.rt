@@ -1,6 +1,6 @@
 //! What the tasks of a graph are registered for.
 
-use graph_lang::{Graph, Mode, Registration, read_graph};
+use graph_show::graph_lang::{Graph, Mode, Registration, read_graph};
 use std::alloc::Global;
 use std::test::Fail;
 

@@ -1,11 +1,11 @@
 //! Texts with the samples that they hold, or with the number of their first bad record.
 
-use sample_text::{SampleFault, read_samples, samples_of};
+use graph_show::graph_lang::{SampleFault, read_samples, samples_of};
+use graph_show::watched_io::{FileFault, Watched, read_text};
 use std::alloc::Global;
 use std::io;
 use std::io::Read;
 use std::test::Fail;
-use watched_io::{FileFault, Watched, read_text};
 
 /// Gives a text, `size` bytes a read at most, and fails at the read of the number `fails_at`.
 #[derive(Drop)]

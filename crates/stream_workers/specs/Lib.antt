@@ -1,2 +1,3 @@
-pub mod Ended
-pub mod Inside
+pub mod TasksLeft
+pub use Rattle.stream_tasks.specs.stream_members as stream_members
+pub use Rattle.graph_commands.specs as graph_commands

@@ -1,25 +1,23 @@
 //! A run of a graph on worker threads.
 ghost use Rattle.std.specs.Prelude.{◌≡◌, length, IfOk};
-ghost use Rattle.graph_openings.specs.Openings.{ArePhasers, AreFoundersFrom, HaveFoundersLeft};
-ghost use Rattle.graph_openings.specs.Openings.{spot_at};
-ghost use Rattle.stream_workers.specs.Ended.{AreEnded};
+ghost use Rattle.stream_tasks.specs.Openings.{ArePhasers, AreFoundersFrom, HaveFoundersLeft, spot_at};
+ghost use Rattle.stream_workers.specs.TasksLeft.{AreTasksLeft};
 
 use crate::endings::{dismiss_all, run_slots};
 use crate::opening::open_pool;
-use graph_members::{AnyPhaser, AnyReg};
-use graph_openings::{FounderLeft, dismiss_founders, found, leave_all};
-use graph_tasks::{Ended, Gate, Run};
 use std::alloc::Global;
 use std::sync::Wait;
 use std::thread::Threads;
-use stream_lists::Job;
+use stream_tasks::stream_lists::Job;
+use stream_tasks::stream_members::{AnyPhaser, AnyReg};
+use stream_tasks::{FounderLeft, Gate, Run, TaskLeft, dismiss_founders, found, leave_all};
 use worker_pool::Fault;
 
-/// What the founders and the tasks of a run have left behind, the last task's first.
+/// What the founders and the tasks of a run have left behind, in the order of the lines.
 #[derive(Drop)]
 pub struct Behind<'a> {
     pub founders: Vec<FounderLeft<'a>>,
-    pub tasks: Vec<Option<Ended<'a>>>,
+    pub tasks: Vec<Option<TaskLeft<'a>>>,
 }
 
 /// Runs a job on these phasers, by so many workers.
@@ -39,7 +37,7 @@ pub fn run_on<'a, J: Run + Send + Sync, G: Gate + Sync, R: Threads + Wait + Sync
     ensures founders { IfOk result (λ behind. HaveFoundersLeft J.job J.spots behind.founders.items) }
     ensures many { IfOk result (λ behind. length behind.tasks.items
         ≡ length J.job.graph.tasks) }
-    ensures tasks { IfOk result (λ behind. AreEnded J.job J.spots behind.tasks.items) }
+    ensures tasks { IfOk result (λ behind. AreTasksLeft J.job J.spots behind.tasks.items) }
 {
     let Ok(mut founders) = found(rt, alloc, phasers, regs) else {
         return Err(Fault::OutOfMemory);

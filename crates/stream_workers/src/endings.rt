@@ -1,26 +1,26 @@
 //! What the tasks of a run leave behind.
 ghost use Rattle.std.specs.Prelude.{◌≡◌, ◌+◌, [], length, IfOk, OnOk};
-ghost use Rattle.stream_workers.specs.Ended.{AreEnded};
+ghost use Rattle.stream_workers.specs.TasksLeft.{AreTasksLeft};
 
-use crate::slot::{Place, Slot};
-use graph_tasks::{Ended, Gate, Run};
+use crate::slot::{Slot, TaskSlot};
 use std::alloc::Global;
 use std::sync::Wait;
 use std::thread::Threads;
+use stream_tasks::{Gate, Run, TaskLeft};
 use worker_pool::{Fault, Pool};
 
-/// Runs the tasks of a pool by so many workers, and gives what each leaves behind, the last task's
-/// first, and nothing for one that never came. Where there is a fault all leave their phasers, by
-/// waiting.
+/// Runs the tasks of a pool by so many workers, and gives what each leaves behind, in the order in
+/// which they were put in, and nothing for one that never came. Where there is a fault all leave
+/// their phasers, by waiting.
 pub fn run_slots<'a, J: Run + Send + Sync, G: Gate + Sync, R: Threads + Wait + Sync>(
     rt: &R,
     alloc: Global,
     pool: Pool<Slot<'a, J, G>>,
     tasks: usize,
     workers: usize,
-) -> Result<Vec<Option<Ended<'a>>>, Fault>
+) -> Result<Vec<Option<TaskLeft<'a>>>, Fault>
     ensures many { IfOk result (λ ends. length ends.items ≡ pool.entry) }
-    ensures ended { IfOk result (λ ends. AreEnded J.job J.spots ends.items) }
+    ensures left { IfOk result (λ ends. AreTasksLeft J.job J.spots ends.items) }
 {
     let Ok(ends) = Vec::with_capacity(alloc, tasks) else {
         dismiss_all(rt, pool);
@@ -47,12 +47,12 @@ pub fn dismiss_all<J: Run, G: Gate, W: Wait>(rt: &W, pool: Pool<Slot<'_, J, G>>)
 // Takes a task apart, and puts what it leaves behind to the others.
 fn end_one<'a, J: Run, W: Wait>(
     rt: &W,
-    place: Place<'a, J>,
-    ends: &mut Vec<Option<Ended<'a>>>,
+    place: TaskSlot<'a, J>,
+    ends: &mut Vec<Option<TaskLeft<'a>>>,
 ) -> Result<(), Fault>
     ensures many { OnOk result (length ends.new.items ≡ length ends.old.items + 1) }
-    ensures ended { OnOk result (AreEnded J.job J.spots ends.old.items
-        → AreEnded J.job J.spots ends.new.items) }
+    ensures left { OnOk result (AreTasksLeft J.job J.spots ends.old.items
+        → AreTasksLeft J.job J.spots ends.new.items) }
 {
     let end = place.end(rt)?;
     if ends.reserve(1).is_err() {
@@ -62,15 +62,16 @@ fn end_one<'a, J: Run, W: Wait>(
     Ok(())
 }
 
-// Takes all tasks apart. Where one has not left, all the others leave, by waiting.
+// Takes all tasks apart, the last one first, and turns what they leave behind round. Where one has
+// not left, all the others leave, by waiting.
 fn end_all<'a, J: Run, G: Gate, W: Wait>(
     rt: &W,
     pool: Pool<Slot<'a, J, G>>,
-    ends: Vec<Option<Ended<'a>>>,
-) -> Result<Vec<Option<Ended<'a>>>, Fault>
+    ends: Vec<Option<TaskLeft<'a>>>,
+) -> Result<Vec<Option<TaskLeft<'a>>>, Fault>
     requires none { ends.items ≡ [] }
     ensures many { IfOk result (λ ends. length ends.items ≡ pool.entry) }
-    ensures ended { IfOk result (λ ends. AreEnded J.job J.spots ends.items) }
+    ensures left { IfOk result (λ ends. AreTasksLeft J.job J.spots ends.items) }
 {
     let mut pool = pool;
     let mut ends = ends;
@@ -81,5 +82,6 @@ fn end_all<'a, J: Run, G: Gate, W: Wait>(
         }
     }
     pool.destroy_empty();
+    ends.reverse();
     Ok(ends)
 }

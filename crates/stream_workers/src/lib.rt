@@ -8,6 +8,7 @@
 //!
 //! ```text
 //! let lines = run(&rt, alloc, &job, 4, &Open)?;      // the lists of the sinks
+//! write_lines(&mut writer, job.graph(), &lines)?;    // as text
 //! ```
 //!
 //! Proved: that an answer `Ok` is the answer of the job, whatever the workers' turns were, and that
@@ -22,5 +23,8 @@ mod opening;
 mod slot;
 mod whole;
 
-pub use graph_tasks::{Gate, Open};
+pub use graph_commands;
+pub use graph_commands::write_lines;
+pub use stream_tasks::{Gate, Open, phase_shared, stream_members};
 pub use whole::{RunFault, run};
+pub use worker_pool;

@@ -1,15 +1,14 @@
 //! The tasks of a run before their first turn.
 ghost use Rattle.std.specs.Prelude.{◌≡◌, ◌+◌, ◌<◌, length, IfOk, OnOk};
-ghost use Rattle.graph_openings.specs.Openings.{AreFounders};
+ghost use Rattle.stream_tasks.specs.Openings.{AreFounders};
 
 use crate::endings::dismiss_all;
-use crate::slot::{Place, Slot};
-use graph_openings::Founder;
-use graph_steps::parent_of;
-use graph_tasks::{Gate, Run, Task, Unregistered};
+use crate::slot::{Slot, TaskSlot};
 use std::alloc::{AllocError, Global};
 use std::sync::Wait;
-use stream_lists::Job;
+use stream_tasks::graph_runs::parent_of;
+use stream_tasks::stream_lists::Job;
+use stream_tasks::{Founder, Gate, Run, Task, Unregistered};
 use worker_pool::Pool;
 
 /// Makes a task's place: the founders register a task without a parent, and another one waits for
@@ -20,17 +19,17 @@ fn open_place<'a, J: Run, W: Wait>(
     founders: &mut [Founder<'a>],
     job: &'a Job,
     t: usize,
-) -> Result<Place<'a, J>, AllocError>
+) -> Result<TaskSlot<'a, J>, AllocError>
     requires job { job.now ≡ J.job }
     requires task { t < length job.now.graph.tasks }
     requires founders { AreFounders job.now J.spots founders.old }
     ensures founders { AreFounders job.now J.spots founders.new }
 {
     let None = parent_of(job, t) else {
-        return Ok(Place::Unregistered(Unregistered::new(alloc, job, t)?));
+        return Ok(TaskSlot::Unregistered(Unregistered::new(alloc, job, t)?));
     };
     match Task::found(rt, alloc, job, founders, t) {
-        Ok(task) => Ok(Place::Task(task)),
+        Ok(task) => Ok(TaskSlot::Task(task)),
         Err(_) => Err(AllocError),
     }
 }
@@ -39,7 +38,7 @@ fn open_place<'a, J: Run, W: Wait>(
 fn put_in<'a, J: Run, G: Gate, W: Wait>(
     rt: &W,
     pool: &mut Pool<Slot<'a, J, G>>,
-    place: Place<'a, J>,
+    place: TaskSlot<'a, J>,
     gate: &'a G,
 ) -> Result<(), AllocError>
     ensures { OnOk result (pool.new ≡ pool.old + 1) }

@@ -1,16 +1,16 @@
 //! A task of a graph in a pool of workers.
 ghost use Rattle.std.specs.Prelude.{◌≡◌, IfOk, IfSome};
-ghost use Rattle.graph_tasks.specs.Ends.{IsEnded};
+ghost use Rattle.stream_tasks.specs.TaskLefts.{IsTaskLeft};
 
-use graph_tasks::{Ended, Gate, Run, Task, Unregistered};
 use std::mem;
 use std::sync::Wait;
-use worker_pool::{Fault, Turned, Work};
+use stream_tasks::{Gate, Run, Task, TaskLeft, Unregistered};
+use worker_pool::{Fault, Progress, Work};
 
 /// A task of a graph, or its place before it is registered.
 ///
 /// **End.** It cannot be thrown away. `dismiss` and `end` end it.
-pub enum Place<'a, J: Run> {
+pub enum TaskSlot<'a, J: Run> {
     /// A task that was registered.
     Task(Task<'a, J>),
     /// A child that its parent has not registered.
@@ -19,31 +19,31 @@ pub enum Place<'a, J: Run> {
     Empty,
 }
 
-impl<'a, J: Run> Place<'a, J> {
-    /// Tells whether it is a task that was registered.
+impl<'a, J: Run> TaskSlot<'a, J> {
+    /// Returns whether it is a task that was registered.
     pub fn is_task(&self) -> bool {
-        matches!(self, Place::Task(_))
+        matches!(self, TaskSlot::Task(_))
     }
 
     // Takes what is in it.
-    fn take(&mut self) -> Place<'a, J>
+    fn take(&mut self) -> TaskSlot<'a, J>
         ensures taken { result ≡ self.old }
-        ensures empty { self.new ≡ Place.Empty }
+        ensures empty { self.new ≡ TaskSlot.Empty }
     {
-        mem::replace(self, Place::Empty)
+        mem::replace(self, TaskSlot::Empty)
     }
 
     // Makes the task of a child that its parent has registered.
     fn become_child(&mut self, parent: &mut Task<'a, J>) -> bool {
         let (place, is_child) = match self.take() {
-            Place::Unregistered(child) => match parent.deliver(child) {
-                Ok(task) => (Place::Task(task), true),
-                Err(child) => (Place::Unregistered(child), false),
+            TaskSlot::Unregistered(child) => match parent.deliver(child) {
+                Ok(task) => (TaskSlot::Task(task), true),
+                Err(child) => (TaskSlot::Unregistered(child), false),
             },
             other => (other, false),
         };
         match mem::replace(self, place) {
-            Place::Empty => is_child,
+            TaskSlot::Empty => is_child,
             _ => unreachable!(),
         }
     }
@@ -51,30 +51,30 @@ impl<'a, J: Run> Place<'a, J> {
     /// Leaves all phasers, by waiting, and forgets all.
     pub fn dismiss<W: Wait>(self, rt: &W) {
         match self {
-            Place::Task(task) => task.dismiss(rt),
-            Place::Unregistered(child) => child.dismiss(rt),
-            Place::Empty => {}
+            TaskSlot::Task(task) => task.dismiss(rt),
+            TaskSlot::Unregistered(child) => child.dismiss(rt),
+            TaskSlot::Empty => {}
         }
     }
 
-    /// Gives what the task leaves behind, or nothing where it never came. `Err` tells that it has not
-    /// left all its phasers; then it leaves them, by waiting.
-    pub fn end<W: Wait>(self, rt: &W) -> Result<Option<Ended<'a>>, Fault>
-        ensures { IfOk result (λ end. IfSome end (IsEnded J.job J.spots)) }
+    /// Returns what the task leaves behind, or nothing where it never came. `Err` tells that it has
+    /// not left all its phasers; then it leaves them, by waiting.
+    pub fn end<W: Wait>(self, rt: &W) -> Result<Option<TaskLeft<'a>>, Fault>
+        ensures { IfOk result (λ end. IfSome end (IsTaskLeft J.job J.spots)) }
     {
         match self {
-            Place::Task(task) => match task.end(rt) {
-                Ok(ended) => Ok(Some(ended)),
+            TaskSlot::Task(task) => match task.end(rt) {
+                Ok(left) => Ok(Some(left)),
                 Err(task) => {
                     task.dismiss(rt);
                     Err(Fault::Stalled)
                 }
             },
-            Place::Unregistered(child) => {
+            TaskSlot::Unregistered(child) => {
                 child.dismiss(rt);
                 Ok(None)
             }
-            Place::Empty => Ok(None),
+            TaskSlot::Empty => Ok(None),
         }
     }
 }
@@ -83,44 +83,44 @@ impl<'a, J: Run> Place<'a, J> {
 ///
 /// **End.** It cannot be thrown away, since its task cannot.
 pub struct Slot<'a, J: Run, G: Gate> {
-    pub place: Place<'a, J>,
+    pub place: TaskSlot<'a, J>,
     pub gate: &'a G,
 }
 
 // How far a task came, for the workers.
-fn turned(turned: graph_tasks::Turned) -> Turned {
-    match turned {
-        graph_tasks::Turned::Moved(phaser) => Turned::Moved(phaser),
-        graph_tasks::Turned::Ready => Turned::Ready,
-        graph_tasks::Turned::Blocked(phaser) => Turned::Blocked(phaser),
-        graph_tasks::Turned::Busy => Turned::Busy,
-        graph_tasks::Turned::Registered(child) => Turned::Child(child),
-        graph_tasks::Turned::Gone => Turned::Gone,
-        graph_tasks::Turned::TooBig => Turned::Failed(Fault::TooBig),
-        graph_tasks::Turned::OutOfMemory => Turned::Failed(Fault::OutOfMemory),
-        graph_tasks::Turned::Stuck => Turned::Failed(Fault::Stalled),
+fn progress_of(went: stream_tasks::Went) -> Progress {
+    match went {
+        stream_tasks::Went::Moved(phaser) => Progress::Moved(phaser),
+        stream_tasks::Went::Ready => Progress::Ready,
+        stream_tasks::Went::Blocked(phaser) => Progress::Blocked(phaser),
+        stream_tasks::Went::Busy => Progress::Busy,
+        stream_tasks::Went::Registered(child) => Progress::Child(child),
+        stream_tasks::Went::Gone => Progress::Gone,
+        stream_tasks::Went::TooBig => Progress::Failed(Fault::TooBig),
+        stream_tasks::Went::OutOfMemory => Progress::Failed(Fault::OutOfMemory),
+        stream_tasks::Went::Stuck => Progress::Failed(Fault::Stalled),
     }
 }
 
 impl<'a, J: Run, G: Gate> Work for Slot<'a, J, G> {
     fn phasers(&self) -> u64 {
         match &self.place {
-            Place::Task(task) => task.phasers(),
+            TaskSlot::Task(task) => task.phasers(),
             _ => 0,
         }
     }
 
-    fn turn(&mut self) -> Turned {
+    fn turn(&mut self) -> Progress {
         let gate = self.gate;
         match &mut self.place {
-            Place::Task(task) => turned(task.turn(gate)),
-            _ => Turned::Failed(Fault::Stalled),
+            TaskSlot::Task(task) => progress_of(task.turn(gate)),
+            _ => Progress::Failed(Fault::Stalled),
         }
     }
 
     fn bring(&mut self, child: &mut Slot<'a, J, G>) -> bool {
         match &mut self.place {
-            Place::Task(task) => child.place.become_child(task),
+            TaskSlot::Task(task) => child.place.become_child(task),
             _ => false,
         }
     }

@@ -1,22 +1,21 @@
 //! Whole runs of a graph on worker threads.
 ghost use Rattle.std.specs.Prelude.{◌≡◌, ℕ, Some, Ok, Err, map, IfOk};
-ghost use Rattle.graph_openings.specs.Openings.{ArePhasers, AreFoundersFrom, spot_at};
-ghost use Rattle.stream_eval.specs.Results.{sink_values};
-ghost use Rattle.stream_lists.specs.Ranges.{answer_of, first_too_big};
-ghost use Rattle.graph_base.specs.declared.place.Place.{Place as PlaceValue};
+ghost use Rattle.stream_tasks.specs.Openings.{ArePhasers, AreFoundersFrom, spot_at};
+ghost use Rattle.stream_tasks.specs.stream_eval.Results.{sink_values};
+ghost use Rattle.stream_tasks.specs.stream_lists.Ranges.{answer_of, first_too_big};
+ghost use Rattle.stream_tasks.specs.graph_base.declared.place.Place.{Place as PlaceValue};
 
 use crate::behind::{Behind, run_on};
 use crate::finishing::finish_run;
-use graph_base::Place;
-use graph_members::{AnyPhaser, AnyReg};
-use graph_openings::open_phasers;
-use graph_tasks::{Gate, Run};
 use std::alloc::Global;
 use std::marker::Brand;
 use std::sync::Wait;
 use std::thread::Threads;
-use stream_eval::{EvalFault, Lines, eval};
-use stream_lists::Job;
+use stream_tasks::graph_base::Place;
+use stream_tasks::stream_eval::{EvalFault, Lines, eval};
+use stream_tasks::stream_lists::Job;
+use stream_tasks::stream_members::{AnyPhaser, AnyReg};
+use stream_tasks::{Gate, Run, open_phasers};
 use thiserror::Error;
 use worker_pool::Fault;
 

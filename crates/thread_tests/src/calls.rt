@@ -1,12 +1,12 @@
 //! Calls on a phaser of sums, with no more of what they promise than that a registration stays on
 //! its phaser, and that it holds nothing: a test that goes by these is proved at once.
 ghost use Rattle.std.specs.Prelude.{◌≡◌, IfSome};
-ghost use Rattle.phase_shared.specs.Regs.{phaser_place};
+ghost use Rattle.phase_received.specs.phase_shared.Regs.{phaser_lock};
 
-use phase_accum::{Single, Sum};
-use phase_base::{Mode, Spec};
-use phase_core::{Got, SignalRefusal, WaitRefusal};
-use phase_shared::{Next, NoRule, Phaser, Reg, Tried};
+use phase_received::phase_accum::{Single, Sum};
+use phase_received::phase_base::{Mode, Spec};
+use phase_received::phase_core::{Got, SignalRefusal, WaitRefusal};
+use phase_received::phase_shared::{Next, NoRule, Phaser, Reg, Tried};
 use std::alloc::Global;
 use std::sync::Wait;
 
@@ -16,7 +16,7 @@ pub(crate) type SumReg = Reg<Sum, NoRule>;
 
 // A phaser with a bound and at most 1000 phases, and its founder.
 pub(crate) fn made(alloc: Global, bound: u64) -> Option<(SumPhaser, SumReg)>
-    ensures at { IfSome result (λ made. made.1.at ≡ phaser_place made.0) }
+    ensures at { IfSome result (λ made. made.1.at ≡ phaser_lock made.0) }
     ensures none_held { IfSome result (λ made. made.1.held.count ≡ 0) }
 {
     let Ok(limits) = Spec::new(bound, 1000) else {
@@ -30,10 +30,10 @@ pub(crate) fn made(alloc: Global, bound: u64) -> Option<(SumPhaser, SumReg)>
 
 // A child in a mode, where it can be registered at once.
 pub(crate) fn registered(phaser: &SumPhaser, parent: &mut SumReg, mode: Mode) -> Option<SumReg>
-    requires { parent.old.at ≡ phaser_place phaser.now }
+    requires { parent.old.at ≡ phaser_lock phaser.now }
     ensures at { parent.new.at ≡ parent.old.at }
     ensures held { parent.new.held ≡ parent.old.held }
-    ensures child { IfSome result (λ child. child.at ≡ phaser_place phaser.now) }
+    ensures child { IfSome result (λ child. child.at ≡ phaser_lock phaser.now) }
     ensures none_held { IfSome result (λ child. child.held.count ≡ 0) }
 {
     match parent.try_register(phaser, mode) {
@@ -44,7 +44,7 @@ pub(crate) fn registered(phaser: &SumPhaser, parent: &mut SumReg, mode: Mode) ->
 
 // Waits for its phase, where that is at once.
 pub(crate) fn waited(phaser: &SumPhaser, reg: &mut SumReg) -> Result<Got, Tried<WaitRefusal>>
-    requires { reg.old.at ≡ phaser_place phaser.now }
+    requires { reg.old.at ≡ phaser_lock phaser.now }
     ensures at { reg.new.at ≡ reg.old.at }
     ensures held { reg.new.held ≡ reg.old.held }
 {
@@ -60,7 +60,7 @@ pub(crate) fn goes_on<R: Wait>(
     reg: &mut SumReg,
     single: Option<Single>,
 ) -> Turned
-    requires { reg.old.at ≡ phaser_place phaser.now }
+    requires { reg.old.at ≡ phaser_lock phaser.now }
     ensures { reg.new.at ≡ reg.old.at }
 {
     reg.next(rt, phaser, single)
@@ -68,7 +68,7 @@ pub(crate) fn goes_on<R: Wait>(
 
 // Leaves, whatever it has seen.
 pub(crate) fn left<R: Wait>(rt: &R, phaser: &SumPhaser, reg: SumReg)
-    requires { reg.at ≡ phaser_place phaser.now }
+    requires { reg.at ≡ phaser_lock phaser.now }
 {
     let _past = reg.leave(rt, phaser);
 }
@@ -80,8 +80,8 @@ pub(crate) fn made_with_child<R: Wait>(
     bound: u64,
     mode: Mode,
 ) -> Option<(SumPhaser, SumReg, SumReg)>
-    ensures founder { IfSome result (λ made. made.1.at ≡ phaser_place made.0) }
-    ensures child { IfSome result (λ made. made.2.at ≡ phaser_place made.0) }
+    ensures founder { IfSome result (λ made. made.1.at ≡ phaser_lock made.0) }
+    ensures child { IfSome result (λ made. made.2.at ≡ phaser_lock made.0) }
     ensures none_held { IfSome result (λ made. made.1.held.count ≡ 0) }
     ensures none_of_child { IfSome result (λ made. made.2.held.count ≡ 0) }
 {

@@ -1,13 +1,13 @@
 //! Registrations that join, leave and are replaced while others go on.
 ghost use Rattle.std.specs.Prelude.{◌≡◌, ◌<◌, [], None, IfSome};
 ghost use denote.Param.Send.{IsSync};
-ghost use Rattle.phase_shared.specs.Regs.{phaser_place};
+ghost use Rattle.phase_received.specs.phase_shared.Regs.{phaser_lock};
 
 use crate::received::{SumReceipts, SumReceiver, joins, made_receiver, signals};
-use phase_accum::{Outcome, Sum};
-use phase_base::Mode;
-use phase_core::Got;
-use phase_shared::{NoRule, Phaser};
+use phase_received::phase_accum::{Outcome, Sum};
+use phase_received::phase_base::Mode;
+use phase_received::phase_core::Got;
+use phase_received::phase_shared::{NoRule, Phaser};
 use std::alloc::Global;
 use std::sync::Wait;
 use std::test::Fail;
@@ -30,9 +30,9 @@ fn with_more(
     kept: Option<SumReceipts>,
     more: SumReceipts,
 ) -> Option<SumReceipts>
-    requires kept { IfSome kept (λ receipts. receipts.at ≡ phaser_place phaser.now) }
-    requires more { more.at ≡ phaser_place phaser.now }
-    ensures { IfSome result (λ receipts. receipts.at ≡ phaser_place phaser.now) }
+    requires kept { IfSome kept (λ receipts. receipts.at ≡ phaser_lock phaser.now) }
+    requires more { more.at ≡ phaser_lock phaser.now }
+    ensures { IfSome result (λ receipts. receipts.at ≡ phaser_lock phaser.now) }
 {
     match kept {
         Some(kept) => joins(phaser, kept, more),
@@ -47,9 +47,9 @@ fn round_with_child<R: Wait>(
     phaser: &Phaser<Sum, NoRule>,
     receiver: &mut SumReceiver,
 ) -> Option<SumReceipts>
-    requires { receiver.old.at ≡ phaser_place phaser.now }
+    requires { receiver.old.at ≡ phaser_lock phaser.now }
     ensures at { receiver.new.at ≡ receiver.old.at }
-    ensures receipts { IfSome result (λ receipts. receipts.at ≡ phaser_place phaser.now) }
+    ensures receipts { IfSome result (λ receipts. receipts.at ≡ phaser_lock phaser.now) }
 {
     let mut child = match receiver.register(rt, alloc, phaser, Mode::SigWait) {
         Ok(child) => child,
@@ -71,7 +71,7 @@ fn goes_on<R: Wait>(
     receiver: &mut SumReceiver,
     value: i64,
 ) -> Option<Got>
-    requires { receiver.old.at ≡ phaser_place phaser.now }
+    requires { receiver.old.at ≡ phaser_lock phaser.now }
     ensures { receiver.new.at ≡ receiver.old.at }
 {
     if receiver.send(value).is_err() {
@@ -91,9 +91,9 @@ fn churn<R: Wait>(
     slot: &mut Option<SumReceiver>,
     seed: u64,
 ) -> Option<SumReceipts>
-    requires { IfSome slot.old (λ receiver. receiver.at ≡ phaser_place phaser.now) }
+    requires { IfSome slot.old (λ receiver. receiver.at ≡ phaser_lock phaser.now) }
     ensures slot { slot.new ≡ None }
-    ensures at { IfSome result (λ receipts. receipts.at ≡ phaser_place phaser.now) }
+    ensures at { IfSome result (λ receipts. receipts.at ≡ phaser_lock phaser.now) }
 {
     let mut receiver = slot.take()?;
     let mut children = None;
@@ -131,9 +131,9 @@ fn by_parts<R: Threads + Wait + Sync>(
     parts: u64,
     seed: u64,
 ) -> Option<SumReceipts>
-    requires { IfSome slot.old (λ receiver. receiver.at ≡ phaser_place phaser.now) }
+    requires { IfSome slot.old (λ receiver. receiver.at ≡ phaser_lock phaser.now) }
     ensures slot { slot.new ≡ None }
-    ensures at { IfSome result (λ receipts. receipts.at ≡ phaser_place phaser.now) }
+    ensures at { IfSome result (λ receipts. receipts.at ≡ phaser_lock phaser.now) }
 {
     if parts <= 1 {
         return churn(rt, alloc, phaser, slot, seed);
@@ -149,15 +149,15 @@ fn by_parts<R: Threads + Wait + Sync>(
         rt,
         &mut || -> Option<SumReceipts>
             requires { IsSync R.row × (half < parts)
-                × IfSome first (λ receiver. receiver.at ≡ phaser_place phaser.now) }
+                × IfSome first (λ receiver. receiver.at ≡ phaser_lock phaser.now) }
             ensures { (first.exit ≡ None) × IfSome result (λ receipts.
-                receipts.at ≡ phaser_place phaser.entry.now) }
+                receipts.at ≡ phaser_lock phaser.entry.now) }
         { by_parts(rt, alloc, phaser, &mut first, parts - half, seed) },
         &mut || -> Option<SumReceipts>
             requires { IsSync R.row × (0 < half)
-                × IfSome second (λ receiver. receiver.at ≡ phaser_place phaser.now) }
+                × IfSome second (λ receiver. receiver.at ≡ phaser_lock phaser.now) }
             ensures { (second.exit ≡ None) × IfSome result (λ receipts.
-                receipts.at ≡ phaser_place phaser.entry.now) }
+                receipts.at ≡ phaser_lock phaser.entry.now) }
         {
             by_parts(
                 rt,

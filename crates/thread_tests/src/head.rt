@@ -1,10 +1,10 @@
 //! The program in the head of `phase_shared`, as a test.
 ghost use Rattle.std.specs.Prelude.{◌≡◌, None, IfSome};
-ghost use Rattle.phase_shared.specs.Regs.{phaser_place};
+ghost use Rattle.phase_received.specs.phase_shared.Regs.{phaser_lock};
 
-use phase_accum::Sum;
-use phase_base::{Mode, Spec};
-use phase_shared::{NoRule, Phaser, Reg};
+use phase_received::phase_accum::Sum;
+use phase_received::phase_base::{Mode, Spec};
+use phase_received::phase_shared::{NoRule, Phaser, Reg};
 use std::sync::Wait;
 use std::test::Fail;
 use std::thread::{Threads, join_mut};
@@ -16,7 +16,7 @@ fn take_part<R: Wait>(
     slot: &mut Option<Reg<Sum, NoRule>>,
     value: i64,
 )
-    requires { IfSome slot.old (λ reg. reg.at ≡ phaser_place phaser.now) }
+    requires { IfSome slot.old (λ reg. reg.at ≡ phaser_lock phaser.now) }
     ensures { slot.new ≡ None }
 {
     let Some(mut reg) = slot.take() else { return };
@@ -32,17 +32,17 @@ fn run<R: Threads + Wait + Sync>(
     mut one: Option<Reg<Sum, NoRule>>,
     mut other: Option<Reg<Sum, NoRule>>,
 )
-    requires one { IfSome one (λ reg. reg.at ≡ phaser_place phaser.now) }
-    requires other { IfSome other (λ reg. reg.at ≡ phaser_place phaser.now) }
+    requires one { IfSome one (λ reg. reg.at ≡ phaser_lock phaser.now) }
+    requires other { IfSome other (λ reg. reg.at ≡ phaser_lock phaser.now) }
 {
     let _both = join_mut(
         rt,
         &mut ||
-            requires { IfSome one (λ reg. reg.at ≡ phaser_place phaser.now) }
+            requires { IfSome one (λ reg. reg.at ≡ phaser_lock phaser.now) }
             ensures { one.exit ≡ None }
         { take_part(rt, phaser, &mut one, 4) },
         &mut ||
-            requires { IfSome other (λ reg. reg.at ≡ phaser_place phaser.now) }
+            requires { IfSome other (λ reg. reg.at ≡ phaser_lock phaser.now) }
             ensures { other.exit ≡ None }
         { take_part(rt, phaser, &mut other, 3) },
     );

@@ -1,16 +1,16 @@
 //! Registrations and pasts that come out of a slot or a list, and where registrations stand.
 ghost use Rattle.std.specs.Prelude.{◌≡◌, ◌≢◌, ◌+◌, true, Some, None, IfSome};
 ghost use Rattle.std.specs.List.{All};
-ghost use Rattle.phase_base.specs.Members.{entry_of};
-ghost use Rattle.phase_history.specs.Histories.{members_of, entry_at};
-ghost use Rattle.phase_history.specs.Legal.{IsLegal};
-ghost use Rattle.phase_base.specs.Lists.{is_distinct};
-ghost use Rattle.phase_shared.specs.Regs.{phaser_place, phaser_limits};
+ghost use Rattle.phase_received.specs.phase_base.Members.{entry_of};
+ghost use Rattle.phase_received.specs.phase_history.Histories.{members_of, entry_at};
+ghost use Rattle.phase_received.specs.phase_history.Legal.{IsLegal};
+ghost use Rattle.phase_received.specs.phase_base.Lists.{is_distinct};
+ghost use Rattle.phase_received.specs.phase_shared.Regs.{phaser_lock, phaser_limits};
 
 use crate::calls::{SumPhaser, SumReg, made};
-use phase_accum::Sum;
-use phase_base::Mode;
-use phase_shared::{NoRule, Past, Phaser, Reg};
+use phase_received::phase_accum::Sum;
+use phase_received::phase_base::Mode;
+use phase_received::phase_shared::{NoRule, Past, Phaser, Reg};
 use std::test::Fail;
 
 // The last past of a list. A look tells that its history is legal and has no number twice.
@@ -18,9 +18,9 @@ fn last_past(
     phaser: &Phaser<Sum, NoRule>,
     pasts: &mut Vec<Past<Sum, NoRule>>,
 ) -> Option<Past<Sum, NoRule>>
-    requires { All (λ past. past.at ≡ phaser_place phaser.now) pasts.old.items }
-    ensures at { IfSome result (λ past. past.at ≡ phaser_place phaser.now) }
-    ensures rest { All (λ past. past.at ≡ phaser_place phaser.now) pasts.new.items }
+    requires { All (λ past. past.at ≡ phaser_lock phaser.now) pasts.old.items }
+    ensures at { IfSome result (λ past. past.at ≡ phaser_lock phaser.now) }
+    ensures rest { All (λ past. past.at ≡ phaser_lock phaser.now) pasts.new.items }
     ensures legal { IfSome result (λ past. IsLegal (phaser_limits phaser.now) past.seen) }
     ensures distinct { IfSome result (λ past. is_distinct past.numbers ≡ true) }
 {
@@ -34,8 +34,8 @@ fn reg_in(
     phaser: &Phaser<Sum, NoRule>,
     slot: &mut Option<Reg<Sum, NoRule>>,
 ) -> Option<Reg<Sum, NoRule>>
-    requires { IfSome slot.old (λ reg. reg.at ≡ phaser_place phaser.now) }
-    ensures at { IfSome result (λ reg. reg.at ≡ phaser_place phaser.now) }
+    requires { IfSome slot.old (λ reg. reg.at ≡ phaser_lock phaser.now) }
+    ensures at { IfSome result (λ reg. reg.at ≡ phaser_lock phaser.now) }
     ensures none { slot.new ≡ None }
     ensures legal { IfSome result (λ reg. IsLegal (phaser_limits phaser.now) reg.seen) }
     ensures member { IfSome result (λ reg.
@@ -52,7 +52,7 @@ fn meet_apart(
     one: Reg<Sum, NoRule>,
     other: Reg<Sum, NoRule>,
 ) -> (Reg<Sum, NoRule>, Reg<Sum, NoRule>)
-    requires { (one.at ≡ phaser_place phaser.now) × (other.at ≡ phaser_place phaser.now) }
+    requires { (one.at ≡ phaser_lock phaser.now) × (other.at ≡ phaser_lock phaser.now) }
     ensures apart { one.number ≢ other.number }
     ensures at { (result.0.at ≡ one.at) × (result.1.at ≡ other.at) }
 {
@@ -61,7 +61,7 @@ fn meet_apart(
 
 // Signals two phases at once.
 fn signal_two(phaser: &Phaser<Sum, NoRule>, reg: &mut Reg<Sum, NoRule>) -> Option<u64>
-    requires { reg.old.at ≡ phaser_place phaser.now }
+    requires { reg.old.at ≡ phaser_lock phaser.now }
     ensures at { reg.new.at ≡ reg.old.at }
     ensures entry { IfSome result (λ phase. reg.new.entry ≡ entry_at reg.old.entry.mode
         (reg.old.entry.signal_phase + 1 + 1) reg.old.entry.wait_phase) }
@@ -81,7 +81,7 @@ fn child_beside(
     reg: &mut Reg<Sum, NoRule>,
     mode: Mode,
 ) -> Option<Reg<Sum, NoRule>>
-    requires { reg.old.at ≡ phaser_place phaser.now }
+    requires { reg.old.at ≡ phaser_lock phaser.now }
     ensures at { reg.new.at ≡ reg.old.at }
     ensures child { IfSome result (λ child. (child.at ≡ reg.old.at) × (child.entry
         ≡ entry_at mode reg.new.entry.signal_phase reg.new.entry.wait_phase)) }
@@ -94,9 +94,9 @@ fn child_beside(
 
 // A child signals two phases, and registers a child of its own, which comes out of a slot.
 fn grandchild_of(phaser: &SumPhaser, child: &mut SumReg) -> Option<(u64, SumReg)>
-    requires { child.old.at ≡ phaser_place phaser.now }
+    requires { child.old.at ≡ phaser_lock phaser.now }
     ensures at { child.new.at ≡ child.old.at }
-    ensures grandchild { IfSome result (λ made. made.1.at ≡ phaser_place phaser.now) }
+    ensures grandchild { IfSome result (λ made. made.1.at ≡ phaser_lock phaser.now) }
 {
     let second = signal_two(phaser, child)?;
     let mut slot = child_beside(phaser, child, Mode::Sig);
@@ -114,9 +114,9 @@ fn joins_kept(
     pasts: &mut Vec<Past<Sum, NoRule>>,
     last: Past<Sum, NoRule>,
 ) -> Option<Past<Sum, NoRule>>
-    requires pasts { All (λ past. past.at ≡ phaser_place phaser.now) pasts.old.items }
-    requires last { last.at ≡ phaser_place phaser.now }
-    ensures { IfSome result (λ past. past.at ≡ phaser_place phaser.now) }
+    requires pasts { All (λ past. past.at ≡ phaser_lock phaser.now) pasts.old.items }
+    requires last { last.at ≡ phaser_lock phaser.now }
+    ensures { IfSome result (λ past. past.at ≡ phaser_lock phaser.now) }
 {
     let second = last_past(phaser, pasts)?;
     let first = last_past(phaser, pasts)?;

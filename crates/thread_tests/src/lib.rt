@@ -1,12 +1,18 @@
 //! Tests of a lock and of a phaser between threads, by their public calls: of `turn_lock`,
-//! `phase_shared` and `phase_received`. They stand in a crate of their own, since a crate is proved
-//! anew with its tests.
+//! `phase_shared`, with blocks of phases and late waiters, and `phase_received`. They stand in a
+//! crate of their own, since a crate is proved anew with its tests. `counting` is an example of a
+//! lock's rule.
 #![tactic(auto)]
 
+#[cfg(test)]
+mod block_tries;
+#[cfg(test)]
+mod blocks;
 #[cfg(test)]
 mod calls;
 #[cfg(test)]
 mod churn;
+pub mod counting;
 #[cfg(test)]
 mod head;
 #[cfg(test)]
@@ -25,3 +31,5 @@ mod receiver_tries;
 mod threads;
 #[cfg(test)]
 mod tries;
+#[cfg(test)]
+mod worked_laws;

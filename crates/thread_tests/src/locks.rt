@@ -1,7 +1,7 @@
 //! A lock and its example, the counter.
+use crate::counting::{count_by_threads, make_counter, read_sum, try_add_one};
+use phase_received::turn_lock::{Join, Learns, Split, Tells, TurnLock, TurnRule};
 use std::test::Fail;
-use turn_lock::counting::{count_by_threads, make_counter, read_sum, try_add_one};
-use turn_lock::{Join, Learns, Split, Tells, TurnLock, TurnRule};
 
 // A rule that allows everything.
 struct AnyValue;

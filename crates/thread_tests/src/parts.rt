@@ -1,14 +1,14 @@
 //! What calls add to a task's own part, by the laws of `phase_shared`.
 ghost use Rattle.std.specs.Prelude.{◌≡◌, ◌+◌, Some, None, IfOk, OnOk, true, length};
-ghost use Rattle.phase_history.specs.Histories.{start_of, entry_at, has_dropped};
-ghost use Rattle.phase_history.specs.Sent.{sent_by};
-ghost use Rattle.phase_shared.specs.Regs.{phaser_place};
+ghost use Rattle.phase_received.specs.phase_history.Histories.{start_of, entry_at, has_dropped};
+ghost use Rattle.phase_received.specs.phase_history.Sent.{sent_by};
+ghost use Rattle.phase_received.specs.phase_shared.Regs.{phaser_lock};
 
 use crate::calls::{goes_on, made};
-use phase_accum::Sum;
-use phase_base::Mode;
-use phase_core::{RegisterRefusal, SignalRefusal};
-use phase_shared::{NoRule, Past, Phaser, Reg, laws};
+use phase_received::phase_accum::Sum;
+use phase_received::phase_base::Mode;
+use phase_received::phase_core::{RegisterRefusal, SignalRefusal};
+use phase_received::phase_shared::{NoRule, Past, Phaser, Reg, laws};
 use std::sync::Wait;
 use std::test::Fail;
 
@@ -19,11 +19,11 @@ fn registers<R: Wait>(
     parent: &mut Reg<Sum, NoRule>,
     mode: Mode,
 ) -> Result<Reg<Sum, NoRule>, RegisterRefusal>
-    requires { parent.old.at ≡ phaser_place phaser.now }
+    requires { parent.old.at ≡ phaser_lock phaser.now }
     ensures at { parent.new.at ≡ parent.old.at }
     ensures start { IfOk result (λ child. start_of child.seen child.number
         ≡ Some (entry_at mode parent.old.entry.signal_phase parent.old.entry.wait_phase)) }
-    ensures child { IfOk result (λ child. child.at ≡ phaser_place phaser.now) }
+    ensures child { IfOk result (λ child. child.at ≡ phaser_lock phaser.now) }
 {
     laws::registers();
     let _mode = parent.mode();
@@ -40,7 +40,7 @@ fn signals<R: Wait>(
     phaser: &Phaser<Sum, NoRule>,
     reg: &mut Reg<Sum, NoRule>,
 ) -> Result<u64, SignalRefusal>
-    requires { reg.old.at ≡ phaser_place phaser.now }
+    requires { reg.old.at ≡ phaser_lock phaser.now }
     ensures at { reg.new.at ≡ reg.old.at }
     ensures sent { OnOk result (length (sent_by reg.new.seen reg.old.number)
         ≡ length (sent_by reg.old.seen reg.old.number) + 1) }
@@ -55,7 +55,7 @@ fn signals<R: Wait>(
 
 // Leaves, and has then dropped its registration.
 fn leaves<R: Wait>(rt: &R, phaser: &Phaser<Sum, NoRule>, reg: Reg<Sum, NoRule>) -> Past<Sum, NoRule>
-    requires { reg.at ≡ phaser_place phaser.now }
+    requires { reg.at ≡ phaser_lock phaser.now }
     ensures dropped { has_dropped result.seen reg.number ≡ true }
     ensures sent { sent_by result.seen reg.number ≡ sent_by reg.seen reg.number }
 {

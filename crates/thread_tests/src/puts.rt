@@ -1,14 +1,14 @@
 //! Values that are put by one call.
 ghost use Rattle.std.specs.Prelude.{◌≡◌, ◌≢◌, IfSome, OnOk, OnErr};
-ghost use Rattle.phase_accum.specs.declared.outcome.TheConstants.{NO_VALUE};
-ghost use Rattle.phase_shared.specs.Regs.{phaser_place};
-ghost use Rattle.phase_shared.specs.Puts.{IsFreeFor};
+ghost use Rattle.phase_received.specs.phase_accum.declared.outcome.TheConstants.{NO_VALUE};
+ghost use Rattle.phase_received.specs.phase_shared.Regs.{phaser_lock};
+ghost use Rattle.phase_received.specs.phase_shared.Puts.{IsFreeFor};
 
 use crate::calls::{SumPhaser, SumReg, left, made_with_child, waited};
-use phase_accum::{Accumulate, Outcome, Single};
-use phase_base::Mode;
-use phase_core::{Got, SignalRefusal, WaitRefusal};
-use phase_shared::{NoRule, Phaser, Reg, Tried};
+use phase_received::phase_accum::{Accumulate, Outcome, Single};
+use phase_received::phase_base::Mode;
+use phase_received::phase_core::{Got, SignalRefusal, WaitRefusal};
+use phase_received::phase_shared::{NoRule, Phaser, Reg, Tried};
 use std::test::Fail;
 
 // Puts a value, and tells what was answered.
@@ -18,7 +18,7 @@ fn put<A: Accumulate>(
     value: i64,
     single: Option<Single>,
 ) -> Result<u64, Tried<SignalRefusal>>
-    requires at { reg.old.at ≡ phaser_place phaser.now }
+    requires at { reg.old.at ≡ phaser_lock phaser.now }
     requires value { value ≢ NO_VALUE }
     requires free { IsFreeFor A.operation reg.old.held value }
     ensures at { reg.new.at ≡ reg.old.at }
@@ -44,8 +44,8 @@ fn put_ahead(
     sender: &mut SumReg,
     founder: &mut SumReg,
 ) -> Option<((Tried<SignalRefusal>, u64), (Waited, u64))>
-    requires sender { (sender.old.at ≡ phaser_place phaser.now) × (sender.old.held.count ≡ 0) }
-    requires founder { (founder.old.at ≡ phaser_place phaser.now) × (founder.old.held.count ≡ 0) }
+    requires sender { (sender.old.at ≡ phaser_lock phaser.now) × (sender.old.held.count ≡ 0) }
+    requires founder { (founder.old.at ≡ phaser_lock phaser.now) × (founder.old.held.count ≡ 0) }
     ensures at { (sender.new.at ≡ sender.old.at) × (founder.new.at ≡ founder.old.at) }
     ensures none_held { IfSome result (λ seen. founder.new.held.count ≡ 0) }
 {
@@ -71,7 +71,7 @@ fn put_without_a_single(
     phaser: &SumPhaser,
     founder: &mut SumReg,
 ) -> Option<(Tried<SignalRefusal>, Waited)>
-    requires { (founder.old.at ≡ phaser_place phaser.now) × (founder.old.held.count ≡ 0) }
+    requires { (founder.old.at ≡ phaser_lock phaser.now) × (founder.old.held.count ≡ 0) }
     ensures at { founder.new.at ≡ founder.old.at }
     ensures none_held { IfSome result (λ seen. founder.new.held.count ≡ 0) }
 {
@@ -86,7 +86,7 @@ fn put_without_a_single(
 
 // The founder, which is alone by now, puts 9 with a single.
 fn put_alone(phaser: &SumPhaser, founder: &mut SumReg) -> Option<Waited>
-    requires { (founder.old.at ≡ phaser_place phaser.now) × (founder.old.held.count ≡ 0) }
+    requires { (founder.old.at ≡ phaser_lock phaser.now) × (founder.old.held.count ≡ 0) }
     ensures { founder.new.at ≡ founder.old.at }
 {
     let Ok(2) = put(phaser, founder, 9, Some(Single::neg())) else {

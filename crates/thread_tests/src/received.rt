@@ -1,13 +1,13 @@
 //! What registrations got, kept beside them: `phase_received`.
 ghost use Rattle.std.specs.Prelude.{◌≡◌, IfSome};
-ghost use Rattle.phase_shared.specs.Regs.{phaser_place};
+ghost use Rattle.phase_received.specs.phase_shared.Regs.{phaser_lock};
 
 use crate::calls::SumPhaser;
-use phase_accum::{Outcome, Sum};
-use phase_base::{Mode, Spec};
-use phase_core::Got;
+use phase_received::phase_accum::{Outcome, Sum};
+use phase_received::phase_base::{Mode, Spec};
+use phase_received::phase_core::Got;
+use phase_received::phase_shared::{NoRule, Phaser};
 use phase_received::{Receipts, ReceiveFault, Receiver};
-use phase_shared::{NoRule, Phaser};
 use std::alloc::Global;
 use std::sync::Wait;
 use std::test::Fail;
@@ -18,7 +18,7 @@ pub(crate) type SumReceipts = Receipts<Sum, NoRule>;
 
 // A phaser with a bound, and its founder, which has got nothing yet.
 pub(crate) fn made_receiver(alloc: Global, bound: u64) -> Option<(SumPhaser, SumReceiver)>
-    ensures { IfSome result (λ made. made.1.at ≡ phaser_place made.0) }
+    ensures { IfSome result (λ made. made.1.at ≡ phaser_lock made.0) }
 {
     let Ok(limits) = Spec::new(bound, 1000) else {
         return None;
@@ -37,9 +37,9 @@ pub(crate) fn registers<R: Wait>(
     parent: &mut SumReceiver,
     mode: Mode,
 ) -> Option<SumReceiver>
-    requires { parent.old.at ≡ phaser_place phaser.now }
+    requires { parent.old.at ≡ phaser_lock phaser.now }
     ensures at { parent.new.at ≡ parent.old.at }
-    ensures child { IfSome result (λ child. child.at ≡ phaser_place phaser.now) }
+    ensures child { IfSome result (λ child. child.at ≡ phaser_lock phaser.now) }
 {
     match parent.register(rt, alloc, phaser, mode) {
         Ok(child) => Some(child),
@@ -54,7 +54,7 @@ pub(crate) fn signals<R: Wait>(
     receiver: &mut SumReceiver,
     value: i64,
 ) -> Option<u64>
-    requires { receiver.old.at ≡ phaser_place phaser.now }
+    requires { receiver.old.at ≡ phaser_lock phaser.now }
     ensures { receiver.new.at ≡ receiver.old.at }
 {
     let is_held = receiver.send(value).is_ok();
@@ -70,8 +70,8 @@ pub(crate) fn joins(
     one: SumReceipts,
     other: SumReceipts,
 ) -> Option<SumReceipts>
-    requires { (one.at ≡ phaser_place phaser.now) × (other.at ≡ phaser_place phaser.now) }
-    ensures { IfSome result (λ receipts. receipts.at ≡ phaser_place phaser.now) }
+    requires { (one.at ≡ phaser_lock phaser.now) × (other.at ≡ phaser_lock phaser.now) }
+    ensures { IfSome result (λ receipts. receipts.at ≡ phaser_lock phaser.now) }
 {
     match one.join(phaser, other) {
         Ok(both) => Some(both),
@@ -101,7 +101,7 @@ fn go_on<R: Wait>(
     other: &mut SumReceiver,
     value: i64,
 ) -> bool
-    requires { (one.old.at ≡ phaser_place phaser.now) × (other.old.at ≡ phaser_place phaser.now) }
+    requires { (one.old.at ≡ phaser_lock phaser.now) × (other.old.at ≡ phaser_lock phaser.now) }
     ensures { (one.new.at ≡ one.old.at) × (other.new.at ≡ other.old.at) }
 {
     let is_held = one.send(value).is_ok();
@@ -117,8 +117,8 @@ fn go_on_twice<R: Wait>(
     founder: &mut SumReceiver,
     waiter: &mut SumReceiver,
 ) -> bool
-    requires founder { founder.old.at ≡ phaser_place phaser.now }
-    requires waiter { waiter.old.at ≡ phaser_place phaser.now }
+    requires founder { founder.old.at ≡ phaser_lock phaser.now }
+    requires waiter { waiter.old.at ≡ phaser_lock phaser.now }
     ensures at { (founder.new.at ≡ founder.old.at) × (waiter.new.at ≡ waiter.old.at) }
 {
     let first = go_on(rt, phaser, founder, waiter, 3);
@@ -129,7 +129,7 @@ fn go_on_twice<R: Wait>(
 
 // A founder signals once more with 5, and tells whether it is one phase ahead of its waits.
 fn signals_ahead<R: Wait>(rt: &R, phaser: &SumPhaser, founder: &mut SumReceiver) -> bool
-    requires { founder.old.at ≡ phaser_place phaser.now }
+    requires { founder.old.at ≡ phaser_lock phaser.now }
     ensures { founder.new.at ≡ founder.old.at }
 {
     let phase = signals(rt, phaser, founder, 5);
@@ -143,8 +143,8 @@ fn get_the_last<R: Wait>(
     late: &mut SumReceiver,
     waiter: &mut SumReceiver,
 ) -> bool
-    requires late { late.old.at ≡ phaser_place phaser.now }
-    requires waiter { waiter.old.at ≡ phaser_place phaser.now }
+    requires late { late.old.at ≡ phaser_lock phaser.now }
+    requires waiter { waiter.old.at ≡ phaser_lock phaser.now }
     ensures at { (late.new.at ≡ late.old.at) × (waiter.new.at ≡ waiter.old.at) }
 {
     let outcome = Outcome::Value(5);
@@ -170,9 +170,9 @@ fn all_joined(
     two: SumReceipts,
     three: SumReceipts,
 ) -> Option<SumReceipts>
-    requires one { one.at ≡ phaser_place phaser.now }
-    requires two { two.at ≡ phaser_place phaser.now }
-    requires three { three.at ≡ phaser_place phaser.now }
+    requires one { one.at ≡ phaser_lock phaser.now }
+    requires two { two.at ≡ phaser_lock phaser.now }
+    requires three { three.at ≡ phaser_lock phaser.now }
 {
     let both = joins(phaser, one, two)?;
     joins(phaser, both, three)

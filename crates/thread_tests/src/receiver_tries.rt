@@ -1,14 +1,14 @@
 //! The calls of a receiver that wait for nobody.
 ghost use Rattle.std.specs.Prelude.{◌≡◌, IfSome};
-ghost use Rattle.phase_shared.specs.Regs.{phaser_place};
+ghost use Rattle.phase_received.specs.phase_shared.Regs.{phaser_lock};
 
 use crate::calls::SumPhaser;
 use crate::received::{SumReceipts, SumReceiver, made_receiver};
-use phase_accum::{Outcome, Sum};
-use phase_base::Mode;
-use phase_core::{Got, SignalRefusal, WaitRefusal};
 use phase_received::ReceiveFault;
-use phase_shared::{NoRule, Phaser, SendRefusal, Tried};
+use phase_received::phase_accum::{Outcome, Sum};
+use phase_received::phase_base::Mode;
+use phase_received::phase_core::{Got, SignalRefusal, WaitRefusal};
+use phase_received::phase_shared::{NoRule, Phaser, SendRefusal, Tried};
 use std::alloc::Global;
 use std::sync::Wait;
 use std::test::Fail;
@@ -27,7 +27,7 @@ fn leave<R: Wait>(
     phaser: &Phaser<Sum, NoRule>,
     receiver: SumReceiver,
 ) -> (bool, SumReceipts)
-    requires { receiver.at ≡ phaser_place phaser.now }
+    requires { receiver.at ≡ phaser_lock phaser.now }
 {
     match receiver.try_leave(alloc, phaser) {
         Ok(receipts) => (true, receipts),
@@ -43,7 +43,7 @@ fn signals_at_once(
     receiver: &mut SumReceiver,
     value: i64,
 ) -> (Result<(), SendRefusal>, Result<u64, Tried<SignalRefusal>>)
-    requires { receiver.old.at ≡ phaser_place phaser.now }
+    requires { receiver.old.at ≡ phaser_lock phaser.now }
     ensures { receiver.new.at ≡ receiver.old.at }
 {
     let sent = receiver.send(value);
@@ -51,7 +51,7 @@ fn signals_at_once(
 }
 
 fn waits_at_once(phaser: &SumPhaser, receiver: &mut SumReceiver) -> Waited
-    requires { receiver.old.at ≡ phaser_place phaser.now }
+    requires { receiver.old.at ≡ phaser_lock phaser.now }
     ensures { receiver.new.at ≡ receiver.old.at }
 {
     receiver.try_wait(phaser)
@@ -59,8 +59,8 @@ fn waits_at_once(phaser: &SumPhaser, receiver: &mut SumReceiver) -> Waited
 
 // Whether the waiter waits too early, and after the founder's signal gets the value as it does.
 fn are_answered(phaser: &SumPhaser, founder: &mut SumReceiver, waiter: &mut SumReceiver) -> bool
-    requires founder { founder.old.at ≡ phaser_place phaser.now }
-    requires waiter { waiter.old.at ≡ phaser_place phaser.now }
+    requires founder { founder.old.at ≡ phaser_lock phaser.now }
+    requires waiter { waiter.old.at ≡ phaser_lock phaser.now }
     ensures at { (founder.new.at ≡ founder.old.at) × (waiter.new.at ≡ waiter.old.at) }
 {
     let is_empty = waiter.values().is_empty();
@@ -82,9 +82,9 @@ fn registers_at_once(
     parent: &mut SumReceiver,
     mode: Mode,
 ) -> Option<SumReceiver>
-    requires { parent.old.at ≡ phaser_place phaser.now }
+    requires { parent.old.at ≡ phaser_lock phaser.now }
     ensures at { parent.new.at ≡ parent.old.at }
-    ensures child { IfSome result (λ child. child.at ≡ phaser_place phaser.now) }
+    ensures child { IfSome result (λ child. child.at ≡ phaser_lock phaser.now) }
 {
     match parent.try_register(alloc, phaser, mode) {
         Ok(child) => Some(child),

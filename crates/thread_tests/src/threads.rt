@@ -1,15 +1,15 @@
 //! Threads that signal, wait and leave, and what each got.
 ghost use Rattle.std.specs.Prelude.{◌≡◌, None, IfSome};
-ghost use Rattle.phase_shared.specs.Regs.{phaser_place};
+ghost use Rattle.phase_received.specs.phase_shared.Regs.{phaser_lock};
 
 use crate::calls::{left, made_with_child, registered};
 use crate::received::{
     SumReceipts, SumReceiver, are_lists, joins, made_receiver, registers, signals,
 };
-use phase_accum::{Outcome, Sum};
-use phase_base::Mode;
-use phase_core::Got;
-use phase_shared::{NoRule, Phaser, Reg};
+use phase_received::phase_accum::{Outcome, Sum};
+use phase_received::phase_base::Mode;
+use phase_received::phase_core::Got;
+use phase_received::phase_shared::{NoRule, Phaser, Reg};
 use std::alloc::Global;
 use std::sync::Wait;
 use std::test::Fail;
@@ -22,7 +22,7 @@ fn send_all<R: Wait>(
     slot: &mut Option<Reg<Sum, NoRule>>,
     count: i64,
 ) -> bool
-    requires { IfSome slot.old (λ reg. reg.at ≡ phaser_place phaser.now) }
+    requires { IfSome slot.old (λ reg. reg.at ≡ phaser_lock phaser.now) }
     ensures { slot.new ≡ None }
 {
     let Some(mut reg) = slot.take() else {
@@ -45,7 +45,7 @@ fn receive_all<R: Wait>(
     slot: &mut Option<Reg<Sum, NoRule>>,
     count: i64,
 ) -> bool
-    requires { IfSome slot.old (λ reg. reg.at ≡ phaser_place phaser.now) }
+    requires { IfSome slot.old (λ reg. reg.at ≡ phaser_lock phaser.now) }
     ensures { slot.new ≡ None }
 {
     let Some(mut reg) = slot.take() else {
@@ -69,18 +69,18 @@ fn stream<R: Threads + Wait + Sync>(
     taker: Reg<Sum, NoRule>,
     count: i64,
 ) -> (bool, bool)
-    requires { (sender.at ≡ phaser_place phaser.now) × (taker.at ≡ phaser_place phaser.now) }
+    requires { (sender.at ≡ phaser_lock phaser.now) × (taker.at ≡ phaser_lock phaser.now) }
 {
     let mut first = Some(sender);
     let mut second = Some(taker);
     let all = join_mut(
         rt,
         &mut || -> bool
-            requires { IfSome first (λ reg. reg.at ≡ phaser_place phaser.now) }
+            requires { IfSome first (λ reg. reg.at ≡ phaser_lock phaser.now) }
             ensures { first.exit ≡ None }
         { send_all(rt, phaser, &mut first, count) },
         &mut || -> bool
-            requires { IfSome second (λ reg. reg.at ≡ phaser_place phaser.now) }
+            requires { IfSome second (λ reg. reg.at ≡ phaser_lock phaser.now) }
             ensures { second.exit ≡ None }
         { receive_all(rt, phaser, &mut second, count) },
     );
@@ -119,7 +119,7 @@ fn does<R: Wait>(
     receiver: &mut SumReceiver,
     part: Part,
 ) -> bool
-    requires { receiver.old.at ≡ phaser_place phaser.now }
+    requires { receiver.old.at ≡ phaser_lock phaser.now }
     ensures { receiver.new.at ≡ receiver.old.at }
 {
     match part {
@@ -142,9 +142,9 @@ fn take_part<R: Wait>(
     slot: &mut Option<SumReceiver>,
     part: Part,
 ) -> Option<SumReceipts>
-    requires { IfSome slot.old (λ receiver. receiver.at ≡ phaser_place phaser.now) }
+    requires { IfSome slot.old (λ receiver. receiver.at ≡ phaser_lock phaser.now) }
     ensures slot { slot.new ≡ None }
-    ensures at { IfSome result (λ receipts. receipts.at ≡ phaser_place phaser.now) }
+    ensures at { IfSome result (λ receipts. receipts.at ≡ phaser_lock phaser.now) }
 {
     let mut receiver = slot.take()?;
     let is_done = does(rt, phaser, &mut receiver, part);
@@ -160,22 +160,22 @@ fn take_two<R: Threads + Wait + Sync>(
     second: &mut Option<SumReceiver>,
     parts: (Part, Part),
 ) -> Option<SumReceipts>
-    requires first { IfSome first.old (λ receiver. receiver.at ≡ phaser_place phaser.now) }
-    requires second { IfSome second.old (λ receiver. receiver.at ≡ phaser_place phaser.now) }
+    requires first { IfSome first.old (λ receiver. receiver.at ≡ phaser_lock phaser.now) }
+    requires second { IfSome second.old (λ receiver. receiver.at ≡ phaser_lock phaser.now) }
     ensures slots { (first.new ≡ None) × (second.new ≡ None) }
-    ensures at { IfSome result (λ receipts. receipts.at ≡ phaser_place phaser.now) }
+    ensures at { IfSome result (λ receipts. receipts.at ≡ phaser_lock phaser.now) }
 {
     let (one, other) = join_mut(
         rt,
         &mut || -> Option<SumReceipts>
-            requires { IfSome first.now (λ receiver. receiver.at ≡ phaser_place phaser.now) }
+            requires { IfSome first.now (λ receiver. receiver.at ≡ phaser_lock phaser.now) }
             ensures { (first.exit.now ≡ None) × IfSome result (λ receipts.
-                receipts.at ≡ phaser_place phaser.entry.now) }
+                receipts.at ≡ phaser_lock phaser.entry.now) }
         { take_part(rt, alloc, phaser, first, parts.0) },
         &mut || -> Option<SumReceipts>
-            requires { IfSome second.now (λ receiver. receiver.at ≡ phaser_place phaser.now) }
+            requires { IfSome second.now (λ receiver. receiver.at ≡ phaser_lock phaser.now) }
             ensures { (second.exit.now ≡ None) × IfSome result (λ receipts.
-                receipts.at ≡ phaser_place phaser.entry.now) }
+                receipts.at ≡ phaser_lock phaser.entry.now) }
         { take_part(rt, alloc, phaser, second, parts.1) },
     );
     joins(phaser, one?, other?)
@@ -188,10 +188,10 @@ fn take_three<R: Threads + Wait + Sync>(
     receivers: (SumReceiver, SumReceiver, SumReceiver),
     parts: (Part, Part, Part),
 ) -> Option<SumReceipts>
-    requires first { receivers.0.at ≡ phaser_place phaser.now }
-    requires second { receivers.1.at ≡ phaser_place phaser.now }
-    requires third { receivers.2.at ≡ phaser_place phaser.now }
-    ensures { IfSome result (λ receipts. receipts.at ≡ phaser_place phaser.now) }
+    requires first { receivers.0.at ≡ phaser_lock phaser.now }
+    requires second { receivers.1.at ≡ phaser_lock phaser.now }
+    requires third { receivers.2.at ≡ phaser_lock phaser.now }
+    ensures { IfSome result (λ receipts. receipts.at ≡ phaser_lock phaser.now) }
 {
     let mut first = Some(receivers.0);
     let mut second = Some(receivers.1);
@@ -199,15 +199,15 @@ fn take_three<R: Threads + Wait + Sync>(
     let (one, others) = join_mut(
         rt,
         &mut || -> Option<SumReceipts>
-            requires { IfSome first (λ receiver. receiver.at ≡ phaser_place phaser.now) }
+            requires { IfSome first (λ receiver. receiver.at ≡ phaser_lock phaser.now) }
             ensures { (first.exit ≡ None) × IfSome result (λ receipts.
-                receipts.at ≡ phaser_place phaser.entry.now) }
+                receipts.at ≡ phaser_lock phaser.entry.now) }
         { take_part(rt, alloc, phaser, &mut first, parts.0) },
         &mut || -> Option<SumReceipts>
-            requires { IfSome second (λ receiver. receiver.at ≡ phaser_place phaser.now)
-                × IfSome third (λ receiver. receiver.at ≡ phaser_place phaser.now) }
+            requires { IfSome second (λ receiver. receiver.at ≡ phaser_lock phaser.now)
+                × IfSome third (λ receiver. receiver.at ≡ phaser_lock phaser.now) }
             ensures { (second.exit ≡ None) × (third.exit ≡ None) × IfSome result (λ receipts.
-                receipts.at ≡ phaser_place phaser.entry.now) }
+                receipts.at ≡ phaser_lock phaser.entry.now) }
         {
             take_two(
                 rt,

@@ -1,15 +1,15 @@
 //! Calls that wait for nobody: answers and refusals in their order.
 ghost use Rattle.std.specs.Prelude.{◌≡◌, IfSome};
-ghost use Rattle.phase_shared.specs.Regs.{phaser_place};
+ghost use Rattle.phase_received.specs.phase_shared.Regs.{phaser_lock};
 
 use crate::calls::{
     SumPhaser, SumReg, Turned, goes_on, left, made, made_with_child, registered, waited,
 };
-use phase_accum::{Outcome, Single, Sum};
-use phase_base::{Mode, Spec};
-use phase_core::{Got, RegisterRefusal, SignalRefusal, WaitRefusal};
-use phase_shared::one_send::{OneSend, try_signal_value};
-use phase_shared::{Next, NoRule, Past, Phaser, Reg, SendRefusal, Tried};
+use phase_received::phase_accum::{Outcome, Single, Sum};
+use phase_received::phase_base::{Mode, Spec};
+use phase_received::phase_core::{Got, RegisterRefusal, SignalRefusal, WaitRefusal};
+use phase_received::phase_shared::one_send::{OneSend, try_signal_value};
+use phase_received::phase_shared::{Next, NoRule, Past, Phaser, Reg, SendRefusal, Tried};
 use std::sync::Wait;
 use std::test::Fail;
 
@@ -31,7 +31,7 @@ enum Answer {
 }
 
 fn answer_to(phaser: &Phaser<Sum, NoRule>, reg: &mut Reg<Sum, NoRule>, call: Call) -> Answer
-    requires { reg.old.at ≡ phaser_place phaser.now }
+    requires { reg.old.at ≡ phaser_lock phaser.now }
     ensures { reg.new.at ≡ reg.old.at }
 {
     match call {
@@ -56,7 +56,7 @@ fn are_answered(
     reg: &mut Reg<Sum, NoRule>,
     rows: &[(Call, Answer)],
 ) -> bool
-    requires { reg.old.at ≡ phaser_place phaser.now }
+    requires { reg.old.at ≡ phaser_lock phaser.now }
     ensures { reg.new.at ≡ reg.old.at }
 {
     let mut all = true;
@@ -80,8 +80,8 @@ fn leave_at_once(
     phaser: &Phaser<Sum, NoRule>,
     reg: Reg<Sum, NoRule>,
 ) -> (bool, Past<Sum, NoRule>)
-    requires { reg.at ≡ phaser_place phaser.now }
-    ensures { result.1.at ≡ phaser_place phaser.now }
+    requires { reg.at ≡ phaser_lock phaser.now }
+    ensures { result.1.at ≡ phaser_lock phaser.now }
 {
     match reg.try_leave(phaser) {
         Ok(past) => (true, past),
@@ -91,8 +91,8 @@ fn leave_at_once(
 
 // A child sends and signals, and its founder waits too early, and then in time.
 fn answers_in_turn(phaser: &SumPhaser, first: &mut SumReg, second: &mut SumReg) -> bool
-    requires first { first.old.at ≡ phaser_place phaser.now }
-    requires second { second.old.at ≡ phaser_place phaser.now }
+    requires first { first.old.at ≡ phaser_lock phaser.now }
+    requires second { second.old.at ≡ phaser_lock phaser.now }
     ensures at { (first.new.at ≡ first.old.at) × (second.new.at ≡ second.old.at) }
 {
     let held = [
@@ -129,7 +129,7 @@ fn standing(reg: &SumReg) -> ((u64, u64), Mode) {
 
 // The same two, which have met.
 fn met(phaser: &SumPhaser, first: SumReg, second: SumReg) -> (SumReg, SumReg)
-    requires { (first.at ≡ phaser_place phaser.now) × (second.at ≡ phaser_place phaser.now) }
+    requires { (first.at ≡ phaser_lock phaser.now) × (second.at ≡ phaser_lock phaser.now) }
     ensures { (result.0.at ≡ first.at) × (result.1.at ≡ second.at) }
 {
     first.meet(phaser, second)
@@ -161,7 +161,7 @@ fn signaller_refused<R: Wait>(
     phaser: &SumPhaser,
     parent: &mut SumReg,
 ) -> Option<Tried<RegisterRefusal>>
-    requires { parent.old.at ≡ phaser_place phaser.now }
+    requires { parent.old.at ≡ phaser_lock phaser.now }
     ensures { parent.new.at ≡ parent.old.at }
 {
     match parent.try_register(phaser, Mode::Sig) {
@@ -235,7 +235,7 @@ fn goes_on_alone<R: Wait>(
     phaser: &SumPhaser,
     founder: &mut SumReg,
 ) -> (bool, Turned, Turned)
-    requires { founder.old.at ≡ phaser_place phaser.now }
+    requires { founder.old.at ≡ phaser_lock phaser.now }
     ensures { founder.new.at ≡ founder.old.at }
 {
     let is_held = founder.send(5).is_ok();
@@ -250,8 +250,8 @@ fn go_on_apart<R: Wait>(
     signaller: &mut SumReg,
     waiter: &mut SumReg,
 ) -> (Turned, Turned, Turned)
-    requires signaller { signaller.old.at ≡ phaser_place phaser.now }
-    requires waiter { waiter.old.at ≡ phaser_place phaser.now }
+    requires signaller { signaller.old.at ≡ phaser_lock phaser.now }
+    requires waiter { waiter.old.at ≡ phaser_lock phaser.now }
     ensures at { (signaller.new.at ≡ signaller.old.at) × (waiter.new.at ≡ waiter.old.at) }
 {
     let alone = goes_on(rt, phaser, signaller, None);
@@ -299,9 +299,9 @@ fn a_founder_alone_goes_on_by_itself(rt: HostRuntime) -> Result<(), Fail> {
 
 // Registers a child, by a second call where memory was wanting.
 fn child_of(phaser: &Phaser<Sum, NoRule>, reg: &mut Reg<Sum, NoRule>) -> Option<Reg<Sum, NoRule>>
-    requires { reg.old.at ≡ phaser_place phaser.now }
+    requires { reg.old.at ≡ phaser_lock phaser.now }
     ensures at { reg.new.at ≡ reg.old.at }
-    ensures child { IfSome result (λ child. child.at ≡ phaser_place phaser.now) }
+    ensures child { IfSome result (λ child. child.at ≡ phaser_lock phaser.now) }
 {
     match reg.try_register(phaser, Mode::Sig) {
         Ok(child) => return Some(child),
@@ -324,7 +324,7 @@ fn are_registered<R: Wait>(
     reg: &mut Reg<Sum, NoRule>,
     count: u64,
 ) -> bool
-    requires { reg.old.at ≡ phaser_place phaser.now }
+    requires { reg.old.at ≡ phaser_lock phaser.now }
     ensures { reg.new.at ≡ reg.old.at }
 {
     if count == 0 {

@@ -5,14 +5,14 @@
 
 ghost use Rattle.std.specs.Prelude.{◌≡◌, None, IfSome};
 ghost use denote.Param.Send.{IsSync};
-ghost use Rattle.phase_shared.specs.Regs.{phaser_place, phaser_limits};
+ghost use Rattle.phase_received.specs.phase_shared.Regs.{phaser_lock, phaser_limits};
 ghost use Rattle.three_stages.specs.Inside.{GotWhole};
 
-use phase_accum::{Outcome, Sum};
-use phase_base::{Mode, Spec};
-use phase_core::Got;
+use phase_received::phase_accum::{Outcome, Sum};
+use phase_received::phase_base::{Mode, Spec};
+use phase_received::phase_core::Got;
+use phase_received::phase_shared::{NoRule, Past, Phaser, Reg};
 use phase_received::{Receipts, Receiver, laws};
-use phase_shared::{NoRule, Past, Phaser, Reg};
 use std::alloc::Global;
 use std::io;
 use std::sync::Wait;
@@ -40,7 +40,7 @@ struct Sunk {
 
 /// Sends a value and signals.
 fn sends<R: Wait>(rt: &R, bus: &Bus, sender: &mut Sender, value: i64) -> bool
-    requires { sender.old.at ≡ phaser_place bus.now }
+    requires { sender.old.at ≡ phaser_lock bus.now }
     ensures { sender.new.at ≡ sender.old.at }
 {
     let is_held = sender.send(value).is_ok();
@@ -49,9 +49,9 @@ fn sends<R: Wait>(rt: &R, bus: &Bus, sender: &mut Sender, value: i64) -> bool
 
 /// The helper's part: it sends 1000 in each of some phases, and leaves.
 fn helps<R: Wait>(rt: &R, bus: &Bus, slot: &mut Option<Sender>) -> Option<Left>
-    requires { IfSome slot.old (λ sender. sender.at ≡ phaser_place bus.now) }
+    requires { IfSome slot.old (λ sender. sender.at ≡ phaser_lock bus.now) }
     ensures slot { slot.new ≡ None }
-    ensures past { IfSome result (λ past. past.at ≡ phaser_place bus.now) }
+    ensures past { IfSome result (λ past. past.at ≡ phaser_lock bus.now) }
 {
     let mut sender = slot.take()?;
     for _ in 0..HELPED {
@@ -62,7 +62,7 @@ fn helps<R: Wait>(rt: &R, bus: &Bus, slot: &mut Option<Sender>) -> Option<Left>
 
 /// Sends the values of a range, a value a phase.
 fn sends_some<R: Wait>(rt: &R, bus: &Bus, sender: &mut Sender, from: i64, to: i64)
-    requires { sender.old.at ≡ phaser_place bus.now }
+    requires { sender.old.at ≡ phaser_lock bus.now }
     ensures { sender.new.at ≡ sender.old.at }
 {
     for value in from..to {
@@ -73,9 +73,9 @@ fn sends_some<R: Wait>(rt: &R, bus: &Bus, sender: &mut Sender, from: i64, to: i6
 /// The source's part: it sends 0, 1, 2 and so on. After some phases a helper joins it, in a thread
 /// of its own.
 fn feeds<R: Threads + Wait + Sync>(rt: &R, bus: &Bus, slot: &mut Option<Sender>) -> Option<Left>
-    requires { IfSome slot.old (λ sender. sender.at ≡ phaser_place bus.now) }
+    requires { IfSome slot.old (λ sender. sender.at ≡ phaser_lock bus.now) }
     ensures slot { slot.new ≡ None }
-    ensures past { IfSome result (λ past. past.at ≡ phaser_place bus.now) }
+    ensures past { IfSome result (λ past. past.at ≡ phaser_lock bus.now) }
 {
     let mut sender = slot.take()?;
     sends_some(rt, bus, &mut sender, 0, HELPED);
@@ -87,13 +87,13 @@ fn feeds<R: Threads + Wait + Sync>(rt: &R, bus: &Bus, slot: &mut Option<Sender>)
     let ((), helped) = join_mut(
         rt,
         &mut || -> ()
-            requires { own.now.at ≡ phaser_place bus.now }
-            ensures { own.exit.now.at ≡ phaser_place bus.entry.now }
+            requires { own.now.at ≡ phaser_lock bus.now }
+            ensures { own.exit.now.at ≡ phaser_lock bus.entry.now }
         { sends_some(rt, bus, own, HELPED, PHASES) },
         &mut || -> Option<Left>
-            requires { IfSome helper (λ sender. sender.at ≡ phaser_place bus.now) }
+            requires { IfSome helper (λ sender. sender.at ≡ phaser_lock bus.now) }
             ensures { (helper.exit ≡ None) × IfSome result (λ past.
-                past.at ≡ phaser_place bus.entry.now) }
+                past.at ≡ phaser_lock bus.entry.now) }
         { helps(rt, bus, &mut helper) },
     );
     let None = helper else { unreachable!() };
@@ -106,10 +106,10 @@ fn feeds<R: Threads + Wait + Sync>(rt: &R, bus: &Bus, slot: &mut Option<Sender>)
 
 /// The sink's part: it takes all values, until no more will come.
 fn takes_all<R: Wait>(rt: &R, alloc: Global, bus: &Bus, slot: &mut Option<Taker>) -> Option<Sunk>
-    requires { IfSome slot.old (λ taker. taker.at ≡ phaser_place bus.now) }
+    requires { IfSome slot.old (λ taker. taker.at ≡ phaser_lock bus.now) }
     ensures slot { slot.new ≡ None }
     ensures all { IfSome result (λ sunk.
-        GotWhole (phaser_place bus.now) (phaser_limits bus.now) sunk.past sunk.values.items) }
+        GotWhole (phaser_lock bus.now) (phaser_limits bus.now) sunk.past sunk.values.items) }
 {
     let mut taker = slot.take()?;
     for _ in rt.forever() {
@@ -135,10 +135,10 @@ fn doubles<R: Wait>(
     to: &Bus,
     out: &mut Option<Sender>,
 ) -> Option<Left>
-    requires slot { IfSome slot.old (λ taker. taker.at ≡ phaser_place from.now) }
-    requires out { IfSome out.old (λ sender. sender.at ≡ phaser_place to.now) }
+    requires slot { IfSome slot.old (λ taker. taker.at ≡ phaser_lock from.now) }
+    requires out { IfSome out.old (λ sender. sender.at ≡ phaser_lock to.now) }
     ensures slots { (slot.new ≡ None) × (out.new ≡ None) }
-    ensures left { IfSome result (λ past. past.at ≡ phaser_place to.now) }
+    ensures left { IfSome result (λ past. past.at ≡ phaser_lock to.now) }
 {
     let (mut taker, mut sender) = match (slot.take(), out.take()) {
         (Some(taker), Some(sender)) => (taker, sender),
@@ -164,14 +164,14 @@ fn doubles<R: Wait>(
 
 /// Joins what others left to what the sink left: it still has the whole stream.
 fn joins(bus: &Bus, sunk: Sunk, others: Left) -> Sunk
-    requires sunk { GotWhole (phaser_place bus.now) (phaser_limits bus.now) sunk.past
+    requires sunk { GotWhole (phaser_lock bus.now) (phaser_limits bus.now) sunk.past
         sunk.values.items }
-    requires others { others.at ≡ phaser_place bus.now }
-    ensures { GotWhole (phaser_place bus.now) (phaser_limits bus.now) result.past
+    requires others { others.at ≡ phaser_lock bus.now }
+    ensures { GotWhole (phaser_lock bus.now) (phaser_limits bus.now) result.past
         result.values.items }
 {
     laws::whole();
-    phase_shared::laws::parts_stay();
+    phase_received::phase_shared::laws::parts_stay();
     let Sunk { past, values } = sunk;
     let past = past.join(bus, others);
     Sunk { past, values }
@@ -187,26 +187,26 @@ fn runs_two<R: Threads + Wait + Sync>(
     to: &mut Option<Sender>,
     sink: &mut Option<Taker>,
 ) -> Option<Sunk>
-    requires from { IfSome from.old (λ taker. taker.at ≡ phaser_place first.now) }
-    requires to { IfSome to.old (λ sender. sender.at ≡ phaser_place second.now) }
-    requires sink { IfSome sink.old (λ taker. taker.at ≡ phaser_place second.now) }
+    requires from { IfSome from.old (λ taker. taker.at ≡ phaser_lock first.now) }
+    requires to { IfSome to.old (λ sender. sender.at ≡ phaser_lock second.now) }
+    requires sink { IfSome sink.old (λ taker. taker.at ≡ phaser_lock second.now) }
     ensures slots { (from.new ≡ None) × (to.new ≡ None) × (sink.new ≡ None) }
     ensures all { IfSome result (λ sunk.
-        GotWhole (phaser_place second.now) (phaser_limits second.now) sunk.past
+        GotWhole (phaser_lock second.now) (phaser_limits second.now) sunk.past
         sunk.values.items) }
 {
     let (doubled, sunk) = join_mut(
         rt,
         &mut || -> Option<Left>
-            requires { IfSome from.now (λ taker. taker.at ≡ phaser_place first.now)
-                × IfSome to.now (λ sender. sender.at ≡ phaser_place second.now) }
+            requires { IfSome from.now (λ taker. taker.at ≡ phaser_lock first.now)
+                × IfSome to.now (λ sender. sender.at ≡ phaser_lock second.now) }
             ensures { (from.exit.now ≡ None) × (to.exit.now ≡ None)
-                × IfSome result (λ past. past.at ≡ phaser_place second.entry.now) }
+                × IfSome result (λ past. past.at ≡ phaser_lock second.entry.now) }
         { doubles(rt, alloc, first, from, second, to) },
         &mut || -> Option<Sunk>
-            requires { IfSome sink.now (λ taker. taker.at ≡ phaser_place second.now) }
+            requires { IfSome sink.now (λ taker. taker.at ≡ phaser_lock second.now) }
             ensures { (sink.exit.now ≡ None) × IfSome result (λ sunk.
-                GotWhole (phaser_place second.entry.now) (phaser_limits second.entry.now)
+                GotWhole (phaser_lock second.entry.now) (phaser_limits second.entry.now)
                 sunk.past sunk.values.items) }
         { takes_all(rt, alloc, second, sink) },
     );
@@ -225,27 +225,27 @@ fn runs<R: Threads + Wait + Sync>(
     mut to: Option<Sender>,
     mut sink: Option<Taker>,
 ) -> Option<Sunk>
-    requires source { IfSome source (λ sender. sender.at ≡ phaser_place first.now) }
-    requires from { IfSome from (λ taker. taker.at ≡ phaser_place first.now) }
-    requires to { IfSome to (λ sender. sender.at ≡ phaser_place second.now) }
-    requires sink { IfSome sink (λ taker. taker.at ≡ phaser_place second.now) }
+    requires source { IfSome source (λ sender. sender.at ≡ phaser_lock first.now) }
+    requires from { IfSome from (λ taker. taker.at ≡ phaser_lock first.now) }
+    requires to { IfSome to (λ sender. sender.at ≡ phaser_lock second.now) }
+    requires sink { IfSome sink (λ taker. taker.at ≡ phaser_lock second.now) }
     ensures { IfSome result (λ sunk.
-        GotWhole (phaser_place second.now) (phaser_limits second.now) sunk.past
+        GotWhole (phaser_lock second.now) (phaser_limits second.now) sunk.past
         sunk.values.items) }
 {
     let (_fed, sunk) = join_mut(
         rt,
         &mut || -> Option<Left>
-            requires { IfSome source (λ sender. sender.at ≡ phaser_place first.now)
+            requires { IfSome source (λ sender. sender.at ≡ phaser_lock first.now)
                 × IsSync R.row }
             ensures { source.exit ≡ None }
         { feeds(rt, first, &mut source) },
         &mut || -> Option<Sunk>
-            requires { IfSome from (λ taker. taker.at ≡ phaser_place first.now)
-                × IfSome to (λ sender. sender.at ≡ phaser_place second.now)
-                × IfSome sink (λ taker. taker.at ≡ phaser_place second.now) × IsSync R.row }
+            requires { IfSome from (λ taker. taker.at ≡ phaser_lock first.now)
+                × IfSome to (λ sender. sender.at ≡ phaser_lock second.now)
+                × IfSome sink (λ taker. taker.at ≡ phaser_lock second.now) × IsSync R.row }
             ensures { (from.exit ≡ None) × (to.exit ≡ None) × (sink.exit ≡ None)
-                × IfSome result (λ sunk. GotWhole (phaser_place second.entry.now)
+                × IfSome result (λ sunk. GotWhole (phaser_lock second.entry.now)
                 (phaser_limits second.entry.now) sunk.past sunk.values.items) }
         { runs_two(rt, alloc, first, second, &mut from, &mut to, &mut sink) },
     );

@@ -1,4 +1,3 @@
 pub mod Seats
 pub mod Steps
 pub mod Word
-pub mod Counting

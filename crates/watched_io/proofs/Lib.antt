@@ -1,3 +1,4 @@
 pub mod Giving
 mod Reading
 pub mod Writing
+pub mod Items

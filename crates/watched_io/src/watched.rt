@@ -37,21 +37,22 @@ impl<T> Watched<T> {
         }
     }
 
-    /// Tells whether a call has failed since `new`.
+    /// Returns whether a call has failed since `new`.
     pub fn has_failed(&self) -> bool
         ensures { result ≡ has_failed_of self.now }
     {
         self.has_failed
     }
 
-    /// Tells how many bytes the reads have given since `new`, or `BYTES_COUNTED_MAX` where it is more.
+    /// Returns how many bytes the reads have given since `new`, or `BYTES_COUNTED_MAX` where it is
+    /// more.
     pub fn count(&self) -> u64
         ensures { result ≡ count_of self.now }
     {
         self.count
     }
 
-    /// Gives the reader or the writer back.
+    /// Returns the reader or the writer.
     pub fn into_inner(self) -> T
         ensures { result ≡ inner_of self }
     {

@@ -33,12 +33,12 @@ impl Bell {
         }
     }
 
-    /// Tells whether there is a task to take.
+    /// Returns whether there is a task to take.
     pub fn has_work(&self) -> bool {
         self.work.load(SeqCst) != 0
     }
 
-    /// Tells how often it rang.
+    /// Returns how often it rang.
     pub fn rings(&self) -> u64 {
         self.rings.load(SeqCst)
     }

@@ -25,4 +25,4 @@ mod work;
 mod workers;
 
 pub use pool::Pool;
-pub use work::{Fault, Turned, Work};
+pub use work::{Fault, Progress, Work};

@@ -40,17 +40,17 @@ impl NumberSet {
         self.bits &= !NumberSet::of(number).bits;
     }
 
-    /// Tells whether it has a number.
+    /// Returns whether it has a number.
     pub fn contains(self, number: usize) -> bool {
         self.meets(NumberSet::of(number))
     }
 
-    /// Tells whether the two have a number in common.
+    /// Returns whether the two have a number in common.
     pub fn meets(self, other: NumberSet) -> bool {
         self.bits & other.bits != 0
     }
 
-    /// Tells whether it has no number.
+    /// Returns whether it has no number.
     pub fn is_empty(self) -> bool {
         self.bits == 0
     }

@@ -4,7 +4,7 @@ ghost use Rattle.std.specs.Prelude.{◌≡◌, ◌+◌, ◌↔◌, None, OnOk, O
 use crate::bell::Bell;
 use crate::number_set::NumberSet;
 use crate::task_sets::{Choice, Next, Taken, TaskSets, Went};
-use crate::work::{Fault, Turned, Work};
+use crate::work::{Fault, Progress, Work};
 use crate::workers::work_all;
 use crossbeam_utils::CachePadded;
 use std::alloc::{AllocError, Global};
@@ -201,7 +201,7 @@ impl<T: Work> Pool<T> {
         };
         let mut task = task.lock(rt);
         let mut went = go_on(&mut *task);
-        if let Turned::Child(child) = went.turned {
+        if let Progress::Child(child) = went.turned {
             if child == number || !self.bring(rt, &mut *task, child) {
                 return stuck();
             }
@@ -228,7 +228,7 @@ impl<T: Work> Pool<T> {
 // No turn was made.
 fn stuck() -> Went {
     Went {
-        turned: Turned::Failed(Fault::Stalled),
+        turned: Progress::Failed(Fault::Stalled),
         events: NumberSet::new(),
         turns: 0,
     }
@@ -240,9 +240,9 @@ fn go_on<T: Work>(task: &mut T) -> Went {
     let mut tries = 0;
     for turns in 0..TURNS_MAX {
         match task.turn() {
-            Turned::Moved(phaser) => events.insert(phaser),
-            Turned::Ready => {}
-            Turned::Busy if tries < TRIES_MAX => {
+            Progress::Moved(phaser) => events.insert(phaser),
+            Progress::Ready => {}
+            Progress::Busy if tries < TRIES_MAX => {
                 tries += 1;
                 hint::spin_loop();
             }
@@ -256,7 +256,7 @@ fn go_on<T: Work>(task: &mut T) -> Went {
         }
     }
     Went {
-        turned: Turned::Ready,
+        turned: Progress::Ready,
         events,
         turns: TURNS_MAX,
     }

@@ -1,7 +1,7 @@
 //! Which task a worker takes next. No contract speaks of it: a wrong answer costs time, or a run
 //! that answers that it stands still.
 use crate::number_set::NumberSet;
-use crate::work::{Fault, Turned};
+use crate::work::{Fault, Progress};
 
 // A worker that sleeps is called at most once in so many turns of tasks.
 const TURNS_BETWEEN_CALLS: u32 = 256;
@@ -40,7 +40,7 @@ pub enum Choice {
 /// How far a worker came with a task.
 #[derive(Clone, Copy, Debug)]
 pub struct Went {
-    pub turned: Turned,
+    pub turned: Progress,
     // the phasers on which it made events, and how many turns it made
     pub events: NumberSet,
     pub turns: u32,
@@ -209,16 +209,16 @@ impl TaskSets {
         self.turns = self.turns.saturating_add(went.turns);
         // An event that the task made itself came before it was refused.
         let is_refused_still = match went.turned {
-            Turned::Blocked(phaser) => self.last_told[phaser & 63] <= taken.told,
+            Progress::Blocked(phaser) => self.last_told[phaser & 63] <= taken.told,
             _ => false,
         };
         self.tell(went.events);
         match went.turned {
-            Turned::Blocked(phaser) if is_refused_still => self.park(task, phaser),
-            Turned::Blocked(_) | Turned::Moved(_) | Turned::Ready => self.ready.insert(task),
-            Turned::Busy | Turned::Child(_) => self.ready.insert(task),
-            Turned::Gone => {}
-            Turned::Failed(fault) => self.fail(fault),
+            Progress::Blocked(phaser) if is_refused_still => self.park(task, phaser),
+            Progress::Blocked(_) | Progress::Moved(_) | Progress::Ready => self.ready.insert(task),
+            Progress::Busy | Progress::Child(_) => self.ready.insert(task),
+            Progress::Gone => {}
+            Progress::Failed(fault) => self.fail(fault),
         }
     }
 
@@ -265,7 +265,7 @@ impl TaskSets {
         }
     }
 
-    /// Tells whether there is a task to take beside those that are with workers.
+    /// Returns whether there is a task to take beside those that are with workers.
     pub fn has_apart(&self) -> bool {
         self.first_apart(self.ready, 0).is_some()
     }
@@ -281,7 +281,7 @@ impl TaskSets {
         self.asleep = self.asleep.saturating_sub(1);
     }
 
-    /// Tells whether a worker that sleeps should be called.
+    /// Returns whether a worker that sleeps should be called.
     pub fn calls(&mut self) -> bool {
         if self.asleep == 0 || self.turns < TURNS_BETWEEN_CALLS || !self.has_apart() {
             return false;

@@ -9,7 +9,7 @@ pub trait Work {
     fn phasers(&self) -> u64;
 
     /// Goes on by one turn.
-    fn turn(&mut self) -> Turned;
+    fn turn(&mut self) -> Progress;
 
     /// Makes a task of its child, of which it has just answered that it comes. Answers false where
     /// there is no such child.
@@ -18,7 +18,7 @@ pub trait Work {
 
 /// How far a task came by one turn.
 #[derive(Clone, Copy, Debug, PartialEq, Eq)]
-pub enum Turned {
+pub enum Progress {
     /// It did something on this phaser that may let others go on.
     Moved(usize),
     /// It goes on.

@@ -1,20 +1,14 @@
 //! Laws of blocks of phases, and of what a call with its reply makes of a history.
 ghost use Rattle.std.specs.Prelude.{◌≡◌, ℕ, ℤ, List, ◌∷◌, length, Option, Ok, false};
-ghost use Rattle.phase_base.specs.Limits.{Limits};
+ghost use Rattle.phase_accum.specs.phase_base.Limits.{Limits};
 ghost use Rattle.phase_accum.specs.declared.outcome.Outcome.{Outcome};
 ghost use Rattle.phase_accum.specs.declared.single.Single.{Single};
-ghost use Rattle.phase_base.specs.declared.mode.Mode.{Mode};
+ghost use Rattle.phase_accum.specs.phase_base.declared.mode.Mode.{Mode};
 ghost use Rattle.phase_history.specs.Histories.{History, IsAlive, done_of};
 ghost use Rattle.phase_history.specs.Legal.{IsLegal};
-ghost use Rattle.phase_history.specs.Refusals.{is_bad_block, register_refusal, register_now_refusal};
-ghost use Rattle.phase_history.specs.Refusals.{signal_refusal, drop_refusal};
-ghost use Rattle.phase_history.specs.Replies.{refused_or, signal_reply, wait_reply};
-ghost use Rattle.phase_history.specs.Replies.{wait_block_reply, reply_to, after_reply};
-ghost use Rattle.phase_history.specs.Replies.{after_register, after_register_now};
-ghost use Rattle.phase_history.specs.Replies.{after_signal, after_wait};
-ghost use Rattle.phase_history.specs.Replies.{after_wait_block, after_drop};
-ghost use Rattle.phase_history.specs.Blocks.{one_by_one_refusal, one_by_one, LeavesSame};
-ghost use Rattle.phase_history.specs.Blocks.{IsAnsweredBlock, CanBeMade};
+ghost use Rattle.phase_history.specs.Refusals.{is_bad_block, register_refusal, register_now_refusal, signal_refusal, drop_refusal};
+ghost use Rattle.phase_history.specs.Replies.{refused_or, signal_reply, wait_reply, wait_block_reply, reply_to, after_reply, after_register, after_register_now, after_signal, after_wait, after_wait_block, after_drop};
+ghost use Rattle.phase_history.specs.Blocks.{one_by_one_refusal, one_by_one, LeavesSame, IsAnsweredBlock, CanBeMade};
 
 use crate::call::Call;
 use crate::event::Event;

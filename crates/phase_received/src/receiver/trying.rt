@@ -1,12 +1,11 @@
 //! The calls of a receiver that wait for nobody.
 ghost use Rattle.std.specs.Prelude.{◌≡◌, ◌≢◌, [], ◌∷◌, Err, IfOk, IfErr, IsOk, OnOk, OnErr};
-ghost use Rattle.phase_accum.specs.Parcels.{StandsForSends};
-ghost use Rattle.phase_history.specs.Others.{OnlyUsed};
-ghost use Rattle.phase_history.specs.Phases.{received_by};
+ghost use Rattle.phase_shared.specs.phase_accum.Parcels.{StandsForSends};
+ghost use Rattle.phase_shared.specs.phase_history.Others.{OnlyUsed};
+ghost use Rattle.phase_shared.specs.phase_history.Phases.{received_by};
 ghost use Rattle.phase_shared.specs.Rule.{IsGoodAt};
-ghost use Rattle.phase_shared.specs.Regs.{phaser_place, phaser_terms, phaser_limits};
-ghost use Rattle.phase_shared.specs.Calls.{IsTry, IsCall, Tries, Signals, Waits, Registers};
-ghost use Rattle.phase_shared.specs.Calls.{MaySignal, Leaves};
+ghost use Rattle.phase_shared.specs.Regs.{phaser_lock, phaser_terms, phaser_limits};
+ghost use Rattle.phase_shared.specs.Calls.{IsTry, IsCall, Tries, Signals, Waits, Registers, MaySignal, Leaves};
 ghost use Rattle.phase_shared.specs.Entries.{entry_stays, entry_after_signal, entry_after_wait};
 ghost use Rattle.phase_shared.specs.Parts.{with_got};
 ghost use Rattle.phase_received.specs.Received.{received_of, IsPastOf, Receives};
@@ -16,9 +15,9 @@ use super::{Receiver, put};
 use crate::fault::ReceiveFault;
 use crate::laws;
 use crate::receipts::Receipts;
-use phase_accum::{Accumulate, Single};
-use phase_base::Mode;
-use phase_core::{Got, RegisterRefusal, SignalRefusal, WaitRefusal};
+use phase_shared::phase_accum::{Accumulate, Single};
+use phase_shared::phase_base::Mode;
+use phase_shared::phase_core::{Got, RegisterRefusal, SignalRefusal, WaitRefusal};
 use phase_shared::{Phaser, SignalRule, Tried};
 use std::alloc::Global;
 
@@ -30,7 +29,7 @@ impl<A: Accumulate, K: SignalRule> Receiver<A, K> {
         phaser: &Phaser<A, K>,
         single: Option<Single>,
     ) -> Result<u64, Tried<SignalRefusal>>
-        requires at { self.old.at ≡ phaser_place phaser.now }
+        requires at { self.old.at ≡ phaser_lock phaser.now }
         requires rule { MaySignal A.operation K.allows (phaser_terms phaser.now) self.old single }
 
         ensures call { let old = self.old in
@@ -52,7 +51,7 @@ impl<A: Accumulate, K: SignalRule> Receiver<A, K> {
         &mut self,
         phaser: &Phaser<A, K>,
     ) -> Result<Got, ReceiveFault<Tried<WaitRefusal>>>
-        requires at { self.old.at ≡ phaser_place phaser.now }
+        requires at { self.old.at ≡ phaser_lock phaser.now }
 
         ensures call { let old = self.old in
             IsCall K.allows (phaser_terms phaser.now)
@@ -90,7 +89,7 @@ impl<A: Accumulate, K: SignalRule> Receiver<A, K> {
         phaser: &Phaser<A, K>,
         mode: Mode,
     ) -> Result<Receiver<A, K>, Tried<RegisterRefusal>>
-        requires at { self.old.at ≡ phaser_place phaser.now }
+        requires at { self.old.at ≡ phaser_lock phaser.now }
 
         ensures call { let old = self.old in
             IsTry K.allows (phaser_terms phaser.now) RegisterRefusal.NoTask entry_stays
@@ -120,7 +119,7 @@ impl<A: Accumulate, K: SignalRule> Receiver<A, K> {
         alloc: Global,
         phaser: &Phaser<A, K>,
     ) -> Result<Receipts<A, K>, Receiver<A, K>>
-        requires at { self.at ≡ phaser_place phaser.now }
+        requires at { self.at ≡ phaser_lock phaser.now }
 
         ensures ok { IfOk result (λ left. Leaves self.number self.seen left.seen) }
         ensures received { IfOk result (λ left. received_of A.operation self

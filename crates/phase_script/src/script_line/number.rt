@@ -7,7 +7,7 @@ ghost use Rattle.phase_script.specs.Inside.{digits_of};
 use phase_accum::VALUE_MAX;
 
 // The greatest number.
-const MOST: u64 = VALUE_MAX as u64;
+const MAGNITUDE_MAX: u64 = VALUE_MAX as u64;
 
 // How many digits the greatest number has.
 const DIGITS_MAX: usize = 19;
@@ -25,7 +25,7 @@ pub fn nat(word: &[u8]) -> Option<u64>
         return None;
     }
     let n = digits(word)?;
-    if n > MOST {
+    if n > MAGNITUDE_MAX {
         return None;
     }
     Some(n)

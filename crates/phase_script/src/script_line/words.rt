@@ -3,7 +3,7 @@
 ghost use Rattle.std.specs.Prelude.{◌≡◌, None, Some, MatchOption};
 ghost use Rattle.phase_script.specs.Words.{word, rest};
 
-/// Gives the bytes before the first space, and those after it, where there is one.
+/// Returns the bytes before the first space, and those after it, where there is one.
 pub fn cut(text: &[u8]) -> (&[u8], Option<&[u8]>)
     ensures word { result.0.now ≡ word text.now }
     ensures rest { MatchOption result.1 (rest text.now ≡ None) (λ r. rest text.now ≡ Some r.now) }

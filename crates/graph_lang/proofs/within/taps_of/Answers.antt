@@ -1,6 +1,6 @@
 use Rattle.std.proofs.Common.{◌≡◌, rules, arith, is_some, ◌∙◌, sym, ap, Bor, [], ◌++◌, ◌∷◌, false, take, get_or, map, FitsSigned, w64, to_z-of_z}
 use Rattle.std.proofs.lemmas.Option.{cond_some}
-use Rattle.graph_words.specs.Words.{Word}
+use Rattle.graph_text.specs.phase_base.Words.{Word}
 use Rattle.graph_text.specs.Plain.{plain}
 use Rattle.graph_text.specs.Numbers.{is_int, int_value}
 use Rattle.graph_lang.specs.Faults.{is_tap_within}

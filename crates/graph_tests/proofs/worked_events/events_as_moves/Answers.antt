@@ -1,7 +1,7 @@
 -- Each is the next event, as a test says.
 use Rattle.std.proofs.Common.{refl, arith, pos}
-use Rattle.phase_base.specs.declared.mode.Mode.TheVariants.{Wait}
-use Rattle.phase_accum.specs.declared.outcome.Outcome.TheVariants.{Value}
+use Rattle.stream_job.specs.phase_base.declared.mode.Mode.TheVariants.{Wait}
+use Rattle.stream_job.specs.phase_accum.declared.outcome.Outcome.TheVariants.{Value}
 use Rattle.graph_tests.specs.Runs.{sample, signal, first_wait, exchange_wait}
 use Rattle.graph_tests.specs.Worked.{worked, worked_opening, after_sample, after_first_wait, after_signal_on_e, before_late, before_end, late_registers, late_leaves}
 use Rattle.graph_tests.proofs.NextTests.{is_next}

@@ -1,7 +1,7 @@
 -- By the law, from the moment before.
 use Rattle.std.proofs.Common.{arith, pos}
-use Rattle.phase_base.specs.declared.mode.Mode.TheVariants.{Wait}
-use Rattle.phase_accum.specs.declared.outcome.Outcome.TheVariants.{Value}
+use Rattle.stream_job.specs.phase_base.declared.mode.Mode.TheVariants.{Wait}
+use Rattle.stream_job.specs.phase_accum.declared.outcome.Outcome.TheVariants.{Value}
 use Rattle.graph_tests.specs.Worked.{worked, worked_opening, after_sample, after_first_wait, before_late, with_late, before_end, worked_end, late_registers, late_leaves, by_out}
 use Rattle.graph_tests.proofs.Histories.{turn_begins, grown}
 use Rattle.graph_tests.proofs.WorkedRun.{worked-is}

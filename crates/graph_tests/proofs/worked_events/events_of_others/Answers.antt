@@ -1,9 +1,9 @@
 -- The registration is an event of out alone; the splitter and the joiner are not the source.
 use Rattle.std.proofs.Common.{◌≡◌, ℕ, [], ◌∷◌, refl, arith, subst}
-use Rattle.phase_base.specs.declared.mode.Mode.TheVariants.{Wait}
-use Rattle.phase_history.specs.declared.event.Event.TheVariants.{Registered}
-use Rattle.phase_history.specs.Others.{events_of}
-use Rattle.graph_moves.proofs.Registering.{others_register}
+use Rattle.stream_job.specs.phase_base.declared.mode.Mode.TheVariants.{Wait}
+use Rattle.stream_job.specs.phase_history.declared.event.Event.TheVariants.{Registered}
+use Rattle.stream_job.specs.phase_history.Others.{events_of}
+use Rattle.stream_job.proofs.graph_runs_lemmas.Registering.{others_register}
 use Rattle.graph_tests.specs.Worked.{worked, after_peer, before_late, with_late, late_registers, lane_turns, by_out}
 use Rattle.graph_tests.proofs.Histories.{turn_begins, turns_begin, grown, only_one}
 use Rattle.graph_tests.proofs.WorkedRun.{worked-is}

@@ -1,8 +1,8 @@
 -- One fact of each premise does not hold.
 use Rattle.std.proofs.Common.{◌≡◌, ◌<◌, ◌≤◌, ℕ, List, length, [], ◌∷◌, Option, Some, None, refl, arith, inr}
-use Rattle.graph_base.specs.Graphs.{task_at}
-use Rattle.stream_lists.specs.Jobs.{samples_at}
-use Rattle.graph_moments.specs.Moments.{MayEnd, at_until, no_sample, no_input}
+use Rattle.stream_job.specs.graph_base.Graphs.{task_at}
+use Rattle.stream_job.specs.stream_lists.Jobs.{samples_at}
+use Rattle.stream_job.specs.graph_runs.Moments.{MayStop, at_until, no_sample, no_input}
 use Rattle.graph_tests.specs.Worked.{worked, after_peer, by_out}
 use Rattle.graph_tests.proofs.worked_events.events_that_are_not_next.Goals as goal
 
@@ -39,7 +39,7 @@ returns-clause-joins_out_of_turn c = λ outcome e.
 pub returns-clause-leaves_before_its_input_ends : goal.returns-clause-leaves_before_its_input_ends
 returns-clause-leaves_before_its_input_ends c = λ e. by e.ended.may_end
   where
-    by : MayEnd after_peer (task_at worked.graph 2) 2 (length (samples_at worked 2)) → ⊥
+    by : MayStop after_peer (task_at worked.graph 2) 2 (length (samples_at worked 2)) → ⊥
     by (at_until u) = absurd (cc)
     by (no_sample s few) = absurd (cc)
     by (no_input s out) = (let phases : List ℕ = 2 ∷ [] in let none : phases ≡ [] = out.0 in cc)

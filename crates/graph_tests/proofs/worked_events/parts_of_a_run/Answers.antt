@@ -1,9 +1,9 @@
 -- Late has its moment, and each other task the one before.
 use Rattle.std.proofs.Common.{ℕ, cond, eqb, [], refl}
-use Rattle.phase_base.specs.declared.mode.Mode.TheVariants.{Wait}
-use Rattle.graph_moments.specs.Moments.{Moment, TaskRan}
-use Rattle.graph_moves.specs.Moves.{HasGrown, OthersMoved}
-use Rattle.graph_moves.proofs.Registering.{others_register}
+use Rattle.stream_job.specs.phase_base.declared.mode.Mode.TheVariants.{Wait}
+use Rattle.stream_job.specs.graph_runs.Moments.{Moment, TaskRan}
+use Rattle.stream_job.specs.graph_runs.Moves.{HasGrown, OthersMoved}
+use Rattle.stream_job.proofs.graph_runs_lemmas.Registering.{others_register}
 use Rattle.graph_tests.specs.Worked.{worked, before_late, with_late, late_registers, by_out}
 use Rattle.graph_tests.proofs.Histories.{turn_begins, grown, nothing_moved, by_task}
 use Rattle.graph_tests.proofs.WorkedRun.{worked-is}

@@ -1,8 +1,8 @@
 -- What was taken and made is computed.
 use Rattle.std.proofs.Common.{leb-true, refl, arith}
-use Rattle.graph_base.specs.TaskLines.{IsGraph}
-use Rattle.graph_base.specs.declared.place.Place.TheVariants as place
-use Rattle.graph_moments.specs.Settled.{IsReady}
+use Rattle.stream_job.specs.graph_base.TaskLines.{IsGraph}
+use Rattle.stream_job.specs.graph_base.declared.place.Place.TheVariants as place
+use Rattle.stream_job.specs.graph_runs.Settled.{IsReady}
 use Rattle.graph_tests.specs.WorkedFaults.{faulty, faulty_histories, faulty_numbers, faulty_offsets, faulty_opening, faulty_turns, faulty_moment}
 use Rattle.graph_tests.proofs.GraphTests.{is_graph}
 use Rattle.graph_tests.proofs.OpeningTests.{has_opened}

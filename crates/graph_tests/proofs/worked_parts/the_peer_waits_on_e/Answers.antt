@@ -1,7 +1,7 @@
 -- As its place tells.
 use Rattle.std.proofs.Common.{pos, ◌∷◌, refl, ◌∙◌, arith}
-use Rattle.phase_accum.specs.declared.outcome.Outcome.TheVariants.{Value}
-use Rattle.phase_history.specs.declared.event.Event.TheVariants.{Waited}
+use Rattle.stream_job.specs.phase_accum.declared.outcome.Outcome.TheVariants.{Value}
+use Rattle.stream_job.specs.phase_history.declared.event.Event.TheVariants.{Waited}
 use Rattle.graph_tests.specs.Worked.{worked}
 use Rattle.graph_tests.specs.WorkedParts.{e_signalled, peer_exchanges, peer_owes_y}
 use Rattle.graph_tests.proofs.PeerAlone.{sees_own_e}

@@ -1,7 +1,7 @@
 -- Event by event, by the law.
-use Rattle.graph_base.specs.TaskLines.{IsGraph}
-use Rattle.stream_lists.specs.Jobs.{Job}
-use Rattle.graph_moments.specs.Moments.{Moment, HasRun}
+use Rattle.stream_job.specs.graph_base.TaskLines.{IsGraph}
+use Rattle.stream_job.specs.stream_lists.Jobs.{Job}
+use Rattle.stream_job.specs.graph_runs.Moments.{Moment, HasRun}
 use Rattle.graph_tests.specs.Runs.{TaskEvent, sample, signal, first_wait, exchange_wait, leave, child, after_turn, IsNext}
 use Rattle.graph_tests.proofs.RunTests.{run_through}
 use Rattle.graph_tests.proofs.worked_run.turns_lead_on.Goals as goal

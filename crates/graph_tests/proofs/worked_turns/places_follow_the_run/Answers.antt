@@ -1,12 +1,12 @@
 -- At the opening place by place, and from there by the laws.
 use Rattle.std.proofs.Common.{◌≡◌, ℕ, zero, suc, ◌+◌, ◌<◌, pos, length, refl, arith}
 use Rattle.std.specs.Prelude.{slice_get, nat_lt}
-use Rattle.graph_base.specs.Graphs.{task_at}
-use Rattle.graph_moments.specs.Moments.{made_now}
-use Rattle.graph_turns.specs.Nexts.{has_left}
-use Rattle.phase_accum.specs.declared.outcome.Outcome.TheVariants.{Value}
-use Rattle.graph_turns.specs.TaskEvents.{sample}
-use Rattle.graph_turns.specs.TaskPlaces.{StandsAt, TaskPlace, registration_at, lacking, nothing}
+use Rattle.stream_job.specs.graph_base.Graphs.{task_at}
+use Rattle.stream_job.specs.graph_runs.Moments.{made_now}
+use Rattle.stream_job.specs.graph_runs.Nexts.{has_left}
+use Rattle.stream_job.specs.phase_accum.declared.outcome.Outcome.TheVariants.{Value}
+use Rattle.stream_job.specs.graph_runs.TaskEvents.{sample}
+use Rattle.stream_job.specs.graph_runs.TaskPlaces.{StandsAt, TaskPlace, registration_at, lacking, nothing}
 use Rattle.graph_tests.specs.Worked.{worked, worked_opening}
 use Rattle.graph_tests.specs.WorkedPlaces.{source_at, peer_at, after_sample}
 use Rattle.graph_tests.proofs.WorkedRun.{worked-is}

@@ -1,15 +1,15 @@
 -- The opening is looked through, task by task and phaser by phaser; the rest is by the laws.
 use Rattle.std.proofs.Common.{◌≡◌, ℕ, zero, suc, ◌+◌, ◌<◌, Option, Some, None, get_or, refl, sym, ap, subst, ◌∙◌, arith}
 use Rattle.std.proofs.lemmas.Option.{same_Some}
-use Rattle.phase_base.specs.declared.entry.Entry.{Entry}
-use Rattle.phase_base.specs.declared.mode.Mode.{Mode}
-use Rattle.phase_history.specs.Histories.{start_of}
-use Rattle.graph_base.specs.declared.line.Parent.{Parent}
-use Rattle.graph_base.specs.Graphs.{task_at}
-use Rattle.graph_base.specs.Registrations.{no_registration}
-use Rattle.graph_turns.specs.Answers.{after_turns}
-use Rattle.graph_turns.specs.Nexts.{registrations_at}
-use Rattle.graph_turns.specs.Reached.{HasMode, HasModes, HasOnlyTasks, HasBegun}
+use Rattle.stream_job.specs.phase_base.declared.entry.Entry.{Entry}
+use Rattle.stream_job.specs.phase_base.declared.mode.Mode.{Mode}
+use Rattle.stream_job.specs.phase_history.Histories.{start_of}
+use Rattle.stream_job.specs.graph_base.declared.line.Parent.{Parent}
+use Rattle.stream_job.specs.graph_base.Graphs.{task_at}
+use Rattle.stream_job.specs.graph_base.Registrations.{no_registration}
+use Rattle.stream_job.specs.graph_runs.Answers.{after_turns}
+use Rattle.stream_job.specs.graph_runs.Nexts.{registrations_at}
+use Rattle.stream_job.specs.graph_runs.Reached.{HasMode, HasModes, HasOnlyTasks, HasBegun}
 use Rattle.graph_tests.specs.Worked.{worked, worked_histories, worked_numbers, worked_offsets, worked_opening, worked_order, by_out}
 use Rattle.graph_tests.proofs.OpeningTests.{has_opened}
 use Rattle.graph_tests.proofs.WorkedRun.{worked-is}

@@ -1,17 +1,17 @@
 -- By the law; what the turns make is computed.
 use Rattle.std.proofs.Common.{◌≡◌, ℕ, zero, suc, ◌+◌, ◌<◌, true, [], Some, is_some, refl, subst, pos, arith}
 use Rattle.std.proofs.lemmas.Option.{same_Some}
-use Rattle.graph_base.specs.declared.line.Parent.{Parent}
-use Rattle.graph_base.specs.Graphs.{task_at}
-use Rattle.graph_turns.specs.TaskEvents.{sample, leave}
-use Rattle.graph_turns.specs.Nexts.{HasChildrenToCome, first_missing}
+use Rattle.stream_job.specs.graph_base.declared.line.Parent.{Parent}
+use Rattle.stream_job.specs.graph_base.Graphs.{task_at}
+use Rattle.stream_job.specs.graph_runs.TaskEvents.{sample, leave}
+use Rattle.stream_job.specs.graph_runs.Nexts.{HasChildrenToCome, first_missing}
 use Rattle.graph_tests.specs.Worked.{worked, worked_opening, before_late, late_registers, before_end, by_out}
 use Rattle.graph_tests.proofs.worked_turns.turns_make_next_events.Goals as goal
 
 -- of all tasks late alone is a child, and it alone is not there
 late_to_come : HasChildrenToCome worked before_late
 late_to_come = record {
-  offset = offset;
+  offset = λ c u lt e missing. offset c u lt e;
   nothing_begun = begun;
   nothing_put = put;
   nothing_taken = taken;

@@ -1,5 +1,5 @@
 use Rattle.std.proofs.Common.{rules, arith, sym, ◌∙◌, Bor, []}
-use Rattle.graph_words.specs.Words.{Word, is_name}
+use Rattle.phase_base.specs.Words.{Word, is_name}
 use Rattle.graph_text.proofs.Fronts.{front-more, front-ends, front-all}
 use Rattle.graph_text.proofs.read.names_in_front.Goals as goal
 

@@ -1,7 +1,7 @@
 use Rattle.std.proofs.Common.{◌≡◌, ◌+◌, drop}
 use Rattle.std.specs.List.{prefix_len}
 use Rattle.graph_text.specs.Plain.{plain}
-use Rattle.graph_words.specs.Words.{is_name}
+use Rattle.phase_base.specs.Words.{is_name}
 use Rattle.graph_text.proofs.read.names_in_front.Given as goal
 
 -- the words that were passed, and those in front of the others

@@ -1,6 +1,6 @@
 use Rattle.std.proofs.Common.{inl, inr, refl, subst}
 use Rattle.phase_words.specs.CommandLine.{Asked, texts}
-use Rattle.watched_io.specs.States.{reader_state, writer_state}
+use Rattle.phase_replay.specs.watched_io.States.{reader_state, writer_state}
 use Rattle.phase_cli.specs.Ends.{EndsAs}
 use Rattle.phase_cli.proofs.Asking.{asks-one, leaves-asked, may-end-answered, may-end-asked, refused-silent, taken-memory}
 use Rattle.phase_cli.proofs.Nothing.{replay-unbegun}

@@ -1,5 +1,5 @@
 use Rattle.std.proofs.lemmas.Result.{on_ok_weaker, on_err_weaker}
-use Rattle.phase_replay.proofs.Replayed.{replayed_all, replayed_prefix}
+use Rattle.phase_replay.proofs.ReplayedLemmas.{replayed_all, replayed_prefix}
 use Rattle.phase_replay.proofs.whole.replay.Goals as goal
 
 -- What was read is the script.

@@ -1,7 +1,7 @@
 use Rattle.std.proofs.Common.{inl, inr, refl, sym, subst, ap, ◌∙◌, ℕ, List, Option}
 use Rattle.phase_words.specs.CommandLine.{texts}
 use Rattle.phase_words.specs.RunLine.{Run}
-use Rattle.watched_io.specs.States.{writer_state}
+use Rattle.stream_workers.specs.graph_commands.watched_io.States.{writer_state}
 use Rattle.phase_run.specs.Inside.{RunEndsBy}
 use Rattle.phase_run.proofs.Asking.{may-end-answered, may-end-taken, refused-silent, taken-memory}
 use Rattle.phase_run.proofs.cli.run_cli.Goals as goal

@@ -1,7 +1,7 @@
 -- The founders that registered the tasks are those that left.
 use Rattle.std.proofs.Common.{sym, ap, subst, ◌∙◌, length}
 use Rattle.std.specs.Prelude.{drop}
-use Rattle.graph_openings.specs.Openings.{AreFounders}
+use Rattle.stream_tasks.specs.Openings.{AreFounders}
 use Rattle.stream_workers.proofs.Grown.{written}
 use Rattle.stream_workers.proofs.behind.run_on.Goals as goal
 

@@ -1,5 +1,5 @@
 use Rattle.std.proofs.Common.{◌≡◌}
-use Rattle.graph_openings.specs.Openings.{AreFounders}
+use Rattle.stream_tasks.specs.Openings.{AreFounders}
 use Rattle.stream_workers.proofs.opening.open_pool.Given as goal
 
 -- the founders stay, and the tasks so far are there

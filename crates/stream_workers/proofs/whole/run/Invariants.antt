@@ -1,4 +1,4 @@
-use Rattle.graph_openings.specs.Openings.{spot_at}
+use Rattle.stream_tasks.specs.Openings.{spot_at}
 use Rattle.stream_workers.proofs.whole.run.Given as goal
 
 -- the run is of this job, on these phasers

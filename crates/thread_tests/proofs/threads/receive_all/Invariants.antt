@@ -1,6 +1,6 @@
 use Rattle.std.specs.Prelude.{◌≡◌}
-use Rattle.phase_shared.specs.Regs.{phaser_place}
+use Rattle.phase_received.specs.phase_shared.Regs.{phaser_lock}
 use Rattle.thread_tests.proofs.threads.receive_all.Given as goal
 
 abbrev pub invariant-loop-value : goal.invariant-loop-value
-invariant-loop-value g l = l.reg.at ≡ phaser_place l.phaser
+invariant-loop-value g l = l.reg.at ≡ phaser_lock l.phaser

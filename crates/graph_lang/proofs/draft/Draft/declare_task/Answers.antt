@@ -6,7 +6,7 @@ use Rattle.graph_base.specs.Inside.{task_of}
 use Rattle.graph_base.specs.Names.{place_of}
 use Rattle.graph_lang.specs.WordValues.{task_line}
 use Rattle.graph_lang.specs.Faults.{is_past_limit, are_distinct}
-use Rattle.graph_lang.specs.Reads.{told}
+use Rattle.graph_lang.specs.Reads.{line_outcome}
 use Rattle.graph_lang.proofs.Sound.{not-past, past, task-limit, task-twice, task-unknown, task-last, with-task}
 use Rattle.graph_lang.proofs.draft.Draft.declare_task.Goals as goal
 
@@ -24,7 +24,7 @@ returns-then-is_twice-clause-fault c =
     let twice = ap (λ ws. is_some (place_of before.names name) || not (are_distinct ws)) (sym words)
     ∙ sym c.is_twice.ensures in
     rw c.fault-then-is_twice.ensures
-    (ap (told c.args.number before d)
+    (ap (line_outcome c.args.number before d)
     (sym (task-twice before name body ends c.args.number within (twice ∙ c.if-is_twice.true))))
 
 -- a name is unknown
@@ -42,7 +42,7 @@ returns-in_default-2-clause-fault c =
     ∙ sym c.is_twice.ensures in
     let none = sym c.in_ok-task.ensures.known ∙ ap is_some c.in_default-2.is in
     rw c.fault-in_default-2.ensures
-    (ap (told c.args.number before d)
+    (ap (line_outcome c.args.number before d)
     (sym (task-unknown before name body ends c.args.number within (twice ∙ c.if-is_twice.false) none)))
 
 -- the task has a fault
@@ -65,7 +65,7 @@ returns-in-Some-last_kind-clause-fault c =
     ∙ sym (task-last before name body ends c.args.number within (twice ∙ c.if-is_twice.false) known
     (task_of c.in-Some-2.task) read) in
     rw c.fault-in-Some-last_kind.ensures
-    (ap (told c.args.number before d) (sym c.in-Some-last_kind.is ∙ last))
+    (ap (line_outcome c.args.number before d) (sym c.in-Some-last_kind.is ∙ last))
 
 -- there is none, and the task is the line's
 pub returns-clause-ok : goal.returns-clause-ok
@@ -88,7 +88,7 @@ returns-clause-ok c =
     (task_of c.in-Some-2.task) read) in
     ap Ok (c.in_ok-add_task.ensures ∙ with-task before name body ends c.args.number
     (task_of c.in-Some-2.task) read)
-    ∙ ap (told c.args.number before d) (sym c.in_default-last_kind.is ∙ last)
+    ∙ ap (line_outcome c.args.number before d) (sym c.in_default-last_kind.is ∙ last)
 
 -- a number is past its limit
 pub returns-in_default-clause-fault : goal.returns-in_default-clause-fault
@@ -101,4 +101,4 @@ returns-in_default-clause-fault c =
     let beyond = past (is_past_limit before d)
     (sym c.in_ok-numbers.ensures.within ∙ ap is_some c.in_default.is) in
     rw c.fault.ensures
-    (ap (told c.args.number before d) (sym (task-limit before name body ends beyond)))
+    (ap (line_outcome c.args.number before d) (sym (task-limit before name body ends beyond)))

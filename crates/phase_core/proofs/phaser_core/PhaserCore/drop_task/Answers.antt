@@ -1,6 +1,6 @@
 -- The task leaves the registry, and the board where a waiter is registered after it.
 use Rattle.std.proofs.Common.{◌≡◌, Some, length, refl, sym, ap, ◌∙◌}
-use Rattle.phase_base.specs.Members.{entry_of, without, wait_phases}
+use Rattle.phase_registry.specs.phase_base.Members.{entry_of, without, wait_phases}
 use Rattle.phase_registry.specs.Rosters.{Roster}
 use Rattle.phase_core.specs.Cores.{StandsFor, core_of}
 use Rattle.phase_core.proofs.Boarded.{boarded_of}

@@ -1,7 +1,7 @@
 -- The child joins beside its parent, on the board too where a waiter is registered.
 use Rattle.std.proofs.Common.{◌≡◌, true, Some, sym, ◌∙◌, rules}
-use Rattle.phase_base.specs.Modes.{holds}
-use Rattle.phase_base.specs.Members.{entry_of, wait_phases}
+use Rattle.phase_registry.specs.phase_base.Modes.{holds}
+use Rattle.phase_registry.specs.phase_base.Members.{entry_of, wait_phases}
 use Rattle.phase_core.specs.Cores.{StandsFor, core_of}
 use Rattle.phase_core.proofs.Boarded.{boarded_of}
 use Rattle.phase_core.proofs.Joining.{accepted, registers_alone, registers_core, stands_beside, room_for_one}

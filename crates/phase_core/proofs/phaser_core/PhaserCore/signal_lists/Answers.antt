@@ -1,9 +1,9 @@
 -- The rows before the phases, then those of each phase; then all lists join.
 use Rattle.std.proofs.Common.{◌≡◌, ◌<◌, [], ◌∷◌, Some, None, Ok, Err, length, refl, sym, subst, ◌∙◌, ap, arith, inl, inr}
-use Rattle.phase_base.specs.Members.{entry_of, wait_phases, least, changed_at, signalled}
+use Rattle.phase_registry.specs.phase_base.Members.{entry_of, wait_phases, least, changed_at, signalled}
 use Rattle.phase_history.specs.declared.event.Event.TheVariants.{Signalled}
 use Rattle.phase_history.specs.Histories.{signal_phase}
-use Rattle.phase_base.specs.Lists.{first_row}
+use Rattle.phase_registry.specs.phase_base.Lists.{first_row}
 use Rattle.phase_history.specs.Replies.{signal_reply, refused_or}
 use Rattle.phase_core.specs.Cores.{CoreState, StandsFor, core_of}
 use Rattle.phase_core.specs.Blocks.{block_rows}

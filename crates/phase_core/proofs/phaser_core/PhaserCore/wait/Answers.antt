@@ -2,8 +2,8 @@
 -- slot of each phase that a waiter has still to get.
 use Rattle.std.proofs.Common.{◌≡◌, ◌<◌, ◌∷◌, Some, None, Ok, Err, true, sym, subst, ◌∙◌, arith, inr}
 use Rattle.std.specs.Prelude.{is_some}
-use Rattle.phase_base.specs.Modes.{mode_waits}
-use Rattle.phase_base.specs.Members.{entry_of, changed_at, signal_phases, least, waited}
+use Rattle.phase_registry.specs.phase_base.Modes.{mode_waits}
+use Rattle.phase_registry.specs.phase_base.Members.{entry_of, changed_at, signal_phases, least, waited}
 use Rattle.phase_history.specs.declared.event.Event.TheVariants.{Waited}
 use Rattle.phase_history.specs.declared.got.Got.TheVariants as got
 use Rattle.phase_history.specs.Replies.{wait_reply}

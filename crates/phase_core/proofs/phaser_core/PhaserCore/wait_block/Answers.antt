@@ -1,8 +1,8 @@
 -- As many as are complete, of as many as were asked for.
 use Rattle.std.proofs.Common.{◌≡◌, ◌-◌, ◌<◌, min, drop, ◌∷◌, ◌++◌, Some, None, Ok, Err, true, length, sym, subst, ◌∙◌, ap, arith, inr}
 use Rattle.std.specs.Prelude.{is_some}
-use Rattle.phase_base.specs.Modes.{mode_waits}
-use Rattle.phase_base.specs.Members.{entry_of, changed_at, signal_phases, least, waited}
+use Rattle.phase_registry.specs.phase_base.Modes.{mode_waits}
+use Rattle.phase_registry.specs.phase_base.Members.{entry_of, changed_at, signal_phases, least, waited}
 use Rattle.phase_history.specs.declared.event.Event.TheVariants.{Waited}
 use Rattle.phase_history.specs.declared.got.GotBlock.TheVariants as got
 use Rattle.phase_history.specs.Replies.{wait_block_reply}

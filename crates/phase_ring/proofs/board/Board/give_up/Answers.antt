@@ -3,7 +3,7 @@ use Rattle.std.proofs.Common.{◌≡◌, ◌<◌, length, sym, subst, ◌∙◌,
 use Rattle.phase_ring.specs.declared.role.Role.{Role}
 use Rattle.phase_ring.specs.declared.role.Role.TheVariants.{Signaller, Waiter}
 use Rattle.phase_ring.specs.Rings.{Ring, KeepsSlots, standing, released}
-use Rattle.phase_ring.specs.Boards.{IsKept}
+use Rattle.phase_ring.specs.Boards.{IsRingAt}
 use Rattle.phase_ring.proofs.Slots.{waiter-above, releases, standing-released, KeepsSlots-released}
 use Rattle.phase_ring.proofs.board.Board.give_up.Goals as goal
 
@@ -12,7 +12,7 @@ loop-self-preserved g c =
     let op = g.A.Accumulate.operation in
     let now = c.loop-self.self in
     let bound = now.limits.bound in
-    let kept : IsKept op now.ring bound now.done now.top = c.loop-self.invariant.0 in
+    let kept : IsRingAt op now.ring bound now.done now.top = c.loop-self.invariant.0 in
     let none : standing now.ring Waiter now.ring.base ≡ 0 =
     ap (standing now.ring Waiter) (sym c.base.ensures) ∙ sym c.standing.ensures ∙ c.loop-self-test.true in
     let q = c.requires.waiter.0 in
@@ -22,7 +22,7 @@ loop-self-preserved g c =
     let new : c.release.new.self ≡ released op now.ring = c.release.ensures in
     let none_signals : standing now.ring Signaller now.ring.base ≡ 0 = kept.signals_low now.ring.base below in
     let none_of : (role : Role) → standing now.ring role now.ring.base ≡ 0 = λ role. elim role as (λ r. standing now.ring r now.ring.base ≡ 0) [ Signaller ↦ none_signals | Waiter ↦ none ] in (
-      (let R : Ring g.row.A.Denot → Type 0 = λ r. IsKept op r bound now.done now.top in
+      (let R : Ring g.row.A.Denot → Type 0 = λ r. IsRingAt op r bound now.done now.top in
           subst R (sym new) (releases op now.ring bound now.done now.top kept below none)),
       c.loop-self.invariant.1,
       c.loop-self.invariant.2,

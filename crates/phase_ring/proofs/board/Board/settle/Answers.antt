@@ -4,7 +4,7 @@ use Rattle.phase_ring.specs.declared.role.Role.{Role}
 use Rattle.phase_ring.specs.declared.role.Role.TheVariants.{Signaller, Waiter}
 use Rattle.phase_ring.specs.Rings.{Ring, IsWithin, standing, with_slot, sents}
 use Rattle.phase_ring.specs.Slots.{standing_of, sealed}
-use Rattle.phase_ring.specs.Boards.{IsKept}
+use Rattle.phase_ring.specs.Boards.{IsRingAt}
 use Rattle.phase_ring.proofs.Slots.{slot_at-some, sealed-high, seals, sents-with, standing-with_same, done-within}
 use Rattle.phase_ring.proofs.board.Board.settle.Goals as goal
 
@@ -16,7 +16,7 @@ pub seal-requires : goal.seal-requires
 seal-requires g c =
     let now = c.loop-self.self in
     let op = g.A.Accumulate.operation in
-    let kept : IsKept op now.ring now.limits.bound now.done now.top = c.loop-self.invariant.0 in
+    let kept : IsRingAt op now.ring now.limits.bound now.done now.top = c.loop-self.invariant.0 in
     let below : now.done < now.top = c.loop-self-test.true in
     let high = kept.top_bound in
     let long = kept.long in
@@ -36,7 +36,7 @@ loop-self-preserved g c =
     let slot = slot_at-some now.ring now.done within in
     let new : c.seal.new.self ≡ with_slot now.done (sealed slot.0) now.ring = c.seal.ensures slot.0 slot.1 in
     let none : standing now.ring Signaller now.done ≡ 0 = sym c.standing.ensures ∙ c.if-standing-eq0.true in
-    let R : Ring g.row.A.Denot → Type 0 = λ r. IsKept op r now.limits.bound (now.done + 1) now.top in
+    let R : Ring g.row.A.Denot → Type 0 = λ r. IsRingAt op r now.limits.bound (now.done + 1) now.top in
     let same : (role : Role) → standing_of role (sealed slot.0) ≡ standing_of role slot.0 =
     λ role. elim role as (λ r. standing_of r (sealed slot.0) ≡ standing_of r slot.0) [ Signaller ↦ refl | Waiter ↦ refl ] in (
       subst R (sym new) (seals op now.ring now.limits.bound now.done now.top slot.0 c.loop-self.invariant.0 c.loop-self-test.true slot.1 none),

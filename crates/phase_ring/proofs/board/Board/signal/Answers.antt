@@ -1,9 +1,9 @@
 -- The sends join their phase, and the task goes on to the next one.
 use Rattle.std.proofs.Common.{ℕ, ◌+◌, ◌<◌, [], ◌∷◌, max, sym, ap, subst, ◌∙◌, arith}
-use Rattle.phase_base.specs.Limits.{Limits}
+use Rattle.phase_accum.specs.phase_base.Limits.{Limits}
 use Rattle.phase_ring.specs.declared.role.Role.TheVariants.{Signaller, Waiter}
 use Rattle.phase_ring.specs.Rings.{Ring, sents}
-use Rattle.phase_ring.specs.Boards.{IsKept}
+use Rattle.phase_ring.specs.Boards.{IsRingAt}
 use Rattle.phase_ring.specs.Blocks.{block_joined}
 use Rattle.phase_ring.proofs.Slots.{sealed-high}
 use Rattle.phase_ring.proofs.Blocks.{joins_first, joins_within, joins_unused, joins_next}
@@ -50,9 +50,9 @@ go_on-requires g c =
     let same = c.join.ensures.keeps in
     let later = may.later in
     let top = c.max-self.ensures in
-    let L : Limits → Type 0 = λ l. IsKept op now.ring l.bound now.done c.max-self.result in
-    let D : ℕ → Type 0 = λ d. IsKept op now.ring old.limits.bound d c.max-self.result in
-    let T : ℕ → Type 0 = λ t. IsKept op now.ring old.limits.bound old.done t in
+    let L : Limits → Type 0 = λ l. IsRingAt op now.ring l.bound now.done c.max-self.result in
+    let D : ℕ → Type 0 = λ d. IsRingAt op now.ring old.limits.bound d c.max-self.result in
+    let T : ℕ → Type 0 = λ t. IsRingAt op now.ring old.limits.bound old.done t in
     record {
       invariant = subst L (sym same.limits) (subst D (sym same.done) (subst T (sym (top ∙ ap (λ t. max t (c.args.phase + 1)) same.top)) j.kept));
       may = record {

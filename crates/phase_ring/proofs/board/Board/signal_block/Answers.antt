@@ -1,10 +1,10 @@
 -- Each parcel joins its phase, the task goes on to the phase behind them, and then done moves up.
 use Rattle.std.proofs.Common.{◌≡◌, ℕ, ◌+◌, ◌<◌, ◌≤◌, length, max, drop, refl, sym, ap, subst, ◌∙◌, arith}
-use Rattle.phase_base.specs.Limits.{Limits}
-use Rattle.phase_base.specs.declared.limits.TheConstants.{MEMBERS_MAX}
+use Rattle.phase_accum.specs.phase_base.Limits.{Limits}
+use Rattle.phase_accum.specs.phase_base.declared.limits.TheConstants.{MEMBERS_MAX}
 use Rattle.phase_ring.specs.declared.role.Role.TheVariants.{Signaller, Waiter}
 use Rattle.phase_ring.specs.Rings.{Ring, standing, sents}
-use Rattle.phase_ring.specs.Boards.{IsKept}
+use Rattle.phase_ring.specs.Boards.{IsRingAt}
 use Rattle.phase_ring.specs.Standings.{one_if_same}
 use Rattle.phase_ring.specs.Blocks.{block_joined}
 use Rattle.phase_ring.proofs.Slots.{sealed-high}
@@ -95,9 +95,9 @@ go_on-requires g c =
     let same = c.loop-pending.invariant in
     let later = may.later in
     let top = c.max-self.ensures in
-    let L : Limits → Type 0 = λ l. IsKept op now.ring l.bound now.done c.max-self.result in
-    let D : ℕ → Type 0 = λ d. IsKept op now.ring old.limits.bound d c.max-self.result in
-    let T : ℕ → Type 0 = λ t. IsKept op now.ring old.limits.bound old.done t in
+    let L : Limits → Type 0 = λ l. IsRingAt op now.ring l.bound now.done c.max-self.result in
+    let D : ℕ → Type 0 = λ d. IsRingAt op now.ring old.limits.bound d c.max-self.result in
+    let T : ℕ → Type 0 = λ t. IsRingAt op now.ring old.limits.bound old.done t in
     record {
       invariant = subst L (sym same.1) (subst D (sym same.2) (subst T (sym (c.max-self.ensures ∙ ap (λ t. max t c.loop-pending.next) same.3)) inv.joining.kept));
       may = record {

@@ -1,12 +1,12 @@
 use Rattle.std.proofs.Common.{◌≡◌, ◌++◌, sym, subst, ap, ◌∙◌}
 use Rattle.turn_lock.specs.Seats.{seat_view}
-use Rattle.phase_history.specs.Histories.{History}
-use Rattle.phase_history.specs.Others.{OthersCame}
-use Rattle.phase_base.specs.Lists.{is_distinct}
-use Rattle.phase_seats.specs.Views.{known_of, resting}
-use Rattle.phase_seats.specs.declared.view.View.{View}
+use Rattle.phase_core.specs.phase_history.Histories.{History}
+use Rattle.phase_core.specs.phase_history.Others.{OthersCame}
+use Rattle.phase_core.specs.phase_base.Lists.{is_distinct}
+use Rattle.phase_shared.specs.Views.{known_of, resting}
+use Rattle.phase_shared.specs.declared.seats.view.View.{View}
 use Rattle.phase_shared.specs.Regs.{phaser_terms}
-use Rattle.phase_seats.specs.Rule.{IsGoodAt}
+use Rattle.phase_shared.specs.Rule.{IsGoodAt}
 use Rattle.phase_shared.proofs.past.Past.join.Goals as goal
 
 pub join-requires : goal.join-requires

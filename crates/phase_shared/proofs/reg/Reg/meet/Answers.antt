@@ -1,11 +1,11 @@
 use Rattle.std.proofs.Common.{◌≡◌, [], ◌∷◌, true, false, sym, subst, ap, ◌∙◌}
 use Rattle.std.specs.Prelude.{is_some}
 use Rattle.turn_lock.specs.Seats.{seat_view}
-use Rattle.phase_history.specs.Histories.{History}
-use Rattle.phase_history.specs.Others.{OthersCame}
-use Rattle.phase_seats.specs.Views.{known_of}
-use Rattle.phase_seats.proofs.Meeting.{Met, met}
-use Rattle.phase_shared.specs.Regs.{view_in, phaser_place, phaser_terms}
+use Rattle.phase_core.specs.phase_history.Histories.{History}
+use Rattle.phase_core.specs.phase_history.Others.{OthersCame}
+use Rattle.phase_shared.specs.Views.{known_of}
+use Rattle.phase_shared.proofs.Meeting.{Met, met}
+use Rattle.phase_shared.specs.Regs.{view_in, phaser_lock, phaser_terms}
 use Rattle.phase_shared.proofs.Opening.{Opened, opened, closed}
 use Rattle.phase_shared.proofs.reg.Reg.meet.Given.{Over}
 use Rattle.phase_shared.proofs.reg.Reg.meet.Goals.{In-Some-take, After-meet-seat}
@@ -22,16 +22,16 @@ unreachable-requires-in_default-take g c =
     absurd (let z : false ≡ true = sym none ∙ c.second.invariant.there in cc)
 
 -- the seats of both
-mine : (g : Over) (c : In-Some-take g) → Opened g.K.SignalRule.allows (phaser_place c.args.phaser.now).0 (phaser_terms c.args.phaser.now)
+mine : (g : Over) (c : In-Some-take g) → Opened g.K.SignalRule.allows (phaser_lock c.args.phaser.now).0 (phaser_terms c.args.phaser.now)
     c.first.inside.number c.first.inside.entry c.in-Some.seat
 mine g c =
-    opened g.K.SignalRule.allows (phaser_place c.args.phaser.now).0 (phaser_terms c.args.phaser.now) c.first.inside.number c.first.inside.entry
+    opened g.K.SignalRule.allows (phaser_lock c.args.phaser.now).0 (phaser_terms c.args.phaser.now) c.first.inside.number c.first.inside.entry
     c.first.inside.seat c.in-Some.seat (sym c.take.ensures.value ∙ c.in-Some.is) c.first.invariant (ap (λ r. r.at) c.first.view_is ∙ c.requires.at.0)
 
-yours : (g : Over) (c : In-Some-take g) → Opened g.K.SignalRule.allows (phaser_place c.args.phaser.now).0 (phaser_terms c.args.phaser.now)
+yours : (g : Over) (c : In-Some-take g) → Opened g.K.SignalRule.allows (phaser_lock c.args.phaser.now).0 (phaser_terms c.args.phaser.now)
     c.second.inside.number c.second.inside.entry c.in-Some-take.other_seat
 yours g c =
-    opened g.K.SignalRule.allows (phaser_place c.args.phaser.now).0 (phaser_terms c.args.phaser.now) c.second.inside.number c.second.inside.entry
+    opened g.K.SignalRule.allows (phaser_lock c.args.phaser.now).0 (phaser_terms c.args.phaser.now) c.second.inside.number c.second.inside.entry
     c.second.inside.seat c.in-Some-take.other_seat (sym c.take-2.ensures.value ∙ c.in-Some-take.is) c.second.invariant
     (ap (λ r. r.at) c.second.view_is ∙ c.requires.at.1)
 
@@ -46,8 +46,8 @@ meet-seat-requires g c =
 
 -- what both have seen
 both : (g : Over) (c : After-meet-seat g)
-    → Opened g.K.SignalRule.allows (phaser_place c.args.phaser.now).0 (phaser_terms c.args.phaser.now) c.first.inside.number c.first.inside.entry c.in-Some.seat
-    → Opened g.K.SignalRule.allows (phaser_place c.args.phaser.now).0 (phaser_terms c.args.phaser.now) c.second.inside.number c.second.inside.entry c.in-Some-take.other_seat
+    → Opened g.K.SignalRule.allows (phaser_lock c.args.phaser.now).0 (phaser_terms c.args.phaser.now) c.first.inside.number c.first.inside.entry c.in-Some.seat
+    → Opened g.K.SignalRule.allows (phaser_lock c.args.phaser.now).0 (phaser_terms c.args.phaser.now) c.second.inside.number c.second.inside.entry c.in-Some-take.other_seat
     → Met g.K.SignalRule.allows (phaser_terms c.args.phaser.now) c.first.inside.number c.second.inside.number
     c.first.inside.entry c.second.inside.entry (seat_view c.in-Some.seat) (seat_view c.in-Some-take.other_seat)
     (seat_view c.meet-seat.result.0) (seat_view c.meet-seat.result.1)
@@ -59,13 +59,13 @@ both g c one other =
 pub invariant_of-first : goal.invariant_of-first
 invariant_of-first g c =
     let at = goal.at.invariant_of-first g c in
-    closed g.K.SignalRule.allows (phaser_place c.args.phaser.now).0 (phaser_terms c.args.phaser.now) c.first.inside.number c.first.inside.entry
+    closed g.K.SignalRule.allows (phaser_lock c.args.phaser.now).0 (phaser_terms c.args.phaser.now) c.first.inside.number c.first.inside.entry
     c.meet-seat.result.0 c.meet-seat.ensures.seats.0 (both g at.After-meet-seat (mine g at.In-Some-take) (yours g at.In-Some-take)).left
 
 pub invariant_of-second : goal.invariant_of-second
 invariant_of-second g c =
     let at = goal.at.invariant_of-second g c in
-    closed g.K.SignalRule.allows (phaser_place c.args.phaser.now).0 (phaser_terms c.args.phaser.now) c.second.inside.number c.second.inside.entry
+    closed g.K.SignalRule.allows (phaser_lock c.args.phaser.now).0 (phaser_terms c.args.phaser.now) c.second.inside.number c.second.inside.entry
     c.meet-seat.result.1 c.meet-seat.ensures.seats.1 (both g at.After-meet-seat (mine g at.In-Some-take) (yours g at.In-Some-take)).right
 
 pub returns-clause-one : goal.returns-clause-one

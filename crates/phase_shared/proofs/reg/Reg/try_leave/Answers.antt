@@ -1,13 +1,12 @@
 use Rattle.std.proofs.Common.{◌≡◌, [], ◌∷◌, Some, true, false, sym, subst, ap, ◌∙◌}
 use Rattle.std.specs.Prelude.{is_some}
-use Rattle.phase_history.specs.Histories.{History}
-use Rattle.phase_history.specs.Others.{OnlyUsed}
-use Rattle.phase_base.specs.Lists.{is_distinct}
-use Rattle.phase_seats.specs.Views.{known_of}
-use Rattle.phase_seats.specs.Views.{resting}
-use Rattle.phase_seats.specs.Rule.{IsGoodAt, IsSeatOfTask}
-use Rattle.phase_seats.specs.declared.view.View.{View}
-use Rattle.phase_shared.specs.Regs.{RegState, reg_state, phaser_place, phaser_terms}
+use Rattle.phase_core.specs.phase_history.Histories.{History}
+use Rattle.phase_core.specs.phase_history.Others.{OnlyUsed}
+use Rattle.phase_core.specs.phase_base.Lists.{is_distinct}
+use Rattle.phase_shared.specs.Views.{known_of, resting}
+use Rattle.phase_shared.specs.Rule.{IsGoodAt, IsSeatOfTask}
+use Rattle.phase_shared.specs.declared.seats.view.View.{View}
+use Rattle.phase_shared.specs.Regs.{RegState, reg_state, phaser_lock, phaser_terms}
 use Rattle.phase_shared.proofs.Opening.{opened, closed}
 use Rattle.phase_shared.proofs.reg.Reg.try_leave.Goals as goal
 
@@ -17,7 +16,7 @@ unreachable-requires g c =
 
 pub leave-requires : goal.leave-requires
 leave-requires g c =
-    let p = phaser_place c.args.phaser.now in
+    let p = phaser_lock c.args.phaser.now in
     let o = opened g.K.SignalRule.allows p.0 (phaser_terms c.args.phaser.now) c.self.inside.number c.self.inside.entry c.self.inside.seat c.in-Some.seat
     c.in-Some.is c.self.invariant (ap (λ r. r.at) c.self.view_is ∙ c.requires.at) in
     record { seat = o.at; at = o.station }
@@ -36,7 +35,7 @@ invariant_of-result g c =
 
 pub invariant_of-result-in-Err : goal.invariant_of-result-in-Err
 invariant_of-result-in-Err g c =
-    let p = phaser_place c.args.phaser.now in
+    let p = phaser_lock c.args.phaser.now in
     let terms = phaser_terms c.args.phaser.now in
     let o = opened g.K.SignalRule.allows p.0 terms c.self.inside.number c.self.inside.entry c.self.inside.seat c.in-Some.seat
     c.in-Some.is c.self.invariant (ap (λ r. r.at) c.self.view_is ∙ c.requires.at) in

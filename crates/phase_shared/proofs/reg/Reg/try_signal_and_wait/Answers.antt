@@ -1,13 +1,13 @@
 use Rattle.std.proofs.Common.{◌≡◌, ℕ, Option, Some, None, true, false, refl, sym, subst, ap, ◌∙◌}
 use Rattle.std.specs.Prelude.{is_some, Result, IsErr}
-use Rattle.phase_base.specs.declared.entry.Entry.{Entry}
-use Rattle.phase_accum.specs.Parcels.{Parcel}
-use Rattle.phase_history.specs.declared.got.Got.{Got}
-use Rattle.phase_history.specs.declared.refusal.SignalRefusal.{SignalRefusal}
-use Rattle.phase_history.specs.declared.refusal.SignalRefusal.TheVariants.{NoTask}
-use Rattle.phase_seats.specs.declared.rule.Terms.{Terms}
-use Rattle.phase_seats.specs.declared.tried.Tried.{Tried}
-use Rattle.phase_shared.specs.Regs.{RegState, reg_state, phaser_place, phaser_terms}
+use Rattle.phase_core.specs.phase_base.declared.entry.Entry.{Entry}
+use Rattle.phase_core.specs.phase_accum.Parcels.{Parcel}
+use Rattle.phase_core.specs.phase_history.declared.got.Got.{Got}
+use Rattle.phase_core.specs.phase_history.declared.refusal.SignalRefusal.{SignalRefusal}
+use Rattle.phase_core.specs.phase_history.declared.refusal.SignalRefusal.TheVariants.{NoTask}
+use Rattle.phase_shared.specs.declared.rule.Terms.{Terms}
+use Rattle.phase_shared.specs.declared.tried.Tried.{Tried}
+use Rattle.phase_shared.specs.Regs.{RegState, reg_state, phaser_lock, phaser_terms}
 use Rattle.phase_shared.specs.Calls.{IsTry, Tries, MaySignal}
 use Rattle.phase_shared.specs.Entries.{entry_after_both}
 use Rattle.phase_shared.specs.Nexts.{SignalsAndMayWait}
@@ -23,7 +23,7 @@ unreachable-requires g c =
 
 pub signal-seat-requires : goal.signal-seat-requires
 signal-seat-requires g c =
-    let p = phaser_place c.args.phaser.now in
+    let p = phaser_lock c.args.phaser.now in
     let terms = phaser_terms c.args.phaser.now in
     let inside = c.self.inside in
     let o = opened g.K.SignalRule.allows p.0 terms inside.number inside.entry inside.seat c.in-Some.seat
@@ -36,14 +36,14 @@ signal-seat-requires g c =
 
 pub invariant_of-self : goal.invariant_of-self
 invariant_of-self g c =
-    let p = phaser_place c.args.phaser.now in
+    let p = phaser_lock c.args.phaser.now in
     let terms = phaser_terms c.args.phaser.now in
     let inside = c.self.inside in
     closed g.K.SignalRule.allows p.0 terms inside.number c.signal-seat.result.1 c.signal-seat.result.0 c.signal-seat.ensures.seat c.signal-seat.ensures.step.at
 
 pub invariant_of-self-in-Err : goal.invariant_of-self-in-Err
 invariant_of-self-in-Err g c =
-    let p = phaser_place c.args.phaser.now in
+    let p = phaser_lock c.args.phaser.now in
     let terms = phaser_terms c.args.phaser.now in
     let inside = c.self.inside in
     closed g.K.SignalRule.allows p.0 terms inside.number c.signal-seat.result.1 c.signal-seat.result.0 c.signal-seat.ensures.seat c.signal-seat.ensures.step.at
@@ -71,10 +71,10 @@ module _ (g : Over) (c : After-signal-seat g) where
   tried : (held : Parcel g.row.A.Denot) → (IsErr c.signal-seat.result.2 → held ≡ c.self.inside.pending) → IsTried held c.signal-seat.result.2
   tried held stays =
       let inside = c.self.inside in
-      is_try g.K.SignalRule.allows (phaser_place c.args.phaser.now).0 terms inside.number NoTask entry_after_both
+      is_try g.K.SignalRule.allows (phaser_lock c.args.phaser.now).0 terms inside.number NoTask entry_after_both
       (λ old new answer. SignalsAndMayWait c.args.waits g.A.Accumulate.operation terms.limits old.number old.held c.args.single old.seen new answer)
       inside.entry c.signal-seat.result.1 inside.pending held c.in-Some.seat c.signal-seat.result.0 c.args.self.now c.signal-seat.result.2
-      (reg_is g.K.SignalRule.allows (phaser_place c.args.phaser.now).0 terms inside.number inside.entry inside.pending inside.seat c.in-Some.seat
+      (reg_is g.K.SignalRule.allows (phaser_lock c.args.phaser.now).0 terms inside.number inside.entry inside.pending inside.seat c.in-Some.seat
       c.args.self.now (sym c.take.ensures.value ∙ c.in-Some.is) c.self.view_is)
       c.requires.at c.signal-seat.ensures.seat mode_stays stays c.signal-seat.ensures.step
 

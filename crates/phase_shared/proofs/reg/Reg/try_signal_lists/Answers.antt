@@ -1,7 +1,7 @@
 use Rattle.std.proofs.Common.{◌≡◌, length, Some, true, false, refl, sym, subst, ap, ◌∙◌}
 use Rattle.std.specs.Prelude.{is_some}
-use Rattle.phase_history.specs.declared.refusal.SignalRefusal.TheVariants.{NoTask}
-use Rattle.phase_shared.specs.Regs.{RegState, reg_state, phaser_place, phaser_terms}
+use Rattle.phase_core.specs.phase_history.declared.refusal.SignalRefusal.TheVariants.{NoTask}
+use Rattle.phase_shared.specs.Regs.{RegState, reg_state, phaser_lock, phaser_terms}
 use Rattle.phase_shared.specs.Blocks.{SignalsBlock, MaySignalBlock, entry_after_block}
 use Rattle.phase_shared.proofs.Opening.{opened, closed, reg_is, is_try}
 use Rattle.phase_shared.proofs.reg.Reg.try_signal_lists.Goals as goal
@@ -13,7 +13,7 @@ unreachable-requires g c =
 
 pub signal_lists-seat-requires : goal.signal_lists-seat-requires
 signal_lists-seat-requires g c =
-    let p = phaser_place c.args.phaser.now in
+    let p = phaser_lock c.args.phaser.now in
     let terms = phaser_terms c.args.phaser.now in
     let inside = c.self.inside in
     let o = opened g.K.SignalRule.allows p.0 terms inside.number inside.entry inside.seat c.in-Some.seat
@@ -26,7 +26,7 @@ signal_lists-seat-requires g c =
 
 pub invariant_of-self : goal.invariant_of-self
 invariant_of-self g c =
-    let p = phaser_place c.args.phaser.now in
+    let p = phaser_lock c.args.phaser.now in
     let terms = phaser_terms c.args.phaser.now in
     let inside = c.self.inside in
     closed g.K.SignalRule.allows p.0 terms inside.number c.signal_lists-seat.result.1 c.signal_lists-seat.result.0 c.signal_lists-seat.ensures.seat
@@ -36,10 +36,10 @@ pub returns-clause-call : goal.returns-clause-call
 returns-clause-call g c =
     let terms = phaser_terms c.args.phaser.now in
     let inside = c.self.inside in
-    is_try g.K.SignalRule.allows (phaser_place c.args.phaser.now).0 terms inside.number NoTask (entry_after_block (length c.args.lists.now))
+    is_try g.K.SignalRule.allows (phaser_lock c.args.phaser.now).0 terms inside.number NoTask (entry_after_block (length c.args.lists.now))
     (λ old new answer. SignalsBlock g.A.Accumulate.operation terms.limits old.number c.args.lists.now c.args.single old.seen new answer)
     inside.entry c.signal_lists-seat.result.1 inside.pending inside.pending c.in-Some.seat c.signal_lists-seat.result.0 c.args.self.now
     c.signal_lists-seat.result.2
-    (reg_is g.K.SignalRule.allows (phaser_place c.args.phaser.now).0 terms inside.number inside.entry inside.pending inside.seat c.in-Some.seat
+    (reg_is g.K.SignalRule.allows (phaser_lock c.args.phaser.now).0 terms inside.number inside.entry inside.pending inside.seat c.in-Some.seat
     c.args.self.now (sym c.take.ensures.value ∙ c.in-Some.is) c.self.view_is)
     c.requires.at c.signal_lists-seat.ensures.seat (λ answer e. refl) (λ none. refl) c.signal_lists-seat.ensures.step

@@ -1,8 +1,8 @@
 use Rattle.std.proofs.Common.{◌≡◌, Some, true, false, refl, sym, ap, ◌∙◌}
 use Rattle.std.specs.Prelude.{is_some}
 use Rattle.turn_lock.specs.Seats.{IsSameSeat}
-use Rattle.phase_history.specs.declared.refusal.WaitRefusal.TheVariants.{NoTask}
-use Rattle.phase_shared.specs.Regs.{RegState, reg_state, phaser_place, phaser_terms}
+use Rattle.phase_core.specs.phase_history.declared.refusal.WaitRefusal.TheVariants.{NoTask}
+use Rattle.phase_shared.specs.Regs.{RegState, reg_state, phaser_lock, phaser_terms}
 use Rattle.phase_shared.specs.Blocks.{WaitsBlock, entry_after_values}
 use Rattle.phase_shared.proofs.Opening.{opened, closed, same_reg, reg_is, is_try_as}
 use Rattle.phase_shared.proofs.reg.Reg.try_wait_block.Goals as goal
@@ -14,7 +14,7 @@ unreachable-requires g c =
 
 pub wait_block-seat-requires : goal.wait_block-seat-requires
 wait_block-seat-requires g c =
-    let p = phaser_place c.args.phaser.now in
+    let p = phaser_lock c.args.phaser.now in
     let terms = phaser_terms c.args.phaser.now in
     let inside = c.self.inside in
     let o = opened g.K.SignalRule.allows p.0 terms inside.number inside.entry inside.seat c.in-Some.seat
@@ -23,7 +23,7 @@ wait_block-seat-requires g c =
 
 pub invariant_of-self : goal.invariant_of-self
 invariant_of-self g c =
-    let p = phaser_place c.args.phaser.now in
+    let p = phaser_lock c.args.phaser.now in
     let terms = phaser_terms c.args.phaser.now in
     let inside = c.self.inside in
     closed g.K.SignalRule.allows p.0 terms inside.number c.wait_block-seat.result.1 c.wait_block-seat.result.0 c.wait_block-seat.ensures.seat
@@ -31,7 +31,7 @@ invariant_of-self g c =
 
 pub returns-clause-call : goal.returns-clause-call
 returns-clause-call g c =
-    let p = phaser_place c.args.phaser.now in
+    let p = phaser_lock c.args.phaser.now in
     let allows = g.K.SignalRule.allows in
     let terms = phaser_terms c.args.phaser.now in
     let inside = c.self.inside in

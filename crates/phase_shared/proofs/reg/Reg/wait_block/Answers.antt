@@ -1,12 +1,12 @@
 use Rattle.std.proofs.Common.{◌≡◌, [], ◌∷◌, Ok, Err, List, refl, sym, subst, ap, ◌∙◌}
-use Rattle.phase_accum.specs.declared.outcome.Outcome.{Outcome}
-use Rattle.phase_history.specs.Histories.{History}
-use Rattle.phase_history.specs.Others.{OthersCame}
-use Rattle.phase_history.specs.declared.refusal.WaitRefusal.TheVariants.{NotYet, NoTask}
+use Rattle.phase_core.specs.phase_accum.declared.outcome.Outcome.{Outcome}
+use Rattle.phase_core.specs.phase_history.Histories.{History}
+use Rattle.phase_core.specs.phase_history.Others.{OthersCame}
+use Rattle.phase_core.specs.phase_history.declared.refusal.WaitRefusal.TheVariants.{NotYet, NoTask}
 use Rattle.phase_shared.specs.Regs.{phaser_terms}
 use Rattle.phase_shared.specs.Calls.{Tries}
 use Rattle.phase_shared.specs.Blocks.{WaitsBlock, entry_after_values}
-use Rattle.phase_seats.proofs.Answering.{again}
+use Rattle.phase_shared.proofs.Answering.{again}
 use Rattle.phase_shared.proofs.Later.{waits_on_as, accepted, refused}
 use Rattle.phase_shared.proofs.LaterBlocks.{waits_block_later}
 use Rattle.phase_shared.proofs.reg.Reg.wait_block.Goals as goal

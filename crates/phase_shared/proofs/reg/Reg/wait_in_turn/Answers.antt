@@ -1,12 +1,12 @@
 use Rattle.std.proofs.Common.{Err, subst, ap, ◌∙◌}
-use Rattle.phase_history.specs.Histories.{History, wait_phase}
-use Rattle.phase_history.specs.Legal.{IsLegal}
-use Rattle.phase_history.specs.Refusals.{wait_refusal}
-use Rattle.phase_history.specs.Replies.{got_at}
+use Rattle.phase_core.specs.phase_history.Histories.{History, wait_phase}
+use Rattle.phase_core.specs.phase_history.Legal.{IsLegal}
+use Rattle.phase_core.specs.phase_history.Refusals.{wait_refusal}
+use Rattle.phase_core.specs.phase_history.Replies.{got_at}
 use Rattle.phase_shared.specs.Regs.{phaser_limits}
 use Rattle.phase_shared.specs.Calls.{Waits}
-use Rattle.phase_seats.proofs.Answering.{refused_is}
-use Rattle.phase_seats.proofs.Giving.{member_after}
+use Rattle.phase_shared.proofs.Answering.{refused_is}
+use Rattle.phase_shared.proofs.Giving.{member_after}
 use Rattle.phase_shared.proofs.NextSteps.{only_early}
 use Rattle.phase_shared.proofs.reg.Reg.wait_in_turn.Goals as goal
 

@@ -1,6 +1,0 @@
-use Rattle.std.specs.Prelude.{◌≡◌}
-use Rattle.phase_shared.specs.Regs.{phaser_place}
-use Rattle.block_tests.proofs.blocks.receive_blocks.Given as goal
-
-abbrev pub invariant-loop : goal.invariant-loop
-invariant-loop g l = l.reg.at ≡ phaser_place l.phaser

@@ -1,9 +1,0 @@
-use Rattle.std.specs.Prelude.{◌≡◌}
-use Rattle.phase_shared.specs.Regs.{phaser_place}
-use Rattle.block_tests.proofs.blocks.send_blocks.Given as goal
-
-abbrev pub invariant-loop-block : goal.invariant-loop-block
-invariant-loop-block g l = record {
-  at : l.reg.at ≡ phaser_place l.phaser;
-  none_held : l.reg.held.count ≡ 0;
-}

@@ -1,8 +1,0 @@
-use Rattle.std.proofs.Common.{◌≡◌, ◌++◌, take}
-use Rattle.std.specs.List.{flat_map}
-use Rattle.graph_drawing.specs.Drawings.{wait_arrow}
-use Rattle.graph_drawing.proofs.arrows.put_waits.Given as goal
-
--- the arrows of the phasers before this one stand behind the text
-abbrev pub invariant-loop-p : goal.invariant-loop-p
-invariant-loop-p l = l.text.items ≡ l.fn.text.items ++ flat_map (wait_arrow l.graph l.t) (take l.p-index l.phasers)

@@ -1,2 +1,0 @@
-pub mod RunEnds
-pub mod TaskEnds

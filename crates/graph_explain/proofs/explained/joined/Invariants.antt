@@ -1,7 +1,0 @@
-use Rattle.std.proofs.Common.{◌≡◌, take}
-use Rattle.std.specs.List.{flat_map}
-use Rattle.graph_explain.proofs.explained.joined.Given as goal
-
--- the parts before this one stand one behind the other
-abbrev pub invariant-loop-part : goal.invariant-loop-part
-invariant-loop-part l = l.text.items ≡ flat_map (λ part. part.now) (take l.part-index l.parts)

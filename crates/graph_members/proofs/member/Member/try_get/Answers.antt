@@ -1,8 +1,0 @@
--- The registration is alone, as the member is.
-use Rattle.graph_members.proofs.Looks.{only_used}
-use Rattle.graph_members.proofs.member.Member.try_get.Goals as goal
-
-pub returns-clause-alone : goal.returns-clause-alone
-returns-clause-alone g c = λ alone.
-    let own = c.self.inside in
-    c.try_wait.ensures.call.alone (only_used own.reg own.held c.args.self.now c.self.view_is alone)

@@ -1,2 +1,0 @@
-mod Founding
-mod Rows

@@ -1,5 +1,0 @@
-use Rattle.graph_openings.proofs.founders.dismiss_founders.Given as goal
-
--- one fewer each time
-abbrev pub decreases-loop-founder : goal.decreases-loop-founder
-decreases-loop-founder g l = l.founders.rest.len

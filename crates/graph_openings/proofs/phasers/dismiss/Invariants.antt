@@ -1,8 +1,0 @@
-use Rattle.std.proofs.Common.{◌≡◌, ◌+◌, length}
-use Rattle.graph_openings.specs.Openings.{AreFoundersFrom}
-use Rattle.graph_openings.proofs.phasers.dismiss.Given as goal
-
--- the rest are the founders of the phasers from this one on
-abbrev pub invariant-loop-p : goal.invariant-loop-p
-invariant-loop-p g l =
-    AreFoundersFrom l.p l.phasers l.regs.rest.items × (l.p + l.regs.rest.len ≡ length l.phasers)

@@ -1,2 +1,0 @@
-pub mod Founders
-pub mod Openings

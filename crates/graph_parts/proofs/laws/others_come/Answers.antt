@@ -1,7 +1,0 @@
--- With the history in its place.
-use Rattle.graph_parts.proofs.Parts.{with_history, seen}
-use Rattle.graph_parts.proofs.laws.others_come.Goals as goal
-
-pub returns : goal.returns
-returns c = λ job m t p n now is there part sees.
-    (with_history p now m, seen job m t p n now sees is there part)

@@ -1,0 +1,110 @@
+-- What a block of waits leaves a filter to put: an output for each value that it got, in order. And
+-- all that an output lacks may be put at once.
+use Rattle.std.proofs.Common.{◌≡◌, ◌≢◌, ℕ, ◌+◌, ◌<◌, ◌≤◌, List, [], ◌∷◌, ◌++◌, length, map, get_or, ℤ, refl, sym, ap, subst, ◌∙◌, arith}
+use Rattle.std.specs.Prelude.{drop}
+use mathlib.Core.List.{IsPrefix}
+use Rattle.std.proofs.lemmas.List.{append-nil, append_assoc, length-append, length-map}
+use Rattle.stream_lists.specs.stream_filters.Filter.{outputs, output_after}
+use Rattle.stream_lists.proofs.stream_filters_lemmas.Outputs.{outputs-push}
+use Rattle.phase_history.specs.phase_accum.declared.outcome.Outcome.{Outcome}
+use Rattle.stream_lists.specs.graph_base.declared.line.Kind.{Kind}
+use Rattle.stream_lists.specs.graph_base.declared.line.Kind.TheVariants.{Fir}
+use Rattle.stream_lists.specs.graph_base.Graphs.{task_at}
+use Rattle.stream_lists.specs.graph_base.TaskLines.{IsGraph, HasEnds}
+use Rattle.stream_lists.specs.Jobs.{Job}
+use Rattle.stream_lists.specs.Spans.{signalled_by, puts_on}
+use Rattle.stream_lists.specs.Lists.{number}
+use Rattle.graph_runs.specs.Moments.{Moment, TaskRan, made_now, taken_now, HasExchanged}
+use Rattle.graph_runs.proofs.Tasks.{now_at}
+use Rattle.graph_runs.specs.Moves.{further, WaitsAll}
+use Rattle.graph_runs.proofs.Nexts.{further-length}
+use Rattle.graph_runs.proofs.Boundaries.{made_many}
+
+-- ---- lists
+
+-- what follows a list
+pub drop-front : (xs ys : List ℤ) → drop (length xs) (xs ++ ys) ≡ ys
+drop-front [] ys = refl
+drop-front (x ∷ xs) ys = drop-front xs ys
+
+-- a beginning, with all that follows
+pub begins_whole : (xs ys : List ℤ) → IsPrefix xs ys → IsPrefix (xs ++ drop (length xs) ys) ys
+begins_whole xs ys a =
+    let rest : drop (length xs) ys ≡ a.0 =
+    ap (λ l. drop (length xs) l) (sym a.1) ∙ drop-front xs a.0 in
+    ([], append-nil (xs ++ drop (length xs) ys) ∙ ap (λ l. xs ++ l) rest ∙ a.1)
+
+-- ---- a filter
+
+-- what a filter that took these values makes of the next ones, one after the other
+abbrev pub outputs_of_block : List ℤ → ℕ → List ℤ → List ℤ → List ℤ
+outputs_of_block taps shift taken [] = []
+outputs_of_block taps shift taken (x ∷ xs) =
+    output_after taps shift (taken ++ x ∷ []) ∷ outputs_of_block taps shift (taken ++ x ∷ []) xs
+
+pub outputs-block : (taps : List ℤ) (shift : ℕ) (taken xs : List ℤ)
+    → outputs taps shift (taken ++ xs)
+    ≡ outputs taps shift taken ++ outputs_of_block taps shift taken xs
+outputs-block taps shift taken [] =
+    ap (λ l. outputs taps shift l) (append-nil taken)
+    ∙ sym (append-nil (outputs taps shift taken))
+outputs-block taps shift taken (x ∷ xs) =
+    let next = taken ++ x ∷ [] in
+    ap (λ l. outputs taps shift l) (sym (append_assoc taken (x ∷ []) xs))
+    ∙ outputs-block taps shift next xs
+    ∙ ap (λ l. l ++ outputs_of_block taps shift next xs) (outputs-push taps shift taken x)
+    ∙ append_assoc (outputs taps shift taken) (output_after taps shift next ∷ [])
+    (outputs_of_block taps shift next xs)
+
+-- what a filter that owed nothing owes after a block of waits
+pub record OwesBlock (job : Job) (m after : Moment) (t : ℕ) (outcomes : List Outcome) : Type
+    0 where
+  pub values : drop (length (after.put t 0)) (made_now job after t 0)
+      ≡ outputs_of_block (task_at job.graph t).taps (task_at job.graph t).shift (m.taken t 0)
+      (map number outcomes)
+  pub many : length (made_now job after t 0) ≡ length (after.put t 0) + length outcomes
+
+pub fir_owes_block : (job : Job) (m after : Moment) (t p n : ℕ) (outcomes : List Outcome)
+    → IsGraph job.graph → t < length job.graph.tasks → (task_at job.graph t).kind ≡ Fir
+    → TaskRan job m t → TaskRan job after t → WaitsAll job m after t 0 p n outcomes
+    → after.begun t ≡ further (m.begun t) outcomes
+    → m.put t 0 ≡ made_now job m t 0 → OwesBlock job m after t outcomes
+fir_owes_block job m after t p n outcomes is there e ran now w steps whole =
+    let task = task_at job.graph t in
+    let xs = map number outcomes in
+    let H : Kind → Type 0 = λ kind. HasEnds kind (length task.inputs) (length task.outputs) in
+    let ends : (length task.inputs ≡ 1) × (length task.outputs ≡ 1) =
+    subst H e (is.tasks t there).ends in
+    let inputs : length task.inputs ≡ 1 = ends.0 in
+    let outs : signalled_by task ≡ task.outputs = rw e refl in
+    let many : length (signalled_by task) ≡ 1 = ap length outs ∙ ends.1 in
+    let now_is : get_or (taken_now after task t) 0 [] ≡ m.taken t 0 ++ xs =
+    now_at after task t 0 (omega arith) ∙ w.taken in
+    let was : get_or (taken_now m task t) 0 [] ≡ m.taken t 0 = now_at m task t 0 (omega arith) in
+    let made : made_now job after t 0 ≡ outputs task.taps task.shift (m.taken t 0 ++ xs) =
+    (let a : made_now job after t 0
+    ≡ outputs task.taps task.shift (get_or (taken_now after task t) 0 []) = rw e refl in
+    a ∙ ap (λ l. outputs task.taps task.shift l) now_is) in
+    let before : made_now job m t 0 ≡ outputs task.taps task.shift (m.taken t 0) =
+    (let a : made_now job m t 0
+    ≡ outputs task.taps task.shift (get_or (taken_now m task t) 0 []) = rw e refl in
+    a ∙ ap (λ l. outputs task.taps task.shift l) was) in
+    let put : after.put t 0 ≡ outputs task.taps task.shift (m.taken t 0) =
+    w.put 0 ∙ whole ∙ before in
+    let block = outputs_of_block task.taps task.shift (m.taken t 0) xs in
+    let both : made_now job after t 0 ≡ after.put t 0 ++ block =
+    made ∙ outputs-block task.taps task.shift (m.taken t 0) xs ∙ ap (λ l. l ++ block) (sym put) in
+    let all : length (made_now job after t 0) ≡ puts_on task (after.begun t) 0 =
+    made_many job after t 0 is now there (omega arith) in
+    let first : length (made_now job m t 0) ≡ puts_on task (m.begun t) 0 =
+    made_many job m t 0 is ran there (omega arith) in
+    let plain : puts_on task (after.begun t) 0 ≡ after.begun t = rw e refl in
+    let plain_before : puts_on task (m.begun t) 0 ≡ m.begun t = rw e refl in
+    let more : further (m.begun t) outcomes ≡ m.begun t + length outcomes =
+    further-length (m.begun t) outcomes in
+    let same : length (after.put t 0) ≡ length (made_now job m t 0) =
+    ap length (w.put 0 ∙ whole) in
+    record {
+      values = ap (λ l. drop (length (after.put t 0)) l) both ∙ drop-front (after.put t 0) block;
+      many = omega arith;
+    }

@@ -1,0 +1,514 @@
+-- The place of a task after the first wait of a step.
+use Rattle.std.proofs.Common.{◌≡◌, ◌≢◌, ℕ, zero, suc, ◌+◌, ◌-◌, ◌*◌, ◌/◌, ◌%◌, ◌<◌, ◌≤◌, Bool, true, false, cond, eqb, List, [], ◌∷◌, ◌++◌, length, get_or, ℤ, pos, refl, sym, ap, subst, ◌∙◌, arith}
+use Rattle.std.specs.Prelude.{Result, Ok, nat_le, unsigned_abs}
+use Rattle.std.specs.List.{range_with_len}
+use Rattle.std.proofs.lemmas.Bool.{eq-eqb, eqb-true, ne_eqb, not-false}
+use Rattle.std.proofs.lemmas.Nat.{mod_below, div-add-mod', div-mul-add}
+use Rattle.std.proofs.lemmas.List.{get_or-append_right, length-append, length-map}
+use Rattle.std.proofs.lemmas.List.FromFn.{get_or-map-range_with_len, length-range_with_len}
+use Rattle.stream_lists.specs.stream_filters.Range.{ranged}
+use Rattle.stream_lists.specs.stream_filters.Filter.{outputs, output_after}
+use Rattle.stream_lists.proofs.stream_filters_lemmas.Outputs.{outputs-push}
+use Rattle.stream_lists.specs.stream_filters.declared.fault.TooBigValue.{TooBigValue}
+use Rattle.phase_history.specs.declared.event.Event.TheVariants.{Waited}
+use Rattle.phase_history.specs.phase_accum.declared.outcome.Outcome.{Outcome}
+use Rattle.phase_history.specs.phase_accum.Sends.{value_max}
+use Rattle.phase_history.specs.Legal.{IsLegal}
+use Rattle.stream_lists.specs.graph_base.declared.line.Kind.{Kind}
+use Rattle.stream_lists.specs.graph_base.declared.line.Kind.TheVariants.{Source, Fir, Split, Join, Peer, Sink}
+use Rattle.stream_lists.specs.graph_base.Graphs.{task_at}
+use Rattle.stream_lists.specs.graph_base.TaskLines.{IsGraph, HasEnds}
+use Rattle.stream_lists.specs.Jobs.{Job}
+use Rattle.stream_lists.specs.Spans.{signalled_by, puts_on, takes_from, turns_below}
+use Rattle.stream_lists.specs.Lists.{number, entry, every, in_turn, turn_at}
+use Rattle.stream_lists.specs.Ranges.{is_out_of_range}
+use Rattle.graph_runs.specs.Moments.{Moment, HasRun, TaskRan, made_now, taken_now, first_input, input_at, limits_at}
+use Rattle.graph_runs.proofs.Tasks.{now_at}
+use Rattle.graph_runs.proofs.Nexts.{turns-next, turns-stay}
+use Rattle.graph_runs.proofs.Turned.{first_wait_is}
+use Rattle.graph_runs.specs.TaskEvents.{IsNext, first_wait, after_turn}
+use Rattle.graph_runs.specs.Nexts.{waits_first, signals, exchanges}
+use Rattle.graph_runs.specs.Answers.{makes, answer_of_turn}
+use Rattle.graph_runs.specs.Reached.{IsReachable}
+use Rattle.graph_runs.specs.TaskPlaces.{Owed, nothing, value, Owes, TaskPlace, StandsAt, lacking, owed_after_wait}
+use Rattle.graph_runs.proofs.Boundaries.{made_many, peer_ends}
+use Rattle.graph_runs.proofs.Turning.{turn_makes_next}
+use Rattle.graph_runs.proofs.Ranged.{taken_ranged}
+use Rattle.graph_runs.proofs.Following.{Lacks, GetsOne, gets_one, stays_at, keeps_moved}
+use Rattle.graph_runs.proofs.InOrder.{event_owes}
+use Rattle.graph_runs.proofs.Lacking.{first_none, first_is}
+use Rattle.graph_runs.proofs.Stepping.{owes_nothing}
+
+-- what stands behind a list
+behind : (xs : List ℤ) (x : ℤ) (i : ℕ) → i ≡ length xs → get_or (xs ++ x ∷ []) i (pos 0) ≡ x
+behind xs x i same =
+    let le : length xs ≤ i = omega arith in
+    let off : i - length xs ≡ 0 = omega arith in
+    get_or-append_right xs (x ∷ []) (length xs) i (pos 0) refl le
+    ∙ ap (λ k. get_or (x ∷ []) k (pos 0)) off
+
+-- a number in range is a value
+pub in_range_is : (x : ℤ) → is_out_of_range x ≡ false → ranged x ≡ Ok x
+in_range_is x e =
+    let small : nat_le (unsigned_abs x) value_max ≡ true =
+    not-false (nat_le (unsigned_abs x) value_max) e in
+    rw small refl
+
+-- of its turns below a step, at the step that is its turn
+turn_count : (m b : ℕ) → 0 < m → turns_below m (b % m) b ≡ b / m
+turn_count m b some =
+    let split : b / m * m + b % m ≡ b = div-add-mod' b m in
+    let rest : b % m < m = mod_below b m some in
+    let is : b + (m - 1 - b % m) ≡ b / m * m + (m - 1) = omega arith in
+    ap (λ x. x / m) is ∙ div-mul-add (b / m) m (m - 1) (omega arith)
+
+-- ---- what a first wait changes
+
+-- the facts of a first wait, by its input number and what was taken
+pub record FirstWait (job : Job) (m after : Moment) (t k : ℕ) (outcome : Outcome)
+    : Type 0 where
+  pub is : IsGraph job.graph
+  pub ran : TaskRan job m t
+  pub now : TaskRan job after t
+  pub legal : IsLegal (limits_at job (input_at (task_at job.graph t) k))
+      (after.history (input_at (task_at job.graph t) k))
+  pub there : t < length job.graph.tasks
+  pub few : k < length (task_at job.graph t).inputs
+  pub waits : GetsOne m after t k outcome
+  pub first : k ≡ first_input (task_at job.graph t) (m.begun t)
+  pub steps : after.begun t ≡ suc (m.begun t)
+  pub all_taken : length (m.taken t k) ≡ takes_from (task_at job.graph t) (m.begun t) k
+  pub lacks : Lacks job m t nothing
+
+wait_lacks : (job : Job) (m after : Moment) (t k : ℕ) (outcome : Outcome) (owed : Owed)
+    → FirstWait job m after t k outcome
+    → ((i : ℕ) → i < length (signalled_by (task_at job.graph t))
+    → puts_on (task_at job.graph t) (suc (m.begun t)) i
+    ≡ puts_on (task_at job.graph t) (m.begun t) i + lacking (task_at job.graph t).kind owed i)
+    → Lacks job after t owed
+wait_lacks job m after t k outcome owed w grows i lt =
+    let many : length (made_now job after t i)
+    ≡ puts_on (task_at job.graph t) (after.begun t) i =
+    made_many job after t i w.is w.now w.there lt in
+    let was : length (made_now job m t i) ≡ puts_on (task_at job.graph t) (m.begun t) i =
+    made_many job m t i w.is w.ran w.there lt in
+    let step : puts_on (task_at job.graph t) (after.begun t) i
+    ≡ puts_on (task_at job.graph t) (suc (m.begun t)) i =
+    ap (λ b. puts_on (task_at job.graph t) b i) w.steps in
+    let full : length (made_now job m t i) ≡ length (m.put t i) + 0 = w.lacks i lt in
+    let put : length (after.put t i) ≡ length (m.put t i) = ap length (w.waits.put i) in
+    let more : puts_on (task_at job.graph t) (suc (m.begun t)) i
+    ≡ puts_on (task_at job.graph t) (m.begun t) i
+    + lacking (task_at job.graph t).kind owed i = grows i lt in
+    omega arith
+
+-- the value on output j is next, where it stands behind what was made before
+wait_owes : (job : Job) (m after : Moment) (t k j : ℕ) (outcome : Outcome) (v : ℤ)
+    (r : Result ℤ TooBigValue) → FirstWait job m after t k outcome
+    → Lacks job after t (value j r) → j < length (signalled_by (task_at job.graph t))
+    → ((i : ℕ) → i < j → lacking (task_at job.graph t).kind (value j r) i ≡ 0)
+    → ((a b : ℕ) → waits_first (task_at job.graph t).kind j a b ≡ false)
+    → get_or (made_now job after t j) (length (made_now job m t j)) (pos 0) ≡ v → ranged v ≡ r
+    → Owes job after t (value j r)
+wait_owes job m after t k j outcome v r w lacks lt below no_wait made is_r =
+    let one : lacking (task_at job.graph t).kind (value j r) j ≡ 1 =
+    (let here : eqb j j ≡ true = eq-eqb j j refl in rw here refl) in
+    let full : length (made_now job m t j) ≡ length (m.put t j) + 0 = w.lacks j lt in
+    let put : length (after.put t j) ≡ length (m.put t j) = ap length (w.waits.put j) in
+    let index : length (after.put t j) ≡ length (made_now job m t j) = omega arith in (
+      first_is job after t j (value j r) lacks lt one below,
+      ap (λ b. cond b exchanges (signals j))
+          (no_wait (length (after.put t j)) (length (after.taken t 1))),
+      ap ranged (ap (λ i. get_or (made_now job after t j) i (pos 0)) index ∙ made) ∙ is_r,
+    )
+
+-- the value that was taken is in range
+wait_ranged : (job : Job) (m after : Moment) (t k : ℕ) (outcome : Outcome)
+    → FirstWait job m after t k outcome → ranged (number outcome) ≡ Ok (number outcome)
+wait_ranged job m after t k outcome w =
+    let all = taken_ranged job after t k w.now w.legal w.few in
+    let last : get_or (after.taken t k) (length (m.taken t k)) (pos 0) ≡ number outcome =
+    ap (λ l. get_or l (length (m.taken t k)) (pos 0)) w.waits.taken
+    ∙ behind (m.taken t k) (number outcome) (length (m.taken t k)) refl in
+    in_range_is (number outcome)
+    (ap is_out_of_range (sym last) ∙ all.at (length (m.taken t k)))
+
+-- what is taken from the input, as the step sees it
+now_taken : (job : Job) (m after : Moment) (t k : ℕ) (outcome : Outcome)
+    → FirstWait job m after t k outcome
+    → get_or (taken_now after (task_at job.graph t) t) k []
+    ≡ m.taken t k ++ number outcome ∷ []
+now_taken job m after t k outcome w =
+    now_at after (task_at job.graph t) t k w.few ∙ w.waits.taken
+
+-- what a first wait leaves owed
+abbrev pub LeavesOwed : Job → Moment → ℕ → Owed → Type 0
+LeavesOwed job after t owed = Owes job after t owed × Lacks job after t owed
+
+-- ---- kind by kind
+
+single_output : (i : ℕ) (n : ℕ) → n ≡ 1 → i < n → i ≡ 0
+single_output i n one lt = omega arith
+
+none_below : (kind : Kind) (r : Result ℤ TooBigValue) (i : ℕ) → i < 0
+    → lacking kind (value 0 r) i ≡ 0
+none_below kind r i lt = absurd (omega arith)
+
+fir_owes : (job : Job) (m after : Moment) (t k : ℕ) (outcome : Outcome)
+    → FirstWait job m after t k outcome → (task_at job.graph t).kind ≡ Fir
+    → LeavesOwed job after t
+    (value 0 (ranged (output_after (task_at job.graph t).taps (task_at job.graph t).shift
+    (m.taken t 0 ++ number outcome ∷ []))))
+fir_owes job m after t k outcome w e =
+    let task = task_at job.graph t in
+    let xs = m.taken t 0 ++ number outcome ∷ [] in
+    let v = output_after task.taps task.shift xs in
+    let H : Kind → Type 0 = λ kind. HasEnds kind (length task.inputs) (length task.outputs) in
+    let ends : (length task.inputs ≡ 1) × (length task.outputs ≡ 1) =
+    subst H e (w.is.tasks t w.there).ends in
+    let inputs : length task.inputs ≡ 1 = ends.0 in
+    let outs : signalled_by task ≡ task.outputs = rw e refl in
+    let many : length (signalled_by task) ≡ 1 = ap length outs ∙ ends.1 in
+    let few : k < length task.inputs = w.few in
+    let zero_k : k ≡ 0 = omega arith in
+    let now_is : get_or (taken_now after task t) 0 [] ≡ xs =
+    ap (λ i. get_or (taken_now after task t) i []) (sym zero_k)
+    ∙ now_taken job m after t k outcome w
+    ∙ ap (λ i. m.taken t i ++ number outcome ∷ []) zero_k in
+    let was : get_or (taken_now m task t) 0 [] ≡ m.taken t 0 =
+    now_at m task t 0 (omega arith) in
+    let made : made_now job after t 0 ≡ outputs task.taps task.shift (m.taken t 0) ++ v ∷ [] =
+    (let is : made_now job after t 0
+    ≡ outputs task.taps task.shift (get_or (taken_now after task t) 0 []) = rw e refl in
+    is ∙ ap (λ l. outputs task.taps task.shift l) now_is
+    ∙ outputs-push task.taps task.shift (m.taken t 0) (number outcome)) in
+    let before : made_now job m t 0 ≡ outputs task.taps task.shift (m.taken t 0) =
+    (let is : made_now job m t 0
+    ≡ outputs task.taps task.shift (get_or (taken_now m task t) 0 []) = rw e refl in
+    is ∙ ap (λ l. outputs task.taps task.shift l) was) in
+    let lacks : Lacks job after t (value 0 (ranged v)) =
+    wait_lacks job m after t k outcome (value 0 (ranged v)) w
+    (λ i lt.
+    (let at : i ≡ 0 = single_output i (length (signalled_by task)) many lt in
+    let next : puts_on task (suc (m.begun t)) i ≡ suc (m.begun t) = rw e refl in
+    let last : puts_on task (m.begun t) i ≡ m.begun t = rw e refl in
+    let one : lacking task.kind (value 0 (ranged v)) i ≡ 1 =
+    ap (λ j. lacking task.kind (value 0 (ranged v)) j) at in
+    omega arith)) in (
+      wait_owes job m after t k 0 outcome v (ranged v) w lacks (omega arith)
+          (none_below task.kind (ranged v)) (λ a b. rw e refl)
+          (ap (λ l. get_or l (length (made_now job m t 0)) (pos 0)) made
+          ∙ behind (outputs task.taps task.shift (m.taken t 0)) v (length (made_now job m t 0))
+          (ap length before)) refl,
+      lacks,
+    )
+
+peer_first_owes : (job : Job) (m after : Moment) (t k : ℕ) (outcome : Outcome)
+    → FirstWait job m after t k outcome → (task_at job.graph t).kind ≡ Peer
+    → LeavesOwed job after t (value 0 (Ok (number outcome)))
+peer_first_owes job m after t k outcome w e =
+    let task = task_at job.graph t in
+    let x = number outcome in
+    let ends = peer_ends job t w.is w.there e in
+    let two : length task.inputs ≡ 2 = ends.0 in
+    let both : length (signalled_by task) ≡ 2 = ends.1 in
+    let zero_k : k ≡ 0 = w.first ∙ rw e refl in
+    let now_is : get_or (taken_now after task t) 0 [] ≡ m.taken t 0 ++ x ∷ [] =
+    ap (λ i. get_or (taken_now after task t) i []) (sym zero_k)
+    ∙ now_taken job m after t k outcome w ∙ ap (λ i. m.taken t i ++ x ∷ []) zero_k in
+    let was : get_or (taken_now m task t) 0 [] ≡ m.taken t 0 =
+    now_at m task t 0 (omega arith) in
+    let made : made_now job after t 0 ≡ m.taken t 0 ++ x ∷ [] =
+    (let is : made_now job after t 0 ≡ get_or (taken_now after task t) 0 [] = rw e refl in
+    is ∙ now_is) in
+    let before : made_now job m t 0 ≡ m.taken t 0 =
+    (let is : made_now job m t 0 ≡ get_or (taken_now m task t) 0 [] = rw e refl in is ∙ was) in
+    let lacks : Lacks job after t (value 0 (Ok x)) =
+    wait_lacks job m after t k outcome (value 0 (Ok x)) w
+    (λ i lt.
+    (let next : puts_on task (suc (m.begun t)) i ≡ suc (m.begun t) = rw e refl in
+    let last : puts_on task (m.begun t) i ≡ m.begun t = rw e refl in
+    let one : lacking task.kind (value 0 (Ok x)) i ≡ 1 =
+    ap (λ kind. lacking kind (value 0 (Ok x)) i) e ∙ each_lacks x i (omega arith) in
+    omega arith)) in (
+      wait_owes job m after t k 0 outcome x (Ok x) w lacks (omega arith)
+          (none_below task.kind (Ok x)) (λ a b. rw e refl)
+          (ap (λ l. get_or l (length (made_now job m t 0)) (pos 0)) made
+          ∙ behind (m.taken t 0) x (length (made_now job m t 0)) (ap length before))
+          (wait_ranged job m after t k outcome w),
+      lacks,
+    )
+  where
+    each_lacks : (x : ℤ) (i : ℕ) → i < 2 → lacking Peer (value 0 (Ok x)) i ≡ 1
+    each_lacks x zero lt = refl
+    each_lacks x (suc zero) lt = refl
+    each_lacks x (suc (suc i)) lt = absurd (omega arith)
+
+join_owes : (job : Job) (m after : Moment) (t k : ℕ) (outcome : Outcome)
+    → FirstWait job m after t k outcome → (task_at job.graph t).kind ≡ Join
+    → LeavesOwed job after t (value 0 (Ok (number outcome)))
+join_owes job m after t k outcome w e =
+    let task = task_at job.graph t in
+    let x = number outcome in
+    let b = m.begun t in
+    let H : Kind → Type 0 = λ kind. HasEnds kind (length task.inputs) (length task.outputs) in
+    let ends = subst H e (w.is.tasks t w.there).ends in
+    let outs : signalled_by task ≡ task.outputs = rw e refl in
+    let many : length (signalled_by task) ≡ 1 = ap length outs ∙ ends.2 in
+    let some : 2 ≤ length task.inputs = ends.0 in
+    let lists = taken_now after task t in
+    let long : length lists ≡ length task.inputs =
+    length-map (range_with_len 0 (length task.inputs)) (after.taken t)
+    ∙ length-range_with_len 0 (length task.inputs) in
+    let first : k ≡ b % length task.inputs = w.first ∙ rw e refl in
+    let count : length (m.taken t k) ≡ b / length task.inputs =
+    w.all_taken ∙ (let is : takes_from task b k ≡ turns_below (length task.inputs) k b =
+    rw e refl in is)
+    ∙ ap (λ i. turns_below (length task.inputs) i b) first
+    ∙ turn_count (length task.inputs) b (omega arith) in
+    let made : made_now job after t 0 ≡ in_turn lists (after.begun t) = rw e refl in
+    let plain : puts_on task b 0 ≡ b = rw e refl in
+    let before : length (made_now job m t 0) ≡ puts_on task b 0 =
+    made_many job m t 0 w.is w.ran w.there (omega arith) in
+    let index : length (made_now job m t 0) ≡ b = omega arith in
+    let steps : after.begun t ≡ suc b = w.steps in
+    let below : b < after.begun t = omega arith in
+    let from : 0 + b ≡ b = omega arith in
+    let at_turn : turn_at lists b ≡ x =
+    ap (λ m. entry (get_or lists (b % m) []) (b / m)) long
+    ∙ ap (λ i. entry (get_or lists i []) (b / length task.inputs)) (sym first)
+    ∙ ap (λ l. entry l (b / length task.inputs)) (now_taken job m after t k outcome w)
+    ∙ behind (m.taken t k) x (b / length task.inputs) (sym count) in
+    let lacks : Lacks job after t (value 0 (Ok x)) =
+    wait_lacks job m after t k outcome (value 0 (Ok x)) w
+    (λ i lt.
+    (let at : i ≡ 0 = single_output i (length (signalled_by task)) many lt in
+    let next : puts_on task (suc (m.begun t)) i ≡ suc (m.begun t) = rw e refl in
+    let last : puts_on task (m.begun t) i ≡ m.begun t = rw e refl in
+    let one : lacking task.kind (value 0 (Ok x)) i ≡ 1 =
+    ap (λ j. lacking task.kind (value 0 (Ok x)) j) at in
+    omega arith)) in (
+      wait_owes job m after t k 0 outcome x (Ok x) w lacks (omega arith)
+          (none_below task.kind (Ok x)) (λ a b. rw e refl)
+          (ap (λ l. get_or l (length (made_now job m t 0)) (pos 0)) made
+          ∙ ap (λ i. get_or (in_turn lists (after.begun t)) i (pos 0)) index
+          ∙ get_or-map-range_with_len (turn_at lists) 0 (after.begun t) b b (pos 0) below from
+          ∙ at_turn)
+          (wait_ranged job m after t k outcome w),
+      lacks,
+    )
+
+split_owes : (job : Job) (m after : Moment) (t k : ℕ) (outcome : Outcome)
+    → FirstWait job m after t k outcome → (task_at job.graph t).kind ≡ Split
+    → LeavesOwed job after t
+    (value (m.begun t % length (task_at job.graph t).outputs) (Ok (number outcome)))
+split_owes job m after t k outcome w e =
+    let task = task_at job.graph t in
+    let x = number outcome in
+    let b = m.begun t in
+    let outs_many = length task.outputs in
+    let j = b % outs_many in
+    let H : Kind → Type 0 = λ kind. HasEnds kind (length task.inputs) (length task.outputs) in
+    let ends = subst H e (w.is.tasks t w.there).ends in
+    let inputs : length task.inputs ≡ 1 = ends.0 in
+    let some : 2 ≤ outs_many = ends.1 in
+    let outs : signalled_by task ≡ task.outputs = rw e refl in
+    let many : length (signalled_by task) ≡ outs_many = ap length outs in
+    let turn : j < outs_many = mod_below b outs_many (omega arith) in
+    let few : k < length task.inputs = w.few in
+    let zero_k : k ≡ 0 = omega arith in
+    let now_is : get_or (taken_now after task t) 0 [] ≡ m.taken t 0 ++ x ∷ [] =
+    ap (λ i. get_or (taken_now after task t) i []) (sym zero_k)
+    ∙ now_taken job m after t k outcome w ∙ ap (λ i. m.taken t i ++ x ∷ []) zero_k in
+    let taken : length (m.taken t 0) ≡ b =
+    ap (λ i. length (m.taken t i)) (sym zero_k) ∙ w.all_taken ∙ rw e refl in
+    let longer : length (m.taken t 0 ++ x ∷ []) ≡ suc b =
+    length-append (m.taken t 0) (x ∷ []) ∙ ap (λ i. i + 1) taken ∙ omega arith in
+    let made : made_now job after t j ≡ every outs_many j (m.taken t 0 ++ x ∷ []) =
+    (let is : made_now job after t j
+    ≡ every outs_many j (get_or (taken_now after task t) 0 []) = rw e refl in
+    is ∙ ap (λ l. every outs_many j l) now_is) in
+    let plain : puts_on task b j ≡ turns_below outs_many j b = rw e refl in
+    let index : length (made_now job m t j) ≡ b / outs_many =
+    made_many job m t j w.is w.ran w.there (omega arith) ∙ plain
+    ∙ turn_count outs_many b (omega arith) in
+    let q = b / outs_many in
+    let next_turns : turns_below outs_many j (suc b) ≡ suc (turns_below outs_many j b) =
+    turns-next outs_many b j turn refl in
+    let count : turns_below outs_many j b ≡ q = turn_count outs_many b (omega arith) in
+    let room : turns_below outs_many j (length (m.taken t 0 ++ x ∷ []))
+    ≡ turns_below outs_many j (suc b) = ap (λ i. turns_below outs_many j i) longer in
+    let below : q < turns_below outs_many j (length (m.taken t 0 ++ x ∷ [])) = omega arith in
+    let from : 0 + q ≡ q = omega arith in
+    let whole : q * outs_many + j ≡ b = div-add-mod' b outs_many in
+    let at : j + q * outs_many ≡ length (m.taken t 0) = omega arith in
+    let lacks : Lacks job after t (value j (Ok x)) =
+    wait_lacks job m after t k outcome (value j (Ok x)) w
+    (λ i lt. grows (omega arith) i lt (eqb i j) refl) in (
+      wait_owes job m after t k j outcome x (Ok x) w lacks (omega arith)
+          (λ i lt. other_lacks i (λ same. omega arith)) (λ a b. rw e refl)
+          (ap (λ l. get_or l (length (made_now job m t j)) (pos 0)) made
+          ∙ ap (λ i. get_or (every outs_many j (m.taken t 0 ++ x ∷ [])) i (pos 0)) index
+          ∙ get_or-map-range_with_len
+          (λ i. entry (m.taken t 0 ++ x ∷ []) (j + i * outs_many)) 0
+          (turns_below outs_many j (length (m.taken t 0 ++ x ∷ []))) q q (pos 0) below from
+          ∙ behind (m.taken t 0) x (j + q * outs_many) at)
+          (wait_ranged job m after t k outcome w),
+      lacks,
+    )
+  where
+    other_lacks : (i : ℕ) → i ≢ m.begun t % length (task_at job.graph t).outputs
+        → lacking (task_at job.graph t).kind
+        (value (m.begun t % length (task_at job.graph t).outputs) (Ok (number outcome))) i ≡ 0
+    other_lacks i apart =
+        let no_turn : eqb i (m.begun t % length (task_at job.graph t).outputs) ≡ false =
+        ne_eqb i (m.begun t % length (task_at job.graph t).outputs) apart in
+        rw no_turn (rw e refl)
+
+    grows : 0 < length (task_at job.graph t).outputs → (i : ℕ)
+        → i < length (signalled_by (task_at job.graph t)) → (d : Bool)
+        → eqb i (m.begun t % length (task_at job.graph t).outputs) ≡ d
+        → puts_on (task_at job.graph t) (suc (m.begun t)) i
+        ≡ puts_on (task_at job.graph t) (m.begun t) i
+        + lacking (task_at job.graph t).kind
+        (value (m.begun t % length (task_at job.graph t).outputs) (Ok (number outcome))) i
+    grows some i lt true f =
+        let task = task_at job.graph t in
+        let outs : signalled_by task ≡ task.outputs = rw e refl in
+        let many : length (signalled_by task) ≡ length task.outputs = ap length outs in
+        let next : puts_on task (suc (m.begun t)) i
+        ≡ turns_below (length task.outputs) i (suc (m.begun t)) = rw e refl in
+        let last : puts_on task (m.begun t) i
+        ≡ turns_below (length task.outputs) i (m.begun t) = rw e refl in
+        let more : turns_below (length task.outputs) i (suc (m.begun t))
+        ≡ suc (turns_below (length task.outputs) i (m.begun t)) =
+        turns-next (length task.outputs) (m.begun t) i (omega arith)
+        (eqb-true i (m.begun t % length task.outputs) f) in
+        let one : lacking task.kind
+        (value (m.begun t % length task.outputs) (Ok (number outcome))) i ≡ 1 = rw f refl in
+        omega arith
+    grows some i lt false f =
+        let task = task_at job.graph t in
+        let outs : signalled_by task ≡ task.outputs = rw e refl in
+        let many : length (signalled_by task) ≡ length task.outputs = ap length outs in
+        let next : puts_on task (suc (m.begun t)) i
+        ≡ turns_below (length task.outputs) i (suc (m.begun t)) = rw e refl in
+        let last : puts_on task (m.begun t) i
+        ≡ turns_below (length task.outputs) i (m.begun t) = rw e refl in
+        let apart : i ≢ m.begun t % length task.outputs =
+        λ same. (let clash : true ≡ false =
+        sym (eq-eqb i (m.begun t % length task.outputs) same) ∙ f in cc) in
+        let stay : turns_below (length task.outputs) i (suc (m.begun t))
+        ≡ turns_below (length task.outputs) i (m.begun t) =
+        turns-stay (length task.outputs) (m.begun t) i (omega arith) apart in
+        let none : lacking task.kind
+        (value (m.begun t % length task.outputs) (Ok (number outcome))) i ≡ 0 =
+        other_lacks i apart in
+        omega arith
+
+-- a sink owes nothing, and no source waits
+sink_owes : (job : Job) (m after : Moment) (t k : ℕ) (outcome : Outcome)
+    → FirstWait job m after t k outcome → length (signalled_by (task_at job.graph t)) ≡ 0
+    → LeavesOwed job after t nothing
+sink_owes job m after t k outcome w none =
+    let lacks : Lacks job after t nothing = λ i lt. absurd (omega arith) in
+    (first_none job after t lacks, lacks)
+
+-- ---- the place
+
+pub wait_leaves : (job : Job) (m after : Moment) (t k : ℕ) (outcome : Outcome)
+    → FirstWait job m after t k outcome
+    → LeavesOwed job after t
+    (owed_after_wait (task_at job.graph t) (m.begun t) (m.taken t 0) (number outcome))
+wait_leaves job m after t k outcome w = by (task_at job.graph t).kind refl
+  where
+    Left : Owed → Type 0
+    Left o = LeavesOwed job after t o
+
+    Goal_is : Type 0
+    Goal_is = LeavesOwed job after t
+        (owed_after_wait (task_at job.graph t) (m.begun t) (m.taken t 0) (number outcome))
+
+    ends : (kind : Kind) → (task_at job.graph t).kind ≡ kind
+        → HasEnds kind (length (task_at job.graph t).inputs) (length (task_at job.graph t).outputs)
+    ends kind e =
+        let H : Kind → Type 0 = λ kind. HasEnds kind (length (task_at job.graph t).inputs)
+        (length (task_at job.graph t).outputs) in
+        subst H e (w.is.tasks t w.there).ends
+
+    by : (kind : Kind) → (task_at job.graph t).kind ≡ kind
+        → LeavesOwed job after t
+        (owed_after_wait (task_at job.graph t) (m.begun t) (m.taken t 0) (number outcome))
+    by Source e =
+        let no_input : length (task_at job.graph t).inputs ≡ 0 = (ends Source e).0 in
+        let few : k < length (task_at job.graph t).inputs = w.few in
+        absurd (omega arith)
+    by Fir e =
+        let left : owed_after_wait (task_at job.graph t) (m.begun t) (m.taken t 0)
+        (number outcome) ≡ value 0 (ranged (output_after (task_at job.graph t).taps
+        (task_at job.graph t).shift (m.taken t 0 ++ number outcome ∷ []))) = rw e refl in
+        subst Left (sym left) (fir_owes job m after t k outcome w e)
+    by Split e =
+        let left : owed_after_wait (task_at job.graph t) (m.begun t) (m.taken t 0)
+        (number outcome)
+        ≡ value (m.begun t % length (task_at job.graph t).outputs) (Ok (number outcome)) =
+        rw e refl in
+        subst Left (sym left) (split_owes job m after t k outcome w e)
+    by Join e =
+        let left : owed_after_wait (task_at job.graph t) (m.begun t) (m.taken t 0)
+        (number outcome) ≡ value 0 (Ok (number outcome)) = rw e refl in
+        subst Left (sym left) (join_owes job m after t k outcome w e)
+    by Peer e =
+        let left : owed_after_wait (task_at job.graph t) (m.begun t) (m.taken t 0)
+        (number outcome) ≡ value 0 (Ok (number outcome)) = rw e refl in
+        subst Left (sym left) (peer_first_owes job m after t k outcome w e)
+    by Sink e =
+        let left : owed_after_wait (task_at job.graph t) (m.begun t) (m.taken t 0)
+        (number outcome) ≡ nothing = rw e refl in
+        let no_output : length (task_at job.graph t).outputs ≡ 0 = (ends Sink e).1 in
+        let outs : signalled_by (task_at job.graph t) ≡ (task_at job.graph t).outputs =
+        rw e refl in
+        subst Left (sym left)
+        (sink_owes job m after t k outcome w (ap length outs ∙ no_output))
+
+pub first_wait_follows : (job : Job) (m : Moment) (t k p n : ℕ) (outcome : Outcome)
+    (at : TaskPlace) → IsGraph job.graph → IsReachable job m
+    → HasRun job (after_turn job (first_wait t k p n outcome) m)
+    → answer_of_turn job m t ≡ makes (first_wait t k p n outcome) → StandsAt job m t at
+    → StandsAt job (after_turn job (first_wait t k p n outcome) m) t
+    (record at {
+      begun = suc at.begun;
+      owed = owed_after_wait (task_at job.graph t) at.begun (m.taken t 0) (number outcome);
+    })
+first_wait_follows job m t k p n outcome at is reached now answer stands =
+    let event = first_wait t k p n outcome in
+    let after = after_turn job event m in
+    let next : IsNext job m event =
+    turn_makes_next job m t event is reached.ran (λ c due. reached.to_come) answer in
+    let s = first_wait_is job m t k p n outcome next.1 in
+    let none : at.owed ≡ nothing =
+    owes_nothing job m t at.owed stands.owes (event_owes job m t event answer) in
+    let L : Owed → Type 0 = λ o. Lacks job m t o in
+    let steps : after.begun t ≡ suc (m.begun t) =
+    (let here : eqb t t ≡ true = eq-eqb t t refl in rw here refl) in
+    let w : FirstWait job m after t k outcome = record {
+      is = is;
+      ran = reached.ran.tasks t next.0.task;
+      now = now.tasks t next.0.task;
+      legal = (now.phasers (input_at (task_at job.graph t) k)
+          ((is.tasks t next.0.task).inputs k 0 next.1.wait.few)).legal;
+      there = next.0.task;
+      few = next.1.wait.few;
+      waits = gets_one job m after t k p n outcome s;
+      first = next.1.first;
+      steps = steps;
+      all_taken = next.1.may_begin.taken k next.1.wait.few;
+      lacks = subst L none stands.lacks;
+    } in
+    let B : ℕ → Type 0 = λ b. LeavesOwed job after t
+    (owed_after_wait (task_at job.graph t) b (m.taken t 0) (number outcome)) in
+    let left = subst B stands.begun (wait_leaves job m after t k outcome w) in
+    stays_at job m after t (suc at.begun)
+    (owed_after_wait (task_at job.graph t) at.begun (m.taken t 0) (number outcome)) at stands
+    (keeps_moved job m after t p (Waited n 1) t s.moved (λ b at. refl))
+    (steps ∙ ap suc stands.begun) left.0 left.1

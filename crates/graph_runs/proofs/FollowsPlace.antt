@@ -1,0 +1,200 @@
+-- The place of a task after each of its calls, by what the call leaves of its part.
+use Rattle.std.proofs.Common.{◌≡◌, ℕ, suc, ◌<◌, ◌≤◌, true, eqb, ◌∷◌, Option, Some, None, length, ℤ, refl, sym, ap, subst, ◌∙◌, arith, inl, inr}
+use Rattle.std.specs.Prelude.{Ok, ◌*ℤ◌, ◌-ℤ◌}
+use Rattle.std.proofs.lemmas.Bool.{eq-eqb}
+use Rattle.stream_lists.specs.stream_filters.Range.{ranged}
+use Rattle.phase_history.specs.phase_accum.declared.outcome.Outcome.{Outcome}
+use Rattle.phase_history.specs.declared.event.Event.TheVariants.{Dropped}
+use Rattle.phase_history.specs.Histories.{History, has_dropped}
+use Rattle.stream_lists.specs.graph_base.declared.line.Kind.TheVariants.{Source, Peer}
+use Rattle.stream_lists.specs.graph_base.Graphs.{task_at}
+use Rattle.stream_lists.specs.graph_base.TaskLines.{IsGraph}
+use Rattle.stream_lists.specs.Jobs.{Job}
+use Rattle.stream_lists.specs.Lists.{number}
+use Rattle.stream_lists.specs.Spans.{signalled_by}
+use Rattle.graph_runs.specs.Moments.{Moment, TakenOn, OnLine, input_at}
+use Rattle.graph_runs.specs.Moves.{IsStaying}
+use Rattle.graph_runs.specs.Answers.{output_at, next_value}
+use Rattle.graph_runs.specs.Nexts.{waits_first}
+use Rattle.graph_runs.specs.TaskPlaces.{Owed, nothing, value, exchange, TaskPlace, StandsAt, registration_at, owed_after_wait, owed_after_signal, owed_after_exchange}
+use Rattle.graph_runs.proofs.Boundaries.{peer_ends}
+use Rattle.graph_runs.proofs.Calling.{waits_as_peer}
+use Rattle.graph_runs.proofs.Exchanging.{exchange_lacks, exchange_owes}
+use Rattle.graph_runs.proofs.FirstWaits.{FirstWait, LeavesOwed, wait_leaves}
+use Rattle.graph_runs.proofs.Following.{Lacks, KeepsPlaces, PutsOne, GetsOne, stays_at, stays_same}
+use Rattle.graph_runs.proofs.Lacking.{first_none}
+use Rattle.graph_runs.proofs.PlacesLemmas.{place_of_output}
+use Rattle.graph_runs.proofs.PlacesFollow.{LeavesOne, leave_stands}
+use Rattle.graph_runs.proofs.Stepping.{puts_stand, peer_in_turn, sample_lacks}
+use Rattle.graph_runs.specs.Parts.{HasPart, HasSeen, HasPut, HasGot, LeavesPart, BeginsStep}
+use Rattle.graph_runs.specs.Places.{owing, after_step, after_leaving}
+use Rattle.graph_runs.proofs.TellsNext.{staying_at, owes_as, ranged_value, is_first}
+
+-- a task that stays on all its phasers before and after keeps its registrations
+keeps_staying : (m after : Moment) (t : ℕ)
+    → ((q u : ℕ) → after.number q u ≡ m.number q u) → IsStaying m t → IsStaying after t
+    → KeepsPlaces m after t
+keeps_staying m after t numbers before now = record {
+  number = λ q. numbers q t;
+  left = λ q n at. now q n (numbers q t ∙ at) ∙ sym (before q n at);
+}
+
+-- what the outputs lack at a place that owes this
+lacks_as : (job : Job) (m : Moment) (t : ℕ) (at : TaskPlace) (o : Owed) → StandsAt job m t at
+    → at.owed ≡ o → Lacks job m t o
+lacks_as job m t at o stands is =
+    let L : Owed → Type 0 = λ x. Lacks job m t x in subst L is stands.lacks
+
+pub seen_follows : (job : Job) (m after : Moment) (t p : ℕ) (at : TaskPlace) (now : History)
+    → StandsAt job m t at → HasSeen job m after t p now → StandsAt job after t at
+seen_follows job m after t p at now stands seen =
+    stays_same job m after t at stands
+    (record { number = λ q. seen.moved.numbers q t; left = seen.left }) seen.same
+
+-- ---- signals
+
+-- a peer has taken no more from E than it has put there
+in_turn : (job : Job) (m : Moment) (t : ℕ) → IsGraph job.graph → t < length job.graph.tasks
+    → HasPart job m t → IsStaying m t → (task_at job.graph t).kind ≡ Peer
+    → length (m.taken t 1) ≤ length (m.put t 0)
+in_turn job m t is there part staying e = by (m.number (output_at job t 0) t) refl
+  where
+    two : length (task_at job.graph t).inputs ≡ 2
+    two = (peer_ends job t is there e).0
+
+    line : OnLine (task_at job.graph t) (output_at job t 0)
+    line =
+        let both : length (signalled_by (task_at job.graph t)) ≡ 2 =
+        (peer_ends job t is there e).1 in
+        inl (
+          0,
+          place_of_output job.graph t (task_at job.graph t) 0 (is.tasks t there)
+              (omega arith),
+        )
+
+    same : output_at job t 0 ≡ input_at (task_at job.graph t) 1
+    same = rw e refl
+
+    by : (o : Option ℕ) → m.number (output_at job t 0) t ≡ o
+        → length (m.taken t 1) ≤ length (m.put t 0)
+    by (Some n) at =
+        peer_in_turn job m t n is part.ran there staying (part.legal (output_at job t 0) line) at e
+    by None at =
+        let few : length (task_at job.graph t).inputs ≡ 2 = two in
+        let T : ℕ → Type 0 = λ q. TakenOn job m t 1 q (m.number q t) in
+        let N : Option ℕ → Type 0 = λ o. TakenOn job m t 1 (output_at job t 0) o in
+        let on = subst N at (subst T (sym same) (part.ran.inputs 1 (omega arith))) in
+        let none : length (m.taken t 1) ≡ 0 = ap length on.0 in
+        omega arith
+
+pub put_follows : (job : Job) (m after : Moment) (t j p : ℕ) (v : ℤ) (at : TaskPlace)
+    (now : History) → IsGraph job.graph → t < length job.graph.tasks → HasPart job m t
+    → StandsAt job m t at → at.left ≡ 0 → at.owed ≡ value j (Ok v)
+    → HasPut job m after t j p v (m.begun t) now
+    → StandsAt job after t (owing (owed_after_signal (task_at job.graph t) j v) at)
+put_follows job m after t j p v at now is there part stands none owed_is s =
+    let staying = staying_at job m t at is there part.ran stands none in
+    let owes = owes_as job m t at (value j (Ok v)) stands owed_is in
+    let puts : PutsOne m after t j v =
+    record { taken = s.taken; put = s.put; other_puts = s.other_puts } in
+    puts_stand job m after t j v (Ok v) at is there part.ran
+    (λ e. in_turn job m t is there part staying e) puts
+    (keeps_staying m after t s.moved.numbers staying s.staying) s.begun_is
+    (ranged_value (next_value job m t j) v owes.2) owed_is stands
+
+pub sampled_follows : (job : Job) (m after : Moment) (t p : ℕ) (v : ℤ) (at : TaskPlace)
+    (now : History) → IsGraph job.graph → t < length job.graph.tasks → HasPart job m t
+    → StandsAt job m t at → at.left ≡ 0 → at.owed ≡ nothing
+    → (task_at job.graph t).kind ≡ Source → HasPut job m after t 0 p v (suc (m.begun t)) now
+    → StandsAt job after t (after_step nothing at)
+sampled_follows job m after t p v at now is there part stands none owed_is source s =
+    let staying = staying_at job m t at is there part.ran stands none in
+    let puts : PutsOne m after t 0 v =
+    record { taken = s.taken; put = s.put; other_puts = s.other_puts } in
+    let lacks : Lacks job after t nothing =
+    sample_lacks job m after t 0 v is part.ran s.moved.part.ran there source puts refl s.begun_is
+    (lacks_as job m t at nothing stands owed_is) in
+    stays_at job m after t (suc at.begun) nothing at stands
+    (keeps_staying m after t s.moved.numbers staying s.staying) (s.begun_is ∙ ap suc stands.begun)
+    (first_none job after t lacks) lacks
+
+-- ---- waits
+
+pub first_wait_follows : (job : Job) (m after : Moment) (t k p : ℕ) (outcome : Outcome)
+    (at : TaskPlace) (now : History) → IsGraph job.graph → t < length job.graph.tasks
+    → HasPart job m t → StandsAt job m t at → at.left ≡ 0 → at.owed ≡ nothing
+    → BeginsStep job m t k p → HasGot job m after t k p outcome (suc (m.begun t)) now
+    → StandsAt job after t (after_step
+    (owed_after_wait (task_at job.graph t) at.begun (m.taken t 0) (number outcome)) at)
+first_wait_follows job m after t k p outcome at now is there part stands none owed_is next s =
+    let staying = staying_at job m t at is there part.ran stands none in
+    let gets : GetsOne m after t k outcome =
+    record { taken = s.taken; other_takes = s.other_takes; put = s.put } in
+    let w : FirstWait job m after t k outcome = record {
+      is = is;
+      ran = part.ran;
+      now = s.moved.part.ran;
+      legal = s.moved.part.legal (input_at (task_at job.graph t) k) (inr (k, next.few, refl));
+      there = there;
+      few = next.few;
+      waits = gets;
+      first = next.first;
+      steps = s.begun_is;
+      all_taken = next.may_begin.taken k next.few;
+      lacks = lacks_as job m t at nothing stands owed_is;
+    } in
+    let B : ℕ → Type 0 = λ b. LeavesOwed job after t
+    (owed_after_wait (task_at job.graph t) b (m.taken t 0) (number outcome)) in
+    let left = subst B stands.begun (wait_leaves job m after t k outcome w) in
+    stays_at job m after t (suc at.begun)
+    (owed_after_wait (task_at job.graph t) at.begun (m.taken t 0) (number outcome)) at stands
+    (keeps_staying m after t s.moved.numbers staying s.staying) (s.begun_is ∙ ap suc stands.begun)
+    left.0 left.1
+
+pub exchanged_follows : (job : Job) (m after : Moment) (t p : ℕ) (x : ℤ) (outcome : Outcome)
+    (at : TaskPlace) (now : History) → IsGraph job.graph → t < length job.graph.tasks
+    → HasPart job m t → StandsAt job m t at → at.left ≡ 0 → at.owed ≡ exchange x
+    → HasGot job m after t 1 p outcome (m.begun t) now
+    → StandsAt job after t
+    (owing (owed_after_exchange (task_at job.graph t) at.owed (number outcome)) at)
+exchanged_follows job m after t p x outcome at now is there part stands none owed_is s =
+    let staying = staying_at job m t at is there part.ran stands none in
+    let owes = owes_as job m t at (exchange x) stands owed_is in
+    let before = lacks_as job m t at (exchange x) stands owed_is in
+    let first = is_first (waits_first (task_at job.graph t).kind 1 (length (m.put t 1))
+    (length (m.taken t 1))) 1 owes.1 in
+    let peer = (waits_as_peer (task_at job.graph t).kind 1 (length (m.put t 1))
+    (length (m.taken t 1)) first).0 in
+    let gets : GetsOne m after t 1 outcome =
+    record { taken = s.taken; other_takes = s.other_takes; put = s.put } in
+    let w = ranged (((task_at job.graph t).mul *ℤ x) -ℤ number outcome) in
+    let ran_now = s.moved.part.ran in
+    let lacks : Lacks job after t (value 1 w) =
+    exchange_lacks job m after t outcome x w is part.ran ran_now there peer gets s.begun_is
+    before in
+    let P : Owed → Type 0 = λ o. StandsAt job after t
+    (owing (owed_after_exchange (task_at job.graph t) o (number outcome)) at) in
+    subst P (sym owed_is)
+    (stays_at job m after t at.begun (value 1 w) at stands
+    (keeps_staying m after t s.moved.numbers staying s.staying) (s.begun_is ∙ stands.begun)
+    (exchange_owes job m after t outcome x is part.ran ran_now there peer gets owes before first
+    lacks) lacks)
+
+-- ---- leaving
+
+pub left_follows : (job : Job) (m after : Moment) (t p n : ℕ) (at : TaskPlace) (before : History)
+    → IsGraph job.graph → t < length job.graph.tasks → StandsAt job m t at
+    → at.left < length at.numbers → (registration_at job t at.left).phaser ≡ p
+    → m.number p t ≡ Some n → LeavesPart job m after t p (Dropped n ∷ before)
+    → StandsAt job after t (after_leaving at)
+left_follows job m after t p n at before is there stands room here numbered s =
+    let first : eqb n n ≡ true = eq-eqb n n refl in
+    let dropped : has_dropped (Dropped n ∷ before) n ≡ true = rw first refl in
+    let one : LeavesOne m after t p n = record {
+      numbered = numbered;
+      numbers = λ q. s.moved.numbers q t;
+      gone = ap (λ h. has_dropped h n) s.moved.here ∙ dropped;
+      elsewhere = s.moved.elsewhere;
+      same = s.same;
+    } in
+    leave_stands job m after t p n at is there one stands room here

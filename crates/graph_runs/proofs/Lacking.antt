@@ -1,0 +1,116 @@
+-- What the outputs of a task lack tells what it owes first.
+use Rattle.std.proofs.Common.{◌≡◌, ℕ, zero, suc, ◌+◌, ◌-◌, ◌<◌, ◌≤◌, ◌*◌, ◌/◌, Bool, true, false, cond, [], Some, None, length, refl, ap, ◌∙◌, arith, ◌⊎◌, inl, inr}
+use Rattle.std.specs.List.{find, range_with_len}
+use Rattle.std.proofs.lemmas.Bool.{cases_lt, lt-ltb, le-ltb}
+use Rattle.std.proofs.lemmas.Nat.{div-mul-add}
+use Rattle.stream_lists.specs.graph_base.declared.line.Kind.{Kind}
+use Rattle.stream_lists.specs.graph_base.declared.line.Kind.TheVariants.{Source, Fir, Split, Join, Peer, Sink}
+use Rattle.stream_lists.specs.graph_base.Graphs.{Task, task_at}
+use Rattle.stream_lists.specs.graph_base.TaskLines.{IsGraph}
+use Rattle.stream_lists.specs.Jobs.{Job}
+use Rattle.stream_lists.specs.Spans.{signalled_by, puts_on, turns_below}
+use Rattle.graph_runs.specs.Moments.{Moment, TaskRan, made_now}
+use Rattle.graph_runs.specs.Nexts.{first_owed, is_owed}
+use Rattle.graph_runs.specs.TaskPlaces.{Owed, nothing, lacking}
+use Rattle.graph_runs.proofs.Boundaries.{made_many}
+use Rattle.graph_runs.proofs.Following.{Lacks}
+
+-- ---- the first that is owed
+
+find_nothing : (test : ℕ → Bool) (from many : ℕ)
+    → ((i : ℕ) → from ≤ i → i < from + many → test i ≡ false)
+    → find test (range_with_len from many) ≡ None
+find_nothing test from zero none = refl
+find_nothing test from (suc many) none =
+    ap (λ b. cond b (Some from) (find test (range_with_len (from + 1) many)))
+    (none from (omega arith) (omega arith))
+    ∙ find_nothing test (from + 1) many (λ i low high. none i (omega arith) (omega arith))
+
+find_first : (test : ℕ → Bool) (from many j : ℕ) → from ≤ j → j < from + many → test j ≡ true
+    → ((i : ℕ) → from ≤ i → i < j → test i ≡ false)
+    → find test (range_with_len from many) ≡ Some j
+find_first test from zero j low high is none = absurd (omega arith)
+find_first test from (suc many) j low high is none =
+    by (cases_lt from j)
+    (λ more. find_first test (from + 1) many j (omega arith) (omega arith) is
+    (λ i low less. none i (omega arith) less))
+  where
+    by : (from < j) ⊎ (j ≤ from)
+        → (from < j → find test (range_with_len (from + 1) many) ≡ Some j)
+        → cond (test from) (Some from) (find test (range_with_len (from + 1) many)) ≡ Some j
+    by (inl more) later =
+        ap (λ b. cond b (Some from) (find test (range_with_len (from + 1) many)))
+        (none from (omega arith) more) ∙ later more
+    by (inr here) later =
+        let same : from ≡ j = omega arith in
+        ap (λ b. cond b (Some from) (find test (range_with_len (from + 1) many)))
+        (ap test same ∙ is) ∙ ap (λ x. Some x) same
+
+-- an output that lacks nothing is not owed, and one that lacks a value is
+not_owed : (job : Job) (m : Moment) (t j : ℕ) (owed : Owed) → Lacks job m t owed
+    → j < length (signalled_by (task_at job.graph t))
+    → lacking (task_at job.graph t).kind owed j ≡ 0 → is_owed job m t j ≡ false
+not_owed job m t j owed lacks lt none =
+    let long : length (made_now job m t j)
+    ≡ length (m.put t j) + lacking (task_at job.graph t).kind owed j = lacks j lt in
+    le-ltb (length (m.put t j)) (length (made_now job m t j)) (omega arith)
+
+is_lacking : (job : Job) (m : Moment) (t j : ℕ) (owed : Owed) → Lacks job m t owed
+    → j < length (signalled_by (task_at job.graph t))
+    → lacking (task_at job.graph t).kind owed j ≡ 1 → is_owed job m t j ≡ true
+is_lacking job m t j owed lacks lt one =
+    let long : length (made_now job m t j)
+    ≡ length (m.put t j) + lacking (task_at job.graph t).kind owed j = lacks j lt in
+    lt-ltb (length (m.put t j)) (length (made_now job m t j)) (omega arith)
+
+pub first_none : (job : Job) (m : Moment) (t : ℕ) → Lacks job m t nothing
+    → first_owed job m t ≡ None
+first_none job m t lacks =
+    find_nothing (is_owed job m t) 0 (length (signalled_by (task_at job.graph t)))
+    (λ i low high. not_owed job m t i nothing lacks (omega arith) refl)
+
+pub first_is : (job : Job) (m : Moment) (t j : ℕ) (owed : Owed) → Lacks job m t owed
+    → j < length (signalled_by (task_at job.graph t))
+    → lacking (task_at job.graph t).kind owed j ≡ 1
+    → ((i : ℕ) → i < j → lacking (task_at job.graph t).kind owed i ≡ 0)
+    → first_owed job m t ≡ Some j
+first_is job m t j owed lacks lt one none =
+    find_first (is_owed job m t) 0 (length (signalled_by (task_at job.graph t))) j (omega arith)
+    (omega arith) (is_lacking job m t j owed lacks lt one)
+    (λ i low less. not_owed job m t i owed lacks (omega arith) (none i less))
+
+-- ---- what lacks at the start
+
+no_turn : (m k : ℕ) → k < m → turns_below m k 0 ≡ 0
+no_turn m k less =
+    let is : 0 + (m - 1 - k) ≡ 0 * m + (m - 1 - k) = omega arith in
+    ap (λ x. x / m) is ∙ div-mul-add 0 m (m - 1 - k) (omega arith)
+
+-- before its first step a task has made nothing
+pub none_put : (task : Task) (j : ℕ) → j < length (signalled_by task) → puts_on task 0 j ≡ 0
+none_put task j lt = by task.kind refl
+  where
+    by : (kind : Kind) → task.kind ≡ kind → puts_on task 0 j ≡ 0
+    by Source e = rw e refl
+    by Fir e = rw e refl
+    by Join e = rw e refl
+    by Peer e = rw e refl
+    by Sink e = rw e refl
+    by Split e =
+        let same : signalled_by task ≡ task.outputs = rw e refl in
+        let long : length (signalled_by task) ≡ length task.outputs = ap length same in
+        let is : puts_on task 0 j ≡ turns_below (length task.outputs) j 0 = rw e refl in
+        is ∙ no_turn (length task.outputs) j (omega arith)
+
+-- a task that has begun no step and put nothing lacks nothing
+pub nothing_lacks : (job : Job) (m : Moment) (t : ℕ) → IsGraph job.graph → TaskRan job m t
+    → t < length job.graph.tasks → m.begun t ≡ 0 → ((j : ℕ) → m.put t j ≡ [])
+    → Lacks job m t nothing
+nothing_lacks job m t is ran there begun put j lt =
+    let many : length (made_now job m t j) ≡ puts_on (task_at job.graph t) (m.begun t) j =
+    made_many job m t j is ran there lt in
+    let none : puts_on (task_at job.graph t) 0 j ≡ 0 = none_put (task_at job.graph t) j lt in
+    let at : puts_on (task_at job.graph t) (m.begun t) j ≡ puts_on (task_at job.graph t) 0 j =
+    ap (λ b. puts_on (task_at job.graph t) b j) begun in
+    let empty : length (m.put t j) ≡ 0 = ap length (put j) in
+    omega arith

@@ -1,0 +1,63 @@
+-- The phasers on a task's line are phasers of the graph.
+use Rattle.std.proofs.Common.{◌≡◌, ℕ, zero, suc, ◌<◌, List, [], ◌∷◌, Some, length, get_or, refl, sym, ap, subst, arith, inl, inr}
+use Rattle.stream_lists.specs.graph_base.declared.line.Kind.{Kind}
+use Rattle.stream_lists.specs.graph_base.declared.line.Kind.TheVariants.{Source, Fir, Split, Join, Peer, Sink}
+use Rattle.stream_lists.specs.graph_base.Graphs.{task_at}
+use Rattle.stream_lists.specs.graph_base.TaskLines.{IsGraph, HasEnds}
+use Rattle.stream_lists.specs.Jobs.{Job, index_in}
+use Rattle.stream_lists.specs.Spans.{signalled_by}
+use Rattle.stream_lists.proofs.Ordered.{place-at}
+use Rattle.graph_runs.specs.Moments.{OnLine}
+
+pub signalled_within : (job : Job) (t p j : ℕ) → IsGraph job.graph → t < length job.graph.tasks
+    → index_in (signalled_by (task_at job.graph t)) p ≡ Some j → p < length job.graph.phasers
+signalled_within job t p j is there place =
+    let at = place-at (signalled_by (task_at job.graph t)) p j place in
+    let P : ℕ → Type 0 = λ q. q < length job.graph.phasers in
+    subst P at.1 (by (task_at job.graph t).kind refl at.0)
+  where
+    plain : signalled_by (task_at job.graph t) ≡ (task_at job.graph t).outputs
+        → j < length (signalled_by (task_at job.graph t))
+        → get_or (signalled_by (task_at job.graph t)) j 0 < length job.graph.phasers
+    plain same lt =
+        let L : List ℕ → Type 0 = λ qs. get_or qs j 0 < length job.graph.phasers in
+        let long : length (signalled_by (task_at job.graph t))
+        ≡ length (task_at job.graph t).outputs = ap length same in
+        subst L (sym same) ((is.tasks t there).outputs j 0 (omega arith))
+
+    peer : length (task_at job.graph t).inputs ≡ 2 → length (task_at job.graph t).outputs ≡ 1
+        → (i : ℕ) → i < 2
+        → get_or (get_or (task_at job.graph t).inputs 1 0 ∷ get_or (task_at job.graph t).outputs 0
+        0 ∷ []) i 0 < length job.graph.phasers
+    peer two one zero lt = (is.tasks t there).inputs 1 0 (omega arith)
+    peer two one (suc zero) lt = (is.tasks t there).outputs 0 0 (omega arith)
+    peer two one (suc (suc i)) lt = absurd (omega arith)
+
+    by : (kind : Kind) → (task_at job.graph t).kind ≡ kind
+        → j < length (signalled_by (task_at job.graph t))
+        → get_or (signalled_by (task_at job.graph t)) j 0 < length job.graph.phasers
+    by Source e lt = plain (rw e refl) lt
+    by Fir e lt = plain (rw e refl) lt
+    by Split e lt = plain (rw e refl) lt
+    by Join e lt = plain (rw e refl) lt
+    by Sink e lt = plain (rw e refl) lt
+    by Peer e lt =
+        let H : Kind → Type 0 =
+        λ kind. HasEnds kind (length (task_at job.graph t).inputs)
+        (length (task_at job.graph t).outputs) in
+        let both : (length (task_at job.graph t).inputs ≡ 2)
+        × (length (task_at job.graph t).outputs ≡ 1) = subst H e (is.tasks t there).ends in
+        let is_two : signalled_by (task_at job.graph t)
+        ≡ get_or (task_at job.graph t).inputs 1 0 ∷ get_or (task_at job.graph t).outputs 0
+        0 ∷ [] = rw e refl in
+        let L : List ℕ → Type 0 = λ qs. get_or qs j 0 < length job.graph.phasers in
+        let n : length (signalled_by (task_at job.graph t)) ≡ 2 = ap length is_two in
+        subst L (sym is_two) (peer both.0 both.1 j (omega arith))
+
+-- a phaser on a line is one of the graph
+pub on_phaser : (job : Job) (t p : ℕ) → IsGraph job.graph → t < length job.graph.tasks
+    → OnLine (task_at job.graph t) p → p < length job.graph.phasers
+on_phaser job t p is there (inl out) = signalled_within job t p out.0 is there out.1
+on_phaser job t p is there (inr into) =
+    let P : ℕ → Type 0 = λ q. q < length job.graph.phasers in
+    subst P into.2 ((is.tasks t there).inputs into.0 0 into.1)

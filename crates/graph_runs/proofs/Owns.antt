@@ -1,0 +1,180 @@
+-- What a task that has left has of its own, phaser by phaser.
+use Rattle.std.proofs.Common.{◌≡◌, ℕ, ◌+◌, ◌<◌, ◌≤◌, true, [], ◌++◌, Option, Some, is_some, length, get_or, slice_get, sym, ap, subst, ◌∙◌, arith, inl, inr}
+use Rattle.std.specs.Prelude.{unwrap_or, nat_lt}
+use Rattle.std.proofs.lemmas.Bool.{lt-ltb}
+use Rattle.std.proofs.lemmas.Option.{slice_get-get_or}
+use Rattle.std.proofs.lemmas.List.{length-map, get_or-map, length-append}
+use Rattle.phase_history.specs.Histories.{has_dropped}
+use Rattle.phase_history.specs.Others.{IsUsed}
+use Rattle.stream_lists.specs.graph_base.declared.line.Kind.{Kind}
+use Rattle.stream_lists.specs.graph_base.declared.line.Kind.TheVariants.{Source, Fir, Split, Join, Peer, Sink}
+use Rattle.stream_lists.specs.graph_base.Graphs.{task_at}
+use Rattle.stream_lists.specs.graph_base.Registrations.{no_registration}
+use Rattle.stream_lists.specs.graph_base.TaskLines.{IsGraph, HasEnds}
+use Rattle.stream_lists.proofs.graph_base_lemmas.Registered.{registrations-phasers}
+use Rattle.stream_lists.specs.Jobs.{Job}
+use Rattle.graph_runs.specs.Moments.{Moment, TaskRan, OnLine, OnPhaser, PutOn, TakenOn, OnOutput, OnInput}
+use Rattle.graph_runs.proofs.OnLines.{on_phaser}
+use Rattle.graph_runs.specs.Parts.{HasPart}
+use Rattle.graph_runs.specs.Nexts.{registrations_at}
+use Rattle.graph_runs.specs.TaskPlaces.{registration_at}
+use Rattle.graph_runs.proofs.PlacesLemmas.{on_ends}
+use Rattle.graph_runs.specs.TaskEnds.{TaskEnd, IsChildOf, HasOwnCalls, HasNumbers, HasLeftAt}
+
+-- ---- registrations
+
+-- the registration of a task for a phaser on its line
+pub record IsFound (job : Job) (t p : ℕ) : Type 0 where
+  pub i : ℕ
+  pub few : i < length (registrations_at job t)
+  pub phaser : (registration_at job t i).phaser ≡ p
+
+-- there are as many registrations as ends
+ends_many : (job : Job) (t : ℕ) → IsGraph job.graph → t < length job.graph.tasks
+    → length (registrations_at job t)
+    ≡ length ((task_at job.graph t).inputs ++ (task_at job.graph t).outputs)
+ends_many job t is there =
+    sym (length-map (registrations_at job t) (λ r. r.phaser))
+    ∙ ap length (registrations-phasers job.graph t (task_at job.graph t) (is.tasks t there))
+
+pub found_on : (job : Job) (t p : ℕ) → IsGraph job.graph → t < length job.graph.tasks
+    → OnLine (task_at job.graph t) p → IsFound job t p
+found_on job t p is there on =
+    let at = on_ends job.graph t (task_at job.graph t) p (is.tasks t there) on in
+    let rs = registrations_at job t in
+    let phasers = registrations-phasers job.graph t (task_at job.graph t) (is.tasks t there) in
+    let long : length rs
+    ≡ length ((task_at job.graph t).inputs ++ (task_at job.graph t).outputs) =
+    ends_many job t is there in
+    let lt : at.0 < length rs = omega arith in
+    record {
+      i = at.0;
+      few = lt;
+      phaser = sym (get_or-map (λ r. r.phaser) rs at.0 no_registration 0 lt)
+          ∙ ap (λ ps. get_or ps at.0 0) phasers ∙ at.2;
+    }
+
+-- each task has an end, and so a registration
+pub has_some : (job : Job) (t : ℕ) → IsGraph job.graph → t < length job.graph.tasks
+    → 0 < length (registrations_at job t)
+has_some job t is there =
+    let task = task_at job.graph t in
+    let long : length (registrations_at job t) ≡ length (task.inputs ++ task.outputs) =
+    ends_many job t is there in
+    let both : length (task.inputs ++ task.outputs) ≡ length task.inputs + length task.outputs =
+    length-append task.inputs task.outputs in
+    let one : 1 ≤ length task.inputs + length task.outputs =
+    some_end task.kind (length task.inputs) (length task.outputs) (is.tasks t there).ends in
+    omega arith
+  where
+    some_end : (kind : Kind) (ins outs : ℕ) → HasEnds kind ins outs → 1 ≤ ins + outs
+    some_end Source ins outs e = (let one : outs ≡ 1 = e.1 in omega arith)
+    some_end Fir ins outs e = (let one : outs ≡ 1 = e.1 in omega arith)
+    some_end Split ins outs e = (let one : ins ≡ 1 = e.0 in omega arith)
+    some_end Join ins outs e = (let one : outs ≡ 1 = e.2 in omega arith)
+    some_end Peer ins outs e = (let one : outs ≡ 1 = e.1 in omega arith)
+    some_end Sink ins outs e = (let one : ins ≡ 1 = e.0 in omega arith)
+
+-- ---- a task that has left, as task t
+
+pub record HasOwn (job : Job) (m : Moment) (end : TaskEnd) (t : ℕ) : Type 0 where
+  pub part : HasPart job m t
+  pub own : HasOwnCalls job m t
+  pub begun : m.begun t ≡ end.begun
+  pub numbered : (i : ℕ) → i < length (registrations_at job t)
+      → m.number (registration_at job t i).phaser t ≡ slice_get end.numbers i
+  pub whole : length end.numbers ≡ length (registrations_at job t)
+  pub left : (i n : ℕ) → i < length (registrations_at job t)
+      → m.number (registration_at job t i).phaser t ≡ Some n
+      → has_dropped (m.history (registration_at job t i).phaser) n ≡ true
+  pub seen : (i : ℕ) → i < length (registrations_at job t)
+      → slice_get end.seen i ≡ Some (m.history (registration_at job t i).phaser)
+  pub lines : (task_at job.graph t).kind ≡ Sink → m.taken t 0 ≡ end.lines
+  pub given : (c : ℕ) → IsChildOf job c t → HasNumbers job m c (end.given c)
+
+pub owns : (job : Job) (m : Moment) (end : TaskEnd) → HasLeftAt job m end
+    → HasOwn job m end end.task
+owns job m end is = record {
+  part = is.part;
+  own = is.own;
+  begun = is.stands.begun ∙ is.begun;
+  numbered = λ i lt. is.stands.numbered i lt ∙ ap (λ l. slice_get l i) is.numbers;
+  whole = is.whole;
+  left = λ i n lt e. left i n lt e;
+  seen = λ i lt.
+      (let long : length end.seen ≡ length (registrations_at job end.task) = is.long in
+      slice_get-get_or end.seen i [] (omega arith) ∙ ap (λ h. Some h) (sym (is.seen i lt)));
+  lines = is.lines;
+  given = is.given;
+}
+  where
+    left : (i n : ℕ) → i < length (registrations_at job end.task)
+        → m.number (registration_at job end.task i).phaser end.task ≡ Some n
+        → has_dropped (m.history (registration_at job end.task i).phaser) n ≡ true
+    left i n lt e =
+        let p = (registration_at job end.task i).phaser in
+        let same : length is.at.numbers ≡ length end.numbers = ap length is.numbers in
+        let whole : length end.numbers ≡ length (registrations_at job end.task) = is.whole in
+        let all : is.at.left ≡ length end.numbers = is.left in
+        let below : i < is.at.left = omega arith in
+        let at : has_dropped (m.history p) (unwrap_or (m.number p end.task) 0) ≡ nat_lt i is.at.left =
+        is.stands.leaves i (omega arith) in
+        sym (ap (λ o. has_dropped (m.history p) (unwrap_or o 0)) e) ∙ at ∙ lt-ltb i is.at.left below
+
+pub owns_as : (job : Job) (m : Moment) (end : TaskEnd) (t : ℕ) → end.task ≡ t
+    → HasLeftAt job m end → HasOwn job m end t
+owns_as job m end t same is =
+    let P : ℕ → Type 0 = λ x. HasOwn job m end x in
+    subst P same (owns job m end is)
+
+-- the number that it has on a phaser of its line
+pub record HasNumber (job : Job) (m : Moment) (end : TaskEnd) (t p : ℕ) : Type 0 where
+  pub i : ℕ
+  pub few : i < length (registrations_at job t)
+  pub phaser : (registration_at job t i).phaser ≡ p
+  pub n : ℕ
+  pub number : slice_get end.numbers i ≡ Some n
+  pub numbered : m.number p t ≡ Some n
+  pub saw : slice_get end.seen i ≡ Some (m.history p)
+  pub left : has_dropped (m.history p) n ≡ true
+
+pub has_number : (job : Job) (m : Moment) (end : TaskEnd) (t p : ℕ) → HasOwn job m end t
+    → IsFound job t p → HasNumber job m end t p
+has_number job m end t p o f =
+    let whole : length end.numbers ≡ length (registrations_at job t) = o.whole in
+    let few : f.i < length (registrations_at job t) = f.few in
+    let q = (registration_at job t f.i).phaser in
+    let n = get_or end.numbers f.i 0 in
+    let number : slice_get end.numbers f.i ≡ Some n =
+    slice_get-get_or end.numbers f.i 0 (omega arith) in
+    let at : m.number q t ≡ Some n = o.numbered f.i f.few ∙ number in
+    record {
+      i = f.i;
+      few = f.few;
+      phaser = f.phaser;
+      n = n;
+      number = number;
+      numbered = ap (λ x. m.number x t) (sym f.phaser) ∙ at;
+      saw = o.seen f.i f.few ∙ ap (λ x. Some (m.history x)) f.phaser;
+      left = ap (λ x. has_dropped (m.history x) n) (sym f.phaser) ∙ o.left f.i n f.few at;
+    }
+
+-- each of its numbers was used by then
+pub used_by : (job : Job) (m : Moment) (t p n : ℕ) → IsGraph job.graph
+    → t < length job.graph.tasks → TaskRan job m t → m.number p t ≡ Some n
+    → IsUsed (m.history p) n
+used_by job m t p n is there ran at = by (ran.lines p n at)
+  where
+    by : OnLine (task_at job.graph t) p → IsUsed (m.history p) n
+    by (inl out) =
+        let pp : p < length job.graph.phasers = on_phaser job t p is there (inl out) in
+        let O : Option ℕ → Type 0 = λ o. OnPhaser job m t p o in
+        let N : Option ℕ → Type 0 = λ o. PutOn job m t out.0 p o in
+        let on : OnOutput job m t out.0 p n = subst N at (subst O out.1 (ran.outputs p pp)) in
+        ap is_some on.start_is
+    by (inr into) =
+        let T : ℕ → Type 0 = λ q. TakenOn job m t into.0 q (m.number q t) in
+        let N : Option ℕ → Type 0 = λ o. TakenOn job m t into.0 p o in
+        let on : OnInput job m t into.0 p n =
+        subst N at (subst T into.2 (ran.inputs into.0 into.1)) in
+        ap is_some on.start_is

@@ -1,0 +1,210 @@
+-- What a live task's calls cannot be refused for.
+use Rattle.std.proofs.Common.{◌≡◌, ℕ, ◌+◌, ◌<◌, ◌≤◌, Bool, true, false, not, ◌&&◌, cond, eqb, [], ◌∷◌, Option, Some, None, is_some, length, ℤ, refl, sym, ap, subst, ◌∙◌, arith, ◌⊎◌, inl, inr}
+use Rattle.std.specs.Prelude.{Result, Ok, Err, nat_le, nat_lt}
+use Rattle.std.proofs.lemmas.Bool.{and_right, and_cases, le-ltb, lt-leb, leb-false, lt-ltb, not_from_true}
+use Rattle.std.proofs.lemmas.Bool.Decides.{Decides-int_eq}
+use Rattle.phase_history.specs.phase_base.Members.{least, wait_phases}
+use Rattle.phase_history.specs.phase_base.Modes.{holds, mode_signals, mode_waits, is_single}
+use Rattle.phase_history.specs.phase_base.declared.entry.Entry.{Entry}
+use Rattle.phase_history.specs.phase_base.declared.limits.TheConstants.{MEMBERS_MAX, SENDS_MAX}
+use Rattle.phase_history.specs.phase_base.declared.mode.Mode.{Mode}
+use Rattle.phase_history.specs.phase_accum.declared.single.Single.{Single}
+use Rattle.phase_history.specs.phase_accum.declared.single.Single.TheVariants.{Neg, Abs, Halve, Clamp}
+use Rattle.phase_history.specs.phase_accum.Singles.{differs, is_same}
+use Rattle.phase_history.specs.declared.event.Event.TheVariants.{Made, Registered, RegisteredNow, Signalled, Waited, Dropped}
+use Rattle.phase_history.specs.declared.got.Got.{Got}
+use Rattle.phase_history.specs.declared.got.Got.TheVariants as got
+use Rattle.phase_history.specs.declared.refusal.SignalRefusal.{SignalRefusal}
+use Rattle.phase_history.specs.declared.refusal.SignalRefusal.TheVariants as signal
+use Rattle.phase_history.specs.declared.refusal.WaitRefusal.{WaitRefusal}
+use Rattle.phase_history.specs.declared.refusal.WaitRefusal.TheVariants as wait
+use Rattle.phase_history.specs.declared.refusal.RegisterRefusal.TheVariants as register
+use Rattle.phase_history.specs.Histories.{History, members_of, done_of, signal_phase, wait_phase, greatest_used}
+use Rattle.phase_history.specs.Phases.{sends_of_phase, named_in_phase, first_named, is_among}
+use Rattle.phase_history.specs.Refusals.{signal_refusal, register_refusal, is_ahead, is_bad_block}
+use Rattle.phase_history.specs.phase_base.Lists.{first_row}
+use Rattle.phase_history.specs.Replies.{wait_reply, refused_or, got_at}
+use Rattle.phase_history.specs.Sent.{NamesAll}
+use Rattle.phase_history.proofs.Steps.{member_entry_is}
+use Rattle.stream_lists.specs.graph_base.Graphs.{phaser_at}
+use Rattle.stream_lists.specs.graph_base.TaskLines.{IsGraph}
+use Rattle.stream_lists.specs.graph_base.declared.limits.TheConstants.{TASKS_MAX}
+use Rattle.stream_lists.specs.Jobs.{Job}
+use Rattle.graph_runs.specs.Moments.{Moment, HasRun, limits_at, value_at}
+use Rattle.graph_runs.specs.Nexts.{has_signaller}
+use Rattle.graph_runs.proofs.TurnEntries.{IsMember, sends_few}
+
+-- ---- singles
+
+same-self : (single : Single) → is_same single single ≡ true
+same-self Neg = refl
+same-self Abs = refl
+same-self Halve = refl
+same-self (Clamp range) =
+    let low = (Decides-int_eq range.0 range.0).1 refl in
+    let high = (Decides-int_eq range.1 range.1).1 refl in
+    rw low high
+
+differs-self : (single : Option Single) → differs (Some single) single ≡ false
+differs-self None = refl
+differs-self (Some single) = ap not (same-self single)
+
+-- where all signals name the same, one more that does so joins them
+pub differs-none : (single : Option Single) (h : History) (s : ℕ) → NamesAll single h
+    → differs (named_in_phase h s) single ≡ false
+differs-none single [] s all = refl
+differs-none single (Made task ∷ before) s all = differs-none single before s all
+differs-none single (Registered parent child mode ∷ before) s all =
+    differs-none single before s all
+differs-none single (RegisteredNow parent child ∷ before) s all = differs-none single before s all
+differs-none single (Waited task n ∷ before) s all = differs-none single before s all
+differs-none single (Dropped task ∷ before) s all = differs-none single before s all
+differs-none single (Signalled task lists named ∷ before) s all =
+    first (named_in_phase before s) (is_among (signal_phase before task) (length lists) s)
+    (differs-none single before s all.1)
+  where
+    first : (o : Option (Option Single)) (joins : Bool) → differs o single ≡ false
+        → differs (first_named o joins named) single ≡ false
+    first (Some x) joins e = e
+    first None true e = ap (λ x. differs (Some x) single) all.0 ∙ differs-self single
+    first None false e = refl
+
+-- ---- a signal
+
+-- it is accepted, or refused as Ahead, or as the phaser has no phase left
+abbrev pub MaySignal : Option SignalRefusal → Type 0
+MaySignal None = Unit {0}
+MaySignal (Some signal.Ahead) = Unit {0}
+MaySignal (Some signal.Spent) = Unit {0}
+MaySignal (Some refusal) = ⊥
+
+last_rows : (spent ahead : Bool)
+    → MaySignal (cond spent (Some signal.Spent) (cond ahead (Some signal.Ahead) None))
+last_rows true ahead = tt
+last_rows false true = tt
+last_rows false false = tt
+
+signal_rows_pass : (no_signal not_single bad twice spent ahead differs full : Bool)
+    → no_signal ≡ false → not_single ≡ false → bad ≡ false → twice ≡ false → differs ≡ false
+    → full ≡ false
+    → MaySignal (first_row ((no_signal, signal.NoSignal) ∷ (not_single, signal.NotSingle)
+    ∷ (bad, signal.BadBlock) ∷ (twice, signal.SignalTwice) ∷ (spent, signal.Spent)
+    ∷ (ahead, signal.Ahead) ∷ (differs, signal.SingleDiffers) ∷ (full, signal.PhaseFull) ∷ []))
+signal_rows_pass no_signal not_single bad twice spent ahead differs full a b c d e f =
+    rw a (rw b (rw c (rw d (rw e (rw f (last_rows spent ahead))))))
+
+pub may_signal : (job : Job) (m : Moment) (p n : ℕ) (v : ℤ) (mode : Mode) → IsGraph job.graph
+    → HasRun job m → p < length job.graph.phasers → (e : IsMember m p n mode)
+    → mode_signals mode ≡ true
+    → (is_some (phaser_at job.graph p).single && not (is_single mode)) ≡ false
+    → (mode_waits mode && eqb e.entry.signal_phase (e.entry.wait_phase + 1)) ≡ false
+    → MaySignal (signal_refusal (limits_at job p) (m.history p) n ((v ∷ []) ∷ [])
+    (phaser_at job.graph p).single)
+may_signal job m p n v mode is ran pp e signals named twice =
+    let h = m.history p in
+    let s = e.entry.signal_phase in
+    let single = (phaser_at job.graph p).single in
+    let slowest = is_some (least (wait_phases (members_of h))) in
+    let bound : 1 ≤ (phaser_at job.graph p).bound = (is.phasers p pp).bound.0 in
+    let sent : length (sends_of_phase h s) ≤ length job.graph.tasks = sends_few job m p s ran pp in
+    let tasks : length job.graph.tasks ≤ TASKS_MAX = is.few_tasks in
+    let M : Mode → Type 0 = λ x. MaySignal (first_row
+    ((not (mode_signals x), signal.NoSignal)
+    ∷ (is_some single && not (is_single x), signal.NotSingle)
+    ∷ (is_bad_block (limits_at job p) 1, signal.BadBlock)
+    ∷ (mode_waits x && eqb s (e.entry.wait_phase + 1), signal.SignalTwice)
+    ∷ (nat_le (limits_at job p).phases_max s, signal.Spent)
+    ∷ (is_ahead (least (wait_phases (members_of h))) (limits_at job p).bound s, signal.Ahead)
+    ∷ (slowest && differs (named_in_phase h s) single, signal.SingleDiffers)
+    ∷ (slowest && nat_lt SENDS_MAX (length (sends_of_phase h s) + 1), signal.PhaseFull)
+    ∷ [])) in
+    rw (e.is) (subst M (sym e.mode_is) (signal_rows_pass (not (mode_signals mode))
+    (is_some single && not (is_single mode)) (is_bad_block (limits_at job p) 1)
+    (mode_waits mode && eqb s (e.entry.wait_phase + 1)) (nat_le (limits_at job p).phases_max s)
+    (is_ahead (least (wait_phases (members_of h))) (limits_at job p).bound s)
+    (slowest && differs (named_in_phase h s) single)
+    (slowest && nat_lt SENDS_MAX (length (sends_of_phase h s) + 1))
+    (not_from_true (mode_signals mode) signals) named
+    (le-ltb (phaser_at job.graph p).bound 1 bound) twice
+    (and_right slowest (differs (named_in_phase h s) single)
+    (differs-none single h s (ran.phasers p pp).names))
+    (and_right slowest (nat_lt SENDS_MAX (length (sends_of_phase h s) + 1))
+    (le-ltb SENDS_MAX (length (sends_of_phase h s) + 1) (omega arith)))))
+
+-- ---- a wait
+
+-- it is answered a value, or refused as NotYet
+abbrev pub MayWait : Result Got WaitRefusal → Type 0
+MayWait (Ok (got.Value phase outcome)) = Unit {0}
+MayWait (Ok got.Ended) = ⊥
+MayWait (Err wait.NotYet) = Unit {0}
+MayWait (Err refusal) = ⊥
+
+wait_rows_pass : (no_wait bad first yet : Bool) (g : Got) → no_wait ≡ false → bad ≡ false
+    → first ≡ false → (yet ≡ false → MayWait (Ok g))
+    → MayWait (refused_or (first_row ((no_wait, wait.NoWait) ∷ (bad, wait.BadBlock)
+    ∷ (first, wait.SignalFirst) ∷ (yet, wait.NotYet) ∷ [])) g)
+wait_rows_pass no_wait bad first true g a b c got = rw a (rw b (rw c tt))
+wait_rows_pass no_wait bad first false g a b c got = rw a (rw b (rw c (got refl)))
+
+pub may_wait : (job : Job) (m : Moment) (p n : ℕ) (mode : Mode) → IsGraph job.graph
+    → p < length job.graph.phasers → (e : IsMember m p n mode) → mode_waits mode ≡ true
+    → (mode_signals mode && eqb e.entry.signal_phase e.entry.wait_phase) ≡ false
+    → (has_signaller (m.history p) ≡ false → e.entry.wait_phase < done_of (m.history p))
+    → MayWait (wait_reply (value_at job p) (limits_at job p) (m.history p) n)
+may_wait job m p n mode is pp e waits first later =
+    let h = m.history p in
+    let w = e.entry.wait_phase in
+    let at : wait_phase h n ≡ w =
+    ap (λ (x : Entry). x.wait_phase) (member_entry_is (members_of h) n e.entry e.is) in
+    let bound : 1 ≤ (phaser_at job.graph p).bound = (is.phasers p pp).bound.0 in
+    let M : Mode → Type 0 = λ x. MayWait (refused_or (first_row
+    ((not (mode_waits x), wait.NoWait) ∷ (is_bad_block (limits_at job p) 1, wait.BadBlock)
+    ∷ (mode_signals x && eqb e.entry.signal_phase w, wait.SignalFirst)
+    ∷ (nat_le (done_of h) w && has_signaller h, wait.NotYet) ∷ []))
+    (got_at (value_at job p) h w)) in
+    rw at (rw (e.is) (subst M (sym e.mode_is) (wait_rows_pass (not (mode_waits mode))
+    (is_bad_block (limits_at job p) 1) (mode_signals mode && eqb e.entry.signal_phase w)
+    (nat_le (done_of h) w && has_signaller h) (got_at (value_at job p) h w)
+    (not_from_true (mode_waits mode) waits) (le-ltb (phaser_at job.graph p).bound 1 bound) first
+    (λ ready. got ready))))
+  where
+    got : (nat_le (done_of (m.history p)) e.entry.wait_phase && has_signaller (m.history p)) ≡ false
+        → MayWait (Ok (got_at (value_at job p) (m.history p) e.entry.wait_phase))
+    got ready = by (and_cases (nat_le (done_of (m.history p)) e.entry.wait_phase)
+        (has_signaller (m.history p)) ready)
+      where
+        below : e.entry.wait_phase < done_of (m.history p)
+            → MayWait (Ok (got_at (value_at job p) (m.history p) e.entry.wait_phase))
+        below lt =
+            let yes : nat_lt e.entry.wait_phase (done_of (m.history p)) ≡ true =
+            lt-ltb e.entry.wait_phase (done_of (m.history p)) lt in
+            rw yes tt
+
+        by : (nat_le (done_of (m.history p)) e.entry.wait_phase ≡ false)
+            ⊎ (has_signaller (m.history p) ≡ false)
+            → MayWait (Ok (got_at (value_at job p) (m.history p) e.entry.wait_phase))
+        by (inl early) = below (leb-false (done_of (m.history p)) e.entry.wait_phase early)
+        by (inr quiet) = below (later quiet)
+
+-- ---- a registration
+
+register_rows_pass : (holding old many : Bool) → holding ≡ false → old ≡ false → many ≡ false
+    → first_row ((holding, register.NotAllowed) ∷ (old, register.NotNew)
+    ∷ (many, register.TooManyTasks) ∷ []) ≡ None
+register_rows_pass holding old many a b c = rw a (rw b (rw c refl))
+
+-- of a new number, where there is room
+pub may_register : (m : Moment) (p n : ℕ) (mode child : Mode) → (e : IsMember m p n mode)
+    → holds mode child ≡ true → length (members_of (m.history p)) < MEMBERS_MAX
+    → register_refusal (m.history p) n (greatest_used (m.history p) + 1) child ≡ None
+may_register m p n mode child e holding room =
+    let h = m.history p in
+    let a = greatest_used h + 1 in
+    let M : Mode → Type 0 = λ x. first_row ((not (holds x child), register.NotAllowed)
+    ∷ (nat_le a (greatest_used h), register.NotNew)
+    ∷ (nat_le MEMBERS_MAX (length (members_of h)), register.TooManyTasks) ∷ []) ≡ None in
+    rw (e.is) (subst M (sym e.mode_is) (register_rows_pass (not (holds mode child))
+    (nat_le a (greatest_used h)) (nat_le MEMBERS_MAX (length (members_of h)))
+    (not_from_true (holds mode child) holding) (lt-leb a (greatest_used h) (omega arith))
+    (lt-leb MEMBERS_MAX (length (members_of h)) room)))

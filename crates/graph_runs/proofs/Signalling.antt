@@ -1,0 +1,212 @@
+-- A value that a turn signals is the task's next one.
+use Rattle.std.proofs.Common.{◌≡◌, ℕ, zero, suc, ◌+◌, ◌<◌, Bool, true, false, not, ◌&&◌, cond, [], ◌∷◌, Option, Some, None, is_some, length, get_or, ℤ, refl, ap, subst, arith, inl, inr}
+use Rattle.std.specs.Prelude.{unsigned_abs, nat_lt, nat_le}
+use Rattle.std.specs.List.{range_with_len, find}
+use Rattle.std.proofs.lemmas.Bool.{and_parts, ltb-true, leb-true, leb-false}
+use Rattle.std.proofs.lemmas.List.FromFn.{length-range_with_len, get_or-range_with_len}
+use Rattle.phase_history.specs.phase_accum.Sends.{IsSend, value_max}
+use Rattle.phase_history.specs.declared.refusal.SignalRefusal.{SignalRefusal}
+use Rattle.phase_history.specs.declared.refusal.SignalRefusal.TheVariants as refusal
+use Rattle.phase_history.specs.Histories.{has_dropped}
+use Rattle.phase_history.specs.Refusals.{signal_refusal}
+use Rattle.stream_lists.specs.graph_base.declared.line.Kind.{Kind}
+use Rattle.stream_lists.specs.graph_base.declared.line.Kind.TheVariants.{Source, Fir, Split, Join, Peer, Sink}
+use Rattle.stream_lists.specs.graph_base.declared.place.Place.TheVariants as place
+use Rattle.stream_lists.specs.graph_base.Graphs.{task_at, phaser_at}
+use Rattle.stream_lists.specs.graph_base.TaskLines.{IsGraph}
+use Rattle.stream_lists.proofs.graph_base_lemmas.Registered.{registrations-phasers}
+use Rattle.stream_lists.specs.Jobs.{Job, index_in}
+use Rattle.stream_lists.specs.Spans.{signalled_by}
+use Rattle.stream_lists.specs.Ranges.{are_made, is_out_of_range}
+use Rattle.graph_runs.specs.Moments.{Moment, HasRun, TaskRan, HasEnded, HasExchanged, OnLine, OnPhaser, PutOn, TakenOn, OnOutput, OnInput, limits_at, made_now}
+use Rattle.graph_runs.proofs.OnLines.{on_phaser}
+use Rattle.graph_runs.specs.Moves.{IsStaying}
+use Rattle.graph_runs.specs.TaskEvents.{TaskEvent, IsNext, signal}
+use Rattle.graph_runs.specs.Nexts.{is_live, is_owed, first_owed, first_missing, first_kept, waits_first, number_on}
+use Rattle.graph_runs.specs.Answers.{Answer, makes, is_blocked, is_gone, has_made, is_refused, signal_answer, signal_turn, call_signal, next_value, output_at}
+use Rattle.graph_runs.proofs.PlacesLemmas.{place_of_output, numbered, find-some}
+
+-- ---- a live task
+
+pub record Live (job : Job) (m : Moment) (t : ℕ) : Type 0 where
+  pub there : t < length job.graph.tasks
+  pub all : first_missing job m t ≡ None
+
+pub live-is : (job : Job) (m : Moment) (t : ℕ) → is_live job m t ≡ true → Live job m t
+live-is job m t e =
+    let outer = and_parts
+    (nat_lt t (length job.graph.tasks) && not (is_some (first_missing job m t)))
+    (is_some (first_kept job m t)) e in
+    let inner = and_parts (nat_lt t (length job.graph.tasks))
+    (not (is_some (first_missing job m t))) outer.0 in
+    record {
+      there = ltb-true t (length job.graph.tasks) inner.0;
+      all = none (first_missing job m t) inner.1;
+    }
+  where
+    none : {X : Type 0} (o : Option X) → not (is_some o) ≡ true → o ≡ None
+    none None e = refl
+    none (Some x) e = absurd (cc)
+
+-- its number on each phaser of its line
+pub number_there : (job : Job) (m : Moment) (t p : ℕ) → IsGraph job.graph → Live job m t
+    → OnLine (task_at job.graph t) p → m.number p t ≡ Some (number_on m t p)
+number_there job m t p is live on =
+    let line = is.tasks t live.there in
+    numbered job m t p line (registrations-phasers job.graph t (task_at job.graph t) line) live.all
+    on
+
+-- a task that has not come to its end has left no phaser
+pub stays : (job : Job) (m : Moment) (t : ℕ) → IsGraph job.graph → TaskRan job m t
+    → t < length job.graph.tasks → (HasEnded job m t → ⊥) → IsStaying m t
+stays job m t is ran there more p n at =
+    by (has_dropped (m.history p) n) refl (ran.lines p n at)
+  where
+    on_line : OnLine (task_at job.graph t) p → has_dropped (m.history p) n ≡ true
+        → HasEnded job m t
+    on_line (inl out) gone =
+        let O : Option ℕ → Type 0 = λ o. OnPhaser job m t p o in
+        let here : PutOn job m t out.0 p (m.number p t) =
+        subst O out.1 (ran.outputs p (on_phaser job t p is there (inl out))) in
+        let N : Option ℕ → Type 0 = λ o. PutOn job m t out.0 p o in
+        let on : OnOutput job m t out.0 p n = subst N at here in
+        on.left gone
+    on_line (inr into) gone =
+        let P : ℕ → Type 0 = λ q. TakenOn job m t into.0 q (m.number q t) in
+        let here : TakenOn job m t into.0 p (m.number p t) =
+        subst P into.2 (ran.inputs into.0 into.1) in
+        let N : Option ℕ → Type 0 = λ o. TakenOn job m t into.0 p o in
+        let on : OnInput job m t into.0 p n = subst N at here in
+        on.left gone
+
+    by : (b : Bool) → has_dropped (m.history p) n ≡ b → OnLine (task_at job.graph t) p
+        → has_dropped (m.history p) n ≡ false
+    by false e line = e
+    by true e line = absurd (more (on_line line e))
+
+-- ---- the answer
+
+-- the event of an answer, and another where it makes none
+abbrev pub event_or : TaskEvent → Answer → TaskEvent
+event_or other (makes event) = event
+event_or other is_blocked = other
+event_or other is_gone = other
+event_or other (has_made at) = other
+event_or other is_refused = other
+
+pub signal_accepted : (made event : TaskEvent) (o : Option SignalRefusal)
+    → signal_answer made o ≡ makes event → (o ≡ None) × (made ≡ event)
+signal_accepted made event None e = (refl, ap (λ a. event_or event a) e)
+signal_accepted made event (Some refusal.NoTask) e = absurd (cc)
+signal_accepted made event (Some refusal.NoSignal) e = absurd (cc)
+signal_accepted made event (Some refusal.NotSingle) e = absurd (cc)
+signal_accepted made event (Some refusal.BadBlock) e = absurd (cc)
+signal_accepted made event (Some refusal.SignalTwice) e = absurd (cc)
+signal_accepted made event (Some refusal.Spent) e = absurd (cc)
+signal_accepted made event (Some refusal.Ahead) e = absurd (cc)
+signal_accepted made event (Some refusal.SingleDiffers) e = absurd (cc)
+signal_accepted made event (Some refusal.PhaseFull) e = absurd (cc)
+
+-- what a turn signals is in range, and the phaser accepts it
+pub signalled : (job : Job) (m : Moment) (t j : ℕ) (v : ℤ) (made event : TaskEvent)
+    → signal_turn job m t j v made ≡ makes event
+    → (is_out_of_range v ≡ false)
+    × (signal_refusal (limits_at job (output_at job t j)) (m.history (output_at job t j))
+    (number_on m t (output_at job t j)) ((v ∷ []) ∷ [])
+    (phaser_at job.graph (output_at job t j)).single ≡ None) × (made ≡ event)
+signalled job m t j v made event e = by (is_out_of_range v) refl e
+  where
+    by : (b : Bool) → is_out_of_range v ≡ b
+        → cond b (cond (are_made (task_at job.graph t).kind j)
+        (has_made (place.Task t, length (m.put t j))) is_refused)
+        (call_signal job m t (output_at job t j) v made) ≡ makes event
+        → (is_out_of_range v ≡ false)
+        × (signal_refusal (limits_at job (output_at job t j)) (m.history (output_at job t j))
+        (number_on m t (output_at job t j)) ((v ∷ []) ∷ [])
+        (phaser_at job.graph (output_at job t j)).single ≡ None) × (made ≡ event)
+    by false out e =
+        let r = signal_accepted made event _ e in (out, r.0, r.1)
+    by true out e = absurd (wrong (are_made (task_at job.graph t).kind j) e)
+      where
+        wrong : (b : Bool) → cond b (has_made (place.Task t, length (m.put t j))) is_refused
+            ≡ makes event → ⊥
+        wrong true e = (cc)
+        wrong false e = (cc)
+
+-- ---- a value that is owed
+
+pub may_put : (kind : Kind) (j put taken : ℕ) → waits_first kind j put taken ≡ false
+    → HasExchanged kind j (suc put) taken
+may_put Source j put taken e = tt
+may_put Fir j put taken e = tt
+may_put Split j put taken e = tt
+may_put Join j put taken e = tt
+may_put Sink j put taken e = tt
+may_put Peer zero put taken e = tt
+may_put Peer (suc j) put taken e = leb-false taken put e
+
+pub sendable : (v : ℤ) → is_out_of_range v ≡ false → IsSend v
+sendable v e = by (nat_le (unsigned_abs v) value_max) refl e
+  where
+    by : (b : Bool) → nat_le (unsigned_abs v) value_max ≡ b → not b ≡ false → IsSend v
+    by true is e = record { small = leb-true (unsigned_abs v) value_max is }
+    by false is e = absurd (cc)
+
+pub found_below : (test : ℕ → Bool) (n x : ℕ) → find test (range_with_len 0 n) ≡ Some x
+    → (test x ≡ true) × (x < n)
+found_below test n x e =
+    let f = find-some test (range_with_len 0 n) x 0 e in
+    let long : length (range_with_len 0 n) ≡ n = length-range_with_len 0 n in
+    let at : get_or (range_with_len 0 n) f.1.0 0 ≡ 0 + f.1.0 =
+    get_or-range_with_len 0 n f.1.0 0 (omega arith) in
+    let is : get_or (range_with_len 0 n) f.1.0 0 ≡ x = f.1.2 in
+    (f.0, omega arith)
+
+pub owed : (job : Job) (m : Moment) (t j : ℕ) → first_owed job m t ≡ Some j
+    → (j < length (signalled_by (task_at job.graph t)))
+    × (length (m.put t j) < length (made_now job m t j))
+owed job m t j e =
+    let f = found_below (is_owed job m t) (length (signalled_by (task_at job.graph t))) j e in
+    (f.1, ltb-true (length (m.put t j)) (length (made_now job m t j)) f.0)
+
+-- the task has not ended where it owes a value
+pub not_ended : (job : Job) (m : Moment) (t j : ℕ)
+    → j < length (signalled_by (task_at job.graph t))
+    → length (m.put t j) < length (made_now job m t j) → HasEnded job m t → ⊥
+not_ended job m t j lt few ended =
+    let same : length (m.put t j) ≡ length (made_now job m t j) = ap length (ended.all_put j lt) in
+    omega arith
+
+pub signal_next : (job : Job) (m : Moment) (t j : ℕ) (event : TaskEvent) → IsGraph job.graph
+    → HasRun job m → Live job m t → first_owed job m t ≡ Some j
+    → waits_first (task_at job.graph t).kind j (length (m.put t j)) (length (m.taken t 1)) ≡ false
+    → signal_turn job m t j (next_value job m t j)
+    (signal t j (output_at job t j) (number_on m t (output_at job t j)) (next_value job m t j))
+    ≡ makes event → IsNext job m event
+signal_next job m t j event is ran live owes first answer =
+    let o = owed job m t j owes in
+    let line = is.tasks t live.there in
+    let p = output_at job t j in
+    let v = next_value job m t j in
+    let n = number_on m t p in
+    let a = signalled job m t j v (signal t j p n v) event answer in
+    let place : index_in (signalled_by (task_at job.graph t)) p ≡ Some j =
+    place_of_output job.graph t (task_at job.graph t) j line o.0 in
+    let on : OnLine (task_at job.graph t) p = inl (j, place) in
+    let phaser : p < length job.graph.phasers = on_phaser job t p is live.there on in
+    let Next : TaskEvent → Type 0 = λ e. IsNext job m e in
+    subst Next a.2 (
+      record { task = live.there; phaser = phaser },
+      record {
+        signal = record {
+          accepted = (a.1, ((sendable v a.0, tt), omega arith, tt), (is.phasers p phaser).single);
+          numbered = number_there job m t p is live on;
+          place = place;
+          staying = stays job m t is (ran.tasks t live.there) live.there (not_ended job m t j o.0 o.1);
+        };
+        few = o.1;
+        entry = refl;
+        exchanged = may_put (task_at job.graph t).kind j (length (m.put t j)) (length (m.taken t 1))
+            first;
+      },
+    )

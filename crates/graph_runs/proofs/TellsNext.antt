@@ -1,0 +1,271 @@
+-- What the place of a task tells of its next event and of its end, by what the task alone has seen.
+use Rattle.std.proofs.Common.{◌≡◌, ℕ, suc, ◌<◌, ◌≤◌, Bool, true, false, ◌&&◌, cond, eqb, ◌++◌, Some, None, is_some, length, get_or, ℤ, pos, refl, sym, ap, subst, ◌∙◌, arith, ◌⊎◌, inl, inr}
+use Rattle.std.specs.Prelude.{Result, Ok, Err, nat_le, unwrap_or, unsigned_abs}
+use Rattle.std.proofs.lemmas.Bool.{cases_lt, eq-eqb, le-ltb}
+use Rattle.std.proofs.lemmas.List.{length-map, get_or-map}
+use Rattle.std.proofs.lemmas.Option.{slice_get_past}
+use Rattle.stream_lists.specs.stream_filters.Range.{ranged}
+use Rattle.stream_lists.specs.stream_filters.declared.fault.TooBigValue.{TooBigValue}
+use Rattle.phase_history.specs.Histories.{has_dropped}
+use Rattle.stream_lists.specs.graph_base.declared.line.Kind.{Kind}
+use Rattle.stream_lists.specs.graph_base.declared.line.Kind.TheVariants.{Source, Fir, Split, Join, Peer, Sink}
+use Rattle.stream_lists.specs.graph_base.Graphs.{task_at}
+use Rattle.stream_lists.specs.graph_base.Registrations.{no_registration}
+use Rattle.stream_lists.specs.graph_base.TaskLines.{IsGraph}
+use Rattle.stream_lists.proofs.graph_base_lemmas.Registered.{registrations-phasers}
+use Rattle.stream_lists.specs.Jobs.{Job, samples_at}
+use Rattle.stream_lists.specs.Spans.{signalled_by, puts_on}
+use Rattle.graph_runs.specs.Moments.{Moment, TaskRan, HasEnded, MayStop, at_until, no_sample, no_input, RanOut, HasSamples, OnLine, made_now, input_at, first_input}
+use Rattle.graph_runs.proofs.Tasks.{first_looks}
+use Rattle.graph_runs.specs.Moves.{IsStaying, NoneDue, MayBegin}
+use Rattle.graph_runs.specs.Answers.{output_at, next_value}
+use Rattle.graph_runs.specs.Nexts.{signals, exchanges, waits_first, first_owed, has_left, registrations_at, comes_by, is_cut}
+use Rattle.graph_runs.specs.TaskPlaces.{Owed, nothing, value, exchange, Owes, TaskPlace, StandsAt, registration_at}
+use Rattle.graph_runs.proofs.PlacesLemmas.{on_ends, place_of_output}
+use Rattle.graph_runs.proofs.Signalling.{owed, may_put}
+use Rattle.graph_runs.proofs.Boundaries.{all_put, made_many, all_taken, peer_ends, one_more}
+use Rattle.graph_runs.proofs.Calling.{source_ends, until_is, waits_as_peer}
+use Rattle.graph_runs.specs.Parts.{HasPart, IsNextValue, IsNextOfSamples, BeginsStep, IsExchange}
+use Rattle.graph_runs.specs.Places.{HasChildrenBy}
+
+-- ---- registrations
+
+-- a phaser on a task's line has a registration of the task
+pub registration_on : (job : Job) (t p : ℕ) → IsGraph job.graph → t < length job.graph.tasks
+    → OnLine (task_at job.graph t) p
+    → (i : ℕ) × (i < length (registrations_at job t)) × ((registration_at job t i).phaser ≡ p)
+registration_on job t p is there on =
+    let line = is.tasks t there in
+    let rs = registrations_at job t in
+    let at = on_ends job.graph t (task_at job.graph t) p line on in
+    let phasers = registrations-phasers job.graph t (task_at job.graph t) line in
+    let long : length rs ≡ length ((task_at job.graph t).inputs ++ (task_at job.graph t).outputs) =
+    sym (length-map rs (λ r. r.phaser)) ∙ ap length phasers in
+    let lt : at.0 < length rs = omega arith in (
+      at.0,
+      lt,
+      sym (get_or-map (λ r. r.phaser) rs at.0 no_registration 0 lt)
+          ∙ ap (λ ps. get_or ps at.0 0) phasers ∙ at.2,
+    )
+
+-- a number stands among those of the place
+pub numbered_within : (job : Job) (m : Moment) (t i n : ℕ) (at : TaskPlace) → StandsAt job m t at
+    → i < length (registrations_at job t)
+    → m.number (registration_at job t i).phaser t ≡ Some n → i < length at.numbers
+numbered_within job m t i n at stands lt number = by (cases_lt i (length at.numbers))
+  where
+    by : (i < length at.numbers) ⊎ (length at.numbers ≤ i) → i < length at.numbers
+    by (inl room) = room
+    by (inr past) =
+        absurd (let no : None ≡ Some n =
+        sym (slice_get_past at.numbers i past) ∙ sym (stands.numbered i lt) ∙ number in cc)
+
+-- a task whose place has left none stays on all
+pub staying_at : (job : Job) (m : Moment) (t : ℕ) (at : TaskPlace) → IsGraph job.graph
+    → t < length job.graph.tasks → TaskRan job m t → StandsAt job m t at → at.left ≡ 0
+    → IsStaying m t
+staying_at job m t at is there ran stands none p n number =
+    let r = registration_on job t p is there (ran.lines p n number) in
+    let found : m.number (registration_at job t r.0).phaser t ≡ Some n =
+    ap (λ q. m.number q t) r.2 ∙ number in
+    let room = numbered_within job m t r.0 n at stands r.1 found in
+    let left : has_left m t (registration_at job t r.0) ≡ false =
+    stands.leaves r.0 room ∙ le-ltb r.0 at.left (omega arith) in
+    sym (ap (λ o. has_dropped (m.history p) (unwrap_or o 0)) number)
+    ∙ sym (ap (λ q. has_dropped (m.history q) (unwrap_or (m.number q t) 0)) r.2) ∙ left
+
+-- ---- what is owed
+
+not_first : (b : Bool) (j : ℕ) → cond b exchanges (signals j) ≡ signals j → b ≡ false
+not_first false j e = refl
+not_first true j e = absurd (cc)
+
+pub is_first : (b : Bool) (j : ℕ) → cond b exchanges (signals j) ≡ exchanges → b ≡ true
+is_first true j e = refl
+is_first false j e = absurd (cc)
+
+-- a value in range is the number itself
+pub ranged_value : (x v : ℤ) → ranged x ≡ Ok v → x ≡ v
+ranged_value x v e = by (nat_le (unsigned_abs x) 9223372036854775807) e
+  where
+    by : (b : Bool) → cond {A = Result ℤ TooBigValue} b (Ok x) (Err (record {})) ≡ Ok v → x ≡ v
+    by true e = cc
+    by false e = absurd (cc)
+
+-- what a place that owes something says of the moment
+pub owes_as : (job : Job) (m : Moment) (t : ℕ) (at : TaskPlace) (o : Owed) → StandsAt job m t at
+    → at.owed ≡ o → Owes job m t o
+owes_as job m t at o stands is =
+    let O : Owed → Type 0 = λ x. Owes job m t x in subst O is stands.owes
+
+pub next_value_is : (job : Job) (m : Moment) (t j : ℕ) (v : ℤ) (at : TaskPlace)
+    → IsGraph job.graph → t < length job.graph.tasks → HasPart job m t → StandsAt job m t at
+    → at.left ≡ 0 → at.owed ≡ value j (Ok v) → IsNextValue job m t j (output_at job t j) v
+next_value_is job m t j v at is there part stands none owed_is =
+    let owes = owes_as job m t at (value j (Ok v)) stands owed_is in
+    let o = owed job m t j owes.0 in
+    record {
+      place = place_of_output job.graph t (task_at job.graph t) j (is.tasks t there) o.0;
+      staying = staying_at job m t at is there part.ran stands none;
+      few = o.1;
+      entry = ranged_value (next_value job m t j) v owes.2;
+      exchanged = may_put (task_at job.graph t).kind j (length (m.put t j)) (length (m.taken t 1))
+          (not_first (waits_first (task_at job.graph t).kind j (length (m.put t j))
+          (length (m.taken t 1))) j owes.1);
+    }
+
+pub next_exchange_is : (job : Job) (m : Moment) (t : ℕ) (x : ℤ) (at : TaskPlace)
+    → IsGraph job.graph → t < length job.graph.tasks → HasPart job m t → StandsAt job m t at
+    → at.left ≡ 0 → at.owed ≡ exchange x
+    → IsExchange job m t (input_at (task_at job.graph t) 1)
+next_exchange_is job m t x at is there part stands none owed_is =
+    let owes = owes_as job m t at (exchange x) stands owed_is in
+    let o = owed job m t 1 owes.0 in
+    let w = waits_as_peer (task_at job.graph t).kind 1 (length (m.put t 1)) (length (m.taken t 1))
+    (is_first (waits_first (task_at job.graph t).kind 1 (length (m.put t 1))
+    (length (m.taken t 1))) 1 owes.1) in
+    let ends = peer_ends job t is there w.0 in
+    let two : length (task_at job.graph t).inputs ≡ 2 = ends.0 in
+    let few : length (m.put t 1) < length (made_now job m t 1) = o.1 in
+    let low : length (m.taken t 1) ≤ length (m.put t 1) = w.1 in
+    let peer = w.0 in
+    let plain : puts_on (task_at job.graph t) (m.begun t) 1 ≡ m.begun t = rw peer refl in
+    let many : length (made_now job m t 1) ≡ puts_on (task_at job.graph t) (m.begun t) 1 =
+    made_many job m t 1 is part.ran there o.0 in
+    record {
+      few = omega arith;
+      place = refl;
+      staying = staying_at job m t at is there part.ran stands none;
+      peer = peer;
+      behind = omega arith;
+    }
+
+-- ---- a boundary
+
+-- where the children that come here have their numbers, none is due
+pub none_due_at : (job : Job) (m : Moment) (t p : ℕ) (at : TaskPlace) → IsGraph job.graph
+    → HasPart job m t → StandsAt job m t at → HasChildrenBy job m t at.begun → NoneDue job m t p
+none_due_at job m t p at is part stands children c n u below parent of_t number absent on =
+    by (cases_lt (m.begun t) u.at)
+  where
+    early : m.begun t ≤ u.at
+    early =
+        let E : ℕ → Type 0 = λ x. m.begun x ≤ u.at in
+        subst E of_t (part.ran.children c p n u below parent of_t number absent on).early
+
+    clash : u.at ≡ m.begun t → ⊥
+    clash same =
+        let comes : comes_by t at.begun (task_at job.graph c).parent ≡ true =
+        ap (λ o. comes_by t at.begun o) parent
+        ∙ ap (λ b. b && eqb u.at at.begun) (eq-eqb u.task t of_t)
+        ∙ eq-eqb u.at at.begun (same ∙ stands.begun) in
+        let r = registration_on job c p is below on in
+        let some : is_some (m.number (registration_at job c r.0).phaser c) ≡ true =
+        children c below comes r.0 r.1 in
+        (let wrong : true ≡ false =
+        sym some ∙ ap (λ q. is_some (m.number q c)) r.2 ∙ ap is_some absent in cc)
+
+    by : (m.begun t < u.at) ⊎ (u.at ≤ m.begun t) → m.begun t < u.at
+    by (inl lt) = lt
+    by (inr ge) = let le : m.begun t ≤ u.at = early in absurd (clash (omega arith))
+
+-- the next step may begin
+begins_at : (job : Job) (m : Moment) (t : ℕ) (at : TaskPlace) → IsGraph job.graph
+    → t < length job.graph.tasks → HasPart job m t → StandsAt job m t at → at.owed ≡ nothing
+    → is_cut (task_at job.graph t).until at.begun ≡ false → HasChildrenBy job m t at.begun
+    → HasSamples (task_at job.graph t).kind (suc (m.begun t)) (length (samples_at job t))
+    → MayBegin job m t
+begins_at job m t at is there part stands owed_is uncut children samples = record {
+  taken = λ k lt.
+      all_taken job m t is part.ran there (owes_as job m t at nothing stands owed_is) k lt;
+  cut = one_more (task_at job.graph t).until (m.begun t)
+      (ap (λ b. is_cut (task_at job.graph t).until b) stands.begun ∙ uncut) part.ran.cut;
+  samples = samples;
+  children = λ p. none_due_at job m t p at is part stands children;
+}
+
+pub next_sample_at : (job : Job) (m : Moment) (t : ℕ) (at : TaskPlace) → IsGraph job.graph
+    → t < length job.graph.tasks → HasPart job m t → StandsAt job m t at → at.left ≡ 0
+    → at.owed ≡ nothing → (task_at job.graph t).kind ≡ Source
+    → at.begun < length (samples_at job t)
+    → is_cut (task_at job.graph t).until at.begun ≡ false → HasChildrenBy job m t at.begun
+    → IsNextOfSamples job m t 0 (output_at job t 0) (get_or (samples_at job t) at.begun (pos 0))
+next_sample_at job m t at is there part stands none owed_is source less uncut children =
+    let idle : first_owed job m t ≡ None = owes_as job m t at nothing stands owed_is in
+    let one : length (signalled_by (task_at job.graph t)) ≡ 1 = source_ends job t is there source in
+    let lt : 0 < length (signalled_by (task_at job.graph t)) = omega arith in
+    let plain : puts_on (task_at job.graph t) (m.begun t) 0 ≡ m.begun t = rw source refl in
+    let steps : m.begun t ≡ at.begun = stands.begun in
+    let more : suc (m.begun t) ≤ length (samples_at job t) = omega arith in
+    let S : Kind → Type 0 = λ kind. HasSamples kind (suc (m.begun t)) (length (samples_at job t)) in
+    record {
+      place = place_of_output job.graph t (task_at job.graph t) 0 (is.tasks t there) lt;
+      staying = staying_at job m t at is there part.ran stands none;
+      source = source;
+      may_begin = begins_at job m t at is there part stands owed_is uncut children
+          (subst S (sym source) more);
+      all_put = ap length (all_put job m t part.ran there idle 0 lt)
+          ∙ made_many job m t 0 is part.ran there lt ∙ plain;
+      sample = ap (λ b. get_or (samples_at job t) b (pos 0)) steps;
+    }
+
+no_samples : (kind : Kind) (b n : ℕ) → (kind ≡ Source → ⊥) → HasSamples kind b n
+no_samples Source b n never = absurd (never refl)
+no_samples Fir b n never = tt
+no_samples Split b n never = tt
+no_samples Join b n never = tt
+no_samples Peer b n never = tt
+no_samples Sink b n never = tt
+
+pub next_wait_at : (job : Job) (m : Moment) (t : ℕ) (at : TaskPlace) → IsGraph job.graph
+    → t < length job.graph.tasks → HasPart job m t → StandsAt job m t at → at.left ≡ 0
+    → at.owed ≡ nothing → ((task_at job.graph t).kind ≡ Source → ⊥)
+    → is_cut (task_at job.graph t).until at.begun ≡ false → HasChildrenBy job m t at.begun
+    → BeginsStep job m t (first_input (task_at job.graph t) at.begun)
+    (input_at (task_at job.graph t) (first_input (task_at job.graph t) at.begun))
+next_wait_at job m t at is there part stands none owed_is never uncut children = record {
+  few = (first_looks (task_at job.graph t) at.begun (is.tasks t there).ends never).0;
+  place = refl;
+  staying = staying_at job m t at is there part.ran stands none;
+  first = ap (λ b. first_input (task_at job.graph t) b) (sym stands.begun);
+  may_begin = begins_at job m t at is there part stands owed_is uncut children
+      (no_samples (task_at job.graph t).kind (suc (m.begun t)) (length (samples_at job t)) never);
+}
+
+-- ---- the end
+
+ended_by : (job : Job) (m : Moment) (t : ℕ) (at : TaskPlace) → t < length job.graph.tasks
+    → HasPart job m t → StandsAt job m t at → at.owed ≡ nothing
+    → MayStop m (task_at job.graph t) t (length (samples_at job t)) → HasEnded job m t
+ended_by job m t at there part stands owed_is may_end = record {
+  all_put = λ j lt.
+      all_put job m t part.ran there (owes_as job m t at nothing stands owed_is) j lt;
+  may_end = may_end;
+}
+
+pub ended_cut : (job : Job) (m : Moment) (t : ℕ) (at : TaskPlace) → t < length job.graph.tasks
+    → HasPart job m t → StandsAt job m t at → at.owed ≡ nothing
+    → is_cut (task_at job.graph t).until at.begun ≡ true → HasEnded job m t
+ended_cut job m t at there part stands owed_is cut =
+    ended_by job m t at there part stands owed_is
+    (at_until (until_is (task_at job.graph t).until (m.begun t)
+    (ap (λ b. is_cut (task_at job.graph t).until b) stands.begun ∙ cut)))
+
+pub ended_no_sample : (job : Job) (m : Moment) (t : ℕ) (at : TaskPlace)
+    → t < length job.graph.tasks → HasPart job m t → StandsAt job m t at → at.owed ≡ nothing
+    → (task_at job.graph t).kind ≡ Source → length (samples_at job t) ≤ at.begun
+    → HasEnded job m t
+ended_no_sample job m t at there part stands owed_is source used =
+    ended_by job m t at there part stands owed_is
+    (no_sample source (let steps : m.begun t ≡ at.begun = stands.begun in omega arith))
+
+pub ended_no_input : (job : Job) (m : Moment) (t : ℕ) (at : TaskPlace)
+    → t < length job.graph.tasks → HasPart job m t → StandsAt job m t at → at.owed ≡ nothing
+    → ((task_at job.graph t).kind ≡ Source → ⊥)
+    → RanOut m (task_at job.graph t) t (first_input (task_at job.graph t) at.begun)
+    → HasEnded job m t
+ended_no_input job m t at there part stands owed_is never out =
+    let R : ℕ → Type 0 = λ b. RanOut m (task_at job.graph t) t
+    (first_input (task_at job.graph t) b) in
+    ended_by job m t at there part stands owed_is
+    (no_input never (subst R (sym stands.begun) out))

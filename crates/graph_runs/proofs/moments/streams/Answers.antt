@@ -1,0 +1,23 @@
+-- Every phaser composes its list.
+use Rattle.std.proofs.Common.{◌∙◌, sym, subst}
+use Rattle.std.specs.Prelude.{List}
+use mathlib.Core.List.{IsPrefix}
+use Rattle.phase_history.specs.phase_accum.declared.outcome.Outcome.{Outcome}
+use Rattle.phase_history.specs.Phases.{stream_of}
+use Rattle.stream_lists.proofs.ListsAbove.{lists_above}
+use Rattle.graph_runs.specs.Moments.{value_at, started}
+use Rattle.graph_runs.proofs.Started.{ready_as, run_started}
+use Rattle.graph_runs.proofs.Results.{streams_begin, streams_whole}
+use Rattle.graph_runs.proofs.moments.streams.Goals as goal
+
+pub returns-clause-begin : goal.returns-clause-begin
+returns-clause-begin c = λ job m p ready ran below.
+    (let now = started job m in
+    let L : List Outcome → Type 0 = λ l. IsPrefix (stream_of (value_at job p) (m.history p)) l in
+    subst L (sym (lists_above now p ready.graph below))
+    (streams_begin now m p (ready_as job m ready) (run_started job m ran) below))
+
+pub returns-clause-whole : goal.returns-clause-whole
+returns-clause-whole c = λ job m p ready ran below quiet.
+    streams_whole (started job m) m p (ready_as job m ready) (run_started job m ran) below quiet
+    ∙ sym (lists_above (started job m) p ready.graph below)

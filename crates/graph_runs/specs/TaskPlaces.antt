@@ -1,0 +1,138 @@
+-- Where the code of a task stands: on which phasers it is registered and which of them it has left,
+-- how many steps it has begun, and what its begun steps owe. It changes by events as a function.
+use Rattle.std.specs.Prelude.{◌≡◌, ℕ, zero, suc, ◌+◌, ◌<◌, ◌≤◌, ◌%◌, ℤ, pos, ◌*ℤ◌, ◌-ℤ◌, List, [], ◌∷◌, ◌++◌, length, get_or, slice_get, Option, Some, None, Result, Ok, nat_lt, ◌==◌, if◌then◌else◌}
+use Rattle.stream_lists.specs.stream_filters.declared.fault.TooBigValue.{TooBigValue}
+use Rattle.stream_lists.specs.stream_filters.Range.{ranged}
+use Rattle.stream_lists.specs.stream_filters.Filter.{output_after}
+use Rattle.stream_lists.specs.graph_base.declared.line.Kind.{Kind}
+use Rattle.stream_lists.specs.graph_base.declared.line.Kind.TheVariants.{Source, Fir, Split, Join, Peer, Sink}
+use Rattle.stream_lists.specs.graph_base.declared.registration.Registration.{Registration}
+use Rattle.stream_lists.specs.graph_base.Graphs.{Task, task_at}
+use Rattle.stream_lists.specs.graph_base.Registrations.{no_registration, signalled_by}
+use Rattle.stream_lists.specs.Jobs.{Job}
+use Rattle.stream_lists.specs.Lists.{number}
+use Rattle.graph_runs.specs.Moments.{Moment, made_now}
+use Rattle.graph_runs.specs.Nexts.{signals, exchanges, in_step, first_owed, has_left, registrations_at}
+use Rattle.graph_runs.specs.TaskEvents.{TaskEvent, sample, signal, first_wait, exchange_wait, leave, child}
+use Rattle.graph_runs.specs.Answers.{next_value}
+
+-- what the begun steps of a task owe next: nothing; this value on output j, where it is in range;
+-- or a peer's wait on E, with what it took from X
+pub data Owed : Type 0 where
+  nothing : Owed
+  value : (j : ℕ) (v : Result ℤ TooBigValue) → Owed
+  exchange : (x : ℤ) → Owed
+
+-- a task's numbers on the first of its phasers, in the order of its registrations; how many of
+-- these phasers it has left; how many steps it has begun; and what it owes
+pub record TaskPlace : Type 0 where
+  pub numbers : List ℕ
+  pub left : ℕ
+  pub begun : ℕ
+  pub owed : Owed
+
+-- ---- a place at a moment
+
+-- registration i of task t
+abbrev pub registration_at : Job → ℕ → ℕ → Registration
+registration_at job t i = get_or (registrations_at job t) i no_registration
+
+-- the number of the registration of output j of a task
+abbrev pub registration_of_output : Task → ℕ → ℕ
+registration_of_output task j = of task.kind
+  where
+    of : Kind → ℕ
+    of Peer = suc j
+    of kind = length task.inputs + j
+
+-- what task t owes at a moment
+abbrev pub Owes : Job → Moment → ℕ → Owed → Type 0
+Owes job m t nothing = first_owed job m t ≡ None
+Owes job m t (value j v) =
+    (first_owed job m t ≡ Some j) × (in_step job m t j ≡ signals j)
+    × (ranged (next_value job m t j) ≡ v)
+Owes job m t (exchange x) =
+    (first_owed job m t ≡ Some 1) × (in_step job m t 1 ≡ exchanges)
+    × (get_or (m.taken t 0) (length (m.taken t 1)) (pos 0) ≡ x)
+
+-- how many values an output lacks of what the begun steps of a task made, where the task owes this:
+-- one on the output that is next. While a peer owes its value on E, it lacks one on Y as well
+abbrev pub lacking : Kind → Owed → ℕ → ℕ
+lacking kind nothing j = 0
+lacking kind (value i v) j = if j == i then 1 else behind kind i j
+  where
+    behind : Kind → ℕ → ℕ → ℕ
+    behind Peer zero (suc j) = 1
+    behind kind i j = 0
+lacking kind (exchange x) j = if j == 1 then 1 else 0
+
+-- the code of task t stands at this place
+pub record StandsAt (job : Job) (m : Moment) (t : ℕ) (at : TaskPlace) : Type 0 where
+  pub few : length at.numbers ≤ length (registrations_at job t)
+  pub few_left : at.left ≤ length at.numbers
+  pub numbered : (i : ℕ) → i < length (registrations_at job t)
+      → m.number (registration_at job t i).phaser t ≡ slice_get at.numbers i
+  pub leaves : (i : ℕ) → i < length at.numbers
+      → has_left m t (registration_at job t i) ≡ nat_lt i at.left
+  pub begun : m.begun t ≡ at.begun
+  pub owes : Owes job m t at.owed
+  pub lacks : (j : ℕ) → j < length (signalled_by (task_at job.graph t))
+      → length (made_now job m t j)
+      ≡ length (m.put t j) + lacking (task_at job.graph t).kind at.owed j
+
+-- the place of a task that has done nothing
+abbrev pub at_start : List ℕ → TaskPlace
+at_start numbers = record { numbers = numbers; left = 0; begun = 0; owed = nothing }
+
+-- ---- how events change it
+
+-- what a task owes after the first wait of a step, which got this number. It began so many steps
+-- before it, and has taken these values from its input
+abbrev pub owed_after_wait : Task → ℕ → List ℤ → ℤ → Owed
+owed_after_wait task begun taken x = of task.kind
+  where
+    of : Kind → Owed
+    of Fir = value 0 (ranged (output_after task.taps task.shift (taken ++ x ∷ [])))
+    of Split = value (begun % length task.outputs) (Ok x)
+    of Join = value 0 (Ok x)
+    of Peer = value 0 (Ok x)
+    of Source = nothing
+    of Sink = nothing
+
+-- what a task owes after it has signalled this on output j: a peer that has signalled E waits there
+abbrev pub owed_after_signal : Task → ℕ → ℤ → Owed
+owed_after_signal task j x = of task.kind j
+  where
+    of : Kind → ℕ → Owed
+    of Peer zero = exchange x
+    of kind j = nothing
+
+-- what a peer owes that has got this number on E
+abbrev pub owed_after_exchange : Task → Owed → ℤ → Owed
+owed_after_exchange task (exchange x) e = value 1 (ranged ((task.mul *ℤ x) -ℤ e))
+owed_after_exchange task nothing e = nothing
+owed_after_exchange task (value j v) e = nothing
+
+-- the place of a task after its own event, at the moment before
+abbrev pub own_place : Job → Moment → TaskEvent → TaskPlace → TaskPlace
+own_place job m (sample t j p n v) at = record at { begun = suc at.begun }
+own_place job m (signal t j p n v) at =
+    record at { owed = owed_after_signal (task_at job.graph t) j v }
+own_place job m (first_wait t k p n outcome) at =
+    record at {
+      begun = suc at.begun;
+      owed = owed_after_wait (task_at job.graph t) at.begun (m.taken t 0) (number outcome);
+    }
+own_place job m (exchange_wait t p n outcome) at =
+    record at { owed = owed_after_exchange (task_at job.graph t) at.owed (number outcome) }
+own_place job m (leave t p n) at = record at { left = suc at.left }
+own_place job m (child t p n c a mode) at = at
+
+-- the place of task c after it was registered as number a
+abbrev pub child_place : ℕ → TaskPlace → TaskPlace
+child_place a at = record at { numbers = at.numbers ++ a ∷ [] }
+
+-- the task that an event registers, where it registers one
+abbrev pub child_of : TaskEvent → Option ℕ
+child_of (child t p n c a mode) = Some c
+child_of event = None

@@ -1,0 +1,51 @@
+//! The filter of a task that is one.
+ghost use Rattle.std.specs.Prelude.{◌≡◌, ◌<◌, List, ℤ, [], ◌∷◌, ◌++◌, length, IfOk};
+ghost use Rattle.stream_lists.specs.graph_base.Graphs.{task_at};
+ghost use Rattle.stream_lists.specs.graph_base.declared.line.Kind.TheVariants.{Fir as filters};
+ghost use Rattle.graph_runs.specs.Steps.{HasFilter};
+ghost use Rattle.stream_lists.specs.stream_filters.Filter.{output_after};
+ghost use Rattle.stream_lists.specs.stream_filters.Range.{ranged};
+
+use crate::lines::kind_of;
+use std::alloc::{AllocError, Global};
+use stream_lists::Job;
+use stream_lists::graph_base::Kind;
+use stream_lists::stream_filters::{Fir, FirFault, TooBigValue};
+
+/// Makes the filter of task number `t`, where it is one, before its first sample.
+///
+/// It takes memory for the taps and for a window of as many samples.
+pub fn first_filter(alloc: Global, job: &Job, t: usize) -> Result<Option<Fir>, AllocError>
+    requires { t < length job.now.graph.tasks }
+    ensures { IfOk result (λ filter. HasFilter (task_at job.now.graph t) filter []) }
+{
+    if kind_of(job, t) != Kind::Fir {
+        return Ok(None);
+    }
+    let line = job.graph().task(t);
+    match Fir::new(alloc, &line.taps, line.shift) {
+        Ok(fir) => Ok(Some(fir)),
+        Err(FirFault::OutOfMemory) => Err(AllocError),
+        Err(FirFault::BadTaps) => unreachable!(),
+    }
+}
+
+/// What the filter of task number `t` answers to the next sample.
+pub(crate) fn filtered(
+    job: &Job,
+    t: usize,
+    filter: &mut Option<Fir>,
+    x: i64,
+) -> Result<i64, TooBigValue>
+    requires task { t < length job.now.graph.tasks }
+    requires kind { (task_at job.now.graph t).kind ≡ filters }
+    requires filter { (taken : List ℤ) × HasFilter (task_at job.now.graph t) filter.old taken }
+    ensures answer { (taken : List ℤ) → HasFilter (task_at job.now.graph t) filter.old taken
+        → let task = task_at job.now.graph t in
+        result ≡ ranged (output_after task.taps task.shift (taken ++ x ∷ [])) }
+    ensures filter { (taken : List ℤ) → HasFilter (task_at job.now.graph t) filter.old taken
+        → HasFilter (task_at job.now.graph t) filter.new (taken ++ x ∷ []) }
+{
+    let Some(fir) = filter else { unreachable!() };
+    fir.step(x)
+}

@@ -1,0 +1,4 @@
+pub mod Growing
+mod Lines
+pub use Rattle.graph_lang.proofs as graph_lang_lemmas
+pub use Rattle.graph_lang.proofs.watched_io_lemmas as watched_io_lemmas

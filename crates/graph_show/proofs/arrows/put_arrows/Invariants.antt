@@ -1,0 +1,8 @@
+use Rattle.std.proofs.Common.{◌≡◌, ◌++◌}
+use Rattle.std.specs.List.{flat_map, range_with_len}
+use Rattle.graph_show.specs.Drawings.{task_arrows}
+use Rattle.graph_show.proofs.arrows.put_arrows.Given as goal
+
+-- the arrows of the tasks before this one stand behind the text
+abbrev pub invariant-loop-t : goal.invariant-loop-t
+invariant-loop-t l = l.text.items ≡ l.fn.text.items ++ flat_map (task_arrows l.graph) (range_with_len 0 l.t)

@@ -1,0 +1,17 @@
+use Rattle.std.proofs.Common.{◌≡◌, ◌<◌, ◌+◌, ◌-◌, inr, length, arith}
+use Rattle.std.proofs.lemmas.Result.{IfOk-weaker}
+use Rattle.graph_show.proofs.Lines.{explains-line}
+use Rattle.graph_show.proofs.explained.explanation.Goals as goal
+
+-- the text has a line of that number, and it is marked
+pub returns : goal.returns
+returns c =
+    let lines = c.in_ok-lines.lines.items in
+    let line = c.args.fault.line in
+    let counted : line - 1 + 1 ≡ line = omega (arith, c.if-fault-eq0.false) in
+    let within : line - 1 < length lines =
+    omega (arith, c.len.ensures, c.if-fault-eq0.false, c.if-fault-len.false) in
+    IfOk-weaker c.line_explained.result _ _
+    (λ more marks. inr (explains-line c.args.text.now c.args.fault lines c.index.result.now
+    c.without_cr.result.now more.items c.in_ok-lines.ensures within counted c.index.ensures
+    c.without_cr.ensures marks)) c.line_explained.ensures

@@ -1,0 +1,27 @@
+use Rattle.std.proofs.Common.{codes}
+use Rattle.std.proofs.lemmas.Result.{IfOk-weaker}
+use Rattle.graph_show.proofs.explained.line_explained.Goals as goal
+
+-- the first byte that no line may have is marked
+pub returns-then-not-are_printable : goal.returns-then-not-are_printable
+returns-then-not-are_printable c =
+    IfOk-weaker c.marked.result _ _
+    (λ text is. record {
+      start = c.bad_byte_of.result;
+      count = 1;
+      wanted = codes "bytes from 33 to 126, spaces and tabs alone";
+      inside = c.bad_byte_of.ensures;
+      is = is;
+    }) c.marked.ensures
+
+-- a word of the line is marked, or its end
+pub returns : goal.returns
+returns c =
+    IfOk-weaker c.marked-2.result _ _
+    (λ text is. record {
+      start = c.start_of.result;
+      count = c.match-get.count;
+      wanted = c.mark_of-mark.result.wanted.now;
+      inside = c.start_of.ensures;
+      is = is;
+    }) c.marked-2.ensures

@@ -1,0 +1,128 @@
+//! What may stand at a place of a line, and what a person is told of it.
+
+use graph_lang::Op;
+use graph_lang::phase_base::{is_digit, is_file, is_name};
+
+/// What may stand at a place of a line.
+#[derive(Clone, Copy)]
+pub(crate) enum Part {
+    /// The first word.
+    Kind,
+    /// The name that the line declares.
+    Own,
+    Operation,
+    Bound,
+    /// The function of a single.
+    Function,
+    Low,
+    High,
+    File,
+    /// A phaser that the task waits for, and one or more of them.
+    Input,
+    Inputs,
+    /// The phaser of a peer's exchange.
+    Exchange,
+    /// A phaser that the task signals, and one or more of them.
+    Output,
+    Outputs,
+    Shift,
+    Taps,
+    Factor,
+    Parent,
+    Steps,
+    /// This very word.
+    Sign(&'static str),
+    /// Nothing, or what this says.
+    End(&'static str),
+}
+
+/// Whether each byte is a digit.
+fn are_digits(word: &[u8]) -> bool {
+    word.iter().all(|b| is_digit(*b))
+}
+
+/// Whether the word is a whole number without a sign.
+fn is_whole(word: &[u8]) -> bool {
+    match word {
+        [] => false,
+        [b'0', _, ..] => false,
+        _ => are_digits(word),
+    }
+}
+
+/// Whether the word is a whole number, perhaps with a minus.
+fn is_signed(word: &[u8]) -> bool {
+    match word {
+        [b'-', b'0'] => false,
+        [b'-', digits @ ..] => is_whole(digits),
+        _ => is_whole(word),
+    }
+}
+
+/// Whether the word is the first of a line.
+fn is_kind(word: &[u8]) -> bool {
+    word == b"phaser".as_slice()
+        || word == b"source".as_slice()
+        || word == b"fir".as_slice()
+        || word == b"split".as_slice()
+        || word == b"join".as_slice()
+        || word == b"peer".as_slice()
+        || word == b"sink".as_slice()
+}
+
+/// Whether the word is the function of a single.
+fn is_function(word: &[u8]) -> bool {
+    word == b"neg".as_slice()
+        || word == b"abs".as_slice()
+        || word == b"halve".as_slice()
+        || word == b"clamp".as_slice()
+}
+
+impl Part {
+    /// Whether the word may stand there.
+    pub(crate) fn fits(self, word: &[u8]) -> bool {
+        match self {
+            Part::Kind => is_kind(word),
+            Part::Own | Part::Parent => is_name(word),
+            Part::Input | Part::Inputs | Part::Exchange => is_name(word),
+            Part::Output | Part::Outputs => is_name(word),
+            Part::Operation => Op::read(word).is_some(),
+            Part::File => is_file(word),
+            Part::Function => is_function(word),
+            Part::Bound | Part::Shift | Part::Steps => is_whole(word),
+            Part::Low | Part::High | Part::Taps | Part::Factor => is_signed(word),
+            Part::Sign(sign) => word == sign.as_bytes(),
+            Part::End(_) => false,
+        }
+    }
+
+    /// Whether more words may stand there.
+    pub(crate) fn is_repeated(self) -> bool {
+        matches!(self, Part::Inputs | Part::Outputs | Part::Taps)
+    }
+
+    /// Whether a phaser stands there that the task waits for.
+    pub(crate) fn is_input(self) -> bool {
+        matches!(self, Part::Input | Part::Inputs)
+    }
+
+    /// Whether a phaser stands there that the task signals.
+    pub(crate) fn is_output(self) -> bool {
+        matches!(self, Part::Output | Part::Outputs | Part::Exchange)
+    }
+
+    /// What may stand there, for a person.
+    pub(crate) fn told(self) -> &'static str {
+        match self {
+            Part::Kind => "`phaser`, `source`, `fir`, `split`, `join`, `peer` or `sink`",
+            Part::Operation => "`sum`, `product`, `least`, `greatest` or `any`",
+            Part::Function => "`neg`, `abs`, `halve` or `clamp`",
+            Part::File => "the name of a file, of at most 255 bytes",
+            Part::Bound | Part::Shift | Part::Steps => "a whole number without a sign",
+            Part::Low | Part::High | Part::Taps | Part::Factor => "a whole number",
+            Part::Sign(sign) => sign,
+            Part::End(wanted) => wanted,
+            _ => "a name: a letter, then letters, digits and _, at most 32 in all",
+        }
+    }
+}

@@ -1,0 +1,147 @@
+//! The explanation of a graph's fault.
+ghost use Rattle.std.specs.Prelude.{◌≡◌, ◌⊎◌, ◌≤◌, [], length, map, take, replicate, IfOk};
+ghost use Rattle.std.specs.List.{flat_map};
+ghost use Rattle.graph_show.specs.Explanations.{ExplainsLine, Marks, blank_under, marked_text, shown};
+
+use crate::above::Above;
+use crate::grammar::Reading;
+use crate::mark::mark_of;
+use graph_lang::graph_text::{are_printable, lines_of, without_cr, words_of};
+use graph_lang::{FaultKind, GraphFault};
+use std::alloc::{AllocError, Global};
+
+/// A byte as it is shown.
+fn shown(b: u8) -> u8
+    ensures { result ≡ shown b }
+{
+    let is_printable = b == b' ' || b == b'\t' || (33 <= b && b <= 126);
+    if is_printable { b } else { b'?' }
+}
+
+/// A line as it is shown.
+fn shown_line(alloc: Global, line: &[u8]) -> Result<Vec<u8>, AllocError>
+    ensures { IfOk result (λ text. text.items ≡ map shown line.now) }
+{
+    line.iter().map(|b| shown(*b)).collect(alloc)
+}
+
+/// What stands under the bytes before a mark.
+fn blanks_under(alloc: Global, line: &[u8]) -> Result<Vec<u8>, AllocError>
+    ensures { IfOk result (λ text. text.items ≡ map blank_under line.now) }
+{
+    line.iter()
+        .map(|b| if *b == b'\t' { b'\t' } else { b' ' })
+        .collect(alloc)
+}
+
+/// The parts, one behind the other.
+fn joined(alloc: Global, parts: &[&[u8]]) -> Result<Vec<u8>, AllocError>
+    ensures { IfOk result (λ text. text.items ≡ flat_map (λ part. part.now) parts.now) }
+{
+    let mut text = Vec::new(alloc);
+    for part in parts {
+        text.extend_from_slice(*part)?;
+    }
+    Ok(text)
+}
+
+/// A line, under it as many marks from a place on, and what was expected there.
+fn marked(
+    alloc: Global,
+    line: &[u8],
+    start: usize,
+    count: usize,
+    wanted: &str,
+) -> Result<Vec<u8>, AllocError>
+    requires { start ≤ length line.now }
+    ensures { IfOk result (λ text. text.items ≡ marked_text line.now start count wanted.now) }
+{
+    let shown = shown_line(alloc, line)?;
+    let blanks = blanks_under(alloc, &line[..start])?;
+    let marks = vec![in alloc; b'^'; count]?;
+    let parts: [&[u8]; 8] = [
+        b"  ",
+        &shown,
+        b"\n  ",
+        &blanks,
+        &marks,
+        b"\n  expected: ",
+        wanted.as_bytes(),
+        b"\n",
+    ];
+    joined(alloc, parts.as_slice())
+}
+
+/// Where word number `k` of a line begins, or the line's end where it has no such word.
+fn start_of(line: &[u8], k: usize) -> usize
+    ensures { result ≤ length line.now }
+{
+    let mut words = 0usize;
+    let mut is_within = false;
+    for at in 0..line.len() {
+        let is_blank = line[at] == b' ' || line[at] == b'\t';
+        if !is_blank && !is_within {
+            if words == k {
+                return at;
+            }
+            words = words.saturating_add(1);
+        }
+        is_within = !is_blank;
+    }
+    line.len()
+}
+
+/// Where a line has its first byte that no line may have, or its end.
+fn bad_byte_of(line: &[u8]) -> usize
+    ensures { result ≤ length line.now }
+{
+    for at in 0..line.len() {
+        if !are_printable(&[line[at]]) {
+            return at;
+        }
+    }
+    line.len()
+}
+
+/// Explains a fault of a line, by the lines above it.
+fn line_explained(
+    alloc: Global,
+    above: &[&[u8]],
+    line: &[u8],
+    kind: FaultKind,
+) -> Result<Vec<u8>, AllocError>
+    ensures { IfOk result (λ text. Marks line.now text.items) }
+{
+    if !are_printable(line) {
+        let wanted = "bytes from 33 to 126, spaces and tabs alone";
+        return marked(alloc, line, bad_byte_of(line), 1, wanted);
+    }
+    let words = words_of(alloc, line)?;
+    let reading = Reading::of(alloc, &words)?;
+    let mark = mark_of(kind, &reading, &Above::of(alloc, above)?);
+    let count = match words.get(mark.word) {
+        Some(word) => word.len(),
+        None => 1,
+    };
+    marked(alloc, line, start_of(line, mark.word), count, mark.wanted)
+}
+
+/// Explains the first fault of a graph's text: gives the faulty line, a mark under the word that is at
+/// fault, and what was expected there, a line each. Where the text has no line of that number, it gives
+/// nothing. It takes memory.
+///
+/// ```text
+///   fir f X -> Q shift 0 taps 1
+///              ^
+///   expected: a phaser that a line above declares
+/// ```
+pub fn explanation(alloc: Global, text: &[u8], fault: GraphFault) -> Result<Vec<u8>, AllocError>
+    ensures { IfOk result (λ more. (more.items ≡ []) ⊎ ExplainsLine text.now fault more.items) }
+{
+    let lines = lines_of(alloc, text)?;
+    if fault.line == 0 || fault.line > lines.len() as u64 {
+        return Ok(Vec::new(alloc));
+    }
+    let index = (fault.line - 1) as usize;
+    line_explained(alloc, &lines[..index], without_cr(lines[index]), fault.kind)
+}

@@ -1,0 +1,185 @@
+//! The words of a line, each with what it is, as far as the line is in the grammar.
+
+use crate::explain_parts::Part;
+use std::alloc::{AllocError, Global};
+
+/// The words of a line, each with what it is, as far as the line is in the grammar, and what may stand
+/// behind them.
+#[derive(Drop)]
+pub(crate) struct Reading<'w, 'a> {
+    words: &'w [&'a [u8]],
+    pub(crate) found: Vec<(Part, &'a [u8])>,
+    pub(crate) wanted: Part,
+}
+
+impl<'w, 'a> Reading<'w, 'a> {
+    /// Reads the words of a line.
+    pub(crate) fn of(alloc: Global, words: &'w [&'a [u8]]) -> Result<Reading<'w, 'a>, AllocError> {
+        let mut reading = Reading {
+            words,
+            found: Vec::new(alloc),
+            wanted: Part::Kind,
+        };
+        reading.read()?;
+        Ok(reading)
+    }
+
+    /// Reads all words.
+    fn read(&mut self) -> Result<(), AllocError> {
+        let kind = self.next();
+        if !self.take(Part::Kind)? || !self.follow_body(kind)? {
+            return Ok(());
+        }
+        if kind == b"phaser".as_slice() {
+            return self.read_single();
+        }
+        let may_have_parent = kind == b"source".as_slice()
+            || kind == b"fir".as_slice()
+            || kind == b"sink".as_slice();
+        if may_have_parent {
+            return self.read_ends();
+        }
+        self.read_until("`until`, or the end of the line")
+    }
+
+    /// Reads what stands behind the first word, but for the optional ends, and answers whether all is
+    /// there.
+    fn follow_body(&mut self, kind: &[u8]) -> Result<bool, AllocError> {
+        if kind == b"phaser".as_slice() {
+            return self.follow(&[Part::Own, Part::Operation, Part::Bound]);
+        }
+        let arrow = Part::Sign("->");
+        if kind == b"source".as_slice() {
+            return self.follow(&[Part::Own, Part::File, arrow, Part::Output]);
+        }
+        if kind == b"split".as_slice() {
+            return self.follow(&[Part::Own, Part::Input, arrow, Part::Outputs]);
+        }
+        if kind == b"join".as_slice() {
+            return self.follow(&[Part::Own, Part::Inputs, arrow, Part::Output]);
+        }
+        if kind == b"fir".as_slice() {
+            let ends = self.follow(&[Part::Own, Part::Input, arrow, Part::Output])?;
+            return Ok(ends && self.follow_taps()?);
+        }
+        if kind == b"peer".as_slice() {
+            let meets = self.follow(&[Part::Own, Part::Input, Part::Sign("<->"), Part::Exchange])?;
+            return Ok(meets && self.follow_factor()?);
+        }
+        self.follow(&[Part::Own, Part::Input])
+    }
+
+    /// Reads the numbers of a filter.
+    fn follow_taps(&mut self) -> Result<bool, AllocError> {
+        self.follow(&[
+            Part::Sign("shift"),
+            Part::Shift,
+            Part::Sign("taps"),
+            Part::Taps,
+        ])
+    }
+
+    /// Reads the output and the factor of a peer.
+    fn follow_factor(&mut self) -> Result<bool, AllocError> {
+        self.follow(&[
+            Part::Sign("->"),
+            Part::Output,
+            Part::Sign("mul"),
+            Part::Factor,
+        ])
+    }
+
+    /// Whether the last word that was read is this one.
+    fn is_behind(&self, word: &[u8]) -> bool {
+        match self.found.last() {
+            Some((_, last)) => *last == word,
+            None => false,
+        }
+    }
+
+    /// Reads the optional end of a phaser's line.
+    fn read_single(&mut self) -> Result<(), AllocError> {
+        self.wanted = Part::End("`single`, or the end of the line");
+        if !Part::Sign("single").fits(self.next()) {
+            return Ok(());
+        }
+        if !self.follow(&[Part::Sign("single"), Part::Function])? {
+            return Ok(());
+        }
+        if self.is_behind(b"clamp") && !self.follow(&[Part::Low, Part::High])? {
+            return Ok(());
+        }
+        self.wanted = Part::End("the end of the line");
+        Ok(())
+    }
+
+    /// Reads the optional ends of a task that may have a parent.
+    fn read_ends(&mut self) -> Result<(), AllocError> {
+        if !Part::Sign("by").fits(self.next()) {
+            return self.read_until("`by`, `until`, or the end of the line");
+        }
+        if !self.follow(&[
+            Part::Sign("by"),
+            Part::Parent,
+            Part::Sign("at"),
+            Part::Steps,
+        ])? {
+            return Ok(());
+        }
+        self.read_until("`until`, or the end of the line")
+    }
+
+    /// Reads the optional last end of a task, or tells what else may stand there.
+    fn read_until(&mut self, wanted: &'static str) -> Result<(), AllocError> {
+        self.wanted = Part::End(wanted);
+        if !Part::Sign("until").fits(self.next()) {
+            return Ok(());
+        }
+        if self.follow(&[Part::Sign("until"), Part::Steps])? {
+            self.wanted = Part::End("the end of the line");
+        }
+        Ok(())
+    }
+
+    /// The first word that was not read, or an empty one.
+    fn next(&self) -> &'a [u8] {
+        match self.words.get(self.found.len()) {
+            Some(word) => *word,
+            None => b"".as_slice(),
+        }
+    }
+
+    /// Reads the next word, where it is such a part.
+    fn take(&mut self, part: Part) -> Result<bool, AllocError> {
+        self.wanted = part;
+        let word = self.next();
+        if word.is_empty() || !part.fits(word) {
+            return Ok(false);
+        }
+        self.found.push((part, word))?;
+        Ok(true)
+    }
+
+    /// Reads as many more words as are such a part.
+    fn take_more(&mut self, part: Part) -> Result<(), AllocError> {
+        for _ in 0..self.words.len() {
+            if !self.take(part)? {
+                return Ok(());
+            }
+        }
+        Ok(())
+    }
+
+    /// Reads these parts, and answers whether all are there.
+    fn follow(&mut self, parts: &[Part]) -> Result<bool, AllocError> {
+        for part in parts {
+            if !self.take(*part)? {
+                return Ok(false);
+            }
+            if part.is_repeated() {
+                self.take_more(*part)?;
+            }
+        }
+        Ok(true)
+    }
+}

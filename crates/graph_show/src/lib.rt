@@ -1,0 +1,28 @@
+//! A graph and its faults, for people: its drawing, and what explains a fault of its text.
+//!
+//! The drawing is text for Graphviz: phasers as ellipses with their operation and bound, tasks as
+//! boxes with their kind, an arrow for each wait and each signal, and children dashed to their
+//! parents. `write_drawing` writes it; `drawing_text` gives it as bytes.
+//!
+//! A fault is explained by its line, with the word that is at fault marked, and by what was expected
+//! in its place: by `explanation`.
+//!
+//! Proved: how the lines of an explanation are laid out, and that the marked place is one of the
+//! faulty line. Only tested: which word is marked, and what is said to be expected.
+#![tactic(auto)]
+
+mod above;
+mod arrows;
+mod drawing;
+mod explain_parts;
+mod explained;
+mod grammar;
+mod limits;
+mod mark;
+mod nodes;
+mod parts;
+
+pub use drawing::{drawing_text, write_drawing};
+pub use explained::explanation;
+pub use graph_lang;
+pub use graph_lang::{graph_base, phase_accum, watched_io};

@@ -1,0 +1,66 @@
+//! Numbers of a line that are past their limits.
+
+use crate::explain_parts::Part;
+use graph_lang::phase_base::BOUND_MAX;
+use graph_lang::stream_filters::{SHIFT_MAX, TAP_MAX, TAPS_MAX};
+use graph_lang::{ENDS_MAX, FACTOR_MAX, STEPS_MAX};
+
+/// The greatest magnitude of an end of a clamp.
+const MAGNITUDE_MAX: u64 = 9_223_372_036_854_775_807;
+
+/// The magnitude of a number, where 64 bits have it.
+fn magnitude(word: &[u8]) -> Option<u64> {
+    let mut value = 0u64;
+    for b in word {
+        if *b != b'-' {
+            let digit = u64::from(b.wrapping_sub(b'0'));
+            value = value.checked_mul(10)?.checked_add(digit)?;
+        }
+    }
+    Some(value)
+}
+
+/// Whether a number is outside these limits.
+fn is_outside(word: &[u8], least: u64, most: u64) -> bool {
+    match magnitude(word) {
+        Some(value) => value < least || value > most,
+        None => true,
+    }
+}
+
+/// What is wanted of a number, where it is outside its limits.
+pub(crate) fn limit_passed(part: Part, word: &[u8]) -> Option<&'static str> {
+    let (least, most, wanted) = match part {
+        Part::Bound => (1, BOUND_MAX, "a bound from 1 to 65536"),
+        Part::Shift => (0, u64::from(SHIFT_MAX), "a shift of at most 62"),
+        Part::Taps => (0, TAP_MAX, "a tap of a magnitude of at most 2147483647"),
+        Part::Factor => (
+            0,
+            FACTOR_MAX,
+            "a factor of a magnitude of at most 2147483647",
+        ),
+        Part::Steps => (0, STEPS_MAX, "at most 4611686018427387904 steps"),
+        Part::Low | Part::High => (
+            0,
+            MAGNITUDE_MAX,
+            "a magnitude of at most 9223372036854775807",
+        ),
+        _ => return None,
+    };
+    if is_outside(word, least, most) {
+        Some(wanted)
+    } else {
+        None
+    }
+}
+
+/// What is wanted of one of several words of a part, by its number and how many they are, where they are
+/// too many or too few.
+pub(crate) fn count_passed(part: Part, number: usize, count: usize) -> Option<&'static str> {
+    match part {
+        Part::Taps if number >= TAPS_MAX => Some("at most 64 taps"),
+        Part::Outputs if number >= ENDS_MAX || count < 2 => Some("2 to 8 outputs"),
+        Part::Inputs if number >= ENDS_MAX || count < 2 => Some("2 to 8 inputs"),
+        _ => None,
+    }
+}

@@ -1,6 +1,0 @@
-use Rattle.graph_tasks.specs.Seeds.{AreChildrenBelow}
-use Rattle.graph_tasks.proofs.seed.children_of.Given as goal
-
--- the children among the tasks before this one
-abbrev pub invariant-loop-c : goal.invariant-loop-c
-invariant-loop-c l = AreChildrenBelow l.job l.task l.c l.children.items

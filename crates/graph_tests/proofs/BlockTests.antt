@@ -1,0 +1,97 @@
+-- Tests of the next event of a task, where it is of several phases.
+use Rattle.std.proofs.Common.{◌≡◌, ℕ, ◌+◌, ◌<◌, List, [], ◌∷◌, ◌++◌, ℤ, length, take, drop, eqb}
+use mathlib.Core.List.{IsPrefix}
+use Rattle.stream_job.specs.phase_accum.declared.outcome.Outcome.{Outcome}
+use Rattle.stream_job.specs.graph_base.declared.line.Kind.{Kind}
+use Rattle.stream_job.specs.graph_base.declared.line.Kind.TheVariants.{Source, Fir, Split, Join, Peer, Sink}
+use Rattle.stream_job.specs.graph_base.Graphs.{task_at}
+use Rattle.stream_job.specs.graph_base.TaskLines.{IsGraph}
+use Rattle.stream_job.specs.stream_lists.Jobs.{Job, samples_at}
+use Rattle.stream_job.specs.graph_runs.Moments.{Moment, HasRun, made_now, first_input}
+use Rattle.stream_job.specs.graph_runs.Moves.{further, IsBlock}
+use Rattle.stream_job.specs.graph_runs.Turned.{IsNextSignals, IsNextSamples, IsFirstWaits}
+use Rattle.graph_tests.specs.BlockRuns.{BlockEvent, samples, signals, first_waits, turn, after_block, after_blocks, IsNextBlock, AreNextBlocks}
+use Rattle.graph_tests.proofs.Tests as test
+use Rattle.graph_tests.proofs.Tests.{Test, Both, always, giving, both}
+use Rattle.graph_tests.proofs.NextTests.{Given, is_source_kind, may_begin_to, has_exchanged, is_accepted_signals, is_answered_waits, is_next, on_it}
+
+abbrev pub begins : (xs ys : List ℤ) → Test (IsPrefix xs ys)
+begins xs ys =
+    giving (λ same. (drop (length xs) ys, same)) (test.are_values (xs ++ drop (length xs) ys) ys)
+
+abbrev pub is_block : (kind : Kind) (steps : ℕ) → Test (IsBlock kind steps)
+is_block Source steps = always tt
+is_block Fir steps = always tt
+is_block Sink steps = always tt
+is_block Split steps = test.is_equal steps 1
+is_block Join steps = test.is_equal steps 1
+is_block Peer steps = test.is_equal steps 1
+
+abbrev pub is_next_signals : (job : Job) (m : Moment) (t j p n : ℕ) (vs : List ℤ)
+    → Test (Given job m t p → IsNextSignals job m t j p n vs)
+is_next_signals job m t j p n vs =
+    giving (λ b g. record {
+      signal = b.left g;
+      entries = b.right.left;
+      exchanged = b.right.right;
+    })
+    (both (is_accepted_signals job m t j p n vs)
+    (both (begins (m.put t j ++ vs) (made_now job m t j))
+    (has_exchanged (task_at job.graph t).kind j (length (m.put t j) + length vs)
+    (length (m.taken t 1)))))
+
+abbrev pub is_next_samples : (job : Job) (m : Moment) (t j p n : ℕ) (vs : List ℤ)
+    → Test (Given job m t p → IsNextSamples job m t j p n vs)
+is_next_samples job m t j p n vs =
+    giving (λ b g. record {
+      signal = b.left g;
+      source = b.right.left;
+      may_begin = b.right.right.left g;
+      all_put = b.right.right.right.left;
+      samples = b.right.right.right.right;
+    })
+    (both (is_accepted_signals job m t j p n vs)
+    (both (is_source_kind (task_at job.graph t).kind)
+    (both (may_begin_to job m t p (further (m.begun t) vs))
+    (both (test.is_equal (length (m.put t j)) (m.begun t))
+    (test.are_values vs (take (length vs) (drop (m.begun t) (samples_at job t))))))))
+
+abbrev pub is_first_waits : (job : Job) (m : Moment) (t k p n : ℕ) (outcomes : List Outcome)
+    → Test (Given job m t p → IsFirstWaits job m t k p n outcomes)
+is_first_waits job m t k p n outcomes =
+    giving (λ b g. record {
+      wait = b.left g;
+      first = b.right.left;
+      block = b.right.right.left;
+      may_begin = b.right.right.right g;
+    })
+    (both (is_answered_waits job m t k p n outcomes)
+    (both (test.is_equal k (first_input (task_at job.graph t) (m.begun t)))
+    (both (is_block (task_at job.graph t).kind (length outcomes))
+    (may_begin_to job m t p (further (m.begun t) outcomes)))))
+
+abbrev pub is_next_block : (job : Job) (m : Moment) (event : BlockEvent)
+    → Test (IsGraph job.graph → HasRun job m → IsNextBlock job m event)
+is_next_block job m (samples t j p n vs) =
+    on_it job m t p (IsNextSamples job m t j p n vs) (is_next_samples job m t j p n vs)
+is_next_block job m (signals t j p n vs) =
+    on_it job m t p (IsNextSignals job m t j p n vs) (is_next_signals job m t j p n vs)
+is_next_block job m (first_waits t k p n outcomes) =
+    on_it job m t p (IsFirstWaits job m t k p n outcomes) (is_first_waits job m t k p n outcomes)
+is_next_block job m (turn event) = is_next job m event
+
+abbrev pub are_next_blocks : (job : Job) (m : Moment) (events : List BlockEvent)
+    → Test (IsGraph job.graph → AreNextBlocks job m events)
+are_next_blocks job m [] = always (λ is. tt)
+are_next_blocks job m (event ∷ events) =
+    giving (λ b is. (λ ran. b.left is ran, b.right is))
+    (both (is_next_block job m event) (are_next_blocks job (after_block job event m) events))
+
+-- where each next event keeps what a run has, all do
+pub run_in_blocks : (job : Job) (m : Moment) (events : List BlockEvent)
+    → ((m : Moment) (event : BlockEvent) → IsNextBlock job m event → HasRun job m
+    → HasRun job (after_block job event m))
+    → AreNextBlocks job m events → HasRun job m → HasRun job (after_blocks job m events)
+run_in_blocks job m [] keeps next ran = ran
+run_in_blocks job m (event ∷ events) keeps next ran =
+    run_in_blocks job (after_block job event m) events keeps next.1 (keeps m event (next.0 ran) ran)

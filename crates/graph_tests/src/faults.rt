@@ -1,0 +1,82 @@
+//! Runs that come to a value out of range.
+use crate::jobs::at_bound;
+use crate::rounds::{Round, given, ran};
+use std::test::Fail;
+use stream_job::graph_base::Place;
+
+/// A graph with a `?` for the bound of each phaser, the samples of its sources, where a value is out
+/// of range, and what the sinks have by then, or nothing where that is open.
+struct Case {
+    name: &'static str,
+    graph: &'static str,
+    samples: &'static [&'static str],
+    place: Place,
+    phase: u64,
+    lines: Option<&'static str>,
+}
+
+const BOUNDS: [u64; 4] = [1, 2, 4, 64];
+
+const CASES: [Case; 4] = [
+    Case {
+        name: "an output out of range is told",
+        graph: "phaser X sum ?\nphaser Y sum ?\nsource s s.csv -> X\n\
+            fir f X -> Y shift 0 taps 2\nsink out Y\n",
+        samples: &["9223372036854775807\n"],
+        place: Place::Task(1),
+        phase: 0,
+        lines: Some("2:\n"),
+    },
+    Case {
+        name: "an output out of range is the last",
+        graph: "phaser X sum ?\nphaser Y sum ?\nsource s s.csv -> X\n\
+            fir f X -> Y shift 0 taps 2\nsink out Y\n",
+        samples: &["9223372036854775807\n3\n"],
+        place: Place::Task(1),
+        phase: 0,
+        lines: Some("2:\n"),
+    },
+    // The second output is half of three times the sample.
+    Case {
+        name: "an output before one out of range is taken",
+        graph: "phaser X sum ?\nphaser Y sum ?\nsource s s.csv -> X\n\
+            fir f X -> Y shift 1 taps 1 2\nsink out Y\n",
+        samples: &["9223372036854775807\n9223372036854775807\n"],
+        place: Place::Task(1),
+        phase: 1,
+        lines: Some("2: 4611686018427387903\n"),
+    },
+    Case {
+        name: "a phase out of range is told where it is taken",
+        graph: "phaser X sum ?\nsource a a.csv -> X\nsource b b.csv -> X\nsink out X\n",
+        samples: &["5\n9223372036854775807\n", "6\n1\n"],
+        place: Place::Phaser(0),
+        phase: 1,
+        lines: None,
+    },
+];
+
+#[test]
+fn a_value_out_of_range_is_told(rt: HostRuntime) -> Result<(), Fail> {
+    for case in &CASES {
+        let (place, phase) = (case.place, case.phase);
+        for bound in BOUNDS {
+            let graph = at_bound(rt.alloc(), case.graph, bound)?;
+            let (round, lines) = ran(rt.alloc(), &graph, case.samples)?;
+            let told = (round, lines.as_str());
+            let lines = case.lines.unwrap_or(lines.as_str());
+            let wanted = (Round::TooBig { place, phase }, lines);
+            assert_eq!(rt; told, wanted, "{}: in rotation, bound {bound}", case.name);
+            let (round, lines) = given(rt.alloc(), &graph, case.samples)?;
+            let told = (round, lines.as_str());
+            let wanted = (Round::TooBig { place, phase }, "");
+            assert_eq!(rt;
+                told,
+                wanted,
+                "{}: by given turns, bound {bound}",
+                case.name
+            );
+        }
+    }
+    Ok(())
+}

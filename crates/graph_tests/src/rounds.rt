@@ -1,0 +1,126 @@
+//! Runs whose tasks have turns in rotation.
+ghost use Rattle.std.specs.Prelude.{◌≡◌};
+
+use crate::jobs::job_of;
+use std::alloc::{AllocError, Global};
+use std::test::Fail;
+use stream_job::graph_base::Place;
+use stream_job::{EvalFault, Lines, RunTurnsFault, Turned, World, eval, run_turns};
+
+/// What a round of turns came to, one turn for each task.
+#[derive(Clone, Copy, Debug, PartialEq, Eq)]
+pub enum Round {
+    /// Some task made an event.
+    Moved,
+    /// No task made one, and some task was blocked.
+    Blocked,
+    /// No task is live.
+    Gone,
+    /// A value is out of range.
+    TooBig { place: Place, phase: u64 },
+}
+
+/// What a round came to, after one more turn of it.
+fn with_turn(round: Round, turned: Turned) -> Round {
+    match turned {
+        Turned::Moved | Turned::Ended => Round::Moved,
+        Turned::TooBig { place, phase } => Round::TooBig { place, phase },
+        Turned::Gone => round,
+        Turned::Blocked => match round {
+            Round::Gone => Round::Blocked,
+            _ => round,
+        },
+    }
+}
+
+/// The numbers of so many tasks, over and over.
+pub fn in_rotation(alloc: Global, tasks: usize, rounds: usize) -> Result<Vec<usize>, Fail> {
+    let mut turns = Vec::new(alloc);
+    for _ in 0..rounds {
+        for task in 0..tasks {
+            turns.push(task)?;
+        }
+    }
+    Ok(turns)
+}
+
+/// Gives each task a turn, in the order of their lines.
+pub fn one_round(world: &mut World<'_>, tasks: usize) -> Result<Round, AllocError>
+    ensures { world.new.job ≡ world.old.job }
+{
+    let mut round = Round::Gone;
+    for task in 0..tasks {
+        round = with_turn(round, world.turn(task)?);
+    }
+    Ok(round)
+}
+
+/// Gives rounds of turns until one makes no event, and answers what that one came to.
+pub fn last_round(world: &mut World<'_>, tasks: usize) -> Result<Round, AllocError>
+    ensures { world.new.job ≡ world.old.job }
+{
+    for _ in 0..1_000 {
+        let round = one_round(world, tasks)?;
+        if round != Round::Moved {
+            return Ok(round);
+        }
+    }
+    Ok(Round::Moved)
+}
+
+/// The numbers and values of sinks, a line for each.
+pub fn text_of(alloc: Global, lines: &[Lines]) -> Result<String, Fail> {
+    let mut text = String::new(alloc);
+    for line in lines {
+        text.push_str(&format!(in alloc; "{}:", line.task)?)?;
+        for value in &line.values {
+            text.push_str(&format!(in alloc; " {value}")?)?;
+        }
+        text.push_str("\n")?;
+    }
+    Ok(text)
+}
+
+/// What the sinks of a graph have at the end of a run in rotation, and what its last round came to.
+pub fn ran(alloc: Global, graph: &str, samples: &[&str]) -> Result<(Round, String), Fail> {
+    let job = job_of(alloc, graph, samples)?;
+    let mut world = World::new(alloc, &job)?;
+    let round = last_round(&mut world, job.graph().tasks())?;
+    Ok((round, text_of(alloc, world.lines())?))
+}
+
+/// What the sinks of a graph have after forty given turns of each task, by which all have left, and
+/// what a further round comes to. Or which value was out of range before, and no lines.
+pub fn given(alloc: Global, graph: &str, samples: &[&str]) -> Result<(Round, String), Fail> {
+    let job = job_of(alloc, graph, samples)?;
+    let tasks = job.graph().tasks();
+    let turns = in_rotation(alloc, tasks, 40)?;
+    match run_turns(alloc, &job, &turns) {
+        Ok(mut world) => {
+            let round = one_round(&mut world, tasks)?;
+            Ok((round, text_of(alloc, world.lines())?))
+        }
+        Err(RunTurnsFault::TooBig { place, phase }) => {
+            Ok((Round::TooBig { place, phase }, String::new(alloc)))
+        }
+        Err(RunTurnsFault::OutOfMemory) => Err(Fail::from(AllocError)),
+    }
+}
+
+/// What the sinks had at the end of a run, which all tasks have left. Or what its last round came to.
+pub fn at_end(alloc: Global, (round, lines): (Round, String)) -> Result<String, Fail> {
+    match round {
+        Round::Gone => Ok(lines),
+        _ => Ok(format!(in alloc; "{round:?}")?),
+    }
+}
+
+/// What whole lists have for the sinks of a graph.
+pub fn evaluated(alloc: Global, graph: &str, samples: &[&str]) -> Result<String, Fail> {
+    let job = job_of(alloc, graph, samples)?;
+    match eval(alloc, &job) {
+        Ok(lines) => text_of(alloc, &lines),
+        Err(EvalFault::OutOfMemory) => Err(Fail::from(AllocError)),
+        Err(EvalFault::TooBig { place, phase }) => { Ok(format!(in alloc; "{place:?} {phase}")?) }
+    }
+}

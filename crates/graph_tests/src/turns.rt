@@ -1,0 +1,156 @@
+//! Turns in a given order.
+use crate::jobs::{at_bound, job_of};
+use crate::rounds::{in_rotation, one_round, text_of};
+use std::alloc::{AllocError, Global};
+use std::test::Fail;
+use stream_job::graph_base::Place;
+use stream_job::{Turned, World, run_turns};
+
+/// A graph with a `?` for the bound of each phaser, the samples of its source, how many rounds of turns
+/// its tasks have first, turns of them with what each comes to, and what the sink has after them. The
+/// run is not stalled then.
+struct Case {
+    name: &'static str,
+    graph: &'static str,
+    samples: &'static str,
+    rounds: usize,
+    turns: &'static [(usize, Turned)],
+    lines: &'static str,
+}
+
+const BOUNDS: [u64; 3] = [1, 4, 64];
+
+const TOLD: Turned = Turned::TooBig {
+    place: Place::Task(1),
+    phase: 0,
+};
+
+const CASES: [Case; 3] = [
+    Case {
+        name: "each turn makes one event",
+        graph: "phaser X sum ?\nphaser Y sum ?\nsource s s.csv -> X\n\
+            fir f X -> Y shift 2 taps 1 2 1\nsink out Y\n",
+        samples: "-4\n",
+        rounds: 0,
+        turns: &[
+            (1, Turned::Blocked),
+            (0, Turned::Moved),
+            (2, Turned::Blocked),
+            (1, Turned::Moved),
+            (1, Turned::Moved),
+            (2, Turned::Moved),
+            (0, Turned::Ended),
+            (0, Turned::Gone),
+            (1, Turned::Moved),
+            (1, Turned::Ended),
+            (2, Turned::Ended),
+            (2, Turned::Gone),
+        ],
+        lines: "2: -1\n",
+    },
+    Case {
+        name: "a task that is not there is gone",
+        graph: "phaser X sum ?\nphaser Y sum ?\nsource s s.csv -> X\n\
+            fir f X -> Y shift 0 taps 2\nsink out Y\n",
+        samples: "1\n",
+        rounds: 0,
+        turns: &[
+            (3, Turned::Gone),
+            (4, Turned::Gone),
+            (64, Turned::Gone),
+            (18446744073709551615, Turned::Gone),
+            (0, Turned::Moved),
+        ],
+        lines: "2:\n",
+    },
+    Case {
+        name: "after a value out of range each turn tells it",
+        graph: "phaser X sum ?\nphaser Y sum ?\nsource s s.csv -> X\n\
+            fir f X -> Y shift 0 taps 2\nsink out Y\n",
+        samples: "9223372036854775807\n3\n",
+        rounds: 10,
+        turns: &[
+            (0, TOLD),
+            (1, TOLD),
+            (2, TOLD),
+            (3, TOLD),
+            (18446744073709551615, TOLD),
+        ],
+        lines: "2:\n",
+    },
+];
+
+/// The first of these turns that comes to something else, by its place among them.
+fn first_wrong(
+    world: &mut World<'_>,
+    turns: &[(usize, Turned)],
+) -> Result<Option<usize>, AllocError> {
+    for (place, (task, expected)) in turns.iter().enumerate() {
+        if world.turn(*task)? != *expected {
+            return Ok(Some(place));
+        }
+    }
+    Ok(None)
+}
+
+/// The first turn of a case that comes to something else, what the sink has then, and whether the run
+/// is stalled.
+fn turned(alloc: Global, case: &Case, bound: u64) -> Result<(Option<usize>, String, bool), Fail> {
+    let graph = at_bound(alloc, case.graph, bound)?;
+    let job = job_of(alloc, &graph, &[case.samples])?;
+    let mut world = World::new(alloc, &job)?;
+    for _ in 0..case.rounds {
+        one_round(&mut world, job.graph().tasks())?;
+    }
+    let wrong = first_wrong(&mut world, case.turns)?;
+    let lines = text_of(alloc, world.lines())?;
+    Ok((wrong, lines, world.stalled()))
+}
+
+#[test]
+fn each_turn_comes_to_what_its_task_can_do(rt: HostRuntime) -> Result<(), Fail> {
+    for case in &CASES {
+        for bound in BOUNDS {
+            let (wrong, lines, is_stalled) = turned(rt.alloc(), case, bound)?;
+            assert_eq!(rt;
+                (wrong, lines.as_str(), is_stalled),
+                (None, case.lines, false),
+                "{}: bound {bound}",
+                case.name
+            );
+        }
+    }
+    Ok(())
+}
+
+/// A filter.
+const FILTER: &str = "phaser X sum ?\nphaser Y sum ?\nsource s s.csv -> X\n\
+    fir f X -> Y shift 2 taps 1 2 1\nsink out Y\n";
+
+/// What the sinks have after so many given turns of each task, and whether the run is stalled then.
+fn given(alloc: Global, graph: &str, samples: &str, rounds: usize) -> Result<(String, bool), Fail> {
+    let job = job_of(alloc, graph, &[samples])?;
+    let turns = in_rotation(alloc, job.graph().tasks(), rounds)?;
+    match run_turns(alloc, &job, &turns) {
+        Ok(world) => Ok((text_of(alloc, world.lines())?, world.stalled())),
+        Err(_) => Err(Fail::from(AllocError)),
+    }
+}
+
+#[test]
+fn turns_in_rotation_end_a_run_and_no_turns_leave_it_at_its_opening(
+    rt: HostRuntime,
+) -> Result<(), Fail> {
+    for (rounds, samples, lines) in [(10, "-1\n-1\n0\n", "2: -1 -1 -1\n"), (0, "-4\n", "2:\n")] {
+        for bound in BOUNDS {
+            let graph = at_bound(rt.alloc(), FILTER, bound)?;
+            let (left, is_stalled) = given(rt.alloc(), &graph, samples, rounds)?;
+            assert_eq!(rt;
+                (left.as_str(), is_stalled),
+                (lines, false),
+                "{rounds} turns of each, bound {bound}"
+            );
+        }
+    }
+    Ok(())
+}

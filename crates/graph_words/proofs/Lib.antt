@@ -1,2 +1,0 @@
-mod Ascii
-mod Examples

@@ -1,6 +1,0 @@
-use Rattle.graph_words.proofs.Ascii.{name_is_text}
-use Rattle.graph_words.proofs.word.name_text.Goals as goal
-
--- the bytes of the word are ASCII
-pub unreachable-requires : goal.unreachable-requires
-unreachable-requires c = c.in-Err.ensures.cases.0 (name_is_text c.args.word.now c.requires)

@@ -1,0 +1,6 @@
+use Rattle.phase_base.proofs.Ascii.{name_is_text}
+use Rattle.phase_base.proofs.word.name_text.Goals as goal
+
+-- the bytes of the word are ASCII
+pub unreachable-requires : goal.unreachable-requires
+unreachable-requires c = c.in-Err.ensures.cases.0 (name_is_text c.args.word.now c.requires)

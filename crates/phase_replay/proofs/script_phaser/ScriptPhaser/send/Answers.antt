@@ -1,0 +1,16 @@
+-- A send that is taken stands behind those that the task holds.
+use Rattle.std.proofs.Common.{◌≡◌, true, rules, sym, subst}
+use Rattle.std.proofs.lemmas.Int.{to_z-of_z}
+use Rattle.phase_core.specs.phase_base.Modes.{mode_signals}
+use Rattle.phase_script.specs.phase_accum.Parcels.{Parcel, StandsForSends}
+use Rattle.phase_replay.specs.Scripts.{held_by}
+use Rattle.phase_replay.proofs.Obeying.{phaser_sent}
+use Rattle.phase_replay.proofs.script_phaser.ScriptPhaser.send.Goals as goal
+
+pub returns-in_ok-put-in-Ok-clause-after : goal.returns-in_ok-put-in-Ok-clause-after
+returns-in_ok-put-in-Ok-clause-after g c limits h held stands =
+    let signals : mode_signals c.in-Some.entry.mode ≡ true = search rules in
+    let S : Parcel g.row.A.Denot → Type 0 = λ p. StandsForSends g.A.Accumulate.operation p (held_by held c.args.task) in
+    phaser_sent g.A.Accumulate.operation c.args.self.now c.put.new.self c.send.new.self limits h held c.args.task c.in-Some.entry c.args.value stands c.in-Some.ensures
+    signals (simp (to_z-of_z, c.ranges.value) at (c.in-Ok.ensures.stands (held_by held c.args.task) (subst S (sym c.of-pending.ensures) (stands.holds c.args.task))))
+    c.in_ok-put-in-Ok.ensures.ok

@@ -1,0 +1,54 @@
+use Rattle.std.proofs.Common.{rules}
+use Rattle.stream_workers.proofs.graph_commands_lemmas.Ends.{eval-no_memory, eval-too_big, eval-written}
+use Rattle.stream_workers.proofs.graph_commands_lemmas.Places.{place-first_too_big}
+use Rattle.phase_run.proofs.Answered.{answer-fits, answer-lines, ends-as, ends-stalled}
+use Rattle.phase_run.proofs.graph_run.run_job.Goals as goal
+
+-- the place is one of the graph
+pub report_too_big-requires : goal.report_too_big-requires
+report_too_big-requires g c =
+    let place = c.in-Err-TooBig.place in
+    let phase = c.in-Err-TooBig.phase in
+    rw (c.in-Err-TooBig.place-is, c.graph.ensures.graph)
+    (place-first_too_big c.args.job.now (place, phase)
+    (c.in-Err-TooBig.ensures.too_big place phase (search rules)))
+
+-- the lines are the job's
+pub write_sinks-requires : goal.write_sinks-requires
+write_sinks-requires g c = rw c.deref.ensures.value (answer-lines c.args.job.now _ c.in-Ok.ensures.done)
+
+-- a value is out of range
+pub returns-in-Err-TooBig-clause-ends : goal.returns-in-Err-TooBig-clause-ends
+returns-in-Err-TooBig-clause-ends g c known name asked of asks =
+    let place = c.in-Err-TooBig.place in
+    let phase = c.in-Err-TooBig.phase in
+    ends-as known name asked c.report_too_big.result g.W.Write.contents c.args.output.now _ _ _
+    (eval-too_big g.W.Write.contents known name asked c.args.job.now place phase
+    c.report_too_big.result c.args.output.now _ _ c.report_too_big.ensures.status of
+    (c.in-Err-TooBig.ensures.too_big place phase (search rules))
+    (rw (c.in-Err-TooBig.place-is, c.in-Err-TooBig.phase-is, c.graph.ensures.graph)
+    at c.report_too_big.ensures.line))
+
+-- the run stalled
+pub returns-in-Err-Stalled-clause-ends : goal.returns-in-Err-Stalled-clause-ends
+returns-in-Err-Stalled-clause-ends g c known name asked of asks =
+    ends-stalled g.W.Write.contents known name asked c.args.job.now c.report_stalled.result
+    c.args.output.now _ _ c.report_stalled.ensures.status of c.report_stalled.ensures.line
+
+-- memory ran out over the run
+pub returns-in-Err-OutOfMemory-clause-ends : goal.returns-in-Err-OutOfMemory-clause-ends
+returns-in-Err-OutOfMemory-clause-ends g c known name asked of asks =
+    ends-as known name asked c.report.result g.W.Write.contents c.args.output.now _ _ _
+    (eval-no_memory g.W.Write.contents known name asked c.args.job.now c.report.result
+    c.args.output.now _ _ c.report.ensures.status of c.report.ensures.line)
+
+-- the lists were written, or a prefix of them
+pub returns-in-Ok-clause-ends : goal.returns-in-Ok-clause-ends
+returns-in-Ok-clause-ends g c known name asked of asks =
+    ends-as known name asked c.report_written.result g.W.Write.contents c.args.output.now
+    c.write_sinks.new.writer _ _
+    (eval-written _ g.W.Write.contents known name asked c.args.sink c.args.job.now
+    c.write_sinks.result c.report_written.result c.args.output.now c.write_sinks.new.writer _ _ of
+    asks (answer-fits c.args.job.now _ c.in-Ok.ensures.done) c.write_sinks.ensures.ok
+    c.write_sinks.ensures.err c.write_sinks.ensures.failed c.report_written.ensures.done
+    c.report_written.ensures.stops)

@@ -1,0 +1,51 @@
+-- How a run of a graph ends: its status, and what stands on its streams then.
+use Rattle.std.specs.Prelude.{◌≡◌, ◌≢◌, ◌⊎◌, ℕ, List, codes}
+use Rattle.std.specs.declared.option.Option.{Option}
+use Rattle.stream_workers.specs.graph_commands.Explained.{IsNoJobExplained}
+use Rattle.stream_workers.specs.graph_commands.FileJobs.{IsJobOf, Known}
+use Rattle.stream_workers.specs.graph_commands.GraphRuns.{Evaluates, EvaluatesPrefix, IsNoJob, IsNoSink, IsTooBig, IsUnwritten}
+use Rattle.stream_workers.specs.graph_commands.watched_io.Statuses.{Says}
+use Rattle.stream_workers.specs.graph_commands.stream_lists.Jobs.{Job}
+use Rattle.stream_workers.specs.graph_commands.watched_io.States.{WriterState, writer_state}
+use Rattle.stream_workers.specs.graph_commands.watched_io.declared.watched.Watched.{Watched}
+
+-- the line of a run of which every task that was left waited for another
+abbrev pub stalled_line : List ℕ
+stalled_line = codes "phase: stalled\n"
+
+-- the files tell a job, and its run stalled: nothing was written
+pub record IsStalled {W : Type 0} (known : Known) (name : List ℕ) (status : ℕ) (line : List ℕ)
+    (old new : Watched W) : Type 0 where
+  pub job : Job
+  pub job_of : IsJobOf known name job
+  pub status_is : status ≡ 4
+  pub line_is : line ≡ stalled_line
+  pub silent : new ≡ old
+
+-- a run has a status other than 0: it has its cause, whose line was told
+pub record RunStops {W : Type 0} (known : Known) (name : List ℕ) (asked : Option (List ℕ))
+    (status : ℕ) (contents : W → Option (List ℕ)) (old new : Watched W)
+    (before after : WriterState) : Type 0 where
+  pub line : List ℕ
+  pub cause : IsNoJob known name status line old new
+      ⊎ (IsNoSink known name asked status line old new
+      ⊎ (IsTooBig known name status line old new
+      ⊎ (IsStalled known name status line old new
+      ⊎ IsUnwritten (EvaluatesPrefix known name asked (writer_state contents old)
+      (writer_state contents new)) status line (writer_state contents new))))
+  pub says : Says line before after
+
+-- how a run ends, by its status: where it is done, what an evaluation writes was written
+pub record RunEnds {W : Type 0} (known : Known) (name : List ℕ) (asked : Option (List ℕ))
+    (status : ℕ) (contents : W → Option (List ℕ)) (old new : Watched W)
+    (before after : WriterState) : Type 0 where
+  pub done : status ≡ 0
+      → Evaluates known name asked (writer_state contents old) (writer_state contents new)
+  pub stops : status ≢ 0 → RunStops known name asked status contents old new before after
+
+-- how a run ends that explains: as one that does not, or the files tell no job
+abbrev pub RunEndsExplained : {W : Type 0} → Known → List ℕ → Option (List ℕ) → ℕ
+    → (W → Option (List ℕ)) → Watched W → Watched W → WriterState → WriterState → Type 0
+RunEndsExplained known name asked status contents old new before after =
+    RunEnds known name asked status contents old new before after
+    ⊎ IsNoJobExplained known name status old new before after

@@ -1,7 +1,0 @@
-use Rattle.std.specs.Prelude.{◌≡◌, [], ◌∷◌}
-use Rattle.phase_history.specs.declared.event.Event.TheVariants.{RegisteredNow}
-use Rattle.phase_seats.specs.Views.{resting, known_of}
-use Rattle.phase_seats.proofs.join_steps.register_now.Given as goal
-
-abbrev pub ghosts-put_back : goal.ghosts-put_back
-ghosts-put_back g a = record { goes = λ v w. w ≡ resting (RegisteredNow a.told.0 a.told.1 ∷ (known_of v).seen) (a.told.0 ∷ a.told.1 ∷ []) }

@@ -1,8 +1,0 @@
-use Rattle.std.specs.Prelude.{◌≡◌}
-use Rattle.phase_history.specs.Replies.{after_wait}
-use Rattle.phase_seats.specs.Views.{resting, known_of, speaks_of}
-use Rattle.phase_seats.proofs.steps.wait.Given as goal
-
--- the event of a wait, where it got a value
-abbrev pub ghosts-put_back : goal.ghosts-put_back
-ghosts-put_back g a = record { goes = λ v w. w ≡ resting (after_wait a.told.1 a.told.0 (known_of v).seen) (speaks_of v) }

@@ -1,3 +1,0 @@
-pub mod HeldSends
-pub mod Scripts
-pub mod Session

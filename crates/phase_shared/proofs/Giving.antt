@@ -1,0 +1,126 @@
+-- What a seat that speaks for one task owes at a give.
+use Rattle.std.proofs.Common.{◌≡◌, ℕ, false, cond, eqb, List, [], ◌∷◌, ◌++◌, Option, Some, refl, sym, ap, subst, ◌∙◌, inl}
+use Rattle.std.specs.Prelude.{is_some}
+use Rattle.turn_lock.specs.Steps.{GivesBack}
+use Rattle.phase_core.specs.phase_base.Limits.{Limits}
+use Rattle.phase_core.specs.phase_base.declared.entry.Entry.{Entry}
+use Rattle.phase_core.specs.phase_accum.Operations.{Operation}
+use Rattle.phase_core.specs.phase_history.declared.event.Event.{Event}
+use Rattle.phase_core.specs.phase_base.Members.{entry_of}
+use Rattle.phase_core.specs.phase_history.Histories.{History, members_of}
+use Rattle.phase_core.specs.phase_history.Legal.{IsLegal}
+use Rattle.phase_core.specs.Cores.{CoreState, StandsFor}
+use Rattle.phase_shared.specs.declared.seats.view.View.{View}
+use Rattle.phase_shared.specs.declared.rule.Terms.{Terms}
+use Rattle.phase_core.specs.phase_history.Others.{IsUsed, is_by, events_of, OthersCame}
+use Rattle.phase_shared.specs.Views.{knowledge, resting, turning, known_of, speaks_of}
+use Rattle.phase_shared.specs.Rule.{Allows, IsGoodAt, HasOneHistory, StandsWithin, TookAt, IsSeatOfTask, AfterTake, Keeps}
+use Rattle.phase_core.proofs.phase_history_lemmas.Used.{IsUsed-member, IsUsed-longer, entry_of-others}
+use Rattle.phase_shared.proofs.Keeping.{gives, one_of, or_false, is_in_self}
+
+same_some : {A : Type 0} (x y : A) → Some x ≡ Some y → x ≡ y
+same_some x y e = cc
+
+-- a longer history has come about by events of this task alone
+pub record OwnCame (me : ℕ) (old new : History) : Type 0 where
+  pub later : History
+  pub is : new ≡ later ++ old
+  pub own : (task : ℕ) → eqb me task ≡ false → events_of task later ≡ []
+
+pub own_none : (me : ℕ) (h : History) → OwnCame me h h
+own_none me h = record { later = []; is = refl; own = λ task none. refl }
+
+pub own_event : (me : ℕ) (old new : History) (event : Event) → ((task : ℕ) → is_by task event ≡ eqb me task) → OwnCame me old new → OwnCame me old (event ∷ new)
+own_event me old new event by came = record {
+  later = event ∷ came.later;
+  is = ap (λ h. event ∷ h) came.is;
+  own = λ task none. ap (λ b. cond b (event ∷ events_of task came.later) (events_of task came.later)) (by task ∙ none) ∙ came.own task none;
+}
+
+-- a task stands where it stood while others' events came
+pub member_after : (limits : Limits) (me : ℕ) (entry : Entry) (old now : History) → OthersCame (me ∷ []) old now → IsLegal limits now
+    → entry_of (members_of old) me ≡ Some entry → entry_of (members_of now) me ≡ Some entry
+member_after limits me entry old now came legal member =
+    ap (λ h. entry_of (members_of h) me) came.is
+    ∙ entry_of-others limits came.later old me entry (subst (λ (h : History). IsLegal limits h) came.is legal) (came.others me (is_in_self me [])) member
+
+module _ {A K : Type 0} (op : Operation A) (allows : K → Allows) (terms : Terms K) (me : ℕ) where
+  pub entered : (entry : Entry) (v : View) (x : CoreState A) (w : View) → IsSeatOfTask allows terms me entry v → TookAt op allows terms v x w → AfterTake op allows terms me entry v x w
+  entered entry v x w s t =
+      let speaks : speaks_of v ≡ me ∷ [] = ap speaks_of s.rests in
+      let others : OthersCame (me ∷ []) (known_of v).seen t.now = subst (λ (l : List ℕ). OthersCame l (known_of v).seen t.now) speaks t.others in
+      let member : entry_of (members_of t.now) me ≡ Some entry = member_after terms.limits me entry (known_of v).seen t.now others t.good.legal s.member in
+      record {
+        now = t.now;
+        others = others;
+        good = t.good;
+        stands = t.stands;
+        is = t.is ∙ ap (λ l. turning t.now l) speaks;
+        member = member;
+        used = IsUsed-member t.now me (ap is_some member);
+      }
+
+  abbrev pub Goes : Type 1
+  Goes = View → View → Type 0
+
+  -- a give after a call that made events of the task's own, or none
+  pub gives_own : (goes : Goes) (number : ℕ) (y : CoreState A) (w : View) (now new : History) → w ≡ turning now (me ∷ []) → IsUsed now me
+      → OwnCame me now new → IsGoodAt allows terms new → StandsWithin op terms.limits y new
+      → goes (turning now (me ∷ [])) (resting new (me ∷ []))
+      → GivesBack (HasOneHistory op allows) terms number w y (λ v z u. goes v u)
+  gives_own goes number y w now new is used own good stands told =
+      let all : History = own.later ++ now in
+      let good' : IsGoodAt allows terms all = subst (λ (h : History). IsGoodAt allows terms h) own.is good in
+      let stands' : StandsWithin op terms.limits y all = subst (λ (h : History). StandsWithin op terms.limits y h) own.is stands in
+      let used' : IsUsed all me = IsUsed-longer terms.limits now all me good'.legal (record { later = own.later; is = refl }) used in
+      subst (λ (z : View). GivesBack (HasOneHistory op allows) terms number z y (λ v q u. goes v u)) (sym is)
+      (λ views k at. (
+        resting all (me ∷ []),
+        gives terms.limits (allows terms.rule) (StandsWithin op terms.limits) number (knowledge now (me ∷ [])) y own.later (me ∷ [])
+            (λ task none. own.own task (or_false (eqb me task) none)) good' stands' refl
+            (λ task has. (subst (λ (n : ℕ). IsUsed all n) (one_of me task has) used', inl has)) views k at,
+        subst (λ (h : History). goes (turning now (me ∷ [])) (resting h (me ∷ []))) own.is told,
+      ))
+
+  -- a give after a call that made no event
+  pub gives_same : (number : ℕ) (y : CoreState A) (w : View) (now : History) → w ≡ turning now (me ∷ []) → IsUsed now me
+      → IsGoodAt allows terms now → StandsWithin op terms.limits y now
+      → GivesBack (HasOneHistory op allows) terms number w y (λ v z u. u ≡ resting (known_of v).seen (speaks_of v))
+  gives_same number y w now is used good stands =
+      gives_own (λ v u. u ≡ resting (known_of v).seen (speaks_of v)) number y w now now is used (own_none me now) good stands refl
+
+  -- a seat after a give
+  pub stays : (entry : Entry) (v : View) (h : History) → v ≡ resting h (me ∷ []) → IsGoodAt allows terms h
+      → entry_of (members_of h) me ≡ Some entry → IsSeatOfTask allows terms me entry v
+  stays entry v h is good member = subst (λ (u : View). IsSeatOfTask allows terms me entry u) (sym is) (record { rests = refl; member = member; good = good })
+
+  -- the same, with the entry that the core told
+  pub station : (entry : Entry) (v : View) (h : History) (x : CoreState A) (o : Option Entry) → v ≡ resting h (me ∷ []) → IsGoodAt allows terms h
+      → StandsWithin op terms.limits x h → o ≡ entry_of x.members me → o ≡ Some entry → IsSeatOfTask allows terms me entry v
+  station entry v h x o is good stands viewed some =
+      stays entry v h is good (ap (λ ms. entry_of ms me) (sym stands.stands.members_are) ∙ sym viewed ∙ some)
+
+  -- the entry that the core told is the one that the history says
+  pub told_entry : (entry expected : Entry) (h : History) (x : CoreState A) (o : Option Entry) → StandsWithin op terms.limits x h
+      → o ≡ entry_of x.members me → o ≡ Some entry → entry_of (members_of h) me ≡ Some expected → entry ≡ expected
+  told_entry entry expected h x o stands viewed some there =
+      same_some entry expected (sym some ∙ viewed ∙ ap (λ ms. entry_of ms me) stands.stands.members_are ∙ there)
+
+  -- the core's own history is legal at the phaser's limits
+  pub legal_at : (x : CoreState A) (h : History) → StandsWithin op terms.limits x h → IsLegal terms.limits h
+  legal_at x h s = subst (λ (l : Limits). IsLegal l h) s.limits_are s.stands.legal
+
+  -- the core before a call, which was lent at the value y
+  pub lent : (x y : CoreState A) (h : History) → y ≡ x → StandsWithin op terms.limits x h → StandsWithin op terms.limits y h
+  lent x y h is s = subst (λ (z : CoreState A). StandsWithin op terms.limits z h) (sym is) s
+
+  -- what a call leaves
+  pub record AfterCall (new : History) (x : CoreState A) : Type 0 where
+    pub good : IsGoodAt allows terms new
+    pub stands : StandsWithin op terms.limits x new
+
+  pub after_call : (now new : History) (old x : CoreState A) → StandsWithin op terms.limits old now → x.limits ≡ old.limits
+      → StandsFor op x new → Keeps (allows terms.rule) new → AfterCall new x
+  after_call now new old x before same after keeps =
+      let stands : StandsWithin op terms.limits x new = record { stands = after; limits_are = same ∙ before.limits_are } in
+      record { good = record { legal = legal_at x new stands; keeps = keeps }; stands = stands }

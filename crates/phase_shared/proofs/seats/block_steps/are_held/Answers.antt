@@ -1,0 +1,19 @@
+use Rattle.std.proofs.Common.{◌≤◌, List, [], length, sym, subst}
+use Rattle.phase_core.specs.phase_accum.Parcels.{Parcel}
+use Rattle.phase_core.specs.Blocks.{StandForLists}
+use Rattle.phase_core.proofs.SignalRows.{held_next, drop-past}
+use Rattle.phase_shared.proofs.seats.block_steps.are_held.Goals as goal
+
+pub loop-pending-init : goal.loop-pending-init
+loop-pending-init g c rest stand = (rest, stand)
+
+pub loop-pending-preserved : goal.loop-pending-preserved
+loop-pending-preserved g c =
+    held_next g.A.Accumulate.operation c.args.lists.now c.pending-item.result c.part-part.ensures.held.0 c.loop-pending.pending-index _ c.loop-pending.invariant
+    c.loop-pending-test.true c.pending-item.is c.part-part.ensures.held.1
+
+pub returns-clause-held : goal.returns-clause-held
+returns-clause-held g c =
+    let past : length c.args.lists.now ≤ c.loop-pending.pending-index = c.loop-pending-test.false in
+    let S : List (Parcel g.row.A.Denot) → Type 0 = λ xs. StandForLists g.A.Accumulate.operation xs [] in
+    c.loop-pending.invariant [] (subst S (sym (drop-past c.args.lists.now c.loop-pending.pending-index past)) tt)

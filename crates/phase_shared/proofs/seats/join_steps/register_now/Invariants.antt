@@ -1,0 +1,7 @@
+use Rattle.std.specs.Prelude.{◌≡◌, [], ◌∷◌}
+use Rattle.phase_core.specs.phase_history.declared.event.Event.TheVariants.{RegisteredNow}
+use Rattle.phase_shared.specs.Views.{resting, known_of}
+use Rattle.phase_shared.proofs.seats.join_steps.register_now.Given as goal
+
+abbrev pub ghosts-put_back : goal.ghosts-put_back
+ghosts-put_back g a = record { goes = λ v w. w ≡ resting (RegisteredNow a.told.0 a.told.1 ∷ (known_of v).seen) (a.told.0 ∷ a.told.1 ∷ []) }

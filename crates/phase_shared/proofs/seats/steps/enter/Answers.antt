@@ -1,0 +1,49 @@
+use Rattle.std.proofs.Common.{sym, subst, ap, ◌∷◌, []}
+use Rattle.phase_shared.specs.LockedPhasers.{locked_terms}
+use Rattle.turn_lock.specs.Seats.{seat_view, seat_number, turn_value, turn_view}
+use Rattle.turn_lock.specs.Steps.{Takes, Busy}
+use Rattle.phase_shared.specs.Views.{knowledge, known_of}
+use Rattle.phase_shared.specs.Rule.{StandsWithin, HasOneHistory, TookAt, IsSeatOfTask}
+use Rattle.phase_shared.specs.declared.seats.view.View.{View}
+use Rattle.std.specs.Prelude.{is_some}
+use Rattle.phase_core.proofs.phase_history_lemmas.Used.{IsUsed-member}
+use Rattle.phase_shared.proofs.Keeping.{takes, never_busy, is_in_self}
+use Rattle.phase_shared.proofs.Giving.{entered}
+use Rattle.phase_shared.proofs.seats.steps.enter.Goals as goal
+
+-- the seat rests and speaks for one number
+pub try_take-requires-clause-rule : goal.try_take-requires-clause-rule
+try_take-requires-clause-rule g c =
+    let terms = locked_terms c.args.phaser.now in
+    let op = g.A.Accumulate.operation in
+    let allows = g.K.SignalRule.allows in
+    let seen = (known_of (seat_view c.args.seat)).seen in
+    let P : View → Type 0 = λ v. Takes (HasOneHistory op allows) terms (seat_number c.args.seat) v (TookAt op allows terms) in
+    subst P (sym c.requires.at.rests)
+    (takes terms.limits (allows terms.rule) (StandsWithin op terms.limits) (seat_number c.args.seat) (knowledge seen (c.args.me ∷ []))
+    (c.args.me, is_in_self c.args.me []))
+
+pub returns-in-Ok-clause-took : goal.returns-in-Ok-clause-took
+returns-in-Ok-clause-took g c =
+    entered g.A.Accumulate.operation g.K.SignalRule.allows (locked_terms c.args.phaser.now) c.args.me c.args.entry (seat_view c.args.seat)
+    (turn_value c.in-Ok.turn) (turn_view c.in-Ok.turn) c.requires.at c.in-Ok.ensures.rule
+
+-- the seat came back as it was
+pub returns-in-Err-clause-still : goal.returns-in-Err-clause-still
+returns-in-Err-clause-still g c =
+    let P : View → Type 0 = λ v. IsSeatOfTask g.K.SignalRule.allows (locked_terms c.args.phaser.now) c.args.me c.args.entry v in
+    subst P (sym c.in-Err.ensures.err.2) c.requires.at
+
+-- no other seat can have the turn
+pub returns-in-Err-clause-alone : goal.returns-in-Err-clause-alone
+returns-in-Err-clause-alone g c only =
+    let terms = locked_terms c.args.phaser.now in
+    let op = g.A.Accumulate.operation in
+    let allows = g.K.SignalRule.allows in
+    let seen = (known_of (seat_view c.args.seat)).seen in
+    let P : View → Type 0 = λ v. Busy (HasOneHistory op allows) terms v in
+    absurd (never_busy terms.limits (allows terms.rule) (StandsWithin op terms.limits) (HasOneHistory op allows) terms (λ views k. k)
+    (knowledge seen (c.args.me ∷ []))
+    (c.args.me, is_in_self c.args.me [], IsUsed-member seen c.args.me (ap is_some c.requires.at.member))
+    only
+    (subst P c.requires.at.rests c.in-Err.ensures.busy))

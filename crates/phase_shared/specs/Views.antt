@@ -1,0 +1,70 @@
+-- What a seat knows: the history that it has seen, and the tasks that it speaks for.
+use Rattle.std.specs.Prelude.{◌≡◌, ℕ, List, [], ◌∷◌, ◌++◌, Bool, true, false, take, drop}
+use Rattle.phase_core.specs.phase_history.Histories.{History}
+use Rattle.phase_core.specs.phase_history.Others.{OthersCame}
+use Rattle.phase_shared.specs.declared.seats.view.Knowledge.{Knowledge}
+use Rattle.phase_shared.specs.declared.seats.view.View.{View}
+use Rattle.phase_shared.specs.declared.seats.view.View.TheVariants.{Resting, Turning, Joining, Spent}
+
+-- this history was seen, and these numbers are spoken for
+abbrev pub knowledge : History → List ℕ → Knowledge
+knowledge seen speaks = record { seen = seen; speaks = speaks }
+
+-- the same, at rest
+abbrev pub resting : History → List ℕ → View
+resting seen speaks = Resting (knowledge seen speaks)
+
+-- the same, with the turn
+abbrev pub turning : History → List ℕ → View
+turning seen speaks = Turning (knowledge seen speaks)
+
+-- the numbers that a view speaks for
+abbrev pub speaks_of : View → List ℕ
+speaks_of (Resting f) = f.speaks
+speaks_of (Turning f) = f.speaks
+speaks_of (Joining f g) = f.speaks ++ g.speaks
+speaks_of Spent = []
+
+-- what a view knows, the first of both where it has two
+abbrev pub known_of : View → Knowledge
+known_of (Resting f) = f
+known_of (Turning f) = f
+known_of (Joining f g) = f
+known_of Spent = knowledge [] []
+
+-- the second of both, of a view that has two
+abbrev pub second_of : View → Knowledge
+second_of (Joining f g) = g
+second_of v = known_of v
+
+-- whether the view has the turn
+abbrev pub is_turning : View → Bool
+is_turning (Turning f) = true
+is_turning _ = false
+
+-- what was seen is a beginning of the history, which has no later events of those spoken for
+abbrev pub Fits : Knowledge → History → Type 0
+Fits f log = OthersCame f.speaks f.seen log
+
+-- a joined view keeps both until its look
+abbrev pub joining : View → View → View
+joining v w = Joining (known_of v) (known_of w)
+
+-- the first number that a view speaks for, with what was seen
+abbrev pub first_part : View → View
+first_part v = resting (known_of v).seen (take 1 (known_of v).speaks)
+
+-- the other numbers, with what was seen
+abbrev pub other_part : View → View
+other_part v = resting (known_of v).seen (drop 1 (known_of v).speaks)
+
+-- the view is at rest and speaks for one number
+pub record SpeaksForOne (v : View) : Type 0 where
+  pub task : ℕ
+  pub rests : v ≡ resting (known_of v).seen (task ∷ [])
+
+-- the view is at rest and speaks for two numbers
+pub record SpeaksForTwo (v : View) : Type 0 where
+  pub one : ℕ
+  pub other : ℕ
+  pub rests : v ≡ resting (known_of v).seen (one ∷ other ∷ [])

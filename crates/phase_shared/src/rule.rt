@@ -1,0 +1,33 @@
+//! What a phaser between threads is told when it is made.
+ghost use Rattle.std.specs.Prelude.{ℕ, ℤ, List, Option};
+ghost use Rattle.phase_core.specs.phase_accum.declared.single.Single.{Single};
+ghost use Rattle.phase_core.specs.phase_history.Histories.{History};
+
+use phase_core::phase_base::Spec;
+
+/// Which signals a phaser allows: plain data, by which every task on the phaser abides.
+///
+/// A caller of a signal shows that the rule allows it. Each task that has seen a history then knows
+/// that every signal in it was allowed, whoever made it.
+pub trait SignalRule: Copy {
+    /// Whether a signal is allowed after a history: of a task, with its lists of sends and its
+    /// single.
+    ghost allows: { Self → History → ℕ → List (List ℤ) → Option Single → Type 0 };
+}
+
+/// The rule that allows every signal.
+#[derive(Clone, Copy, Debug, PartialEq, Eq)]
+pub struct NoRule;
+
+impl SignalRule for NoRule {
+    ghost allows = { λ rule h task lists single. Unit {0} };
+}
+
+/// What a phaser is told when it is made.
+#[derive(Drop)]
+pub struct Terms<K> {
+    /// How far signals may be ahead, and how many phases there are.
+    pub limits: Spec,
+    /// Which signals are allowed.
+    pub rule: K,
+}

@@ -1,0 +1,9 @@
+//! A phaser under a lock: what the seats of its lock know, and each call as a step of a seat.
+
+pub mod block_steps;
+pub mod ghost_steps;
+pub mod hints;
+pub mod join_steps;
+pub mod locked;
+pub mod steps;
+pub mod view;

@@ -1,0 +1,55 @@
+//! A phaser of one thread under a lock.
+ghost use Rattle.std.specs.Prelude.{◌≡◌, IfOk};
+ghost use Rattle.turn_lock.specs.Seats.{IsSeatAt, seat_view};
+ghost use Rattle.phase_core.specs.phase_history.Histories.{founder};
+ghost use Rattle.phase_shared.specs.LockedPhasers.{locked_place, locked_terms};
+ghost use Rattle.phase_shared.specs.Rule.{founding, IsSeatOfTask};
+
+use crate::rule::{SignalRule, Terms};
+use crate::seats::hints::Hints;
+use crate::seats::view::{PhaserLock, PhaserSeat};
+use phase_core::PhaserCore;
+use phase_core::phase_accum::Accumulate;
+use phase_core::phase_base::Spec;
+use std::alloc::{AllocError, Global};
+use std::sync::Wait;
+use turn_lock::TurnLock;
+
+/// A phaser of one thread under a lock, with hints for those that wait. Sends become values by the
+/// operation `A`, and each signal abides by the rule `K`.
+#[derive(Drop)]
+pub struct LockedPhaser<A: Accumulate, K: SignalRule> {
+    pub(crate) lock: PhaserLock<A, K>,
+    pub(crate) hints: Hints,
+}
+
+impl<A: Accumulate, K: SignalRule> LockedPhaser<A, K> {
+    /// Makes a phaser and the seat of its founder, which has the number 0. It takes all the memory
+    /// that signals and waits will ever need.
+    pub fn new(
+        alloc: Global,
+        terms: Terms<K>,
+    ) -> Result<(LockedPhaser<A, K>, PhaserSeat<A, K>), AllocError>
+        ensures terms { IfOk result (λ made. locked_terms made.0 ≡ terms) }
+        ensures seat { IfOk result (λ made. IsSeatAt (locked_place made.0) made.1) }
+        ensures view { IfOk result (λ made. seat_view made.1 ≡ founding) }
+        ensures founder { IfOk result (λ made.
+            IsSeatOfTask K.allows terms 0 founder (seat_view made.1)) }
+    {
+        let bound = terms.limits.bound();
+        let core = PhaserCore::new(alloc, terms.limits, 0)?;
+        let (lock, seat) = TurnLock::new(alloc, &terms, core)?;
+        let hints = Hints::new(bound);
+        Ok((LockedPhaser { lock, hints }, seat))
+    }
+
+    /// Pauses while the phase is not complete, or for some time, before a wait for so many phases.
+    pub fn pause_for_phase<W: Wait>(&self, rt: &W, phase: u64, phases: u64) {
+        self.hints.pause_for_phase(rt, phase, phases);
+    }
+
+    /// Pauses while a signal of the phases below `next` is ahead, or for some time.
+    pub fn pause_for_room<W: Wait>(&self, rt: &W, next: u64) {
+        self.hints.pause_for_room(rt, next);
+    }
+}

@@ -1,0 +1,302 @@
+//! The steps of a seat at rest that speaks for one task. Each call of a registration is one.
+ghost use Rattle.std.specs.Prelude.{◌≡◌, ℤ, List, [], ◌∷◌, true, false, IfOk, IfErr, IsOk, IsErr};
+ghost use Rattle.turn_lock.specs.Seats.{IsSeatAt, IsTurnAt, IsSameSeat, seat_view, turn_number, turn_view, turn_value};
+ghost use Rattle.turn_lock.specs.Steps.{GivesBack};
+ghost use Rattle.phase_core.specs.phase_accum.Parcels.{StandsForSends};
+ghost use Rattle.phase_core.specs.phase_history.Histories.{History};
+ghost use Rattle.phase_core.specs.phase_history.Replies.{wait_reply, after_wait};
+ghost use Rattle.phase_core.specs.phase_history.Others.{OnlyUsed, OthersCame};
+ghost use Rattle.phase_shared.specs.declared.seats.view.View.TheVariants.{Resting};
+ghost use Rattle.phase_shared.specs.Views.{known_of, joining, first_part, other_part, SpeaksForOne, SpeaksForTwo};
+ghost use Rattle.phase_shared.specs.Rule.{HasOneHistory, AfterTake, IsGoodAt, IsSeatOfTask, LearnedAt, HaveMet};
+ghost use Rattle.phase_core.specs.Cores.{StandsFor};
+ghost use Rattle.phase_shared.specs.Steps.{IsStep, RegistersSeat};
+ghost use Rattle.phase_shared.specs.Calls.{Tries, Waits, LeavesSeat, SignalsAndMayWait, number_after, tried};
+ghost use Rattle.phase_shared.specs.Entries.{entry_stays, entry_after_wait, entry_after_both};
+ghost use Rattle.phase_shared.specs.LockedPhasers.{locked_place, locked_terms, locked_limits};
+
+use crate::rule::SignalRule;
+use crate::seats::ghost_steps::{OnGive, OnJoin, OnLook, OnSplit, OnTake, Plan, Same};
+use crate::seats::hints::{Hints, Reached};
+use crate::seats::locked::LockedPhaser;
+use crate::seats::view::{PhaserSeat, PhaserTurn};
+use crate::tried::Tried;
+use phase_core::phase_accum::{Accumulate, Pending, Single};
+use phase_core::phase_base::{Entry, Mode};
+use phase_core::{Got, PhaserCore, RegisterRefusal, SignalRefusal, WaitRefusal};
+use std::marker::Brand;
+
+// Takes the turn, and learns what the others did.
+pub(crate) fn enter<A: Accumulate, K: SignalRule>(
+    phaser: &LockedPhaser<A, K>,
+    seat: PhaserSeat<A, K>,
+    me: u64,
+    entry: Entry,
+) -> Result<PhaserTurn<A, K>, PhaserSeat<A, K>>
+    requires seat { IsSeatAt (locked_place phaser.now) seat }
+    requires at { IsSeatOfTask K.allows (locked_terms phaser.now) me entry (seat_view seat) }
+    ensures turn { IfOk result (λ turn. IsTurnAt (locked_place phaser.now) turn) }
+    ensures took { IfOk result (λ turn. AfterTake A.operation K.allows (locked_terms phaser.now) me
+        entry (seat_view seat) (turn_value turn) (turn_view turn)) }
+
+    ensures err { IfErr result (λ back. IsSameSeat seat back) }
+    ensures still { IfErr result (λ back.
+        IsSeatOfTask K.allows (locked_terms phaser.now) me entry (seat_view back)) }
+    ensures alone { OnlyUsed (me ∷ []) (known_of (seat_view seat)).seen → IsOk result }
+{
+    match phaser.lock.try_take::<OnTake<A, K>>(seat) {
+        Ok(turn) => Ok(turn),
+        Err(back) => Err(back),
+    }
+}
+
+// Gives the turn back. What the give tells is picked by its caller, and may speak of `told`.
+pub(crate) fn put_back<A: Accumulate, K: SignalRule, E: Plan, X: Copy>(
+    phaser: &LockedPhaser<A, K>,
+    turn: PhaserTurn<A, K>,
+    reached: Reached,
+    told: X,
+) -> PhaserSeat<A, K>
+    requires turn { IsTurnAt (locked_place phaser.now) turn }
+    requires rule { GivesBack (HasOneHistory A.operation K.allows) (locked_terms phaser.now)
+        (turn_number turn) (turn_view turn) (turn_value turn) (λ v y w. E.goes v w) }
+    ensures seat { IsSeatAt (locked_place phaser.now) result }
+    ensures rule { E.goes (turn_view turn) (seat_view result) }
+{
+    let _ = told;
+    let seat = phaser.lock.give::<OnGive<E>>(turn);
+    phaser.hints.tell(reached);
+    seat
+}
+
+// Waits where that is asked for. Where it is not, the wait is refused.
+fn wait_where<A: Accumulate>(
+    core: &mut PhaserCore<A>,
+    me: u64,
+    asked: bool,
+) -> Result<Got, WaitRefusal>
+    ensures reply { (h : History) → StandsFor A.operation core.old h → asked ≡ true
+        → wait_reply A.operation.value core.old.limits h me ≡ result }
+    ensures none { asked ≡ false → IsErr result }
+    ensures after { (h : History) → StandsFor A.operation core.old h
+        → StandsFor A.operation core.new (after_wait result me h) }
+    ensures limits { core.new.limits ≡ core.old.limits }
+{
+    if asked {
+        core.wait(me)
+    } else {
+        Err(WaitRefusal::NoWait)
+    }
+}
+
+/// Signals, and then waits where that is asked for and answers at once: both under one turn.
+pub fn signal<A: Accumulate, K: SignalRule>(
+    phaser: &LockedPhaser<A, K>,
+    seat: PhaserSeat<A, K>,
+    me: u64,
+    entry: Entry,
+    pending: Pending<A>,
+    single: Option<Single>,
+    waits: bool,
+) -> (
+    PhaserSeat<A, K>,
+    Entry,
+    Result<(u64, Option<Got>), Tried<SignalRefusal>>,
+)
+    requires seat { IsSeatAt (locked_place phaser.now) seat }
+    requires at { IsSeatOfTask K.allows (locked_terms phaser.now) me entry (seat_view seat) }
+    requires rule { (h : History) (sends : List ℤ) → IsGoodAt K.allows (locked_terms phaser.now) h
+        → OthersCame (me ∷ []) (known_of (seat_view seat)).seen h
+        → StandsForSends A.operation pending sends
+        → K.allows (locked_terms phaser.now).rule h me (sends ∷ []) single }
+    ensures seat { IsSeatAt (locked_place phaser.now) result.0 }
+    ensures step { IsStep K.allows (locked_terms phaser.now) me SignalRefusal.NoTask
+        entry_after_both (Tries (IsSameSeat seat result.0 × (result.1 ≡ entry))
+        (SignalsAndMayWait waits A.operation (locked_limits phaser.now) me pending single
+        (known_of (seat_view seat)).seen (known_of (seat_view result.0)).seen) result.2)
+        entry result.1 (seat_view seat) (seat_view result.0) result.2 }
+{
+    let mut turn = match enter(phaser, seat, me, entry) {
+        Ok(turn) => turn,
+        Err(seat) => return (seat, entry, Err(Tried::Busy)),
+    };
+    let _part = pending.part();
+    let core = turn.value();
+    let answer = core.signal(me, pending, single);
+    let phase = match answer {
+        Ok(phase) => phase,
+        Err(refused) => {
+            let seat = phaser.lock.give::<Same>(turn);
+            return (seat, entry, Err(Tried::Refused(refused.0)));
+        }
+    };
+    let waited = wait_where(core, me, waits);
+    let Some(entry) = core.view(me) else {
+        unreachable!()
+    };
+    let reached = Hints::look(core);
+    let told = (me, &pending, &single, waited);
+    let seat = put_back::<A, K, Brand, _>(phaser, turn, reached, told);
+    (seat, entry, Ok((phase, waited.ok())))
+}
+
+/// Leaves.
+pub fn leave<A: Accumulate, K: SignalRule>(
+    phaser: &LockedPhaser<A, K>,
+    seat: PhaserSeat<A, K>,
+    me: u64,
+    entry: Entry,
+) -> Result<PhaserSeat<A, K>, PhaserSeat<A, K>>
+    requires seat { IsSeatAt (locked_place phaser.now) seat }
+    requires at { IsSeatOfTask K.allows (locked_terms phaser.now) me entry (seat_view seat) }
+    ensures seat { IfOk result (λ s. IsSeatAt (locked_place phaser.now) s) }
+    ensures ok { IfOk result (λ s. LeavesSeat K.allows (locked_terms phaser.now) me
+        (known_of (seat_view seat)).seen (seat_view s)) }
+    ensures err { IfErr result (λ s. IsSameSeat seat s) }
+    ensures alone { OnlyUsed (me ∷ []) (known_of (seat_view seat)).seen → IsOk result }
+{
+    let mut turn = match enter(phaser, seat, me, entry) {
+        Ok(turn) => turn,
+        Err(seat) => return Err(seat),
+    };
+    let core = turn.value();
+    let answer = core.drop_task(me);
+    let Ok(()) = answer else { unreachable!() };
+    let reached = Hints::look(core);
+    Ok(put_back::<A, K, Brand, _>(phaser, turn, reached, me))
+}
+
+// The answer of a call under the turn, as a try tells it.
+pub(crate) fn tried_of<X, R>(answer: Result<X, R>) -> Result<X, Tried<R>>
+    ensures { result ≡ tried answer }
+{
+    match answer {
+        Ok(answer) => Ok(answer),
+        Err(refusal) => Err(Tried::Refused(refusal)),
+    }
+}
+
+/// Waits.
+pub fn wait<A: Accumulate, K: SignalRule>(
+    phaser: &LockedPhaser<A, K>,
+    seat: PhaserSeat<A, K>,
+    me: u64,
+    entry: Entry,
+) -> (PhaserSeat<A, K>, Entry, Result<Got, Tried<WaitRefusal>>)
+    requires seat { IsSeatAt (locked_place phaser.now) seat }
+    requires at { IsSeatOfTask K.allows (locked_terms phaser.now) me entry (seat_view seat) }
+    ensures seat { IsSeatAt (locked_place phaser.now) result.0 }
+    ensures step { IsStep K.allows (locked_terms phaser.now) me WaitRefusal.NoTask
+        entry_after_wait (Tries (IsSameSeat seat result.0 × (result.1 ≡ entry))
+        (Waits A.operation.value (locked_limits phaser.now) me
+        (known_of (seat_view seat)).seen (known_of (seat_view result.0)).seen) result.2)
+        entry result.1 (seat_view seat) (seat_view result.0) result.2 }
+{
+    let mut turn = match enter(phaser, seat, me, entry) {
+        Ok(turn) => turn,
+        Err(seat) => return (seat, entry, Err(Tried::Busy)),
+    };
+    let core = turn.value();
+    let answer = core.wait(me);
+    let Some(entry) = core.view(me) else {
+        unreachable!()
+    };
+    let reached = Hints::look(core);
+    let seat = put_back::<A, K, Brand, _>(phaser, turn, reached, (me, answer));
+    (seat, entry, tried_of(answer))
+}
+
+// The number of the next child. Where none is left it is the last one, which is refused.
+pub(crate) fn child_of<A: Accumulate>(core: &PhaserCore<A>) -> u64
+    ensures { result ≡ number_after core.now.greatest }
+{
+    core.next_number().unwrap_or(u64::MAX)
+}
+
+/// Registers a child. The answer is the child's number, seat and entry.
+pub fn register<A: Accumulate, K: SignalRule>(
+    phaser: &LockedPhaser<A, K>,
+    seat: PhaserSeat<A, K>,
+    me: u64,
+    entry: Entry,
+    mode: Mode,
+) -> (
+    PhaserSeat<A, K>,
+    Result<(u64, PhaserSeat<A, K>, Entry), Tried<RegisterRefusal>>,
+)
+    requires seat { IsSeatAt (locked_place phaser.now) seat }
+    requires at { IsSeatOfTask K.allows (locked_terms phaser.now) me entry (seat_view seat) }
+    ensures seat { IsSeatAt (locked_place phaser.now) result.0 }
+    ensures step { let old = (known_of (seat_view seat)).seen in
+        IsStep K.allows (locked_terms phaser.now) me RegisterRefusal.NoTask entry_stays
+        (Tries (IsSameSeat seat result.0) (RegistersSeat K.allows (locked_place phaser.now)
+        (locked_terms phaser.now) me mode entry old (known_of (seat_view result.0)).seen) result.1)
+        entry entry (seat_view seat) (seat_view result.0) result.1 }
+{
+    let mut turn = match enter(phaser, seat, me, entry) {
+        Ok(turn) => turn,
+        Err(seat) => return (seat, Err(Tried::Busy)),
+    };
+    let core = turn.value();
+    let child = child_of(core);
+    let answer = core.register(me, child, mode);
+    let found = core.view(child);
+    let reached = Hints::look(core);
+    if let Err(refusal) = answer {
+        return (phaser.lock.give::<Same>(turn), Err(Tried::Refused(refusal)));
+    }
+    let Some(start) = found else { unreachable!() };
+    let both = put_back::<A, K, Brand, _>(phaser, turn, reached, (me, child, mode));
+    let (seat, other) = split(phaser, both);
+    (seat, Ok((child, other, start)))
+}
+
+/// Joins two seats at rest.
+pub fn join<A: Accumulate, K: SignalRule>(
+    phaser: &LockedPhaser<A, K>,
+    seat: PhaserSeat<A, K>,
+    other: PhaserSeat<A, K>,
+) -> PhaserSeat<A, K>
+    requires seats { IsSeatAt (locked_place phaser.now) seat
+        × IsSeatAt (locked_place phaser.now) other }
+    requires rests { (seat_view seat ≡ Resting (known_of (seat_view seat)))
+        × (seat_view other ≡ Resting (known_of (seat_view other))) }
+    ensures seat { IsSeatAt (locked_place phaser.now) result }
+    ensures rule { LearnedAt K.allows (locked_terms phaser.now)
+        (joining (seat_view seat) (seat_view other)) (seat_view result) }
+{
+    phaser.lock.join::<OnJoin, OnLook<K>>(seat, other)
+}
+
+// Cuts a seat at rest that speaks for two numbers in two, one for each.
+pub(crate) fn split<A: Accumulate, K: SignalRule>(
+    phaser: &LockedPhaser<A, K>,
+    seat: PhaserSeat<A, K>,
+) -> (PhaserSeat<A, K>, PhaserSeat<A, K>)
+    requires seat { IsSeatAt (locked_place phaser.now) seat }
+    requires two { SpeaksForTwo (seat_view seat) }
+    ensures seats { IsSeatAt (locked_place phaser.now) result.0
+        × IsSeatAt (locked_place phaser.now) result.1 }
+    ensures left { seat_view result.0 ≡ first_part (seat_view seat) }
+    ensures right { seat_view result.1 ≡ other_part (seat_view seat) }
+{
+    phaser.lock.split::<OnSplit>(seat)
+}
+
+/// The same two seats, which now have seen one history: it begins with what each had seen.
+pub fn meet<A: Accumulate, K: SignalRule>(
+    phaser: &LockedPhaser<A, K>,
+    seat: PhaserSeat<A, K>,
+    other: PhaserSeat<A, K>,
+) -> (PhaserSeat<A, K>, PhaserSeat<A, K>)
+    requires seats { IsSeatAt (locked_place phaser.now) seat
+        × IsSeatAt (locked_place phaser.now) other }
+    requires rests { SpeaksForOne (seat_view seat) × SpeaksForOne (seat_view other) }
+    ensures seats { IsSeatAt (locked_place phaser.now) result.0
+        × IsSeatAt (locked_place phaser.now) result.1 }
+    ensures met { HaveMet K.allows (locked_terms phaser.now) (seat_view seat) (seat_view other)
+        (seat_view result.0) (seat_view result.1) }
+{
+    let both = join(phaser, seat, other);
+    split(phaser, both)
+}

@@ -1,6 +1,0 @@
-pub mod Commas
-mod Digits
-mod Fields
-mod Reading
-mod Shrinks
-mod Unique

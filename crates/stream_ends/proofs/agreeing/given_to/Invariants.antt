@@ -1,7 +1,0 @@
-use Rattle.std.proofs.Common.{◌≡◌, drop}
-use Rattle.stream_ends.specs.TaskLefts.{given_to}
-use Rattle.stream_ends.proofs.agreeing.given_to.Given as goal
-
--- none before this one is the task's
-abbrev pub invariant-loop-i : goal.invariant-loop-i
-invariant-loop-i l = given_to (drop l.i l.given) l.c ≡ given_to l.given l.c

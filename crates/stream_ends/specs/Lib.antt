@@ -1,5 +1,0 @@
-pub mod Agreeing
-pub mod Gatherings
-pub mod Inside
-pub mod Joinings
-pub mod TaskLefts

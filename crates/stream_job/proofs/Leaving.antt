@@ -1,0 +1,132 @@
+-- The turn of a task that leaves.
+use Rattle.std.proofs.Common.{◌≡◌, ℕ, List, suc, ◌+◌, ◌<◌, cond, Some, None, ◌∷◌, length, get_or, slice_get, nat_lt, set, map, refl, sym, ap, subst, ◌∙◌, arith}
+use Rattle.std.specs.List.{All}
+use Rattle.phase_core.specs.phase_history.declared.event.Event.TheVariants.{Dropped}
+use Rattle.phase_core.specs.phase_history.Refusals.{drop_refusal}
+use Rattle.stream_eval.specs.stream_lists.Jobs.{Job}
+use Rattle.stream_eval.specs.Results.{sink_values}
+use Rattle.graph_runs.specs.Moments.{Moment}
+use Rattle.graph_runs.specs.Turned.{with_at}
+use Rattle.graph_runs.specs.Nexts as turns
+use Rattle.graph_runs.specs.Nexts.{is_live}
+use Rattle.graph_runs.specs.TaskEvents.{leave, after_turn}
+use Rattle.graph_runs.specs.Answers as answers
+use Rattle.graph_runs.specs.Answers.{makes, answer_of_turn, after_answer, accepted_answer, told_event}
+use Rattle.graph_runs.specs.TaskPlaces.{StandsAt, registration_at}
+use Rattle.graph_runs.proofs.PlacesFollow.{leave_follows}
+use Rattle.stream_job.specs.Places.{IsTaskAt, place_of}
+use Rattle.stream_job.specs.Machines.{IsMachineAt, HasCores, HasRoom}
+use Rattle.stream_job.specs.Turning.{HadTurn, Shows, told_of}
+use Rattle.stream_job.specs.Inside.{IsNextIn}
+use Rattle.stream_job.specs.declared.machine.Machine.{Machine}
+use Rattle.stream_job.specs.declared.task_state.TaskState.{TaskState}
+use Rattle.stream_job.specs.declared.made.Made.TheVariants.{Event}
+use Rattle.stream_job.specs.declared.turned.Turned.{Turned}
+use Rattle.stream_job.proofs.Lively.{LeavesAt, leaves_at, leaves_now}
+use Rattle.stream_job.proofs.Setting.{read_same}
+use Rattle.phase_core.specs.phase_history.declared.refusal.NoTask.{NoTask}
+use Rattle.stream_job.proofs.Reading.{live_by}
+use Rattle.stream_job.proofs.Events.{after_own}
+
+abbrev pub left_once : TaskState → TaskState
+left_once state = record state { left = state.left + 1 }
+
+-- the machine after it
+pub left_turn : (job : Job) (old new : Machine) (t p number : ℕ) (state : TaskState)
+    (told : Turned) → IsNextIn job old t turns.leaves
+    → slice_get old.tasks.items t ≡ Some state
+    → (registration_at job t state.left).phaser ≡ p
+    → get_or state.numbers.items state.left 0 ≡ number
+    → ((m : Moment) → IsMachineAt job m old → drop_refusal (m.history p) number ≡ None)
+    → ((m : Moment) → IsMachineAt job m old
+    → HasCores job (with_at p (Dropped number ∷ m.history p) m.history) new.cores.items)
+    → new.tasks.items ≡ set old.tasks.items t (left_once state) → new.lines ≡ old.lines
+    → cond (nat_lt (state.left + 1) (length state.numbers.items)) answers.Moved answers.Ended
+    ≡ told_of told
+    → HadTurn job old new t (Event p told)
+left_turn job old new t p number state told next found phaser numbered accepted cores tasks lines tells =
+    record {
+      shows = λ m at. shows m at;
+      after = λ m at. after m at;
+    }
+  where
+    is : (m : Moment) → IsMachineAt job m old → IsTaskAt job m t state
+    is m at = at.tasks t state found
+
+    place : (m : Moment) → IsMachineAt job m old → LeavesAt job m t (place_of state)
+    place m at = leaves_at job m t (place_of state) at.graph (is m at).stands (next.is m at)
+
+    answer : (m : Moment) → IsMachineAt job m old
+        → answer_of_turn job m t ≡ makes (leave t p number)
+    answer m at =
+        (place m at).answer
+        ∙ ap (λ q. accepted_answer (leave t q (get_or state.numbers.items state.left 0))
+        (drop_refusal (m.history q) (get_or state.numbers.items state.left 0))) phaser
+        ∙ ap (λ n. accepted_answer (leave t p n) (drop_refusal (m.history p) n)) numbered
+        ∙ ap (accepted_answer (leave t p number)) (accepted m at)
+
+    stands : (m : Moment) → IsMachineAt job m old
+        → StandsAt job (after_turn job (leave t p number) m) t (place_of (left_once state))
+    stands m at =
+        let one : state.left + 1 ≡ suc state.left = omega arith in
+        subst (λ k. StandsAt job (after_turn job (leave t p number) m) t
+        (record (place_of state) { left = k })) (sym one)
+        (leave_follows job m t p number (place_of state) at.graph at.reached (answer m at)
+        (is m at).stands)
+
+    shows : (m : Moment) (at : IsMachineAt job m old)
+        → Shows job m t (answer_of_turn job m t) (Event p told)
+    shows m at =
+        let after = after_turn job (leave t p number) m in
+        let l = place m at in
+        let live : is_live job after t ≡ nat_lt (state.left + 1) (length state.numbers.items) =
+        live_by job after t (place_of (left_once state)) (stands m at) l.there
+        (let all = l.all in omega arith) in
+        let word : told_event job m (leave t p number) ≡ told_of told =
+        ap (λ b. cond b answers.Moved answers.Ended) live ∙ tells in
+        subst (λ a. Shows job m t a (Event p told)) (sym (answer m at)) (refl, word)
+
+    after : (m : Moment) (at : IsMachineAt job m old)
+        → IsMachineAt job (after_answer job (answer_of_turn job m t) m) new
+    after m at =
+        let it = is m at in
+        after_own job m old new t (leave t p number) (left_once state) at (answer m at) refl
+        (place m at).there (next.stays m at) (next.few m at) (cores m at) tasks
+        (record { stands = stands m at; room = it.room; filter = it.filter; sink = it.sink })
+        (ap (λ l. map sink_values l.items) lines ∙ at.lines)
+        (subst (λ l. All (HasRoom job) l.items) (sym lines) at.room)
+
+-- what the drop of a task that leaves is answered
+leaves_so : (job : Job) (old : Machine) (t p number : ℕ) (state : TaskState)
+    → IsNextIn job old t turns.leaves → slice_get old.tasks.items t ≡ Some state
+    → (registration_at job t state.left).phaser ≡ p
+    → get_or state.numbers.items state.left 0 ≡ number → (m : Moment) → IsMachineAt job m old
+    → answer_of_turn job m t ≡ accepted_answer (leave t p number) (drop_refusal (m.history p) number)
+leaves_so job old t p number state next found phaser numbered m at =
+    let n = get_or state.numbers.items state.left 0 in
+    (leaves_now job old m t state next at found).answer
+    ∙ ap (λ q. accepted_answer (leave t q n) (drop_refusal (m.history q) n)) phaser
+    ∙ ap (λ n. accepted_answer (leave t p n) (drop_refusal (m.history p) n)) numbered
+
+-- it is not refused
+pub refused_drop : (job : Job) (old : Machine) (t p number : ℕ) (state : TaskState) (e : NoTask)
+    → IsNextIn job old t turns.leaves → slice_get old.tasks.items t ≡ Some state
+    → (registration_at job t state.left).phaser ≡ p
+    → get_or state.numbers.items state.left 0 ≡ number
+    → ((m : Moment) → IsMachineAt job m old → drop_refusal (m.history p) number ≡ Some e) → ⊥
+refused_drop job old t p number state e next found phaser numbered refused =
+    let m = next.some.0 in
+    let at = next.some.1 in
+    next.answered m at
+    (leaves_so job old t p number state next found phaser numbered m at
+    ∙ ap (accepted_answer (leave t p number)) (refused m at))
+
+-- the tasks after it
+pub left_tasks : (old now : List TaskState) (t : ℕ) (state other : TaskState)
+    → now ≡ old → t < length old → state ≡ get_or old t state → other ≡ get_or now t other
+    → set now t (record other { left = state.left + 1 }) ≡ set old t (left_once state)
+left_tasks old now t state other same lt first second =
+    let it : other ≡ state =
+    read_same old t other state lt (second ∙ ap (λ xs. get_or xs t other) same) first in
+    ap (λ xs. set xs t (record other { left = state.left + 1 })) same
+    ∙ ap (λ (s : TaskState). set old t (record s { left = state.left + 1 })) it

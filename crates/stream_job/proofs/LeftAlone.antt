@@ -1,0 +1,159 @@
+-- What the event of one task leaves of another.
+use Rattle.std.proofs.Common.{◌≡◌, ◌≢◌, ℕ, zero, suc, ◌<◌, Bool, true, false, not, ◌&&◌, cond, eqb, List, [], ◌∷◌, Some, None, is_some, length, slice_get, refl, sym, ap, ◌∙◌, arith, inr}
+use Rattle.std.specs.List.{find, range_with_len}
+use Rattle.std.proofs.lemmas.Bool.{eqb-true, eq-eqb, ne_eqb}
+use Rattle.std.proofs.lemmas.Option.{same_Some}
+use Rattle.phase_core.specs.phase_base.declared.mode.Mode.{Mode}
+use Rattle.phase_core.specs.phase_history.declared.event.Event.{Event}
+use Rattle.phase_core.specs.phase_history.declared.event.Event.TheVariants.{Signalled, Waited, Dropped}
+use Rattle.graph_lang.specs.graph_base.declared.line.Parent.{Parent}
+use Rattle.graph_lang.specs.graph_base.Graphs.{task_at, phaser_at}
+use Rattle.stream_eval.specs.stream_lists.Jobs.{Job}
+use Rattle.graph_runs.specs.Moments.{Moment}
+use Rattle.graph_runs.specs.Moves.{HasMoved, SameTask, Registers}
+use Rattle.graph_runs.proofs.Turned.{next_sample_is, next_signal_is, first_wait_is, exchange_wait_is, next_leave_is, next_child_is}
+use Rattle.graph_runs.specs.TaskEvents.{TaskEvent, IsNext, sample, signal, first_wait, exchange_wait, leave, child, after_turn}
+use Rattle.graph_runs.specs.TaskPlaces.{child_of}
+use Rattle.graph_runs.specs.Nexts.{comes_by, first_due, first_missing, has_registered, is_due, is_live, registrations_at}
+use Rattle.graph_runs.specs.Reached.{IsReachable}
+use Rattle.graph_runs.specs.Answers.{makes, answer_of_turn}
+use Rattle.graph_runs.proofs.PlacesFollow.{others_follow}
+use Rattle.graph_runs.proofs.Signalling.{live-is}
+use Rattle.graph_runs.proofs.Whose.{IsInOrder, task_of}
+use Rattle.stream_job.specs.Machines.{IsMachineAt}
+use Rattle.stream_job.specs.Places.{place_of}
+use Rattle.stream_job.specs.Turning.{phaser_of}
+use Rattle.stream_job.specs.declared.machine.Machine.{Machine}
+use Rattle.stream_job.proofs.Reading.{live_by, complete}
+
+-- task u is as it was, and has the children to register that it had; no phaser but p had an event
+pub record LeavesAlone (job : Job) (before after : Moment) (u p : ℕ) : Type 0 where
+  pub same : SameTask before after u
+  pub numbers : (q : ℕ) → after.number q u ≡ before.number q u
+  pub elsewhere : (q : ℕ) → q ≢ p → after.history q ≡ before.history q
+  pub due : first_due job after u ≡ first_due job before u
+
+found_same : {X : Type 0} (f g : X → Bool) (xs : List X) → ((x : X) → f x ≡ g x)
+    → find f xs ≡ find g xs
+found_same f g [] same = refl
+found_same f g (x ∷ xs) same =
+    ap (λ b. cond b (Some x) (find f xs)) (same x)
+    ∙ ap (λ o. cond (g x) (Some x) o) (found_same f g xs same)
+
+missing_same : (job : Job) (before after : Moment) (c : ℕ)
+    → ((q : ℕ) → after.number q c ≡ before.number q c)
+    → first_missing job after c ≡ first_missing job before c
+missing_same job before after c numbers =
+    found_same (λ r. not (has_registered after c r)) (λ r. not (has_registered before c r))
+    (registrations_at job c) (λ r. ap (λ o. not (is_some o)) (numbers r.phaser))
+
+due_same : (job : Job) (before after : Moment) (u c : ℕ) → after.begun u ≡ before.begun u
+    → ((q : ℕ) → after.number q c ≡ before.number q c)
+    → is_due job after u c ≡ is_due job before u c
+due_same job before after u c begun numbers =
+    ap (λ b. comes_by u b (task_at job.graph c).parent && is_some (first_missing job after c)) begun
+    ∙ ap (λ o. comes_by u (before.begun u) (task_at job.graph c).parent && is_some o)
+    (missing_same job before after c numbers)
+
+alone_moved : (job : Job) (before after : Moment) (t u p : ℕ) (event : Event)
+    → HasMoved job before after t p event → u ≢ t → LeavesAlone job before after u p
+alone_moved job before after t u p event moved apart = record {
+  same = moved.others u apart;
+  numbers = λ q. moved.numbers q u;
+  elsewhere = moved.elsewhere;
+  due = found_same (is_due job after u) (is_due job before u)
+      (range_with_len 0 (length job.graph.tasks))
+      (λ c. due_same job before after u c (moved.others u apart).begun (λ q. moved.numbers q c));
+}
+
+-- a child that another task registers
+not_due : (job : Job) (m : Moment) (u c : ℕ) (parent : Parent)
+    → (task_at job.graph c).parent ≡ Some parent → parent.task ≢ u → is_due job m u c ≡ false
+not_due job m u c parent is apart =
+    ap (λ o. comes_by u (m.begun u) o && is_some (first_missing job m c)) is
+    ∙ ap (λ b. (b && eqb parent.at (m.begun u)) && is_some (first_missing job m c))
+    (ne_eqb parent.task u apart)
+
+alone_registered : (job : Job) (before after : Moment) (t p n c a u : ℕ) (mode : Mode)
+    (parent : Parent) → Registers job before after t p n c a mode parent → u ≢ t → u ≢ c
+    → LeavesAlone job before after u p
+alone_registered job before after t p n c a u mode parent s apart other = record {
+  same = s.same u;
+  numbers = λ q. s.other_numbers q u (inr other);
+  elsewhere = s.elsewhere;
+  due = found_same (is_due job after u) (is_due job before u)
+      (range_with_len 0 (length job.graph.tasks)) (λ d. by d (eqb d c) refl);
+}
+  where
+    by : (d : ℕ) (b : Bool) → eqb d c ≡ b → is_due job after u d ≡ is_due job before u d
+    by d true e =
+        let same : d ≡ c = eqb-true d c e in
+        let its : (task_at job.graph d).parent ≡ Some parent =
+        ap (λ x. (task_at job.graph x).parent) same ∙ s.parent in
+        let another : parent.task ≢ u = λ it. apart (sym it ∙ s.by) in
+        not_due job after u d parent its another ∙ sym (not_due job before u d parent its another)
+    by d false e =
+        due_same job before after u d (s.same u).begun
+        (λ q. s.other_numbers q d (inr (λ same. (let no = sym (eq-eqb d c same) ∙ e in cc))))
+
+pub alone : (job : Job) (m : Moment) (event : TaskEvent) (u : ℕ) → IsReachable job m
+    → IsNext job m event → u ≢ task_of event → child_of event ≢ Some u
+    → LeavesAlone job m (after_turn job event m) u (phaser_of event)
+alone job m (sample t j p n v) u reached next apart other =
+    let s = next_sample_is job m t j p n v next.1 (reached.ran.tasks t next.0.task) in
+    alone_moved job m (after_turn job (sample t j p n v) m) t u p
+    (Signalled n ((v ∷ []) ∷ []) (phaser_at job.graph p).single) s.moved apart
+alone job m (signal t j p n v) u reached next apart other =
+    let s = next_signal_is job m t j p n v next.1 (reached.ran.tasks t next.0.task) in
+    alone_moved job m (after_turn job (signal t j p n v) m) t u p
+    (Signalled n ((v ∷ []) ∷ []) (phaser_at job.graph p).single) s.moved apart
+alone job m (first_wait t k p n outcome) u reached next apart other =
+    let s = first_wait_is job m t k p n outcome next.1 in
+    alone_moved job m (after_turn job (first_wait t k p n outcome) m) t u p (Waited n 1) s.moved
+    apart
+alone job m (exchange_wait t p n outcome) u reached next apart other =
+    let s = exchange_wait_is job m t p n outcome next.1 in
+    alone_moved job m (after_turn job (exchange_wait t p n outcome) m) t u p (Waited n 1) s.moved
+    apart
+alone job m (leave t p n) u reached next apart other =
+    let s = next_leave_is job m t p n next.1 in
+    alone_moved job m (after_turn job (leave t p n) m) t u p (Dropped n) s.moved apart
+alone job m (child t p n c a mode) u reached next apart other =
+    let s = next_child_is job m t p n c a mode next.1.0 next.1.1 in
+    alone_registered job m (after_turn job (child t p n c a mode) m) t p n c a u mode next.1.0 s
+    apart (λ same. other (ap (λ x. Some x) (sym same)))
+
+-- ---- it is live
+
+-- a task that misses no registration is none that is registered
+pub no_child : (job : Job) (m : Moment) (event : TaskEvent) (u : ℕ) → IsInOrder job m event
+    → first_missing job m u ≡ None → child_of event ≢ Some u
+no_child job m (sample t j p n v) u order none = λ e. (cc)
+no_child job m (signal t j p n v) u order none = λ e. (cc)
+no_child job m (first_wait t k p n outcome) u order none = λ e. (cc)
+no_child job m (exchange_wait t p n outcome) u order none = λ e. (cc)
+no_child job m (leave t p n) u order none = λ e. (cc)
+no_child job m (child t p n c a mode) u order none = λ e.
+    (let wrong : Some order.0 ≡ None =
+    sym order.1 ∙ ap (first_missing job m) (same_Some c u e) ∙ none in cc)
+
+some_at : {X : Type 0} (xs : List X) (i : ℕ) → i < length xs → (x : X) × (slice_get xs i ≡ Some x)
+some_at [] i lt = absurd (omega arith)
+some_at (x ∷ xs) zero lt = (x, refl)
+some_at (x ∷ xs) (suc i) lt = some_at xs i (omega arith)
+
+pub lives_on : (job : Job) (m : Moment) (machine : Machine) (t u : ℕ) (event : TaskEvent)
+    → IsMachineAt job m machine → answer_of_turn job m t ≡ makes event → u ≢ t
+    → child_of event ≢ Some u → is_live job m u ≡ true
+    → is_live job (after_turn job event m) u ≡ true
+lives_on job m machine t u event at answer apart other live =
+    let living = live-is job m u live in
+    let there = living.there in
+    let many = at.tasks_many in
+    let found = some_at machine.tasks.items u (omega arith) in
+    let stands = (at.tasks u found.0 found.1).stands in
+    let after = others_follow job m t u event (place_of found.0) at.graph at.reached answer there
+    apart other stands in
+    let all = complete job m u (place_of found.0) stands (ap is_some living.all) in
+    live_by job (after_turn job event m) u (place_of found.0) after there all
+    ∙ sym (live_by job m u (place_of found.0) stands there all) ∙ live

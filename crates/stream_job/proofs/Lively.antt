@@ -1,0 +1,106 @@
+-- What a task that is given a turn does next, by its state.
+use Rattle.std.proofs.Common.{◌≡◌, ◌≢◌, ℕ, List, ◌+◌, ◌*◌, ◌<◌, Bool, true, false, cond, Some, length, get_or, slice_get, refl, sym, ap, ◌∙◌, arith}
+use Rattle.std.specs.Prelude.{unwrap_or}
+use Rattle.std.proofs.lemmas.Bool.{ltb-true}
+use Rattle.std.proofs.lemmas.Option.{slice_get-get_or}
+use Rattle.phase_core.specs.phase_history.Refusals.{drop_refusal}
+use Rattle.graph_lang.specs.graph_base.Registrations.{no_registration}
+use Rattle.graph_lang.specs.graph_base.TaskLines.{IsGraph}
+use Rattle.stream_eval.specs.stream_lists.Jobs.{Job}
+use Rattle.graph_runs.specs.Moments.{Moment}
+use Rattle.graph_runs.proofs.OnLines.{on_phaser}
+use Rattle.graph_runs.specs.Nexts.{Next, is_not_live, leaves, next_of, is_live, of_live, first_owed, number_on, registrations_at}
+use Rattle.graph_runs.specs.TaskEvents.{leave}
+use Rattle.graph_runs.specs.Answers.{answer_to, answer_of_turn, call_leave, accepted_answer}
+use Rattle.graph_runs.specs.TaskPlaces.{TaskPlace, StandsAt, registration_at}
+use Rattle.graph_runs.proofs.Signalling.{live-is}
+use Rattle.graph_runs.proofs.Standing.{kept}
+use Rattle.graph_runs.proofs.TurnRegistering.{is_for}
+use Rattle.stream_job.specs.Places.{place_of}
+use Rattle.stream_job.specs.Machines.{IsMachineAt}
+use Rattle.stream_job.specs.Inside.{IsNextIn}
+use Rattle.stream_job.specs.declared.machine.Machine.{Machine}
+use Rattle.stream_job.specs.declared.task_state.TaskState.{TaskState}
+use Rattle.stream_job.proofs.Ending.{all_numbered, number-at}
+use Rattle.stream_job.proofs.Reading.{live_by}
+
+-- a task that does something next is live
+pub live_next : (job : Job) (m : Moment) (t : ℕ) (next : Next) → next_of job m t ≡ next
+    → next ≢ is_not_live → is_live job m t ≡ true
+live_next job m t next is never = by (is_live job m t) refl is
+  where
+    by : (b : Bool) → is_live job m t ≡ b
+        → cond b (of_live job m t (first_owed job m t)) is_not_live ≡ next
+        → is_live job m t ≡ true
+    by true e is = e
+    by false e is = absurd (never (sym is))
+
+-- a registration of a task is on a phaser
+pub phaser_there : (job : Job) (t k : ℕ) → IsGraph job.graph → t < length job.graph.tasks
+    → k < length (registrations_at job t)
+    → (registration_at job t k).phaser < length job.graph.phasers
+phaser_there job t k is there few =
+    on_phaser job t (registration_at job t k).phaser is there (is_for job t k is there few).on_line
+
+-- where a task leaves next
+pub record LeavesAt (job : Job) (m : Moment) (t : ℕ) (at : TaskPlace) : Type 0 where
+  pub live : is_live job m t ≡ true
+  pub there : t < length job.graph.tasks
+  pub all : length at.numbers ≡ length (registrations_at job t)
+  pub stays : at.left < length at.numbers
+  pub phaser : (registration_at job t at.left).phaser < length job.graph.phasers
+  pub answer : let p = (registration_at job t at.left).phaser in
+      let n = get_or at.numbers at.left 0 in
+      answer_of_turn job m t ≡ accepted_answer (leave t p n) (drop_refusal (m.history p) n)
+
+pub leaves_at : (job : Job) (m : Moment) (t : ℕ) (at : TaskPlace) → IsGraph job.graph
+    → StandsAt job m t at → next_of job m t ≡ leaves → LeavesAt job m t at
+leaves_at job m t at is stands next =
+    let live = live_next job m t leaves next (λ e. (cc)) in
+    let living = live-is job m t live in
+    let all = all_numbered job m t at stands live in
+    let low = ltb-true at.left (length at.numbers)
+    (sym (live_by job m t at stands living.there (omega arith)) ∙ live) in
+    let p = (registration_at job t at.left).phaser in
+    let n = get_or at.numbers at.left 0 in
+    let number : number_on m t p ≡ n =
+    ap (λ o. unwrap_or o 0) (number-at job m t at.left at stands low) in
+    record {
+      live = live;
+      there = living.there;
+      all = all;
+      stays = low;
+      phaser = phaser_there job t at.left is living.there (omega arith);
+      answer = ap (answer_to job m t) next
+          ∙ ap (call_leave m t) (kept job m t at stands all
+          ∙ slice_get-get_or (registrations_at job t) at.left no_registration (omega arith))
+          ∙ ap (λ x. accepted_answer (leave t p x) (drop_refusal (m.history p) x)) number;
+    }
+
+-- a task that does something next has a state
+pub has_state : (job : Job) (machine : Machine) (t : ℕ) (next : Next) → IsNextIn job machine t next
+    → next ≢ is_not_live → t < length machine.tasks.items
+has_state job machine t next is never =
+    let at = is.some.1 in
+    let many = at.tasks_many in
+    let living = live-is job is.some.0 t (live_next job is.some.0 t next (is.is is.some.0 at) never) in
+    let there = living.there in
+    omega arith
+
+-- where a task leaves next, by the state that was read
+pub leaves_now : (job : Job) (machine : Machine) (m : Moment) (t : ℕ) (state : TaskState)
+    → IsNextIn job machine t leaves → IsMachineAt job m machine
+    → slice_get machine.tasks.items t ≡ Some state → LeavesAt job m t (place_of state)
+leaves_now job machine m t state next at found =
+    leaves_at job m t (place_of state) at.graph (at.tasks t state found).stands (next.is m at)
+
+-- how many phasers it has left fits the machine's words
+pub few_left : (job : Job) (machine : Machine) (t : ℕ) (state : TaskState) (numbers : List ℕ)
+    → IsNextIn job machine t leaves → slice_get machine.tasks.items t ≡ Some state
+    → numbers ≡ state.numbers.items → length numbers * 8 < 9223372036854775808
+    → (state.left < length numbers) × (state.left * 8 < 18446744073709551616)
+    × (state.left + 1 < 18446744073709551616)
+few_left job machine t state numbers next found same small =
+    let low = (leaves_now job machine next.some.0 t state next next.some.1 found).stays in
+    let long : length numbers ≡ length state.numbers.items = ap length same in
+    (omega arith, omega arith, omega arith)

@@ -1,0 +1,147 @@
+-- The line of a sink has room for the value of its next wait.
+use Rattle.std.proofs.Common.{◌≡◌, ℕ, ◌<◌, ◌≤◌, suc, Bool, true, false, cond, List, [], Option, Some, None, length, get_or, slice_get, set, ℤ, refl, sym, ap, subst, ◌∙◌, arith, inr, map}
+use Rattle.std.specs.Prelude.{IfSome, vec_len, vec_capacity}
+use Rattle.std.specs.List.{All, range_with_len}
+use Rattle.std.proofs.lemmas.List.{get_or-map}
+use Rattle.std.proofs.lemmas.List.Elements.{All-get_or, All-set}
+use Rattle.std.proofs.lemmas.Bool.{eq-eqb}
+use Rattle.std.proofs.lemmas.Option.{slice_get_within, get_or_from_slice_get}
+use Rattle.phase_core.specs.phase_accum.declared.outcome.Outcome.{Outcome}
+use Rattle.graph_lang.specs.graph_base.declared.line.Kind.TheVariants.{Sink}
+use Rattle.graph_lang.specs.graph_base.Graphs.{task_at}
+use Rattle.stream_eval.specs.stream_lists.Jobs.{Job, least}
+use Rattle.stream_eval.specs.stream_lists.Lists.{is_sink_at, sinks_of}
+use Rattle.stream_eval.specs.stream_lists.Spans.{span_in, takes_from}
+use Rattle.stream_eval.specs.Results.{sink_values}
+use Rattle.stream_eval.specs.declared.whole.Lines.{Lines}
+use Rattle.stream_eval.proofs.stream_lists_lemmas.Starts.{fewer_steps}
+use Rattle.graph_runs.specs.Moments.{Moment, IsRegistered, input_at, started}
+use Rattle.graph_runs.specs.Settled.{IsReady, Stands}
+use Rattle.graph_runs.proofs.Whole.{stands_all}
+use Rattle.graph_runs.proofs.Started.{run_started, ready_as}
+use Rattle.graph_runs.proofs.StepsLemmas.{has_inputs}
+use Rattle.graph_runs.specs.Nexts.{waits, number_on}
+use Rattle.graph_runs.specs.Answers.{makes, answer_of_turn, after_answer}
+use Rattle.graph_runs.specs.Reached.{IsReachable}
+use Rattle.graph_runs.specs.TaskEvents.{first_wait, after_turn}
+use Rattle.graph_runs.proofs.Boundaries.{all_taken}
+use Rattle.graph_runs.proofs.Signalling.{Live, live-is, number_there}
+use Rattle.stream_job.specs.Inside.{HasRoomIn, IsNextIn}
+use Rattle.stream_job.specs.Machines.{IsMachineAt, HasRoom}
+use Rattle.stream_job.specs.declared.machine.Machine.{Machine}
+use Rattle.stream_job.specs.declared.task_state.TaskState.{TaskState}
+use Rattle.stream_job.proofs.Lively.{live_next}
+use Rattle.stream_job.proofs.Waits.{sink_kind, first_few}
+use Rattle.stream_job.proofs.WhatNext.{Begins, waits_begins}
+
+-- the line of a sink is its task's, with what the task has taken
+line_is : (job : Job) (m : Moment) (machine : Machine) (i t : ℕ) (line : Lines)
+    → IsMachineAt job m machine → slice_get (sinks_of job) i ≡ Some t
+    → slice_get machine.lines.items i ≡ Some line
+    → sink_values line ≡ (t, m.taken t 0)
+line_is job m machine i t line at sink found =
+    let f : ℕ → ℕ × List ℤ = λ u. (u, m.taken u 0) in
+    let none : ℕ × List ℤ = (0, []) in
+    sym (ap sink_values (get_or_from_slice_get machine.lines.items i line line found))
+    ∙ sym (get_or-map sink_values machine.lines.items i line none
+    (slice_get_within machine.lines.items i line found))
+    ∙ ap (λ xs. get_or xs i none) at.lines
+    ∙ get_or-map f (sinks_of job) i t none (slice_get_within (sinks_of job) i t sink)
+    ∙ ap f (get_or_from_slice_get (sinks_of job) i t t sink)
+
+-- a task that waits for its next step makes one step more than it has begun
+steps_left : (job : Job) (m : Moment) (t k p n : ℕ) (outcome : Outcome) → IsReady job → Live job m t
+    → k < length (task_at job.graph t).inputs
+    → IsReachable job (after_turn job (first_wait t k p n outcome) m)
+    → m.number (input_at (task_at job.graph t) k) t
+    ≡ Some (number_on m t (input_at (task_at job.graph t) k))
+    → suc (m.begun t) ≤ (span_in (least job) t).steps
+steps_left job m t k p n outcome ready live few reached numbered =
+    let after = after_turn job (first_wait t k p n outcome) m in
+    let q = input_at (task_at job.graph t) k in
+    let registered : IsRegistered after t = (q, number_on m t q, numbered) in
+    let s : Stands (started job after) after t =
+    stands_all (started job after) after (ready_as job after ready)
+    (run_started job after reached.ran)
+    t live.there registered in
+    let within : after.begun t ≤ (span_in (started job after) t).steps = s.within in
+    let most : (span_in (started job after) t).steps ≤ (span_in (least job) t).steps =
+    fewer_steps job (map after.offset (range_with_len 0 (length job.graph.tasks))) t ready.graph
+    live.there in
+    let one : after.begun t ≡ suc (m.begun t) =
+    ap (λ b. cond b (suc (m.begun t)) (m.begun t)) (eq-eqb t t refl) in
+    omega arith
+
+pub sink_room : (job : Job) (old : Machine) (m : Moment) (t k p n : ℕ) (outcome : Outcome)
+    (state : TaskState) (sink : Option ℕ) → IsNextIn job old t (waits k) → IsMachineAt job m old
+    → slice_get old.tasks.items t ≡ Some state
+    → sink ≡ cond (is_sink_at job t) (Some state.sink) None
+    → answer_of_turn job m t ≡ makes (first_wait t k p n outcome)
+    → IfSome sink (HasRoomIn old.lines.items)
+sink_room job old m t k p n outcome state sink next at found is answer =
+    subst (λ o. IfSome o (HasRoomIn old.lines.items)) (sym is) (by (is_sink_at job t) refl)
+  where
+    live : Live job m t
+    live = live-is job m t (live_next job m t (waits k) (next.is m at) (λ e. absurd (cc)))
+
+    few : k < length (task_at job.graph t).inputs
+    few = first_few job old m t k next at
+
+    numbered : m.number (input_at (task_at job.graph t) k) t
+        ≡ Some (number_on m t (input_at (task_at job.graph t) k))
+    numbered =
+        number_there job m t (input_at (task_at job.graph t) k) at.graph live (inr (k, few, refl))
+
+    after : IsReachable job (after_turn job (first_wait t k p n outcome) m)
+    after = subst (λ a. IsReachable job (after_answer job a m)) answer (next.stays m at)
+
+    room : (i : ℕ) → slice_get (sinks_of job) i ≡ Some t → (task_at job.graph t).kind ≡ Sink
+        → HasRoomIn old.lines.items i
+    room i place kind = λ line read.
+        let here : sink_values line ≡ (t, m.taken t 0) =
+        line_is job m old i t line at place read in
+        let owner : line.task ≡ t = ap (λ x. x.0) here in
+        let long : length line.values.items ≡ length (m.taken t 0) = ap (λ x. length x.1) here in
+        let b : Begins job m t k = waits_begins job m t k (next.is m at) in
+        let some : 0 < length (task_at job.graph t).inputs =
+        has_inputs (task_at job.graph t).kind (length (task_at job.graph t).inputs)
+        (length (task_at job.graph t).outputs) (at.graph.tasks t live.there).ends b.kind in
+        let all : length (m.taken t 0) ≡ takes_from (task_at job.graph t) (m.begun t) 0 =
+        all_taken job m t at.graph (at.reached.ran.tasks t live.there) live.there b.step.none 0 some in
+        let plain : takes_from (task_at job.graph t) (m.begun t) 0 ≡ m.begun t = rw kind refl in
+        let more : suc (m.begun t) ≤ (span_in (least job) t).steps =
+        steps_left job m t k p n outcome (record { graph = at.graph; apart = at.apart }) live few after
+        numbered in
+        let lt = slice_get_within old.lines.items i line read in
+        let enough : (span_in (least job) line.task).steps ≤ vec_capacity line.values =
+        subst (HasRoom job) (get_or_from_slice_get old.lines.items i line line read)
+        (All-get_or (HasRoom job) old.lines.items i line lt at.room) in
+        let same : (span_in (least job) line.task).steps ≡ (span_in (least job) t).steps =
+        ap (λ u. (span_in (least job) u).steps) owner in
+        let items : vec_len line.values ≡ length line.values.items = line.values.ok.0 in
+        omega arith
+
+    by : (b : Bool) → is_sink_at job t ≡ b
+        → IfSome (cond b (Some state.sink) None) (HasRoomIn old.lines.items)
+    by true e =
+        let kind = sink_kind (task_at job.graph t).kind e in
+        room state.sink ((at.tasks t state found).sink kind) kind
+    by false e = tt
+
+-- a line that has taken a value has the room that it had
+pub room_kept : (job : Job) (lines : List Lines) (i : ℕ) (read kept : Lines) → i < length lines
+    → read ≡ get_or lines i read → kept.task ≡ read.task
+    → vec_capacity kept.values ≡ vec_capacity read.values → All (HasRoom job) lines
+    → All (HasRoom job) (set lines i kept)
+room_kept job lines i read kept lt is owner same all =
+    let was : (span_in (least job) read.task).steps ≤ vec_capacity read.values =
+    subst (HasRoom job) (sym is) (All-get_or (HasRoom job) lines i read lt all) in
+    let steps : (span_in (least job) kept.task).steps ≡ (span_in (least job) read.task).steps =
+    ap (λ u. (span_in (least job) u).steps) owner in
+    let room : vec_capacity kept.values ≡ vec_capacity read.values = same in
+    All-set (HasRoom job) lines i kept (omega arith) all
+
+-- the place of a sink's line
+pub line_there : (lines : List Lines) (i : ℕ) (sink : Option ℕ) → sink ≡ Some i
+    → IfSome sink (λ k. k < length lines) → i < length lines
+line_there lines i sink is there = subst (λ o. IfSome o (λ k. k < length lines)) is there

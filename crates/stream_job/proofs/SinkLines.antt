@@ -1,0 +1,140 @@
+-- The lines of the sinks.
+use Rattle.std.proofs.Common.{◌≡◌, ◌≢◌, ℕ, ℤ, zero, suc, ◌+◌, ◌<◌, ◌≤◌, Bool, true, false, cond, List, [], ◌∷◌, ◌++◌, Option, Some, length, get_or, slice_get, set, map, refl, sym, ap, subst, ◌∙◌, arith}
+use Rattle.std.specs.Prelude.{IfSome}
+use Rattle.std.specs.Vec.{vec_len, vec_capacity}
+use Rattle.std.specs.List.{filter, range_with_len}
+use Rattle.std.proofs.Math.Seq.{map-set_same}
+use Rattle.std.proofs.lemmas.List.{map-set, get_or-map}
+use Rattle.std.proofs.lemmas.Option.{slice_get_read, slice_get_within, get_or_from_slice_get, same_Some}
+use Rattle.stream_eval.specs.Results.{sink_values}
+use Rattle.stream_eval.specs.declared.whole.Lines.{Lines}
+use Rattle.stream_job.specs.Inside.{HasRoomIn, one_more, with_line}
+
+pub same_lines : (lines : List Lines) (i : ℕ) (read new : Lines) → read ≡ get_or lines i read
+    → sink_values new ≡ sink_values read → map sink_values (set lines i new) ≡ map sink_values lines
+same_lines lines i read new is same =
+    map-set_same sink_values lines i new read (same ∙ ap sink_values is)
+
+pub room_for : (lines : List Lines) (i : ℕ) (read : Lines) (sink : Option ℕ) → sink ≡ Some i
+    → IfSome sink (λ k. k < length lines) → IfSome sink (HasRoomIn lines)
+    → read ≡ get_or lines i read → vec_len read.values + 1 ≤ vec_capacity read.values
+room_for lines i read sink is there room value =
+    let lt = subst (λ o. IfSome o (λ k. k < length lines)) is there in
+    (subst (λ o. IfSome o (HasRoomIn lines)) is room) read
+    (slice_get_read lines (length lines) i read refl lt value)
+
+pub kept_line : (lines : List Lines) (i : ℕ) (read new : Lines) (x : ℤ) (sink : Option ℕ)
+    → sink ≡ Some i → IfSome sink (λ k. k < length lines) → read ≡ get_or lines i read
+    → sink_values new ≡ one_more x (sink_values read)
+    → map sink_values (set lines i new) ≡ with_line sink x (map sink_values lines)
+kept_line lines i read new x sink is there value longer =
+    let lt = subst (λ o. IfSome o (λ k. k < length lines)) is there in
+    map-set sink_values lines i new
+    ∙ ap (set (map sink_values lines) i) (longer
+    ∙ ap (one_more x) (ap sink_values value ∙ sym (get_or-map sink_values lines i read (0, []) lt)))
+    ∙ sym (ap (λ o. with_line o x (map sink_values lines)) is)
+
+pub map_same : {X Y : Type 0} (f g : X → Y) (xs : List X) → ((x : X) → f x ≡ g x)
+    → map f xs ≡ map g xs
+map_same f g [] same = refl
+map_same f g (x ∷ xs) same =
+    ap (λ y. y ∷ map f xs) (same x) ∙ ap (λ ys. g x ∷ ys) (map_same f g xs same)
+
+-- ---- the sinks are in order
+
+-- each number of the list is above those before it
+abbrev Ascends : ℕ → List ℕ → Type 0
+Ascends from [] = Unit {0}
+Ascends from (x ∷ xs) = (from ≤ x) × Ascends (suc x) xs
+
+lower : (low from : ℕ) (xs : List ℕ) → low ≤ from → Ascends from xs → Ascends low xs
+lower low from [] le up = tt
+lower low from (x ∷ xs) le up = (let first = up.0 in omega arith, up.1)
+
+filter_ascends : (test : ℕ → Bool) (from n : ℕ) → Ascends from (filter test (range_with_len from n))
+filter_ascends test from zero = tt
+filter_ascends test from (suc n) =
+    let one : from + 1 ≡ suc from = omega arith in
+    by (test from) (subst (λ a. Ascends a (filter test (range_with_len (from + 1) n))) one
+    (filter_ascends test (from + 1) n))
+  where
+    by : (b : Bool) → Ascends (suc from) (filter test (range_with_len (from + 1) n))
+        → Ascends from (cond b (from ∷ filter test (range_with_len (from + 1) n))
+        (filter test (range_with_len (from + 1) n)))
+    by true rest = (let le : from ≤ from = omega arith in le, rest)
+    by false rest =
+        lower from (suc from) (filter test (range_with_len (from + 1) n)) (omega arith) rest
+
+above : (from i t : ℕ) (xs : List ℕ) → Ascends from xs → slice_get xs i ≡ Some t → from ≤ t
+above from i t [] up found = absurd (cc)
+above from zero t (x ∷ xs) up found =
+    let same : x ≡ t = same_Some x t found in
+    let le = up.0 in
+    omega arith
+above from (suc i) t (x ∷ xs) up found =
+    let le = up.0 in
+    let more = above (suc x) i t xs up.1 found in
+    omega arith
+
+others_same : {Y : Type 0} (f g : ℕ → Y) (t from : ℕ) (xs : List ℕ) → t < from → Ascends from xs
+    → ((u : ℕ) → u ≢ t → f u ≡ g u) → map f xs ≡ map g xs
+others_same f g t from [] lt up same = refl
+others_same f g t from (x ∷ xs) lt up same =
+    let le = up.0 in
+    ap (λ y. y ∷ map f xs) (same x (λ e. omega arith))
+    ∙ ap (λ ys. g x ∷ ys) (others_same f g t (suc x) xs (omega arith) up.1 same)
+
+one_set : {Y : Type 0} (f g : ℕ → Y) (t from i : ℕ) (xs : List ℕ) → Ascends from xs
+    → slice_get xs i ≡ Some t → ((u : ℕ) → u ≢ t → f u ≡ g u)
+    → set (map f xs) i (g t) ≡ map g xs
+one_set f g t from i [] up found same = absurd (cc)
+one_set f g t from zero (x ∷ xs) up found same =
+    let it : x ≡ t = same_Some x t found in
+    ap (λ y. g y ∷ map f xs) (sym it)
+    ∙ ap (λ ys. g x ∷ ys) (others_same f g t (suc x) xs (omega arith) up.1 same)
+one_set f g t from (suc i) (x ∷ xs) up found same =
+    let more = above (suc x) i t xs up.1 found in
+    ap (λ y. y ∷ set (map f xs) i (g t)) (same x (λ e. omega arith))
+    ∙ ap (λ ys. g x ∷ ys) (one_set f g t (suc x) i xs up.1 found same)
+
+-- the lines after a sink has taken one value more
+pub one_line : (test : ℕ → Bool) (n i t : ℕ) (x : ℤ) (before after : ℕ → List ℤ)
+    → slice_get (filter test (range_with_len 0 n)) i ≡ Some t
+    → after t ≡ before t ++ x ∷ [] → ((u : ℕ) → u ≢ t → before u ≡ after u)
+    → with_line (Some i) x (map (λ u. (u, before u)) (filter test (range_with_len 0 n)))
+    ≡ map (λ u. (u, after u)) (filter test (range_with_len 0 n))
+one_line test n i t x before after found longer same =
+    let xs = filter test (range_with_len 0 n) in
+    let f : ℕ → ℕ × List ℤ = λ u. (u, before u) in
+    let lt = slice_get_within xs i t found in
+    let read : get_or (map f xs) i (0, []) ≡ f t =
+    get_or-map f xs i 0 (0, []) lt ∙ ap f (get_or_from_slice_get xs i t 0 found) in
+    ap (λ line. set (map f xs) i (one_more x line)) read
+    ∙ ap (λ l. set (map f xs) i (t, l)) (sym longer)
+    ∙ one_set f (λ u. (u, after u)) t 0 i xs (filter_ascends test 0 n) found
+    (λ u apart. ap (λ l. (u, l)) (same u apart))
+
+-- the lines where another task has taken one
+pub no_line : (test : ℕ → Bool) (n t : ℕ) (before after : ℕ → List ℤ) → test t ≡ false
+    → ((u : ℕ) → u ≢ t → before u ≡ after u)
+    → map {B = ℕ × List ℤ} (λ u. (u, before u)) (filter test (range_with_len 0 n))
+    ≡ map {B = ℕ × List ℤ} (λ u. (u, after u)) (filter test (range_with_len 0 n))
+no_line test n t before after none same = go 0 n
+  where
+    one : (from : ℕ) (rest : List ℕ) (b : Bool) → test from ≡ b
+        → map {B = ℕ × List ℤ} (λ u. (u, before u)) rest
+        ≡ map {B = ℕ × List ℤ} (λ u. (u, after u)) rest
+        → map {B = ℕ × List ℤ} (λ u. (u, before u)) (cond b (from ∷ rest) rest)
+        ≡ map {B = ℕ × List ℤ} (λ u. (u, after u)) (cond b (from ∷ rest) rest)
+    one from rest true e more =
+        let apart : from ≢ t = λ s. (let wrong : true ≡ false = sym e ∙ ap test s ∙ none in cc) in
+        ap (λ l. (from, l) ∷ map {B = ℕ × List ℤ} (λ u. (u, before u)) rest) (same from apart)
+        ∙ ap (λ ls. (from, after from) ∷ ls) more
+    one from rest false e more = more
+
+    go : (from n : ℕ)
+        → map {B = ℕ × List ℤ} (λ u. (u, before u)) (filter test (range_with_len from n))
+        ≡ map {B = ℕ × List ℤ} (λ u. (u, after u)) (filter test (range_with_len from n))
+    go from zero = refl
+    go from (suc n) =
+        one from (filter test (range_with_len (from + 1) n)) (test from) refl (go (from + 1) n)

@@ -1,0 +1,241 @@
+-- What the code tells of a turn is what the table tells.
+use Rattle.std.proofs.Common.{◌≡◌, ◌≢◌, ℕ, ◌<◌, ◌≤◌, true, false, List, [], Option, Some, None, length, get_or, refl, sym, ap, subst, ◌∙◌, arith, inr}
+use Rattle.std.proofs.lemmas.List.{length-set}
+use Rattle.graph_lang.specs.graph_base.declared.limits.TheConstants.{TASKS_MAX}
+use Rattle.graph_lang.specs.graph_base.Graphs.{task_at}
+use Rattle.graph_lang.specs.graph_base.TaskLines.{IsGraph}
+use Rattle.stream_eval.specs.stream_lists.Jobs.{Job}
+use Rattle.stream_eval.specs.stream_lists.Ranges.{Where}
+use Rattle.graph_runs.specs.Moments.{Moment, input_at}
+use Rattle.graph_runs.proofs.OnLines.{on_phaser}
+use Rattle.graph_runs.specs.TaskEvents.{TaskEvent, IsNext, sample, signal, first_wait, exchange_wait, leave, child}
+use Rattle.graph_runs.specs.Nexts.{Next, is_not_live, registers, leaves, samples, signals, waits, exchanges, next_of}
+use Rattle.graph_runs.specs.Answers.{Answer, makes, is_blocked, is_gone, has_made, is_refused, answer_to, answer_of_turn, after_answer, word_of_answer, turn_tells, was_blocked}
+use Rattle.graph_runs.specs.Reached.{IsReachable}
+use Rattle.graph_runs.proofs.Signalling.{live-is}
+use Rattle.graph_runs.proofs.Turning.{turn_makes_next}
+use Rattle.graph_runs.proofs.Outputs.{output_there}
+use Rattle.stream_job.specs.Machines.{IsMachineAt}
+use Rattle.stream_job.specs.Blocking.{called_on, AreBlocked}
+use Rattle.stream_job.specs.Turning.{Shows, HadTurn, after_turn_of, phaser_of, parked_after, parked_by, told_of}
+use Rattle.stream_job.specs.Parking.{with_task}
+use Rattle.stream_job.specs.Worlds.{WorldState, IsWorldAt}
+use Rattle.stream_job.specs.Tellings.{told_by, parked_with, IsOnPhaser}
+use Rattle.stream_job.specs.declared.machine.Machine.{Machine}
+use Rattle.stream_job.specs.declared.made.Made.{Made}
+use Rattle.stream_job.specs.declared.made.Made.TheVariants as made
+use Rattle.stream_job.specs.declared.turned.Turned.{Turned}
+use Rattle.stream_job.proofs.BlockedLists.{blocked_after}
+use Rattle.stream_job.proofs.Lively.{live_next}
+use Rattle.stream_job.proofs.Stalling.{leave_moves, register_moves}
+use Rattle.stream_job.proofs.Stepping.{sample_output, signal_output, wait_input, exchange_input}
+
+-- ---- what is word_of_answer
+
+pub tells_so : (job : Job) (m : Moment) (t : ℕ) (answer : Answer) (it : Made)
+    → Shows job m t answer it → word_of_answer job m answer ≡ Some (told_of (told_by it t))
+tells_so job m t (makes event) (made.Event p word) s = ap (λ w. Some w) s.1
+tells_so job m t (makes event) (made.Blocked p) s = absurd s
+tells_so job m t (makes event) (made.OutOfRange step) s = absurd s
+tells_so job m t (makes event) made.Nothing s = absurd s
+tells_so job m t is_blocked (made.Event p word) s = absurd s
+tells_so job m t is_blocked (made.Blocked p) s = refl
+tells_so job m t is_blocked (made.OutOfRange step) s = absurd s
+tells_so job m t is_blocked made.Nothing s = absurd s
+tells_so job m t is_gone (made.Event p word) s = absurd s
+tells_so job m t is_gone (made.Blocked p) s = absurd s
+tells_so job m t is_gone (made.OutOfRange step) s = absurd s
+tells_so job m t is_gone made.Nothing s = refl
+tells_so job m t (has_made at) (made.Event p word) s = absurd s
+tells_so job m t (has_made at) (made.Blocked p) s = absurd s
+tells_so job m t (has_made at) (made.OutOfRange step) s = ap (λ x. word_of_answer job m (has_made x)) s
+tells_so job m t (has_made at) made.Nothing s = absurd s
+tells_so job m t is_refused (made.Event p word) s = absurd s
+tells_so job m t is_refused (made.Blocked p) s = absurd s
+tells_so job m t is_refused (made.OutOfRange step) s = absurd s
+tells_so job m t is_refused made.Nothing s = absurd s
+
+-- ---- the lists of blocked tasks
+
+pub parks_so : (job : Job) (m : Moment) (t : ℕ) (answer : Answer) (it : Made)
+    (parked : List (List ℕ)) → Shows job m t answer it
+    → parked_with it t parked ≡ parked_after job t (next_of job m t) answer parked
+parks_so job m t (makes event) (made.Event p word) parked s =
+    ap (λ q. parked_with (made.Event q word) t parked) (sym s.0)
+parks_so job m t (makes event) (made.Blocked p) parked s = absurd s
+parks_so job m t (makes event) (made.OutOfRange step) parked s = absurd s
+parks_so job m t (makes event) made.Nothing parked s = absurd s
+parks_so job m t is_blocked (made.Event p word) parked s = absurd s
+parks_so job m t is_blocked (made.Blocked p) parked s =
+    ap (λ q. parked_with (made.Blocked q) t parked) (sym s)
+parks_so job m t is_blocked (made.OutOfRange step) parked s = absurd s
+parks_so job m t is_blocked made.Nothing parked s = absurd s
+parks_so job m t is_gone (made.Event p word) parked s = absurd s
+parks_so job m t is_gone (made.Blocked p) parked s = absurd s
+parks_so job m t is_gone (made.OutOfRange step) parked s = absurd s
+parks_so job m t is_gone made.Nothing parked s = refl
+parks_so job m t (has_made at) (made.Event p word) parked s = absurd s
+parks_so job m t (has_made at) (made.Blocked p) parked s = absurd s
+parks_so job m t (has_made at) (made.OutOfRange step) parked s = refl
+parks_so job m t (has_made at) made.Nothing parked s = absurd s
+parks_so job m t is_refused (made.Event p word) parked s = absurd s
+parks_so job m t is_refused (made.Blocked p) parked s = absurd s
+parks_so job m t is_refused (made.OutOfRange step) parked s = absurd s
+parks_so job m t is_refused made.Nothing parked s = absurd s
+
+-- ---- the phaser is there
+
+event_there : (job : Job) (m : Moment) (event : TaskEvent) → IsNext job m event
+    → phaser_of event < length job.graph.phasers
+event_there job m (sample t j p n v) next = next.0.phaser
+event_there job m (signal t j p n v) next = next.0.phaser
+event_there job m (first_wait t k p n outcome) next = next.0.phaser
+event_there job m (exchange_wait t p n outcome) next = next.0.phaser
+event_there job m (leave t p n) next = next.0.phaser
+event_there job m (child t p n c a mode) next = next.0.phaser
+
+input_there : (job : Job) (t k : ℕ) → IsGraph job.graph → t < length job.graph.tasks
+    → k < length (task_at job.graph t).inputs
+    → input_at (task_at job.graph t) k < length job.graph.phasers
+input_there job t k is there few =
+    on_phaser job t (input_at (task_at job.graph t) k) is there (inr (k, few, refl))
+
+blocked_there : (job : Job) (m : Moment) (t : ℕ) → IsGraph job.graph
+    → answer_of_turn job m t ≡ is_blocked
+    → (called_on job t (next_of job m t) < length job.graph.phasers) × (t < 64)
+blocked_there job m t is blocked = by (next_of job m t) refl blocked
+  where
+    there : (next : Next) → next_of job m t ≡ next → next ≢ is_not_live
+        → t < length job.graph.tasks
+    there next e never = (live-is job m t (live_next job m t next e never)).there
+
+    small : t < length job.graph.tasks → t < 64
+    small lt = let few : length job.graph.tasks ≤ TASKS_MAX = is.few_tasks in omega arith
+
+    by : (next : Next) → next_of job m t ≡ next → answer_to job m t next ≡ is_blocked
+        → (called_on job t next < length job.graph.phasers) × (t < 64)
+    by is_not_live e b = absurd (cc)
+    by (registers c) e b =
+        absurd (let wrong : false ≡ true = sym (register_moves job m t c) ∙ ap was_blocked b in cc)
+    by leaves e b =
+        absurd (let wrong : false ≡ true = sym (leave_moves job m t) ∙ ap was_blocked b in cc)
+    by samples e b =
+        let lt = there samples e (λ no. absurd (cc)) in
+        (output_there job t 0 is lt (sample_output job m t is lt e), small lt)
+    by (signals j) e b =
+        let lt = there (signals j) e (λ no. absurd (cc)) in
+        (output_there job t j is lt (signal_output job m t j e), small lt)
+    by (waits k) e b =
+        let lt = there (waits k) e (λ no. absurd (cc)) in
+        (input_there job t k is lt (wait_input job m t k is lt e), small lt)
+    by exchanges e b =
+        let lt = there exchanges e (λ no. absurd (cc)) in
+        (input_there job t 1 is lt (exchange_input job m t is lt e), small lt)
+
+pub made_there : (job : Job) (m : Moment) (t : ℕ) (it : Made) → IsGraph job.graph
+    → IsReachable job m → Shows job m t (answer_of_turn job m t) it
+    → IsOnPhaser it t (length job.graph.phasers)
+made_there job m t it is reached s = by (answer_of_turn job m t) refl it s
+  where
+    by : (answer : Answer) → answer_of_turn job m t ≡ answer → (it : Made)
+        → Shows job m t answer it → IsOnPhaser it t (length job.graph.phasers)
+    by (makes event) e (made.Event p word) s =
+        let P : ℕ → Type 0 = λ q. q < length job.graph.phasers in
+        subst P s.0 (event_there job m event
+        (turn_makes_next job m t event is reached.ran (λ c due. reached.to_come) e))
+    by (makes event) e (made.Blocked p) s = absurd s
+    by is_blocked e (made.Event p word) s = absurd s
+    by is_blocked e (made.Blocked p) s =
+        let both = blocked_there job m t is e in
+        let P : ℕ → Type 0 = λ q. q < length job.graph.phasers in
+        (subst P s both.0, both.1)
+    by is_gone e (made.Event p word) s = absurd s
+    by is_gone e (made.Blocked p) s = absurd s
+    by (has_made at) e (made.Event p word) s = absurd s
+    by (has_made at) e (made.Blocked p) s = absurd s
+    by is_refused e (made.Event p word) s = absurd s
+    by is_refused e (made.Blocked p) s = absurd s
+    by answer e (made.OutOfRange step) s = tt
+    by answer e made.Nothing s = tt
+
+-- ---- a task that is not live
+
+pub gone_turn : (job : Job) (machine : Machine) (t : ℕ)
+    → ((m : Moment) → IsMachineAt job m machine → next_of job m t ≡ is_not_live)
+    → HadTurn job machine machine t made.Nothing
+gone_turn job machine t gone = record {
+  shows = λ m at. shows m at;
+  after = λ m at. after m at;
+}
+  where
+    answer : (m : Moment) → IsMachineAt job m machine → answer_of_turn job m t ≡ is_gone
+    answer m at = ap (answer_to job m t) (gone m at)
+
+    shows : (m : Moment) → IsMachineAt job m machine
+        → Shows job m t (answer_of_turn job m t) made.Nothing
+    shows m at = subst (λ a. Shows job m t a made.Nothing) (sym (answer m at)) tt
+
+    after : (m : Moment) → (at : IsMachineAt job m machine)
+        → IsMachineAt job (after_answer job (answer_of_turn job m t) m) machine
+    after m at =
+        subst (λ a. IsMachineAt job (after_answer job a m) machine) (sym (answer m at)) at
+
+-- ---- a turn of a world
+
+pub turn_tells_so : (job : Job) (met : Option Where) (m : Moment) (t : ℕ) (it : Made)
+    (word : Turned) → met ≡ None → Shows job m t (answer_of_turn job m t) it
+    → word ≡ told_by it t → turn_tells job met m t ≡ Some (told_of word)
+turn_tells_so job met m t it word none s same =
+    ap (λ o. turn_tells job o m t) none ∙ tells_so job m t (answer_of_turn job m t) it s
+    ∙ ap (λ w. Some (told_of w)) (sym same)
+
+pub turn_parks_so : (world : WorldState) (m : Moment) (t : ℕ) (it : Made)
+    (parked : List (List ℕ)) → world.met ≡ None
+    → Shows world.job m t (answer_of_turn world.job m t) it
+    → parked ≡ parked_with it t world.parked → parked ≡ parked_by world m t
+turn_parks_so world m t it parked none s same =
+    same ∙ parks_so world.job m t (answer_of_turn world.job m t) it world.parked s
+    ∙ sym (as_is world none)
+  where
+    as_is : (world : WorldState) → world.met ≡ None
+        → parked_by world m t
+        ≡ parked_after world.job t (next_of world.job m t) (answer_of_turn world.job m t)
+        world.parked
+    as_is world none = rw none refl
+
+-- the tasks in the lists are blocked after the turn
+pub turn_blocks_so : (job : Job) (old new : Machine) (m : Moment) (t : ℕ) (it : Made)
+    (parked after : List (List ℕ)) → HadTurn job old new t it → after ≡ parked_with it t parked
+    → IsMachineAt job m old → AreBlocked job m parked
+    → AreBlocked job (after_answer job (answer_of_turn job m t) m) after
+turn_blocks_so job old new m t it parked after had same at were =
+    subst (AreBlocked job (after_answer job (answer_of_turn job m t) m))
+    (sym (same ∙ parks_so job m t (answer_of_turn job m t) it parked (had.shows m at)))
+    (blocked_after job m old t parked at were)
+
+-- the world stands at the moment after the turn
+pub turn_stands_so : (world : WorldState) (new : Machine) (parked : List (List ℕ))
+    (met : Option Where) (m : Moment) (t : ℕ) (it : Made) → world.met ≡ None
+    → HadTurn world.job world.machine new t it → parked ≡ parked_with it t world.parked
+    → IsWorldAt world m
+    → IsWorldAt record { job = world.job; machine = new; met = met; parked = parked }
+    (after_turn_of world m t)
+turn_stands_so world new parked met m t it none had same at =
+    subst (IsWorldAt record { job = world.job; machine = new; met = met; parked = parked })
+    (sym (as_is world none)) record {
+      machine = had.after m at.machine;
+      parked = turn_blocks_so world.job world.machine new m t it world.parked parked had same
+          at.machine at.parked;
+    }
+  where
+    as_is : (world : WorldState) → world.met ≡ None
+        → after_turn_of world m t ≡ after_answer world.job (answer_of_turn world.job m t) m
+    as_is world none = rw none refl
+
+-- there are as many lists as before
+pub parked_many : (it : Made) (t : ℕ) (parked : List (List ℕ))
+    → length (parked_with it t parked) ≡ length parked
+parked_many (made.Event p word) t parked = length-set parked p []
+parked_many (made.Blocked p) t parked = length-set parked p (with_task t (get_or parked p []))
+parked_many (made.OutOfRange step) t parked = refl
+parked_many made.Nothing t parked = refl

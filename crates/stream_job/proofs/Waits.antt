@@ -1,0 +1,575 @@
+-- The turn of a task that waits.
+use Rattle.std.proofs.Common.{◌≡◌, ◌≢◌, ℕ, ℤ, List, suc, ◌+◌, ◌<◌, ◌≤◌, Bool, true, false, cond, eqb, [], ◌∷◌, ◌++◌, Option, Some, None, length, get_or, slice_get, set, map, refl, sym, ap, subst, ◌∙◌, arith}
+use Rattle.std.specs.Prelude.{Result, Ok, Err, nat_lt, IfSome}
+use Rattle.std.specs.List.{All}
+use Rattle.std.proofs.lemmas.List.{length-map}
+use Rattle.std.proofs.lemmas.Option.{slice_get_within}
+use Rattle.std.proofs.lemmas.Bool.{eq-eqb, eqb-true, ne_eqb}
+use Rattle.phase_core.specs.phase_accum.declared.outcome.Outcome.{Outcome}
+use Rattle.phase_core.specs.phase_accum.declared.outcome.Outcome.TheVariants as outcomes
+use Rattle.phase_core.specs.phase_base.Limits.{Limits}
+use Rattle.phase_core.specs.phase_history.declared.event.Event.TheVariants.{Waited}
+use Rattle.phase_core.specs.phase_history.declared.got.Got.{Got}
+use Rattle.phase_core.specs.phase_history.declared.got.Got.TheVariants as got
+use Rattle.phase_core.specs.phase_history.declared.refusal.WaitRefusal.{WaitRefusal}
+use Rattle.phase_core.specs.phase_history.declared.refusal.WaitRefusal.TheVariants as refusals
+use Rattle.phase_core.specs.phase_history.Histories.{History, wait_phase, done_of}
+use Rattle.phase_core.specs.phase_history.Phases.{value_of_phase}
+use Rattle.phase_core.specs.phase_history.Refusals.{wait_refusal}
+use Rattle.phase_core.specs.phase_history.Replies.{wait_reply, refused_or}
+use Rattle.graph_lang.specs.graph_base.declared.line.Kind.TheVariants.{Source, Fir, Split, Join, Peer, Sink}
+use Rattle.graph_lang.specs.graph_base.declared.line.Kind.{Kind}
+use Rattle.graph_lang.specs.graph_base.declared.place.Place.TheVariants as place
+use Rattle.graph_lang.specs.graph_base.Graphs.{Task, task_at, is_sink}
+use Rattle.stream_eval.specs.stream_lists.Jobs.{Job}
+use Rattle.stream_eval.specs.stream_lists.Lists.{number, sinks_of, is_sink_at}
+use Rattle.stream_eval.specs.Results.{sink_values}
+use Rattle.graph_runs.specs.Moments.{Moment, limits_at, value_at, input_at, first_input}
+use Rattle.graph_runs.proofs.Tasks.{first_looks}
+use Rattle.graph_runs.specs.Turned.{with_at}
+use Rattle.graph_runs.specs.Nexts as turns
+use Rattle.graph_runs.specs.Nexts.{Next, is_live, next_of, number_on}
+use Rattle.graph_runs.specs.Reached.{IsReachable}
+use Rattle.graph_runs.specs.TaskEvents.{TaskEvent, first_wait, exchange_wait, after_turn}
+use Rattle.graph_runs.specs.Answers as answers
+use Rattle.graph_runs.specs.Answers.{Told, makes, is_blocked, is_refused, answer_of_turn, after_answer, answer_to, wait_answer, told_wait}
+use Rattle.graph_runs.specs.TaskPlaces as places
+use Rattle.graph_runs.specs.TaskPlaces.{StandsAt, owed_after_exchange}
+use Rattle.graph_runs.proofs.Signalling.{live-is}
+use Rattle.graph_runs.proofs.Boundaries.{peer_ends}
+use Rattle.graph_runs.proofs.Calling.{waits_as_peer}
+use Rattle.graph_runs.proofs.Exchanging.{exchange_follows}
+use Rattle.graph_runs.proofs.FirstWaits.{first_wait_follows}
+use Rattle.graph_runs.specs.Steps.{owed_of, HasFilter}
+use Rattle.graph_runs.specs.declared.owed.Owed.{Owed}
+use Rattle.graph_runs.specs.declared.owed.Owed.TheVariants as code
+use Rattle.stream_job.specs.Inside.{told_got, with_line, IsNextIn}
+use Rattle.stream_job.specs.Places.{place_of, HasTakenOne}
+use Rattle.stream_job.specs.Machines.{IsMachineAt, HasCores, HasRoom}
+use Rattle.stream_job.specs.Turning.{HadTurn, Shows, told_of}
+use Rattle.stream_job.specs.declared.machine.Machine.{Machine}
+use Rattle.stream_job.specs.declared.task_state.TaskState.{TaskState}
+use Rattle.stream_job.specs.declared.made.Made.TheVariants.{Event, Blocked}
+use Rattle.stream_job.specs.declared.turned.Turned.{Turned}
+use Rattle.stream_job.proofs.SinkLines.{map_same, one_line, no_line}
+use Rattle.stream_job.proofs.Ending.{number_of_input}
+use Rattle.stream_job.proofs.Lively.{live_next}
+use Rattle.stream_job.proofs.WhatNext.{InStep, waits_begins, exchanges_owes}
+use Rattle.stream_job.proofs.Signals.{blocked_turn, with_owed}
+use Rattle.stream_job.proofs.Events.{after_own, unchanged}
+
+-- ---- the reply
+
+-- a value is that of the phase that the task waits for
+phase_is : (value : List ℤ → Outcome) (limits : Limits) (h : History) (n phase : ℕ)
+    (outcome : Outcome) → wait_reply value limits h n ≡ Ok (got.Value phase outcome)
+    → phase ≡ wait_phase h n
+phase_is value limits h n phase outcome e =
+    by (wait_refusal limits h n 1) (nat_lt (wait_phase h n) (done_of h)) e
+  where
+    phase_of : Result Got WaitRefusal → ℕ
+    phase_of (Ok (got.Value w x)) = w
+    phase_of (Ok got.Ended) = phase
+    phase_of (Err r) = phase
+
+    same : (a b : Result Got WaitRefusal) → a ≡ b → phase_of a ≡ phase_of b
+    same a b e = ap phase_of e
+
+    by : (o : Option WaitRefusal) (b : Bool)
+        → refused_or o (cond b (got.Value (wait_phase h n)
+        (value_of_phase value h (wait_phase h n))) got.Ended) ≡ Ok (got.Value phase outcome)
+        → phase ≡ wait_phase h n
+    by None true e =
+        sym (same (Ok (got.Value (wait_phase h n) (value_of_phase value h (wait_phase h n))))
+        (Ok (got.Value phase outcome)) e)
+    by None false e = absurd (cc)
+    by (Some r) b e = absurd (cc)
+
+-- what it tells
+told_is : (m : Moment) (p n phase : ℕ) (outcome : Outcome) → phase ≡ wait_phase (m.history p) n
+    → told_wait m p n outcome ≡ told_got p phase outcome
+told_is m p n phase outcomes.TooBig same =
+    ap (λ w. answers.TooBig (place.Phaser p, w)) (sym same)
+told_is m p n phase outcomes.Empty same = refl
+told_is m p n phase (outcomes.Value v) same = refl
+
+-- a refusal that a turn may get
+blocks : (event : Outcome → TaskEvent) (r : WaitRefusal)
+    → wait_answer event (Err r) ≢ is_refused → wait_answer event (Err r) ≡ is_blocked
+blocks event refusals.NoTask never = absurd (never refl)
+blocks event refusals.NoWait never = absurd (never refl)
+blocks event refusals.BadBlock never = absurd (never refl)
+blocks event refusals.SignalFirst never = absurd (never refl)
+blocks event refusals.NotYet never = refl
+
+-- ---- what is asked of the phaser
+
+pub record WaitsAt (job : Job) (m : Moment) (t k : ℕ) (state : TaskState) : Type 0 where
+  pub there : t < length job.graph.tasks
+  pub few : k < length (task_at job.graph t).inputs
+  pub place : k < length state.numbers.items
+  pub number : number_on m t (input_at (task_at job.graph t) k) ≡ get_or state.numbers.items k 0
+
+waits_by : (job : Job) (machine : Machine) (m : Moment) (t k : ℕ) (state : TaskState)
+    → IsMachineAt job m machine → slice_get machine.tasks.items t ≡ Some state
+    → is_live job m t ≡ true → k < length (task_at job.graph t).inputs → WaitsAt job m t k state
+waits_by job machine m t k state at found live few =
+    let it = number_of_input job m t k (place_of state) at.graph (at.tasks t state found).stands live
+    few in
+    record {
+      there = (live-is job m t live).there;
+      few = few;
+      place = it.0;
+      number = it.1;
+    }
+
+pub first_few : (job : Job) (machine : Machine) (m : Moment) (t k : ℕ)
+    → IsNextIn job machine t (turns.waits k) → IsMachineAt job m machine
+    → k < length (task_at job.graph t).inputs
+first_few job machine m t k next at =
+    let is = next.is m at in
+    let there = (live-is job m t (live_next job m t (turns.waits k) is (λ e. absurd (cc)))).there in
+    let b = waits_begins job m t k is in
+    subst (λ i. i < length (task_at job.graph t).inputs) (sym b.first)
+    (first_looks (task_at job.graph t) (m.begun t) (at.graph.tasks t there).ends b.kind).0
+
+pub first_waits_at : (job : Job) (machine : Machine) (m : Moment) (t k : ℕ) (state : TaskState)
+    → IsNextIn job machine t (turns.waits k) → IsMachineAt job m machine
+    → slice_get machine.tasks.items t ≡ Some state → WaitsAt job m t k state
+first_waits_at job machine m t k state next at found =
+    waits_by job machine m t k state at found
+    (live_next job m t (turns.waits k) (next.is m at) (λ e. absurd (cc)))
+    (first_few job machine m t k next at)
+
+pub is_peer : (job : Job) (m : Moment) (t : ℕ) → next_of job m t ≡ turns.exchanges
+    → (task_at job.graph t).kind ≡ Peer
+is_peer job m t is =
+    let s = exchanges_owes job m t is in
+    by s.output (turns.waits_first (task_at job.graph t).kind s.output (length (m.put t s.output))
+    (length (m.taken t 1))) refl s.is
+  where
+    by : (j : ℕ) (b : Bool) → turns.waits_first (task_at job.graph t).kind j (length (m.put t j))
+        (length (m.taken t 1)) ≡ b → cond b turns.exchanges (turns.signals j) ≡ turns.exchanges
+        → (task_at job.graph t).kind ≡ Peer
+    by j true first e =
+        (waits_as_peer (task_at job.graph t).kind j (length (m.put t j)) (length (m.taken t 1))
+        first).0
+    by j false first e = absurd (cc)
+
+pub exchange_few : (job : Job) (machine : Machine) (m : Moment) (t : ℕ)
+    → IsNextIn job machine t turns.exchanges → IsMachineAt job m machine
+    → 1 < length (task_at job.graph t).inputs
+exchange_few job machine m t next at =
+    let is = next.is m at in
+    let there = (live-is job m t (live_next job m t turns.exchanges is (λ e. absurd (cc)))).there in
+    let ends = (peer_ends job t at.graph there (is_peer job m t is)).0 in
+    omega arith
+
+pub exchange_waits_at : (job : Job) (machine : Machine) (m : Moment) (t : ℕ) (state : TaskState)
+    → IsNextIn job machine t turns.exchanges → IsMachineAt job m machine
+    → slice_get machine.tasks.items t ≡ Some state → WaitsAt job m t 1 state
+exchange_waits_at job machine m t state next at found =
+    waits_by job machine m t 1 state at found
+    (live_next job m t turns.exchanges (next.is m at) (λ e. absurd (cc)))
+    (exchange_few job machine m t next at)
+
+-- ---- what the turn answers
+
+exchange_so : (job : Job) (machine : Machine) (m : Moment) (t n p : ℕ) (state : TaskState)
+    → IsNextIn job machine t turns.exchanges → IsMachineAt job m machine
+    → slice_get machine.tasks.items t ≡ Some state → p ≡ input_at (task_at job.graph t) 1
+    → n ≡ get_or state.numbers.items 1 0
+    → answer_of_turn job m t ≡ wait_answer (exchange_wait t p n)
+    (wait_reply (value_at job p) (limits_at job p) (m.history p) n)
+exchange_so job machine m t n p state next at found phaser numbered =
+    let w = exchange_waits_at job machine m t state next at found in
+    let q = input_at (task_at job.graph t) 1 in
+    ap (answer_to job m t) (next.is m at)
+    ∙ ap (λ k. wait_answer (exchange_wait t q k) (wait_reply (value_at job q) (limits_at job q)
+    (m.history q) k)) (w.number ∙ sym numbered)
+    ∙ ap (λ r. wait_answer (exchange_wait t r n) (wait_reply (value_at job r) (limits_at job r)
+    (m.history r) n)) (sym phaser)
+
+first_so : (job : Job) (machine : Machine) (m : Moment) (t k n p : ℕ) (state : TaskState)
+    → IsNextIn job machine t (turns.waits k) → IsMachineAt job m machine
+    → slice_get machine.tasks.items t ≡ Some state → p ≡ input_at (task_at job.graph t) k
+    → n ≡ get_or state.numbers.items k 0
+    → answer_of_turn job m t ≡ wait_answer (first_wait t k p n)
+    (wait_reply (value_at job p) (limits_at job p) (m.history p) n)
+first_so job machine m t k n p state next at found phaser numbered =
+    let w = first_waits_at job machine m t k state next at found in
+    let q = input_at (task_at job.graph t) k in
+    ap (answer_to job m t) (next.is m at)
+    ∙ ap (λ i. wait_answer (first_wait t k q i) (wait_reply (value_at job q) (limits_at job q)
+    (m.history q) i)) (w.number ∙ sym numbered)
+    ∙ ap (λ r. wait_answer (first_wait t k r n) (wait_reply (value_at job r) (limits_at job r)
+    (m.history r) n)) (sym phaser)
+
+-- ---- a peer's exchange
+
+-- what a peer that exchanges owes, by its state
+pub owes_exchange : (job : Job) (machine : Machine) (m : Moment) (t : ℕ) (state : TaskState)
+    → IsNextIn job machine t turns.exchanges → IsMachineAt job m machine
+    → slice_get machine.tasks.items t ≡ Some state
+    → (x : ℤ) × (owed_of state.owed ≡ places.exchange x)
+owes_exchange job machine m t state next at found =
+    by (owed_of state.owed) (at.tasks t state found).stands.owes
+  where
+    s : InStep job m t turns.exchanges
+    s = exchanges_owes job m t (next.is m at)
+
+    one : (i j : ℕ) → Some i ≡ Some j → i ≡ j
+    one i j e = cc
+
+    by : (o : places.Owed) → places.Owes job m t o → (x : ℤ) × (o ≡ places.exchange x)
+    by places.nothing owes = absurd (let wrong : None ≡ Some s.output = sym owes ∙ s.owes in cc)
+    by (places.value i v) owes =
+        absurd (let same : i ≡ s.output = one i s.output (sym owes.0 ∙ s.owes) in
+        let wrong : turns.signals i ≡ turns.exchanges =
+        sym owes.1 ∙ ap (turns.in_step job m t) same ∙ s.is in cc)
+    by (places.exchange x) owes = (x, refl)
+
+pub exchange_some : (job : Job) (machine : Machine) (t : ℕ) (state : TaskState)
+    → IsNextIn job machine t turns.exchanges → slice_get machine.tasks.items t ≡ Some state
+    → ((x : ℤ) → state.owed ≡ code.Exchange x → ⊥) → ⊥
+exchange_some job machine t state next found never =
+    let owes = owes_exchange job machine next.some.0 t state next next.some.1 found in
+    by state.owed refl owes.0 owes.1
+  where
+    by : (o : Owed) → state.owed ≡ o → (x : ℤ) → owed_of state.owed ≡ places.exchange x → ⊥
+    by code.Nothing e x is = absurd (let wrong : places.nothing ≡ places.exchange x =
+        ap owed_of (sym e) ∙ is in cc)
+    by (code.Value i w) e x is = absurd (let wrong : places.value i w ≡ places.exchange x =
+        ap owed_of (sym e) ∙ is in cc)
+    by (code.Exchange y) e x is = never y e
+
+pub exchanged_turn : (job : Job) (old new : Machine) (t n p phase : ℕ) (x : ℤ)
+    (outcome : Outcome) (state : TaskState) (owed : Owed) (told : Turned)
+    → IsNextIn job old t turns.exchanges → slice_get old.tasks.items t ≡ Some state
+    → p ≡ input_at (task_at job.graph t) 1 → n ≡ get_or state.numbers.items 1 0
+    → state.owed ≡ code.Exchange x
+    → ((m : Moment) → IsMachineAt job m old
+    → wait_reply (value_at job p) (limits_at job p) (m.history p) n ≡ Ok (got.Value phase outcome))
+    → ((m : Moment) → IsMachineAt job m old
+    → HasCores job (with_at p (Waited n 1 ∷ m.history p) m.history) new.cores.items)
+    → new.tasks.items ≡ set old.tasks.items t (with_owed state owed) → new.lines ≡ old.lines
+    → owed_of owed ≡ owed_after_exchange (task_at job.graph t) (places.exchange x) (number outcome)
+    → told_of told ≡ told_got p phase outcome
+    → HadTurn job old new t (Event p told)
+exchanged_turn job old new t n p phase x outcome state owed told next found phaser numbered owes reply cores tasks lines after_owes tells =
+    record { shows = shows; after = after }
+  where
+    answer : (m : Moment) → IsMachineAt job m old
+        → answer_of_turn job m t ≡ makes (exchange_wait t p n outcome)
+    answer m at =
+        exchange_so job old m t n p state next at found phaser numbered
+        ∙ ap (wait_answer (exchange_wait t p n)) (reply m at)
+
+    shows : (m : Moment) → IsMachineAt job m old
+        → Shows job m t (answer_of_turn job m t) (Event p told)
+    shows m at =
+        subst (λ a. Shows job m t a (Event p told)) (sym (answer m at)) (
+          refl,
+          told_is m p n phase outcome (phase_is (value_at job p) (limits_at job p) (m.history p) n
+              phase outcome (reply m at)) ∙ sym tells,
+        )
+
+    stays : (m : Moment) (u : ℕ)
+        → (after_turn job (exchange_wait t p n outcome) m).taken u 0 ≡ m.taken u 0
+    stays m u = by (eqb u t) refl
+      where
+        by : (b : Bool) → eqb u t ≡ b
+            → (after_turn job (exchange_wait t p n outcome) m).taken u 0 ≡ m.taken u 0
+        by true e =
+            let same : u ≡ t = eqb-true u t e in
+            ap (λ b. cond b (with_at 1 (m.taken t 1 ++ number outcome ∷ []) (m.taken t)) (m.taken u) 0) e
+            ∙ ap (λ v. m.taken v 0) (sym same)
+        by false e =
+            ap (λ b. cond b (with_at 1 (m.taken t 1 ++ number outcome ∷ []) (m.taken t)) (m.taken u) 0) e
+
+    after : (m : Moment) → IsMachineAt job m old
+        → IsMachineAt job (after_answer job (answer_of_turn job m t) m) new
+    after m at =
+        let it = at.tasks t state found in
+        let event = exchange_wait t p n outcome in
+        let ran = (subst (λ a. IsReachable job (after_answer job a m)) (answer m at)
+        (next.stays m at)).ran in
+        let is : owed_of state.owed ≡ places.exchange x = ap owed_of owes in
+        let after_is : owed_after_exchange (task_at job.graph t) (owed_of state.owed) (number outcome)
+        ≡ owed_of owed =
+        ap (λ o. owed_after_exchange (task_at job.graph t) o (number outcome)) is
+        ∙ sym after_owes in
+        let stands : StandsAt job (after_turn job event m) t (place_of (with_owed state owed)) =
+        subst (λ o. StandsAt job (after_turn job event m) t (record (place_of state) { owed = o }))
+        after_is (exchange_follows job m t p n outcome (place_of state) at.graph at.reached ran
+        (answer m at) it.stands) in
+        after_own job m old new t event (with_owed state owed) at (answer m at) refl
+        (exchange_waits_at job old m t state next at found).there (next.stays m at) (next.few m at)
+        (cores m at) tasks
+        (record {
+          stands = stands;
+          room = it.room;
+          filter = subst (HasFilter (task_at job.graph t) state.filter) (sym (stays m t)) it.filter;
+          sink = it.sink;
+        })
+        (ap (λ l. map sink_values l.items) lines ∙ at.lines
+        ∙ map_same (λ u. (u, m.taken u 0)) (λ u. (u, (after_turn job event m).taken u 0))
+        (sinks_of job) (λ u. ap (λ l. (u, l)) (sym (stays m u))))
+        (subst (λ l. All (HasRoom job) l.items) (sym lines) at.room)
+
+-- a wait that the phaser would not take now
+pub blocked_exchange : (job : Job) (old new : Machine) (t n p : ℕ) (state : TaskState)
+    (r : WaitRefusal) → IsNextIn job old t turns.exchanges → slice_get old.tasks.items t ≡ Some state
+    → p ≡ input_at (task_at job.graph t) 1 → n ≡ get_or state.numbers.items 1 0
+    → ((m : Moment) → IsMachineAt job m old
+    → wait_reply (value_at job p) (limits_at job p) (m.history p) n ≡ Err r)
+    → ((m : Moment) → IsMachineAt job m old
+    → HasCores job (with_at p (m.history p) m.history) new.cores.items)
+    → new.tasks ≡ old.tasks → new.lines ≡ old.lines → HadTurn job old new t (Blocked p)
+blocked_exchange job old new t n p state r next found phaser numbered reply cores tasks lines =
+    blocked_turn job old new t p turns.exchanges next (sym phaser) answer
+    (λ m at. unchanged job m old new p at (cores m at) tasks lines)
+  where
+    refused : (m : Moment) → IsMachineAt job m old
+        → answer_of_turn job m t ≡ wait_answer (exchange_wait t p n) (Err r)
+    refused m at =
+        exchange_so job old m t n p state next at found phaser numbered
+        ∙ ap (wait_answer (exchange_wait t p n)) (reply m at)
+
+    answer : (m : Moment) → IsMachineAt job m old → answer_of_turn job m t ≡ is_blocked
+    answer m at =
+        refused m at ∙ blocks (exchange_wait t p n) r (λ e. next.answered m at (refused m at ∙ e))
+
+pub never_ended : (job : Job) (old : Machine) (t n p : ℕ) (state : TaskState)
+    → IsNextIn job old t turns.exchanges → slice_get old.tasks.items t ≡ Some state
+    → p ≡ input_at (task_at job.graph t) 1 → n ≡ get_or state.numbers.items 1 0
+    → ((m : Moment) → IsMachineAt job m old
+    → wait_reply (value_at job p) (limits_at job p) (m.history p) n ≡ Ok got.Ended) → ⊥
+never_ended job old t n p state next found phaser numbered reply =
+    let m = next.some.0 in
+    let at = next.some.1 in
+    next.answered m at (exchange_so job old m t n p state next at found phaser numbered
+    ∙ ap (wait_answer (exchange_wait t p n)) (reply m at))
+
+-- ---- the first wait of a step
+
+-- what the task takes is on its first input where that is looked at by a filter or a sink
+first_is : (job : Job) (m : Moment) (t k n p : ℕ) (outcome : Outcome) → k ≡ 0
+    → (after_turn job (first_wait t k p n outcome) m).taken t 0
+    ≡ m.taken t 0 ++ number outcome ∷ []
+first_is job m t k n p outcome first =
+    subst (λ i. with_at t (with_at i (m.taken t i ++ number outcome ∷ []) (m.taken t)) m.taken t 0
+    ≡ m.taken t 0 ++ number outcome ∷ []) (sym first)
+    (ap (λ b. cond b (with_at 0 (m.taken t 0 ++ number outcome ∷ []) (m.taken t)) (m.taken t) 0)
+    (eq-eqb t t refl))
+
+first_other : (job : Job) (m : Moment) (t k n p : ℕ) (outcome : Outcome) (u : ℕ) → u ≢ t
+    → m.taken u 0 ≡ (after_turn job (first_wait t k p n outcome) m).taken u 0
+first_other job m t k n p outcome u apart =
+    sym (ap (λ b. cond b (with_at k (m.taken t k ++ number outcome ∷ []) (m.taken t)) (m.taken u) 0)
+    (ne_eqb u t apart))
+
+pub sink_kind : (kind : Kind) → is_sink kind ≡ true → kind ≡ Sink
+sink_kind Sink e = refl
+sink_kind Source e = absurd (cc)
+sink_kind Fir e = absurd (cc)
+sink_kind Split e = absurd (cc)
+sink_kind Join e = absurd (cc)
+sink_kind Peer e = absurd (cc)
+
+-- a filter's first input is its only one, as a sink's
+zero_first : (task : Task) (b k : ℕ) (kind : Kind) → task.kind ≡ kind → kind ≢ Join
+    → k ≡ first_input task b → k ≡ 0
+zero_first task b k kind is not first = first ∙ by kind is not
+  where
+    by : (kind : Kind) → task.kind ≡ kind → kind ≢ Join → first_input task b ≡ 0
+    by Source e never = rw e refl
+    by Fir e never = rw e refl
+    by Split e never = rw e refl
+    by Join e never = absurd (never refl)
+    by Peer e never = rw e refl
+    by Sink e never = rw e refl
+
+-- the place of a state that took one
+taken_place : (job : Job) (after : Moment) (t : ℕ) (x : ℤ) (taken : List ℤ)
+    (old new : TaskState) → HasTakenOne (task_at job.graph t) x old new
+    → HasFilter (task_at job.graph t) old.filter taken
+    → StandsAt job after t (record (place_of old) {
+      begun = suc old.begun;
+      owed = places.owed_after_wait (task_at job.graph t) old.begun taken x;
+    }) → StandsAt job after t (place_of new)
+taken_place job after t x taken old new took has stands =
+    let one : suc old.begun ≡ new.begun = suc_is old.begun new.begun took.begun in
+    subst (λ o. StandsAt job after t (record (place_of new) { owed = o })) (sym (took.owed taken has))
+    (subst (λ b. StandsAt job after t (record (place_of new) {
+      begun = b;
+      owed = places.owed_after_wait (task_at job.graph t) old.begun taken x;
+    })) one
+    (subst (λ l. StandsAt job after t (record (place_of new) {
+      left = l;
+      begun = suc old.begun;
+      owed = places.owed_after_wait (task_at job.graph t) old.begun taken x;
+    })) (sym took.left)
+    (subst (λ v. StandsAt job after t (record (place_of old) {
+      numbers = v.items;
+      begun = suc old.begun;
+      owed = places.owed_after_wait (task_at job.graph t) old.begun taken x;
+    })) (sym took.numbers) stands)))
+  where
+    suc_is : (a b : ℕ) → b ≡ a + 1 → suc a ≡ b
+    suc_is a b e = omega arith
+
+-- what the turn answers where the wait got a value
+pub first_answer : (job : Job) (old : Machine) (m : Moment) (t k n p phase : ℕ)
+    (outcome : Outcome) (state : TaskState) → IsNextIn job old t (turns.waits k)
+    → IsMachineAt job m old → slice_get old.tasks.items t ≡ Some state
+    → p ≡ input_at (task_at job.graph t) k → n ≡ get_or state.numbers.items k 0
+    → wait_reply (value_at job p) (limits_at job p) (m.history p) n ≡ Ok (got.Value phase outcome)
+    → answer_of_turn job m t ≡ makes (first_wait t k p n outcome)
+first_answer job old m t k n p phase outcome state next at found phaser numbered reply =
+    first_so job old m t k n p state next at found phaser numbered
+    ∙ ap (wait_answer (first_wait t k p n)) reply
+
+pub first_turn : (job : Job) (old new : Machine) (t k n p phase : ℕ) (outcome : Outcome)
+    (state took : TaskState) (sink : Option ℕ) (told : Turned)
+    → IsNextIn job old t (turns.waits k) → slice_get old.tasks.items t ≡ Some state
+    → p ≡ input_at (task_at job.graph t) k → n ≡ get_or state.numbers.items k 0
+    → HasTakenOne (task_at job.graph t) (number outcome) state took
+    → sink ≡ cond (is_sink_at job t) (Some state.sink) None
+    → ((m : Moment) → IsMachineAt job m old
+    → wait_reply (value_at job p) (limits_at job p) (m.history p) n ≡ Ok (got.Value phase outcome))
+    → ((m : Moment) → IsMachineAt job m old
+    → HasCores job (with_at p (Waited n 1 ∷ m.history p) m.history) new.cores.items)
+    → new.tasks.items ≡ set old.tasks.items t took
+    → map sink_values new.lines.items
+    ≡ with_line sink (number outcome) (map sink_values old.lines.items)
+    → (All (HasRoom job) old.lines.items → All (HasRoom job) new.lines.items)
+    → told_of told ≡ told_got p phase outcome
+    → HadTurn job old new t (Event p told)
+first_turn job old new t k n p phase outcome state took sink told next found phaser numbered has sinks reply cores tasks lines room tells =
+    record { shows = shows; after = after }
+  where
+    event : TaskEvent
+    event = first_wait t k p n outcome
+
+    answer : (m : Moment) → IsMachineAt job m old → answer_of_turn job m t ≡ makes event
+    answer m at =
+        first_answer job old m t k n p phase outcome state next at found phaser numbered (reply m at)
+
+    shows : (m : Moment) → IsMachineAt job m old
+        → Shows job m t (answer_of_turn job m t) (Event p told)
+    shows m at =
+        subst (λ a. Shows job m t a (Event p told)) (sym (answer m at)) (
+          refl,
+          told_is m p n phase outcome (phase_is (value_at job p) (limits_at job p) (m.history p) n
+              phase outcome (reply m at)) ∙ sym tells,
+        )
+
+    first : (m : Moment) → IsMachineAt job m old
+        → k ≡ first_input (task_at job.graph t) (m.begun t)
+    first m at = (waits_begins job m t k (next.is m at)).first
+
+    kept : (m : Moment) (at : IsMachineAt job m old)
+        → HasFilter (task_at job.graph t) took.filter ((after_turn job event m).taken t 0)
+    kept m at = λ fir.
+        subst (HasFilter (task_at job.graph t) took.filter)
+        (sym (first_is job m t k n p outcome (zero_first (task_at job.graph t) (m.begun t) k Fir fir
+        (λ e. absurd (cc)) (first m at))))
+        (has.filter (m.taken t 0) (at.tasks t state found).filter) fir
+
+    sink_lines : (m : Moment) (at : IsMachineAt job m old) (b : Bool) → is_sink_at job t ≡ b
+        → with_line (cond b (Some state.sink) None) (number outcome)
+        (map (λ u. (u, m.taken u 0)) (sinks_of job))
+        ≡ map (λ u. (u, (after_turn job event m).taken u 0)) (sinks_of job)
+    sink_lines m at true e =
+        let kind = sink_kind (task_at job.graph t).kind e in
+        one_line (is_sink_at job) (length job.graph.tasks) state.sink t (number outcome)
+        (λ u. m.taken u 0) (λ u. (after_turn job event m).taken u 0)
+        ((at.tasks t state found).sink kind)
+        (first_is job m t k n p outcome (zero_first (task_at job.graph t) (m.begun t) k Sink kind
+        (λ e. absurd (cc)) (first m at)))
+        (first_other job m t k n p outcome)
+    sink_lines m at false e =
+        no_line (is_sink_at job) (length job.graph.tasks) t (λ u. m.taken u 0)
+        (λ u. (after_turn job event m).taken u 0) e (first_other job m t k n p outcome)
+
+    after : (m : Moment) → IsMachineAt job m old
+        → IsMachineAt job (after_answer job (answer_of_turn job m t) m) new
+    after m at =
+        let it = at.tasks t state found in
+        let ran = (subst (λ a. IsReachable job (after_answer job a m)) (answer m at)
+        (next.stays m at)).ran in
+        let stands = taken_place job (after_turn job event m) t (number outcome) (m.taken t 0) state
+        took has it.filter (first_wait_follows job m t k p n outcome (place_of state) at.graph
+        at.reached ran (answer m at) it.stands) in
+        after_own job m old new t event took at (answer m at) refl
+        (first_waits_at job old m t k state next at found).there (next.stays m at) (next.few m at)
+        (cores m at) tasks
+        (record {
+          stands = stands;
+          room = subst (λ v. 9 ≤ v.capacity) (sym has.numbers) it.room;
+          filter = kept m at;
+          sink = λ kind. ap (slice_get (sinks_of job)) has.sink ∙ it.sink kind;
+        })
+        (lines
+        ∙ ap (with_line sink (number outcome)) at.lines
+        ∙ ap (λ o. with_line o (number outcome) (map (λ u. (u, m.taken u 0)) (sinks_of job))) sinks
+        ∙ sink_lines m at (is_sink_at job t) refl)
+        (room at.room)
+
+-- a wait that the phaser would not take now
+pub blocked_first : (job : Job) (old new : Machine) (t k n p : ℕ) (state : TaskState)
+    (r : WaitRefusal) → IsNextIn job old t (turns.waits k)
+    → slice_get old.tasks.items t ≡ Some state → p ≡ input_at (task_at job.graph t) k
+    → n ≡ get_or state.numbers.items k 0
+    → ((m : Moment) → IsMachineAt job m old
+    → wait_reply (value_at job p) (limits_at job p) (m.history p) n ≡ Err r)
+    → ((m : Moment) → IsMachineAt job m old
+    → HasCores job (with_at p (m.history p) m.history) new.cores.items)
+    → new.tasks ≡ old.tasks → new.lines ≡ old.lines → HadTurn job old new t (Blocked p)
+blocked_first job old new t k n p state r next found phaser numbered reply cores tasks lines =
+    blocked_turn job old new t p (turns.waits k) next (sym phaser) answer
+    (λ m at. unchanged job m old new p at (cores m at) tasks lines)
+  where
+    refused : (m : Moment) → IsMachineAt job m old
+        → answer_of_turn job m t ≡ wait_answer (first_wait t k p n) (Err r)
+    refused m at =
+        first_so job old m t k n p state next at found phaser numbered
+        ∙ ap (wait_answer (first_wait t k p n)) (reply m at)
+
+    answer : (m : Moment) → IsMachineAt job m old → answer_of_turn job m t ≡ is_blocked
+    answer m at =
+        refused m at ∙ blocks (first_wait t k p n) r (λ e. next.answered m at (refused m at ∙ e))
+
+pub first_never_ended : (job : Job) (old : Machine) (t k n p : ℕ) (state : TaskState)
+    → IsNextIn job old t (turns.waits k) → slice_get old.tasks.items t ≡ Some state
+    → p ≡ input_at (task_at job.graph t) k → n ≡ get_or state.numbers.items k 0
+    → ((m : Moment) → IsMachineAt job m old
+    → wait_reply (value_at job p) (limits_at job p) (m.history p) n ≡ Ok got.Ended) → ⊥
+first_never_ended job old t k n p state next found phaser numbered reply =
+    let m = next.some.0 in
+    let at = next.some.1 in
+    next.answered m at (first_so job old m t k n p state next at found phaser numbered
+    ∙ ap (wait_answer (first_wait t k p n)) (reply m at))
+
+-- ---- the line of a sink
+
+pub sink_there : (job : Job) (old : Machine) (m : Moment) (t : ℕ) (state : TaskState)
+    (sink : Option ℕ) → IsMachineAt job m old → slice_get old.tasks.items t ≡ Some state
+    → sink ≡ cond (is_sink_at job t) (Some state.sink) None
+    → IfSome sink (λ i. i < length old.lines.items)
+sink_there job old m t state sink at found is =
+    subst (λ o. IfSome o (λ i. i < length old.lines.items)) (sym is) (by (is_sink_at job t) refl)
+  where
+    by : (b : Bool) → is_sink_at job t ≡ b
+        → IfSome (cond b (Some state.sink) None) (λ i. i < length old.lines.items)
+    by true e =
+        let lt = slice_get_within (sinks_of job) state.sink t
+        ((at.tasks t state found).sink (sink_kind (task_at job.graph t).kind e)) in
+        let f : ℕ → ℕ × List ℤ = λ u. (u, m.taken u 0) in
+        let many : length (map sink_values old.lines.items) ≡ length (map f (sinks_of job)) =
+        ap length at.lines in
+        let one = length-map old.lines.items sink_values in
+        let two = length-map (sinks_of job) f in
+        omega arith
+    by false e = tt

@@ -1,0 +1,139 @@
+-- The task leaves the phaser that stands behind those that it has left.
+use Rattle.std.proofs.Common.{◌≡◌, ◌<◌, ◌≤◌, ◌+◌, cond, length, get_or, ap, sym, subst, ◌∙◌, refl, arith}
+use Rattle.std.proofs.lemmas.Bool.{lt-ltb, le-ltb}
+use Rattle.std.proofs.lemmas.Option.{slice_get_read}
+use Rattle.graph_lang.specs.graph_base.Graphs.{task_at}
+use Rattle.graph_lang.specs.graph_base.Registrations.{registrations_of, no_registration}
+use Rattle.graph_runs.specs.Nexts.{registrations_at, leaves}
+use Rattle.graph_runs.specs.Answers as answers
+use Rattle.stream_job.specs.declared.turned.Turned.TheVariants.{Moved, Ended}
+use Rattle.stream_job.proofs.Lively.{has_state, leaves_now, few_left}
+use Rattle.stream_job.proofs.Leaving.{left_turn, refused_drop, left_tasks}
+use Rattle.stream_job.proofs.machine.Machine.leave.Goals as goal
+
+pub bounds-deref-left : goal.bounds-deref-left
+bounds-deref-left c =
+    let lt = has_state c.args.job.now c.args.self.now c.args.t leaves c.requires (λ e. (cc)) in
+    let found = slice_get_read c.args.self.now.tasks.items (length c.args.self.now.tasks.items)
+    c.args.t c.index-state.result.now refl lt c.index-state.ensures in
+    let low = (leaves_now c.args.job.now c.args.self.now c.requires.some.0 c.args.t
+    c.index-state.result.now c.requires c.requires.some.1 found).stays in
+    let same : length c.deref.result.now ≡ length c.index-state.result.now.numbers.items =
+    ap length c.deref.ensures in
+    omega arith
+
+pub registration-phaser-requires-clause-number : goal.registration-phaser-requires-clause-number
+registration-phaser-requires-clause-number c =
+    let lt = has_state c.args.job.now c.args.self.now c.args.t leaves c.requires (λ e. (cc)) in
+    let found = slice_get_read c.args.self.now.tasks.items (length c.args.self.now.tasks.items)
+    c.args.t c.index-state.result.now refl lt c.index-state.ensures in
+    let l = leaves_now c.args.job.now c.args.self.now c.requires.some.0 c.args.t
+    c.index-state.result.now c.requires c.requires.some.1 found in
+    let low = l.stays in
+    let all = l.all in
+    let few : c.index-state.result.now.left < length (registrations_at c.args.job.now c.args.t) =
+    omega arith in
+    subst (λ g. c.index-state.result.now.left < length (registrations_of g (task_at g c.args.t)))
+    (sym c.graph.ensures.graph) few
+
+pub drop_on-requires-clause-phaser : goal.drop_on-requires-clause-phaser
+drop_on-requires-clause-phaser c =
+    let lt = has_state c.args.job.now c.args.self.now c.args.t leaves c.requires (λ e. (cc)) in
+    let found = slice_get_read c.args.self.now.tasks.items (length c.args.self.now.tasks.items)
+    c.args.t c.index-state.result.now refl lt c.index-state.ensures in
+    let l = leaves_now c.args.job.now c.args.self.now c.requires.some.0 c.args.t
+    c.index-state.result.now c.requires c.requires.some.1 found in
+    let here = ap (λ r. r.phaser) (c.registration-phaser.ensures
+    ∙ ap (λ g. get_or (registrations_of g (task_at g c.args.t)) c.index-state.result.now.left
+    no_registration) c.graph.ensures.graph) in
+    subst (λ p. p < length c.args.job.now.graph.phasers) (sym here) l.phaser
+
+pub unreachable-requires : goal.unreachable-requires
+unreachable-requires c =
+    let lt = has_state c.args.job.now c.args.self.now c.args.t leaves c.requires (λ e. (cc)) in
+    let found = slice_get_read c.args.self.now.tasks.items (length c.args.self.now.tasks.items)
+    c.args.t c.index-state.result.now refl lt c.index-state.ensures in
+    let here = ap (λ r. r.phaser) (c.registration-phaser.ensures
+    ∙ ap (λ g. get_or (registrations_of g (task_at g c.args.t)) c.index-state.result.now.left
+    no_registration) c.graph.ensures.graph) in
+    refused_drop c.args.job.now c.args.self.now c.args.t c.registration-phaser.result.phaser
+    (get_or c.deref.result.now c.index-state.result.now.left 0) c.index-state.result.now
+    c.in_default.field-0 c.requires found (sym here)
+    (sym (ap (λ ns. get_or ns c.index-state.result.now.left 0) c.deref.ensures))
+    c.in_default.ensures.refused
+
+pub returns-then-last : goal.returns-then-last
+returns-then-last c =
+    let lt = has_state c.args.job.now c.args.self.now c.args.t leaves c.requires (λ e. (cc)) in
+    let found = slice_get_read c.args.self.now.tasks.items (length c.args.self.now.tasks.items)
+    c.args.t c.index-state.result.now refl lt c.index-state.ensures in
+    let here = ap (λ r. r.phaser) (c.registration-phaser.ensures
+    ∙ ap (λ g. get_or (registrations_of g (task_at g c.args.t)) c.index-state.result.now.left
+    no_registration) c.graph.ensures.graph) in
+    let many = c.len.ensures.value in
+    let past : length c.index-state.result.now.numbers.items ≤ c.index-state.result.now.left + 1 =
+    (let last = c.if-last.true in omega arith) in
+    left_turn c.args.job.now c.args.self.now _ c.args.t c.registration-phaser.result.phaser
+    (get_or c.deref.result.now c.index-state.result.now.left 0) c.index-state.result.now Ended
+    c.requires found (sym here)
+    (sym (ap (λ ns. get_or ns c.index-state.result.now.left 0) c.deref.ensures))
+    c.in-Ok.ensures.ok c.in-Ok.ensures.cores
+    (left_tasks c.args.self.now.tasks.items c.drop_on.new.self.tasks.items c.args.t
+    c.index-state.result.now c.index_mut.result.now (ap (λ v. v.items) c.drop_on.ensures.tasks) lt
+    c.index-state.ensures c.index_mut.ensures.value)
+    c.drop_on.ensures.lines
+    (ap (λ b. cond b answers.Moved answers.Ended) (le-ltb (c.index-state.result.now.left + 1)
+    (length c.index-state.result.now.numbers.items) past))
+
+pub returns-else-last : goal.returns-else-last
+returns-else-last c =
+    let lt = has_state c.args.job.now c.args.self.now c.args.t leaves c.requires (λ e. (cc)) in
+    let found = slice_get_read c.args.self.now.tasks.items (length c.args.self.now.tasks.items)
+    c.args.t c.index-state.result.now refl lt c.index-state.ensures in
+    let here = ap (λ r. r.phaser) (c.registration-phaser.ensures
+    ∙ ap (λ g. get_or (registrations_of g (task_at g c.args.t)) c.index-state.result.now.left
+    no_registration) c.graph.ensures.graph) in
+    let many = c.len.ensures.value in
+    let more : c.index-state.result.now.left + 1 < length c.index-state.result.now.numbers.items =
+    (let last = c.if-last.false in omega arith) in
+    left_turn c.args.job.now c.args.self.now _ c.args.t c.registration-phaser.result.phaser
+    (get_or c.deref.result.now c.index-state.result.now.left 0) c.index-state.result.now Moved
+    c.requires found (sym here)
+    (sym (ap (λ ns. get_or ns c.index-state.result.now.left 0) c.deref.ensures))
+    c.in-Ok.ensures.ok c.in-Ok.ensures.cores
+    (left_tasks c.args.self.now.tasks.items c.drop_on.new.self.tasks.items c.args.t
+    c.index-state.result.now c.index_mut.result.now (ap (λ v. v.items) c.drop_on.ensures.tasks) lt
+    c.index-state.ensures c.index_mut.ensures.value)
+    c.drop_on.ensures.lines
+    (ap (λ b. cond b answers.Moved answers.Ended) (lt-ltb (c.index-state.result.now.left + 1)
+    (length c.index-state.result.now.numbers.items) more))
+
+pub offset_bounds-deref-left : goal.offset_bounds-deref-left
+offset_bounds-deref-left c =
+    let lt = has_state c.args.job.now c.args.self.now c.args.t leaves c.requires (λ e. (cc)) in
+    let found = slice_get_read c.args.self.now.tasks.items (length c.args.self.now.tasks.items)
+    c.args.t c.index-state.result.now refl lt c.index-state.ensures in
+    record {
+      fits = (few_left c.args.job.now c.args.self.now c.args.t c.index-state.result.now c.deref.result.now
+          c.requires found c.deref.ensures c.deref.type_inv.1).1;
+    }
+
+pub overflow_add-last : goal.overflow_add-last
+overflow_add-last c =
+    let lt = has_state c.args.job.now c.args.self.now c.args.t leaves c.requires (λ e. (cc)) in
+    let found = slice_get_read c.args.self.now.tasks.items (length c.args.self.now.tasks.items)
+    c.args.t c.index-state.result.now refl lt c.index-state.ensures in
+    record {
+      fits = (few_left c.args.job.now c.args.self.now c.args.t c.index-state.result.now c.deref.result.now
+          c.requires found c.deref.ensures c.deref.type_inv.1).2;
+    }
+
+pub overflow_add-left : goal.overflow_add-left
+overflow_add-left c =
+    let lt = has_state c.args.job.now c.args.self.now c.args.t leaves c.requires (λ e. (cc)) in
+    let found = slice_get_read c.args.self.now.tasks.items (length c.args.self.now.tasks.items)
+    c.args.t c.index-state.result.now refl lt c.index-state.ensures in
+    record {
+      fits = (few_left c.args.job.now c.args.self.now c.args.t c.index-state.result.now c.deref.result.now
+          c.requires found c.deref.ensures c.deref.type_inv.1).2;
+    }

@@ -1,0 +1,42 @@
+-- A sink with no values stands behind those before it.
+use Rattle.std.proofs.Common.{ℕ, ℤ, List, [], ◌∷◌, ◌++◌, map, sym, ap, ◌∙◌}
+use Rattle.std.specs.List.{range_with_len, filter}
+use Rattle.std.proofs.lemmas.List.{map_push}
+use Rattle.std.proofs.lemmas.List.Elements.{All-push}
+use Rattle.stream_eval.specs.Results.{sink_values}
+use Rattle.stream_eval.specs.stream_lists.Lists.{is_sink_at}
+use Rattle.stream_eval.proofs.stream_lists_lemmas.Firsts.{filter-skip, filter-take}
+use Rattle.stream_job.specs.Machines.{HasRoom}
+use Rattle.stream_job.proofs.opening.opened_lines.Goals as goal
+use Rattle.stream_job.proofs.opening.opened_lines.Goals.{then-is_sink+in_ok-opened_line+in_ok-push, else-is_sink}
+
+-- a sink that has taken nothing
+abbrev empty : ℕ → ℕ × List ℤ
+empty t = (t, [])
+
+pub loop-t-preserved : goal.loop-t-preserved
+loop-t-preserved c =
+    let t : ℕ = c.loop-t.t in
+    let job = c.args.job.now in
+    let is_sink = is_sink_at job in
+    let sinks = filter is_sink (range_with_len 0 t) in
+    elim c.if-is_sink.branch [
+      | then-is_sink+in_ok-opened_line+in_ok-push w ↦
+          rw (w.lines-is, w.in_ok-push.ensures.items) (
+            map_push sink_values c.loop-t.lines.items w.in_ok-opened_line.field-0
+                ∙ ap (λ xs. xs ++ sink_values w.in_ok-opened_line.field-0 ∷ []) c.loop-t.invariant.0
+                ∙ ap (λ v. map empty sinks ++ v ∷ []) w.in_ok-opened_line.ensures.line
+                ∙ sym (map_push empty sinks t)
+                ∙ ap (map empty)
+                (sym (filter-take is_sink t (sym c.is_sink.ensures ∙ w.if-is_sink.true))),
+            All-push (HasRoom job) c.loop-t.lines.items w.in_ok-opened_line.field-0 c.loop-t.invariant.1
+                w.in_ok-opened_line.ensures.room,
+          )
+      | else-is_sink w ↦
+          rw w.lines-is (
+            c.loop-t.invariant.0
+                ∙ ap (map empty)
+                (sym (filter-skip is_sink t (sym c.is_sink.ensures ∙ w.if-is_sink.false))),
+            c.loop-t.invariant.1,
+          )
+    ]

@@ -1,0 +1,17 @@
+-- Nor does this task.
+use Rattle.std.proofs.Common.{◌≡◌, ◌≤◌, Some, ◌∙◌, arith}
+use Rattle.graph_lang.specs.graph_base.declared.line.Parent.{Parent}
+use Rattle.graph_lang.specs.graph_base.Graphs.{task_at}
+use Rattle.stream_job.proofs.Searching.{one_more}
+use Rattle.stream_job.proofs.plan.next_child.Goals as goal
+
+pub loop-c-preserved : goal.loop-c-preserved
+loop-c-preserved c =
+    let job = c.args.job.now in
+    one_more (λ d. (it : Parent) → (task_at job.graph d).parent ≡ Some it → it.task ≡ c.args.t
+    → c.args.steps ≤ it.at → c.earlier-next.result ≤ it.at) c.loop-c.c
+    (λ d lt it is of late.
+    let before = c.loop-c.invariant d lt it is of late in
+    let less = c.earlier-next.ensures.less in
+    omega arith)
+    (λ it is of late. c.earlier-next.ensures.child it (c.parent_of.ensures ∙ is) of late)

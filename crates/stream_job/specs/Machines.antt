@@ -1,0 +1,81 @@
+-- The moments that a machine stands for.
+use Rattle.std.specs.Prelude.{◌≡◌, ℕ, zero, suc, ◌+◌, ◌<◌, ◌≤◌, List, Bool, true, ◌||◌, Option, Some, None, is_some, if◌then◌else◌, length, map, slice_get, vec_capacity}
+use Rattle.std.specs.List.{All}
+use Rattle.phase_core.specs.phase_history.Histories.{History, greatest_used}
+use Rattle.graph_lang.specs.graph_base.Graphs.{phaser_at, task_at}
+use Rattle.graph_lang.specs.graph_base.TaskLines.{IsGraph}
+use Rattle.stream_eval.specs.stream_lists.Jobs.{Job, least}
+use Rattle.stream_eval.specs.stream_lists.Lists.{sinks_of}
+use Rattle.stream_eval.specs.stream_lists.Meetings.{meeting_line}
+use Rattle.stream_eval.specs.stream_lists.Spans.{span_in}
+use Rattle.stream_eval.specs.Results.{sink_values}
+use Rattle.stream_eval.specs.declared.whole.Lines.{Lines}
+use Rattle.graph_runs.specs.Moments.{Moment, limits_at}
+use Rattle.stream_job.specs.Cores.{CoreStandsFor}
+use Rattle.stream_job.specs.declared.any_core.AnyCore.{AnyCore}
+use Rattle.graph_runs.specs.Reached.{IsReachable}
+use Rattle.graph_runs.specs.Nexts as turns
+use Rattle.stream_job.specs.Places.{IsTaskAt}
+use Rattle.stream_job.specs.declared.machine.Machine.{Machine}
+use Rattle.stream_job.specs.declared.step.Step.{Step}
+use Rattle.stream_job.specs.declared.step.Step.TheVariants as step
+use Rattle.stream_job.specs.declared.task_state.TaskState.{TaskState}
+
+-- the cores of a graph's phasers have these histories
+pub record HasCores (job : Job) (history : ℕ → History) (cores : List AnyCore) : Type 0 where
+  pub many : length cores ≡ length job.graph.phasers
+  pub each : (p : ℕ) (core : AnyCore) → slice_get cores p ≡ Some core
+      → CoreStandsFor core (phaser_at job.graph p).op (limits_at job p) (history p)
+
+-- how many of the first n tasks have a number
+abbrev pub numbered : (ℕ → Option ℕ) → ℕ → ℕ
+numbered number zero = 0
+numbered number (suc t) = numbered number t + (if is_some (number t) then 1 else 0)
+
+-- on each phaser no more numbers were used than tasks have one there, but for the founder's
+abbrev pub UsesFew : Job → Moment → Type 0
+UsesFew job m = (p : ℕ) → p < length job.graph.phasers
+    → greatest_used (m.history p) ≤ numbered (m.number p) (length job.graph.tasks)
+
+-- a sink's line has room for all that the sink takes in its steps, wherever it begins
+abbrev pub HasRoom : Job → Lines → Type 0
+HasRoom job line = (span_in (least job) line.task).steps ≤ vec_capacity line.values
+
+-- the machine stands at a moment that turns lead to: each core has the history of its phaser, each
+-- task is in its state, and the lines are what the sinks have taken
+pub record IsMachineAt (job : Job) (m : Moment) (machine : Machine) : Type 0 where
+  pub graph : IsGraph job.graph
+  pub apart : meeting_line job ≡ None
+  pub reached : IsReachable job m
+  pub few : UsesFew job m
+  pub cores : HasCores job m.history machine.cores.items
+  pub tasks_many : length machine.tasks.items ≡ length job.graph.tasks
+  pub tasks : (t : ℕ) (state : TaskState) → slice_get machine.tasks.items t ≡ Some state
+      → IsTaskAt job m t state
+  pub lines : map sink_values machine.lines.items ≡ map (λ t. (t, m.taken t 0)) (sinks_of job)
+  pub room : All (HasRoom job) machine.lines.items
+
+-- the machine stands at some moment
+abbrev pub IsMachine : Job → Machine → Type 0
+IsMachine job machine = (m : Moment) × IsMachineAt job m machine
+
+-- at some moment of the machine the task is live
+abbrev pub IsLiveIn : Job → Machine → ℕ → Type 0
+IsLiveIn job machine t =
+    (m : Moment) × IsMachineAt job m machine × (turns.is_live job m t ≡ true)
+
+-- whether a task makes no further step
+abbrev pub is_over : Job → Moment → ℕ → Bool
+is_over job m t =
+    turns.is_cut (task_at job.graph t).until (m.begun t)
+    || turns.has_input_ended job m t (task_at job.graph t).kind
+
+-- what a task does next, by the definitions
+abbrev pub next_by : Step → turns.Next
+next_by step.NotLive = turns.is_not_live
+next_by (step.Register child) = turns.registers child
+next_by step.Leave = turns.leaves
+next_by step.Sample = turns.samples
+next_by (step.Signal output) = turns.signals output
+next_by (step.Wait input) = turns.waits input
+next_by step.Exchange = turns.exchanges

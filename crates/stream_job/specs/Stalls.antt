@@ -1,0 +1,17 @@
+-- When the call of a task is blocked, by where the task stands.
+use Rattle.std.specs.Prelude.{◌≡◌, ◌<◌, ℕ, true, length}
+use Rattle.phase_core.specs.phase_accum.Sends.{AreSends}
+use Rattle.stream_eval.specs.stream_lists.Jobs.{Job, samples_at}
+use Rattle.graph_runs.specs.Moments.{Moment}
+use Rattle.graph_runs.specs.Nexts.{Next, is_live, next_of}
+use Rattle.stream_job.specs.Machines.{IsMachine, IsMachineAt}
+use Rattle.stream_job.specs.declared.machine.Machine.{Machine}
+
+-- at each moment of the machine the task is live, and this is what it does next
+pub record MakesNext (job : Job) (machine : Machine) (t : ℕ) (next : Next) : Type 0 where
+  pub some : IsMachine job machine
+  pub there : t < length job.graph.tasks
+  pub live : (m : Moment) → IsMachineAt job m machine → is_live job m t ≡ true
+  pub is : (m : Moment) → IsMachineAt job m machine → next_of job m t ≡ next
+  -- the samples of a source can be sent
+  pub sends : AreSends (samples_at job t)

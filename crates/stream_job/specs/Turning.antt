@@ -1,0 +1,94 @@
+-- What a turn of a task does to a machine and to the lists of blocked tasks.
+use Rattle.std.specs.Prelude.{◌≡◌, ℕ, List, [], Option, Some, None, set, get_or}
+use Rattle.graph_lang.specs.graph_base.declared.place.Place.TheVariants as place
+use Rattle.stream_eval.specs.stream_lists.Jobs.{Job}
+use Rattle.stream_eval.specs.stream_lists.Ranges.{Where}
+use Rattle.graph_runs.specs.Moments.{Moment}
+use Rattle.graph_runs.specs.TaskEvents as events
+use Rattle.graph_runs.specs.TaskEvents.{TaskEvent}
+use Rattle.graph_runs.specs.Nexts as turns
+use Rattle.graph_runs.specs.Answers as answers
+use Rattle.graph_runs.specs.Answers.{Answer, Told, answer_of_turn, after_answer}
+use Rattle.stream_job.specs.Blocking.{called_on}
+use Rattle.stream_job.specs.Parking.{with_task}
+use Rattle.stream_job.specs.Machines.{IsMachineAt}
+use Rattle.stream_job.specs.Worlds.{WorldState}
+use Rattle.stream_job.specs.declared.machine.Machine.{Machine}
+use Rattle.stream_job.specs.declared.made.Made.{Made}
+use Rattle.stream_job.specs.declared.made.Made.TheVariants as made
+use Rattle.stream_job.specs.declared.turned.Turned.{Turned}
+use Rattle.stream_job.specs.declared.turned.Turned.TheVariants as turned
+
+-- what a turn tells, by the definitions
+abbrev pub told_of : Turned → Told
+told_of turned.Moved = answers.Moved
+told_of turned.Blocked = answers.Blocked
+told_of turned.Ended = answers.Ended
+told_of turned.Gone = answers.Gone
+told_of (turned.TooBig at phase) = answers.TooBig (at, phase)
+
+-- the phaser of an event
+abbrev pub phaser_of : TaskEvent → ℕ
+phaser_of (events.sample t j p n v) = p
+phaser_of (events.signal t j p n v) = p
+phaser_of (events.first_wait t k p n outcome) = p
+phaser_of (events.exchange_wait t p n outcome) = p
+phaser_of (events.leave t p n) = p
+phaser_of (events.child t p n c a mode) = p
+
+-- the lists of blocked tasks after an answer: a task that was blocked stands in the list of the
+-- phaser of its call, and an event on a phaser empties that one's list
+abbrev pub parked_after : Job → ℕ → turns.Next → Answer → List (List ℕ) → List (List ℕ)
+parked_after job t next (answers.makes event) parked = set parked (phaser_of event) []
+parked_after job t next answers.is_blocked parked =
+    let p = called_on job t next in set parked p (with_task t (get_or parked p []))
+parked_after job t next answer parked = parked
+
+-- ---- a machine
+
+-- what a task does next registers a child
+abbrev pub IsRegistration : turns.Next → Type 0
+IsRegistration next = (c : ℕ) × (next ≡ turns.registers c)
+
+-- the code tells of this answer so
+abbrev pub Shows : Job → Moment → ℕ → Answer → Made → Type 0
+Shows job m t (answers.makes event) (made.Event phaser told) =
+    (phaser_of event ≡ phaser) × (answers.told_event job m event ≡ told_of told)
+Shows job m t answers.is_blocked (made.Blocked phaser) =
+    called_on job t (turns.next_of job m t) ≡ phaser
+Shows job m t (answers.has_made at) (made.OutOfRange step) = at ≡ (place.Task t, step)
+Shows job m t answers.is_gone made.Nothing = Unit {0}
+Shows job m t answer it = ⊥
+
+-- the machine had a turn of task t, of which the code tells so: at each moment that the machine stood
+-- for it tells the answer of the table, and the machine stands for the moment after
+pub record HadTurn (job : Job) (old new : Machine) (t : ℕ) (it : Made) : Type 0 where
+  pub shows : (m : Moment) → IsMachineAt job m old → Shows job m t (answer_of_turn job m t) it
+  pub after : (m : Moment) → IsMachineAt job m old
+      → IsMachineAt job (after_answer job (answer_of_turn job m t) m) new
+
+-- ---- a world
+
+-- where a value was out of range, after a turn that told this
+abbrev pub met_by : Option Where → Turned → Option Where
+met_by (Some at) told = Some at
+met_by None (turned.TooBig at phase) = Some (at, phase)
+met_by None told = None
+
+-- the moment after a turn of task t. Once a value was out of range, nothing more is done
+abbrev pub after_turn_of : WorldState → Moment → ℕ → Moment
+after_turn_of world m t = of world.met
+  where
+    of : Option Where → Moment
+    of None = after_answer world.job (answer_of_turn world.job m t) m
+    of (Some at) = m
+
+-- the lists of blocked tasks after it
+abbrev pub parked_by : WorldState → Moment → ℕ → List (List ℕ)
+parked_by world m t = of world.met
+  where
+    of : Option Where → List (List ℕ)
+    of None =
+        parked_after world.job t (turns.next_of world.job m t) (answer_of_turn world.job m t)
+        world.parked
+    of (Some at) = world.parked

@@ -1,0 +1,101 @@
+//! The calls of a task on its phasers.
+ghost use Rattle.std.specs.Prelude.{◌≡◌, ◌≢◌, ◌<◌, [], ◌∷◌, length, Some, None, IfErr, OnOk, OnErr};
+ghost use Rattle.phase_core.specs.phase_accum.Sends.{IsSend};
+ghost use Rattle.phase_core.specs.phase_accum.Values.{value_by};
+ghost use Rattle.phase_core.specs.phase_history.declared.event.Event.TheVariants.{Dropped, Registered};
+ghost use Rattle.phase_core.specs.phase_history.Refusals.{drop_refusal, register_refusal};
+ghost use Rattle.phase_core.specs.phase_history.Replies.{signal_reply, wait_reply, after_signal, after_wait};
+ghost use Rattle.graph_lang.specs.graph_base.Graphs.{phaser_at};
+ghost use Rattle.graph_runs.specs.Moments.{Moment, limits_at, value_at};
+ghost use Rattle.graph_runs.specs.Turned.{with_at};
+
+use crate::machine::Machine;
+use phase_core::phase_base::Mode;
+use phase_core::{Got, NoTask, RegisterRefusal, SignalRefusal, WaitRefusal};
+use stream_eval::stream_lists::Job;
+
+impl Machine {
+    ghost use Rattle.stream_job.specs.Machines.{IsMachineAt, IsMachine, HasCores};
+
+    /// Ends a registration on phaser `p`.
+    pub fn drop_on(&mut self, job: &Job, p: usize, number: u64) -> Result<(), NoTask>
+        requires machine { IsMachine job.now self.old }
+        requires phaser { p < length job.now.graph.phasers }
+        ensures ok { OnOk result ((m : Moment) → IsMachineAt job.now m self.old
+            → drop_refusal (m.history p) number ≡ None) }
+        ensures refused { IfErr result (λ e. (m : Moment) → IsMachineAt job.now m self.old
+            → drop_refusal (m.history p) number ≡ Some e) }
+        ensures cores { OnOk result ((m : Moment) → IsMachineAt job.now m self.old
+            → HasCores job.now (with_at p (Dropped number ∷ m.history p) m.history)
+            self.new.cores.items) }
+        ensures tasks { self.new.tasks ≡ self.old.tasks }
+        ensures lines { self.new.lines ≡ self.old.lines }
+    {
+        self.cores[p].drop_task(number)
+    }
+
+    /// Waits on phaser `p`.
+    pub fn wait_on(&mut self, job: &Job, p: usize, number: u64) -> Result<Got, WaitRefusal>
+        requires machine { IsMachine job.now self.old }
+        requires phaser { p < length job.now.graph.phasers }
+        ensures reply { (m : Moment) → IsMachineAt job.now m self.old
+            → wait_reply (value_at job.now p) (limits_at job.now p) (m.history p) number ≡ result }
+        ensures cores { (m : Moment) → IsMachineAt job.now m self.old
+            → HasCores job.now (with_at p (after_wait result number (m.history p)) m.history)
+            self.new.cores.items }
+        ensures tasks { self.new.tasks ≡ self.old.tasks }
+        ensures lines { self.new.lines ≡ self.old.lines }
+    {
+        self.cores[p].wait(number)
+    }
+
+    /// Signals `x` on phaser `p`.
+    pub fn signal_on(
+        &mut self,
+        job: &Job,
+        p: usize,
+        number: u64,
+        x: i64,
+    ) -> Result<u64, SignalRefusal>
+        requires machine { IsMachine job.now self.old }
+        requires phaser { p < length job.now.graph.phasers }
+        requires send { IsSend x }
+        ensures reply { (m : Moment) → IsMachineAt job.now m self.old
+            → signal_reply (limits_at job.now p) (m.history p) number ((x ∷ []) ∷ [])
+            (phaser_at job.now.graph p).single ≡ result }
+        ensures cores { (m : Moment) → IsMachineAt job.now m self.old
+            → HasCores job.now (with_at p (after_signal result number ((x ∷ []) ∷ [])
+            (phaser_at job.now.graph p).single (m.history p)) m.history) self.new.cores.items }
+        ensures tasks { self.new.tasks ≡ self.old.tasks }
+        ensures lines { self.new.lines ≡ self.old.lines }
+    {
+        let single = job.graph().phaser(p).single;
+        self.cores[p].signal_one(number, x, single)
+    }
+
+    /// Registers a task as this child of a task on phaser `p`.
+    pub fn register_on(
+        &mut self,
+        job: &Job,
+        p: usize,
+        parent: u64,
+        child: u64,
+        mode: Mode,
+    ) -> Result<(), RegisterRefusal>
+        requires machine { IsMachine job.now self.old }
+        requires phaser { p < length job.now.graph.phasers }
+        ensures refused { IfErr result (λ e. e ≢ RegisterRefusal.OutOfMemory → (m : Moment)
+            → IsMachineAt job.now m self.old
+            → register_refusal (m.history p) parent child mode ≡ Some e) }
+        ensures ok { OnOk result ((m : Moment) → IsMachineAt job.now m self.old
+            → register_refusal (m.history p) parent child mode ≡ None) }
+        ensures cores { OnOk result ((m : Moment) → IsMachineAt job.now m self.old
+            → HasCores job.now (with_at p (Registered parent child mode ∷ m.history p) m.history)
+            self.new.cores.items) }
+        ensures err { OnErr result (self.new.cores ≡ self.old.cores) }
+        ensures tasks { self.new.tasks ≡ self.old.tasks }
+        ensures lines { self.new.lines ≡ self.old.lines }
+    {
+        self.cores[p].register(parent, child, mode)
+    }
+}

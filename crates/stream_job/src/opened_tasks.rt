@@ -1,0 +1,70 @@
+//! The tasks of a graph at its opening.
+ghost use Rattle.std.specs.Prelude.{◌≡◌, ◌<◌, ◌≤◌, ℕ, length, slice_get, Some, IfOk};
+ghost use Rattle.std.specs.List.{filter, range_with_len};
+ghost use Rattle.graph_lang.specs.graph_base.TaskLines.{IsGraph};
+ghost use Rattle.stream_eval.specs.stream_lists.Lists.{is_sink_at};
+ghost use Rattle.graph_runs.specs.Nexts.{registrations_at};
+ghost use Rattle.graph_runs.specs.TaskPlaces.{registration_at};
+ghost use Rattle.graph_runs.specs.Beginnings.{root_number, opening};
+ghost use Rattle.stream_job.specs.Places.{IsTaskAt};
+
+use crate::roots::root_number;
+use crate::task_state::TaskState;
+use graph_runs::{Owed, first_filter, is_sink, parent_of};
+use smallvec::SmallVec;
+use std::alloc::{AllocError, Global};
+use stream_eval::stream_lists::Job;
+
+/// The numbers of task number `t` on its phasers, none of a child's. It takes no memory.
+fn root_numbers(alloc: Global, job: &Job, t: usize) -> SmallVec<u64, 9>
+    requires { t < length job.now.graph.tasks }
+    ensures few { length result.items ≤ length (registrations_at job.now t) }
+    ensures numbers { (i : ℕ) → i < length (registrations_at job.now t)
+        → root_number job.now (registration_at job.now t i).phaser t
+        ≡ slice_get result.items i }
+    ensures room { result.capacity ≡ 9 }
+{
+    let mut numbers = SmallVec::new(alloc);
+    if parent_of(job, t).is_some() {
+        return numbers;
+    }
+    for k in 0..job.graph().registrations(t) {
+        let p = job.graph().registration(t, k).phaser;
+        numbers.push_reserved(root_number(job, t, p));
+    }
+    numbers
+}
+
+/// The state of task number `t`, above which there are so many sinks.
+fn opened_task(alloc: Global, job: &Job, t: usize, sink: usize) -> Result<TaskState, AllocError>
+    requires graph { IsGraph job.now.graph }
+    requires task { t < length job.now.graph.tasks }
+    requires sinks { sink ≡ length (filter (is_sink_at job.now) (range_with_len 0 t)) }
+    ensures { IfOk result (λ state. IsTaskAt job.now (opening job.now) t state) }
+{
+    Ok(TaskState {
+        numbers: root_numbers(alloc, job, t),
+        left: 0,
+        begun: 0,
+        owed: Owed::Nothing,
+        filter: first_filter(alloc, job, t)?,
+        sink,
+    })
+}
+
+/// The states of the tasks, in the order of their lines.
+pub fn opened_tasks(alloc: Global, job: &Job) -> Result<Vec<TaskState>, AllocError>
+    ensures many { IfOk result (λ tasks. length tasks.items ≡ length job.now.graph.tasks) }
+    ensures tasks { IfOk result (λ tasks. (t : ℕ) (state : TaskState)
+        → slice_get tasks.items t ≡ Some state → IsTaskAt job.now (opening job.now) t state) }
+{
+    let mut tasks = Vec::with_capacity(alloc, job.graph().tasks())?;
+    let mut sinks = 0;
+    for t in 0..job.graph().tasks() {
+        tasks.push(opened_task(alloc, job, t, sinks)?)?;
+        if is_sink(job, t) {
+            sinks += 1;
+        }
+    }
+    Ok(tasks)
+}

@@ -1,0 +1,65 @@
+//! The opening of a run.
+ghost use Rattle.std.specs.Prelude.{◌≡◌, ◌<◌, [], length, map, IfOk};
+ghost use Rattle.std.specs.List.{All};
+ghost use Rattle.stream_eval.specs.Results.{sink_values};
+ghost use Rattle.stream_eval.specs.stream_lists.Lists.{sinks_of};
+ghost use Rattle.graph_runs.specs.Beginnings.{opening};
+ghost use Rattle.stream_job.specs.Machines.{HasRoom};
+
+use crate::machine::Machine;
+use crate::opened_cores::opened_cores;
+use crate::opened_tasks::opened_tasks;
+use graph_runs::is_sink;
+use std::alloc::{AllocError, Global};
+use stream_eval::Lines;
+use stream_eval::stream_lists::Job;
+
+/// A sink that has taken nothing, with room for all that it takes.
+fn opened_line(alloc: Global, job: &Job, t: usize) -> Result<Lines, AllocError>
+    requires { t < length job.now.graph.tasks }
+    ensures line { IfOk result (λ line. sink_values line ≡ (t, [])) }
+    ensures room { IfOk result (HasRoom job.now) }
+{
+    let Ok(steps) = usize::try_from(job.span(t).steps) else {
+        return Err(AllocError);
+    };
+    Ok(Lines {
+        task: t,
+        values: Vec::with_capacity(alloc, steps)?,
+    })
+}
+
+/// The sinks, in the order of their lines.
+fn opened_lines(alloc: Global, job: &Job) -> Result<Vec<Lines>, AllocError>
+    ensures lines { IfOk result (λ lines.
+        map sink_values lines.items ≡ map (λ t. (t, [])) (sinks_of job.now)) }
+    ensures room { IfOk result (λ lines. All (HasRoom job.now) lines.items) }
+{
+    let mut lines = Vec::with_capacity(alloc, job.graph().tasks())?;
+    for t in 0..job.graph().tasks() {
+        if is_sink(job, t) {
+            lines.push(opened_line(alloc, job, t)?)?;
+        }
+    }
+    Ok(lines)
+}
+
+impl Machine {
+    ghost use Rattle.stream_job.specs.Machines.{IsMachineAt};
+
+    /// Makes the phasers of a graph, on which its tasks without a parent are registered, in the
+    /// order of their lines.
+    ///
+    /// It takes memory for a slot of each phase that a phaser may have open, an entry for each
+    /// registration, the window of each filter, and all values of each sink.
+    pub fn new(alloc: Global, job: &Job) -> Result<Machine, AllocError>
+        ensures { IfOk result (λ machine. IsMachineAt job.now (opening job.now) machine) }
+    {
+        let _tasks = job.graph().tasks();
+        Ok(Machine {
+            cores: opened_cores(alloc, job)?,
+            tasks: opened_tasks(alloc, job)?,
+            lines: opened_lines(alloc, job)?,
+        })
+    }
+}

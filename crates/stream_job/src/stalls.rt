@@ -1,0 +1,184 @@
+//! Whether no task can move.
+ghost use Rattle.std.specs.Prelude.{◌≡◌, ◌<◌, ◌&&◌, ◌||◌, ℕ, true, false, nat_le, length, get_or, Some};
+ghost use Rattle.std.specs.List.{list_any, list_all, range_with_len};
+ghost use Rattle.phase_core.specs.phase_base.Limits.{Limits};
+ghost use Rattle.phase_core.specs.phase_base.Members.{least, wait_phases};
+ghost use Rattle.phase_core.specs.phase_history.Histories.{History, members_of, done_of};
+ghost use Rattle.phase_core.specs.phase_history.Refusals.{is_ahead};
+ghost use Rattle.graph_lang.specs.graph_base.Graphs.{phaser_at, task_at};
+ghost use Rattle.graph_lang.specs.graph_base.Registrations.{signalled_by};
+ghost use Rattle.stream_job.specs.Cores.{CoreStandsFor};
+ghost use Rattle.graph_runs.specs.Moments.{Moment, limits_at, input_at};
+ghost use Rattle.graph_runs.specs.Nexts.{has_signaller, is_live, number_on, signals};
+ghost use Rattle.graph_runs.specs.Answers.{is_stalled, is_still, output_at};
+ghost use Rattle.graph_runs.specs.Steps.{owed_of};
+ghost use Rattle.stream_job.specs.Inside.{blocks_signal, blocks_wait, would_block, is_value_in_range};
+ghost use Rattle.stream_job.specs.Blocking.{AreBlocked};
+ghost use Rattle.stream_job.specs.Machines.{next_by};
+ghost use Rattle.stream_job.specs.Plans.{IsPlan};
+
+use crate::any_core::AnyCore;
+use crate::machine::Machine;
+use crate::parked::Parked;
+use crate::plan::Plan;
+use crate::step::Step;
+use graph_lang::{Op, TASKS_MAX};
+use graph_runs::{Owed, input_of, output_of};
+use phase_core::phase_base::PHASES_MAX;
+use stream_eval::stream_lists::Job;
+
+impl Machine {
+    ghost use Rattle.stream_job.specs.Machines.{IsMachineAt, IsMachine, IsLiveIn};
+    ghost use Rattle.stream_job.specs.Stalls.{MakesNext};
+
+    /// Whether some task is live, and the turn of each live task would be blocked. It asks the
+    /// phasers for those tasks alone that stand in no list.
+    pub fn is_stalled(&self, job: &Job, plan: &Plan, parked: &Parked) -> bool
+        requires machine { IsMachine job.now self.now }
+        requires plan { IsPlan job.now plan.now }
+        ensures { (m : Moment) → IsMachineAt job.now m self.now → AreBlocked job.now m parked.now
+            → is_stalled job.now m ≡ result }
+    {
+        self.has_live(job) && self.are_still(job, plan, &parked.marks())
+    }
+
+    /// Whether some task is live.
+    fn has_live(&self, job: &Job) -> bool
+        requires { IsMachine job.now self.now }
+        ensures { (m : Moment) → IsMachineAt job.now m self.now
+            → list_any (is_live job.now m) (range_with_len 0 (length job.now.graph.tasks)) ≡ result }
+    {
+        for t in 0..job.graph().tasks() {
+            if self.state(job, t).is_live(job, t) {
+                return true;
+            }
+        }
+        false
+    }
+
+    /// Whether the turn of each live task would be blocked, as that of each marked one is.
+    fn are_still(&self, job: &Job, plan: &Plan, marks: &[bool; TASKS_MAX]) -> bool
+        requires machine { IsMachine job.now self.now }
+        requires plan { IsPlan job.now plan.now }
+        ensures { (m : Moment) → IsMachineAt job.now m self.now
+            → ((t : ℕ) → get_or marks.now t false ≡ true → is_still job.now m t ≡ true)
+            → list_all (is_still job.now m) (range_with_len 0 (length job.now.graph.tasks))
+            ≡ result }
+    {
+        for t in 0..job.graph().tasks() {
+            if !marks[t] && !self.is_still(job, plan, t) {
+                return false;
+            }
+        }
+        true
+    }
+
+    /// Whether task number `t` is not live, or its turn would be blocked.
+    fn is_still(&self, job: &Job, plan: &Plan, t: usize) -> bool
+        requires machine { IsMachine job.now self.now }
+        requires plan { IsPlan job.now plan.now }
+        requires task { t < length job.now.graph.tasks }
+        ensures { (m : Moment) → IsMachineAt job.now m self.now → is_still job.now m t ≡ result }
+    {
+        let _sends = plan.samples(job, t);
+        if !self.state(job, t).is_live(job, t) {
+            return true;
+        }
+        self.step_blocks(job, t, self.next(job, plan, t))
+    }
+
+    /// Whether a live task's turn would be blocked, where this is what it does next.
+    fn step_blocks(&self, job: &Job, t: usize, step: Step) -> bool
+        requires { MakesNext job.now self.now t (next_by step) }
+        ensures { (m : Moment) → IsMachineAt job.now m self.now
+            → would_block job.now m t (next_by step) ≡ result }
+    {
+        match step {
+            Step::NotLive => false,
+            Step::Register { .. } => false,
+            Step::Leave => false,
+            Step::Sample => self.signal_blocks(job, t, 0),
+            Step::Signal { output } => self.value_blocks(job, t, output),
+            Step::Wait { input } => self.wait_blocks(job, t, input),
+            Step::Exchange => self.wait_blocks(job, t, 1),
+        }
+    }
+
+    /// Whether the signal of a value that is owed on output `j` would be blocked. One that is out of
+    /// range is not signalled.
+    fn value_blocks(&self, job: &Job, t: usize, j: usize) -> bool
+        requires { MakesNext job.now self.now t (signals j) }
+        ensures { (m : Moment) → IsMachineAt job.now m self.now
+            → would_block job.now m t (signals j) ≡ result }
+    {
+        if !is_value_in_range(self.state(job, t).owed) {
+            return false;
+        }
+        self.signal_blocks(job, t, j)
+    }
+
+    /// Whether a live task's signal on its output `j` would be blocked.
+    fn signal_blocks(&self, job: &Job, t: usize, j: usize) -> bool
+        requires live { IsLiveIn job.now self.now t }
+        requires output { j < length (signalled_by (task_at job.now.graph t)) }
+        ensures { (m : Moment) → IsMachineAt job.now m self.now → is_live job.now m t ≡ true
+            → let p = output_at job.now t j in
+            blocks_signal (limits_at job.now p) (m.history p) (number_on m t p) ≡ result }
+    {
+        let (k, p) = output_of(job, t, j);
+        let bound = job.graph().phaser(p).bound;
+        signal_blocks(self.core(job, p), bound, self.state(job, t).numbers[k])
+    }
+
+    /// Whether a live task's wait on its input `k` would be blocked.
+    fn wait_blocks(&self, job: &Job, t: usize, k: usize) -> bool
+        requires live { IsLiveIn job.now self.now t }
+        requires input { k < length (task_at job.now.graph t).inputs }
+        ensures { (m : Moment) → IsMachineAt job.now m self.now → is_live job.now m t ≡ true
+            → let p = input_at (task_at job.now.graph t) k in
+            blocks_wait (m.history p) (number_on m t p) ≡ result }
+    {
+        let p = input_of(job, t, k);
+        wait_blocks(self.core(job, p), self.state(job, t).numbers[k])
+    }
+}
+
+/// Whether what is owed is a value in range.
+fn is_value_in_range(owed: Owed) -> bool
+    ensures { is_value_in_range (owed_of owed) ≡ result }
+{
+    matches!(owed, Owed::Value { value: Ok(_), .. })
+}
+
+/// Whether a signal is past the last phase, or too far ahead of the slowest waiter.
+fn signal_blocks(core: &AnyCore, bound: u64, number: u64) -> bool
+    ensures { (op : Op) (limits : Limits) (h : History) → CoreStandsFor core.now op limits h
+        → limits.phases_max ≡ PHASES_MAX → limits.bound ≡ bound
+        → blocks_signal limits h number ≡ result }
+{
+    let Some(entry) = core.view(number) else {
+        return false;
+    };
+    entry.signal_phase >= PHASES_MAX || is_ahead(core.least_wait(), bound, entry.signal_phase)
+}
+
+/// Whether phase `s` is the bound or more ahead of the slowest waiter.
+fn is_ahead(slowest: Option<u64>, bound: u64, s: u64) -> bool
+    ensures { result ≡ is_ahead slowest bound s }
+{
+    match slowest {
+        None => false,
+        Some(slowest) => slowest <= s && s - slowest >= bound,
+    }
+}
+
+/// Whether a wait has no complete phase yet, and some task still signals.
+fn wait_blocks(core: &AnyCore, number: u64) -> bool
+    ensures { (op : Op) (limits : Limits) (h : History) → CoreStandsFor core.now op limits h
+        → blocks_wait h number ≡ result }
+{
+    let Some(entry) = core.view(number) else {
+        return false;
+    };
+    core.done() <= entry.wait_phase && core.has_signaller()
+}

@@ -1,0 +1,778 @@
+-- Worked graphs, computed in the definitions. Lines of a graph are separated by a slash.
+use Rattle.std.proofs.Common.{◌≡◌, [], ◌∷◌, List, ℕ, ℤ, pos, neg_ℤ, Some, None, Ok, Err, true, false, map, refl}
+use Rattle.graph_base.specs.phase_accum.declared.single.Single.{Single}
+use Rattle.graph_base.specs.phase_accum.declared.single.Single.TheVariants.{Neg, Halve, Clamp}
+use Rattle.graph_base.specs.phase_base.declared.operation.Op.{Op}
+use Rattle.graph_base.specs.phase_base.declared.operation.Op.TheVariants.{Sum, Product, Least, Greatest, Any}
+use Rattle.graph_base.specs.declared.line.Kind.TheVariants.{Source, Fir, Split, Join, Peer}
+use Rattle.graph_base.specs.declared.place.Place.TheVariants as place
+use Rattle.graph_base.specs.declared.line.PhaserLine.{PhaserLine}
+use Rattle.graph_base.specs.Graphs.{Task, no_graph, no_task}
+use Rattle.stream_lists.specs.Jobs.{Job, with_starts}
+use Rattle.stream_lists.specs.Lists.{list_of_phaser}
+use Rattle.stream_lists.specs.Ranges.{answer_of}
+use Rattle.stream_lists.specs.Meetings.{meet_on, meeting_line}
+use Rattle.stream_lists.specs.Spans.{spans_of, span_in}
+
+-- ---- how the examples are written
+
+-- a negative number
+abbrev pub minus : ℕ → ℤ
+minus n = neg_ℤ (pos n)
+
+abbrev pub plain : Op → PhaserLine
+plain op = record { op = op; bound = 2; single = None }
+
+abbrev with_single : Op → Single → PhaserLine
+with_single op single = record { op = op; bound = 2; single = Some single }
+
+abbrev pub source : ℕ → ℕ → Task
+source line y = record no_task { line = line; kind = Source; outputs = y ∷ [] }
+
+abbrev pub fir : ℕ → ℕ → ℕ → ℕ → List ℤ → Task
+fir line x y shift taps = record no_task {
+  line = line;
+  kind = Fir;
+  inputs = x ∷ [];
+  outputs = y ∷ [];
+  taps = taps;
+  shift = shift;
+}
+
+abbrev pub splitter : ℕ → ℕ → List ℕ → Task
+splitter line x ys = record no_task { line = line; kind = Split; inputs = x ∷ []; outputs = ys }
+
+abbrev joiner : ℕ → List ℕ → ℕ → Task
+joiner line xs y = record no_task { line = line; kind = Join; inputs = xs; outputs = y ∷ [] }
+
+abbrev pub peer : ℕ → ℕ → ℕ → ℕ → ℤ → Task
+peer line x e y mul = record no_task {
+  line = line;
+  kind = Peer;
+  inputs = x ∷ e ∷ [];
+  outputs = y ∷ [];
+  mul = mul;
+}
+
+abbrev pub sink : ℕ → ℕ → Task
+sink line x = record no_task { line = line; inputs = x ∷ [] }
+
+-- the task, by number p at n
+abbrev pub added_by : ℕ → ℕ → Task → Task
+added_by p n task = record task { parent = Some (record { task = p; at = n }) }
+
+-- the task, where it joins now by number p at n
+abbrev pub joins_by : ℕ → ℕ → Task → Task
+joins_by p n task = record (added_by p n task) { joins_now = true }
+
+abbrev pub stops_at : ℕ → Task → Task
+stops_at n task = record task { until = Some n }
+
+abbrev pub job_of : List PhaserLine → List Task → List (List ℤ) → Job
+job_of phasers tasks samples = record {
+  graph = record no_graph { phasers = phasers; tasks = tasks };
+  samples = samples;
+  starts = [];
+}
+
+-- whole numbers from 0 on as samples
+abbrev pub these : List ℕ → List ℤ
+these ns = map pos ns
+
+-- 2^63 - 1
+abbrev pub largest : ℤ
+largest = pos 9223372036854775807
+
+-- ---- the worked graphs
+
+-- no line
+abbrev pub nothing : Job
+nothing =
+    job_of
+    []
+    []
+    []
+
+nothing-line : meeting_line nothing ≡ None
+nothing-line = refl
+
+nothing-answer : answer_of nothing ≡ Ok []
+nothing-answer = refl
+
+-- phaser X sum / phaser Y sum / source s s.csv -> X / fir f X -> Y shift 2 taps 1 2 1
+-- / sink out Y, on the samples -1, -1, 0
+abbrev rounds_down : Job
+rounds_down =
+    job_of
+    (plain Sum ∷ plain Sum ∷ [])
+    (source 3 0
+    ∷ fir 4 0 1 2 (these (1 ∷ 2 ∷ 1 ∷ []))
+    ∷ sink 5 1
+    ∷ [])
+    ((minus 1 ∷ minus 1 ∷ pos 0 ∷ []) ∷ [])
+
+rounds_down-line : meeting_line rounds_down ≡ None
+rounds_down-line = refl
+
+rounds_down-answer : answer_of rounds_down ≡ Ok ((2, minus 1 ∷ minus 1 ∷ minus 1 ∷ []) ∷ [])
+rounds_down-answer = refl
+
+-- the same on no sample
+abbrev no_samples : Job
+no_samples =
+    job_of
+    (plain Sum ∷ plain Sum ∷ [])
+    (source 3 0
+    ∷ fir 4 0 1 2 (these (1 ∷ 2 ∷ 1 ∷ []))
+    ∷ sink 5 1
+    ∷ [])
+    ([] ∷ [])
+
+no_samples-line : meeting_line no_samples ≡ None
+no_samples-line = refl
+
+no_samples-answer : answer_of no_samples ≡ Ok ((2, []) ∷ [])
+no_samples-answer = refl
+
+-- phasers X, A, B, S sum / source s s.csv -> X / split d X -> A B
+-- / fir f A -> S shift 0 taps 1 / fir g X -> S shift 0 taps 1 / sink out S
+abbrev split_to_one_bus_6 : Job
+split_to_one_bus_6 =
+    job_of
+    (plain Sum ∷ plain Sum ∷ plain Sum ∷ plain Sum ∷ [])
+    (source 5 0
+    ∷ splitter 6 0 (1 ∷ 2 ∷ [])
+    ∷ fir 7 1 3 0 (these (1 ∷ []))
+    ∷ fir 8 0 3 0 (these (1 ∷ []))
+    ∷ sink 9 3
+    ∷ [])
+    ((these (1 ∷ 2 ∷ 3 ∷ 4 ∷ 5 ∷ 6 ∷ [])) ∷ [])
+
+split_to_one_bus_6-line : meeting_line split_to_one_bus_6 ≡ None
+split_to_one_bus_6-line = refl
+
+split_to_one_bus_6-answer : answer_of split_to_one_bus_6
+    ≡ Ok ((4, these (2 ∷ 5 ∷ 8 ∷ 4 ∷ 5 ∷ 6 ∷ []))
+    ∷ [])
+split_to_one_bus_6-answer = refl
+
+-- the same on one sample more
+abbrev pub split_to_one_bus_7 : Job
+split_to_one_bus_7 =
+    job_of
+    (plain Sum ∷ plain Sum ∷ plain Sum ∷ plain Sum ∷ [])
+    (source 5 0
+    ∷ splitter 6 0 (1 ∷ 2 ∷ [])
+    ∷ fir 7 1 3 0 (these (1 ∷ []))
+    ∷ fir 8 0 3 0 (these (1 ∷ []))
+    ∷ sink 9 3
+    ∷ [])
+    ((these (1 ∷ 2 ∷ 3 ∷ 4 ∷ 5 ∷ 6 ∷ 7 ∷ [])) ∷ [])
+
+split_to_one_bus_7-line : meeting_line split_to_one_bus_7 ≡ None
+split_to_one_bus_7-line = refl
+
+split_to_one_bus_7-answer : answer_of split_to_one_bus_7
+    ≡ Ok ((4, these (2 ∷ 5 ∷ 8 ∷ 11 ∷ 5 ∷ 6 ∷ 7 ∷ []))
+    ∷ [])
+split_to_one_bus_7-answer = refl
+
+-- phaser X any / source A a.csv -> X / source B b.csv -> X by A at 2 / sink out X
+abbrev pub any_hands_over_2 : Job
+any_hands_over_2 =
+    job_of
+    (plain Any ∷ [])
+    (source 2 0
+    ∷ added_by 0 2 (source 3 0)
+    ∷ sink 4 0
+    ∷ [])
+    ((these (1 ∷ 2 ∷ 3 ∷ [])) ∷ (these (4 ∷ 5 ∷ [])) ∷ [])
+
+any_hands_over_2-line : meeting_line any_hands_over_2 ≡ Some 3
+any_hands_over_2-line = refl
+
+-- the same at 3
+abbrev pub any_hands_over_3 : Job
+any_hands_over_3 =
+    job_of
+    (plain Any ∷ [])
+    (source 2 0
+    ∷ added_by 0 3 (source 3 0)
+    ∷ sink 4 0
+    ∷ [])
+    ((these (1 ∷ 2 ∷ 3 ∷ [])) ∷ (these (4 ∷ 5 ∷ [])) ∷ [])
+
+any_hands_over_3-line : meeting_line any_hands_over_3 ≡ None
+any_hands_over_3-line = refl
+
+any_hands_over_3-answer : answer_of any_hands_over_3
+    ≡ Ok ((2, these (1 ∷ 2 ∷ 3 ∷ 4 ∷ 5 ∷ []))
+    ∷ [])
+any_hands_over_3-answer = refl
+
+-- the same at 4
+abbrev pub any_hands_over_4 : Job
+any_hands_over_4 =
+    job_of
+    (plain Any ∷ [])
+    (source 2 0
+    ∷ added_by 0 4 (source 3 0)
+    ∷ sink 4 0
+    ∷ [])
+    ((these (1 ∷ 2 ∷ 3 ∷ [])) ∷ (these (4 ∷ 5 ∷ [])) ∷ [])
+
+any_hands_over_4-line : meeting_line any_hands_over_4 ≡ None
+any_hands_over_4-line = refl
+
+any_hands_over_4-answer : answer_of any_hands_over_4 ≡ Ok ((2, these (1 ∷ 2 ∷ 3 ∷ [])) ∷ [])
+any_hands_over_4-answer = refl
+
+-- phasers X, Z, E, P, Q sum / source a a.csv -> X / source b b.csv -> Z
+-- / peer p X <-> E -> P mul 2 / peer q Z <-> E -> Q mul 2 / sink outp P / sink outq Q
+abbrev pub peers : Job
+peers =
+    job_of
+    (plain Sum ∷ plain Sum ∷ plain Sum ∷ plain Sum ∷ plain Sum ∷ [])
+    (source 6 0
+    ∷ source 7 1
+    ∷ peer 8 0 2 3 (pos 2)
+    ∷ peer 9 1 2 4 (pos 2)
+    ∷ sink 10 3
+    ∷ sink 11 4
+    ∷ [])
+    ((these (1 ∷ 2 ∷ [])) ∷ (these (10 ∷ 20 ∷ 30 ∷ [])) ∷ [])
+
+peers-line : meeting_line peers ≡ None
+peers-line = refl
+
+peers-answer : answer_of peers
+    ≡ Ok ((4, minus 9 ∷ minus 18 ∷ [])
+    ∷ (5, these (9 ∷ 18 ∷ 30 ∷ []))
+    ∷ [])
+peers-answer = refl
+
+-- the same with phaser E sum single neg
+abbrev pub peers_with_single : Job
+peers_with_single =
+    job_of
+    (plain Sum ∷ plain Sum ∷ with_single Sum Neg ∷ plain Sum ∷ plain Sum ∷ [])
+    (source 6 0
+    ∷ source 7 1
+    ∷ peer 8 0 2 3 (pos 2)
+    ∷ peer 9 1 2 4 (pos 2)
+    ∷ sink 10 3
+    ∷ sink 11 4
+    ∷ [])
+    ((these (1 ∷ 2 ∷ [])) ∷ (these (10 ∷ 20 ∷ 30 ∷ [])) ∷ [])
+
+peers_with_single-line : meeting_line peers_with_single ≡ None
+peers_with_single-line = refl
+
+peers_with_single-answer : answer_of peers_with_single
+    ≡ Ok ((4, these (13 ∷ 26 ∷ []))
+    ∷ (5, these (31 ∷ 62 ∷ 90 ∷ []))
+    ∷ [])
+peers_with_single-answer = refl
+
+-- phasers X, A, B, Y sum / source s s.csv -> X / split d X -> A B / join j A B -> Y / sink out Y
+abbrev split_and_join : Job
+split_and_join =
+    job_of
+    (plain Sum ∷ plain Sum ∷ plain Sum ∷ plain Sum ∷ [])
+    (source 5 0
+    ∷ splitter 6 0 (1 ∷ 2 ∷ [])
+    ∷ joiner 7 (1 ∷ 2 ∷ []) 3
+    ∷ sink 8 3
+    ∷ [])
+    ((these (1 ∷ 2 ∷ 3 ∷ 4 ∷ 5 ∷ [])) ∷ [])
+
+split_and_join-line : meeting_line split_and_join ≡ None
+split_and_join-line = refl
+
+split_and_join-answer : answer_of split_and_join ≡ Ok ((3, these (1 ∷ 2 ∷ 3 ∷ 4 ∷ 5 ∷ [])) ∷ [])
+split_and_join-answer = refl
+
+-- phaser X sum / source a a.csv -> X / source b b.csv -> X / sink out X
+abbrev gate : Job
+gate =
+    job_of
+    (plain Sum ∷ [])
+    (source 2 0
+    ∷ source 3 0
+    ∷ sink 4 0
+    ∷ [])
+    ((these (1 ∷ 2 ∷ [])) ∷ (these (10 ∷ 20 ∷ [])) ∷ [])
+
+gate-line : meeting_line gate ≡ None
+gate-line = refl
+
+gate-answer : answer_of gate ≡ Ok ((2, these (11 ∷ 22 ∷ [])) ∷ [])
+gate-answer = refl
+
+-- a filter with taps 2 on the largest sample
+abbrev too_big_filter : Job
+too_big_filter =
+    job_of
+    (plain Sum ∷ plain Sum ∷ [])
+    (source 3 0
+    ∷ fir 4 0 1 0 (these (2 ∷ []))
+    ∷ sink 5 1
+    ∷ [])
+    ((these (9223372036854775807 ∷ [])) ∷ [])
+
+too_big_filter-line : meeting_line too_big_filter ≡ None
+too_big_filter-line = refl
+
+too_big_filter-answer : answer_of too_big_filter ≡ Err (place.Task 1, 0)
+too_big_filter-answer = refl
+
+-- the same with a shift of 1
+abbrev shifted_back : Job
+shifted_back =
+    job_of
+    (plain Sum ∷ plain Sum ∷ [])
+    (source 3 0
+    ∷ fir 4 0 1 1 (these (2 ∷ []))
+    ∷ sink 5 1
+    ∷ [])
+    ((these (9223372036854775807 ∷ [])) ∷ [])
+
+shifted_back-line : meeting_line shifted_back ≡ None
+shifted_back-line = refl
+
+shifted_back-answer : answer_of shifted_back ≡ Ok ((2, these (9223372036854775807 ∷ [])) ∷ [])
+shifted_back-answer = refl
+
+-- the two sources on the largest sample and 1
+abbrev pub too_big_phase : Job
+too_big_phase =
+    job_of
+    (plain Sum ∷ [])
+    (source 2 0
+    ∷ source 3 0
+    ∷ sink 4 0
+    ∷ [])
+    ((these (9223372036854775807 ∷ [])) ∷ (these (1 ∷ [])) ∷ [])
+
+too_big_phase-line : meeting_line too_big_phase ≡ None
+too_big_phase-line = refl
+
+too_big_phase-answer : answer_of too_big_phase ≡ Err (place.Phaser 0, 0)
+too_big_phase-answer = refl
+
+-- phaser X sum / source s s.csv -> X / sink out X / sink late X by out at 2
+-- / sink early X until 2
+abbrev late_and_early_sinks_2 : Job
+late_and_early_sinks_2 =
+    job_of
+    (plain Sum ∷ [])
+    (source 2 0
+    ∷ sink 3 0
+    ∷ added_by 1 2 (sink 4 0)
+    ∷ stops_at 2 (sink 5 0)
+    ∷ [])
+    ((these (1 ∷ 2 ∷ 3 ∷ 4 ∷ [])) ∷ [])
+
+late_and_early_sinks_2-line : meeting_line late_and_early_sinks_2 ≡ None
+late_and_early_sinks_2-line = refl
+
+late_and_early_sinks_2-answer : answer_of late_and_early_sinks_2
+    ≡ Ok ((1, these (1 ∷ 2 ∷ 3 ∷ 4 ∷ []))
+    ∷ (2, these (3 ∷ 4 ∷ []))
+    ∷ (3, these (1 ∷ 2 ∷ []))
+    ∷ [])
+late_and_early_sinks_2-answer = refl
+
+-- the same at 4: the late sink begins where the list ends
+abbrev late_and_early_sinks_4 : Job
+late_and_early_sinks_4 =
+    job_of
+    (plain Sum ∷ [])
+    (source 2 0
+    ∷ sink 3 0
+    ∷ added_by 1 4 (sink 4 0)
+    ∷ stops_at 2 (sink 5 0)
+    ∷ [])
+    ((these (1 ∷ 2 ∷ 3 ∷ 4 ∷ [])) ∷ [])
+
+late_and_early_sinks_4-line : meeting_line late_and_early_sinks_4 ≡ None
+late_and_early_sinks_4-line = refl
+
+late_and_early_sinks_4-answer : answer_of late_and_early_sinks_4
+    ≡ Ok ((1, these (1 ∷ 2 ∷ 3 ∷ 4 ∷ []))
+    ∷ (2, [])
+    ∷ (3, these (1 ∷ 2 ∷ []))
+    ∷ [])
+late_and_early_sinks_4-answer = refl
+
+-- the same at 5: the late sink is not live
+abbrev late_and_early_sinks_5 : Job
+late_and_early_sinks_5 =
+    job_of
+    (plain Sum ∷ [])
+    (source 2 0
+    ∷ sink 3 0
+    ∷ added_by 1 5 (sink 4 0)
+    ∷ stops_at 2 (sink 5 0)
+    ∷ [])
+    ((these (1 ∷ 2 ∷ 3 ∷ 4 ∷ [])) ∷ [])
+
+late_and_early_sinks_5-line : meeting_line late_and_early_sinks_5 ≡ None
+late_and_early_sinks_5-line = refl
+
+late_and_early_sinks_5-answer : answer_of late_and_early_sinks_5
+    ≡ Ok ((1, these (1 ∷ 2 ∷ 3 ∷ 4 ∷ []))
+    ∷ (2, [])
+    ∷ (3, these (1 ∷ 2 ∷ []))
+    ∷ [])
+late_and_early_sinks_5-answer = refl
+
+-- phasers X, Y sum / source s s.csv -> X / fir f X -> Y shift 0 taps 1 1
+-- / fir g X -> Y shift 0 taps 1 1 by f at 2 until 1 / sink out Y
+abbrev child_filter : Job
+child_filter =
+    job_of
+    (plain Sum ∷ plain Sum ∷ [])
+    (source 3 0
+    ∷ fir 4 0 1 0 (these (1 ∷ 1 ∷ []))
+    ∷ added_by 1 2 (stops_at 1 (fir 5 0 1 0 (these (1 ∷ 1 ∷ []))))
+    ∷ sink 6 1
+    ∷ [])
+    ((these (1 ∷ 2 ∷ 3 ∷ 4 ∷ [])) ∷ [])
+
+child_filter-line : meeting_line child_filter ≡ None
+child_filter-line = refl
+
+child_filter-answer : answer_of child_filter ≡ Ok ((3, these (1 ∷ 3 ∷ 8 ∷ 7 ∷ [])) ∷ [])
+child_filter-answer = refl
+
+-- ---- more graphs, worked out by hand
+
+-- phasers X, A, B, C, Y sum / source s s.csv -> X / split d X -> A B C until 7
+-- / join j C A -> Y / sink out Y: C has 3 and 6, A has 1, 4 and 7, and C runs out first
+abbrev joiner_stops_at_the_first_end : Job
+joiner_stops_at_the_first_end =
+    job_of
+    (plain Sum ∷ plain Sum ∷ plain Sum ∷ plain Sum ∷ plain Sum ∷ [])
+    (source 6 0
+    ∷ stops_at 7 (splitter 7 0 (1 ∷ 2 ∷ 3 ∷ []))
+    ∷ joiner 8 (3 ∷ 1 ∷ []) 4
+    ∷ sink 9 4
+    ∷ [])
+    ((these (1 ∷ 2 ∷ 3 ∷ 4 ∷ 5 ∷ 6 ∷ 7 ∷ 8 ∷ 9 ∷ [])) ∷ [])
+
+joiner_stops_at_the_first_end-line : meeting_line joiner_stops_at_the_first_end ≡ None
+joiner_stops_at_the_first_end-line = refl
+
+joiner_stops_at_the_first_end-answer : answer_of joiner_stops_at_the_first_end
+    ≡ Ok ((3, these (3 ∷ 1 ∷ 6 ∷ 4 ∷ []))
+    ∷ [])
+joiner_stops_at_the_first_end-answer = refl
+
+-- phaser X product single clamp -10 10 / source a a.csv -> X / source b b.csv -> X by a at 1
+-- / sink out X: 3, -4 * 2, 5 * 6 cut to 10, and 7 alone
+abbrev clamped_products : Job
+clamped_products =
+    job_of
+    (with_single Product (Clamp (minus 10, pos 10)) ∷ [])
+    (source 2 0
+    ∷ added_by 0 1 (source 3 0)
+    ∷ sink 4 0
+    ∷ [])
+    ((pos 3 ∷ minus 4 ∷ pos 5 ∷ []) ∷ (these (2 ∷ 6 ∷ 7 ∷ [])) ∷ [])
+
+clamped_products-line : meeting_line clamped_products ≡ None
+clamped_products-line = refl
+
+clamped_products-answer : answer_of clamped_products
+    ≡ Ok ((2, pos 3 ∷ minus 8 ∷ pos 10 ∷ pos 7 ∷ [])
+    ∷ [])
+clamped_products-answer = refl
+
+-- phaser X least / source a a.csv -> X until 2 / source b b.csv -> X by a at 2
+-- / source c c.csv -> X by b at 1 / sink out X: b from phase 2 on, c from phase 3 on
+abbrev children_of_children : Job
+children_of_children =
+    job_of
+    (plain Least ∷ [])
+    (stops_at 2 (source 2 0)
+    ∷ added_by 0 2 (source 3 0)
+    ∷ added_by 1 1 (source 4 0)
+    ∷ sink 5 0
+    ∷ [])
+    ((pos 5 ∷ minus 3 ∷ pos 9 ∷ []) ∷ (these (1 ∷ 7 ∷ 4 ∷ [])) ∷ (these (0 ∷ 8 ∷ [])) ∷ [])
+
+children_of_children-line : meeting_line children_of_children ≡ None
+children_of_children-line = refl
+
+children_of_children-answer : answer_of children_of_children
+    ≡ Ok ((3, pos 5 ∷ minus 3 ∷ pos 1 ∷ pos 0 ∷ pos 4 ∷ [])
+    ∷ [])
+children_of_children-answer = refl
+
+-- phasers X, Y sum / source a a.csv -> X / source b b.csv -> X
+-- / fir f X -> Y shift 0 taps 2 until 1 / sink out X until 1: phase 1 of X is too big, and
+-- nobody takes it, so the output of f is the first
+abbrev too_big_and_not_taken : Job
+too_big_and_not_taken =
+    job_of
+    (plain Sum ∷ plain Sum ∷ [])
+    (source 3 0
+    ∷ source 4 0
+    ∷ stops_at 1 (fir 5 0 1 0 (these (2 ∷ [])))
+    ∷ stops_at 1 (sink 6 0)
+    ∷ [])
+    ((these (9223372036854775807 ∷ 9223372036854775807 ∷ [])) ∷ (these (0 ∷ 1 ∷ [])) ∷ [])
+
+too_big_and_not_taken-line : meeting_line too_big_and_not_taken ≡ None
+too_big_and_not_taken-line = refl
+
+too_big_and_not_taken-answer : answer_of too_big_and_not_taken ≡ Err (place.Task 2, 0)
+too_big_and_not_taken-answer = refl
+
+-- the same where the sink takes phase 1, which comes before the output on Y
+abbrev too_big_and_taken : Job
+too_big_and_taken =
+    job_of
+    (plain Sum ∷ plain Sum ∷ [])
+    (source 3 0
+    ∷ source 4 0
+    ∷ stops_at 1 (fir 5 0 1 0 (these (2 ∷ [])))
+    ∷ sink 6 0
+    ∷ [])
+    ((these (9223372036854775807 ∷ 9223372036854775807 ∷ [])) ∷ (these (0 ∷ 1 ∷ [])) ∷ [])
+
+too_big_and_taken-line : meeting_line too_big_and_taken ≡ None
+too_big_and_taken-line = refl
+
+too_big_and_taken-answer : answer_of too_big_and_taken ≡ Err (place.Phaser 0, 1)
+too_big_and_taken-answer = refl
+
+-- phasers X, Y sum / phaser E sum single halve in between / source a a.csv -> X
+-- / peer p X <-> E -> Y mul -3 until 2 / sink e E / sink out Y: E has 2 and 3, the halves of
+-- 5 and 7, and Y has -15 - 2 and -21 - 3
+abbrev peer_with_itself : Job
+peer_with_itself =
+    job_of
+    (plain Sum ∷ with_single Sum Halve ∷ plain Sum ∷ [])
+    (source 4 0
+    ∷ stops_at 2 (peer 5 0 1 2 (minus 3))
+    ∷ sink 6 1
+    ∷ sink 7 2
+    ∷ [])
+    ((pos 5 ∷ pos 7 ∷ minus 3 ∷ []) ∷ [])
+
+peer_with_itself-line : meeting_line peer_with_itself ≡ None
+peer_with_itself-line = refl
+
+peer_with_itself-answer : answer_of peer_with_itself
+    ≡ Ok ((2, these (2 ∷ 3 ∷ []))
+    ∷ (3, minus 17 ∷ minus 24 ∷ [])
+    ∷ [])
+peer_with_itself-answer = refl
+
+-- phaser X greatest / phaser Y any / source s s.csv -> X until 5 / source t t.csv -> X by s at 3
+-- / source u u.csv -> X by t at 2 / source v v.csv -> X by u at 9
+-- / fir f X -> Y shift 1 taps 1 -1 1 until 3 / fir g X -> Y shift 1 taps 1 -1 1 by f at 3 until 4
+-- / source w w.csv -> Y by g at 4 / sink o Y / sink p Y by o at 6 / sink q Y by p at 2
+-- / sink r Y by q at 99
+abbrev greatest_then_any : Job
+greatest_then_any =
+    job_of
+    (plain Greatest ∷ plain Any ∷ [])
+    (stops_at 5 (source 3 0)
+    ∷ added_by 0 3 (source 4 0)
+    ∷ added_by 1 2 (source 5 0)
+    ∷ added_by 2 9 (source 6 0)
+    ∷ stops_at 3 (fir 7 0 1 1 (pos 1 ∷ minus 1 ∷ pos 1 ∷ []))
+    ∷ added_by 4 3 (stops_at 4 (fir 8 0 1 1 (pos 1 ∷ minus 1 ∷ pos 1 ∷ [])))
+    ∷ added_by 5 4 (source 9 1)
+    ∷ sink 10 1
+    ∷ added_by 7 6 (sink 11 1)
+    ∷ added_by 8 2 (sink 12 1)
+    ∷ added_by 9 99 (sink 13 1)
+    ∷ [])
+    ((pos 1 ∷ minus 2 ∷ pos 3 ∷ pos 4 ∷ minus 5 ∷ pos 6 ∷ [])
+    ∷ (minus 7 ∷ pos 8 ∷ pos 9 ∷ [])
+    ∷ (pos 10 ∷ minus 11 ∷ [])
+    ∷ (these (1 ∷ []))
+    ∷ (these (77 ∷ 78 ∷ []))
+    ∷ [])
+
+greatest_then_any-line : meeting_line greatest_then_any ≡ None
+greatest_then_any-line = refl
+
+greatest_then_any-answer : answer_of greatest_then_any
+    ≡ Ok ((7, pos 0 ∷ minus 2 ∷ pos 3 ∷ pos 2 ∷ pos 2 ∷ pos 3 ∷ minus 7 ∷ pos 77 ∷ pos 78 ∷ [])
+    ∷ (8, minus 7 ∷ pos 77 ∷ pos 78 ∷ [])
+    ∷ (9, these (78 ∷ []))
+    ∷ (10, [])
+    ∷ [])
+greatest_then_any-answer = refl
+
+-- ---- the first of several values out of range
+
+-- phasers X, Z, Y sum / source a a.csv -> X / source b b.csv -> Z
+-- / fir f X -> Y shift 0 taps 2 / fir g Z -> Y shift 0 taps 2 / sink out Y: f is too big at its
+-- step 1 and g at its step 0, and the line of f is the first
+abbrev pub two_filters_too_big : Job
+two_filters_too_big =
+    job_of
+    (plain Sum ∷ plain Sum ∷ plain Sum ∷ [])
+    (source 4 0
+    ∷ source 5 1
+    ∷ fir 6 0 2 0 (these (2 ∷ []))
+    ∷ fir 7 1 2 0 (these (2 ∷ []))
+    ∷ sink 8 2
+    ∷ [])
+    ((pos 1 ∷ largest ∷ []) ∷ (largest ∷ pos 1 ∷ []) ∷ [])
+
+two_filters_too_big-line : meeting_line two_filters_too_big ≡ None
+two_filters_too_big-line = refl
+
+two_filters_too_big-answer : answer_of two_filters_too_big ≡ Err (place.Task 2, 1)
+two_filters_too_big-answer = refl
+
+-- phasers X, Y sum / source a a.csv -> X / source b b.csv -> Y / fir f X -> Y shift 0 taps 2
+-- / sink out Y: phase 0 of Y is too big, and so is the output of f at its step 1, which is told
+abbrev pub output_before_phases : Job
+output_before_phases =
+    job_of
+    (plain Sum ∷ plain Sum ∷ [])
+    (source 3 0
+    ∷ source 4 1
+    ∷ fir 5 0 1 0 (these (2 ∷ []))
+    ∷ sink 6 1
+    ∷ [])
+    ((pos 1 ∷ largest ∷ []) ∷ (largest ∷ []) ∷ [])
+
+output_before_phases-line : meeting_line output_before_phases ≡ None
+output_before_phases-line = refl
+
+output_before_phases-answer : answer_of output_before_phases ≡ Err (place.Task 2, 1)
+output_before_phases-answer = refl
+
+-- the same with 1 in place of the largest as the second sample of a: phase 0 alone is too big
+abbrev pub phase_alone_too_big : Job
+phase_alone_too_big = record output_before_phases {
+  samples = these (1 ∷ 1 ∷ []) ∷ (largest ∷ []) ∷ [];
+}
+
+phase_alone_too_big-answer : answer_of phase_alone_too_big ≡ Err (place.Phaser 1, 0)
+phase_alone_too_big-answer = refl
+
+-- ---- a task that puts nothing
+
+-- phaser X any / source A a.csv -> X / source B b.csv -> X by A at 1 / sink out X: B begins within
+-- A's phases and has no value, so it meets nobody
+abbrev pub empty_child : Job
+empty_child =
+    job_of
+    (plain Any ∷ [])
+    (source 2 0
+    ∷ added_by 0 1 (source 3 0)
+    ∷ sink 4 0
+    ∷ [])
+    (these (1 ∷ 2 ∷ 3 ∷ []) ∷ [] ∷ [])
+
+empty_child-line : meeting_line empty_child ≡ None
+empty_child-line = refl
+
+empty_child-answer : answer_of empty_child ≡ Ok ((2, these (1 ∷ 2 ∷ 3 ∷ [])) ∷ [])
+empty_child-answer = refl
+
+-- neither with the child first nor with it second
+empty_child-first : meet_on empty_child.graph (spans_of empty_child) 1 0 0 ≡ false
+empty_child-first = refl
+
+empty_child-second : meet_on empty_child.graph (spans_of empty_child) 0 0 1 ≡ false
+empty_child-second = refl
+
+-- with one value it meets A
+abbrev pub child_within : Job
+child_within = record empty_child { samples = these (1 ∷ 2 ∷ 3 ∷ []) ∷ these (4 ∷ []) ∷ [] }
+
+child_within-line : meeting_line child_within ≡ Some 3
+child_within-line = refl
+
+-- ---- a sink that joins now
+
+-- phaser X sum / source s s.csv -> X / sink out X / sink late X by out at 2 now, whose late joins
+-- from this phase on
+abbrev joins_from : ℕ → Job
+joins_from n =
+    with_starts (0 ∷ 0 ∷ n ∷ [])
+    (job_of
+    (plain Sum ∷ [])
+    (source 2 0
+    ∷ sink 3 0
+    ∷ joins_by 1 2 (sink 4 0)
+    ∷ [])
+    ((these (1 ∷ 2 ∷ 3 ∷ 4 ∷ [])) ∷ []))
+
+-- the least phase is its parent's boundary, 2
+joins_from_0-answer : answer_of (joins_from 0)
+    ≡ Ok ((1, these (1 ∷ 2 ∷ 3 ∷ 4 ∷ [])) ∷ (2, these (3 ∷ 4 ∷ [])) ∷ [])
+joins_from_0-answer = refl
+
+joins_from_1-answer : answer_of (joins_from 1) ≡ answer_of (joins_from 0)
+joins_from_1-answer = refl
+
+joins_from_2-answer : answer_of (joins_from 2) ≡ answer_of (joins_from 0)
+joins_from_2-answer = refl
+
+-- from 3 on it has one step, with the value of phase 3
+joins_from_3-span : span_in (joins_from 3) 2 ≡ record { live = true; offset = 3; steps = 1 }
+joins_from_3-span = refl
+
+joins_from_3-answer : answer_of (joins_from 3)
+    ≡ Ok ((1, these (1 ∷ 2 ∷ 3 ∷ 4 ∷ [])) ∷ (2, these (4 ∷ [])) ∷ [])
+joins_from_3-answer = refl
+
+-- and from 4 on none
+joins_from_4-answer : answer_of (joins_from 4)
+    ≡ Ok ((1, these (1 ∷ 2 ∷ 3 ∷ 4 ∷ [])) ∷ (2, []) ∷ [])
+joins_from_4-answer = refl
+
+-- the list of the phaser is the same
+joins_from_4-list : list_of_phaser (joins_from 4) 0 ≡ list_of_phaser (joins_from 0) 0
+joins_from_4-list = refl
+
+-- the same without `now`: the starts make no difference
+abbrev late_from : ℕ → Job
+late_from n =
+    with_starts (0 ∷ 0 ∷ n ∷ [])
+    (job_of
+    (plain Sum ∷ [])
+    (source 2 0
+    ∷ sink 3 0
+    ∷ added_by 1 2 (sink 4 0)
+    ∷ [])
+    ((these (1 ∷ 2 ∷ 3 ∷ 4 ∷ [])) ∷ []))
+
+late_from_3-answer : answer_of (late_from 3)
+    ≡ Ok ((1, these (1 ∷ 2 ∷ 3 ∷ 4 ∷ [])) ∷ (2, these (3 ∷ 4 ∷ [])) ∷ [])
+late_from_3-answer = refl
+
+-- phaser X sum / source a a.csv -> X / source b b.csv -> X / sink out X until 0
+-- / sink late X by out at 0 now until 1, whose late joins from this phase on: it takes one value,
+-- and that of phase 3 is too big
+abbrev too_big_from : ℕ → Job
+too_big_from n =
+    with_starts (0 ∷ 0 ∷ 0 ∷ n ∷ [])
+    (job_of
+    (plain Sum ∷ [])
+    (source 2 0
+    ∷ source 3 0
+    ∷ stops_at 0 (sink 4 0)
+    ∷ joins_by 2 0 (stops_at 1 (sink 5 0))
+    ∷ [])
+    ((these (1 ∷ 1 ∷ 1 ∷ 9223372036854775807 ∷ []))
+    ∷ (these (1 ∷ 1 ∷ 1 ∷ 9223372036854775807 ∷ []))
+    ∷ []))
+
+too_big_from_0-answer : answer_of (too_big_from 0) ≡ Ok ((2, []) ∷ (3, these (2 ∷ [])) ∷ [])
+too_big_from_0-answer = refl
+
+too_big_from_3-answer : answer_of (too_big_from 3) ≡ Err (place.Phaser 0, 3)
+too_big_from_3-answer = refl

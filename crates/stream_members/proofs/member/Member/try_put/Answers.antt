@@ -1,0 +1,10 @@
+-- The registration is alone, as the member is.
+use Rattle.std.proofs.Common.{rules}
+use Rattle.stream_members.proofs.Looks.{only_used}
+use Rattle.stream_members.proofs.member.Member.try_put.Goals as goal
+
+pub returns-2-clause-alone : goal.returns-2-clause-alone
+returns-2-clause-alone g c = λ alone.
+    let own = c.self.inside in
+    let apart = c.try_put-answer.ensures.call.alone (only_used own.reg own.held c.args.self.now c.self.view_is alone) in
+    search rules

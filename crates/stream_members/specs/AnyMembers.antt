@@ -1,0 +1,50 @@
+-- A member under one of the five operations, as contracts see it.
+use Rattle.std.specs.Prelude.{◌≡◌, Result, Ok, Err}
+use Rattle.phase_shared.specs.phase_base.declared.mode.Mode.{Mode}
+use Rattle.phase_shared.specs.phase_base.declared.operation.Op.{Op}
+use Rattle.phase_shared.specs.phase_base.declared.operation.Op.TheVariants.{Sum, Product, Least, Greatest, Any}
+use Rattle.phase_shared.specs.phase_history.declared.refusal.RegisterRefusal.{RegisterRefusal}
+use Rattle.stream_members.specs.Members.{MemberState, LeftState, Adds}
+use Rattle.stream_members.specs.declared.any_member.AnyMember.{AnyMember}
+use Rattle.stream_members.specs.declared.any_member.AnyMember.TheVariants as member
+use Rattle.stream_members.specs.declared.any_left.AnyLeft.{AnyLeft}
+use Rattle.stream_members.specs.declared.any_left.AnyLeft.TheVariants as left
+
+-- the operation of its phaser
+abbrev pub member_op : AnyMember → Op
+member_op (member.Sum m) = Sum
+member_op (member.Product m) = Product
+member_op (member.Least m) = Least
+member_op (member.Greatest m) = Greatest
+member_op (member.Any m) = Any
+
+-- the member, whatever its operation
+abbrev pub member_in : AnyMember → MemberState
+member_in (member.Sum m) = m
+member_in (member.Product m) = m
+member_in (member.Least m) = m
+member_in (member.Greatest m) = m
+member_in (member.Any m) = m
+
+-- the operation of the phaser that it left
+abbrev pub left_op : AnyLeft → Op
+left_op (left.Sum l) = Sum
+left_op (left.Product l) = Product
+left_op (left.Least l) = Least
+left_op (left.Greatest l) = Greatest
+left_op (left.Any l) = Any
+
+-- what it has seen, whatever its operation
+abbrev pub left_in : AnyLeft → LeftState
+left_in (left.Sum l) = l
+left_in (left.Product l) = l
+left_in (left.Least l) = l
+left_in (left.Greatest l) = l
+left_in (left.Any l) = l
+
+-- a child on the same phaser, or the refusal
+abbrev pub AddsAny : Mode → AnyMember → AnyMember → Result AnyMember RegisterRefusal → Type 0
+AddsAny mode old new (Ok child) =
+    Adds mode (member_in old) (member_in new) (Ok (member_in child))
+    × (member_op child ≡ member_op old)
+AddsAny mode old new (Err refusal) = Adds mode (member_in old) (member_in new) (Err refusal)

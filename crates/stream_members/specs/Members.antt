@@ -1,0 +1,182 @@
+-- What contracts see of a registration with its phaser, and what its calls do to the history that
+-- it has seen.
+use Rattle.std.specs.Prelude.{◌≡◌, ◌≢◌, ℕ, ◌+◌, ℤ, List, [], ◌∷◌, ◌++◌, map, Option, Some, None, Result, Ok, Err, true}
+use Rattle.phase_shared.specs.turn_lock.Seats.{Place}
+use Rattle.phase_shared.specs.phase_base.Limits.{Limits, limits}
+use Rattle.phase_shared.specs.phase_base.Members.{entry_of}
+use Rattle.phase_shared.specs.phase_base.Modes.{mode_signals}
+use Rattle.phase_shared.specs.phase_base.declared.entry.Entry.{Entry}
+use Rattle.phase_shared.specs.phase_base.declared.mode.Mode.{Mode}
+use Rattle.phase_shared.specs.phase_base.declared.mode.Mode.TheVariants.{Wait}
+use Rattle.phase_shared.specs.phase_accum.Operations.{Operation}
+use Rattle.phase_shared.specs.phase_accum.Parcels.{Parcel, StandsForSends}
+use Rattle.phase_shared.specs.phase_accum.declared.outcome.TheConstants.{NO_VALUE}
+use Rattle.phase_shared.specs.phase_accum.declared.single.Single.{Single}
+use Rattle.phase_shared.specs.phase_history.declared.refusal.RegisterRefusal.{RegisterRefusal}
+use Rattle.phase_shared.specs.phase_history.declared.event.Event.TheVariants.{RegisteredNow}
+use Rattle.phase_shared.specs.phase_history.Histories.{History, members_of, greatest_used, done_of}
+use Rattle.phase_shared.specs.phase_history.declared.refusal.SignalRefusal.{SignalRefusal}
+use Rattle.phase_shared.specs.phase_history.Refusals.{register_now_refusal}
+use Rattle.phase_shared.specs.phase_history.Replies.{signal_reply, after_signal}
+use Rattle.phase_shared.specs.phase_history.Legal.{IsLegal}
+use Rattle.phase_shared.specs.phase_history.Others.{OthersCame, OnlyUsed}
+use Rattle.phase_shared.specs.phase_base.Lists.{is_distinct}
+use Rattle.phase_shared.specs.declared.rule.Terms.{Terms}
+use Rattle.phase_shared.specs.declared.rule.NoRule.{NoRule}
+use Rattle.phase_shared.specs.Calls.{HasRegistered, RefusesRegister, Leaves}
+use Rattle.phase_shared.specs.Puts.{SignalsValue}
+use Rattle.phase_shared.specs.Regs.{RegState, PastState}
+use Rattle.stream_members.specs.declared.refusal.PutRefusal.{PutRefusal}
+use Rattle.stream_members.specs.declared.refusal.PutRefusal.TheVariants.{BadValue, HoldsAnother, Busy, Refused}
+
+-- which phaser it is
+abbrev pub Spot : Type 0
+Spot = Place (Terms NoRule)
+
+-- the limits of the phaser at a spot
+abbrev pub limits_of : Option (Terms NoRule) → Limits
+limits_of None = limits 1 1
+limits_of (Some terms) = terms.limits
+
+-- the limits of the phaser that a spot is on
+abbrev pub limits_on : Spot → Limits
+limits_on at = limits_of at.1
+
+-- a member: its phaser, its number, its mode, the value that it holds where one was refused, and
+-- the history that it has seen
+pub record MemberState : Type 0 where
+  pub at : Spot
+  pub number : ℕ
+  pub mode : Mode
+  pub held : Option ℤ
+  pub seen : History
+
+-- what a member that left has seen
+abbrev pub LeftState : Type 0
+LeftState = PastState NoRule
+
+-- a registration as a member, with the value that it holds
+abbrev pub member_state : {A : Type 0} → RegState A NoRule → Option ℤ → MemberState
+member_state reg held = record {
+  at = reg.at;
+  number = reg.number;
+  mode = reg.entry.mode;
+  held = held;
+  seen = reg.seen;
+}
+
+-- for the code: what is held is this value alone, or nothing
+abbrev pub HoldsJust : {A : Type 0} → Operation A → Parcel A → Option ℤ → Type 0
+HoldsJust op held None = held.count ≡ 0
+HoldsJust op held (Some value) = StandsForSends op held (value ∷ [])
+
+-- it is registered, in its mode, and what it has seen is legal
+pub record IsMember (m : MemberState) : Type 0 where
+  pub legal : IsLegal (limits_on m.at) m.seen
+  pub entry : Entry
+  pub member : entry_of (members_of m.seen) m.number ≡ Some entry
+  pub mode : entry.mode ≡ m.mode
+
+-- after a call it is the same member of the same phaser, and what it has seen is legal
+pub record Stays (old new : MemberState) : Type 0 where
+  pub at : new.at ≡ old.at
+  pub number : new.number ≡ old.number
+  pub mode : new.mode ≡ old.mode
+  pub legal : IsLegal (limits_on old.at) new.seen
+
+-- it is the only one on its phaser that it has seen
+pub record IsAlone (m : MemberState) : Type 0 where
+  pub only : OnlyUsed (m.number ∷ []) m.seen
+
+-- ---- a value that is put
+
+-- another value is held
+abbrev pub HoldsOther : Option ℤ → ℤ → Type 0
+HoldsOther None value = ⊥
+HoldsOther (Some other) value = other ≢ value
+
+-- the value is held, where the mode signals
+abbrev pub IsHeld : MemberState → ℤ → Type 0
+IsHeld m value = mode_signals m.mode ≡ true → m.held ≡ Some value
+
+-- a refused value: all stayed as it was, or the value is held now, where the mode signals
+abbrev pub RefusesPut : ℤ → Option Single → MemberState → MemberState → PutRefusal → Type 0
+RefusesPut value single old new BadValue = (value ≡ NO_VALUE) × (new ≡ old)
+RefusesPut value single old new HoldsAnother = HoldsOther old.held value × (new ≡ old)
+RefusesPut value single old new Busy = (new.seen ≡ old.seen) × IsHeld new value
+RefusesPut value single old new (Refused refusal) =
+    SignalsValue (limits_on old.at) old.number value single old.seen new.seen (Err refusal)
+    × IsHeld new value
+
+-- a value that is put by a signal of its own, or the refusal
+abbrev pub Puts : ℤ → Option Single → MemberState → MemberState → Result ℕ PutRefusal → Type 0
+Puts value single old new (Ok phase) =
+    SignalsValue (limits_on old.at) old.number value single old.seen new.seen (Ok phase)
+    × (new.held ≡ None)
+Puts value single old new (Err refusal) = RefusesPut value single old new refusal
+
+-- ---- blocks
+
+-- one send a phase
+abbrev pub one_each : List ℤ → List (List ℤ)
+one_each values = map (λ v. v ∷ []) values
+
+-- a signal of these values, one a phase: events of others, and there the definition's answer; then
+-- the signal's event, where it was accepted
+pub record SignalsValues (limits : Limits) (me : ℕ) (values : List ℤ) (single : Option Single)
+    (old new : History) (answer : Result ℕ SignalRefusal) : Type 0 where
+  pub before : History
+  pub others : OthersCame (me ∷ []) old before
+  pub seen : new ≡ after_signal answer me (one_each values) single before
+  pub reply : signal_reply limits before me (one_each values) single ≡ answer
+
+-- ---- members that come and go
+
+-- a child: it is on its parent's phaser, has seen what its parent has, and holds nothing
+pub record HasAdded (mode : Mode) (old new child : MemberState) : Type 0 where
+  pub registered : HasRegistered old.number child.number mode old.seen new.seen
+  pub at : child.at ≡ old.at
+  pub mode_is : child.mode ≡ mode
+  pub seen : child.seen ≡ new.seen
+  pub none_held : child.held ≡ None
+
+-- a child, or the refusal
+abbrev pub Adds : Mode → MemberState → MemberState → Result MemberState RegisterRefusal → Type 0
+Adds mode old new (Ok child) = HasAdded mode old new child
+Adds mode old new (Err refusal) = RefusesRegister old.number mode old.seen new.seen refusal
+
+-- a child that waits from the first phase on that is not complete: others' events, then the
+-- registration, which answers that phase
+pub record HasAddedNow (old new child : MemberState) (start : ℕ) : Type 0 where
+  pub before : History
+  pub others : OthersCame (old.number ∷ []) old.seen before
+  pub now : new.seen ≡ RegisteredNow old.number child.number ∷ before
+  pub reply : register_now_refusal before old.number child.number ≡ None
+  pub next : child.number ≡ greatest_used before + 1
+  pub start_is : start ≡ done_of before
+  pub at : child.at ≡ old.at
+  pub mode_is : child.mode ≡ Wait
+  pub seen : child.seen ≡ new.seen
+  pub none_held : child.held ≡ None
+
+-- such a child, or the refusal
+abbrev pub AddsNow : MemberState → MemberState → Result (MemberState × ℕ) RegisterRefusal → Type 0
+AddsNow old new (Ok child) = HasAddedNow old new child.0 child.1
+AddsNow old new (Err refusal) = RefusesRegister old.number Wait old.seen new.seen refusal
+
+-- what a member that left has seen: its own drop last
+pub record HasLeftPhaser (old : MemberState) (left : LeftState) : Type 0 where
+  pub at : left.at ≡ old.at
+  pub numbers : left.numbers ≡ old.number ∷ []
+  pub leaves : Leaves old.number old.seen left.seen
+  pub legal : IsLegal (limits_on old.at) left.seen
+
+-- two that left as one: its history begins with what each has seen, and has no later event of
+-- theirs
+pub record HasJoined (first second both : LeftState) : Type 0 where
+  pub at : both.at ≡ first.at
+  pub numbers : both.numbers ≡ first.numbers ++ second.numbers
+  pub distinct : is_distinct both.numbers ≡ true
+  pub first_came : OthersCame first.numbers first.seen both.seen
+  pub second_came : OthersCame second.numbers second.seen both.seen
+  pub legal : IsLegal (limits_on first.at) both.seen

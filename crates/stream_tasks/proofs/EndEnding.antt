@@ -1,0 +1,200 @@
+-- What was gathered and found to agree is the end of a run.
+use Rattle.std.proofs.Common.{◌≡◌, ℕ, zero, suc, ◌+◌, ◌<◌, ◌≤◌, Bool, true, false, cond, List, [], ◌∷◌, Option, Some, None, ℤ, length, map, get_or, slice_get, refl, sym, ap, subst, ◌∙◌, arith, ◌⊎◌, inl, inr}
+use Rattle.std.specs.List.{filter, range_with_len}
+use Rattle.std.proofs.lemmas.Option.{slice_get-get_or}
+use Rattle.graph_runs.specs.phase_history.Histories.{History}
+use Rattle.graph_runs.specs.phase_history.Legal.{IsLegal}
+use Rattle.graph_runs.specs.phase_history.Others.{OthersCame}
+use Rattle.graph_runs.specs.phase_base.Lists.{is_in}
+use Rattle.graph_runs.specs.phase_base.Limits.{Limits}
+use Rattle.stream_eval.specs.stream_lists.Jobs.{Job}
+use Rattle.stream_eval.specs.stream_lists.Lists.{sinks_of, is_sink_at}
+use Rattle.graph_runs.specs.Moments.{limits_at}
+use Rattle.stream_members.specs.Members.{Spot, limits_on}
+use Rattle.stream_members.specs.AnyMembers.{left_in}
+use Rattle.stream_members.specs.declared.any_left.AnyLeft.{AnyLeft}
+use Rattle.graph_runs.specs.Nexts.{registrations_at}
+use Rattle.graph_runs.specs.TaskEnds.{TaskEnd, FounderEnd}
+use Rattle.graph_runs.specs.RunEnds.{Ends, HasCome, IsRegisteredOn, HasWhole, IsRunEnd, lines_in}
+use Rattle.stream_tasks.specs.declared.ending.task_left.TaskKnowledge.{TaskKnowledge}
+use Rattle.stream_tasks.specs.Joinings.{IsAt}
+use Rattle.stream_tasks.specs.Gatherings.{Tells, AreGathered}
+use Rattle.stream_tasks.specs.TaskLefts.{given_to, AreFounders, part_lines, lines_at}
+use Rattle.stream_tasks.specs.Agreeing.{Agrees, IsOfTask, AreOfTasks}
+use Rattle.stream_tasks.proofs.Gathered.{below_length}
+
+map-filtered : {Y : Type 0} (f h : ℕ → Y) (test : ℕ → Bool) (a n : ℕ)
+    → ((t : ℕ) → t < a + n → f t ≡ h t)
+    → map f (filter test (range_with_len a n)) ≡ map h (filter test (range_with_len a n))
+map-filtered f h test a zero same = refl
+map-filtered f h test a (suc n) same =
+    let rest : map f (filter test (range_with_len (a + 1) n))
+    ≡ map h (filter test (range_with_len (a + 1) n)) =
+    map-filtered f h test (a + 1) n (λ t lt. same t (omega arith)) in
+    elim (test a) as (λ b. map f (cond b (a ∷ filter test (range_with_len (a + 1) n))
+    (filter test (range_with_len (a + 1) n)))
+    ≡ map h (cond b (a ∷ filter test (range_with_len (a + 1) n))
+    (filter test (range_with_len (a + 1) n)))) [
+      | true ↦
+          ap (λ y. y ∷ map f (filter test (range_with_len (a + 1) n))) (same a (omega arith))
+          ∙ ap (λ ys. h a ∷ ys) rest
+      | false ↦ rest
+    ]
+
+module _ (job : Job) (spots : ℕ → Spot) (founders joined : List (Option AnyLeft))
+    (parts : List (Option TaskKnowledge)) (ends : Ends) (gave : ℕ → List ℕ)
+    (g : AreGathered job founders joined parts ends)
+    (many : length ends ≡ length job.graph.tasks)
+    (agree : (c : ℕ) → c < length job.graph.tasks → Agrees job parts c)
+    (founded : AreFounders job spots founders gave)
+    (known : (p : ℕ) → p < length job.graph.phasers → AreOfTasks job parts p (gave p)) where
+  -- the end of a part
+  record HasEnd (t : ℕ) (part : TaskKnowledge) : Type 0 where
+    end : TaskEnd
+    has : HasCome ends t end
+    tells : Tells (Some part) (Some end)
+
+  end_of_part : (t : ℕ) (part : TaskKnowledge) → IsAt parts t part → HasEnd t part
+  end_of_part t part at =
+      let low : t < length parts = below_length parts t (Some part) at in
+      let same : length parts ≡ length ends = g.long in
+      let is : slice_get ends t ≡ Some (get_or ends t None) =
+      slice_get-get_or ends t None (omega arith) in
+      by (get_or ends t None) is (g.tells t (Some part) (get_or ends t None) at is)
+    where
+      by : (o : Option TaskEnd) → slice_get ends t ≡ Some o → Tells (Some part) o → HasEnd t part
+      by None is tells = absurd tells
+      by (Some end) is tells = record { end = end; has = is; tells = tells }
+
+  record HasPartOf (t : ℕ) (end : TaskEnd) : Type 0 where
+    part : TaskKnowledge
+    at : IsAt parts t part
+    tells : Tells (Some part) (Some end)
+
+  part_of_end : (t : ℕ) (end : TaskEnd) → HasCome ends t end → HasPartOf t end
+  part_of_end t end has =
+      let low : t < length ends = below_length ends t (Some end) has in
+      let same : length parts ≡ length ends = g.long in
+      let is : slice_get parts t ≡ Some (get_or parts t None) =
+      slice_get-get_or parts t None (omega arith) in
+      by (get_or parts t None) is (g.tells t (get_or parts t None) (Some end) is has)
+    where
+      by : (o : Option TaskKnowledge) → slice_get parts t ≡ Some o → Tells o (Some end) → HasPartOf t end
+      by None is tells = absurd tells
+      by (Some part) is tells = record { part = part; at = is; tells = tells }
+
+  whole_of : (p : ℕ) → p < length job.graph.phasers
+      → (founder : FounderEnd) × (whole : History) × HasWhole job ends p founder whole
+  whole_of p pp =
+      let f = founded p pp in
+      let s = g.phasers p f.0 f.1 in
+      let founder : FounderEnd =
+      record { number = 0; gave = gave p; seen = (left_in f.0).seen } in
+      let limits : limits_on (left_in f.0).at ≡ limits_at job p =
+      ap limits_on f.2.is_left.at ∙ f.2.is_left.limits in
+      let L : Limits → Type 0 = λ l. IsLegal l (left_in f.0).seen in
+      let K : Limits → Type 0 = λ l. IsLegal l (left_in s.0).seen in
+      let O : List ℕ → Type 0 = λ ns. OthersCame ns (left_in f.0).seen (left_in s.0).seen in (
+        founder,
+        (left_in s.0).seen,
+        record {
+          legal = subst K limits (s.2.grown.legal (subst L (sym limits) f.2.legal));
+          founds = f.2.founds;
+          founder_came = subst O f.2.is_left.numbers_are s.2.grown.came;
+          tasks_came = λ t i n seen on. (s.2.tasks_came t i n seen on).0;
+          not_founder = λ t i n seen on same.
+              apart n f.0 f.2.is_left.numbers_are same (s.2.not_founder t i n seen on);
+          distinct = s.2.distinct;
+          gave = λ a inside. of_task p a (known p pp a inside);
+        },
+      )
+    where
+      apart : (n : ℕ) (left : AnyLeft) → (left_in left).numbers ≡ 0 ∷ [] → n ≡ 0
+          → is_in n (left_in left).numbers ≡ false → ⊥
+      apart n left numbers same none =
+          let inside : is_in n (left_in left).numbers ≡ true =
+          ap (λ k. is_in k (left_in left).numbers) same ∙ ap (is_in 0) numbers in
+          let wrong : true ≡ false = sym inside ∙ none in cc
+
+      of_task : (p a : ℕ) → IsOfTask job parts p a
+          → (t : ℕ) × (i : ℕ) × (seen : History) × IsRegisteredOn job ends t i p a seen
+      of_task p a of =
+          let e = end_of_part of.task of.part of.came in
+          let k = g.tasks of.task e.end e.has in
+          let task : e.end.task ≡ of.task = k.0 in
+          let few : of.has.i < length (registrations_at job of.task) = of.has.few in
+          let all : length e.end.seen ≡ length (registrations_at job e.end.task) =
+          k.2.1.long in
+          let same : length (registrations_at job e.end.task) ≡ length (registrations_at job of.task) =
+          ap (λ t. length (registrations_at job t)) task in (
+            of.task,
+            of.has.i,
+            get_or e.end.seen of.has.i [],
+            record {
+              end = e.end;
+              came = e.has;
+              few = of.has.few;
+              phaser = of.has.phaser;
+              number = ap (λ l. slice_get l of.has.i) e.tells.1 ∙ of.has.number;
+              saw = slice_get-get_or e.end.seen of.has.i [] (omega arith);
+            },
+          )
+
+  pub is_run_end : IsRunEnd job ends
+  is_run_end = record {
+    tasks = g.tasks;
+    phasers = whole_of;
+    roots = λ t there root.
+        (let found = (agree t there).root root in
+        let e = end_of_part t found.0 found.1 in (e.end, e.has));
+    parents = λ c u end has e.
+        (let mine = part_of_end c end has in
+        let there : c < length job.graph.tasks = (g.tasks c end has).1 in
+        let above = (agree c there).parent u mine.part mine.at e in
+        let other = end_of_part u.task above.0 above.1 in
+        let same : other.end.begun ≡ above.0.begun = other.tells.0 in
+        let enough : u.at ≤ above.0.begun = above.2 in
+        (other.end, other.has, omega arith));
+    children = λ c u end there e has.
+        (let above = part_of_end u.task end has in
+        children c end above (above.tells.3 c) ((agree c there).given u above.part e above.at));
+  }
+    where
+      children : (c : ℕ) (end : TaskEnd) {t : ℕ} (above : HasPartOf t end)
+          → end.given c ≡ given_to above.part.given.items c
+          → (given_to above.part.given.items c ≡ [])
+          ⊎ ((other : TaskKnowledge) × IsAt parts c other
+          × (other.numbers.items ≡ given_to above.part.given.items c))
+          → (end.given c ≡ [])
+          ⊎ ((other : TaskEnd) × HasCome ends c other × (other.numbers ≡ end.given c))
+      children c end above same (inl none) = inl (same ∙ none)
+      children c end above same (inr other) =
+          let e = end_of_part c other.0 other.1 in
+          inr (e.end, e.has, e.tells.1 ∙ (other.2 ∙ sym same))
+
+  pub lines_are : (t : ℕ) → t < length job.graph.tasks → lines_in (slice_get ends t) ≡ lines_at parts t
+  lines_are t there =
+      let same : length parts ≡ length ends = g.long in
+      let is : slice_get ends t ≡ Some (get_or ends t None) =
+      slice_get-get_or ends t None (omega arith) in
+      let at : slice_get parts t ≡ Some (get_or parts t None) =
+      slice_get-get_or parts t None (omega arith) in
+      ap lines_in is ∙ by (get_or ends t None) (get_or parts t None)
+      (g.tells t (get_or parts t None) (get_or ends t None) at is)
+    where
+      by : (o : Option TaskEnd) (p : Option TaskKnowledge) → Tells p o → lines_in (Some o) ≡ part_lines p
+      by None None tells = refl
+      by None (Some part) tells = absurd tells
+      by (Some end) None tells = absurd tells
+      by (Some end) (Some part) tells = tells.2
+
+  -- the lines of the sinks are those of the parts
+  pub sinks_are : map {B = ℕ × List ℤ} (λ t. (t, lines_in (slice_get ends t))) (sinks_of job)
+      ≡ map {B = ℕ × List ℤ} (λ t. (t, lines_at parts t)) (sinks_of job)
+  sinks_are =
+      let told : ℕ → ℕ × List ℤ = λ t. (t, lines_in (slice_get ends t)) in
+      let known : ℕ → ℕ × List ℤ = λ t. (t, lines_at parts t) in
+      map-filtered told known (is_sink_at job) 0 (length job.graph.tasks)
+      (λ t lt. (let there : t < length job.graph.tasks = omega arith in
+      let pair : List ℤ → ℕ × List ℤ = λ l. (t, l) in
+      ap pair (lines_are t there)))

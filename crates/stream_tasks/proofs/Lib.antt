@@ -1,0 +1,16 @@
+mod Holding
+mod Turning
+mod Waiting
+mod EndingLemmas
+mod Gone
+mod ChildHolds
+mod Seeding
+mod StillRegistering
+mod Delivering
+mod FoundingLemmas
+mod Rows
+pub mod Added
+pub mod Agreed
+pub mod EndEnding
+pub mod Gathered
+pub mod TakingIn

@@ -1,0 +1,50 @@
+-- A sink with its values stands behind those before it.
+use Rattle.std.proofs.Common.{rules, ◌≡◌, ℕ, ℤ, ◌<◌, List, [], ◌∷◌, ◌++◌, None, map, length, sym, ap, ◌∙◌, arith}
+use Rattle.std.specs.List.{range_with_len, filter}
+use Rattle.std.proofs.lemmas.List.{map_push}
+use Rattle.graph_runs.specs.graph_base.Graphs.{Graph}
+use Rattle.stream_eval.specs.Results.{sink_values}
+use Rattle.stream_eval.specs.stream_lists.Lists.{is_sink_at}
+use Rattle.stream_eval.proofs.stream_lists_lemmas.Firsts.{filter-skip, filter-take}
+use Rattle.stream_tasks.specs.TaskLefts.{part_lines, lines_at}
+use Rattle.stream_tasks.proofs.Added.{behind_set, same_place}
+use Rattle.stream_tasks.proofs.ending.lines.sink_lines.Goals as goal
+use Rattle.stream_tasks.proofs.ending.lines.sink_lines.Goals.{then-is_sink+in_ok-push, else-is_sink}
+
+pub loop-t-preserved : goal.loop-t-preserved
+loop-t-preserved c =
+    let t : ℕ = c.loop-t.t in
+    let i = c.loop-t.invariant in
+    let is_sink = is_sink_at c.args.job.now in
+    let sinks = filter is_sink (range_with_len 0 t) in
+    let one : ℕ → ℕ × List ℤ = λ u. (u, lines_at c.args.parts.items u) in
+    let count = c.tasks-t-end.ensures.count in
+    let graph = ap (λ (g : Graph). length g.tasks) c.graph-2.ensures.graph in
+    let many = c.requires in
+    let lt : t < length c.args.parts.items = omega (arith, count, graph, many, c.loop-t-test.true) in
+    let same = i.2 in
+    elim c.if-is_sink.branch [
+      | then-is_sink+in_ok-push w ↦
+          (let value : w.lines_of-values.result.items ≡ lines_at c.args.parts.items t =
+          w.lines_of-values.ensures ∙ ap part_lines
+          (w.take.ensures.value ∙ (w.index_mut.ensures.value
+          ∙ same_place c.loop-t.parts.items c.args.parts.items t w.index_mut.result.now None
+          (omega arith) lt (i.1 t (omega arith)))) in
+          rw (w.lines-is, w.parts-is, w.in_ok-push.ensures.items) (
+            map_push sink_values c.loop-t.lines.items _
+                ∙ (ap (λ xs. xs ++ (t, w.lines_of-values.result.items) ∷ []) i.0
+                ∙ (ap (λ v. map one sinks ++ (t, v) ∷ []) value
+                ∙ (sym (map_push one sinks t)
+                ∙ ap (map one)
+                (sym (filter-take is_sink t (sym c.is_sink.ensures ∙ w.if-is_sink.true)))))),
+            behind_set c.loop-t.parts.items c.args.parts.items t w.take.new.self i.1,
+            search rules,
+          ))
+      | else-is_sink w ↦
+          rw (w.lines-is, w.parts-is) (
+            i.0 ∙ ap (map one)
+                (sym (filter-skip is_sink t (sym c.is_sink.ensures ∙ w.if-is_sink.false))),
+            λ u le. i.1 u (omega arith),
+            i.2,
+          )
+    ]

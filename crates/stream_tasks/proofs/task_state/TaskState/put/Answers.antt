@@ -1,0 +1,63 @@
+-- The value is that which is owed.
+use Rattle.std.proofs.Common.{◌≡◌, ◌<◌, ℕ, length, sym, ◌≤◌, refl, subst, ap, ◌∙◌, arith, to_z-of_z, to_z, of_z, w64}
+use Rattle.graph_runs.specs.Nexts.{registrations_at}
+use Rattle.graph_runs.specs.TaskPlaces.{owed_after_signal}
+use Rattle.graph_runs.specs.Steps.{owed_of}
+use Rattle.std.specs.Prelude.{Ok}
+use Rattle.graph_runs.specs.graph_base.Graphs.{task_at, phaser_at}
+use Rattle.stream_eval.specs.stream_lists.Jobs.{Job}
+use Rattle.graph_runs.specs.Moments.{Moment}
+use Rattle.graph_runs.specs.declared.owed.Owed.TheVariants.{Value}
+use Rattle.stream_tasks.specs.Holds.{GoesOn, HasSignalled}
+use Rattle.stream_tasks.proofs.Turning.{task_sees, task_puts, owed_output, output_on}
+use Rattle.stream_tasks.proofs.task_state.TaskState.put.Goals as goal
+
+pub output_of-k-requires-clause-output : goal.output_of-k-requires-clause-output
+output_of-k-requires-clause-output c =
+    let task = c.requires.task in
+    owed_output c.args.job.now task.0 c.args.self.now c.args.output c.args.value c.requires.met c.requires.owed task.1
+
+pub index_mut-requires : goal.index_mut-requires
+index_mut-requires c =
+    let task = c.requires.task in
+    let s = c.args.self.now in
+    let less = owed_output c.args.job.now task.0 s c.args.output c.args.value c.requires.met c.requires.owed task.1 in
+    let on = output_on c.args.job.now s c.args.output c.output_of-k.result.0 c.output_of-k.result.1 task.1.whole less
+    c.output_of-k.ensures.registration c.output_of-k.ensures.phaser in
+    let many : length s.holds.items ≡ length (registrations_at c.args.job.now s.number) = task.1.whole.holds in
+    let long : s.holds.len ≡ length s.holds.items = s.holds.ok.0 in
+    let less : c.output_of-k.result.0 < length (registrations_at c.args.job.now s.number) = on.0 in
+    omega arith
+
+pub returns-in-Ok : goal.returns-in-Ok
+returns-in-Ok c = λ spots task.
+    let job = c.args.job.now in
+    let s = c.args.self.now in
+    let j = c.args.output in
+    let k = c.output_of-k.result.0 in
+    let p = c.output_of-k.result.1 in
+    let less = owed_output job spots s j c.args.value c.requires.met c.requires.owed task in
+    let on = output_on job s j k p task.whole less c.output_of-k.ensures.registration c.output_of-k.ensures.phaser in
+    task_puts job spots s j k p c.args.value c.index_mut.result.now c.put.new.self c.owed_after_signal-self.result
+    on.0 on.1 (sym c.output_of-k.ensures.phaser) c.requires.over c.requires.owed
+    (subst (λ v. owed_of c.owed_after_signal-self.result ≡ owed_after_signal (task_at job.graph s.number) j v)
+    (to_z-of_z c.ranges.value) c.owed_after_signal-self.ensures)
+    c.index_mut.ensures.value
+    (subst (λ v. GoesOn (HasSignalled v (phaser_at job.graph p).single) c.index_mut.result.now c.put.new.self)
+    (to_z-of_z c.ranges.value)
+    (subst (λ o. GoesOn (HasSignalled (to_z w64 (of_z w64 c.args.value)) o) c.index_mut.result.now c.put.new.self)
+    (ap (λ l. l.single) (c.phaser.ensures.phaser ∙ ap (λ g. phaser_at g p) c.graph.ensures.graph)) c.in-Ok.ensures.ok))
+    task
+
+pub returns-in-Err : goal.returns-in-Err
+returns-in-Err c = λ spots task.
+    let job = c.args.job.now in
+    let s = c.args.self.now in
+    let j = c.args.output in
+    let k = c.output_of-k.result.0 in
+    let p = c.output_of-k.result.1 in
+    let less = owed_output job spots s j c.args.value c.requires.met c.requires.owed task in
+    let on = output_on job s j k p task.whole less c.output_of-k.ensures.registration c.output_of-k.ensures.phaser in
+    let none : length s.lefts.items ≡ 0 = task.whole.staying c.requires.over in
+    task_sees job spots s k p c.index_mut.result.now c.put.new.self s.lines s.entered
+    on.0 on.1 (omega arith) c.index_mut.ensures.value refl c.in-Err.ensures.err task

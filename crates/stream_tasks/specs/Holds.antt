@@ -1,0 +1,105 @@
+-- What the calls of a registration do to what it has seen.
+use Rattle.std.specs.Prelude.{◌≡◌, ℕ, ℤ, [], ◌∷◌, ◌++◌, Option, Result, Ok, Err, false}
+use Rattle.graph_runs.specs.phase_accum.Values.{value_by}
+use Rattle.graph_runs.specs.phase_accum.declared.outcome.Outcome.{Outcome}
+use Rattle.graph_runs.specs.phase_accum.declared.single.Single.{Single}
+use Rattle.graph_runs.specs.phase_base.declared.mode.Mode.{Mode}
+use Rattle.graph_runs.specs.phase_history.declared.event.Event.{Event}
+use Rattle.graph_runs.specs.phase_history.declared.event.Event.TheVariants.{Registered, Signalled, Waited, Dropped}
+use Rattle.graph_runs.specs.phase_history.declared.got.Got.TheVariants as got
+use Rattle.graph_runs.specs.phase_history.Histories.{History}
+use Rattle.graph_runs.specs.phase_history.Phases.{received_by}
+use Rattle.graph_runs.specs.phase_history.Legal.{IsLegal}
+use Rattle.graph_runs.specs.phase_history.Others.{OthersCame}
+use Rattle.graph_runs.specs.phase_history.Replies.{wait_reply}
+use Rattle.stream_eval.specs.stream_lists.Lists.{number}
+use Rattle.stream_eval.specs.stream_lists.Ranges.{is_too_big}
+use Rattle.stream_members.specs.Members.{limits_on}
+use Rattle.stream_members.specs.AnyMembers.{member_in, member_op, left_in, left_op}
+use Rattle.stream_members.specs.declared.any_member.AnyMember.{AnyMember}
+use Rattle.stream_members.specs.declared.any_left.AnyLeft.{AnyLeft}
+use Rattle.stream_tasks.specs.declared.held.Held.{Held}
+use Rattle.stream_tasks.specs.declared.hold.Given.{Given}
+use Rattle.stream_tasks.specs.declared.hold.Given.TheVariants as given
+use Rattle.stream_tasks.specs.declared.hold.Hold.{Hold}
+use Rattle.stream_tasks.specs.declared.hold.Hold.TheVariants.{On, Gone}
+
+-- the same registration of the same phaser
+pub record IsSame (old new : AnyMember) : Type 0 where
+  pub op : member_op new ≡ member_op old
+  pub at : (member_in new).at ≡ (member_in old).at
+  pub number : (member_in new).number ≡ (member_in old).number
+  pub legal : IsLegal (limits_on (member_in old).at) (member_in new).seen
+
+-- it has seen others' events
+pub record HasSeenOthers (old new : AnyMember) : Type 0 where
+  pub same : IsSame old new
+  pub others : OthersCame ((member_in old).number ∷ []) (member_in old).seen (member_in new).seen
+
+-- it has seen others' events up to this history, and then its own event
+pub record HasMade (event : ℕ → Event) (old new : AnyMember) (before : History) : Type 0 where
+  pub same : IsSame old new
+  pub others : OthersCame ((member_in old).number ∷ []) (member_in old).seen before
+  pub seen : (member_in new).seen ≡ event (member_in old).number ∷ before
+
+-- ---- values
+
+-- its signal with this value
+abbrev pub signal_of : ℤ → Option Single → ℕ → Event
+signal_of value single n = Signalled n ((value ∷ []) ∷ []) single
+
+-- it has signalled with this value
+abbrev pub HasSignalled : ℤ → Option Single → AnyMember → AnyMember → Type 0
+HasSignalled value single old new =
+    (before : History) × HasMade (signal_of value single) old new before
+
+-- its wait
+abbrev pub wait_of : ℕ → Event
+wait_of n = Waited n 1
+
+-- it has waited, and was answered an outcome of this number
+pub record HasWaited (x : ℤ) (old new : AnyMember) : Type 0 where
+  pub before : History
+  pub made : HasMade wait_of old new before
+  pub outcome : Outcome
+  pub is : x ≡ number outcome
+  pub fits : is_too_big outcome ≡ false
+  pub answered : received_by (value_by (member_op old)) (Waited (member_in old).number 1 ∷ before)
+      (member_in old).number
+      ≡ received_by (value_by (member_op old)) before (member_in old).number ++ outcome ∷ []
+
+-- it was answered that no more will come
+pub record HasRunOut (old new : AnyMember) : Type 0 where
+  pub seen : HasSeenOthers old new
+  pub ended : wait_reply (value_by (member_op old)) (limits_on (member_in old).at)
+      (member_in new).seen (member_in old).number ≡ Ok got.Ended
+
+-- what a wait gave. Of a value that is out of range nothing is kept
+abbrev pub HasGot : Result Given Held → AnyMember → AnyMember → Type 0
+HasGot (Ok (given.Value x)) old new = HasWaited x old new
+HasGot (Ok given.TooBig) old new = Unit {0}
+HasGot (Ok given.Ended) old new = HasRunOut old new
+HasGot (Err held) old new = HasSeenOthers old new
+
+-- ---- holds
+
+-- the registration of a hold has gone on like this
+abbrev pub GoesOn : (AnyMember → AnyMember → Type 0) → Hold → Hold → Type 0
+GoesOn P (On old) (On new) = P old new
+GoesOn P (On old) Gone = ⊥
+GoesOn P Gone new = new ≡ Gone
+
+-- what it has seen of a phaser that it has left
+pub record LeavesHold (old : AnyMember) (left : AnyLeft) : Type 0 where
+  pub op : left_op left ≡ member_op old
+  pub at : (left_in left).at ≡ (member_in old).at
+  pub numbers : (left_in left).numbers ≡ (member_in old).number ∷ []
+  pub legal : IsLegal (limits_on (member_in old).at) (left_in left).seen
+  pub before : History
+  pub others : OthersCame ((member_in old).number ∷ []) (member_in old).seen before
+  pub seen : (left_in left).seen ≡ Dropped (member_in old).number ∷ before
+
+-- a hold that has left
+abbrev pub Leaves : Hold → Hold → AnyLeft → Type 0
+Leaves (On old) new left = (new ≡ Gone) × LeavesHold old left
+Leaves Gone new left = ⊥

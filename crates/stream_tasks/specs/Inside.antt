@@ -1,0 +1,82 @@
+-- What the code keeps of a task between threads: its children, its seed, and what it holds.
+use Rattle.std.specs.Prelude.{◌≡◌, ℕ, ◌<◌, ◌≤◌, [], ◌∷◌, length, slice_get, Some, false, ◌++◌, Option, ◌+◌, slice_set, None, ◌≢◌}
+use Rattle.stream_eval.specs.stream_lists.Jobs.{Job}
+use Rattle.graph_runs.specs.Moments.{Moment}
+use Rattle.stream_members.specs.Members.{Spot}
+use Rattle.graph_runs.specs.TaskPlaces.{registration_at}
+use Rattle.graph_runs.specs.phase_accum.declared.outcome.Outcome.{Outcome}
+use Rattle.stream_eval.specs.stream_lists.Lists.{number}
+use Rattle.stream_eval.specs.stream_lists.Ranges.{is_too_big}
+use Rattle.stream_members.specs.AnyMembers.{member_in}
+use Rattle.stream_members.specs.declared.any_member.AnyMember.{AnyMember}
+use Rattle.graph_runs.specs.graph_base.declared.registration.Registration.{Registration}
+use Rattle.graph_runs.specs.Nexts.{registrations_at, is_cut}
+use Rattle.graph_runs.specs.declared.owed.Owed.TheVariants.{Nothing}
+use Rattle.graph_runs.specs.graph_base.declared.line.Parent.{Parent}
+use Rattle.graph_runs.specs.graph_base.Graphs.{task_at}
+use Rattle.graph_runs.specs.Places.{HasChildrenBy}
+use Rattle.stream_tasks.specs.declared.child.Child.{Child}
+use Rattle.stream_tasks.specs.declared.task_state.TaskState.{TaskState}
+use Rattle.stream_tasks.specs.declared.hold.Given.{Given}
+use Rattle.stream_tasks.specs.declared.hold.Hold.TheVariants.{On}
+use Rattle.stream_tasks.specs.Registering.{IsRegistering}
+use Rattle.stream_tasks.specs.Tasks.{IsTaskAt, IsTask}
+use Rattle.stream_tasks.specs.declared.hold.Given.TheVariants as given
+
+-- a number that is given for an outcome
+abbrev pub IsGivenAs : Outcome → Given → Type 0
+IsGivenAs outcome (given.Value x) = (x ≡ number outcome) × (is_too_big outcome ≡ false)
+IsGivenAs outcome given.TooBig = Unit {0}
+IsGivenAs outcome given.Ended = ⊥
+
+-- registration k of task t is on phaser p
+pub record IsPlaceOn (job : Job) (t p k : ℕ) : Type 0 where
+  pub few : k < length (registrations_at job t)
+  pub here : (registration_at job t k).phaser ≡ p
+
+-- there is room for another registration of the child at this place
+pub record HasChildRoom (s : TaskState) (i : ℕ) : Type 0 where
+  pub numbers : (kid : Child) → slice_get s.children.items i ≡ Some kid
+      → length kid.numbers.items + 1 ≤ kid.numbers.capacity
+  pub child_holds : length s.child_holds.items < s.child_holds.cap
+
+-- another registration of the child at this place is kept
+pub record HasKept (i : ℕ) (child : AnyMember) (old new : TaskState) : Type 0 where
+  pub before : Child
+  pub kid : Child
+  pub found : slice_get old.children.items i ≡ Some before
+  pub kids : new.children.items ≡ slice_set old.children.items i kid
+  pub task : kid.task ≡ before.task
+  pub at : kid.at ≡ before.at
+  pub numbers : kid.numbers.items ≡ before.numbers.items ++ (member_in child).number ∷ []
+  pub child_holds : new.child_holds.items ≡ old.child_holds.items ++ On child ∷ []
+  pub rest : new ≡ record old { children = new.children; child_holds = new.child_holds }
+
+-- the next registration of the child is this one, and registration k of the task is on its phaser
+pub record IsNextOn (job : Job) (spots : ℕ → Spot) (s : TaskState) (i k : ℕ) (r : Registration)
+    : Type 0 where
+  pub registering : IsRegistering job spots s i
+  pub room : length registering.kid.numbers.items < length (registrations_at job registering.kid.task)
+  pub is : r ≡ registration_at job registering.kid.task (length registering.kid.numbers.items)
+  pub on : IsPlaceOn job s.number r.phaser k
+
+-- whether task c is a child of task t, and after how many steps it comes
+abbrev pub TellsChild : Job → ℕ → ℕ → Option ℕ → Type 0
+TellsChild job t c (Some at) =
+    (u : Parent) × ((task_at job.graph c).parent ≡ Some u) × (u.task ≡ t) × (at ≡ u.at)
+TellsChild job t c None = (u : Parent) → (task_at job.graph c).parent ≡ Some u → u.task ≢ t
+
+-- the children of a task that come now are all there, whichever its moment
+abbrev pub HasChildrenNow : Job → TaskState → Type 0
+HasChildrenNow job s = (spots : ℕ → Spot) (m : Moment) → IsTaskAt job spots m s
+    → HasChildrenBy job m s.number s.begun
+
+-- a task at a boundary where no child comes first, and `until` allows a step
+pub record MayStep (job : Job) (s : TaskState) : Type 0 where
+  pub spots : ℕ → Spot
+  pub task : IsTask job spots s
+  pub met : s.met ≡ false
+  pub over : s.over ≡ false
+  pub owed : s.owed ≡ Nothing
+  pub uncut : is_cut (task_at job.graph s.number).until s.begun ≡ false
+  pub children : HasChildrenNow job s

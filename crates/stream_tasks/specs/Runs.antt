@@ -1,0 +1,8 @@
+-- What stands for a run where none is meant.
+use Rattle.std.specs.Prelude.{[]}
+use Rattle.graph_runs.specs.graph_base.Graphs.{no_graph}
+use Rattle.stream_eval.specs.stream_lists.Jobs.{Job}
+
+-- a job of no tasks
+abbrev pub no_job : Job
+no_job = record { graph = no_graph; samples = []; starts = [] }

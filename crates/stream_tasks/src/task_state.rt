@@ -1,0 +1,108 @@
+//! How far a task has come, with its registrations.
+ghost use Rattle.std.specs.Prelude.{◌≡◌, true};
+ghost use Rattle.stream_tasks.specs.TaskLefts.{IsGone, left_by};
+
+use crate::child::Child;
+use crate::ending::task_left::{TaskKnowledge, TaskLeft};
+use crate::hold::Hold;
+use graph_runs::Owed;
+use smallvec::SmallVec;
+use std::sync::Wait;
+use stream_eval::stream_filters::Fir;
+use stream_members::AnyLeft;
+
+/// How far a task has come, with its registrations.
+pub struct TaskState<'a> {
+    /// Its number.
+    pub number: usize,
+    /// The samples of a task that is a source.
+    pub samples: &'a [i64],
+    /// How many steps it has begun.
+    pub begun: u64,
+    /// What these steps owe next.
+    pub owed: Owed,
+    /// The filter of a task that is one.
+    pub filter: Option<Fir>,
+    /// What a sink has taken.
+    pub lines: Vec<i64>,
+    /// Its numbers on its phasers, in the order of its registrations.
+    pub numbers: SmallVec<u64, 9>,
+    /// What it holds of its phasers, in that order.
+    pub holds: Vec<Hold<'a>>,
+    /// What it has seen of the phasers that it has left, which are the first of them.
+    pub lefts: Vec<AnyLeft<'a>>,
+    /// Whether it makes no further step.
+    pub over: bool,
+    /// Whether a worker has entered its next step.
+    pub entered: bool,
+    /// Whether it met a value that is out of range, or came to what cannot be: it makes no further
+    /// event.
+    pub met: bool,
+    /// Its children, in the order of the lines.
+    pub children: Vec<Child>,
+    /// What a child that is being registered holds of its phasers.
+    pub child_holds: Vec<Hold<'a>>,
+}
+
+impl<'a> TaskState<'a> {
+    /// Leaves all phasers, by waiting, and forgets all.
+    pub fn dismiss<W: Wait>(self, rt: &W) {
+        drop(self.end(rt));
+    }
+
+    /// Whether it has left all its phasers.
+    pub fn is_gone(&self) -> bool
+        ensures { result ≡ true → IsGone self.now }
+    {
+        !self.met && self.over && self.lefts.len() >= self.numbers.len()
+    }
+
+    /// What it leaves behind. It leaves by waiting where it still has to.
+    pub fn end<W: Wait>(self, rt: &W) -> TaskLeft<'a>
+        ensures { result ≡ left_by self.entry }
+    {
+        let TaskState {
+            number,
+            samples: _,
+            begun,
+            owed: _,
+            filter: _,
+            lines,
+            numbers,
+            holds,
+            lefts,
+            over: _,
+            entered: _,
+            met: _,
+            children,
+            child_holds,
+        } = self;
+        dismiss_all(rt, holds);
+        dismiss_all(rt, child_holds);
+        TaskLeft {
+            task: number,
+            part: TaskKnowledge {
+                begun,
+                numbers,
+                lines,
+                given: children,
+            },
+            lefts,
+        }
+    }
+}
+
+/// Leaves all these phasers, by waiting.
+fn dismiss_all<W: Wait>(rt: &W, holds: Vec<Hold<'_>>) {
+    let mut holds = holds;
+    for _ in rt.forever() {
+        match holds.pop() {
+            Some(hold) => hold.dismiss(rt),
+            None => {
+                holds.destroy_empty();
+                return;
+            }
+        }
+    }
+    unreachable!()
+}

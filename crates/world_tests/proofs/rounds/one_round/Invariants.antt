@@ -1,6 +1,0 @@
-use Rattle.std.proofs.Common.{◌≡◌}
-use Rattle.world_tests.proofs.rounds.one_round.Given as goal
-
--- it runs its job
-abbrev pub invariant-loop-task : goal.invariant-loop-task
-invariant-loop-task l = l.world.job ≡ l.fn.world.job
