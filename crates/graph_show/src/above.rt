@@ -1,26 +1,58 @@
 //! What the lines above a faulty one declare.
 
+use crate::explain_parts::Part;
+use crate::grammar::{Known, Reading};
 use graph_lang::graph_text::{begins_comment, without_cr, words_of};
 use std::alloc::{AllocError, Global};
 
-/// The words of each line above, but for those that are ignored.
+/// The words of each line above, each with what it is, but for the lines that are ignored.
 #[derive(Drop)]
 pub(crate) struct Above<'a> {
-    lines: Vec<Vec<&'a [u8]>>,
+    lines: Vec<Vec<Known<'a>>>,
 }
 
 /// Whether a line of these words declares the name.
-fn declares(words: &[&[u8]], name: &[u8]) -> bool {
-    match words {
-        [_, own, ..] => *own == name,
-        _ => false,
+fn declares(line: &[Known<'_>], name: &[u8]) -> bool {
+    for (part, word) in line {
+        if matches!(part, Part::Own) && *word == name {
+            return true;
+        }
+    }
+    false
+}
+
+/// Whether a line of these words declares a phaser.
+fn is_of_phaser(line: &[Known<'_>]) -> bool {
+    match line.first() {
+        Some((_, word)) => *word == b"phaser".as_slice(),
+        None => false,
     }
 }
 
-/// Whether the word stands among these.
-fn has(words: &[&[u8]], wanted: &[u8]) -> bool {
-    for word in words {
-        if *word == wanted {
+/// Whether a single stands on a line of these words.
+fn names_single(line: &[Known<'_>]) -> bool {
+    for (part, _) in line {
+        if matches!(part, Part::Function) {
+            return true;
+        }
+    }
+    false
+}
+
+/// Whether the operation on a line of these words is `any`.
+fn takes_any(line: &[Known<'_>]) -> bool {
+    for (part, word) in line {
+        if matches!(part, Part::Operation) && *word == b"any".as_slice() {
+            return true;
+        }
+    }
+    false
+}
+
+/// Whether the task of a line of these words signals that phaser.
+fn signals(line: &[Known<'_>], phaser: &[u8]) -> bool {
+    for (part, word) in line {
+        if part.is_output() && *word == phaser {
             return true;
         }
     }
@@ -34,7 +66,7 @@ impl<'a> Above<'a> {
         for line in lines {
             let words = words_of(alloc, without_cr(*line))?;
             if !begins_comment(&words) {
-                above.push(words)?;
+                above.push(Reading::of(alloc, &words)?.found)?;
             }
         }
         Ok(Above { lines: above })
@@ -50,20 +82,12 @@ impl<'a> Above<'a> {
         None
     }
 
-    /// Whether the line that declares a name has a word.
-    fn line_has(&self, name: &[u8], word: &[u8]) -> bool {
-        match self.place_of(name) {
-            Some(i) => match self.lines.get(i) {
-                Some(words) => has(words, word),
-                None => false,
-            },
-            None => false,
-        }
-    }
-
     /// Whether a name is declared, as that of a phaser.
     pub(crate) fn is_phaser(&self, name: &[u8]) -> bool {
-        self.line_has(name, b"phaser")
+        match self.place_of(name) {
+            Some(i) if i < self.lines.len() => is_of_phaser(&self.lines[i]),
+            _ => false,
+        }
     }
 
     /// Whether a name is declared, as that of a task.
@@ -73,6 +97,28 @@ impl<'a> Above<'a> {
 
     /// Whether a phaser of this name has a single.
     pub(crate) fn has_single(&self, name: &[u8]) -> bool {
-        self.line_has(name, b"single")
+        match self.place_of(name) {
+            Some(i) if i < self.lines.len() => names_single(&self.lines[i]),
+            _ => false,
+        }
+    }
+
+    /// Whether tasks may meet on a phaser of this name: it keeps one of the sends of a phase, and
+    /// one of these lines signals it.
+    pub(crate) fn may_meet(&self, name: &[u8]) -> bool {
+        match self.place_of(name) {
+            Some(i) if i < self.lines.len() => takes_any(&self.lines[i]) && self.is_signalled(name),
+            _ => false,
+        }
+    }
+
+    /// Whether the task of one of these lines signals a phaser of this name.
+    fn is_signalled(&self, name: &[u8]) -> bool {
+        for line in &self.lines {
+            if signals(line, name) {
+                return true;
+            }
+        }
+        false
     }
 }

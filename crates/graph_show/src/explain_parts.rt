@@ -122,7 +122,9 @@ impl Part {
             Part::Low | Part::High | Part::Taps | Part::Factor => "a whole number",
             Part::Sign(sign) => sign,
             Part::End(wanted) => wanted,
-            _ => "a name: a letter, then letters, digits and _, at most 32 in all",
+            _ => {
+                "a name: a letter, then letters, digits and _, at most 32 in all, and no word of the grammar"
+            }
         }
     }
 }

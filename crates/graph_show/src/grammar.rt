@@ -3,12 +3,15 @@
 use crate::explain_parts::Part;
 use std::alloc::{AllocError, Global};
 
+/// A word of a line, with what it is.
+pub(crate) type Known<'a> = (Part, &'a [u8]);
+
 /// The words of a line, each with what it is, as far as the line is in the grammar, and what may stand
 /// behind them.
 #[derive(Drop)]
 pub(crate) struct Reading<'w, 'a> {
     words: &'w [&'a [u8]],
-    pub(crate) found: Vec<(Part, &'a [u8])>,
+    pub(crate) found: Vec<Known<'a>>,
     pub(crate) wanted: Part,
 }
 

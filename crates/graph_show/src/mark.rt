@@ -2,7 +2,7 @@
 
 use crate::above::Above;
 use crate::explain_parts::Part;
-use crate::grammar::Reading;
+use crate::grammar::{Known, Reading};
 use crate::limits::{count_passed, limit_passed};
 use graph_lang::FaultKind;
 
@@ -12,9 +12,6 @@ pub(crate) struct Mark {
     pub(crate) word: usize,
     pub(crate) wanted: &'static str,
 }
-
-/// A word of a line, with what it is.
-type Known<'a> = (Part, &'a [u8]);
 
 /// The first word of these that fails a test of words, or the first word of the line.
 pub(crate) fn mark_of(kind: FaultKind, reading: &Reading<'_, '_>, above: &Above<'_>) -> Mark {
@@ -33,7 +30,7 @@ pub(crate) fn mark_of(kind: FaultKind, reading: &Reading<'_, '_>, above: &Above<
             "a source, a filter or a sink, which have children",
         ),
         FaultKind::NotHeld => held_mark(found, above),
-        FaultKind::AnyMeets => meeting_mark(found),
+        FaultKind::AnyMeets => meeting_mark(found, above),
     }
 }
 
@@ -192,11 +189,12 @@ fn held_mark(found: &[Known<'_>], above: &Above<'_>) -> Mark {
     )
 }
 
-/// The first output.
-fn meeting_mark(found: &[Known<'_>]) -> Mark {
+/// The first output on which the task may meet another.
+fn meeting_mark(found: &[Known<'_>], above: &Above<'_>) -> Mark {
     let wanted = "a phaser that no task of a line above signals in the same phase";
     for word in 0..found.len() {
-        if found[word].0.is_output() {
+        let (part, name) = found[word];
+        if part.is_output() && above.may_meet(name) {
             return Mark { word, wanted };
         }
     }
