@@ -5,6 +5,7 @@ ghost use Rattle.phase_script.specs.Commands.{WholeCommand, IsCommand, spelling,
 ghost use Rattle.phase_script.specs.ReplyLines.{WholeReply, reply_text, IsReply, IsOneLine};
 ghost use Rattle.phase_script.specs.declared.script_line.TheConstants.{LINE_MAX};
 ghost use Rattle.phase_script.specs.declared.reply_line.TheConstants.{REPLY_MAX};
+ghost use Rattle.phase_script.specs.declared.values.TheConstants.{VALUES_MAX};
 ghost use Rattle.phase_script.specs.Cuts.{LinesAreCutAtLf, EveryScriptIsCut};
 
 /// A line that is read is its command's spelling, and the command's numbers are within limits.
@@ -22,6 +23,11 @@ pub fn grammar_only()
 pub fn lines_are_short()
     ensures short { (line : List ℕ) → LINE_MAX < length line → command_of line ≡ None }
     ensures number { LINE_MAX ≡ 361 }
+{}
+
+/// A `block` has at most `VALUES_MAX` values, and a `take` asks for at most as many phases, 16.
+pub fn blocks_are_short()
+    ensures number { VALUES_MAX ≡ 16 }
 {}
 
 /// A reply line whose numbers are within those of a script has one line end, its last byte.
