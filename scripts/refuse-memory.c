@@ -1,6 +1,7 @@
 // Refuses the request for memory whose number the variable REFUSED tells, counted from 1. Load it
 // before the C library. Where REFUSED is 0 it refuses none, and at the end it writes to file
-// descriptor 9 how many there were, and how many bytes they asked for. Threads count together.
+// descriptor 9 how many there were, and how many bytes they asked for. Threads count together. A
+// program that has threads ends by `_exit`, past all destructors.
 #define _GNU_SOURCE
 #include <dlfcn.h>
 #include <errno.h>
@@ -20,8 +21,16 @@ __attribute__((constructor)) static void begin(void) {
 
 __attribute__((destructor)) static void end(void) {
     if (refused == 0) {
-        dprintf(9, "%lu %lu\n", (unsigned long)atomic_load(&requests), (unsigned long)atomic_load(&bytes));
+        unsigned long count = atomic_load(&requests), size = atomic_load(&bytes);
+        dprintf(9, "%lu %lu\n", count, size);
     }
+}
+
+void _exit(int status) {
+    void (*next)(int) = (void (*)(int))dlsym(RTLD_NEXT, "_exit");
+    end();
+    next(status);
+    __builtin_unreachable();
 }
 
 static int is_refused(size_t size) {
