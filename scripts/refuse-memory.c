@@ -1,16 +1,18 @@
-// Refuses the request for memory whose number the variable REFUSED tells, counted from 1. Load it
-// before the C library. Where REFUSED is 0 it refuses none, and at the end it writes to file
-// descriptor 9 how many there were, and how many bytes they asked for. Threads count together. A
-// program that has threads ends by `_exit`, past all destructors.
+// Refuses the request for memory whose number the variable REFUSED tells, counted from 1, and each
+// new thread where the variable ALONE is set. Load it before the C library. Where REFUSED is 0 it
+// refuses no request, and at the end it writes to file descriptor 9 how many there were, how many
+// bytes they asked for, and how many threads were asked for. Threads count together. A program that
+// has threads ends by `_exit`, past all destructors.
 #define _GNU_SOURCE
 #include <dlfcn.h>
 #include <errno.h>
+#include <pthread.h>
 #include <stdatomic.h>
 #include <stddef.h>
 #include <stdio.h>
 #include <stdlib.h>
 
-static atomic_ulong requests, bytes;
+static atomic_ulong requests, bytes, threads;
 static unsigned long refused;
 
 __attribute__((constructor)) static void begin(void) {
@@ -22,7 +24,7 @@ __attribute__((constructor)) static void begin(void) {
 __attribute__((destructor)) static void end(void) {
     if (refused == 0) {
         unsigned long count = atomic_load(&requests), size = atomic_load(&bytes);
-        dprintf(9, "%lu %lu\n", count, size);
+        dprintf(9, "%lu %lu %lu\n", count, size, (unsigned long)atomic_load(&threads));
     }
 }
 
@@ -57,4 +59,14 @@ void *realloc(void *block, size_t size) {
         next = (void *(*)(void *, size_t))dlsym(RTLD_NEXT, "realloc");
     }
     return is_refused(size) ? NULL : next(block, size);
+}
+
+int pthread_create(pthread_t *made, const pthread_attr_t *with, void *(*run)(void *), void *of) {
+    static int (*next)(pthread_t *, const pthread_attr_t *, void *(*)(void *), void *);
+    if (!next) {
+        next = (int (*)(pthread_t *, const pthread_attr_t *, void *(*)(void *), void *))
+            dlsym(RTLD_NEXT, "pthread_create");
+    }
+    atomic_fetch_add(&threads, 1);
+    return getenv("ALONE") ? EAGAIN : next(made, with, run, of);
 }
