@@ -15,6 +15,7 @@ ghost use Rattle.phase_shared.specs.Parts.{with_got, with_any};
 ghost use Rattle.phase_received.specs.Received.{received_of, IsPastOf, Receives};
 ghost use Rattle.phase_received.specs.Whole.{HasSeenEnd, HasWhole};
 
+mod blocks;
 mod trying;
 
 use crate::fault::ReceiveFault;
