@@ -16,6 +16,7 @@ ghost use Rattle.phase_received.specs.Received.{received_of, IsPastOf, Receives}
 ghost use Rattle.phase_received.specs.Whole.{HasSeenEnd, HasWhole};
 
 mod blocks;
+mod joining;
 mod trying;
 
 use crate::fault::ReceiveFault;
