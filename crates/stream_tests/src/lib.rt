@@ -4,21 +4,15 @@
 #![tactic(auto)]
 
 #[cfg(test)]
-mod drawings;
-#[cfg(test)]
 mod files;
 #[cfg(test)]
 mod filters;
-#[cfg(test)]
-mod graph_faults;
 #[cfg(test)]
 mod graphs;
 #[cfg(test)]
 mod jobs;
 #[cfg(test)]
 mod lists;
-#[cfg(test)]
-mod operations;
 #[cfg(test)]
 mod registrations;
 #[cfg(test)]
