@@ -8,8 +8,6 @@ mod files;
 #[cfg(test)]
 mod filters;
 #[cfg(test)]
-mod graphs;
-#[cfg(test)]
 mod jobs;
 #[cfg(test)]
 mod lists;
