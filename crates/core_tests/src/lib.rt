@@ -16,8 +16,6 @@ mod phaser;
 #[cfg(test)]
 mod sends;
 #[cfg(test)]
-mod singles;
-#[cfg(test)]
 mod sizes;
 #[cfg(test)]
 mod slots;

@@ -1,8 +1,7 @@
 //! A founder alone, and members that come and go, as calls on a phaser under sum.
 use crate::calls::{Answer, Call, Case, follow_all};
-use phase_core::phase_accum::Sum;
-use phase_core::phase_base::{Entry, Mode, Spec};
-use phase_core::{PhaserCore, RegisterRefusal, SignalRefusal, WaitRefusal};
+use phase_core::phase_base::{Entry, Mode};
+use phase_core::{RegisterRefusal, SignalRefusal, WaitRefusal};
 use std::test::Fail;
 
 const CASES: [Case; 9] = [
@@ -196,19 +195,4 @@ const CASES: [Case; 9] = [
 #[test]
 fn calls_are_answered(rt: HostRuntime) -> Result<(), Fail> {
     follow_all(&rt, rt.alloc(), &CASES)
-}
-
-#[test]
-fn only_so_many_are_registered(rt: HostRuntime) -> Result<(), Fail> {
-    let mut core = PhaserCore::<Sum>::new(rt.alloc(), Spec::new(2, 100)?, 0)?;
-    for child in 1..1024u64 {
-        assert_eq!(rt; core.register(0, child, Mode::Sig), Ok(()));
-    }
-    assert_eq!(rt;
-        core.register(0, 1024, Mode::Sig),
-        Err(RegisterRefusal::TooManyTasks)
-    );
-    assert_eq!(rt; core.drop_task(7), Ok(()));
-    assert_eq!(rt; core.register(0, 1024, Mode::Sig), Ok(()));
-    Ok(())
 }

@@ -3,22 +3,12 @@
 #![tactic(auto)]
 
 #[cfg(test)]
-mod blocks;
-#[cfg(test)]
-mod full;
-#[cfg(test)]
-mod lines;
-#[cfg(test)]
 mod longest;
 #[cfg(test)]
 mod once;
 #[cfg(test)]
 mod replays;
 #[cfg(test)]
-mod replies;
-#[cfg(test)]
 mod scripts;
-#[cfg(test)]
-mod sessions;
 #[cfg(test)]
 mod sizes;

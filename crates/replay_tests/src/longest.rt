@@ -1,6 +1,4 @@
-//! The longest line that is read, and the longest reply.
-use crate::blocks::reads_block;
-use crate::replies::written_whole;
+//! How long the longest line is that is read, and the longest reply.
 use phase_replay::phase_accum::Outcome;
 use phase_replay::phase_script::{LINE_MAX, REPLY_MAX, VALUES_MAX};
 use phase_replay::{Outcomes, Reply, ReplyLine};
@@ -15,29 +13,6 @@ fn with_values(alloc: Global, start: &str) -> Result<String, Fail> {
         text.push_str(" -9223372036854775807")?;
     }
     Ok(text)
-}
-
-/// What stands behind the longest line, and the reply.
-const ENDS: [(&str, &str); 4] = [
-    ("\r\n", "no phaser\n"),
-    (" \n", "bad line\n"),
-    ("0\n", "bad line\n"),
-    ("\r\r\n", "bad line\n"),
-];
-
-// A line of 361 bytes is read, and a longer one is no command.
-#[test]
-fn the_longest_line_is_read(rt: HostRuntime) -> Result<(), Fail> {
-    let line = with_values(rt.alloc(), "block 9223372036854775807")?;
-    assert_eq!(rt; line.len(), LINE_MAX);
-    assert_eq!(rt; line.len(), 361);
-    reads_block(&rt, &line, 9223372036854775807, &[-9223372036854775807; 16]);
-    for (end, reply) in ENDS {
-        let script = format!(in rt.alloc(); "{line}{end}")?;
-        let got = written_whole(rt.alloc(), script.as_bytes())?;
-        assert_eq!(rt; got.as_slice(), reply.as_bytes(), "{end:?}");
-    }
-    Ok(())
 }
 
 // The reply with the least value in each of as many phases as a block has at most.
@@ -55,11 +30,12 @@ fn longest_reply() -> ReplyLine {
 }
 
 #[test]
-fn the_longest_reply(rt: HostRuntime) -> Result<(), Fail> {
+fn the_longest_line_and_reply(rt: HostRuntime) -> Result<(), Fail> {
+    let line = with_values(rt.alloc(), "block 9223372036854775807")?;
+    assert_eq!(rt; (line.len(), LINE_MAX), (361, 361));
     let mut text = with_values(rt.alloc(), "values 9223372036854775807")?;
     text.push_str("\n")?;
     assert_eq!(rt; longest_reply().bytes(), text.as_bytes());
-    assert_eq!(rt; text.len(), REPLY_MAX);
-    assert_eq!(rt; text.len(), 363);
+    assert_eq!(rt; (text.len(), REPLY_MAX), (363, 363));
     Ok(())
 }

@@ -110,17 +110,6 @@ fn replayed(alloc: Global, reader: Pieces<'_>, writer: Choppy) -> Ending {
     }
 }
 
-/// What a replay of the script writes where `size` bytes at most are read and written at a time.
-/// Neither its reader nor its writer may have failed.
-pub fn written(alloc: Global, script: &[u8], size: usize) -> Result<Vec<u8>, Fail> {
-    let run = replayed(alloc, pieces_of(script, size), taking(alloc, size));
-    run.outcome?;
-    if run.failed != (false, false) {
-        return Err(Fail::from("a reader or a writer that failed"));
-    }
-    Ok(run.got)
-}
-
 #[test]
 fn a_failed_read_comes_behind_the_replies_to_all_lines_read(rt: HostRuntime) {
     let replies = b"bad line\nbad line\nbad line\n";
@@ -176,16 +165,6 @@ fn a_failed_write_comes_behind_a_prefix_of_the_replies(rt: HostRuntime) {
             }
         }
     }
-}
-
-#[test]
-fn a_line_of_a_million_bytes_is_one_bad_line(rt: HostRuntime) -> Result<(), Fail> {
-    let script = vec![in rt.alloc(); b'x'; 1_000_000]?;
-    let reader = pieces_of(script.as_slice(), 65536);
-    let run = replayed(rt.alloc(), reader, taking(rt.alloc(), 65536));
-    assert_eq!(rt; run.outcome, Ok(()));
-    assert_eq!(rt; run.got.as_slice(), b"bad line\n".as_slice());
-    Ok(())
 }
 
 #[test]

@@ -1,7 +1,7 @@
-//! Scripts with phasers of many bounds and many tasks: where there is memory none is wanted.
+//! Scripts with phasers of many bounds: where there is memory none is wanted.
 ghost use Rattle.std.specs.Prelude.{◌≤◌, IfOk};
 
-use crate::scripts::{Rows, answers, follow};
+use crate::scripts::{Rows, follow};
 use phase_replay::Session;
 use std::alloc::{AllocError, Global};
 use std::process::Abort;
@@ -30,7 +30,10 @@ fn works_at(rt: &impl Abort, alloc: Global, operator: &str, bound: u64) -> Resul
         ("signal 0", "ok 0"),
         ("wait 0", "value 0 5"),
     ];
-    follow(rt, &mut Session::new(alloc), &make, rows)
+    let mut session = Session::new(alloc);
+    follow(rt, &mut session, &make, rows)?;
+    assert_eq!(rt; size_of_reply(&mut session, b"wait 0")?, 16);
+    Ok(())
 }
 
 #[test]
@@ -44,48 +47,4 @@ fn phasers_of_all_bounds_are_made(rt: HostRuntime) -> Result<(), Fail> {
         }
     }
     Ok(())
-}
-
-// The founder signals and waits for the phase, which is its next.
-fn pass(rt: &impl Abort, alloc: Global, session: &mut Session, phase: u64) -> Result<(), Fail> {
-    let signalled = format!(in alloc; "ok {phase}")?;
-    let value = format!(in alloc; "value {phase} 0")?;
-    let rows: Rows<'_> = &[("signal 0", &signalled), ("wait 0", &value)];
-    follow(rt, session, "passing", rows)
-}
-
-// The founder registers 1,000 children.
-fn add_children(rt: &impl Abort, alloc: Global, session: &mut Session) -> Result<(), Fail> {
-    for child in 1..1001u64 {
-        let line = format!(in alloc; "add 0 {child} sigwait")?;
-        answers(rt, session, "adding", (&line, "ok"))?;
-    }
-    Ok(())
-}
-
-// Each of them sends its number and signals.
-fn send_and_signal(rt: &impl Abort, alloc: Global, session: &mut Session) -> Result<(), Fail> {
-    for child in 1..1001u64 {
-        let send = format!(in alloc; "send {child} {child}")?;
-        answers(rt, session, "sending", (&send, "ok"))?;
-        let signal = format!(in alloc; "signal {child}")?;
-        answers(rt, session, "sending", (&signal, "ok 100"))?;
-    }
-    Ok(())
-}
-
-#[test]
-fn children_of_a_late_phase_send_and_signal(rt: HostRuntime) -> Result<(), Fail> {
-    let name = "children of a late phase";
-    let mut session = Session::new(rt.alloc());
-    answers(&rt, &mut session, name, ("make sum 2 1000", "ok"))?;
-    for phase in 0..100u64 {
-        pass(&rt, rt.alloc(), &mut session, phase)?;
-    }
-    add_children(&rt, rt.alloc(), &mut session)?;
-    send_and_signal(&rt, rt.alloc(), &mut session)?;
-    answers(&rt, &mut session, name, ("wait 7", "no not-yet"))?;
-    assert_eq!(rt; size_of_reply(&mut session, b"wait 7")?, 11);
-    let rows: Rows<'_> = &[("signal 0", "ok 100"), ("wait 7", "value 100 500500")];
-    follow(&rt, &mut session, name, rows)
 }

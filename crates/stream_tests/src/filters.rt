@@ -106,19 +106,6 @@ fn a_filter_answers_its_steps(rt: HostRuntime) -> Result<(), Fail> {
 }
 
 #[test]
-fn every_count_of_taps_makes_a_window_of_as_many_samples(rt: HostRuntime) -> Result<(), Fail> {
-    let ones = [1; 64];
-    for count in 1..65 {
-        let mut fir = made(Fir::new(rt.alloc(), &ones[..count], 0))?;
-        for step in 1..=66 {
-            let want = if step < count { step } else { count };
-            assert_eq!(rt; fir.step(1), Ok(want as i64), "step {step} of {count} taps");
-        }
-    }
-    Ok(())
-}
-
-#[test]
 fn peers_and_turns(rt: HostRuntime) -> Result<(), Fail> {
     assert_eq!(rt; Peer::mix(2, 1, 11), Ok(-9));
     let mut split = Split::new(2);

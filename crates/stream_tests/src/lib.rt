@@ -1,24 +1,16 @@
-//! Tests of filters, of graphs and samples as text, of the lists of graphs, and of what reads and
-//! writes them, by public calls: of `watched_io`, `stream_filters`, `graph_lang`, `graph_show` and
-//! `stream_job`. They stand in a crate of their own, since a crate is proved anew with its tests.
+//! Tests of filters, of samples, of the tasks and lists of graphs, and of what reads and writes, by
+//! public calls: of `watched_io`, `stream_filters`, `graph_lang` and `stream_job`. They stand in a
+//! crate of their own, since a crate is proved anew with its tests.
 #![tactic(auto)]
 
-#[cfg(test)]
-mod drawings;
 #[cfg(test)]
 mod files;
 #[cfg(test)]
 mod filters;
 #[cfg(test)]
-mod graph_faults;
-#[cfg(test)]
-mod graphs;
-#[cfg(test)]
 mod jobs;
 #[cfg(test)]
 mod lists;
-#[cfg(test)]
-mod operations;
 #[cfg(test)]
 mod registrations;
 #[cfg(test)]

@@ -1,6 +1,6 @@
-//! Texts with the samples that they hold, or with the number of their first bad record.
+//! Samples that a reader gives in pieces, and readers that fail.
 
-use graph_show::graph_lang::{SampleFault, read_samples, samples_of};
+use graph_show::graph_lang::{SampleFault, read_samples};
 use graph_show::watched_io::{FileFault, Watched, read_text};
 use std::alloc::Global;
 use std::io;
@@ -39,55 +39,11 @@ fn pieces_of(rest: &[u8], size: usize) -> Watched<Pieces<'_>> {
 }
 
 /// Texts, each with its samples, or with the number of its first bad record.
-struct Case {
-    name: &'static str,
-    texts: &'static [(&'static str, Result<&'static [i64], usize>)],
-}
-
-const CASES: [Case; 2] = [
-    Case {
-        name: "each record is one number",
-        texts: &[
-            ("", Ok(&[])),
-            ("\n\r\n\n", Ok(&[])),
-            ("1\n2\n", Ok(&[1, 2])),
-            ("1\n2", Ok(&[1, 2])),
-            ("1\r\n-2\r\n\r\n3", Ok(&[1, -2, 3])),
-            ("1\r2\r3", Ok(&[1, 2, 3])),
-            ("1\r\r2", Ok(&[1, 2])),
-            ("\"5\"6\n\"7", Ok(&[56, 7])),
-            ("\"-8\"\n", Ok(&[-8])),
-            ("0\n0", Ok(&[0, 0])),
-            (
-                "9223372036854775807\n-9223372036854775807\n",
-                Ok(&[9223372036854775807, -9223372036854775807]),
-            ),
-            ("1000000000000000000", Ok(&[1000000000000000000])),
-        ],
-    },
-    Case {
-        name: "the first other record is told",
-        texts: &[
-            ("value\n1\n", Err(1)),
-            ("1\n\"\"\n2\n", Err(2)),
-            ("1\nx\ny\n", Err(2)),
-            ("1\n\n2,3\n", Err(2)),
-            ("2,3\n1\n", Err(1)),
-            ("1,\n", Err(1)),
-            (",1\n", Err(1)),
-            ("1, 2", Err(1)),
-            ("01", Err(1)),
-            ("-0", Err(1)),
-            ("-", Err(1)),
-            ("+1", Err(1)),
-            (" 1", Err(1)),
-            ("1 ", Err(1)),
-            ("1.0", Err(1)),
-            ("-9223372036854775808", Err(1)),
-            ("7\n9223372036854775808", Err(2)),
-            ("18446744073709551617", Err(1)),
-        ],
-    },
+const TEXTS: [(&str, Result<&[i64], usize>); 4] = [
+    ("", Ok(&[])),
+    ("1\r\n-2\r\n\r\n3", Ok(&[1, -2, 3])),
+    ("\"5\"6\n\"7", Ok(&[56, 7])),
+    ("1\n\n2,3\n", Err(2)),
 ];
 
 /// Whether these samples were found, or this first bad record.
@@ -99,29 +55,10 @@ fn is_so(found: Result<Vec<i64>, SampleFault>, wanted: Result<&[i64], usize>) ->
     }
 }
 
-/// How many bytes a read gave where something else was found, 0 for a whole text.
-fn first_wrong(alloc: Global, text: &str, wanted: Result<&[i64], usize>) -> Option<usize> {
-    if !is_so(samples_of(alloc, text.as_bytes()), wanted) {
-        return Some(0);
-    }
-    for size in [1, 3, 65536] {
-        let mut pieces = pieces_of(text.as_bytes(), size);
-        if !is_so(read_samples(alloc, &mut pieces), wanted) {
-            return Some(size);
-        }
-    }
-    None
-}
-
-#[test]
-fn a_text_has_its_samples_or_its_first_bad_record(rt: HostRuntime) -> Result<(), Fail> {
-    for case in &CASES {
-        for (text, wanted) in case.texts {
-            let wrong = first_wrong(rt.alloc(), text, *wanted);
-            assert_eq!(rt; wrong, None, "{}: {text:?}", case.name);
-        }
-    }
-    Ok(())
+/// Whether a reader that gives `size` bytes a read has these samples, or this first bad record.
+fn is_read_by(alloc: Global, text: &str, size: usize, wanted: Result<&[i64], usize>) -> bool {
+    let mut pieces = pieces_of(text.as_bytes(), size);
+    is_so(read_samples(alloc, &mut pieces), wanted)
 }
 
 /// What is found in five bytes, one a read, where a read fails, and whether the reader tells that.
@@ -139,7 +76,15 @@ fn read_failing_at(alloc: Global, fails_at: usize) -> (Result<usize, SampleFault
 }
 
 #[test]
-fn a_read_that_fails_is_the_answer(rt: HostRuntime) -> Result<(), Fail> {
+fn samples_are_read_in_pieces_until_a_read_fails(rt: HostRuntime) -> Result<(), Fail> {
+    for (text, wanted) in &TEXTS {
+        for size in [1, 3, 65536] {
+            assert!(rt;
+                is_read_by(rt.alloc(), text, size, *wanted),
+                "{text:?} by {size}"
+            );
+        }
+    }
     // A sixth read is for the end.
     for fails_at in 0..8 {
         let fault = if fails_at < 6 {
