@@ -27,6 +27,7 @@ mod filters;
 mod lines;
 pub mod moments;
 pub mod moves;
+pub mod outcomes;
 mod owed;
 pub mod parts;
 pub mod places;
