@@ -12,6 +12,7 @@ pub mod InTurn
 pub mod Setting
 pub mod Signals
 pub mod SinkLines
+pub mod SinksKeep
 pub mod TaskLists
 pub mod Tellings
 pub mod Waits
