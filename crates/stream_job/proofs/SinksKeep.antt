@@ -197,7 +197,7 @@ kept_other job m event u ran next there apart = by event next apart
         (ran.phasers p next.0.phaser).legal r.new_number).received
 
 -- a task that waits keeps what it got, where that is in range
-kept_wait : (job : Job) (m : Moment) (t k p n : ℕ) (outcome : Outcome)
+pub kept_wait : (job : Job) (m : Moment) (t k p n : ℕ) (outcome : Outcome)
     → IsNext job m (first_wait t k p n outcome) → k ≡ 0
     → kept_by job (after_turn job (first_wait t k p n outcome) m) t
     ≡ kept_by job m t ++ kept_of (outcome ∷ [])
@@ -398,7 +398,7 @@ all_in_range (outcome ∷ rest) all =
     (all_in_range rest (λ i d lt. all (suc i) d (omega arith)))
 
 -- a task keeps all that it has taken
-all_kept : (job : Job) (m : Moment) (t : ℕ) → IsGraph job.graph → HasRun job m
+pub all_kept : (job : Job) (m : Moment) (t : ℕ) → IsGraph job.graph → HasRun job m
     → HasAnsweredNone job m → t < length job.graph.tasks
     → 0 < length (task_at job.graph t).inputs → kept_by job m t ≡ m.taken t 0
 all_kept job m t is ran none there some =
@@ -416,7 +416,7 @@ all_kept job m t is ran none there some =
         (met_none job m none q t n pp there e) ∙ sym on.taken
 
 -- a sink has an input
-sink_reads : (job : Job) (t : ℕ) → IsGraph job.graph → t < length job.graph.tasks
+pub sink_reads : (job : Job) (t : ℕ) → IsGraph job.graph → t < length job.graph.tasks
     → is_sink_at job t ≡ true → 0 < length (task_at job.graph t).inputs
 sink_reads job t is there sink =
     has_inputs (task_at job.graph t).kind (length (task_at job.graph t).inputs)

@@ -30,6 +30,7 @@ use Rattle.stream_job.specs.declared.made.Made.TheVariants as made
 use Rattle.stream_job.specs.declared.turned.Turned.{Turned}
 use Rattle.stream_job.specs.declared.turned.Turned.TheVariants as turned
 use Rattle.stream_job.proofs.BlockedLists.{blocked_after}
+use Rattle.stream_job.proofs.LinesBegin.{turn_begins}
 use Rattle.stream_job.proofs.Lively.{live_next}
 use Rattle.stream_job.proofs.Stalling.{leave_moves, register_moves}
 use Rattle.stream_job.proofs.Stepping.{sample_output, signal_output, wait_input, exchange_input}
@@ -259,6 +260,7 @@ turn_met_so job old new m t it word had at none told = by word told
           (told_fault job m t (place, phase) (record { graph = at.graph; apart = at.apart })
           at.reached runs told);
       last = turn_answers_one job m t none;
+      lines = turn_begins job m old t at none;
     }
 
 -- the world stands at the moment after the turn

@@ -354,7 +354,7 @@ never_ended job old t n p state next found phaser numbered reply =
 -- ---- the first wait of a step
 
 -- what the task takes is on its first input where that is looked at by a filter or a sink
-first_is : (job : Job) (m : Moment) (t k n p : ℕ) (outcome : Outcome) → k ≡ 0
+pub first_is : (job : Job) (m : Moment) (t k n p : ℕ) (outcome : Outcome) → k ≡ 0
     → (after_turn job (first_wait t k p n outcome) m).taken t 0
     ≡ m.taken t 0 ++ number outcome ∷ []
 first_is job m t k n p outcome first =
@@ -372,7 +372,7 @@ sink_kind Join e = absurd (cc)
 sink_kind Peer e = absurd (cc)
 
 -- a filter's first input is its only one, as a sink's
-zero_first : (task : Task) (b k : ℕ) (kind : Kind) → task.kind ≡ kind → kind ≢ Join
+pub zero_first : (task : Task) (b k : ℕ) (kind : Kind) → task.kind ≡ kind → kind ≢ Join
     → k ≡ first_input task b → k ≡ 0
 zero_first task b k kind is not first = first ∙ by kind is not
   where

@@ -7,6 +7,7 @@ use Rattle.graph_runs.specs.Settled.{IsFaultAt}
 use Rattle.stream_job.specs.declared.machine.Machine.{Machine}
 use Rattle.stream_job.specs.Machines.{IsMachineAt}
 use Rattle.stream_job.specs.Blocking.{AreBlocked}
+use Rattle.stream_job.specs.SinkLines.{KeepsBeginnings}
 
 -- a job, the machine that runs it, where a value was out of range, and the tasks that were blocked
 -- on each phaser since its last event
@@ -16,11 +17,12 @@ pub record WorldState : Type 0 where
   pub met : Option Where
   pub parked : List (List ℕ)
 
--- a value out of range is a fault of the job, and no wait but the last event of a phaser was answered
--- one that is too big
+-- a value out of range is a fault of the job, no wait but the last event of a phaser was answered
+-- one that is too big, and each sink keeps what it took before
 pub record HasMetAt (job : Job) (m : Moment) (at : Where) : Type 0 where
   pub fault : IsFaultAt (started job m) at
   pub last : HasAnsweredNoneBefore job m
+  pub lines : KeepsBeginnings job m
 
 -- where none was out of range, no wait was answered one that is too big
 abbrev pub HasMet : Job → Moment → Option Where → Type 0

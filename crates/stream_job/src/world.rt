@@ -1,7 +1,10 @@
 //! A run of a graph on one thread.
-ghost use Rattle.std.specs.Prelude.{◌≡◌, ◌≢◌, ◌<◌, ℕ, Some, None, Ok, [], length, get_or, map, IfOk, OnOk, OnErr, false};
+ghost use Rattle.std.specs.Prelude.{◌≡◌, ◌≢◌, ◌<◌, ℕ, Some, None, Ok, [], length, get_or, map, IfOk, OnOk, OnErr, true, false};
+ghost use mathlib.Core.List.{IsPrefix};
 ghost use Rattle.stream_eval.specs.Results.{sink_values};
-ghost use Rattle.stream_eval.specs.stream_lists.Lists.{sinks_of};
+ghost use Rattle.stream_eval.specs.stream_lists.Lists.{is_sink_at, numbers_of, sinks_of, taken_from};
+ghost use Rattle.stream_eval.specs.stream_lists.Spans.{span_in};
+ghost use Rattle.graph_lang.specs.graph_base.Graphs.{task_at};
 ghost use Rattle.stream_eval.specs.stream_lists.Ranges.{answer_of};
 ghost use Rattle.graph_runs.specs.Moments.{Moment, started};
 ghost use Rattle.graph_runs.specs.Beginnings.{opening};
@@ -14,7 +17,7 @@ use crate::plan::Plan;
 use crate::step::Step;
 use crate::turned::Turned;
 use graph_lang::Place;
-use graph_runs::outcomes;
+use graph_runs::{moments, outcomes};
 use std::alloc::{AllocError, Global};
 use std::marker::Model;
 use stream_eval::Lines;
@@ -108,10 +111,16 @@ impl<'a> World<'a> {
         ensures taken { (m : Moment) → IsWorldAt self.now m → self.now.met ≡ None
             → map sink_values result.now
             ≡ map (λ t. (t, m.taken t 0)) (sinks_of self.now.job) }
+        ensures begin { (m : Moment) (t : ℕ) → IsWorldAt self.now m
+            → t < length self.now.job.graph.tasks → is_sink_at self.now.job t ≡ true
+            → IsPrefix (kept_by self.now.job m t)
+            (taken_from (numbers_of (started self.now.job m)) (task_at self.now.job.graph t)
+            (span_in (started self.now.job m) t) 0) }
         ensures all { (m : Moment) → IsWorldAt self.now m → self.now.met ≡ None
             → ((t : ℕ) → is_live self.now.job m t ≡ false)
             → answer_of (started self.now.job m) ≡ Ok (map sink_values result.now) }
     {
+        moments::takes();
         outcomes::all_gone();
         &self.machine.lines
     }
