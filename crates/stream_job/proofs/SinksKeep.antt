@@ -3,7 +3,6 @@ use Rattle.std.proofs.Common.{◌≡◌, ◌≢◌, ℕ, ℤ, zero, suc, ◌+◌
 use Rattle.std.specs.Prelude.{IfSome}
 use Rattle.std.specs.List.{filter, range_with_len}
 use Rattle.std.proofs.lemmas.Bool.{eqb-true, eq-eqb, ne_eqb}
-use Rattle.std.proofs.lemmas.Option.{same_Some}
 use Rattle.std.proofs.lemmas.List.{append-nil, length-map, map-append}
 use Rattle.std.proofs.lemmas.List.Elements.{filter-append}
 use Rattle.std.proofs.lemmas.List.Sums.{length-filter, count_by-le-length}
@@ -11,19 +10,17 @@ use Rattle.phase_core.specs.phase_base.declared.mode.Mode.{Mode}
 use Rattle.phase_core.specs.phase_accum.declared.outcome.Outcome.{Outcome}
 use Rattle.phase_core.specs.phase_accum.declared.outcome.Outcome.TheVariants as outcomes
 use Rattle.phase_core.specs.phase_history.declared.event.Event.{Event}
-use Rattle.phase_core.specs.phase_history.declared.event.Event.TheVariants.{Registered, Signalled, Waited, Dropped}
+use Rattle.phase_core.specs.phase_history.declared.event.Event.TheVariants.{Signalled, Waited, Dropped}
 use Rattle.phase_core.specs.phase_history.Phases.{received_by}
 use Rattle.graph_runs.proofs.phase_history_lemmas.LawProofs.{above_law}
 use Rattle.graph_runs.proofs.phase_history_lemmas.Refused.{registers_from}
-use Rattle.graph_lang.specs.graph_base.declared.line.Kind.{Kind}
-use Rattle.graph_lang.specs.graph_base.declared.line.Kind.TheVariants.{Peer}
 use Rattle.graph_lang.specs.graph_base.declared.line.Parent.{Parent}
 use Rattle.graph_lang.specs.graph_base.TaskLines.{IsGraph}
 use Rattle.graph_lang.specs.graph_base.Graphs.{is_sink, task_at, phaser_at}
 use Rattle.stream_eval.specs.stream_lists.Jobs.{Job}
 use Rattle.stream_eval.specs.stream_lists.Lists.{is_sink_at, number, sinks_of}
 use Rattle.stream_eval.specs.stream_lists.Ranges.{is_too_big}
-use Rattle.graph_runs.specs.Moments.{Moment, HasRun, HasAnsweredNone, OnInput, TakenOn, input_at, limits_at, value_at}
+use Rattle.graph_runs.specs.Moments.{Moment, HasRun, HasAnsweredNone, TakenOn, input_at, limits_at, value_at}
 use Rattle.graph_runs.specs.Moves.{HasMoved, Registers}
 use Rattle.graph_runs.proofs.Turned.{next_sample_is, next_signal_is, first_wait_is, exchange_wait_is, next_leave_is, next_child_is}
 use Rattle.graph_runs.specs.TaskEvents.{TaskEvent, IsNext, sample, signal, first_wait, exchange_wait, leave, child, after_turn}

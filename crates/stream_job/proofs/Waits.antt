@@ -4,7 +4,7 @@ use Rattle.std.specs.Prelude.{Result, Ok, Err, nat_lt, IfSome}
 use Rattle.std.specs.List.{All}
 use Rattle.std.proofs.lemmas.List.{length-map}
 use Rattle.std.proofs.lemmas.Option.{slice_get_within}
-use Rattle.std.proofs.lemmas.Bool.{eq-eqb, eqb-true, ne_eqb}
+use Rattle.std.proofs.lemmas.Bool.{eq-eqb, eqb-true}
 use Rattle.phase_core.specs.phase_accum.declared.outcome.Outcome.{Outcome}
 use Rattle.phase_core.specs.phase_accum.declared.outcome.Outcome.TheVariants as outcomes
 use Rattle.phase_core.specs.phase_base.Limits.{Limits}

@@ -1,5 +1,5 @@
 -- At the opening no task is blocked, and no wait was answered.
-use Rattle.std.proofs.Common.{◌≡◌, ℕ, true, false, length, sym, ap, ◌∙◌}
+use Rattle.std.proofs.Common.{◌≡◌, true, false, length, sym, ap, ◌∙◌}
 use Rattle.std.specs.List.{list_any}
 use Rattle.std.specs.Prelude.{◌==◌}
 use Rattle.graph_lang.specs.graph_base.Graphs.{Graph}
