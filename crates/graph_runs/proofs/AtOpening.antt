@@ -1,16 +1,18 @@
 -- The opening of a run has what turns keep.
-use Rattle.std.proofs.Common.{◌≡◌, ℕ, zero, suc, ◌+◌, ◌<◌, ◌≤◌, eqb, List, [], ◌∷◌, ◌++◌, Option, Some, None, is_some, IsSome, length, get_or, refl, sym, ap, subst, ◌∙◌, arith, ◌⊎◌, inl, inr}
+use Rattle.std.proofs.Common.{◌≡◌, ℕ, zero, suc, ◌+◌, ◌<◌, ◌≤◌, ◌≢◌, Bool, true, false, cond, eqb, List, [], ◌∷◌, ◌++◌, Option, Some, None, is_some, IsSome, length, get_or, refl, sym, ap, subst, ◌∙◌, arith, ◌⊎◌, inl, inr}
 use Rattle.std.specs.Prelude.{option_map}
 use Rattle.std.specs.List.{find}
-use Rattle.std.proofs.lemmas.Bool.{cases_lt, eqb-true, eq-eqb}
+use Rattle.std.proofs.lemmas.Bool.{cases_lt, eqb-true, eq-eqb, ne_eqb}
 use Rattle.std.proofs.lemmas.Option.{same_Some}
 use Rattle.std.proofs.lemmas.List.{length-map, get_or-map}
 use Rattle.phase_history.specs.phase_base.Limits.{AreLimits}
 use Rattle.phase_history.specs.phase_base.Modes.{mode_signals, mode_waits}
 use Rattle.phase_history.specs.phase_base.declared.entry.Entry.{Entry}
 use Rattle.phase_history.specs.phase_base.declared.mode.Mode.{Mode}
-use Rattle.phase_history.specs.declared.event.Event.TheVariants.{Dropped}
-use Rattle.phase_history.specs.Histories.{IsBeginning, entry_at, start_of, greatest_used}
+use Rattle.phase_history.specs.declared.event.Event.TheVariants.{Registered, Dropped}
+use Rattle.phase_history.specs.Histories.{History, IsBeginning, entry_at, founder, start_of, greatest_used, has_dropped}
+use Rattle.phase_history.specs.Others.{IsUsed}
+use Rattle.phase_history.proofs.Alive.{alive_law}
 use Rattle.phase_history.proofs.Beginnings.{IsBeginning-trans}
 use Rattle.phase_history.proofs.Used.{start_of-longer, start_used}
 use Rattle.stream_lists.specs.graph_base.declared.line.Parent.{Parent}
@@ -27,8 +29,8 @@ use Rattle.graph_runs.specs.Moments.{limits_at, input_at, OnLine}
 use Rattle.graph_runs.proofs.OnLines.{on_phaser}
 use Rattle.graph_runs.specs.Openings.{PhaserOpened, TaskOpened}
 use Rattle.graph_runs.specs.Nexts.{registrations_at}
-use Rattle.graph_runs.specs.Beginnings.{mode_on, root_mode, root_number, number_after, roots_joined, offset_below, opening_offsets, opening}
-use Rattle.graph_runs.specs.Reached.{HasMode, HasModes, HasBegun}
+use Rattle.graph_runs.specs.Beginnings.{mode_on, root_mode, root_number, number_after, with_root, roots_joined, offset_below, opening_offsets, opening}
+use Rattle.graph_runs.specs.Reached.{HasMode, HasModes, HasTaskMembers, IsOfTask, HasBegun}
 use Rattle.graph_runs.proofs.Beginning.{Rooted, rooted, roots-later, opening_legal, only_roots, IsRoot, is_root}
 use Rattle.graph_runs.proofs.PlacesLemmas.{find-none, find-some, on_ends}
 use Rattle.graph_runs.proofs.Reaching.{one_registration, get_or-any}
@@ -298,6 +300,67 @@ has_modes job is t there k d lt =
     ap (λ x. x.mode) (sym same) ∙ sym r.has_mode
     ∙ ap (λ i. (get_or (registrations_at job t) i no_registration).mode) one))
 
+-- ---- whose the members are
+
+-- whom the founder has registered among the first k tasks is one of them
+root_used : (job : Job) (p n k : ℕ) → is_some (start_of (roots_joined job p k) n) ≡ true → n ≢ 0
+    → (t : ℕ) × (t < k) × (root_number job p t ≡ Some n)
+root_used job p n zero used other =
+    let none : is_some (start_of (roots_joined job p 0) n) ≡ false =
+    ap (λ b. is_some (cond b (Some founder) None)) (ne_eqb 0 n (λ e. other (sym e))) in
+    absurd (let wrong : true ≡ false = sym used ∙ none in cc)
+root_used job p n (suc k) used other =
+    by (root_mode job k p) refl (λ was. root_used job p n k was other)
+  where
+    h : History
+    h = roots_joined job p k
+
+    more : (t : ℕ) × (t < k) × (root_number job p t ≡ Some n)
+        → (t : ℕ) × (t < suc k) × (root_number job p t ≡ Some n)
+    more it = let lt = it.1 in (it.0, omega arith, it.2)
+
+    here : (a : ℕ) (mode : Mode) (b : Bool) → eqb a n ≡ b → root_number job p k ≡ Some a
+        → is_some (start_of (Registered 0 a mode ∷ h) n) ≡ true
+        → (is_some (start_of h n) ≡ true → (t : ℕ) × (t < k) × (root_number job p t ≡ Some n))
+        → (t : ℕ) × (t < suc k) × (root_number job p t ≡ Some n)
+    here a mode true e number now rec =
+        (k, omega arith, number ∙ ap (λ x. Some x) (eqb-true a n e))
+    here a mode false e number now rec =
+        let is : is_some (start_of (Registered 0 a mode ∷ h) n) ≡ is_some (start_of h n) =
+        rw e refl in
+        more (rec (sym is ∙ now))
+
+    by : (o : Option Mode) → root_mode job k p ≡ o
+        → (is_some (start_of h n) ≡ true → (t : ℕ) × (t < k) × (root_number job p t ≡ Some n))
+        → (t : ℕ) × (t < suc k) × (root_number job p t ≡ Some n)
+    by None e rec =
+        let same : roots_joined job p (suc k) ≡ h = ap (with_root h) e in
+        more (rec (ap (λ x. is_some (start_of x n)) (sym same) ∙ used))
+    by (Some mode) e rec =
+        let a : ℕ = greatest_used h + 1 in
+        let same : roots_joined job p (suc k) ≡ Registered 0 a mode ∷ h = ap (with_root h) e in
+        here a mode (eqb a n) refl (ap (number_after h) e)
+        (ap (λ x. is_some (start_of x n)) (sym same) ∙ used) rec
+
+has_members : (job : Job) → IsGraph job.graph → HasTaskMembers job (opening job)
+has_members job is p n pp alive = by (eqb 0 n) refl
+  where
+    whole : Rooted job p (length job.graph.tasks)
+    whole = rooted_at job p (length job.graph.tasks) is pp (omega arith)
+
+    it : IsUsed ((opening job).history p) n × (has_dropped ((opening job).history p) n ≡ false)
+    it =
+        (alive_law (limits_at job p) ((opening job).history p) n (opening_legal job p whole)).0
+        alive
+
+    by : (b : Bool) → eqb 0 n ≡ b → IsOfTask job (opening job) p n
+    by true e =
+        let gone : has_dropped ((opening job).history p) n ≡ true = rw e refl in
+        absurd (let wrong : true ≡ false = sym gone ∙ it.1 in cc)
+    by false e =
+        root_used job p n (length job.graph.tasks) it.0
+        (λ zero_is. (let no = sym (eq-eqb 0 n (sym zero_is)) ∙ e in cc))
+
 -- ---- the whole
 
 pub opening_has_begun : (job : Job) → IsGraph job.graph → HasBegun job (opening job)
@@ -309,6 +372,7 @@ opening_has_begun job is = record {
   modes = has_modes job is;
   only_tasks = λ p pp.
       only_roots job p (rooted_at job p (length job.graph.tasks) is pp (omega arith));
+  members = has_members job is;
   offset = λ c u there parent.
       offset_is job c is there ∙ ap (offset_below (opening_offsets job)) parent;
 }

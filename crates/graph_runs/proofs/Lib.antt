@@ -1,5 +1,7 @@
 pub mod Agreed
+pub mod AllGone
 pub mod Answered
+pub mod AnsweredInTurn
 pub mod Anys
 pub mod Composed
 pub mod Entries
@@ -65,6 +67,7 @@ pub mod KnownOthers
 pub mod PartsLemmas
 pub mod RootBegins
 pub mod TellsNext
+pub mod ToldFaults
 pub mod Outputs
 pub mod Absent
 pub mod CallsFollow

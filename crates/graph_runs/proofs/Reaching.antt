@@ -1,7 +1,7 @@
 -- What a reached moment has stays after a turn.
 use Rattle.std.proofs.Common.{◌≡◌, ◌≢◌, ℕ, zero, suc, ◌+◌, ◌<◌, ◌≤◌, Bool, true, false, not, cond, eqb, List, [], ◌∷◌, ◌++◌, Option, Some, None, is_some, length, map, get_or, refl, sym, ap, subst, ◌∙◌, arith, ◌⊎◌, inl, inr, ℤ}
 use Rattle.std.specs.List.{find, filter_map, cons_option, range_with_len}
-use Rattle.std.proofs.lemmas.Bool.{eqb-true, eq-eqb, cases_lt}
+use Rattle.std.proofs.lemmas.Bool.{eqb-true, eq-eqb, ne_eqb, cases_lt}
 use Rattle.std.proofs.lemmas.Option.{same_Some}
 use Rattle.std.proofs.lemmas.List.{append-nil, length-append, length-map, get_or-map}
 use Rattle.std.proofs.lemmas.List.Sums.{length-filter, count_by-le-length}
@@ -11,7 +11,9 @@ use Rattle.phase_history.specs.phase_base.declared.mode.Mode.{Mode}
 use Rattle.phase_history.specs.phase_accum.declared.single.Single.{Single}
 use Rattle.phase_history.specs.declared.event.Event.{Event}
 use Rattle.phase_history.specs.declared.event.Event.TheVariants.{Registered, Signalled, Waited, Dropped}
-use Rattle.phase_history.specs.Histories.{History, members_of, start_of, signal_phase, wait_phase, entry_at}
+use Rattle.phase_history.specs.Histories.{History, members_of, start_of, signal_phase, wait_phase, entry_at, has_dropped}
+use Rattle.phase_history.specs.Others.{IsUsed}
+use Rattle.phase_history.proofs.Alive.{alive_law}
 use Rattle.phase_history.proofs.Used.{start_from, start_of-longer}
 use Rattle.stream_lists.specs.graph_base.declared.line.Parent.{Parent}
 use Rattle.stream_lists.specs.graph_base.declared.registration.Registration.{Registration}
@@ -29,7 +31,7 @@ use Rattle.graph_runs.proofs.Opened.{opened_ran}
 use Rattle.graph_runs.proofs.Turned.{next_sample_is, next_signal_is, first_wait_is, exchange_wait_is, next_leave_is, next_child_is}
 use Rattle.graph_runs.specs.TaskEvents.{TaskEvent, IsNext, sample, signal, first_wait, exchange_wait, leave, child, after_turn}
 use Rattle.graph_runs.specs.Nexts.{HasChildrenToCome, first_missing, has_registered, registrations_at}
-use Rattle.graph_runs.specs.Reached.{HasMode, HasModes, HasOnlyTasks, HasBegun, IsReachable}
+use Rattle.graph_runs.specs.Reached.{HasMode, HasModes, HasOnlyTasks, HasTaskMembers, IsOfTask, HasBegun, IsReachable}
 use Rattle.graph_runs.proofs.PlacesLemmas.{find-some}
 use Rattle.graph_runs.proofs.Whose.{task_of, IsInOrder}
 
@@ -39,6 +41,7 @@ use Rattle.graph_runs.proofs.Whose.{task_of, IsInOrder}
 pub record GivesNoNumber (event : Event) : Type 0 where
   pub starts : (h : History) (n : ℕ) → start_of (event ∷ h) n ≡ start_of h n
   pub members : (h : History) → length (members_of (event ∷ h)) ≤ length (members_of h)
+  pub stays : (h : History) (n : ℕ) → has_dropped (event ∷ h) n ≡ false → has_dropped h n ≡ false
 
 length-changed : (task : ℕ) (change : Entry → Entry) (ms : Members)
     → length (changed_at task change ms) ≡ length ms
@@ -56,12 +59,14 @@ signal_gives_none n lists single = record {
   starts = λ h x. refl;
   members = λ h.
       (let same = length-changed n (signalled (length lists)) (members_of h) in omega arith);
+  stays = λ h x e. e;
 }
 
 pub wait_gives_none : (n k : ℕ) → GivesNoNumber (Waited n k)
 wait_gives_none n k = record {
   starts = λ h x. refl;
   members = λ h. (let same = length-changed n (waited k) (members_of h) in omega arith);
+  stays = λ h x e. e;
 }
 
 pub drop_gives_none : (n : ℕ) → GivesNoNumber (Dropped n)
@@ -70,7 +75,13 @@ drop_gives_none n = record {
   members = λ h.
       (let same = length-filter (λ x. not (eqb x.task n)) (members_of h) in
       let few = count_by-le-length (λ x. not (eqb x.task n)) (members_of h) in omega arith);
+  stays = λ h x e. by h x (eqb n x) e;
 }
+  where
+    by : (h : History) (x : ℕ) (b : Bool) → cond b true (has_dropped h x) ≡ false
+        → has_dropped h x ≡ false
+    by h x true e = absurd (cc)
+    by h x false e = e
 
 -- ---- one event that gives no number
 
@@ -133,6 +144,92 @@ tasks_moved job before after t p event moved none only q lt = by (eqb q p) refl
         let was : length (members_of (before.history q)) ≤ length (numbers_on job before q) = few in
         let many : length (numbers_on job after q) ≡ length (numbers_on job before q) = numbers in
         omega arith
+
+-- ---- whose the members are
+
+-- the same by the events of a phaser: whoever got a number there and has not dropped it is a task
+abbrev pub HasTaskNumbers : Job → Moment → Type 0
+HasTaskNumbers job m = (p n : ℕ) → p < length job.graph.phasers → IsUsed (m.history p) n
+    → has_dropped (m.history p) n ≡ false → IsOfTask job m p n
+
+pub by_numbers : (job : Job) (m : Moment) → HasRun job m → HasTaskMembers job m
+    → HasTaskNumbers job m
+by_numbers job m ran members p n pp used stays =
+    members p n pp ((alive_law (limits_at job p) (m.history p) n (ran.phasers p pp).legal).1
+    (used, stays))
+
+pub by_members : (job : Job) (m : Moment) → HasRun job m → HasTaskNumbers job m
+    → HasTaskMembers job m
+by_members job m ran numbers p n pp alive =
+    let it = (alive_law (limits_at job p) (m.history p) n (ran.phasers p pp).legal).0 alive in
+    numbers p n pp it.0 it.1
+
+-- one task more has a number, number a on phaser p
+pub one_number : (job : Job) (before after : Moment) (p c a : ℕ) → c < length job.graph.tasks
+    → before.number p c ≡ None → after.number p c ≡ Some a
+    → ((q x : ℕ) → (q ≢ p) ⊎ (x ≢ c) → after.number q x ≡ before.number q x)
+    → ((q : ℕ) → q ≢ p → after.history q ≡ before.history q)
+    → ((x : ℕ) → x ≢ a → IsUsed (after.history p) x → IsUsed (before.history p) x)
+    → ((x : ℕ) → has_dropped (after.history p) x ≡ false
+    → has_dropped (before.history p) x ≡ false)
+    → HasTaskNumbers job before → HasTaskNumbers job after
+one_number job before after p c a there absent number others elsewhere used stays were q x qq now kept =
+    by (eqb q p) refl
+  where
+    here : (b : Bool) → eqb x a ≡ b → p < length job.graph.phasers → IsUsed (after.history p) x
+        → has_dropped (after.history p) x ≡ false → IsOfTask job after p x
+    here true e pp now kept =
+        (c, there, number ∙ ap (λ y. Some y) (sym (eqb-true x a e)))
+    here false e pp now kept =
+        let apart : x ≢ a = λ same. (let no = sym (eq-eqb x a same) ∙ e in cc) in
+        let it = were p x pp (used x apart now) (stays x kept) in
+        let other : it.0 ≢ c = λ same. (let wrong : Some x ≡ None =
+        sym it.2 ∙ ap (before.number p) same ∙ absent in cc) in
+        (it.0, it.1, others p it.0 (inr other) ∙ it.2)
+
+    by : (b : Bool) → eqb q p ≡ b → IsOfTask job after q x
+    by true e =
+        let same : p ≡ q = sym (eqb-true q p e) in
+        let P : ℕ → Type 0 = λ r. r < length job.graph.phasers → IsUsed (after.history r) x
+        → has_dropped (after.history r) x ≡ false → IsOfTask job after r x in
+        (subst P same (here (eqb x a) refl)) qq now kept
+    by false e =
+        let apart : q ≢ p = λ same. (let no = sym (eq-eqb q p same) ∙ e in cc) in
+        let it = were q x qq (ap (λ h. is_some (start_of h x)) (sym (elsewhere q apart)) ∙ now)
+        (ap (λ h. has_dropped h x) (sym (elsewhere q apart)) ∙ kept) in
+        (it.0, it.1, others q it.0 (inl apart) ∙ it.2)
+
+numbers_moved : (job : Job) (before after : Moment) (t p : ℕ) (event : Event)
+    → HasMoved job before after t p event → GivesNoNumber event → HasTaskNumbers job before
+    → HasTaskNumbers job after
+numbers_moved job before after t p event moved none were q n qq used stays =
+    let it = were q n qq
+    (ap is_some (sym (starts_same job before after t p event moved none q n)) ∙ used)
+    (by (eqb q p) refl) in
+    (it.0, it.1, moved.numbers q it.0 ∙ it.2)
+  where
+    by : (b : Bool) → eqb q p ≡ b → has_dropped (before.history q) n ≡ false
+    by true e =
+        let same : q ≡ p = eqb-true q p e in
+        none.stays (before.history q) n
+        (ap (λ x. has_dropped (event ∷ before.history x) n) same
+        ∙ ap (λ h. has_dropped h n) (sym moved.here)
+        ∙ ap (λ x. has_dropped (after.history x) n) (sym same) ∙ stays)
+    by false e =
+        ap (λ h. has_dropped h n)
+        (sym (moved.elsewhere q (λ same. (let no = sym (eq-eqb q p same) ∙ e in cc)))) ∙ stays
+
+numbers_registered : (job : Job) (before after : Moment) (t p n c a : ℕ) (mode : Mode) (u : Parent)
+    → Registers job before after t p n c a mode u → HasTaskNumbers job before
+    → HasTaskNumbers job after
+numbers_registered job before after t p n c a mode u s were =
+    one_number job before after p c a s.child s.absent s.number s.other_numbers
+    (λ q apart. s.elsewhere q apart)
+    (λ x apart used. (let other : eqb a x ≡ false = ne_eqb a x (λ same. apart (sym same)) in
+    let is : is_some (start_of (Registered n a mode ∷ before.history p) x)
+    ≡ is_some (start_of (before.history p) x) = rw other refl in
+    sym is ∙ ap (λ h. is_some (start_of h x)) (sym s.here) ∙ used))
+    (λ x stays. ap (λ h. has_dropped h x) (sym s.here) ∙ stays) were
 
 -- ---- children to come
 
@@ -463,6 +560,9 @@ reached_moved job before after t p event moved none all ran reached = record {
   ran = ran;
   modes = modes_moved job before after t p event moved none reached.modes;
   only_tasks = tasks_moved job before after t p event moved none reached.only_tasks;
+  members = by_members job after ran
+      (numbers_moved job before after t p event moved none
+      (by_numbers job before reached.ran reached.members));
   to_come = to_come_moved job before after t p event moved all reached.to_come;
 }
 
@@ -501,6 +601,9 @@ reached_after job m (child t p n c a mode) is reached next all missing ran =
       modes = modes_registered job m after t p n c a mode u is reached.ran ran s missing
           next.0.phaser reached.modes;
       only_tasks = tasks_registered job m after t p n c a mode u s reached.only_tasks;
+      members = by_members job after ran
+          (numbers_registered job m after t p n c a mode u s
+          (by_numbers job m reached.ran reached.members));
       to_come = to_come_registered job m after t p n c a mode u s reached.to_come;
     }
 
@@ -512,6 +615,7 @@ begun_reached job m is begun = record {
   ran = opened_ran job m is begun.opened;
   modes = begun.modes;
   only_tasks = begun.only_tasks;
+  members = begun.members;
   to_come = record {
     offset = λ c u lt parent missing. begun.offset c u lt parent;
     nothing_begun = λ c lt missing. (begun.opened.tasks c lt).nothing_begun;

@@ -1,7 +1,7 @@
 -- A sink that joins now: the registration by its parent is an event of the run, and the moment
 -- after it is reachable.
-use Rattle.std.proofs.Common.{◌≡◌, ◌≢◌, ℕ, zero, suc, ◌+◌, ◌<◌, ◌≤◌, Bool, true, false, not, cond, eqb, List, [], ◌∷◌, ◌++◌, Option, Some, None, is_some, length, map, get_or, refl, sym, ap, subst, ◌∙◌, arith, ◌⊎◌, inl, inr}
-use Rattle.std.specs.List.{find, range_with_len}
+use Rattle.std.proofs.Common.{◌≡◌, ◌≢◌, ℕ, suc, ◌+◌, ◌<◌, ◌≤◌, Bool, true, false, not, cond, eqb, List, [], ◌∷◌, ◌++◌, Some, None, is_some, length, get_or, refl, sym, ap, subst, ◌∙◌, arith, ◌⊎◌, inl, inr}
+use Rattle.std.specs.List.{find}
 use Rattle.std.proofs.lemmas.Bool.{eqb-true, eq-eqb, ne_eqb}
 use Rattle.std.proofs.lemmas.Option.{same_Some}
 use Rattle.std.proofs.lemmas.List.{length-append, length-map, get_or-map, get_or_append_left}
@@ -9,33 +9,32 @@ use Rattle.phase_history.specs.phase_base.Members.{member}
 use Rattle.phase_history.specs.phase_base.declared.entry.Entry.{Entry}
 use Rattle.phase_history.specs.phase_base.declared.mode.Mode.TheVariants.{Wait}
 use Rattle.phase_history.specs.declared.event.Event.TheVariants.{RegisteredNow}
-use Rattle.phase_history.specs.Histories.{members_of, start_of, signal_phase, entry_at, done_of}
+use Rattle.phase_history.specs.Histories.{members_of, start_of, signal_phase, entry_at, done_of, has_dropped}
 use Rattle.phase_history.proofs.Used.{start_from, start_of-longer}
 use Rattle.stream_lists.specs.graph_base.declared.line.Kind.{Kind}
 use Rattle.stream_lists.specs.graph_base.declared.line.Kind.TheVariants.{Sink}
 use Rattle.stream_lists.specs.graph_base.declared.line.Parent.{Parent}
 use Rattle.stream_lists.specs.graph_base.declared.registration.Registration.{Registration}
-use Rattle.stream_lists.specs.graph_base.Graphs.{Task, task_at}
+use Rattle.stream_lists.specs.graph_base.Graphs.{task_at}
 use Rattle.stream_lists.specs.graph_base.Registrations.{no_registration}
 use Rattle.stream_lists.specs.graph_base.TaskLines.{IsGraph, IsTaskLine, IsParent, HasEnds}
 use Rattle.stream_lists.proofs.graph_base_lemmas.Registered.{registrations-phasers}
-use Rattle.stream_lists.specs.Jobs.{Job, index_in}
+use Rattle.stream_lists.specs.Jobs.{Job}
 use Rattle.stream_lists.specs.Spans.{signalled_by}
 use Rattle.stream_lists.proofs.Growing.{filter_map-same}
 use Rattle.stream_lists.proofs.SpansAbove.{parent-is}
 use Rattle.stream_lists.proofs.Ordered.{place-at}
-use Rattle.graph_runs.specs.Moments.{Moment, HasRun, OnLine, numbers_on, limits_at, input_at}
+use Rattle.graph_runs.specs.Moments.{Moment, HasRun, OnLine, numbers_on, limits_at}
 use Rattle.graph_runs.specs.Moves.{SameTask, RegistersNow}
-use Rattle.graph_runs.specs.Turned.{with_at, IsNextChild}
 use Rattle.graph_runs.proofs.OwnEvents.{eq_case}
 use Rattle.graph_runs.proofs.JoinsNow.{join_keeps}
 use Rattle.graph_runs.specs.TaskEvents.{child}
 use Rattle.graph_runs.specs.Nexts.{HasChildrenToCome, first_missing, has_registered, registrations_at}
-use Rattle.graph_runs.specs.Reached.{HasMode, HasModes, HasOnlyTasks, IsReachable}
+use Rattle.graph_runs.specs.Reached.{HasMode, HasModes, HasOnlyTasks, HasTaskMembers, IsReachable}
 use Rattle.graph_runs.proofs.PlacesLemmas.{find-some}
 use Rattle.graph_runs.proofs.Whose.{IsInOrder}
-use Rattle.graph_runs.proofs.Reaching.{get_or-any, one_registration, length-joined, missed}
-use Rattle.graph_runs.proofs.TurnRegistering.{no_peer, plain_outputs}
+use Rattle.graph_runs.proofs.Reaching.{get_or-any, one_registration, length-joined, missed, one_number, by_numbers, by_members}
+use Rattle.graph_runs.proofs.TurnRegistering.{plain_outputs}
 
 module _ (job : Job) (before after : Moment) (t p n c a : ℕ) (u : Parent) (is : IsGraph job.graph)
     (s : RegistersNow job before after t p n c a u) where
@@ -234,6 +233,19 @@ module _ (job : Job) (before after : Moment) (t p n c a : ℕ) (u : Parent) (is 
           ≤ length (numbers_on job before q) = few in
           omega arith
 
+  join_members : HasRun job before → HasRun job after → HasTaskMembers job before
+      → HasTaskMembers job after
+  join_members ran now members =
+      by_members job after now
+      (one_number job before after p c a s.child s.absent s.number s.other_numbers
+      (λ q apart. s.elsewhere q apart)
+      (λ x apart used. (let other : eqb a x ≡ false = ne_eqb a x (λ same. apart (sym same)) in
+      let is : is_some (start_of (RegisteredNow n a ∷ before.history p) x)
+      ≡ is_some (start_of (before.history p) x) = rw other refl in
+      sym is ∙ ap (λ h. is_some (start_of h x)) (sym s.here) ∙ used))
+      (λ x stays. ap (λ h. has_dropped h x) (sym s.here) ∙ stays)
+      (by_numbers job before ran members))
+
   -- a child that misses a registration afterwards is another, and missed it before
   still : (x : ℕ) → is_some (first_missing job after x) ≡ true
       → (is_some (first_missing job before x) ≡ true) × SameTask before after x
@@ -288,5 +300,6 @@ module _ (job : Job) (before after : Moment) (t p n c a : ℕ) (u : Parent) (is 
         ran = ran;
         modes = join_modes reached.ran ran pp missing reached.modes;
         only_tasks = join_tasks reached.only_tasks;
+        members = join_members reached.ran ran reached.members;
         to_come = join_to_come reached.to_come;
       }

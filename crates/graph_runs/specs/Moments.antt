@@ -1,7 +1,7 @@
 -- A moment of a run of a graph: what has happened on each phaser, and how far each task has come.
 -- It knows no time, no turns and no threads: `HasRun` is what holds of it after any events that the
 -- tasks have made in the order of their own steps.
-use Rattle.std.specs.Prelude.{◌≡◌, ℕ, suc, ◌+◌, ◌<◌, ◌≤◌, ◌%◌, ℤ, List, [], ◌∷◌, length, map, take, drop, get_or, Option, Some, None, Bool, true, false, ◌⊎◌, if◌then◌else◌}
+use Rattle.std.specs.Prelude.{◌≡◌, ℕ, suc, ◌+◌, ◌<◌, ◌≤◌, ◌%◌, ℤ, List, [], ◌∷◌, length, map, take, drop, get_or, Option, Some, None, Bool, true, false, ◌⊎◌}
 use Rattle.std.specs.List.{range_with_len, filter_map, All}
 use mathlib.Core.List.{IsPrefix}
 use Rattle.phase_history.specs.phase_base.Limits.{Limits, limits}
@@ -261,3 +261,18 @@ AnsweredNone value (Waited task phases ∷ before) =
     (take phases (drop (wait_phase before task) (stream_of value before)))
     × AnsweredNone value before
 AnsweredNone value (event ∷ before) = AnsweredNone value before
+
+-- no wait of this history but its last event was
+abbrev pub AnsweredNoneBefore : (List ℤ → Outcome) → History → Type 0
+AnsweredNoneBefore value [] = Unit {0}
+AnsweredNoneBefore value (event ∷ before) = AnsweredNone value before
+
+-- no wait of a run was answered a value that is too big
+abbrev pub HasAnsweredNone : Job → Moment → Type 0
+HasAnsweredNone job m = (p : ℕ) → p < length job.graph.phasers
+    → AnsweredNone (value_at job p) (m.history p)
+
+-- on each phaser no wait was, but for the last event there
+abbrev pub HasAnsweredNoneBefore : Job → Moment → Type 0
+HasAnsweredNoneBefore job m = (p : ℕ) → p < length job.graph.phasers
+    → AnsweredNoneBefore (value_at job p) (m.history p)

@@ -2,7 +2,7 @@
 use Rattle.std.specs.Prelude.{◌≡◌, ℕ, ◌+◌, ◌<◌, ◌≤◌, Some, length}
 use Rattle.std.specs.List.{All}
 use Rattle.phase_history.specs.phase_base.declared.entry.Entry.{Entry}
-use Rattle.phase_history.specs.Histories.{members_of, start_of}
+use Rattle.phase_history.specs.Histories.{members_of, start_of, IsAlive}
 use Rattle.stream_lists.specs.graph_base.declared.line.Parent.{Parent}
 use Rattle.stream_lists.specs.graph_base.declared.registration.Registration.{Registration}
 use Rattle.stream_lists.specs.graph_base.Graphs.{task_at}
@@ -25,11 +25,21 @@ abbrev pub HasOnlyTasks : Job → Moment → Type 0
 HasOnlyTasks job m = (p : ℕ) → p < length job.graph.phasers
     → length (members_of (m.history p)) ≤ length (numbers_on job m p)
 
+-- some task has this number on phaser p
+abbrev pub IsOfTask : Job → Moment → ℕ → ℕ → Type 0
+IsOfTask job m p n = (t : ℕ) × (t < length job.graph.tasks) × (m.number p t ≡ Some n)
+
+-- each member of a phaser is a task
+abbrev pub HasTaskMembers : Job → Moment → Type 0
+HasTaskMembers job m = (p n : ℕ) → p < length job.graph.phasers → IsAlive (m.history p) n
+    → IsOfTask job m p n
+
 -- a run at its opening, whose founders have left, and whose tasks have the modes of their lines
 pub record HasBegun (job : Job) (m : Moment) : Type 0 where
   pub opened : HasOpened job m
   pub modes : HasModes job m
   pub only_tasks : HasOnlyTasks job m
+  pub members : HasTaskMembers job m
   pub offset : (c : ℕ) (u : Parent) → c < length job.graph.tasks
       → (task_at job.graph c).parent ≡ Some u → m.offset c ≡ m.offset u.task + u.at
 
@@ -38,4 +48,5 @@ pub record IsReachable (job : Job) (m : Moment) : Type 0 where
   pub ran : HasRun job m
   pub modes : HasModes job m
   pub only_tasks : HasOnlyTasks job m
+  pub members : HasTaskMembers job m
   pub to_come : HasChildrenToCome job m

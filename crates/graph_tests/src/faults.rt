@@ -5,19 +5,19 @@ use std::test::Fail;
 use stream_job::graph_base::Place;
 
 /// A graph with a `?` for the bound of each phaser, the samples of its sources, where a value is out
-/// of range, and what the sinks have by then, or nothing where that is open.
+/// of range first, and what the sinks have by then.
 struct Case {
     name: &'static str,
     graph: &'static str,
     samples: &'static [&'static str],
     place: Place,
     phase: u64,
-    lines: Option<&'static str>,
+    lines: &'static str,
 }
 
 const BOUNDS: [u64; 4] = [1, 2, 4, 64];
 
-const CASES: [Case; 4] = [
+const CASES: [Case; 5] = [
     Case {
         name: "an output out of range is told",
         graph: "phaser X sum ?\nphaser Y sum ?\nsource s s.csv -> X\n\
@@ -25,7 +25,7 @@ const CASES: [Case; 4] = [
         samples: &["9223372036854775807\n"],
         place: Place::Task(1),
         phase: 0,
-        lines: Some("2:\n"),
+        lines: "2:\n",
     },
     Case {
         name: "an output out of range is the last",
@@ -34,7 +34,7 @@ const CASES: [Case; 4] = [
         samples: &["9223372036854775807\n3\n"],
         place: Place::Task(1),
         phase: 0,
-        lines: Some("2:\n"),
+        lines: "2:\n",
     },
     // The second output is half of three times the sample.
     Case {
@@ -44,7 +44,7 @@ const CASES: [Case; 4] = [
         samples: &["9223372036854775807\n9223372036854775807\n"],
         place: Place::Task(1),
         phase: 1,
-        lines: Some("2: 4611686018427387903\n"),
+        lines: "2: 4611686018427387903\n",
     },
     Case {
         name: "a phase out of range is told where it is taken",
@@ -52,7 +52,19 @@ const CASES: [Case; 4] = [
         samples: &["5\n9223372036854775807\n", "6\n1\n"],
         place: Place::Phaser(0),
         phase: 1,
-        lines: None,
+        lines: "2: 11\n",
+    },
+    // The sums are 11, one more than the greatest value, 2, and that one again.
+    Case {
+        name: "the first of two phases out of range is told",
+        graph: "phaser X sum ?\nsource a a.csv -> X\nsource b b.csv -> X\nsink out X\n",
+        samples: &[
+            "5\n9223372036854775807\n1\n9223372036854775807\n",
+            "6\n1\n1\n1\n",
+        ],
+        place: Place::Phaser(0),
+        phase: 1,
+        lines: "2: 11\n",
     },
 ];
 
@@ -64,8 +76,7 @@ fn a_value_out_of_range_is_told(rt: HostRuntime) -> Result<(), Fail> {
             let graph = at_bound(rt.alloc(), case.graph, bound)?;
             let (round, lines) = ran(rt.alloc(), &graph, case.samples)?;
             let told = (round, lines.as_str());
-            let lines = case.lines.unwrap_or(lines.as_str());
-            let wanted = (Round::TooBig { place, phase }, lines);
+            let wanted = (Round::TooBig { place, phase }, case.lines);
             assert_eq!(rt; told, wanted, "{}: in rotation, bound {bound}", case.name);
             let (round, lines) = given(rt.alloc(), &graph, case.samples)?;
             let told = (round, lines.as_str());

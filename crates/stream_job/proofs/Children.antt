@@ -39,6 +39,7 @@ use Rattle.stream_job.specs.declared.machine.Machine.{Machine}
 use Rattle.stream_job.specs.declared.task_state.TaskState.{TaskState}
 use Rattle.stream_job.specs.declared.made.Made.TheVariants.{Event}
 use Rattle.stream_job.specs.declared.turned.Turned.TheVariants.{Moved}
+use Rattle.stream_job.proofs.SinksKeep.{lines_stay}
 use Rattle.stream_job.proofs.Ending.{all_numbered, number-at}
 use Rattle.stream_job.proofs.Lively.{live_next, phaser_there}
 use Rattle.stream_job.proofs.WhatNext.{Doing, owing, parent, leaving, stepping, doing, step_is, begins_is}
@@ -253,7 +254,8 @@ child_turn job old new t c p n a mode state numbers next found phaser in_mode nu
           cores = cores m at;
           tasks_many = omega arith;
           tasks = λ u s read. all u s (subst (λ xs. slice_get xs u ≡ Some s) tasks read);
-          lines = ap (λ l. map sink_values l.items) lines ∙ at.lines;
+          lines = ap (λ l. map sink_values l.items) lines ∙ at.lines
+              ∙ lines_stay job m old t event at (answer m at) tt;
           room = subst (λ l. All (HasRoom job) l.items) (sym lines) at.room;
         }
 

@@ -18,6 +18,7 @@ use Rattle.graph_runs.specs.TaskPlaces.{child_of}
 use Rattle.graph_runs.proofs.Whose.{task_of, made_by}
 use Rattle.graph_runs.proofs.PlacesFollow.{others_follow}
 use Rattle.graph_runs.specs.Steps.{HasFilter}
+use Rattle.stream_job.specs.SinkLines.{kept_by}
 use Rattle.stream_job.specs.Places.{IsTaskAt, place_of}
 use Rattle.stream_job.specs.Machines.{IsMachineAt, HasCores, HasRoom, UsesFew}
 use Rattle.stream_job.specs.declared.machine.Machine.{Machine}
@@ -87,7 +88,7 @@ pub after_own : (job : Job) (m : Moment) (old new : Machine) (t : ℕ) (event : 
     → new.tasks.items ≡ set old.tasks.items t state
     → IsTaskAt job (after_turn job event m) t state
     → map sink_values new.lines.items
-    ≡ map (λ u. (u, (after_turn job event m).taken u 0)) (sinks_of job)
+    ≡ map (λ u. (u, kept_by job (after_turn job event m) u)) (sinks_of job)
     → All (HasRoom job) new.lines.items
     → IsMachineAt job (after_answer job (answer_of_turn job m t) m) new
 after_own job m old new t event state at answer none there reached few cores tasks here lines room =

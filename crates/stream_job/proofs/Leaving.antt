@@ -22,6 +22,7 @@ use Rattle.stream_job.specs.declared.machine.Machine.{Machine}
 use Rattle.stream_job.specs.declared.task_state.TaskState.{TaskState}
 use Rattle.stream_job.specs.declared.made.Made.TheVariants.{Event}
 use Rattle.stream_job.specs.declared.turned.Turned.{Turned}
+use Rattle.stream_job.proofs.SinksKeep.{lines_stay}
 use Rattle.stream_job.proofs.Lively.{LeavesAt, leaves_at, leaves_now}
 use Rattle.stream_job.proofs.Setting.{read_same}
 use Rattle.phase_core.specs.phase_history.declared.refusal.NoTask.{NoTask}
@@ -93,7 +94,8 @@ left_turn job old new t p number state told next found phaser numbered accepted 
         after_own job m old new t (leave t p number) (left_once state) at (answer m at) refl
         (place m at).there (next.stays m at) (next.few m at) (cores m at) tasks
         (record { stands = stands m at; room = it.room; filter = it.filter; sink = it.sink })
-        (ap (λ l. map sink_values l.items) lines ∙ at.lines)
+        (ap (λ l. map sink_values l.items) lines ∙ at.lines
+        ∙ lines_stay job m old t (leave t p number) at (answer m at) tt)
         (subst (λ l. All (HasRoom job) l.items) (sym lines) at.room)
 
 -- what the drop of a task that leaves is answered

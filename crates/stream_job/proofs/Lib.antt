@@ -1,5 +1,6 @@
 pub mod Events
 pub mod Leaving
+pub mod LinesBegin
 pub mod Lively
 pub mod OpeningPhasers
 pub mod OpeningTasks
@@ -12,6 +13,7 @@ pub mod InTurn
 pub mod Setting
 pub mod Signals
 pub mod SinkLines
+pub mod SinksKeep
 pub mod TaskLists
 pub mod Tellings
 pub mod Waits

@@ -30,17 +30,19 @@ use Rattle.stream_job.specs.Inside.{HasRoomIn, IsNextIn}
 use Rattle.stream_job.specs.Machines.{IsMachineAt, HasRoom}
 use Rattle.stream_job.specs.declared.machine.Machine.{Machine}
 use Rattle.stream_job.specs.declared.task_state.TaskState.{TaskState}
+use Rattle.stream_job.specs.SinkLines.{kept_by}
+use Rattle.stream_job.proofs.SinksKeep.{kept_within}
 use Rattle.stream_job.proofs.Lively.{live_next}
 use Rattle.stream_job.proofs.Waits.{sink_kind, first_few}
 use Rattle.stream_job.proofs.WhatNext.{Begins, waits_begins}
 
--- the line of a sink is its task's, with what the task has taken
+-- the line of a sink is its task's, with what the task keeps
 line_is : (job : Job) (m : Moment) (machine : Machine) (i t : ℕ) (line : Lines)
     → IsMachineAt job m machine → slice_get (sinks_of job) i ≡ Some t
     → slice_get machine.lines.items i ≡ Some line
-    → sink_values line ≡ (t, m.taken t 0)
+    → sink_values line ≡ (t, kept_by job m t)
 line_is job m machine i t line at sink found =
-    let f : ℕ → ℕ × List ℤ = λ u. (u, m.taken u 0) in
+    let f : ℕ → ℕ × List ℤ = λ u. (u, kept_by job m u) in
     let none : ℕ × List ℤ = (0, []) in
     sym (ap sink_values (get_or_from_slice_get machine.lines.items i line line found))
     ∙ sym (get_or-map sink_values machine.lines.items i line none
@@ -98,14 +100,16 @@ sink_room job old m t k p n outcome state sink next at found is answer =
     room : (i : ℕ) → slice_get (sinks_of job) i ≡ Some t → (task_at job.graph t).kind ≡ Sink
         → HasRoomIn old.lines.items i
     room i place kind = λ line read.
-        let here : sink_values line ≡ (t, m.taken t 0) =
+        let here : sink_values line ≡ (t, kept_by job m t) =
         line_is job m old i t line at place read in
         let owner : line.task ≡ t = ap (λ x. x.0) here in
-        let long : length line.values.items ≡ length (m.taken t 0) = ap (λ x. length x.1) here in
+        let long : length line.values.items ≡ length (kept_by job m t) = ap (λ x. length x.1) here in
         let b : Begins job m t k = waits_begins job m t k (next.is m at) in
         let some : 0 < length (task_at job.graph t).inputs =
         has_inputs (task_at job.graph t).kind (length (task_at job.graph t).inputs)
         (length (task_at job.graph t).outputs) (at.graph.tasks t live.there).ends b.kind in
+        let less : length (kept_by job m t) ≤ length (m.taken t 0) =
+        kept_within job m t at.reached.ran live.there some in
         let all : length (m.taken t 0) ≡ takes_from (task_at job.graph t) (m.begun t) 0 =
         all_taken job m t at.graph (at.reached.ran.tasks t live.there) live.there b.step.none 0 some in
         let plain : takes_from (task_at job.graph t) (m.begun t) 0 ≡ m.begun t = rw kind refl in

@@ -47,6 +47,7 @@ use Rattle.graph_lang.specs.graph_base.declared.line.Kind.TheVariants.{Source, F
 use Rattle.stream_eval.specs.stream_lists.Spans.{puts_on}
 use Rattle.graph_runs.proofs.Boundaries.{made_many}
 use Rattle.graph_runs.specs.declared.owed.Owed.TheVariants as code
+use Rattle.stream_job.proofs.SinksKeep.{lines_stay}
 use Rattle.stream_job.proofs.Ending.{number_of_output}
 use Rattle.stream_job.proofs.Lively.{live_next}
 use Rattle.stream_job.proofs.WhatNext.{signals_owes, signals_step, samples_begins}
@@ -255,7 +256,8 @@ signalled_turn job old new t j number p phase x state owed next found phaser num
         after_own job m old new t event (with_owed state owed) at (answer m at) refl
         (signals_at job old m t j state next at found).there (next.stays m at) (next.few m at) (cores m at)
         tasks (record { stands = stands; room = it.room; filter = it.filter; sink = it.sink })
-        (ap (λ l. map sink_values l.items) lines ∙ at.lines)
+        (ap (λ l. map sink_values l.items) lines ∙ at.lines
+        ∙ lines_stay job m old t event at (answer m at) tt)
         (subst (λ l. All (HasRoom job) l.items) (sym lines) at.room)
 
 -- a signal that the phaser would not take now
@@ -572,7 +574,8 @@ sampled_turn job old new t number p phase x state next found phaser numbered val
         after_own job m old new t event (with_begun state (state.begun + 1)) at (answer m at) refl
         (samples_at_place job old m t state next at found).there (next.stays m at) (next.few m at) (cores m at)
         tasks (record { stands = stands; room = it.room; filter = it.filter; sink = it.sink })
-        (ap (λ l. map sink_values l.items) lines ∙ at.lines)
+        (ap (λ l. map sink_values l.items) lines ∙ at.lines
+        ∙ lines_stay job m old t event at (answer m at) tt)
         (subst (λ l. All (HasRoom job) l.items) (sym lines) at.room)
 
 pub blocked_sample : (job : Job) (old new : Machine) (t number p : ℕ) (x : ℤ)

@@ -6,26 +6,31 @@ use Rattle.graph_lang.specs.graph_base.Graphs.{task_at}
 use Rattle.graph_lang.specs.graph_base.TaskLines.{IsGraph}
 use Rattle.stream_eval.specs.stream_lists.Jobs.{Job}
 use Rattle.stream_eval.specs.stream_lists.Ranges.{Where}
-use Rattle.graph_runs.specs.Moments.{Moment, input_at}
+use Rattle.graph_runs.specs.Moments.{Moment, HasRun, HasAnsweredNone, input_at, started}
+use Rattle.graph_runs.specs.Settled.{IsFaultAt}
+use Rattle.graph_runs.proofs.AnsweredInTurn.{turn_answers_none, turn_answers_one}
+use Rattle.graph_runs.proofs.ToldFaults.{told_fault}
 use Rattle.graph_runs.proofs.OnLines.{on_phaser}
-use Rattle.graph_runs.specs.TaskEvents.{TaskEvent, IsNext, sample, signal, first_wait, exchange_wait, leave, child}
+use Rattle.graph_runs.specs.TaskEvents.{TaskEvent, IsNext, sample, signal, first_wait, exchange_wait, leave, child, after_turn}
 use Rattle.graph_runs.specs.Nexts.{Next, is_not_live, registers, leaves, samples, signals, waits, exchanges, next_of}
-use Rattle.graph_runs.specs.Answers.{Answer, makes, is_blocked, is_gone, has_made, is_refused, answer_to, answer_of_turn, after_answer, word_of_answer, turn_tells, was_blocked}
+use Rattle.graph_runs.specs.Answers.{Answer, Moved, Blocked, Ended, Gone, TooBig, makes, is_blocked, is_gone, has_made, is_refused, answer_to, answer_of_turn, after_answer, word_of_answer, turn_tells, was_blocked}
 use Rattle.graph_runs.specs.Reached.{IsReachable}
 use Rattle.graph_runs.proofs.Signalling.{live-is}
 use Rattle.graph_runs.proofs.Turning.{turn_makes_next}
 use Rattle.graph_runs.proofs.Outputs.{output_there}
 use Rattle.stream_job.specs.Machines.{IsMachineAt}
 use Rattle.stream_job.specs.Blocking.{called_on, AreBlocked}
-use Rattle.stream_job.specs.Turning.{Shows, HadTurn, after_turn_of, phaser_of, parked_after, parked_by, told_of}
+use Rattle.stream_job.specs.Turning.{Shows, HadTurn, after_turn_of, met_by, phaser_of, parked_after, parked_by, told_of}
 use Rattle.stream_job.specs.Parking.{with_task}
-use Rattle.stream_job.specs.Worlds.{WorldState, IsWorldAt}
+use Rattle.stream_job.specs.Worlds.{WorldState, HasMet, IsWorldAt}
 use Rattle.stream_job.specs.Tellings.{told_by, parked_with, IsOnPhaser}
 use Rattle.stream_job.specs.declared.machine.Machine.{Machine}
 use Rattle.stream_job.specs.declared.made.Made.{Made}
 use Rattle.stream_job.specs.declared.made.Made.TheVariants as made
 use Rattle.stream_job.specs.declared.turned.Turned.{Turned}
+use Rattle.stream_job.specs.declared.turned.Turned.TheVariants as turned
 use Rattle.stream_job.proofs.BlockedLists.{blocked_after}
+use Rattle.stream_job.proofs.LinesBegin.{turn_begins}
 use Rattle.stream_job.proofs.Lively.{live_next}
 use Rattle.stream_job.proofs.Stalling.{leave_moves, register_moves}
 use Rattle.stream_job.proofs.Stepping.{sample_output, signal_output, wait_input, exchange_input}
@@ -213,19 +218,68 @@ turn_blocks_so job old new m t it parked after had same at were =
     (sym (same ∙ parks_so job m t (answer_of_turn job m t) it parked (had.shows m at)))
     (blocked_after job m old t parked at were)
 
+-- no event sets where a task begins
+started_same : (job : Job) (m : Moment) (answer : Answer)
+    → started job (after_answer job answer m) ≡ started job m
+started_same job m (makes (sample t j p n v)) = refl
+started_same job m (makes (signal t j p n v)) = refl
+started_same job m (makes (first_wait t k p n outcome)) = refl
+started_same job m (makes (exchange_wait t p n outcome)) = refl
+started_same job m (makes (leave t p n)) = refl
+started_same job m (makes (child t p n c a mode)) = refl
+started_same job m is_blocked = refl
+started_same job m is_gone = refl
+started_same job m (has_made at) = refl
+started_same job m is_refused = refl
+
+-- what a world has met after the turn
+pub turn_met_so : (job : Job) (old new : Machine) (m : Moment) (t : ℕ) (it : Made)
+    (word : Turned) → HadTurn job old new t it → IsMachineAt job m old → HasAnsweredNone job m
+    → turn_tells job None m t ≡ Some (told_of word)
+    → HasMet job (after_answer job (answer_of_turn job m t) m) (met_by None word)
+turn_met_so job old new m t it word had at none told = by word told
+  where
+    kept : ((there : Where) → turn_tells job None m t ≢ Some (TooBig there))
+        → HasAnsweredNone job (after_answer job (answer_of_turn job m t) m)
+    kept never = turn_answers_none job m t at.graph at.reached none never
+
+    runs : (event : TaskEvent) → answer_of_turn job m t ≡ makes event
+        → HasRun job (after_turn job event m)
+    runs event e =
+        (subst (λ a. IsMachineAt job (after_answer job a m) new) e (had.after m at)).reached.ran
+
+    by : (word : Turned) → turn_tells job None m t ≡ Some (told_of word)
+        → HasMet job (after_answer job (answer_of_turn job m t) m) (met_by None word)
+    by turned.Moved told = kept (λ there same. (let wrong : Some Moved ≡ Some (TooBig there) = sym told ∙ same in cc))
+    by turned.Blocked told = kept (λ there same. (let wrong : Some Blocked ≡ Some (TooBig there) = sym told ∙ same in cc))
+    by turned.Ended told = kept (λ there same. (let wrong : Some Ended ≡ Some (TooBig there) = sym told ∙ same in cc))
+    by turned.Gone told = kept (λ there same. (let wrong : Some Gone ≡ Some (TooBig there) = sym told ∙ same in cc))
+    by (turned.TooBig place phase) told = record {
+      fault = subst (λ j. IsFaultAt j (place, phase))
+          (sym (started_same job m (answer_of_turn job m t)))
+          (told_fault job m t (place, phase) (record { graph = at.graph; apart = at.apart })
+          at.reached runs told);
+      last = turn_answers_one job m t none;
+      lines = turn_begins job m old t at none;
+    }
+
 -- the world stands at the moment after the turn
 pub turn_stands_so : (world : WorldState) (new : Machine) (parked : List (List ℕ))
-    (met : Option Where) (m : Moment) (t : ℕ) (it : Made) → world.met ≡ None
+    (met : Option Where) (m : Moment) (t : ℕ) (it : Made) (word : Turned) → world.met ≡ None
     → HadTurn world.job world.machine new t it → parked ≡ parked_with it t world.parked
-    → IsWorldAt world m
+    → word ≡ told_by it t → met ≡ met_by None word → IsWorldAt world m
     → IsWorldAt record { job = world.job; machine = new; met = met; parked = parked }
     (after_turn_of world m t)
-turn_stands_so world new parked met m t it none had same at =
+turn_stands_so world new parked met m t it word none had same says as_told at =
     subst (IsWorldAt record { job = world.job; machine = new; met = met; parked = parked })
     (sym (as_is world none)) record {
       machine = had.after m at.machine;
       parked = turn_blocks_so world.job world.machine new m t it world.parked parked had same
           at.machine at.parked;
+      met = subst (HasMet world.job (after_answer world.job (answer_of_turn world.job m t) m))
+          (sym as_told) (turn_met_so world.job world.machine new m t it word had at.machine
+          (subst (HasMet world.job m) none at.met)
+          (turn_tells_so world.job None m t it word refl (had.shows m at.machine) says));
     }
   where
     as_is : (world : WorldState) → world.met ≡ None

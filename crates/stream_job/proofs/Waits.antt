@@ -4,7 +4,7 @@ use Rattle.std.specs.Prelude.{Result, Ok, Err, nat_lt, IfSome}
 use Rattle.std.specs.List.{All}
 use Rattle.std.proofs.lemmas.List.{length-map}
 use Rattle.std.proofs.lemmas.Option.{slice_get_within}
-use Rattle.std.proofs.lemmas.Bool.{eq-eqb, eqb-true, ne_eqb}
+use Rattle.std.proofs.lemmas.Bool.{eq-eqb, eqb-true}
 use Rattle.phase_core.specs.phase_accum.declared.outcome.Outcome.{Outcome}
 use Rattle.phase_core.specs.phase_accum.declared.outcome.Outcome.TheVariants as outcomes
 use Rattle.phase_core.specs.phase_base.Limits.{Limits}
@@ -51,7 +51,8 @@ use Rattle.stream_job.specs.declared.machine.Machine.{Machine}
 use Rattle.stream_job.specs.declared.task_state.TaskState.{TaskState}
 use Rattle.stream_job.specs.declared.made.Made.TheVariants.{Event, Blocked}
 use Rattle.stream_job.specs.declared.turned.Turned.{Turned}
-use Rattle.stream_job.proofs.SinkLines.{map_same, one_line, no_line}
+use Rattle.stream_job.specs.SinkLines.{kept_by, line_of}
+use Rattle.stream_job.proofs.SinksKeep.{lines_keep, lines_stay, no_line_of}
 use Rattle.stream_job.proofs.Ending.{number_of_input}
 use Rattle.stream_job.proofs.Lively.{live_next}
 use Rattle.stream_job.proofs.WhatNext.{InStep, waits_begins, exchanges_owes}
@@ -313,8 +314,7 @@ exchanged_turn job old new t n p phase x outcome state owed told next found phas
           sink = it.sink;
         })
         (ap (λ l. map sink_values l.items) lines ∙ at.lines
-        ∙ map_same (λ u. (u, m.taken u 0)) (λ u. (u, (after_turn job event m).taken u 0))
-        (sinks_of job) (λ u. ap (λ l. (u, l)) (sym (stays m u))))
+        ∙ lines_stay job m old t event at (answer m at) tt)
         (subst (λ l. All (HasRoom job) l.items) (sym lines) at.room)
 
 -- a wait that the phaser would not take now
@@ -354,7 +354,7 @@ never_ended job old t n p state next found phaser numbered reply =
 -- ---- the first wait of a step
 
 -- what the task takes is on its first input where that is looked at by a filter or a sink
-first_is : (job : Job) (m : Moment) (t k n p : ℕ) (outcome : Outcome) → k ≡ 0
+pub first_is : (job : Job) (m : Moment) (t k n p : ℕ) (outcome : Outcome) → k ≡ 0
     → (after_turn job (first_wait t k p n outcome) m).taken t 0
     ≡ m.taken t 0 ++ number outcome ∷ []
 first_is job m t k n p outcome first =
@@ -362,12 +362,6 @@ first_is job m t k n p outcome first =
     ≡ m.taken t 0 ++ number outcome ∷ []) (sym first)
     (ap (λ b. cond b (with_at 0 (m.taken t 0 ++ number outcome ∷ []) (m.taken t)) (m.taken t) 0)
     (eq-eqb t t refl))
-
-first_other : (job : Job) (m : Moment) (t k n p : ℕ) (outcome : Outcome) (u : ℕ) → u ≢ t
-    → m.taken u 0 ≡ (after_turn job (first_wait t k p n outcome) m).taken u 0
-first_other job m t k n p outcome u apart =
-    sym (ap (λ b. cond b (with_at k (m.taken t k ++ number outcome ∷ []) (m.taken t)) (m.taken u) 0)
-    (ne_eqb u t apart))
 
 pub sink_kind : (kind : Kind) → is_sink kind ≡ true → kind ≡ Sink
 sink_kind Sink e = refl
@@ -378,7 +372,7 @@ sink_kind Join e = absurd (cc)
 sink_kind Peer e = absurd (cc)
 
 -- a filter's first input is its only one, as a sink's
-zero_first : (task : Task) (b k : ℕ) (kind : Kind) → task.kind ≡ kind → kind ≢ Join
+pub zero_first : (task : Task) (b k : ℕ) (kind : Kind) → task.kind ≡ kind → kind ≢ Join
     → k ≡ first_input task b → k ≡ 0
 zero_first task b k kind is not first = first ∙ by kind is not
   where
@@ -442,7 +436,7 @@ pub first_turn : (job : Job) (old new : Machine) (t k n p phase : ℕ) (outcome 
     → HasCores job (with_at p (Waited n 1 ∷ m.history p) m.history) new.cores.items)
     → new.tasks.items ≡ set old.tasks.items t took
     → map sink_values new.lines.items
-    ≡ with_line sink (number outcome) (map sink_values old.lines.items)
+    ≡ with_line (line_of sink outcome) (number outcome) (map sink_values old.lines.items)
     → (All (HasRoom job) old.lines.items → All (HasRoom job) new.lines.items)
     → told_of told ≡ told_got p phase outcome
     → HadTurn job old new t (Event p told)
@@ -478,20 +472,18 @@ first_turn job old new t k n p phase outcome state took sink told next found pha
         (has.filter (m.taken t 0) (at.tasks t state found).filter) fir
 
     sink_lines : (m : Moment) (at : IsMachineAt job m old) (b : Bool) → is_sink_at job t ≡ b
-        → with_line (cond b (Some state.sink) None) (number outcome)
-        (map (λ u. (u, m.taken u 0)) (sinks_of job))
-        ≡ map (λ u. (u, (after_turn job event m).taken u 0)) (sinks_of job)
+        → with_line (line_of (cond b (Some state.sink) None) outcome) (number outcome)
+        (map (λ u. (u, kept_by job m u)) (sinks_of job))
+        ≡ map (λ u. (u, kept_by job (after_turn job event m) u)) (sinks_of job)
     sink_lines m at true e =
         let kind = sink_kind (task_at job.graph t).kind e in
-        one_line (is_sink_at job) (length job.graph.tasks) state.sink t (number outcome)
-        (λ u. m.taken u 0) (λ u. (after_turn job event m).taken u 0)
+        lines_keep job m old t k p n state.sink outcome at (answer m at)
+        (zero_first (task_at job.graph t) (m.begun t) k Sink kind (λ e. absurd (cc)) (first m at))
         ((at.tasks t state found).sink kind)
-        (first_is job m t k n p outcome (zero_first (task_at job.graph t) (m.begun t) k Sink kind
-        (λ e. absurd (cc)) (first m at)))
-        (first_other job m t k n p outcome)
     sink_lines m at false e =
-        no_line (is_sink_at job) (length job.graph.tasks) t (λ u. m.taken u 0)
-        (λ u. (after_turn job event m).taken u 0) e (first_other job m t k n p outcome)
+        ap (λ o. with_line o (number outcome) (map (λ u. (u, kept_by job m u)) (sinks_of job)))
+        (no_line_of outcome)
+        ∙ lines_stay job m old t event at (answer m at) e
 
     after : (m : Moment) → IsMachineAt job m old
         → IsMachineAt job (after_answer job (answer_of_turn job m t) m) new
@@ -512,8 +504,9 @@ first_turn job old new t k n p phase outcome state took sink told next found pha
           sink = λ kind. ap (slice_get (sinks_of job)) has.sink ∙ it.sink kind;
         })
         (lines
-        ∙ ap (with_line sink (number outcome)) at.lines
-        ∙ ap (λ o. with_line o (number outcome) (map (λ u. (u, m.taken u 0)) (sinks_of job))) sinks
+        ∙ ap (with_line (line_of sink outcome) (number outcome)) at.lines
+        ∙ ap (λ o. with_line (line_of o outcome) (number outcome)
+        (map (λ u. (u, kept_by job m u)) (sinks_of job))) sinks
         ∙ sink_lines m at (is_sink_at job t) refl)
         (room at.room)
 
@@ -566,7 +559,7 @@ sink_there job old m t state sink at found is =
     by true e =
         let lt = slice_get_within (sinks_of job) state.sink t
         ((at.tasks t state found).sink (sink_kind (task_at job.graph t).kind e)) in
-        let f : ℕ → ℕ × List ℤ = λ u. (u, m.taken u 0) in
+        let f : ℕ → ℕ × List ℤ = λ u. (u, kept_by job m u) in
         let many : length (map sink_values old.lines.items) ≡ length (map f (sinks_of job)) =
         ap length at.lines in
         let one = length-map old.lines.items sink_values in

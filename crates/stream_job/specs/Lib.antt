@@ -6,6 +6,7 @@ pub mod Parking
 pub mod Places
 pub mod Plans
 pub mod Runs
+pub mod SinkLines
 pub mod Stalls
 pub mod TaskLists
 pub mod Tellings

@@ -16,6 +16,7 @@ use Rattle.stream_job.specs.declared.any_core.AnyCore.{AnyCore}
 use Rattle.graph_runs.specs.Reached.{IsReachable}
 use Rattle.graph_runs.specs.Nexts as turns
 use Rattle.stream_job.specs.Places.{IsTaskAt}
+use Rattle.stream_job.specs.SinkLines.{kept_by}
 use Rattle.stream_job.specs.declared.machine.Machine.{Machine}
 use Rattle.stream_job.specs.declared.step.Step.{Step}
 use Rattle.stream_job.specs.declared.step.Step.TheVariants as step
@@ -42,7 +43,7 @@ abbrev pub HasRoom : Job → Lines → Type 0
 HasRoom job line = (span_in (least job) line.task).steps ≤ vec_capacity line.values
 
 -- the machine stands at a moment that turns lead to: each core has the history of its phaser, each
--- task is in its state, and the lines are what the sinks have taken
+-- task is in its state, and the lines are what the sinks keep
 pub record IsMachineAt (job : Job) (m : Moment) (machine : Machine) : Type 0 where
   pub graph : IsGraph job.graph
   pub apart : meeting_line job ≡ None
@@ -52,7 +53,7 @@ pub record IsMachineAt (job : Job) (m : Moment) (machine : Machine) : Type 0 whe
   pub tasks_many : length machine.tasks.items ≡ length job.graph.tasks
   pub tasks : (t : ℕ) (state : TaskState) → slice_get machine.tasks.items t ≡ Some state
       → IsTaskAt job m t state
-  pub lines : map sink_values machine.lines.items ≡ map (λ t. (t, m.taken t 0)) (sinks_of job)
+  pub lines : map sink_values machine.lines.items ≡ map (λ t. (t, kept_by job m t)) (sinks_of job)
   pub room : All (HasRoom job) machine.lines.items
 
 -- the machine stands at some moment

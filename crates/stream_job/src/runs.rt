@@ -1,9 +1,9 @@
 //! Runs of a graph by given turns.
-ghost use Rattle.std.specs.Prelude.{◌≡◌, ℕ, None, Err, IfOk};
+ghost use Rattle.std.specs.Prelude.{◌≡◌, ℕ, None, Err, IfOk, OnOk};
 ghost use Rattle.graph_lang.specs.graph_base.declared.place.Place.{Place as PlaceValue};
 ghost use Rattle.graph_runs.specs.Answers.{after_turns};
 ghost use Rattle.graph_runs.specs.Beginnings.{opening};
-ghost use Rattle.stream_job.specs.Runs.{TellsTooBig};
+ghost use Rattle.stream_job.specs.Runs.{TellsNone, TellsTooBig};
 ghost use Rattle.stream_job.specs.Worlds.{IsWorldAt};
 
 use crate::turned::Turned;
@@ -42,7 +42,7 @@ impl From<AllocError> for RunTurnsFault {
 
 /// Makes a run of a job at its opening, and gives the tasks of these numbers a turn each, one after
 /// the other. A number may come more than once; a turn of a task that is not live, or not there,
-/// changes nothing. The first value out of range ends the run.
+/// changes nothing. The first value out of range ends the run, and is named.
 ///
 /// It takes memory as `World::new` and `World::turn` do.
 pub fn run_turns<'a>(
@@ -54,6 +54,7 @@ pub fn run_turns<'a>(
     ensures after { IfOk result (λ world.
         IsWorldAt world (after_turns job.now (opening job.now) turns.now)) }
     ensures met { IfOk result (λ world. world.met ≡ None) }
+    ensures none { OnOk result (TellsNone job.now turns.now) }
     ensures too_big { (place : PlaceValue) (phase : ℕ)
         → result ≡ Err (RunTurnsFault.TooBig place phase)
         → TellsTooBig job.now turns.now (place, phase) }

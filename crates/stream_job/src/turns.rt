@@ -9,6 +9,7 @@ ghost use Rattle.graph_runs.specs.Nexts.{is_live, number_on};
 ghost use Rattle.stream_job.specs.Turning.{IsRegistration, HadTurn, told_of};
 ghost use Rattle.stream_job.specs.Inside.{IsNextIn, told_got, with_line, HasRoomIn};
 ghost use Rattle.stream_job.specs.Plans.{IsPlan};
+ghost use Rattle.stream_job.specs.SinkLines.{line_of};
 ghost use Rattle.stream_eval.specs.stream_lists.Jobs.{Job as JobValue};
 ghost use Rattle.stream_eval.specs.stream_lists.Lists.{is_sink_at};
 ghost use Rattle.stream_eval.specs.Results.{sink_values};
@@ -164,8 +165,9 @@ impl Machine {
         match self.wait_on(job, phaser, number) {
             Ok(Got::Value { phase, outcome }) => {
                 let x = number_taken(outcome);
+                let line = line_of(sink, outcome);
                 self.tasks[t].take(job, t, x);
-                self.keep_line(sink, x);
+                self.keep_line(line, x);
                 Made::Event {
                     phaser,
                     told: told_wait(phaser, phase, outcome),
@@ -271,6 +273,16 @@ impl Machine {
             }
         }
         0
+    }
+}
+
+/// The place of a sink's line, where the sink keeps this: any but a value that is too big.
+fn line_of(sink: Option<usize>, outcome: Outcome) -> Option<usize>
+    ensures { result ≡ line_of sink outcome }
+{
+    match outcome {
+        Outcome::TooBig => None,
+        _ => sink,
     }
 }
 

@@ -1,10 +1,14 @@
 //! A run of a graph on one thread.
-ghost use Rattle.std.specs.Prelude.{◌≡◌, ◌≢◌, ◌<◌, ℕ, Some, None, [], length, get_or, map, IfOk, OnOk, OnErr, false};
+ghost use Rattle.std.specs.Prelude.{◌≡◌, ◌≢◌, ◌<◌, ℕ, Some, None, Ok, [], length, get_or, map, IfOk, OnOk, OnErr, true, false};
+ghost use mathlib.Core.List.{IsPrefix};
 ghost use Rattle.stream_eval.specs.Results.{sink_values};
-ghost use Rattle.stream_eval.specs.stream_lists.Lists.{sinks_of};
-ghost use Rattle.graph_runs.specs.Moments.{Moment};
+ghost use Rattle.stream_eval.specs.stream_lists.Lists.{is_sink_at, numbers_of, sinks_of, taken_from};
+ghost use Rattle.stream_eval.specs.stream_lists.Spans.{span_in};
+ghost use Rattle.graph_lang.specs.graph_base.Graphs.{task_at};
+ghost use Rattle.stream_eval.specs.stream_lists.Ranges.{answer_of};
+ghost use Rattle.graph_runs.specs.Moments.{Moment, started};
 ghost use Rattle.graph_runs.specs.Beginnings.{opening};
-ghost use Rattle.graph_runs.specs.Nexts.{next_of};
+ghost use Rattle.graph_runs.specs.Nexts.{is_live, next_of};
 ghost use Rattle.graph_runs.specs.Answers.{is_stalled, turn_tells};
 
 use crate::machine::Machine;
@@ -13,6 +17,7 @@ use crate::plan::Plan;
 use crate::step::Step;
 use crate::turned::Turned;
 use graph_lang::Place;
+use graph_runs::{moments, outcomes};
 use std::alloc::{AllocError, Global};
 use std::marker::Model;
 use stream_eval::Lines;
@@ -35,7 +40,7 @@ pub struct World<'a> {
 impl<'a> Model for World<'a> {
     ghost use Rattle.std.specs.Prelude.{◌≡◌, length};
     ghost use Rattle.graph_runs.specs.Moments.{Moment};
-    ghost use Rattle.stream_job.specs.Worlds.{WorldState};
+    ghost use Rattle.stream_job.specs.Worlds.{WorldState, HasMet};
     ghost use Rattle.stream_job.specs.Blocking.{AreBlocked};
     ghost use Rattle.stream_job.specs.Machines.{IsMachineAt};
     ghost use Rattle.stream_job.specs.Plans.{IsPlan};
@@ -50,13 +55,14 @@ impl<'a> Model for World<'a> {
     } };
 
     ghost invariant = { λ w. ((m : Moment) × IsMachineAt w.job.now m w.machine
-        × AreBlocked w.job.now m w.parked)
+        × AreBlocked w.job.now m w.parked × HasMet w.job.now m w.met)
         × (length w.parked ≡ length w.job.now.graph.phasers) × IsPlan w.job.now w.plan };
 }
 
 impl<'a> World<'a> {
     ghost use Rattle.stream_job.specs.Machines.{next_by};
     ghost use Rattle.stream_job.specs.Worlds.{IsWorldAt};
+    ghost use Rattle.stream_job.specs.SinkLines.{kept_by};
     ghost use Rattle.stream_job.specs.Turning.{told_of, met_by, after_turn_of, parked_by, IsRegistration};
 
     /// Makes a run of a job at its opening: on each phaser a founder has registered the tasks
@@ -95,12 +101,27 @@ impl<'a> World<'a> {
         self.machine.next(self.job, &self.plan, task)
     }
 
-    /// Returns each sink's number and what it has taken so far, in the order of the lines. It takes
-    /// no memory.
+    /// Returns each sink's number and what it has taken so far, in the order of the lines. A value
+    /// that is too big is not among them. It takes no memory.
+    ///
+    /// Where no value was out of range and no task is live, they are all that the sinks get.
     pub fn lines(&self) -> &[Lines]
-        ensures { (m : Moment) → IsWorldAt self.now m → map sink_values result.now
+        ensures kept { (m : Moment) → IsWorldAt self.now m → map sink_values result.now
+            ≡ map (λ t. (t, kept_by self.now.job m t)) (sinks_of self.now.job) }
+        ensures taken { (m : Moment) → IsWorldAt self.now m → self.now.met ≡ None
+            → map sink_values result.now
             ≡ map (λ t. (t, m.taken t 0)) (sinks_of self.now.job) }
+        ensures begin { (m : Moment) (t : ℕ) → IsWorldAt self.now m
+            → t < length self.now.job.graph.tasks → is_sink_at self.now.job t ≡ true
+            → IsPrefix (kept_by self.now.job m t)
+            (taken_from (numbers_of (started self.now.job m)) (task_at self.now.job.graph t)
+            (span_in (started self.now.job m) t) 0) }
+        ensures all { (m : Moment) → IsWorldAt self.now m → self.now.met ≡ None
+            → ((t : ℕ) → is_live self.now.job m t ≡ false)
+            → answer_of (started self.now.job m) ≡ Ok (map sink_values result.now) }
     {
+        moments::takes();
+        outcomes::all_gone();
         &self.machine.lines
     }
 

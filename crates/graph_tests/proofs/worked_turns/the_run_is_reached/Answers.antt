@@ -1,15 +1,17 @@
 -- The opening is looked through, task by task and phaser by phaser; the rest is by the laws.
-use Rattle.std.proofs.Common.{◌≡◌, ℕ, zero, suc, ◌+◌, ◌<◌, Option, Some, None, get_or, refl, sym, ap, subst, ◌∙◌, arith}
+use Rattle.std.proofs.Common.{◌≡◌, ℕ, zero, suc, ◌+◌, ◌<◌, Bool, true, false, cond, eqb, [], ◌∷◌, Option, Some, None, is_some, get_or, refl, sym, ap, subst, ◌∙◌, arith, ◌⊎◌, inl, inr}
+use Rattle.std.proofs.lemmas.Bool.{eqb-true}
 use Rattle.std.proofs.lemmas.Option.{same_Some}
 use Rattle.stream_job.specs.phase_base.declared.entry.Entry.{Entry}
 use Rattle.stream_job.specs.phase_base.declared.mode.Mode.{Mode}
+use Rattle.stream_job.specs.phase_base.Members.{entry_of, member}
 use Rattle.stream_job.specs.phase_history.Histories.{start_of}
 use Rattle.stream_job.specs.graph_base.declared.line.Parent.{Parent}
 use Rattle.stream_job.specs.graph_base.Graphs.{task_at}
 use Rattle.stream_job.specs.graph_base.Registrations.{no_registration}
 use Rattle.stream_job.specs.graph_runs.Answers.{after_turns}
 use Rattle.stream_job.specs.graph_runs.Nexts.{registrations_at}
-use Rattle.stream_job.specs.graph_runs.Reached.{HasMode, HasModes, HasOnlyTasks, HasBegun}
+use Rattle.stream_job.specs.graph_runs.Reached.{HasMode, HasModes, HasOnlyTasks, HasTaskMembers, IsOfTask, HasBegun}
 use Rattle.graph_tests.specs.Worked.{worked, worked_histories, worked_numbers, worked_offsets, worked_opening, worked_order, by_out}
 use Rattle.graph_tests.proofs.OpeningTests.{has_opened}
 use Rattle.graph_tests.proofs.WorkedRun.{worked-is}
@@ -38,11 +40,23 @@ has_mode t k b at is n start number starts =
 late_has_none : HasMode worked_opening 5 (get_or (registrations_at worked 5) 0 no_registration)
 late_has_none n start number starts = absurd (cc)
 
+-- one of two members
+two : (x y n : ℕ) (e f : Entry)
+    → is_some (entry_of (member x e ∷ member y f ∷ []) n) ≡ true → (x ≡ n) ⊎ (y ≡ n)
+two x y n e f alive = by (eqb x n) refl (eqb y n) refl alive
+  where
+    by : (b : Bool) → eqb x n ≡ b → (c : Bool) → eqb y n ≡ c
+        → is_some (cond b (Some e) (cond c (Some f) None)) ≡ true → (x ≡ n) ⊎ (y ≡ n)
+    by true is c other alive = inl (eqb-true x n is)
+    by false is true other alive = inr (eqb-true y n other)
+    by false is false other alive = absurd (cc)
+
 begun : HasBegun worked worked_opening
 begun = record {
   opened = (has_opened worked worked_histories worked_numbers worked_offsets).sound refl worked-is;
   modes = modes;
   only_tasks = only_tasks;
+  members = members;
   offset = offset;
 }
   where
@@ -76,6 +90,36 @@ begun = record {
     only_tasks (suc (suc (suc (suc zero)))) lt = omega arith
     only_tasks (suc (suc (suc (suc (suc zero))))) lt = omega arith
     only_tasks (suc (suc (suc (suc (suc (suc p)))))) lt = absurd (omega arith)
+
+    -- two tasks are its members
+    of_two : (p n t u : ℕ) → worked_opening.number p t ≡ Some 1
+        → worked_opening.number p u ≡ Some 2 → t < 6 → u < 6 → (1 ≡ n) ⊎ (2 ≡ n)
+        → IsOfTask worked worked_opening p n
+    of_two p n t u one two few less (inl same) = (t, few, one ∙ ap (λ x. Some x) same)
+    of_two p n t u one two few less (inr same) = (u, less, two ∙ ap (λ x. Some x) same)
+
+    of_one : (n : ℕ) (e : Entry) → is_some (entry_of (member 1 e ∷ []) n) ≡ true
+        → IsOfTask worked worked_opening 1 n
+    of_one n e alive = by (eqb 1 n) refl alive
+      where
+        by : (b : Bool) → eqb 1 n ≡ b → is_some (cond b (Some e) None) ≡ true
+            → IsOfTask worked worked_opening 1 n
+        by true is alive = (1, omega arith, ap (λ x. Some x) (eqb-true 1 n is))
+        by false is alive = absurd (cc)
+
+    members : HasTaskMembers worked worked_opening
+    members zero n lt alive =
+        of_two 0 n 0 1 refl refl (omega arith) (omega arith) (two 1 2 n _ _ alive)
+    members (suc zero) n lt alive = of_one n _ alive
+    members (suc (suc zero)) n lt alive =
+        of_two 2 n 1 2 refl refl (omega arith) (omega arith) (two 1 2 n _ _ alive)
+    members (suc (suc (suc zero))) n lt alive =
+        of_two 3 n 2 3 refl refl (omega arith) (omega arith) (two 1 2 n _ _ alive)
+    members (suc (suc (suc (suc zero)))) n lt alive =
+        of_two 4 n 2 3 refl refl (omega arith) (omega arith) (two 1 2 n _ _ alive)
+    members (suc (suc (suc (suc (suc zero))))) n lt alive =
+        of_two 5 n 3 4 refl refl (omega arith) (omega arith) (two 1 2 n _ _ alive)
+    members (suc (suc (suc (suc (suc (suc p)))))) n lt alive = absurd (omega arith)
 
     offset : (c : ℕ) (u : Parent) → c < 6 → (task_at worked.graph c).parent ≡ Some u
         → worked_opening.offset c ≡ worked_opening.offset u.task + u.at

@@ -13,6 +13,8 @@ use Rattle.graph_runs.specs.Nexts.{waits}
 use Rattle.graph_runs.specs.Turned.{with_at}
 use Rattle.graph_runs.specs.Steps.{HasFilter}
 use Rattle.stream_job.specs.Inside.{with_line, HasRoomIn}
+use Rattle.stream_job.specs.SinkLines.{line_of}
+use Rattle.stream_job.proofs.SinksKeep.{if_kept}
 use Rattle.stream_job.specs.Places.{HasTakenOne}
 use Rattle.stream_job.specs.Machines.{HasCores, HasRoom}
 use Rattle.stream_job.proofs.Lively.{has_state}
@@ -71,9 +73,13 @@ keep_line-requires-clause-there c =
     let lt = has_state c.args.job.now c.args.self.now c.args.t (waits c.args.k) c.requires (λ e. (cc)) in
     let found = slice_get_read c.args.self.now.tasks.items (length c.args.self.now.tasks.items)
     c.args.t c.index.result.now refl lt c.index.ensures in
-    subst (λ l. IfSome c.sink_of-sink.result (λ i. i < length l.items)) (sym c.wait_on.ensures.lines)
+    subst (λ o. IfSome o (λ i. i < length c.wait_on.new.self.lines.items)) (sym c.line_of-line.ensures)
+    (subst (λ l. IfSome (line_of c.sink_of-sink.result c.in-Ok-Value.outcome)
+    (λ i. i < length l.items)) (sym c.wait_on.ensures.lines)
+    (if_kept (λ i. i < length c.args.self.now.lines.items) c.sink_of-sink.result
+    c.in-Ok-Value.outcome
     (sink_there c.args.job.now c.args.self.now c.requires.some.0 c.args.t c.index.result.now
-    c.sink_of-sink.result c.requires.some.1 found (c.sink_of-sink.ensures c.index.result.now found))
+    c.sink_of-sink.result c.requires.some.1 found (c.sink_of-sink.ensures c.index.result.now found))))
 
 pub keep_line-requires-clause-room : goal.keep_line-requires-clause-room
 keep_line-requires-clause-room c =
@@ -82,7 +88,10 @@ keep_line-requires-clause-room c =
     c.args.t c.index.result.now refl lt c.index.ensures in
     let m = c.requires.some.0 in
     let at = c.requires.some.1 in
-    subst (λ l. IfSome c.sink_of-sink.result (HasRoomIn l.items)) (sym c.wait_on.ensures.lines)
+    subst (λ o. IfSome o (HasRoomIn c.wait_on.new.self.lines.items)) (sym c.line_of-line.ensures)
+    (subst (λ l. IfSome (line_of c.sink_of-sink.result c.in-Ok-Value.outcome)
+    (HasRoomIn l.items)) (sym c.wait_on.ensures.lines)
+    (if_kept (HasRoomIn c.args.self.now.lines.items) c.sink_of-sink.result c.in-Ok-Value.outcome
     (sink_room c.args.job.now c.args.self.now m c.args.t c.args.k c.input_of-phaser.result
     (get_or c.deref.result.now c.args.k 0) c.in-Ok-Value.outcome c.index.result.now
     c.sink_of-sink.result c.requires at found (c.sink_of-sink.ensures c.index.result.now found)
@@ -90,7 +99,7 @@ keep_line-requires-clause-room c =
     (get_or c.deref.result.now c.args.k 0) c.input_of-phaser.result c.in-Ok-Value.phase
     c.in-Ok-Value.outcome c.index.result.now c.requires at found c.input_of-phaser.ensures.phaser
     (ap (λ ns. get_or ns c.args.k 0) c.deref.ensures)
-    (c.in-Ok-Value.ensures.reply m at ∙ ap (λ g. Ok g) c.in-Ok-Value.field-0-is)))
+    (c.in-Ok-Value.ensures.reply m at ∙ ap (λ g. Ok g) c.in-Ok-Value.field-0-is)))))
 
 pub unreachable-requires : goal.unreachable-requires
 unreachable-requires c =
@@ -136,9 +145,12 @@ returns-in-Ok-Value c =
     (ap (λ v. v.items) c.keep_line.ensures.tasks
     ∙ ap (λ xs. set xs c.args.t c.take.new.self) tasks)
     (c.keep_line.ensures.lines
-    ∙ ap (λ x. with_line c.sink_of-sink.result x (map sink_values c.wait_on.new.self.lines.items))
+    ∙ ap (λ x. with_line c.line_of-line.result x (map sink_values c.wait_on.new.self.lines.items))
     number
-    ∙ ap (with_line c.sink_of-sink.result (number_of c.in-Ok-Value.outcome))
+    ∙ ap (λ o. with_line o (number_of c.in-Ok-Value.outcome)
+    (map sink_values c.wait_on.new.self.lines.items)) c.line_of-line.ensures
+    ∙ ap (with_line (line_of c.sink_of-sink.result c.in-Ok-Value.outcome)
+    (number_of c.in-Ok-Value.outcome))
     (ap (λ l. map sink_values l.items) c.wait_on.ensures.lines))
     (λ all. c.keep_line.ensures.room c.args.job.now
     (subst (λ l. All (HasRoom c.args.job.now) l.items) (sym c.wait_on.ensures.lines) all))

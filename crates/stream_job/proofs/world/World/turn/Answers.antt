@@ -1,11 +1,11 @@
 -- A turn tells, and keeps of blocked tasks, what its call did.
-use Rattle.std.proofs.Common.{◌≡◌, Some, length, sym, ap, subst, ◌∙◌}
+use Rattle.std.proofs.Common.{◌≡◌, Some, None, length, refl, sym, ap, subst, ◌∙◌}
 use Rattle.graph_runs.specs.Moments.{Moment}
 use Rattle.graph_runs.specs.Answers.{turn_tells, answer_of_turn, after_answer}
 use Rattle.stream_job.specs.Tellings.{IsOnPhaser}
 use Rattle.stream_job.specs.Turning.{after_turn_of, told_of, parked_by}
-use Rattle.stream_job.specs.Worlds.{WorldState, IsWorldAt}
-use Rattle.stream_job.proofs.Tellings.{made_there, turn_tells_so, turn_parks_so, turn_blocks_so, turn_stands_so, parked_many}
+use Rattle.stream_job.specs.Worlds.{WorldState, HasMet, IsWorldAt}
+use Rattle.stream_job.proofs.Tellings.{made_there, turn_tells_so, turn_parks_so, turn_blocks_so, turn_met_so, turn_stands_so, parked_many}
 use Rattle.stream_job.proofs.world.World.turn.Goals as goal
 
 pub note-requires : goal.note-requires
@@ -27,6 +27,12 @@ invariant_of-self-2 c =
         had.after m at,
         turn_blocks_so job c.self.inside.machine c.make.new.self m c.args.task c.in_ok-made.made
             c.self.inside.parked c.note.new.self had c.note.ensures at c.self.invariant.0.2,
+        subst (HasMet job (after_answer job (answer_of_turn job m c.args.task) m))
+            (sym c.too_big-self-inside.ensures)
+            (turn_met_so job c.self.inside.machine c.make.new.self m c.args.task c.in_ok-made.made
+            c.told-told.result had at (subst (HasMet job m) c.in_default.is c.self.invariant.0.3)
+            (turn_tells_so job None m c.args.task c.in_ok-made.made c.told-told.result refl
+            (had.shows m at) c.told-told.ensures)),
       ),
       ap length c.note.ensures
           ∙ parked_many c.in_ok-made.made c.args.task c.self.inside.parked
@@ -71,4 +77,5 @@ returns-clause-after c =
       met = c.self.inside.met;
       parked = c.self.inside.parked;
     } c.make.new.self c.note.new.self c.too_big-self-inside.result m c.args.task c.in_ok-made.made
-    c.in_default.is c.in_ok-made.ensures.made c.note.ensures at)
+    c.told-told.result c.in_default.is c.in_ok-made.ensures.made c.note.ensures c.told-told.ensures
+    c.too_big-self-inside.ensures at)

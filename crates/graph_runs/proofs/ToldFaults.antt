@@ -1,0 +1,346 @@
+-- What a turn tells as out of range is a fault of the job.
+use Rattle.std.proofs.Common.{◌≡◌, ℕ, suc, ◌+◌, ◌<◌, ◌≤◌, Bool, true, false, ◌||◌, cond, [], ◌∷◌, ◌++◌, ℤ, pos, Option, Some, None, length, map, take, drop, get_or, refl, sym, ap, subst, ◌∙◌, arith, inl}
+use Rattle.std.specs.Prelude.{Result, Ok, Err, unwrap_or}
+use Rattle.std.specs.List.{range_with_len}
+use Rattle.std.proofs.lemmas.Bool.{eq-eqb}
+use Rattle.std.proofs.lemmas.List.{length-append}
+use Rattle.std.proofs.lemmas.List.FromFn.{get_or-map-range_with_len}
+use Rattle.phase_history.specs.phase_base.Members.{entry_of}
+use Rattle.phase_history.specs.phase_base.declared.entry.Entry.{Entry}
+use Rattle.phase_history.specs.phase_accum.declared.outcome.Outcome.{Outcome}
+use Rattle.phase_history.specs.phase_accum.declared.outcome.Outcome.TheVariants as outcome
+use Rattle.phase_history.specs.declared.event.Event.TheVariants.{Waited}
+use Rattle.phase_history.specs.declared.got.Got.{Got}
+use Rattle.phase_history.specs.declared.got.Got.TheVariants as got
+use Rattle.phase_history.specs.declared.refusal.SignalRefusal.{SignalRefusal}
+use Rattle.phase_history.specs.declared.refusal.SignalRefusal.TheVariants as signals_refused
+use Rattle.phase_history.specs.declared.refusal.WaitRefusal.{WaitRefusal}
+use Rattle.phase_history.specs.declared.refusal.WaitRefusal.TheVariants as waits_refused
+use Rattle.phase_history.specs.Histories.{History, IsAlive, members_of, founder, done_of, wait_phase, has_dropped}
+use Rattle.phase_history.specs.Phases.{value_of_phase}
+use Rattle.phase_history.proofs.Alive.{alive_law}
+use Rattle.phase_history.proofs.Received.{counted}
+use Rattle.phase_history.proofs.Steps.{Steps, steps, sound_of}
+use Rattle.phase_history.proofs.Used.{start_from}
+use Rattle.stream_lists.specs.graph_base.declared.line.Kind.{Kind}
+use Rattle.stream_lists.specs.graph_base.declared.line.Kind.TheVariants.{Source, Fir, Split, Join, Peer, Sink}
+use Rattle.stream_lists.specs.graph_base.declared.place.Place.TheVariants as place
+use Rattle.stream_lists.specs.graph_base.declared.registration.Registration.{Registration}
+use Rattle.stream_lists.specs.graph_base.Graphs.{task_at}
+use Rattle.stream_lists.specs.Jobs.{Job, samples_at, index_in}
+use Rattle.stream_lists.specs.Ranges.{Where, are_made, is_out_of_range}
+use Rattle.stream_lists.specs.Spans.{signalled_by}
+use Rattle.graph_runs.specs.Moments.{Moment, HasRun, PhaserRan, OnLine, limits_at, value_at, started}
+use Rattle.graph_runs.specs.Settled.{IsReady, IsFaultAt}
+use Rattle.graph_runs.specs.Turned.{IsAnsweredWait, after_wait, with_at}
+use Rattle.graph_runs.specs.TaskEvents.{TaskEvent, IsNext, sample, signal, first_wait, exchange_wait, leave, child, after_turn}
+use Rattle.graph_runs.specs.Nexts.{is_not_live, leaves, signals, exchanges, is_live, of_live, at_boundary, next_step, first_due, first_kept, first_missing, first_owed, has_input_ended, is_cut, number_on, waits_first}
+use Rattle.graph_runs.specs.Answers.{Answer, Told, TooBig, Moved, Ended, Blocked, Gone, makes, is_blocked, is_gone, has_made, is_refused, answer_of_turn, answer_to, call_leave, call_register, call_signal, accepted_answer, signal_answer, wait_answer, signal_turn, told_event, turn_tells, word_of_answer, next_value, output_at}
+use Rattle.graph_runs.specs.Reached.{IsReachable}
+use Rattle.graph_runs.proofs.AnsweredInTurn.{answer_is}
+use Rattle.graph_runs.proofs.Entries.{get_or-take, get_or-drop}
+use Rattle.graph_runs.proofs.OnLines.{on_phaser}
+use Rattle.graph_runs.proofs.PlacesLemmas.{place_of_output}
+use Rattle.graph_runs.proofs.Signalling.{Live, live-is, number_there, owed, may_put}
+use Rattle.graph_runs.proofs.Started.{ready_as, run_started}
+use Rattle.graph_runs.proofs.TooBigs.{met_is_fault, made_is_fault}
+use Rattle.graph_runs.proofs.TurnEntries.{IsMember, on_input, wait_phase_is}
+use Rattle.graph_runs.proofs.Turning.{turn_makes_next}
+
+-- ---- a wait that got a value that is too big
+
+-- the entry of a registered task
+waiter : (job : Job) (m : Moment) (t p n : ℕ) → PhaserRan job m p → m.number p t ≡ Some n
+    → has_dropped (m.history p) n ≡ false → (entry : Entry) × IsMember m p n entry.mode
+waiter job m t p n ran number stays =
+    let h = m.history p in
+    let alive : IsAlive h n = (alive_law (limits_at job p) h n ran.legal).1
+    (ran.used t n number, stays) in
+    let e = start_from (entry_of (members_of h) n) alive in
+    let c = counted (value_at job p) (limits_at job p) h n e.0 ran.legal e.1 in (
+      e.0,
+      record {
+        start = c.start;
+        entry = e.0;
+        start_is = c.start_is;
+        is = e.1;
+        mode_is = refl;
+        signals = c.signals;
+        waits = c.waits;
+      },
+    )
+
+-- it waits for the phase behind those that it has taken
+waits_for : (job : Job) (m : Moment) (t k p n : ℕ) (outcome : Outcome) → HasRun job m
+    → t < length job.graph.tasks → p < length job.graph.phasers
+    → IsAnsweredWait job m t k p n outcome
+    → wait_phase (m.history p) n ≡ m.offset t + length (m.taken t k)
+waits_for job m t k p n outcome ran there pp wait =
+    let w = waiter job m t p n (ran.phasers p pp) wait.numbered (wait.staying p n wait.numbered) in
+    let on = on_input job m t k p n (ran.tasks t there) there wait.few wait.place wait.numbered in
+    ap (λ o. (unwrap_or o founder).wait_phase) w.1.is
+    ∙ wait_phase_is job m t k p n w.0.mode (ran.phasers p pp).legal on w.1
+
+-- the value of a phase that a wait for one phase is answered
+phase_value : (f : ℕ → Outcome) (d w : ℕ) (x : Outcome) → w + 1 ≤ d
+    → take 1 (drop w (map f (range_with_len 0 d))) ≡ x ∷ [] → f w ≡ x
+phase_value f d w x fits answered =
+    let values = map f (range_with_len 0 d) in
+    let at : get_or (take 1 (drop w values)) 0 outcome.Empty ≡ f w =
+    get_or-take (drop w values) 1 0 outcome.Empty (omega arith)
+    ∙ get_or-drop values w 0 outcome.Empty
+    ∙ get_or-map-range_with_len f 0 d (w + 0) w outcome.Empty (omega arith) (omega arith) in
+    sym at ∙ ap (λ l. get_or l 0 outcome.Empty) answered
+
+met_fault : (job : Job) (m : Moment) (t k p n begun : ℕ) → IsReady job → HasRun job m
+    → HasRun job (after_wait t k p n outcome.TooBig begun m) → t < length job.graph.tasks
+    → p < length job.graph.phasers → IsAnsweredWait job m t k p n outcome.TooBig
+    → IsFaultAt (started job m) (place.Phaser p, wait_phase (m.history p) n)
+met_fault job m t k p n begun ready ran now there pp wait =
+    let Faulty : ℕ → Type 0 = λ q. w < done_of (after.history q)
+    → value_of_phase (value_at job q) (after.history q) w ≡ outcome.TooBig
+    → IsFaultAt (started job m) (place.Phaser q, w) in
+    (subst Faulty wait.place (λ done value.
+    met_is_fault (started job m) after t k w (ready_as job after ready)
+    (run_started job after now) there wait.few (p, n, wait.numbered)
+    (let phase : w ≡ m.offset t + length (m.taken t k) = at in omega arith)
+    (let phase : w ≡ m.offset t + length (m.taken t k) = at in
+    let long = taken_one in omega arith) done value)) done value
+  where
+    h : History
+    h = m.history p
+
+    after : Moment
+    after = after_wait t k p n outcome.TooBig begun m
+
+    w : ℕ
+    w = wait_phase h n
+
+    at : w ≡ m.offset t + length (m.taken t k)
+    at = waits_for job m t k p n outcome.TooBig ran there pp wait
+
+    taken_one : length (after.taken t k) ≡ length (m.taken t k) + 1
+    taken_one =
+        let more = m.taken t k ++ pos 0 ∷ [] in
+        ap (λ b. length ((cond b (with_at k more (m.taken t)) (m.taken t)) k)) (eq-eqb t t refl)
+        ∙ ap (λ b. length (cond b more (m.taken t k))) (eq-eqb k k refl)
+        ∙ length-append (m.taken t k) (pos 0 ∷ [])
+
+    here : after.history p ≡ Waited n 1 ∷ h
+    here = ap (λ b. cond b (Waited n 1 ∷ h) h) (eq-eqb p p refl)
+
+    fits : w + 1 ≤ done_of h
+    fits = wait.accepted.1
+
+    grows : Steps h (Waited n 1)
+    grows =
+        let legal = (ran.phasers p pp).legal in
+        steps (limits_at job p) h (Waited n 1) legal (sound_of (limits_at job p) h legal)
+        wait.accepted
+
+    done : w < done_of (after.history p)
+    done =
+        let more : done_of h ≤ done_of (Waited n 1 ∷ h) = grows.grows in
+        let same : done_of (after.history p) ≡ done_of (Waited n 1 ∷ h) = ap done_of here in
+        let low : w + 1 ≤ done_of h = fits in
+        omega arith
+
+    value : value_of_phase (value_at job p) (after.history p) w ≡ outcome.TooBig
+    value =
+        ap (λ g. value_of_phase (value_at job p) g w) here
+        ∙ phase_value (value_of_phase (value_at job p) h) (done_of h) w outcome.TooBig fits
+        (answer_is (value_at job p) h n outcome.TooBig wait.answered)
+
+-- ---- a value that the task has made
+
+made_fault : (job : Job) (m : Moment) (t j : ℕ) → IsReady job → HasRun job m → Live job m t
+    → first_owed job m t ≡ Some j
+    → waits_first (task_at job.graph t).kind j (length (m.put t j)) (length (m.taken t 1)) ≡ false
+    → are_made (task_at job.graph t).kind j ≡ true
+    → is_out_of_range (next_value job m t j) ≡ true
+    → IsFaultAt (started job m) (place.Task t, length (m.put t j))
+made_fault job m t j ready ran live owes first made out =
+    let o = owed job m t j owes in
+    let p = output_at job t j in
+    let place_is : index_in (signalled_by (task_at job.graph t)) p ≡ Some j =
+    place_of_output job.graph t (task_at job.graph t) j (ready.graph.tasks t live.there) o.0 in
+    let on : OnLine (task_at job.graph t) p = inl (j, place_is) in
+    made_is_fault (started job m) m t j p (length (m.put t j)) (ready_as job m ready)
+    (run_started job m ran) live.there (on_phaser job t p ready.graph live.there on)
+    (p, number_on m t p, number_there job m t p ready.graph live on) place_is made o.1
+    (may_put (task_at job.graph t).kind j (length (m.put t j)) (length (m.taken t 1)) first) out
+
+-- ---- only a signal is answered so
+
+not_wait : (event : Outcome → TaskEvent) (r : Result Got WaitRefusal) (at : Where)
+    → wait_answer event r ≡ has_made at → ⊥
+not_wait event (Ok (got.Value phase outcome)) at e = (cc)
+not_wait event (Ok got.Ended) at e = (cc)
+not_wait event (Err waits_refused.NoTask) at e = (cc)
+not_wait event (Err waits_refused.NoWait) at e = (cc)
+not_wait event (Err waits_refused.BadBlock) at e = (cc)
+not_wait event (Err waits_refused.SignalFirst) at e = (cc)
+not_wait event (Err waits_refused.NotYet) at e = (cc)
+
+not_signal : (event : TaskEvent) (o : Option SignalRefusal) (at : Where)
+    → signal_answer event o ≡ has_made at → ⊥
+not_signal event None at e = (cc)
+not_signal event (Some signals_refused.NoTask) at e = (cc)
+not_signal event (Some signals_refused.NoSignal) at e = (cc)
+not_signal event (Some signals_refused.NotSingle) at e = (cc)
+not_signal event (Some signals_refused.BadBlock) at e = (cc)
+not_signal event (Some signals_refused.SignalTwice) at e = (cc)
+not_signal event (Some signals_refused.Spent) at e = (cc)
+not_signal event (Some signals_refused.Ahead) at e = (cc)
+not_signal event (Some signals_refused.SingleDiffers) at e = (cc)
+not_signal event (Some signals_refused.PhaseFull) at e = (cc)
+
+not_accepted : {R : Type 0} (event : TaskEvent) (o : Option R) (at : Where)
+    → accepted_answer event o ≡ has_made at → ⊥
+not_accepted event None at e = (cc)
+not_accepted event (Some r) at e = (cc)
+
+not_register : (m : Moment) (t c : ℕ) (o : Option Registration) (at : Where)
+    → call_register m t c o ≡ has_made at → ⊥
+not_register m t c None at e = (cc)
+not_register m t c (Some r) at e = not_accepted _ _ at e
+
+not_leave : (m : Moment) (t : ℕ) (o : Option Registration) (at : Where)
+    → call_leave m t o ≡ has_made at → ⊥
+not_leave m t None at e = (cc)
+not_leave m t (Some r) at e = not_accepted _ _ at e
+
+-- the place of an answer, where it has one
+abbrev place_or : Where → Answer → Where
+place_or other (has_made at) = at
+place_or other answer = other
+
+record IsOut (job : Job) (m : Moment) (t j : ℕ) (v : ℤ) (at : Where) : Type 0 where
+  out : is_out_of_range v ≡ true
+  made : are_made (task_at job.graph t).kind j ≡ true
+  place_is : (place.Task t, length (m.put t j)) ≡ at
+
+is_out : (job : Job) (m : Moment) (t j : ℕ) (v : ℤ) (event : TaskEvent) (at : Where)
+    → signal_turn job m t j v event ≡ has_made at → IsOut job m t j v at
+is_out job m t j v event at e =
+    by (is_out_of_range v) refl (are_made (task_at job.graph t).kind j) refl e
+  where
+    by : (b : Bool) → is_out_of_range v ≡ b → (c : Bool)
+        → are_made (task_at job.graph t).kind j ≡ c
+        → cond b (cond c (has_made (place.Task t, length (m.put t j))) is_refused)
+        (call_signal job m t (output_at job t j) v event) ≡ has_made at → IsOut job m t j v at
+    by true out true made e = record { out = out; made = made; place_is = ap (place_or at) e }
+    by true out false made e = absurd (cc)
+    by false out c made e = absurd (not_signal event _ at e)
+
+-- ---- the answer of a turn
+
+-- a step that begins makes no value
+not_step : (job : Job) (m : Moment) (t : ℕ) (at : Where) (kind : Kind)
+    → (task_at job.graph t).kind ≡ kind
+    → answer_to job m t (next_step (task_at job.graph t) (m.begun t) kind) ≡ has_made at → ⊥
+not_step job m t at Source is e =
+    let p = output_at job t 0 in
+    let v = get_or (samples_at job t) (m.begun t) (pos 0) in
+    let it = is_out job m t 0 v (sample t 0 p (number_on m t p) v) at e in
+    let none : are_made (task_at job.graph t).kind 0 ≡ false = ap (λ k. are_made k 0) is in
+    let wrong : true ≡ false = sym it.made ∙ none in
+    cc
+not_step job m t at Fir is e = not_wait _ _ at e
+not_step job m t at Split is e = not_wait _ _ at e
+not_step job m t at Join is e = not_wait _ _ at e
+not_step job m t at Peer is e = not_wait _ _ at e
+not_step job m t at Sink is e = not_wait _ _ at e
+
+not_boundary : (job : Job) (m : Moment) (t : ℕ) (at : Where) (o : Option ℕ)
+    → answer_to job m t (at_boundary job m t o) ≡ has_made at → ⊥
+not_boundary job m t at (Some c) e = not_register m t c (first_missing job m c) at e
+not_boundary job m t at None e =
+    by (is_cut (task_at job.graph t).until (m.begun t)
+    || has_input_ended job m t (task_at job.graph t).kind) e
+  where
+    by : (b : Bool)
+        → answer_to job m t (cond b leaves
+        (next_step (task_at job.graph t) (m.begun t) (task_at job.graph t).kind)) ≡ has_made at → ⊥
+    by true e = not_leave m t (first_kept job m t) at e
+    by false e = not_step job m t at (task_at job.graph t).kind refl e
+
+turn_made : (job : Job) (m : Moment) (t : ℕ) (at : Where) → IsReady job → HasRun job m
+    → answer_of_turn job m t ≡ has_made at → IsFaultAt (started job m) at
+turn_made job m t at ready ran e = by (is_live job m t) refl e
+  where
+    owing : (j : ℕ) → first_owed job m t ≡ Some j → Live job m t → (b : Bool)
+        → waits_first (task_at job.graph t).kind j (length (m.put t j)) (length (m.taken t 1)) ≡ b
+        → answer_to job m t (cond b exchanges (signals j)) ≡ has_made at
+        → IsFaultAt (started job m) at
+    owing j owes live true first e = absurd (not_wait _ _ at e)
+    owing j owes live false first e =
+        let it = is_out job m t j (next_value job m t j) _ at e in
+        subst (IsFaultAt (started job m)) it.place_is
+        (made_fault job m t j ready ran live owes first it.made it.out)
+
+    of_owed : (o : Option ℕ) → first_owed job m t ≡ o → Live job m t
+        → answer_to job m t (of_live job m t o) ≡ has_made at → IsFaultAt (started job m) at
+    of_owed (Some j) owes live e =
+        owing j owes live
+        (waits_first (task_at job.graph t).kind j (length (m.put t j)) (length (m.taken t 1))) refl e
+    of_owed None none live e = absurd (not_boundary job m t at (first_due job m t) e)
+
+    by : (b : Bool) → is_live job m t ≡ b
+        → answer_to job m t (cond b (of_live job m t (first_owed job m t)) is_not_live)
+        ≡ has_made at → IsFaultAt (started job m) at
+    by true live e = of_owed (first_owed job m t) refl (live-is job m t live) e
+    by false live e = absurd (cc)
+
+-- ---- the word of an event
+
+-- the place of a word, where it has one
+abbrev told_or : Where → Option Told → Where
+told_or other None = other
+told_or other (Some Moved) = other
+told_or other (Some Ended) = other
+told_or other (Some Blocked) = other
+told_or other (Some Gone) = other
+told_or other (Some (TooBig at)) = at
+
+event_fault : (job : Job) (m : Moment) (event : TaskEvent) (at : Where) → IsReady job
+    → HasRun job m → HasRun job (after_turn job event m) → IsNext job m event
+    → Some (told_event job m event) ≡ Some (TooBig at) → IsFaultAt (started job m) at
+event_fault job m (sample t j p n v) at ready ran now next e = absurd (cc)
+event_fault job m (signal t j p n v) at ready ran now next e = absurd (cc)
+event_fault job m (child t p n c a mode) at ready ran now next e = absurd (cc)
+event_fault job m (leave t p n) at ready ran now next e =
+    absurd (by (is_live job (after_turn job (leave t p n) m) t) e)
+  where
+    by : (b : Bool) → Some (cond b Moved Ended) ≡ Some (TooBig at) → ⊥
+    by true e = (cc)
+    by false e = (cc)
+event_fault job m (first_wait t k p n (outcome.Value v)) at ready ran now next e = absurd (cc)
+event_fault job m (first_wait t k p n outcome.Empty) at ready ran now next e = absurd (cc)
+event_fault job m (first_wait t k p n outcome.TooBig) at ready ran now next e =
+    subst (IsFaultAt (started job m)) (ap (told_or at) e)
+    (met_fault job m t k p n (suc (m.begun t)) ready ran now next.0.task next.0.phaser
+    next.1.wait)
+event_fault job m (exchange_wait t p n (outcome.Value v)) at ready ran now next e = absurd (cc)
+event_fault job m (exchange_wait t p n outcome.Empty) at ready ran now next e = absurd (cc)
+event_fault job m (exchange_wait t p n outcome.TooBig) at ready ran now next e =
+    subst (IsFaultAt (started job m)) (ap (told_or at) e)
+    (met_fault job m t 1 p n (m.begun t) ready ran now next.0.task next.0.phaser next.1.wait)
+
+pub told_fault : (job : Job) (m : Moment) (t : ℕ) (at : Where) → IsReady job → IsReachable job m
+    → ((event : TaskEvent) → answer_of_turn job m t ≡ makes event
+    → HasRun job (after_turn job event m))
+    → turn_tells job None m t ≡ Some (TooBig at) → IsFaultAt (started job m) at
+told_fault job m t at ready reached runs told = by (answer_of_turn job m t) refl told
+  where
+    by : (answer : Answer) → answer_of_turn job m t ≡ answer
+        → word_of_answer job m answer ≡ Some (TooBig at) → IsFaultAt (started job m) at
+    by (makes event) e told =
+        event_fault job m event at ready reached.ran (runs event e)
+        (turn_makes_next job m t event ready.graph reached.ran (λ c due. reached.to_come) e) told
+    by is_blocked e told = absurd (cc)
+    by is_gone e told = absurd (cc)
+    by (has_made there) e told =
+        subst (IsFaultAt (started job m)) (ap (told_or at) told)
+        (turn_made job m t there ready reached.ran e)
+    by is_refused e told = absurd (cc)

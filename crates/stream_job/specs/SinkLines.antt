@@ -1,0 +1,37 @@
+-- What a sink keeps of what its waits were answered.
+use Rattle.std.specs.Prelude.{◌≡◌, ℕ, ◌<◌, ℤ, List, [], Option, Some, None, length, map, not, true}
+use Rattle.std.specs.List.{filter}
+use mathlib.Core.List.{IsPrefix}
+use Rattle.phase_core.specs.phase_accum.declared.outcome.Outcome.{Outcome}
+use Rattle.phase_core.specs.phase_accum.declared.outcome.Outcome.TheVariants as outcome
+use Rattle.phase_core.specs.phase_history.Phases.{received_by}
+use Rattle.graph_lang.specs.graph_base.Graphs.{task_at}
+use Rattle.stream_eval.specs.stream_lists.Jobs.{Job}
+use Rattle.stream_eval.specs.stream_lists.Lists.{is_sink_at, number}
+use Rattle.stream_eval.specs.stream_lists.Ranges.{is_too_big}
+use Rattle.graph_runs.specs.Moments.{Moment, input_at, value_at}
+
+-- the numbers of the outcomes that are in range, which is of a run all but a last one
+abbrev pub kept_of : List Outcome → List ℤ
+kept_of outcomes = map number (filter (λ outcome. not (is_too_big outcome)) outcomes)
+
+-- of what number n on phaser p has received, where there is a number
+abbrev pub kept_on : Job → Moment → ℕ → Option ℕ → List ℤ
+kept_on job m p None = []
+kept_on job m p (Some n) = kept_of (received_by (value_at job p) (m.history p) n)
+
+-- of what task t has received from its first input
+abbrev pub kept_by : Job → Moment → ℕ → List ℤ
+kept_by job m t =
+    let p = input_at (task_at job.graph t) 0 in
+    kept_on job m p (m.number p t)
+
+-- each sink keeps a beginning of what it has taken
+abbrev pub KeepsBeginnings : Job → Moment → Type 0
+KeepsBeginnings job m = (t : ℕ) → t < length job.graph.tasks → is_sink_at job t ≡ true
+    → IsPrefix (kept_by job m t) (m.taken t 0)
+
+-- the place of a sink's line, where the sink keeps this outcome
+abbrev pub line_of : Option ℕ → Outcome → Option ℕ
+line_of sink outcome.TooBig = None
+line_of sink outcome = sink
