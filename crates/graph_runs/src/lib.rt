@@ -11,8 +11,6 @@
 //!   `specs/Turned.antt` as a function of the moment before.
 //! - `turns`: which event the order of a task's events gives it next, what its turn answers, and the
 //!   moment after: `specs/Nexts.antt`, then `specs/Answers.antt`.
-//! - `outcomes`: what turns tell as out of range is a fault of the job, and where no task is live
-//!   the run is over.
 //! - `parts`, `places` and `beginnings`: whoever moves one task alone, as a thread with the task's
 //!   registrations does, knows a moment of the task's own, and each call of a registration makes it
 //!   a later one: `specs/Parts.antt`, `specs/Places.antt`.
