@@ -1,6 +1,6 @@
 -- What an answer tells: that the stream has ended; and that a member is known.
-use Rattle.std.proofs.Common.{◌≡◌, ◌≢◌, ℕ, ℤ, ◌≤◌, Bool, true, false, ◌&&◌, cond, leb, ltb, List, [], ◌∷◌, Option, Some, None, refl, ap, arith}
-use Rattle.std.specs.Prelude.{Ok, Result, is_some}
+use Rattle.std.proofs.Common.{◌≡◌, ◌≢◌, ℕ, ℤ, ◌-◌, ◌≤◌, Bool, true, false, ◌&&◌, cond, leb, ltb, List, [], ◌∷◌, Option, Some, None, refl, ap, arith}
+use Rattle.std.specs.Prelude.{Ok, Result, is_some, min}
 use Rattle.std.proofs.lemmas.Bool.{ltb-false, le-leb}
 use Rattle.std.proofs.lemmas.Option.{same_Some}
 use Rattle.phase_accum.specs.phase_base.Limits.{Limits}
@@ -10,6 +10,7 @@ use Rattle.phase_accum.specs.phase_base.Members.{entry_of, signal_phases, least,
 use Rattle.phase_accum.specs.declared.outcome.Outcome.{Outcome}
 use Rattle.phase_accum.specs.declared.single.Single.{Single}
 use Rattle.phase_history.specs.declared.got.Got.TheVariants as got
+use Rattle.phase_history.specs.declared.got.GotBlock.TheVariants as block
 use Rattle.phase_history.specs.declared.refusal.RegisterRefusal.TheVariants as register
 use Rattle.phase_history.specs.declared.refusal.SignalRefusal.{SignalRefusal}
 use Rattle.phase_history.specs.declared.refusal.SignalRefusal.TheVariants as signal
@@ -18,7 +19,7 @@ use Rattle.phase_history.specs.Histories.{History, HasNoSignaller, IsAlive, memb
 use Rattle.phase_history.specs.Phases.{value_of_phase}
 use Rattle.phase_history.specs.Refusals.{refusal_at, register_rows, register_refusal, list_rows, signal_rows, signal_refusal, wait_rows, wait_refusal, drop_refusal}
 use Rattle.phase_accum.specs.phase_base.Lists.{first_row}
-use Rattle.phase_history.specs.Replies.{wait_reply, got_at, refused_or}
+use Rattle.phase_history.specs.Replies.{wait_reply, wait_block_reply, refused_or}
 use Rattle.phase_history.proofs.Each.{Each}
 use Rattle.phase_history.proofs.Refused.{Passes, passes_from}
 use Rattle.phase_history.proofs.Steps.{member_entry_is}
@@ -30,9 +31,9 @@ no_least : (xs : List ℕ) → is_some (least xs) ≡ false → xs ≡ []
 no_least [] none = refl
 no_least (x ∷ xs) none = absurd (cc)
 
-not_below : (value : List ℤ → Outcome) (h : History) (w : ℕ) (b : Bool) → cond b (got.Value w (value_of_phase value h w)) got.Ended ≡ got.Ended → b ≡ false
-not_below value h w true e = absurd (cc)
-not_below value h w false e = refl
+not_below : {A : Type 0} (x y : A) (b : Bool) → x ≢ y → cond b x y ≡ y → b ≡ false
+not_below x y true apart e = absurd (apart e)
+not_below x y false apart e = refl
 
 same_ok : {A R : Type 0} (x y : A) (r : Result A R) → r ≡ Ok x → r ≡ Ok y → x ≡ y
 same_ok x y r e f = cc
@@ -41,22 +42,35 @@ second_false : (a b : Bool) → (a && b) ≡ false → a ≡ true → b ≡ fals
 second_false true b both is = both
 second_false false b both is = absurd (cc)
 
--- no task signals, and every phase was got
-pub ended_tells : (value : List ℤ → Outcome) (limits : Limits) (h : History) (task : ℕ) → wait_reply value limits h task ≡ Ok got.Ended
+-- a wait that is not refused, of a task that has got every phase: no task signals
+quiet_at : (limits : Limits) (h : History) (task n : ℕ) → wait_refusal limits h task n ≡ None → done_of h ≤ wait_phase h task → HasNoSignaller h
+quiet_at limits h task n none low =
+    let p : Passes (entry_of (members_of h) task) (wait_rows limits (positions_of h) n) = passes_from _ _ _ none in
+    let w_is : wait_phase h task ≡ p.entry.wait_phase = ap (λ (x : Entry). x.wait_phase) (member_entry_is (members_of h) task p.entry p.is_member) in
+    let row : (leb (done_of h) p.entry.wait_phase && is_some (least (signal_phases (members_of h)))) ≡ false = p.passes.1.1.1.0 in
+    no_least (signal_phases (members_of h)) (second_false _ _ row (le-leb (done_of h) p.entry.wait_phase (omega arith)))
+
+-- a wait that answers that the stream has ended: no task signals, and every phase was got
+ended_by : {A : Type 0} (limits : Limits) (h : History) (task n : ℕ) (got ended : A) → got ≢ ended
+    → refused_or (wait_refusal limits h task n) (cond (ltb (wait_phase h task) (done_of h)) got ended) ≡ Ok ended
     → HasNoSignaller h × (done_of h ≤ wait_phase h task)
-ended_tells value limits h task reply =
-    let w = wait_phase h task in
-    elim (wait_refusal limits h task 1) as (λ o. (wait_refusal limits h task 1 ≡ o) → refused_or o (got_at value h w) ≡ Ok got.Ended
-    → HasNoSignaller h × (done_of h ≤ w)) [
+ended_by limits h task n got ended apart reply =
+    let at = cond (ltb (wait_phase h task) (done_of h)) got ended in
+    elim (wait_refusal limits h task n) as (λ o. (wait_refusal limits h task n ≡ o) → refused_or o at ≡ Ok ended
+    → HasNoSignaller h × (done_of h ≤ wait_phase h task)) [
       | None ↦ λ none e.
-          let p : Passes (entry_of (members_of h) task) (wait_rows limits (positions_of h) 1) = passes_from _ _ _ none in
-          let w_is : w ≡ p.entry.wait_phase = ap (λ (x : Entry). x.wait_phase) (member_entry_is (members_of h) task p.entry p.is_member) in
-          let same : got_at value h w ≡ got.Ended = same_ok (got_at value h w) got.Ended (refused_or None (got_at value h w)) refl e in
-          let low : done_of h ≤ w = ltb-false _ _ (not_below value h w (ltb w (done_of h)) same) in
-          let row : (leb (done_of h) p.entry.wait_phase && is_some (least (signal_phases (members_of h)))) ≡ false = p.passes.1.1.1.0 in
-          (no_least (signal_phases (members_of h)) (second_false _ _ row (le-leb (done_of h) p.entry.wait_phase (omega arith))), low)
+          let low : done_of h ≤ wait_phase h task = ltb-false _ _ (not_below got ended (ltb (wait_phase h task) (done_of h)) apart (same_ok at ended (refused_or None at) refl e)) in
+          (quiet_at limits h task n none low, low)
       | Some refusal ↦ λ some e. absurd (cc)
     ] refl reply
+
+pub ended_tells : (value : List ℤ → Outcome) (limits : Limits) (h : History) (task : ℕ) → wait_reply value limits h task ≡ Ok got.Ended
+    → HasNoSignaller h × (done_of h ≤ wait_phase h task)
+ended_tells value limits h task = ended_by limits h task 1 (got.Value (wait_phase h task) (value_of_phase value h (wait_phase h task))) got.Ended (λ e. absurd (cc))
+
+pub block_ended_tells : (limits : Limits) (h : History) (task n : ℕ) → wait_block_reply limits h task n ≡ Ok block.Ended
+    → HasNoSignaller h × (done_of h ≤ wait_phase h task)
+block_ended_tells limits h task n = ended_by limits h task n (block.Values (wait_phase h task) (min n (done_of h - wait_phase h task))) block.Ended (λ e. absurd (cc))
 
 -- ---- that a member is known
 

@@ -2,6 +2,7 @@
 use Rattle.std.proofs.Common.{◌≡◌, List, ap, ◌∙◌}
 use Rattle.std.specs.Prelude.{Result, Ok, Err}
 use Rattle.phase_shared.specs.phase_base.declared.mode.Mode.{Mode}
+use Rattle.phase_shared.specs.phase_base.declared.mode.Mode.TheVariants.{Wait}
 use Rattle.phase_shared.specs.phase_accum.Operations.{Operation}
 use Rattle.phase_shared.specs.phase_accum.declared.outcome.Outcome.{Outcome}
 use Rattle.phase_shared.specs.phase_history.Phases.{received_by}
@@ -10,7 +11,9 @@ use Rattle.phase_shared.specs.Regs.{RegState}
 use Rattle.phase_shared.specs.declared.tried.Tried.{Tried}
 use Rattle.phase_shared.specs.declared.tried.Tried.TheVariants.{Busy, Refused}
 use Rattle.phase_shared.specs.Calls.{Registers, Tries}
+use Rattle.phase_shared.specs.Joins.{RegistersNow}
 use Rattle.phase_shared.proofs.PartSteps.{parent_stays, refused_register}
+use Rattle.phase_shared.proofs.BlockPartSteps.{parent_stays_now}
 use Rattle.phase_received.specs.Received.{received_of}
 
 pub received_now : {A K : Type 0} (op : Operation A) (old new : RegState A K) (list : List Outcome) → new.number ≡ old.number
@@ -25,6 +28,14 @@ parent_received op mode old new (Ok child) is =
     (parent_stays old.number child.number mode old.seen new.seen is.registered).received op.value
 parent_received op mode old new (Err refusal) is =
     (refused_register old.number mode old.seen new.seen refusal is).received op.value
+
+pub parent_received_now : {A K : Type 0} (op : Operation A) (old new : RegState A K)
+    (answer : Result (RegState A K) RegisterRefusal) → RegistersNow op old new answer
+    → received_by op.value new.seen old.number ≡ received_of op old
+parent_received_now op old new (Ok child) is =
+    (parent_stays_now old.number child.number old.entry child.entry old.seen new.seen is.registered).received op.value
+parent_received_now op old new (Err refusal) is =
+    (refused_register old.number Wait old.seen new.seen refusal is).received op.value
 
 pub received_by_parent : {A K : Type 0} (op : Operation A) (mode : Mode) (old new : RegState A K)
     (answer : Result (RegState A K) RegisterRefusal) → Registers op mode old new answer

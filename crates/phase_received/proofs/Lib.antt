@@ -1,4 +1,5 @@
 pub mod Wholes
 pub mod Lists
 pub mod Kept
+pub mod Blocks
 pub use Rattle.phase_shared.proofs.turn_lock_lemmas as turn_lock_lemmas

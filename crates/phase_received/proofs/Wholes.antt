@@ -24,6 +24,7 @@ use Rattle.phase_shared.proofs.phase_history_lemmas.Used.{start_of-longer, IsLeg
 use Rattle.phase_shared.proofs.phase_history_lemmas.OthersEvents.{IsBeginning-others, received_by-others}
 use Rattle.phase_shared.specs.Calls.{Leaves}
 use Rattle.phase_shared.proofs.NextSteps.{waits_else}
+use Rattle.phase_shared.proofs.PartSteps.{leaver_stays}
 use Rattle.phase_received.specs.Whole.{HasSeenEnd, HasWhole}
 
 -- where no registered task signals, each of them waits
@@ -92,6 +93,14 @@ some_event h task entry member none =
 left_after : (me : ℕ) (old new : History) → Leaves me old new → IsBeginning old new
 left_after me old new l =
     record { later = Dropped me ∷ l.others.later; is = l.seen ∙ ap (λ h. Dropped me ∷ h) l.others.is }
+
+pub whole_leaves : (value : List ℤ → Outcome) (limits : Limits) (old new : History) (task : ℕ) → IsLegal limits new
+    → Leaves task old new → HasWhole value old task → HasWhole value new task
+whole_leaves value limits old new task legal l w =
+    let later : IsBeginning old new = left_after task old new l in
+    whole_longer value limits old new task
+    (IsLegal-beginning limits old new (some_start old task w.start w.start_is) legal later) legal later
+    ((leaver_stays task old new l).received value) w
 
 pub whole_left : (value : List ℤ → Outcome) (limits : Limits) (me : ℕ) (entry : Entry) (old new : History) → IsLegal limits new
     → entry_of (members_of old) me ≡ Some entry → Leaves me old new → received_by value new me ≡ received_by value old me

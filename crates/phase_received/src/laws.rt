@@ -9,10 +9,12 @@ ghost use Rattle.phase_shared.specs.phase_history.Histories.{History, members_of
 ghost use Rattle.phase_shared.specs.phase_history.Legal.{IsLegal};
 ghost use Rattle.phase_shared.specs.phase_history.Others.{OthersCame};
 ghost use Rattle.phase_shared.specs.phase_base.Lists.{is_in};
+ghost use Rattle.phase_shared.specs.Calls.{Leaves};
 ghost use Rattle.phase_received.specs.Whole.{HasSeenEnd, HasWhole};
 
-/// A registered task that has seen the end has received exactly the stream from its start on, and still has
-/// in every longer history that has no more events of its own: no later phase can come.
+/// A registered task that has seen the end has received exactly the stream from its start on. It
+/// still has in every longer history that has no more events of its own, or its leaving alone: no
+/// later phase can come.
 pub fn whole()
     ensures seen { (value : List ℤ → Outcome) (limits : Limits) (h : History) (task : ℕ)
         (entry : Entry) → IsLegal limits h → entry_of (members_of h) task ≡ Some entry
@@ -20,5 +22,8 @@ pub fn whole()
     ensures stays { (value : List ℤ → Outcome) (limits : Limits) (tasks : List ℕ)
         (old new : History) (task : ℕ) → IsLegal limits new
         → OthersCame tasks old new → is_in task tasks ≡ true
+        → HasWhole value old task → HasWhole value new task }
+    ensures leaves { (value : List ℤ → Outcome) (limits : Limits) (old new : History) (task : ℕ)
+        → IsLegal limits new → Leaves task old new
         → HasWhole value old task → HasWhole value new task }
 {}

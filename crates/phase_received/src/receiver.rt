@@ -15,6 +15,8 @@ ghost use Rattle.phase_shared.specs.Parts.{with_got, with_any};
 ghost use Rattle.phase_received.specs.Received.{received_of, IsPastOf, Receives};
 ghost use Rattle.phase_received.specs.Whole.{HasSeenEnd, HasWhole};
 
+mod blocks;
+mod joining;
 mod trying;
 
 use crate::fault::ReceiveFault;
@@ -199,6 +201,8 @@ impl<A: Accumulate, K: SignalRule> Receiver<A, K> {
         ensures waited { result ≢ Err (ReceiveFault.Refused SignalRefusal.Ahead) }
         ensures got { IfOk result (λ next. received_of A.operation self.new
             ≡ with_any (received_of A.operation self.old) next.got) }
+        ensures ended { IfOk result (λ next. next.got ≡ Some Got.Ended
+            → HasSeenEnd self.new.seen self.new.number) }
         // A registration that does not signal keeps what it holds.
         ensures held { HeldAfter A.operation (is_ok result && mode_signals self.old.entry.mode)
             self.old.held self.new.held }

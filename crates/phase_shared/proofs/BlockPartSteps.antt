@@ -18,13 +18,14 @@ use Rattle.phase_core.specs.phase_history.declared.event.Event.TheVariants.{Regi
 use Rattle.phase_core.specs.phase_history.declared.got.GotBlock.TheVariants.{Values, Ended}
 use Rattle.phase_core.specs.phase_history.declared.refusal.SignalRefusal.{SignalRefusal}
 use Rattle.phase_core.specs.phase_history.declared.refusal.WaitRefusal.{WaitRefusal}
-use Rattle.phase_core.specs.phase_history.Histories.{History, members_of, founder, done_of, start_of, entry_at, signal_phase}
+use Rattle.phase_core.specs.phase_history.Histories.{History, HasNoSignaller, members_of, founder, done_of, start_of, entry_at, signal_phase, wait_phase}
 use Rattle.phase_core.specs.phase_history.Legal.{IsLegal}
 use Rattle.phase_core.specs.phase_history.Laws.{HasNoEvents}
 use Rattle.phase_core.specs.phase_history.Others.{OthersCame}
 use Rattle.phase_core.specs.phase_history.Phases.{received_by, stream_of}
 use Rattle.phase_core.specs.phase_history.Sent.{sent_by}
 use Rattle.phase_core.specs.phase_history.Replies.{signal_reply, after_signal}
+use Rattle.phase_core.proofs.phase_history_lemmas.Answered.{block_ended_tells}
 use Rattle.phase_core.proofs.phase_history_lemmas.BlockAnswers.{block_answers_law}
 use Rattle.phase_core.proofs.phase_history_lemmas.Gathered.{no_lists}
 use Rattle.phase_core.proofs.phase_history_lemmas.LawProofs.{above_law}
@@ -135,6 +136,10 @@ module _ (value : List ℤ → Outcome) (limits : Limits) (me : ℕ) (old new : 
     received = λ other. ap (λ h. received_by other h me) w.seen ∙ (own me old w.before w.others).received other;
     sent = ap (λ h. sent_by h me) w.seen ∙ (own me old w.before w.others).sent;
   }
+
+  pub block_end_seen : WaitsBlock value limits me old new old_out new_out (Ok Ended) → HasNoSignaller new × (done_of new ≤ wait_phase new me)
+  block_end_seen w =
+      subst (λ (h : History). HasNoSignaller h × (done_of h ≤ wait_phase h me)) (sym w.seen) (block_ended_tells limits w.before me (length old_out) w.reply)
 
   pub refused_wait_block : (refusal : WaitRefusal) → WaitsBlock value limits me old new old_out new_out (Err refusal) → PartStays me old new
   refused_wait_block refusal w = record {

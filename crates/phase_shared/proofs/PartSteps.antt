@@ -2,6 +2,7 @@
 use Rattle.std.proofs.Common.{◌≡◌, ℕ, ◌≤◌, ℤ, Bool, true, false, cond, List, [], ◌∷◌, ◌++◌, map, Option, Some, None, Ok, Err, eqb, refl, sym, ap, ap₂, subst, ◌∙◌, arith}
 use Rattle.std.specs.Prelude.{Result, ◌||◌, unwrap_or}
 use Rattle.std.proofs.lemmas.Bool.{eq-eqb}
+use Rattle.std.proofs.lemmas.Option.{same_Some}
 use Rattle.phase_core.specs.phase_base.Limits.{Limits}
 use Rattle.phase_core.specs.phase_base.Members.{entry_of}
 use Rattle.phase_core.specs.phase_base.Modes.{mode_signals, mode_waits}
@@ -183,6 +184,16 @@ module _ {A K : Type 0} (op : Operation A) (limits : Limits) (single : Option Si
             (λ phase. Signals op limits me old.held single old.seen n.middle (Ok phase)) (n.middle ≡ old.seen)
             cannot next.signalled n.signals);
       }
+
+  -- what a next phase tells whose wait was answered that the stream has ended
+  pub next_ended : (next : Next) → GoesNext op limits single old new next → next.got ≡ Some Ended
+      → HasNoSignaller new × (done_of new ≤ wait_phase new old.number)
+  next_ended next n ended =
+      let tells : Option Got → Type 0 = λ o. o ≡ Some Ended → HasNoSignaller new × (done_of new ≤ wait_phase new old.number) in
+      made_where (mode_waits old.entry.mode) (λ got. Waits op.value limits old.number n.middle new (Ok got)) (new ≡ n.middle) tells
+      (λ got w is. wait_ended op.value limits old.number n.middle new
+      (subst (λ g. Waits op.value limits old.number n.middle new (Ok g)) (same_Some got Ended is) w))
+      (λ same is. absurd (cc)) next.got n.waits ended
 
   pub refused_next : (signals : Bool) (refusal : SignalRefusal) → RefusesNext op limits single old new signals refusal
       → PartStays old.number old.seen new

@@ -71,12 +71,19 @@ pub fn waits()
         → Waits value limits me old new (Ok Got.Ended) → done_of new ≤ wait_phase new me }
 {}
 
-/// A next phase adds what its signal and its wait add, as far as the mode signals and waits. A
-/// refused one adds nothing.
+/// A next phase adds what its signal and its wait add, as far as the mode signals and waits. Where
+/// its wait tells that the stream has ended, no signaller is registered, and the task has got every
+/// phase. A refused one adds nothing.
 pub fn goes_next<A: Accumulate, K>()
     ensures ok { (limits : Limits) (single : Option Single) (old : RegState A K) (new : History)
         (next : Next) → GoesNext A.operation limits single old new next
         → SendsAndGets A.operation old new next }
+    ensures ended { (limits : Limits) (single : Option Single) (old : RegState A K) (new : History)
+        (next : Next) → GoesNext A.operation limits single old new next
+        → next.got ≡ Some Got.Ended → HasNoSignaller new }
+    ensures got_all { (limits : Limits) (single : Option Single) (old : RegState A K)
+        (new : History) (next : Next) → GoesNext A.operation limits single old new next
+        → next.got ≡ Some Got.Ended → done_of new ≤ wait_phase new old.number }
     ensures refused { (limits : Limits) (single : Option Single) (old : RegState A K)
         (new : History) (signals : Bool) (refusal : SignalRefusal)
         → RefusesNext A.operation limits single old new signals refusal

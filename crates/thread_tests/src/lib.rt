@@ -26,6 +26,10 @@ mod puts;
 #[cfg(test)]
 mod received;
 #[cfg(test)]
+mod receiver_blocks;
+#[cfg(test)]
+mod receiver_next;
+#[cfg(test)]
 mod receiver_tries;
 #[cfg(test)]
 mod threads;

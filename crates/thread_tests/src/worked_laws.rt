@@ -1,10 +1,10 @@
 //! Each law of blocks and of late waiters, used at the histories of one phaser. These functions
 //! make no call and have no effect: what a law says of a history is the contract here.
-ghost use Rattle.std.specs.Prelude.{◌≡◌, ◌++◌, [], ◌∷◌, ℤ, List, None, Some, Ok, pos, take};
+ghost use Rattle.std.specs.Prelude.{◌≡◌, ◌≤◌, ◌++◌, [], ◌∷◌, ℤ, List, None, Some, Ok, pos, take};
 ghost use Rattle.phase_received.specs.phase_accum.Parcels.{Parcel, StandsForSends};
 ghost use Rattle.phase_received.specs.phase_accum.Sums.{sum_operation};
 ghost use Rattle.phase_received.specs.phase_accum.Values.{sum_value};
-ghost use Rattle.phase_received.specs.phase_history.Histories.{start_of};
+ghost use Rattle.phase_received.specs.phase_history.Histories.{HasNoSignaller, done_of, wait_phase, start_of};
 ghost use Rattle.phase_received.specs.phase_history.Phases.{received_by};
 ghost use Rattle.phase_received.specs.phase_core.Blocks.{StandForLists};
 ghost use Rattle.phase_received.specs.phase_shared.Calls.{Signals};
@@ -44,6 +44,8 @@ fn waited_blocks()
     ensures received { received_by sum_value both_got 2
         ≡ received_by sum_value one_block 2 ++ take 2 two_written }
     ensures ended { PartStays 2 both_got all_left }
+    ensures closed { HasNoSignaller all_left }
+    ensures got_all { done_of all_left ≤ wait_phase all_left 2 }
     ensures refused { PartStays 2 opened begun }
 {
     laws::waits_block();

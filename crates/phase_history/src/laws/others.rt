@@ -13,11 +13,11 @@ ghost use Rattle.phase_history.specs.Histories.{History, IsBeginning, members_of
 ghost use Rattle.phase_history.specs.Phases.{received_by};
 ghost use Rattle.phase_history.specs.Legal.{IsLegal};
 ghost use Rattle.phase_history.specs.Refusals.{register_refusal, register_now_refusal, signal_refusal, wait_refusal, drop_refusal};
-ghost use Rattle.phase_history.specs.Replies.{wait_reply};
+ghost use Rattle.phase_history.specs.Replies.{wait_reply, wait_block_reply};
 ghost use Rattle.phase_history.specs.Others.{is_by, events_of, phases_of_signal, phases_of_wait, IsUsed, OnlyUsed, children_in, OthersCame};
 ghost use Rattle.phase_accum.specs.phase_base.Lists.{is_in};
 
-use crate::got::Got;
+use crate::got::{Got, GotBlock};
 use crate::refusal::{RegisterRefusal, SignalRefusal, WaitRefusal};
 
 /// A beginning of a legal history is legal, where it has an event.
@@ -124,13 +124,17 @@ pub fn all_descend()
         → OnlyUsed tasks h }
 {}
 
-/// Where a wait is answered that the stream has ended, no signaller is registered, and the phase
-/// that it asked for is not below done.
+/// Where a wait, plain or for a block, is answered that the stream has ended, no signaller is
+/// registered, and the phase that it asked for is not below done.
 pub fn ended()
     ensures quiet { (value : List ℤ → Outcome) (limits : Limits) (h : History) (task : ℕ)
         → wait_reply value limits h task ≡ Ok Got.Ended → HasNoSignaller h }
     ensures got_all { (value : List ℤ → Outcome) (limits : Limits) (h : History) (task : ℕ)
         → wait_reply value limits h task ≡ Ok Got.Ended → done_of h ≤ wait_phase h task }
+    ensures block_quiet { (limits : Limits) (h : History) (task n : ℕ)
+        → wait_block_reply limits h task n ≡ Ok GotBlock.Ended → HasNoSignaller h }
+    ensures block_got_all { (limits : Limits) (h : History) (task n : ℕ)
+        → wait_block_reply limits h task n ≡ Ok GotBlock.Ended → done_of h ≤ wait_phase h task }
 {}
 
 /// No call of a registered task is refused as that of a task that is not registered.

@@ -1,5 +1,5 @@
 //! Laws of blocks of phases, and of waiters that join now.
-ghost use Rattle.std.specs.Prelude.{◌≡◌, ℕ, ℤ, List, [], ◌∷◌, Option, Result, Ok, Err, Some};
+ghost use Rattle.std.specs.Prelude.{◌≡◌, ◌≤◌, ℕ, ℤ, List, [], ◌∷◌, Option, Result, Ok, Err, Some};
 ghost use Rattle.phase_core.specs.phase_base.Limits.{Limits};
 ghost use Rattle.phase_core.specs.phase_base.Members.{entry_of};
 ghost use Rattle.phase_core.specs.phase_base.declared.entry.Entry.{Entry};
@@ -8,7 +8,7 @@ ghost use Rattle.phase_core.specs.phase_accum.declared.outcome.Outcome.{Outcome}
 ghost use Rattle.phase_core.specs.phase_accum.declared.single.Single.{Single};
 ghost use Rattle.phase_core.specs.phase_history.declared.refusal.SignalRefusal.{SignalRefusal};
 ghost use Rattle.phase_core.specs.phase_history.declared.refusal.WaitRefusal.{WaitRefusal};
-ghost use Rattle.phase_core.specs.phase_history.Histories.{History, members_of, start_of};
+ghost use Rattle.phase_core.specs.phase_history.Histories.{History, HasNoSignaller, members_of, done_of, wait_phase, start_of};
 ghost use Rattle.phase_core.specs.phase_history.Phases.{received_by};
 ghost use Rattle.phase_core.specs.phase_history.Legal.{IsLegal};
 ghost use Rattle.phase_shared.specs.Calls.{Signals};
@@ -52,7 +52,8 @@ pub fn plain_signals<A: Accumulate>()
 {}
 
 /// A wait for a block adds the values that stand in its first places to what its task has received,
-/// and nothing where the stream has ended or the wait is refused.
+/// and nothing where the stream has ended or the wait is refused. Where it has ended, no signaller
+/// is registered, and the task has got every phase.
 pub fn waits_block()
     ensures got { (value : List ℤ → Outcome) (limits : Limits) (me : ℕ) (old new : History)
         (old_out new_out : List Outcome) (phase count : ℕ)
@@ -62,6 +63,14 @@ pub fn waits_block()
         (old_out new_out : List Outcome)
         → WaitsBlock value limits me old new old_out new_out (Ok GotBlock.Ended)
         → PartStays me old new }
+    ensures closed { (value : List ℤ → Outcome) (limits : Limits) (me : ℕ) (old new : History)
+        (old_out new_out : List Outcome)
+        → WaitsBlock value limits me old new old_out new_out (Ok GotBlock.Ended)
+        → HasNoSignaller new }
+    ensures got_all { (value : List ℤ → Outcome) (limits : Limits) (me : ℕ) (old new : History)
+        (old_out new_out : List Outcome)
+        → WaitsBlock value limits me old new old_out new_out (Ok GotBlock.Ended)
+        → done_of new ≤ wait_phase new me }
     ensures refused { (value : List ℤ → Outcome) (limits : Limits) (me : ℕ) (old new : History)
         (old_out new_out : List Outcome) (refusal : WaitRefusal)
         → WaitsBlock value limits me old new old_out new_out (Err refusal)

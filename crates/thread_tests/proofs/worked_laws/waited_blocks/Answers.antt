@@ -17,6 +17,14 @@ pub returns-clause-ended : goal.returns-clause-ended
 returns-clause-ended c =
     c.waits_block.ensures.ended sum_value worked_limits 2 both_got all_left three_places three_places block_ended
 
+pub returns-clause-closed : goal.returns-clause-closed
+returns-clause-closed c =
+    c.waits_block.ensures.closed sum_value worked_limits 2 both_got all_left three_places three_places block_ended
+
+pub returns-clause-got_all : goal.returns-clause-got_all
+returns-clause-got_all c =
+    c.waits_block.ensures.got_all sum_value worked_limits 2 both_got all_left three_places three_places block_ended
+
 pub returns-clause-refused : goal.returns-clause-refused
 returns-clause-refused c =
     c.waits_block.ensures.refused sum_value worked_limits 2 opened begun three_places three_places NotYet block_not_yet
