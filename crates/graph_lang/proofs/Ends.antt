@@ -1,5 +1,5 @@
 -- What well-formed words say of a task's line.
-use Rattle.std.proofs.Common.{ℕ, ℤ, List, option_map, ◌≡◌, ◌&&◌, Bool, true, false, Some, None, Option, IfSome, IsTrue, refl, ap, ◌∙◌}
+use Rattle.std.proofs.Common.{ℕ, ℤ, List, option_map, ◌≡◌, ◌&&◌, Bool, true, Option, IfSome, IsTrue, refl, ap, ◌∙◌}
 use Rattle.std.specs.List.{list_all}
 use Rattle.std.proofs.lemmas.List.Folds.{list_all-append}
 use Rattle.graph_text.specs.phase_base.Words.{is_name}
@@ -7,23 +7,25 @@ use Rattle.graph_base.specs.Graphs.{Named}
 use Rattle.graph_base.specs.declared.line.Kind.{Kind}
 use Rattle.graph_base.specs.declared.line.Parent.{Parent}
 use Rattle.graph_text.specs.Numbers.{is_nat, nat_value}
-use Rattle.graph_text.specs.Decls.{EndWords, ByWords, BodyWords, source, fir, split, join, peer, sink, IsBody, IsBy, AreEnds}
-use Rattle.graph_lang.specs.WordValues.{inputs_of, outputs_of, task_line, kind_of_body, numbers_of, parent_of, taps_of, shift_of, factor_of}
+use Rattle.graph_text.specs.Decls.{EndWords, BodyWords, source, fir, split, join, peer, sink, IsBody, IsBy, AreEnds, MayHaveBy, may_have_blocks}
+use Rattle.graph_text.specs.declared.version.Version.{Version}
+use Rattle.graph_lang.specs.WordValues.{inputs_of, outputs_of, task_line, kind_of_body, numbers_of, parent_of, taps_of, shift_of, factor_of, block_of, joins_now}
 use Rattle.graph_lang.specs.Faults.{phasers_of}
-
-no_by : (by : Option ByWords) → by ≡ None → IfSome by IsBy
-no_by None e = tt
-no_by (Some by) e = let clash : Some by ≡ None = e in absurd (cc)
+use Rattle.graph_lang.proofs.Grown.{weaken_some}
 
 -- the parent is a name, and its steps a number
-pub ends-by : (allowed : Bool) (ends : EndWords) → AreEnds allowed ends → IfSome ends.by IsBy
-ends-by true ends are = are.0
-ends-by false ends are = no_by ends.by are.0
+pub ends-by : (version : Version) (body : BodyWords) (ends : EndWords) → AreEnds version body ends
+    → IfSome ends.by IsBy
+ends-by version body ends are =
+    weaken_some ends.by (λ by. IsBy by × MayHaveBy version body by) IsBy (λ by is. is.0) are.by
 
-pub ends-until : (allowed : Bool) (ends : EndWords) → AreEnds allowed ends
-    → IfSome ends.until (λ steps. IsTrue (is_nat steps))
-ends-until true ends are = are.1
-ends-until false ends are = are.1
+-- the steps of a block are a number
+pub ends-block : (version : Version) (body : BodyWords) (ends : EndWords)
+    → AreEnds version body ends → IfSome ends.block (λ steps. IsTrue (is_nat steps))
+ends-block version body ends are =
+    weaken_some ends.block
+    (λ steps. IsTrue (is_nat steps) × IsTrue (may_have_blocks version body))
+    (λ steps. IsTrue (is_nat steps)) (λ steps is. is.0) are.block
 
 -- the inputs and the outputs are names
 pub inputs-names : (body : BodyWords) → IsBody body → list_all is_name (inputs_of body) ≡ true
@@ -50,10 +52,11 @@ phasers-names body is = list_all-append is_name (inputs_of body) (outputs_of bod
 -- the task of a line, by its fields
 pub task-built : (names : List Named) (n : ℕ) (body : BodyWords) (ends : EndWords) (kind : Kind)
     (inputs outputs : List ℕ) (parent : Option Parent) (until : Option ℕ) (taps : List ℤ) (shift : ℕ)
-    (mul : ℤ) → kind ≡ kind_of_body body → inputs ≡ numbers_of names (inputs_of body)
-    → outputs ≡ numbers_of names (outputs_of body) → parent ≡ option_map (parent_of names) ends.by
+    (mul : ℤ) (block : ℕ) (now : Bool) → kind ≡ kind_of_body body
+    → inputs ≡ numbers_of names (inputs_of body) → outputs ≡ numbers_of names (outputs_of body)
+    → parent ≡ option_map (parent_of names) ends.by
     → until ≡ option_map nat_value ends.until → taps ≡ taps_of body → shift ≡ shift_of body
-    → mul ≡ factor_of body
+    → mul ≡ factor_of body → block ≡ block_of ends.block → now ≡ joins_now ends.by
     → record {
       line = n;
       kind = kind;
@@ -64,8 +67,9 @@ pub task-built : (names : List Named) (n : ℕ) (body : BodyWords) (ends : EndWo
       taps = taps;
       shift = shift;
       mul = mul;
-      block = 1;
-      joins_now = false;
+      block = block;
+      joins_now = now;
     } ≡ task_line names n body ends
-task-built names n body ends kind inputs outputs parent until taps shift mul a b c d e f g h =
-    rw (a, b, c, d, e, f, g, h) refl
+task-built names n body ends kind inputs outputs parent until taps shift mul block now a b c d e f g
+    h i j =
+    rw (a, b, c, d, e, f, g, h, i, j) refl

@@ -1,12 +1,13 @@
 -- Lines with two faults, computed in the definitions: the earlier kind is the one that is told.
-use Rattle.std.proofs.Common.{◌≡◌, [], ◌∷◌, Some, None, refl, codes}
+use Rattle.std.proofs.Common.{◌≡◌, [], ◌∷◌, true, false, Some, None, refl, codes}
 use Rattle.graph_text.specs.phase_base.declared.operation.Op.TheVariants.{Sum}
-use Rattle.graph_text.specs.Decls.{phaser, task, fir, join, peer, sink, clamp, EndWords}
+use Rattle.graph_text.specs.phase_base.Words.{Word}
+use Rattle.graph_text.specs.Decls.{phaser, task, source, fir, join, peer, sink, clamp, EndWords}
 use Rattle.graph_base.specs.Graphs.{Graph, no_phaser, no_task}
-use Rattle.graph_base.specs.declared.line.Kind.TheVariants.{Split}
+use Rattle.graph_base.specs.declared.line.Kind.TheVariants.{Split, Sink}
 use Rattle.graph_base.specs.declared.place.Place.TheVariants as place
 use Rattle.graph_lang.specs.Faults.{kind_of}
-use Rattle.graph_lang.specs.declared.fault.FaultKind.TheVariants.{Limit, Twice, Unknown, OutBeforeIn, BadParent, NotHeld}
+use Rattle.graph_lang.specs.declared.fault.FaultKind.TheVariants.{Limit, Twice, Unknown, OutBeforeIn, BadParent, NotHeld, OverBound}
 
 -- phaser A sum 1 / phaser B sum 1 / phaser C sum 1 / split d A -> B C
 abbrev before : Graph
@@ -19,15 +20,23 @@ before = record {
 }
 
 abbrev no_ends : EndWords
-no_ends = record { by = None; until = None }
+no_ends = record { by = None; until = None; block = None }
 
 -- by d at 0
 abbrev by_splitter : EndWords
-by_splitter = record { by = Some (record { parent = codes "d"; at = codes "0" }); until = None }
+by_splitter = record no_ends {
+  by = Some (record { parent = codes "d"; at = codes "0"; now = false });
+}
 
 -- by none at 0
 abbrev by_none : EndWords
-by_none = record { by = Some (record { parent = codes "none"; at = codes "0" }); until = None }
+by_none = record no_ends {
+  by = Some (record { parent = codes "none"; at = codes "0"; now = false });
+}
+
+-- block=N
+abbrev with_block : Word → EndWords
+with_block steps = record no_ends { block = Some steps }
 
 -- ---- one fault
 
@@ -37,6 +46,35 @@ none = refl
 not_held : kind_of (record before { tasks = record no_task { inputs = 0 ∷ [] } ∷ [] })
     (task (codes "s") (sink (codes "B")) by_splitter) ≡ Some NotHeld
 not_held = refl
+
+-- each phaser has a bound of 1
+over_bound : kind_of before (task (codes "s") (sink (codes "B")) (with_block (codes "2")))
+    ≡ Some OverBound
+over_bound = refl
+
+over_bound_of_output : kind_of before
+    (task (codes "s") (source (codes "s.csv") (codes "B")) (with_block (codes "2")))
+    ≡ Some OverBound
+over_bound_of_output = refl
+
+as_bound : kind_of before (task (codes "s") (sink (codes "B")) (with_block (codes "1"))) ≡ None
+as_bound = refl
+
+no_steps : kind_of before (task (codes "s") (sink (codes "B")) (with_block (codes "0")))
+    ≡ Some Limit
+no_steps = refl
+
+too_many_steps : kind_of before
+    (task (codes "s") (sink (codes "B")) (with_block (codes "99999999999999999999999")))
+    ≡ Some Limit
+too_many_steps = refl
+
+-- the parent is a sink that joins now
+parent_joins_now : kind_of (record before {
+  tasks = record no_task { kind = Sink; inputs = 1 ∷ []; joins_now = true } ∷ [];
+})
+    (task (codes "s") (sink (codes "B")) by_splitter) ≡ Some BadParent
+parent_joins_now = refl
 
 -- ---- two
 
@@ -72,6 +110,11 @@ exchange_above = refl
 
 parent_held : kind_of before (task (codes "s") (sink (codes "B")) by_splitter) ≡ Some BadParent
 parent_held = refl
+
+held_over : kind_of (record before { tasks = record no_task { inputs = 0 ∷ [] } ∷ [] })
+    (task (codes "s") (sink (codes "B")) (record by_splitter { block = Some (codes "2") }))
+    ≡ Some NotHeld
+held_over = refl
 
 -- a clamp's ends are turned round, and the name is declared
 clamp_twice : kind_of before

@@ -1,6 +1,7 @@
 mod Alls
 mod Ends
 pub mod Grown
+mod Headings
 mod KindExamples
 mod Known
 mod NamesKept

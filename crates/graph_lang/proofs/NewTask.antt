@@ -1,5 +1,5 @@
 -- The line of a task that has no fault is a line of the graph.
-use Rattle.std.proofs.Common.{ℕ, suc, ◌≡◌, ◌<◌, ◌≤◌, ◌==◌, ◌&&◌, ◌||◌, not, List, [], ◌∷◌, ◌++◌, length, get_or, Bool, true, false, Option, Some, None, is_some, option_map, IfSome, nat_lt, nat_le, unsigned_abs, refl, sym, ap, ◌∙◌, subst, arith, bytes_eq, ne_eqb, eqb-true, ltb-true, leb-true, All, Contains, inl, inr, ◌⊎◌}
+use Rattle.std.proofs.Common.{ℕ, suc, ◌≡◌, ◌<◌, ◌≤◌, ◌==◌, ◌&&◌, ◌||◌, not, List, [], ◌∷◌, ◌++◌, length, get_or, Bool, true, false, Option, Some, None, is_some, option_map, IfSome, IsSome, IsTrue, nat_lt, nat_le, unsigned_abs, refl, sym, ap, ◌∙◌, subst, arith, bytes_eq, ne_eqb, eqb-true, ltb-true, leb-true, All, Contains, inl, inr, ◌⊎◌}
 use Rattle.std.specs.List.{list_all, list_any}
 use Rattle.std.specs.Option.{option_map_or}
 use Rattle.std.proofs.lemmas.Bool.{or_parts, or_from, or_cases, not-true}
@@ -9,19 +9,22 @@ use Rattle.std.proofs.lemmas.List.Sums.{AllPass-from_list_all}
 use Rattle.std.proofs.lemmas.List.Folds.{list_all-append}
 use Rattle.std.proofs.lemmas.Slice.Eq.{bytes_eq-Decides}
 use Rattle.graph_text.specs.phase_base.Words.{Word}
-use Rattle.graph_text.specs.Numbers.{nat_value, int_value}
-use Rattle.graph_text.specs.Decls.{task, BodyWords, source, fir, split, join, peer, sink, ByWords, EndWords, IsBody, AreEnds, may_have_parent}
+use Rattle.graph_text.specs.phase_base.declared.limits.TheConstants.{BOUND_MAX}
+use Rattle.graph_text.specs.Numbers.{is_nat, nat_value, int_value}
+use Rattle.graph_text.specs.Decls.{task, BodyWords, source, fir, split, join, peer, sink, ByWords, EndWords, IsBody, IsBy, AreEnds, MayHaveBy, may_have_parent, may_join_now, may_have_blocks}
+use Rattle.graph_text.specs.declared.version.Version.{Version}
+use Rattle.graph_text.specs.declared.version.Version.TheVariants.{One, Two}
 use Rattle.graph_base.specs.stream_filters.declared.fir.TheConstants.{TAPS_MAX, TAP_MAX, SHIFT_MAX}
 use Rattle.graph_base.specs.Graphs.{Graph, Task, Named, IsPlace, task_at, phaser_at}
 use Rattle.graph_base.specs.Names.{place_of, phaser_number, task_number, phaser_named, task_named}
-use Rattle.graph_lang.specs.WordValues.{or_zero, numbers_of, parent_of, task_line, kind_of_body, inputs_of, outputs_of, taps_of, shift_of, factor_of}
-use Rattle.graph_lang.specs.Faults.{kind_of, is_body_within, are_ends_within, is_count_within, is_tap_within, phasers_of, are_distinct, is_phaser, is_parent_known, is_in_order, is_exchange_below, may_be_parent, is_among, holds_for, is_plain, is_held}
-use Rattle.graph_base.specs.TaskLines.{IsGraph, IsTaskLine, IsParent, AreNames, HasEnds, HasTaps, HasFactor, IsExchangeBelow, has_children, AreAmong}
+use Rattle.graph_lang.specs.WordValues.{or_zero, numbers_of, parent_of, task_line, kind_of_body, inputs_of, outputs_of, taps_of, shift_of, factor_of, block_of, joins_now}
+use Rattle.graph_lang.specs.Faults.{kind_of, is_body_within, are_ends_within, is_count_within, is_tap_within, phasers_of, are_distinct, is_phaser, is_parent_known, is_in_order, is_exchange_below, may_be_parent, is_among, holds_for, is_plain, is_held, is_bound_within, is_within_bound, is_block_within}
+use Rattle.graph_base.specs.TaskLines.{IsGraph, IsTaskLine, IsParent, AreNames, HasEnds, HasTaps, HasFactor, IsExchangeBelow, has_children, has_blocks, AreAmong}
 use Rattle.graph_text.specs.phase_base.Lists.{is_distinct}
 use Rattle.graph_base.specs.declared.limits.TheConstants.{TASKS_MAX, ENDS_MAX, STEPS_MAX, FACTOR_MAX}
 use Rattle.graph_base.specs.declared.line.Kind.{Kind}
 use Rattle.graph_base.specs.declared.line.Kind.TheVariants as kind
-use Rattle.graph_lang.specs.declared.fault.FaultKind.TheVariants.{Limit, Twice, Unknown, OutBeforeIn, BadParent, NotHeld}
+use Rattle.graph_lang.specs.declared.fault.FaultKind.TheVariants.{Limit, Twice, Unknown, OutBeforeIn, BadParent, NotHeld, OverBound}
 use Rattle.graph_base.specs.declared.place.Place.{Place}
 use Rattle.graph_base.specs.declared.place.Place.TheVariants as place
 use Rattle.graph_lang.proofs.Alls.{both}
@@ -37,6 +40,7 @@ pub record IsSound (before : Graph) (name : Word) (body : BodyWords) (ends : End
   pub within : is_body_within body ≡ true
   pub at : option_map_or (λ by. is_count_within by.at) ends.by true ≡ true
   pub until : option_map_or is_count_within ends.until true ≡ true
+  pub block : option_map_or is_bound_within ends.block true ≡ true
   pub few : length before.tasks < TASKS_MAX
   pub absent : place_of before.names name ≡ None
   pub distinct : are_distinct (phasers_of body) ≡ true
@@ -50,6 +54,10 @@ pub record IsSound (before : Graph) (name : Word) (body : BodyWords) (ends : End
   pub plain : list_all (is_plain before) (numbers_of before.names (outputs_of body)) ≡ true
   pub holds : holds_for before (task_line before.names 0 body ends)
       (option_map (parent_of before.names) ends.by) ≡ true
+  pub waits : list_all (is_within_bound before (block_of ends.block))
+      (numbers_of before.names (inputs_of body)) ≡ true
+  pub signals : list_all (is_within_bound before (block_of ends.block))
+      (numbers_of before.names (outputs_of body)) ≡ true
 
 pub task-sound : (before : Graph) (name : Word) (body : BodyWords) (ends : EndWords)
     → kind_of before (task name body ends) ≡ None → IsSound before name body ends
@@ -67,11 +75,15 @@ task-sound before name body ends e =
     let order = row-passed (not (is_in_order line)) OutBeforeIn _ unknown.1 in
     let bad = row-passed (not (may_be_parent before line.parent)) BadParent _ order.1 in
     let held = row-passed (not (is_held before line)) NotHeld _ bad.1 in
+    let over = row-passed (not (is_block_within before line)) OverBound _ held.1 in
     let room = both (is_body_within body && are_ends_within ends)
     (nat_lt (length before.tasks) TASKS_MAX) (not-false _ limit.0) in
     let numbers = both (is_body_within body) (are_ends_within ends) room.0 in
+    let counted = both (option_map_or (λ by. is_count_within by.at) ends.by true
+    && option_map_or is_count_within ends.until true)
+    (option_map_or is_bound_within ends.block true) numbers.1 in
     let steps = both (option_map_or (λ by. is_count_within by.at) ends.by true)
-    (option_map_or is_count_within ends.until true) numbers.1 in
+    (option_map_or is_count_within ends.until true) counted.0 in
     let new = or_parts (is_some (place_of names name)) (not (are_distinct (phasers_of body)))
     twice.0 in
     let known = both (list_all (is_phaser names) (phasers_of body)) (is_parent_known names ends.by)
@@ -80,10 +92,13 @@ task-sound before name body ends e =
     (is_exchange_below line.kind line.inputs) (not-false _ order.0) in
     let holds = both (list_all (is_plain before) line.outputs) (holds_for before line line.parent)
     (not-false _ held.0) in
+    let wide = both (list_all (is_within_bound before line.block) line.inputs)
+    (list_all (is_within_bound before line.block) line.outputs) (not-false _ over.0) in
     record {
       within = numbers.0;
       at = steps.0;
       until = steps.1;
+      block = counted.1;
       few = ltb-true (length before.tasks) TASKS_MAX room.1;
       absent = nothing-there (place_of names name) new.0;
       distinct = not-false _ new.1;
@@ -94,6 +109,8 @@ task-sound before name body ends e =
       may = not-false _ bad.0;
       plain = holds.0;
       holds = holds.1;
+      waits = wide.0;
+      signals = wide.1;
     }
 
 -- ---- tests of each item
@@ -279,11 +296,12 @@ parents-are (join inputs output) = refl
 parents-are (peer input exchange output factor) = refl
 parents-are (sink input) = refl
 
-pub child-allowed : (allowed : Bool) (by : Option ByWords) (until : Option Word)
-    → AreEnds allowed (record { by = by; until = until }) → IfSome by (λ _. allowed ≡ true)
-child-allowed allowed None until are = tt
-child-allowed true (Some by) until are = refl
-child-allowed false (Some by) until are = let clash : Some by ≡ None = are.0 in absurd (cc)
+-- a line that names a parent may
+child-allowed : (version : Version) (body : BodyWords) (ends : EndWords) → AreEnds version body ends
+    → IfSome ends.by (λ _. has_children (kind_of_body body) ≡ true)
+child-allowed version body ends are =
+    weaken_some ends.by (λ by. IsBy by × MayHaveBy version body by)
+    (λ _. has_children (kind_of_body body) ≡ true) (λ by is. sym (parents-are body) ∙ is.1.0) are.by
 
 new-parent : (before : Graph) → AreNames before → (child : Task) (by : Option ByWords)
     → is_parent_known before.names by ≡ true
@@ -308,6 +326,55 @@ new-parent before are child (Some by) known at may holds allowed =
       signals = all-among child.outputs above.outputs held.1;
     }
 
+-- ---- the block
+
+blocks-are : (version : Version) (body : BodyWords) → may_have_blocks version body ≡ true
+    → has_blocks (kind_of_body body) ≡ true
+blocks-are One body may = let clash : false ≡ true = may in absurd (cc)
+blocks-are Two (source file output) may = refl
+blocks-are Two (fir input output shift taps) may = refl
+blocks-are Two (split input outputs) may = let clash : false ≡ true = may in absurd (cc)
+blocks-are Two (join inputs output) may = let clash : false ≡ true = may in absurd (cc)
+blocks-are Two (peer input exchange output factor) may =
+    let clash : false ≡ true = may in absurd (cc)
+blocks-are Two (sink input) may = refl
+
+-- a block has a step
+block-some : (block : Option Word) → option_map_or is_bound_within block true ≡ true
+    → 1 ≤ block_of block
+block-some None e = omega arith
+block-some (Some steps) e =
+    leb-true 1 (nat_value steps)
+    (both (nat_le 1 (nat_value steps)) (nat_le (nat_value steps) BOUND_MAX) e).0
+
+-- a task of another kind has none of several steps
+block-kind : (version : Version) (body : BodyWords) (block : Option Word)
+    → IfSome block (λ steps. IsTrue (is_nat steps) × IsTrue (may_have_blocks version body))
+    → has_blocks (kind_of_body body) ≡ false → block_of block ≡ 1
+block-kind version body None is none = refl
+block-kind version body (Some steps) is none =
+    let clash : false ≡ true = sym none ∙ blocks-are version body is.1 in absurd (cc)
+
+-- ---- now
+
+joins-are : (version : Version) (body : BodyWords) → may_join_now version body ≡ true
+    → kind_of_body body ≡ kind.Sink
+joins-are One body may = let clash : false ≡ true = may in absurd (cc)
+joins-are Two (source file output) may = let clash : false ≡ true = may in absurd (cc)
+joins-are Two (fir input output shift taps) may = let clash : false ≡ true = may in absurd (cc)
+joins-are Two (split input outputs) may = let clash : false ≡ true = may in absurd (cc)
+joins-are Two (join inputs output) may = let clash : false ≡ true = may in absurd (cc)
+joins-are Two (peer input exchange output factor) may =
+    let clash : false ≡ true = may in absurd (cc)
+joins-are Two (sink input) may = refl
+
+-- a task that joins now is a sink, and has a parent
+may-join : (names : List Named) (version : Version) (body : BodyWords) (by : Option ByWords)
+    → IfSome by (λ by. IsBy by × MayHaveBy version body by) → joins_now by ≡ true
+    → (kind_of_body body ≡ kind.Sink) × IsSome (option_map (parent_of names) by)
+may-join names version body None is now = let clash : false ≡ true = now in absurd (cc)
+may-join names version body (Some by) is now = (joins-are version body (is.1.1 now), refl)
+
 -- ---- the line
 
 -- the number of the line is in no test
@@ -330,25 +397,23 @@ numbered before n body ends =
       signals = is.signals;
     })
 
-pub IsTaskLine-new : (before : Graph) (n : ℕ) (name : Word) (body : BodyWords) (ends : EndWords)
-    → IsGraph before → IsBody body → AreEnds (may_have_parent body) ends
+pub IsTaskLine-new : (version : Version) (before : Graph) (n : ℕ) (name : Word) (body : BodyWords)
+    (ends : EndWords) → IsGraph before → IsBody body → AreEnds version body ends
     → IsSound before name body ends
     → IsTaskLine before (length before.tasks) (task_line before.names n body ends)
-IsTaskLine-new before n name body ends is is_body are_ends sound =
+IsTaskLine-new version before n name body ends is is_body are_ends sound =
     let names = before.names in
     let are : AreNames before = is.names in
-    let Below : ℕ → Type 0 = λ p. p < length before.phasers in
-    let Room : ℕ → Type 0 = λ p. 1 ≤ (phaser_at before p).bound in
-    let room : (p : ℕ) → Below p → Room p = λ p lt. (is.phasers p lt).bound.0 in
+    let steps = block_of ends.block in
+    let Wide : ℕ → Type 0 = λ p. steps ≤ (phaser_at before p).bound in
+    let wide : (p : ℕ) → is_within_bound before steps p ≡ true → Wide p =
+    λ p. leb-true steps (phaser_at before p).bound in
     let known = both (list_all (is_phaser names) (inputs_of body))
     (list_all (is_phaser names) (outputs_of body))
     (sym (list_all-append (is_phaser names) (inputs_of body) (outputs_of body)) ∙ sound.phasers) in
     let together : numbers_of names (phasers_of body)
     ≡ numbers_of names (inputs_of body) ++ numbers_of names (outputs_of body) =
     map-append (number_in names) (inputs_of body) (outputs_of body) in
-    let allowed = weaken_some ends.by (λ _. may_have_parent body ≡ true)
-    (λ _. has_children (kind_of_body body) ≡ true) (λ _ e. sym (parents-are body) ∙ e)
-    (child-allowed (may_have_parent body) ends.by ends.until are_ends) in
     record {
       ends = count-ends names body sound.within;
       inputs = numbers-below before are (inputs_of body) known.0;
@@ -368,14 +433,14 @@ IsTaskLine-new before n name body ends is is_body are_ends sound =
       until = has-until ends.until sound.until;
       parent = numbered before n body ends
           (new-parent before are (task_line names 0 body ends) ends.by sound.known sound.at sound.may
-          sound.holds allowed);
+          sound.holds (child-allowed version body ends are_ends));
       block = record {
-        some = omega arith;
-        kind = λ _. refl;
-        inputs = All-weaker Below Room room (numbers_of names (inputs_of body))
-            (numbers-below before are (inputs_of body) known.0);
-        outputs = All-weaker Below Room room (numbers_of names (outputs_of body))
-            (numbers-below before are (outputs_of body) known.1);
+        some = block-some ends.block sound.block;
+        kind = block-kind version body ends.block are_ends.block;
+        inputs = each-passed (is_within_bound before steps) Wide wide
+            (numbers_of names (inputs_of body)) sound.waits;
+        outputs = each-passed (is_within_bound before steps) Wide wide
+            (numbers_of names (outputs_of body)) sound.signals;
       };
-      now = λ e. absurd (let no : false ≡ true = e in cc);
+      now = may-join names version body ends.by are_ends.by;
     }

@@ -1,14 +1,17 @@
 -- Lines that are read, one after another.
-use Rattle.std.proofs.Common.{ℕ, ◌≡◌, ◌<◌, ◌≤◌, ◌+◌, List, ◌∷◌, Bor, length, map, drop, get_or, refl, ap, sym, ◌∙◌, Result, Ok, Err, true, false, inl, inr, subst}
+use Rattle.std.proofs.Common.{ℕ, ◌≡◌, ◌<◌, ◌≤◌, ◌+◌, List, ◌∷◌, Bor, length, map, drop, get_or, refl, ap, sym, ◌∙◌, Result, Ok, Err, Bool, true, false, Option, Some, None, if◌then◌else◌, [], inl, inr, subst}
 use Rattle.std.proofs.lemmas.List.{drop_all}
 use Rattle.graph_text.specs.phase_base.Words.{Word}
 use Rattle.graph_text.specs.Texts.{words_of, are_printable, is_ignored}
 use Rattle.graph_text.specs.phase_base.Lists.{without_cr}
 use Rattle.graph_text.specs.Plain.{plain}
 use Rattle.graph_text.specs.Decls.{Decl, Declares, Spells}
-use Rattle.graph_base.specs.Graphs.{Graph, no_graph}
-use Rattle.graph_lang.specs.Reads.{Steps, Reads, Tells, fault_at, line_outcome}
-use Rattle.graph_lang.specs.Inside.{TellsDecl, TellsFault}
+use Rattle.graph_text.specs.Versions.{is_heading}
+use Rattle.graph_text.specs.declared.version.Version.{Version}
+use Rattle.graph_text.specs.declared.version.Version.TheVariants.{One, Two}
+use Rattle.graph_base.specs.Graphs.{Graph}
+use Rattle.graph_lang.specs.Reads.{version_of, emptied, without_heading, Steps, Reads, ReadsText, Tells, fault_at, line_outcome}
+use Rattle.graph_lang.specs.Inside.{TellsDecl, TellsFault, version_in, version_behind, version_at, line_read, ReadsOn}
 use Rattle.graph_lang.specs.Faults.{kind_of}
 use Rattle.graph_lang.specs.declared.fault.FaultKind.TheVariants.{Syntax}
 use Rattle.graph_lang.specs.declared.fault.GraphFault.{GraphFault}
@@ -19,43 +22,161 @@ use Rattle.graph_lang.proofs.Alls.{cut}
 -- ---- one line
 
 -- a line whose words spell a declaration
-pub declares : (line : List ℕ) (words : List Word) (d : Decl) → are_printable line ≡ true
-    → words ≡ words_of line → Spells words d → Declares line d
-declares line words d printable same spells =
-    let P : List Word → Type 0 = λ words. Spells words d in
+pub declares : (version : Version) (line : List ℕ) (words : List Word) (d : Decl)
+    → are_printable line ≡ true → words ≡ words_of line → Spells version words d
+    → Declares version line d
+declares version line words d printable same spells =
+    let P : List Word → Type 0 = λ words. Spells version words d in
     record { printable = printable; spells = subst P same spells }
 
 -- a line whose words spell no declaration
-pub declares-none : (line : List ℕ) (words : List Word) → words ≡ words_of line
-    → ((d : Decl) → ¬ (Spells words d)) → (d : Decl) → ¬ (Declares line d)
-declares-none line words same none d declared =
-    let P : List Word → Type 0 = λ words. Spells words d in
+pub declares-none : (version : Version) (line : List ℕ) (words : List Word)
+    → words ≡ words_of line → ((d : Decl) → ¬ (Spells version words d))
+    → (d : Decl) → ¬ (Declares version line d)
+declares-none version line words same none d declared =
+    let P : List Word → Type 0 = λ words. Spells version words d in
     none d (subst P (sym same) declared.spells)
 
 -- a line with a byte of no word
-pub declares-unprintable : (line : List ℕ) → are_printable line ≡ false
-    → (d : Decl) → ¬ (Declares line d)
-declares-unprintable line e d declared =
+pub declares-unprintable : (version : Version) (line : List ℕ) → are_printable line ≡ false
+    → (d : Decl) → ¬ (Declares version line d)
+declares-unprintable version line e d declared =
     let clash : true ≡ false = sym declared.printable ∙ e in absurd (cc)
 
 -- a line outside the grammar
-pub step-syntax : (n : ℕ) (before : Graph) (line : List ℕ) → is_ignored line ≡ false
-    → ((d : Decl) → ¬ (Declares line d)) → Steps n before line (fault_at n Syntax)
-step-syntax n before line going none = inr (inl (going, none, refl))
+pub step-syntax : (version : Version) (n : ℕ) (before : Graph) (line : List ℕ)
+    → is_ignored line ≡ false → ((d : Decl) → ¬ (Declares version line d))
+    → Steps version n before line (fault_at n Syntax)
+step-syntax version n before line going none = inr (inl (going, none, refl))
 
 -- a line of the grammar
-pub step-declared : (n : ℕ) (before : Graph) (line : List ℕ) (d : Decl)
-    (outcome : Result Graph GraphFault) → is_ignored line ≡ false → Declares line d
-    → outcome ≡ line_outcome n before d (kind_of before d) → Steps n before line outcome
-step-declared n before line d outcome going declared tells = inr (inr (going, d, declared, tells))
+pub step-declared : (version : Version) (n : ℕ) (before : Graph) (line : List ℕ) (d : Decl)
+    (outcome : Result Graph GraphFault) → is_ignored line ≡ false → Declares version line d
+    → outcome ≡ line_outcome n before d (kind_of before d) → Steps version n before line outcome
+step-declared version n before line d outcome going declared tells =
+    inr (inr (going, d, declared, tells))
 
 -- a line of the grammar that stopped the reading
-pub fault-declared : (n : ℕ) (before : Graph) (line : List ℕ) (d : Decl) (e : GraphRefusal)
-    → is_ignored line ≡ false → Declares line d → TellsDecl n before d (Err e)
-    → TellsFault n before line e
-fault-declared n before line d (refusal.Fault f) going declared tells =
-    step-declared n before line d (Err f) going declared tells
-fault-declared n before line d refusal.OutOfMemory going declared tells = tt
+pub fault-declared : (version : Version) (n : ℕ) (before : Graph) (line : List ℕ) (d : Decl)
+    (e : GraphRefusal) → is_ignored line ≡ false → Declares version line d
+    → TellsDecl n before d (Err e) → TellsFault version n before line e
+fault-declared version n before line d (refusal.Fault f) going declared tells =
+    step-declared version n before line d (Err f) going declared tells
+fault-declared version n before line d refusal.OutOfMemory going declared tells = tt
+
+-- ---- a line, where the version is known or not
+
+-- an ignored line comes to the same in each version
+step-ignored : (version other : Version) (n : ℕ) (before : Graph) (line same : List ℕ)
+    (outcome : Result Graph GraphFault) → is_ignored line ≡ true → is_ignored same ≡ true
+    → Steps version n before line outcome → Steps other n before same outcome
+step-ignored version other n before line same outcome e also (inl (is, told)) = inl (also, told)
+step-ignored version other n before line same outcome e also (inr (inl (is, none, told))) =
+    let clash : true ≡ false = sym e ∙ is in absurd (cc)
+step-ignored version other n before line same outcome e also (inr (inr (is, d, declares, told))) =
+    let clash : true ≡ false = sym e ∙ is in absurd (cc)
+
+emptied-ignored : (heading : Bool) (line : List ℕ) → is_ignored line ≡ true
+    → is_ignored (if heading then [] else line) ≡ true
+emptied-ignored true line e = refl
+emptied-ignored false line e = e
+
+-- what a line comes to by itself, it comes to as the first of those that are left
+first-step : (n : ℕ) (before : Graph) (line : List ℕ) (lines : List (List ℕ))
+    (outcome : Result Graph GraphFault) → Steps One n before (emptied line) outcome
+    → (ignored heading : Bool) → is_ignored line ≡ ignored → is_heading (words_of line) ≡ heading
+    → Steps (if ignored then version_of lines else if heading then Two else One) n before
+    (if ignored then line else emptied line) outcome
+first-step n before line lines outcome step true heading e h =
+    step-ignored One (version_of lines) n before (emptied line) line outcome
+    (emptied-ignored (is_heading (words_of line)) line e) e step
+first-step n before line lines outcome step false true e h =
+    let gone : emptied line ≡ [] = ap (λ b. if b then [] else line) h in
+    let none : is_ignored (emptied line) ≡ true = ap is_ignored gone in
+    step-ignored One Two n before (emptied line) (emptied line) outcome none none step
+first-step n before line lines outcome step false false e h = step
+
+-- a line that was read, and those after it
+more-lines : (n : ℕ) (before after : Graph) (line : List ℕ) (lines : List (List ℕ))
+    (outcome : Result Graph GraphFault) (ignored heading : Bool)
+    → Steps (if ignored then version_of lines else if heading then Two else One) n before
+    (if ignored then line else emptied line) (Ok after)
+    → ReadsOn (if ignored then None else if heading then Some Two else Some One) (n + 1) after lines
+    outcome
+    → Reads (if ignored then version_of lines else if heading then Two else One) n before
+    (if ignored then line ∷ without_heading lines else emptied line ∷ lines) outcome
+more-lines n before after line lines outcome true heading step rest = inr (after, step, rest)
+more-lines n before after line lines outcome false true step rest = inr (after, step, rest)
+more-lines n before after line lines outcome false false step rest = inr (after, step, rest)
+
+-- a line that stopped the reading
+fault-line : (n : ℕ) (before : Graph) (line : List ℕ) (lines : List (List ℕ)) (f : GraphFault)
+    (ignored heading : Bool)
+    → Steps (if ignored then version_of lines else if heading then Two else One) n before
+    (if ignored then line else emptied line) (Err f)
+    → Reads (if ignored then version_of lines else if heading then Two else One) n before
+    (if ignored then line ∷ without_heading lines else emptied line ∷ lines) (Err f)
+fault-line n before line lines f true heading step = inl (f, step, refl)
+fault-line n before line lines f false true step = inl (f, step, refl)
+fault-line n before line lines f false false step = inl (f, step, refl)
+
+reads-more : (known : Option Version) (n : ℕ) (before after : Graph) (line : List ℕ)
+    (lines : List (List ℕ)) (outcome : Result Graph GraphFault)
+    → Steps (version_at known) n before (line_read known line) (Ok after)
+    → ReadsOn (version_behind known line) (n + 1) after lines outcome
+    → ReadsOn known n before (line ∷ lines) outcome
+reads-more (Some version) n before after line lines outcome step rest = inr (after, step, rest)
+reads-more None n before after line lines outcome step rest =
+    let ignored = is_ignored line in
+    let heading = is_heading (words_of line) in
+    more-lines n before after line lines outcome ignored heading
+    (first-step n before line lines (Ok after) step ignored heading refl refl) rest
+
+reads-fault : (known : Option Version) (n : ℕ) (before : Graph) (line : List ℕ)
+    (lines : List (List ℕ)) (f : GraphFault)
+    → Steps (version_at known) n before (line_read known line) (Err f)
+    → ReadsOn known n before (line ∷ lines) (Err f)
+reads-fault (Some version) n before line lines f step = inl (f, step, refl)
+reads-fault None n before line lines f step =
+    let ignored = is_ignored line in
+    let heading = is_heading (words_of line) in
+    fault-line n before line lines f ignored heading
+    (first-step n before line lines (Err f) step ignored heading refl refl)
+
+reads-end : (known : Option Version) (n : ℕ) (before : Graph)
+    → ReadsOn known n before [] (Ok before)
+reads-end (Some version) n before = refl
+reads-end None n before = refl
+
+-- a line that is read in a version is no heading
+pub known-version : (known : Option Version) (line : List ℕ) (version : Version)
+    → is_ignored line ≡ false → Some version ≡ version_in known (words_of line)
+    → (version_at known ≡ version) × (line_read known line ≡ line)
+    × (Some version ≡ version_behind known line)
+known-version (Some other) line version going e =
+    let same : version ≡ other = cc in (sym same, refl, e)
+known-version None line version going e = at (is_heading (words_of line)) e
+  where
+    at : (heading : Bool) → Some version ≡ (if heading then None else Some One)
+        → (One ≡ version) × ((if heading then [] else line) ≡ line)
+        × (Some version
+        ≡ (if is_ignored line then None else if heading then Some Two else Some One))
+    at true none = absurd (cc)
+    at false e = let same : version ≡ One = cc in (sym same, refl, rw going e)
+
+-- a line that is read in no version is the heading, where none is known above it
+pub heading-steps : (known : Option Version) (n : ℕ) (before : Graph) (line : List ℕ)
+    → is_ignored line ≡ false → None ≡ version_in known (words_of line)
+    → (Some Two ≡ version_behind known line)
+    × Steps (version_at known) n before (line_read known line) (Ok before)
+heading-steps (Some version) n before line going e = absurd (cc)
+heading-steps None n before line going e = at (is_heading (words_of line)) e
+  where
+    at : (heading : Bool) → None ≡ (if heading then None else Some One)
+        → (Some Two ≡ (if is_ignored line then None else if heading then Some Two else Some One))
+        × Steps One n before (if heading then [] else line) (Ok before)
+    at true e = (rw going refl, inl (refl, refl))
+    at false e = absurd (cc)
 
 -- ---- line after line
 
@@ -67,32 +188,47 @@ pub lines_in-drop : (pieces : List (Bor (List ℕ))) (i : ℕ) (d : Bor (List �
     → lines_in (drop i pieces) ≡ without_cr (get_or pieces i d).now ∷ lines_in (drop (i + 1) pieces)
 lines_in-drop pieces i d below = ap lines_in (cut pieces i d below)
 
--- reading the pieces from i on, as lines from n on, reads the whole text
-abbrev pub Continues : List (Bor (List ℕ)) → ℕ → ℕ → Graph → Type 0
-Continues pieces i n before = (outcome : Result Graph GraphFault)
-    → Reads n before (lines_in (drop i pieces)) outcome → Reads 1 no_graph (lines_in pieces) outcome
+-- reading the pieces from i on, as lines from n on, where this version is known, reads the whole
+-- text
+abbrev pub Continues : List (Bor (List ℕ)) → ℕ → ℕ → Option Version → Graph → Type 0
+Continues pieces i n known before = (outcome : Result Graph GraphFault)
+    → ReadsOn known n before (lines_in (drop i pieces)) outcome
+    → ReadsText (lines_in pieces) outcome
 
 -- a line that was read, and those after it
-pub continues-more : (pieces : List (Bor (List ℕ))) (i n : ℕ) (before after : Graph)
-    (d : Bor (List ℕ)) → i < length pieces → Continues pieces i n before
-    → Steps n before (without_cr (get_or pieces i d).now) (Ok after)
-    → Continues pieces (i + 1) (n + 1) after
-continues-more pieces i n before after d below so_far step outcome rest =
-    let P : List (List ℕ) → Type 0 = λ lines. Reads n before lines outcome in
-    so_far outcome (subst P (sym (lines_in-drop pieces i d below)) (inr (after, step, rest)))
+pub continues-more : (pieces : List (Bor (List ℕ))) (i n : ℕ) (known next : Option Version)
+    (before after : Graph) (d : Bor (List ℕ)) → i < length pieces
+    → Continues pieces i n known before
+    → next ≡ version_behind known (without_cr (get_or pieces i d).now)
+    → Steps (version_at known) n before (line_read known (without_cr (get_or pieces i d).now))
+    (Ok after) → Continues pieces (i + 1) (n + 1) next after
+continues-more pieces i n known next before after d below so_far same step outcome rest =
+    let line = without_cr (get_or pieces i d).now in
+    let lines = lines_in (drop (i + 1) pieces) in
+    let P : List (List ℕ) → Type 0 = λ lines. ReadsOn known n before lines outcome in
+    let Q : Option Version → Type 0 = λ known. ReadsOn known (n + 1) after lines outcome in
+    so_far outcome (subst P (sym (lines_in-drop pieces i d below))
+    (reads-more known n before after line lines outcome step (subst Q same rest)))
 
 -- a line that stopped the reading
-pub continues-fault : (pieces : List (Bor (List ℕ))) (i n : ℕ) (before : Graph) (d : Bor (List ℕ))
-    (e : GraphRefusal) → i < length pieces → Continues pieces i n before
-    → TellsFault n before (without_cr (get_or pieces i d).now) e → Tells (lines_in pieces) (Err e)
-continues-fault pieces i n before d (refusal.Fault f) below so_far step =
-    let P : List (List ℕ) → Type 0 = λ lines. Reads n before lines (Err f) in
-    so_far (Err f) (subst P (sym (lines_in-drop pieces i d below)) (inl (f, step, refl)))
-continues-fault pieces i n before d refusal.OutOfMemory below so_far step = tt
+pub continues-fault : (pieces : List (Bor (List ℕ))) (i n : ℕ) (known : Option Version)
+    (before : Graph) (d : Bor (List ℕ)) (e : GraphRefusal) → i < length pieces
+    → Continues pieces i n known before
+    → TellsFault (version_at known) n before
+    (line_read known (without_cr (get_or pieces i d).now)) e
+    → Tells (lines_in pieces) (Err e)
+continues-fault pieces i n known before d (refusal.Fault f) below so_far step =
+    let line = without_cr (get_or pieces i d).now in
+    let P : List (List ℕ) → Type 0 = λ lines. ReadsOn known n before lines (Err f) in
+    so_far (Err f) (subst P (sym (lines_in-drop pieces i d below))
+    (reads-fault known n before line (lines_in (drop (i + 1) pieces)) f step))
+continues-fault pieces i n known before d refusal.OutOfMemory below so_far step = tt
 
 -- no line is left
-pub continues-all : (pieces : List (Bor (List ℕ))) (i n : ℕ) (before : Graph) → length pieces ≤ i
-    → Continues pieces i n before → Reads 1 no_graph (lines_in pieces) (Ok before)
-continues-all pieces i n before above so_far =
-    let P : List (Bor (List ℕ)) → Type 0 = λ pieces. Reads n before (lines_in pieces) (Ok before) in
-    so_far (Ok before) (subst P (sym (drop_all i pieces above)) refl)
+pub continues-all : (pieces : List (Bor (List ℕ))) (i n : ℕ) (known : Option Version)
+    (before : Graph) → length pieces ≤ i → Continues pieces i n known before
+    → ReadsText (lines_in pieces) (Ok before)
+continues-all pieces i n known before above so_far =
+    let P : List (Bor (List ℕ)) → Type 0 = λ pieces.
+    ReadsOn known n before (lines_in pieces) (Ok before) in
+    so_far (Ok before) (subst P (sym (drop_all i pieces above)) (reads-end known n before))

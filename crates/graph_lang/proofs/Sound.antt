@@ -9,11 +9,11 @@ use Rattle.graph_text.specs.Decls.{phaser, task, FunctionWords, BodyWords, ByWor
 use Rattle.graph_base.specs.Graphs.{Graph, Task}
 use Rattle.graph_base.specs.Names.{place_of}
 use Rattle.graph_lang.specs.WordValues.{task_line, files_in}
-use Rattle.graph_lang.specs.Faults.{kind_of, phasers_of, is_past_limit, are_distinct, is_phaser, is_parent_known, is_in_order, may_be_parent, is_held, is_phaser_within}
+use Rattle.graph_lang.specs.Faults.{kind_of, phasers_of, is_past_limit, are_distinct, is_phaser, is_parent_known, is_in_order, may_be_parent, is_held, is_block_within, is_phaser_within}
 use Rattle.graph_lang.specs.Inside.{last_kind}
 use Rattle.graph_lang.specs.Reads.{with_line}
 use Rattle.graph_base.specs.declared.limits.TheConstants.{PHASERS_MAX}
-use Rattle.graph_lang.specs.declared.fault.FaultKind.TheVariants.{Limit, Twice, Unknown, OutBeforeIn, BadParent, NotHeld}
+use Rattle.graph_lang.specs.declared.fault.FaultKind.TheVariants.{Limit, Twice, Unknown, OutBeforeIn, BadParent, NotHeld, OverBound}
 use Rattle.graph_lang.specs.declared.fault.FaultKind.{FaultKind}
 use Rattle.graph_base.specs.declared.place.Place.TheVariants as place
 
@@ -78,6 +78,7 @@ later_kind before name phasers by t = first_row (
     ∷ (not (is_in_order t), OutBeforeIn)
     ∷ (not (may_be_parent before t.parent), BadParent)
     ∷ (not (is_held before t), NotHeld)
+    ∷ (not (is_block_within before t), OverBound)
     ∷ [])
 
 -- a task's line that passes a limit has that fault first

@@ -13,6 +13,7 @@ use Rattle.graph_text.specs.phase_base.Words.{Word, is_name, is_file}
 use Rattle.graph_text.specs.Numbers.{nat_value, int_value}
 use Rattle.graph_text.specs.phase_base.declared.operation.Op.{Op}
 use Rattle.graph_text.specs.Decls.{Decl, phaser, task, FunctionWords, neg, abs, halve, clamp, BodyWords, source, fir, split, join, peer, sink, EndWords, IsBody, IsWellFormed}
+use Rattle.graph_text.specs.declared.version.Version.{Version}
 use Rattle.graph_base.specs.Graphs.{Graph, no_graph, no_task, no_phaser, Task, IsPlace, is_same_place, task_at, sources_among, is_source}
 use Rattle.graph_base.specs.Names.{place_of}
 use Rattle.graph_lang.specs.WordValues.{phaser_line, single_of, task_line, kind_of_body, files_in}
@@ -268,10 +269,11 @@ lines-more before after line more counted above lines =
           (λ t less. rw (old t less) (above t less)) u below t less);
     }
 
-task-keeps : (before : Graph) (n : ℕ) (name : Word) (body : BodyWords) (ends : EndWords)
-    → IsWellFormed (task name body ends) → IsSound before name body ends → 1 ≤ n
-    → AreAbove n before → IsGraph before → IsGraph (with_line before n (task name body ends))
-task-keeps before n name body ends formed sound counted above is =
+task-keeps : (version : Version) (before : Graph) (n : ℕ) (name : Word) (body : BodyWords)
+    (ends : EndWords) → IsWellFormed version (task name body ends) → IsSound before name body ends
+    → 1 ≤ n → AreAbove n before → IsGraph before
+    → IsGraph (with_line before n (task name body ends))
+task-keeps version before n name body ends formed sound counted above is =
     let line = task_line before.names n body ends in
     let after = with_line before n (task name body ends) in
     let long = length_push before.tasks line in
@@ -281,7 +283,7 @@ task-keeps before n name body ends formed sound counted above is =
       phaser = λ p below. refl;
       task = λ t below. get_or_append_left before.tasks (line ∷ []) no_task t below;
     } in
-    let new = IsTaskLine-new before n name body ends is formed.1 formed.2 sound in
+    let new = IsTaskLine-new version before n name body ends is formed.1 formed.2 sound in
     record {
       few_phasers = is.few_phasers;
       few_tasks = omega (arith, long, few);
@@ -303,13 +305,15 @@ task-keeps before n name body ends formed sound counted above is =
     }
 
 -- a line without fault keeps it
-pub line-keeps : (before : Graph) (n : ℕ) (d : Decl) → IsWellFormed d → kind_of before d ≡ None
-    → 1 ≤ n → AreAbove n before → IsGraph before → IsGraph (with_line before n d)
-line-keeps before n (phaser name operation bound function) formed e counted above is =
+pub line-keeps : (version : Version) (before : Graph) (n : ℕ) (d : Decl) → IsWellFormed version d
+    → kind_of before d ≡ None → 1 ≤ n → AreAbove n before → IsGraph before
+    → IsGraph (with_line before n d)
+line-keeps version before n (phaser name operation bound function) formed e counted above is =
     phaser-keeps before n name operation bound function formed.0
     (phaser-sound before name operation bound function e) is
-line-keeps before n (task name body ends) formed e counted above is =
-    task-keeps before n name body ends formed (task-sound before name body ends e) counted above is
+line-keeps version before n (task name body ends) formed e counted above is =
+    task-keeps version before n name body ends formed (task-sound before name body ends e) counted
+    above is
 
 line-above : (before : Graph) (n : ℕ) (d : Decl) → AreAbove n before
     → AreAbove (n + 1) (with_line before n d)
@@ -326,23 +330,24 @@ pub record IsBefore (n : ℕ) (graph : Graph) : Type 0 where
   pub above : AreAbove n graph
   pub is : IsGraph graph
 
-told-keeps : (before after : Graph) (n : ℕ) (d : Decl) (fault : Option FaultKind)
-    → kind_of before d ≡ fault → IsWellFormed d → IsBefore n before
+told-keeps : (version : Version) (before after : Graph) (n : ℕ) (d : Decl)
+    (fault : Option FaultKind) → kind_of before d ≡ fault → IsWellFormed version d
+    → IsBefore n before
     → Ok after ≡ line_outcome n before d fault → IsBefore (n + 1) after
-told-keeps before after n d (Some kind) e formed is line_outcome =
+told-keeps version before after n d (Some kind) e formed is line_outcome =
     let clash : Ok after ≡ fault_at n kind = line_outcome in absurd (cc)
-told-keeps before after n d None e formed is line_outcome =
+told-keeps version before after n d None e formed is line_outcome =
     let same : Ok after ≡ Ok (with_line before n d) = line_outcome in
     let one : after ≡ with_line before n d = cc in
     subst (IsBefore (n + 1)) (sym one) (record {
       counted = omega arith;
       above = line-above before n d is.above;
-      is = line-keeps before n d formed e is.counted is.above is.is;
+      is = line-keeps version before n d formed e is.counted is.above is.is;
     })
 
-step-keeps : (n : ℕ) (before : Graph) (line : List ℕ) (after : Graph)
-    → Steps n before line (Ok after) → IsBefore n before → IsBefore (n + 1) after
-step-keeps n before line after (inl (ignored, e)) is =
+step-keeps : (version : Version) (n : ℕ) (before : Graph) (line : List ℕ) (after : Graph)
+    → Steps version n before line (Ok after) → IsBefore n before → IsBefore (n + 1) after
+step-keeps version n before line after (inl (ignored, e)) is =
     let same : Ok after ≡ Ok before = e in
     let one : after ≡ before = cc in
     subst (IsBefore (n + 1)) (sym one) (record {
@@ -350,27 +355,28 @@ step-keeps n before line after (inl (ignored, e)) is =
       above = above-next n before is.above;
       is = is.is;
     })
-step-keeps n before line after (inr (inl (words, none, e))) is =
+step-keeps version n before line after (inr (inl (words, none, e))) is =
     let clash : Ok after ≡ fault_at n Syntax = e in absurd (cc)
-step-keeps n before line after (inr (inr (words, d, declares, e))) is =
-    told-keeps before after n d (kind_of before d) refl declares.spells.well_formed is e
+step-keeps version n before line after (inr (inr (words, d, declares, e))) is =
+    told-keeps version before after n d (kind_of before d) refl declares.spells.well_formed is e
 
-pub reads-keep : (n : ℕ) (before : Graph) (lines : List (List ℕ)) (graph : Graph)
-    → Reads n before lines (Ok graph) → IsBefore n before → IsGraph graph
-reads-keep n before [] graph reads is =
+pub reads-keep : (version : Version) (n : ℕ) (before : Graph) (lines : List (List ℕ))
+    (graph : Graph) → Reads version n before lines (Ok graph) → IsBefore n before → IsGraph graph
+reads-keep version n before [] graph reads is =
     let same : Ok graph ≡ Ok before = reads in
     let one : graph ≡ before = cc in
     subst IsGraph (sym one) is.is
-reads-keep n before (line ∷ lines) graph (inl (f, stops, e)) is =
+reads-keep version n before (line ∷ lines) graph (inl (f, stops, e)) is =
     let clash : Ok graph ≡ Err f = e in absurd (cc)
-reads-keep n before (line ∷ lines) graph (inr (after, steps, reads)) is =
-    reads-keep (n + 1) after lines graph reads (step-keeps n before line after steps is)
+reads-keep version n before (line ∷ lines) graph (inr (after, steps, reads)) is =
+    reads-keep version (n + 1) after lines graph reads
+    (step-keeps version n before line after steps is)
 
 -- the graph that lines declare
-pub reads_give_graph : (lines : List (List ℕ)) (graph : Graph)
-    → Reads 1 no_graph lines (Ok graph) → IsGraph graph
-reads_give_graph lines graph reads =
-    reads-keep 1 no_graph lines graph reads (record {
+pub reads_give_graph : (version : Version) (lines : List (List ℕ)) (graph : Graph)
+    → Reads version 1 no_graph lines (Ok graph) → IsGraph graph
+reads_give_graph version lines graph reads =
+    reads-keep version 1 no_graph lines graph reads (record {
       counted = omega arith;
       above = λ t below. absurd (omega (arith, below));
       is = no_graph-is;

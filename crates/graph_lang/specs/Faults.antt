@@ -19,7 +19,7 @@ use Rattle.graph_base.specs.declared.line.Kind.{Kind}
 use Rattle.graph_base.specs.declared.line.Kind.TheVariants as kind
 use Rattle.graph_base.specs.declared.line.Parent.{Parent}
 use Rattle.graph_lang.specs.declared.fault.FaultKind.{FaultKind}
-use Rattle.graph_lang.specs.declared.fault.FaultKind.TheVariants.{Limit, Twice, Unknown, OutBeforeIn, BadParent, NotHeld}
+use Rattle.graph_lang.specs.declared.fault.FaultKind.TheVariants.{Limit, Twice, Unknown, OutBeforeIn, BadParent, NotHeld, OverBound}
 use Rattle.graph_base.specs.stream_filters.declared.fir.TheConstants.{TAPS_MAX, TAP_MAX, SHIFT_MAX}
 
 -- ---- limits
@@ -65,10 +65,12 @@ is_body_within (sink input) = true
 abbrev pub is_count_within : Word → Bool
 is_count_within count = nat_le (nat_value count) STEPS_MAX
 
--- whether the numbers of steps behind `at` and `until` are within their limit
+-- whether the numbers of steps behind `at`, `until` and `block=` are within their limits, which are
+-- those of a bound for a block
 abbrev pub are_ends_within : EndWords → Bool
 are_ends_within ends = option_map_or (λ by. is_count_within by.at) ends.by true
     && option_map_or is_count_within ends.until true
+    && option_map_or is_bound_within ends.block true
 
 -- whether a number of a line is past its limit, or the graph has no room for it
 abbrev pub is_past_limit : Graph → Decl → Bool
@@ -138,7 +140,7 @@ may_be_parent before (Some parent) =
     has_children (task_at before parent.task).kind
     && not (task_at before parent.task).joins_now
 
--- whether the parent of a line is of a kind that has no children
+-- whether the parent of a line is of a kind that has no children, or joins now
 abbrev pub is_bad_parent : Graph → Decl → Bool
 is_bad_parent before (phaser name operation bound single) = false
 is_bad_parent before (task name body ends) =
@@ -169,6 +171,23 @@ is_not_held before (phaser name operation bound single) = false
 is_not_held before (task name body ends) =
     not (is_held before (task_line before.names 0 body ends))
 
+-- ---- blocks
+
+-- whether a block of so many steps is at most the bound of phaser p
+abbrev pub is_within_bound : Graph → ℕ → ℕ → Bool
+is_within_bound before block p = nat_le block (phaser_at before p).bound
+
+-- whether the block of a task is at most the bound of each of its phasers
+abbrev pub is_block_within : Graph → Task → Bool
+is_block_within before t = list_all (is_within_bound before t.block) t.inputs
+    && list_all (is_within_bound before t.block) t.outputs
+
+-- whether the block of a line is above the bound of a phaser of the line
+abbrev pub is_over_bound : Graph → Decl → Bool
+is_over_bound before (phaser name operation bound single) = false
+is_over_bound before (task name body ends) =
+    not (is_block_within before (task_line before.names 0 body ends))
+
 -- ---- the order of the kinds
 
 -- the first kind of fault of a line, after the lines above it
@@ -180,4 +199,5 @@ kind_of before d = first_row (
     ∷ (is_out_before_in before d, OutBeforeIn)
     ∷ (is_bad_parent before d, BadParent)
     ∷ (is_not_held before d, NotHeld)
+    ∷ (is_over_bound before d, OverBound)
     ∷ [])

@@ -1,16 +1,22 @@
 -- What the code keeps while it reads a graph: the numbers of a line, and what a line comes to.
-use Rattle.std.specs.Prelude.{◌≡◌, option_map, ℕ, not, List, [], ◌∷◌, Option, Result, Ok, Err}
+use Rattle.std.specs.Prelude.{◌≡◌, option_map, ℕ, not, List, [], ◌∷◌, Option, Some, None, Result, Ok, Err, if◌then◌else◌}
 use Rattle.graph_text.specs.Numbers.{nat_value}
 use Rattle.graph_text.specs.Decls.{BodyWords, EndWords, Decl}
+use Rattle.graph_text.specs.Texts.{words_of, is_ignored}
+use Rattle.graph_text.specs.Versions.{is_heading}
+use Rattle.graph_text.specs.declared.version.Version.{Version}
+use Rattle.graph_text.specs.declared.version.Version.TheVariants.{One, Two}
+use Rattle.graph_text.specs.phase_base.Words.{Word}
 use Rattle.graph_text.specs.phase_base.Lists.{first_row}
 use Rattle.graph_base.specs.Graphs.{Graph, Task}
-use Rattle.graph_lang.specs.WordValues.{taps_of, shift_of, factor_of}
+use Rattle.graph_lang.specs.WordValues.{taps_of, shift_of, factor_of, block_of}
 use Rattle.graph_lang.specs.declared.within.Numbers.{Numbers}
 use Rattle.graph_lang.specs.declared.within.EndNumbers.{EndNumbers}
-use Rattle.graph_lang.specs.Faults.{is_in_order, may_be_parent, is_held, kind_of}
+use Rattle.graph_lang.specs.Faults.{is_in_order, may_be_parent, is_held, is_block_within, kind_of}
 use Rattle.graph_lang.specs.declared.fault.FaultKind.{FaultKind}
-use Rattle.graph_lang.specs.declared.fault.FaultKind.TheVariants.{OutBeforeIn, BadParent, NotHeld}
-use Rattle.graph_lang.specs.Reads.{line_outcome, Steps}
+use Rattle.graph_lang.specs.declared.fault.FaultKind.TheVariants.{OutBeforeIn, BadParent, NotHeld, OverBound}
+use Rattle.graph_lang.specs.Reads.{version_of, emptied, without_heading, line_outcome, Steps, Reads}
+use Rattle.graph_lang.specs.declared.fault.GraphFault.{GraphFault}
 use Rattle.graph_lang.specs.declared.fault.GraphRefusal.{GraphRefusal}
 use Rattle.graph_lang.specs.declared.fault.GraphRefusal.TheVariants as refusal
 
@@ -25,6 +31,7 @@ abbrev pub steps_in : EndWords → EndNumbers
 steps_in ends = record {
   at = option_map (λ by. nat_value by.at) ends.by;
   until = option_map nat_value ends.until;
+  block = block_of ends.block;
 }
 
 -- the first kind after Unknown of a task's line, of the task
@@ -33,6 +40,7 @@ last_kind before t = first_row (
     (not (is_in_order t), OutBeforeIn)
     ∷ (not (may_be_parent before t.parent), BadParent)
     ∷ (not (is_held before t), NotHeld)
+    ∷ (not (is_block_within before t), OverBound)
     ∷ [])
 
 -- what line n of the grammar, which declares d, comes to, unless memory ran out
@@ -41,7 +49,37 @@ TellsDecl n before d (Ok after) = Ok after ≡ line_outcome n before d (kind_of 
 TellsDecl n before d (Err (refusal.Fault f)) = Err f ≡ line_outcome n before d (kind_of before d)
 TellsDecl n before d (Err refusal.OutOfMemory) = Unit {0}
 
--- why a line stopped the reading, unless memory ran out
-abbrev pub TellsFault : ℕ → Graph → List ℕ → GraphRefusal → Type 0
-TellsFault n before line (refusal.Fault f) = Steps n before line (Err f)
-TellsFault n before line refusal.OutOfMemory = Unit {0}
+-- why a line stopped the reading of a text of this version, unless memory ran out
+abbrev pub TellsFault : Version → ℕ → Graph → List ℕ → GraphRefusal → Type 0
+TellsFault version n before line (refusal.Fault f) = Steps version n before line (Err f)
+TellsFault version n before line refusal.OutOfMemory = Unit {0}
+
+-- ---- the version, which is known from the first line on that is not ignored
+
+-- the version that is known behind a line, where this one is known above it
+abbrev pub version_behind : Option Version → List ℕ → Option Version
+version_behind (Some version) line = Some version
+version_behind None line =
+    if is_ignored line then None else if is_heading (words_of line) then Some Two else Some One
+
+-- the version in which a line of these words is read, where this one is known above it; none of a
+-- heading
+abbrev pub version_in : Option Version → List Word → Option Version
+version_in (Some version) words = Some version
+version_in None words = if is_heading words then None else Some One
+
+-- the version in which a line is read, where this one is known above it
+abbrev pub version_at : Option Version → Version
+version_at (Some version) = version
+version_at None = One
+
+-- a line, or an empty one in the place of a heading, which may stand where no version is known
+abbrev pub line_read : Option Version → List ℕ → List ℕ
+line_read (Some version) line = line
+line_read None line = emptied line
+
+-- the lines from number n on, after lines above them, where this version is known from those
+abbrev pub ReadsOn : Option Version → ℕ → Graph → List (List ℕ) → Result Graph GraphFault → Type 0
+ReadsOn (Some version) n before lines outcome = Reads version n before lines outcome
+ReadsOn None n before lines outcome =
+    Reads (version_of lines) n before (without_heading lines) outcome

@@ -1,6 +1,10 @@
--- What a text declares, line by line, and which fault is its first.
-use Rattle.std.specs.Prelude.{ℕ, ◌≡◌, ◌+◌, true, false, List, [], ◌∷◌, ◌++◌, length, Option, Some, None, Result, Ok, Err, ◌⊎◌}
-use Rattle.graph_text.specs.Texts.{is_ignored}
+-- What a text declares, line by line in the version that its heading tells, and which fault is its
+-- first.
+use Rattle.std.specs.Prelude.{if◌then◌else◌, ℕ, ◌≡◌, ◌+◌, true, false, List, [], ◌∷◌, ◌++◌, length, Option, Some, None, Result, Ok, Err, ◌⊎◌}
+use Rattle.graph_text.specs.Texts.{words_of, is_ignored}
+use Rattle.graph_text.specs.Versions.{is_heading}
+use Rattle.graph_text.specs.declared.version.Version.{Version}
+use Rattle.graph_text.specs.declared.version.Version.TheVariants.{One, Two}
 use Rattle.graph_text.specs.Decls.{Decl, phaser, task, Declares}
 use Rattle.graph_base.specs.Graphs.{Graph, no_graph}
 use Rattle.graph_lang.specs.WordValues.{phaser_line, task_line, files_in}
@@ -11,6 +15,27 @@ use Rattle.graph_lang.specs.declared.fault.GraphFault.{GraphFault}
 use Rattle.graph_lang.specs.declared.fault.GraphRefusal.{GraphRefusal}
 use Rattle.graph_lang.specs.declared.fault.GraphRefusal.TheVariants as refusal
 use Rattle.graph_base.specs.declared.place.Place.TheVariants as place
+
+-- ---- the version
+
+-- the version of a text: the second where the first of its lines that is not ignored is the heading
+abbrev pub version_of : List (List ℕ) → Version
+version_of [] = One
+version_of (line ∷ lines) =
+    if is_ignored line then version_of lines
+    else if is_heading (words_of line) then Two else One
+
+-- an empty line, which is ignored, in the place of a heading
+abbrev pub emptied : List ℕ → List ℕ
+emptied line = if is_heading (words_of line) then [] else line
+
+-- the lines of a text, with an empty one in the place of its heading
+abbrev pub without_heading : List (List ℕ) → List (List ℕ)
+without_heading [] = []
+without_heading (line ∷ lines) =
+    if is_ignored line then line ∷ without_heading lines else emptied line ∷ lines
+
+-- ---- the lines
 
 -- the graph with what line n declares
 abbrev pub with_line : Graph → ℕ → Decl → Graph
@@ -36,25 +61,32 @@ abbrev pub line_outcome : ℕ → Graph → Decl → Option FaultKind → Result
 line_outcome n before d (Some kind) = fault_at n kind
 line_outcome n before d None = Ok (with_line before n d)
 
--- line n, after the lines above it: it is ignored, or it is not in the grammar, or it declares d
-abbrev pub Steps : ℕ → Graph → List ℕ → Result Graph GraphFault → Type 0
-Steps n before line outcome =
+-- line n of a text of this version, after the lines above it: it is ignored, or it is not in the
+-- grammar, or it declares d
+abbrev pub Steps : Version → ℕ → Graph → List ℕ → Result Graph GraphFault → Type 0
+Steps version n before line outcome =
     ((is_ignored line ≡ true) × (outcome ≡ Ok before))
-    ⊎ ((is_ignored line ≡ false) × ((d : Decl) → ¬ (Declares line d))
+    ⊎ ((is_ignored line ≡ false) × ((d : Decl) → ¬ (Declares version line d))
     × (outcome ≡ fault_at n Syntax))
-    ⊎ ((is_ignored line ≡ false)
-    × (d : Decl) × Declares line d × (outcome ≡ line_outcome n before d (kind_of before d)))
+    ⊎ ((is_ignored line ≡ false) × (d : Decl) × Declares version line d
+    × (outcome ≡ line_outcome n before d (kind_of before d)))
 
 -- the lines from number n on, after the lines above them: the graph that all of them declare, or
 -- the first fault
-abbrev pub Reads : ℕ → Graph → List (List ℕ) → Result Graph GraphFault → Type 0
-Reads n before [] outcome = outcome ≡ Ok before
-Reads n before (line ∷ lines) outcome =
-    ((f : GraphFault) × Steps n before line (Err f) × (outcome ≡ Err f))
-    ⊎ ((after : Graph) × Steps n before line (Ok after) × Reads (n + 1) after lines outcome)
+abbrev pub Reads : Version → ℕ → Graph → List (List ℕ) → Result Graph GraphFault → Type 0
+Reads version n before [] outcome = outcome ≡ Ok before
+Reads version n before (line ∷ lines) outcome =
+    ((f : GraphFault) × Steps version n before line (Err f) × (outcome ≡ Err f))
+    ⊎ ((after : Graph) × Steps version n before line (Ok after)
+    × Reads version (n + 1) after lines outcome)
 
--- the graph that the lines declare, or their first fault, unless memory ran out
+-- a text of these lines, read in its version, but for its heading
+abbrev pub ReadsText : List (List ℕ) → Result Graph GraphFault → Type 0
+ReadsText lines outcome =
+    Reads (version_of lines) 1 no_graph (without_heading lines) outcome
+
+-- the graph that the lines of a text declare, or their first fault, unless memory ran out
 abbrev pub Tells : List (List ℕ) → Result Graph GraphRefusal → Type 0
-Tells lines (Ok graph) = Reads 1 no_graph lines (Ok graph)
-Tells lines (Err (refusal.Fault f)) = Reads 1 no_graph lines (Err f)
+Tells lines (Ok graph) = ReadsText lines (Ok graph)
+Tells lines (Err (refusal.Fault f)) = ReadsText lines (Err f)
 Tells lines (Err refusal.OutOfMemory) = Unit {0}

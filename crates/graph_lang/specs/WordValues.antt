@@ -1,5 +1,5 @@
 -- What the words of a line stand for, after the lines above it.
-use Rattle.std.specs.Prelude.{ℕ, false, List, [], ◌∷◌, map, Option, Some, None, option_map, ℤ, pos}
+use Rattle.std.specs.Prelude.{ℕ, Bool, false, List, [], ◌∷◌, map, Option, Some, None, option_map, ℤ, pos}
 use Rattle.graph_base.specs.phase_accum.declared.single.Single.{Single}
 use Rattle.graph_base.specs.phase_accum.declared.single.Single.TheVariants.{Neg, Abs, Halve, Clamp}
 use Rattle.graph_text.specs.phase_base.Words.{Word}
@@ -95,6 +95,16 @@ parent_of names by = record {
   at = nat_value by.at;
 }
 
+-- the steps of a block that the word behind `block=` writes, or 1 where there is none
+abbrev pub block_of : Option Word → ℕ
+block_of None = 1
+block_of (Some steps) = nat_value steps
+
+-- whether the task joins now
+abbrev pub joins_now : Option ByWords → Bool
+joins_now None = false
+joins_now (Some by) = by.now
+
 -- the task that line n declares, after lines that declared these names
 abbrev pub task_line : List Named → ℕ → BodyWords → EndWords → Task
 task_line names n body ends = record {
@@ -107,6 +117,6 @@ task_line names n body ends = record {
   taps = taps_of body;
   shift = shift_of body;
   mul = factor_of body;
-  block = 1;
-  joins_now = false;
+  block = block_of ends.block;
+  joins_now = joins_now ends.by;
 }

@@ -14,7 +14,7 @@ ghost use Rattle.graph_lang.specs.Inside.{AreNumbersOf, steps_in};
 
 use crate::body::{input_numbers, kind_of, output_numbers};
 use crate::draft::{Draft, add_name};
-use crate::parents::parent_of;
+use crate::parents::{joins_now, parent_of};
 use crate::within::{EndNumbers, Numbers};
 use graph_base::phase_accum::Single;
 use graph_base::{Op, PhaserLine, Place, TaskLine};
@@ -98,8 +98,8 @@ impl Draft {
             taps: numbers.taps,
             shift: numbers.shift,
             mul: numbers.factor,
-            block: 1,
-            joins_now: false,
+            block: steps.block,
+            joins_now: joins_now(words.ends.by),
         }))
     }
 

@@ -11,7 +11,8 @@ pub enum FaultKind {
     #[error("the line is none that a graph's text may have")]
     Syntax,
     /// A number, a count of taps, inputs or outputs, or the count of phasers or tasks is outside
-    /// its limit; or the low end of a clamp is above its high end.
+    /// its limit; or the low end of a clamp is above its high end. A block has 1 to `BOUND_MAX`
+    /// steps.
     #[error("a number, or how many of something there are, is outside its limit")]
     Limit,
     /// The name was declared before, or one phaser stands twice on the line.
@@ -23,12 +24,15 @@ pub enum FaultKind {
     /// An output stands above an input; a peer wants X, then E, then Y.
     #[error("an output is declared above an input")]
     OutBeforeIn,
-    /// The parent is a splitter, a joiner or a peer.
-    #[error("a splitter, a joiner or a peer has no children")]
+    /// The parent is a splitter, a joiner, a peer, or a sink that joins now.
+    #[error("a splitter, a joiner, a peer and a sink that joins now have no children")]
     BadParent,
     /// An output has a single, or the parent does not hold what its child needs.
     #[error("an output has a single, or the parent lacks a phaser of its child")]
     NotHeld,
+    /// The steps of a block are more than the bound of a phaser of the line.
+    #[error("a block has more steps than the bound of a phaser of its line")]
+    OverBound,
     /// On a phaser with `any`, two tasks signal in one phase. It is told once the samples are
     /// known.
     #[error("two tasks signal an `any` phaser in one phase")]

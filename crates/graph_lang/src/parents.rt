@@ -8,9 +8,9 @@ ghost use Rattle.graph_text.specs.Lines.{by_of};
 ghost use Rattle.graph_text.specs.Numbers.{nat_value};
 ghost use Rattle.graph_base.specs.Names.{names_of, place_of};
 ghost use Rattle.graph_base.specs.Inside.{task_of};
-ghost use Rattle.graph_lang.specs.WordValues.{parent_of};
+ghost use Rattle.graph_lang.specs.WordValues.{parent_of, joins_now};
 ghost use Rattle.graph_base.specs.TaskLines.{has_children};
-ghost use Rattle.graph_lang.specs.Faults.{is_parent_known, is_in_order, may_be_parent, is_held, holds_for, is_plain, are_distinct};
+ghost use Rattle.graph_lang.specs.Faults.{is_parent_known, is_in_order, may_be_parent, is_held, holds_for, is_plain, is_within_bound, is_block_within, are_distinct};
 ghost use Rattle.graph_lang.specs.Inside.{last_kind};
 
 use crate::body::{are_among, are_distinct, are_in_order, is_exchange_below};
@@ -42,6 +42,16 @@ pub(crate) fn parent_of(
     }
 }
 
+/// Whether a task with such a parent, or with none, joins now.
+pub(crate) fn joins_now(by: Option<By<'_>>) -> bool
+    ensures { result ≡ joins_now (by_of by.entry) }
+{
+    match by {
+        None => false,
+        Some(by) => by.now,
+    }
+}
+
 /// Whether a task of the kind may have children.
 fn has_children(kind: Kind) -> bool
     ensures { result ≡ has_children kind }
@@ -57,7 +67,7 @@ fn is_in_order(task: &TaskLine) -> bool
 }
 
 impl Draft {
-    /// Whether a parent, where there is one, may have children.
+    /// Whether a parent, where there is one, may have children: it does not join now.
     fn may_be_parent(&self, parent: Option<Parent>) -> bool
         ensures { result ≡ may_be_parent self.now parent }
     {
@@ -104,6 +114,30 @@ impl Draft {
         outputs.iter().all(|y| self.is_plain(*y))
     }
 
+    /// Whether a block of so many steps is at most the bound of phaser number `p`.
+    fn is_within_bound(&self, block: u64, p: usize) -> bool
+        ensures { result ≡ is_within_bound self.now block p }
+    {
+        match self.phasers.get(p) {
+            None => block <= 1,
+            Some(line) => block <= line.bound,
+        }
+    }
+
+    /// Whether a block of so many steps is at most the bound of each of these phasers.
+    fn are_as_wide(&self, block: u64, phasers: &[usize]) -> bool
+        ensures { result ≡ list_all (is_within_bound self.now block) phasers.now }
+    {
+        phasers.iter().all(|p| self.is_within_bound(block, *p))
+    }
+
+    /// Whether the block of a task is at most the bound of each of its phasers.
+    fn is_block_within(&self, task: &TaskLine) -> bool
+        ensures { result ≡ is_block_within self.now (task_of task.now) }
+    {
+        self.are_as_wide(task.block, &task.inputs) && self.are_as_wide(task.block, &task.outputs)
+    }
+
     /// Whether the name of a task's line is there already, or a phaser stands twice in the line.
     pub(crate) fn is_twice(&self, name: &[u8], phasers: &[&[u8]]) -> bool
         requires { IsTrue (is_name name.now) }
@@ -125,6 +159,9 @@ impl Draft {
         }
         if !(self.are_plain(&task.outputs) && self.holds_for(task)) {
             return Some(FaultKind::NotHeld);
+        }
+        if !self.is_block_within(task) {
+            return Some(FaultKind::OverBound);
         }
         None
     }

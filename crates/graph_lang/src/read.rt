@@ -1,14 +1,16 @@
 //! Reading the lines of a graph's text.
-ghost use Rattle.std.specs.Prelude.{◌≡◌, IfOk, IfErr, IfSome, OnOk, Ok, Err, Some, None, is_some, not};
+ghost use Rattle.std.specs.Prelude.{◌≡◌, IfOk, IfErr, IfSome, OnOk, Ok, Err, Some, None, is_some, not, false};
 ghost use Rattle.graph_text.specs.Decls.{IsWellFormed};
 ghost use Rattle.graph_text.specs.Lines.{decl_of, single_of, body_of, ends_of};
-ghost use Rattle.graph_text.specs.Texts.{lines_of};
+ghost use Rattle.graph_text.specs.Plain.{plain};
+ghost use Rattle.graph_text.specs.Texts.{lines_of, words_of, is_ignored};
+ghost use Rattle.graph_text.specs.declared.version.Version.TheVariants.{Two};
 ghost use Rattle.graph_text.specs.declared.line.Line.TheVariants as line;
 ghost use Rattle.graph_lang.specs.WordValues.{phaser_line};
 ghost use Rattle.graph_lang.specs.Faults.{kind_of, is_past_limit};
 ghost use Rattle.graph_lang.specs.Inside.{AreNumbersOf, steps_in};
 ghost use Rattle.graph_lang.specs.Reads.{Steps, Tells};
-ghost use Rattle.graph_lang.specs.Inside.{TellsDecl, TellsFault};
+ghost use Rattle.graph_lang.specs.Inside.{TellsDecl, TellsFault, version_in, version_behind, version_at, line_read};
 
 use crate::body::phaser_words;
 use crate::draft::{Draft, place_of};
@@ -16,15 +18,15 @@ use crate::fault::{FaultKind, GraphRefusal, fault};
 use crate::within::{EndNumbers, Numbers, numbers_of, phaser_line, steps_of};
 use graph_base::{Graph, PHASERS_MAX, PhaserLine, TASKS_MAX};
 use graph_text::{
-    Line, PhaserWords, TaskWords, are_printable, begins_comment, line_at, lines_of, name_text,
-    without_cr, words_of,
+    Line, PhaserWords, TaskWords, Version, are_printable, begins_comment, is_heading, line_at,
+    lines_of, name_text, without_cr, words_of,
 };
 use std::alloc::{AllocError, Global};
 
 impl Draft {
     /// The line of a phaser, or the first kind of fault of its words.
     fn phaser_line(&self, words: PhaserWords<'_>) -> Result<PhaserLine, FaultKind>
-        requires { IsWellFormed (decl_of (line.Phaser words)) }
+        requires { IsWellFormed Two (decl_of (line.Phaser words)) }
         ensures ok { IfOk result (λ found. found ≡ phaser_line words.entry.operation
             words.entry.bound.now (single_of words.entry.single)) }
         ensures none { IfOk result (λ found.
@@ -50,7 +52,7 @@ impl Draft {
         alloc: Global,
         words: TaskWords<'_, '_>,
     ) -> Result<Option<(Numbers, EndNumbers)>, AllocError>
-        requires { IsWellFormed (decl_of (line.Task words)) }
+        requires { IsWellFormed Two (decl_of (line.Task words)) }
         ensures within { IfOk result (λ found. is_some found
             ≡ not (is_past_limit self.now (decl_of (line.Task words.entry)))) }
         ensures numbers { IfOk result (λ found. IfSome found (λ both.
@@ -77,7 +79,7 @@ impl Draft {
         number: u64,
         words: PhaserWords<'_>,
     ) -> Result<(), GraphRefusal>
-        requires { IsWellFormed (decl_of (line.Phaser words)) }
+        requires { IsWellFormed Two (decl_of (line.Phaser words)) }
         ensures ok { OnOk result
             (TellsDecl number self.old (decl_of (line.Phaser words.entry)) (Ok self.new)) }
         ensures fault { IfErr result (λ e.
@@ -99,7 +101,7 @@ impl Draft {
         number: u64,
         words: TaskWords<'_, '_>,
     ) -> Result<(), GraphRefusal>
-        requires { IsWellFormed (decl_of (line.Task words)) }
+        requires { IsWellFormed Two (decl_of (line.Task words)) }
         ensures ok { OnOk result
             (TellsDecl number self.old (decl_of (line.Task words.entry)) (Ok self.new)) }
         ensures fault { IfErr result (λ e.
@@ -129,7 +131,7 @@ impl Draft {
         number: u64,
         line: Line<'_, '_>,
     ) -> Result<(), GraphRefusal>
-        requires { IsWellFormed (decl_of line) }
+        requires { IsWellFormed Two (decl_of line) }
         ensures ok { OnOk result (TellsDecl number self.old (decl_of line.entry) (Ok self.new)) }
         ensures fault { IfErr result (λ e. TellsDecl number self.old (decl_of line.entry) (Err e)) }
     {
@@ -139,22 +141,65 @@ impl Draft {
         }
     }
 
-    /// Reads line `number`.
-    fn read_line(&mut self, alloc: Global, number: u64, line: &[u8]) -> Result<(), GraphRefusal>
-        ensures ok { OnOk result (Steps number self.old line.now (Ok self.new)) }
-        ensures fault { IfErr result (TellsFault number self.old line.now) }
+    /// Reads line `number` of a text of this version, by its words; it is not ignored.
+    fn read_words(
+        &mut self,
+        alloc: Global,
+        number: u64,
+        line: &[u8],
+        words: &[&[u8]],
+        version: Version,
+    ) -> Result<(), GraphRefusal>
+        requires words { plain words.now ≡ words_of line.now }
+        requires read { is_ignored line.now ≡ false }
+        ensures ok { OnOk result (Steps version number self.old line.now (Ok self.new)) }
+        ensures fault { IfErr result (TellsFault version number self.old line.now) }
     {
-        let words = words_of(alloc, line)?;
-        if begins_comment(&words) {
-            return Ok(());
-        }
         if !are_printable(line) {
             return Err(fault(number, FaultKind::Syntax));
         }
-        match line_at(&words) {
+        match line_at(words, version) {
             None => Err(fault(number, FaultKind::Syntax)),
             Some(declared) => self.declare(alloc, number, declared),
         }
+    }
+
+    /// Reads line `number`, where the version of the text is known from the lines above or not yet,
+    /// and answers what is known then.
+    fn read_line(
+        &mut self,
+        alloc: Global,
+        number: u64,
+        line: &[u8],
+        known: Option<Version>,
+    ) -> Result<Option<Version>, GraphRefusal>
+        ensures version { IfOk result (λ next. next ≡ version_behind known line.now) }
+        ensures ok { OnOk result
+            (Steps (version_at known) number self.old (line_read known line.now) (Ok self.new)) }
+        ensures fault { IfErr result
+            (TellsFault (version_at known) number self.old (line_read known line.now)) }
+    {
+        let words = words_of(alloc, line)?;
+        if begins_comment(&words) {
+            return Ok(known);
+        }
+        let Some(version) = version_in(known, &words) else {
+            return Ok(Some(Version::Two));
+        };
+        self.read_words(alloc, number, line, &words, version)?;
+        Ok(Some(version))
+    }
+}
+
+/// The version in which a line of these words is read, where this one is known from the lines
+/// above; none of the heading, which tells it.
+fn version_in(known: Option<Version>, words: &[&[u8]]) -> Option<Version>
+    ensures { result ≡ version_in known (plain words.now) }
+{
+    match known {
+        Some(version) => Some(version),
+        None if is_heading(words) => None,
+        None => Some(Version::One),
     }
 }
 
@@ -171,14 +216,27 @@ impl Draft {
 /// sink late X by out at 2     task 2, which task 1 registers after 2 steps
 /// sink early Y                Fault(GraphFault { line: 5, kind: FaultKind::Unknown })
 /// ```
+///
+/// The first line of a text of the second version is `graph 2`, but for those that are ignored. Its
+/// tasks may have blocks, and its sinks may join now.
+///
+/// ```text
+/// graph 2                     the heading: no phaser, and no task
+/// phaser X sum 4
+/// source s s.csv -> X block=4 task 0, whose blocks have at most 4 steps
+/// sink out X
+/// sink late X by out at 2 now task 2, which joins now
+/// sink wide X block=5         Fault(GraphFault { line: 6, kind: FaultKind::OverBound })
+/// ```
 pub fn read_graph(alloc: Global, text: &[u8]) -> Result<Graph, GraphRefusal>
     ensures { Tells (lines_of text.now) result }
 {
     let mut draft = Draft::new(alloc);
     let lines = lines_of(alloc, text)?;
     let mut number = 1u64;
+    let mut version = None;
     for line in &lines {
-        draft.read_line(alloc, number, without_cr(line))?;
+        version = draft.read_line(alloc, number, without_cr(line), version)?;
         number += 1;
     }
     Ok(draft.into_graph())

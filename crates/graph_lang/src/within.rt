@@ -7,7 +7,7 @@ ghost use Rattle.graph_text.specs.Plain.{plain};
 ghost use Rattle.graph_text.specs.Numbers.{is_nat, is_int, nat_value, int_value};
 ghost use Rattle.graph_text.specs.Decls.{IsFunction, IsBody, AreEnds, IsBy, may_have_parent};
 ghost use Rattle.graph_text.specs.Lines.{single_of as function_words, function_of, body_of, ends_of, by_of, word_of};
-ghost use Rattle.graph_lang.specs.WordValues.{single_of, phaser_line, taps_of, shift_of, factor_of};
+ghost use Rattle.graph_lang.specs.WordValues.{single_of, phaser_line, taps_of, shift_of, factor_of, block_of};
 ghost use Rattle.graph_lang.specs.Inside.{AreNumbersOf, steps_in};
 ghost use Rattle.graph_lang.specs.Faults.{is_function_within, is_bound_within, is_body_within, is_tap_within, is_number_of_ends, is_count_within, are_ends_within, is_phaser_within};
 
@@ -90,12 +90,13 @@ pub(crate) struct Numbers {
     pub(crate) factor: i64,
 }
 
-/// The numbers of a task's ends: after how many steps of its parent it is registered, and after how
-/// many of its own it drops.
+/// The numbers of a task's ends: after how many steps of its parent it is registered, after how
+/// many of its own it drops, and how many a block of it has, 1 where the line names none.
 #[derive(Clone, Copy, Debug)]
 pub(crate) struct EndNumbers {
     pub(crate) at: Option<u64>,
     pub(crate) until: Option<u64>,
+    pub(crate) block: u64,
 }
 
 /// The tap that a word writes, where it is within its limit.
@@ -232,10 +233,24 @@ fn count_in(word: Option<&[u8]>) -> Option<Option<u64>>
     }
 }
 
+/// The steps of a block that a word writes, where they are within their limits; 1 where there is no
+/// word.
+fn block_of(word: Option<&[u8]>) -> Option<u64>
+    requires { IfSome (word_of word) (λ steps. IsTrue (is_nat steps)) }
+    ensures { result ≡ (if option_map_or is_bound_within (word_of word.entry) true
+        then Some (block_of (word_of word.entry)) else None) }
+{
+    match word {
+        None => Some(1),
+        Some(steps) => bound_of(steps),
+    }
+}
+
 /// The numbers of the ends of a task's line, where each is within its limit.
 pub(crate) fn steps_of(ends: Ends<'_>) -> Option<EndNumbers>
     requires by { IfSome (by_of ends.by) IsBy }
     requires until { IfSome (word_of ends.until) (λ steps. IsTrue (is_nat steps)) }
+    requires block { IfSome (word_of ends.block) (λ steps. IsTrue (is_nat steps)) }
     ensures { result ≡ (if are_ends_within (ends_of ends.entry)
         then Some (steps_in (ends_of ends.entry)) else None) }
 {
@@ -244,5 +259,6 @@ pub(crate) fn steps_of(ends: Ends<'_>) -> Option<EndNumbers>
         Some(by) => Some(count_of(by.at)?),
     };
     let until = count_in(ends.until)?;
-    Some(EndNumbers { at, until })
+    let block = block_of(ends.block)?;
+    Some(EndNumbers { at, until, block })
 }

@@ -1,3 +1,4 @@
+mod Boxes
 pub mod Growing
 mod Lines
 pub use Rattle.graph_lang.proofs as graph_lang_lemmas

@@ -1,5 +1,5 @@
 -- The lines of a text, as the reader cuts them.
-use Rattle.std.proofs.Common.{◌≡◌, ◌<◌, ◌+◌, ◌-◌, ◌∙◌, ℕ, List, Bor, length, map, get_or, Some, ap, sym, refl, arith}
+use Rattle.std.proofs.Common.{◌≡◌, ◌<◌, ◌+◌, ◌-◌, ◌∙◌, ℕ, List, Bor, length, map, get_or, Some, ap, sym, refl}
 use Rattle.std.specs.List.{slice_get, slice_split}
 use Rattle.std.proofs.lemmas.Option.{slice_get-get_or, slice_get-map}
 use Rattle.graph_lang.specs.declared.fault.GraphFault.{GraphFault}

@@ -1,5 +1,5 @@
 -- The drawing of a graph, as text for Graphviz.
-use Rattle.std.specs.Prelude.{ℕ, List, [], ◌∷◌, ◌++◌, length, Option, None, Some, codes, decimal}
+use Rattle.std.specs.Prelude.{ℕ, ◌==◌, Bool, if◌then◌else◌, List, [], ◌∷◌, ◌++◌, length, Option, None, Some, codes, decimal}
 use Rattle.std.specs.List.{concat, flat_map, range_with_len}
 use Rattle.graph_lang.specs.phase_base.OperationWords.{operation_word}
 use Rattle.graph_lang.specs.graph_base.Graphs.{Graph, name_at, phaser_at, task_at}
@@ -32,15 +32,31 @@ phaser_node graph p =
     let line = phaser_at graph p in
     ellipse (name_at graph (place.Phaser p)) (operation_word line.op) (decimal line.bound)
 
--- a box with a name, and below it a kind
-abbrev pub box : List ℕ → List ℕ → List ℕ
-box name kind =
+-- what a box says, below the kind, of a task that joins now
+abbrev pub now_note : Bool → List ℕ
+now_note joins_now = if joins_now then codes "\\nnow" else []
+
+-- what it says before the steps of a block, where they are several
+abbrev pub block_sign : ℕ → List ℕ
+block_sign block = if block == 1 then [] else codes "\\nblock "
+
+-- these steps, where they are several
+abbrev pub block_steps : ℕ → List ℕ
+block_steps block = if block == 1 then [] else decimal block
+
+-- a box with a name, below it a kind, and below that what is said of a task that joins now and of
+-- the steps of a block
+abbrev pub box : List ℕ → List ℕ → List ℕ → List ℕ → List ℕ → List ℕ
+box name kind now sign steps =
     concat (codes "    \"" ∷ name ∷ codes "\" [shape=box, label=\"" ∷ name ∷ codes "\\n"
-    ∷ kind ∷ codes "\"];\n" ∷ [])
+    ∷ kind ∷ now ∷ sign ∷ steps ∷ codes "\"];\n" ∷ [])
 
 -- task t
 abbrev pub task_node : Graph → ℕ → List ℕ
-task_node graph t = box (name_at graph (place.Task t)) (kind_word (task_at graph t).kind)
+task_node graph t =
+    let task = task_at graph t in
+    box (name_at graph (place.Task t)) (kind_word task.kind) (now_note task.joins_now)
+    (block_sign task.block) (block_steps task.block)
 
 -- ---- arrows
 

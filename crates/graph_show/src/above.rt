@@ -1,14 +1,16 @@
-//! What the lines above a faulty one declare.
+//! What the lines above a faulty one declare, and the version of the text, as far as they tell it.
 
 use crate::explain_parts::Part;
 use crate::grammar::{Known, Reading};
-use graph_lang::graph_text::{begins_comment, without_cr, words_of};
+use graph_lang::graph_text::{Version, begins_comment, is_heading, without_cr, words_of};
 use std::alloc::{AllocError, Global};
 
-/// The words of each line above, each with what it is, but for the lines that are ignored.
+/// The words of each line above, each with what it is, but for the heading and the lines that are
+/// ignored; and the version of the text, where one of them tells it.
 #[derive(Drop)]
 pub(crate) struct Above<'a> {
     lines: Vec<Vec<Known<'a>>>,
+    pub(crate) known: Option<Version>,
 }
 
 /// Whether a line of these words declares the name.
@@ -62,14 +64,35 @@ fn signals(line: &[Known<'_>], phaser: &[u8]) -> bool {
 impl<'a> Above<'a> {
     /// The words of these lines.
     pub(crate) fn of(alloc: Global, lines: &[&'a [u8]]) -> Result<Above<'a>, AllocError> {
-        let mut above = Vec::new(alloc);
+        let mut above = Above {
+            lines: Vec::new(alloc),
+            known: None,
+        };
         for line in lines {
             let words = words_of(alloc, without_cr(*line))?;
-            if !begins_comment(&words) {
-                above.push(Reading::of(alloc, &words)?.found)?;
-            }
+            above.add(alloc, &words)?;
         }
-        Ok(Above { lines: above })
+        Ok(above)
+    }
+
+    /// Adds a line of these words, where it is not ignored.
+    fn add(&mut self, alloc: Global, words: &[&'a [u8]]) -> Result<(), AllocError> {
+        if begins_comment(words) {
+            return Ok(());
+        }
+        if self.known.is_none() && is_heading(words) {
+            self.known = Some(Version::Two);
+            return Ok(());
+        }
+        self.known = Some(self.version());
+        let reading = Reading::of(alloc, words, self.known)?;
+        self.lines.push(reading.found)?;
+        Ok(())
+    }
+
+    /// The version of the text: the first, where no line above tells it.
+    pub(crate) fn version(&self) -> Version {
+        self.known.unwrap_or(Version::One)
     }
 
     /// The number of the line that declares a name, among these.

@@ -30,6 +30,8 @@ pub(crate) enum Part {
     Factor,
     Parent,
     Steps,
+    /// `block=` and the steps of a block.
+    Block,
     /// This very word.
     Sign(&'static str),
     /// Nothing, or what this says.
@@ -78,6 +80,14 @@ fn is_function(word: &[u8]) -> bool {
         || word == b"clamp".as_slice()
 }
 
+/// Whether the word is `block=` and a whole number without a sign.
+fn is_block(word: &[u8]) -> bool {
+    match word.strip_prefix(b"block=") {
+        Some(steps) => is_whole(steps),
+        None => false,
+    }
+}
+
 impl Part {
     /// Whether the word may stand there.
     pub(crate) fn fits(self, word: &[u8]) -> bool {
@@ -90,6 +100,7 @@ impl Part {
             Part::File => is_file(word),
             Part::Function => is_function(word),
             Part::Bound | Part::Shift | Part::Steps => is_whole(word),
+            Part::Block => is_block(word),
             Part::Low | Part::High | Part::Taps | Part::Factor => is_signed(word),
             Part::Sign(sign) => word == sign.as_bytes(),
             Part::End(_) => false,
@@ -119,6 +130,7 @@ impl Part {
             Part::Function => "`neg`, `abs`, `halve` or `clamp`",
             Part::File => "the name of a file, of at most 255 bytes",
             Part::Bound | Part::Shift | Part::Steps => "a whole number without a sign",
+            Part::Block => "`block=` and, without a space, a whole number without a sign",
             Part::Low | Part::High | Part::Taps | Part::Factor => "a whole number",
             Part::Sign(sign) => sign,
             Part::End(wanted) => wanted,

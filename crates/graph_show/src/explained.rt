@@ -117,8 +117,9 @@ fn line_explained(
         return marked(alloc, line, bad_byte_of(line), 1, wanted);
     }
     let words = words_of(alloc, line)?;
-    let reading = Reading::of(alloc, &words)?;
-    let mark = mark_of(kind, &reading, &Above::of(alloc, above)?);
+    let above = Above::of(alloc, above)?;
+    let reading = Reading::of(alloc, &words, above.known)?;
+    let mark = mark_of(kind, &reading, &above);
     let count = match words.get(mark.word) {
         Some(word) => word.len(),
         None => 1,

@@ -1,6 +1,7 @@
 //! The words of a line, each with what it is, as far as the line is in the grammar.
 
 use crate::explain_parts::Part;
+use graph_lang::graph_text::Version;
 use std::alloc::{AllocError, Global};
 
 /// A word of a line, with what it is.
@@ -11,15 +12,21 @@ pub(crate) type Known<'a> = (Part, &'a [u8]);
 #[derive(Drop)]
 pub(crate) struct Reading<'w, 'a> {
     words: &'w [&'a [u8]],
+    known: Option<Version>,
     pub(crate) found: Vec<Known<'a>>,
     pub(crate) wanted: Part,
 }
 
 impl<'w, 'a> Reading<'w, 'a> {
-    /// Reads the words of a line.
-    pub(crate) fn of(alloc: Global, words: &'w [&'a [u8]]) -> Result<Reading<'w, 'a>, AllocError> {
+    /// Reads the words of a line, where this version of its text is known from the lines above.
+    pub(crate) fn of(
+        alloc: Global,
+        words: &'w [&'a [u8]],
+        known: Option<Version>,
+    ) -> Result<Reading<'w, 'a>, AllocError> {
         let mut reading = Reading {
             words,
+            known,
             found: Vec::new(alloc),
             wanted: Part::Kind,
         };
@@ -30,6 +37,9 @@ impl<'w, 'a> Reading<'w, 'a> {
     /// Reads all words.
     fn read(&mut self) -> Result<(), AllocError> {
         let kind = self.next();
+        if self.known.is_none() && kind == b"graph".as_slice() {
+            return self.read_heading();
+        }
         if !self.take(Part::Kind)? || !self.follow_body(kind)? {
             return Ok(());
         }
@@ -40,9 +50,18 @@ impl<'w, 'a> Reading<'w, 'a> {
             || kind == b"fir".as_slice()
             || kind == b"sink".as_slice();
         if may_have_parent {
-            return self.read_ends();
+            return self.read_ends(kind);
         }
-        self.read_until("`until`, or the end of the line")
+        self.read_until("`until`, or the end of the line", "the end of the line")?;
+        Ok(())
+    }
+
+    /// Reads the heading of a text.
+    fn read_heading(&mut self) -> Result<(), AllocError> {
+        if self.follow(&[Part::Sign("graph"), Part::Sign("2")])? {
+            self.wanted = Part::End("the end of the line");
+        }
+        Ok(())
     }
 
     /// Reads what stands behind the first word, but for the optional ends, and answers whether all is
@@ -116,29 +135,77 @@ impl<'w, 'a> Reading<'w, 'a> {
         Ok(())
     }
 
+    /// Whether the text is of the second version.
+    fn is_of_two(&self) -> bool {
+        self.known == Some(Version::Two)
+    }
+
     /// Reads the optional ends of a task that may have a parent.
-    fn read_ends(&mut self) -> Result<(), AllocError> {
+    fn read_ends(&mut self, kind: &[u8]) -> Result<(), AllocError> {
         if !Part::Sign("by").fits(self.next()) {
-            return self.read_until("`by`, `until`, or the end of the line");
+            return self.read_last(
+                "`by`, `until`, or the end of the line",
+                "`by`, `until`, `block=`, or the end of the line",
+            );
         }
-        if !self.follow(&[
+        let by = [
             Part::Sign("by"),
             Part::Parent,
             Part::Sign("at"),
             Part::Steps,
-        ])? {
+        ];
+        if !self.follow(by.as_slice())? {
             return Ok(());
         }
-        self.read_until("`until`, or the end of the line")
+        let joins = self.is_of_two() && kind == b"sink".as_slice();
+        if joins && !self.take(Part::Sign("now"))? {
+            return self.read_more("`now`, `until`, `block=`, or the end of the line");
+        }
+        self.read_last(
+            "`until`, or the end of the line",
+            "`until`, `block=`, or the end of the line",
+        )
     }
 
-    /// Reads the optional last end of a task, or tells what else may stand there.
-    fn read_until(&mut self, wanted: &'static str) -> Result<(), AllocError> {
+    /// Reads the optional ends behind a parent, or tells what else may stand there, in a text of
+    /// the first version and in one of the second.
+    fn read_last(&mut self, one: &'static str, two: &'static str) -> Result<(), AllocError> {
+        if self.is_of_two() {
+            return self.read_more(two);
+        }
+        self.read_until(one, "the end of the line")?;
+        Ok(())
+    }
+
+    /// Reads these ends in a text of the second version, or tells what else may stand there.
+    fn read_more(&mut self, wanted: &'static str) -> Result<(), AllocError> {
+        if self.read_until(wanted, "`block=`, or the end of the line")? {
+            return self.read_block();
+        }
+        Ok(())
+    }
+
+    /// Reads the optional boundary of a task, or tells what else may stand there; then what may
+    /// stand behind it. Answers whether the line is in the grammar so far.
+    fn read_until(
+        &mut self,
+        wanted: &'static str,
+        behind: &'static str,
+    ) -> Result<bool, AllocError> {
         self.wanted = Part::End(wanted);
         if !Part::Sign("until").fits(self.next()) {
-            return Ok(());
+            return Ok(true);
         }
-        if self.follow(&[Part::Sign("until"), Part::Steps])? {
+        let is_there = self.follow(&[Part::Sign("until"), Part::Steps])?;
+        if is_there {
+            self.wanted = Part::End(behind);
+        }
+        Ok(is_there)
+    }
+
+    /// Reads the optional block of a task.
+    fn read_block(&mut self) -> Result<(), AllocError> {
+        if self.next().starts_with(b"block=") && self.take(Part::Block)? {
             self.wanted = Part::End("the end of the line");
         }
         Ok(())

@@ -1,8 +1,9 @@
 //! A graph and its faults, for people: its drawing, and what explains a fault of its text.
 //!
 //! The drawing is text for Graphviz: phasers as ellipses with their operation and bound, tasks as
-//! boxes with their kind, an arrow for each wait and each signal, and children dashed to their
-//! parents. `write_drawing` writes it; `drawing_text` gives it as bytes.
+//! boxes with their kind, with the steps of a block and with `now` where a line has them, an arrow
+//! for each wait and each signal, and children dashed to their parents. `write_drawing` writes it;
+//! `drawing_text` gives it as bytes.
 //!
 //! A fault is explained by its line, with the word that is at fault marked, and by what was expected
 //! in its place: by `explanation`.

@@ -20,9 +20,17 @@ fn magnitude(word: &[u8]) -> Option<u64> {
     Some(value)
 }
 
+/// The number in a word, which stands behind `block=` where that is there.
+fn number_in(word: &[u8]) -> &[u8] {
+    match word.strip_prefix(b"block=") {
+        Some(steps) => steps,
+        None => word,
+    }
+}
+
 /// Whether a number is outside these limits.
 fn is_outside(word: &[u8], least: u64, most: u64) -> bool {
-    match magnitude(word) {
+    match magnitude(number_in(word)) {
         Some(value) => value < least || value > most,
         None => true,
     }
@@ -40,6 +48,7 @@ pub(crate) fn limit_passed(part: Part, word: &[u8]) -> Option<&'static str> {
             "a factor of a magnitude of at most 2147483647",
         ),
         Part::Steps => (0, STEPS_MAX, "at most 4611686018427387904 steps"),
+        Part::Block => (1, BOUND_MAX, "a block of 1 to 65536 steps"),
         Part::Low | Part::High => (
             0,
             MAGNITUDE_MAX,

@@ -5,6 +5,7 @@ use crate::explain_parts::Part;
 use crate::grammar::{Known, Reading};
 use crate::limits::{count_passed, limit_passed};
 use graph_lang::FaultKind;
+use graph_lang::graph_text::Version;
 
 /// The number of a word of a line, and what was expected in its place.
 #[derive(Clone, Copy)]
@@ -25,11 +26,9 @@ pub(crate) fn mark_of(kind: FaultKind, reading: &Reading<'_, '_>, above: &Above<
         FaultKind::Twice => twice_mark(found, above),
         FaultKind::Unknown => unknown_mark(found, above),
         FaultKind::OutBeforeIn => order_mark(found, above),
-        FaultKind::BadParent => parent_mark(
-            found,
-            "a source, a filter or a sink, which have children",
-        ),
+        FaultKind::BadParent => parent_mark(found, parent_wanted(above.version())),
         FaultKind::NotHeld => held_mark(found, above),
+        FaultKind::OverBound => block_mark(found),
         FaultKind::AnyMeets => meeting_mark(found, above),
     }
 }
@@ -168,6 +167,25 @@ fn order_mark(found: &[Known<'_>], above: &Above<'_>) -> Mark {
 fn parent_mark(found: &[Known<'_>], wanted: &'static str) -> Mark {
     for word in 0..found.len() {
         if let (Part::Parent, _) = found[word] {
+            return Mark { word, wanted };
+        }
+    }
+    Mark { word: 1, wanted }
+}
+
+/// What is wanted of a parent in a text of this version.
+fn parent_wanted(version: Version) -> &'static str {
+    match version {
+        Version::One => "a source, a filter or a sink, which have children",
+        Version::Two => "a source, a filter, or a sink that does not join now, which have children",
+    }
+}
+
+/// The block that is above a bound.
+fn block_mark(found: &[Known<'_>]) -> Mark {
+    let wanted = "at most as many steps as the bound of each phaser of the line";
+    for word in 0..found.len() {
+        if let (Part::Block, _) = found[word] {
             return Mark { word, wanted };
         }
     }

@@ -2,7 +2,7 @@
 ghost use Rattle.std.specs.Prelude.{◌≡◌, ◌++◌, ◌<◌, length, OnOk};
 ghost use Rattle.std.specs.List.{flat_map, range_with_len};
 ghost use Rattle.graph_lang.specs.phase_base.OperationWords.{operation_word};
-ghost use Rattle.graph_show.specs.Drawings.{box, ellipse, kind_word, phaser_node, task_node};
+ghost use Rattle.graph_show.specs.Drawings.{box, ellipse, kind_word, now_note, phaser_node, task_node};
 
 use crate::parts::put;
 use graph_lang::{Graph, Kind, Op, Place};
@@ -87,9 +87,24 @@ pub(crate) fn put_phasers(text: &mut Vec<u8>, graph: &Graph) -> Result<(), Alloc
     Ok(())
 }
 
-/// Puts a task's node behind the text.
-fn put_box<'a>(text: &mut Vec<u8>, name: &'a str, kind: &'a str) -> Result<(), AllocError>
-    ensures ok { OnOk result (text.new.items ≡ text.old.items ++ box name.now kind.now) }
+/// What a box says of a task that joins now.
+fn now_note(joins_now: bool) -> &'static str
+    ensures { result.now ≡ now_note joins_now }
+{
+    if joins_now { "\\nnow" } else { "" }
+}
+
+/// Puts a task's node behind the text. It says `sign` before the steps of the task's block.
+fn put_box<'a>(
+    text: &mut Vec<u8>,
+    name: &'a str,
+    kind: &'a str,
+    now: &'a str,
+    sign: &'a str,
+    steps: &'a str,
+) -> Result<(), AllocError>
+    ensures ok { OnOk result (text.new.items
+        ≡ text.old.items ++ box name.now kind.now now.now sign.now steps.now) }
 {
     let parts = [
         "    \"",
@@ -98,6 +113,9 @@ fn put_box<'a>(text: &mut Vec<u8>, name: &'a str, kind: &'a str) -> Result<(), A
         name,
         "\\n",
         kind,
+        now,
+        sign,
+        steps,
         "\"];\n",
     ];
     put(text, parts.as_slice())
@@ -108,8 +126,22 @@ fn put_task(text: &mut Vec<u8>, graph: &Graph, t: usize) -> Result<(), AllocErro
     requires { t < length graph.now.tasks }
     ensures ok { OnOk result (text.new.items ≡ text.old.items ++ task_node graph.now t) }
 {
+    let line = graph.task(t);
     let name = graph.name(Place::Task(t));
-    put_box(text, name, kind_word(graph.task(t).kind))
+    let kind = kind_word(line.kind);
+    let now = now_note(line.joins_now);
+    if line.block == 1 {
+        return put_box(text, name, kind, now, "", "");
+    }
+    let mut buffer = Buffer::new();
+    put_box(
+        text,
+        name,
+        kind,
+        now,
+        "\\nblock ",
+        buffer.format(line.block),
+    )
 }
 
 /// Puts the nodes of all tasks behind the text.

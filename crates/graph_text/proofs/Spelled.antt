@@ -1,17 +1,20 @@
 -- Reading a line and spelling it agree: what is spelled is read so.
-use Rattle.std.proofs.Common.{suc, ◌≡◌, ◌+◌, ◌==◌, Bool, true, false, List, [], ◌∷◌, ◌++◌, length, refl, ap, sym, ◌∙◌, arith, Option, Some, None, codes, IfSome, IsTrue, ne_eqb, append-nil, append_assoc}
+use Rattle.std.proofs.Common.{suc, ◌≡◌, ◌+◌, ◌==◌, ◌&&◌, not, nat_le, Bool, true, false, List, [], ◌∷◌, ◌++◌, length, refl, ap, sym, ◌∙◌, arith, Option, Some, None, codes, IfSome, IsTrue, ne_eqb, append-nil, append_assoc}
 use Rattle.std.specs.List.{list_all, prefix_len}
 use Rattle.std.proofs.Math.Seq.{take-append_seam, drop-append_seam}
 use Rattle.std.specs.Str.{bytes_eq}
 use Rattle.phase_base.specs.Words.{Word, is_name}
+use Rattle.phase_base.specs.declared.word.TheConstants.{NAME_MAX}
 use Rattle.std.proofs.lemmas.Option.{same_Some}
 use Rattle.graph_text.proofs.Digits.{both}
 use Rattle.phase_base.specs.OperationWords.{operation_word}
 use Rattle.phase_base.specs.declared.operation.Op.{Op}
 use Rattle.phase_base.specs.declared.operation.Op.TheVariants.{Sum, Product, Least, Greatest, Any}
 use Rattle.graph_text.specs.Numbers.{is_nat, is_int}
-use Rattle.graph_text.specs.Decls.{Decl, phaser, task, FunctionWords, neg, abs, halve, clamp, ByWords, EndWords, BodyWords, source, fir, split, join, peer, sink, spelling, function_words, single_words, by_words, until_words, end_words, kind_word, body_words, IsFunction, IsBody, AreEnds, AreSome, IsWellFormed, may_have_parent, Spells}
-use Rattle.graph_text.specs.Inside.{word_at, after, begins, some_at, operation_at, clamp_at, function_named, function_at, single_at, by_at, until_at, ends_at, source_at, fir_at, split_at, join_at, peer_at, sink_at, body_at, phaser_at, task_at, line_at}
+use Rattle.graph_text.specs.Decls.{Decl, phaser, task, FunctionWords, neg, abs, halve, clamp, ByWords, EndWords, BodyWords, source, fir, split, join, peer, sink, spelling, function_words, single_words, now_words, by_words, until_words, block_words, end_words, kind_word, body_words, IsFunction, IsBody, IsBy, MayHaveBy, AreEnds, AreSome, IsWellFormed, may_have_parent, may_join_now, may_have_blocks, Spells}
+use Rattle.graph_text.specs.declared.version.Version.{Version}
+use Rattle.graph_text.specs.declared.version.Version.TheVariants.{One, Two}
+use Rattle.graph_text.specs.Inside.{word_at, after, begins, some_at, operation_at, clamp_at, function_named, function_at, single_at, now_at, by_at, until_at, block_number, block_at, ends_at, source_at, fir_at, split_at, join_at, peer_at, sink_at, body_at, phaser_at, task_at, line_at}
 
 -- ---- words
 
@@ -69,42 +72,91 @@ single_again (Some f) is =
     ap function_at (sym bare) ∙ function_again f [] is in
     rw read refl
 
-by_again : (allowed : Bool) (by : Option ByWords) (until : Option Word)
-    → AreEnds allowed (record { by = by; until = until })
-    → by_at allowed (by_words by ++ until_words until) ≡ Some (by, until_words until)
+-- the words behind a parent begin with no word for one
+no_parent : (until block : Option Word)
+    → begins (codes "by") (until_words until ++ block_words block) ≡ false
+unfolding begins
+no_parent None None = refl
+no_parent None (Some steps) = refl
+no_parent (Some steps) block = refl
+
+now_again : (joins now : Bool) (until block : Option Word) → (now ≡ true → joins ≡ true)
+    → now_at joins (now_words now ++ (until_words until ++ block_words block))
+    ≡ (now, until_words until ++ block_words block)
+unfolding now_at
+now_again joins true until block may = rw (may refl) refl
+now_again true false None None may = refl
+now_again true false None (Some steps) may = refl
+now_again true false (Some steps) block may = refl
+now_again false false None None may = refl
+now_again false false None (Some steps) may = refl
+now_again false false (Some steps) block may = refl
+
+by_again : (allowed joins : Bool) (by : Option ByWords) (until block : Option Word)
+    → IfSome by (λ by. IsBy by × ((allowed ≡ true) × (by.now ≡ true → joins ≡ true)))
+    → by_at allowed joins (by_words by ++ (until_words until ++ block_words block))
+    ≡ Some (by, until_words until ++ block_words block)
 unfolding by_at after begins word_at
-by_again true None None are = refl
-by_again true None (Some steps) are = refl
-by_again true (Some by) until are = rw (are.0.0, are.0.1) refl
-by_again false None until are = refl
-by_again false (Some by) until are = let clash : Some by ≡ None = are.0 in absurd (cc)
+by_again true joins None until block is = rw (no_parent until block) refl
+by_again false joins None until block is = refl
+by_again allowed joins (Some by) until block is =
+    rw (is.1.0, is.0.0, is.0.1, now_again joins by.now until block is.1.1) refl
 
-is_counted : (allowed : Bool) (ends : EndWords) → AreEnds allowed ends
-    → IfSome ends.until (λ steps. IsTrue (is_nat steps))
-is_counted true ends are = are.1
-is_counted false ends are = are.1
-
-until_again : (until : Option Word) → IfSome until (λ steps. IsTrue (is_nat steps))
-    → until_at (until_words until) ≡ Some (until, [])
+until_again : (until block : Option Word) → IfSome until (λ steps. IsTrue (is_nat steps))
+    → until_at (until_words until ++ block_words block) ≡ Some (until, block_words block)
 unfolding until_at after begins word_at
-until_again None is = refl
-until_again (Some steps) is = rw is refl
+until_again None None is = refl
+until_again None (Some steps) is = refl
+until_again (Some steps) block is = rw is refl
 
-ends_again : (allowed : Bool) (ends : EndWords) → AreEnds allowed ends
-    → ends_at allowed (end_words ends) ≡ Some ends
+block_again : (allowed : Bool) (block : Option Word)
+    → IfSome block (λ steps. IsTrue (is_nat steps) × (allowed ≡ true))
+    → block_at allowed (block_words block) ≡ Some block
+unfolding block_at block_number
+block_again allowed None is = refl
+block_again allowed (Some steps) is = rw (is.1, is.0) refl
+
+ends_again : (version : Version) (body : BodyWords) (ends : EndWords) → AreEnds version body ends
+    → ends_at version body (end_words ends) ≡ Some ends
 unfolding ends_at
-ends_again allowed ends are =
+ends_again version body ends are =
     rw (
-      by_again allowed ends.by ends.until are,
-      until_again ends.until (is_counted allowed ends are),
+      by_again (may_have_parent body) (may_join_now version body) ends.by ends.until ends.block
+          are.by,
+      until_again ends.until ends.block are.until,
+      block_again (may_have_blocks version body) ends.block are.block,
     ) refl
 
 -- a list of words ends before the ends of a line
 ends_stop : (test : Word → Bool) → test (codes "by") ≡ false → test (codes "until") ≡ false
-    → (by : Option ByWords) (until : Option Word) → Stops test (by_words by ++ until_words until)
-ends_stop test no_by no_until None None = tt
-ends_stop test no_by no_until None (Some steps) = no_until
-ends_stop test no_by no_until (Some by) until = no_by
+    → ((steps : Word) → test (codes "block=" ++ steps) ≡ false) → (ends : EndWords)
+    → Stops test (end_words ends)
+ends_stop test no_by no_until no_block ends = at ends.by ends.until ends.block
+  where
+    at : (by : Option ByWords) (until block : Option Word)
+        → Stops test (by_words by ++ (until_words until ++ block_words block))
+    at None None None = tt
+    at None None (Some steps) = no_block steps
+    at None (Some steps) block = no_until
+    at (Some by) until block = no_by
+
+-- the word of a block is no number: its first byte is no digit
+no_int : (steps : Word) → is_int (codes "block=" ++ steps) ≡ false
+no_int steps = at (length (codes "block=" ++ steps) == 0)
+  where
+    at : (empty : Bool) → (not empty && true && false) ≡ false
+    at true = refl
+    at false = refl
+
+-- the word of a block is no name: `=` is no byte of one
+no_name : (steps : Word) → is_name (codes "block=" ++ steps) ≡ false
+no_name steps = at (length (codes "block=" ++ steps) == 0)
+    (nat_le (length (codes "block=" ++ steps)) NAME_MAX)
+  where
+    at : (empty few : Bool) → (not empty && few && true && false && true && true) ≡ false
+    at true few = refl
+    at false true = refl
+    at false false = refl
 
 body_again : (body : BodyWords) (ws : List Word) → IsBody body → Stops is_int ws → Stops is_name ws
     → body_at (kind_word body) (body_words body ++ ws) ≡ Some (body, ws)
@@ -133,29 +185,69 @@ is_no_phaser (peer input exchange output factor) = refl
 is_no_phaser (sink input) = refl
 
 -- what is spelled is read so
-pub line_again : (d : Decl) → IsWellFormed d → line_at (spelling d) ≡ Some d
+pub line_again : (version : Version) (d : Decl) → IsWellFormed version d
+    → line_at version (spelling d) ≡ Some d
 unfolding line_at phaser_at task_at word_at
-line_again (phaser name operation bound single) is =
+line_again version (phaser name operation bound single) is =
     rw (
       is.0,
       operation_again operation (bound ∷ single_words single),
       is.1,
       single_again single is.2,
     ) refl
-line_again (task name body ends) is =
-    let ints = ends_stop is_int refl refl ends.by ends.until in
-    let names = ends_stop is_name refl refl ends.by ends.until in
+line_again version (task name body ends) is =
+    let ints = ends_stop is_int refl refl no_int ends in
+    let names = ends_stop is_name refl refl no_name ends in
     rw (
       is_no_phaser body,
       is.0,
       body_again body (end_words ends) is.1 ints names,
-      ends_again (may_have_parent body) ends is.2,
+      ends_again version body ends is.2,
     ) refl
 
--- words declare one thing at most
-pub one_declaration : (words : List Word) (d e : Decl) → Spells words d → Spells words e → d ≡ e
-one_declaration words d e first second =
+-- ---- both versions
+
+-- what a line of the first version may say, one of the second may say
+may_join_later : (version : Version) (body : BodyWords) → may_join_now version body ≡ true
+    → may_join_now Two body ≡ true
+may_join_later One body may = absurd (cc)
+may_join_later Two body may = may
+
+may_have_later : (version : Version) (body : BodyWords) → may_have_blocks version body ≡ true
+    → may_have_blocks Two body ≡ true
+may_have_later One body may = absurd (cc)
+may_have_later Two body may = may
+
+ends_later : (version : Version) (body : BodyWords) (ends : EndWords) → AreEnds version body ends
+    → AreEnds Two body ends
+ends_later version body ends are = record {
+  by = by_later ends.by are.by;
+  until = are.until;
+  block = block_later ends.block are.block;
+}
+  where
+    by_later : (by : Option ByWords)
+        → IfSome by (λ by. IsBy by × MayHaveBy version body by)
+        → IfSome by (λ by. IsBy by × MayHaveBy Two body by)
+    by_later None is = tt
+    by_later (Some by) is = (is.0, (is.1.0, λ now. may_join_later version body (is.1.1 now)))
+
+    block_later : (block : Option Word)
+        → IfSome block (λ steps. IsTrue (is_nat steps) × IsTrue (may_have_blocks version body))
+        → IfSome block (λ steps. IsTrue (is_nat steps) × IsTrue (may_have_blocks Two body))
+    block_later None is = tt
+    block_later (Some steps) is = (is.0, may_have_later version body is.1)
+
+-- a line of any version is one of the second
+pub well_formed_later : (version : Version) (d : Decl) → IsWellFormed version d → IsWellFormed Two d
+well_formed_later version (phaser name operation bound single) is = is
+well_formed_later version (task name body ends) is = (is.0, is.1, ends_later version body ends is.2)
+
+-- words declare one thing at most, in whichever version
+pub one_declaration : (version other : Version) (words : List Word) (d e : Decl)
+    → Spells version words d → Spells other words e → d ≡ e
+one_declaration version other words d e first second =
     same_Some d e
-    (sym (line_again d first.well_formed)
-    ∙ ap line_at (sym first.spelled ∙ second.spelled)
-    ∙ line_again e second.well_formed)
+    (sym (line_again Two d (well_formed_later version d first.well_formed))
+    ∙ ap (line_at Two) (sym first.spelled ∙ second.spelled)
+    ∙ line_again Two e (well_formed_later other e second.well_formed))

@@ -12,8 +12,10 @@ use Rattle.phase_base.specs.OperationWords.{operation_of, operation_word}
 use Rattle.phase_base.specs.declared.operation.Op.{Op}
 use Rattle.phase_base.proofs.OperationWords.{operation-read}
 use Rattle.graph_text.specs.Numbers.{is_nat, is_int}
-use Rattle.graph_text.specs.Decls.{Decl, phaser, task, FunctionWords, neg, abs, halve, ByWords, EndWords, BodyWords, function_words, single_words, by_words, until_words, end_words, kind_word, body_words, IsFunction, IsBody, IsBy, AreEnds, AreSome, may_have_parent, Spells}
-use Rattle.graph_text.specs.Inside.{Found, ◌>>=◌, word_at, after, begins, some_at, operation_at, clamp_at, function_named, function_at, single_at, by_at, until_at, ends_at, source_at, fir_at, split_at, join_at, peer_at, sink_at, body_at, phaser_at, task_at, line_at}
+use Rattle.graph_text.specs.Decls.{Decl, phaser, task, FunctionWords, neg, abs, halve, ByWords, EndWords, BodyWords, function_words, single_words, now_words, by_words, until_words, block_words, end_words, kind_word, body_words, IsFunction, IsBody, IsBy, AreEnds, AreSome, may_have_parent, may_join_now, may_have_blocks, Spells}
+use Rattle.graph_text.specs.declared.version.Version.{Version}
+use Rattle.graph_text.proofs.Digits.{both}
+use Rattle.graph_text.specs.Inside.{Found, ◌>>=◌, word_at, after, begins, some_at, operation_at, clamp_at, function_named, function_at, single_at, now_at, by_with, by_at, until_at, block_number, block_at, ends_at, source_at, fir_at, split_at, join_at, peer_at, sink_at, body_at, phaser_at, task_at, line_at}
 
 -- ---- words
 
@@ -157,21 +159,38 @@ single_takes ws x e = at (begins (codes "single") ws) e
         )
     at false found = subst P found (tt, refl)
 
-by_takes : (allowed : Bool) (ws : List Word) (x : Found (Option ByWords)) → by_at allowed ws ≡ Some x
-    → ((allowed ≡ false → x.0 ≡ None) × IfSome x.0 IsBy) × (ws ≡ by_words x.0 ++ x.1)
-unfolding by_at
-by_takes allowed ws x e = at allowed (begins (codes "by") ws) e
-  where
-    P : Bool → Option (Found (Option ByWords)) → Type 0
-    P may o = IfSome o (λ x.
-        ((may ≡ false → x.0 ≡ None) × IfSome x.0 IsBy) × (ws ≡ by_words x.0 ++ x.1))
+-- the words spell whether the task joins now, which is so only where that is allowed
+TakesNow : Bool → List Word → Found Bool → Type 0
+TakesNow allowed ws x = (x.0 ≡ true → allowed ≡ true) × (ws ≡ now_words x.0 ++ x.1)
 
+now_takes : (allowed : Bool) (ws : List Word) → TakesNow allowed ws (now_at allowed ws)
+unfolding now_at TakesNow
+now_takes allowed [] = (λ e. absurd (cc), refl)
+now_takes allowed (w ∷ ws) = at allowed (bytes_eq w (codes "now")) refl
+  where
+    at : (may is : Bool) → bytes_eq w (codes "now") ≡ is
+        → TakesNow may (w ∷ ws) (if may && is then (true, ws) else (false, w ∷ ws))
+    at true true e = (λ h. refl, ap (λ w. w ∷ ws) (same w (codes "now") e))
+    at true false e = (λ h. refl, refl)
+    at false is e = (λ h. h, refl)
+
+-- the words spell the parent, which is there, and joins now, only where that is allowed
+TakesBy : (allowed joins : Bool) → List Word → Option (Found (Option ByWords)) → Type 0
+TakesBy allowed joins ws o = IfSome o (λ x.
+    IfSome x.0 (λ by. IsBy by × ((allowed ≡ true) × (by.now ≡ true → joins ≡ true)))
+    × (ws ≡ by_words x.0 ++ x.1))
+
+by_takes : (allowed joins : Bool) (ws : List Word) (x : Found (Option ByWords))
+    → by_at allowed joins ws ≡ Some x → TakesBy allowed joins ws (Some x)
+unfolding by_at TakesBy TakesNow
+by_takes allowed joins ws x e = at allowed (begins (codes "by") ws) e
+  where
     at : (may is_named : Bool) → cond (may && is_named)
         (after (codes "by") ws >>= (λ named. word_at is_name named >>= (λ parent.
         after (codes "at") parent.1 >>= (λ counted. word_at is_nat counted >>= (λ at.
-        Some (Some (record { parent = parent.0; at = at.0 }), at.1))))))
+        Some (by_with parent.0 at.0 (now_at joins at.1)))))))
         (Some (None, ws)) ≡ Some x
-        → ((may ≡ false → x.0 ≡ None) × IfSome x.0 IsBy) × (ws ≡ by_words x.0 ++ x.1)
+        → TakesBy may joins ws (Some x)
     at true true found =
         let n = steps _ (after (codes "by") ws) x found in
         let p = steps _ (word_at is_name n.0) x n.2 in
@@ -179,14 +198,16 @@ by_takes allowed ws x e = at allowed (begins (codes "by") ws) e
         let a = steps _ (word_at is_nat c.0) x c.2 in
         let parent = word_takes is_name n.0 p.0 p.1 in
         let at = word_takes is_nat c.0 a.0 a.1 in
-        subst (P true) a.2 (
-          (λ e. absurd (cc), (parent.0, at.0)),
+        let now = now_takes joins a.0.1 in
+        subst (TakesBy true joins ws) a.2 (
+          ((parent.0, at.0), (refl, now.0)),
           followed (codes "by") (after_takes (codes "by") ws n.0 n.1)
               (followed p.0.0 parent.1
-              (followed (codes "at") (after_takes (codes "at") p.0.1 c.0 c.1) at.1)),
+              (followed (codes "at") (after_takes (codes "at") p.0.1 c.0 c.1)
+              (followed a.0.0 at.1 now.1))),
         )
-    at true false found = subst (P true) found ((λ e. refl, tt), refl)
-    at false named found = subst (P false) found ((λ e. refl, tt), refl)
+    at true false found = subst (TakesBy true joins ws) found (tt, refl)
+    at false named found = subst (TakesBy false joins ws) found (tt, refl)
 
 until_takes : (ws : List Word) (x : Found (Option Word)) → until_at ws ≡ Some x
     → IfSome x.0 (λ steps. IsTrue (is_nat steps)) × (ws ≡ until_words x.0 ++ x.1)
@@ -210,27 +231,54 @@ until_takes ws x e = at (begins (codes "until") ws) e
         )
     at false found = subst P found (tt, refl)
 
-are_ends : (allowed : Bool) (by : Option ByWords) (until : Option Word)
-    → (allowed ≡ false → by ≡ None) × IfSome by IsBy → IfSome until (λ n. IsTrue (is_nat n))
-    → AreEnds allowed (record { by = by; until = until })
-are_ends true by until is counted = (is.1, counted)
-are_ends false by until is counted = (is.0 refl, counted)
+-- a word with its number
+number_takes : (w steps : Word) → block_number w ≡ Some steps
+    → (is_nat steps ≡ true) × (w ≡ codes "block=" ++ steps)
+unfolding block_number
+number_takes w steps e =
+    let fits = bytes_eq (take 6 w) (codes "block=") && is_nat (drop 6 w) in
+    let c = cond_some fits (drop 6 w) steps e in
+    let is = both (bytes_eq (take 6 w) (codes "block=")) (is_nat (drop 6 w)) c.0 in
+    let sign = same (take 6 w) (codes "block=") is.0 in (
+      subst (λ n. is_nat n ≡ true) c.1 is.1,
+      sym (take-append-drop 6 w) ∙ ap (λ front. front ++ drop 6 w) sign
+          ∙ ap (λ n. codes "block=" ++ n) c.1,
+    )
 
-ends_takes : (allowed : Bool) (ws : List Word) (ends : EndWords) → ends_at allowed ws ≡ Some ends
-    → AreEnds allowed ends × (ws ≡ end_words ends)
-unfolding ends_at
-ends_takes allowed ws ends e =
-    let b = steps _ (by_at allowed ws) ends e in
+-- the words spell the steps of a block, which are there only where that is allowed
+TakesBlock : Bool → List Word → Option (Option Word) → Type 0
+TakesBlock allowed ws o = IfSome o (λ block.
+    IfSome block (λ steps. IsTrue (is_nat steps) × (allowed ≡ true)) × (ws ≡ block_words block))
+
+block_takes : (allowed : Bool) (ws : List Word) (block : Option Word)
+    → block_at allowed ws ≡ Some block → TakesBlock allowed ws (Some block)
+unfolding block_at TakesBlock
+block_takes allowed [] block e = subst (TakesBlock allowed []) e (tt, refl)
+block_takes true (w ∷ []) block e =
+    let n = steps _ (block_number w) block e in
+    let number = number_takes w n.0 n.1 in
+    subst (TakesBlock true (w ∷ [])) n.2 ((number.0, refl), ap (λ w. w ∷ []) number.1)
+block_takes false (w ∷ []) block e = absurd (cc)
+block_takes allowed (w ∷ v ∷ ws) block e = absurd (cc)
+
+ends_takes : (version : Version) (body : BodyWords) (ws : List Word) (ends : EndWords)
+    → ends_at version body ws ≡ Some ends → AreEnds version body ends × (ws ≡ end_words ends)
+unfolding ends_at TakesBy TakesBlock
+ends_takes version body ws ends e =
+    let parents = may_have_parent body in
+    let joins = may_join_now version body in
+    let blocks = may_have_blocks version body in
+    let b = steps _ (by_at parents joins ws) ends e in
     let u = steps _ (until_at b.0.1) ends b.2 in
-    let c = cond_some (length u.0.1 == 0) (record { by = b.0.0; until = u.0.0 }) ends u.2 in
-    let by = by_takes allowed ws b.0 b.1 in
+    let k = steps _ (block_at blocks u.0.1) ends u.2 in
+    let by = by_takes parents joins ws b.0 b.1 in
     let until = until_takes b.0.1 u.0 u.1 in
-    let P : EndWords → Type 0 = λ ends. AreEnds allowed ends × (ws ≡ end_words ends) in
-    let left : u.0.1 ≡ [] = none_left u.0.1 c.0 in
-    subst P c.1 (
-      are_ends allowed b.0.0 u.0.0 by.0 until.0,
+    let block = block_takes blocks u.0.1 k.0 k.1 in
+    let P : EndWords → Type 0 = λ ends. AreEnds version body ends × (ws ≡ end_words ends) in
+    subst P (same_Some (record { by = b.0.0; until = u.0.0; block = k.0 }) ends k.2) (
+      record { by = by.0; until = until.0; block = block.0 },
       by.1 ∙ ap (λ ws. by_words b.0.0 ++ ws)
-          (until.1 ∙ ap (λ ws. until_words u.0.0 ++ ws) left ∙ append-nil (until_words u.0.0)),
+          (until.1 ∙ ap (λ ws. until_words u.0.0 ++ ws) block.1),
     )
 
 -- ---- what a task does
@@ -375,9 +423,10 @@ body_takes kind ws x e =
 
 -- ---- a line
 
-phaser_takes : (ws : List Word) (d : Decl) → phaser_at ws ≡ Some d → Spells (codes "phaser" ∷ ws) d
+phaser_takes : (version : Version) (ws : List Word) (d : Decl) → phaser_at ws ≡ Some d
+    → Spells version (codes "phaser" ∷ ws) d
 unfolding phaser_at
-phaser_takes ws d e =
+phaser_takes version ws d e =
     let n = steps _ (word_at is_name ws) d e in
     let o = steps _ (operation_at n.0.1) d n.2 in
     let b = steps _ (word_at is_nat o.0.1) d o.2 in
@@ -389,38 +438,40 @@ phaser_takes ws d e =
     let single = single_takes b.0.1 s.0 s.1 in
     let left : s.0.1 ≡ [] = none_left s.0.1 c.0 in
     let ends = single.1 ∙ ap (λ ws. single_words s.0.0 ++ ws) left ∙ append-nil (single_words s.0.0) in
-    subst (Spells (codes "phaser" ∷ ws)) c.1 (record {
+    subst (Spells version (codes "phaser" ∷ ws)) c.1 (record {
       well_formed = (name.0, bound.0, single.0);
       spelled = ap (λ ws. codes "phaser" ∷ ws)
           (followed n.0.0 name.1
           (followed (operation_word o.0.0) operation (followed b.0.0 bound.1 ends)));
     })
 
-task_takes : (kind : Word) (ws : List Word) (d : Decl) → task_at kind ws ≡ Some d
-    → Spells (kind ∷ ws) d
+task_takes : (version : Version) (kind : Word) (ws : List Word) (d : Decl)
+    → task_at version kind ws ≡ Some d → Spells version (kind ∷ ws) d
 unfolding task_at TakesBody
-task_takes kind ws d e =
+task_takes version kind ws d e =
     let n = steps _ (word_at is_name ws) d e in
     let b = steps _ (body_at kind n.0.1) d n.2 in
-    let s = steps _ (ends_at (may_have_parent b.0.0) b.0.1) d b.2 in
+    let s = steps _ (ends_at version b.0.0 b.0.1) d b.2 in
     let name = word_takes is_name ws n.0 n.1 in
     let body = body_takes kind n.0.1 b.0 b.1 in
-    let ends = ends_takes (may_have_parent b.0.0) b.0.1 s.0 s.1 in
-    subst (Spells (kind ∷ ws)) (same_Some (task n.0.0 b.0.0 s.0) d s.2) (record {
+    let ends = ends_takes version b.0.0 b.0.1 s.0 s.1 in
+    subst (Spells version (kind ∷ ws)) (same_Some (task n.0.0 b.0.0 s.0) d s.2) (record {
       well_formed = (name.0, body.0, ends.0);
       spelled = ap (λ k. k ∷ ws) body.1 ∙ ap (λ ws. kind_word b.0.0 ∷ ws)
           (followed n.0.0 name.1 (body.2 ∙ ap (λ ws. body_words b.0.0 ++ ws) ends.1));
     })
 
 -- what is read is spelled so
-pub line_takes : (ws : List Word) (d : Decl) → line_at ws ≡ Some d → Spells ws d
+pub line_takes : (version : Version) (ws : List Word) (d : Decl) → line_at version ws ≡ Some d
+    → Spells version ws d
 unfolding line_at
-line_takes [] d e = absurd (cc)
-line_takes (kind ∷ ws) d e = at (bytes_eq kind (codes "phaser")) refl e
+line_takes version [] d e = absurd (cc)
+line_takes version (kind ∷ ws) d e = at (bytes_eq kind (codes "phaser")) refl e
   where
     at : (is : Bool) → bytes_eq kind (codes "phaser") ≡ is
-        → (if is then phaser_at ws else task_at kind ws) ≡ Some d → Spells (kind ∷ ws) d
+        → (if is then phaser_at ws else task_at version kind ws) ≡ Some d
+        → Spells version (kind ∷ ws) d
     at true is found =
-        let P : Word → Type 0 = λ k. Spells (k ∷ ws) d in
-        subst P (sym (same kind (codes "phaser") is)) (phaser_takes ws d found)
-    at false is found = task_takes kind ws d found
+        let P : Word → Type 0 = λ k. Spells version (k ∷ ws) d in
+        subst P (sym (same kind (codes "phaser") is)) (phaser_takes version ws d found)
+    at false is found = task_takes version kind ws d found

@@ -1,12 +1,14 @@
 -- What a line declares, and the one way in which its words spell it. Names, files and numbers stand
--- as they are written.
-use Rattle.std.specs.Prelude.{ℕ, ◌≡◌, ◌≤◌, Bool, true, false, List, [], ◌∷◌, ◌++◌, length, Option, Some, None, IsTrue, IfSome, codes}
+-- as they are written. A text of the second version may have more ends.
+use Rattle.std.specs.Prelude.{ℕ, ◌≡◌, ◌≤◌, Bool, true, false, List, [], ◌∷◌, ◌++◌, length, Option, Some, None, IsTrue, IfSome, codes, if◌then◌else◌}
 use Rattle.std.specs.List.{list_all}
 use Rattle.phase_base.specs.Words.{Word, is_name, is_file}
 use Rattle.graph_text.specs.Texts.{words_of, are_printable}
 use Rattle.phase_base.specs.OperationWords.{operation_word}
 use Rattle.phase_base.specs.declared.operation.Op.{Op}
 use Rattle.graph_text.specs.Numbers.{is_nat, is_int}
+use Rattle.graph_text.specs.declared.version.Version.{Version}
+use Rattle.graph_text.specs.declared.version.Version.TheVariants.{One, Two}
 
 -- ---- what a line declares
 
@@ -17,15 +19,18 @@ pub data FunctionWords : Type 0 where
   halve : FunctionWords
   clamp : (low high : Word) → FunctionWords
 
--- the parent of a task, and after how many of its steps it registers the task
+-- the parent of a task, after how many of its steps it registers the task, and whether the task
+-- joins now
 pub record ByWords : Type 0 where
   pub parent : Word
   pub at : Word
+  pub now : Bool
 
 -- the optional ends of a task's line
 pub record EndWords : Type 0 where
   pub by : Option ByWords
   pub until : Option Word
+  pub block : Option Word
 
 -- what a task does, with its phasers
 pub data BodyWords : Type 0 where
@@ -55,19 +60,28 @@ abbrev pub single_words : Option FunctionWords → List Word
 single_words None = []
 single_words (Some function) = codes "single" ∷ function_words function
 
+-- the word of a task that joins now
+abbrev pub now_words : Bool → List Word
+now_words now = if now then codes "now" ∷ [] else []
+
 -- the words that name a parent, where there is one
 abbrev pub by_words : Option ByWords → List Word
 by_words None = []
-by_words (Some by) = codes "by" ∷ by.parent ∷ codes "at" ∷ by.at ∷ []
+by_words (Some by) = codes "by" ∷ by.parent ∷ codes "at" ∷ by.at ∷ now_words by.now
 
 -- the words of the last boundary, where there is one
 abbrev pub until_words : Option Word → List Word
 until_words None = []
 until_words (Some steps) = codes "until" ∷ steps ∷ []
 
+-- the word of the steps of a block, where there is one
+abbrev pub block_words : Option Word → List Word
+block_words None = []
+block_words (Some steps) = (codes "block=" ++ steps) ∷ []
+
 -- the words of the ends
 abbrev pub end_words : EndWords → List Word
-end_words ends = by_words ends.by ++ until_words ends.until
+end_words ends = by_words ends.by ++ (until_words ends.until ++ block_words ends.block)
 
 -- the first word of the line
 abbrev pub kind_word : BodyWords → Word
@@ -128,28 +142,55 @@ IsBody (peer input exchange output factor) = IsTrue (is_name input) × IsTrue (i
     × IsTrue (is_name output) × IsTrue (is_int factor)
 IsBody (sink input) = IsTrue (is_name input)
 
+-- whether a line of this version, of this kind, may say that its task joins now
+abbrev pub may_join_now : Version → BodyWords → Bool
+may_join_now One body = false
+may_join_now Two (source file output) = false
+may_join_now Two (fir input output shift taps) = false
+may_join_now Two (split input outputs) = false
+may_join_now Two (join inputs output) = false
+may_join_now Two (peer input exchange output factor) = false
+may_join_now Two (sink input) = true
+
+-- whether a line of this version, of this kind, may say how many steps a block has
+abbrev pub may_have_blocks : Version → BodyWords → Bool
+may_have_blocks One body = false
+may_have_blocks Two (source file output) = true
+may_have_blocks Two (fir input output shift taps) = true
+may_have_blocks Two (split input outputs) = false
+may_have_blocks Two (join inputs output) = false
+may_have_blocks Two (peer input exchange output factor) = false
+may_have_blocks Two (sink input) = true
+
 -- a parent is named, and the count of its steps is a number
 abbrev pub IsBy : ByWords → Type 0
 IsBy by = IsTrue (is_name by.parent) × IsTrue (is_nat by.at)
 
--- the ends of a line whose kind may, or may not, name a parent
-abbrev pub AreEnds : Bool → EndWords → Type 0
-AreEnds true ends = IfSome ends.by IsBy × IfSome ends.until (λ steps. IsTrue (is_nat steps))
-AreEnds false ends = (ends.by ≡ None) × IfSome ends.until (λ steps. IsTrue (is_nat steps))
+-- a line of this version, of this kind, may have this parent
+abbrev pub MayHaveBy : Version → BodyWords → ByWords → Type 0
+MayHaveBy version body by =
+    IsTrue (may_have_parent body) × (IsTrue by.now → IsTrue (may_join_now version body))
 
--- names are names, numbers are numbers, and so on
-abbrev pub IsWellFormed : Decl → Type 0
-IsWellFormed (phaser name operation bound single) =
+-- the ends of a line of this version, of this kind
+pub record AreEnds (version : Version) (body : BodyWords) (ends : EndWords) : Type 0 where
+  pub by : IfSome ends.by (λ by. IsBy by × MayHaveBy version body by)
+  pub until : IfSome ends.until (λ steps. IsTrue (is_nat steps))
+  pub block : IfSome ends.block (λ steps.
+      IsTrue (is_nat steps) × IsTrue (may_have_blocks version body))
+
+-- names are names, numbers are numbers, and so on, on a line of this version
+abbrev pub IsWellFormed : Version → Decl → Type 0
+IsWellFormed version (phaser name operation bound single) =
     IsTrue (is_name name) × IsTrue (is_nat bound) × IfSome single IsFunction
-IsWellFormed (task name body ends) =
-    IsTrue (is_name name) × IsBody body × AreEnds (may_have_parent body) ends
+IsWellFormed version (task name body ends) =
+    IsTrue (is_name name) × IsBody body × AreEnds version body ends
 
--- the words spell what is declared
-pub record Spells (words : List Word) (d : Decl) : Type 0 where
-  pub well_formed : IsWellFormed d
+-- the words spell what is declared, in a text of this version
+pub record Spells (version : Version) (words : List Word) (d : Decl) : Type 0 where
+  pub well_formed : IsWellFormed version d
   pub spelled : words ≡ spelling d
 
--- the line is one of the grammar, and declares d
-pub record Declares (line : List ℕ) (d : Decl) : Type 0 where
+-- the line is one of the grammar of this version, and declares d
+pub record Declares (version : Version) (line : List ℕ) (d : Decl) : Type 0 where
   pub printable : are_printable line ≡ true
-  pub spells : Spells (words_of line) d
+  pub spells : Spells version (words_of line) d

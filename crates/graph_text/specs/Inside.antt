@@ -1,6 +1,6 @@
 -- How the words of a line are read, one after another. What may be relied on is the spelling: the
 -- laws of reading say that the two agree.
-use Rattle.std.specs.Prelude.{◌==◌, ◌&&◌, Bool, false, List, [], ◌∷◌, length, take, drop, Option, Some, None, option_and_then, if◌then◌else◌, codes, ℕ}
+use Rattle.std.specs.Prelude.{◌==◌, ◌&&◌, Bool, true, false, List, [], ◌∷◌, length, take, drop, Option, Some, None, option_and_then, if◌then◌else◌, codes, ℕ}
 use Rattle.std.specs.List.{prefix_len}
 use Rattle.std.specs.Str.{bytes_eq}
 use Rattle.std.specs.Borrow.{Bor}
@@ -8,7 +8,8 @@ use Rattle.phase_base.specs.Words.{Word, is_name, is_file}
 use Rattle.phase_base.specs.OperationWords.{operation_of}
 use Rattle.phase_base.specs.declared.operation.Op.{Op}
 use Rattle.graph_text.specs.Numbers.{is_nat, is_int}
-use Rattle.graph_text.specs.Decls.{Decl, phaser, task, FunctionWords, neg, abs, halve, clamp, ByWords, EndWords, BodyWords, source, fir, split, join, peer, sink, may_have_parent}
+use Rattle.graph_text.specs.Decls.{Decl, phaser, task, FunctionWords, neg, abs, halve, clamp, ByWords, EndWords, BodyWords, source, fir, split, join, peer, sink, may_have_parent, may_join_now, may_have_blocks}
+use Rattle.graph_text.specs.declared.version.Version.{Version}
 use Rattle.graph_text.specs.Lines.{function_of, single_of, by_of, word_of, body_of}
 use Rattle.graph_text.specs.Plain.{plain as words_in}
 use Rattle.graph_text.specs.declared.line.By.{By}
@@ -88,16 +89,26 @@ single_at words =
       Some (Some function.0, function.1))
     else Some (None, words)
 
+-- whether the task joins now: where that is not allowed, or the word for it is missing, it does not
+unfoldable pub now_at : Bool → List Word → Found Bool
+now_at allowed [] = (false, [])
+now_at allowed (word ∷ words) =
+    if allowed && bytes_eq word (codes "now") then (true, words) else (false, word ∷ words)
+
+-- a parent, and whether the task joins now, with the words after that
+abbrev pub by_with : Word → Word → Found Bool → Found (Option ByWords)
+by_with parent at now = (Some (record { parent = parent; at = at; now = now.0 }), now.1)
+
 -- a parent, or none where it is not allowed or the word for it is missing
-unfoldable pub by_at : Bool → List Word → Option (Found (Option ByWords))
-by_at allowed words =
+unfoldable pub by_at : (allowed joins : Bool) → List Word → Option (Found (Option ByWords))
+by_at allowed joins words =
     if allowed && begins (codes "by") words
     then (do
       named ← after (codes "by") words
       parent ← word_at is_name named
       counted ← after (codes "at") parent.1
       at ← word_at is_nat counted
-      Some (Some (record { parent = parent.0; at = at.0 }), at.1))
+      Some (by_with parent.0 at.0 (now_at joins at.1)))
     else Some (None, words)
 
 -- a last boundary, or none where the word for it is missing
@@ -110,12 +121,31 @@ until_at words =
       Some (Some steps.0, steps.1))
     else Some (None, words)
 
+-- the number of a word `block=N`
+unfoldable pub block_number : Word → Option Word
+block_number word =
+    if bytes_eq (take 6 word) (codes "block=") && is_nat (drop 6 word)
+    then Some (drop 6 word)
+    else None
+
+-- the steps of a block, where that is allowed and one word is left, or none where no word is left
+unfoldable pub block_at : Bool → List Word → Option (Option Word)
+block_at allowed [] = Some None
+block_at allowed (word ∷ []) =
+    if allowed
+    then (do
+      steps ← block_number word
+      Some (Some steps))
+    else None
+block_at allowed (word ∷ more ∷ words) = None
+
 -- the optional ends, with nothing after them
-unfoldable pub ends_at : Bool → List Word → Option EndWords
-ends_at allowed words = do
-  by ← by_at allowed words
+unfoldable pub ends_at : Version → BodyWords → List Word → Option EndWords
+ends_at version body words = do
+  by ← by_at (may_have_parent body) (may_join_now version body) words
   until ← until_at by.1
-  if length until.1 == 0 then Some (record { by = by.0; until = until.0 }) else None
+  block ← block_at (may_have_blocks version body) until.1
+  Some (record { by = by.0; until = until.0; block = block })
 
 -- what a source does
 unfoldable pub source_at : List Word → Option (Found BodyWords)
@@ -194,18 +224,18 @@ phaser_at words = do
   if length single.1 == 0 then Some (phaser name.0 operation.0 bound.0 single.0) else None
 
 -- the line of a task, by its first word
-unfoldable pub task_at : Word → List Word → Option Decl
-task_at kind words = do
+unfoldable pub task_at : Version → Word → List Word → Option Decl
+task_at version kind words = do
   name ← word_at is_name words
   body ← body_at kind name.1
-  ends ← ends_at (may_have_parent body.0) body.1
+  ends ← ends_at version body.0 body.1
   Some (task name.0 body.0 ends)
 
 -- a line
-unfoldable pub line_at : List Word → Option Decl
-line_at [] = None
-line_at (kind ∷ words) =
-    if bytes_eq kind (codes "phaser") then phaser_at words else task_at kind words
+unfoldable pub line_at : Version → List Word → Option Decl
+line_at version [] = None
+line_at version (kind ∷ words) =
+    if bytes_eq kind (codes "phaser") then phaser_at words else task_at version kind words
 
 -- ---- what was read, with the words after it
 
@@ -230,6 +260,10 @@ found_function found = (function_of found.0, words_in found.1.now)
 abbrev pub found_single :
     Option Function × Bor (List (Bor (List ℕ))) → Found (Option FunctionWords)
 found_single found = (single_of found.0, words_in found.1.now)
+
+-- whether a task joins now
+abbrev pub found_now : Bool × Bor (List (Bor (List ℕ))) → Found Bool
+found_now found = (found.0, words_in found.1.now)
 
 -- a parent or none
 abbrev pub found_by : Option By × Bor (List (Bor (List ℕ))) → Found (Option ByWords)

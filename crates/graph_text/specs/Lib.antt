@@ -4,4 +4,5 @@ pub mod Lines
 pub mod Numbers
 pub mod Plain
 pub mod Texts
+pub mod Versions
 pub use Rattle.phase_base.specs as phase_base

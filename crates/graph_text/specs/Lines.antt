@@ -28,7 +28,7 @@ single_of (Some single) = Some (function_of single)
 -- the parent
 abbrev pub by_of : Option By → Option ByWords
 by_of None = None
-by_of (Some by) = Some (record { parent = by.parent.now; at = by.at.now })
+by_of (Some by) = Some (record { parent = by.parent.now; at = by.at.now; now = by.now })
 
 -- a word, where there is one
 abbrev pub word_of : Option (Bor (List ℕ)) → Option Word
@@ -37,7 +37,11 @@ word_of (Some word) = Some word.now
 
 -- the ends
 abbrev pub ends_of : Ends → EndWords
-ends_of ends = record { by = by_of ends.by; until = word_of ends.until }
+ends_of ends = record {
+  by = by_of ends.by;
+  until = word_of ends.until;
+  block = word_of ends.block;
+}
 
 -- what a task does
 abbrev pub body_of : Body → BodyWords

@@ -1,5 +1,5 @@
 -- The lines of a text, and the words of a line.
-use Rattle.std.specs.Prelude.{ℕ, ◌-◌, ◌==◌, ◌||◌, Bool, true, not, if◌then◌else◌, List, [], ◌∷◌, length, map, take, filter, slice_index}
+use Rattle.std.specs.Prelude.{ℕ, ◌==◌, ◌||◌, Bool, true, not, List, [], ◌∷◌, length, map, filter, slice_index}
 use Rattle.std.specs.List.{slice_split, list_all}
 use Rattle.phase_base.specs.Lists.{without_cr}
 use Rattle.phase_base.specs.Words.{Word, is_word_byte}

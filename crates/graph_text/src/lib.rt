@@ -1,6 +1,6 @@
-//! The lines of a graph's text, by their words: what each declares, and which words are numbers. The
-//! first calls are `lines_of`, `words_of` and `line_at`. What one needs of `phase_base` is handed
-//! on.
+//! The lines of a graph's text, by their words: what each declares in a text of its version, and
+//! which words are numbers. The first calls are `lines_of`, `words_of`, `is_heading` and `line_at`.
+//! What one needs of `phase_base` is handed on.
 #![tactic(auto)]
 
 pub mod laws;
@@ -8,6 +8,7 @@ mod line;
 mod number;
 mod read;
 mod text;
+mod version;
 
 pub use line::{Body, By, Ends, Function, Line, PhaserWords, TaskWords};
 pub use number::{int_within, nat_within};
@@ -15,3 +16,4 @@ pub use phase_base;
 pub use phase_base::{FILE_MAX, NAME_MAX, Op, file_text, name_text};
 pub use read::line_at;
 pub use text::{are_printable, begins_comment, lines_of, without_cr, words_of};
+pub use version::{Version, is_heading};

@@ -68,10 +68,12 @@ pub enum Body<'w, 'a> {
 /// The optional ends of a task's line.
 #[derive(Clone, Copy)]
 pub struct Ends<'a> {
-    /// `by P at N`, where a task registers this one.
+    /// `by P at N`, perhaps with `now`, where a task registers this one.
     pub by: Option<By<'a>>,
     /// The number after `until`.
     pub until: Option<&'a [u8]>,
+    /// The number after `block=`, in a text of version 2.
+    pub block: Option<&'a [u8]>,
 }
 
 /// Which task registers a child, and when.
@@ -81,4 +83,7 @@ pub struct By<'a> {
     pub parent: &'a [u8],
     /// How many steps that task makes before.
     pub at: &'a [u8],
+    /// Whether `now` stands behind it, in a text of version 2: the child joins at the first phase
+    /// that is not complete then.
+    pub now: bool,
 }

@@ -3,13 +3,14 @@ ghost use Rattle.std.specs.Prelude.{◌≡◌, ◌≤◌, map, length, option_ma
 ghost use Rattle.graph_text.specs.Plain.{plain};
 ghost use Rattle.phase_base.specs.Words.{is_name as is_name_word, is_file as is_file_word};
 ghost use Rattle.graph_text.specs.Numbers.{is_nat as is_nat_word, is_int as is_int_word};
-ghost use Rattle.graph_text.specs.Decls.{Decl, Spells, may_have_parent};
+ghost use Rattle.graph_text.specs.Decls.{Decl, Spells, may_have_parent, may_join_now, may_have_blocks};
 ghost use Rattle.std.specs.List.{prefix_len};
-ghost use Rattle.graph_text.specs.Inside.{found_word, found_words, found_operation, found_function, found_single, found_by, found_until, found_body, word_at, after, begins, some_at, operation_at, clamp_at, function_named, function_at, single_at, by_at, until_at, ends_at, source_at, fir_at, split_at, join_at, peer_at, sink_at, body_at, phaser_at, task_at, line_at};
-ghost use Rattle.graph_text.specs.Lines.{body_of, ends_of, decl_of};
+ghost use Rattle.graph_text.specs.Inside.{found_word, found_words, found_operation, found_function, found_single, found_now, found_by, found_until, found_body, word_at, after, begins, some_at, operation_at, clamp_at, function_named, function_at, single_at, now_at, by_at, until_at, block_number, block_at, ends_at, source_at, fir_at, split_at, join_at, peer_at, sink_at, body_at, phaser_at, task_at, line_at};
+ghost use Rattle.graph_text.specs.Lines.{word_of, body_of, ends_of, decl_of};
 
 use crate::line::{Body, By, Ends, Function, Line, PhaserWords, TaskWords};
 use crate::number::{is_int, is_nat};
+use crate::version::Version;
 use phase_base::{Op, is_file, is_name};
 
 // ---- words
@@ -203,17 +204,34 @@ fn single_at<'w, 'a>(words: &'w [&'a [u8]]) -> Option<(Option<Function<'a>>, &'w
     }
 }
 
-/// `by P at N` where that is allowed, or nothing, and the words after it.
+/// Whether `now` stands first where that is allowed, and the words after it.
+#[tactic(auto, unfolding(crate::specs::Inside::now_at))]
+fn now_at<'w, 'a>(allowed: bool, words: &'w [&'a [u8]]) -> (bool, &'w [&'a [u8]])
+    ensures { found_now result ≡ now_at allowed (plain words.now) }
+{
+    match words {
+        [word, rest @ ..] if allowed && *word == b"now".as_slice() => (true, rest),
+        _ => (false, words),
+    }
+}
+
+/// `by P at N` where that is allowed, with `now` where it joins so, or nothing, and the words after
+/// it.
 #[tactic(auto, unfolding(crate::specs::Inside::by_at))]
-fn by_at<'w, 'a>(allowed: bool, words: &'w [&'a [u8]]) -> Option<(Option<By<'a>>, &'w [&'a [u8]])>
-    ensures { option_map found_by result ≡ by_at allowed (plain words.now) }
+fn by_at<'w, 'a>(
+    allowed: bool,
+    joins: bool,
+    words: &'w [&'a [u8]],
+) -> Option<(Option<By<'a>>, &'w [&'a [u8]])>
+    ensures { option_map found_by result ≡ by_at allowed joins (plain words.now) }
 {
     if allowed && begins(b"by", words) {
         let rest = after(b"by", words)?;
         let (parent, rest) = name_at(rest)?;
         let rest = after(b"at", rest)?;
         let (at, rest) = nat_at(rest)?;
-        Some((Some(By { parent, at }), rest))
+        let (now, rest) = now_at(joins, rest);
+        Some((Some(By { parent, at, now }), rest))
     } else {
         Some((None, words))
     }
@@ -233,18 +251,37 @@ fn until_at<'w, 'a>(words: &'w [&'a [u8]]) -> Option<(Option<&'a [u8]>, &'w [&'a
     }
 }
 
-/// The optional ends, with nothing after them.
-#[tactic(auto, unfolding(crate::specs::Inside::ends_at))]
-fn ends_at<'a>(allowed: bool, words: &[&'a [u8]]) -> Option<Ends<'a>>
-    ensures { option_map ends_of result ≡ ends_at allowed (plain words.now) }
+/// The number of a word `block=N`.
+#[tactic(auto, unfolding(crate::specs::Inside::block_number))]
+fn block_number(word: &[u8]) -> Option<&[u8]>
+    ensures { word_of result ≡ block_number word.now }
 {
-    let (by, rest) = by_at(allowed, words)?;
-    let (until, rest) = until_at(rest)?;
-    if rest.is_empty() {
-        Some(Ends { by, until })
-    } else {
-        None
+    let steps = word.strip_prefix(b"block=")?;
+    if is_nat(steps) { Some(steps) } else { None }
+}
+
+/// The number of `block=N` where that is allowed and the last word, or none where no word is left.
+#[tactic(auto, unfolding(crate::specs::Inside::block_at))]
+fn block_at<'a>(allowed: bool, words: &[&'a [u8]]) -> Option<Option<&'a [u8]>>
+    ensures { option_map word_of result ≡ block_at allowed (plain words.now) }
+{
+    match words {
+        [] => Some(None),
+        [word] if allowed => Some(Some(block_number(word)?)),
+        _ => None,
     }
+}
+
+/// The optional ends of a line of this version, with nothing after them.
+#[tactic(auto, unfolding(crate::specs::Inside::ends_at))]
+fn ends_at<'a>(version: Version, body: Body<'_, '_>, words: &[&'a [u8]]) -> Option<Ends<'a>>
+    ensures { option_map ends_of result
+        ≡ ends_at version (body_of body.entry) (plain words.now) }
+{
+    let (by, rest) = by_at(may_have_parent(body), may_join_now(version, body), words)?;
+    let (until, rest) = until_at(rest)?;
+    let block = block_at(may_have_blocks(version, body), rest)?;
+    Some(Ends { by, until, block })
 }
 
 // ---- what a task does
@@ -350,6 +387,23 @@ fn may_have_parent(body: Body<'_, '_>) -> bool
     matches!(body, Body::Source(..) | Body::Fir(..) | Body::Sink(..))
 }
 
+/// Whether a line of this version, of the kind, may say that its task joins now.
+fn may_join_now(version: Version, body: Body<'_, '_>) -> bool
+    ensures { result ≡ may_join_now version (body_of body.entry) }
+{
+    matches!((version, body), (Version::Two, Body::Sink(..)))
+}
+
+/// Whether a line of this version, of the kind, may say how many steps a block has.
+fn may_have_blocks(version: Version, body: Body<'_, '_>) -> bool
+    ensures { result ≡ may_have_blocks version (body_of body.entry) }
+{
+    match version {
+        Version::One => false,
+        Version::Two => matches!(body, Body::Source(..) | Body::Fir(..) | Body::Sink(..)),
+    }
+}
+
 // ---- a line
 
 /// What the words after `phaser` declare.
@@ -375,19 +429,19 @@ fn phaser_at<'w, 'a>(words: &'w [&'a [u8]]) -> Option<Line<'w, 'a>>
 
 /// What the words after the kind of a task declare.
 #[tactic(auto, unfolding(crate::specs::Inside::task_at))]
-fn task_at<'w, 'a>(kind: &[u8], words: &'w [&'a [u8]]) -> Option<Line<'w, 'a>>
-    ensures { option_map decl_of result ≡ task_at kind.now (plain words.now) }
+fn task_at<'w, 'a>(version: Version, kind: &[u8], words: &'w [&'a [u8]]) -> Option<Line<'w, 'a>>
+    ensures { option_map decl_of result ≡ task_at version kind.now (plain words.now) }
 {
     let (name, rest) = name_at(words)?;
     let (body, rest) = body_at(kind, rest)?;
-    let ends = ends_at(may_have_parent(body), rest)?;
+    let ends = ends_at(version, body, rest)?;
     Some(Line::Task(TaskWords { name, body, ends }))
 }
 
 /// What the words declare, read one after another.
 #[tactic(auto, unfolding(crate::specs::Inside::line_at))]
-fn read<'w, 'a>(words: &'w [&'a [u8]]) -> Option<Line<'w, 'a>>
-    ensures { option_map decl_of result ≡ line_at (plain words.now) }
+fn read<'w, 'a>(words: &'w [&'a [u8]], version: Version) -> Option<Line<'w, 'a>>
+    ensures { option_map decl_of result ≡ line_at version (plain words.now) }
 {
     match words {
         [] => None,
@@ -395,16 +449,17 @@ fn read<'w, 'a>(words: &'w [&'a [u8]]) -> Option<Line<'w, 'a>>
             if *kind == b"phaser".as_slice() {
                 phaser_at(rest)
             } else {
-                task_at(kind, rest)
+                task_at(version, kind, rest)
             }
         }
     }
 }
 
-/// Returns what the words of a line declare, or that they declare nothing. It takes no memory.
-pub fn line_at<'w, 'a>(words: &'w [&'a [u8]]) -> Option<Line<'w, 'a>>
-    ensures found { IfSome result (λ line. Spells (plain words.now) (decl_of line)) }
-    ensures none { IfNone result ((d : Decl) → ¬ (Spells (plain words.now) d)) }
+/// Returns what the words of a line declare in a text of this version, or that they declare
+/// nothing. The heading of a text declares nothing. It takes no memory.
+pub fn line_at<'w, 'a>(words: &'w [&'a [u8]], version: Version) -> Option<Line<'w, 'a>>
+    ensures found { IfSome result (λ line. Spells version (plain words.now) (decl_of line)) }
+    ensures none { IfNone result ((d : Decl) → ¬ (Spells version (plain words.now) d)) }
 {
-    read(words)
+    read(words, version)
 }

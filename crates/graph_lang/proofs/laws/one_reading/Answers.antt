@@ -4,4 +4,4 @@ use Rattle.graph_lang.proofs.laws.one_reading.Goals as goal
 
 -- line by line: each comes to one thing
 pub returns : goal.returns
-returns c = one_reading_from 1 no_graph
+returns c = λ version. one_reading_from version 1 no_graph

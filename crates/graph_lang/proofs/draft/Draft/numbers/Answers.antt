@@ -1,25 +1,28 @@
 use Rattle.std.proofs.Common.{◌≡◌, ◌≤◌, ◌<◌, ◌∙◌, sym, ap, arith, not, length, true, is_some, nat_lt, ◌&&◌}
 use Rattle.std.proofs.lemmas.List.{length-map}
 use Rattle.std.proofs.lemmas.Option.{cond_some}
-use Rattle.graph_text.specs.Decls.{may_have_parent}
+use Rattle.graph_text.specs.declared.version.Version.TheVariants.{Two}
 use Rattle.graph_text.specs.Lines.{body_of, ends_of}
 use Rattle.graph_base.specs.Graphs.{Graph}
 use Rattle.graph_base.specs.Inside.{task_of}
 use Rattle.graph_base.specs.declared.limits.TheConstants.{TASKS_MAX}
 use Rattle.graph_lang.specs.Faults.{is_body_within, are_ends_within}
 use Rattle.graph_lang.specs.Inside.{steps_in}
-use Rattle.graph_lang.proofs.Ends.{ends-by, ends-until}
+use Rattle.graph_lang.proofs.Ends.{ends-by, ends-block}
 use Rattle.graph_lang.proofs.Sound.{none-if, no-ends, room-none, room-some}
 use Rattle.graph_lang.proofs.draft.Draft.numbers.Goals as goal
 
--- the ends are those of a line that may name a parent, or of one that may not
+-- the ends are those of a line of some version
 pub steps_of-requires-clause-by : goal.steps_of-requires-clause-by
 steps_of-requires-clause-by c =
-    ends-by (may_have_parent (body_of c.args.words.body)) (ends_of c.args.words.ends) c.requires.2
+    ends-by Two (body_of c.args.words.body) (ends_of c.args.words.ends) c.requires.2
 
 pub steps_of-requires-clause-until : goal.steps_of-requires-clause-until
-steps_of-requires-clause-until c =
-    ends-until (may_have_parent (body_of c.args.words.body)) (ends_of c.args.words.ends) c.requires.2
+steps_of-requires-clause-until c = c.requires.2.until
+
+pub steps_of-requires-clause-block : goal.steps_of-requires-clause-block
+steps_of-requires-clause-block c =
+    ends-block Two (body_of c.args.words.body) (ends_of c.args.words.ends) c.requires.2
 
 -- there is no room
 pub returns-then-len-ge-TASKS_MAX-clause-within : goal.returns-then-len-ge-TASKS_MAX-clause-within
