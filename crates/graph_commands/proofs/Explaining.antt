@@ -1,12 +1,12 @@
 -- Why there is no job of a graph's text, and its status.
 use Rattle.std.proofs.Common.{◌≡◌, ◌⊎◌, inl, inr, ℕ, List, Ok, sym, subst}
-use Rattle.graph_show.specs.graph_base.Graphs.{Graph, no_graph}
+use Rattle.graph_show.specs.graph_base.Graphs.{Graph}
 use Rattle.graph_commands.specs.Explained.{IsFurther, IsTextOf, Tells}
 use Rattle.graph_commands.specs.FileJobs.{IsGraphOf, Known}
 use Rattle.graph_commands.specs.GraphRuns.{job_status}
 use Rattle.graph_commands.specs.declared.fault.JobFault.{JobFault}
 use Rattle.graph_commands.specs.declared.fault.JobFault.TheVariants as fault
-use Rattle.graph_show.specs.graph_lang.Reads.{Reads}
+use Rattle.graph_show.specs.graph_lang.Reads.{ReadsText}
 use Rattle.graph_show.specs.graph_text.Texts.{lines_of}
 
 -- a fault of the files has the status 1 or 5
@@ -18,7 +18,7 @@ one-or-five fault.OutOfMemory status is = inr is
 
 -- the graph of a file's text is that of the file
 pub graph-of-text : (known : Known) (name text : List ℕ) (graph : Graph) → IsTextOf known name text
-    → Reads 1 no_graph (lines_of text) (Ok graph) → IsGraphOf known name graph
+    → ReadsText (lines_of text) (Ok graph) → IsGraphOf known name graph
 graph-of-text known name text graph of reads =
     record { text = text; bytes = of.bytes; short = of.short; reads = reads }
 

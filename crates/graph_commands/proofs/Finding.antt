@@ -1,11 +1,11 @@
 -- The first number that passes a test, and the values of a sink among those of all.
-use Rattle.std.proofs.Common.{◌≡◌, ℕ, zero, suc, ◌+◌, ◌<◌, ◌≤◌, ◌⊎◌, inl, inr, ◌==◌, List, [], ◌∷◌, map, length, drop, get_or, ℤ, Bool, true, false, Some, None, refl, ap, sym, subst, ◌∙◌, arith}
+use Rattle.std.proofs.Common.{◌≡◌, ℕ, zero, suc, ◌+◌, ◌<◌, ◌≤◌, ◌⊎◌, inl, inr, ◌==◌, List, [], ◌∷◌, map, length, drop, get_or, Bool, true, false, Some, None, refl, ap, sym, subst, ◌∙◌, arith}
 use Rattle.std.specs.List.{find, range_with_len}
 use Rattle.std.proofs.lemmas.Bool.{cases_lt}
 use Rattle.std.proofs.lemmas.List.{drop_more}
-use Rattle.stream_eval.specs.Results.{sink_values}
+use Rattle.stream_eval.specs.Results.{sink_output}
 use Rattle.stream_eval.specs.declared.whole.Lines.{Lines}
-use Rattle.graph_commands.specs.GraphRuns.{values_of_sink}
+use Rattle.graph_commands.specs.OutputTexts.{values_of_sink}
 
 -- the first number from a on that passes
 find_from : (test : ℕ → Bool) (a n c : ℕ) → c < n → ((d : ℕ) → d < c → test (a + d) ≡ false)
@@ -65,21 +65,21 @@ one_more P n below here d lt = by (cases_lt d n)
 -- those behind the first lines are the sink's, where the next line is, and where it is another's
 pub values_here : (sink i : ℕ) (lines : List Lines) (line : Lines) → i < length lines
     → get_or lines i line ≡ line → (line.task == sink) ≡ true
-    → values_of_sink sink (map sink_values (drop i lines)) ≡ line.values.items
+    → values_of_sink sink (map sink_output (drop i lines)) ≡ line.values.items
 values_here sink i lines line lt is hit =
-    ap (λ xs. values_of_sink sink (map sink_values xs)) (drop_more lines i line lt)
-    ∙ ap (λ l. values_of_sink sink (map sink_values (l ∷ drop (i + 1) lines))) is ∙ rw hit refl
+    ap (λ xs. values_of_sink sink (map sink_output xs)) (drop_more lines i line lt)
+    ∙ ap (λ l. values_of_sink sink (map sink_output (l ∷ drop (i + 1) lines))) is ∙ rw hit refl
 
 pub values_behind : (sink i : ℕ) (lines : List Lines) (line : Lines) → i < length lines
     → get_or lines i line ≡ line → (line.task == sink) ≡ false
-    → values_of_sink sink (map sink_values (drop i lines))
-    ≡ values_of_sink sink (map sink_values (drop (i + 1) lines))
+    → values_of_sink sink (map sink_output (drop i lines))
+    ≡ values_of_sink sink (map sink_output (drop (i + 1) lines))
 values_behind sink i lines line lt is other =
-    ap (λ xs. values_of_sink sink (map sink_values xs)) (drop_more lines i line lt)
-    ∙ ap (λ l. values_of_sink sink (map sink_values (l ∷ drop (i + 1) lines))) is ∙ rw other refl
+    ap (λ xs. values_of_sink sink (map sink_output xs)) (drop_more lines i line lt)
+    ∙ ap (λ l. values_of_sink sink (map sink_output (l ∷ drop (i + 1) lines))) is ∙ rw other refl
 
 pub no_values : (sink : ℕ) (lines : List Lines) (i : ℕ) → length lines ≤ i
-    → values_of_sink sink (map sink_values (drop i lines)) ≡ []
+    → values_of_sink sink (map sink_output (drop i lines)) ≡ []
 no_values sink [] zero le = refl
 no_values sink [] (suc i) le = refl
 no_values sink (line ∷ lines) zero le = absurd (omega arith)

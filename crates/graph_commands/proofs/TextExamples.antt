@@ -1,5 +1,5 @@
 -- The output text, worked out.
-use Rattle.std.specs.Prelude.{ℕ, ℤ, pos, neg_ℤ, ◌≡◌, refl, List, [], ◌∷◌, codes}
+use Rattle.std.specs.Prelude.{ℕ, ℤ, pos, neg_ℤ, Some, None, ◌≡◌, refl, List, [], ◌∷◌, codes}
 use Rattle.std.specs.Fmt.{digits}
 use Rattle.graph_show.specs.graph_base.Graphs.{Graph, no_graph}
 use Rattle.graph_show.specs.graph_base.declared.place.Place.TheVariants as place
@@ -13,14 +13,24 @@ minus n = neg_ℤ (pos n)
 abbrev with_sink : List ℕ → Graph
 with_sink name = record no_graph { names = (name, place.Task 0) ∷ [] }
 
-text-rounds_down : text_of (with_sink (codes "out")) ((0, minus 1 ∷ minus 1 ∷ minus 1 ∷ []) ∷ [])
+text-rounds_down : text_of (with_sink (codes "out")) ((0, None, minus 1 ∷ minus 1 ∷ minus 1 ∷ []) ∷ [])
     ≡ codes "out 3\n-1\n-1\n-1\n"
 unfolding digits
 text-rounds_down = refl
 
-text-no_samples : text_of (with_sink (codes "out")) ((0, []) ∷ []) ≡ codes "out 0\n"
+text-no_samples : text_of (with_sink (codes "out")) ((0, None, []) ∷ []) ≡ codes "out 0\n"
 unfolding digits
 text-no_samples = refl
+
+text-starts_late : text_of (with_sink (codes "late"))
+    ((0, Some 2, pos 3 ∷ pos 4 ∷ []) ∷ []) ≡ codes "late from 2 2\n3\n4\n"
+unfolding digits
+text-starts_late = refl
+
+text-starts_with_no_value : text_of (with_sink (codes "late")) ((0, Some 0, []) ∷ [])
+    ≡ codes "late from 0 0\n"
+unfolding digits
+text-starts_with_no_value = refl
 
 text-nothing : text_of no_graph [] ≡ []
 text-nothing = refl

@@ -3,8 +3,8 @@
 use Rattle.std.specs.Prelude.{ℕ, ◌≡◌, ◌<◌, ◌≤◌, ◌⊎◌, List, [], length, get_or, ℤ, true, Ok, Err, Some, None, string_bytes}
 use Rattle.std.specs.declared.option.Option.{Option}
 use Rattle.graph_show.specs.graph_text.Texts.{lines_of}
-use Rattle.graph_show.specs.graph_base.Graphs.{Graph, no_graph, task_at, file_at, name_at, is_source, source_number, sources_of}
-use Rattle.graph_show.specs.graph_lang.Reads.{Reads}
+use Rattle.graph_show.specs.graph_base.Graphs.{Graph, task_at, file_at, name_at, is_source, source_number, sources_of}
+use Rattle.graph_show.specs.graph_lang.Reads.{ReadsText}
 use Rattle.graph_show.specs.graph_lang.declared.fault.FaultKind.TheVariants.{AnyMeets}
 use Rattle.graph_show.specs.graph_lang.declared.fault.GraphFault.{GraphFault}
 use Rattle.graph_show.specs.graph_base.declared.place.Place.TheVariants as place
@@ -28,14 +28,14 @@ pub record IsGraphOf (known : Known) (name : List ℕ) (graph : Graph) : Type 0 
   pub text : List ℕ
   pub bytes : HasBytes (known name) text
   pub short : length text ≤ GRAPH_MAX
-  pub reads : Reads 1 no_graph (lines_of text) (Ok graph)
+  pub reads : ReadsText (lines_of text) (Ok graph)
 
 -- it is the first fault of the lines of the file's text
 pub record IsFaultOf (known : Known) (name : List ℕ) (found : GraphFault) : Type 0 where
   pub text : List ℕ
   pub bytes : HasBytes (known name) text
   pub short : length text ≤ GRAPH_MAX
-  pub reads : Reads 1 no_graph (lines_of text) (Err found)
+  pub reads : ReadsText (lines_of text) (Err found)
 
 -- ---- the samples
 

@@ -1,18 +1,18 @@
 -- How a check or an evaluation of a graph ends: its status, and what stands on its streams then.
-use Rattle.std.specs.Prelude.{◌≡◌, ◌≢◌, ◌⊎◌, ℕ, ℤ, true, ◌&&◌, ◌==◌, List, [], ◌∷◌, length, codes, decimal, Some, None, string_bytes, if◌then◌else◌}
-use Rattle.std.specs.List.{concat, find, flat_map, range_with_len}
+use Rattle.std.specs.Prelude.{◌≡◌, ◌≢◌, ◌⊎◌, ℕ, true, ◌&&◌, List, [], ◌∷◌, length, map, codes, decimal, Some, None, string_bytes}
+use Rattle.std.specs.List.{concat, find, range_with_len}
 use Rattle.std.specs.Str.{bytes_eq}
 use Rattle.std.specs.Io.KnownBytes.{Appends}
 use Rattle.std.specs.declared.option.Option.{Option}
 use Rattle.graph_show.specs.graph_base.Graphs.{Graph, name_at}
 use Rattle.graph_show.specs.graph_lang.declared.fault.FaultKind.{FaultKind}
-use Rattle.graph_show.specs.graph_lang.declared.fault.FaultKind.TheVariants.{Syntax, Limit, Twice, Unknown, OutBeforeIn, BadParent, NotHeld, AnyMeets}
+use Rattle.graph_show.specs.graph_lang.declared.fault.FaultKind.TheVariants.{Syntax, Limit, Twice, Unknown, OutBeforeIn, BadParent, NotHeld, OverBound, AnyMeets}
 use Rattle.graph_show.specs.graph_base.declared.place.Place.{Place}
 use Rattle.graph_show.specs.graph_base.declared.place.Place.TheVariants as place
 use Rattle.stream_eval.specs.stream_lists.Jobs.{Job}
-use Rattle.stream_eval.specs.stream_lists.Lists.{is_sink_at, lines_of}
+use Rattle.stream_eval.specs.stream_lists.Lists.{is_sink_at, lines_of, with_start}
 use Rattle.stream_eval.specs.stream_lists.Ranges.{Fits, first_too_big}
-use Rattle.graph_commands.specs.OutputTexts.{text_of, value_text}
+use Rattle.graph_commands.specs.OutputTexts.{lines_text}
 use Rattle.graph_commands.specs.FileJobs.{Explains, IsJobOf, Known}
 use Rattle.graph_commands.specs.declared.fault.JobFault.{JobFault}
 use Rattle.graph_commands.specs.declared.fault.JobFault.TheVariants as fault
@@ -48,15 +48,10 @@ sink_named job name =
     find (λ t. is_sink_at job t && bytes_eq (name_at job.graph (place.Task t)) name)
     (range_with_len 0 (length job.graph.tasks))
 
--- the values of a sink among those of all
-abbrev pub values_of_sink : ℕ → List (ℕ × List ℤ) → List ℤ
-values_of_sink t [] = []
-values_of_sink t (line ∷ lines) = if line.0 == t then line.1 else values_of_sink t lines
-
--- each sink's name, the count of its values, and the values; or the values of one sink alone
+-- the text of each sink of a job, of one that joins now with its start; or the values of one sink
+-- alone
 abbrev pub sinks_text : Job → Option ℕ → List ℕ
-sinks_text job None = text_of job.graph (lines_of job)
-sinks_text job (Some t) = flat_map value_text (values_of_sink t (lines_of job))
+sinks_text job sink = lines_text job.graph (map (with_start job) (lines_of job)) sink
 
 -- what is asked for, all sinks or the one of a name, is this: all of them, or the sink of this number
 abbrev pub AsksSink : Job → Option (List ℕ) → Option ℕ → Type 0
@@ -94,6 +89,7 @@ kind_text Unknown = codes "unknown"
 kind_text OutBeforeIn = codes "out-before-in"
 kind_text BadParent = codes "bad-parent"
 kind_text NotHeld = codes "not-held"
+kind_text OverBound = codes "over-bound"
 kind_text AnyMeets = codes "any-meets"
 
 -- the line of the fault of a line of a graph

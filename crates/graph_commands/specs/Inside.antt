@@ -1,5 +1,5 @@
 -- What is put out, behind what waits to be written.
-use Rattle.std.specs.Prelude.{◌≡◌, ℕ, List, ◌++◌, codes, decimal}
+use Rattle.std.specs.Prelude.{◌≡◌, ℕ, List, ◌++◌}
 use Rattle.std.specs.Io.KnownBytes.{Appends}
 use Rattle.std.specs.declared.option.Option.{Option}
 
@@ -8,7 +8,3 @@ pub record Puts (old new : Option (List ℕ)) (before after bytes : List ℕ) : 
   pub sent : List ℕ
   pub whole : before ++ bytes ≡ sent ++ after
   pub appends : Appends old new sent
-
--- the line of a sink's name and the count of its values
-abbrev pub heading_text : List ℕ → ℕ → List ℕ
-heading_text name count = name ++ codes " " ++ decimal count ++ codes "\n"

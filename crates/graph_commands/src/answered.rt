@@ -3,8 +3,9 @@ ghost use Rattle.std.specs.Prelude.{◌≡◌, ◌⊎◌, ℕ, List, Option, tru
 ghost use Rattle.std.specs.Io.KnownBytes.{Appends};
 ghost use Rattle.graph_commands.specs.Explained.{CheckEndsExplained, EvalEndsExplained};
 ghost use Rattle.graph_commands.specs.FileJobs.{IsJobOf, Known};
-ghost use Rattle.graph_commands.specs.GraphRuns.{AsksSink, CheckEnds, EvalEnds, check_line, sinks_text};
-ghost use Rattle.stream_eval.specs.Results.{sink_values};
+ghost use Rattle.graph_commands.specs.GraphRuns.{AsksSink, CheckEnds, EvalEnds, check_line};
+ghost use Rattle.graph_commands.specs.OutputTexts.{lines_text};
+ghost use Rattle.stream_eval.specs.Results.{sink_output, sink_values};
 ghost use Rattle.stream_eval.specs.stream_lists.Lists.{lines_of};
 ghost use Rattle.graph_show.specs.watched_io.Statuses.{Reports};
 ghost use Rattle.graph_show.specs.watched_io.declared.fault.IoFault.TheVariants.{WriteFault};
@@ -186,7 +187,8 @@ fn eval_job<W: Write, E: Write>(
     }
 }
 
-/// Writes the values of each sink of a job, or of the one of this number alone. It takes no memory.
+/// Writes the text of each of these sinks of a job, or the values of the one of this number alone. It
+/// takes no memory.
 /// After a failed write the writer has a prefix of them.
 pub fn write_sinks<W: Write>(
     writer: &mut Watched<W>,
@@ -196,9 +198,9 @@ pub fn write_sinks<W: Write>(
 ) -> Result<(), WriteFailed>
     requires { map sink_values lines.now ≡ lines_of job.now }
     ensures ok { OnOk result (Appends (W.contents (inner_of writer.old))
-        (W.contents (inner_of writer.new)) (sinks_text job.now sink)) }
+        (W.contents (inner_of writer.new)) (lines_text job.now.graph (map sink_output lines.now) sink)) }
     ensures err { OnErr result (AppendsPrefix (W.contents (inner_of writer.old))
-        (W.contents (inner_of writer.new)) (sinks_text job.now sink)) }
+        (W.contents (inner_of writer.new)) (lines_text job.now.graph (map sink_output lines.now) sink)) }
     ensures failed { OnErr result (has_failed_of writer.new ≡ true) }
 {
     match sink {

@@ -23,6 +23,7 @@ fn word_of(kind: FaultKind) -> &'static str
         FaultKind::OutBeforeIn => "out-before-in",
         FaultKind::BadParent => "bad-parent",
         FaultKind::NotHeld => "not-held",
+        FaultKind::OverBound => "over-bound",
         FaultKind::AnyMeets => "any-meets",
     }
 }

@@ -2,9 +2,9 @@
 ghost use Rattle.std.specs.Prelude.{◌≡◌, ◌<◌, ◌++◌, length, map, true, OnOk, OnErr};
 ghost use Rattle.std.specs.List.{All, flat_map};
 ghost use Rattle.std.specs.Io.KnownBytes.{Appends};
-ghost use Rattle.stream_eval.specs.Results.{sink_values};
-ghost use Rattle.graph_commands.specs.OutputTexts.{sink_text, text_of, value_text};
-ghost use Rattle.graph_commands.specs.Inside.{Puts, heading_text};
+ghost use Rattle.stream_eval.specs.Results.{sink_output};
+ghost use Rattle.graph_commands.specs.OutputTexts.{heading_text, sink_text, start_text, text_of, value_text};
+ghost use Rattle.graph_commands.specs.Inside.{Puts};
 ghost use Rattle.graph_show.specs.watched_io.Prefix.{AppendsPrefix};
 ghost use Rattle.graph_show.specs.watched_io.Watched.{has_failed_of, inner_of};
 
@@ -15,8 +15,8 @@ use itoa::Buffer;
 use std::io::Write;
 use stream_eval::Lines;
 
-/// Writes the values of each sink: its name, a space and the count of its values, and then each
-/// value, each on a line of its own.
+/// Writes the values of each sink: its name, ` from ` and its start where it has one, a space and the
+/// count of its values, and then each value, each on a line of its own.
 ///
 /// The text is written in pieces of at most `CHUNK_MAX` bytes, each of them flushed. It takes no
 /// memory. After a failed write the writer has a prefix of the text.
@@ -27,16 +27,16 @@ pub fn write_lines<W: Write>(
 ) -> Result<(), WriteFailed>
     requires { All (λ sink. sink.task < length graph.now.tasks) lines.now }
     ensures ok { OnOk result (Appends (W.contents (inner_of writer.old))
-        (W.contents (inner_of writer.new)) (text_of graph.now (map sink_values lines.now))) }
+        (W.contents (inner_of writer.new)) (text_of graph.now (map sink_output lines.now))) }
     ensures err { OnErr result (AppendsPrefix (W.contents (inner_of writer.old))
-        (W.contents (inner_of writer.new)) (text_of graph.now (map sink_values lines.now))) }
+        (W.contents (inner_of writer.new)) (text_of graph.now (map sink_output lines.now))) }
     ensures failed { OnErr result (has_failed_of writer.new ≡ true) }
     ensures same { OnOk result (has_failed_of writer.new ≡ has_failed_of writer.old) }
 {
     let mut piece = OutputBuffer::new();
     for sink in lines {
         let name = graph.name(Place::Task(sink.task));
-        piece.put_sink(name, &sink.values, writer)?;
+        piece.put_sink(name, sink, writer)?;
     }
     piece.hand_over(writer)
 }
@@ -74,21 +74,43 @@ impl OutputBuffer {
         self.put(b"\n", writer)
     }
 
-    /// Puts the line of a sink's name and count.
+    /// Puts where a sink begins, of one that has a start.
+    fn put_start<W: Write>(
+        &mut self,
+        start: Option<u64>,
+        writer: &mut Watched<W>,
+    ) -> Result<(), WriteFailed>
+        ensures ok { OnOk result (Puts (W.contents (inner_of writer.old))
+            (W.contents (inner_of writer.new)) self.old self.new (start_text start)) }
+        ensures err { OnErr result (AppendsPrefix (W.contents (inner_of writer.old))
+            (W.contents (inner_of writer.new)) (self.old ++ start_text start)) }
+        ensures failed { OnErr result (has_failed_of writer.new ≡ true) }
+        ensures same { OnOk result (has_failed_of writer.new ≡ has_failed_of writer.old) }
+    {
+        let Some(start) = start else {
+            return Ok(());
+        };
+        self.put(b" from ", writer)?;
+        self.put(Buffer::new().format(start).as_bytes(), writer)
+    }
+
+    /// Puts the line of a sink's name, its start and its count.
     fn put_heading<W: Write>(
         &mut self,
         name: &str,
+        start: Option<u64>,
         count: usize,
         writer: &mut Watched<W>,
     ) -> Result<(), WriteFailed>
         ensures ok { OnOk result (Puts (W.contents (inner_of writer.old))
-            (W.contents (inner_of writer.new)) self.old self.new (heading_text name.now count)) }
+            (W.contents (inner_of writer.new)) self.old self.new (heading_text name.now start count)) }
         ensures err { OnErr result (AppendsPrefix (W.contents (inner_of writer.old))
-            (W.contents (inner_of writer.new)) (self.old ++ heading_text name.now count)) }
+            (W.contents (inner_of writer.new)) (self.old ++ heading_text name.now start count)) }
         ensures failed { OnErr result (has_failed_of writer.new ≡ true) }
         ensures same { OnOk result (has_failed_of writer.new ≡ has_failed_of writer.old) }
     {
         self.put(name.as_bytes(), writer)?;
+        self.put_start(start, writer)?;
         self.put(b" ", writer)?;
         self.put(Buffer::new().format(count).as_bytes(), writer)?;
         self.put(b"\n", writer)
@@ -114,21 +136,23 @@ impl OutputBuffer {
         Ok(())
     }
 
-    /// Puts a sink's name, the count of its values, and the values.
+    /// Puts a sink's name, its start, the count of its values, and the values.
     fn put_sink<W: Write>(
         &mut self,
         name: &str,
-        values: &[i64],
+        sink: &Lines,
         writer: &mut Watched<W>,
     ) -> Result<(), WriteFailed>
         ensures ok { OnOk result (Puts (W.contents (inner_of writer.old))
-            (W.contents (inner_of writer.new)) self.old self.new (sink_text name.now values.now)) }
+            (W.contents (inner_of writer.new)) self.old self.new
+            (sink_text name.now sink.now.start sink.now.values.items)) }
         ensures err { OnErr result (AppendsPrefix (W.contents (inner_of writer.old))
-            (W.contents (inner_of writer.new)) (self.old ++ sink_text name.now values.now)) }
+            (W.contents (inner_of writer.new))
+            (self.old ++ sink_text name.now sink.now.start sink.now.values.items)) }
         ensures failed { OnErr result (has_failed_of writer.new ≡ true) }
         ensures same { OnOk result (has_failed_of writer.new ≡ has_failed_of writer.old) }
     {
-        self.put_heading(name, values.len(), writer)?;
-        self.put_values(values, writer)
+        self.put_heading(name, sink.start, sink.values.len(), writer)?;
+        self.put_values(&sink.values, writer)
     }
 }

@@ -1,11 +1,12 @@
 //! The sink that is asked for by its name.
 ghost use Rattle.std.specs.Prelude.{◌≡◌, ◌<◌, length, map, ◌&&◌};
-ghost use Rattle.stream_eval.specs.Results.{sink_values};
+ghost use Rattle.stream_eval.specs.Results.{sink_output};
 ghost use Rattle.stream_eval.specs.stream_lists.Lists.{is_sink_at};
 ghost use Rattle.graph_show.specs.graph_base.Graphs.{name_at};
 ghost use Rattle.graph_show.specs.graph_base.declared.place.Place.TheVariants as place;
 ghost use Rattle.std.specs.Str.{bytes_eq};
-ghost use Rattle.graph_commands.specs.GraphRuns.{sink_named, values_of_sink};
+ghost use Rattle.graph_commands.specs.GraphRuns.{sink_named};
+ghost use Rattle.graph_commands.specs.OutputTexts.{values_of_sink};
 
 use graph_show::graph_base::{Kind, Place};
 use stream_eval::Lines;
@@ -34,7 +35,7 @@ fn is_sink_of(job: &Job, t: usize, name: &str) -> bool
 
 /// The values of a sink among those of all sinks; none where it is no sink.
 pub(crate) fn values_of(lines: &[Lines], sink: usize) -> &[i64]
-    ensures { result.now ≡ values_of_sink sink (map sink_values lines.now) }
+    ensures { result.now ≡ values_of_sink sink (map sink_output lines.now) }
 {
     for line in lines {
         if line.task == sink {

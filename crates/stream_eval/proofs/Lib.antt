@@ -7,4 +7,5 @@ pub mod Made
 pub mod Mixing
 pub mod Sendable
 pub mod Sends
+pub mod SinkStarts
 pub use Rattle.stream_lists.proofs as stream_lists_lemmas

@@ -6,7 +6,7 @@ ghost use Rattle.stream_lists.specs.graph_base.Graphs.{phaser_at};
 ghost use Rattle.stream_lists.specs.graph_base.declared.place.Place.{Place as PlaceValue};
 ghost use Rattle.stream_eval.specs.Results.{sink_values};
 ghost use Rattle.stream_lists.specs.Inside.{items_of};
-ghost use Rattle.stream_lists.specs.Lists.{is_sink_at, lines_of, list_over, number, numbers_of, sink_over, sinks_of, value_by};
+ghost use Rattle.stream_lists.specs.Lists.{is_sink_at, lines_of, list_over, number, numbers_of, sink_over, sinks_of, start_in, value_by};
 ghost use Rattle.stream_eval.specs.Inside.{member_of, list_kept};
 ghost use Rattle.stream_lists.specs.Ranges.{fault_over, first_too_big, Fits};
 ghost use Rattle.stream_lists.specs.Spans.{lengths_of, schedule_of};
@@ -27,6 +27,8 @@ use stream_lists::phase_accum::{Accumulate, Any, Greatest, Least, Product, Sum};
 pub struct Lines {
     /// The number of the sink among the tasks.
     pub task: usize,
+    /// The phase at which it begins, of a live sink that joins now, else none.
+    pub start: Option<u64>,
     /// Its values, none where it is not live.
     pub values: Vec<i64>,
 }
@@ -156,11 +158,16 @@ fn sink_lines(alloc: Global, job: &Job, lists: &[Vec<i64>], t: usize) -> Result<
     requires sends { All (λ list. AreSends list.items) lists.now }
     ensures ok { IfOk result (λ lines. sink_values lines
         ≡ sink_over job.now (schedule_of job.now) (items_of lists.now) t) }
+    ensures start { IfOk result (λ lines. lines.start ≡ start_in job.now lines.task) }
     ensures no_place { (place : PlaceValue) (n : ℕ)
         → result ≡ Err (EvalFault.TooBig place n) → ⊥ }
 {
     match Vec::from_slice(alloc, taken_at(lists, job.graph().task(t), job.span(t), 0)) {
-        Ok(values) => Ok(Lines { task: t, values }),
+        Ok(values) => Ok(Lines {
+            task: t,
+            start: job.start(t),
+            values,
+        }),
         Err(_) => Err(EvalFault::OutOfMemory),
     }
 }
@@ -170,6 +177,8 @@ fn all_lines(alloc: Global, job: &Job, lists: &[Vec<i64>]) -> Result<Vec<Lines>,
     requires sends { All (λ list. AreSends list.items) lists.now }
     ensures ok { IfOk result (λ lines. map sink_values lines.items
         ≡ map (sink_over job.now (schedule_of job.now) (items_of lists.now)) (sinks_of job.now)) }
+    ensures starts { IfOk result (λ lines.
+        All (λ line. line.start ≡ start_in job.now line.task) lines.items) }
     ensures no_place { (place : PlaceValue) (n : ℕ)
         → result ≡ Err (EvalFault.TooBig place n) → ⊥ }
 {
@@ -191,7 +200,7 @@ fn all_lines(alloc: Global, job: &Job, lists: &[Vec<i64>]) -> Result<Vec<Lines>,
 }
 
 /// Composes the list of each phaser, and answers the values of each sink in the order of the lines,
-/// or the first value out of range.
+/// or the first value out of range. A sink that joins now begins at the least phase that it may.
 ///
 /// The phasers are gone through in the order of their lines. For each one the outputs of the
 /// filters and peers that signal it are checked first, then each phase that some task takes. A list
@@ -199,6 +208,8 @@ fn all_lines(alloc: Global, job: &Job, lists: &[Vec<i64>]) -> Result<Vec<Lines>,
 /// end. Where one has more values than any memory holds, `OutOfMemory` comes when its turn comes.
 pub fn eval(alloc: Global, job: &Job) -> Result<Vec<Lines>, EvalFault>
     ensures ok { IfOk result (λ lines. map sink_values lines.items ≡ lines_of job.now) }
+    ensures starts { IfOk result (λ lines.
+        All (λ line. line.start ≡ start_in job.now line.task) lines.items) }
     ensures fits { IfOk result (λ lines. Fits job.now) }
     ensures too_big { (place : PlaceValue) (n : ℕ) → result ≡ Err (EvalFault.TooBig place n)
         → first_too_big job.now ≡ Some (place, n) }

@@ -32,7 +32,7 @@ use Rattle.graph_runs.proofs.PlacesFollow.{child_follows, parent_follows}
 use Rattle.graph_runs.proofs.TurnRegistering.{due_child}
 use Rattle.graph_runs.proofs.PlacesLemmas.{on_ends}
 use Rattle.stream_job.specs.Places.{IsTaskAt, place_of}
-use Rattle.stream_job.specs.Machines.{IsMachineAt, HasCores, HasRoom, UsesFew}
+use Rattle.stream_job.specs.Machines.{IsMachineAt, HasCores, IsLineOf, UsesFew}
 use Rattle.stream_job.specs.Turning.{HadTurn, Shows}
 use Rattle.stream_job.specs.Inside.{IsNextIn}
 use Rattle.stream_job.specs.declared.machine.Machine.{Machine}
@@ -256,7 +256,7 @@ child_turn job old new t c p n a mode state numbers next found phaser in_mode nu
           tasks = λ u s read. all u s (subst (λ xs. slice_get xs u ≡ Some s) tasks read);
           lines = ap (λ l. map sink_values l.items) lines ∙ at.lines
               ∙ lines_stay job m old t event at (answer m at) tt;
-          room = subst (λ l. All (HasRoom job) l.items) (sym lines) at.room;
+          own = subst (λ l. All (IsLineOf job) l.items) (sym lines) at.own;
         }
 
 -- a fresh number

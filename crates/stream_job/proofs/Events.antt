@@ -20,7 +20,7 @@ use Rattle.graph_runs.proofs.PlacesFollow.{others_follow}
 use Rattle.graph_runs.specs.Steps.{HasFilter}
 use Rattle.stream_job.specs.SinkLines.{kept_by}
 use Rattle.stream_job.specs.Places.{IsTaskAt, place_of}
-use Rattle.stream_job.specs.Machines.{IsMachineAt, HasCores, HasRoom, UsesFew}
+use Rattle.stream_job.specs.Machines.{IsMachineAt, HasCores, IsLineOf, UsesFew}
 use Rattle.stream_job.specs.declared.machine.Machine.{Machine}
 use Rattle.stream_job.specs.declared.task_state.TaskState.{TaskState}
 use Rattle.stream_job.proofs.Setting.{slice_get-set_same, slice_get-set_other, same_cores}
@@ -89,9 +89,9 @@ pub after_own : (job : Job) (m : Moment) (old new : Machine) (t : ℕ) (event : 
     → IsTaskAt job (after_turn job event m) t state
     → map sink_values new.lines.items
     ≡ map (λ u. (u, kept_by job (after_turn job event m) u)) (sinks_of job)
-    → All (HasRoom job) new.lines.items
+    → All (IsLineOf job) new.lines.items
     → IsMachineAt job (after_answer job (answer_of_turn job m t) m) new
-after_own job m old new t event state at answer none there reached few cores tasks here lines room =
+after_own job m old new t event state at answer none there reached few cores tasks here lines own =
     let after = after_turn job event m in
     let long = length-set old.tasks.items t state in
     let many : length new.tasks.items ≡ length (set old.tasks.items t state) = ap length tasks in
@@ -110,7 +110,7 @@ after_own job m old new t event state at answer none there reached few cores tas
       tasks = λ u other found. all u other
           (subst (λ xs. slice_get xs u ≡ Some other) tasks found);
       lines = lines;
-      room = room;
+      own = own;
     }
 
 -- a machine of which nothing but a core was asked
@@ -127,5 +127,5 @@ unchanged job m old new p at cores tasks lines = record {
   tasks = λ u state found. at.tasks u state
       (subst (λ v. slice_get v.items u ≡ Some state) tasks found);
   lines = ap (λ l. map sink_values l.items) lines ∙ at.lines;
-  room = subst (λ l. All (HasRoom job) l.items) (sym lines) at.room;
+  own = subst (λ l. All (IsLineOf job) l.items) (sym lines) at.own;
 }

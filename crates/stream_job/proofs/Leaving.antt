@@ -15,7 +15,7 @@ use Rattle.graph_runs.specs.Answers.{makes, answer_of_turn, after_answer, accept
 use Rattle.graph_runs.specs.TaskPlaces.{StandsAt, registration_at}
 use Rattle.graph_runs.proofs.PlacesFollow.{leave_follows}
 use Rattle.stream_job.specs.Places.{IsTaskAt, place_of}
-use Rattle.stream_job.specs.Machines.{IsMachineAt, HasCores, HasRoom}
+use Rattle.stream_job.specs.Machines.{IsMachineAt, HasCores, IsLineOf}
 use Rattle.stream_job.specs.Turning.{HadTurn, Shows, told_of}
 use Rattle.stream_job.specs.Inside.{IsNextIn}
 use Rattle.stream_job.specs.declared.machine.Machine.{Machine}
@@ -96,7 +96,7 @@ left_turn job old new t p number state told next found phaser numbered accepted 
         (record { stands = stands m at; room = it.room; filter = it.filter; sink = it.sink })
         (ap (λ l. map sink_values l.items) lines ∙ at.lines
         ∙ lines_stay job m old t (leave t p number) at (answer m at) tt)
-        (subst (λ l. All (HasRoom job) l.items) (sym lines) at.room)
+        (subst (λ l. All (IsLineOf job) l.items) (sym lines) at.own)
 
 -- what the drop of a task that leaves is answered
 leaves_so : (job : Job) (old : Machine) (t p number : ℕ) (state : TaskState)

@@ -10,7 +10,7 @@ use Rattle.phase_core.specs.phase_accum.declared.outcome.Outcome.{Outcome}
 use Rattle.graph_lang.specs.graph_base.declared.line.Kind.TheVariants.{Sink}
 use Rattle.graph_lang.specs.graph_base.Graphs.{task_at}
 use Rattle.stream_eval.specs.stream_lists.Jobs.{Job, least}
-use Rattle.stream_eval.specs.stream_lists.Lists.{is_sink_at, sinks_of}
+use Rattle.stream_eval.specs.stream_lists.Lists.{is_sink_at, sinks_of, start_in}
 use Rattle.stream_eval.specs.stream_lists.Spans.{span_in, takes_from}
 use Rattle.stream_eval.specs.Results.{sink_values}
 use Rattle.stream_eval.specs.declared.whole.Lines.{Lines}
@@ -27,7 +27,7 @@ use Rattle.graph_runs.specs.TaskEvents.{first_wait, after_turn}
 use Rattle.graph_runs.proofs.Boundaries.{all_taken}
 use Rattle.graph_runs.proofs.Signalling.{Live, live-is, number_there}
 use Rattle.stream_job.specs.Inside.{HasRoomIn, IsNextIn}
-use Rattle.stream_job.specs.Machines.{IsMachineAt, HasRoom}
+use Rattle.stream_job.specs.Machines.{IsMachineAt, IsLineOf}
 use Rattle.stream_job.specs.declared.machine.Machine.{Machine}
 use Rattle.stream_job.specs.declared.task_state.TaskState.{TaskState}
 use Rattle.stream_job.specs.SinkLines.{kept_by}
@@ -117,9 +117,10 @@ sink_room job old m t k p n outcome state sink next at found is answer =
         steps_left job m t k p n outcome (record { graph = at.graph; apart = at.apart }) live few after
         numbered in
         let lt = slice_get_within old.lines.items i line read in
-        let enough : (span_in (least job) line.task).steps ≤ vec_capacity line.values =
-        subst (HasRoom job) (get_or_from_slice_get old.lines.items i line line read)
-        (All-get_or (HasRoom job) old.lines.items i line lt at.room) in
+        let own : IsLineOf job line =
+        subst (IsLineOf job) (get_or_from_slice_get old.lines.items i line line read)
+        (All-get_or (IsLineOf job) old.lines.items i line lt at.own) in
+        let enough : (span_in (least job) line.task).steps ≤ vec_capacity line.values = own.room in
         let same : (span_in (least job) line.task).steps ≡ (span_in (least job) t).steps =
         ap (λ u. (span_in (least job) u).steps) owner in
         let items : vec_len line.values ≡ length line.values.items = line.values.ok.0 in
@@ -132,18 +133,22 @@ sink_room job old m t k p n outcome state sink next at found is answer =
         room state.sink ((at.tasks t state found).sink kind) kind
     by false e = tt
 
--- a line that has taken a value has the room that it had
-pub room_kept : (job : Job) (lines : List Lines) (i : ℕ) (read kept : Lines) → i < length lines
-    → read ≡ get_or lines i read → kept.task ≡ read.task
-    → vec_capacity kept.values ≡ vec_capacity read.values → All (HasRoom job) lines
-    → All (HasRoom job) (set lines i kept)
-room_kept job lines i read kept lt is owner same all =
-    let was : (span_in (least job) read.task).steps ≤ vec_capacity read.values =
-    subst (HasRoom job) (sym is) (All-get_or (HasRoom job) lines i read lt all) in
+-- a line that has taken a value has the room and the start that it had
+pub line_kept : (job : Job) (lines : List Lines) (i : ℕ) (read kept : Lines) → i < length lines
+    → read ≡ get_or lines i read → kept.task ≡ read.task → kept.start ≡ read.start
+    → vec_capacity kept.values ≡ vec_capacity read.values → All (IsLineOf job) lines
+    → All (IsLineOf job) (set lines i kept)
+line_kept job lines i read kept lt is owner begins same all =
+    let was : IsLineOf job read =
+    subst (IsLineOf job) (sym is) (All-get_or (IsLineOf job) lines i read lt all) in
     let steps : (span_in (least job) kept.task).steps ≡ (span_in (least job) read.task).steps =
     ap (λ u. (span_in (least job) u).steps) owner in
+    let enough : (span_in (least job) read.task).steps ≤ vec_capacity read.values = was.room in
     let room : vec_capacity kept.values ≡ vec_capacity read.values = same in
-    All-set (HasRoom job) lines i kept (omega arith) all
+    All-set (IsLineOf job) lines i kept (record {
+      room = omega arith;
+      start = begins ∙ was.start ∙ ap (start_in job) (sym owner);
+    }) all
 
 -- the place of a sink's line
 pub line_there : (lines : List Lines) (i : ℕ) (sink : Option ℕ) → sink ≡ Some i

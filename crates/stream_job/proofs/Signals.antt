@@ -34,7 +34,7 @@ use Rattle.std.proofs.lemmas.Bool.{leb-false, eq-eqb}
 use Rattle.graph_runs.specs.Steps.{owed_of}
 use Rattle.graph_runs.specs.declared.owed.Owed.{Owed}
 use Rattle.stream_job.specs.Places.{place_of}
-use Rattle.stream_job.specs.Machines.{IsMachineAt, HasCores, HasRoom}
+use Rattle.stream_job.specs.Machines.{IsMachineAt, HasCores, IsLineOf}
 use Rattle.stream_job.specs.Blocking.{called_on}
 use Rattle.stream_job.specs.Turning.{HadTurn, Shows}
 use Rattle.stream_job.specs.Inside.{IsNextIn}
@@ -258,7 +258,7 @@ signalled_turn job old new t j number p phase x state owed next found phaser num
         tasks (record { stands = stands; room = it.room; filter = it.filter; sink = it.sink })
         (ap (λ l. map sink_values l.items) lines ∙ at.lines
         ∙ lines_stay job m old t event at (answer m at) tt)
-        (subst (λ l. All (HasRoom job) l.items) (sym lines) at.room)
+        (subst (λ l. All (IsLineOf job) l.items) (sym lines) at.own)
 
 -- a signal that the phaser would not take now
 pub blocked_signal : (job : Job) (old new : Machine) (t j number p : ℕ) (x : ℤ)
@@ -576,7 +576,7 @@ sampled_turn job old new t number p phase x state next found phaser numbered val
         tasks (record { stands = stands; room = it.room; filter = it.filter; sink = it.sink })
         (ap (λ l. map sink_values l.items) lines ∙ at.lines
         ∙ lines_stay job m old t event at (answer m at) tt)
-        (subst (λ l. All (HasRoom job) l.items) (sym lines) at.room)
+        (subst (λ l. All (IsLineOf job) l.items) (sym lines) at.own)
 
 pub blocked_sample : (job : Job) (old new : Machine) (t number p : ℕ) (x : ℤ)
     (state : TaskState) (r : SignalRefusal) → IsNextIn job old t turns.samples

@@ -45,7 +45,7 @@ use Rattle.graph_runs.specs.declared.owed.Owed.{Owed}
 use Rattle.graph_runs.specs.declared.owed.Owed.TheVariants as code
 use Rattle.stream_job.specs.Inside.{told_got, with_line, IsNextIn}
 use Rattle.stream_job.specs.Places.{place_of, HasTakenOne}
-use Rattle.stream_job.specs.Machines.{IsMachineAt, HasCores, HasRoom}
+use Rattle.stream_job.specs.Machines.{IsMachineAt, HasCores, IsLineOf}
 use Rattle.stream_job.specs.Turning.{HadTurn, Shows, told_of}
 use Rattle.stream_job.specs.declared.machine.Machine.{Machine}
 use Rattle.stream_job.specs.declared.task_state.TaskState.{TaskState}
@@ -315,7 +315,7 @@ exchanged_turn job old new t n p phase x outcome state owed told next found phas
         })
         (ap (λ l. map sink_values l.items) lines ∙ at.lines
         ∙ lines_stay job m old t event at (answer m at) tt)
-        (subst (λ l. All (HasRoom job) l.items) (sym lines) at.room)
+        (subst (λ l. All (IsLineOf job) l.items) (sym lines) at.own)
 
 -- a wait that the phaser would not take now
 pub blocked_exchange : (job : Job) (old new : Machine) (t n p : ℕ) (state : TaskState)
@@ -437,10 +437,10 @@ pub first_turn : (job : Job) (old new : Machine) (t k n p phase : ℕ) (outcome 
     → new.tasks.items ≡ set old.tasks.items t took
     → map sink_values new.lines.items
     ≡ with_line (line_of sink outcome) (number outcome) (map sink_values old.lines.items)
-    → (All (HasRoom job) old.lines.items → All (HasRoom job) new.lines.items)
+    → (All (IsLineOf job) old.lines.items → All (IsLineOf job) new.lines.items)
     → told_of told ≡ told_got p phase outcome
     → HadTurn job old new t (Event p told)
-first_turn job old new t k n p phase outcome state took sink told next found phaser numbered has sinks reply cores tasks lines room tells =
+first_turn job old new t k n p phase outcome state took sink told next found phaser numbered has sinks reply cores tasks lines own tells =
     record { shows = shows; after = after }
   where
     event : TaskEvent
@@ -508,7 +508,7 @@ first_turn job old new t k n p phase outcome state took sink told next found pha
         ∙ ap (λ o. with_line (line_of o outcome) (number outcome)
         (map (λ u. (u, kept_by job m u)) (sinks_of job))) sinks
         ∙ sink_lines m at (is_sink_at job t) refl)
-        (room at.room)
+        (own at.own)
 
 -- a wait that the phaser would not take now
 pub blocked_first : (job : Job) (old new : Machine) (t k n p : ℕ) (state : TaskState)

@@ -4,7 +4,7 @@ ghost use Rattle.std.specs.List.{All};
 ghost use Rattle.stream_eval.specs.Results.{sink_values};
 ghost use Rattle.stream_eval.specs.stream_lists.Lists.{sinks_of};
 ghost use Rattle.graph_runs.specs.Beginnings.{opening};
-ghost use Rattle.stream_job.specs.Machines.{HasRoom};
+ghost use Rattle.stream_job.specs.Machines.{IsLineOf};
 
 use crate::machine::Machine;
 use crate::opened_cores::opened_cores;
@@ -18,13 +18,14 @@ use stream_eval::stream_lists::Job;
 fn opened_line(alloc: Global, job: &Job, t: usize) -> Result<Lines, AllocError>
     requires { t < length job.now.graph.tasks }
     ensures line { IfOk result (λ line. sink_values line ≡ (t, [])) }
-    ensures room { IfOk result (HasRoom job.now) }
+    ensures own { IfOk result (IsLineOf job.now) }
 {
     let Ok(steps) = usize::try_from(job.span(t).steps) else {
         return Err(AllocError);
     };
     Ok(Lines {
         task: t,
+        start: job.start(t),
         values: Vec::with_capacity(alloc, steps)?,
     })
 }
@@ -33,7 +34,7 @@ fn opened_line(alloc: Global, job: &Job, t: usize) -> Result<Lines, AllocError>
 fn opened_lines(alloc: Global, job: &Job) -> Result<Vec<Lines>, AllocError>
     ensures lines { IfOk result (λ lines.
         map sink_values lines.items ≡ map (λ t. (t, [])) (sinks_of job.now)) }
-    ensures room { IfOk result (λ lines. All (HasRoom job.now) lines.items) }
+    ensures own { IfOk result (λ lines. All (IsLineOf job.now) lines.items) }
 {
     let mut lines = Vec::with_capacity(alloc, job.graph().tasks())?;
     for t in 0..job.graph().tasks() {

@@ -1,5 +1,4 @@
-//! Jobs of graphs and samples that are written as text: what tests of graphs begin with. It stands
-//! in a crate of its own, since four crates of tests call it.
+//! Jobs of graphs and samples that are written as text, for small programs and tests.
 
 ghost use Rattle.std.specs.Prelude.{◌≤◌, length, IfOk};
 ghost use Rattle.std.specs.List.{All};

@@ -31,7 +31,7 @@ use std::alloc::AllocError;
 use stream_eval::stream_lists::Job;
 
 impl Machine {
-    ghost use Rattle.stream_job.specs.Machines.{IsMachine, IsMachineAt, IsLiveIn, HasRoom, next_by};
+    ghost use Rattle.stream_job.specs.Machines.{IsMachine, IsMachineAt, IsLiveIn, IsLineOf, next_by};
 
     /// Gives a turn to task number `t`: it makes its next call.
     pub fn make(&mut self, job: &Job, plan: &Plan, t: usize) -> Result<Made, AllocError>
@@ -197,8 +197,8 @@ impl Machine {
         requires room { IfSome sink (HasRoomIn self.old.lines.items) }
         ensures lines { map sink_values self.new.lines.items
             ≡ with_line sink x (map sink_values self.old.lines.items) }
-        ensures room { (job : JobValue) → All (HasRoom job) self.old.lines.items
-            → All (HasRoom job) self.new.lines.items }
+        ensures own { (job : JobValue) → All (IsLineOf job) self.old.lines.items
+            → All (IsLineOf job) self.new.lines.items }
         ensures cores { self.new.cores ≡ self.old.cores }
         ensures tasks { self.new.tasks ≡ self.old.tasks }
     {

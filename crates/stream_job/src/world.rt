@@ -1,8 +1,9 @@
 //! A run of a graph on one thread.
 ghost use Rattle.std.specs.Prelude.{◌≡◌, ◌≢◌, ◌<◌, ℕ, Some, None, Ok, [], length, get_or, map, IfOk, OnOk, OnErr, true, false};
+ghost use Rattle.std.specs.List.{All};
 ghost use mathlib.Core.List.{IsPrefix};
 ghost use Rattle.stream_eval.specs.Results.{sink_values};
-ghost use Rattle.stream_eval.specs.stream_lists.Lists.{is_sink_at, numbers_of, sinks_of, taken_from};
+ghost use Rattle.stream_eval.specs.stream_lists.Lists.{is_sink_at, numbers_of, sinks_of, start_in, taken_from};
 ghost use Rattle.stream_eval.specs.stream_lists.Spans.{span_in};
 ghost use Rattle.graph_lang.specs.graph_base.Graphs.{task_at};
 ghost use Rattle.stream_eval.specs.stream_lists.Ranges.{answer_of};
@@ -102,7 +103,8 @@ impl<'a> World<'a> {
     }
 
     /// Returns each sink's number and what it has taken so far, in the order of the lines. A value
-    /// that is too big is not among them. It takes no memory.
+    /// that is too big is not among them. A sink that joins now has the least start that it may have.
+    /// It takes no memory.
     ///
     /// Where no value was out of range and no task is live, they are all that the sinks get.
     pub fn lines(&self) -> &[Lines]
@@ -119,6 +121,7 @@ impl<'a> World<'a> {
         ensures all { (m : Moment) → IsWorldAt self.now m → self.now.met ≡ None
             → ((t : ℕ) → is_live self.now.job m t ≡ false)
             → answer_of (started self.now.job m) ≡ Ok (map sink_values result.now) }
+        ensures starts { All (λ line. line.start ≡ start_in self.now.job line.task) result.now }
     {
         moments::takes();
         outcomes::all_gone();

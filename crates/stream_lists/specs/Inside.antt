@@ -35,6 +35,10 @@ job_view job = given job.graph job.samples.items
 abbrev pub IsShort : Span → Type 0
 IsShort span = span.offset + span.steps ≤ LENGTH_MAX
 
+-- a u64 counts the phases before the task begins
+abbrev pub IsCounted : Span → Type 0
+IsCounted span = span.offset ≤ 18446744073709551615
+
 -- a graph that was read and no more samples than a job may have, with the lengths of the lists of
 -- its first phasers
 pub record IsStage (graph : Graph) (samples : List (Vec ℤ Global)) (lengths : List ℕ) : Type 0 where
@@ -52,6 +56,7 @@ pub record IsJob (job : Inside) : Type 0 where
   pub span_each : length job.spans.items ≡ length job.graph.tasks
   pub length_each : length job.lengths.items ≡ length job.graph.phasers
   pub short : All IsShort job.spans.items
+  pub counted : All IsCounted job.spans.items
   pub length_short : All (λ n. n ≤ LENGTH_MAX) job.lengths.items
   pub sends : All (λ list. AreSends list.items) job.samples.items
   pub apart : meeting_line (job_view job) ≡ None

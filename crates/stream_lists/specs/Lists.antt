@@ -1,6 +1,6 @@
 -- The lists of a graph, composed whole: what each task puts on each phaser, and the values of each
 -- phaser's phases.
-use Rattle.std.specs.Prelude.{ℕ, ◌+◌, ◌-◌, ◌*◌, ◌/◌, ◌%◌, Bool, List, [], ◌∷◌, ◌++◌, length, map, take, drop, Option, Some, None, ℤ, pos, ◌*ℤ◌, ◌-ℤ◌, get_or, nat_lt, if◌then◌else◌, slice_get}
+use Rattle.std.specs.Prelude.{ℕ, ◌+◌, ◌-◌, ◌*◌, ◌/◌, ◌%◌, ◌&&◌, Bool, List, [], ◌∷◌, ◌++◌, length, map, take, drop, Option, Some, None, ℤ, pos, ◌*ℤ◌, ◌-ℤ◌, get_or, nat_lt, if◌then◌else◌, slice_get}
 use Rattle.std.specs.List.{range_with_len, filter_map, filter, fold}
 use Rattle.graph_base.specs.phase_accum.declared.outcome.Outcome.{Outcome}
 use Rattle.graph_base.specs.phase_accum.declared.outcome.Outcome.TheVariants.{Value, Empty, TooBig}
@@ -9,7 +9,7 @@ pub use Rattle.graph_base.specs.phase_accum.Values.{value_by}
 use Rattle.graph_base.specs.stream_filters.Filter.{outputs}
 use Rattle.graph_base.specs.Graphs.{Task, task_at, phaser_at, is_sink}
 use Rattle.stream_lists.specs.Jobs.{Job, samples_at, index_in}
-use Rattle.stream_lists.specs.Spans.{nowhere, turns_below, signalled_by, takes_from, Schedule, schedule_of}
+use Rattle.stream_lists.specs.Spans.{nowhere, span_in, turns_below, signalled_by, takes_from, Schedule, schedule_of}
 use Rattle.stream_lists.specs.declared.span.Span.{Span}
 use Rattle.graph_base.specs.declared.line.Kind.{Kind}
 use Rattle.graph_base.specs.declared.line.Kind.TheVariants.{Source, Fir, Split, Join, Peer, Sink}
@@ -164,6 +164,16 @@ sink_over job schedule lists t =
 -- each sink with its values, in the order of the lines
 abbrev pub lines_of : Job → List (ℕ × List ℤ)
 lines_of job = map (sink_over job (schedule_of job) (numbers_of job)) (sinks_of job)
+
+-- the phase at which task t begins, of a sink that joins now and is live
+abbrev pub start_in : Job → ℕ → Option ℕ
+start_in job t =
+    let span = span_in job t in
+    if (task_at job.graph t).joins_now && span.live then Some span.offset else None
+
+-- a sink with its start, where it has one, and its values
+abbrev pub with_start : Job → ℕ × List ℤ → ℕ × Option ℕ × List ℤ
+with_start job line = (line.0, start_in job line.0, line.1)
 
 -- ---- where the lists end
 

@@ -6,7 +6,8 @@ ghost use Rattle.graph_base.specs.Graphs.{is_source, phaser_at, task_at, source_
 ghost use Rattle.graph_base.specs.Inside.{task_of};
 ghost use Rattle.graph_base.specs.TaskLines.{IsTaskLine};
 ghost use Rattle.stream_lists.specs.Jobs.{samples_at};
-ghost use Rattle.stream_lists.specs.Inside.{given, items_of, IsShort};
+ghost use Rattle.stream_lists.specs.Inside.{given, IsCounted, items_of, IsShort};
+ghost use Rattle.stream_lists.specs.Lists.{start_in};
 ghost use Rattle.stream_lists.specs.Meetings.{meeting_line};
 ghost use Rattle.stream_lists.specs.Spans.{spans_of, lengths_of, nowhere};
 
@@ -14,7 +15,7 @@ use crate::lengths::all_lengths;
 use crate::meetings::first_meeting;
 use crate::refusal::JobRefusal;
 use crate::span::{LENGTH_MAX, Span};
-use crate::task_spans::all_spans;
+use crate::task_spans::{all_spans, are_counted};
 use graph_base::{Graph, Kind, PhaserLine, TASKS_MAX, TaskLine};
 use std::alloc::Global;
 use std::marker::Model;
@@ -53,7 +54,9 @@ impl Job {
     /// Where two tasks signal in one phase of a phaser with `any`, the answer is `AnyMeets` with
     /// the least line of a task that meets a task of an earlier line, or `OutOfMemory`. It takes
     /// memory for a span of each task and a length of each phaser, and no list is composed, so it
-    /// makes no difference how long the lists are. A refusal drops the graph and the samples.
+    /// makes no difference how long the lists are. Where a task would begin in phase 2^64 or later,
+    /// of a list that no memory holds, it is `OutOfMemory` too. A refusal drops the graph and the
+    /// samples.
     pub fn new(alloc: Global, graph: Graph, samples: Vec<Vec<i64>>) -> Result<Job, JobRefusal>
         requires each { length samples.items ≡ sources_of graph }
         requires sends { All (λ list. AreSends list.items) samples.items }
@@ -72,6 +75,9 @@ impl Job {
         };
         if let Some(line) = first_meeting(&graph, &spans) {
             return Err(JobRefusal::AnyMeets { line });
+        }
+        if !are_counted(&spans) {
+            return Err(JobRefusal::OutOfMemory);
         }
         Ok(Job {
             graph,
@@ -109,8 +115,22 @@ impl Job {
         ensures span { result ≡ get_or (spans_of self.now) t nowhere }
         ensures least { self.now.starts ≡ [] }
         ensures short { IsShort result }
+        ensures counted { IsCounted result }
     {
         self.spans[t]
+    }
+
+    /// Returns the phase at which task number `t` begins, the least that it may be, of a live sink
+    /// that joins now, else none. It takes no memory.
+    pub fn start(&self, t: usize) -> Option<u64>
+        requires { t < length self.now.graph.tasks }
+        ensures { result ≡ start_in self.now t }
+    {
+        let span = self.span(t);
+        if self.task(t).joins_now && span.live {
+            return Some(span.offset as u64);
+        }
+        None
     }
 
     /// Returns how long the list of phaser number `p` is, in phases. It takes no memory.

@@ -1,10 +1,10 @@
 //! How far each task comes, over the lengths of the phasers' lists.
-ghost use Rattle.std.specs.Prelude.{◌≡◌, ◌≤◌, ◌<◌, ◌-◌, ◌+◌, ◌&&◌, if◌then◌else◌, nat_le, length, get_or, Some, None, IfOk, IfSome};
+ghost use Rattle.std.specs.Prelude.{◌≡◌, ◌≤◌, ◌<◌, ◌-◌, ◌+◌, ◌&&◌, if◌then◌else◌, nat_le, length, get_or, Some, None, IfOk, IfSome, true};
 ghost use Rattle.std.specs.List.{All};
 ghost use Rattle.graph_base.specs.Inside.{task_of};
 ghost use Rattle.graph_base.specs.TaskLines.{HasEnds};
 ghost use Rattle.stream_lists.specs.Jobs.{samples_at};
-ghost use Rattle.stream_lists.specs.Inside.{given, IsShort, IsStage};
+ghost use Rattle.stream_lists.specs.Inside.{given, IsCounted, IsShort, IsStage};
 ghost use Rattle.stream_lists.specs.Spans.{cut_at, enough_for, first_run_out, nowhere, offset_of, run_out, span_of, spans_over, spans_up_to, values_from};
 
 use crate::job::number_of_source;
@@ -188,4 +188,11 @@ pub(crate) fn all_spans(
         spans.push(next_span(graph, samples, lengths, spans.as_slice(), t))?;
     }
     Ok(spans)
+}
+
+/// Whether a u64 counts the phases before each of these tasks begins.
+pub(crate) fn are_counted(spans: &[Span]) -> bool
+    ensures { result ≡ true → All IsCounted spans.now }
+{
+    spans.iter().all(|span| u64::try_from(span.offset).is_ok())
 }

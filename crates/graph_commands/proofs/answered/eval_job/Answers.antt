@@ -1,4 +1,8 @@
-use Rattle.std.proofs.Common.{rules}
+use Rattle.std.proofs.Common.{rules, ◌≡◌, map}
+use Rattle.std.specs.List.{All}
+use Rattle.stream_eval.specs.Results.{sink_values}
+use Rattle.stream_eval.specs.stream_lists.Lists.{lines_of, start_in}
+use Rattle.stream_eval.proofs.SinkStarts.{outputs-are}
 use Rattle.graph_commands.proofs.Places.{place-first_too_big}
 use Rattle.graph_commands.proofs.Ends.{eval-no_memory, eval-too_big, eval-written}
 use Rattle.graph_commands.proofs.answered.eval_job.Goals as goal
@@ -36,7 +40,15 @@ returns-in-Err-OutOfMemory-clause-ends g c known name asked of asks =
 -- the lists were written, or a prefix of them
 pub returns-in-Ok-clause-ends : goal.returns-in-Ok-clause-ends
 returns-in-Ok-clause-ends g c known name asked of asks =
+    let job = c.args.job.now in
+    let lines = c.deref.result.now in
+    let values : map sink_values lines ≡ lines_of job =
+    rw c.deref.ensures.value c.in-Ok.ensures.ok in
+    let starts : All (λ line. line.start ≡ start_in job line.task) lines =
+    rw c.deref.ensures.value c.in-Ok.ensures.starts in
+    let outputs = outputs-are job lines values starts in
     eval-written _ g.W.Write.contents known name asked c.args.sink c.args.job.now
     c.write_sinks.result c.report_written.result c.args.output.now c.write_sinks.new.writer _ _ of
-    asks c.in-Ok.ensures.fits c.write_sinks.ensures.ok c.write_sinks.ensures.err
-    c.write_sinks.ensures.failed c.report_written.ensures.done c.report_written.ensures.stops
+    asks c.in-Ok.ensures.fits (rw outputs at c.write_sinks.ensures.ok)
+    (rw outputs at c.write_sinks.ensures.err) c.write_sinks.ensures.failed
+    c.report_written.ensures.done c.report_written.ensures.stops

@@ -1,7 +1,7 @@
 use Rattle.std.proofs.Common.{◌≡◌, ◌+◌, ◌++◌, ◌∷◌, [], ◌∙◌, map, take, drop, ap, rules, arith}
 use Rattle.std.proofs.lemmas.List.{take_more, take_all}
 use Rattle.std.proofs.lemmas.Result.{err_from_is_err_and, on_err_weaker}
-use Rattle.stream_eval.specs.Results.{sink_values}
+use Rattle.stream_eval.specs.Results.{sink_output}
 use Rattle.graph_commands.specs.OutputTexts.{sink_text, text_of}
 use Rattle.graph_show.specs.graph_base.Graphs.{name_at}
 use Rattle.graph_show.specs.graph_base.declared.place.Place.TheVariants as place
@@ -20,15 +20,16 @@ returns-in_err-put_sink-clause-err g c =
     let item : take (i + 1) lines ≡ take i lines ++ sink ∷ [] =
     take_more lines i sink c.loop-sink-test.true
     ∙ ap (λ x. take i lines ++ x ∷ []) (search rules) in
-    let text = sink_text (name_at graph (place.Task sink.task)) sink.values.items in
-    let same : sink_text c.name-name.result.now c.deref.result.now ≡ text = search rules in
-    let more = ap (λ xs. text_of graph (map sink_values xs)) item ∙ flat_map-map-push
-    (λ line. sink_text (name_at graph (place.Task line.0)) line.1) sink_values (take i lines) sink in
-    let whole = flat_map-map-rest (λ line. sink_text (name_at graph (place.Task line.0)) line.1)
-    sink_values lines (i + 1) ∙ ap (λ l. l ++ text_of graph (map sink_values (drop (i + 1) lines))) more in
-    rw p.1 (prefix_within _ _ [] (text_of graph (map sink_values (take i lines)) ++ text)
-    (text_of graph (map sink_values (drop (i + 1) lines))) (text_of graph (map sink_values lines)) whole
-    (prefix_behind _ _ _ [] c.loop-sink.piece (text_of graph (map sink_values (take i lines))) text
+    let text = sink_text (name_at graph (place.Task sink.task)) sink.start sink.values.items in
+    let same : sink_text c.name-name.result.now sink.start sink.values.items ≡ text =
+    search rules in
+    let more = ap (λ xs. text_of graph (map sink_output xs)) item ∙ flat_map-map-push
+    (λ line. sink_text (name_at graph (place.Task line.0)) line.1 line.2) sink_output (take i lines) sink in
+    let whole = flat_map-map-rest (λ line. sink_text (name_at graph (place.Task line.0)) line.1 line.2)
+    sink_output lines (i + 1) ∙ ap (λ l. l ++ text_of graph (map sink_output (drop (i + 1) lines))) more in
+    rw p.1 (prefix_within _ _ [] (text_of graph (map sink_output (take i lines)) ++ text)
+    (text_of graph (map sink_output (drop (i + 1) lines))) (text_of graph (map sink_output lines)) whole
+    (prefix_behind _ _ _ [] c.loop-sink.piece (text_of graph (map sink_output (take i lines))) text
     c.loop-sink.invariant.0 (rw same at c.in_err-put_sink.ensures.err)))
 
 -- one more sink was put
@@ -41,12 +42,13 @@ loop-sink-preserved g c =
     let item : take (i + 1) lines ≡ take i lines ++ sink ∷ [] =
     take_more lines i sink c.loop-sink-test.true
     ∙ ap (λ x. take i lines ++ x ∷ []) (search rules) in
-    let text = sink_text (name_at graph (place.Task sink.task)) sink.values.items in
-    let same : sink_text c.name-name.result.now c.deref.result.now ≡ text = search rules in
-    let more = ap (λ xs. text_of graph (map sink_values xs)) item ∙ flat_map-map-push
-    (λ line. sink_text (name_at graph (place.Task line.0)) line.1) sink_values (take i lines) sink in (
+    let text = sink_text (name_at graph (place.Task sink.task)) sink.start sink.values.items in
+    let same : sink_text c.name-name.result.now sink.start sink.values.items ≡ text =
+    search rules in
+    let more = ap (λ xs. text_of graph (map sink_output xs)) item ∙ flat_map-map-push
+    (λ line. sink_text (name_at graph (place.Task line.0)) line.1 line.2) sink_output (take i lines) sink in (
       rw more (Puts-append _ _ _ [] c.loop-sink.piece c.put_sink.new.self
-          (text_of graph (map sink_values (take i lines))) text c.loop-sink.invariant.0
+          (text_of graph (map sink_output (take i lines))) text c.loop-sink.invariant.0
           (rw same at c.in_ok-put_sink.ensures.ok)),
       c.in_ok-put_sink.ensures.same ∙ c.loop-sink.invariant.1,
     )
@@ -58,6 +60,6 @@ returns-clause-err g c =
     let whole : take c.loop-sink.sink-index lines ≡ lines =
     take_all c.loop-sink.sink-index lines (omega (arith, c.loop-sink-test.false)) in
     on_err_weaker c.hand_over.result
-    (prefix_of_put _ _ _ [] c.loop-sink.piece (text_of c.args.graph.now (map sink_values lines))
+    (prefix_of_put _ _ _ [] c.loop-sink.piece (text_of c.args.graph.now (map sink_output lines))
     (rw whole at c.loop-sink.invariant.0))
     c.hand_over.ensures.err

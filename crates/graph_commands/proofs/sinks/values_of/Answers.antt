@@ -1,8 +1,6 @@
 -- The loop goes through the lines in their order, and stops at the sink's.
-use Rattle.std.proofs.Common.{◌≡◌, ◌==◌, [], map, ap, sym, ◌∙◌, true, false}
+use Rattle.std.proofs.Common.{sym, ◌∙◌}
 use Rattle.std.proofs.lemmas.Bool.{eq-eqb, ne_eqb}
-use Rattle.stream_eval.specs.Results.{sink_values}
-use Rattle.graph_commands.specs.GraphRuns.{values_of_sink}
 use Rattle.graph_commands.proofs.Finding.{no_values, values_behind, values_here}
 use Rattle.graph_commands.proofs.sinks.values_of.Goals as goal
 

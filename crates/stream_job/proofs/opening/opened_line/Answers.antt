@@ -6,8 +6,8 @@ use Rattle.stream_eval.specs.stream_lists.Jobs.{Job, with_starts, least}
 use Rattle.stream_eval.specs.stream_lists.Spans.{span_in}
 use Rattle.stream_job.proofs.opening.opened_line.Goals as goal
 
-pub returns-clause-room : goal.returns-clause-room
-returns-clause-room c =
+pub returns-clause-own : goal.returns-clause-own
+returns-clause-own c =
     let job : Job = c.args.job.now in
     let same : least job ≡ job = ap (λ s. with_starts s job) (sym c.span.ensures.least) in
     let most : (span_in (least job) c.args.t).steps ≡ (span_in job c.args.t).steps =
@@ -16,4 +16,4 @@ returns-clause-room c =
     ap (λ (s : Span). s.steps) c.span.ensures.span in
     let read = c.in-Ok.ensures in
     let room = c.in_ok-with_capacity.ensures.capacity in
-    omega arith
+    record { room = omega arith; start = c.start.ensures }

@@ -6,7 +6,7 @@ use Rattle.std.proofs.lemmas.List.Elements.{All-push}
 use Rattle.stream_eval.specs.Results.{sink_values}
 use Rattle.stream_eval.specs.stream_lists.Lists.{is_sink_at}
 use Rattle.stream_eval.proofs.stream_lists_lemmas.Firsts.{filter-skip, filter-take}
-use Rattle.stream_job.specs.Machines.{HasRoom}
+use Rattle.stream_job.specs.Machines.{IsLineOf}
 use Rattle.stream_job.proofs.opening.opened_lines.Goals as goal
 use Rattle.stream_job.proofs.opening.opened_lines.Goals.{then-is_sink+in_ok-opened_line+in_ok-push, else-is_sink}
 
@@ -29,8 +29,8 @@ loop-t-preserved c =
                 ∙ sym (map_push empty sinks t)
                 ∙ ap (map empty)
                 (sym (filter-take is_sink t (sym c.is_sink.ensures ∙ w.if-is_sink.true))),
-            All-push (HasRoom job) c.loop-t.lines.items w.in_ok-opened_line.field-0 c.loop-t.invariant.1
-                w.in_ok-opened_line.ensures.room,
+            All-push (IsLineOf job) c.loop-t.lines.items w.in_ok-opened_line.field-0 c.loop-t.invariant.1
+                w.in_ok-opened_line.ensures.own,
           )
       | else-is_sink w ↦
           rw w.lines-is (

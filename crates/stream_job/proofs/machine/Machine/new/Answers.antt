@@ -29,5 +29,5 @@ returns c =
       lines = c.in_ok-opened_lines.ensures.lines
           ∙ map_same (λ t. (t, [])) (λ t. (t, kept_by job (opening job) t)) (sinks_of job)
           (λ t. ap (λ l. (t, l)) (sym (opened_kept job t)));
-      room = c.in_ok-opened_lines.ensures.room;
+      own = c.in_ok-opened_lines.ensures.own;
     }

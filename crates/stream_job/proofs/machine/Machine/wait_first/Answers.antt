@@ -16,7 +16,7 @@ use Rattle.stream_job.specs.Inside.{with_line, HasRoomIn}
 use Rattle.stream_job.specs.SinkLines.{line_of}
 use Rattle.stream_job.proofs.SinksKeep.{if_kept}
 use Rattle.stream_job.specs.Places.{HasTakenOne}
-use Rattle.stream_job.specs.Machines.{HasCores, HasRoom}
+use Rattle.stream_job.specs.Machines.{HasCores, IsLineOf}
 use Rattle.stream_job.proofs.Lively.{has_state}
 use Rattle.stream_job.proofs.Setting.{read_same}
 use Rattle.stream_job.proofs.Begun.{begun_few}
@@ -152,8 +152,8 @@ returns-in-Ok-Value c =
     ∙ ap (with_line (line_of c.sink_of-sink.result c.in-Ok-Value.outcome)
     (number_of c.in-Ok-Value.outcome))
     (ap (λ l. map sink_values l.items) c.wait_on.ensures.lines))
-    (λ all. c.keep_line.ensures.room c.args.job.now
-    (subst (λ l. All (HasRoom c.args.job.now) l.items) (sym c.wait_on.ensures.lines) all))
+    (λ all. c.keep_line.ensures.own c.args.job.now
+    (subst (λ l. All (IsLineOf c.args.job.now) l.items) (sym c.wait_on.ensures.lines) all))
     c.told_wait.ensures
 
 pub returns-in-Err : goal.returns-in-Err

@@ -1,4 +1,6 @@
-use Rattle.std.proofs.Common.{rules, arith, ◌≡◌, Some, None, ap, ◌∙◌}
+use Rattle.std.proofs.Common.{rules, arith, ◌≡◌, Some, None, ap, subst, ◌∙◌}
+use Rattle.std.specs.List.{All}
+use Rattle.stream_lists.specs.Inside.{IsCounted}
 use Rattle.stream_lists.proofs.Given.{lengths-given, spans-given, meeting-given}
 use Rattle.stream_lists.proofs.job.Job.new.Goals as goal
 
@@ -30,6 +32,8 @@ invariant_of-result c =
       span_each = c.in-Ok-all_spans.ensures.each;
       length_each = c.in-Ok.ensures.each;
       short = c.in-Ok-all_spans.ensures.short;
+      counted = subst (All IsCounted) c.deref-5.ensures.value
+          (c.are_counted.ensures (search rules));
       length_short = c.in-Ok.ensures.short;
       sends = c.requires.sends;
       apart = meeting-given c.args.graph samples _ _ _ spans c.deref-4.ensures.value
