@@ -1,0 +1,4 @@
+pub mod NumberSets
+pub mod EventCounts
+pub mod Places
+pub mod TaskSets

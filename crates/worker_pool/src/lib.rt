@@ -2,8 +2,8 @@
 //! worker goes on with which task is decided under one lock beside them.
 //!
 //! A worker goes on with a task as far as it comes, and then takes another, best one that meets no
-//! other task with which a worker is at work. A task that waits on a phaser is not taken again before
-//! something happens there. A worker with nothing to do sleeps, for a millisecond at most.
+//! other task with which a worker is at work. A task that waits on a phaser is not taken again
+//! before something happens there. A worker with nothing to do sleeps, for a millisecond at most.
 //!
 //! ```text
 //! let mut pool = Pool::with_room(alloc, 2)?;
@@ -13,12 +13,19 @@
 //! let sink = pool.pop();                   // the last task
 //! ```
 //!
-//! Proved: that the code is safe, and which calls may wait. Only tested: that a run comes to an end,
-//! and that it tells `Stalled` only where every task waits. Not promised: a time.
+//! Proved: that the code is safe, and which calls may wait. Of what the workers know of the tasks
+//! under their lock: a live task may go on, or waits, or is with a worker, and is at one of these
+//! places alone; it waits only where its phaser had no event since it was taken; the run is over
+//! only at a fault, or where no task may go on and none is with a worker, and only where some then
+//! wait is `Stalled` told; the first fault stays. Only tested: that a run comes to an end, and that
+//! the workers tell of what they did. Not promised: a time.
 #![tactic(auto)]
 
 mod bell;
+mod event_counts;
+pub mod laws;
 mod number_set;
+mod places;
 mod pool;
 mod task_sets;
 mod work;

@@ -25,8 +25,8 @@ const YIELDS: u32 = 20;
 // How many tasks there are, at most.
 const TASKS_MAX: usize = 64;
 
-/// The tasks of a run, at most 64, numbered from 0 in the order in which they were put in. Each has a
-/// lock, which only the worker that took it takes. In contracts a pool is how many tasks it has.
+/// The tasks of a run, at most 64, numbered from 0 in the order in which they were put in. Each has
+/// a lock, which only the worker that took it takes. In contracts a pool is how many tasks it has.
 ///
 /// **End.** It may be thrown away where a task may. Else `pop` takes out the tasks, and
 /// `destroy_empty` ends it.
@@ -47,8 +47,8 @@ impl<T: Work> Model for Pool<T> {
 }
 
 impl<T: Work> Pool<T> {
-    /// Makes one without a task, with room for so many. No other call takes memory, but for a `push`
-    /// beyond these.
+    /// Makes one without a task, with room for so many. No other call takes memory, but for a
+    /// `push` beyond these.
     pub fn with_room(alloc: Global, tasks: usize) -> Result<Pool<T>, AllocError>
         ensures { IfOk result (λ pool. pool ≡ 0) }
     {
@@ -85,8 +85,8 @@ impl<T: Work> Pool<T> {
     }
 
     /// Goes on with the tasks until all are done, or until there is a fault, which it tells. The
-    /// thread that calls is one of `workers` workers; where a thread cannot be made, the run goes on
-    /// without it.
+    /// thread that calls is one of `workers` workers; where a thread cannot be made, the run goes
+    /// on without it.
     pub fn run<R: Threads + Wait + Sync>(&self, rt: &R, workers: usize) -> Option<Fault>
     where
         T: Send,
@@ -150,8 +150,8 @@ impl<T: Work> Pool<T> {
         next
     }
 
-    // Sleeps where there is no task to take. Where it was not called meanwhile, those who have been at
-    // work all the while may be held.
+    // Sleeps where there is no task to take. Where it was not called meanwhile, those who have been
+    // at work all the while may be held.
     fn sleep<W: Wait>(&self, rt: &W) -> Next {
         let rings = self.bell.rings();
         let (next, takes) = self.take_or_sleep(rt);

@@ -1,6 +1,15 @@
-//! Which task a worker takes next. No contract speaks of it: a wrong answer costs time, or a run
-//! that answers that it stands still.
+//! Which task a worker takes next. That a live task is at one place, and when the run is over, is
+//! proved. Which of the tasks that may go on is taken, and when a worker that sleeps is called,
+//! costs time alone, and no contract speaks of it.
+ghost use Rattle.std.specs.Prelude.{◌≡◌, ◌↔◌, ℕ, ◌<◌, Some, None, true, IfSome};
+ghost use Rattle.worker_pool.specs.declared.places.Place.TheVariants as place;
+ghost use Rattle.worker_pool.specs.NumberSets.{has};
+ghost use Rattle.worker_pool.specs.EventCounts.{next_of};
+ghost use Rattle.worker_pool.specs.TaskSets.{tasks_in, place_in, events_in, fault_in, IsNew, IsSame, HasPut, MayTake, HasTaken, IsOver, TellsStalled, place_after, fault_after, HasPutBack};
+
+use crate::event_counts::EventCounts;
 use crate::number_set::NumberSet;
+use crate::places::{Place, Places};
 use crate::work::{Fault, Progress};
 
 // A worker that sleeps is called at most once in so many turns of tasks.
@@ -21,8 +30,8 @@ pub enum Next {
 #[derive(Clone, Copy, Debug)]
 pub struct Taken {
     pub task: usize,
-    // how often events had been told when it was taken
-    told: u64,
+    // the number of the next events when it was taken
+    since: u64,
 }
 
 /// Which of the tasks a worker takes.
@@ -32,8 +41,8 @@ pub enum Choice {
     Apart,
     /// Where there is none, one whose phasers are in use by workers alone that have had their tasks
     /// since before so many takes: they may be held. Where there is none either, such a one that
-    /// waits for an event, while a worker is held that may have made one: it tells of its events only
-    /// when it puts its task back.
+    /// waits for an event, while a worker is held that may have made one: it tells of its events
+    /// only when it puts its task back.
     Beside(u64),
 }
 
@@ -46,41 +55,48 @@ pub struct Went {
     pub turns: u32,
 }
 
-/// The tasks by what may be done with them. A live task may go on, or waits for an event, or is with
-/// a worker.
+/// The tasks by what may be done with them. Of a greater number than 63 it keeps the remainder by
+/// 64.
 #[derive(Drop)]
 pub struct TaskSets {
-    ready: NumberSet,
-    waiting: NumberSet,
-    working: NumberSet,
-    // the phasers of each task, and the one that it waits on
+    places: Places,
+    events: EventCounts,
+    // the phasers of each task
     phasers: [NumberSet; 64],
-    waits_on: [usize; 64],
-    // how often events were told, and for each phaser the last time
-    told: u64,
-    last_told: [u64; 64],
     // how often tasks were taken, and for each task the last time
     takes: u64,
     last_taken: [u64; 64],
     // the number of the task after the one that was taken last
-    from: u32,
+    from: usize,
     // how many workers sleep, and the turns since one was called
     asleep: u32,
     turns: u32,
     fault: Option<Fault>,
 }
 
+/// Where a task is that is put back, after it came so far.
+fn place_after(events: &EventCounts, taken: Taken, turned: Progress) -> Option<Place>
+    ensures { result ≡ place_after events.now taken turned }
+{
+    match turned {
+        Progress::Blocked(phaser) if events.had_none_since(taken.since, phaser) => {
+            Some(Place::Waiting(phaser))
+        }
+        Progress::Blocked(_) | Progress::Moved(_) | Progress::Ready => Some(Place::Ready),
+        Progress::Busy | Progress::Child(_) => Some(Place::Ready),
+        Progress::Gone | Progress::Failed(_) => None,
+    }
+}
+
 impl TaskSets {
     /// Makes the sets with no task.
-    pub fn new() -> TaskSets {
+    pub fn new() -> TaskSets
+        ensures { IsNew result }
+    {
         TaskSets {
-            ready: NumberSet::new(),
-            waiting: NumberSet::new(),
-            working: NumberSet::new(),
+            places: Places::new(),
+            events: EventCounts::new(),
             phasers: [NumberSet::new(); 64],
-            waits_on: [0; 64],
-            told: 0,
-            last_told: [0; 64],
             takes: 0,
             last_taken: [0; 64],
             from: 0,
@@ -91,18 +107,24 @@ impl TaskSets {
     }
 
     /// Puts in a task that may go on, with the phasers of its line.
-    pub fn admit(&mut self, task: usize, phasers: NumberSet) {
-        self.ready.insert(task);
-        self.phasers[task & 63] = phasers;
+    pub fn admit(&mut self, task: usize, phasers: NumberSet)
+        ensures { HasPut task (Some place.Ready) self.old self.new }
+    {
+        self.places.put(task, Some(Place::Ready));
+        self.phasers[task % 64] = phasers;
     }
 
     /// Tells why the run has no lines, where it has none.
-    pub fn fault(&self) -> Option<Fault> {
+    pub fn fault(&self) -> Option<Fault>
+        ensures { result ≡ fault_in self.now }
+    {
         self.fault
     }
 
-    // Keeps the first fault.
-    fn fail(&mut self, fault: Fault) {
+    /// Keeps the first fault.
+    fn fail(&mut self, fault: Fault)
+        ensures { self.new ≡ record self.old { fault = fault_after self.old.fault fault } }
+    {
         if self.fault.is_none() {
             self.fault = Some(fault);
         }
@@ -110,48 +132,65 @@ impl TaskSets {
 
     /// Takes the next task. Where every live task waits and none is with a worker, the run stands
     /// still.
-    pub fn take(&mut self, choice: Choice) -> Next {
-        if self.fault.is_some() || self.is_done() {
+    pub fn take(&mut self, choice: Choice) -> Next
+        ensures take { (taken : Taken) → result ≡ Next.Take taken
+            → HasTaken choice taken self.old self.new }
+        ensures wait { result ≡ Next.Wait → self.new ≡ self.old }
+
+        ensures over { (result ≡ Next.Over) ↔ IsOver self.old }
+        ensures stalled { result ≡ Next.Over → TellsStalled self.old self.new }
+        ensures end { result ≡ Next.Over → tasks_in self.new ≡ tasks_in self.old }
+    {
+        if self.fault.is_some() {
             return Next::Over;
         }
-        if self.ready.is_empty() && self.working.is_empty() {
-            self.fail(Fault::Stalled);
+        if self.places.is_still() {
+            if !self.places.waiting().is_empty() {
+                self.fail(Fault::Stalled);
+            }
             return Next::Over;
         }
-        let Some(task) = self.choose(choice) else {
-            return Next::Wait;
-        };
-        self.ready.remove(task);
-        self.waiting.remove(task);
-        self.working.insert(task);
+        match self.choose(choice) {
+            Some(task) => Next::Take(self.give(task)),
+            None => Next::Wait,
+        }
+    }
+
+    /// Gives a worker a task.
+    fn give(&mut self, task: usize) -> Taken
+        ensures task { result.task ≡ task }
+        ensures since { result.since ≡ next_of (events_in self.old) }
+        ensures puts { HasPut task (Some place.Working) self.old self.new }
+    {
+        self.places.put(task, Some(Place::Working));
         self.takes = self.takes.wrapping_add(1);
-        self.last_taken[task & 63] = self.takes;
-        self.from = (task & 63) as u32 + 1;
-        Next::Take(Taken {
+        self.last_taken[task % 64] = self.takes;
+        self.from = task % 64 + 1;
+        Taken {
             task,
-            told: self.told,
-        })
+            since: self.events.next(),
+        }
     }
 
-    // Whether no task is live.
-    fn is_done(&self) -> bool {
-        self.ready.is_empty() && self.waiting.is_empty() && self.working.is_empty()
-    }
-
-    fn choose(&self, choice: Choice) -> Option<usize> {
-        let apart = self.first_apart(self.ready, 0);
+    fn choose(&self, choice: Choice) -> Option<usize>
+        ensures { IfSome result (λ t. (t < 64) × MayTake choice (place_in self.now t)) }
+    {
+        let apart = self.first_apart(self.places.ready(), 0);
         match choice {
             Choice::Apart => apart,
             Choice::Beside(takes) => apart
-                .or(self.first_apart(self.ready, takes))
+                .or(self.first_apart(self.places.ready(), takes))
                 .or(self.first_to_try(takes)),
         }
     }
 
-    // The first that waits, where a worker that is held may have made an event that it has not told.
-    fn first_to_try(&self, takes: u64) -> Option<usize> {
+    // The first that waits, where a worker that is held may have made an event that it has not
+    // told.
+    fn first_to_try(&self, takes: u64) -> Option<usize>
+        ensures { IfSome result (λ t. (t < 64) × (has (tasks_in self.now).waiting t ≡ true)) }
+    {
         if self.has_held(takes) {
-            self.first_apart(self.waiting, takes)
+            self.first_apart(self.places.waiting(), takes)
         } else {
             None
         }
@@ -159,12 +198,9 @@ impl TaskSets {
 
     // Whether a worker has had its task since before so many takes.
     fn has_held(&self, takes: u64) -> bool {
-        let mut rest = self.working;
-        for _ in 0..64 {
-            let Some(task) = rest.first_from(0) else {
-                return false;
-            };
-            if self.last_taken[task & 63] <= takes {
+        let mut rest = self.places.working();
+        while let Some(task) = rest.first_from(0) {
+            if self.last_taken[task] <= takes {
                 return true;
             }
             rest.remove(task);
@@ -173,12 +209,13 @@ impl TaskSets {
     }
 
     // The first of these, none of whose phasers is in use since so many takes.
-    fn first_apart(&self, tasks: NumberSet, takes: u64) -> Option<usize> {
+    fn first_apart(&self, tasks: NumberSet, takes: u64) -> Option<usize>
+        ensures { IfSome result (λ t. (t < 64) × (has tasks t ≡ true)) }
+    {
         let in_use = self.in_use(takes);
         let mut rest = tasks;
-        for _ in 0..64 {
-            let task = rest.first_from(self.from)?;
-            if !self.phasers[task & 63].meets(in_use) {
+        while let Some(task) = rest.first_from(self.from) {
+            if !self.phasers[task].meets(in_use) {
                 return Some(task);
             }
             rest.remove(task);
@@ -189,13 +226,10 @@ impl TaskSets {
     // The phasers of the tasks that workers took after so many takes.
     fn in_use(&self, takes: u64) -> NumberSet {
         let mut phasers = NumberSet::new();
-        let mut rest = self.working;
-        for _ in 0..64 {
-            let Some(task) = rest.first_from(0) else {
-                break;
-            };
-            if self.last_taken[task & 63] > takes {
-                phasers.insert_all(self.phasers[task & 63]);
+        let mut rest = self.places.working();
+        while let Some(task) = rest.first_from(0) {
+            if self.last_taken[task] > takes {
+                phasers.insert_all(self.phasers[task]);
             }
             rest.remove(task);
         }
@@ -203,86 +237,44 @@ impl TaskSets {
     }
 
     /// Puts a task back.
-    pub fn put_back(&mut self, taken: Taken, went: Went) {
-        let task = taken.task;
-        self.working.remove(task);
+    pub fn put_back(&mut self, taken: Taken, went: Went)
+        ensures { HasPutBack taken went self.old self.new }
+    {
         self.turns = self.turns.saturating_add(went.turns);
         // An event that the task made itself came before it was refused.
-        let is_refused_still = match went.turned {
-            Progress::Blocked(phaser) => self.last_told[phaser & 63] <= taken.told,
-            _ => false,
-        };
-        self.tell(went.events);
-        match went.turned {
-            Progress::Blocked(phaser) if is_refused_still => self.park(task, phaser),
-            Progress::Blocked(_) | Progress::Moved(_) | Progress::Ready => self.ready.insert(task),
-            Progress::Busy | Progress::Child(_) => self.ready.insert(task),
-            Progress::Gone => {}
-            Progress::Failed(fault) => self.fail(fault),
-        }
-    }
-
-    // The task waits for an event on the phaser.
-    fn park(&mut self, task: usize, phaser: usize) {
-        self.waiting.insert(task);
-        self.waits_on[task & 63] = phaser;
-    }
-
-    // Tells of events on these phasers: those that wait for one may go on.
-    fn tell(&mut self, events: NumberSet) {
-        if events.is_empty() {
-            return;
-        }
-        self.told = self.told.wrapping_add(1);
-        self.note(events);
-        self.free(events);
-    }
-
-    // Notes when the phasers had events last.
-    fn note(&mut self, events: NumberSet) {
-        let mut rest = events;
-        for _ in 0..64 {
-            let Some(phaser) = rest.first_from(0) else {
-                return;
-            };
-            self.last_told[phaser & 63] = self.told;
-            rest.remove(phaser);
-        }
-    }
-
-    // Those that wait for an event on these phasers may go on.
-    fn free(&mut self, events: NumberSet) {
-        let mut rest = self.waiting;
-        for _ in 0..64 {
-            let Some(task) = rest.first_from(0) else {
-                return;
-            };
-            if events.contains(self.waits_on[task & 63]) {
-                self.waiting.remove(task);
-                self.ready.insert(task);
-            }
-            rest.remove(task);
+        let place = place_after(&self.events, taken, went.turned);
+        self.events.tell(went.events);
+        self.places.free(went.events);
+        self.places.put(taken.task, place);
+        if let Progress::Failed(fault) = went.turned {
+            self.fail(fault);
         }
     }
 
     /// Returns whether there is a task to take beside those that are with workers.
     pub fn has_apart(&self) -> bool {
-        self.first_apart(self.ready, 0).is_some()
+        self.first_apart(self.places.ready(), 0).is_some()
     }
 
     /// Notes that a worker goes to sleep, and tells how often tasks were taken.
-    pub fn sleeps(&mut self) -> u64 {
+    pub fn sleeps(&mut self) -> u64
+        ensures { IsSame self.old self.new }
+    {
         self.asleep = self.asleep.saturating_add(1);
         self.takes
     }
 
     /// Notes that a worker woke.
-    pub fn woke(&mut self) {
+    pub fn woke(&mut self)
+        ensures { IsSame self.old self.new }
+    {
         self.asleep = self.asleep.saturating_sub(1);
     }
 
     /// Returns whether a worker that sleeps should be called.
-    pub fn calls(&mut self) -> bool {
+    pub fn calls(&mut self) -> bool
+        ensures { IsSame self.old self.new }
+    {
         if self.asleep == 0 || self.turns < TURNS_BETWEEN_CALLS || !self.has_apart() {
             return false;
         }

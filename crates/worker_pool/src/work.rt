@@ -2,8 +2,8 @@
 
 /// A task that goes on by short turns, none of which waits for another task.
 ///
-/// Tasks and phasers have numbers from 0 to 63. A phaser is where tasks meet: what one does there may
-/// let another go on.
+/// Tasks and phasers have numbers from 0 to 63. A phaser is where tasks meet: what one does there
+/// may let another go on.
 pub trait Work {
     /// The phasers on which it meets others, as bits: bit `p` for phaser number `p`.
     fn phasers(&self) -> u64;
