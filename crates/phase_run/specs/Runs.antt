@@ -9,11 +9,12 @@ use Rattle.stream_workers.specs.graph_commands.stream_lists.Jobs.{Job}
 use Rattle.stream_workers.specs.graph_commands.watched_io.States.{WriterState, writer_state}
 use Rattle.stream_workers.specs.graph_commands.watched_io.declared.watched.Watched.{Watched}
 
--- the line of a run of which every task that was left waited for another
+-- the line of a run that is told as stalled
 abbrev pub stalled_line : List ℕ
 stalled_line = codes "phase: stalled\n"
 
--- the files tell a job, and its run stalled: nothing was written
+-- the files tell a job, nothing was written, and its run is told as stalled: how its tasks stood is
+-- not said
 pub record IsStalled {W : Type 0} (known : Known) (name : List ℕ) (status : ℕ) (line : List ℕ)
     (old new : Watched W) : Type 0 where
   pub job : Job

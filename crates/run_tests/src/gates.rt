@@ -123,11 +123,38 @@ fn a_task_is_held_until_its_source_is_at_its_last_step(rt: HostRuntime) -> Resul
     Ok(())
 }
 
-/// Counts the steps of three tasks as they are entered, and those entered out of order.
+/// Counts the steps of eight tasks as they are entered, and those entered out of order.
 #[derive(Drop)]
 struct Counted {
-    steps: [AtomicU64; 3],
+    steps: [AtomicU64; 8],
     wrong: AtomicU64,
+}
+
+impl Counted {
+    fn new() -> Counted {
+        Counted {
+            steps: [
+                AtomicU64::new(0),
+                AtomicU64::new(0),
+                AtomicU64::new(0),
+                AtomicU64::new(0),
+                AtomicU64::new(0),
+                AtomicU64::new(0),
+                AtomicU64::new(0),
+                AtomicU64::new(0),
+            ],
+            wrong: AtomicU64::new(0),
+        }
+    }
+
+    // How many steps of each task were entered.
+    fn entered(&self) -> [u64; 8] {
+        let mut entered = [0; 8];
+        for task in 0..8 {
+            entered[task] = self.steps[task].load(SeqCst);
+        }
+        entered
+    }
 }
 
 impl Gate for Counted {
@@ -142,20 +169,87 @@ impl Gate for Counted {
     }
 }
 
-// The filter and the sink enter a fifth step, in which they are told that no value comes.
+/// A graph, the samples of its sources, what its run ends with, and how many steps of each task are
+/// entered.
+struct Entries {
+    name: &'static str,
+    graph: &'static str,
+    samples: &'static [&'static str],
+    wanted: &'static str,
+    entered: [u64; 8],
+}
+
+// A source enters a step for each sample. Another task enters one more than it makes, in which it is
+// told that no value comes, unless `until` ends it before. A step is entered once, also where it
+// waits twice, and where the task is refused and comes again.
+const ENTRIES: [Entries; 6] = [
+    Entries {
+        name: "a filter",
+        graph: FIR,
+        samples: &["1\n2\n3\n4\n"],
+        wanted: "out 4\n1\n3\n5\n7\n",
+        entered: [4, 5, 5, 0, 0, 0, 0, 0],
+    },
+    Entries {
+        name: "a splitter and a joiner",
+        graph: "phaser X sum 1\nphaser A sum 1\nphaser B sum 1\nphaser Y sum 1\n\
+            source s s.csv -> X\nsplit d X -> A B\njoin j A B -> Y\nsink out Y\n",
+        samples: &["1\n2\n3\n4\n5\n"],
+        wanted: "out 5\n1\n2\n3\n4\n5\n",
+        entered: [5, 6, 6, 6, 0, 0, 0, 0],
+    },
+    Entries {
+        name: "two peers",
+        graph: "phaser X sum 2\nphaser Z sum 2\nphaser E sum 2\nphaser P sum 2\nphaser Q sum 2\n\
+            source a a.csv -> X\nsource b b.csv -> Z\npeer p X <-> E -> P mul 2\n\
+            peer q Z <-> E -> Q mul 2\nsink outp P\nsink outq Q\n",
+        samples: &["1\n2\n", "10\n20\n30\n"],
+        wanted: "outp 2\n-9\n-18\noutq 3\n9\n18\n30\n",
+        entered: [2, 3, 3, 4, 3, 4, 0, 0],
+    },
+    // The children begin at their own step 0, and `g` and `none` end by `until`.
+    Entries {
+        name: "children",
+        graph: "phaser X sum 4\nphaser Y sum 4\nsource s s.csv -> X\n\
+            fir f X -> Y shift 0 taps 1 1\nfir g X -> Y shift 0 taps 1 1 by f at 2 until 1\n\
+            sink out Y\nsink late Y by out at 1\nsink never Y by late at 4\nsink none Y until 0\n",
+        samples: &["1\n2\n3\n4\n"],
+        wanted: "out 4\n1\n3\n8\n7\nlate 3\n3\n8\n7\nnever 0\nnone 0\n",
+        entered: [4, 5, 1, 5, 4, 0, 0, 0],
+    },
+    Entries {
+        name: "tasks that end early",
+        graph: "phaser X sum 1\nsource s s.csv -> X until 3\nsink early X until 2\nsink out X\n",
+        samples: &["1\n2\n3\n4\n5\n"],
+        wanted: "early 2\n1\n2\nout 3\n1\n2\n3\n",
+        entered: [3, 2, 4, 0, 0, 0, 0, 0],
+    },
+    // The source stands in its seventh step: `g` has one sample too many for the bounds of 1.
+    Entries {
+        name: "a splitter and a filter stand still",
+        graph: "phaser X sum 1\nphaser A sum 1\nphaser B sum 1\nphaser S sum 1\n\
+            source s s.csv -> X\nsplit d X -> A B\nfir f A -> S shift 0 taps 1\n\
+            fir g X -> S shift 0 taps 1\nsink out S\n",
+        samples: &["1\n2\n3\n4\n5\n6\n7\n"],
+        wanted: "stalled\n",
+        entered: [7, 7, 4, 5, 4, 0, 0, 0],
+    },
+];
+
 #[test]
 fn each_step_is_entered_once_and_in_order(rt: HostRuntime) -> Result<(), Fail> {
-    let job = job_of(rt.alloc(), FIR, &["1\n2\n3\n4\n"])?;
-    for workers in WORKERS {
-        let gate = Counted {
-            steps: [AtomicU64::new(0), AtomicU64::new(0), AtomicU64::new(0)],
-            wrong: AtomicU64::new(0),
-        };
-        let told = told(&rt, rt.alloc(), &job, workers, &gate)?;
-        let [source, filter, sink] = &gate.steps;
-        assert_eq!(rt; told.as_str(), "out 4\n1\n3\n5\n7\n");
-        assert_eq!(rt; (source.load(SeqCst), filter.load(SeqCst)), (4, 5));
-        assert_eq!(rt; (sink.load(SeqCst), gate.wrong.load(SeqCst)), (5, 0));
+    for case in &ENTRIES {
+        let job = job_of(rt.alloc(), case.graph, case.samples)?;
+        for workers in WORKERS {
+            let gate = Counted::new();
+            let told = told(&rt, rt.alloc(), &job, workers, &gate)?;
+            assert_eq!(rt;
+                (told.as_str(), gate.entered(), gate.wrong.load(SeqCst)),
+                (case.wanted, case.entered, 0),
+                "{}: by {workers} workers",
+                case.name
+            );
+        }
     }
     Ok(())
 }

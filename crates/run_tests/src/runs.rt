@@ -36,7 +36,7 @@ pub fn last_run<R: Threads + Wait + Sync>(
     Ok(last)
 }
 
-const CASES: [Case; 24] = [
+const CASES: [Case; 25] = [
     Case {
         name: "a filter",
         graph: "phaser X sum 4\nphaser Y sum 4\nsource s s.csv -> X\n\
@@ -170,6 +170,13 @@ const CASES: [Case; 24] = [
         samples: &["9223372036854775807\n"],
         runs: 1,
         wanted: "out 1\n9223372036854775807\n",
+    },
+    Case {
+        name: "the least and the greatest value are in range",
+        graph: "phaser X sum 2\nsource s s.csv -> X\nsink out X\n",
+        samples: &["-9223372036854775807\n9223372036854775807\n0\n"],
+        runs: 1,
+        wanted: "out 3\n-9223372036854775807\n9223372036854775807\n0\n",
     },
     Case {
         name: "a phaser's first value is too big",

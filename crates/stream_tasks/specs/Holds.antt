@@ -1,5 +1,5 @@
 -- What the calls of a registration do to what it has seen.
-use Rattle.std.specs.Prelude.{◌≡◌, ℕ, ℤ, [], ◌∷◌, ◌++◌, Option, Result, Ok, Err, false}
+use Rattle.std.specs.Prelude.{◌≡◌, ℕ, ℤ, [], ◌∷◌, ◌++◌, Option, Result, Ok, Err, true, false}
 use Rattle.graph_runs.specs.phase_accum.Values.{value_by}
 use Rattle.graph_runs.specs.phase_accum.declared.outcome.Outcome.{Outcome}
 use Rattle.graph_runs.specs.phase_accum.declared.single.Single.{Single}
@@ -68,16 +68,26 @@ pub record HasWaited (x : ℤ) (old new : AnyMember) : Type 0 where
       (member_in old).number
       ≡ received_by (value_by (member_op old)) before (member_in old).number ++ outcome ∷ []
 
+-- it has waited, and was answered an outcome that is out of range
+pub record HasMetTooBig (old new : AnyMember) : Type 0 where
+  pub before : History
+  pub made : HasMade wait_of old new before
+  pub outcome : Outcome
+  pub too_big : is_too_big outcome ≡ true
+  pub answered : received_by (value_by (member_op old)) (Waited (member_in old).number 1 ∷ before)
+      (member_in old).number
+      ≡ received_by (value_by (member_op old)) before (member_in old).number ++ outcome ∷ []
+
 -- it was answered that no more will come
 pub record HasRunOut (old new : AnyMember) : Type 0 where
   pub seen : HasSeenOthers old new
   pub ended : wait_reply (value_by (member_op old)) (limits_on (member_in old).at)
       (member_in new).seen (member_in old).number ≡ Ok got.Ended
 
--- what a wait gave. Of a value that is out of range nothing is kept
+-- what a wait gave
 abbrev pub HasGot : Result Given Held → AnyMember → AnyMember → Type 0
 HasGot (Ok (given.Value x)) old new = HasWaited x old new
-HasGot (Ok given.TooBig) old new = Unit {0}
+HasGot (Ok given.TooBig) old new = HasMetTooBig old new
 HasGot (Ok given.Ended) old new = HasRunOut old new
 HasGot (Err held) old new = HasSeenOthers old new
 

@@ -1,5 +1,5 @@
 -- What the code keeps of a task between threads: its children, its seed, and what it holds.
-use Rattle.std.specs.Prelude.{◌≡◌, ℕ, ◌<◌, ◌≤◌, [], ◌∷◌, length, slice_get, Some, false, ◌++◌, Option, ◌+◌, slice_set, None, ◌≢◌}
+use Rattle.std.specs.Prelude.{◌≡◌, ℕ, ◌<◌, ◌≤◌, [], ◌∷◌, length, slice_get, Some, true, false, ◌++◌, Option, ◌+◌, slice_set, None, ◌≢◌}
 use Rattle.stream_eval.specs.stream_lists.Jobs.{Job}
 use Rattle.graph_runs.specs.Moments.{Moment}
 use Rattle.stream_members.specs.Members.{Spot}
@@ -23,10 +23,10 @@ use Rattle.stream_tasks.specs.Registering.{IsRegistering}
 use Rattle.stream_tasks.specs.Tasks.{IsTaskAt, IsTask}
 use Rattle.stream_tasks.specs.declared.hold.Given.TheVariants as given
 
--- a number that is given for an outcome
+-- what is given for an outcome: its number, or that it is out of range
 abbrev pub IsGivenAs : Outcome → Given → Type 0
 IsGivenAs outcome (given.Value x) = (x ≡ number outcome) × (is_too_big outcome ≡ false)
-IsGivenAs outcome given.TooBig = Unit {0}
+IsGivenAs outcome given.TooBig = is_too_big outcome ≡ true
 IsGivenAs outcome given.Ended = ⊥
 
 -- registration k of task t is on phaser p

@@ -19,6 +19,7 @@
 mod behind;
 mod endings;
 mod finishing;
+pub mod laws;
 mod opening;
 mod slot;
 mod whole;

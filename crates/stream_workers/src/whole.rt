@@ -1,7 +1,9 @@
 //! Whole runs of a graph on worker threads.
 ghost use Rattle.std.specs.Prelude.{◌≡◌, ℕ, Some, Ok, Err, map, IfOk};
+ghost use Rattle.std.specs.List.{All};
 ghost use Rattle.stream_tasks.specs.Openings.{ArePhasers, AreFoundersFrom, spot_at};
 ghost use Rattle.stream_tasks.specs.stream_eval.Results.{sink_values};
+ghost use Rattle.stream_tasks.specs.stream_lists.Lists.{start_in};
 ghost use Rattle.stream_tasks.specs.stream_lists.Ranges.{answer_of, first_too_big};
 ghost use Rattle.stream_tasks.specs.graph_base.declared.place.Place.{Place as PlaceValue};
 
@@ -38,27 +40,34 @@ pub enum RunFault {
     OutOfMemory,
 }
 
-/// Which value of a job is the first that is out of range, where one was met.
-fn too_big(alloc: Global, job: &Job) -> RunFault
-    ensures { (place : PlaceValue) (n : ℕ) → result ≡ RunFault.TooBig place n
+/// What a job's run answers where a worker met a value out of range: the job's own answer. It names
+/// the first such value, or has the lines, where no value that the job takes is out of range.
+fn too_big(alloc: Global, job: &Job) -> Result<Vec<Lines>, RunFault>
+    ensures done { IfOk result (λ lines. answer_of job.now ≡ Ok (map sink_values lines.items)) }
+    ensures starts { IfOk result (λ lines.
+        All (λ line. line.start ≡ start_in job.now line.task) lines.items) }
+    ensures too_big { (place : PlaceValue) (n : ℕ) → result ≡ Err (RunFault.TooBig place n)
         → first_too_big job.now ≡ Some (place, n) }
 {
     match eval(alloc, job) {
-        Err(EvalFault::TooBig { place, phase }) => RunFault::TooBig { place, phase },
-        Err(EvalFault::OutOfMemory) => RunFault::OutOfMemory,
-        Ok(_) => RunFault::Stalled,
+        Ok(lines) => Ok(lines),
+        Err(EvalFault::TooBig { place, phase }) => Err(RunFault::TooBig { place, phase }),
+        Err(EvalFault::OutOfMemory) => Err(RunFault::OutOfMemory),
     }
 }
 
-/// Why a run ended before all its tasks were done.
-fn fault_of(alloc: Global, job: &Job, fault: Fault) -> RunFault
-    ensures { (place : PlaceValue) (n : ℕ) → result ≡ RunFault.TooBig place n
+/// What a run answers that ended before all its tasks were done.
+fn after_fault(alloc: Global, job: &Job, fault: Fault) -> Result<Vec<Lines>, RunFault>
+    ensures done { IfOk result (λ lines. answer_of job.now ≡ Ok (map sink_values lines.items)) }
+    ensures starts { IfOk result (λ lines.
+        All (λ line. line.start ≡ start_in job.now line.task) lines.items) }
+    ensures too_big { (place : PlaceValue) (n : ℕ) → result ≡ Err (RunFault.TooBig place n)
         → first_too_big job.now ≡ Some (place, n) }
 {
     match fault {
         Fault::TooBig => too_big(alloc, job),
-        Fault::Stalled => RunFault::Stalled,
-        Fault::OutOfMemory => RunFault::OutOfMemory,
+        Fault::Stalled => Err(RunFault::Stalled),
+        Fault::OutOfMemory => Err(RunFault::OutOfMemory),
     }
 }
 
@@ -77,12 +86,14 @@ fn run_named<'a, J: Run + Send + Sync, G: Gate + Sync, R: Threads + Wait + Sync>
     requires phasers { ArePhasers J.job phasers.now }
     requires founders { AreFoundersFrom 0 phasers.now regs.items }
     ensures done { IfOk result (λ lines. answer_of job.now ≡ Ok (map sink_values lines.items)) }
+    ensures starts { IfOk result (λ lines.
+        All (λ line. line.start ≡ start_in job.now line.task) lines.items) }
     ensures too_big { (place : PlaceValue) (n : ℕ) → result ≡ Err (RunFault.TooBig place n)
         → first_too_big job.now ≡ Some (place, n) }
 {
     let behind = match run_on::<J, G, R>(rt, alloc, job, phasers, regs, workers, gate) {
         Ok(behind) => behind,
-        Err(fault) => return Err(fault_of(alloc, job, fault)),
+        Err(fault) => return after_fault(alloc, job, fault),
     };
     let Behind { founders, tasks } = behind;
     match finish_run::<J>(alloc, job, founders, tasks) {
@@ -93,7 +104,8 @@ fn run_named<'a, J: Run + Send + Sync, G: Gate + Sync, R: Threads + Wait + Sync>
 }
 
 /// Runs a job by so many worker threads, of which the caller's is one, and gives the values of each
-/// sink in the order of the lines. The gate is called once a step, as a worker enters it.
+/// sink in the order of the lines. A sink that joins now begins at the least phase that it may. The
+/// gate is called once a step, as a worker enters it.
 ///
 /// It takes memory for the phasers, the tasks, their registrations and the sinks' values, and waits.
 /// `Stalled` is said where every task that is left waits for another; nothing is promised of it. It
@@ -106,6 +118,8 @@ pub fn run<R: Threads + Wait + Sync, G: Gate + Sync>(
     gate: &G,
 ) -> Result<Vec<Lines>, RunFault>
     ensures done { IfOk result (λ lines. answer_of job.now ≡ Ok (map sink_values lines.items)) }
+    ensures starts { IfOk result (λ lines.
+        All (λ line. line.start ≡ start_in job.now line.task) lines.items) }
     ensures too_big { (place : PlaceValue) (n : ℕ) → result ≡ Err (RunFault.TooBig place n)
         → first_too_big job.now ≡ Some (place, n) }
 {

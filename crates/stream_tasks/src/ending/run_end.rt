@@ -1,7 +1,9 @@
 //! The end of a run between threads.
 ghost use Rattle.std.specs.Prelude.{◌≡◌, ◌<◌, [], ℕ, Ok, length, map, get_or, IfOk, IfSome};
+ghost use Rattle.std.specs.List.{All};
 ghost use Rattle.stream_members.specs.Members.{Spot};
 ghost use Rattle.stream_eval.specs.Results.{sink_values};
+ghost use Rattle.stream_eval.specs.stream_lists.Lists.{start_in};
 ghost use Rattle.stream_eval.specs.stream_lists.Ranges.{answer_of};
 ghost use Rattle.stream_tasks.specs.declared.ending.task_left.TaskLeft.{TaskLeft as TaskLeftValue};
 ghost use Rattle.stream_tasks.specs.Joinings.{IsAt};
@@ -37,8 +39,10 @@ pub fn finish<'a>(
         × AreFounders job.now spots founders.items (λ p. get_or (map (λ g. g.items) gave.now) p [])
         × ((t : ℕ) (left : TaskLeftValue) → IsAt tasks.items t left
         → IsTaskLeft job.now spots left) }
-    ensures { IfOk result (λ found. IfSome found (λ lines.
+    ensures done { IfOk result (λ found. IfSome found (λ lines.
         answer_of job.now ≡ Ok (map sink_values lines.items))) }
+    ensures starts { IfOk result (λ found. IfSome found (λ lines.
+        All (λ line. line.start ≡ start_in job.now line.task) lines.items)) }
 {
     runs_end();
     let mut joined = founders;

@@ -1,6 +1,10 @@
-use Rattle.std.proofs.Common.{rules}
+use Rattle.std.proofs.Common.{◌≡◌, map, rules}
+use Rattle.std.specs.List.{All}
 use Rattle.stream_workers.proofs.graph_commands_lemmas.Ends.{eval-no_memory, eval-too_big, eval-written}
 use Rattle.stream_workers.proofs.graph_commands_lemmas.Places.{place-first_too_big}
+use Rattle.stream_workers.proofs.stream_eval_lemmas.SinkStarts.{outputs-are}
+use Rattle.stream_workers.specs.graph_commands.stream_lists.Lists.{lines_of, start_in}
+use Rattle.stream_workers.specs.stream_eval.Results.{sink_values}
 use Rattle.phase_run.proofs.Answered.{answer-fits, answer-lines, ends-as, ends-stalled}
 use Rattle.phase_run.proofs.graph_run.run_job.Goals as goal
 
@@ -45,10 +49,17 @@ returns-in-Err-OutOfMemory-clause-ends g c known name asked of asks =
 -- the lists were written, or a prefix of them
 pub returns-in-Ok-clause-ends : goal.returns-in-Ok-clause-ends
 returns-in-Ok-clause-ends g c known name asked of asks =
+    let job = c.args.job.now in
+    let lines = c.deref.result.now in
+    let values : map sink_values lines ≡ lines_of job =
+    rw c.deref.ensures.value (answer-lines job _ c.in-Ok.ensures.done) in
+    let starts : All (λ line. line.start ≡ start_in job line.task) lines =
+    rw c.deref.ensures.value c.in-Ok.ensures.starts in
+    let outputs = outputs-are job lines values starts in
     ends-as known name asked c.report_written.result g.W.Write.contents c.args.output.now
     c.write_sinks.new.writer _ _
     (eval-written _ g.W.Write.contents known name asked c.args.sink c.args.job.now
     c.write_sinks.result c.report_written.result c.args.output.now c.write_sinks.new.writer _ _ of
-    asks (answer-fits c.args.job.now _ c.in-Ok.ensures.done) c.write_sinks.ensures.ok
-    c.write_sinks.ensures.err c.write_sinks.ensures.failed c.report_written.ensures.done
-    c.report_written.ensures.stops)
+    asks (answer-fits c.args.job.now _ c.in-Ok.ensures.done)
+    (rw outputs at c.write_sinks.ensures.ok) (rw outputs at c.write_sinks.ensures.err)
+    c.write_sinks.ensures.failed c.report_written.ensures.done c.report_written.ensures.stops)

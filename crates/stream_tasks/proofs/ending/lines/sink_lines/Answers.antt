@@ -2,9 +2,10 @@
 use Rattle.std.proofs.Common.{rules, ◌≡◌, ℕ, ℤ, ◌<◌, List, [], ◌∷◌, ◌++◌, None, map, length, sym, ap, ◌∙◌, arith}
 use Rattle.std.specs.List.{range_with_len, filter}
 use Rattle.std.proofs.lemmas.List.{map_push}
+use Rattle.std.proofs.lemmas.List.Elements.{All-push}
 use Rattle.graph_runs.specs.graph_base.Graphs.{Graph}
 use Rattle.stream_eval.specs.Results.{sink_values}
-use Rattle.stream_eval.specs.stream_lists.Lists.{is_sink_at}
+use Rattle.stream_eval.specs.stream_lists.Lists.{is_sink_at, start_in}
 use Rattle.stream_eval.proofs.stream_lists_lemmas.Firsts.{filter-skip, filter-take}
 use Rattle.stream_tasks.specs.TaskLefts.{part_lines, lines_at}
 use Rattle.stream_tasks.proofs.Added.{behind_set, same_place}
@@ -39,6 +40,8 @@ loop-t-preserved c =
                 (sym (filter-take is_sink t (sym c.is_sink.ensures ∙ w.if-is_sink.true)))))),
             behind_set c.loop-t.parts.items c.args.parts.items t w.take.new.self i.1,
             search rules,
+            All-push (λ line. line.start ≡ start_in c.args.job.now line.task) c.loop-t.lines.items _
+                i.3 w.start-start.ensures,
           ))
       | else-is_sink w ↦
           rw (w.lines-is, w.parts-is) (
@@ -46,5 +49,6 @@ loop-t-preserved c =
                 (sym (filter-skip is_sink t (sym c.is_sink.ensures ∙ w.if-is_sink.false))),
             λ u le. i.1 u (omega arith),
             i.2,
+            i.3,
           )
     ]

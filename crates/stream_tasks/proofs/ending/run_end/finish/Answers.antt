@@ -18,8 +18,8 @@ gather-requires-clause-left c = (
   c.requires.left.2,
 )
 
-pub returns : goal.returns
-returns c =
+pub returns-clause-done : goal.returns-clause-done
+returns-clause-done c =
     let job = c.args.job.now in
     let parts = c.in-Some.parts.items in
     let joined = c.gather.new.joined.items in
@@ -43,4 +43,8 @@ returns c =
     ∙ ap (λ lines. Ok lines)
     (sinks_are job c.requires.left.0 c.args.founders.items joined parts all.0 given all.1 all.2
     agree c.requires.left.1 known
-    ∙ sym c.in_ok-sink_lines.ensures)
+    ∙ sym c.in_ok-sink_lines.ensures.values)
+
+-- each line has its start
+pub returns-clause-starts : goal.returns-clause-starts
+returns-clause-starts c = c.in_ok-sink_lines.ensures.starts
