@@ -1,8 +1,8 @@
 -- The steps of a block, by the children that come later.
-use Rattle.std.proofs.Common.{◌≡◌, ℕ, zero, suc, ◌+◌, ◌-◌, ◌<◌, ◌≤◌, List, [], ◌∷◌, Bool, true, false, ◌&&◌, eqb, cond, nat_lt, min, Option, Some, None, length, refl, sym, ap, ◌∙◌, arith, cc}
+use Rattle.std.proofs.Common.{◌≡◌, ℕ, zero, suc, ◌+◌, ◌-◌, ◌<◌, ◌≤◌, List, [], ◌∷◌, Bool, true, false, ◌&&◌, eqb, cond, nat_lt, min, Option, Some, None, length, refl, sym, ap, ◌∙◌, arith}
 use Rattle.std.specs.List.{filter, fold, range_with_len}
 use Rattle.std.proofs.lemmas.Bool.{eqb-true}
-use Rattle.std.proofs.lemmas.Grind.{nat_tests}
+use Rattle.std.proofs.lemmas.Bool.Decides.{nat_tests}
 use Rattle.graph_lang.specs.graph_base.declared.line.Parent.{Parent}
 use Rattle.graph_lang.specs.graph_base.Graphs.{task_at}
 use Rattle.stream_eval.specs.stream_lists.Jobs.{Job}

@@ -34,9 +34,9 @@ mod world;
 pub use any_core::AnyCore;
 pub use graph_lang::{graph_base, stream_filters};
 pub use graph_runs;
+pub use parcels::Parcels;
 pub use phase_core;
 pub use phase_core::{phase_accum, phase_base, phase_history};
-pub use parcels::Parcels;
 pub use runs::{RunTurnsFault, run_turns};
 pub use step::Step;
 pub use stream_eval::stream_lists::{

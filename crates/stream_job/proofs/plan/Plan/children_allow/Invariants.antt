@@ -4,7 +4,7 @@ use Rattle.std.specs.List.{fold}
 use Rattle.graph_lang.specs.graph_base.Graphs.{task_at}
 use Rattle.graph_runs.specs.NextBlocks.{child_allows}
 use Rattle.stream_job.specs.Plans.{children_of}
-use Rattle.stream_job.proofs.plan_blocks.Plan.children_allow.Given as goal
+use Rattle.stream_job.proofs.plan.Plan.children_allow.Given as goal
 
 abbrev pub invariant-loop-c : goal.invariant-loop-c
 invariant-loop-c l =
