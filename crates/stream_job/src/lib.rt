@@ -8,6 +8,7 @@
 
 mod any_core;
 mod block_send;
+mod buffers;
 mod calls;
 mod machine;
 mod made;
