@@ -92,17 +92,23 @@ call_leave m t (Some r) =
     accepted_answer (leave t r.phaser (number_on m t r.phaser))
     (drop_refusal (m.history r.phaser) (number_on m t r.phaser))
 
--- task t registers its child c, as the number above all that were used on the phaser
-abbrev pub call_register : Job → Moment → ℕ → ℕ → Option Registration → Answer
-call_register job m t c None = is_refused
-call_register job m t c (Some r) =
+-- task t registers its child c, as the number above all that were used on the phaser, as a sink that
+-- joins now or in the mode of its line
+abbrev pub register_answer : Moment → ℕ → ℕ → Registration → Bool → Answer
+register_answer m t c r true =
     let n = number_on m t r.phaser in
     let a = greatest_used (m.history r.phaser) + 1 in
-    if (task_at job.graph c).joins_now
-    then accepted_answer (child_now t r.phaser n c a)
-    (register_now_refusal (m.history r.phaser) n a)
-    else accepted_answer (child t r.phaser n c a r.mode)
+    accepted_answer (child_now t r.phaser n c a) (register_now_refusal (m.history r.phaser) n a)
+register_answer m t c r false =
+    let n = number_on m t r.phaser in
+    let a = greatest_used (m.history r.phaser) + 1 in
+    accepted_answer (child t r.phaser n c a r.mode)
     (register_refusal (m.history r.phaser) n a r.mode)
+
+-- the first registration that the child misses
+abbrev pub call_register : Job → Moment → ℕ → ℕ → Option Registration → Answer
+call_register job m t c None = is_refused
+call_register job m t c (Some r) = register_answer m t c r (task_at job.graph c).joins_now
 
 -- ---- the table
 

@@ -38,6 +38,7 @@ pub fn turns_make_next_events()
         → IsNext job m event × HasRun job (after_turn job event m) }
 {
     moves::turns_keep();
+    moves::blocks_keep();
 }
 
 /// The opening is reached, and turns lead from a reached moment to reached ones, whichever tasks
