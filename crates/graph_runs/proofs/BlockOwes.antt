@@ -1,8 +1,7 @@
--- What a block of waits leaves a filter to put: an output for each value that it got, in order. And
--- all that an output lacks may be put at once.
+-- What a block of waits leaves a filter to put: an output for each value that it got, in order.
 use Rattle.std.proofs.Common.{◌≡◌, ◌≢◌, ℕ, ◌+◌, ◌<◌, ◌≤◌, List, [], ◌∷◌, ◌++◌, length, get_or, ℤ, refl, sym, ap, subst, ◌∙◌, arith}
 use Rattle.std.specs.Prelude.{drop}
-use mathlib.Core.List.{IsPrefix}
+use Rattle.std.proofs.Math.Seq.{drop-append_seam}
 use Rattle.std.proofs.lemmas.List.{append-nil, append_assoc, length-append, length-map}
 use Rattle.stream_lists.specs.stream_filters.Filter.{outputs, output_after}
 use Rattle.stream_lists.proofs.stream_filters_lemmas.Outputs.{outputs-push}
@@ -18,22 +17,7 @@ use Rattle.graph_runs.specs.TaskPlaces.{outputs_of_block}
 use Rattle.graph_runs.proofs.Following.{GetsAll}
 use Rattle.graph_runs.proofs.Boundaries.{made_many}
 
--- ---- lists
-
--- what follows a list
-pub drop-front : (xs ys : List ℤ) → drop (length xs) (xs ++ ys) ≡ ys
-drop-front [] ys = refl
-drop-front (x ∷ xs) ys = drop-front xs ys
-
--- a beginning, with all that follows
-pub begins_whole : (xs ys : List ℤ) → IsPrefix xs ys → IsPrefix (xs ++ drop (length xs) ys) ys
-begins_whole xs ys a =
-    let rest : drop (length xs) ys ≡ a.0 =
-    ap (λ l. drop (length xs) l) (sym a.1) ∙ drop-front xs a.0 in
-    ([], append-nil (xs ++ drop (length xs) ys) ∙ ap (λ l. xs ++ l) rest ∙ a.1)
-
--- ---- a filter
-
+-- as it makes them of them all
 pub outputs-block : (taps : List ℤ) (shift : ℕ) (taken xs : List ℤ)
     → outputs taps shift (taken ++ xs)
     ≡ outputs taps shift taken ++ outputs_of_block taps shift taken xs
@@ -92,6 +76,6 @@ fir_owes_block job m after t xs is there e ran now w steps whole =
     let same : length (after.put t 0) ≡ length (made_now job m t 0) =
     ap length (w.put 0 ∙ whole) in
     record {
-      values = ap (λ l. drop (length (after.put t 0)) l) both ∙ drop-front (after.put t 0) block;
+      values = ap (λ l. drop (length (after.put t 0)) l) both ∙ drop-append_seam (after.put t 0) block;
       many = omega arith;
     }

@@ -108,31 +108,32 @@ next_all job m t j le =
     take_all (task_at job.graph t).block (drop (length (m.put t j)) (made_now job m t j))
     (omega arith)
 
--- the one that it lacks
+-- the first of them stands behind what was put
+pub next_begins : (job : Job) (m : Moment) (t j : ℕ) → 1 ≤ (task_at job.graph t).block
+    → length (m.put t j) < length (made_now job m t j)
+    → next_values job m t j
+    ≡ get_or (made_now job m t j) (length (m.put t j)) (pos 0)
+    ∷ take ((task_at job.graph t).block - 1) (drop (suc (length (m.put t j))) (made_now job m t j))
+next_begins job m t j some more =
+    let made = made_now job m t j in
+    let put = length (m.put t j) in
+    let block = (task_at job.graph t).block in
+    let cut : block ≡ suc (block - 1) = omega arith in
+    ap (λ l. take block l) (drop-cons made put (pos 0) more)
+    ∙ ap (λ n. take n (get_or made put (pos 0) ∷ drop (suc put) made)) cut
+
+-- where it lacks one, that is all
 pub next_one : (job : Job) (m : Moment) (t j : ℕ) → 1 ≤ (task_at job.graph t).block
     → length (made_now job m t j) ≡ length (m.put t j) + 1
     → next_values job m t j ≡ get_or (made_now job m t j) (length (m.put t j)) (pos 0) ∷ []
 next_one job m t j some one =
     let made = made_now job m t j in
     let put = length (m.put t j) in
+    let n = (task_at job.graph t).block - 1 in
     let none : drop (suc put) made ≡ [] = drop_of_length-le made {i = suc put} (omega arith) in
-    next_all job m t j (omega arith) ∙ drop-cons made put (pos 0) (omega arith)
-    ∙ ap (λ l. get_or made put (pos 0) ∷ l) none
-
--- what is next begins behind what was put
-pub next_first : (job : Job) (m : Moment) (t j : ℕ) (v : ℤ) → 1 ≤ (task_at job.graph t).block
-    → length (m.put t j) < length (made_now job m t j) → next_values job m t j ≡ v ∷ []
-    → get_or (made_now job m t j) (length (m.put t j)) (pos 0) ≡ v
-next_first job m t j v some more is =
-    let made = made_now job m t j in
-    let put = length (m.put t j) in
-    let b = (task_at job.graph t).block in
-    let rest = drop (suc put) made in
-    let cut : b ≡ suc (b - 1) = omega arith in
-    let first : next_values job m t j ≡ get_or made put (pos 0) ∷ take (b - 1) rest =
-    ap (λ l. take b l) (drop-cons made put (pos 0) more)
-    ∙ ap (λ n. take n (get_or made put (pos 0) ∷ rest)) cut in
-    cc
+    next_begins job m t j some (omega arith)
+    ∙ ap (λ l. get_or made put (pos 0) ∷ take n l) none
+    ∙ ap (λ l. get_or made put (pos 0) ∷ l) (take-nil n)
 
 -- ---- what lacks at the start
 

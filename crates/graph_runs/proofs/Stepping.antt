@@ -1,7 +1,6 @@
 -- The place of a task after its own sample, signal or wait.
-use Rattle.std.proofs.Common.{◌≡◌, ◌≢◌, ℕ, zero, suc, ◌+◌, ◌<◌, ◌≤◌, Bool, true, false, cond, eqb, List, [], ◌∷◌, Some, None, is_some, length, map, get_or, ℤ, pos, refl, sym, ap, subst, ◌∙◌, arith, inl}
+use Rattle.std.proofs.Common.{◌≡◌, ◌≢◌, ℕ, zero, suc, ◌+◌, ◌-◌, ◌<◌, ◌≤◌, Bool, true, false, cond, eqb, List, [], ◌∷◌, Some, None, is_some, length, map, get_or, ℤ, pos, refl, sym, ap, subst, ◌∙◌, arith, inl}
 use Rattle.std.specs.Prelude.{Result, take, drop}
-use Rattle.std.proofs.Math.Seq.{drop-cons}
 use Rattle.std.proofs.lemmas.Bool.{le-leb, ne_eqb, eq-eqb, eqb-true}
 use Rattle.std.proofs.lemmas.Option.{same_Some}
 use Rattle.std.proofs.lemmas.List.{length-append, length-map}
@@ -45,7 +44,7 @@ use Rattle.graph_runs.proofs.Boundaries.{made_many, peer_ends}
 use Rattle.graph_runs.proofs.Calling.{source_ends}
 use Rattle.graph_runs.proofs.Following.{Lacks, PutsAll, puts_all, KeepsPlaces, stays_at, keeps_moved}
 use Rattle.graph_runs.proofs.InOrder.{OwesFor}
-use Rattle.graph_runs.proofs.Lacking.{first_none, first_is, lacks_here}
+use Rattle.graph_runs.proofs.Lacking.{first_none, first_is, lacks_here, next_begins}
 
 -- ---- what the place owes
 
@@ -296,11 +295,12 @@ peer_next : (job : Job) (m : Moment) (t j : ℕ) → IsGraph job.graph → t < l
     → (task_at job.graph t).kind ≡ Peer → length (m.put t j) < length (made_now job m t j)
     → next_values job m t j ≡ get_or (made_now job m t j) (length (m.put t j)) (pos 0) ∷ []
 peer_next job m t j is there e more =
-    let one : (task_at job.graph t).block ≡ 1 =
-    (is.tasks t there).block.kind (ap has_blocks e) in
+    let block = (is.tasks t there).block in
     let made = made_now job m t j in
     let put = length (m.put t j) in
-    ap (λ b. take b (drop put made)) one ∙ ap (λ l. take 1 l) (drop-cons made put (pos 0) more)
+    next_begins job m t j block.some more
+    ∙ ap (λ b. get_or made put (pos 0) ∷ take (b - 1) (drop (suc put) made))
+    (block.kind (ap has_blocks e))
 
 -- the place after the values that are next were put on output j, where a peer has taken no more
 -- from E than it has put
