@@ -21,7 +21,6 @@ use Rattle.graph_runs.proofs.Tasks.{now_at}
 use Rattle.graph_runs.proofs.Turned.{exchange_wait_is}
 use Rattle.graph_runs.specs.TaskEvents.{IsNext, exchange_wait, after_turn}
 use Rattle.graph_runs.specs.Nexts.{first_owed, waits_first, signals, exchanges}
-use Rattle.graph_runs.specs.Answers.{next_values}
 use Rattle.graph_runs.specs.TaskPlaces.{Owed, nothing, values, exchange, Owes, TaskPlace, StandsAt, lacking, owed_after_exchange}
 use Rattle.graph_runs.proofs.Signalling.{owed}
 use Rattle.graph_runs.proofs.Boundaries.{made_many, peer_ends}

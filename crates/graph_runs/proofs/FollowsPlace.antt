@@ -1,5 +1,5 @@
 -- The place of a task after each of its calls, by what the call leaves of its part.
-use Rattle.std.proofs.Common.{◌≡◌, ℕ, suc, ◌<◌, ◌≤◌, true, eqb, [], ◌∷◌, ◌+◌, Option, Some, None, length, map, ℤ, refl, sym, ap, subst, ◌∙◌, arith, inl, inr}
+use Rattle.std.proofs.Common.{◌≡◌, ℕ, suc, ◌<◌, ◌≤◌, true, eqb, [], ◌∷◌, Option, Some, None, length, map, ℤ, refl, sym, ap, subst, ◌∙◌, arith, inl, inr}
 use Rattle.std.specs.Prelude.{Ok, ◌*ℤ◌, ◌-ℤ◌}
 use Rattle.std.proofs.lemmas.Bool.{eq-eqb}
 use Rattle.stream_lists.specs.stream_filters.Range.{ranged}
