@@ -176,13 +176,18 @@ pub data Told : Type 0 where
   Gone : Told
   TooBig : Where → Told
 
--- of a wait on phaser p by number n: the first of its outcomes that is too big, where one is
-abbrev pub told_wait : Moment → ℕ → ℕ → List Outcome → Told
-told_wait m p n outcomes = of (position_from is_too_big (wait_phase (m.history p) n) outcomes)
+-- of a wait on phaser p that got these outcomes, the first of this phase: the first of them that is
+-- too big, where one is
+abbrev pub told_got : ℕ → ℕ → List Outcome → Told
+told_got p phase outcomes = of (position_from is_too_big phase outcomes)
   where
     of : Option ℕ → Told
     of None = Moved
-    of (Some phase) = TooBig (place.Phaser p, phase)
+    of (Some first) = TooBig (place.Phaser p, first)
+
+-- of a wait on phaser p by number n
+abbrev pub told_wait : Moment → ℕ → ℕ → List Outcome → Told
+told_wait m p n outcomes = told_got p (wait_phase (m.history p) n) outcomes
 
 -- of an event
 abbrev pub told_event : Job → Moment → TaskEvent → Told
