@@ -422,6 +422,7 @@ sink_owes job m after t k xs w none =
 
 -- ---- the place
 
+-- the number of a list of one
 single_is : (xs : List ℤ) → length xs ≡ 1 → (x : ℤ) × (xs ≡ x ∷ [])
 single_is [] one = absurd (omega arith)
 single_is (x ∷ []) one = (x, refl)

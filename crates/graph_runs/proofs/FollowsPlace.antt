@@ -125,6 +125,7 @@ sampled_follows job m after t p v at now is there part stands none owed_is sourc
 
 -- ---- waits
 
+-- a step is a block of any kind
 one_step : (kind : Kind) → IsBlock kind 1
 one_step Source = tt
 one_step Fir = tt

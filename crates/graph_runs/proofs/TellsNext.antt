@@ -94,6 +94,7 @@ ranged_value x v e = by (nat_le (unsigned_abs x) 9223372036854775807) e
     by true e = cc
     by false e = absurd (cc)
 
+-- and of a list of one
 pub ranged_values : (xs : List ℤ) (v : ℤ) → map ranged xs ≡ Ok v ∷ [] → xs ≡ v ∷ []
 ranged_values [] v e = absurd (cc)
 ranged_values (x ∷ []) v e =
