@@ -15,7 +15,8 @@ use Rattle.graph_runs.specs.TaskEvents.{TaskEvent, sample, signal, first_wait, e
 use Rattle.graph_runs.specs.Answers.{makes, answer_of_turn, after_answer}
 use Rattle.graph_runs.specs.Reached.{IsReachable}
 use Rattle.graph_runs.specs.TaskPlaces.{child_of}
-use Rattle.graph_runs.proofs.Whose.{task_of, made_by}
+use Rattle.graph_runs.proofs.Whose.{task_of}
+use Rattle.stream_job.proofs.Makes.{makes_event}
 use Rattle.graph_runs.proofs.PlacesFollow.{others_follow}
 use Rattle.graph_runs.specs.Steps.{HasFilter}
 use Rattle.stream_job.specs.SinkLines.{kept_by, begins_at}
@@ -55,12 +56,13 @@ pub keeps_other : (job : Job) (m : Moment) (t u : ℕ) (event : TaskEvent) (stat
     → u < length job.graph.tasks → u ≢ t → child_of event ≢ Some u → IsTaskAt job m u state
     → IsTaskAt job (after_turn job event m) u state
 keeps_other job m t u event state is reached answer there apart another at =
-    let own : task_of event ≡ t = (made_by job m t event answer).1.own in
+    let made = makes_event job m t event is reached answer in
+    let own : task_of event ≡ t = made.own in
     let taken : (after_turn job event m).taken u 0 ≡ m.taken u 0 =
     taken_other job m event u 0 (λ same. apart (same ∙ own)) in
     record {
-      stands = others_follow job m t u event (place_of state) is reached answer there apart another
-          at.stands;
+      stands = others_follow job m u event (place_of state) is reached.ran made.next there
+          (λ same. apart (same ∙ own)) another at.stands;
       room = at.room;
       filter = subst (HasFilter (task_at job.graph u) state.filter) (sym taken) at.filter;
       made_room = at.made_room;

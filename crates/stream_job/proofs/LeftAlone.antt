@@ -26,6 +26,7 @@ use Rattle.stream_job.specs.Machines.{IsMachineAt}
 use Rattle.stream_job.specs.Places.{place_of}
 use Rattle.stream_job.specs.Turning.{phaser_of}
 use Rattle.stream_job.specs.declared.machine.Machine.{Machine}
+use Rattle.stream_job.proofs.Makes.{makes_event}
 use Rattle.stream_job.proofs.Reading.{live_by, complete}
 
 -- task u is as it was, and has the children to register that it had; no phaser but p had an event
@@ -183,8 +184,9 @@ lives_on job m machine t u event at answer apart other live =
     let many = at.tasks_many in
     let found = some_at machine.tasks.items u (omega arith) in
     let stands = (at.tasks u found.0 found.1).stands in
-    let after = others_follow job m t u event (place_of found.0) at.graph at.reached answer there
-    apart other stands in
+    let made = makes_event job m t event at.graph at.reached answer in
+    let after = others_follow job m u event (place_of found.0) at.graph at.reached.ran made.next
+    there (λ same. apart (same ∙ made.own)) other stands in
     let all = complete job m u (place_of found.0) stands (ap is_some living.all) in
     live_by job (after_turn job event m) u (place_of found.0) after there all
     ∙ sym (live_by job m u (place_of found.0) stands there all) ∙ live
