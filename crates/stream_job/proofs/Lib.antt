@@ -5,6 +5,7 @@ pub mod Lively
 pub mod Makes
 pub mod OpeningPhasers
 pub mod OpeningTasks
+pub mod Begins
 pub mod Begun
 pub mod ChildLists
 pub mod Children

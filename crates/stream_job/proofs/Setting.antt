@@ -1,6 +1,6 @@
 -- One element of a list is set: the others stay.
 use Rattle.std.proofs.Common.{◌≡◌, ◌≢◌, ℕ, zero, suc, ◌<◌, ◌≤◌, [], ◌∷◌, Bool, true, false, cond, eqb, eq-eqb, List, Some, length, get_or, slice_get, set, refl, sym, ap, subst, ◌∙◌, arith}
-use Rattle.std.specs.Prelude.{Result, Ok, Err, OnOk, OnErr, IfErr}
+use Rattle.std.specs.Prelude.{Result, Ok, Err, OnOk, OnErr, IfOk, IfErr}
 use Rattle.std.specs.Vec.{with_item}
 use Rattle.std.specs.declared.vec.Vec.{Vec}
 use Rattle.std.proofs.Props.{props}
@@ -110,6 +110,11 @@ lent_core job history cores p core has there lent =
     has.each p core (slice_get_read cores (length cores) p core refl (omega arith) lent)
 
 -- what holds where a call was refused may be weakened there
+pub if_ok : {A B : Type 0} {P Q : A → Type 0} (r : Result A B) → ((x : A) → P x → Q x)
+    → IfOk r P → IfOk r Q
+if_ok (Ok x) then p = then x p
+if_ok (Err e) then p = tt
+
 pub if_err : {A R : Type 0} {P Q : R → Type 0} (r : Result A R) → ((e : R) → P e → Q e)
     → IfErr r P → IfErr r Q
 if_err (Ok a) f p = p

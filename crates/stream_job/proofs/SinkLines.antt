@@ -51,7 +51,7 @@ lower : (low from : ℕ) (xs : List ℕ) → low ≤ from → Ascends from xs �
 lower low from [] le up = tt
 lower low from (x ∷ xs) le up = (let first = up.0 in omega arith, up.1)
 
-filter_ascends : (test : ℕ → Bool) (from n : ℕ) → Ascends from (filter test (range_with_len from n))
+pub filter_ascends : (test : ℕ → Bool) (from n : ℕ) → Ascends from (filter test (range_with_len from n))
 filter_ascends test from zero = tt
 filter_ascends test from (suc n) =
     let one : from + 1 ≡ suc from = omega arith in
@@ -84,7 +84,7 @@ others_same f g t from (x ∷ xs) lt up same =
     ap (λ y. y ∷ map f xs) (same x (λ e. omega arith))
     ∙ ap (λ ys. g x ∷ ys) (others_same f g t (suc x) xs (omega arith) up.1 same)
 
-one_set : {Y : Type 0} (f g : ℕ → Y) (t from i : ℕ) (xs : List ℕ) → Ascends from xs
+pub one_set : {Y : Type 0} (f g : ℕ → Y) (t from i : ℕ) (xs : List ℕ) → Ascends from xs
     → slice_get xs i ≡ Some t → ((u : ℕ) → u ≢ t → f u ≡ g u)
     → set (map f xs) i (g t) ≡ map g xs
 one_set f g t from i [] up found same = absurd (cc)

@@ -64,6 +64,7 @@ impl TaskState {
         requires begun { self.old.begun + length outcomes.now ≤ 18446744073709551615 }
         requires filter { (taken : List ℤ)
             × HasFilter (task_at job.now.graph t) self.old.filter taken }
+        requires some { 1 ≤ length outcomes.now }
         requires block { IsBlock (task_at job.now.graph t).kind (length outcomes.now) }
         requires nothing { (self.old.owed ≡ Nothing) × (self.old.made.items ≡ []) }
         requires room { (task_at job.now.graph t).kind ≡ filters

@@ -44,8 +44,8 @@ core-requires-clause-phaser c =
     (child_at job c.args.self.now c.requires.some.0 c.args.t c.args.c c.index.result.now c.requires
     c.requires.some.1 found).phaser
 
-pub register_on-requires-clause-phaser : goal.register_on-requires-clause-phaser
-register_on-requires-clause-phaser c =
+pub add_on-requires-clause-phaser : goal.add_on-requires-clause-phaser
+add_on-requires-clause-phaser c =
     let job = c.args.job.now in
     let lt = child_below job c.args.self.now c.args.t c.args.c c.requires in
     let found = slice_get_read c.args.self.now.tasks.items (length c.args.self.now.tasks.items)
@@ -68,7 +68,7 @@ push_reserved-requires c =
     let it = read_same c.args.self.now.tasks.items c.args.c c.index.result.now
     c.index_mut.result.now lt c.index.ensures
     (c.index_mut.ensures.value ∙ ap (λ xs. get_or xs c.args.c c.index_mut.result.now)
-    (ap (λ v. v.items) c.register_on.ensures.tasks)) in
+    (ap (λ v. v.items) c.add_on.ensures.tasks)) in
     let count : c.registrations-all.result ≡ length (registrations_at job c.args.c) =
     c.registrations-all.ensures.count
     ∙ ap (λ g. length (registrations_of g (task_at g c.args.c))) c.graph.ensures.graph in
@@ -136,7 +136,7 @@ returns-in-Ok-clause-made c =
     c.registration-registration.ensures
     ∙ ap (λ g. get_or (registrations_of g (task_at g c.args.c)) c.len-made.result no_registration)
     c.graph-2.ensures.graph ∙ ap (registration_at job c.args.c) c.len-made.ensures.value in
-    let tasks = ap (λ v. v.items) c.register_on.ensures.tasks in
+    let tasks = ap (λ v. v.items) c.add_on.ensures.tasks in
     let it = read_same c.args.self.now.tasks.items c.args.c c.index_mut.result.now
     c.index.result.now lt
     (c.index_mut.ensures.value ∙ ap (λ xs. get_or xs c.args.c c.index_mut.result.now) tasks)
@@ -157,6 +157,6 @@ returns-in-Ok-clause-made c =
     ∙ ap (λ (s : TaskState). s.numbers.items ++ c.in-Some.number ∷ []) it)
     (c.push_reserved.ensures.capacity ∙ ap (λ (s : TaskState). s.numbers.capacity) it)
     (set_read (λ s. with_numbers s c.push_reserved.new.self) c.args.self.now.tasks.items
-    c.register_on.new.self.tasks.items c.args.c c.index.result.now c.index_mut.result.now tasks lt
+    c.add_on.new.self.tasks.items c.args.c c.index.result.now c.index_mut.result.now tasks lt
     c.index.ensures c.index_mut.ensures.value)
-    c.register_on.ensures.lines
+    c.in-Ok.ensures.lines

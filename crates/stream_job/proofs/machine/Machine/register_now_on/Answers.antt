@@ -1,0 +1,46 @@
+-- The core of the phaser is set, and the others stay.
+use Rattle.std.proofs.Common.{◌∷◌, ◌≡◌, length, ap, ◌∙◌, arith}
+use Rattle.std.specs.Vec.{with_item}
+use Rattle.phase_core.specs.phase_history.declared.event.Event.TheVariants.{RegisteredNow}
+use Rattle.graph_lang.specs.graph_base.Graphs.{phaser_at}
+use Rattle.graph_runs.specs.Moments.{limits_at}
+use Rattle.stream_job.proofs.Setting.{set_core, lent_core, if_ok, on_ok, on_err, if_err, same_item}
+use Rattle.stream_job.proofs.machine.Machine.register_now_on.Goals as goal
+
+pub returns-clause-refused : goal.returns-clause-refused
+returns-clause-refused c =
+    if_err c.register_now.result (λ e told other m at.
+    told other (phaser_at c.args.job.now.graph c.args.p).op (limits_at c.args.job.now c.args.p)
+    (m.history c.args.p) (lent_core c.args.job.now m.history c.args.self.now.cores.items c.args.p
+    c.index_mut.result.now at.cores c.requires.phaser c.index_mut.ensures.value))
+    c.register_now.ensures.refused
+
+pub returns-clause-ok : goal.returns-clause-ok
+returns-clause-ok c =
+    if_ok c.register_now.result (λ phase told m at.
+    told (phaser_at c.args.job.now.graph c.args.p).op (limits_at c.args.job.now c.args.p)
+    (m.history c.args.p) (lent_core c.args.job.now m.history c.args.self.now.cores.items c.args.p
+    c.index_mut.result.now at.cores c.requires.phaser c.index_mut.ensures.value))
+    c.register_now.ensures.ok
+
+pub returns-clause-cores : goal.returns-clause-cores
+returns-clause-cores c =
+    on_ok c.register_now.result (λ told m at.
+    set_core c.args.job.now m.history c.args.self.now.cores.items c.args.p c.register_now.new.self
+    (RegisteredNow c.args.parent c.args.child ∷ m.history c.args.p) at.cores
+    c.requires.phaser
+    (told (phaser_at c.args.job.now.graph c.args.p).op (limits_at c.args.job.now c.args.p)
+    (m.history c.args.p) (lent_core c.args.job.now m.history c.args.self.now.cores.items c.args.p
+    c.index_mut.result.now at.cores c.requires.phaser c.index_mut.ensures.value)))
+    c.register_now.ensures.after
+
+-- a core that took no child is as it was
+pub returns-clause-err : goal.returns-clause-err
+returns-clause-err c =
+    on_err c.register_now.result (λ same.
+    ap (with_item c.args.self.now.cores c.args.p) same
+    ∙ same_item c.args.self.now.cores c.args.p c.index_mut.result.now
+    (let many : length c.args.self.now.cores.items ≡ length c.args.job.now.graph.phasers =
+    c.requires.machine.1.cores.many in
+    let there = c.requires.phaser in omega arith) c.index_mut.ensures.value)
+    c.register_now.ensures.err
