@@ -28,6 +28,7 @@ use Rattle.stream_job.proofs.Setting.{read_same}
 use Rattle.phase_core.specs.phase_history.declared.refusal.NoTask.{NoTask}
 use Rattle.stream_job.proofs.Reading.{live_by}
 use Rattle.stream_job.proofs.Events.{after_own}
+use Rattle.stream_job.proofs.Makes.{MakesEvent, makes_event}
 
 abbrev pub left_once : TaskState → TaskState
 left_once state = record state { left = state.left + 1 }
@@ -48,7 +49,7 @@ pub left_turn : (job : Job) (old new : Machine) (t p number : ℕ) (state : Task
 left_turn job old new t p number state told next found phaser numbered accepted cores tasks lines tells =
     record {
       shows = λ m at. shows m at;
-      after = λ m at. after m at;
+      after = λ m at none. after m at;
     }
   where
     is : (m : Moment) → IsMachineAt job m old → IsTaskAt job m t state
@@ -66,14 +67,17 @@ left_turn job old new t p number state told next found phaser numbered accepted 
         ∙ ap (λ n. accepted_answer (leave t p n) (drop_refusal (m.history p) n)) numbered
         ∙ ap (accepted_answer (leave t p number)) (accepted m at)
 
+    made : (m : Moment) → IsMachineAt job m old → MakesEvent job m t (leave t p number)
+    made m at = makes_event job m t (leave t p number) at.graph at.reached (answer m at)
+
     stands : (m : Moment) → IsMachineAt job m old
         → StandsAt job (after_turn job (leave t p number) m) t (place_of (left_once state))
     stands m at =
         let one : state.left + 1 ≡ suc state.left = omega arith in
         subst (λ k. StandsAt job (after_turn job (leave t p number) m) t
         (record (place_of state) { left = k })) (sym one)
-        (leave_follows job m t p number (place_of state) at.graph at.reached (answer m at)
-        (is m at).stands)
+        (leave_follows job m t p number (place_of state) at.graph (made m at).live (made m at).next
+        (made m at).order (is m at).stands)
 
     shows : (m : Moment) (at : IsMachineAt job m old)
         → Shows job m t (answer_of_turn job m t) (Event p told)
@@ -93,9 +97,18 @@ left_turn job old new t p number state told next found phaser numbered accepted 
         let it = is m at in
         after_own job m old new t (leave t p number) (left_once state) at (answer m at) refl
         (place m at).there (next.stays m at) (next.few m at) (cores m at) tasks
-        (record { stands = stands m at; room = it.room; filter = it.filter; sink = it.sink })
+        (record {
+          stands = stands m at;
+          room = it.room;
+          filter = it.filter;
+          made_room = it.made_room;
+          made_by = it.made_by;
+          made_none = it.made_none;
+          sink = it.sink;
+        })
         (ap (λ l. map sink_values l.items) lines ∙ at.lines
         ∙ lines_stay job m old t (leave t p number) at (answer m at) tt)
+        (ap (λ l. map (λ line. line.start) l.items) lines)
         (subst (λ l. All (IsLineOf job) l.items) (sym lines) at.own)
 
 -- what the drop of a task that leaves is answered

@@ -2,6 +2,7 @@ pub mod Events
 pub mod Leaving
 pub mod LinesBegin
 pub mod Lively
+pub mod Makes
 pub mod OpeningPhasers
 pub mod OpeningTasks
 pub mod Begun

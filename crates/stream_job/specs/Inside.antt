@@ -1,5 +1,6 @@
 -- What the code keeps while tasks take turns: what a wait tells, and when a call is blocked.
-use Rattle.std.specs.Prelude.{◌≡◌, ℕ, ◌+◌, ◌≤◌, ℤ, List, [], ◌∷◌, ◌++◌, Option, Some, None, slice_get, set, get_or, Bool, true, false, ◌&&◌, ◌||◌, nat_le, Ok, Err, ◌≢◌, length, nat_lt, ◌-◌, Result}
+use Rattle.std.specs.Prelude.{◌≡◌, ℕ, ◌+◌, ◌≤◌, ℤ, List, [], ◌∷◌, ◌++◌, Option, Some, None, slice_get, set, get_or, Bool, true, false, ◌&&◌, ◌||◌, nat_le, Ok, Err, ◌≢◌, ◌==◌, length, map, nat_lt, ◌-◌, Result, if◌then◌else◌}
+use Rattle.std.specs.List.{All}
 use Rattle.std.specs.Vec.{vec_len, vec_capacity}
 use Rattle.graph_runs.specs.Answers.{answer_to, was_blocked, answer_of_turn, after_answer}
 use Rattle.stream_eval.specs.declared.whole.Lines.{Lines}
@@ -7,7 +8,7 @@ use Rattle.phase_core.specs.phase_base.Limits.{Limits}
 use Rattle.phase_core.specs.phase_base.declared.entry.Entry.{Entry}
 use Rattle.phase_core.specs.phase_base.Members.{entry_of, least, wait_phases}
 use Rattle.phase_core.specs.phase_history.Histories.{History, members_of, done_of}
-use Rattle.phase_core.specs.phase_history.Refusals.{is_ahead}
+use Rattle.phase_core.specs.phase_history.Refusals.{is_ahead, register_refusal, register_now_refusal}
 use Rattle.stream_eval.specs.stream_lists.Jobs.{Job}
 use Rattle.graph_runs.specs.Moments.{Moment}
 use Rattle.graph_runs.specs.Nexts.{Next, has_signaller, next_of}
@@ -16,7 +17,16 @@ use Rattle.graph_lang.specs.stream_filters.declared.fault.TooBigValue.{TooBigVal
 use Rattle.graph_runs.specs.Reached.{IsReachable}
 use Rattle.graph_runs.specs.Answers as answers
 use Rattle.graph_runs.specs.Nexts as turns
-use Rattle.stream_job.specs.Machines.{IsMachine, IsMachineAt, UsesFew}
+use Rattle.phase_core.specs.phase_base.declared.mode.Mode.{Mode}
+use Rattle.phase_core.specs.phase_history.declared.event.Event.{Event}
+use Rattle.phase_core.specs.phase_history.declared.event.Event.TheVariants.{Registered, RegisteredNow}
+use Rattle.phase_core.specs.phase_history.declared.refusal.RegisterRefusal.{RegisterRefusal}
+use Rattle.graph_lang.specs.graph_base.Graphs.{task_at}
+use Rattle.stream_eval.specs.stream_lists.Lists.{sinks_of}
+use Rattle.stream_eval.specs.Results.{sink_values}
+use Rattle.stream_job.specs.Machines.{IsMachine, IsMachineAt, UsesFew, IsLineOf}
+use Rattle.stream_job.specs.SinkLines.{begins_at}
+use Rattle.stream_job.specs.declared.task_state.TaskState.{TaskState}
 use Rattle.stream_job.specs.declared.machine.Machine.{Machine}
 
 -- a sink's values with these behind them
@@ -111,8 +121,13 @@ add_event job c parent child mode =
     if (task_at job.graph c).joins_now then RegisteredNow parent child
     else Registered parent child mode
 
--- the lines after it: that of a sink which joins now begins at this phase
-record HasBegunAt (job : Job) (c phase : ℕ) (old new : List Lines) : Type 0 where
+-- where each sink begins after it, where the registration is at this phase
+abbrev pub begins_with : Job → Moment → ℕ → ℕ → ℕ → Option ℕ
+begins_with job m c phase t =
+    if (task_at job.graph c).joins_now && t == c then Some phase else begins_at job m t
+
+-- the lines after it
+pub record HasBegun (job : Job) (m : Moment) (c phase : ℕ) (old new : List Lines) : Type 0 where
   pub values : map sink_values new ≡ map sink_values old
+  pub starts : map (λ line. line.start) new ≡ map (begins_with job m c phase) (sinks_of job)
   pub own : All (IsLineOf job) old → All (IsLineOf job) new
-  pub starts : (t : ℕ) → True

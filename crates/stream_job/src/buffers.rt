@@ -38,7 +38,7 @@ impl Buffers {
             return Err(AllocError);
         };
         Ok(Buffers {
-            outcomes: vec![in alloc; Outcome::Empty; most],
+            outcomes: vec![in alloc; Outcome::Empty; most]?,
             values: Vec::with_capacity(alloc, most)?,
             parcels: Parcels::new(alloc, most)?,
         })

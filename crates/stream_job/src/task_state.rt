@@ -73,7 +73,8 @@ impl TaskState {
         for outcome in outcomes {
             let x = number_taken(*outcome);
             if kind_of(job, t) == Kind::Fir {
-                self.made.push_reserved(filtered(job, t, &mut self.filter, x));
+                self.made
+                    .push_reserved(filtered(job, t, &mut self.filter, x));
             } else {
                 self.owed = owed_after_wait(job, t, self.begun, &mut self.filter, x);
             }

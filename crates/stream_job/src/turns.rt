@@ -233,7 +233,7 @@ impl Machine {
         let out = &mut buffers.outcomes[..steps];
         match self.wait_block_on(job, phaser, number, out) {
             Ok(GotBlock::Values { phase, count }) => {
-                let got = &out[..count];
+                let got = &out[..count as usize];
                 self.tasks[t].take(job, t, got);
                 self.keep(sink, got);
                 Made::Event {
@@ -355,7 +355,7 @@ impl Machine {
             → HasCores job.now (with_at p (add_event job.now c parent child mode ∷ m.history p)
             m.history) self.new.cores.items) }
         ensures lines { OnOk result ((m : Moment) → IsMachineAt job.now m self.old
-            → HasBegun job.now c (done_of (m.history p)) self.old.lines.items
+            → HasBegun job.now m c (done_of (m.history p)) self.old.lines.items
             self.new.lines.items) }
         ensures err { OnErr result (self.new ≡ self.old) }
         ensures tasks { self.new.tasks ≡ self.old.tasks }

@@ -1,9 +1,8 @@
 -- One more value stands in its place.
-use Rattle.std.proofs.Common.{◌≡◌, ◌<◌, ◌≤◌, ℤ, pos, [], ◌∷◌, length, get_or, nat_abs, w64, to_z, of_z, sym, subst, ◌∙◌, arith}
-use Rattle.std.proofs.lemmas.Int.{ints}
+use Rattle.std.proofs.Common.{◌<◌, ℤ, pos, length, get_or, sym, subst, ◌∙◌, arith}
 use Rattle.std.proofs.lemmas.List.{length-set}
 use Rattle.phase_core.specs.phase_accum.Parcels.{StandsForSends}
-use Rattle.phase_core.specs.phase_accum.Sends.{IsSend, value_max}
+use Rattle.phase_core.specs.phase_accum.Sends.{IsSend}
 use Rattle.graph_runs.specs.Moments.{one}
 use Rattle.stream_job.proofs.BlockSends.{send-at, send-same, stand_more}
 use Rattle.stream_job.proofs.block_send.fill.Goals as goal

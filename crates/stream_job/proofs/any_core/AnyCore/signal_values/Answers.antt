@@ -1,5 +1,5 @@
 -- One value alone goes by the signal of one send.
-use Rattle.std.proofs.Common.{◌≡◌, ℤ, pos, List, length, ap, sym, subst, ◌∙◌}
+use Rattle.std.proofs.Common.{ℤ, pos, List, ap, sym, subst, ◌∙◌}
 use Rattle.phase_core.specs.phase_history.Replies.{signal_reply, after_signal}
 use Rattle.stream_job.specs.Cores.{CoreStandsFor}
 use Rattle.stream_job.proofs.BlockSends.{one-alone}
