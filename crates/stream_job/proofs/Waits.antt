@@ -412,7 +412,7 @@ exchanged_turn job old new t n p phase x outcome state owed told next found phas
         })
         (ap (λ l. map sink_values l.items) lines ∙ at.lines
         ∙ lines_stay job m old t event at (answer m at) tt)
-        (ap (λ l. map (λ line. line.start) l.items) lines ∙ at.starts)
+        (ap (λ l. map (λ line. line.start) l.items) lines)
         (subst (λ l. All (IsLineOf job) l.items) (sym lines) at.own)
 
 -- a wait that the phaser would not take now
@@ -630,7 +630,7 @@ first_turn job old new t k n p steps phase count outcomes state took sink told n
         ∙ ap (λ o. with_line o (kept_of outcomes) (map (λ u. (u, kept_by job m u)) (sinks_of job)))
         sinks
         ∙ sink_lines m at none (is_sink_at job t) refl)
-        (starts ∙ at.starts)
+        starts
         (own at.own)
 
 -- a wait that the phaser would not take now
