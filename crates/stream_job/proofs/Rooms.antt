@@ -1,5 +1,5 @@
--- The line of a sink has room for the value of its next wait.
-use Rattle.std.proofs.Common.{◌≡◌, ℕ, ◌<◌, ◌≤◌, suc, Bool, true, false, cond, List, [], Option, Some, None, length, get_or, slice_get, set, ℤ, refl, sym, ap, subst, ◌∙◌, arith, inr, map}
+-- The line of a sink has room for the values of its next wait.
+use Rattle.std.proofs.Common.{◌≡◌, ℕ, ◌+◌, ◌<◌, ◌≤◌, Bool, true, false, cond, List, [], Option, Some, None, length, get_or, slice_get, set, ℤ, refl, sym, ap, subst, ◌∙◌, arith, inr, map}
 use Rattle.std.specs.Prelude.{IfSome, vec_len, vec_capacity}
 use Rattle.std.specs.List.{All, range_with_len}
 use Rattle.std.proofs.lemmas.List.{get_or-map}
@@ -10,12 +10,14 @@ use Rattle.phase_core.specs.phase_accum.declared.outcome.Outcome.{Outcome}
 use Rattle.graph_lang.specs.graph_base.declared.line.Kind.TheVariants.{Sink}
 use Rattle.graph_lang.specs.graph_base.Graphs.{task_at}
 use Rattle.stream_eval.specs.stream_lists.Jobs.{Job, least}
-use Rattle.stream_eval.specs.stream_lists.Lists.{is_sink_at, sinks_of, start_in}
+use Rattle.stream_eval.specs.stream_lists.Lists.{is_sink_at, sinks_of}
 use Rattle.stream_eval.specs.stream_lists.Spans.{span_in, takes_from}
 use Rattle.stream_eval.specs.Results.{sink_values}
 use Rattle.stream_eval.specs.declared.whole.Lines.{Lines}
 use Rattle.stream_eval.proofs.stream_lists_lemmas.Starts.{fewer_steps}
 use Rattle.graph_runs.specs.Moments.{Moment, IsRegistered, input_at, started}
+use Rattle.graph_runs.specs.Moves.{further}
+use Rattle.graph_runs.proofs.Nexts.{further-length}
 use Rattle.graph_runs.specs.Settled.{IsReady, Stands}
 use Rattle.graph_runs.proofs.Whole.{stands_all}
 use Rattle.graph_runs.proofs.Started.{run_started, ready_as}
@@ -51,15 +53,15 @@ line_is job m machine i t line at sink found =
     ∙ get_or-map f (sinks_of job) i t none (slice_get_within (sinks_of job) i t sink)
     ∙ ap f (get_or_from_slice_get (sinks_of job) i t t sink)
 
--- a task that waits for its next step makes one step more than it has begun
-steps_left : (job : Job) (m : Moment) (t k p n : ℕ) (outcome : Outcome) → IsReady job → Live job m t
-    → k < length (task_at job.graph t).inputs
-    → IsReachable job (after_turn job (first_wait t k p n outcome) m)
+-- a task that waits for its next steps makes no more than its span has
+steps_left : (job : Job) (m : Moment) (t k p n : ℕ) (outcomes : List Outcome) → IsReady job
+    → Live job m t → k < length (task_at job.graph t).inputs
+    → IsReachable job (after_turn job (first_wait t k p n outcomes) m)
     → m.number (input_at (task_at job.graph t) k) t
     ≡ Some (number_on m t (input_at (task_at job.graph t) k))
-    → suc (m.begun t) ≤ (span_in (least job) t).steps
-steps_left job m t k p n outcome ready live few reached numbered =
-    let after = after_turn job (first_wait t k p n outcome) m in
+    → m.begun t + length outcomes ≤ (span_in (least job) t).steps
+steps_left job m t k p n outcomes ready live few reached numbered =
+    let after = after_turn job (first_wait t k p n outcomes) m in
     let q = input_at (task_at job.graph t) k in
     let registered : IsRegistered after t = (q, number_on m t q, numbered) in
     let s : Stands (started job after) after t =
@@ -70,18 +72,21 @@ steps_left job m t k p n outcome ready live few reached numbered =
     let most : (span_in (started job after) t).steps ≤ (span_in (least job) t).steps =
     fewer_steps job (map after.offset (range_with_len 0 (length job.graph.tasks))) t ready.graph
     live.there in
-    let one : after.begun t ≡ suc (m.begun t) =
-    ap (λ b. cond b (suc (m.begun t)) (m.begun t)) (eq-eqb t t refl) in
+    let steps : after.begun t ≡ further (m.begun t) outcomes =
+    ap (λ b. cond b (further (m.begun t) outcomes) (m.begun t)) (eq-eqb t t refl) in
+    let many : further (m.begun t) outcomes ≡ m.begun t + length outcomes =
+    further-length (m.begun t) outcomes in
     omega arith
 
-pub sink_room : (job : Job) (old : Machine) (m : Moment) (t k p n : ℕ) (outcome : Outcome)
+pub sink_room : (job : Job) (old : Machine) (m : Moment) (t k p n : ℕ) (outcomes : List Outcome)
     (state : TaskState) (sink : Option ℕ) → IsNextIn job old t (waits k) → IsMachineAt job m old
     → slice_get old.tasks.items t ≡ Some state
     → sink ≡ cond (is_sink_at job t) (Some state.sink) None
-    → answer_of_turn job m t ≡ makes (first_wait t k p n outcome)
-    → IfSome sink (HasRoomIn old.lines.items)
-sink_room job old m t k p n outcome state sink next at found is answer =
-    subst (λ o. IfSome o (HasRoomIn old.lines.items)) (sym is) (by (is_sink_at job t) refl)
+    → answer_of_turn job m t ≡ makes (first_wait t k p n outcomes)
+    → IfSome sink (HasRoomIn old.lines.items (length outcomes))
+sink_room job old m t k p n outcomes state sink next at found is answer =
+    subst (λ o. IfSome o (HasRoomIn old.lines.items (length outcomes))) (sym is)
+    (by (is_sink_at job t) refl)
   where
     live : Live job m t
     live = live-is job m t (live_next job m t (waits k) (next.is m at) (λ e. absurd (cc)))
@@ -94,11 +99,11 @@ sink_room job old m t k p n outcome state sink next at found is answer =
     numbered =
         number_there job m t (input_at (task_at job.graph t) k) at.graph live (inr (k, few, refl))
 
-    after : IsReachable job (after_turn job (first_wait t k p n outcome) m)
+    after : IsReachable job (after_turn job (first_wait t k p n outcomes) m)
     after = subst (λ a. IsReachable job (after_answer job a m)) answer (next.stays m at)
 
     room : (i : ℕ) → slice_get (sinks_of job) i ≡ Some t → (task_at job.graph t).kind ≡ Sink
-        → HasRoomIn old.lines.items i
+        → HasRoomIn old.lines.items (length outcomes) i
     room i place kind = λ line read.
         let here : sink_values line ≡ (t, kept_by job m t) =
         line_is job m old i t line at place read in
@@ -113,8 +118,8 @@ sink_room job old m t k p n outcome state sink next at found is answer =
         let all : length (m.taken t 0) ≡ takes_from (task_at job.graph t) (m.begun t) 0 =
         all_taken job m t at.graph (at.reached.ran.tasks t live.there) live.there b.step.none 0 some in
         let plain : takes_from (task_at job.graph t) (m.begun t) 0 ≡ m.begun t = rw kind refl in
-        let more : suc (m.begun t) ≤ (span_in (least job) t).steps =
-        steps_left job m t k p n outcome (record { graph = at.graph; apart = at.apart }) live few after
+        let more : m.begun t + length outcomes ≤ (span_in (least job) t).steps =
+        steps_left job m t k p n outcomes (record { graph = at.graph; apart = at.apart }) live few after
         numbered in
         let lt = slice_get_within old.lines.items i line read in
         let own : IsLineOf job line =
@@ -127,30 +132,22 @@ sink_room job old m t k p n outcome state sink next at found is answer =
         omega arith
 
     by : (b : Bool) → is_sink_at job t ≡ b
-        → IfSome (cond b (Some state.sink) None) (HasRoomIn old.lines.items)
+        → IfSome (cond b (Some state.sink) None) (HasRoomIn old.lines.items (length outcomes))
     by true e =
         let kind = sink_kind (task_at job.graph t).kind e in
         room state.sink ((at.tasks t state found).sink kind) kind
     by false e = tt
 
--- a line that has taken a value has the room and the start that it had
+-- a line that has taken values has the room that it had
 pub line_kept : (job : Job) (lines : List Lines) (i : ℕ) (read kept : Lines) → i < length lines
-    → read ≡ get_or lines i read → kept.task ≡ read.task → kept.start ≡ read.start
+    → read ≡ get_or lines i read → kept.task ≡ read.task
     → vec_capacity kept.values ≡ vec_capacity read.values → All (IsLineOf job) lines
     → All (IsLineOf job) (set lines i kept)
-line_kept job lines i read kept lt is owner begins same all =
+line_kept job lines i read kept lt is owner same all =
     let was : IsLineOf job read =
     subst (IsLineOf job) (sym is) (All-get_or (IsLineOf job) lines i read lt all) in
     let steps : (span_in (least job) kept.task).steps ≡ (span_in (least job) read.task).steps =
     ap (λ u. (span_in (least job) u).steps) owner in
     let enough : (span_in (least job) read.task).steps ≤ vec_capacity read.values = was.room in
     let room : vec_capacity kept.values ≡ vec_capacity read.values = same in
-    All-set (IsLineOf job) lines i kept (record {
-      room = omega arith;
-      start = begins ∙ was.start ∙ ap (start_in job) (sym owner);
-    }) all
-
--- the place of a sink's line
-pub line_there : (lines : List Lines) (i : ℕ) (sink : Option ℕ) → sink ≡ Some i
-    → IfSome sink (λ k. k < length lines) → i < length lines
-line_there lines i sink is there = subst (λ o. IfSome o (λ k. k < length lines)) is there
+    All-set (IsLineOf job) lines i kept (record { room = omega arith }) all

@@ -8,31 +8,37 @@ use Rattle.std.proofs.lemmas.List.{map-set, get_or-map}
 use Rattle.std.proofs.lemmas.Option.{slice_get_read, slice_get_within, get_or_from_slice_get, same_Some}
 use Rattle.stream_eval.specs.Results.{sink_values}
 use Rattle.stream_eval.specs.declared.whole.Lines.{Lines}
-use Rattle.stream_job.specs.Inside.{HasRoomIn, one_more, with_line}
+use Rattle.stream_job.specs.Inside.{HasRoomIn, more, with_line}
 
-pub same_lines : (lines : List Lines) (i : ℕ) (read new : Lines) → read ≡ get_or lines i read
-    → sink_values new ≡ sink_values read → map sink_values (set lines i new) ≡ map sink_values lines
-same_lines lines i read new is same =
-    map-set_same sink_values lines i new read (same ∙ ap sink_values is)
+-- a line that is written keeps what it had of this
+pub line_stays : {Y : Type 0} (f : Lines → Y) (lines : List Lines) (i : ℕ) (read new : Lines)
+    → read ≡ get_or lines i read → f new ≡ f read → map f (set lines i new) ≡ map f lines
+line_stays f lines i read new is same = map-set_same f lines i new read (same ∙ ap f is)
 
-pub room_for : (lines : List Lines) (i : ℕ) (read : Lines) (sink : Option ℕ) → sink ≡ Some i
-    → IfSome sink (λ k. k < length lines) → IfSome sink (HasRoomIn lines)
-    → read ≡ get_or lines i read → vec_len read.values + 1 ≤ vec_capacity read.values
-room_for lines i read sink is there room value =
-    let lt = subst (λ o. IfSome o (λ k. k < length lines)) is there in
-    (subst (λ o. IfSome o (HasRoomIn lines)) is room) read
-    (slice_get_read lines (length lines) i read refl lt value)
+-- the place of a sink's line
+pub line_there : (lines : List Lines) (i : ℕ) (sink : Option ℕ) → sink ≡ Some i
+    → IfSome sink (λ k. k < length lines) → i < length lines
+line_there lines i sink is there = subst (λ o. IfSome o (λ k. k < length lines)) is there
 
-pub kept_line : (lines : List Lines) (i : ℕ) (read new : Lines) (x : ℤ) (sink : Option ℕ)
+pub room_for : (lines : List Lines) (i many : ℕ) (read : Lines) (sink : Option ℕ)
+    → sink ≡ Some i → IfSome sink (λ k. k < length lines) → IfSome sink (HasRoomIn lines many)
+    → read ≡ get_or lines i read
+    → length read.values.items + many ≤ vec_capacity read.values
+room_for lines i many read sink is there room value =
+    subst (λ k. k + many ≤ vec_capacity read.values) read.values.ok.0
+    ((subst (λ o. IfSome o (HasRoomIn lines many)) is room) read
+    (slice_get_read lines (length lines) i read refl (line_there lines i sink is there) value))
+
+pub kept_line : (lines : List Lines) (i : ℕ) (read new : Lines) (xs : List ℤ) (sink : Option ℕ)
     → sink ≡ Some i → IfSome sink (λ k. k < length lines) → read ≡ get_or lines i read
-    → sink_values new ≡ one_more x (sink_values read)
-    → map sink_values (set lines i new) ≡ with_line sink x (map sink_values lines)
-kept_line lines i read new x sink is there value longer =
-    let lt = subst (λ o. IfSome o (λ k. k < length lines)) is there in
+    → sink_values new ≡ more xs (sink_values read)
+    → map sink_values (set lines i new) ≡ with_line sink xs (map sink_values lines)
+kept_line lines i read new xs sink is there value longer =
+    let lt = line_there lines i sink is there in
     map-set sink_values lines i new
     ∙ ap (set (map sink_values lines) i) (longer
-    ∙ ap (one_more x) (ap sink_values value ∙ sym (get_or-map sink_values lines i read (0, []) lt)))
-    ∙ sym (ap (λ o. with_line o x (map sink_values lines)) is)
+    ∙ ap (more xs) (ap sink_values value ∙ sym (get_or-map sink_values lines i read (0, []) lt)))
+    ∙ sym (ap (λ o. with_line o xs (map sink_values lines)) is)
 
 pub map_same : {X Y : Type 0} (f g : X → Y) (xs : List X) → ((x : X) → f x ≡ g x)
     → map f xs ≡ map g xs
@@ -97,19 +103,19 @@ one_set f g t from (suc i) (x ∷ xs) up found same =
     ap (λ y. y ∷ set (map f xs) i (g t)) (same x (λ e. omega arith))
     ∙ ap (λ ys. g x ∷ ys) (one_set f g t (suc x) i xs up.1 found same)
 
--- the lines after a sink has taken one value more
-pub one_line : (test : ℕ → Bool) (n i t : ℕ) (x : ℤ) (before after : ℕ → List ℤ)
+-- the lines after a sink has taken these values more
+pub one_line : (test : ℕ → Bool) (n i t : ℕ) (xs : List ℤ) (before after : ℕ → List ℤ)
     → slice_get (filter test (range_with_len 0 n)) i ≡ Some t
-    → after t ≡ before t ++ x ∷ [] → ((u : ℕ) → u ≢ t → before u ≡ after u)
-    → with_line (Some i) x (map (λ u. (u, before u)) (filter test (range_with_len 0 n)))
+    → after t ≡ before t ++ xs → ((u : ℕ) → u ≢ t → before u ≡ after u)
+    → with_line (Some i) xs (map (λ u. (u, before u)) (filter test (range_with_len 0 n)))
     ≡ map (λ u. (u, after u)) (filter test (range_with_len 0 n))
-one_line test n i t x before after found longer same =
-    let xs = filter test (range_with_len 0 n) in
+one_line test n i t xs before after found longer same =
+    let us = filter test (range_with_len 0 n) in
     let f : ℕ → ℕ × List ℤ = λ u. (u, before u) in
-    let lt = slice_get_within xs i t found in
-    let read : get_or (map f xs) i (0, []) ≡ f t =
-    get_or-map f xs i 0 (0, []) lt ∙ ap f (get_or_from_slice_get xs i t 0 found) in
-    ap (λ line. set (map f xs) i (one_more x line)) read
-    ∙ ap (λ l. set (map f xs) i (t, l)) (sym longer)
-    ∙ one_set f (λ u. (u, after u)) t 0 i xs (filter_ascends test 0 n) found
+    let lt = slice_get_within us i t found in
+    let read : get_or (map f us) i (0, []) ≡ f t =
+    get_or-map f us i 0 (0, []) lt ∙ ap f (get_or_from_slice_get us i t 0 found) in
+    ap (λ line. set (map f us) i (more xs line)) read
+    ∙ ap (λ l. set (map f us) i (t, l)) (sym longer)
+    ∙ one_set f (λ u. (u, after u)) t 0 i us (filter_ascends test 0 n) found
     (λ u apart. ap (λ l. (u, l)) (same u apart))

@@ -1,29 +1,30 @@
 -- What the sinks keep over one event.
 use Rattle.std.proofs.Common.{◌≡◌, ◌≢◌, ℕ, ℤ, zero, suc, ◌+◌, ◌<◌, ◌≤◌, All, Bool, true, false, not, cond, eqb, List, [], ◌∷◌, ◌++◌, Option, Some, None, length, map, slice_get, refl, sym, ap, subst, ◌∙◌, arith, ◌⊎◌, inl, inr}
 use Rattle.std.specs.Prelude.{IfSome}
-use Rattle.std.specs.List.{filter, range_with_len}
+use Rattle.std.specs.List.{filter, range_with_len, take_while}
+use mathlib.Core.List.{IsPrefix}
 use Rattle.std.proofs.lemmas.Bool.{eqb-true, eq-eqb, ne_eqb}
-use Rattle.std.proofs.lemmas.List.{append-nil, length-map, map-append}
-use Rattle.std.proofs.lemmas.List.Elements.{filter-append}
-use Rattle.std.proofs.lemmas.List.Sums.{length-filter, count_by-le-length}
+use Rattle.std.proofs.lemmas.List.{length-append}
+use Rattle.std.proofs.lemmas.List.Sums.{take_while-cons}
 use Rattle.phase_core.specs.phase_base.declared.mode.Mode.{Mode}
+use Rattle.phase_core.specs.phase_base.declared.mode.Mode.TheVariants.{Wait}
 use Rattle.phase_core.specs.phase_accum.declared.outcome.Outcome.{Outcome}
-use Rattle.phase_core.specs.phase_accum.declared.outcome.Outcome.TheVariants as outcomes
 use Rattle.phase_core.specs.phase_history.declared.event.Event.{Event}
-use Rattle.phase_core.specs.phase_history.declared.event.Event.TheVariants.{Signalled, Waited, Dropped}
+use Rattle.phase_core.specs.phase_history.declared.event.Event.TheVariants.{Signalled, Waited, Dropped, Registered, RegisteredNow}
 use Rattle.phase_core.specs.phase_history.Phases.{received_by}
 use Rattle.graph_runs.proofs.phase_history_lemmas.LawProofs.{above_law}
 use Rattle.graph_runs.proofs.phase_history_lemmas.Refused.{registers_from}
-use Rattle.graph_lang.specs.graph_base.declared.line.Parent.{Parent}
 use Rattle.graph_lang.specs.graph_base.TaskLines.{IsGraph}
 use Rattle.graph_lang.specs.graph_base.Graphs.{is_sink, task_at, phaser_at}
 use Rattle.stream_eval.specs.stream_lists.Jobs.{Job}
 use Rattle.stream_eval.specs.stream_lists.Lists.{is_sink_at, number, sinks_of}
 use Rattle.stream_eval.specs.stream_lists.Ranges.{is_too_big}
-use Rattle.graph_runs.specs.Moments.{Moment, HasRun, HasAnsweredNone, TakenOn, input_at, limits_at, value_at}
-use Rattle.graph_runs.specs.Moves.{HasMoved, Registers}
-use Rattle.graph_runs.proofs.Turned.{next_sample_is, next_signal_is, first_wait_is, exchange_wait_is, next_leave_is, next_child_is}
-use Rattle.graph_runs.specs.TaskEvents.{TaskEvent, IsNext, sample, signal, first_wait, exchange_wait, leave, child, after_turn}
+use Rattle.graph_runs.specs.Moments.{one, Moment, HasRun, HasAnsweredNone, TakenOn, input_at, limits_at, value_at}
+use Rattle.graph_runs.specs.Moves.{HasMoved}
+use Rattle.graph_runs.proofs.InBlocks.{next_samples_are, next_signals_are, first_waits_are}
+use Rattle.graph_runs.proofs.JoinsNow.{next_child_now_is}
+use Rattle.graph_runs.proofs.Turned.{exchange_wait_is, next_leave_is, next_child_is}
+use Rattle.graph_runs.specs.TaskEvents.{TaskEvent, IsNext, sample, signal, first_wait, exchange_wait, leave, child, child_now, after_turn}
 use Rattle.graph_runs.specs.Answers.{makes, answer_of_turn}
 use Rattle.graph_runs.specs.Beginnings.{opening, root_mode, root_number, roots_joined, with_root}
 use Rattle.graph_runs.proofs.Answered.{met_none}
@@ -31,26 +32,59 @@ use Rattle.graph_runs.proofs.StepsLemmas.{has_inputs}
 use Rattle.graph_runs.proofs.Turning.{turn_makes_next}
 use Rattle.stream_job.specs.Inside.{with_line}
 use Rattle.stream_job.specs.Machines.{IsMachineAt}
-use Rattle.stream_job.specs.SinkLines.{kept_by, kept_of, kept_on, line_of}
+use Rattle.stream_job.specs.SinkLines.{kept_by, kept_of, kept_on}
 use Rattle.stream_job.specs.declared.machine.Machine.{Machine}
 use Rattle.stream_job.proofs.SinkLines.{one_line}
 
 -- ---- what is kept of outcomes
 
-pub kept_of-append : (xs ys : List Outcome) → kept_of (xs ++ ys) ≡ kept_of xs ++ kept_of ys
-kept_of-append xs ys =
-    ap (map number) (filter-append (λ outcome. not (is_too_big outcome)) xs ys)
-    ∙ map-append number (filter (λ outcome. not (is_too_big outcome)) xs)
-    (filter (λ outcome. not (is_too_big outcome)) ys)
+-- one in range is kept, and then those behind it
+pub kept_first : (x : Outcome) (xs : List Outcome) → is_too_big x ≡ false
+    → kept_of (x ∷ xs) ≡ number x ∷ kept_of xs
+kept_first x xs e =
+    let test : Outcome → Bool = λ outcome. not (is_too_big outcome) in
+    ap (map number) (take_while-cons test x xs)
+    ∙ ap (λ b. map number (cond (not b) (x ∷ take_while test xs) [])) e
+
+-- from one that is too big on nothing is
+pub kept_over : (x : Outcome) (xs : List Outcome) → is_too_big x ≡ true → kept_of (x ∷ xs) ≡ []
+kept_over x xs e =
+    let test : Outcome → Bool = λ outcome. not (is_too_big outcome) in
+    ap (map number) (take_while-cons test x xs)
+    ∙ ap (λ b. map number (cond (not b) (x ∷ take_while test xs) [])) e
+
+-- behind those in range the others are kept as they would be alone
+pub kept_of-append : (xs ys : List Outcome) → All (λ outcome. is_too_big outcome ≡ false) xs
+    → kept_of (xs ++ ys) ≡ kept_of xs ++ kept_of ys
+kept_of-append [] ys all = refl
+kept_of-append (x ∷ xs) ys all =
+    let first : is_too_big x ≡ false = all 0 x (omega arith) in
+    kept_first x (xs ++ ys) first
+    ∙ ap (λ l. number x ∷ l) (kept_of-append xs ys (λ i d lt. all (suc i) d (omega arith)))
+    ∙ ap (λ l. l ++ kept_of ys) (sym (kept_first x xs first))
+
+-- what is kept begins what was received
+pub kept_begins : (outcomes : List Outcome) → IsPrefix (kept_of outcomes) (map number outcomes)
+kept_begins [] = ([], refl)
+kept_begins (x ∷ xs) = by (is_too_big x) refl (kept_begins xs)
+  where
+    by : (b : Bool) → is_too_big x ≡ b → IsPrefix (kept_of xs) (map number xs)
+        → IsPrefix (kept_of (x ∷ xs)) (number x ∷ map number xs)
+    by true e rest = (
+      number x ∷ map number xs,
+      ap (λ l. l ++ number x ∷ map number xs) (kept_over x xs e),
+    )
+    by false e rest = (
+      rest.0,
+      ap (λ l. l ++ rest.0) (kept_first x xs e) ∙ ap (λ l. number x ∷ l) rest.1,
+    )
 
 -- no more than was received
 pub kept_few : (outcomes : List Outcome) → length (kept_of outcomes) ≤ length (map number outcomes)
 kept_few outcomes =
-    let test : Outcome → Bool = λ outcome. not (is_too_big outcome) in
-    let kept = length-map (filter test outcomes) number in
-    let all = length-map outcomes number in
-    let found = length-filter test outcomes in
-    let few = count_by-le-length test outcomes in
+    let begins = kept_begins outcomes in
+    let all = length-append (kept_of outcomes) begins.0 in
+    let same = ap length begins.1 in
     omega arith
 
 -- ---- one task over one event
@@ -101,12 +135,21 @@ kept_moved job before after t p u event moved quiet =
         ap (λ h. received_by (value_at job q) h n)
         (moved.elsewhere q (λ same. (let no = sym (eq-eqb q p same) ∙ e in cc)))
 
+-- task c is registered as number a on phaser p by this event, which is no wait
+record Joins (job : Job) (before after : Moment) (p c a : ℕ) (event : Event) : Type 0 where
+  pub here : after.history p ≡ event ∷ before.history p
+  pub elsewhere : (q : ℕ) → q ≢ p → after.history q ≡ before.history q
+  pub absent : before.number p c ≡ None
+  pub number : after.number p c ≡ Some a
+  pub other_numbers : (q x : ℕ) → (q ≢ p) ⊎ (x ≢ c) → after.number q x ≡ before.number q x
+  pub quiet : (x : ℕ) → received_by (value_at job p) (event ∷ before.history p) x
+      ≡ received_by (value_at job p) (before.history p) x
+  pub fresh : received_by (value_at job p) (before.history p) a ≡ []
+
 -- a child that is registered has received nothing
-kept_registered : (job : Job) (before after : Moment) (t p n c a u : ℕ) (mode : Mode)
-    (parent : Parent) → Registers job before after t p n c a mode parent
-    → received_by (value_at job p) (before.history p) a ≡ []
-    → kept_by job before u ≡ kept_by job after u
-kept_registered job before after t p n c a u mode parent s fresh = by (eqb q p) refl (eqb u c) refl
+kept_joined : (job : Job) (before after : Moment) (p c a u : ℕ) (event : Event)
+    → Joins job before after p c a event → kept_by job before u ≡ kept_by job after u
+kept_joined job before after p c a u event s = by (eqb q p) refl (eqb u c) refl
   where
     q : ℕ
     q = input_at (task_at job.graph u) 0
@@ -117,7 +160,8 @@ kept_registered job before after t p n c a u mode parent s fresh = by (eqb q p) 
     histories r x true e =
         let S : ℕ → Type 0 = λ y. received_by (value_at job y) (after.history y) x
         ≡ received_by (value_at job y) (before.history y) x in
-        subst S (sym (eqb-true r p e)) (ap (λ h. received_by (value_at job p) h x) s.here)
+        subst S (sym (eqb-true r p e))
+        (ap (λ h. received_by (value_at job p) h x) s.here ∙ s.quiet x)
     histories r x false e =
         ap (λ h. received_by (value_at job r) h x)
         (s.elsewhere r (λ same. (let no = sym (eq-eqb r p same) ∙ e in cc)))
@@ -135,7 +179,7 @@ kept_registered job before after t p n c a u mode parent s fresh = by (eqb q p) 
         ap (λ r. after.number r u) here ∙ ap (after.number p) same ∙ s.number in
         let nothing : received_by (value_at job q) (after.history q) a ≡ [] =
         histories q a (eqb q p) refl
-        ∙ ap (λ r. received_by (value_at job r) (before.history r) a) here ∙ fresh in
+        ∙ ap (λ r. received_by (value_at job r) (before.history r) a) here ∙ s.fresh in
         ap (kept_on job before q) none ∙ ap kept_of (sym nothing)
         ∙ sym (ap (kept_on job after q) some)
 
@@ -147,7 +191,7 @@ kept_registered job before after t p n c a u mode parent s fresh = by (eqb q p) 
 
 -- task u does not wait by this event
 abbrev pub DoesNotWait : ℕ → TaskEvent → Type 0
-DoesNotWait u (first_wait t k p n outcome) = u ≢ t
+DoesNotWait u (first_wait t k p n outcomes) = u ≢ t
 DoesNotWait u (exchange_wait t p n outcome) = u ≢ t
 DoesNotWait u event = Unit {0}
 
@@ -167,18 +211,19 @@ kept_other job m event u ran next there apart = by event next apart
 
     by : (event : TaskEvent) → IsNext job m event → DoesNotWait u event
         → kept_by job m u ≡ kept_by job (after_turn job event m) u
-    by (sample t j p n v) next apart =
-        let s = next_sample_is job m t j p n v next.1 (ran.tasks t next.0.task) in
-        kept_moved job m (after_turn job (sample t j p n v) m) t p u
-        (Signalled n ((v ∷ []) ∷ []) (phaser_at job.graph p).single) s.moved (λ x has. refl)
-    by (signal t j p n v) next apart =
-        let s = next_signal_is job m t j p n v next.1 (ran.tasks t next.0.task) in
-        kept_moved job m (after_turn job (signal t j p n v) m) t p u
-        (Signalled n ((v ∷ []) ∷ []) (phaser_at job.graph p).single) s.moved (λ x has. refl)
-    by (first_wait t k p n outcome) next apart =
-        let s = first_wait_is job m t k p n outcome next.1 in
-        kept_moved job m (after_turn job (first_wait t k p n outcome) m) t p u (Waited n 1) s.moved
-        (another t p n 1 next.0.task next.0.phaser s.numbered apart)
+    by (sample t j p n vs) next apart =
+        let s = next_samples_are job m t j p n vs next.1 (ran.tasks t next.0.task) in
+        kept_moved job m (after_turn job (sample t j p n vs) m) t p u
+        (Signalled n (map one vs) (phaser_at job.graph p).single) s.moved (λ x has. refl)
+    by (signal t j p n vs) next apart =
+        let s = next_signals_are job m t j p n vs next.1 (ran.tasks t next.0.task) in
+        kept_moved job m (after_turn job (signal t j p n vs) m) t p u
+        (Signalled n (map one vs) (phaser_at job.graph p).single) s.moved (λ x has. refl)
+    by (first_wait t k p n outcomes) next apart =
+        let s = first_waits_are job m t k p n outcomes next.1 in
+        kept_moved job m (after_turn job (first_wait t k p n outcomes) m) t p u
+        (Waited n (length outcomes)) s.moved
+        (another t p n (length outcomes) next.0.task next.0.phaser s.numbered apart)
     by (exchange_wait t p n outcome) next apart =
         let s = exchange_wait_is job m t p n outcome next.1 in
         kept_moved job m (after_turn job (exchange_wait t p n outcome) m) t p u (Waited n 1) s.moved
@@ -189,27 +234,51 @@ kept_other job m event u ran next there apart = by event next apart
     by (child t p n c a mode) next apart =
         let s = next_child_is job m t p n c a mode next.1.0 next.1.1 in
         let r = registers_from (m.history p) n a mode s.accepted in
-        kept_registered job m (after_turn job (child t p n c a mode) m) t p n c a u mode next.1.0 s
-        (above_law (value_at job p) (limits_at job p) (m.history p) a
-        (ran.phasers p next.0.phaser).legal r.new_number).received
+        kept_joined job m (after_turn job (child t p n c a mode) m) p c a u (Registered n a mode)
+        record {
+          here = s.here;
+          elsewhere = s.elsewhere;
+          absent = s.absent;
+          number = s.number;
+          other_numbers = s.other_numbers;
+          quiet = λ x. refl;
+          fresh = (above_law (value_at job p) (limits_at job p) (m.history p) a
+              (ran.phasers p next.0.phaser).legal r.new_number).received;
+        }
+    by (child_now t p n c a) next apart =
+        let s = next_child_now_is job m t p n c a next.1.0 next.1.1 in
+        let r = registers_from (m.history p) n a Wait s.accepted in
+        kept_joined job m (after_turn job (child_now t p n c a) m) p c a u (RegisteredNow n a)
+        record {
+          here = s.here;
+          elsewhere = s.elsewhere;
+          absent = s.absent;
+          number = s.number;
+          other_numbers = s.other_numbers;
+          quiet = λ x. refl;
+          fresh = (above_law (value_at job p) (limits_at job p) (m.history p) a
+              (ran.phasers p next.0.phaser).legal r.new_number).received;
+        }
 
--- a task that waits keeps what it got, where that is in range
-pub kept_wait : (job : Job) (m : Moment) (t k p n : ℕ) (outcome : Outcome)
-    → IsNext job m (first_wait t k p n outcome) → k ≡ 0
-    → kept_by job (after_turn job (first_wait t k p n outcome) m) t
-    ≡ kept_by job m t ++ kept_of (outcome ∷ [])
-kept_wait job m t k p n outcome next first =
-    let after = after_turn job (first_wait t k p n outcome) m in
-    let s = first_wait_is job m t k p n outcome next.1 in
+-- where no wait was answered a value that is too big, a task that waits keeps what it got, before
+-- the first that is too big
+pub kept_wait : (job : Job) (m : Moment) (t k p n : ℕ) (outcomes : List Outcome)
+    → HasAnsweredNone job m → IsNext job m (first_wait t k p n outcomes) → k ≡ 0
+    → kept_by job (after_turn job (first_wait t k p n outcomes) m) t
+    ≡ kept_by job m t ++ kept_of outcomes
+kept_wait job m t k p n outcomes none next first =
+    let after = after_turn job (first_wait t k p n outcomes) m in
+    let s = first_waits_are job m t k p n outcomes next.1 in
     let place : p ≡ input_at (task_at job.graph t) 0 =
     sym s.place ∙ ap (input_at (task_at job.graph t)) first in
     let Keeps : ℕ → Type 0 = λ q. kept_on job after q (after.number q t)
-    ≡ kept_on job m q (m.number q t) ++ kept_of (outcome ∷ []) in
+    ≡ kept_on job m q (m.number q t) ++ kept_of outcomes in
     subst Keeps place (
     ap (kept_on job after p) (s.moved.numbers p t ∙ s.numbered)
     ∙ ap kept_of (ap (λ h. received_by (value_at job p) h n) s.moved.here ∙ s.answered)
-    ∙ kept_of-append (received_by (value_at job p) (m.history p) n) (outcome ∷ [])
-    ∙ ap (λ l. l ++ kept_of (outcome ∷ [])) (sym (ap (kept_on job m p) s.numbered)))
+    ∙ kept_of-append (received_by (value_at job p) (m.history p) n) outcomes
+    (met_none job m none p t n next.0.phaser next.0.task s.numbered)
+    ∙ ap (λ l. l ++ kept_of outcomes) (sym (ap (kept_on job m p) s.numbered)))
 
 -- ---- all sinks
 
@@ -236,7 +305,7 @@ map_found test f g from (suc n) same =
 
 -- no sink waits by this event
 abbrev pub NoSinkWaits : Job → TaskEvent → Type 0
-NoSinkWaits job (first_wait t k p n outcome) = is_sink_at job t ≡ false
+NoSinkWaits job (first_wait t k p n outcomes) = is_sink_at job t ≡ false
 NoSinkWaits job event = Unit {0}
 
 pub lines_stay : (job : Job) (m : Moment) (machine : Machine) (t : ℕ) (event : TaskEvent)
@@ -254,93 +323,51 @@ lines_stay job m machine t event at answer no_sink =
 
     quiet : (event : TaskEvent) → IsNext job m event → NoSinkWaits job event → (u : ℕ)
         → is_sink_at job u ≡ true → DoesNotWait u event
-    quiet (sample t j p n v) next none u sink = tt
-    quiet (signal t j p n v) next none u sink = tt
-    quiet (first_wait t k p n outcome) next none u sink = λ same.
+    quiet (sample t j p n vs) next none u sink = tt
+    quiet (signal t j p n vs) next none u sink = tt
+    quiet (first_wait t k p n outcomes) next none u sink = λ same.
         (let wrong : true ≡ false = sym sink ∙ ap (is_sink_at job) same ∙ none in cc)
     quiet (exchange_wait t p n outcome) next none u sink = λ same.
         (let peer : is_sink_at job t ≡ false = ap is_sink next.1.peer in
         let wrong : true ≡ false = sym sink ∙ ap (is_sink_at job) same ∙ peer in cc)
     quiet (leave t p n) next none u sink = tt
     quiet (child t p n c a mode) next none u sink = tt
+    quiet (child_now t p n c a) next none u sink = tt
 
--- a sink that waits keeps its outcome, where that is in range
-pub lines_keep : (job : Job) (m : Moment) (machine : Machine) (t k p n i : ℕ) (outcome : Outcome)
-    → IsMachineAt job m machine → answer_of_turn job m t ≡ makes (first_wait t k p n outcome)
-    → k ≡ 0 → slice_get (sinks_of job) i ≡ Some t
-    → with_line (line_of (Some i) outcome) (number outcome)
-    (map (λ u. (u, kept_by job m u)) (sinks_of job))
-    ≡ map (λ u. (u, kept_by job (after_turn job (first_wait t k p n outcome) m) u)) (sinks_of job)
-lines_keep job m machine t k p n i outcome at answer first sink =
-    by outcome refl
+-- a sink that waits keeps what it got, before the first that is too big
+pub lines_keep : (job : Job) (m : Moment) (machine : Machine) (t k p n i : ℕ)
+    (outcomes : List Outcome) → IsMachineAt job m machine → HasAnsweredNone job m
+    → answer_of_turn job m t ≡ makes (first_wait t k p n outcomes) → k ≡ 0
+    → slice_get (sinks_of job) i ≡ Some t
+    → with_line (Some i) (kept_of outcomes) (map (λ u. (u, kept_by job m u)) (sinks_of job))
+    ≡ map (λ u. (u, kept_by job (after_turn job (first_wait t k p n outcomes) m) u)) (sinks_of job)
+lines_keep job m machine t k p n i outcomes at none answer first sink =
+    let f : ℕ → List ℤ = λ u. cond (eqb u t) (kept_by job after u) (kept_by job m u) in
+    let own : f t ≡ kept_by job after t =
+    ap (λ b. cond b (kept_by job after t) (kept_by job m t)) (eq-eqb t t refl) in
+    let rest : (u : ℕ) → u ≢ t → f u ≡ kept_by job m u =
+    λ u apart. ap (λ b. cond b (kept_by job after u) (kept_by job m u)) (ne_eqb u t apart) in
+    one_line (is_sink_at job) (length job.graph.tasks) i t (kept_of outcomes) (kept_by job m) f sink
+    (own ∙ kept_wait job m t k p n outcomes none next first) (λ u apart. sym (rest u apart))
+    ∙ map_found (is_sink_at job) (λ u. (u, f u)) (λ u. (u, kept_by job after u)) 0
+    (length job.graph.tasks)
+    (λ u lt is. ap (λ l. (u, l)) (one u lt (eqb u t) refl))
   where
     after : Moment
-    after = after_turn job (first_wait t k p n outcome) m
+    after = after_turn job (first_wait t k p n outcomes) m
 
-    next : IsNext job m (first_wait t k p n outcome)
+    next : IsNext job m (first_wait t k p n outcomes)
     next =
-        turn_makes_next job m t (first_wait t k p n outcome) at.graph at.reached.ran
+        turn_makes_next job m t (first_wait t k p n outcomes) at.graph at.reached.ran
         (λ c due. at.reached.to_come) answer
 
-    others : (f : ℕ → List ℤ) → f t ≡ kept_by job after t
-        → ((u : ℕ) → u ≢ t → f u ≡ kept_by job m u)
-        → map {B = ℕ × List ℤ} (λ u. (u, f u)) (sinks_of job)
-        ≡ map {B = ℕ × List ℤ} (λ u. (u, kept_by job after u)) (sinks_of job)
-    others f own rest =
-        map_found (is_sink_at job) (λ u. (u, f u)) (λ u. (u, kept_by job after u)) 0
-        (length job.graph.tasks) (λ u lt is. ap (λ l. (u, l)) (one u lt (eqb u t) refl))
-      where
-        one : (u : ℕ) → u < 0 + length job.graph.tasks → (b : Bool) → eqb u t ≡ b
-            → f u ≡ kept_by job after u
-        one u lt true e =
-            let same : u ≡ t = eqb-true u t e in
-            ap f same ∙ own ∙ ap (kept_by job after) (sym same)
-        one u lt false e =
-            let apart : u ≢ t = λ same. (let no = sym (eq-eqb u t same) ∙ e in cc) in
-            rest u apart
-            ∙ kept_other job m (first_wait t k p n outcome) u at.reached.ran next (omega arith) apart
-
-    -- one value more
-    more : (x : ℤ) → kept_by job after t ≡ kept_by job m t ++ x ∷ []
-        → with_line (Some i) x (map (λ u. (u, kept_by job m u)) (sinks_of job))
-        ≡ map (λ u. (u, kept_by job after u)) (sinks_of job)
-    more x longer =
-        let f : ℕ → List ℤ = λ u. cond (eqb u t) (kept_by job after u) (kept_by job m u) in
-        let own : f t ≡ kept_by job after t =
-        ap (λ b. cond b (kept_by job after t) (kept_by job m t)) (eq-eqb t t refl) in
-        let rest : (u : ℕ) → u ≢ t → f u ≡ kept_by job m u =
-        λ u apart. ap (λ b. cond b (kept_by job after u) (kept_by job m u)) (ne_eqb u t apart) in
-        one_line (is_sink_at job) (length job.graph.tasks) i t x (kept_by job m) f sink
-        (own ∙ longer) (λ u apart. sym (rest u apart))
-        ∙ others f own rest
-
-    by : (o : Outcome) → outcome ≡ o
-        → with_line (line_of (Some i) o) (number o) (map (λ u. (u, kept_by job m u)) (sinks_of job))
-        ≡ map (λ u. (u, kept_by job after u)) (sinks_of job)
-    by outcomes.TooBig e =
-        let stays : kept_by job after t ≡ kept_by job m t =
-        kept_wait job m t k p n outcome next first
-        ∙ ap (λ o. kept_by job m t ++ kept_of (o ∷ [])) e ∙ append-nil (kept_by job m t) in
-        others (kept_by job m) (sym stays) (λ u apart. refl)
-    by outcomes.Empty e =
-        more (number outcomes.Empty) (kept_wait job m t k p n outcome next first
-        ∙ ap (λ o. kept_by job m t ++ kept_of (o ∷ [])) e)
-    by (outcomes.Value v) e =
-        more v (kept_wait job m t k p n outcome next first
-        ∙ ap (λ o. kept_by job m t ++ kept_of (o ∷ [])) e)
-
--- a place that is kept is the sink's
-pub if_kept : (P : ℕ → Type 0) (sink : Option ℕ) (outcome : Outcome) → IfSome sink P
-    → IfSome (line_of sink outcome) P
-if_kept P sink outcomes.TooBig is = tt
-if_kept P sink outcomes.Empty is = is
-if_kept P sink (outcomes.Value v) is = is
-
--- a task that is no sink has no line
-pub no_line_of : (outcome : Outcome) → line_of None outcome ≡ None
-no_line_of outcomes.TooBig = refl
-no_line_of outcomes.Empty = refl
-no_line_of (outcomes.Value v) = refl
+    one : (u : ℕ) → u < 0 + length job.graph.tasks → (b : Bool) → eqb u t ≡ b
+        → cond (eqb u t) (kept_by job after u) (kept_by job m u) ≡ kept_by job after u
+    one u lt true e = ap (λ b. cond b (kept_by job after u) (kept_by job m u)) e
+    one u lt false e =
+        let apart : u ≢ t = λ same. (let no = sym (eq-eqb u t same) ∙ e in cc) in
+        ap (λ b. cond b (kept_by job after u) (kept_by job m u)) e
+        ∙ kept_other job m (first_wait t k p n outcomes) u at.reached.ran next (omega arith) apart
 
 -- ---- how much is kept
 
@@ -388,9 +415,7 @@ all_in_range : (outcomes : List Outcome) → All (λ outcome. is_too_big outcome
     → kept_of outcomes ≡ map number outcomes
 all_in_range [] all = refl
 all_in_range (outcome ∷ rest) all =
-    let first : is_too_big outcome ≡ false = all 0 outcome (omega arith) in
-    ap (λ b. map number (cond (not b) (outcome ∷ filter (λ o. not (is_too_big o)) rest)
-    (filter (λ o. not (is_too_big o)) rest))) first
+    kept_first outcome rest (all 0 outcome (omega arith))
     ∙ ap (λ l. number outcome ∷ l)
     (all_in_range rest (λ i d lt. all (suc i) d (omega arith)))
 

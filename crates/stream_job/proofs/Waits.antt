@@ -1,58 +1,67 @@
 -- The turn of a task that waits.
 use Rattle.std.proofs.Common.{◌≡◌, ◌≢◌, ℕ, ℤ, List, suc, ◌+◌, ◌<◌, ◌≤◌, Bool, true, false, cond, eqb, [], ◌∷◌, ◌++◌, Option, Some, None, length, get_or, slice_get, set, map, refl, sym, ap, subst, ◌∙◌, arith}
-use Rattle.std.specs.Prelude.{Result, Ok, Err, nat_lt, IfSome}
-use Rattle.std.specs.List.{All}
-use Rattle.std.proofs.lemmas.List.{length-map}
+use Rattle.std.specs.Prelude.{Result, Ok, Err, nat_lt, IfSome, min, slice_range, take, drop, ◌-◌}
+use Rattle.std.specs.List.{All, range_with_len}
+use Rattle.std.proofs.Math.Seq.{take-append_seam}
+use Rattle.std.proofs.lemmas.List.FromFn.{length-range_with_len}
+use Rattle.std.proofs.lemmas.List.{length-map, length-take-le, length-drop}
 use Rattle.std.proofs.lemmas.Option.{slice_get_within}
 use Rattle.std.proofs.lemmas.Bool.{eq-eqb, eqb-true}
 use Rattle.phase_core.specs.phase_accum.declared.outcome.Outcome.{Outcome}
-use Rattle.phase_core.specs.phase_accum.declared.outcome.Outcome.TheVariants as outcomes
 use Rattle.phase_core.specs.phase_base.Limits.{Limits}
 use Rattle.phase_core.specs.phase_history.declared.event.Event.TheVariants.{Waited}
 use Rattle.phase_core.specs.phase_history.declared.got.Got.{Got}
 use Rattle.phase_core.specs.phase_history.declared.got.Got.TheVariants as got
+use Rattle.phase_core.specs.phase_history.declared.got.GotBlock.TheVariants as block
 use Rattle.phase_core.specs.phase_history.declared.refusal.WaitRefusal.{WaitRefusal}
 use Rattle.phase_core.specs.phase_history.declared.refusal.WaitRefusal.TheVariants as refusals
 use Rattle.phase_core.specs.phase_history.Histories.{History, wait_phase, done_of}
-use Rattle.phase_core.specs.phase_history.Phases.{value_of_phase}
+use Rattle.phase_core.specs.phase_history.Phases.{value_of_phase, stream_of}
 use Rattle.phase_core.specs.phase_history.Refusals.{wait_refusal}
-use Rattle.phase_core.specs.phase_history.Replies.{wait_reply, refused_or}
+use Rattle.phase_core.specs.phase_history.Replies.{wait_reply, wait_block_reply, refused_or}
+use Rattle.phase_core.specs.Blocks.{written}
+use Rattle.graph_runs.proofs.phase_history_lemmas.BlockAnswers.{block_answers_law}
 use Rattle.graph_lang.specs.graph_base.declared.line.Kind.TheVariants.{Source, Fir, Split, Join, Peer, Sink}
 use Rattle.graph_lang.specs.graph_base.declared.line.Kind.{Kind}
-use Rattle.graph_lang.specs.graph_base.declared.place.Place.TheVariants as place
 use Rattle.graph_lang.specs.graph_base.Graphs.{Task, task_at, is_sink}
+use Rattle.graph_lang.specs.graph_base.TaskLines.{IsGraph}
 use Rattle.stream_eval.specs.stream_lists.Jobs.{Job}
 use Rattle.stream_eval.specs.stream_lists.Lists.{number, sinks_of, is_sink_at}
 use Rattle.stream_eval.specs.Results.{sink_values}
-use Rattle.graph_runs.specs.Moments.{Moment, limits_at, value_at, input_at, first_input}
+use Rattle.graph_runs.specs.Moments.{Moment, HasRun, HasAnsweredNone, limits_at, value_at, input_at, first_input}
+use Rattle.graph_runs.specs.Moves.{further}
+use Rattle.graph_runs.specs.NextBlocks.{block_of}
+use Rattle.graph_runs.proofs.Nexts.{further-length}
 use Rattle.graph_runs.proofs.Tasks.{first_looks}
 use Rattle.graph_runs.specs.Turned.{with_at}
 use Rattle.graph_runs.specs.Nexts as turns
 use Rattle.graph_runs.specs.Nexts.{Next, is_live, next_of, number_on}
 use Rattle.graph_runs.specs.Reached.{IsReachable}
 use Rattle.graph_runs.specs.TaskEvents.{TaskEvent, first_wait, exchange_wait, after_turn}
-use Rattle.graph_runs.specs.Answers as answers
-use Rattle.graph_runs.specs.Answers.{Told, makes, is_blocked, is_refused, answer_of_turn, after_answer, answer_to, wait_answer, told_wait}
+use Rattle.graph_runs.specs.Answers.{Answer, makes, is_blocked, is_refused, answer_of_turn, after_answer, answer_to, wait_answer, block_answer, told_wait, told_got}
 use Rattle.graph_runs.specs.TaskPlaces as places
-use Rattle.graph_runs.specs.TaskPlaces.{StandsAt, owed_after_exchange}
+use Rattle.graph_runs.specs.TaskPlaces.{TaskPlace, StandsAt, owed_after_exchange}
 use Rattle.graph_runs.proofs.Signalling.{live-is}
 use Rattle.graph_runs.proofs.Boundaries.{peer_ends}
 use Rattle.graph_runs.proofs.Calling.{waits_as_peer}
+use Rattle.graph_runs.proofs.Turning.{turn_makes_next}
+use Rattle.graph_runs.proofs.InOrder.{event_owes}
 use Rattle.graph_runs.proofs.Exchanging.{exchange_follows}
 use Rattle.graph_runs.proofs.FirstWaits.{first_wait_follows}
 use Rattle.graph_runs.specs.Steps.{owed_of, HasFilter}
 use Rattle.graph_runs.specs.declared.owed.Owed.{Owed}
 use Rattle.graph_runs.specs.declared.owed.Owed.TheVariants as code
-use Rattle.stream_job.specs.Inside.{told_got, with_line, IsNextIn}
-use Rattle.stream_job.specs.Places.{place_of, HasTakenOne}
+use Rattle.stream_job.specs.Inside.{with_line, IsNextIn}
+use Rattle.stream_job.specs.Places.{place_of, owed_in, HasTaken}
 use Rattle.stream_job.specs.Machines.{IsMachineAt, HasCores, IsLineOf}
 use Rattle.stream_job.specs.Turning.{HadTurn, Shows, told_of}
 use Rattle.stream_job.specs.declared.machine.Machine.{Machine}
 use Rattle.stream_job.specs.declared.task_state.TaskState.{TaskState}
 use Rattle.stream_job.specs.declared.made.Made.TheVariants.{Event, Blocked}
 use Rattle.stream_job.specs.declared.turned.Turned.{Turned}
-use Rattle.stream_job.specs.SinkLines.{kept_by, line_of}
-use Rattle.stream_job.proofs.SinksKeep.{lines_keep, lines_stay, no_line_of}
+use Rattle.stream_eval.specs.declared.whole.Lines.{Lines}
+use Rattle.stream_job.specs.SinkLines.{kept_by, kept_of}
+use Rattle.stream_job.proofs.SinksKeep.{lines_keep, lines_stay}
 use Rattle.stream_job.proofs.Ending.{number_of_input}
 use Rattle.stream_job.proofs.Lively.{live_next}
 use Rattle.stream_job.proofs.WhatNext.{InStep, waits_begins, exchanges_owes}
@@ -87,12 +96,9 @@ phase_is value limits h n phase outcome e =
     by (Some r) b e = absurd (cc)
 
 -- what it tells
-told_is : (m : Moment) (p n phase : ℕ) (outcome : Outcome) → phase ≡ wait_phase (m.history p) n
-    → told_wait m p n outcome ≡ told_got p phase outcome
-told_is m p n phase outcomes.TooBig same =
-    ap (λ w. answers.TooBig (place.Phaser p, w)) (sym same)
-told_is m p n phase outcomes.Empty same = refl
-told_is m p n phase (outcomes.Value v) same = refl
+told_is : (m : Moment) (p n phase : ℕ) (outcomes : List Outcome)
+    → phase ≡ wait_phase (m.history p) n → told_wait m p n outcomes ≡ told_got p phase outcomes
+told_is m p n phase outcomes same = ap (λ w. told_got p w outcomes) (sym same)
 
 -- a refusal that a turn may get
 blocks : (event : Outcome → TaskEvent) (r : WaitRefusal)
@@ -102,6 +108,65 @@ blocks event refusals.NoWait never = absurd (never refl)
 blocks event refusals.BadBlock never = absurd (never refl)
 blocks event refusals.SignalFirst never = absurd (never refl)
 blocks event refusals.NotYet never = refl
+
+-- the answer to a wait for a block
+abbrev block_turn : Job → Moment → ℕ → ℕ → ℕ → ℕ → ℕ → Answer
+block_turn job m t k p n steps =
+    block_answer (λ phase count. first_wait t k p n
+    (slice_range (stream_of (value_at job p) (m.history p)) phase (phase + count)))
+    (wait_block_reply (limits_at job p) (m.history p) n steps)
+
+blocks_all : (event : ℕ → ℕ → TaskEvent) (r : WaitRefusal)
+    → block_answer event (Err r) ≢ is_refused → block_answer event (Err r) ≡ is_blocked
+blocks_all event refusals.NoTask never = absurd (never refl)
+blocks_all event refusals.NoWait never = absurd (never refl)
+blocks_all event refusals.BadBlock never = absurd (never refl)
+blocks_all event refusals.SignalFirst never = absurd (never refl)
+blocks_all event refusals.NotYet never = refl
+
+-- a wait for a block that was answered so many phases, and these outcomes
+pub record GotAll (job : Job) (m : Moment) (p n steps phase count : ℕ) (outcomes : List Outcome)
+    : Type 0 where
+  pub reply : wait_block_reply (limits_at job p) (m.history p) n steps
+      ≡ Ok (block.Values phase count)
+  pub are : slice_range (stream_of (value_at job p) (m.history p)) phase (phase + count)
+      ≡ outcomes
+  pub many : length outcomes ≡ count
+  pub first : phase ≡ wait_phase (m.history p) n
+  pub few : count ≤ steps
+  pub complete : phase + count ≤ done_of (m.history p)
+
+-- it stands in the places of the wait
+pub got_all : (job : Job) (m : Moment) (p n steps phase count : ℕ) (old now : List Outcome)
+    → wait_block_reply (limits_at job p) (m.history p) n steps ≡ Ok (block.Values phase count)
+    → now ≡ written (Ok (block.Values phase count)) (stream_of (value_at job p) (m.history p)) old
+    → GotAll job m p n steps phase count (take count now)
+got_all job m p n steps phase count old now reply is =
+    let h = m.history p in
+    let stream = stream_of (value_at job p) h in
+    let outcomes = slice_range stream phase (phase + count) in
+    let a = block_answers_law (value_at job p) (limits_at job p) h n steps phase count reply in
+    let long : length stream ≡ done_of h =
+    length-map (range_with_len 0 (done_of h)) (value_of_phase (value_at job p) h)
+    ∙ length-range_with_len 0 (done_of h) in
+    let off : phase + count - phase ≡ count = omega arith in
+    let complete : phase + count ≤ done_of h = a.complete in
+    let rest : length (drop phase stream) ≡ length stream - phase = length-drop phase stream in
+    let many : length outcomes ≡ count =
+    ap (λ i. length (take i (drop phase stream))) off
+    ∙ length-take-le count (drop phase stream) (omega arith) in
+    let least : count ≡ min steps (done_of h - phase) = a.count_is in
+    let are : take count now ≡ outcomes =
+    ap (λ l. take count l) is ∙ ap (λ i. take i (outcomes ++ drop count old)) (sym many)
+    ∙ take-append_seam outcomes (drop count old) in
+    record {
+      reply = reply;
+      are = sym are;
+      many = ap length are ∙ many;
+      first = a.phase_is;
+      few = omega arith;
+      complete = complete;
+    }
 
 -- ---- what is asked of the phaser
 
@@ -191,22 +256,29 @@ exchange_so job machine m t n p state next at found phaser numbered =
     ∙ ap (λ r. wait_answer (exchange_wait t r n) (wait_reply (value_at job r) (limits_at job r)
     (m.history r) n)) (sym phaser)
 
-first_so : (job : Job) (machine : Machine) (m : Moment) (t k n p : ℕ) (state : TaskState)
+first_so : (job : Job) (machine : Machine) (m : Moment) (t k n p steps : ℕ) (state : TaskState)
     → IsNextIn job machine t (turns.waits k) → IsMachineAt job m machine
     → slice_get machine.tasks.items t ≡ Some state → p ≡ input_at (task_at job.graph t) k
-    → n ≡ get_or state.numbers.items k 0
-    → answer_of_turn job m t ≡ wait_answer (first_wait t k p n)
-    (wait_reply (value_at job p) (limits_at job p) (m.history p) n)
-first_so job machine m t k n p state next at found phaser numbered =
+    → n ≡ get_or state.numbers.items k 0 → block_of job m t ≡ steps
+    → answer_of_turn job m t ≡ block_turn job m t k p n steps
+first_so job machine m t k n p steps state next at found phaser numbered many =
     let w = first_waits_at job machine m t k state next at found in
     let q = input_at (task_at job.graph t) k in
     ap (answer_to job m t) (next.is m at)
-    ∙ ap (λ i. wait_answer (first_wait t k q i) (wait_reply (value_at job q) (limits_at job q)
-    (m.history q) i)) (w.number ∙ sym numbered)
-    ∙ ap (λ r. wait_answer (first_wait t k r n) (wait_reply (value_at job r) (limits_at job r)
-    (m.history r) n)) (sym phaser)
+    ∙ ap (λ i. block_turn job m t k q i (block_of job m t)) (w.number ∙ sym numbered)
+    ∙ ap (λ r. block_turn job m t k r n (block_of job m t)) (sym phaser)
+    ∙ ap (block_turn job m t k p n) many
 
 -- ---- a peer's exchange
+
+-- a peer has made no values
+pub none_made : (job : Job) (machine : Machine) (m : Moment) (t : ℕ) (state : TaskState)
+    → IsNextIn job machine t turns.exchanges → IsMachineAt job m machine
+    → slice_get machine.tasks.items t ≡ Some state → state.made.items ≡ []
+none_made job machine m t state next at found =
+    (at.tasks t state found).made_none
+    (λ filters. (let peer : (task_at job.graph t).kind ≡ Peer = is_peer job m t (next.is m at) in
+    let wrong : Peer ≡ Fir = sym peer ∙ filters in cc))
 
 -- what a peer that exchanges owes, by its state
 pub owes_exchange : (job : Job) (machine : Machine) (m : Moment) (t : ℕ) (state : TaskState)
@@ -214,7 +286,9 @@ pub owes_exchange : (job : Job) (machine : Machine) (m : Moment) (t : ℕ) (stat
     → slice_get machine.tasks.items t ≡ Some state
     → (x : ℤ) × (owed_of state.owed ≡ places.exchange x)
 owes_exchange job machine m t state next at found =
-    by (owed_of state.owed) (at.tasks t state found).stands.owes
+    by (owed_of state.owed)
+    (subst (λ l. places.Owes job m t (owed_in state.owed l))
+    (none_made job machine m t state next at found) (at.tasks t state found).stands.owes)
   where
     s : InStep job m t turns.exchanges
     s = exchanges_owes job m t (next.is m at)
@@ -224,7 +298,7 @@ owes_exchange job machine m t state next at found =
 
     by : (o : places.Owed) → places.Owes job m t o → (x : ℤ) × (o ≡ places.exchange x)
     by places.nothing owes = absurd (let wrong : None ≡ Some s.output = sym owes ∙ s.owes in cc)
-    by (places.value i v) owes =
+    by (places.values i vs) owes =
         absurd (let same : i ≡ s.output = one i s.output (sym owes.0 ∙ s.owes) in
         let wrong : turns.signals i ≡ turns.exchanges =
         sym owes.1 ∙ ap (turns.in_step job m t) same ∙ s.is in cc)
@@ -240,9 +314,22 @@ exchange_some job machine t state next found never =
     by : (o : Owed) → state.owed ≡ o → (x : ℤ) → owed_of state.owed ≡ places.exchange x → ⊥
     by code.Nothing e x is = absurd (let wrong : places.nothing ≡ places.exchange x =
         ap owed_of (sym e) ∙ is in cc)
-    by (code.Value i w) e x is = absurd (let wrong : places.value i w ≡ places.exchange x =
+    by (code.Value i w) e x is = absurd (let wrong : places.values i (w ∷ []) ≡ places.exchange x =
         ap owed_of (sym e) ∙ is in cc)
     by (code.Exchange y) e x is = never y e
+
+-- the place of a peer after its exchange
+exchange_stands : (job : Job) (m : Moment) (t p n : ℕ) (outcome : Outcome) (at : TaskPlace)
+    → IsGraph job.graph → IsReachable job m
+    → HasRun job (after_turn job (exchange_wait t p n outcome) m)
+    → answer_of_turn job m t ≡ makes (exchange_wait t p n outcome) → StandsAt job m t at
+    → StandsAt job (after_turn job (exchange_wait t p n outcome) m) t
+    (record at { owed = owed_after_exchange (task_at job.graph t) at.owed (number outcome) })
+exchange_stands job m t p n outcome at is reached now answer stands =
+    let event = exchange_wait t p n outcome in
+    exchange_follows job m t p n outcome at is reached.ran
+    (turn_makes_next job m t event is reached.ran (λ c due. reached.to_come) answer) now
+    (event_owes job m t event answer) stands
 
 pub exchanged_turn : (job : Job) (old new : Machine) (t n p phase : ℕ) (x : ℤ)
     (outcome : Outcome) (state : TaskState) (owed : Owed) (told : Turned)
@@ -255,7 +342,7 @@ pub exchanged_turn : (job : Job) (old new : Machine) (t n p phase : ℕ) (x : �
     → HasCores job (with_at p (Waited n 1 ∷ m.history p) m.history) new.cores.items)
     → new.tasks.items ≡ set old.tasks.items t (with_owed state owed) → new.lines ≡ old.lines
     → owed_of owed ≡ owed_after_exchange (task_at job.graph t) (places.exchange x) (number outcome)
-    → told_of told ≡ told_got p phase outcome
+    → told_of told ≡ told_got p phase (outcome ∷ [])
     → HadTurn job old new t (Event p told)
 exchanged_turn job old new t n p phase x outcome state owed told next found phaser numbered owes reply cores tasks lines after_owes tells =
     record { shows = shows; after = after }
@@ -271,7 +358,7 @@ exchanged_turn job old new t n p phase x outcome state owed told next found phas
     shows m at =
         subst (λ a. Shows job m t a (Event p told)) (sym (answer m at)) (
           refl,
-          told_is m p n phase outcome (phase_is (value_at job p) (limits_at job p) (m.history p) n
+          told_is m p n phase (outcome ∷ []) (phase_is (value_at job p) (limits_at job p) (m.history p) n
               phase outcome (reply m at)) ∙ sym tells,
         )
 
@@ -288,22 +375,27 @@ exchanged_turn job old new t n p phase x outcome state owed told next found phas
         by false e =
             ap (λ b. cond b (with_at 1 (m.taken t 1 ++ number outcome ∷ []) (m.taken t)) (m.taken u) 0) e
 
-    after : (m : Moment) → IsMachineAt job m old
+    ran : (m : Moment) → IsMachineAt job m old
+        → HasRun job (after_turn job (exchange_wait t p n outcome) m)
+    ran m at =
+        (subst (λ a. IsReachable job (after_answer job a m)) (answer m at) (next.stays m at)).ran
+
+    after : (m : Moment) → IsMachineAt job m old → HasAnsweredNone job m
         → IsMachineAt job (after_answer job (answer_of_turn job m t) m) new
-    after m at =
+    after m at none =
         let it = at.tasks t state found in
         let event = exchange_wait t p n outcome in
-        let ran = (subst (λ a. IsReachable job (after_answer job a m)) (answer m at)
-        (next.stays m at)).ran in
-        let is : owed_of state.owed ≡ places.exchange x = ap owed_of owes in
-        let after_is : owed_after_exchange (task_at job.graph t) (owed_of state.owed) (number outcome)
-        ≡ owed_of owed =
+        let made = none_made job old m t state next at found in
+        let is : owed_in state.owed state.made.items ≡ places.exchange x =
+        ap (owed_in state.owed) made ∙ ap owed_of owes in
+        let after_is : owed_after_exchange (task_at job.graph t) (owed_in state.owed state.made.items)
+        (number outcome) ≡ owed_in owed state.made.items =
         ap (λ o. owed_after_exchange (task_at job.graph t) o (number outcome)) is
-        ∙ sym after_owes in
+        ∙ sym (ap (owed_in owed) made ∙ after_owes) in
         let stands : StandsAt job (after_turn job event m) t (place_of (with_owed state owed)) =
         subst (λ o. StandsAt job (after_turn job event m) t (record (place_of state) { owed = o }))
-        after_is (exchange_follows job m t p n outcome (place_of state) at.graph at.reached ran
-        (answer m at) it.stands) in
+        after_is (exchange_stands job m t p n outcome (place_of state) at.graph at.reached
+        (ran m at) (answer m at) it.stands) in
         after_own job m old new t event (with_owed state owed) at (answer m at) refl
         (exchange_waits_at job old m t state next at found).there (next.stays m at) (next.few m at)
         (cores m at) tasks
@@ -311,10 +403,16 @@ exchanged_turn job old new t n p phase x outcome state owed told next found phas
           stands = stands;
           room = it.room;
           filter = subst (HasFilter (task_at job.graph t) state.filter) (sym (stays m t)) it.filter;
+          made_room = it.made_room;
+          made_by = λ filters. absurd
+              (let peer : (task_at job.graph t).kind ≡ Peer = is_peer job m t (next.is m at) in
+              let wrong : Peer ≡ Fir = sym peer ∙ filters in cc);
+          made_none = it.made_none;
           sink = it.sink;
         })
         (ap (λ l. map sink_values l.items) lines ∙ at.lines
         ∙ lines_stay job m old t event at (answer m at) tt)
+        (ap (λ l. map (λ line. line.start) l.items) lines)
         (subst (λ l. All (IsLineOf job) l.items) (sym lines) at.own)
 
 -- a wait that the phaser would not take now
@@ -354,13 +452,13 @@ never_ended job old t n p state next found phaser numbered reply =
 -- ---- the first wait of a step
 
 -- what the task takes is on its first input where that is looked at by a filter or a sink
-pub first_is : (job : Job) (m : Moment) (t k n p : ℕ) (outcome : Outcome) → k ≡ 0
-    → (after_turn job (first_wait t k p n outcome) m).taken t 0
-    ≡ m.taken t 0 ++ number outcome ∷ []
-first_is job m t k n p outcome first =
-    subst (λ i. with_at t (with_at i (m.taken t i ++ number outcome ∷ []) (m.taken t)) m.taken t 0
-    ≡ m.taken t 0 ++ number outcome ∷ []) (sym first)
-    (ap (λ b. cond b (with_at 0 (m.taken t 0 ++ number outcome ∷ []) (m.taken t)) (m.taken t) 0)
+pub first_is : (job : Job) (m : Moment) (t k n p : ℕ) (outcomes : List Outcome) → k ≡ 0
+    → (after_turn job (first_wait t k p n outcomes) m).taken t 0
+    ≡ m.taken t 0 ++ map number outcomes
+first_is job m t k n p outcomes first =
+    subst (λ i. with_at t (with_at i (m.taken t i ++ map number outcomes) (m.taken t)) m.taken t 0
+    ≡ m.taken t 0 ++ map number outcomes) (sym first)
+    (ap (λ b. cond b (with_at 0 (m.taken t 0 ++ map number outcomes) (m.taken t)) (m.taken t) 0)
     (eq-eqb t t refl))
 
 pub sink_kind : (kind : Kind) → is_sink kind ≡ true → kind ≡ Sink
@@ -384,80 +482,96 @@ zero_first task b k kind is not first = first ∙ by kind is not
     by Peer e never = rw e refl
     by Sink e never = rw e refl
 
--- the place of a state that took one
-taken_place : (job : Job) (after : Moment) (t : ℕ) (x : ℤ) (taken : List ℤ)
-    (old new : TaskState) → HasTakenOne (task_at job.graph t) x old new
+-- the place of a state that took these
+taken_place : (job : Job) (after : Moment) (t : ℕ) (outcomes : List Outcome) (taken : List ℤ)
+    (old new : TaskState) → HasTaken (task_at job.graph t) (map number outcomes) old new
     → HasFilter (task_at job.graph t) old.filter taken
     → StandsAt job after t (record (place_of old) {
-      begun = suc old.begun;
-      owed = places.owed_after_wait (task_at job.graph t) old.begun taken x;
+      begun = further old.begun outcomes;
+      owed = places.owed_after_wait (task_at job.graph t) old.begun taken (map number outcomes);
     }) → StandsAt job after t (place_of new)
-taken_place job after t x taken old new took has stands =
-    let one : suc old.begun ≡ new.begun = suc_is old.begun new.begun took.begun in
+taken_place job after t outcomes taken old new took has stands =
+    let owes = places.owed_after_wait (task_at job.graph t) old.begun taken (map number outcomes) in
+    let many : further old.begun outcomes ≡ old.begun + length outcomes =
+    further-length old.begun outcomes in
+    let all : new.begun ≡ old.begun + length (map number outcomes) = took.begun in
+    let long : length (map number outcomes) ≡ length outcomes = length-map outcomes number in
+    let steps : further old.begun outcomes ≡ new.begun = omega arith in
     subst (λ o. StandsAt job after t (record (place_of new) { owed = o })) (sym (took.owed taken has))
-    (subst (λ b. StandsAt job after t (record (place_of new) {
-      begun = b;
-      owed = places.owed_after_wait (task_at job.graph t) old.begun taken x;
-    })) one
+    (subst (λ b. StandsAt job after t (record (place_of new) { begun = b; owed = owes })) steps
     (subst (λ l. StandsAt job after t (record (place_of new) {
       left = l;
-      begun = suc old.begun;
-      owed = places.owed_after_wait (task_at job.graph t) old.begun taken x;
+      begun = further old.begun outcomes;
+      owed = owes;
     })) (sym took.left)
     (subst (λ v. StandsAt job after t (record (place_of old) {
       numbers = v.items;
-      begun = suc old.begun;
-      owed = places.owed_after_wait (task_at job.graph t) old.begun taken x;
+      begun = further old.begun outcomes;
+      owed = owes;
     })) (sym took.numbers) stands)))
-  where
-    suc_is : (a b : ℕ) → b ≡ a + 1 → suc a ≡ b
-    suc_is a b e = omega arith
 
--- what the turn answers where the wait got a value
-pub first_answer : (job : Job) (old : Machine) (m : Moment) (t k n p phase : ℕ)
-    (outcome : Outcome) (state : TaskState) → IsNextIn job old t (turns.waits k)
+-- the place of a task after the first wait of its next steps
+first_stands : (job : Job) (m : Moment) (t k p n : ℕ) (outcomes : List Outcome) (at : TaskPlace)
+    → IsGraph job.graph → IsReachable job m
+    → HasRun job (after_turn job (first_wait t k p n outcomes) m)
+    → answer_of_turn job m t ≡ makes (first_wait t k p n outcomes) → StandsAt job m t at
+    → StandsAt job (after_turn job (first_wait t k p n outcomes) m) t (record at {
+      begun = further at.begun outcomes;
+      owed = places.owed_after_wait (task_at job.graph t) at.begun (m.taken t 0)
+          (map number outcomes);
+    })
+first_stands job m t k p n outcomes at is reached now answer stands =
+    let event = first_wait t k p n outcomes in
+    first_wait_follows job m t k p n outcomes at is reached.ran
+    (turn_makes_next job m t event is reached.ran (λ c due. reached.to_come) answer) now
+    (event_owes job m t event answer) stands
+
+-- what the turn answers where the wait got values
+pub first_answer : (job : Job) (old : Machine) (m : Moment) (t k n p steps phase count : ℕ)
+    (outcomes : List Outcome) (state : TaskState) → IsNextIn job old t (turns.waits k)
     → IsMachineAt job m old → slice_get old.tasks.items t ≡ Some state
     → p ≡ input_at (task_at job.graph t) k → n ≡ get_or state.numbers.items k 0
-    → wait_reply (value_at job p) (limits_at job p) (m.history p) n ≡ Ok (got.Value phase outcome)
-    → answer_of_turn job m t ≡ makes (first_wait t k p n outcome)
-first_answer job old m t k n p phase outcome state next at found phaser numbered reply =
-    first_so job old m t k n p state next at found phaser numbered
-    ∙ ap (wait_answer (first_wait t k p n)) reply
+    → block_of job m t ≡ steps → GotAll job m p n steps phase count outcomes
+    → answer_of_turn job m t ≡ makes (first_wait t k p n outcomes)
+first_answer job old m t k n p steps phase count outcomes state next at found phaser numbered many all =
+    first_so job old m t k n p steps state next at found phaser numbered many
+    ∙ ap (block_answer (λ phase count. first_wait t k p n
+    (slice_range (stream_of (value_at job p) (m.history p)) phase (phase + count)))) all.reply
+    ∙ ap (λ l. makes (first_wait t k p n l)) all.are
 
-pub first_turn : (job : Job) (old new : Machine) (t k n p phase : ℕ) (outcome : Outcome)
-    (state took : TaskState) (sink : Option ℕ) (told : Turned)
+pub first_turn : (job : Job) (old new : Machine) (t k n p steps phase count : ℕ)
+    (outcomes : List Outcome) (state took : TaskState) (sink : Option ℕ) (told : Turned)
     → IsNextIn job old t (turns.waits k) → slice_get old.tasks.items t ≡ Some state
     → p ≡ input_at (task_at job.graph t) k → n ≡ get_or state.numbers.items k 0
-    → HasTakenOne (task_at job.graph t) (number outcome) state took
+    → HasTaken (task_at job.graph t) (map number outcomes) state took
     → sink ≡ cond (is_sink_at job t) (Some state.sink) None
+    → ((m : Moment) → IsMachineAt job m old → block_of job m t ≡ steps)
+    → ((m : Moment) → IsMachineAt job m old → GotAll job m p n steps phase count outcomes)
     → ((m : Moment) → IsMachineAt job m old
-    → wait_reply (value_at job p) (limits_at job p) (m.history p) n ≡ Ok (got.Value phase outcome))
-    → ((m : Moment) → IsMachineAt job m old
-    → HasCores job (with_at p (Waited n 1 ∷ m.history p) m.history) new.cores.items)
+    → HasCores job (with_at p (Waited n count ∷ m.history p) m.history) new.cores.items)
     → new.tasks.items ≡ set old.tasks.items t took
     → map sink_values new.lines.items
-    ≡ with_line (line_of sink outcome) (number outcome) (map sink_values old.lines.items)
+    ≡ with_line sink (kept_of outcomes) (map sink_values old.lines.items)
+    → map (λ line. line.start) new.lines.items ≡ map (λ line. line.start) old.lines.items
     → (All (IsLineOf job) old.lines.items → All (IsLineOf job) new.lines.items)
-    → told_of told ≡ told_got p phase outcome
+    → told_of told ≡ told_got p phase outcomes
     → HadTurn job old new t (Event p told)
-first_turn job old new t k n p phase outcome state took sink told next found phaser numbered has sinks reply cores tasks lines own tells =
+first_turn job old new t k n p steps phase count outcomes state took sink told next found phaser numbered has sinks many all cores tasks lines starts own tells =
     record { shows = shows; after = after }
   where
     event : TaskEvent
-    event = first_wait t k p n outcome
+    event = first_wait t k p n outcomes
 
     answer : (m : Moment) → IsMachineAt job m old → answer_of_turn job m t ≡ makes event
     answer m at =
-        first_answer job old m t k n p phase outcome state next at found phaser numbered (reply m at)
+        first_answer job old m t k n p steps phase count outcomes state next at found phaser numbered
+        (many m at) (all m at)
 
     shows : (m : Moment) → IsMachineAt job m old
         → Shows job m t (answer_of_turn job m t) (Event p told)
     shows m at =
-        subst (λ a. Shows job m t a (Event p told)) (sym (answer m at)) (
-          refl,
-          told_is m p n phase outcome (phase_is (value_at job p) (limits_at job p) (m.history p) n
-              phase outcome (reply m at)) ∙ sym tells,
-        )
+        subst (λ a. Shows job m t a (Event p told)) (sym (answer m at))
+        (refl, told_is m p n phase outcomes (all m at).first ∙ sym tells)
 
     first : (m : Moment) → IsMachineAt job m old
         → k ≡ first_input (task_at job.graph t) (m.begun t)
@@ -467,83 +581,100 @@ first_turn job old new t k n p phase outcome state took sink told next found pha
         → HasFilter (task_at job.graph t) took.filter ((after_turn job event m).taken t 0)
     kept m at = λ fir.
         subst (HasFilter (task_at job.graph t) took.filter)
-        (sym (first_is job m t k n p outcome (zero_first (task_at job.graph t) (m.begun t) k Fir fir
+        (sym (first_is job m t k n p outcomes (zero_first (task_at job.graph t) (m.begun t) k Fir fir
         (λ e. absurd (cc)) (first m at))))
         (has.filter (m.taken t 0) (at.tasks t state found).filter) fir
 
-    sink_lines : (m : Moment) (at : IsMachineAt job m old) (b : Bool) → is_sink_at job t ≡ b
-        → with_line (line_of (cond b (Some state.sink) None) outcome) (number outcome)
+    sink_lines : (m : Moment) (at : IsMachineAt job m old) → HasAnsweredNone job m → (b : Bool)
+        → is_sink_at job t ≡ b
+        → with_line (cond b (Some state.sink) None) (kept_of outcomes)
         (map (λ u. (u, kept_by job m u)) (sinks_of job))
         ≡ map (λ u. (u, kept_by job (after_turn job event m) u)) (sinks_of job)
-    sink_lines m at true e =
+    sink_lines m at none true e =
         let kind = sink_kind (task_at job.graph t).kind e in
-        lines_keep job m old t k p n state.sink outcome at (answer m at)
+        lines_keep job m old t k p n state.sink outcomes at none (answer m at)
         (zero_first (task_at job.graph t) (m.begun t) k Sink kind (λ e. absurd (cc)) (first m at))
         ((at.tasks t state found).sink kind)
-    sink_lines m at false e =
-        ap (λ o. with_line o (number outcome) (map (λ u. (u, kept_by job m u)) (sinks_of job)))
-        (no_line_of outcome)
-        ∙ lines_stay job m old t event at (answer m at) e
+    sink_lines m at none false e = lines_stay job m old t event at (answer m at) e
 
-    after : (m : Moment) → IsMachineAt job m old
+    cores_now : (m : Moment) → IsMachineAt job m old
+        → HasCores job (after_turn job event m).history new.cores.items
+    cores_now m at =
+        subst (λ i. HasCores job (with_at p (Waited n i ∷ m.history p) m.history) new.cores.items)
+        (sym (all m at).many) (cores m at)
+
+    after : (m : Moment) → IsMachineAt job m old → HasAnsweredNone job m
         → IsMachineAt job (after_answer job (answer_of_turn job m t) m) new
-    after m at =
+    after m at none =
         let it = at.tasks t state found in
         let ran = (subst (λ a. IsReachable job (after_answer job a m)) (answer m at)
         (next.stays m at)).ran in
-        let stands = taken_place job (after_turn job event m) t (number outcome) (m.taken t 0) state
-        took has it.filter (first_wait_follows job m t k p n outcome (place_of state) at.graph
-        at.reached ran (answer m at) it.stands) in
+        let stands = taken_place job (after_turn job event m) t outcomes (m.taken t 0) state took has
+        it.filter (first_stands job m t k p n outcomes (place_of state) at.graph at.reached ran
+        (answer m at) it.stands) in
         after_own job m old new t event took at (answer m at) refl
         (first_waits_at job old m t k state next at found).there (next.stays m at) (next.few m at)
-        (cores m at) tasks
+        (cores_now m at) tasks
         (record {
           stands = stands;
           room = subst (λ v. 9 ≤ v.capacity) (sym has.numbers) it.room;
           filter = kept m at;
+          made_room = λ fir.
+              subst (λ i. (task_at job.graph t).block ≤ i) (sym has.room) (it.made_room fir);
+          made_by = has.made_by;
+          made_none = has.made_none;
           sink = λ kind. ap (slice_get (sinks_of job)) has.sink ∙ it.sink kind;
         })
         (lines
-        ∙ ap (with_line (line_of sink outcome) (number outcome)) at.lines
-        ∙ ap (λ o. with_line (line_of o outcome) (number outcome)
-        (map (λ u. (u, kept_by job m u)) (sinks_of job))) sinks
-        ∙ sink_lines m at (is_sink_at job t) refl)
+        ∙ ap (with_line sink (kept_of outcomes)) at.lines
+        ∙ ap (λ o. with_line o (kept_of outcomes) (map (λ u. (u, kept_by job m u)) (sinks_of job)))
+        sinks
+        ∙ sink_lines m at none (is_sink_at job t) refl)
+        starts
         (own at.own)
 
 -- a wait that the phaser would not take now
-pub blocked_first : (job : Job) (old new : Machine) (t k n p : ℕ) (state : TaskState)
+pub blocked_first : (job : Job) (old new : Machine) (t k n p steps : ℕ) (state : TaskState)
     (r : WaitRefusal) → IsNextIn job old t (turns.waits k)
     → slice_get old.tasks.items t ≡ Some state → p ≡ input_at (task_at job.graph t) k
     → n ≡ get_or state.numbers.items k 0
+    → ((m : Moment) → IsMachineAt job m old → block_of job m t ≡ steps)
     → ((m : Moment) → IsMachineAt job m old
-    → wait_reply (value_at job p) (limits_at job p) (m.history p) n ≡ Err r)
+    → wait_block_reply (limits_at job p) (m.history p) n steps ≡ Err r)
     → ((m : Moment) → IsMachineAt job m old
     → HasCores job (with_at p (m.history p) m.history) new.cores.items)
     → new.tasks ≡ old.tasks → new.lines ≡ old.lines → HadTurn job old new t (Blocked p)
-blocked_first job old new t k n p state r next found phaser numbered reply cores tasks lines =
+blocked_first job old new t k n p steps state r next found phaser numbered many reply cores tasks lines =
     blocked_turn job old new t p (turns.waits k) next (sym phaser) answer
     (λ m at. unchanged job m old new p at (cores m at) tasks lines)
   where
+    event : Moment → ℕ → ℕ → TaskEvent
+    event m phase count =
+        first_wait t k p n
+        (slice_range (stream_of (value_at job p) (m.history p)) phase (phase + count))
+
     refused : (m : Moment) → IsMachineAt job m old
-        → answer_of_turn job m t ≡ wait_answer (first_wait t k p n) (Err r)
+        → answer_of_turn job m t ≡ block_answer (event m) (Err r)
     refused m at =
-        first_so job old m t k n p state next at found phaser numbered
-        ∙ ap (wait_answer (first_wait t k p n)) (reply m at)
+        first_so job old m t k n p steps state next at found phaser numbered (many m at)
+        ∙ ap (block_answer (event m)) (reply m at)
 
     answer : (m : Moment) → IsMachineAt job m old → answer_of_turn job m t ≡ is_blocked
     answer m at =
-        refused m at ∙ blocks (first_wait t k p n) r (λ e. next.answered m at (refused m at ∙ e))
+        refused m at ∙ blocks_all (event m) r (λ e. next.answered m at (refused m at ∙ e))
 
-pub first_never_ended : (job : Job) (old : Machine) (t k n p : ℕ) (state : TaskState)
+pub first_never_ended : (job : Job) (old : Machine) (t k n p steps : ℕ) (state : TaskState)
     → IsNextIn job old t (turns.waits k) → slice_get old.tasks.items t ≡ Some state
     → p ≡ input_at (task_at job.graph t) k → n ≡ get_or state.numbers.items k 0
+    → ((m : Moment) → IsMachineAt job m old → block_of job m t ≡ steps)
     → ((m : Moment) → IsMachineAt job m old
-    → wait_reply (value_at job p) (limits_at job p) (m.history p) n ≡ Ok got.Ended) → ⊥
-first_never_ended job old t k n p state next found phaser numbered reply =
+    → wait_block_reply (limits_at job p) (m.history p) n steps ≡ Ok block.Ended) → ⊥
+first_never_ended job old t k n p steps state next found phaser numbered many reply =
     let m = next.some.0 in
     let at = next.some.1 in
-    next.answered m at (first_so job old m t k n p state next at found phaser numbered
-    ∙ ap (wait_answer (first_wait t k p n)) (reply m at))
+    next.answered m at (first_so job old m t k n p steps state next at found phaser numbered (many m at)
+    ∙ ap (block_answer (λ phase count. first_wait t k p n
+    (slice_range (stream_of (value_at job p) (m.history p)) phase (phase + count)))) (reply m at))
 
 -- ---- the line of a sink
 

@@ -52,7 +52,7 @@ returns-in-Ok-Value c =
     let fits_e : SFits w64 c.number_taken.result = search rules in
     exchanged_turn c.args.job.now c.args.self.now _ c.args.t (get_or c.deref.result.now 1 0)
     c.input_of-phaser.result c.in-Ok-Value.phase c.in-Exchange.x c.in-Ok-Value.outcome
-    c.index-state.result.now c.owed_after_exchange.result c.told_wait.result c.requires found
+    c.index-state.result.now c.owed_after_exchange.result c.told_got.result c.requires found
     c.input_of-phaser.ensures.phaser (ap (λ ns. get_or ns 1 0) c.deref.ensures) c.in-Exchange.is
     (λ m at. c.in-Ok-Value.ensures.reply m at ∙ ap (λ g. Ok g) c.in-Ok-Value.field-0-is)
     (λ m at. subst (λ g. HasCores c.args.job.now (with_at c.input_of-phaser.result
@@ -68,7 +68,7 @@ returns-in-Ok-Value c =
     (to_z w64 (of_z w64 c.number_taken.result))) (to_z-of_z fits_x)
     ∙ ap (owed_after_exchange (task_at c.args.job.now.graph c.args.t) (exchange c.in-Exchange.x))
     (to_z-of_z fits_e ∙ c.number_taken.ensures))
-    c.told_wait.ensures
+    c.told_got.ensures
 
 pub returns-in-Err : goal.returns-in-Err
 returns-in-Err c =

@@ -1,0 +1,32 @@
+-- The values stand behind the others.
+use Rattle.std.proofs.Common.{refl, ap}
+use Rattle.stream_job.specs.SinkLines.{kept_of}
+use Rattle.stream_job.proofs.Rooms.{line_kept}
+use Rattle.stream_job.proofs.SinkLines.{kept_line, line_stays, line_there, room_for}
+use Rattle.stream_job.proofs.machine.Machine.keep.Goals as goal
+
+pub keep_values-requires : goal.keep_values-requires
+keep_values-requires c =
+    room_for c.args.self.now.lines.items c.in-Some.i _ c.index_mut.result.now c.args.sink c.in-Some.is
+    c.requires.there c.requires.room c.index_mut.ensures.value
+
+pub returns-in-Some-clause-lines : goal.returns-in-Some-clause-lines
+returns-in-Some-clause-lines c =
+    kept_line c.args.self.now.lines.items c.in-Some.i c.index_mut.result.now
+    (record c.index_mut.result.now { values = c.keep_values.new.values }) (kept_of c.args.outcomes.now)
+    c.args.sink c.in-Some.is c.requires.there c.index_mut.ensures.value
+    (ap (λ vs. (c.index_mut.result.now.task, vs)) c.keep_values.ensures.values)
+
+pub returns-in-Some-clause-starts : goal.returns-in-Some-clause-starts
+returns-in-Some-clause-starts c =
+    line_stays (λ line. line.start) c.args.self.now.lines.items c.in-Some.i c.index_mut.result.now
+    (record c.index_mut.result.now { values = c.keep_values.new.values })
+    c.index_mut.ensures.value refl
+
+-- Its line has the room that it had.
+pub returns-in-Some-clause-own : goal.returns-in-Some-clause-own
+returns-in-Some-clause-own c = λ job all.
+    line_kept job c.args.self.now.lines.items c.in-Some.i c.index_mut.result.now
+    (record c.index_mut.result.now { values = c.keep_values.new.values })
+    (line_there c.args.self.now.lines.items c.in-Some.i c.args.sink c.in-Some.is c.requires.there)
+    c.index_mut.ensures.value refl c.keep_values.ensures.room all
