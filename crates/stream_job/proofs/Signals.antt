@@ -1,9 +1,14 @@
 -- The turn of a task that signals.
-use Rattle.std.proofs.Common.{◌≡◌, ◌≢◌, ℕ, ℤ, List, zero, suc, ◌+◌, ◌<◌, ◌≤◌, Bool, true, false, cond, not, [], ◌∷◌, Option, Some, None, length, get_or, slice_get, set, map, pos, refl, sym, ap, subst, ◌∙◌, arith}
-use Rattle.std.specs.Prelude.{Result, Ok, Err, nat_le, unsigned_abs}
-use Rattle.graph_lang.specs.stream_filters.Range.{ranged}
-use Rattle.graph_lang.specs.stream_filters.declared.fault.TooBigValue.{TooBigValue}
-use Rattle.phase_core.specs.phase_accum.Sends.{IsSend}
+use Rattle.std.proofs.Common.{◌≡◌, ◌≢◌, ℕ, ℤ, List, zero, suc, ◌+◌, ◌-◌, ◌<◌, ◌≤◌, Bool, true, false, cond, not, [], ◌∷◌, Option, Some, None, length, get_or, slice_get, set, map, take, drop, refl, sym, ap, subst, ◌∙◌, arith}
+use Rattle.std.specs.Prelude.{Result, Ok, Err, nat_le, unsigned_abs, min}
+use Rattle.std.specs.List.{All, position_from}
+use Rattle.std.specs.declared.vec.Vec.{Vec}
+use Rattle.std.specs.Global.{Global}
+use Rattle.std.proofs.lemmas.Bool.{leb-false, eq-eqb}
+use Rattle.std.proofs.lemmas.List.{length-map, length-drop, length-take-le}
+use Rattle.std.proofs.lemmas.Option.{same_Some}
+use Rattle.phase_core.specs.phase_base.Limits.{Limits}
+use Rattle.phase_core.specs.phase_accum.Sends.{AreSends}
 use Rattle.phase_core.specs.phase_accum.declared.single.Single.{Single}
 use Rattle.phase_core.specs.phase_history.declared.event.Event.TheVariants.{Signalled}
 use Rattle.phase_core.specs.phase_history.declared.refusal.SignalRefusal.{SignalRefusal}
@@ -11,49 +16,55 @@ use Rattle.phase_core.specs.phase_history.declared.refusal.SignalRefusal.TheVari
 use Rattle.phase_core.specs.phase_history.Histories.{History, signal_phase}
 use Rattle.phase_core.specs.phase_history.Refusals.{signal_refusal}
 use Rattle.phase_core.specs.phase_history.Replies.{signal_reply, refused_or}
+use Rattle.graph_lang.specs.stream_filters.Range.{ranged}
+use Rattle.graph_lang.specs.stream_filters.declared.fault.TooBigValue.{TooBigValue}
+use Rattle.graph_lang.specs.graph_base.declared.line.Kind.{Kind}
+use Rattle.graph_lang.specs.graph_base.declared.line.Kind.TheVariants.{Source, Fir, Split, Join, Peer, Sink}
+use Rattle.graph_lang.specs.graph_base.declared.place.Place.TheVariants as place
 use Rattle.graph_lang.specs.graph_base.Graphs.{task_at, phaser_at, Task}
 use Rattle.graph_lang.specs.graph_base.Registrations.{signalled_by}
 use Rattle.stream_eval.specs.stream_lists.Jobs.{Job, samples_at}
 use Rattle.stream_eval.specs.stream_lists.Ranges.{is_out_of_range, are_made}
+use Rattle.stream_eval.specs.stream_lists.Spans.{puts_on}
 use Rattle.stream_eval.specs.Results.{sink_values}
-use Rattle.graph_runs.specs.Moments.{Moment, limits_at, made_now}
+use Rattle.graph_runs.specs.Moments.{one, Moment, HasAnsweredNone, limits_at, made_now}
+use Rattle.graph_runs.specs.Moves.{further}
 use Rattle.graph_runs.specs.Turned.{with_at}
+use Rattle.graph_runs.specs.NextBlocks.{block_of, sample_block_of}
 use Rattle.graph_runs.specs.Nexts as turns
 use Rattle.graph_runs.specs.Nexts.{Next, is_live, next_of, number_on}
 use Rattle.graph_runs.specs.TaskEvents.{TaskEvent, signal, sample, after_turn}
 use Rattle.graph_runs.specs.Answers as answers
-use Rattle.graph_runs.specs.Answers.{Answer, makes, is_blocked, is_refused, answer_of_turn, after_answer, answer_to, signal_answer, signal_turn, call_signal, output_at, next_value, told_event}
-use Rattle.graph_runs.specs.TaskPlaces as places
-use Rattle.graph_runs.specs.TaskPlaces.{StandsAt, registration_of_output, owed_after_signal, lacking}
-use Rattle.graph_runs.proofs.Signalling.{owed, live-is, sendable}
-use Rattle.graph_runs.proofs.Stepping.{signal_follows, sample_follows}
-use Rattle.graph_runs.proofs.Calling.{source_ends}
+use Rattle.graph_runs.specs.Answers.{Answer, makes, is_blocked, is_refused, answer_of_turn, after_answer, answer_to, signal_answer, signal_turn, call_signal, output_at, next_samples, next_values, told_event}
 use Rattle.graph_runs.specs.Reached.{IsReachable}
-use Rattle.std.specs.List.{All}
-use Rattle.std.proofs.lemmas.Bool.{leb-false, eq-eqb}
 use Rattle.graph_runs.specs.Steps.{owed_of}
+use Rattle.graph_runs.specs.TaskPlaces as places
+use Rattle.graph_runs.specs.TaskPlaces.{StandsAt, child_of, registration_of_output, owed_after_signal, lacking}
 use Rattle.graph_runs.specs.declared.owed.Owed.{Owed}
-use Rattle.stream_job.specs.Places.{place_of}
-use Rattle.stream_job.specs.Machines.{IsMachineAt, HasCores, IsLineOf}
-use Rattle.stream_job.specs.Blocking.{called_on}
-use Rattle.stream_job.specs.Turning.{HadTurn, Shows}
-use Rattle.stream_job.specs.Inside.{IsNextIn}
-use Rattle.stream_job.specs.declared.machine.Machine.{Machine}
-use Rattle.stream_job.specs.declared.task_state.TaskState.{TaskState}
-use Rattle.stream_job.specs.declared.made.Made.TheVariants.{Event, Blocked, OutOfRange}
-use Rattle.stream_job.specs.declared.turned.Turned.TheVariants.{Moved}
-use Rattle.graph_lang.specs.graph_base.declared.line.Kind.{Kind}
-use Rattle.graph_lang.specs.graph_base.declared.line.Kind.TheVariants.{Source, Fir, Split, Join, Peer, Sink}
-use Rattle.stream_eval.specs.stream_lists.Spans.{puts_on}
-use Rattle.graph_runs.proofs.Boundaries.{made_many}
 use Rattle.graph_runs.specs.declared.owed.Owed.TheVariants as code
-use Rattle.stream_job.proofs.SinksKeep.{lines_stay}
+use Rattle.graph_runs.proofs.Blocks.{block_some}
+use Rattle.graph_runs.proofs.Boundaries.{made_many}
+use Rattle.graph_runs.proofs.Calling.{source_ends}
+use Rattle.graph_runs.proofs.Lacking.{lacks_here}
+use Rattle.graph_runs.proofs.Nexts.{further-length}
+use Rattle.graph_runs.proofs.Signalling.{owed, live-is, sendable, values_few}
+use Rattle.graph_runs.proofs.Stepping.{signal_follows, sample_follows}
+use Rattle.stream_job.specs.Blocking.{called_on}
+use Rattle.stream_job.specs.Inside as inside
+use Rattle.stream_job.specs.Inside.{IsNextIn, OwesMade, is_over}
+use Rattle.stream_job.specs.Machines.{IsMachineAt, HasCores, IsLineOf}
+use Rattle.stream_job.specs.Places.{IsTaskAt, owed_in, place_of}
+use Rattle.stream_job.specs.Turning.{HadTurn, Shows, phaser_of}
+use Rattle.stream_job.specs.declared.machine.Machine.{Machine}
+use Rattle.stream_job.specs.declared.made.Made.TheVariants.{Event, Blocked, OutOfRange}
+use Rattle.stream_job.specs.declared.task_state.TaskState.{TaskState}
+use Rattle.stream_job.specs.declared.turned.Turned.TheVariants.{Moved}
 use Rattle.stream_job.proofs.Ending.{number_of_output}
-use Rattle.stream_job.proofs.Lively.{live_next}
-use Rattle.stream_job.proofs.WhatNext.{signals_owes, signals_step, samples_begins}
 use Rattle.stream_job.proofs.Events.{after_own, unchanged}
-use Rattle.phase_core.specs.phase_base.Limits.{Limits}
-use Rattle.graph_lang.specs.graph_base.declared.place.Place.TheVariants as place
+use Rattle.stream_job.proofs.Lively.{live_next}
+use Rattle.stream_job.proofs.Makes.{makes_event}
+use Rattle.stream_job.proofs.SinksKeep.{NoSinkWaits, lines_stay}
+use Rattle.stream_job.proofs.WhatNext.{signals_owes, signals_step, samples_begins}
 
 -- ---- a call that the phaser would not take now
 
@@ -66,11 +77,11 @@ blocked_turn job old new t p next is called answer same = record {
   shows = λ m at.
       subst (λ a. Shows job m t a (Blocked p)) (sym (answer m at))
       (ap (called_on job t) (is.is m at) ∙ called);
-  after = λ m at.
+  after = λ m at none.
       subst (λ a. IsMachineAt job (after_answer job a m) new) (sym (answer m at)) (same m at);
 }
 
--- ---- the value
+-- ---- the values
 
 -- a number in range
 pub in_range : (z x : ℤ) → ranged z ≡ Ok x → (z ≡ x) × (is_out_of_range x ≡ false)
@@ -90,34 +101,251 @@ in_range z x e = by (nat_le (unsigned_abs z) 9223372036854775807) refl e
         (it, sym (ap is_out_of_range it) ∙ ap not le)
     by false le e = absurd (cc)
 
--- what a task that signals owes, by its state
-pub owes_value : (job : Job) (m : Moment) (t j : ℕ) (o : places.Owed)
-    → places.Owes job m t o → next_of job m t ≡ turns.signals j
-    → (v : Result ℤ TooBigValue) × (o ≡ places.value j v)
-    × (ranged (next_value job m t j) ≡ v)
-owes_value job m t j places.nothing owes is =
-    absurd (let wrong : None ≡ Some j = sym owes ∙ signals_owes job m t j is in cc)
-owes_value job m t j (places.value i v) owes is =
-    let same : i ≡ j = one i j (sym owes.0 ∙ signals_owes job m t j is) in (
-      v,
-      ap (λ x. places.value x v) same,
-      subst (λ x. ranged (next_value job m t x) ≡ v) same owes.2,
-    )
+-- a number out of range
+out_of_range : (z : ℤ) (e : TooBigValue) → ranged z ≡ Err e → is_out_of_range z ≡ true
+out_of_range z e f = by (nat_le (unsigned_abs z) 9223372036854775807) refl f
   where
-    one : (i j : ℕ) → Some i ≡ Some j → i ≡ j
-    one i j e = cc
-owes_value job m t j (places.exchange x) owes is =
-    absurd (let s = signals_step job m t j is in
-    let one : 1 ≡ s.output = some_is 1 s.output (sym owes.0 ∙ s.owes) in
-    let there : turns.exchanges ≡ turns.signals j =
-    sym owes.1 ∙ ap (turns.in_step job m t) one ∙ s.is in cc)
+    by : (b : Bool) → nat_le (unsigned_abs z) 9223372036854775807 ≡ b
+        → cond {A = Result ℤ TooBigValue} b (Ok z) (Err (record {})) ≡ Err e
+        → is_out_of_range z ≡ true
+    by true le f = absurd (cc)
+    by false le f = ap not le
+
+cons_parts : {X : Type 0} (a b : X) (xs ys : List X) → a ∷ xs ≡ b ∷ ys → (a ≡ b) × (xs ≡ ys)
+cons_parts a b xs ys e = (cc, cc)
+
+-- none of these values is out of range, and they are those that their ranges have
+pub record InRange (zs xs : List ℤ) : Type 0 where
+  pub same : zs ≡ xs
+  pub none : (from : ℕ) → position_from is_out_of_range from xs ≡ None
+
+pub all_in_range : (zs xs : List ℤ) → map ranged zs ≡ map (λ x. Ok x) xs → InRange zs xs
+all_in_range [] [] e = record { same = refl; none = λ from. refl }
+all_in_range [] (x ∷ xs) e = absurd (cc)
+all_in_range (z ∷ zs) [] e = absurd (cc)
+all_in_range (z ∷ zs) (x ∷ xs) e =
+    let both = cons_parts (ranged z) (Ok x) (map ranged zs) (map (λ x. Ok x) xs) e in
+    let first = in_range z x both.0 in
+    let rest = all_in_range zs xs both.1 in
+    record {
+      same = ap (λ y. y ∷ zs) first.0 ∙ ap (λ l. x ∷ l) rest.same;
+      none = λ from.
+          ap (λ b. cond b (Some from) (position_from is_out_of_range (from + 1) xs)) first.1
+          ∙ rest.none (from + 1);
+    }
+
+-- values of which none is out of range can be sent
+pub sends_all : (from : ℕ) (vs : List ℤ) → position_from is_out_of_range from vs ≡ None
+    → AreSends vs
+sends_all from [] e = tt
+sends_all from (v ∷ vs) e = by (is_out_of_range v) refl e (λ rest. sends_all (from + 1) vs rest)
   where
-    some_is : (i j : ℕ) → Some i ≡ Some j → i ≡ j
-    some_is i j e = cc
+    by : (b : Bool) → is_out_of_range v ≡ b
+        → cond b (Some from) (position_from is_out_of_range (from + 1) vs) ≡ None
+        → (position_from is_out_of_range (from + 1) vs ≡ None → AreSends vs)
+        → AreSends (v ∷ vs)
+    by false out e rest = (sendable v out, rest e)
+    by true out e rest = absurd (cc)
 
--- ---- the signal of a value
+-- where it stands
+pub record OverAt (zs : List ℤ) (a b k : ℕ) : Type 0 where
+  pub at : ℕ
+  pub is : k ≡ a + at
+  pub few : at < length zs
+  pub found : position_from is_out_of_range b zs ≡ Some (b + at)
 
--- what is asked of the phaser, and what it answers
+-- the first value out of range stands where the first of the ranges that is over does
+pub first_over : (zs : List ℤ) (rs : List (Result ℤ TooBigValue)) (a b k : ℕ)
+    → map ranged zs ≡ rs → position_from is_over a rs ≡ Some k → OverAt zs a b k
+first_over [] [] a b k e found = absurd (cc)
+first_over [] (r ∷ rs) a b k e found = absurd (cc)
+first_over (z ∷ zs) [] a b k e found = absurd (cc)
+first_over (z ∷ zs) (r ∷ rs) a b k e found =
+    let both = cons_parts (ranged z) r (map ranged zs) rs e in
+    by r both.0 found (λ more. first_over zs rs (a + 1) (b + 1) k both.1 more)
+  where
+    by : (r : Result ℤ TooBigValue) → ranged z ≡ r → position_from is_over a (r ∷ rs) ≡ Some k
+        → (position_from is_over (a + 1) rs ≡ Some k → OverAt zs (a + 1) (b + 1) k)
+        → OverAt (z ∷ zs) a b k
+    by (Err out) e found rest =
+        let here : a ≡ k = same_Some a k found in
+        let first : b ≡ b + 0 = omega arith in
+        record {
+          at = 0;
+          is = omega arith;
+          few = omega arith;
+          found = ap (λ c. cond c (Some b) (position_from is_out_of_range (b + 1) zs))
+              (out_of_range z out e) ∙ ap (λ n. Some n) first;
+        }
+    by (Ok x) e found rest =
+        let r = rest found in
+        let in_z : is_out_of_range z ≡ false =
+        (let i = in_range z x e in ap is_out_of_range i.0 ∙ i.1) in
+        let is : k ≡ a + 1 + r.at = r.is in
+        let few : r.at < length zs = r.few in
+        let next : b + 1 + r.at ≡ b + suc r.at = omega arith in
+        record {
+          at = suc r.at;
+          is = omega arith;
+          few = omega arith;
+          found = ap (λ c. cond c (Some b) (position_from is_out_of_range (b + 1) zs)) in_z
+              ∙ r.found ∙ ap (λ n. Some n) next;
+        }
+
+-- ---- what the turn answers
+
+-- the refusal of a signal of these values
+abbrev pub refusal_of : Job → Moment → ℕ → ℕ → List ℤ → Option SignalRefusal
+refusal_of job m p n vs =
+    signal_refusal (limits_at job p) (m.history p) n (map one vs) (phaser_at job.graph p).single
+
+-- the reply
+abbrev pub reply_of : Job → Moment → ℕ → ℕ → List ℤ → Result ℕ SignalRefusal
+reply_of job m p n vs =
+    signal_reply (limits_at job p) (m.history p) n (map one vs) (phaser_at job.graph p).single
+
+-- values of which none is out of range are signalled
+pub goes_on : (job : Job) (m : Moment) (t j : ℕ) (vs : List ℤ) (event : TaskEvent)
+    → position_from is_out_of_range (length (m.put t j)) vs ≡ None
+    → signal_turn job m t j vs event ≡ call_signal job m t (output_at job t j) vs event
+goes_on job m t j vs event none = rw none refl
+
+-- where one is, none of them is
+pub stops : (job : Job) (m : Moment) (t j step : ℕ) (vs : List ℤ) (event : TaskEvent)
+    → position_from is_out_of_range (length (m.put t j)) vs ≡ Some step
+    → signal_turn job m t j vs event
+    ≡ cond (are_made (task_at job.graph t).kind j) (answers.has_made (place.Task t, step)) is_refused
+stops job m t j step vs event found = rw found refl
+
+-- as the number that the code has of the phaser
+renumbered : (job : Job) (m : Moment) (t j number p : ℕ) (vs : List ℤ)
+    (event : ℕ → ℕ → TaskEvent) → p ≡ output_at job t j
+    → number_on m t (output_at job t j) ≡ number
+    → call_signal job m t (output_at job t j) vs
+    (event (output_at job t j) (number_on m t (output_at job t j)))
+    ≡ signal_answer (event p number) (refusal_of job m p number vs)
+renumbered job m t j number p vs event phaser same =
+    let q = output_at job t j in
+    ap (λ n. signal_answer (event q n) (refusal_of job m q n vs)) same
+    ∙ ap (λ r. signal_answer (event r number) (refusal_of job m r number vs)) (sym phaser)
+
+pub ok_is : (limits : Limits) (h : History) (number : ℕ) (lists : List (List ℤ))
+    (single : Option Single) (phase : ℕ) → signal_reply limits h number lists single ≡ Ok phase
+    → signal_refusal limits h number lists single ≡ None
+ok_is limits h number lists single phase e =
+    by (signal_refusal limits h number lists single) refl e
+  where
+    by : (o : Option SignalRefusal) → signal_refusal limits h number lists single ≡ o
+        → refused_or o (signal_phase h number) ≡ Ok phase
+        → signal_refusal limits h number lists single ≡ None
+    by None is e = is
+    by (Some r) is e = absurd (cc)
+
+pub err_is : (limits : Limits) (h : History) (number : ℕ) (lists : List (List ℤ))
+    (single : Option Single) (r : SignalRefusal)
+    → signal_reply limits h number lists single ≡ Err r
+    → signal_refusal limits h number lists single ≡ Some r
+err_is limits h number lists single r e =
+    by (signal_refusal limits h number lists single) refl e
+  where
+    refusal_in : Result ℕ SignalRefusal → SignalRefusal
+    refusal_in (Ok a) = r
+    refusal_in (Err q) = q
+
+    same : (a b : Result ℕ SignalRefusal) → a ≡ b → refusal_in a ≡ refusal_in b
+    same a b e = ap refusal_in e
+
+    by : (o : Option SignalRefusal) → signal_refusal limits h number lists single ≡ o
+        → refused_or o (signal_phase h number) ≡ Err r
+        → signal_refusal limits h number lists single ≡ Some r
+    by None is e = absurd (cc)
+    by (Some q) is e = is ∙ ap (λ x. Some x) (same (Err q) (Err r) e)
+
+-- a refusal that a turn may get
+pub blocks : (event : TaskEvent) (r : SignalRefusal) → signal_answer event (Some r) ≢ is_refused
+    → signal_answer event (Some r) ≡ is_blocked
+blocks event refusals.NoTask never = absurd (never refl)
+blocks event refusals.NoSignal never = absurd (never refl)
+blocks event refusals.NotSingle never = absurd (never refl)
+blocks event refusals.SignalTwice never = absurd (never refl)
+blocks event refusals.Spent never = refl
+blocks event refusals.Ahead never = refl
+blocks event refusals.SingleDiffers never = absurd (never refl)
+blocks event refusals.PhaseFull never = absurd (never refl)
+blocks event refusals.BadBlock never = absurd (never refl)
+
+-- what a turn answers that signals these values: the phaser's word
+abbrev pub SignalsBy : Job → Machine → ℕ → ℕ → ℕ → List ℤ → TaskEvent → Type 0
+SignalsBy job machine t number p vs event = (m : Moment) → IsMachineAt job m machine
+    → answer_of_turn job m t ≡ signal_answer event (refusal_of job m p number vs)
+
+-- a turn whose signal was refused
+pub refused_turn : (job : Job) (old new : Machine) (t number p : ℕ) (vs : List ℤ) (next : Next)
+    (event : TaskEvent) (r : SignalRefusal) → IsNextIn job old t next → called_on job t next ≡ p
+    → SignalsBy job old t number p vs event
+    → ((m : Moment) → IsMachineAt job m old → reply_of job m p number vs ≡ Err r)
+    → ((m : Moment) → IsMachineAt job m old
+    → HasCores job (with_at p (m.history p) m.history) new.cores.items)
+    → new.tasks ≡ old.tasks → new.lines ≡ old.lines → HadTurn job old new t (Blocked p)
+refused_turn job old new t number p vs next event r is called answers reply cores tasks lines =
+    blocked_turn job old new t p next is called answer
+    (λ m at. unchanged job m old new p at (cores m at) tasks lines)
+  where
+    refused : (m : Moment) → IsMachineAt job m old
+        → answer_of_turn job m t ≡ signal_answer event (Some r)
+    refused m at =
+        answers m at
+        ∙ ap (signal_answer event) (err_is (limits_at job p) (m.history p) number (map one vs)
+        (phaser_at job.graph p).single r (reply m at))
+
+    answer : (m : Moment) → IsMachineAt job m old → answer_of_turn job m t ≡ is_blocked
+    answer m at = refused m at ∙ blocks event r (λ e. is.answered m at (refused m at ∙ e))
+
+-- ---- the machine after an event
+
+-- a turn whose event moved its task
+pub moved_turn : (job : Job) (old new : Machine) (t p : ℕ) (next : Next) (event : TaskEvent)
+    (left : TaskState) → IsNextIn job old t next → t < length job.graph.tasks
+    → child_of event ≡ None → NoSinkWaits job event → phaser_of event ≡ p
+    → ((m : Moment) → told_event job m event ≡ answers.Moved)
+    → ((m : Moment) → IsMachineAt job m old → answer_of_turn job m t ≡ makes event)
+    → ((m : Moment) → IsMachineAt job m old → IsTaskAt job (after_turn job event m) t left)
+    → ((m : Moment) → IsMachineAt job m old
+    → HasCores job (after_turn job event m).history new.cores.items)
+    → new.tasks.items ≡ set old.tasks.items t left → new.lines ≡ old.lines
+    → HadTurn job old new t (Event p Moved)
+moved_turn job old new t p next event left is there none quiet phaser told answer stands cores tasks lines =
+    record {
+      shows = λ m at. subst (λ a. Shows job m t a (Event p Moved)) (sym (answer m at))
+          (phaser, told m);
+      after = λ m at good.
+          after_own job m old new t event left at (answer m at) none there (is.stays m at)
+          (is.few m at) (cores m at) tasks (stands m at)
+          (ap (λ l. map sink_values l.items) lines ∙ at.lines
+          ∙ lines_stay job m old t event at (answer m at) quiet)
+          (ap (λ l. map (λ line. line.start) l.items) lines)
+          (subst (λ l. All (IsLineOf job) l.items) (sym lines) at.own);
+    }
+
+-- the answer where the phaser accepts
+accepted : (job : Job) (old : Machine) (t number p phase : ℕ) (vs : List ℤ) (event : TaskEvent)
+    → SignalsBy job old t number p vs event
+    → ((m : Moment) → IsMachineAt job m old → reply_of job m p number vs ≡ Ok phase)
+    → (m : Moment) → IsMachineAt job m old → answer_of_turn job m t ≡ makes event
+accepted job old t number p phase vs event answers reply m at =
+    answers m at
+    ∙ ap (signal_answer event) (ok_is (limits_at job p) (m.history p) number (map one vs)
+    (phaser_at job.graph p).single phase (reply m at))
+
+-- the history of the phaser after it
+abbrev pub SignalledCores : Job → Machine → Machine → ℕ → ℕ → List ℤ → Type 0
+SignalledCores job old new number p vs = (m : Moment) → IsMachineAt job m old
+    → HasCores job (with_at p (Signalled number (map one vs) (phaser_at job.graph p).single
+    ∷ m.history p) m.history) new.cores.items
+
+-- ---- the signal of what is owed
+
+-- where it goes
 pub record SignalsAt (job : Job) (m : Moment) (t j : ℕ) (state : TaskState) : Type 0 where
   pub there : t < length job.graph.tasks
   pub few : j < length (signalled_by (task_at job.graph t))
@@ -141,171 +369,227 @@ signals_at job machine m t j state next at found =
       number = out.1;
     }
 
--- what the turn answers
-pub signals_so : (job : Job) (machine : Machine) (m : Moment) (t j number p : ℕ) (x : ℤ)
-    (state : TaskState) → IsNextIn job machine t (turns.signals j) → IsMachineAt job m machine
-    → slice_get machine.tasks.items t ≡ Some state → p ≡ output_at job t j
-    → number ≡ get_or state.numbers.items (registration_of_output (task_at job.graph t) j) 0
-    → ranged (next_value job m t j) ≡ Ok x
-    → answer_of_turn job m t ≡ signal_answer (signal t j p number x)
-    (signal_refusal (limits_at job p) (m.history p) number ((x ∷ []) ∷ [])
-    (phaser_at job.graph p).single)
-signals_so job machine m t j number p x state next at found phaser numbered value =
-    let s = signals_at job machine m t j state next at found in
-    let ranges = in_range (next_value job m t j) x value in
-    let q = output_at job t j in
-    ap (answer_to job m t) (next.is m at)
-    ∙ ap (λ v. signal_turn job m t j v (signal t j q (number_on m t q) v)) ranges.0
-    ∙ ap (λ b. cond b (cond (are_made (task_at job.graph t).kind j) (answers.has_made
-    (place.Task t, length (m.put t j))) is_refused)
-    (call_signal job m t q x (signal t j q (number_on m t q) x))) ranges.1
-    ∙ ap (λ n. signal_answer (signal t j q n x) (signal_refusal (limits_at job q) (m.history q) n
-    ((x ∷ []) ∷ []) (phaser_at job.graph q).single)) (s.number ∙ sym numbered)
-    ∙ ap (λ r. signal_answer (signal t j r number x) (signal_refusal (limits_at job r) (m.history r)
-    number ((x ∷ []) ∷ []) (phaser_at job.graph r).single)) (sym phaser)
-
--- ---- the phaser's reply
-
-pub ok_is : (limits : Limits) (h : History) (number : ℕ) (lists : List (List ℤ))
-    (single : Option Single) (phase : ℕ) → signal_reply limits h number lists single ≡ Ok phase
-    → signal_refusal limits h number lists single ≡ None
-ok_is limits h number lists single phase e =
-    by (signal_refusal limits h number lists single) refl e
-  where
-    by : (o : Option SignalRefusal) → signal_refusal limits h number lists single ≡ o
-        → refused_or o (signal_phase h number) ≡ Ok phase
-        → signal_refusal limits h number lists single ≡ None
-    by None is e = is
-    by (Some r) is e = absurd (cc)
-
-pub err_is : (limits : Limits) (h : History) (number : ℕ) (lists : List (List ℤ))
-    (single : Option Single) (r : SignalRefusal)
-    → signal_reply limits h number lists single ≡ Err r
-    → signal_refusal limits h number lists single ≡ Some r
-err_is limits h number lists single r e =
-    by (signal_refusal limits h number lists single) refl e
-  where
-    refusal_of : Result ℕ SignalRefusal → SignalRefusal
-    refusal_of (Ok a) = r
-    refusal_of (Err q) = q
-
-    same : (a b : Result ℕ SignalRefusal) → a ≡ b → refusal_of a ≡ refusal_of b
-    same a b e = ap refusal_of e
-
-    by : (o : Option SignalRefusal) → signal_refusal limits h number lists single ≡ o
-        → refused_or o (signal_phase h number) ≡ Err r
-        → signal_refusal limits h number lists single ≡ Some r
-    by None is e = absurd (cc)
-    by (Some q) is e = is ∙ ap (λ x. Some x) (same (Err q) (Err r) e)
-
--- a refusal that a turn may get
-pub blocks : (event : TaskEvent) (r : SignalRefusal) → signal_answer event (Some r) ≢ is_refused
-    → signal_answer event (Some r) ≡ is_blocked
-blocks event refusals.NoTask never = absurd (never refl)
-blocks event refusals.NoSignal never = absurd (never refl)
-blocks event refusals.NotSingle never = absurd (never refl)
-blocks event refusals.SignalTwice never = absurd (never refl)
-blocks event refusals.Spent never = refl
-blocks event refusals.Ahead never = refl
-blocks event refusals.SingleDiffers never = absurd (never refl)
-blocks event refusals.PhaseFull never = absurd (never refl)
-blocks event refusals.BadBlock never = absurd (never refl)
-
--- ---- the machine after it
-
-abbrev pub with_owed : TaskState → Owed → TaskState
-with_owed state owed = record state { owed = owed }
-
-pub signalled_turn : (job : Job) (old new : Machine) (t j number p phase : ℕ) (x : ℤ)
-    (state : TaskState) (owed : Owed) → IsNextIn job old t (turns.signals j)
-    → slice_get old.tasks.items t ≡ Some state → p ≡ output_at job t j
-    → number ≡ get_or state.numbers.items (registration_of_output (task_at job.graph t) j) 0
-    → ((m : Moment) → IsMachineAt job m old → ranged (next_value job m t j) ≡ Ok x)
-    → ((m : Moment) → IsMachineAt job m old
-    → signal_reply (limits_at job p) (m.history p) number ((x ∷ []) ∷ [])
-    (phaser_at job.graph p).single ≡ Ok phase)
-    → ((m : Moment) → IsMachineAt job m old
-    → HasCores job (with_at p (Signalled number ((x ∷ []) ∷ []) (phaser_at job.graph p).single
-    ∷ m.history p) m.history) new.cores.items)
-    → new.tasks.items ≡ set old.tasks.items t (with_owed state owed) → new.lines ≡ old.lines
-    → owed_of owed ≡ owed_after_signal (task_at job.graph t) j x
-    → HadTurn job old new t (Event p Moved)
-signalled_turn job old new t j number p phase x state owed next found phaser numbered value reply cores tasks lines owes =
-    record {
-      shows = λ m at. subst (λ a. Shows job m t a (Event p Moved)) (sym (answer m at)) (refl, refl);
-      after = after;
-    }
-  where
-    answer : (m : Moment) → IsMachineAt job m old
-        → answer_of_turn job m t ≡ makes (signal t j p number x)
-    answer m at =
-        signals_so job old m t j number p x state next at found phaser numbered (value m at)
-        ∙ ap (signal_answer (signal t j p number x))
-        (ok_is (limits_at job p) (m.history p) number ((x ∷ []) ∷ []) (phaser_at job.graph p).single
-        phase (reply m at))
-
-    after : (m : Moment) → IsMachineAt job m old
-        → IsMachineAt job (after_answer job (answer_of_turn job m t) m) new
-    after m at =
-        let it = at.tasks t state found in
-        let event = signal t j p number x in
-        let stands : StandsAt job (after_turn job event m) t (place_of (with_owed state owed)) =
-        subst (λ o. StandsAt job (after_turn job event m) t (record (place_of state) { owed = o }))
-        (sym owes) (signal_follows job m t j p number x (place_of state) at.graph at.reached
-        (answer m at) it.stands) in
-        after_own job m old new t event (with_owed state owed) at (answer m at) refl
-        (signals_at job old m t j state next at found).there (next.stays m at) (next.few m at) (cores m at)
-        tasks (record { stands = stands; room = it.room; filter = it.filter; sink = it.sink })
-        (ap (λ l. map sink_values l.items) lines ∙ at.lines
-        ∙ lines_stay job m old t event at (answer m at) tt)
-        (subst (λ l. All (IsLineOf job) l.items) (sym lines) at.own)
-
--- a signal that the phaser would not take now
-pub blocked_signal : (job : Job) (old new : Machine) (t j number p : ℕ) (x : ℤ)
-    (state : TaskState) (r : SignalRefusal) → IsNextIn job old t (turns.signals j)
-    → slice_get old.tasks.items t ≡ Some state → p ≡ output_at job t j
-    → number ≡ get_or state.numbers.items (registration_of_output (task_at job.graph t) j) 0
-    → ((m : Moment) → IsMachineAt job m old → ranged (next_value job m t j) ≡ Ok x)
-    → ((m : Moment) → IsMachineAt job m old
-    → signal_reply (limits_at job p) (m.history p) number ((x ∷ []) ∷ [])
-    (phaser_at job.graph p).single ≡ Err r)
-    → ((m : Moment) → IsMachineAt job m old
-    → HasCores job (with_at p (m.history p) m.history) new.cores.items)
-    → new.tasks ≡ old.tasks → new.lines ≡ old.lines
-    → HadTurn job old new t (Blocked p)
-blocked_signal job old new t j number p x state r next found phaser numbered value reply cores tasks lines =
-    blocked_turn job old new t p (turns.signals j) next (sym phaser) answer
-    (λ m at. unchanged job m old new p at (cores m at) tasks lines)
-  where
-    refused : (m : Moment) → IsMachineAt job m old
-        → answer_of_turn job m t ≡ signal_answer (signal t j p number x) (Some r)
-    refused m at =
-        signals_so job old m t j number p x state next at found phaser numbered (value m at)
-        ∙ ap (signal_answer (signal t j p number x))
-        (err_is (limits_at job p) (m.history p) number ((x ∷ []) ∷ []) (phaser_at job.graph p).single
-        r (reply m at))
-
-    answer : (m : Moment) → IsMachineAt job m old → answer_of_turn job m t ≡ is_blocked
-    answer m at =
-        refused m at
-        ∙ blocks (signal t j p number x) r (λ e. next.answered m at (refused m at ∙ e))
-
 -- the output is one of the task's
 pub signal_few : (job : Job) (machine : Machine) (m : Moment) (t j : ℕ)
     → IsNextIn job machine t (turns.signals j) → IsMachineAt job m machine
     → j < length (signalled_by (task_at job.graph t))
 signal_few job machine m t j next at = (owed job m t j (signals_owes job m t j (next.is m at))).0
 
--- ---- a value out of range
+-- the values that are next, at each moment of the machine
+abbrev pub NextAre : Job → Machine → ℕ → ℕ → List ℤ → Type 0
+NextAre job machine t j vs = (m : Moment) → IsMachineAt job m machine
+    → map ranged (next_values job m t j) ≡ map (λ x. Ok x) vs
 
-out_of_range : (z : ℤ) (e : TooBigValue) → ranged z ≡ Err e → is_out_of_range z ≡ true
-out_of_range z e f = by (nat_le (unsigned_abs z) 9223372036854775807) refl f
+-- what the turn answers
+pub signals_so : (job : Job) (machine : Machine) (t j number p : ℕ) (vs : List ℤ)
+    (state : TaskState) → IsNextIn job machine t (turns.signals j)
+    → slice_get machine.tasks.items t ≡ Some state → p ≡ output_at job t j
+    → number ≡ get_or state.numbers.items (registration_of_output (task_at job.graph t) j) 0
+    → NextAre job machine t j vs → SignalsBy job machine t number p vs (signal t j p number vs)
+signals_so job machine t j number p vs state next found phaser numbered value m at =
+    let s = signals_at job machine m t j state next at found in
+    let ranges = all_in_range (next_values job m t j) vs (value m at) in
+    let q = output_at job t j in
+    ap (answer_to job m t) (next.is m at)
+    ∙ ap (λ l. signal_turn job m t j l (signal t j q (number_on m t q) l)) ranges.same
+    ∙ goes_on job m t j vs (signal t j q (number_on m t q) vs) (ranges.none (length (m.put t j)))
+    ∙ renumbered job m t j number p vs (λ r n. signal t j r n vs) phaser (s.number ∙ sym numbered)
+
+-- the values can be sent
+pub values_sent : (job : Job) (machine : Machine) (t j : ℕ) (vs : List ℤ)
+    → IsNextIn job machine t (turns.signals j) → NextAre job machine t j vs → AreSends vs
+values_sent job machine t j vs next value =
+    let m = next.some.0 in
+    let ranges = all_in_range (next_values job m t j) vs (value m next.some.1) in
+    sends_all 0 vs (ranges.none 0)
+
+-- the values that a task keeps, and what it owes besides
+abbrev pub Values : Type 0
+Values = Vec (Result ℤ TooBigValue) Global
+
+abbrev pub with_owing : TaskState → Owed → Values → TaskState
+with_owing state owed made = record state { owed = owed; made = made }
+
+-- what a task keeps after it has signalled these
+pub record HasSignalled (task : Task) (j : ℕ) (vs : List ℤ) (state : TaskState) (owed : Owed)
+    (made : Values) : Type 0 where
+  pub owes : owed_in owed made.items ≡ owed_after_signal task j vs
+  pub room : made.cap ≡ state.made.cap
+  pub made_by : task.kind ≡ Fir → owed ≡ code.Nothing
+  pub made_none : task.kind ≢ Fir → made.items ≡ []
+
+pub signalled_turn : (job : Job) (old new : Machine) (t j number p phase : ℕ) (vs : List ℤ)
+    (state : TaskState) (owed : Owed) (made : Values) → IsNextIn job old t (turns.signals j)
+    → slice_get old.tasks.items t ≡ Some state → p ≡ output_at job t j
+    → number ≡ get_or state.numbers.items (registration_of_output (task_at job.graph t) j) 0
+    → NextAre job old t j vs
+    → ((m : Moment) → IsMachineAt job m old → reply_of job m p number vs ≡ Ok phase)
+    → SignalledCores job old new number p vs
+    → new.tasks.items ≡ set old.tasks.items t (with_owing state owed made)
+    → new.lines ≡ old.lines → HasSignalled (task_at job.graph t) j vs state owed made
+    → HadTurn job old new t (Event p Moved)
+signalled_turn job old new t j number p phase vs state owed made next found phaser numbered value reply cores tasks lines has =
+    moved_turn job old new t p (turns.signals j) event (with_owing state owed made) next
+    (signals_at job old next.some.0 t j state next next.some.1 found).there refl tt refl (λ m. refl)
+    answer stands cores tasks lines
   where
-    by : (b : Bool) → nat_le (unsigned_abs z) 9223372036854775807 ≡ b
-        → cond {A = Result ℤ TooBigValue} b (Ok z) (Err (record {})) ≡ Err e
-        → is_out_of_range z ≡ true
-    by true le f = absurd (cc)
-    by false le f = ap not le
+    event : TaskEvent
+    event = signal t j p number vs
+
+    answer : (m : Moment) → IsMachineAt job m old
+        → answer_of_turn job m t ≡ makes (signal t j p number vs)
+    answer =
+        accepted job old t number p phase vs (signal t j p number vs)
+        (signals_so job old t j number p vs state next found phaser numbered value) reply
+
+    stands : (m : Moment) → IsMachineAt job m old
+        → IsTaskAt job (after_turn job (signal t j p number vs) m) t (with_owing state owed made)
+    stands m at =
+        let it = at.tasks t state found in
+        let made_so = makes_event job m t (signal t j p number vs) at.graph at.reached (answer m at) in
+        record {
+          stands =
+              subst (λ o. StandsAt job (after_turn job (signal t j p number vs) m) t
+              (record (place_of state) { owed = o })) (sym has.owes)
+              (signal_follows job m t j p number vs (place_of state) at.graph at.reached.ran
+              made_so.live made_so.next made_so.owes it.stands);
+          room = it.room;
+          filter = it.filter;
+          made_room = λ kind. subst (λ n. (task_at job.graph t).block ≤ n) (sym has.room)
+              (it.made_room kind);
+          made_by = has.made_by;
+          made_none = has.made_none;
+          sink = it.sink;
+        }
+
+-- ---- what the state owes
+
+-- what a task that signals owes, by its place
+pub owes_values : (job : Job) (m : Moment) (t j : ℕ) (o : places.Owed)
+    → places.Owes job m t o → next_of job m t ≡ turns.signals j
+    → (vs : List (Result ℤ TooBigValue)) × (o ≡ places.values j vs)
+    × (map ranged (next_values job m t j) ≡ vs)
+owes_values job m t j places.nothing owes is =
+    absurd (let wrong : None ≡ Some j = sym owes ∙ signals_owes job m t j is in cc)
+owes_values job m t j (places.values i vs) owes is =
+    let same : i ≡ j = same_Some i j (sym owes.0 ∙ signals_owes job m t j is) in (
+      vs,
+      ap (λ x. places.values x vs) same,
+      subst (λ x. map ranged (next_values job m t x) ≡ vs) same owes.2,
+    )
+owes_values job m t j (places.exchange x) owes is =
+    absurd (let s = signals_step job m t j is in
+    let one : 1 ≡ s.output = same_Some 1 s.output (sym owes.0 ∙ s.owes) in
+    let there : turns.exchanges ≡ turns.signals j =
+    sym owes.1 ∙ ap (turns.in_step job m t) one ∙ s.is in cc)
+
+-- of this state
+pub record OwesHere (job : Job) (m : Moment) (t j : ℕ) (state : TaskState)
+    (vs : List (Result ℤ TooBigValue)) : Type 0 where
+  pub owes : owed_in state.owed state.made.items ≡ places.values j vs
+  pub next : map ranged (next_values job m t j) ≡ vs
+
+pub owes_here : (job : Job) (machine : Machine) (m : Moment) (t j i : ℕ) (state : TaskState)
+    (vs : List (Result ℤ TooBigValue)) → IsNextIn job machine t (turns.signals j)
+    → IsMachineAt job m machine → slice_get machine.tasks.items t ≡ Some state
+    → owed_in state.owed state.made.items ≡ places.values i vs
+    → (i ≡ j) × OwesHere job m t j state vs
+owes_here job machine m t j i state vs next at found is =
+    let owes = owes_values job m t j (owed_in state.owed state.made.items)
+    (at.tasks t state found).stands.owes (next.is m at) in
+    let both : places.values i vs ≡ places.values j owes.0 = sym is ∙ owes.1 in
+    let output : i ≡ j = same_output i j vs owes.0 both in
+    let values : vs ≡ owes.0 = same_values i j vs owes.0 both in (
+      output,
+      record { owes = is ∙ ap (λ x. places.values x vs) output; next = owes.2 ∙ sym values },
+    )
+  where
+    same_output : (i j : ℕ) (vs ws : List (Result ℤ TooBigValue))
+        → places.values i vs ≡ places.values j ws → i ≡ j
+    same_output i j vs ws e = cc
+
+    same_values : (i j : ℕ) (vs ws : List (Result ℤ TooBigValue))
+        → places.values i vs ≡ places.values j ws → vs ≡ ws
+    same_values i j vs ws e = cc
+
+-- of one value
+pub owes_one : (state : TaskState) (i : ℕ) (w : Result ℤ TooBigValue) → state.made.items ≡ []
+    → state.owed ≡ code.Value i w
+    → owed_in state.owed state.made.items ≡ places.values i (w ∷ [])
+owes_one state i w none is = ap (owed_in state.owed) none ∙ ap owed_of is
+
+pub owes_this : (job : Job) (machine : Machine) (m : Moment) (t j i : ℕ) (state : TaskState)
+    (w : Result ℤ TooBigValue) → IsNextIn job machine t (turns.signals j)
+    → IsMachineAt job m machine → slice_get machine.tasks.items t ≡ Some state
+    → state.made.items ≡ [] → state.owed ≡ code.Value i w → OwesHere job m t j state (w ∷ [])
+owes_this job machine m t j i state w next at found none is =
+    (owes_here job machine m t j i state (w ∷ []) next at found (owes_one state i w none is)).1
+
+pub owes_some : (job : Job) (machine : Machine) (t j : ℕ) (state : TaskState)
+    → IsNextIn job machine t (turns.signals j) → slice_get machine.tasks.items t ≡ Some state
+    → state.made.items ≡ []
+    → ((i : ℕ) (w : Result ℤ TooBigValue) → state.owed ≡ code.Value i w → ⊥) → ⊥
+owes_some job machine t j state next found none never =
+    let at = next.some.1 in
+    let owes = owes_values job next.some.0 t j (owed_in state.owed state.made.items)
+    (at.tasks t state found).stands.owes (next.is next.some.0 at) in
+    by state.owed refl owes.0 (sym (ap (owed_in state.owed) none) ∙ owes.1)
+  where
+    by : (o : Owed) → state.owed ≡ o → (vs : List (Result ℤ TooBigValue))
+        → owed_of state.owed ≡ places.values j vs → ⊥
+    by code.Nothing e vs is =
+        absurd (let wrong : places.nothing ≡ places.values j vs = ap owed_of (sym e) ∙ is in cc)
+    by (code.Value i w) e vs is = never i w e
+    by (code.Exchange x) e vs is =
+        absurd (let wrong : places.exchange x ≡ places.values j vs = ap owed_of (sym e) ∙ is in cc)
+
+-- a task that owes one value is no filter
+pub one_no_filter : (job : Job) (machine : Machine) (m : Moment) (t i : ℕ) (state : TaskState)
+    (w : Result ℤ TooBigValue) → IsMachineAt job m machine
+    → slice_get machine.tasks.items t ≡ Some state → state.owed ≡ code.Value i w
+    → (task_at job.graph t).kind ≢ Fir
+one_no_filter job machine m t i state w at found is kind =
+    (let wrong : code.Nothing ≡ code.Value i w =
+    sym ((at.tasks t state found).made_by kind) ∙ is in cc)
+
+-- what is so of a task that has made values which it has not signalled
+pub record HasMade (job : Job) (m : Moment) (t j : ℕ) (state : TaskState) : Type 0 where
+  pub filters : (task_at job.graph t).kind ≡ Fir
+  pub first : 0 ≡ j
+  pub here : OwesHere job m t j state state.made.items
+
+pub has_made : (job : Job) (machine : Machine) (m : Moment) (t j : ℕ) (state : TaskState)
+    → IsNextIn job machine t (turns.signals j) → IsMachineAt job m machine
+    → slice_get machine.tasks.items t ≡ Some state → state.made.items ≢ []
+    → HasMade job m t j state
+has_made job machine m t j state next at found some =
+    let owes = owes_here job machine m t j 0 state state.made.items next at found
+    (all state.made.items some) in
+    record {
+      filters = kind (task_at job.graph t).kind refl;
+      first = owes.0;
+      here = owes.1;
+    }
+  where
+    all : (made : List (Result ℤ TooBigValue)) → made ≢ []
+        → owed_in state.owed made ≡ places.values 0 made
+    all [] some = absurd (some refl)
+    all (v ∷ vs) some = refl
+
+    other : (kind : Kind) → (task_at job.graph t).kind ≡ kind → kind ≢ Fir
+        → (task_at job.graph t).kind ≡ Fir
+    other kind e never =
+        absurd (some ((at.tasks t state found).made_none (λ fir. never (sym e ∙ fir))))
+
+    kind : (kind : Kind) → (task_at job.graph t).kind ≡ kind → (task_at job.graph t).kind ≡ Fir
+    kind Source e = other Source e (λ f. absurd (cc))
+    kind Fir e = e
+    kind Split e = other Split e (λ f. absurd (cc))
+    kind Join e = other Join e (λ f. absurd (cc))
+    kind Peer e = other Peer e (λ f. absurd (cc))
+    kind Sink e = other Sink e (λ f. absurd (cc))
+
+-- ---- a value out of range
 
 -- how many values a task made on an output that makes them
 made_puts : (task : Task) (b j : ℕ) → are_made task.kind j ≡ true → puts_on task b j ≡ b
@@ -320,126 +604,88 @@ made_puts task b j e = by task.kind j refl e
     by Peer (suc j) k e = rw k refl
     by Sink j k e = absurd (cc)
 
--- what the turn of a task that made such a value answers
-pub made_so : (job : Job) (machine : Machine) (m : Moment) (t j : ℕ) (e : TooBigValue)
-    (state : TaskState) → IsNextIn job machine t (turns.signals j) → IsMachineAt job m machine
-    → slice_get machine.tasks.items t ≡ Some state
-    → owed_of state.owed ≡ places.value j (Err e)
-    → ranged (next_value job m t j) ≡ Err e
-    → (answer_of_turn job m t ≡ answers.has_made (place.Task t, length (m.put t j)))
-    × (state.begun ≡ length (m.put t j) + 1)
-made_so job machine m t j e state next at found owes value =
+-- the turn of a task that made a value out of range at this place of those that it owes
+pub record MadeOver (job : Job) (m : Moment) (t j at : ℕ) (state : TaskState)
+    (vs : List (Result ℤ TooBigValue)) : Type 0 where
+  pub answer : answer_of_turn job m t
+      ≡ answers.has_made (place.Task t, length (m.put t j) + at)
+  pub begun : state.begun ≡ length (m.put t j) + length vs
+  pub few : at < length vs
+
+pub made_over : (job : Job) (machine : Machine) (m : Moment) (t j at : ℕ) (state : TaskState)
+    (vs : List (Result ℤ TooBigValue)) → IsNextIn job machine t (turns.signals j)
+    → IsMachineAt job m machine → slice_get machine.tasks.items t ≡ Some state
+    → OwesHere job m t j state vs → position_from is_over 0 vs ≡ Some at
+    → MadeOver job m t j at state vs
+made_over job machine m t j at state vs next stands found owes over =
     by (are_made (task_at job.graph t).kind j) refl
   where
-    v : ℤ
-    v = next_value job m t j
+    zs : List ℤ
+    zs = next_values job m t j
+
+    place_of_first : OverAt (next_values job m t j) 0 (length (m.put t j)) at
+    place_of_first = first_over (next_values job m t j) vs 0 (length (m.put t j)) at owes.next over
 
     event : TaskEvent
-    event = signal t j (output_at job t j) (number_on m t (output_at job t j)) v
+    event =
+        signal t j (output_at job t j) (number_on m t (output_at job t j)) (next_values job m t j)
 
     out : answer_of_turn job m t
         ≡ cond (are_made (task_at job.graph t).kind j)
-        (answers.has_made (place.Task t, length (m.put t j))) is_refused
+        (answers.has_made (place.Task t, length (m.put t j) + at)) is_refused
     out =
-        ap (answer_to job m t) (next.is m at)
-        ∙ ap (λ b. cond b (cond (are_made (task_at job.graph t).kind j)
-        (answers.has_made (place.Task t, length (m.put t j))) is_refused)
-        (call_signal job m t (output_at job t j) v event)) (out_of_range v e value)
+        let first = place_of_first in
+        let same : first.at ≡ at = (let is = first.is in omega arith) in
+        ap (answer_to job m t) (next.is m stands)
+        ∙ stops job m t j (length (m.put t j) + at) (next_values job m t j)
+        (signal t j (output_at job t j) (number_on m t (output_at job t j)) (next_values job m t j))
+        (first.found ∙ ap (λ n. Some (length (m.put t j) + n)) same)
 
-    by : (b : Bool) → are_made (task_at job.graph t).kind j ≡ b
-        → (answer_of_turn job m t ≡ answers.has_made (place.Task t, length (m.put t j)))
-        × (state.begun ≡ length (m.put t j) + 1)
+    by : (b : Bool) → are_made (task_at job.graph t).kind j ≡ b → MadeOver job m t j at state vs
     by true made =
-        let it = (at.tasks t state found).stands in
-        let few = signal_few job machine m t j next at in
-        let there = (signals_at job machine m t j state next at found).there in
+        let it = (stands.tasks t state found).stands in
+        let few = signal_few job machine m t j next stands in
+        let there = (signals_at job machine m t j state next stands found).there in
         let lacks : length (made_now job m t j)
-        ≡ length (m.put t j) + lacking (task_at job.graph t).kind (places.value j (Err e)) j =
-        it.lacks j few ∙ ap (λ o. length (m.put t j) + lacking (task_at job.graph t).kind o j) owes in
-        let one : lacking (task_at job.graph t).kind (places.value j (Err e)) j ≡ 1 =
-        rw (eq-eqb j j refl) refl in
-        let many = made_many job m t j at.graph (at.reached.ran.tasks t there) there few in
+        ≡ length (m.put t j) + lacking (task_at job.graph t).kind (places.values j vs) j =
+        it.lacks j few
+        ∙ ap (λ o. length (m.put t j) + lacking (task_at job.graph t).kind o j) owes.owes in
+        let here : lacking (task_at job.graph t).kind (places.values j vs) j ≡ length vs =
+        lacks_here (task_at job.graph t).kind j vs in
+        let many = made_many job m t j stands.graph (stands.reached.ran.tasks t there) there few in
         let all = made_puts (task_at job.graph t) (m.begun t) j made in
-        let begun = it.begun in (
-          out ∙ ap (λ b. cond b (answers.has_made (place.Task t, length (m.put t j))) is_refused) made,
-          omega arith,
-        )
+        let begun = it.begun in
+        let first = place_of_first in
+        let is = first.is in
+        let within : first.at < length (next_values job m t j) = first.few in
+        let long : length (map ranged (next_values job m t j)) ≡ length (next_values job m t j) =
+        length-map (next_values job m t j) ranged in
+        let all_vs : length (map ranged (next_values job m t j)) ≡ length vs = ap length owes.next in
+        record {
+          answer = out ∙ ap (λ b. cond b (answers.has_made
+              (place.Task t, length (m.put t j) + at)) is_refused) made;
+          begun = omega arith;
+          few = omega arith;
+        }
     by false made =
-        absurd (next.answered m at (out
-        ∙ ap (λ b. cond b (answers.has_made (place.Task t, length (m.put t j))) is_refused) made))
+        absurd (next.answered m stands (out ∙ ap (λ b. cond b (answers.has_made
+        (place.Task t, length (m.put t j) + at)) is_refused) made))
 
--- ---- what the state owes
-
-pub owes_by_state : (job : Job) (machine : Machine) (m : Moment) (t j : ℕ) (state : TaskState)
-    → IsNextIn job machine t (turns.signals j) → IsMachineAt job m machine
-    → slice_get machine.tasks.items t ≡ Some state
-    → (v : Result ℤ TooBigValue) × (owed_of state.owed ≡ places.value j v)
-    × (ranged (next_value job m t j) ≡ v)
-owes_by_state job machine m t j state next at found =
-    owes_value job m t j (owed_of state.owed) (at.tasks t state found).stands.owes (next.is m at)
-
-pub owes_this : (job : Job) (machine : Machine) (m : Moment) (t j i : ℕ) (state : TaskState)
-    (w : Result ℤ TooBigValue) → IsNextIn job machine t (turns.signals j)
-    → IsMachineAt job m machine → slice_get machine.tasks.items t ≡ Some state
-    → state.owed ≡ code.Value i w
-    → (owed_of state.owed ≡ places.value j w) × (ranged (next_value job m t j) ≡ w)
-owes_this job machine m t j i state w next at found is =
-    let owes = owes_by_state job machine m t j state next at found in
-    let same : owes.0 ≡ w = ap value_in (sym owes.1 ∙ ap owed_of is) in
-    (owes.1 ∙ ap (places.value j) same, owes.2 ∙ same)
-  where
-    value_in : places.Owed → Result ℤ TooBigValue
-    value_in (places.value i v) = v
-    value_in places.nothing = w
-    value_in (places.exchange x) = w
-
-pub owes_some : (job : Job) (machine : Machine) (t j : ℕ) (state : TaskState)
-    → IsNextIn job machine t (turns.signals j) → slice_get machine.tasks.items t ≡ Some state
-    → ((i : ℕ) (w : Result ℤ TooBigValue) → state.owed ≡ code.Value i w → ⊥) → ⊥
-owes_some job machine t j state next found never =
-    let owes = owes_by_state job machine next.some.0 t j state next next.some.1 found in
-    by state.owed refl owes.0 owes.1
-  where
-    by : (o : Owed) → state.owed ≡ o → (v : Result ℤ TooBigValue)
-        → owed_of state.owed ≡ places.value j v → ⊥
-    by code.Nothing e v is = absurd (let wrong : places.nothing ≡ places.value j v =
-        ap owed_of (sym e) ∙ is in cc)
-    by (code.Value i w) e v is = never i w e
-    by (code.Exchange x) e v is = absurd (let wrong : places.exchange x ≡ places.value j v =
-        ap owed_of (sym e) ∙ is in cc)
-
--- the turn of a task that made a value out of range
-pub made_turn : (job : Job) (old : Machine) (t j i begun : ℕ) (e : TooBigValue)
-    (state : TaskState) → IsNextIn job old t (turns.signals j)
-    → slice_get old.tasks.items t ≡ Some state → state.owed ≡ code.Value i (Err e)
-    → state.begun ≡ begun + 1 → HadTurn job old old t (OutOfRange begun)
-made_turn job old t j i begun e state next found is count = record {
-  shows = λ m at.
-      let both = so m at in
-      let steps : length (m.put t j) ≡ begun = omega (arith, both.1, count) in
-      subst (λ a. Shows job m t a (OutOfRange begun)) (sym both.0)
+-- it tells the step of that value
+pub over_turn : (job : Job) (old : Machine) (t j at step : ℕ) (state : TaskState)
+    (vs : List (Result ℤ TooBigValue)) → IsNextIn job old t (turns.signals j)
+    → ((m : Moment) → IsMachineAt job m old → MadeOver job m t j at state vs)
+    → step + length vs ≡ state.begun + at → HadTurn job old old t (OutOfRange step)
+over_turn job old t j at step state vs next over count = record {
+  shows = λ m stands.
+      let it = over m stands in
+      let begun = it.begun in
+      let steps : length (m.put t j) + at ≡ step = omega arith in
+      subst (λ a. Shows job m t a (OutOfRange step)) (sym it.answer)
       (ap (λ n. (place.Task t, n)) steps);
-  after = λ m at.
-      subst (λ a. IsMachineAt job (after_answer job a m) old) (sym (so m at).0) at;
+  after = λ m stands good.
+      subst (λ a. IsMachineAt job (after_answer job a m) old) (sym (over m stands).answer) stands;
 }
-  where
-    so : (m : Moment) → IsMachineAt job m old
-        → (answer_of_turn job m t ≡ answers.has_made (place.Task t, length (m.put t j)))
-        × (state.begun ≡ length (m.put t j) + 1)
-    so m at =
-        let owes = owes_this job old m t j i state (Err e) next at found is in
-        made_so job old m t j e state next at found owes.0 owes.1
-
-pub made_begun : (job : Job) (old : Machine) (t j i : ℕ) (e : TooBigValue) (state : TaskState)
-    → IsNextIn job old t (turns.signals j) → slice_get old.tasks.items t ≡ Some state
-    → state.owed ≡ code.Value i (Err e) → 1 ≤ state.begun
-made_begun job old t j i e state next found is =
-    let m = next.some.0 in
-    let at = next.some.1 in
-    let owes = owes_this job old m t j i state (Err e) next at found is in
-    let both = made_so job old m t j e state next at found owes.0 owes.1 in
-    let count = both.1 in
-    omega arith
 
 -- ---- samples
 
@@ -449,6 +695,7 @@ pub record SamplesAt (job : Job) (m : Moment) (t : ℕ) (state : TaskState) : Ty
   pub source : (task_at job.graph t).kind ≡ Source
   pub few : 0 < length (signalled_by (task_at job.graph t))
   pub more : state.begun < length (samples_at job t)
+  pub block : 1 ≤ block_of job m t
   pub place : registration_of_output (task_at job.graph t) 0 < length state.numbers.items
   pub number : number_on m t (output_at job t 0)
       ≡ get_or state.numbers.items (registration_of_output (task_at job.graph t) 0) 0
@@ -474,21 +721,30 @@ samples_at_place job machine m t state next at found =
       source = s.kind;
       few = few;
       more = omega arith;
+      block = block_some job m t at.graph (at.reached.ran.tasks t there) there s.step.uncut;
       place = out.0;
       number = out.1;
     }
 
+-- the samples from these steps on are those that are next
+abbrev pub NextSamplesAre : Job → Machine → ℕ → List ℤ → Type 0
+NextSamplesAre job machine t vs = (m : Moment) → IsMachineAt job m machine
+    → next_samples job m t ≡ vs
+
+pub record SamplesSo (job : Job) (m : Moment) (t number p : ℕ) (vs : List ℤ) : Type 0 where
+  pub answer : answer_of_turn job m t
+      ≡ signal_answer (sample t 0 p number vs) (refusal_of job m p number vs)
+  pub sends : AreSends vs
+
 -- what the turn answers
-pub samples_so : (job : Job) (machine : Machine) (m : Moment) (t number p : ℕ) (x : ℤ)
-    (state : TaskState) → IsNextIn job machine t turns.samples → IsMachineAt job m machine
+pub samples_so : (job : Job) (machine : Machine) (t number p : ℕ) (vs : List ℤ)
+    (state : TaskState) → IsNextIn job machine t turns.samples
     → slice_get machine.tasks.items t ≡ Some state → p ≡ output_at job t 0
     → number ≡ get_or state.numbers.items (registration_of_output (task_at job.graph t) 0) 0
-    → x ≡ get_or (samples_at job t) state.begun (pos 0)
-    → (answer_of_turn job m t ≡ signal_answer (sample t 0 p number x)
-    (signal_refusal (limits_at job p) (m.history p) number ((x ∷ []) ∷ [])
-    (phaser_at job.graph p).single)) × IsSend x
-samples_so job machine m t number p x state next at found phaser numbered value =
-    by (is_out_of_range x) refl
+    → NextSamplesAre job machine t vs → (m : Moment) → IsMachineAt job m machine
+    → SamplesSo job m t number p vs
+samples_so job machine t number p vs state next found phaser numbered value m at =
+    by (position_from is_out_of_range (length (m.put t 0)) vs) refl
   where
     s : SamplesAt job m t state
     s = samples_at_place job machine m t state next at found
@@ -496,115 +752,75 @@ samples_so job machine m t number p x state next at found phaser numbered value 
     q : ℕ
     q = output_at job t 0
 
-    out : answer_of_turn job m t ≡ signal_turn job m t 0 x (sample t 0 q (number_on m t q) x)
+    out : answer_of_turn job m t
+        ≡ signal_turn job m t 0 vs
+        (sample t 0 (output_at job t 0) (number_on m t (output_at job t 0)) vs)
     out =
         ap (answer_to job m t) (next.is m at)
-        ∙ ap (λ v. signal_turn job m t 0 v (sample t 0 q (number_on m t q) v))
-        (ap (λ n. get_or (samples_at job t) n (pos 0)) (at.tasks t state found).stands.begun
-        ∙ sym value)
+        ∙ ap (λ l. signal_turn job m t 0 l (sample t 0 q (number_on m t q) l)) (value m at)
 
-    made : are_made (task_at job.graph t).kind 0 ≡ false
-    made = ap (λ k. are_made k 0) s.source
-
-    by : (b : Bool) → is_out_of_range x ≡ b
-        → (answer_of_turn job m t ≡ signal_answer (sample t 0 p number x)
-        (signal_refusal (limits_at job p) (m.history p) number ((x ∷ []) ∷ [])
-        (phaser_at job.graph p).single)) × IsSend x
-    by true range =
+    by : (o : Option ℕ) → position_from is_out_of_range (length (m.put t 0)) vs ≡ o
+        → SamplesSo job m t number p vs
+    by (Some step) over =
         absurd (next.answered m at (out
-        ∙ ap (λ b. cond b (cond (are_made (task_at job.graph t).kind 0) (answers.has_made
-        (place.Task t, length (m.put t 0))) is_refused)
-        (call_signal job m t q x (sample t 0 q (number_on m t q) x))) range
-        ∙ ap (λ b. cond b (answers.has_made (place.Task t, length (m.put t 0))) is_refused) made))
-    by false range = (
-      out
-          ∙ ap (λ b. cond b (cond (are_made (task_at job.graph t).kind 0) (answers.has_made
-          (place.Task t, length (m.put t 0))) is_refused)
-          (call_signal job m t q x (sample t 0 q (number_on m t q) x))) range
-          ∙ ap (λ n. signal_answer (sample t 0 q n x) (signal_refusal (limits_at job q)
-          (m.history q) n ((x ∷ []) ∷ []) (phaser_at job.graph q).single)) (s.number ∙ sym numbered)
-          ∙ ap (λ r. signal_answer (sample t 0 r number x) (signal_refusal (limits_at job r)
-          (m.history r) number ((x ∷ []) ∷ []) (phaser_at job.graph r).single)) (sym phaser),
-      sendable x range,
-    )
+        ∙ stops job m t 0 step vs (sample t 0 q (number_on m t q) vs) over
+        ∙ ap (λ k. cond (are_made k 0) (answers.has_made (place.Task t, step)) is_refused) s.source))
+    by None none = record {
+      answer = out ∙ goes_on job m t 0 vs (sample t 0 q (number_on m t q) vs) none
+          ∙ renumbered job m t 0 number p vs (λ r n. sample t 0 r n vs) phaser
+          (s.number ∙ sym numbered);
+      sends = sends_all (length (m.put t 0)) vs none;
+    }
 
 abbrev pub with_begun : TaskState → ℕ → TaskState
 with_begun state begun = record state { begun = begun }
 
-pub sampled_turn : (job : Job) (old new : Machine) (t number p phase : ℕ) (x : ℤ)
+pub sampled_turn : (job : Job) (old new : Machine) (t number p phase many : ℕ) (vs : List ℤ)
     (state : TaskState) → IsNextIn job old t turns.samples
     → slice_get old.tasks.items t ≡ Some state → p ≡ output_at job t 0
     → number ≡ get_or state.numbers.items (registration_of_output (task_at job.graph t) 0) 0
-    → x ≡ get_or (samples_at job t) state.begun (pos 0)
-    → ((m : Moment) → IsMachineAt job m old
-    → signal_reply (limits_at job p) (m.history p) number ((x ∷ []) ∷ [])
-    (phaser_at job.graph p).single ≡ Ok phase)
-    → ((m : Moment) → IsMachineAt job m old
-    → HasCores job (with_at p (Signalled number ((x ∷ []) ∷ []) (phaser_at job.graph p).single
-    ∷ m.history p) m.history) new.cores.items)
-    → new.tasks.items ≡ set old.tasks.items t (with_begun state (state.begun + 1))
+    → NextSamplesAre job old t vs → length vs ≡ many
+    → ((m : Moment) → IsMachineAt job m old → reply_of job m p number vs ≡ Ok phase)
+    → SignalledCores job old new number p vs
+    → new.tasks.items ≡ set old.tasks.items t (with_begun state (state.begun + many))
     → new.lines ≡ old.lines → HadTurn job old new t (Event p Moved)
-sampled_turn job old new t number p phase x state next found phaser numbered value reply cores tasks lines =
-    record {
-      shows = λ m at. subst (λ a. Shows job m t a (Event p Moved)) (sym (answer m at)) (refl, refl);
-      after = after;
-    }
+sampled_turn job old new t number p phase many vs state next found phaser numbered value long reply cores tasks lines =
+    moved_turn job old new t p turns.samples (sample t 0 p number vs)
+    (with_begun state (state.begun + many)) next
+    (samples_at_place job old next.some.0 t state next next.some.1 found).there refl tt refl
+    (λ m. refl) answer stands cores tasks lines
   where
     answer : (m : Moment) → IsMachineAt job m old
-        → answer_of_turn job m t ≡ makes (sample t 0 p number x)
-    answer m at =
-        (samples_so job old m t number p x state next at found phaser numbered value).0
-        ∙ ap (signal_answer (sample t 0 p number x))
-        (ok_is (limits_at job p) (m.history p) number ((x ∷ []) ∷ []) (phaser_at job.graph p).single
-        phase (reply m at))
+        → answer_of_turn job m t ≡ makes (sample t 0 p number vs)
+    answer =
+        accepted job old t number p phase vs (sample t 0 p number vs)
+        (λ m at. (samples_so job old t number p vs state next found phaser numbered value m at).answer)
+        reply
 
-    after : (m : Moment) → IsMachineAt job m old
-        → IsMachineAt job (after_answer job (answer_of_turn job m t) m) new
-    after m at =
+    stands : (m : Moment) → IsMachineAt job m old
+        → IsTaskAt job (after_turn job (sample t 0 p number vs) m) t
+        (with_begun state (state.begun + many))
+    stands m at =
+        let event = sample t 0 p number vs in
         let it = at.tasks t state found in
-        let event = sample t 0 p number x in
+        let made = makes_event job m t event at.graph at.reached (answer m at) in
         let ran = (subst (λ a. IsReachable job (after_answer job a m)) (answer m at)
         (next.stays m at)).ran in
-        let one : suc state.begun ≡ state.begun + 1 = omega arith in
-        let stands : StandsAt job (after_turn job event m) t
-        (place_of (with_begun state (state.begun + 1))) =
-        subst (λ n. StandsAt job (after_turn job event m) t (record (place_of state) { begun = n }))
-        one (sample_follows job m t 0 p number x (place_of state) at.graph at.reached ran
-        (answer m at) it.stands) in
-        after_own job m old new t event (with_begun state (state.begun + 1)) at (answer m at) refl
-        (samples_at_place job old m t state next at found).there (next.stays m at) (next.few m at) (cores m at)
-        tasks (record { stands = stands; room = it.room; filter = it.filter; sink = it.sink })
-        (ap (λ l. map sink_values l.items) lines ∙ at.lines
-        ∙ lines_stay job m old t event at (answer m at) tt)
-        (subst (λ l. All (IsLineOf job) l.items) (sym lines) at.own)
-
-pub blocked_sample : (job : Job) (old new : Machine) (t number p : ℕ) (x : ℤ)
-    (state : TaskState) (r : SignalRefusal) → IsNextIn job old t turns.samples
-    → slice_get old.tasks.items t ≡ Some state → p ≡ output_at job t 0
-    → number ≡ get_or state.numbers.items (registration_of_output (task_at job.graph t) 0) 0
-    → x ≡ get_or (samples_at job t) state.begun (pos 0)
-    → ((m : Moment) → IsMachineAt job m old
-    → signal_reply (limits_at job p) (m.history p) number ((x ∷ []) ∷ [])
-    (phaser_at job.graph p).single ≡ Err r)
-    → ((m : Moment) → IsMachineAt job m old
-    → HasCores job (with_at p (m.history p) m.history) new.cores.items)
-    → new.tasks ≡ old.tasks → new.lines ≡ old.lines → HadTurn job old new t (Blocked p)
-blocked_sample job old new t number p x state r next found phaser numbered value reply cores tasks lines =
-    blocked_turn job old new t p turns.samples next (sym phaser) answer
-    (λ m at. unchanged job m old new p at (cores m at) tasks lines)
-  where
-    refused : (m : Moment) → IsMachineAt job m old
-        → answer_of_turn job m t ≡ signal_answer (sample t 0 p number x) (Some r)
-    refused m at =
-        (samples_so job old m t number p x state next at found phaser numbered value).0
-        ∙ ap (signal_answer (sample t 0 p number x))
-        (err_is (limits_at job p) (m.history p) number ((x ∷ []) ∷ []) (phaser_at job.graph p).single
-        r (reply m at))
-
-    answer : (m : Moment) → IsMachineAt job m old → answer_of_turn job m t ≡ is_blocked
-    answer m at =
-        refused m at
-        ∙ blocks (sample t 0 p number x) r (λ e. next.answered m at (refused m at ∙ e))
+        let steps : further state.begun vs ≡ state.begun + many =
+        further-length state.begun vs ∙ ap (λ n. state.begun + n) long in
+        record {
+          stands =
+              subst (λ n. StandsAt job (after_turn job event m) t
+              (record (place_of state) { begun = n })) steps
+              (sample_follows job m t 0 p number vs (place_of state) at.graph at.reached.ran
+              made.next ran made.owes it.stands);
+          room = it.room;
+          filter = it.filter;
+          made_room = it.made_room;
+          made_by = it.made_by;
+          made_none = it.made_none;
+          sink = it.sink;
+        }
 
 pub sample_few : (job : Job) (machine : Machine) (m : Moment) (t : ℕ)
     → IsNextIn job machine t turns.samples → IsMachineAt job m machine
@@ -614,3 +830,75 @@ sample_few job machine m t next at =
     let there = (live-is job m t (live_next job m t turns.samples is (λ e. absurd (cc)))).there in
     let one = source_ends job t at.graph there (samples_begins job m t is).kind in
     omega arith
+
+-- so many samples of a task that has begun so many steps: the block that is next
+pub record BlockOfSamples (job : Job) (t begun many : ℕ) (vs : List ℤ) : Type 0 where
+  pub some : 1 ≤ many
+  pub few : begun + many ≤ length (samples_at job t)
+  pub long : length vs ≡ many
+  pub here : vs ≡ take many (drop begun (samples_at job t))
+
+pub block_of_samples : (job : Job) (machine : Machine) (m : Moment) (t many : ℕ)
+    (state : TaskState) → IsNextIn job machine t turns.samples → IsMachineAt job m machine
+    → slice_get machine.tasks.items t ≡ Some state → sample_block_of job m t ≡ many
+    → BlockOfSamples job t state.begun many (take many (drop state.begun (samples_at job t)))
+block_of_samples job machine m t many state next at found block =
+    let s = samples_at_place job machine m t state next at found in
+    let begun : m.begun t ≡ state.begun = (at.tasks t state found).stands.begun in
+    let more = s.more in
+    let one_step : 1 ≤ block_of job m t = s.block in
+    let rest : length (drop state.begun (samples_at job t))
+    ≡ length (samples_at job t) - state.begun = length-drop state.begun (samples_at job t) in
+    let few : state.begun + many ≤ length (samples_at job t) = omega arith in
+    record {
+      some = omega arith;
+      few = few;
+      long = length-take-le many (drop state.begun (samples_at job t)) (omega arith);
+      here = refl;
+    }
+
+-- they are the next ones at each moment
+pub next_samples_are : (job : Job) (machine : Machine) (t many : ℕ) (state : TaskState)
+    → slice_get machine.tasks.items t ≡ Some state
+    → ((m : Moment) → m.begun t ≡ state.begun → sample_block_of job m t ≡ many)
+    → NextSamplesAre job machine t (take many (drop state.begun (samples_at job t)))
+next_samples_are job machine t many state found block m at =
+    let begun : m.begun t ≡ state.begun = (at.tasks t state found).stands.begun in
+    ap (λ n. take n (drop (m.begun t) (samples_at job t))) (block m begun)
+    ∙ ap (λ b. take many (drop b (samples_at job t))) begun
+
+-- ---- whether all are in range
+
+-- where all ranges are good no value is out of range, and else one is
+pub all_out : (zs : List ℤ) (rs : List (Result ℤ TooBigValue)) (from : ℕ) → map ranged zs ≡ rs
+    → (inside.in_range rs ≡ true → position_from is_out_of_range from zs ≡ None)
+    × (inside.in_range rs ≡ false
+    → (step : ℕ) × (position_from is_out_of_range from zs ≡ Some step))
+all_out [] [] from e = ((λ good. refl), (λ bad. absurd (cc)))
+all_out [] (r ∷ rs) from e = absurd (cc)
+all_out (z ∷ zs) [] from e = absurd (cc)
+all_out (z ∷ zs) (r ∷ rs) from e =
+    let both = cons_parts (ranged z) r (map ranged zs) rs e in
+    by r both.0 (all_out zs rs (from + 1) both.1)
+  where
+    by : (r : Result ℤ TooBigValue) → ranged z ≡ r
+        → ((inside.in_range rs ≡ true → position_from is_out_of_range (from + 1) zs ≡ None)
+        × (inside.in_range rs ≡ false
+        → (step : ℕ) × (position_from is_out_of_range (from + 1) zs ≡ Some step)))
+        → (inside.in_range (r ∷ rs) ≡ true → position_from is_out_of_range from (z ∷ zs) ≡ None)
+        × (inside.in_range (r ∷ rs) ≡ false
+        → (step : ℕ) × (position_from is_out_of_range from (z ∷ zs) ≡ Some step))
+    by (Ok x) e rest =
+        let i = in_range z x e in
+        let fits : is_out_of_range z ≡ false = ap is_out_of_range i.0 ∙ i.1 in
+        let move : position_from is_out_of_range from (z ∷ zs)
+        ≡ position_from is_out_of_range (from + 1) zs =
+        ap (λ b. cond b (Some from) (position_from is_out_of_range (from + 1) zs)) fits in (
+          (λ good. move ∙ rest.0 good),
+          (λ bad. let r = rest.1 bad in (r.0, move ∙ r.1)),
+        )
+    by (Err out) e rest = (
+      (λ good. absurd (cc)),
+      (λ bad. (from, ap (λ b. cond b (Some from) (position_from is_out_of_range (from + 1) zs))
+      (out_of_range z out e))),
+    )

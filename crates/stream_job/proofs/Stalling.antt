@@ -1,24 +1,29 @@
 -- Whether the call of a live task is blocked, where no turn is refused.
-use Rattle.std.proofs.Common.{◌≡◌, ◌≢◌, ℕ, ◌+◌, Bool, true, false, not, eqb, ◌&&◌, ◌||◌, cond, ℤ, pos, List, [], ◌∷◌, Option, Some, None, is_some, get_or, refl, sym, ap, subst, ◌∙◌}
-use Rattle.std.specs.Prelude.{Result, Ok, Err, nat_le, nat_lt, length, unsigned_abs}
-use Rattle.std.proofs.lemmas.Option.{same_Some}
+use Rattle.std.proofs.Common.{◌≡◌, ◌≢◌, ℕ, zero, suc, ◌+◌, ◌-◌, ◌<◌, ◌≤◌, Bool, true, false, not, eqb, ◌&&◌, ◌||◌, cond, ℤ, pos, List, [], ◌∷◌, Option, Some, None, is_some, map, take, drop, get_or, refl, sym, ap, subst, ◌∙◌, arith}
+use Rattle.std.specs.Prelude.{Result, Ok, Err, nat_le, nat_lt, min, length}
+use Rattle.std.specs.List.{position_from}
+use Rattle.std.proofs.lemmas.Bool.{leb-true, leb-false, le-leb, lt-ltb, le-ltb}
+use Rattle.std.proofs.lemmas.List.{length-map, length-drop, length-take-le}
 use Rattle.phase_core.specs.phase_base.Limits.{Limits}
 use Rattle.phase_core.specs.phase_base.declared.limits.TheConstants.{SENDS_MAX}
 use Rattle.phase_core.specs.phase_base.Modes.{mode_signals, mode_waits, is_single}
-use Rattle.phase_core.specs.phase_base.Members.{entry_of, least, wait_phases}
+use Rattle.phase_core.specs.phase_base.Members.{entry_of, least, wait_phases, signalled}
 use Rattle.phase_core.specs.phase_base.declared.entry.Entry.{Entry}
 use Rattle.phase_core.specs.phase_accum.declared.outcome.Outcome.{Outcome}
 use Rattle.phase_core.specs.phase_accum.declared.single.Single.{Single}
 use Rattle.phase_core.specs.phase_history.declared.got.Got.{Got}
 use Rattle.phase_core.specs.phase_history.declared.got.Got.TheVariants as got
+use Rattle.phase_core.specs.phase_history.declared.got.GotBlock.{GotBlock}
+use Rattle.phase_core.specs.phase_history.declared.got.GotBlock.TheVariants as block
+use Rattle.phase_core.specs.phase_history.declared.refusal.SignalRefusal.{SignalRefusal}
 use Rattle.phase_core.specs.phase_history.declared.refusal.SignalRefusal.TheVariants as signal
 use Rattle.phase_core.specs.phase_history.declared.refusal.WaitRefusal.TheVariants as wait
 use Rattle.phase_core.specs.phase_history.Histories.{History, positions_of, members_of, done_of, wait_phase}
 use Rattle.phase_core.specs.phase_history.Phases.{sends_of_phase, named_in_phase}
-use Rattle.phase_core.specs.phase_history.Refusals.{refusal_at, signal_rows, wait_rows, signal_refusal, is_ahead, is_bad_block, differs, register_refusal, drop_refusal}
+use Rattle.phase_core.specs.phase_history.Refusals.{refusal_at, signal_rows, list_rows, wait_rows, signal_refusal, is_ahead, is_bad_block, differs, register_refusal, register_now_refusal, drop_refusal}
 use Rattle.phase_core.specs.phase_base.Lists.{first_row}
-use Rattle.phase_core.specs.phase_history.Replies.{wait_reply, refused_or, got_at}
-use Rattle.phase_core.specs.phase_accum.Sends.{AreSends, value_max}
+use Rattle.phase_core.specs.phase_history.Replies.{wait_reply, wait_block_reply, refused_or, got_at, got_block_at}
+use Rattle.phase_core.specs.phase_accum.Sends.{AreSends}
 use Rattle.graph_lang.specs.stream_filters.declared.fault.TooBigValue.{TooBigValue}
 use Rattle.graph_lang.specs.stream_filters.Range.{ranged}
 use Rattle.graph_lang.specs.graph_base.declared.place.Place.TheVariants as place
@@ -27,60 +32,156 @@ use Rattle.graph_lang.specs.graph_base.Graphs.{task_at, phaser_at}
 use Rattle.graph_lang.specs.graph_base.TaskLines.{IsGraph}
 use Rattle.stream_eval.specs.stream_lists.Jobs.{Job, samples_at}
 use Rattle.stream_eval.specs.stream_lists.Ranges.{are_made, is_out_of_range}
-use Rattle.graph_runs.specs.Moments.{Moment, limits_at, value_at, input_at}
+use Rattle.graph_runs.specs.Moments.{one, Moment, limits_at, value_at, input_at, made_now}
+use Rattle.graph_runs.specs.NextBlocks.{block_of, sample_block_of}
 use Rattle.graph_runs.specs.TaskEvents.{TaskEvent, sample, signal, first_wait, exchange_wait}
-use Rattle.graph_runs.specs.Nexts.{Next, registers, leaves, samples, signals, waits, exchanges, has_signaller, next_of, number_on, first_missing, first_kept, waits_first}
-use Rattle.graph_runs.specs.Answers.{has_made, is_refused, signal_answer, wait_answer, accepted_answer, was_blocked, answer_to, signal_turn, call_signal, call_leave, call_register, output_at, next_value}
-use Rattle.graph_runs.specs.TaskPlaces.{Owed, nothing, value, exchange, Owes}
+use Rattle.graph_runs.specs.Nexts.{Next, registers, leaves, samples, signals, waits, exchanges, has_input_ended, has_signaller, next_of, number_on, first_missing, first_kept}
+use Rattle.graph_runs.specs.Answers.{has_made, is_refused, signal_answer, block_answer, wait_answer, accepted_answer, register_answer, was_blocked, answer_to, signal_turn, call_leave, call_register, output_at, next_samples, next_values}
+use Rattle.graph_runs.specs.TaskPlaces.{Owed, Owes}
 use Rattle.graph_runs.specs.Reached.{IsReachable}
+use Rattle.graph_runs.proofs.Blocks.{block_some}
+use Rattle.graph_runs.proofs.Found.{all_fail}
+use Rattle.graph_runs.proofs.Lacking.{next_begins}
 use Rattle.graph_runs.proofs.NotRefused.{IsTold}
-use Rattle.graph_runs.proofs.Ranged.{sends_ranged}
+use Rattle.graph_runs.proofs.Ranged.{sends_ranged, take_ranged, drop_ranged}
+use Rattle.graph_runs.proofs.Signalling.{live-is, owed}
 use Rattle.graph_runs.proofs.Telling.{turn_told}
-use Rattle.stream_job.specs.Inside.{blocks_signal, blocks_signal_at, blocks_wait, blocks_wait_at, would_block, is_value_in_range}
-use Rattle.stream_job.proofs.Stepping.{IsSo, next_is}
+use Rattle.stream_job.specs.Inside.{blocks_signal, blocks_signal_at, blocks_wait, blocks_wait_at, would_block, in_range, are_in_range, owed_many}
+use Rattle.stream_job.proofs.Lively.{live_next}
+use Rattle.stream_job.proofs.Signals.{all_out, goes_on, owes_values, stops}
+use Rattle.stream_job.proofs.WhatNext.{samples_begins, signals_owes}
 
-rows_blocked : (event : TaskEvent) (a b c d spent ahead x y : Bool)
-    → signal_answer event (first_row ((a, signal.NoSignal) ∷ (b, signal.NotSingle)
-    ∷ (c, signal.BadBlock) ∷ (d, signal.SignalTwice) ∷ (spent, signal.Spent)
-    ∷ (ahead, signal.Ahead) ∷ (x, signal.SingleDiffers) ∷ (y, signal.PhaseFull) ∷ []))
+-- ---- a signal, phase by phase
+
+or_true : (a b : Bool) → b ≡ true → (a || b) ≡ true
+or_true true b e = refl
+or_true false b e = e
+
+ahead_later : (slowest : Option ℕ) (bound s more : ℕ) → s ≤ more
+    → is_ahead slowest bound s ≡ true → is_ahead slowest bound more ≡ true
+ahead_later None bound s more le e = absurd (cc)
+ahead_later (Some slow) bound s more le e =
+    let far = leb-true (slow + bound) s e in le-leb (slow + bound) more (omega arith)
+
+-- one phase of it, where the later ones answer so
+phase_blocked : (event : TaskEvent) (twice spent ahead differs full all : Bool)
+    (rest : Option SignalRefusal) → (spent ≡ true → all ≡ true) → (ahead ≡ true → all ≡ true)
+    → (spent ≡ false → ahead ≡ false → signal_answer event rest ≢ is_refused
+    → was_blocked (signal_answer event rest) ≡ all)
+    → signal_answer event (cond twice (Some signal.SignalTwice) (cond spent (Some signal.Spent)
+    (cond ahead (Some signal.Ahead) (cond differs (Some signal.SingleDiffers)
+    (cond full (Some signal.PhaseFull) rest))))) ≢ is_refused
+    → was_blocked (signal_answer event (cond twice (Some signal.SignalTwice)
+    (cond spent (Some signal.Spent) (cond ahead (Some signal.Ahead)
+    (cond differs (Some signal.SingleDiffers) (cond full (Some signal.PhaseFull) rest)))))) ≡ all
+phase_blocked event true spent ahead differs full all rest a b c never = absurd (never refl)
+phase_blocked event false true ahead differs full all rest a b c never = sym (a refl)
+phase_blocked event false false true differs full all rest a b c never = sym (b refl)
+phase_blocked event false false false true full all rest a b c never = absurd (never refl)
+phase_blocked event false false false false true all rest a b c never = absurd (never refl)
+phase_blocked event false false false false false all rest a b c never = c refl refl never
+
+-- the rows before those of the phases
+front_blocked : (event : TaskEvent) (no_signal not_single bad all : Bool)
+    (rest : Option SignalRefusal)
+    → (signal_answer event rest ≢ is_refused → was_blocked (signal_answer event rest) ≡ all)
+    → signal_answer event (cond no_signal (Some signal.NoSignal)
+    (cond not_single (Some signal.NotSingle) (cond bad (Some signal.BadBlock) rest))) ≢ is_refused
+    → was_blocked (signal_answer event (cond no_signal (Some signal.NoSignal)
+    (cond not_single (Some signal.NotSingle) (cond bad (Some signal.BadBlock) rest)))) ≡ all
+front_blocked event true not_single bad all rest c never = absurd (never refl)
+front_blocked event false true bad all rest c never = absurd (never refl)
+front_blocked event false false true all rest c never = absurd (never refl)
+front_blocked event false false false all rest c never = c never
+
+-- whether one of so many phases from this one on is past the last, or too far ahead
+abbrev is_late : Limits → Option ℕ → ℕ → ℕ → Bool
+is_late limits slowest s many =
+    nat_lt limits.phases_max (s + many) || is_ahead slowest limits.bound (s + many - 1)
+
+lists_blocked : (event : TaskEvent) (limits : Limits) (h : History) (single : Option Single)
+    (v : ℤ) (vs : List ℤ) (entry : Entry)
+    → signal_answer event (first_row (list_rows limits h (map one (v ∷ vs)) single entry))
     ≢ is_refused
-    → was_blocked (signal_answer event (first_row ((a, signal.NoSignal) ∷ (b, signal.NotSingle)
-    ∷ (c, signal.BadBlock) ∷ (d, signal.SignalTwice) ∷ (spent, signal.Spent)
-    ∷ (ahead, signal.Ahead) ∷ (x, signal.SingleDiffers) ∷ (y, signal.PhaseFull) ∷ [])))
-    ≡ (spent || ahead)
-rows_blocked event true b c d spent ahead x y never = absurd (never refl)
-rows_blocked event false true c d spent ahead x y never = absurd (never refl)
-rows_blocked event false false true d spent ahead x y never = absurd (never refl)
-rows_blocked event false false false true spent ahead x y never = absurd (never refl)
-rows_blocked event false false false false true ahead x y never = refl
-rows_blocked event false false false false false true x y never = refl
-rows_blocked event false false false false false false true y never = absurd (never refl)
-rows_blocked event false false false false false false false true never = absurd (never refl)
-rows_blocked event false false false false false false false false never = refl
+    → was_blocked (signal_answer event
+    (first_row (list_rows limits h (map one (v ∷ vs)) single entry)))
+    ≡ is_late limits (least (wait_phases (members_of h))) entry.signal_phase (length (v ∷ vs))
+lists_blocked event limits h single v vs entry =
+    phase_blocked event (mode_waits entry.mode && eqb s (entry.wait_phase + 1))
+    (nat_le limits.phases_max s) (is_ahead slowest limits.bound s)
+    (is_some slowest && differs (named_in_phase h s) single)
+    (is_some slowest && nat_lt SENDS_MAX (length (sends_of_phase h s) + 1))
+    (is_late limits slowest s (length (v ∷ vs)))
+    (first_row (list_rows limits h (map one vs) single (signalled 1 entry)))
+    (λ spent. (let far = leb-true limits.phases_max s spent in
+    let late : nat_lt limits.phases_max (s + suc (length vs)) ≡ true =
+    lt-ltb limits.phases_max (s + suc (length vs)) (omega arith) in
+    ap (λ b. b || is_ahead slowest limits.bound (s + suc (length vs) - 1)) late))
+    (λ ahead. or_true (nat_lt limits.phases_max (s + suc (length vs)))
+    (is_ahead slowest limits.bound (s + suc (length vs) - 1))
+    (ahead_later slowest limits.bound s (s + suc (length vs) - 1) (omega arith) ahead))
+    (rest vs (λ w ws. lists_blocked event limits h single w ws (signalled 1 entry)))
+  where
+    s : ℕ
+    s = entry.signal_phase
 
--- a signal that is not refused is blocked where its phase is past the last, or too far ahead
-pub signal_blocked : (event : TaskEvent) (limits : Limits) (h : History) (n : ℕ) (v : ℤ)
-    (single : Option Single)
-    → signal_answer event (signal_refusal limits h n ((v ∷ []) ∷ []) single) ≢ is_refused
-    → was_blocked (signal_answer event (signal_refusal limits h n ((v ∷ []) ∷ []) single))
-    ≡ blocks_signal limits h n
-signal_blocked event limits h n v single = by (entry_of (members_of h) n)
+    slowest : Option ℕ
+    slowest = least (wait_phases (members_of h))
+
+    rest : (vs : List ℤ)
+        → ((w : ℤ) (ws : List ℤ)
+        → signal_answer event (first_row (list_rows limits h (map one (w ∷ ws)) single
+        (signalled 1 entry))) ≢ is_refused
+        → was_blocked (signal_answer event (first_row (list_rows limits h (map one (w ∷ ws)) single
+        (signalled 1 entry))))
+        ≡ is_late limits (least (wait_phases (members_of h))) (entry.signal_phase + 1)
+        (length (w ∷ ws)))
+        → nat_le limits.phases_max entry.signal_phase ≡ false
+        → is_ahead (least (wait_phases (members_of h))) limits.bound entry.signal_phase ≡ false
+        → signal_answer event (first_row (list_rows limits h (map one vs) single
+        (signalled 1 entry))) ≢ is_refused
+        → was_blocked (signal_answer event (first_row (list_rows limits h (map one vs) single
+        (signalled 1 entry))))
+        ≡ is_late limits (least (wait_phases (members_of h))) entry.signal_phase
+        (suc (length vs))
+    rest [] later spent ahead never =
+        let few = leb-false limits.phases_max entry.signal_phase spent in
+        let last : nat_lt limits.phases_max (entry.signal_phase + 1) ≡ false =
+        le-ltb limits.phases_max (entry.signal_phase + 1) (omega arith) in
+        let same : entry.signal_phase + 1 - 1 ≡ entry.signal_phase = omega arith in
+        sym (ap (λ b. b || is_ahead (least (wait_phases (members_of h))) limits.bound
+        (entry.signal_phase + 1 - 1)) last
+        ∙ ap (is_ahead (least (wait_phases (members_of h))) limits.bound) same ∙ ahead)
+    rest (w ∷ ws) later spent ahead never =
+        let same : entry.signal_phase + 1 + suc (length ws)
+        ≡ entry.signal_phase + suc (suc (length ws)) = omega arith in
+        later w ws never
+        ∙ ap (λ n. nat_lt limits.phases_max n
+        || is_ahead (least (wait_phases (members_of h))) limits.bound (n - 1)) same
+
+-- a signal that is not refused is blocked where one of its phases is past the last, or too far
+-- ahead
+pub signal_blocked : (event : TaskEvent) (limits : Limits) (h : History) (n : ℕ) (vs : List ℤ)
+    (single : Option Single) → 1 ≤ length vs
+    → signal_answer event (signal_refusal limits h n (map one vs) single) ≢ is_refused
+    → was_blocked (signal_answer event (signal_refusal limits h n (map one vs) single))
+    ≡ blocks_signal limits h n (length vs)
+signal_blocked event limits h n [] single some never = absurd (omega arith)
+signal_blocked event limits h n (v ∷ vs) single some never = by (entry_of (members_of h) n) never
   where
     by : (o : Option Entry)
         → signal_answer event (refusal_at o signal.NoTask
-        (signal_rows limits h ((v ∷ []) ∷ []) single)) ≢ is_refused
+        (signal_rows limits h (map one (v ∷ vs)) single)) ≢ is_refused
         → was_blocked (signal_answer event (refusal_at o signal.NoTask
-        (signal_rows limits h ((v ∷ []) ∷ []) single))) ≡ blocks_signal_at limits h o
+        (signal_rows limits h (map one (v ∷ vs)) single)))
+        ≡ blocks_signal_at limits h (length (v ∷ vs)) o
     by None never = absurd (never refl)
     by (Some e) never =
-        rows_blocked event (not (mode_signals e.mode)) (is_some single && not (is_single e.mode))
-        (is_bad_block limits 1) (mode_waits e.mode && eqb e.signal_phase (e.wait_phase + 1))
-        (nat_le limits.phases_max e.signal_phase)
-        (is_ahead (least (wait_phases (members_of h))) limits.bound e.signal_phase)
-        (is_some (least (wait_phases (members_of h)))
-        && differs (named_in_phase h e.signal_phase) single)
-        (is_some (least (wait_phases (members_of h)))
-        && nat_lt SENDS_MAX (length (sends_of_phase h e.signal_phase) + 1)) never
+        front_blocked event (not (mode_signals e.mode)) (is_some single && not (is_single e.mode))
+        (is_bad_block limits (length (map one (v ∷ vs))))
+        (is_late limits (least (wait_phases (members_of h))) e.signal_phase (length (v ∷ vs)))
+        (first_row (list_rows limits h (map one (v ∷ vs)) single e))
+        (lists_blocked event limits h single v vs e) never
 
 wait_rows_blocked : (event : Outcome → TaskEvent) (g : Got) (a b c yet : Bool)
     → wait_answer event (refused_or (first_row ((a, wait.NoWait) ∷ (b, wait.BadBlock)
@@ -114,6 +215,37 @@ wait_blocked event of limits h n = by (entry_of (members_of h) n)
         (is_bad_block limits 1) (mode_signals e.mode && eqb e.signal_phase e.wait_phase)
         (nat_le (done_of h) e.wait_phase && has_signaller h) never
 
+block_rows_blocked : (event : ℕ → ℕ → TaskEvent) (g : GotBlock) (a b c yet : Bool)
+    → block_answer event (refused_or (first_row ((a, wait.NoWait) ∷ (b, wait.BadBlock)
+    ∷ (c, wait.SignalFirst) ∷ (yet, wait.NotYet) ∷ [])) g) ≢ is_refused
+    → was_blocked (block_answer event (refused_or (first_row ((a, wait.NoWait) ∷ (b, wait.BadBlock)
+    ∷ (c, wait.SignalFirst) ∷ (yet, wait.NotYet) ∷ [])) g)) ≡ yet
+block_rows_blocked event g true b c yet never = absurd (never refl)
+block_rows_blocked event g false true c yet never = absurd (never refl)
+block_rows_blocked event g false false true yet never = absurd (never refl)
+block_rows_blocked event g false false false true never = refl
+block_rows_blocked event (block.Values phase count) false false false false never = refl
+block_rows_blocked event block.Ended false false false false never = refl
+
+-- and so is a wait for a block
+pub block_blocked : (event : ℕ → ℕ → TaskEvent) (limits : Limits) (h : History) (n steps : ℕ)
+    → block_answer event (wait_block_reply limits h n steps) ≢ is_refused
+    → was_blocked (block_answer event (wait_block_reply limits h n steps)) ≡ blocks_wait h n
+block_blocked event limits h n steps = by (entry_of (members_of h) n)
+  where
+    by : (o : Option Entry)
+        → block_answer event (refused_or (refusal_at o wait.NoTask
+        (wait_rows limits (positions_of h) steps))
+        (got_block_at h (wait_phase h n) steps)) ≢ is_refused
+        → was_blocked (block_answer event (refused_or (refusal_at o wait.NoTask
+        (wait_rows limits (positions_of h) steps))
+        (got_block_at h (wait_phase h n) steps))) ≡ blocks_wait_at h o
+    by None never = absurd (never refl)
+    by (Some e) never =
+        block_rows_blocked event (got_block_at h (wait_phase h n) steps) (not (mode_waits e.mode))
+        (is_bad_block limits steps) (mode_signals e.mode && eqb e.signal_phase e.wait_phase)
+        (nat_le (done_of h) e.wait_phase && has_signaller h) never
+
 -- ---- what a task does next
 
 -- the answer to what is next is none of a refusal
@@ -136,75 +268,139 @@ leave_moves job m t = by (first_kept job m t)
     by None = refl
     by (Some r) = accepted_moves _ (drop_refusal (m.history r.phaser) (number_on m t r.phaser))
 
+register_answer_moves : (m : Moment) (t c : ℕ) (r : Registration) (now : Bool)
+    → was_blocked (register_answer m t c r now) ≡ false
+register_answer_moves m t c r true =
+    accepted_moves _ (register_now_refusal (m.history r.phaser) (number_on m t r.phaser) _)
+register_answer_moves m t c r false =
+    accepted_moves _ (register_refusal (m.history r.phaser) (number_on m t r.phaser) _ r.mode)
+
 pub register_moves : (job : Job) (m : Moment) (t c : ℕ)
     → would_block job m t (registers c) ≡ false
 register_moves job m t c = by (first_missing job m c)
   where
-    by : (o : Option Registration) → was_blocked (call_register m t c o) ≡ false
+    by : (o : Option Registration) → was_blocked (call_register job m t c o) ≡ false
     by None = refl
-    by (Some r) = accepted_moves _ (register_refusal (m.history r.phaser) (number_on m t r.phaser) _ r.mode)
+    by (Some r) = register_answer_moves m t c r (task_at job.graph c).joins_now
 
--- a value in range is signalled
-in_range_signals : (job : Job) (m : Moment) (t j : ℕ) (v : ℤ) (event : TaskEvent)
-    → is_out_of_range v ≡ false
-    → signal_turn job m t j v event ≡ call_signal job m t (output_at job t j) v event
-in_range_signals job m t j v event in_range =
-    ap (λ b. cond b (cond (are_made (task_at job.graph t).kind j)
-    (has_made (place.Task t, length (m.put t j))) is_refused)
-    (call_signal job m t (output_at job t j) v event)) in_range
-
-signal_turn_blocked : (job : Job) (m : Moment) (t j : ℕ) (v : ℤ) (event : TaskEvent)
-    → is_out_of_range v ≡ false → signal_turn job m t j v event ≢ is_refused
-    → was_blocked (signal_turn job m t j v event)
+-- values in range are signalled
+signal_turn_blocked : (job : Job) (m : Moment) (t j : ℕ) (vs : List ℤ) (event : TaskEvent)
+    → 1 ≤ length vs → position_from is_out_of_range (length (m.put t j)) vs ≡ None
+    → signal_turn job m t j vs event ≢ is_refused
+    → was_blocked (signal_turn job m t j vs event)
     ≡ blocks_signal (limits_at job (output_at job t j)) (m.history (output_at job t j))
-    (number_on m t (output_at job t j))
-signal_turn_blocked job m t j v event in_range never =
+    (number_on m t (output_at job t j)) (length vs)
+signal_turn_blocked job m t j vs event some none never =
     let p = output_at job t j in
-    let same = in_range_signals job m t j v event in_range in
+    let same = goes_on job m t j vs event none in
     ap was_blocked same
-    ∙ signal_blocked event (limits_at job p) (m.history p) (number_on m t p) v
-    (phaser_at job.graph p).single (λ refused. never (same ∙ refused))
+    ∙ signal_blocked event (limits_at job p) (m.history p) (number_on m t p) vs
+    (phaser_at job.graph p).single some (λ refused. never (same ∙ refused))
+
+-- the samples that are next: so many, one at least, and in range
+record NextSamples (job : Job) (m : Moment) (t : ℕ) : Type 0 where
+  long : length (next_samples job m t) ≡ sample_block_of job m t
+  some : 1 ≤ sample_block_of job m t
+  none : position_from is_out_of_range (length (m.put t 0)) (next_samples job m t) ≡ None
+
+samples_next : (job : Job) (m : Moment) (t : ℕ) → IsGraph job.graph
+    → AreSends (samples_at job t) → IsReachable job m → next_of job m t ≡ samples
+    → NextSamples job m t
+samples_next job m t is sends reached next =
+    let there = (live-is job m t (live_next job m t samples next (λ e. absurd (cc)))).there in
+    let s = samples_begins job m t next in
+    let more : nat_le (length (samples_at job t)) (m.begun t) ≡ false =
+    ap (has_input_ended job m t) (sym s.kind) ∙ s.step.more in
+    let left = leb-false (length (samples_at job t)) (m.begun t) more in
+    let steps : 1 ≤ block_of job m t =
+    block_some job m t is (reached.ran.tasks t there) there s.step.uncut in
+    let rest : length (drop (m.begun t) (samples_at job t))
+    ≡ length (samples_at job t) - m.begun t = length-drop (m.begun t) (samples_at job t) in
+    let ranged = take_ranged (sample_block_of job m t) (drop (m.begun t) (samples_at job t))
+    (drop_ranged (m.begun t) (samples_at job t) (sends_ranged (samples_at job t) sends)) in
+    record {
+      long = length-take-le (sample_block_of job m t) (drop (m.begun t) (samples_at job t))
+          (omega arith);
+      some = omega arith;
+      none = all_fail is_out_of_range (length (m.put t 0)) (next_samples job m t) (pos 0)
+          (λ k lt. ranged.at k);
+    }
 
 pub sample_blocks : (job : Job) (m : Moment) (t : ℕ) → IsGraph job.graph
     → AreSends (samples_at job t) → IsReachable job m → next_of job m t ≡ samples
     → would_block job m t samples
     ≡ blocks_signal (limits_at job (output_at job t 0)) (m.history (output_at job t 0))
-    (number_on m t (output_at job t 0))
+    (number_on m t (output_at job t 0)) (sample_block_of job m t)
 sample_blocks job m t is sends reached next =
     let p = output_at job t 0 in
-    let v = get_or (samples_at job t) (m.begun t) (pos 0) in
-    signal_turn_blocked job m t 0 v (sample t 0 p (number_on m t p) v)
-    ((sends_ranged (samples_at job t) sends).at (m.begun t))
+    let vs = next_samples job m t in
+    let s = samples_next job m t is sends reached next in
+    let long : length vs ≡ sample_block_of job m t = s.long in
+    let some : 1 ≤ sample_block_of job m t = s.some in
+    signal_turn_blocked job m t 0 vs (sample t 0 p (number_on m t p) vs) (omega arith) s.none
     (never_refused job m t samples is sends reached next)
+    ∙ ap (blocks_signal (limits_at job p) (m.history p) (number_on m t p)) long
 
-pub value_blocks : (job : Job) (m : Moment) (t j : ℕ) → IsGraph job.graph
-    → AreSends (samples_at job t) → IsReachable job m → next_of job m t ≡ signals j
-    → is_out_of_range (next_value job m t j) ≡ false
+-- there is a sample to signal
+pub samples_some : (job : Job) (m : Moment) (t : ℕ) → IsGraph job.graph
+    → AreSends (samples_at job t) → IsReachable job m → next_of job m t ≡ samples
+    → 1 ≤ sample_block_of job m t
+samples_some job m t is sends reached next = (samples_next job m t is sends reached next).some
+
+-- ---- the values that are owed
+
+-- a value is owed where a task signals
+pub values_some : (job : Job) (m : Moment) (t j : ℕ) → IsGraph job.graph
+    → t < length job.graph.tasks → next_of job m t ≡ signals j → 1 ≤ length (next_values job m t j)
+values_some job m t j is there next =
+    let more = (owed job m t j (signals_owes job m t j next)).1 in
+    let begins = next_begins job m t j (is.tasks t there).block.some more in
+    let long = ap length begins in
+    omega arith
+
+-- so many, where they are in range
+pub values_many : (job : Job) (m : Moment) (t j : ℕ) (owed : Owed) → Owes job m t owed
+    → next_of job m t ≡ signals j → length (next_values job m t j) ≡ owed_many owed
+values_many job m t j owed owes next =
+    let o = owes_values job m t j owed owes next in
+    sym (length-map (next_values job m t j) ranged) ∙ ap length o.2 ∙ sym (ap owed_many o.1)
+
+pub value_blocks : (job : Job) (m : Moment) (t j : ℕ) (owed : Owed) → IsGraph job.graph
+    → AreSends (samples_at job t) → IsReachable job m → t < length job.graph.tasks
+    → next_of job m t ≡ signals j → Owes job m t owed → are_in_range owed ≡ true
     → would_block job m t (signals j)
     ≡ blocks_signal (limits_at job (output_at job t j)) (m.history (output_at job t j))
-    (number_on m t (output_at job t j))
-value_blocks job m t j is sends reached next in_range =
+    (number_on m t (output_at job t j)) (owed_many owed)
+value_blocks job m t j owed is sends reached there next owes all =
     let p = output_at job t j in
-    let v = next_value job m t j in
-    signal_turn_blocked job m t j v (signal t j p (number_on m t p) v) in_range
+    let vs = next_values job m t j in
+    let o = owes_values job m t j owed owes next in
+    let good : in_range o.0 ≡ true = sym (ap are_in_range o.1) ∙ all in
+    signal_turn_blocked job m t j vs (signal t j p (number_on m t p) vs)
+    (values_some job m t j is there next)
+    ((all_out vs o.0 (length (m.put t j)) o.2).0 good)
     (never_refused job m t (signals j) is sends reached next)
+    ∙ ap (blocks_signal (limits_at job p) (m.history p) (number_on m t p))
+    (values_many job m t j owed owes next)
 
--- a value out of range is not signalled
-pub value_moves : (job : Job) (m : Moment) (t j : ℕ)
-    → is_out_of_range (next_value job m t j) ≡ true → would_block job m t (signals j) ≡ false
-value_moves job m t j out =
+-- where one is out of range none is signalled
+pub value_moves : (job : Job) (m : Moment) (t j : ℕ) (owed : Owed) → next_of job m t ≡ signals j
+    → Owes job m t owed → are_in_range owed ≡ false → would_block job m t (signals j) ≡ false
+value_moves job m t j owed next owes some =
     let p = output_at job t j in
-    let v = next_value job m t j in
-    let event = signal t j p (number_on m t p) v in
-    ap (λ b. was_blocked (cond b (cond (are_made (task_at job.graph t).kind j)
-    (has_made (place.Task t, length (m.put t j))) is_refused)
-    (call_signal job m t p v event))) out
-    ∙ by (are_made (task_at job.graph t).kind j)
+    let vs = next_values job m t j in
+    let o = owes_values job m t j owed owes next in
+    let bad : in_range o.0 ≡ false = sym (ap are_in_range o.1) ∙ some in
+    let over = (all_out vs o.0 (length (m.put t j)) o.2).1 bad in
+    ap was_blocked (stops job m t j over.0 vs (signal t j p (number_on m t p) vs) over.1)
+    ∙ by over.0 (are_made (task_at job.graph t).kind j)
   where
-    by : (b : Bool)
-        → was_blocked (cond b (has_made (place.Task t, length (m.put t j))) is_refused) ≡ false
-    by true = refl
-    by false = refl
+    by : (step : ℕ) (b : Bool)
+        → was_blocked (cond b (has_made (place.Task t, step)) is_refused) ≡ false
+    by step true = refl
+    by step false = refl
+
+-- ---- waits
 
 pub first_wait_blocks : (job : Job) (m : Moment) (t k : ℕ) → IsGraph job.graph
     → AreSends (samples_at job t) → IsReachable job m → next_of job m t ≡ waits k
@@ -214,7 +410,7 @@ pub first_wait_blocks : (job : Job) (m : Moment) (t k : ℕ) → IsGraph job.gra
 first_wait_blocks job m t k is sends reached next =
     let p = input_at (task_at job.graph t) k in
     let n = number_on m t p in
-    wait_blocked (first_wait t k p n) (value_at job p) (limits_at job p) (m.history p) n
+    block_blocked _ (limits_at job p) (m.history p) n (block_of job m t)
     (never_refused job m t (waits k) is sends reached next)
 
 pub exchange_blocks : (job : Job) (m : Moment) (t : ℕ) → IsGraph job.graph
@@ -227,38 +423,3 @@ exchange_blocks job m t is sends reached next =
     let n = number_on m t p in
     wait_blocked (exchange_wait t p n) (value_at job p) (limits_at job p) (m.history p) n
     (never_refused job m t exchanges is sends reached next)
-
--- ---- the value that is owed
-
--- where a value is owed on this output, it is in range exactly where its state has it
-pub range_told : (job : Job) (m : Moment) (t j : ℕ) (owed : Owed) → Owes job m t owed
-    → next_of job m t ≡ signals j
-    → is_out_of_range (next_value job m t j) ≡ not (is_value_in_range owed)
-range_told job m t j owed owes next = by owed owes (next_is job m t (signals j) next)
-  where
-    of_value : (v : ℤ) (r : Result ℤ TooBigValue) → ranged v ≡ r → (i : ℕ)
-        → is_out_of_range v ≡ not (is_value_in_range (value i r))
-    of_value v r e i = small (nat_le (unsigned_abs v) value_max) r e
-      where
-        small : (b : Bool) (r : Result ℤ TooBigValue) → cond b (Ok v) (Err (record {})) ≡ r
-            → not b ≡ not (is_value_in_range (value i r))
-        small true (Ok x) e = refl
-        small true (Err x) e = absurd (cc)
-        small false (Ok x) e = absurd (cc)
-        small false (Err x) e = refl
-
-    by : (owed : Owed) → Owes job m t owed → IsSo job m t (signals j)
-        → is_out_of_range (next_value job m t j) ≡ not (is_value_in_range owed)
-    by nothing none so = absurd (let wrong : Some j ≡ None = sym so.0 ∙ none in cc)
-    by (value i r) owes so =
-        let same : i ≡ j = same_Some i j (sym owes.0 ∙ so.0) in
-        ap (λ n. is_out_of_range (next_value job m t n)) (sym same)
-        ∙ of_value (next_value job m t i) r owes.2 i
-    by (exchange x) owes so =
-        let same : 1 ≡ j = same_Some 1 j (sym owes.0 ∙ so.0) in
-        let first : waits_first (task_at job.graph t).kind 1 (length (m.put t 1))
-        (length (m.taken t 1)) ≡ false =
-        ap (λ n. waits_first (task_at job.graph t).kind n (length (m.put t n))
-        (length (m.taken t 1))) same ∙ so.1 in
-        absurd (let wrong : exchanges ≡ signals 1 =
-        sym owes.1 ∙ ap (λ b. cond b exchanges (signals 1)) first in cc)

@@ -16,4 +16,4 @@ returns-clause-own c =
     ap (λ (s : Span). s.steps) c.span.ensures.span in
     let read = c.in-Ok.ensures in
     let room = c.in_ok-with_capacity.ensures.capacity in
-    record { room = omega arith; start = c.start.ensures }
+    record { room = omega arith }

@@ -1,5 +1,5 @@
 -- A sink with no values stands behind those before it.
-use Rattle.std.proofs.Common.{ℕ, ℤ, List, [], ◌∷◌, ◌++◌, map, sym, ap, ◌∙◌}
+use Rattle.std.proofs.Common.{ℕ, ℤ, List, [], ◌∷◌, ◌++◌, Option, None, map, sym, ap, ◌∙◌}
 use Rattle.std.specs.List.{range_with_len, filter}
 use Rattle.std.proofs.lemmas.List.{map_push}
 use Rattle.std.proofs.lemmas.List.Elements.{All-push}
@@ -13,6 +13,10 @@ use Rattle.stream_job.proofs.opening.opened_lines.Goals.{then-is_sink+in_ok-open
 -- a sink that has taken nothing
 abbrev empty : ℕ → ℕ × List ℤ
 empty t = (t, [])
+
+-- and has not begun
+abbrev none : ℕ → Option ℕ
+none t = None
 
 pub loop-t-preserved : goal.loop-t-preserved
 loop-t-preserved c =
@@ -29,7 +33,13 @@ loop-t-preserved c =
                 ∙ sym (map_push empty sinks t)
                 ∙ ap (map empty)
                 (sym (filter-take is_sink t (sym c.is_sink.ensures ∙ w.if-is_sink.true))),
-            All-push (IsLineOf job) c.loop-t.lines.items w.in_ok-opened_line.field-0 c.loop-t.invariant.1
+            map_push (λ line. line.start) c.loop-t.lines.items w.in_ok-opened_line.field-0
+                ∙ ap (λ xs. xs ++ w.in_ok-opened_line.field-0.start ∷ []) c.loop-t.invariant.1
+                ∙ ap (λ o. map none sinks ++ o ∷ []) w.in_ok-opened_line.ensures.start
+                ∙ sym (map_push none sinks t)
+                ∙ ap (map none)
+                (sym (filter-take is_sink t (sym c.is_sink.ensures ∙ w.if-is_sink.true))),
+            All-push (IsLineOf job) c.loop-t.lines.items w.in_ok-opened_line.field-0 c.loop-t.invariant.2
                 w.in_ok-opened_line.ensures.own,
           )
       | else-is_sink w ↦
@@ -37,6 +47,9 @@ loop-t-preserved c =
             c.loop-t.invariant.0
                 ∙ ap (map empty)
                 (sym (filter-skip is_sink t (sym c.is_sink.ensures ∙ w.if-is_sink.false))),
-            c.loop-t.invariant.1,
+            c.loop-t.invariant.1
+                ∙ ap (map none)
+                (sym (filter-skip is_sink t (sym c.is_sink.ensures ∙ w.if-is_sink.false))),
+            c.loop-t.invariant.2,
           )
     ]

@@ -1,6 +1,7 @@
 -- The line of a sink that joins now begins, and the others stay.
 use Rattle.std.proofs.Common.{◌≡◌, ◌<◌, true, false, not, Some, length, get_or, set, refl, sym, ap, subst, ◌∙◌, arith}
 use Rattle.std.proofs.lemmas.Option.{slice_get_read}
+use Rattle.std.specs.Vec.{vec_len}
 use Rattle.graph_lang.specs.graph_base.Graphs.{task_at}
 use Rattle.phase_core.specs.phase_history.Histories.{done_of}
 use Rattle.stream_job.specs.Inside.{HasBegun}
@@ -32,8 +33,12 @@ index_mut-requires c =
     let found = slice_get_read c.args.self.now.tasks.items (length c.args.self.now.tasks.items)
     c.args.c c.index.result.now refl (omega arith)
     (c.index.ensures ∙ ap (λ v. get_or v.items c.args.c c.index.result.now) c.register_now_on.ensures.tasks) in
-    subst (λ l. c.index.result.now.sink < length l.items) (sym c.register_now_on.ensures.lines)
-    (now_line job m c.args.self.now c.args.c c.index.result.now at there found now)
+    let items : vec_len c.register_now_on.new.self.lines
+    ≡ length c.register_now_on.new.self.lines.items = c.register_now_on.new.self.lines.ok.0 in
+    let same : length c.register_now_on.new.self.lines.items
+    ≡ length c.args.self.now.lines.items = ap (λ l. length l.items) c.register_now_on.ensures.lines in
+    let below = now_line job m c.args.self.now c.args.c c.index.result.now at there found now in
+    omega arith
 
 pub returns-clause-lines : goal.returns-clause-lines
 returns-clause-lines c = λ m at.

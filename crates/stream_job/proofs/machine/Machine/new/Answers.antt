@@ -1,11 +1,12 @@
 -- The parts are those of the opening, which is reached.
-use Rattle.std.proofs.Common.{[], sym, ap, subst, ◌∙◌}
+use Rattle.std.proofs.Common.{[], None, sym, ap, subst, ◌∙◌}
 use Rattle.graph_lang.specs.graph_base.TaskLines.{IsGraph}
 use Rattle.graph_runs.specs.Beginnings.{opening}
 use Rattle.graph_runs.proofs.AtOpening.{opening_has_begun}
 use Rattle.graph_runs.proofs.Reaching.{begun_reached}
 use Rattle.stream_eval.specs.stream_lists.Lists.{sinks_of}
-use Rattle.stream_job.specs.SinkLines.{kept_by}
+use Rattle.stream_job.specs.SinkLines.{kept_by, begins_at}
+use Rattle.stream_job.proofs.Begins.{opened_begins}
 use Rattle.stream_job.proofs.SinkLines.{map_same}
 use Rattle.stream_job.proofs.SinksKeep.{opened_kept}
 use Rattle.stream_job.proofs.Numbering.{opening_uses_few}
@@ -29,5 +30,8 @@ returns c =
       lines = c.in_ok-opened_lines.ensures.lines
           ∙ map_same (λ t. (t, [])) (λ t. (t, kept_by job (opening job) t)) (sinks_of job)
           (λ t. ap (λ l. (t, l)) (sym (opened_kept job t)));
+      starts = c.in_ok-opened_lines.ensures.starts
+          ∙ map_same (λ t. None) (begins_at job (opening job)) (sinks_of job)
+          (λ t. sym (opened_begins job t is));
       own = c.in_ok-opened_lines.ensures.own;
     }
