@@ -99,19 +99,27 @@ abbrev is_late : Limits → Option ℕ → ℕ → ℕ → Bool
 is_late limits slowest s many =
     nat_lt limits.phases_max (s + many) || is_ahead slowest limits.bound (s + many - 1)
 
-lists_blocked : (event : TaskEvent) (limits : Limits) (h : History) (single : Option Single)
+-- the first phase of it, by what the later ones answer
+first_blocked : (event : TaskEvent) (limits : Limits) (h : History) (single : Option Single)
     (v : ℤ) (vs : List ℤ) (entry : Entry)
+    → (nat_le limits.phases_max entry.signal_phase ≡ false
+    → is_ahead (least (wait_phases (members_of h))) limits.bound entry.signal_phase ≡ false
+    → signal_answer event (first_row (list_rows limits h (map one vs) single (signalled 1 entry)))
+    ≢ is_refused
+    → was_blocked (signal_answer event
+    (first_row (list_rows limits h (map one vs) single (signalled 1 entry))))
+    ≡ is_late limits (least (wait_phases (members_of h))) entry.signal_phase (suc (length vs)))
     → signal_answer event (first_row (list_rows limits h (map one (v ∷ vs)) single entry))
     ≢ is_refused
     → was_blocked (signal_answer event
     (first_row (list_rows limits h (map one (v ∷ vs)) single entry)))
-    ≡ is_late limits (least (wait_phases (members_of h))) entry.signal_phase (length (v ∷ vs))
-lists_blocked event limits h single v vs entry =
+    ≡ is_late limits (least (wait_phases (members_of h))) entry.signal_phase (suc (length vs))
+first_blocked event limits h single v vs entry later =
     phase_blocked event (mode_waits entry.mode && eqb s (entry.wait_phase + 1))
     (nat_le limits.phases_max s) (is_ahead slowest limits.bound s)
     (is_some slowest && differs (named_in_phase h s) single)
     (is_some slowest && nat_lt SENDS_MAX (length (sends_of_phase h s) + 1))
-    (is_late limits slowest s (length (v ∷ vs)))
+    (is_late limits slowest s (suc (length vs)))
     (first_row (list_rows limits h (map one vs) single (signalled 1 entry)))
     (λ spent. (let far = leb-true limits.phases_max s spent in
     let late : nat_lt limits.phases_max (s + suc (length vs)) ≡ true =
@@ -120,7 +128,7 @@ lists_blocked event limits h single v vs entry =
     (λ ahead. or_true (nat_lt limits.phases_max (s + suc (length vs)))
     (is_ahead slowest limits.bound (s + suc (length vs) - 1))
     (ahead_later slowest limits.bound s (s + suc (length vs) - 1) (omega arith) ahead))
-    (rest vs (λ w ws. lists_blocked event limits h single w ws (signalled 1 entry)))
+    later
   where
     s : ℕ
     s = entry.signal_phase
@@ -128,36 +136,29 @@ lists_blocked event limits h single v vs entry =
     slowest : Option ℕ
     slowest = least (wait_phases (members_of h))
 
-    rest : (vs : List ℤ)
-        → ((w : ℤ) (ws : List ℤ)
-        → signal_answer event (first_row (list_rows limits h (map one (w ∷ ws)) single
-        (signalled 1 entry))) ≢ is_refused
-        → was_blocked (signal_answer event (first_row (list_rows limits h (map one (w ∷ ws)) single
-        (signalled 1 entry))))
-        ≡ is_late limits (least (wait_phases (members_of h))) (entry.signal_phase + 1)
-        (length (w ∷ ws)))
-        → nat_le limits.phases_max entry.signal_phase ≡ false
-        → is_ahead (least (wait_phases (members_of h))) limits.bound entry.signal_phase ≡ false
-        → signal_answer event (first_row (list_rows limits h (map one vs) single
-        (signalled 1 entry))) ≢ is_refused
-        → was_blocked (signal_answer event (first_row (list_rows limits h (map one vs) single
-        (signalled 1 entry))))
-        ≡ is_late limits (least (wait_phases (members_of h))) entry.signal_phase
-        (suc (length vs))
-    rest [] later spent ahead never =
-        let few = leb-false limits.phases_max entry.signal_phase spent in
-        let last : nat_lt limits.phases_max (entry.signal_phase + 1) ≡ false =
-        le-ltb limits.phases_max (entry.signal_phase + 1) (omega arith) in
-        let same : entry.signal_phase + 1 - 1 ≡ entry.signal_phase = omega arith in
-        sym (ap (λ b. b || is_ahead (least (wait_phases (members_of h))) limits.bound
-        (entry.signal_phase + 1 - 1)) last
-        ∙ ap (is_ahead (least (wait_phases (members_of h))) limits.bound) same ∙ ahead)
-    rest (w ∷ ws) later spent ahead never =
-        let same : entry.signal_phase + 1 + suc (length ws)
-        ≡ entry.signal_phase + suc (suc (length ws)) = omega arith in
-        later w ws never
-        ∙ ap (λ n. nat_lt limits.phases_max n
-        || is_ahead (least (wait_phases (members_of h))) limits.bound (n - 1)) same
+lists_blocked : (event : TaskEvent) (limits : Limits) (h : History) (single : Option Single)
+    (v : ℤ) (vs : List ℤ) (entry : Entry)
+    → signal_answer event (first_row (list_rows limits h (map one (v ∷ vs)) single entry))
+    ≢ is_refused
+    → was_blocked (signal_answer event
+    (first_row (list_rows limits h (map one (v ∷ vs)) single entry)))
+    ≡ is_late limits (least (wait_phases (members_of h))) entry.signal_phase (suc (length vs))
+lists_blocked event limits h single v [] entry =
+    first_blocked event limits h single v [] entry (λ spent ahead never.
+    (let few = leb-false limits.phases_max entry.signal_phase spent in
+    let last : nat_lt limits.phases_max (entry.signal_phase + 1) ≡ false =
+    le-ltb limits.phases_max (entry.signal_phase + 1) (omega arith) in
+    let same : entry.signal_phase + 1 - 1 ≡ entry.signal_phase = omega arith in
+    sym (ap (λ b. b || is_ahead (least (wait_phases (members_of h))) limits.bound
+    (entry.signal_phase + 1 - 1)) last
+    ∙ ap (is_ahead (least (wait_phases (members_of h))) limits.bound) same ∙ ahead)))
+lists_blocked event limits h single v (w ∷ ws) entry =
+    first_blocked event limits h single v (w ∷ ws) entry (λ spent ahead never.
+    (let same : entry.signal_phase + 1 + suc (length ws)
+    ≡ entry.signal_phase + suc (suc (length ws)) = omega arith in
+    lists_blocked event limits h single w ws (signalled 1 entry) never
+    ∙ ap (λ n. nat_lt limits.phases_max n
+    || is_ahead (least (wait_phases (members_of h))) limits.bound (n - 1)) same))
 
 -- a signal that is not refused is blocked where one of its phases is past the last, or too far
 -- ahead

@@ -30,8 +30,9 @@ returns c = λ m at live.
     let same : p ≡ output_at job c.args.t c.args.j = c.output_of-k.ensures.phaser in
     let number = (number_of_output job m c.args.t c.args.j (place_of c.state.result.now) at.graph
     (c.state.ensures m at).stands live c.requires.output).1 in
-    sym (ap (λ q. blocks_signal (limits_at job q) (m.history q) (number_on m c.args.t q)) same)
-    ∙ ap (blocks_signal (limits_at job p) (m.history p))
+    sym (ap (λ q. blocks_signal (limits_at job q) (m.history q) (number_on m c.args.t q) c.args.many)
+    same)
+    ∙ ap (λ n. blocks_signal (limits_at job p) (m.history p) n c.args.many)
     (ap (number_on m c.args.t) same ∙ number
     ∙ ap (λ k. get_or c.state.result.now.numbers.items k 0) (sym c.output_of-k.ensures.registration)
     ∙ ap (λ ns. get_or ns c.output_of-k.result.0 0) (sym c.deref.ensures))

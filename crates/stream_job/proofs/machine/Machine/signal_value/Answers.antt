@@ -1,13 +1,13 @@
 -- The value is signalled as the number that stands at the registration of the output.
-use Rattle.std.proofs.Common.{◌≡◌, ◌<◌, ◌*◌, length, get_or, refl, sym, ap, subst, ◌∙◌, arith, to_z-of_z}
+use Rattle.std.proofs.Common.{◌≡◌, ◌<◌, ◌*◌, [], ◌∷◌, length, get_or, refl, sym, ap, subst, ◌∙◌, arith, to_z-of_z}
 use Rattle.std.proofs.lemmas.Option.{slice_get_read}
 use Rattle.phase_core.specs.phase_accum.Sends.{IsSend}
 use Rattle.graph_runs.specs.Nexts.{signals}
-use Rattle.graph_runs.specs.Answers.{next_value}
-use Rattle.graph_runs.proofs.Signalling.{sendable}
+use Rattle.graph_runs.specs.TaskEvents.{signal}
+use Rattle.stream_job.specs.Places.{owed_in}
 use Rattle.stream_job.proofs.Lively.{has_state}
 use Rattle.stream_job.proofs.Setting.{set_read}
-use Rattle.stream_job.proofs.Signals.{signal_few, signals_at, in_range, blocked_signal, signalled_turn, with_owed}
+use Rattle.stream_job.proofs.Signals.{signal_few, signals_at, signals_so, values_sent, refused_turn, signalled_turn, with_owing}
 use Rattle.stream_job.proofs.machine.Machine.signal_value.Goals as goal
 
 pub output_of-k-requires-clause-output : goal.output_of-k-requires-clause-output
@@ -44,10 +44,9 @@ bounds-deref-k c =
 
 pub signal_on-requires-clause-send : goal.signal_on-requires-clause-send
 signal_on-requires-clause-send c =
-    let m = c.requires.next.some.0 in
-    let ranges = in_range (next_value c.args.job.now m c.args.t c.args.output) c.args.x
-    (c.requires.value m c.requires.next.some.1) in
-    subst IsSend (sym (to_z-of_z c.ranges.x)) (sendable c.args.x ranges.1)
+    subst IsSend (sym (to_z-of_z c.ranges.x))
+    (values_sent c.args.job.now c.args.self.now c.args.t c.args.output (c.args.x ∷ [])
+    c.requires.next c.requires.value).0
 
 pub returns-in_default : goal.returns-in_default
 returns-in_default c =
@@ -55,13 +54,17 @@ returns-in_default c =
     c.requires.next (λ e. (cc)) in
     let found = slice_get_read c.args.self.now.tasks.items (length c.args.self.now.tasks.items)
     c.args.t c.index.result.now refl lt c.index.ensures in
-    blocked_signal c.args.job.now c.args.self.now c.signal_on.new.self c.args.t c.args.output
-    (get_or c.deref.result.now c.output_of-k.result.0 0) c.output_of-k.result.1 c.args.x
-    c.index.result.now c.in_default.field-0 c.requires.next found c.output_of-k.ensures.phaser
+    let number = get_or c.deref.result.now c.output_of-k.result.0 0 in
+    let p = c.output_of-k.result.1 in
+    refused_turn c.args.job.now c.args.self.now c.signal_on.new.self c.args.t number p
+    (c.args.x ∷ []) (signals c.args.output) (signal c.args.t c.args.output p number (c.args.x ∷ []))
+    c.in_default.field-0 c.requires.next (sym c.output_of-k.ensures.phaser)
+    (signals_so c.args.job.now c.args.self.now c.args.t c.args.output number p (c.args.x ∷ [])
+    c.index.result.now c.requires.next found c.output_of-k.ensures.phaser
     (ap (λ ns. get_or ns c.output_of-k.result.0 0) c.deref.ensures
     ∙ ap (λ k. get_or c.index.result.now.numbers.items k 0) c.output_of-k.ensures.registration)
-    c.requires.value (simp (to_z-of_z, c.ranges.x) at c.in_default.ensures.reply)
-    c.in_default.ensures.cores
+    c.requires.value)
+    (simp (to_z-of_z, c.ranges.x) at c.in_default.ensures.reply) c.in_default.ensures.cores
     c.signal_on.ensures.tasks c.signal_on.ensures.lines
 
 pub returns : goal.returns
@@ -70,16 +73,25 @@ returns c =
     c.requires.next (λ e. (cc)) in
     let found = slice_get_read c.args.self.now.tasks.items (length c.args.self.now.tasks.items)
     c.args.t c.index.result.now refl lt c.index.ensures in
+    let it = c.requires.next.some.1.tasks c.args.t c.index.result.now found in
+    let none = it.made_none c.requires.kind in
+    let owed = c.owed_after_signal.result in
     signalled_turn c.args.job.now c.args.self.now _ c.args.t c.args.output
     (get_or c.deref.result.now c.output_of-k.result.0 0) c.output_of-k.result.1 c.in-Ok.field-0
-    c.args.x c.index.result.now c.owed_after_signal.result c.requires.next found
+    (c.args.x ∷ []) c.index.result.now owed c.index.result.now.made c.requires.next found
     c.output_of-k.ensures.phaser
     (ap (λ ns. get_or ns c.output_of-k.result.0 0) c.deref.ensures
     ∙ ap (λ k. get_or c.index.result.now.numbers.items k 0) c.output_of-k.ensures.registration)
     c.requires.value (simp (to_z-of_z, c.ranges.x) at c.in-Ok.ensures.reply)
     (simp (to_z-of_z, c.ranges.x) at c.in-Ok.ensures.cores)
-    (set_read (λ s. with_owed s c.owed_after_signal.result) c.args.self.now.tasks.items
+    (set_read (λ s. with_owing s c.owed_after_signal.result s.made) c.args.self.now.tasks.items
     c.signal_on.new.self.tasks.items c.args.t c.index.result.now c.index_mut.result.now
     (ap (λ v. v.items) c.signal_on.ensures.tasks) lt c.index.ensures c.index_mut.ensures.value)
     c.signal_on.ensures.lines
-    (simp (to_z-of_z, c.ranges.x) at c.owed_after_signal.ensures)
+    (record {
+      owes = ap (owed_in c.owed_after_signal.result) none
+          ∙ (simp (to_z-of_z, c.ranges.x) at c.owed_after_signal.ensures);
+      room = refl;
+      made_by = λ fir. absurd (c.requires.kind fir);
+      made_none = λ other. none;
+    })

@@ -2,26 +2,19 @@
 use Rattle.std.proofs.Common.{ap, ◌∙◌}
 use Rattle.stream_job.specs.Inside.{would_block}
 use Rattle.stream_job.specs.Machines.{next_by}
-use Rattle.stream_job.proofs.Stalling.{sample_blocks, first_wait_blocks, exchange_blocks}
+use Rattle.stream_job.proofs.Stalling.{first_wait_blocks, exchange_blocks}
 use Rattle.stream_job.proofs.machine.Machine.step_blocks.Goals as goal
-
-pub returns-in-Sample : goal.returns-in-Sample
-returns-in-Sample c = λ m at.
-    ap (λ step. would_block c.args.job.now m c.args.t (next_by step)) c.in-Sample.is
-    ∙ sample_blocks c.args.job.now m c.args.t at.graph c.requires.sends at.reached
-    (c.requires.is m at ∙ ap next_by c.in-Sample.is)
-    ∙ c.signal_blocks.ensures m at (c.requires.live m at)
 
 pub returns-in-Wait : goal.returns-in-Wait
 returns-in-Wait c = λ m at.
     ap (λ step. would_block c.args.job.now m c.args.t (next_by step)) c.in-Wait.is
-    ∙ first_wait_blocks c.args.job.now m c.args.t c.in-Wait.input at.graph c.requires.sends
-    at.reached (c.requires.is m at ∙ ap next_by c.in-Wait.is)
-    ∙ c.wait_blocks.ensures m at (c.requires.live m at)
+    ∙ first_wait_blocks c.args.job.now m c.args.t c.in-Wait.input at.graph c.requires.next.sends
+    at.reached (c.requires.next.is m at ∙ ap next_by c.in-Wait.is)
+    ∙ c.wait_blocks.ensures m at (c.requires.next.live m at)
 
 pub returns-in-Exchange : goal.returns-in-Exchange
 returns-in-Exchange c = λ m at.
     ap (λ step. would_block c.args.job.now m c.args.t (next_by step)) c.in-Exchange.is
-    ∙ exchange_blocks c.args.job.now m c.args.t at.graph c.requires.sends at.reached
-    (c.requires.is m at ∙ ap next_by c.in-Exchange.is)
-    ∙ c.wait_blocks-in-Exchange.ensures m at (c.requires.live m at)
+    ∙ exchange_blocks c.args.job.now m c.args.t at.graph c.requires.next.sends at.reached
+    (c.requires.next.is m at ∙ ap next_by c.in-Exchange.is)
+    ∙ c.wait_blocks-in-Exchange.ensures m at (c.requires.next.live m at)
