@@ -83,13 +83,12 @@ event_begins job m machine event at none next u there sink = by event next
         ap (kept_by job m) same ∙ kept ∙ ap (λ x. m.taken x 0) (sym same) in
         let Begins : ℕ → Type 0 = λ x. IsPrefix (kept_by job after x) (after.taken x 0) in
         let More : List ℤ → Type 0 = λ l. IsPrefix l (after.taken t 0) in
-        let Less : List ℤ → Type 0 =
-        λ l. IsPrefix (m.taken t 0 ++ kept_of (outcome ∷ [])) l in
+        let Less : List ℤ → Type 0 = λ l. IsPrefix (m.taken t 0 ++ kept_of outcomes) l in
         subst Begins same
-        (subst More (sym (kept_wait job m t k p n outcome next zero_is
-        ∙ ap (λ l. l ++ kept_of (outcome ∷ [])) its))
-        (subst Less (sym (first_is job m t k n p outcome zero_is))
-        (one_begins (m.taken t 0) outcome)))
+        (subst More (sym (kept_wait job m t k p n outcomes none next zero_is
+        ∙ ap (λ l. l ++ kept_of outcomes) its))
+        (subst Less (sym (first_is job m t k p n outcomes zero_is))
+        (more_begins (m.taken t 0) outcomes)))
 
     by : (event : TaskEvent) → IsNext job m event
         → IsPrefix (kept_by job (after_turn job event m) u) ((after_turn job event m).taken u 0)
