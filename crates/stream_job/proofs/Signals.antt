@@ -1,10 +1,10 @@
 -- The turn of a task that signals.
-use Rattle.std.proofs.Common.{◌≡◌, ◌≢◌, ℕ, ℤ, List, zero, suc, ◌+◌, ◌-◌, ◌<◌, ◌≤◌, Bool, true, false, cond, not, [], ◌∷◌, Option, Some, None, length, get_or, slice_get, set, map, take, drop, refl, sym, ap, subst, ◌∙◌, arith}
+use Rattle.std.proofs.Common.{◌≡◌, ◌≢◌, ℕ, ℤ, List, zero, suc, ◌+◌, ◌-◌, ◌<◌, ◌≤◌, Bool, true, false, cond, not, eqb, [], ◌∷◌, Option, Some, None, length, get_or, slice_get, set, map, take, drop, refl, sym, ap, subst, ◌∙◌, arith}
 use Rattle.std.specs.Prelude.{Result, Ok, Err, nat_le, unsigned_abs, min}
 use Rattle.std.specs.List.{All, position_from}
 use Rattle.std.specs.declared.vec.Vec.{Vec}
 use Rattle.std.specs.Global.{Global}
-use Rattle.std.proofs.lemmas.Bool.{leb-false, eq-eqb}
+use Rattle.std.proofs.lemmas.Bool.{leb-false, eq-eqb, eqb-true}
 use Rattle.std.proofs.lemmas.List.{length-map, length-drop, length-take-le}
 use Rattle.std.proofs.lemmas.Option.{same_Some}
 use Rattle.phase_core.specs.phase_base.Limits.{Limits}
@@ -42,7 +42,7 @@ use Rattle.graph_runs.specs.TaskPlaces as places
 use Rattle.graph_runs.specs.TaskPlaces.{StandsAt, child_of, registration_of_output, owed_after_signal, lacking}
 use Rattle.graph_runs.specs.declared.owed.Owed.{Owed}
 use Rattle.graph_runs.specs.declared.owed.Owed.TheVariants as code
-use Rattle.graph_runs.proofs.Blocks.{block_some}
+use Rattle.graph_runs.proofs.Blocks.{block_few, block_some}
 use Rattle.graph_runs.proofs.Boundaries.{made_many}
 use Rattle.graph_runs.proofs.Calling.{source_ends}
 use Rattle.graph_runs.proofs.Lacking.{lacks_here}
@@ -905,3 +905,96 @@ all_out (z ∷ zs) (r ∷ rs) from e =
             (out_of_range z out e),
       )),
     )
+
+-- ---- as the code has them
+
+-- the samples that the code has read
+pub record ReadSamples (job : Job) (machine : Machine) (t begun many : ℕ) (vs : List ℤ) : Type 0 where
+  pub there : t < length job.graph.tasks
+  pub some : 1 ≤ many
+  pub few : begun + many ≤ length (samples_at job t)
+  pub block : many ≤ (task_at job.graph t).block
+  pub long : length vs ≡ many
+  pub are : NextSamplesAre job machine t vs
+
+pub read_samples : (job : Job) (machine : Machine) (t many : ℕ) (xs : List ℤ)
+    (state : TaskState) → IsNextIn job machine t turns.samples
+    → slice_get machine.tasks.items t ≡ Some state → xs ≡ samples_at job t
+    → ((m : Moment) → m.begun t ≡ state.begun → sample_block_of job m t ≡ many)
+    → ReadSamples job machine t state.begun many
+    (take (state.begun + many - state.begun) (drop state.begun xs))
+read_samples job machine t many xs state next found same block =
+    let m = next.some.0 in
+    let at = next.some.1 in
+    let s = samples_at_place job machine m t state next at found in
+    let begun : m.begun t ≡ state.begun = (at.tasks t state found).stands.begun in
+    let of = block_of_samples job machine m t many state next at found (block m begun) in
+    let least : sample_block_of job m t ≡ many = block m begun in
+    let most = block_few job m t in
+    let off : state.begun + many - state.begun ≡ many = omega arith in
+    let is : take (state.begun + many - state.begun) (drop state.begun xs)
+    ≡ take many (drop state.begun (samples_at job t)) =
+    ap (λ n. take n (drop state.begun xs)) off
+    ∙ ap (λ l. take many (drop state.begun l)) same in
+    record {
+      there = s.there;
+      some = of.some;
+      few = of.few;
+      block = omega arith;
+      long = ap length is ∙ of.long;
+      are = λ n stands. next_samples_are job machine t many state found block n stands ∙ sym is;
+    }
+
+-- whether a task has made values
+pub none_items : (made : Values) → eqb made.len 0 ≡ true → made.items ≡ []
+none_items made e =
+    let many : made.len ≡ length made.items = made.ok.0 in
+    let zero_is : made.len ≡ 0 = eqb-true made.len 0 e in
+    none made.items (omega arith)
+  where
+    none : (xs : List (Result ℤ TooBigValue)) → length xs ≡ 0 → xs ≡ []
+    none [] e = refl
+    none (x ∷ xs) e = absurd (omega arith)
+
+pub some_items : (made : Values) → eqb made.len 0 ≡ false → made.items ≢ []
+some_items made e is =
+    let many : made.len ≡ length made.items = made.ok.0 in
+    let zero_is : made.len ≡ 0 = many ∙ ap length is in
+    (let wrong : true ≡ false = sym (eq-eqb made.len 0 zero_is) ∙ e in cc)
+
+-- a filter that has signalled owes nothing
+pub filter_owes : (task : Task) (vs : List ℤ) → task.kind ≡ Fir
+    → places.nothing ≡ owed_after_signal task 0 vs
+filter_owes task vs kind = rw kind refl
+
+-- the values that a filter has made fit in a block
+pub made_few : (job : Job) (machine : Machine) (m : Moment) (t j : ℕ) (state : TaskState)
+    → HasMade job m t j state → length state.made.items ≤ (task_at job.graph t).block
+made_few job machine m t j state made =
+    let few = values_few job m t j in
+    let long : length (map ranged (next_values job m t j)) ≡ length (next_values job m t j) =
+    length-map (next_values job m t j) ranged in
+    let same = ap length made.here.next in
+    omega arith
+
+-- and were begun
+pub made_begun : (job : Job) (machine : Machine) (m : Moment) (t j : ℕ) (state : TaskState)
+    → IsNextIn job machine t (turns.signals j) → IsMachineAt job m machine
+    → slice_get machine.tasks.items t ≡ Some state → HasMade job m t j state
+    → state.begun ≡ length (m.put t j) + length state.made.items
+made_begun job machine m t j state next at found made =
+    let it = (at.tasks t state found).stands in
+    let few = signal_few job machine m t j next at in
+    let there = (signals_at job machine m t j state next at found).there in
+    let lacks : length (made_now job m t j)
+    ≡ length (m.put t j)
+    + lacking (task_at job.graph t).kind (places.values j state.made.items) j =
+    it.lacks j few
+    ∙ ap (λ o. length (m.put t j) + lacking (task_at job.graph t).kind o j) made.here.owes in
+    let here : lacking (task_at job.graph t).kind (places.values j state.made.items) j
+    ≡ length state.made.items = lacks_here (task_at job.graph t).kind j state.made.items in
+    let many = made_many job m t j at.graph (at.reached.ran.tasks t there) there few in
+    let all : puts_on (task_at job.graph t) (m.begun t) j ≡ m.begun t =
+    made_puts (task_at job.graph t) (m.begun t) j (ap (λ k. are_made k j) made.filters) in
+    let begun = it.begun in
+    omega arith

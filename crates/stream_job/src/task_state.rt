@@ -90,7 +90,12 @@ impl TaskState {
         if self.made.is_empty() {
             return matches!(self.owed, Owed::Value { value: Ok(_), .. });
         }
-        self.made.iter().all(|value| value.is_ok())
+        for value in &self.made {
+            if value.is_err() {
+                return false;
+            }
+        }
+        true
     }
 
     /// How many values the task owes.

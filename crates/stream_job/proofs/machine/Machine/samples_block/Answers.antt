@@ -11,7 +11,7 @@ pub signal_blocks-requires-clause-some : goal.signal_blocks-requires-clause-some
 signal_blocks-requires-clause-some c =
     let m = c.requires.next.some.0 in
     let at = c.requires.next.some.1 in
-    let many = c.sample_block.ensures m (c.state.ensures m at).stands.begun in
+    let many = c.sample_block-many.ensures m (c.state.ensures m at).stands.begun in
     let some = samples_some c.args.job.now m c.args.t at.graph c.requires.next.sends at.reached
     (c.requires.next.is m at) in
     omega arith
@@ -22,5 +22,5 @@ returns c = λ m at.
     sample_blocks c.args.job.now m c.args.t at.graph c.requires.next.sends at.reached
     (c.requires.next.is m at)
     ∙ ap (blocks_signal (limits_at c.args.job.now p) (m.history p) (number_on m c.args.t p))
-    (c.sample_block.ensures m (c.state.ensures m at).stands.begun)
+    (c.sample_block-many.ensures m (c.state.ensures m at).stands.begun)
     ∙ c.signal_blocks.ensures m at (c.requires.next.live m at)
