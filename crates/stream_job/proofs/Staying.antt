@@ -1,24 +1,27 @@
 -- A task whose call is blocked stays so until there is an event on the phaser of the call.
-use Rattle.std.proofs.Common.{◌≡◌, ◌≢◌, ℕ, ◌+◌, true, false, not, ◌&&◌, ◌||◌, cond, ℤ, pos, [], ◌∷◌, length, get_or, refl, sym, ap, subst, ◌∙◌, ◌⊎◌, inl, inr}
-use Rattle.std.specs.Prelude.{unwrap_or, nat_le}
+use Rattle.std.proofs.Common.{◌≡◌, ◌≢◌, ℕ, ◌+◌, ◌-◌, true, false, not, ◌&&◌, ◌||◌, cond, ℤ, List, Option, Some, None, length, map, take, drop, refl, sym, ap, subst, ◌∙◌, ◌⊎◌, inl, inr}
+use Rattle.std.specs.Prelude.{unwrap_or, nat_le, nat_lt, min, slice_range}
+use Rattle.std.specs.List.{fold, position_from, range_with_len}
 use Rattle.phase_core.specs.phase_accum.declared.outcome.Outcome.{Outcome}
 use Rattle.phase_core.specs.phase_history.Histories.{History, done_of}
 use Rattle.phase_core.specs.phase_history.Refusals.{signal_refusal}
-use Rattle.phase_core.specs.phase_history.Replies.{wait_reply}
+use Rattle.phase_core.specs.phase_history.Phases.{stream_of}
+use Rattle.phase_core.specs.phase_history.Replies.{wait_reply, wait_block_reply}
 use Rattle.graph_lang.specs.graph_base.declared.line.Kind.{Kind}
 use Rattle.graph_lang.specs.graph_base.declared.line.Kind.TheVariants.{Source, Fir, Split, Join, Peer, Sink}
 use Rattle.graph_lang.specs.graph_base.declared.place.Place.TheVariants as place
 use Rattle.graph_lang.specs.graph_base.Graphs.{task_at, phaser_at}
 use Rattle.stream_eval.specs.stream_lists.Jobs.{Job, samples_at}
 use Rattle.stream_eval.specs.stream_lists.Ranges.{are_made, is_out_of_range}
-use Rattle.graph_runs.specs.Moments.{Moment, limits_at, value_at, input_at, made_now, first_input}
+use Rattle.stream_eval.specs.stream_lists.Spans.{signalled_by}
+use Rattle.graph_runs.specs.Moments.{one, Moment, limits_at, value_at, input_at, made_now, first_input}
 use Rattle.graph_runs.specs.Moves.{SameTask}
 use Rattle.graph_runs.proofs.Framed.{made_same}
 use Rattle.graph_runs.specs.TaskEvents.{TaskEvent, sample, signal, first_wait, exchange_wait, after_turn}
 use Rattle.graph_runs.specs.Nexts as turns
-use Rattle.graph_runs.specs.Nexts.{Next, first_due, first_owed, has_input_ended, has_run_out, has_signaller, in_step, is_cut, is_live, next_of, next_step, number_on, of_live, waits_first, at_boundary}
-use Rattle.graph_runs.specs.Answers.{Answer, makes, is_blocked, has_made, is_refused, answer_of_turn, answer_to, call_wait, signal_answer, signal_turn, wait_answer, output_at, next_value, was_blocked}
-use Rattle.graph_runs.proofs.Following.{first_owed_same}
+use Rattle.graph_runs.specs.NextBlocks.{block_of, child_allows, until_allows}
+use Rattle.graph_runs.specs.Nexts.{Next, is_owed, first_due, first_owed, has_input_ended, has_run_out, has_signaller, in_step, is_cut, is_live, next_of, next_step, number_on, of_live, waits_first, at_boundary}
+use Rattle.graph_runs.specs.Answers.{Answer, makes, is_blocked, has_made, is_refused, answer_of_turn, answer_to, call_wait, call_block, signal_answer, signal_turn, wait_answer, block_answer, output_at, next_values, next_samples, was_blocked}
 use Rattle.graph_runs.proofs.Signalling.{live-is}
 use Rattle.graph_runs.proofs.Turning.{turn_makes_next}
 use Rattle.graph_runs.proofs.Whose.{made_by}
@@ -26,7 +29,7 @@ use Rattle.stream_job.specs.Blocking.{called_on, IsBlockedOn}
 use Rattle.stream_job.specs.Machines.{IsMachineAt}
 use Rattle.stream_job.specs.Turning.{phaser_of}
 use Rattle.stream_job.specs.declared.machine.Machine.{Machine}
-use Rattle.stream_job.proofs.LeftAlone.{LeavesAlone, alone, lives_on, no_child}
+use Rattle.stream_job.proofs.LeftAlone.{LeavesAlone, found_same, alone, lives_on, no_child}
 use Rattle.stream_job.proofs.Stalling.{leave_moves, register_moves}
 use Rattle.stream_job.proofs.WhatNext.{AtStep, Doing, doing, owing, parent, leaving, stepping, begins_is}
 
@@ -124,12 +127,21 @@ begins_same job before after u q next left at apart =
     input (inl e) never = absurd (never e.0)
     input (inr e) never = λ same. apart (ap (called_on job u) (sym e.1) ∙ same)
 
+-- what it owes first
+owed_same : (job : Job) (before after : Moment) (u : ℕ) → SameTask before after u
+    → first_owed job after u ≡ first_owed job before u
+owed_same job before after u same =
+    found_same (is_owed job after u) (is_owed job before u)
+    (range_with_len 0 (length (signalled_by (task_at job.graph u))))
+    (λ j. ap (λ l. nat_lt (length l) (length (made_now job after u j))) (same.put j)
+    ∙ ap (λ l. nat_lt (length (before.put u j)) (length l)) (made_same job before after u j same))
+
 next_same : (job : Job) (before after : Moment) (u q : ℕ) (next : Next)
     → LeavesAlone job before after u q → is_live job after u ≡ true → next_of job before u ≡ next
     → IsCall next → called_on job u next ≢ q → next_of job after u ≡ next
 next_same job before after u q next left live is call apart =
     ap (λ b. cond b (of_live job after u (first_owed job after u)) turns.is_not_live) live
-    ∙ ap (of_live job after u) (first_owed_same job before after u left.same)
+    ∙ ap (of_live job after u) (owed_same job before after u left.same)
     ∙ by (doing job before u next is (λ none. (subst IsCall none call)))
   where
     by : Doing job before u next → of_live job after u (first_owed job before u) ≡ next
@@ -143,22 +155,55 @@ next_same job before after u q next left live is call apart =
 -- ---- what the phaser answers
 
 -- to a signal
-signal_same : (job : Job) (before after : Moment) (u j q : ℕ) (v : ℤ) (event : ℕ → TaskEvent)
-    → LeavesAlone job before after u q → output_at job u j ≢ q
-    → signal_turn job after u j v (event (number_on after u (output_at job u j)))
-    ≡ signal_turn job before u j v (event (number_on before u (output_at job u j)))
-signal_same job before after u j q v event left apart =
+signal_same : (job : Job) (before after : Moment) (u j q : ℕ) (vs : List ℤ)
+    (event : ℕ → TaskEvent) → LeavesAlone job before after u q → output_at job u j ≢ q
+    → signal_turn job after u j vs (event (number_on after u (output_at job u j)))
+    ≡ signal_turn job before u j vs (event (number_on before u (output_at job u j)))
+signal_same job before after u j q vs event left apart =
     let p = output_at job u j in
-    ap (λ l. turn (length l) (after.history p) (number_on after u p)) (left.same.put j)
+    turns after
+    ∙ ap (λ l. turn (length l) (after.history p) (number_on after u p)) (left.same.put j)
     ∙ ap (λ h. turn (length (before.put u j)) h (number_on after u p)) (left.elsewhere p apart)
     ∙ ap (λ o. turn (length (before.put u j)) (before.history p) (unwrap_or o 0)) (left.numbers p)
+    ∙ sym (turns before)
   where
+    of : Option ℕ → History → ℕ → Answer
+    of None h n =
+        signal_answer (event n) (signal_refusal (limits_at job (output_at job u j)) h n (map one vs)
+        (phaser_at job.graph (output_at job u j)).single)
+    of (Some step) h n =
+        cond (are_made (task_at job.graph u).kind j) (has_made (place.Task u, step)) is_refused
+
     turn : ℕ → History → ℕ → Answer
-    turn put h n =
-        cond (is_out_of_range v)
-        (cond (are_made (task_at job.graph u).kind j) (has_made (place.Task u, put)) is_refused)
-        (signal_answer (event n) (signal_refusal (limits_at job (output_at job u j)) h n
-        ((v ∷ []) ∷ []) (phaser_at job.graph (output_at job u j)).single))
+    turn put h n = of (position_from is_out_of_range put vs) h n
+
+    turns : (m : Moment)
+        → signal_turn job m u j vs (event (number_on m u (output_at job u j)))
+        ≡ turn (length (m.put u j)) (m.history (output_at job u j))
+        (number_on m u (output_at job u j))
+    turns m = by (position_from is_out_of_range (length (m.put u j)) vs) refl
+      where
+        by : (o : Option ℕ) → position_from is_out_of_range (length (m.put u j)) vs ≡ o
+            → signal_turn job m u j vs (event (number_on m u (output_at job u j)))
+            ≡ turn (length (m.put u j)) (m.history (output_at job u j))
+            (number_on m u (output_at job u j))
+        by None found = rw found refl
+        by (Some step) found = rw found refl
+
+-- to a wait for a block
+block_same : (job : Job) (before after : Moment) (u p q steps : ℕ)
+    (event : ℕ → List Outcome → TaskEvent) → LeavesAlone job before after u q → p ≢ q
+    → call_block job after u p steps (event (number_on after u p))
+    ≡ call_block job before u p steps (event (number_on before u p))
+block_same job before after u p q steps event left apart =
+    ap (λ h. block_answer
+    (λ phase count. event (number_on after u p)
+    (slice_range (stream_of (value_at job p) h) phase (phase + count)))
+    (wait_block_reply (limits_at job p) h (number_on after u p) steps)) (left.elsewhere p apart)
+    ∙ ap (λ o. block_answer
+    (λ phase count. event (unwrap_or o 0)
+    (slice_range (stream_of (value_at job p) (before.history p)) phase (phase + count)))
+    (wait_block_reply (limits_at job p) (before.history p) (unwrap_or o 0) steps)) (left.numbers p)
 
 -- to a wait
 wait_same : (job : Job) (before after : Moment) (u p q : ℕ) (event : ℕ → Outcome → TaskEvent)
@@ -172,6 +217,18 @@ wait_same job before after u p q event left apart =
     (wait_reply (value_at job p) (limits_at job p) (before.history p) (unwrap_or o 0)))
     (left.numbers p)
 
+-- the steps of the next block, and the next samples, after so many steps
+abbrev block_after : Job → ℕ → ℕ → ℕ
+block_after job u begun =
+    fold (λ steps c. child_allows u begun (task_at job.graph c).parent steps)
+    (until_allows (task_at job.graph u).until begun (task_at job.graph u).block)
+    (range_with_len 0 (length job.graph.tasks))
+
+abbrev next_after : Job → ℕ → ℕ → List ℤ
+next_after job u begun =
+    take (min (block_after job u begun) (length (samples_at job u) - begun))
+    (drop begun (samples_at job u))
+
 answer_same : (job : Job) (before after : Moment) (u q : ℕ) (next : Next)
     → LeavesAlone job before after u q → IsCall next → called_on job u next ≢ q
     → answer_to job after u next ≡ answer_to job before u next
@@ -180,22 +237,27 @@ answer_same job before after u q (turns.registers c) left call apart = absurd ca
 answer_same job before after u q turns.leaves left call apart = absurd call
 answer_same job before after u q turns.samples left call apart =
     let p = output_at job u 0 in
-    let v : ℕ → ℤ = λ b. get_or (samples_at job u) b (pos 0) in
-    ap (λ b. signal_turn job after u 0 (v b) (sample u 0 p (number_on after u p) (v b)))
-    left.same.begun
-    ∙ signal_same job before after u 0 q (v (before.begun u))
-    (λ n. sample u 0 p n (v (before.begun u))) left apart
+    let value : next_samples job after u ≡ next_samples job before u =
+    ap (next_after job u) left.same.begun in
+    ap (λ vs. signal_turn job after u 0 vs (sample u 0 p (number_on after u p) vs)) value
+    ∙ signal_same job before after u 0 q (next_samples job before u)
+    (λ n. sample u 0 p n (next_samples job before u)) left apart
 answer_same job before after u q (turns.signals j) left call apart =
     let p = output_at job u j in
-    let value : next_value job after u j ≡ next_value job before u j =
-    ap (λ l. get_or l (length (after.put u j)) (pos 0)) (made_same job before after u j left.same)
-    ∙ ap (λ l. get_or (made_now job before u j) (length l) (pos 0)) (left.same.put j) in
-    ap (λ v. signal_turn job after u j v (signal u j p (number_on after u p) v)) value
-    ∙ signal_same job before after u j q (next_value job before u j)
-    (λ n. signal u j p n (next_value job before u j)) left apart
+    let block = (task_at job.graph u).block in
+    let value : next_values job after u j ≡ next_values job before u j =
+    ap (λ l. take block (drop (length (after.put u j)) l))
+    (made_same job before after u j left.same)
+    ∙ ap (λ l. take block (drop (length l) (made_now job before u j))) (left.same.put j) in
+    ap (λ vs. signal_turn job after u j vs (signal u j p (number_on after u p) vs)) value
+    ∙ signal_same job before after u j q (next_values job before u j)
+    (λ n. signal u j p n (next_values job before u j)) left apart
 answer_same job before after u q (turns.waits k) left call apart =
     let p = input_at (task_at job.graph u) k in
-    wait_same job before after u p q (first_wait u k p) left apart
+    let steps : block_of job after u ≡ block_of job before u =
+    ap (block_after job u) left.same.begun in
+    ap (λ n. call_block job after u p n (first_wait u k p (number_on after u p))) steps
+    ∙ block_same job before after u p q (block_of job before u) (first_wait u k p) left apart
 answer_same job before after u q turns.exchanges left call apart =
     let p = input_at (task_at job.graph u) 1 in
     wait_same job before after u p q (exchange_wait u p) left apart
