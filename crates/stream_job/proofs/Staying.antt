@@ -1,24 +1,27 @@
 -- A task whose call is blocked stays so until there is an event on the phaser of the call.
-use Rattle.std.proofs.Common.{◌≡◌, ◌≢◌, ℕ, ◌+◌, true, false, not, ◌&&◌, ◌||◌, cond, ℤ, pos, [], ◌∷◌, length, get_or, refl, sym, ap, subst, ◌∙◌, ◌⊎◌, inl, inr}
-use Rattle.std.specs.Prelude.{unwrap_or, nat_le}
+use Rattle.std.proofs.Common.{◌≡◌, ◌≢◌, ℕ, ◌+◌, ◌-◌, Bool, true, false, not, ◌&&◌, ◌||◌, cond, ℤ, List, [], ◌∷◌, Option, Some, None, length, map, take, drop, refl, sym, ap, subst, ◌∙◌, ◌⊎◌, inl, inr}
+use Rattle.std.specs.Prelude.{unwrap_or, nat_le, nat_lt, min, slice_range}
+use Rattle.std.specs.List.{find, fold, position_from, range_with_len}
 use Rattle.phase_core.specs.phase_accum.declared.outcome.Outcome.{Outcome}
 use Rattle.phase_core.specs.phase_history.Histories.{History, done_of}
+use Rattle.phase_core.specs.phase_history.Phases.{stream_of}
 use Rattle.phase_core.specs.phase_history.Refusals.{signal_refusal}
-use Rattle.phase_core.specs.phase_history.Replies.{wait_reply}
+use Rattle.phase_core.specs.phase_history.Replies.{wait_reply, wait_block_reply}
 use Rattle.graph_lang.specs.graph_base.declared.line.Kind.{Kind}
 use Rattle.graph_lang.specs.graph_base.declared.line.Kind.TheVariants.{Source, Fir, Split, Join, Peer, Sink}
 use Rattle.graph_lang.specs.graph_base.declared.place.Place.TheVariants as place
 use Rattle.graph_lang.specs.graph_base.Graphs.{task_at, phaser_at}
+use Rattle.graph_lang.specs.graph_base.Registrations.{signalled_by}
 use Rattle.stream_eval.specs.stream_lists.Jobs.{Job, samples_at}
 use Rattle.stream_eval.specs.stream_lists.Ranges.{are_made, is_out_of_range}
-use Rattle.graph_runs.specs.Moments.{Moment, limits_at, value_at, input_at, made_now, first_input}
+use Rattle.graph_runs.specs.Moments.{one, Moment, limits_at, value_at, input_at, made_now, first_input}
 use Rattle.graph_runs.specs.Moves.{SameTask}
+use Rattle.graph_runs.specs.NextBlocks.{block_of, child_allows, until_allows}
 use Rattle.graph_runs.proofs.Framed.{made_same}
 use Rattle.graph_runs.specs.TaskEvents.{TaskEvent, sample, signal, first_wait, exchange_wait, after_turn}
 use Rattle.graph_runs.specs.Nexts as turns
-use Rattle.graph_runs.specs.Nexts.{Next, first_due, first_owed, has_input_ended, has_run_out, has_signaller, in_step, is_cut, is_live, next_of, next_step, number_on, of_live, waits_first, at_boundary}
-use Rattle.graph_runs.specs.Answers.{Answer, makes, is_blocked, has_made, is_refused, answer_of_turn, answer_to, call_wait, signal_answer, signal_turn, wait_answer, output_at, next_value, was_blocked}
-use Rattle.graph_runs.proofs.Following.{first_owed_same}
+use Rattle.graph_runs.specs.Nexts.{Next, first_due, first_owed, has_input_ended, has_run_out, has_signaller, in_step, is_cut, is_live, next_of, is_owed, next_step, number_on, of_live, waits_first, at_boundary}
+use Rattle.graph_runs.specs.Answers.{Answer, makes, is_blocked, has_made, is_refused, answer_of_turn, answer_to, block_answer, call_block, call_wait, signal_answer, signal_turn, wait_answer, output_at, next_samples, next_values, was_blocked}
 use Rattle.graph_runs.proofs.Signalling.{live-is}
 use Rattle.graph_runs.proofs.Turning.{turn_makes_next}
 use Rattle.graph_runs.proofs.Whose.{made_by}
@@ -52,6 +55,21 @@ is_call job m t (turns.waits k) e = tt
 is_call job m t turns.exchanges e = tt
 
 -- ---- what it does next
+
+found_same : {X : Type 0} (f g : X → Bool) (xs : List X) → ((x : X) → f x ≡ g x)
+    → find f xs ≡ find g xs
+found_same f g [] same = refl
+found_same f g (x ∷ xs) same =
+    ap (λ b. cond b (Some x) (find f xs)) (same x)
+    ∙ ap (λ o. cond (g x) (Some x) o) (found_same f g xs same)
+
+first_owed_same : (job : Job) (before after : Moment) (u : ℕ) → SameTask before after u
+    → first_owed job after u ≡ first_owed job before u
+first_owed_same job before after u same =
+    found_same (is_owed job after u) (is_owed job before u)
+    (range_with_len 0 (length (signalled_by (task_at job.graph u))))
+    (λ j. ap (λ l. nat_lt (length l) (length (made_now job after u j))) (same.put j)
+    ∙ ap (λ l. nat_lt (length (before.put u j)) (length l)) (made_same job before after u j same))
 
 step_same : (job : Job) (before after : Moment) (u j : ℕ) → SameTask before after u
     → in_step job after u j ≡ in_step job before u j
@@ -142,23 +160,27 @@ next_same job before after u q next left live is call apart =
 
 -- ---- what the phaser answers
 
--- to a signal
-signal_same : (job : Job) (before after : Moment) (u j q : ℕ) (v : ℤ) (event : ℕ → TaskEvent)
+-- to a signal of values
+signal_same : (job : Job) (before after : Moment) (u j q : ℕ) (vs : List ℤ) (event : ℕ → TaskEvent)
     → LeavesAlone job before after u q → output_at job u j ≢ q
-    → signal_turn job after u j v (event (number_on after u (output_at job u j)))
-    ≡ signal_turn job before u j v (event (number_on before u (output_at job u j)))
-signal_same job before after u j q v event left apart =
+    → signal_turn job after u j vs (event (number_on after u (output_at job u j)))
+    ≡ signal_turn job before u j vs (event (number_on before u (output_at job u j)))
+signal_same job before after u j q vs event left apart =
     let p = output_at job u j in
-    ap (λ l. turn (length l) (after.history p) (number_on after u p)) (left.same.put j)
-    ∙ ap (λ h. turn (length (before.put u j)) h (number_on after u p)) (left.elsewhere p apart)
-    ∙ ap (λ o. turn (length (before.put u j)) (before.history p) (unwrap_or o 0)) (left.numbers p)
+    ap (λ l. turn (position_from is_out_of_range (length l) vs) (after.history p)
+    (number_on after u p)) (left.same.put j)
+    ∙ ap (λ h. turn (position_from is_out_of_range (length (before.put u j)) vs) h
+    (number_on after u p)) (left.elsewhere p apart)
+    ∙ ap (λ o. turn (position_from is_out_of_range (length (before.put u j)) vs) (before.history p)
+    (unwrap_or o 0)) (left.numbers p)
   where
-    turn : ℕ → History → ℕ → Answer
-    turn put h n =
-        cond (is_out_of_range v)
-        (cond (are_made (task_at job.graph u).kind j) (has_made (place.Task u, put)) is_refused)
-        (signal_answer (event n) (signal_refusal (limits_at job (output_at job u j)) h n
-        ((v ∷ []) ∷ []) (phaser_at job.graph (output_at job u j)).single))
+    -- by the first of them that is out of range
+    turn : Option ℕ → History → ℕ → Answer
+    turn None h n =
+        signal_answer (event n) (signal_refusal (limits_at job (output_at job u j)) h n (map one vs)
+        (phaser_at job.graph (output_at job u j)).single)
+    turn (Some step) h n =
+        cond (are_made (task_at job.graph u).kind j) (has_made (place.Task u, step)) is_refused
 
 -- to a wait
 wait_same : (job : Job) (before after : Moment) (u p q : ℕ) (event : ℕ → Outcome → TaskEvent)
@@ -172,6 +194,47 @@ wait_same job before after u p q event left apart =
     (wait_reply (value_at job p) (limits_at job p) (before.history p) (unwrap_or o 0)))
     (left.numbers p)
 
+-- to a wait for a block
+block_same : (job : Job) (before after : Moment) (u p q steps : ℕ)
+    (event : ℕ → List Outcome → TaskEvent) → LeavesAlone job before after u q → p ≢ q
+    → call_block job after u p steps (event (number_on after u p))
+    ≡ call_block job before u p steps (event (number_on before u p))
+block_same job before after u p q steps event left apart =
+    ap (λ h. block_answer
+    (λ phase count. event (number_on after u p)
+    (slice_range (stream_of (value_at job p) h) phase (phase + count)))
+    (wait_block_reply (limits_at job p) h (number_on after u p) steps)) (left.elsewhere p apart)
+    ∙ ap (λ o. block_answer
+    (λ phase count. event (unwrap_or o 0)
+    (slice_range (stream_of (value_at job p) (before.history p)) phase (phase + count)))
+    (wait_block_reply (limits_at job p) (before.history p) (unwrap_or o 0) steps)) (left.numbers p)
+
+-- the steps that are next
+steps_same : (job : Job) (before after : Moment) (u : ℕ) → after.begun u ≡ before.begun u
+    → block_of job after u ≡ block_of job before u
+steps_same job before after u same =
+    ap (λ b. fold (λ steps c. child_allows u b (task_at job.graph c).parent steps)
+    (until_allows (task_at job.graph u).until b (task_at job.graph u).block)
+    (range_with_len 0 (length job.graph.tasks))) same
+
+-- the samples that are
+samples_same : (job : Job) (before after : Moment) (u : ℕ) → after.begun u ≡ before.begun u
+    → next_samples job after u ≡ next_samples job before u
+samples_same job before after u same =
+    ap (λ n. take (min n (length (samples_at job u) - after.begun u))
+    (drop (after.begun u) (samples_at job u))) (steps_same job before after u same)
+    ∙ ap (λ b. take (min (block_of job before u) (length (samples_at job u) - b))
+    (drop b (samples_at job u))) same
+
+-- the values that are
+values_same : (job : Job) (before after : Moment) (u j : ℕ) → SameTask before after u
+    → next_values job after u j ≡ next_values job before u j
+values_same job before after u j same =
+    ap (λ l. take (task_at job.graph u).block (drop (length (after.put u j)) l))
+    (made_same job before after u j same)
+    ∙ ap (λ l. take (task_at job.graph u).block (drop (length l) (made_now job before u j)))
+    (same.put j)
+
 answer_same : (job : Job) (before after : Moment) (u q : ℕ) (next : Next)
     → LeavesAlone job before after u q → IsCall next → called_on job u next ≢ q
     → answer_to job after u next ≡ answer_to job before u next
@@ -180,22 +243,21 @@ answer_same job before after u q (turns.registers c) left call apart = absurd ca
 answer_same job before after u q turns.leaves left call apart = absurd call
 answer_same job before after u q turns.samples left call apart =
     let p = output_at job u 0 in
-    let v : ℕ → ℤ = λ b. get_or (samples_at job u) b (pos 0) in
-    ap (λ b. signal_turn job after u 0 (v b) (sample u 0 p (number_on after u p) (v b)))
-    left.same.begun
-    ∙ signal_same job before after u 0 q (v (before.begun u))
-    (λ n. sample u 0 p n (v (before.begun u))) left apart
+    let vs = next_samples job before u in
+    ap (λ l. signal_turn job after u 0 l (sample u 0 p (number_on after u p) l))
+    (samples_same job before after u left.same.begun)
+    ∙ signal_same job before after u 0 q vs (λ n. sample u 0 p n vs) left apart
 answer_same job before after u q (turns.signals j) left call apart =
     let p = output_at job u j in
-    let value : next_value job after u j ≡ next_value job before u j =
-    ap (λ l. get_or l (length (after.put u j)) (pos 0)) (made_same job before after u j left.same)
-    ∙ ap (λ l. get_or (made_now job before u j) (length l) (pos 0)) (left.same.put j) in
-    ap (λ v. signal_turn job after u j v (signal u j p (number_on after u p) v)) value
-    ∙ signal_same job before after u j q (next_value job before u j)
-    (λ n. signal u j p n (next_value job before u j)) left apart
+    let vs = next_values job before u j in
+    ap (λ l. signal_turn job after u j l (signal u j p (number_on after u p) l))
+    (values_same job before after u j left.same)
+    ∙ signal_same job before after u j q vs (λ n. signal u j p n vs) left apart
 answer_same job before after u q (turns.waits k) left call apart =
     let p = input_at (task_at job.graph u) k in
-    wait_same job before after u p q (first_wait u k p) left apart
+    ap (λ steps. call_block job after u p steps (first_wait u k p (number_on after u p)))
+    (steps_same job before after u left.same.begun)
+    ∙ block_same job before after u p q (block_of job before u) (first_wait u k p) left apart
 answer_same job before after u q turns.exchanges left call apart =
     let p = input_at (task_at job.graph u) 1 in
     wait_same job before after u p q (exchange_wait u p) left apart
