@@ -30,6 +30,7 @@ use Rattle.stream_job.specs.Machines.{IsMachineAt}
 use Rattle.stream_job.specs.Turning.{phaser_of}
 use Rattle.stream_job.specs.declared.machine.Machine.{Machine}
 use Rattle.stream_job.proofs.LeftAlone.{LeavesAlone, alone, lives_on, no_child}
+use Rattle.stream_job.proofs.Signals.{goes_on, stops}
 use Rattle.stream_job.proofs.Stalling.{leave_moves, register_moves}
 use Rattle.stream_job.proofs.WhatNext.{AtStep, Doing, doing, owing, parent, leaving, stepping, begins_is}
 
@@ -166,21 +167,30 @@ signal_same : (job : Job) (before after : Moment) (u j q : ℕ) (vs : List ℤ) 
     → signal_turn job after u j vs (event (number_on after u (output_at job u j)))
     ≡ signal_turn job before u j vs (event (number_on before u (output_at job u j)))
 signal_same job before after u j q vs event left apart =
-    let p = output_at job u j in
-    ap (λ l. turn (position_from is_out_of_range (length l) vs) (after.history p)
-    (number_on after u p)) (left.same.put j)
-    ∙ ap (λ h. turn (position_from is_out_of_range (length (before.put u j)) vs) h
-    (number_on after u p)) (left.elsewhere p apart)
-    ∙ ap (λ o. turn (position_from is_out_of_range (length (before.put u j)) vs) (before.history p)
-    (unwrap_or o 0)) (left.numbers p)
+    by (position_from is_out_of_range (length (before.put u j)) vs) refl
   where
-    -- by the first of them that is out of range
-    turn : Option ℕ → History → ℕ → Answer
-    turn None h n =
+    after_is : position_from is_out_of_range (length (after.put u j)) vs
+        ≡ position_from is_out_of_range (length (before.put u j)) vs
+    after_is = ap (λ l. position_from is_out_of_range (length l) vs) (left.same.put j)
+
+    answer : History → ℕ → Answer
+    answer h n =
         signal_answer (event n) (signal_refusal (limits_at job (output_at job u j)) h n (map one vs)
         (phaser_at job.graph (output_at job u j)).single)
-    turn (Some step) h n =
-        cond (are_made (task_at job.graph u).kind j) (has_made (place.Task u, step)) is_refused
+
+    by : (o : Option ℕ) → position_from is_out_of_range (length (before.put u j)) vs ≡ o
+        → signal_turn job after u j vs (event (number_on after u (output_at job u j)))
+        ≡ signal_turn job before u j vs (event (number_on before u (output_at job u j)))
+    by None e =
+        let p = output_at job u j in
+        goes_on job after u j vs (event (number_on after u p)) (after_is ∙ e)
+        ∙ ap (λ h. answer h (number_on after u p)) (left.elsewhere p apart)
+        ∙ ap (λ o. answer (before.history p) (unwrap_or o 0)) (left.numbers p)
+        ∙ sym (goes_on job before u j vs (event (number_on before u p)) e)
+    by (Some step) e =
+        let p = output_at job u j in
+        stops job after u j step vs (event (number_on after u p)) (after_is ∙ e)
+        ∙ sym (stops job before u j step vs (event (number_on before u p)) e)
 
 -- to a wait
 wait_same : (job : Job) (before after : Moment) (u p q : ℕ) (event : ℕ → Outcome → TaskEvent)
