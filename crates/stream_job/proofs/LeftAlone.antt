@@ -36,7 +36,7 @@ pub record LeavesAlone (job : Job) (before after : Moment) (u p : ℕ) : Type 0 
   pub elsewhere : (q : ℕ) → q ≢ p → after.history q ≡ before.history q
   pub due : first_due job after u ≡ first_due job before u
 
-found_same : {X : Type 0} (f g : X → Bool) (xs : List X) → ((x : X) → f x ≡ g x)
+pub found_same : {X : Type 0} (f g : X → Bool) (xs : List X) → ((x : X) → f x ≡ g x)
     → find f xs ≡ find g xs
 found_same f g [] same = refl
 found_same f g (x ∷ xs) same =

@@ -16,6 +16,7 @@ pub mod Setting
 pub mod Signals
 pub mod SinkLines
 pub mod SinksKeep
+pub mod Taking
 pub mod TaskLists
 pub mod Tellings
 pub mod Waits

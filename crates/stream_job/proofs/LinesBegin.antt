@@ -1,17 +1,16 @@
--- The lines of the sinks begin what these take, also where the last outcome was too big.
-use Rattle.std.proofs.Common.{◌≡◌, ◌≢◌, ℕ, ℤ, Bool, true, false, eqb, List, [], ◌∷◌, ◌++◌, Option, Some, None, refl, sym, ap, subst, ◌∙◌}
+-- The lines of the sinks begin what these take, also where the last block had a value too big.
+use Rattle.std.proofs.Common.{◌≡◌, ◌≢◌, ℕ, ℤ, Bool, true, false, eqb, List, [], ◌∷◌, ◌++◌, Option, Some, None, map, refl, sym, ap, subst, ◌∙◌}
 use mathlib.Core.List.{IsPrefix}
 use Rattle.std.proofs.lemmas.Bool.{eqb-true, eq-eqb}
 use Rattle.std.proofs.lemmas.List.{append-nil, append_assoc}
 use Rattle.phase_core.specs.phase_accum.declared.outcome.Outcome.{Outcome}
-use Rattle.phase_core.specs.phase_accum.declared.outcome.Outcome.TheVariants as outcomes
 use Rattle.graph_lang.specs.graph_base.declared.line.Kind.TheVariants.{Sink}
 use Rattle.graph_lang.specs.graph_base.Graphs.{is_sink, task_at}
 use Rattle.stream_eval.specs.stream_lists.Jobs.{Job}
 use Rattle.stream_eval.specs.stream_lists.Lists.{is_sink_at, number}
 use Rattle.stream_eval.specs.stream_lists.Ranges.{Where}
 use Rattle.graph_runs.specs.Moments.{Moment, HasAnsweredNone}
-use Rattle.graph_runs.specs.TaskEvents.{TaskEvent, IsNext, sample, signal, first_wait, exchange_wait, leave, child, after_turn}
+use Rattle.graph_runs.specs.TaskEvents.{TaskEvent, IsNext, sample, signal, first_wait, exchange_wait, leave, child, child_now, after_turn}
 use Rattle.graph_runs.specs.Answers.{Answer, makes, is_blocked, is_gone, has_made, is_refused, answer_of_turn, after_answer}
 use Rattle.graph_runs.proofs.Turning.{turn_makes_next}
 use Rattle.stream_job.specs.Machines.{IsMachineAt}
@@ -19,7 +18,7 @@ use Rattle.stream_job.specs.SinkLines.{kept_by, kept_of, KeepsBeginnings}
 use Rattle.stream_job.specs.Worlds.{HasMet}
 use Rattle.stream_job.specs.declared.machine.Machine.{Machine}
 use Rattle.stream_job.proofs.Events.{taken_other}
-use Rattle.stream_job.proofs.SinksKeep.{all_kept, kept_other, kept_wait, sink_reads}
+use Rattle.stream_job.proofs.SinksKeep.{all_kept, kept_begins, kept_other, kept_wait, sink_reads}
 use Rattle.stream_job.proofs.Waits.{first_is, sink_kind, zero_first}
 
 -- a list begins an equal one
@@ -32,13 +31,14 @@ begins_further xs ys zs first then = (
   sym (append_assoc xs first.0 then.0) ∙ ap (λ l. l ++ then.0) first.1 ∙ then.1,
 )
 
--- what is kept of one outcome
-one_begins : (xs : List ℤ) (outcome : Outcome)
-    → IsPrefix (xs ++ kept_of (outcome ∷ [])) (xs ++ number outcome ∷ [])
-one_begins xs outcomes.TooBig =
-    (number outcomes.TooBig ∷ [], ap (λ l. l ++ number outcomes.TooBig ∷ []) (append-nil xs))
-one_begins xs outcomes.Empty = same_begins _ _ refl
-one_begins xs (outcomes.Value v) = same_begins _ _ refl
+-- what is kept begins what was got, behind the same
+more_begins : (xs : List ℤ) (outcomes : List Outcome)
+    → IsPrefix (xs ++ kept_of outcomes) (xs ++ map number outcomes)
+more_begins xs outcomes =
+    let begins = kept_begins outcomes in (
+      begins.0,
+      append_assoc xs (kept_of outcomes) begins.0 ∙ ap (λ l. xs ++ l) begins.1,
+    )
 
 -- where no wait was answered a value that is too big
 pub none_begins : (job : Job) (m : Moment) (machine : Machine) → IsMachineAt job m machine
@@ -63,18 +63,18 @@ event_begins job m machine event at none next u there sink = by event next
         same_begins (kept_by job (after_turn job event m) u) ((after_turn job event m).taken u 0)
         (sym same ∙ kept ∙ sym taken)
 
-    waits : (t k p n : ℕ) (outcome : Outcome) → IsNext job m (first_wait t k p n outcome)
+    waits : (t k p n : ℕ) (outcomes : List Outcome) → IsNext job m (first_wait t k p n outcomes)
         → (b : Bool) → eqb u t ≡ b
-        → IsPrefix (kept_by job (after_turn job (first_wait t k p n outcome) m) u)
-        ((after_turn job (first_wait t k p n outcome) m).taken u 0)
-    waits t k p n outcome next false e =
+        → IsPrefix (kept_by job (after_turn job (first_wait t k p n outcomes) m) u)
+        ((after_turn job (first_wait t k p n outcomes) m).taken u 0)
+    waits t k p n outcomes next false e =
         let apart : u ≢ t = λ same. (let no = sym (eq-eqb u t same) ∙ e in cc) in
-        other (first_wait t k p n outcome)
-        (kept_other job m (first_wait t k p n outcome) u at.reached.ran next there apart)
-        (taken_other job m (first_wait t k p n outcome) u 0 apart)
-    waits t k p n outcome next true e =
+        other (first_wait t k p n outcomes)
+        (kept_other job m (first_wait t k p n outcomes) u at.reached.ran next there apart)
+        (taken_other job m (first_wait t k p n outcomes) u 0 apart)
+    waits t k p n outcomes next true e =
         let same : t ≡ u = sym (eqb-true u t e) in
-        let after = after_turn job (first_wait t k p n outcome) m in
+        let after = after_turn job (first_wait t k p n outcomes) m in
         let kind : (task_at job.graph t).kind ≡ Sink =
         sink_kind (task_at job.graph t).kind (ap (is_sink_at job) same ∙ sink) in
         let zero_is : k ≡ 0 =
@@ -83,23 +83,22 @@ event_begins job m machine event at none next u there sink = by event next
         ap (kept_by job m) same ∙ kept ∙ ap (λ x. m.taken x 0) (sym same) in
         let Begins : ℕ → Type 0 = λ x. IsPrefix (kept_by job after x) (after.taken x 0) in
         let More : List ℤ → Type 0 = λ l. IsPrefix l (after.taken t 0) in
-        let Less : List ℤ → Type 0 =
-        λ l. IsPrefix (m.taken t 0 ++ kept_of (outcome ∷ [])) l in
+        let Less : List ℤ → Type 0 = λ l. IsPrefix (m.taken t 0 ++ kept_of outcomes) l in
         subst Begins same
-        (subst More (sym (kept_wait job m t k p n outcome next zero_is
-        ∙ ap (λ l. l ++ kept_of (outcome ∷ [])) its))
-        (subst Less (sym (first_is job m t k n p outcome zero_is))
-        (one_begins (m.taken t 0) outcome)))
+        (subst More (sym (kept_wait job m t k p n outcomes none next zero_is
+        ∙ ap (λ l. l ++ kept_of outcomes) its))
+        (subst Less (sym (first_is job m t k p n outcomes zero_is))
+        (more_begins (m.taken t 0) outcomes)))
 
     by : (event : TaskEvent) → IsNext job m event
         → IsPrefix (kept_by job (after_turn job event m) u) ((after_turn job event m).taken u 0)
-    by (sample t j p n v) next =
-        other (sample t j p n v)
-        (kept_other job m (sample t j p n v) u at.reached.ran next there tt) refl
-    by (signal t j p n v) next =
-        other (signal t j p n v)
-        (kept_other job m (signal t j p n v) u at.reached.ran next there tt) refl
-    by (first_wait t k p n outcome) next = waits t k p n outcome next (eqb u t) refl
+    by (sample t j p n vs) next =
+        other (sample t j p n vs)
+        (kept_other job m (sample t j p n vs) u at.reached.ran next there tt) refl
+    by (signal t j p n vs) next =
+        other (signal t j p n vs)
+        (kept_other job m (signal t j p n vs) u at.reached.ran next there tt) refl
+    by (first_wait t k p n outcomes) next = waits t k p n outcomes next (eqb u t) refl
     by (exchange_wait t p n outcome) next =
         let apart : u ≢ t = λ same. (let peer : is_sink_at job t ≡ false = ap is_sink next.1.peer in
         let wrong : true ≡ false = sym sink ∙ ap (is_sink_at job) same ∙ peer in cc) in
@@ -111,6 +110,9 @@ event_begins job m machine event at none next u there sink = by event next
     by (child t p n c a mode) next =
         other (child t p n c a mode)
         (kept_other job m (child t p n c a mode) u at.reached.ran next there tt) refl
+    by (child_now t p n c a) next =
+        other (child_now t p n c a)
+        (kept_other job m (child_now t p n c a) u at.reached.ran next there tt) refl
 
 -- after one turn more
 pub turn_begins : (job : Job) (m : Moment) (machine : Machine) (t : ℕ)

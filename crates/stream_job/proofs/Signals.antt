@@ -902,8 +902,11 @@ all_out (z ∷ zs) (r ∷ rs) from e =
         )
     by (Err out) e rest = (
       (λ good. absurd (cc)),
-      (λ bad. (from, ap (λ b. cond b (Some from) (position_from is_out_of_range (from + 1) zs))
-      (out_of_range z out e))),
+      (λ bad. (
+        from,
+        ap (λ b. cond b (Some from) (position_from is_out_of_range (from + 1) zs))
+            (out_of_range z out e),
+      )),
     )
 
 -- ---- as the code has them

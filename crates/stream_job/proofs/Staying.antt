@@ -1,7 +1,7 @@
 -- A task whose call is blocked stays so until there is an event on the phaser of the call.
 use Rattle.std.proofs.Common.{◌≡◌, ◌≢◌, ℕ, ◌+◌, ◌-◌, Bool, true, false, not, ◌&&◌, ◌||◌, cond, ℤ, List, [], ◌∷◌, Option, Some, None, length, map, take, drop, refl, sym, ap, subst, ◌∙◌, ◌⊎◌, inl, inr}
 use Rattle.std.specs.Prelude.{unwrap_or, nat_le, nat_lt, min, slice_range}
-use Rattle.std.specs.List.{find, fold, position_from, range_with_len}
+use Rattle.std.specs.List.{fold, position_from, range_with_len}
 use Rattle.phase_core.specs.phase_accum.declared.outcome.Outcome.{Outcome}
 use Rattle.phase_core.specs.phase_history.Histories.{History, done_of}
 use Rattle.phase_core.specs.phase_history.Phases.{stream_of}
@@ -29,7 +29,7 @@ use Rattle.stream_job.specs.Blocking.{called_on, IsBlockedOn}
 use Rattle.stream_job.specs.Machines.{IsMachineAt}
 use Rattle.stream_job.specs.Turning.{phaser_of}
 use Rattle.stream_job.specs.declared.machine.Machine.{Machine}
-use Rattle.stream_job.proofs.LeftAlone.{LeavesAlone, alone, lives_on, no_child}
+use Rattle.stream_job.proofs.LeftAlone.{LeavesAlone, alone, found_same, lives_on, no_child}
 use Rattle.stream_job.proofs.Signals.{goes_on, stops}
 use Rattle.stream_job.proofs.Stalling.{leave_moves, register_moves}
 use Rattle.stream_job.proofs.WhatNext.{AtStep, Doing, doing, owing, parent, leaving, stepping, begins_is}
@@ -56,13 +56,6 @@ is_call job m t (turns.waits k) e = tt
 is_call job m t turns.exchanges e = tt
 
 -- ---- what it does next
-
-found_same : {X : Type 0} (f g : X → Bool) (xs : List X) → ((x : X) → f x ≡ g x)
-    → find f xs ≡ find g xs
-found_same f g [] same = refl
-found_same f g (x ∷ xs) same =
-    ap (λ b. cond b (Some x) (find f xs)) (same x)
-    ∙ ap (λ o. cond (g x) (Some x) o) (found_same f g xs same)
 
 first_owed_same : (job : Job) (before after : Moment) (u : ℕ) → SameTask before after u
     → first_owed job after u ≡ first_owed job before u

@@ -15,7 +15,11 @@ use Rattle.phase_core.specs.phase_history.declared.got.Got.TheVariants as got
 use Rattle.phase_core.specs.phase_history.declared.got.GotBlock.TheVariants as block
 use Rattle.phase_core.specs.phase_history.declared.refusal.WaitRefusal.{WaitRefusal}
 use Rattle.phase_core.specs.phase_history.declared.refusal.WaitRefusal.TheVariants as refusals
-use Rattle.phase_core.specs.phase_history.Histories.{History, wait_phase, done_of}
+use Rattle.phase_core.specs.phase_history.Histories.{History, wait_phase, done_of, top_of}
+use Rattle.phase_core.specs.phase_base.declared.limits.TheConstants.{PHASES_MAX}
+use Rattle.phase_core.proofs.phase_history_lemmas.LawProofs.{reply_tells}
+use Rattle.phase_core.proofs.phase_history_lemmas.Steps.{done_below_top, sound_of}
+use Rattle.phase_core.proofs.phase_history_lemmas.Tops.{top_within}
 use Rattle.phase_core.specs.phase_history.Phases.{value_of_phase, stream_of}
 use Rattle.phase_core.specs.phase_history.Refusals.{wait_refusal}
 use Rattle.phase_core.specs.phase_history.Replies.{wait_reply, wait_block_reply, refused_or}
@@ -29,7 +33,10 @@ use Rattle.stream_eval.specs.stream_lists.Jobs.{Job}
 use Rattle.stream_eval.specs.stream_lists.Lists.{number, sinks_of, is_sink_at}
 use Rattle.stream_eval.specs.Results.{sink_values}
 use Rattle.graph_runs.specs.Moments.{Moment, HasRun, HasAnsweredNone, limits_at, value_at, input_at, first_input}
-use Rattle.graph_runs.specs.Moves.{further}
+use Rattle.graph_runs.specs.Moves.{further, IsBlock}
+use Rattle.graph_runs.proofs.Blocks.{block_few}
+use Rattle.graph_runs.proofs.Stepping.{owes_nothing}
+use Rattle.graph_lang.specs.stream_filters.declared.fault.TooBigValue.{TooBigValue}
 use Rattle.graph_runs.specs.NextBlocks.{block_of}
 use Rattle.graph_runs.proofs.Nexts.{further-length}
 use Rattle.graph_runs.proofs.Tasks.{first_looks}
@@ -57,15 +64,18 @@ use Rattle.stream_job.specs.Machines.{IsMachineAt, HasCores, IsLineOf}
 use Rattle.stream_job.specs.Turning.{HadTurn, Shows, told_of}
 use Rattle.stream_job.specs.declared.machine.Machine.{Machine}
 use Rattle.stream_job.specs.declared.task_state.TaskState.{TaskState}
+use Rattle.stream_job.specs.declared.made.Made.{Made}
 use Rattle.stream_job.specs.declared.made.Made.TheVariants.{Event, Blocked}
 use Rattle.stream_job.specs.declared.turned.Turned.{Turned}
 use Rattle.stream_eval.specs.declared.whole.Lines.{Lines}
 use Rattle.stream_job.specs.SinkLines.{kept_by, kept_of}
 use Rattle.stream_job.proofs.SinksKeep.{lines_keep, lines_stay}
+use Rattle.stream_job.proofs.Begun.{begun_few}
 use Rattle.stream_job.proofs.Ending.{number_of_input}
 use Rattle.stream_job.proofs.Lively.{live_next}
+use Rattle.stream_job.proofs.Makes.{makes_event}
 use Rattle.stream_job.proofs.WhatNext.{InStep, waits_begins, exchanges_owes}
-use Rattle.stream_job.proofs.Signals.{blocked_turn, with_owed}
+use Rattle.stream_job.proofs.Signals.{blocked_turn}
 use Rattle.stream_job.proofs.Events.{after_own, unchanged}
 
 -- ---- the reply
@@ -132,6 +142,7 @@ pub record GotAll (job : Job) (m : Moment) (p n steps phase count : ℕ) (outcom
   pub are : slice_range (stream_of (value_at job p) (m.history p)) phase (phase + count)
       ≡ outcomes
   pub many : length outcomes ≡ count
+  pub some : 1 ≤ length outcomes
   pub first : phase ≡ wait_phase (m.history p) n
   pub few : count ≤ steps
   pub complete : phase + count ≤ done_of (m.history p)
@@ -156,17 +167,44 @@ got_all job m p n steps phase count old now reply is =
     ap (λ i. length (take i (drop phase stream))) off
     ∙ length-take-le count (drop phase stream) (omega arith) in
     let least : count ≡ min steps (done_of h - phase) = a.count_is in
+    let one : 1 ≤ count = a.some in
     let are : take count now ≡ outcomes =
     ap (λ l. take count l) is ∙ ap (λ i. take i (outcomes ++ drop count old)) (sym many)
     ∙ take-append_seam outcomes (drop count old) in
+    let all : length (take count now) ≡ count = ap length are ∙ many in
     record {
       reply = reply;
       are = sym are;
-      many = ap length are ∙ many;
+      many = all;
+      some = omega arith;
       first = a.phase_is;
       few = omega arith;
       complete = complete;
     }
+
+-- ---- the last phase
+
+-- no phase past the last is complete
+pub done_few : (job : Job) (m : Moment) (p : ℕ) → HasRun job m → p < length job.graph.phasers
+    → done_of (m.history p) ≤ PHASES_MAX
+done_few job m p ran there =
+    let h = m.history p in
+    let legal = (ran.phasers p there).legal in
+    let below : done_of h ≤ top_of h = done_below_top h (sound_of (limits_at job p) h legal) in
+    let most : top_of h ≤ PHASES_MAX = top_within (limits_at job p) h legal in
+    omega arith
+
+-- nor does a wait get one
+pub phase_few : (job : Job) (m : Moment) (p n phase : ℕ) (outcome : Outcome) → HasRun job m
+    → p < length job.graph.phasers
+    → wait_reply (value_at job p) (limits_at job p) (m.history p) n ≡ Ok (got.Value phase outcome)
+    → phase < PHASES_MAX
+phase_few job m p n phase outcome ran there reply =
+    let tells = reply_tells (value_at job p) (limits_at job p) (m.history p) n phase outcome reply in
+    let below : wait_phase (m.history p) n < done_of (m.history p) = tells.0 in
+    let is : phase ≡ wait_phase (m.history p) n = tells.1 in
+    let few = done_few job m p ran there in
+    omega arith
 
 -- ---- what is asked of the phaser
 
@@ -270,6 +308,10 @@ first_so job machine m t k n p steps state next at found phaser numbered many =
     ∙ ap (block_turn job m t k p n) many
 
 -- ---- a peer's exchange
+
+-- a state that owes this
+abbrev pub with_owed : TaskState → Owed → TaskState
+with_owed state owed = record state { owed = owed }
 
 -- a peer has made no values
 pub none_made : (job : Job) (machine : Machine) (m : Moment) (t : ℕ) (state : TaskState)
@@ -539,6 +581,50 @@ first_answer job old m t k n p steps phase count outcomes state next at found ph
     (slice_range (stream_of (value_at job p) (m.history p)) phase (phase + count)))) all.reply
     ∙ ap (λ l. makes (first_wait t k p n l)) all.are
 
+-- a state that owes nothing
+nothing_owed : (owed : Owed) (items : List (Result ℤ TooBigValue))
+    → owed_in owed items ≡ places.nothing → (owed ≡ code.Nothing) × (items ≡ [])
+nothing_owed code.Nothing [] e = (refl, refl)
+nothing_owed (code.Value i w) [] e = absurd (cc)
+nothing_owed (code.Exchange x) [] e = absurd (cc)
+nothing_owed owed (v ∷ vs) e = absurd (cc)
+
+-- a task may take what the first wait of its next steps got
+pub record MayTake (job : Job) (t : ℕ) (outcomes : List Outcome) (state : TaskState) : Type 0 where
+  pub block : IsBlock (task_at job.graph t).kind (length outcomes)
+  pub nothing : (state.owed ≡ code.Nothing) × (state.made.items ≡ [])
+  pub room : (task_at job.graph t).kind ≡ Fir → length outcomes ≤ state.made.cap
+  pub begun : state.begun + length outcomes ≤ 18446744073709551615
+
+pub may_take : (job : Job) (old : Machine) (m : Moment) (t k n p steps phase count : ℕ)
+    (outcomes : List Outcome) (state : TaskState) → IsNextIn job old t (turns.waits k)
+    → IsMachineAt job m old → slice_get old.tasks.items t ≡ Some state
+    → p ≡ input_at (task_at job.graph t) k → n ≡ get_or state.numbers.items k 0
+    → block_of job m t ≡ steps → GotAll job m p n steps phase count outcomes
+    → p < length job.graph.phasers → MayTake job t outcomes state
+may_take job old m t k n p steps phase count outcomes state next at found phaser numbered many all there =
+    let it = at.tasks t state found in
+    let answer = first_answer job old m t k n p steps phase count outcomes state next at found phaser
+    numbered many all in
+    let made = makes_event job m t (first_wait t k p n outcomes) at.graph at.reached answer in
+    let is = next.is m at in
+    let b = waits_begins job m t k is in
+    let few : m.begun t ≤ PHASES_MAX = begun_few job m t k at.graph at.reached.ran is in
+    let begun : m.begun t ≡ state.begun = it.stands.begun in
+    let complete : phase + count ≤ done_of (m.history p) = all.complete in
+    let done : done_of (m.history p) ≤ PHASES_MAX = done_few job m p at.reached.ran there in
+    let long : length outcomes ≡ count = all.many in
+    let asked : count ≤ steps = all.few in
+    let block : block_of job m t ≤ (task_at job.graph t).block = block_few job m t in
+    record {
+      block = made.next.1.block;
+      nothing = nothing_owed state.owed state.made.items (owes_nothing job m t
+          (owed_in state.owed state.made.items) it.stands.owes b.step.none);
+      room = λ fir. (let room : (task_at job.graph t).block ≤ state.made.cap = it.made_room fir in
+          omega arith);
+      begun = omega arith;
+    }
+
 pub first_turn : (job : Job) (old new : Machine) (t k n p steps phase count : ℕ)
     (outcomes : List Outcome) (state took : TaskState) (sink : Option ℕ) (told : Turned)
     → IsNextIn job old t (turns.waits k) → slice_get old.tasks.items t ≡ Some state
@@ -632,6 +718,13 @@ first_turn job old new t k n p steps phase count outcomes state took sink told n
         ∙ sink_lines m at none (is_sink_at job t) refl)
         starts
         (own at.own)
+
+-- a machine and an answer by other names
+pub had_as : (job : Job) (old new same : Machine) (t : ℕ) (it told : Made) → new ≡ same
+    → it ≡ told → HadTurn job old same t told → HadTurn job old new t it
+had_as job old new same t it told news its had =
+    subst (λ s. HadTurn job old s t it) (sym news)
+    (subst (λ r. HadTurn job old same t r) (sym its) had)
 
 -- a wait that the phaser would not take now
 pub blocked_first : (job : Job) (old new : Machine) (t k n p steps : ℕ) (state : TaskState)

@@ -1,7 +1,8 @@
 -- A peer waits as the number that stands at its second registration.
-use Rattle.std.proofs.Common.{rules, SFits, w64, to_z, of_z, ◌≡◌, length, get_or, refl, ap, subst, ◌∙◌, arith, to_z-of_z}
+use Rattle.std.proofs.Common.{rules, SFits, w64, to_z, of_z, ◌≡◌, ◌<◌, length, get_or, refl, ap, subst, ◌∙◌, arith, to_z-of_z}
 use Rattle.std.specs.Prelude.{Ok}
 use Rattle.std.proofs.lemmas.Option.{slice_get_read}
+use Rattle.phase_core.specs.phase_base.declared.limits.TheConstants.{PHASES_MAX}
 use Rattle.phase_core.specs.phase_history.Replies.{after_wait}
 use Rattle.graph_runs.specs.Nexts.{exchanges}
 use Rattle.graph_lang.specs.graph_base.Graphs.{task_at}
@@ -10,8 +11,7 @@ use Rattle.graph_runs.specs.Turned.{with_at}
 use Rattle.stream_job.specs.Machines.{HasCores}
 use Rattle.stream_job.proofs.Lively.{has_state}
 use Rattle.stream_job.proofs.Setting.{set_read}
-use Rattle.stream_job.proofs.Signals.{with_owed}
-use Rattle.stream_job.proofs.Waits.{exchange_waits_at, exchange_some, exchanged_turn, blocked_exchange, never_ended}
+use Rattle.stream_job.proofs.Waits.{exchange_waits_at, exchange_some, exchanged_turn, blocked_exchange, never_ended, phase_few, with_owed}
 use Rattle.stream_job.proofs.machine.Machine.wait_exchange.Goals as goal
 
 pub bounds-deref-1 : goal.bounds-deref-1
@@ -42,6 +42,16 @@ unreachable-requires-in-Ok-Ended c =
     c.input_of-phaser.result c.index-state.result.now c.requires found
     c.input_of-phaser.ensures.phaser (ap (λ ns. get_or ns 1 0) c.deref.ensures)
     (λ m at. c.in-Ok-Ended.ensures.reply m at ∙ ap (λ g. Ok g) c.in-Ok-Ended.field-0-is)
+
+pub told_got-requires : goal.told_got-requires
+told_got-requires c =
+    let m = c.requires.some.0 in
+    let at = c.requires.some.1 in
+    let few : c.in-Ok-Value.phase < PHASES_MAX =
+    phase_few c.args.job.now m c.input_of-phaser.result (get_or c.deref.result.now 1 0)
+    c.in-Ok-Value.phase c.in-Ok-Value.outcome at.reached.ran c.input_of-phaser.ensures.within
+    (c.in-Ok-Value.ensures.reply m at ∙ ap (λ g. Ok g) c.in-Ok-Value.field-0-is) in
+    omega arith
 
 pub returns-in-Ok-Value : goal.returns-in-Ok-Value
 returns-in-Ok-Value c =

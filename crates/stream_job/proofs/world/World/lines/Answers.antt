@@ -1,17 +1,15 @@
 -- Where no value was out of range the sinks keep all, and where no task is live they have it all.
 use Rattle.std.proofs.Common.{◌≡◌, ℕ, ℤ, ◌<◌, List, None, true, false, length, map, sym, ap, subst, ◌∙◌}
 use Rattle.std.specs.Prelude.{Ok}
-use Rattle.std.specs.List.{All}
 use mathlib.Core.List.{IsPrefix}
 use Rattle.graph_lang.specs.graph_base.Graphs.{task_at}
 use Rattle.stream_eval.specs.stream_lists.Spans.{span_in}
 use Rattle.stream_eval.specs.Results.{sink_values}
-use Rattle.stream_eval.specs.stream_lists.Lists.{is_sink_at, numbers_of, sinks_of, start_in, taken_from}
+use Rattle.stream_eval.specs.stream_lists.Lists.{is_sink_at, numbers_of, sinks_of, taken_from}
 use Rattle.stream_eval.specs.stream_lists.Ranges.{answer_of}
 use Rattle.graph_runs.specs.Moments.{Moment, started}
 use Rattle.graph_runs.specs.Nexts.{is_live}
-use Rattle.stream_job.specs.Machines.{IsLineOf}
-use Rattle.stream_job.specs.SinkLines.{kept_by}
+use Rattle.stream_job.specs.SinkLines.{kept_by, begins_at}
 use Rattle.stream_job.specs.Worlds.{WorldState, HasMet, IsWorldAt}
 use Rattle.stream_job.proofs.LinesBegin.{begins_further, met_begins}
 use Rattle.stream_job.proofs.SinksKeep.{lines_taken, sink_reads}
@@ -60,9 +58,7 @@ returns-clause-all c =
 -- at each moment the lines have their starts
 pub returns-clause-starts : goal.returns-clause-starts
 returns-clause-starts c =
-    let lines = c.deref.result.now in
-    let P : WorldState → Type 0 = λ w. All (λ line. line.start ≡ start_in w.job line.task) lines in
-    let own : All (IsLineOf c.self.inside.job.now) lines =
-    subst (All (IsLineOf c.self.inside.job.now)) (sym c.deref.ensures.value)
-    c.self.invariant.0.1.own in
-    subst P c.self.view_is (λ n d lt. (own n d lt).start)
+    let P : WorldState → Type 0 = λ w. (m : Moment) → IsWorldAt w m
+    → map (λ line. line.start) c.deref.result.now ≡ map (begins_at w.job m) (sinks_of w.job) in
+    subst P c.self.view_is (λ m at.
+    ap (map (λ line. line.start)) c.deref.ensures.value ∙ at.machine.starts)

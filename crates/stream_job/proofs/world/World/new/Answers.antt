@@ -20,6 +20,7 @@ invariant_of-result c =
       c.in_ok-parked.ensures.many ∙ c.phasers.ensures.count
           ∙ ap (λ (g : Graph). length g.phasers) c.graph.ensures.graph,
       c.in_ok-plan.ensures,
+      c.in_ok-buffers.ensures,
     )
 
 pub returns-clause-opening : goal.returns-clause-opening

@@ -2,6 +2,7 @@
 use Rattle.std.proofs.Common.{◌≡◌, Some, None, length, refl, sym, ap, subst, ◌∙◌}
 use Rattle.graph_runs.specs.Moments.{Moment}
 use Rattle.graph_runs.specs.Answers.{turn_tells, answer_of_turn, after_answer}
+use Rattle.stream_job.specs.Buffers.{HasPlaces}
 use Rattle.stream_job.specs.Tellings.{IsOnPhaser}
 use Rattle.stream_job.specs.Turning.{after_turn_of, told_of, parked_by}
 use Rattle.stream_job.specs.Worlds.{WorldState, HasMet, IsWorldAt}
@@ -24,7 +25,7 @@ invariant_of-self-2 c =
     let had = c.in_ok-made.ensures.made in (
       (
         after_answer job (answer_of_turn job m c.args.task) m,
-        had.after m at,
+        had.after m at (subst (HasMet job m) c.in_default.is c.self.invariant.0.3),
         turn_blocks_so job c.self.inside.machine c.make.new.self m c.args.task c.in_ok-made.made
             c.self.inside.parked c.note.new.self had c.note.ensures at c.self.invariant.0.2,
         subst (HasMet job (after_answer job (answer_of_turn job m c.args.task) m))
@@ -38,6 +39,7 @@ invariant_of-self-2 c =
           ∙ parked_many c.in_ok-made.made c.args.task c.self.inside.parked
           ∙ c.self.invariant.1,
       c.pass.ensures,
+      subst (HasPlaces job) (sym c.make.ensures.places) c.self.invariant.3,
     )
 
 pub returns-clause-table : goal.returns-clause-table
