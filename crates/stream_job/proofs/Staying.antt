@@ -1,27 +1,27 @@
 -- A task whose call is blocked stays so until there is an event on the phaser of the call.
-use Rattle.std.proofs.Common.{◌≡◌, ◌≢◌, ℕ, ◌+◌, ◌-◌, true, false, not, ◌&&◌, ◌||◌, cond, ℤ, List, Option, Some, None, length, map, take, drop, refl, sym, ap, subst, ◌∙◌, ◌⊎◌, inl, inr}
+use Rattle.std.proofs.Common.{◌≡◌, ◌≢◌, ℕ, ◌+◌, ◌-◌, Bool, true, false, not, ◌&&◌, ◌||◌, cond, ℤ, List, [], ◌∷◌, Option, Some, None, length, map, take, drop, refl, sym, ap, subst, ◌∙◌, ◌⊎◌, inl, inr}
 use Rattle.std.specs.Prelude.{unwrap_or, nat_le, nat_lt, min, slice_range}
 use Rattle.std.specs.List.{fold, position_from, range_with_len}
 use Rattle.phase_core.specs.phase_accum.declared.outcome.Outcome.{Outcome}
 use Rattle.phase_core.specs.phase_history.Histories.{History, done_of}
-use Rattle.phase_core.specs.phase_history.Refusals.{signal_refusal}
 use Rattle.phase_core.specs.phase_history.Phases.{stream_of}
+use Rattle.phase_core.specs.phase_history.Refusals.{signal_refusal}
 use Rattle.phase_core.specs.phase_history.Replies.{wait_reply, wait_block_reply}
 use Rattle.graph_lang.specs.graph_base.declared.line.Kind.{Kind}
 use Rattle.graph_lang.specs.graph_base.declared.line.Kind.TheVariants.{Source, Fir, Split, Join, Peer, Sink}
 use Rattle.graph_lang.specs.graph_base.declared.place.Place.TheVariants as place
 use Rattle.graph_lang.specs.graph_base.Graphs.{task_at, phaser_at}
+use Rattle.graph_lang.specs.graph_base.Registrations.{signalled_by}
 use Rattle.stream_eval.specs.stream_lists.Jobs.{Job, samples_at}
 use Rattle.stream_eval.specs.stream_lists.Ranges.{are_made, is_out_of_range}
-use Rattle.stream_eval.specs.stream_lists.Spans.{signalled_by}
 use Rattle.graph_runs.specs.Moments.{one, Moment, limits_at, value_at, input_at, made_now, first_input}
 use Rattle.graph_runs.specs.Moves.{SameTask}
+use Rattle.graph_runs.specs.NextBlocks.{block_of, child_allows, until_allows}
 use Rattle.graph_runs.proofs.Framed.{made_same}
 use Rattle.graph_runs.specs.TaskEvents.{TaskEvent, sample, signal, first_wait, exchange_wait, after_turn}
 use Rattle.graph_runs.specs.Nexts as turns
-use Rattle.graph_runs.specs.NextBlocks.{block_of, child_allows, until_allows}
-use Rattle.graph_runs.specs.Nexts.{Next, is_owed, first_due, first_owed, has_input_ended, has_run_out, has_signaller, in_step, is_cut, is_live, next_of, next_step, number_on, of_live, waits_first, at_boundary}
-use Rattle.graph_runs.specs.Answers.{Answer, makes, is_blocked, has_made, is_refused, answer_of_turn, answer_to, call_wait, call_block, signal_answer, signal_turn, wait_answer, block_answer, output_at, next_values, next_samples, was_blocked}
+use Rattle.graph_runs.specs.Nexts.{Next, first_due, first_owed, has_input_ended, has_run_out, has_signaller, in_step, is_cut, is_live, next_of, is_owed, next_step, number_on, of_live, waits_first, at_boundary}
+use Rattle.graph_runs.specs.Answers.{Answer, makes, is_blocked, has_made, is_refused, answer_of_turn, answer_to, block_answer, call_block, call_wait, signal_answer, signal_turn, wait_answer, output_at, next_samples, next_values, was_blocked}
 use Rattle.graph_runs.proofs.Signalling.{live-is}
 use Rattle.graph_runs.proofs.Turning.{turn_makes_next}
 use Rattle.graph_runs.proofs.Whose.{made_by}
@@ -29,7 +29,8 @@ use Rattle.stream_job.specs.Blocking.{called_on, IsBlockedOn}
 use Rattle.stream_job.specs.Machines.{IsMachineAt}
 use Rattle.stream_job.specs.Turning.{phaser_of}
 use Rattle.stream_job.specs.declared.machine.Machine.{Machine}
-use Rattle.stream_job.proofs.LeftAlone.{LeavesAlone, found_same, alone, lives_on, no_child}
+use Rattle.stream_job.proofs.LeftAlone.{LeavesAlone, alone, found_same, lives_on, no_child}
+use Rattle.stream_job.proofs.Signals.{goes_on, stops}
 use Rattle.stream_job.proofs.Stalling.{leave_moves, register_moves}
 use Rattle.stream_job.proofs.WhatNext.{AtStep, Doing, doing, owing, parent, leaving, stepping, begins_is}
 
@@ -55,6 +56,14 @@ is_call job m t (turns.waits k) e = tt
 is_call job m t turns.exchanges e = tt
 
 -- ---- what it does next
+
+first_owed_same : (job : Job) (before after : Moment) (u : ℕ) → SameTask before after u
+    → first_owed job after u ≡ first_owed job before u
+first_owed_same job before after u same =
+    found_same (is_owed job after u) (is_owed job before u)
+    (range_with_len 0 (length (signalled_by (task_at job.graph u))))
+    (λ j. ap (λ l. nat_lt (length l) (length (made_now job after u j))) (same.put j)
+    ∙ ap (λ l. nat_lt (length (before.put u j)) (length l)) (made_same job before after u j same))
 
 step_same : (job : Job) (before after : Moment) (u j : ℕ) → SameTask before after u
     → in_step job after u j ≡ in_step job before u j
@@ -127,21 +136,12 @@ begins_same job before after u q next left at apart =
     input (inl e) never = absurd (never e.0)
     input (inr e) never = λ same. apart (ap (called_on job u) (sym e.1) ∙ same)
 
--- what it owes first
-owed_same : (job : Job) (before after : Moment) (u : ℕ) → SameTask before after u
-    → first_owed job after u ≡ first_owed job before u
-owed_same job before after u same =
-    found_same (is_owed job after u) (is_owed job before u)
-    (range_with_len 0 (length (signalled_by (task_at job.graph u))))
-    (λ j. ap (λ l. nat_lt (length l) (length (made_now job after u j))) (same.put j)
-    ∙ ap (λ l. nat_lt (length (before.put u j)) (length l)) (made_same job before after u j same))
-
 next_same : (job : Job) (before after : Moment) (u q : ℕ) (next : Next)
     → LeavesAlone job before after u q → is_live job after u ≡ true → next_of job before u ≡ next
     → IsCall next → called_on job u next ≢ q → next_of job after u ≡ next
 next_same job before after u q next left live is call apart =
     ap (λ b. cond b (of_live job after u (first_owed job after u)) turns.is_not_live) live
-    ∙ ap (of_live job after u) (owed_same job before after u left.same)
+    ∙ ap (of_live job after u) (first_owed_same job before after u left.same)
     ∙ by (doing job before u next is (λ none. (subst IsCall none call)))
   where
     by : Doing job before u next → of_live job after u (first_owed job before u) ≡ next
@@ -154,41 +154,48 @@ next_same job before after u q next left live is call apart =
 
 -- ---- what the phaser answers
 
--- to a signal
-signal_same : (job : Job) (before after : Moment) (u j q : ℕ) (vs : List ℤ)
-    (event : ℕ → TaskEvent) → LeavesAlone job before after u q → output_at job u j ≢ q
+-- to a signal of values
+signal_same : (job : Job) (before after : Moment) (u j q : ℕ) (vs : List ℤ) (event : ℕ → TaskEvent)
+    → LeavesAlone job before after u q → output_at job u j ≢ q
     → signal_turn job after u j vs (event (number_on after u (output_at job u j)))
     ≡ signal_turn job before u j vs (event (number_on before u (output_at job u j)))
 signal_same job before after u j q vs event left apart =
-    let p = output_at job u j in
-    turns after
-    ∙ ap (λ l. turn (length l) (after.history p) (number_on after u p)) (left.same.put j)
-    ∙ ap (λ h. turn (length (before.put u j)) h (number_on after u p)) (left.elsewhere p apart)
-    ∙ ap (λ o. turn (length (before.put u j)) (before.history p) (unwrap_or o 0)) (left.numbers p)
-    ∙ sym (turns before)
+    by (position_from is_out_of_range (length (before.put u j)) vs) refl
   where
-    of : Option ℕ → History → ℕ → Answer
-    of None h n =
+    after_is : position_from is_out_of_range (length (after.put u j)) vs
+        ≡ position_from is_out_of_range (length (before.put u j)) vs
+    after_is = ap (λ l. position_from is_out_of_range (length l) vs) (left.same.put j)
+
+    answer : History → ℕ → Answer
+    answer h n =
         signal_answer (event n) (signal_refusal (limits_at job (output_at job u j)) h n (map one vs)
         (phaser_at job.graph (output_at job u j)).single)
-    of (Some step) h n =
-        cond (are_made (task_at job.graph u).kind j) (has_made (place.Task u, step)) is_refused
 
-    turn : ℕ → History → ℕ → Answer
-    turn put h n = of (position_from is_out_of_range put vs) h n
+    by : (o : Option ℕ) → position_from is_out_of_range (length (before.put u j)) vs ≡ o
+        → signal_turn job after u j vs (event (number_on after u (output_at job u j)))
+        ≡ signal_turn job before u j vs (event (number_on before u (output_at job u j)))
+    by None e =
+        let p = output_at job u j in
+        goes_on job after u j vs (event (number_on after u p)) (after_is ∙ e)
+        ∙ ap (λ h. answer h (number_on after u p)) (left.elsewhere p apart)
+        ∙ ap (λ o. answer (before.history p) (unwrap_or o 0)) (left.numbers p)
+        ∙ sym (goes_on job before u j vs (event (number_on before u p)) e)
+    by (Some step) e =
+        let p = output_at job u j in
+        stops job after u j step vs (event (number_on after u p)) (after_is ∙ e)
+        ∙ sym (stops job before u j step vs (event (number_on before u p)) e)
 
-    turns : (m : Moment)
-        → signal_turn job m u j vs (event (number_on m u (output_at job u j)))
-        ≡ turn (length (m.put u j)) (m.history (output_at job u j))
-        (number_on m u (output_at job u j))
-    turns m = by (position_from is_out_of_range (length (m.put u j)) vs) refl
-      where
-        by : (o : Option ℕ) → position_from is_out_of_range (length (m.put u j)) vs ≡ o
-            → signal_turn job m u j vs (event (number_on m u (output_at job u j)))
-            ≡ turn (length (m.put u j)) (m.history (output_at job u j))
-            (number_on m u (output_at job u j))
-        by None found = rw found refl
-        by (Some step) found = rw found refl
+-- to a wait
+wait_same : (job : Job) (before after : Moment) (u p q : ℕ) (event : ℕ → Outcome → TaskEvent)
+    → LeavesAlone job before after u q → p ≢ q
+    → call_wait job after u p (event (number_on after u p))
+    ≡ call_wait job before u p (event (number_on before u p))
+wait_same job before after u p q event left apart =
+    ap (λ h. wait_answer (event (number_on after u p))
+    (wait_reply (value_at job p) (limits_at job p) h (number_on after u p))) (left.elsewhere p apart)
+    ∙ ap (λ o. wait_answer (event (unwrap_or o 0))
+    (wait_reply (value_at job p) (limits_at job p) (before.history p) (unwrap_or o 0)))
+    (left.numbers p)
 
 -- to a wait for a block
 block_same : (job : Job) (before after : Moment) (u p q steps : ℕ)
@@ -205,29 +212,31 @@ block_same job before after u p q steps event left apart =
     (slice_range (stream_of (value_at job p) (before.history p)) phase (phase + count)))
     (wait_block_reply (limits_at job p) (before.history p) (unwrap_or o 0) steps)) (left.numbers p)
 
--- to a wait
-wait_same : (job : Job) (before after : Moment) (u p q : ℕ) (event : ℕ → Outcome → TaskEvent)
-    → LeavesAlone job before after u q → p ≢ q
-    → call_wait job after u p (event (number_on after u p))
-    ≡ call_wait job before u p (event (number_on before u p))
-wait_same job before after u p q event left apart =
-    ap (λ h. wait_answer (event (number_on after u p))
-    (wait_reply (value_at job p) (limits_at job p) h (number_on after u p))) (left.elsewhere p apart)
-    ∙ ap (λ o. wait_answer (event (unwrap_or o 0))
-    (wait_reply (value_at job p) (limits_at job p) (before.history p) (unwrap_or o 0)))
-    (left.numbers p)
+-- the steps that are next
+steps_same : (job : Job) (before after : Moment) (u : ℕ) → after.begun u ≡ before.begun u
+    → block_of job after u ≡ block_of job before u
+steps_same job before after u same =
+    ap (λ b. fold (λ steps c. child_allows u b (task_at job.graph c).parent steps)
+    (until_allows (task_at job.graph u).until b (task_at job.graph u).block)
+    (range_with_len 0 (length job.graph.tasks))) same
 
--- the steps of the next block, and the next samples, after so many steps
-abbrev block_after : Job → ℕ → ℕ → ℕ
-block_after job u begun =
-    fold (λ steps c. child_allows u begun (task_at job.graph c).parent steps)
-    (until_allows (task_at job.graph u).until begun (task_at job.graph u).block)
-    (range_with_len 0 (length job.graph.tasks))
+-- the samples that are
+samples_same : (job : Job) (before after : Moment) (u : ℕ) → after.begun u ≡ before.begun u
+    → next_samples job after u ≡ next_samples job before u
+samples_same job before after u same =
+    ap (λ n. take (min n (length (samples_at job u) - after.begun u))
+    (drop (after.begun u) (samples_at job u))) (steps_same job before after u same)
+    ∙ ap (λ b. take (min (block_of job before u) (length (samples_at job u) - b))
+    (drop b (samples_at job u))) same
 
-abbrev next_after : Job → ℕ → ℕ → List ℤ
-next_after job u begun =
-    take (min (block_after job u begun) (length (samples_at job u) - begun))
-    (drop begun (samples_at job u))
+-- the values that are
+values_same : (job : Job) (before after : Moment) (u j : ℕ) → SameTask before after u
+    → next_values job after u j ≡ next_values job before u j
+values_same job before after u j same =
+    ap (λ l. take (task_at job.graph u).block (drop (length (after.put u j)) l))
+    (made_same job before after u j same)
+    ∙ ap (λ l. take (task_at job.graph u).block (drop (length l) (made_now job before u j)))
+    (same.put j)
 
 answer_same : (job : Job) (before after : Moment) (u q : ℕ) (next : Next)
     → LeavesAlone job before after u q → IsCall next → called_on job u next ≢ q
@@ -237,26 +246,20 @@ answer_same job before after u q (turns.registers c) left call apart = absurd ca
 answer_same job before after u q turns.leaves left call apart = absurd call
 answer_same job before after u q turns.samples left call apart =
     let p = output_at job u 0 in
-    let value : next_samples job after u ≡ next_samples job before u =
-    ap (next_after job u) left.same.begun in
-    ap (λ vs. signal_turn job after u 0 vs (sample u 0 p (number_on after u p) vs)) value
-    ∙ signal_same job before after u 0 q (next_samples job before u)
-    (λ n. sample u 0 p n (next_samples job before u)) left apart
+    let vs = next_samples job before u in
+    ap (λ l. signal_turn job after u 0 l (sample u 0 p (number_on after u p) l))
+    (samples_same job before after u left.same.begun)
+    ∙ signal_same job before after u 0 q vs (λ n. sample u 0 p n vs) left apart
 answer_same job before after u q (turns.signals j) left call apart =
     let p = output_at job u j in
-    let block = (task_at job.graph u).block in
-    let value : next_values job after u j ≡ next_values job before u j =
-    ap (λ l. take block (drop (length (after.put u j)) l))
-    (made_same job before after u j left.same)
-    ∙ ap (λ l. take block (drop (length l) (made_now job before u j))) (left.same.put j) in
-    ap (λ vs. signal_turn job after u j vs (signal u j p (number_on after u p) vs)) value
-    ∙ signal_same job before after u j q (next_values job before u j)
-    (λ n. signal u j p n (next_values job before u j)) left apart
+    let vs = next_values job before u j in
+    ap (λ l. signal_turn job after u j l (signal u j p (number_on after u p) l))
+    (values_same job before after u j left.same)
+    ∙ signal_same job before after u j q vs (λ n. signal u j p n vs) left apart
 answer_same job before after u q (turns.waits k) left call apart =
     let p = input_at (task_at job.graph u) k in
-    let steps : block_of job after u ≡ block_of job before u =
-    ap (block_after job u) left.same.begun in
-    ap (λ n. call_block job after u p n (first_wait u k p (number_on after u p))) steps
+    ap (λ steps. call_block job after u p steps (first_wait u k p (number_on after u p)))
+    (steps_same job before after u left.same.begun)
     ∙ block_same job before after u p q (block_of job before u) (first_wait u k p) left apart
 answer_same job before after u q turns.exchanges left call apart =
     let p = input_at (task_at job.graph u) 1 in

@@ -1,9 +1,10 @@
 -- All that is made is signalled, where all of it is in range.
 use Rattle.std.proofs.Common.{◌≡◌, ◌<◌, ◌≤◌, ◌+◌, ◌-◌, [], map, length, get_or, refl, sym, ap, ◌∙◌, arith}
-use Rattle.std.specs.Prelude.{Ok}
+use Rattle.std.specs.Prelude.{Ok, Result, ℤ}
 use Rattle.std.specs.List.{position_from}
 use Rattle.std.proofs.lemmas.List.{length-map}
 use Rattle.std.proofs.lemmas.Option.{slice_get_read}
+use Rattle.graph_lang.specs.stream_filters.declared.fault.TooBigValue.{TooBigValue}
 use Rattle.graph_lang.specs.graph_base.Graphs.{task_at}
 use Rattle.graph_runs.specs.Moments.{Moment}
 use Rattle.graph_runs.specs.Nexts.{signals}
@@ -167,7 +168,11 @@ signal_values_on-requires-clause-room c =
     ∙ ap (map (λ x. Ok x)) (sym c.deref-3.ensures.value) in
     let next = ap length (are m at) in
     let here = ap length (has m at).here.next in
-    let mapped = length-map c.deref-3.result.now (λ x. Ok x) in
+    let mapped : length (map {B = Result ℤ TooBigValue} (λ x. Ok x) c.deref-3.result.now)
+    ≡ length c.deref-3.result.now = length-map c.deref-3.result.now (λ x. Ok x) in
+    let ranges : length c.index-state.result.now.made.items
+    ≡ length (map {B = Result ℤ TooBigValue} (λ x. Ok x) c.deref-3.result.now) =
+    sym here ∙ next in
     omega arith
 
 pub returns-in_default-signal_values_on-clause-made : goal.returns-in_default-signal_values_on-clause-made
