@@ -31,7 +31,11 @@ fn job_of(alloc: Global, text: &[u8]) -> Result<Job, Fail>
 /// A sink's line.
 fn line(alloc: Global, task: usize, start: Option<u64>, value: &[i64]) -> Result<Lines, Fail> {
     let values = Vec::from_slice(alloc, value)?;
-    Ok(Lines { task, start, values })
+    Ok(Lines {
+        task,
+        start,
+        values,
+    })
 }
 
 #[test]
