@@ -1,8 +1,8 @@
-//! What a run answers where a worker met a value out of range, which `eval` may be spared.
-ghost use Rattle.std.specs.Prelude.{◌≤◌, length};
+//! What a run answers where a worker met a value out of range: what `eval` answers, also `Ok`.
 
 use super::{RunFault, after_fault};
-use graph_lang::{read_graph, samples_of};
+use graph_commands::read_job;
+use graph_commands::watched_io::{FileFault, Files};
 use std::alloc::{AllocError, Global};
 use std::test::Fail;
 use stream_tasks::graph_base::Place;
@@ -14,23 +14,33 @@ use worker_pool::Fault;
 const GRAPH: &[u8] = b"graph 2\nphaser X sum 8\nsource a a.csv -> X\nsource b b.csv -> X\n\
     sink out X until 0\nsink late X by out at 0 now until 1\n";
 
-/// The job of the graph, where both sources have the samples of this text.
-fn job_of(alloc: Global, text: &[u8]) -> Result<Job, Fail>
-    requires { length text.now ≤ 100 }
-{
-    let graph = read_graph(alloc, GRAPH)?;
-    let mut samples = Vec::new(alloc);
-    samples.push(samples_of(alloc, text)?)?;
-    samples.push(samples_of(alloc, text)?)?;
-    if samples.len() != graph.sources() {
-        return Err(Fail::from(AllocError));
-    }
-    Ok(Job::new(alloc, graph, samples)?)
+/// The text of the graph under this name, and under each other name the same samples.
+#[derive(Drop)]
+struct Texts {
+    samples: &'static [u8],
 }
 
-/// A sink's line.
-fn line(alloc: Global, task: usize, start: Option<u64>, value: &[i64]) -> Result<Lines, Fail> {
-    let values = Vec::from_slice(alloc, value)?;
+impl Files for Texts {
+    fn read(&mut self, alloc: Global, name: &str, limit: usize) -> Result<Vec<u8>, FileFault> {
+        let text = match name {
+            "graph" => GRAPH,
+            _ => self.samples,
+        };
+        if text.len() > limit {
+            return Err(FileFault::ReadFault);
+        }
+        Vec::from_slice(alloc, text).map_err(|_| FileFault::OutOfMemory)
+    }
+}
+
+/// The job of the graph, where both sources have these samples.
+fn job_of(alloc: Global, samples: &'static [u8]) -> Result<Job, Fail> {
+    read_job(alloc, &mut Texts { samples }, "graph").map_err(|_| Fail::from(AllocError))
+}
+
+/// What a sink got.
+fn line(alloc: Global, task: usize, start: Option<u64>, values: &[i64]) -> Result<Lines, Fail> {
+    let values = Vec::from_slice(alloc, values)?;
     Ok(Lines {
         task,
         start,
