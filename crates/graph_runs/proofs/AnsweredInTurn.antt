@@ -1,9 +1,9 @@
 -- Turns that tell no value out of range leave no wait that was answered one.
 use Rattle.std.proofs.Common.{◌≡◌, ◌≢◌, ℕ, zero, suc, ◌<◌, All, Bool, true, false, cond, eqb, List, [], ◌∷◌, ◌++◌, ℤ, Option, Some, None, length, take, drop, refl, sym, ap, subst, ◌∙◌, arith}
+use Rattle.std.specs.List.{position_from}
 use Rattle.std.proofs.lemmas.Bool.{eqb-true, eq-eqb}
 use Rattle.phase_history.specs.phase_base.declared.mode.Mode.{Mode}
 use Rattle.phase_history.specs.phase_accum.declared.outcome.Outcome.{Outcome}
-use Rattle.phase_history.specs.phase_accum.declared.outcome.Outcome.TheVariants as outcome
 use Rattle.phase_history.specs.declared.event.Event.{Event}
 use Rattle.phase_history.specs.declared.event.Event.TheVariants.{Made, Registered, RegisteredNow, Signalled, Waited, Dropped}
 use Rattle.phase_history.specs.Histories.{History, wait_phase}
@@ -14,10 +14,11 @@ use Rattle.stream_lists.specs.Jobs.{Job}
 use Rattle.stream_lists.specs.Ranges.{Where, is_too_big}
 use Rattle.graph_runs.specs.Moments.{Moment, AnsweredNone, AnsweredNoneBefore, HasAnsweredNone, HasAnsweredNoneBefore, value_at}
 use Rattle.graph_runs.specs.Turned.{with_at}
-use Rattle.graph_runs.specs.TaskEvents.{TaskEvent, IsNext, sample, signal, first_wait, exchange_wait, leave, child, after_turn}
+use Rattle.graph_runs.specs.TaskEvents.{TaskEvent, IsNext, sample, signal, first_wait, exchange_wait, leave, child, child_now, after_turn}
 use Rattle.graph_runs.specs.Beginnings.{root_mode, with_root, roots_joined, opening}
-use Rattle.graph_runs.specs.Answers.{Answer, TooBig, makes, is_blocked, is_gone, has_made, is_refused, answer_of_turn, after_answer, told_event, turn_tells, word_of_answer}
+use Rattle.graph_runs.specs.Answers.{Answer, TooBig, makes, is_blocked, is_gone, has_made, is_refused, answer_of_turn, after_answer, told_event, told_wait, turn_tells, word_of_answer}
 use Rattle.graph_runs.specs.Reached.{IsReachable}
+use Rattle.graph_runs.proofs.Found.{none_found}
 use Rattle.graph_runs.proofs.Turning.{turn_makes_next}
 
 -- ---- the answer to one wait
@@ -28,23 +29,27 @@ same_rest (x ∷ xs) ys zs e =
     same_rest xs ys zs (let tail : xs ++ ys ≡ xs ++ zs = cc in tail)
 
 -- what the wait added to what its task has received
-pub answer_is : (value : List ℤ → Outcome) (h : History) (n : ℕ) (outcome : Outcome)
-    → received_by value (Waited n 1 ∷ h) n ≡ received_by value h n ++ outcome ∷ []
-    → take 1 (drop (wait_phase h n) (stream_of value h)) ≡ outcome ∷ []
-answer_is value h n outcome answered =
+pub answer_is : (value : List ℤ → Outcome) (h : History) (n many : ℕ) (outcomes : List Outcome)
+    → received_by value (Waited n many ∷ h) n ≡ received_by value h n ++ outcomes
+    → take many (drop (wait_phase h n) (stream_of value h)) ≡ outcomes
+answer_is value h n many outcomes answered =
     let here : eqb n n ≡ true = eq-eqb n n refl in
-    let is : received_by value (Waited n 1 ∷ h) n
-    ≡ received_by value h n ++ take 1 (drop (wait_phase h n) (stream_of value h)) =
+    let is : received_by value (Waited n many ∷ h) n
+    ≡ received_by value h n ++ take many (drop (wait_phase h n) (stream_of value h)) =
     rw here refl in
-    same_rest (received_by value h n) (take 1 (drop (wait_phase h n) (stream_of value h)))
-    (outcome ∷ []) (sym is ∙ answered)
+    same_rest (received_by value h n) (take many (drop (wait_phase h n) (stream_of value h)))
+    outcomes (sym is ∙ answered)
 
 -- ---- one event
 
--- a wait's outcome is in range, and other events have none
+-- these outcomes are in range
+abbrev AreSmall : List Outcome → Type 0
+AreSmall outcomes = All (λ outcome. is_too_big outcome ≡ false) outcomes
+
+-- a wait's outcomes are, and other events have none
 abbrev HasSmall : TaskEvent → Type 0
-HasSmall (first_wait t k p n outcome) = is_too_big outcome ≡ false
-HasSmall (exchange_wait t p n outcome) = is_too_big outcome ≡ false
+HasSmall (first_wait t k p n outcomes) = AreSmall outcomes
+HasSmall (exchange_wait t p n outcome) = AreSmall (outcome ∷ [])
 HasSmall event = Unit {0}
 
 -- what holds of each phaser with its history, where one has a new history
@@ -82,14 +87,15 @@ before_event job m event none = by event
         (λ q qq. before_weaker (value_at job q) (m.history q) (none q qq))
 
     by : (event : TaskEvent) → HasAnsweredNoneBefore job (after_turn job event m)
-    by (sample t j p n v) = one p _
-    by (signal t j p n v) = one p _
-    by (first_wait t k p n outcome) = one p _
+    by (sample t j p n vs) = one p _
+    by (signal t j p n vs) = one p _
+    by (first_wait t k p n outcomes) = one p _
     by (exchange_wait t p n outcome) = one p _
     by (leave t p n) = one p _
     by (child t p n c a mode) = one p _
+    by (child_now t p n c a) = one p _
 
--- and it too, where its outcome is in range
+-- and it too, where its outcomes are in range
 none_after : (job : Job) (m : Moment) (event : TaskEvent) → IsNext job m event → HasSmall event
     → HasAnsweredNone job m → HasAnsweredNone job (after_turn job event m)
 none_after job m event next small none = by event next small
@@ -98,51 +104,54 @@ none_after job m event next small none = by event next small
         → (q : ℕ) → On job AnsweredNone q (with_at p (e ∷ m.history p) m.history q)
     one p e here = with_one (On job AnsweredNone) p (e ∷ m.history p) m.history here none
 
-    waits : (p n : ℕ) (outcome : Outcome)
-        → received_by (value_at job p) (Waited n 1 ∷ m.history p) n
-        ≡ received_by (value_at job p) (m.history p) n ++ outcome ∷ []
-        → is_too_big outcome ≡ false → On job AnsweredNone p (Waited n 1 ∷ m.history p)
-    waits p n outcome answered small pp =
-        let Small : Outcome → Type 0 = λ o. is_too_big o ≡ false in
-        let A : List Outcome → Type 0 = λ l. All Small l in (
-          subst A (sym (answer_is (value_at job p) (m.history p) n outcome answered))
-              (one_small outcome small),
+    waits : (p n : ℕ) (outcomes : List Outcome)
+        → received_by (value_at job p) (Waited n (length outcomes) ∷ m.history p) n
+        ≡ received_by (value_at job p) (m.history p) n ++ outcomes
+        → AreSmall outcomes → On job AnsweredNone p (Waited n (length outcomes) ∷ m.history p)
+    waits p n outcomes answered small pp =
+        let A : List Outcome → Type 0 = λ l. AreSmall l in (
+          subst A (sym (answer_is (value_at job p) (m.history p) n (length outcomes) outcomes answered))
+              small,
           none p pp,
         )
-      where
-        one_small : (outcome : Outcome) → is_too_big outcome ≡ false
-            → All (λ o. is_too_big o ≡ false) (outcome ∷ [])
-        one_small outcome small zero d lt = small
-        one_small outcome small (suc i) d lt = absurd (omega arith)
 
     by : (event : TaskEvent) → IsNext job m event → HasSmall event
         → HasAnsweredNone job (after_turn job event m)
-    by (sample t j p n v) next small = one p _ (λ pp. none p pp)
-    by (signal t j p n v) next small = one p _ (λ pp. none p pp)
-    by (first_wait t k p n outcome) next small =
-        one p (Waited n 1) (waits p n outcome next.1.wait.answered small)
+    by (sample t j p n vs) next small = one p _ (λ pp. none p pp)
+    by (signal t j p n vs) next small = one p _ (λ pp. none p pp)
+    by (first_wait t k p n outcomes) next small =
+        one p (Waited n (length outcomes)) (waits p n outcomes next.1.wait.answered small)
     by (exchange_wait t p n outcome) next small =
-        one p (Waited n 1) (waits p n outcome next.1.wait.answered small)
+        one p (Waited n 1) (waits p n (outcome ∷ []) next.1.wait.answered small)
     by (leave t p n) next small = one p _ (λ pp. none p pp)
     by (child t p n c a mode) next small = one p _ (λ pp. none p pp)
+    by (child_now t p n c a) next small = one p _ (λ pp. none p pp)
 
 -- ---- a turn
 
--- a turn that tells no value out of range has an outcome in range
+-- a wait that tells no value out of range has its outcomes in range
+small_wait : (m : Moment) (p n : ℕ) (outcomes : List Outcome)
+    → ((at : Where) → Some (told_wait m p n outcomes) ≢ Some (TooBig at)) → AreSmall outcomes
+small_wait m p n outcomes never =
+    by (position_from is_too_big (wait_phase (m.history p) n) outcomes) refl
+  where
+    by : (o : Option ℕ) → position_from is_too_big (wait_phase (m.history p) n) outcomes ≡ o
+        → AreSmall outcomes
+    by None found = none_found is_too_big (wait_phase (m.history p) n) outcomes found
+    by (Some phase) found =
+        let told : told_wait m p n outcomes ≡ TooBig (place.Phaser p, phase) = rw found refl in
+        absurd (never (place.Phaser p, phase) (ap (λ x. Some x) told))
+
+-- a turn that tells no value out of range
 small_told : (job : Job) (m : Moment) (event : TaskEvent)
     → ((at : Where) → Some (told_event job m event) ≢ Some (TooBig at)) → HasSmall event
-small_told job m (sample t j p n v) never = tt
-small_told job m (signal t j p n v) never = tt
-small_told job m (first_wait t k p n outcome.TooBig) never =
-    absurd (never (place.Phaser p, wait_phase (m.history p) n) refl)
-small_told job m (first_wait t k p n outcome.Empty) never = refl
-small_told job m (first_wait t k p n (outcome.Value v)) never = refl
-small_told job m (exchange_wait t p n outcome.TooBig) never =
-    absurd (never (place.Phaser p, wait_phase (m.history p) n) refl)
-small_told job m (exchange_wait t p n outcome.Empty) never = refl
-small_told job m (exchange_wait t p n (outcome.Value v)) never = refl
+small_told job m (sample t j p n vs) never = tt
+small_told job m (signal t j p n vs) never = tt
+small_told job m (first_wait t k p n outcomes) never = small_wait m p n outcomes never
+small_told job m (exchange_wait t p n outcome) never = small_wait m p n (outcome ∷ []) never
 small_told job m (leave t p n) never = tt
 small_told job m (child t p n c a mode) never = tt
+small_told job m (child_now t p n c a) never = tt
 
 pub turn_answers_none : (job : Job) (m : Moment) (t : ℕ) → IsGraph job.graph → IsReachable job m
     → HasAnsweredNone job m → ((at : Where) → turn_tells job None m t ≢ Some (TooBig at))

@@ -1,47 +1,23 @@
--- What a block of waits leaves a filter to put: an output for each value that it got, in order. And
--- all that an output lacks may be put at once.
-use Rattle.std.proofs.Common.{◌≡◌, ◌≢◌, ℕ, ◌+◌, ◌<◌, ◌≤◌, List, [], ◌∷◌, ◌++◌, length, map, get_or, ℤ, refl, sym, ap, subst, ◌∙◌, arith}
+-- What a block of waits leaves a filter to put: an output for each value that it got, in order.
+use Rattle.std.proofs.Common.{◌≡◌, ℕ, ◌+◌, ◌<◌, List, [], ◌∷◌, ◌++◌, length, get_or, ℤ, refl, sym, ap, subst, ◌∙◌, arith}
 use Rattle.std.specs.Prelude.{drop}
-use mathlib.Core.List.{IsPrefix}
-use Rattle.std.proofs.lemmas.List.{append-nil, append_assoc, length-append, length-map}
+use Rattle.std.proofs.Math.Seq.{drop-append_seam}
+use Rattle.std.proofs.lemmas.List.{append-nil, append_assoc}
 use Rattle.stream_lists.specs.stream_filters.Filter.{outputs, output_after}
 use Rattle.stream_lists.proofs.stream_filters_lemmas.Outputs.{outputs-push}
-use Rattle.phase_history.specs.phase_accum.declared.outcome.Outcome.{Outcome}
 use Rattle.stream_lists.specs.graph_base.declared.line.Kind.{Kind}
 use Rattle.stream_lists.specs.graph_base.declared.line.Kind.TheVariants.{Fir}
 use Rattle.stream_lists.specs.graph_base.Graphs.{task_at}
 use Rattle.stream_lists.specs.graph_base.TaskLines.{IsGraph, HasEnds}
 use Rattle.stream_lists.specs.Jobs.{Job}
 use Rattle.stream_lists.specs.Spans.{signalled_by, puts_on}
-use Rattle.stream_lists.specs.Lists.{number}
-use Rattle.graph_runs.specs.Moments.{Moment, TaskRan, made_now, taken_now, HasExchanged}
+use Rattle.graph_runs.specs.Moments.{Moment, TaskRan, made_now, taken_now}
 use Rattle.graph_runs.proofs.Tasks.{now_at}
-use Rattle.graph_runs.specs.Moves.{further, WaitsAll}
-use Rattle.graph_runs.proofs.Nexts.{further-length}
+use Rattle.graph_runs.specs.TaskPlaces.{outputs_of_block}
+use Rattle.graph_runs.proofs.Following.{GetsAll}
 use Rattle.graph_runs.proofs.Boundaries.{made_many}
 
--- ---- lists
-
--- what follows a list
-pub drop-front : (xs ys : List ℤ) → drop (length xs) (xs ++ ys) ≡ ys
-drop-front [] ys = refl
-drop-front (x ∷ xs) ys = drop-front xs ys
-
--- a beginning, with all that follows
-pub begins_whole : (xs ys : List ℤ) → IsPrefix xs ys → IsPrefix (xs ++ drop (length xs) ys) ys
-begins_whole xs ys a =
-    let rest : drop (length xs) ys ≡ a.0 =
-    ap (λ l. drop (length xs) l) (sym a.1) ∙ drop-front xs a.0 in
-    ([], append-nil (xs ++ drop (length xs) ys) ∙ ap (λ l. xs ++ l) rest ∙ a.1)
-
--- ---- a filter
-
--- what a filter that took these values makes of the next ones, one after the other
-abbrev pub outputs_of_block : List ℤ → ℕ → List ℤ → List ℤ → List ℤ
-outputs_of_block taps shift taken [] = []
-outputs_of_block taps shift taken (x ∷ xs) =
-    output_after taps shift (taken ++ x ∷ []) ∷ outputs_of_block taps shift (taken ++ x ∷ []) xs
-
+-- as it makes them of them all
 pub outputs-block : (taps : List ℤ) (shift : ℕ) (taken xs : List ℤ)
     → outputs taps shift (taken ++ xs)
     ≡ outputs taps shift taken ++ outputs_of_block taps shift taken xs
@@ -56,22 +32,19 @@ outputs-block taps shift taken (x ∷ xs) =
     ∙ append_assoc (outputs taps shift taken) (output_after taps shift next ∷ [])
     (outputs_of_block taps shift next xs)
 
--- what a filter that owed nothing owes after a block of waits
-pub record OwesBlock (job : Job) (m after : Moment) (t : ℕ) (outcomes : List Outcome) : Type
-    0 where
+-- what a filter that owed nothing owes after it got these numbers
+pub record OwesBlock (job : Job) (m after : Moment) (t : ℕ) (xs : List ℤ) : Type 0 where
   pub values : drop (length (after.put t 0)) (made_now job after t 0)
-      ≡ outputs_of_block (task_at job.graph t).taps (task_at job.graph t).shift (m.taken t 0)
-      (map number outcomes)
-  pub many : length (made_now job after t 0) ≡ length (after.put t 0) + length outcomes
+      ≡ outputs_of_block (task_at job.graph t).taps (task_at job.graph t).shift (m.taken t 0) xs
+  pub many : length (made_now job after t 0) ≡ length (after.put t 0) + length xs
 
-pub fir_owes_block : (job : Job) (m after : Moment) (t p n : ℕ) (outcomes : List Outcome)
+pub fir_owes_block : (job : Job) (m after : Moment) (t : ℕ) (xs : List ℤ)
     → IsGraph job.graph → t < length job.graph.tasks → (task_at job.graph t).kind ≡ Fir
-    → TaskRan job m t → TaskRan job after t → WaitsAll job m after t 0 p n outcomes
-    → after.begun t ≡ further (m.begun t) outcomes
-    → m.put t 0 ≡ made_now job m t 0 → OwesBlock job m after t outcomes
-fir_owes_block job m after t p n outcomes is there e ran now w steps whole =
+    → TaskRan job m t → TaskRan job after t → GetsAll m after t 0 xs
+    → after.begun t ≡ m.begun t + length xs
+    → m.put t 0 ≡ made_now job m t 0 → OwesBlock job m after t xs
+fir_owes_block job m after t xs is there e ran now w steps whole =
     let task = task_at job.graph t in
-    let xs = map number outcomes in
     let H : Kind → Type 0 = λ kind. HasEnds kind (length task.inputs) (length task.outputs) in
     let ends : (length task.inputs ≡ 1) × (length task.outputs ≡ 1) =
     subst H e (is.tasks t there).ends in
@@ -100,11 +73,9 @@ fir_owes_block job m after t p n outcomes is there e ran now w steps whole =
     made_many job m t 0 is ran there (omega arith) in
     let plain : puts_on task (after.begun t) 0 ≡ after.begun t = rw e refl in
     let plain_before : puts_on task (m.begun t) 0 ≡ m.begun t = rw e refl in
-    let more : further (m.begun t) outcomes ≡ m.begun t + length outcomes =
-    further-length (m.begun t) outcomes in
     let same : length (after.put t 0) ≡ length (made_now job m t 0) =
     ap length (w.put 0 ∙ whole) in
     record {
-      values = ap (λ l. drop (length (after.put t 0)) l) both ∙ drop-front (after.put t 0) block;
+      values = ap (λ l. drop (length (after.put t 0)) l) both ∙ drop-append_seam (after.put t 0) block;
       many = omega arith;
     }

@@ -1,34 +1,22 @@
--- A block of a task leads to a moment that is reachable, and the next block of a source is its
--- samples.
-use Rattle.std.proofs.Common.{◌≡◌, ℕ, ◌+◌, ◌-◌, ◌<◌, ◌≤◌, false, List, ℤ, None, Some, length, map, refl, sym, ap, subst, ◌∙◌, arith, inl}
-use Rattle.std.specs.Prelude.{take, drop, min}
-use Rattle.std.proofs.lemmas.List.{length-take-le, length-drop}
-use Rattle.phase_history.specs.Legal.{AreLists}
-use Rattle.phase_history.specs.Refusals.{signal_refusal}
-use Rattle.stream_lists.specs.graph_base.declared.line.Kind.{Kind}
-use Rattle.stream_lists.specs.graph_base.declared.line.Kind.TheVariants.{Source}
-use Rattle.stream_lists.specs.graph_base.Graphs.{task_at, phaser_at}
-use Rattle.stream_lists.specs.Jobs.{samples_at, index_in, Job}
-use Rattle.stream_lists.specs.Spans.{signalled_by, puts_on}
-use Rattle.graph_runs.specs.Moments.{OnLine, HasSamples, limits_at, Moment, HasRun, one}
-use Rattle.graph_runs.proofs.OnLines.{on_phaser}
-use Rattle.graph_runs.proofs.Nexts.{further-length}
-use Rattle.graph_runs.specs.Answers.{output_at}
-use Rattle.graph_runs.specs.NextBlocks.{block_of, sample_block_of}
-use Rattle.graph_runs.specs.Nexts.{first_owed, first_due, is_cut, has_input_ended, number_on, first_missing}
-use Rattle.graph_runs.proofs.Blocks.{may_go_on}
-use Rattle.graph_runs.proofs.Boundaries.{all_put, made_many, goes_on}
-use Rattle.graph_runs.proofs.Calling.{source_ends}
-use Rattle.graph_runs.proofs.PlacesLemmas.{place_of_output}
-use Rattle.graph_runs.proofs.Signalling.{Live, number_there, stays}
+-- An event of a task leads to a moment that is reachable.
+use Rattle.std.proofs.Common.{◌≡◌, ℕ, ◌<◌, List, ℤ, None, length, map}
 use Rattle.phase_history.specs.phase_accum.declared.outcome.Outcome.{Outcome}
-use Rattle.phase_history.specs.declared.event.Event.TheVariants.{Signalled, Waited}
+use Rattle.phase_history.specs.declared.event.Event.TheVariants.{Signalled, Waited, Dropped}
+use Rattle.stream_lists.specs.graph_base.Graphs.{phaser_at}
 use Rattle.stream_lists.specs.graph_base.TaskLines.{IsGraph}
+use Rattle.stream_lists.specs.Jobs.{Job}
+use Rattle.graph_runs.specs.Moments.{Moment, HasRun, one}
 use Rattle.graph_runs.specs.Moves.{further}
 use Rattle.graph_runs.specs.Turned.{after_signals, after_waits, IsNextSignals, IsNextSamples, IsFirstWaits}
-use Rattle.graph_runs.proofs.InBlocks.{next_signals_are, next_samples_are, first_waits_are, next_signals_keep, next_samples_keep, first_waits_keep}
+use Rattle.graph_runs.specs.TaskEvents.{TaskEvent, IsNext, after_turn, sample, signal, first_wait, exchange_wait, leave, child, child_now}
+use Rattle.graph_runs.specs.Nexts.{first_missing}
 use Rattle.graph_runs.specs.Reached.{IsReachable}
-use Rattle.graph_runs.proofs.Reaching.{reached_moved, signal_gives_none, wait_gives_none}
+use Rattle.graph_runs.proofs.InBlocks.{next_signals_are, next_samples_are, first_waits_are, next_signals_keep, next_samples_keep, first_waits_keep}
+use Rattle.graph_runs.proofs.JoinsNow.{next_child_now_is}
+use Rattle.graph_runs.proofs.Turned.{exchange_wait_is, next_leave_is, next_child_is}
+use Rattle.graph_runs.proofs.Whose.{task_of, IsInOrder}
+use Rattle.graph_runs.proofs.Reaching.{reached_moved, signal_gives_none, wait_gives_none, drop_gives_none, modes_registered, tasks_registered, numbers_registered, to_come_registered, by_members, by_numbers}
+use Rattle.graph_runs.proofs.TurnJoins.{join_reached}
 
 -- a source's samples
 pub samples_reached : (job : Job) (m : Moment) (t j p n : ℕ) (vs : List ℤ) → IsGraph job.graph
@@ -66,60 +54,41 @@ waits_reached job m t k p n outcomes is there pp next all reached =
     (wait_gives_none n (length outcomes)) all
     (first_waits_keep job m t k p n outcomes is there pp next reached.ran) reached
 
--- ---- a source's next block
+-- ---- a turn's event
 
--- its samples
-abbrev pub sample_block : Job → Moment → ℕ → List ℤ
-sample_block job m t = take (sample_block_of job m t) (drop (m.begun t) (samples_at job t))
-
--- where the phaser accepts them, they are its next event
-pub samples_next : (job : Job) (m : Moment) (t : ℕ) → IsGraph job.graph → HasRun job m
-    → Live job m t
-    → (task_at job.graph t).kind ≡ Source → first_owed job m t ≡ None → first_due job m t ≡ None
-    → is_cut (task_at job.graph t).until (m.begun t) ≡ false
-    → has_input_ended job m t (task_at job.graph t).kind ≡ false
-    → signal_refusal (limits_at job (output_at job t 0)) (m.history (output_at job t 0))
-    (number_on m t (output_at job t 0)) (map one (sample_block job m t))
-    (phaser_at job.graph (output_at job t 0)).single ≡ None
-    → AreLists (map one (sample_block job m t))
-    → IsNextSamples job m t 0 (output_at job t 0) (number_on m t (output_at job t 0))
-    (sample_block job m t)
-samples_next job m t is ran live source none due uncut more accepted lists =
-    let task = task_at job.graph t in
-    let ran_t = ran.tasks t live.there in
-    let line = is.tasks t live.there in
-    let one_output : length (signalled_by task) ≡ 1 = source_ends job t is live.there source in
-    let lt : 0 < length (signalled_by task) = omega arith in
-    let p = output_at job t 0 in
-    let vs = sample_block job m t in
-    let place : index_in (signalled_by task) p ≡ Some 0 =
-    place_of_output job.graph t task 0 line lt in
-    let on : OnLine task p = inl (0, place) in
-    let phaser : p < length job.graph.phasers = on_phaser job t p is live.there on in
-    let plain : puts_on task (m.begun t) 0 ≡ m.begun t = rw source refl in
-    let S : Kind → Type 0 = λ k. HasSamples k (m.begun t) (length (samples_at job t)) in
-    let begun_few : m.begun t ≤ length (samples_at job t) = subst S source ran_t.samples in
-    let left : length (drop (m.begun t) (samples_at job t))
-    ≡ length (samples_at job t) - m.begun t = length-drop (m.begun t) (samples_at job t) in
-    let steps : ℕ = sample_block_of job m t in
-    let steps_is : steps ≡ min (block_of job m t) (length (samples_at job t) - m.begun t) = refl in
-    let many : length vs ≡ steps =
-    length-take-le steps (drop (m.begun t) (samples_at job t)) (omega arith) in
-    let on_to : further (m.begun t) vs ≡ m.begun t + length vs = further-length (m.begun t) vs in
-    let T : Kind → Type 0 = λ k. HasSamples k (further (m.begun t) vs)
-    (length (samples_at job t)) in
-    let enough : T Source = omega arith in
+pub reached_after : (job : Job) (m : Moment) (event : TaskEvent) → IsGraph job.graph
+    → IsReachable job m → IsNext job m event → first_missing job m (task_of event) ≡ None
+    → IsInOrder job m event → HasRun job (after_turn job event m)
+    → IsReachable job (after_turn job event m)
+reached_after job m (sample t j p n vs) is reached next all missing ran =
+    samples_reached job m t j p n vs is next.0.task next.0.phaser next.1 all reached
+reached_after job m (signal t j p n vs) is reached next all missing ran =
+    signals_reached job m t j p n vs is next.0.task next.0.phaser next.1 all reached
+reached_after job m (first_wait t k p n outcomes) is reached next all missing ran =
+    waits_reached job m t k p n outcomes is next.0.task next.0.phaser next.1 all reached
+reached_after job m (exchange_wait t p n outcome) is reached next all missing ran =
+    let s = exchange_wait_is job m t p n outcome next.1 in
+    reached_moved job m (after_turn job (exchange_wait t p n outcome) m) t p (Waited n 1) s.moved
+    (wait_gives_none n 1) all ran reached
+reached_after job m (leave t p n) is reached next all missing ran =
+    let s = next_leave_is job m t p n next.1 in
+    reached_moved job m (after_turn job (leave t p n) m) t p (Dropped n) s.moved
+    (drop_gives_none n) all ran reached
+reached_after job m (child t p n c a mode) is reached next all missing ran =
+    let after = after_turn job (child t p n c a mode) m in
+    let u = next.1.0 in
+    let s = next_child_is job m t p n c a mode u next.1.1 in
     record {
-      signal = record {
-        accepted = (accepted, lists, (is.phasers p phaser).single);
-        numbered = number_there job m t p is live on;
-        place = place;
-        staying = stays job m t is ran_t live.there (goes_on job m t uncut more);
-      };
-      source = source;
-      may_begin = may_go_on job m t (further (m.begun t) vs) is ran_t live.there none due
-          (omega arith) (omega arith) (subst T (sym source) enough);
-      all_put = ap length (all_put job m t ran_t live.there none 0 lt)
-          ∙ made_many job m t 0 is ran_t live.there lt ∙ plain;
-      samples = ap (λ n. take n (drop (m.begun t) (samples_at job t))) (sym many);
+      ran = ran;
+      modes = modes_registered job m after t p n c a mode u is reached.ran ran s missing
+          next.0.phaser reached.modes;
+      only_tasks = tasks_registered job m after t p n c a mode u s reached.only_tasks;
+      members = by_members job after ran
+          (numbers_registered job m after t p n c a mode u s
+          (by_numbers job m reached.ran reached.members));
+      to_come = to_come_registered job m after t p n c a mode u s reached.to_come;
     }
+reached_after job m (child_now t p n c a) is reached next all missing ran =
+    let u = next.1.0 in
+    join_reached job m (after_turn job (child_now t p n c a) m) t p n c a u is
+    (next_child_now_is job m t p n c a u next.1.1) next.0.task next.0.phaser missing reached

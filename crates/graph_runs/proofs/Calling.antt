@@ -1,35 +1,44 @@
 -- A turn's sample, its waits and its drop are the task's next events.
-use Rattle.std.proofs.Common.{◌≡◌, ℕ, zero, suc, ◌+◌, ◌<◌, ◌≤◌, true, false, not, ◌||◌, Option, Some, None, is_some, length, get_or, pos, refl, sym, ap, subst, ◌∙◌, arith, ◌⊎◌, inl, inr}
-use Rattle.std.specs.Prelude.{Result, Ok, Err, nat_le, unwrap_or}
+use Rattle.std.proofs.Common.{◌≡◌, ℕ, zero, suc, ◌+◌, ◌<◌, ◌-◌, ◌≤◌, true, false, not, ◌||◌, List, Option, Some, None, is_some, length, get_or, refl, sym, ap, subst, ◌∙◌, arith, ◌⊎◌, inl, inr}
+use Rattle.std.specs.Prelude.{Result, Ok, Err, nat_le, unwrap_or, take, drop, min, slice_range}
+use Rattle.std.proofs.lemmas.List.{length-take-le, length-drop}
 use Rattle.std.proofs.lemmas.Bool.{and_parts, leb-true, eqb-true}
 use Rattle.phase_history.specs.phase_base.Members.{signal_phases}
 use Rattle.phase_history.specs.phase_accum.declared.outcome.Outcome.{Outcome}
 use Rattle.phase_history.specs.declared.got.Got.{Got}
 use Rattle.phase_history.specs.declared.got.Got.TheVariants as got
+use Rattle.phase_history.specs.declared.got.GotBlock.{GotBlock}
+use Rattle.phase_history.specs.declared.got.GotBlock.TheVariants as block
 use Rattle.phase_history.specs.declared.refusal.WaitRefusal.{WaitRefusal}
 use Rattle.phase_history.specs.declared.refusal.WaitRefusal.TheVariants as refusal
 use Rattle.phase_history.specs.Histories.{members_of, done_of, wait_phase}
 use Rattle.phase_history.specs.Refusals.{wait_refusal, drop_refusal}
-use Rattle.phase_history.specs.Replies.{wait_reply, refused_or, got_at}
+use Rattle.phase_history.specs.Phases.{stream_of}
+use Rattle.phase_history.specs.Replies.{wait_reply, wait_block_reply, refused_or, got_at}
+use Rattle.phase_history.proofs.BlockAnswers.{block_tells, wait_refusal-fewer}
 use Rattle.phase_history.proofs.LawProofs.{answers_law, reply_tells}
 use Rattle.stream_lists.specs.graph_base.declared.line.Kind.{Kind}
 use Rattle.stream_lists.specs.graph_base.declared.line.Kind.TheVariants.{Source, Fir, Split, Join, Peer, Sink}
 use Rattle.stream_lists.specs.graph_base.declared.registration.Registration.{Registration}
 use Rattle.stream_lists.specs.graph_base.Graphs.{task_at}
 use Rattle.stream_lists.specs.graph_base.Registrations.{no_registration}
-use Rattle.stream_lists.specs.graph_base.TaskLines.{IsGraph, HasEnds}
+use Rattle.stream_lists.specs.graph_base.TaskLines.{IsGraph, HasEnds, has_blocks}
 use Rattle.stream_lists.specs.Jobs.{Job, samples_at, index_in}
 use Rattle.stream_lists.specs.Spans.{signalled_by, puts_on}
-use Rattle.graph_runs.specs.Moments.{Moment, HasRun, HasEnded, MayStop, at_until, no_sample, no_input, OnLine, limits_at, value_at, input_at, first_input, made_now}
+use Rattle.graph_runs.specs.Moments.{Moment, HasRun, HasEnded, HasSamples, MayStop, at_until, no_sample, no_input, OnLine, limits_at, value_at, input_at, first_input, made_now}
 use Rattle.graph_runs.proofs.OnLines.{on_phaser}
 use Rattle.graph_runs.proofs.Tasks.{first_looks}
-use Rattle.graph_runs.specs.Turned.{IsAnsweredWait}
+use Rattle.graph_runs.specs.Moves.{further, IsBlock}
+use Rattle.graph_runs.specs.Turned.{IsAnsweredWait, IsAnsweredWaits}
+use Rattle.graph_runs.specs.NextBlocks.{block_of, sample_block_of}
 use Rattle.graph_runs.specs.TaskEvents.{TaskEvent, IsNext, sample, first_wait, exchange_wait, leave}
 use Rattle.graph_runs.specs.Nexts.{first_owed, first_due, first_kept, is_cut, has_input_ended, has_run_out, has_signaller, has_registered, has_left, registrations_at, number_on, waits_first}
-use Rattle.graph_runs.specs.Answers.{makes, signal_turn, wait_answer, accepted_answer, call_wait, call_leave, output_at}
+use Rattle.graph_runs.specs.Answers.{makes, signal_turn, wait_answer, block_answer, accepted_answer, call_wait, call_block, call_leave, output_at, next_samples}
 use Rattle.graph_runs.proofs.PlacesLemmas.{find-none, find-some, place_of_output}
-use Rattle.graph_runs.proofs.Signalling.{Live, number_there, stays, event_or, signalled, sendable, owed, not_ended}
-use Rattle.graph_runs.proofs.Boundaries.{all_put, made_many, peer_ends, none_due, may_begin, goes_on, no_signaller, or_true}
+use Rattle.graph_runs.proofs.Signalling.{Live, number_there, stays, event_or, signalled, lists_sendable, owed, not_ended}
+use Rattle.graph_runs.proofs.Nexts.{further-length}
+use Rattle.graph_runs.proofs.Blocks.{AnsweredBlock, answered_block, block_few, may_go_on}
+use Rattle.graph_runs.proofs.Boundaries.{all_put, made_many, peer_ends, none_due, goes_on, no_signaller, or_true}
 
 -- ---- the answer to a wait
 
@@ -94,13 +103,96 @@ answered_wait job m t k event made is ran live lt more a =
           (answers_law (value_at job p) (limits_at job p) h n a.phase a.outcome a.reply).received;
     }
 
+-- a wait for a block that makes an event was answered these phases
+pub record AnsweredAll (job : Job) (m : Moment) (t p steps : ℕ) (event : List Outcome → TaskEvent)
+    (made : TaskEvent) : Type 0 where
+  pub phase : ℕ
+  pub count : ℕ
+  pub reply : wait_block_reply (limits_at job p) (m.history p) (number_on m t p) steps
+      ≡ Ok (block.Values phase count)
+  pub is : event (slice_range (stream_of (value_at job p) (m.history p)) phase (phase + count))
+      ≡ made
+
+pub answered_all : (job : Job) (m : Moment) (t p steps : ℕ) (event : List Outcome → TaskEvent)
+    (made : TaskEvent) → call_block job m t p steps event ≡ makes made
+    → AnsweredAll job m t p steps event made
+answered_all job m t p steps event made e =
+    by (wait_block_reply (limits_at job p) (m.history p) (number_on m t p) steps) refl e
+  where
+    by : (r : Result GotBlock WaitRefusal)
+        → wait_block_reply (limits_at job p) (m.history p) (number_on m t p) steps ≡ r
+        → block_answer
+        (λ phase count. event (slice_range (stream_of (value_at job p) (m.history p)) phase
+        (phase + count))) r ≡ makes made → AnsweredAll job m t p steps event made
+    by (Ok (block.Values phase count)) reply e = record {
+      phase = phase;
+      count = count;
+      reply = reply;
+      is = ap (λ a. event_or made a) e;
+    }
+    by (Ok block.Ended) reply e = absurd (cc)
+    by (Err refusal.NoTask) reply e = absurd (cc)
+    by (Err refusal.NoWait) reply e = absurd (cc)
+    by (Err refusal.BadBlock) reply e = absurd (cc)
+    by (Err refusal.SignalFirst) reply e = absurd (cc)
+    by (Err refusal.NotYet) reply e = absurd (cc)
+
+-- the wait on input k for a block, which is answered so
+answered_waits : (job : Job) (m : Moment) (t k steps : ℕ) (event : List Outcome → TaskEvent)
+    (made : TaskEvent) → IsGraph job.graph → HasRun job m → Live job m t
+    → k < length (task_at job.graph t).inputs → (HasEnded job m t → ⊥)
+    → (a : AnsweredAll job m t (input_at (task_at job.graph t) k) steps event made)
+    → IsAnsweredWaits job m t k (input_at (task_at job.graph t) k)
+    (number_on m t (input_at (task_at job.graph t) k))
+    (slice_range (stream_of (value_at job (input_at (task_at job.graph t) k))
+    (m.history (input_at (task_at job.graph t) k))) a.phase (a.phase + a.count))
+answered_waits job m t k steps event made is ran live lt more a =
+    let p = input_at (task_at job.graph t) k in
+    let n = number_on m t p in
+    let h = m.history p in
+    let outcomes = slice_range (stream_of (value_at job p) h) a.phase (a.phase + a.count) in
+    let b : AnsweredBlock job h p n steps outcomes =
+    answered_block job h p n steps a.phase a.count a.reply in
+    let tells = block_tells (limits_at job p) h n steps a.phase a.count a.reply in
+    record {
+      accepted = (
+        wait_refusal-fewer (limits_at job p) h n steps (length outcomes) tells.accepted b.some b.few,
+        b.within,
+      );
+      numbered = number_there job m t p is live (inr (k, lt, refl));
+      few = lt;
+      place = refl;
+      staying = stays job m t is (ran.tasks t live.there) live.there more;
+      answered = b.received;
+    }
+
+-- only a source has samples
+no_samples : (kind : Kind) (steps many : ℕ) → (kind ≡ Source → ⊥) → HasSamples kind steps many
+no_samples Source steps many never = absurd (never refl)
+no_samples Fir steps many never = tt
+no_samples Split steps many never = tt
+no_samples Join steps many never = tt
+no_samples Peer steps many never = tt
+no_samples Sink steps many never = tt
+
+-- so many steps as a line makes at once are a block of its kind
+block_is : (kind : Kind) (block many : ℕ) → (has_blocks kind ≡ false → block ≡ 1) → 1 ≤ many
+    → many ≤ block → IsBlock kind many
+block_is Source block many one some few = tt
+block_is Fir block many one some few = tt
+block_is Sink block many one some few = tt
+block_is Split block many one some few = let is : block ≡ 1 = one refl in omega arith
+block_is Join block many one some few = let is : block ≡ 1 = one refl in omega arith
+block_is Peer block many one some few = let is : block ≡ 1 = one refl in omega arith
+
 pub first_wait_next : (job : Job) (m : Moment) (t : ℕ) (event : TaskEvent) → IsGraph job.graph
     → HasRun job m → Live job m t → ((task_at job.graph t).kind ≡ Source → ⊥)
     → first_owed job m t ≡ None → first_due job m t ≡ None
     → is_cut (task_at job.graph t).until (m.begun t) ≡ false
     → has_input_ended job m t (task_at job.graph t).kind ≡ false
-    → call_wait job m t
+    → call_block job m t
     (input_at (task_at job.graph t) (first_input (task_at job.graph t) (m.begun t)))
+    (block_of job m t)
     (first_wait t (first_input (task_at job.graph t) (m.begun t))
     (input_at (task_at job.graph t) (first_input (task_at job.graph t) (m.begun t)))
     (number_on m t
@@ -111,19 +203,34 @@ first_wait_next job m t event is ran live no_source none due uncut more answer =
     let k = first_input task (m.begun t) in
     let p = input_at task k in
     let n = number_on m t p in
+    let steps = block_of job m t in
     let lt : k < length task.inputs =
     (first_looks task (m.begun t) (is.tasks t live.there).ends no_source).0 in
-    let a = answered job m t p (first_wait t k p n) event answer in
+    let a = answered_all job m t p steps (first_wait t k p n) event answer in
+    let outcomes = slice_range (stream_of (value_at job p) (m.history p)) a.phase
+    (a.phase + a.count) in
+    let b : AnsweredBlock job (m.history p) p n steps outcomes =
+    answered_block job (m.history p) p n steps a.phase a.count a.reply in
+    let some : 1 ≤ length outcomes = b.some in
+    let few : length outcomes ≤ steps = b.few in
+    let least : steps ≤ task.block = block_few job m t in
+    let on : further (m.begun t) outcomes ≡ m.begun t + length outcomes =
+    further-length (m.begun t) outcomes in
     let phaser : p < length job.graph.phasers =
     on_phaser job t p is live.there (inr (k, lt, refl)) in
     let Next : TaskEvent → Type 0 = λ e. IsNext job m e in
     subst Next a.is (
       record { task = live.there; phaser = phaser },
       record {
-        wait = answered_wait job m t k (first_wait t k p n) event is ran live lt
+        wait = answered_waits job m t k steps (first_wait t k p n) event is ran live lt
             (goes_on job m t uncut more) a;
         first = refl;
-        may_begin = may_begin job m t is (ran.tasks t live.there) live.there none due uncut more;
+        block = block_is task.kind task.block (length outcomes) (is.tasks t live.there).block.kind
+            some (omega arith);
+        may_begin = may_go_on job m t (further (m.begun t) outcomes) is (ran.tasks t live.there)
+            live.there none due (omega arith) (omega arith)
+            (no_samples task.kind (further (m.begun t) outcomes) (length (samples_at job t))
+            no_source);
       },
     )
 
@@ -190,39 +297,52 @@ pub sample_next : (job : Job) (m : Moment) (t : ℕ) (event : TaskEvent) → IsG
     → first_owed job m t ≡ None → first_due job m t ≡ None
     → is_cut (task_at job.graph t).until (m.begun t) ≡ false
     → has_input_ended job m t (task_at job.graph t).kind ≡ false
-    → signal_turn job m t 0 (get_or (samples_at job t) (m.begun t) (pos 0))
-    (sample t 0 (output_at job t 0) (number_on m t (output_at job t 0))
-    (get_or (samples_at job t) (m.begun t) (pos 0)))
+    → signal_turn job m t 0 (next_samples job m t)
+    (sample t 0 (output_at job t 0) (number_on m t (output_at job t 0)) (next_samples job m t))
     ≡ makes event → IsNext job m event
 sample_next job m t event is ran live source none due uncut more answer =
     let task = task_at job.graph t in
     let line = is.tasks t live.there in
-    let one : length (signalled_by task) ≡ 1 = source_ends job t is live.there source in
+    let ran_t = ran.tasks t live.there in
+    let single : length (signalled_by task) ≡ 1 = source_ends job t is live.there source in
     let lt : 0 < length (signalled_by task) = omega arith in
     let p = output_at job t 0 in
-    let v = get_or (samples_at job t) (m.begun t) (pos 0) in
+    let vs = next_samples job m t in
     let n = number_on m t p in
-    let a = signalled job m t 0 v (sample t 0 p n v) event answer in
+    let a = signalled job m t 0 vs (sample t 0 p n vs) event answer in
     let place : index_in (signalled_by task) p ≡ Some 0 =
     place_of_output job.graph t task 0 line lt in
     let on : OnLine task p = inl (0, place) in
     let phaser : p < length job.graph.phasers = on_phaser job t p is live.there on in
     let plain : puts_on task (m.begun t) 0 ≡ m.begun t = rw source refl in
+    let S : Kind → Type 0 = λ k. HasSamples k (m.begun t) (length (samples_at job t)) in
+    let begun_few : m.begun t ≤ length (samples_at job t) = subst S source ran_t.samples in
+    let left : length (drop (m.begun t) (samples_at job t))
+    ≡ length (samples_at job t) - m.begun t = length-drop (m.begun t) (samples_at job t) in
+    let steps : ℕ = sample_block_of job m t in
+    let steps_is : steps ≡ min (block_of job m t) (length (samples_at job t) - m.begun t) = refl in
+    let many : length vs ≡ steps =
+    length-take-le steps (drop (m.begun t) (samples_at job t)) (omega arith) in
+    let on_to : further (m.begun t) vs ≡ m.begun t + length vs = further-length (m.begun t) vs in
+    let T : Kind → Type 0 = λ k. HasSamples k (further (m.begun t) vs)
+    (length (samples_at job t)) in
+    let enough : T Source = omega arith in
     let Next : TaskEvent → Type 0 = λ e. IsNext job m e in
     subst Next a.2 (
       record { task = live.there; phaser = phaser },
       record {
         signal = record {
-          accepted = (a.1, ((sendable v a.0, tt), omega arith, tt), (is.phasers p phaser).single);
+          accepted = (a.1, lists_sendable (length (m.put t 0)) vs a.0, (is.phasers p phaser).single);
           numbered = number_there job m t p is live on;
           place = place;
-          staying = stays job m t is (ran.tasks t live.there) live.there (goes_on job m t uncut more);
+          staying = stays job m t is ran_t live.there (goes_on job m t uncut more);
         };
         source = source;
-        may_begin = may_begin job m t is (ran.tasks t live.there) live.there none due uncut more;
-        all_put = ap length (all_put job m t (ran.tasks t live.there) live.there none 0 lt)
-            ∙ made_many job m t 0 is (ran.tasks t live.there) live.there lt ∙ plain;
-        sample = refl;
+        may_begin = may_go_on job m t (further (m.begun t) vs) is ran_t live.there none due
+            (omega arith) (omega arith) (subst T (sym source) enough);
+        all_put = ap length (all_put job m t ran_t live.there none 0 lt)
+            ∙ made_many job m t 0 is ran_t live.there lt ∙ plain;
+        samples = ap (λ n. take n (drop (m.begun t) (samples_at job t))) (sym many);
       },
     )
 

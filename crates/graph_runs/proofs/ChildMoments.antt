@@ -29,7 +29,7 @@ use Rattle.graph_runs.specs.Nexts.{first_owed, registrations_at}
 use Rattle.graph_runs.specs.TaskPlaces.{nothing, TaskPlace, StandsAt, registration_at, at_start}
 use Rattle.graph_runs.proofs.AtOpening.{opening_has_begun}
 use Rattle.graph_runs.proofs.Boundaries.{all_put, all_taken, made_many}
-use Rattle.graph_runs.proofs.Following.{stays_same, keeps_registered, child_stands}
+use Rattle.graph_runs.proofs.Following.{same_steps, stays_same, GivesNumber, gives, keeps_registered, child_stands}
 use Rattle.graph_runs.proofs.Lacking.{first_none, nothing_lacks}
 use Rattle.graph_runs.proofs.TurnRegistering.{is_for, on_parent, plain_takes}
 use Rattle.graph_runs.specs.Parts.{HasPart, HasSeen, SeesOthers, SeesOwn}
@@ -324,6 +324,9 @@ module _ (job : Job) (m : Moment) (t c n a : ℕ) (u : Parent) (at : TaskPlace)
   s : Registers job now after t p n c a mode u
   s = next_child_is job now t p n c a mode u next
 
+  given : GivesNumber now after p c a
+  given = gives job now after t p n c a mode u s
+
   -- whose part it is, its histories grew
   grown : (x : ℕ) → HasPart job now x → HasGrown job now after x
   grown x own = record {
@@ -368,8 +371,8 @@ module _ (job : Job) (m : Moment) (t c n a : ℕ) (u : Parent) (at : TaskPlace)
   child_place_after =
       let new : greatest_used (now.history p) < a =
       (registers_from (now.history p) n a mode accepted).new_number in
-      child_stands job now after t p n c a mode u (at_start numbers) is legal_now s
-      both.child.place room refl new
+      child_stands job now after p c a (at_start numbers) is there_c legal_now given
+      (same_steps now after c (s.same c)) both.child.place room refl new
 
   pub child_is_added : HasAddedChild job m after t c p a numbers (Registered n a mode ∷ before)
   child_is_added = record {
@@ -382,7 +385,7 @@ module _ (job : Job) (m : Moment) (t c n a : ℕ) (u : Parent) (at : TaskPlace)
     };
     place = λ place own.
         stays_same job now after t place (both.place place own)
-        (keeps_registered job now after t p n c a mode u t s apart) (s.same t);
+        (keeps_registered now after p c a t given apart) (s.same t);
     child = record {
       part = child_after;
       place = child_place_after;

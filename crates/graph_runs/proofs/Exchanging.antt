@@ -1,5 +1,5 @@
 -- The place of a peer after its wait on E.
-use Rattle.std.proofs.Common.{◌≡◌, ℕ, zero, suc, ◌+◌, ◌-◌, ◌<◌, ◌≤◌, true, false, cond, eqb, [], ◌∷◌, ◌++◌, Some, None, length, get_or, ℤ, pos, refl, sym, ap, subst, ◌∙◌, arith}
+use Rattle.std.proofs.Common.{◌≡◌, ℕ, zero, suc, ◌+◌, ◌-◌, ◌<◌, ◌≤◌, true, false, cond, eqb, [], ◌∷◌, ◌++◌, Some, None, length, get_or, map, ℤ, pos, refl, sym, ap, subst, ◌∙◌, arith}
 use Rattle.std.specs.Prelude.{Result, ◌*ℤ◌, ◌-ℤ◌}
 use Rattle.std.proofs.lemmas.Bool.{leb-true, lt-leb, eq-eqb}
 use Rattle.std.proofs.lemmas.Option.{same_Some}
@@ -21,15 +21,12 @@ use Rattle.graph_runs.proofs.Tasks.{now_at}
 use Rattle.graph_runs.proofs.Turned.{exchange_wait_is}
 use Rattle.graph_runs.specs.TaskEvents.{IsNext, exchange_wait, after_turn}
 use Rattle.graph_runs.specs.Nexts.{first_owed, waits_first, signals, exchanges}
-use Rattle.graph_runs.specs.Answers.{makes, answer_of_turn, next_value}
-use Rattle.graph_runs.specs.Reached.{IsReachable}
-use Rattle.graph_runs.specs.TaskPlaces.{Owed, nothing, value, exchange, Owes, TaskPlace, StandsAt, lacking, owed_after_exchange}
+use Rattle.graph_runs.specs.TaskPlaces.{Owed, nothing, values, exchange, Owes, TaskPlace, StandsAt, lacking, owed_after_exchange}
 use Rattle.graph_runs.proofs.Signalling.{owed}
 use Rattle.graph_runs.proofs.Boundaries.{made_many, peer_ends}
-use Rattle.graph_runs.proofs.Turning.{turn_makes_next}
-use Rattle.graph_runs.proofs.Following.{Lacks, GetsOne, gets_one, stays_at, keeps_moved}
-use Rattle.graph_runs.proofs.InOrder.{event_owes}
-use Rattle.graph_runs.proofs.Lacking.{first_is}
+use Rattle.graph_runs.proofs.Following.{Lacks, GetsAll, gets_all, stays_at, keeps_moved}
+use Rattle.graph_runs.proofs.InOrder.{OwesFor}
+use Rattle.graph_runs.proofs.Lacking.{first_is, next_one}
 
 -- where a peer waits on E, the place owes that
 owes_exchange : (job : Job) (m : Moment) (t j : ℕ) (owed : Owed) → Owes job m t owed
@@ -39,7 +36,7 @@ owes_exchange : (job : Job) (m : Moment) (t j : ℕ) (owed : Owed) → Owes job 
 owes_exchange job m t j nothing owes some first =
     absurd (let clash : None ≡ Some j = sym owes ∙ some in cc)
 owes_exchange job m t j (exchange x) owes some first = (x, refl)
-owes_exchange job m t j (value i w) owes some first =
+owes_exchange job m t j (values i ws) owes some first =
     let same : i ≡ j = same_Some i j (sym owes.0 ∙ some) in
     let W : ℕ → Type 0 =
     λ i. waits_first (task_at job.graph t).kind i (length (m.put t i)) (length (m.taken t 1))
@@ -50,15 +47,15 @@ owes_exchange job m t j (value i w) owes some first =
 
 -- the one value that it still lacks is on Y
 same_lacking : (w : Result ℤ TooBigValue) (x : ℤ) (i : ℕ)
-    → lacking Peer (exchange x) i ≡ lacking Peer (value 1 w) i
+    → lacking Peer (exchange x) i ≡ lacking Peer (values 1 (w ∷ [])) i
 same_lacking w x zero = refl
 same_lacking w x (suc i) = refl
 
 pub exchange_lacks : (job : Job) (m after : Moment) (t : ℕ) (outcome : Outcome) (x : ℤ)
     (w : Result ℤ TooBigValue) → IsGraph job.graph → TaskRan job m t → TaskRan job after t
     → t < length job.graph.tasks → (task_at job.graph t).kind ≡ Peer
-    → GetsOne m after t 1 outcome → after.begun t ≡ m.begun t → Lacks job m t (exchange x)
-    → Lacks job after t (value 1 w)
+    → GetsAll m after t 1 (number outcome ∷ []) → after.begun t ≡ m.begun t → Lacks job m t (exchange x)
+    → Lacks job after t (values 1 (w ∷ []))
 exchange_lacks job m after t outcome x w is ran now there e s steps lacks i lt =
     let many : length (made_now job after t i)
     ≡ puts_on (task_at job.graph t) (after.begun t) i = made_many job after t i is now there lt in
@@ -71,17 +68,17 @@ exchange_lacks job m after t outcome x w is ran now there e s steps lacks i lt =
     ∙ ap (λ l. length l + lacking (task_at job.graph t).kind (exchange x) i) (sym (s.put i))
     ∙ ap (λ k. length (after.put t i) + k)
     (ap (λ k. lacking k (exchange x) i) e ∙ same_lacking w x i
-    ∙ ap (λ k. lacking k (value 1 w) i) (sym e))
+    ∙ ap (λ k. lacking k (values 1 (w ∷ [])) i) (sym e))
 
 pub exchange_owes : (job : Job) (m after : Moment) (t : ℕ) (outcome : Outcome) (x : ℤ)
     → IsGraph job.graph → TaskRan job m t → TaskRan job after t → t < length job.graph.tasks
-    → (task_at job.graph t).kind ≡ Peer → GetsOne m after t 1 outcome
+    → (task_at job.graph t).kind ≡ Peer → GetsAll m after t 1 (number outcome ∷ [])
     → Owes job m t (exchange x) → Lacks job m t (exchange x)
     → waits_first (task_at job.graph t).kind 1 (length (m.put t 1)) (length (m.taken t 1)) ≡ true
     → Lacks job after t
-    (value 1 (ranged (((task_at job.graph t).mul *ℤ x) -ℤ number outcome)))
+    (values 1 (ranged (((task_at job.graph t).mul *ℤ x) -ℤ number outcome) ∷ []))
     → Owes job after t
-    (value 1 (ranged (((task_at job.graph t).mul *ℤ x) -ℤ number outcome)))
+    (values 1 (ranged (((task_at job.graph t).mul *ℤ x) -ℤ number outcome) ∷ []))
 exchange_owes job m after t outcome x is ran now there e s owes before first lacks =
     let task = task_at job.graph t in
     let out = number outcome in
@@ -100,7 +97,7 @@ exchange_owes job m after t outcome x is ran now there e s owes before first lac
     let put : length (after.put t 1) ≡ length (m.put t 1) = ap length (s.put 1) in
     let takes : length (after.taken t 1) ≡ length (m.taken t 1) + 1 =
     ap length s.taken ∙ length-append (m.taken t 1) (out ∷ []) in
-    let one : lacking task.kind (value 1 w) 1 ≡ 1 = refl in
+    let one : lacking task.kind (values 1 (w ∷ [])) 1 ≡ 1 = refl in
     let in_turn : waits_first task.kind 1 (length (after.put t 1)) (length (after.taken t 1))
     ≡ false =
     ap (λ k. waits_first k 1 (length (after.put t 1)) (length (after.taken t 1))) e
@@ -138,7 +135,10 @@ exchange_owes job m after t outcome x is ran now there e s owes before first lac
     let last : get_or (m.taken t 1 ++ out ∷ []) i (pos 0) ≡ out =
     get_or-append_right (m.taken t 1) (out ∷ []) i i (pos 0) refl le
     ∙ ap (λ k. get_or (out ∷ []) k (pos 0)) off in
-    let is_value : next_value job after t 1 ≡ (task.mul *ℤ x) -ℤ out =
+    let lacks_one : length (made_now job after t 1) ≡ length (after.put t 1) + 1 =
+    lacks 1 (omega arith) in
+    let is_value : get_or (made_now job after t 1) (length (after.put t 1)) (pos 0)
+    ≡ (task.mul *ℤ x) -ℤ out =
     ap (λ l. get_or l (length (after.put t 1)) (pos 0)) made
     ∙ ap (λ k. get_or (mixed task.mul (m.taken t 0) (m.taken t 1 ++ out ∷ [])) k (pos 0)) index
     ∙ get_or-map-range_with_len
@@ -146,34 +146,31 @@ exchange_owes job m after t outcome x is ran now there e s owes before first lac
     (pos 0) below from
     ∙ ap (λ a. (task.mul *ℤ a) -ℤ entry (m.taken t 1 ++ out ∷ []) i) owes.2
     ∙ ap (λ b. (task.mul *ℤ x) -ℤ b) last in (
-      first_is job after t 1 (value 1 w) lacks (omega arith) one (λ k lt. none_below w k lt),
+      first_is job after t 1 (values 1 (w ∷ [])) lacks (omega arith) (omega arith) (λ k lt. none_below w k lt),
       ap (λ b. cond b exchanges (signals 1)) in_turn,
-      ap ranged is_value,
+      ap (λ l. map ranged l) (next_one job after t 1 (is.tasks t there).block.some lacks_one)
+          ∙ ap (λ v. ranged v ∷ []) is_value,
     )
   where
     none_below : (w : Result ℤ TooBigValue) (k : ℕ) → k < 1
-        → lacking (task_at job.graph t).kind (value 1 w) k ≡ 0
-    none_below w zero lt = ap (λ kind. lacking kind (value 1 w) 0) e
+        → lacking (task_at job.graph t).kind (values 1 (w ∷ [])) k ≡ 0
+    none_below w zero lt = ap (λ kind. lacking kind (values 1 (w ∷ [])) 0) e
     none_below w (suc k) lt = absurd (omega arith)
 
 pub exchange_follows : (job : Job) (m : Moment) (t p n : ℕ) (outcome : Outcome) (at : TaskPlace)
-    → IsGraph job.graph → IsReachable job m
+    → IsGraph job.graph → HasRun job m → IsNext job m (exchange_wait t p n outcome)
     → HasRun job (after_turn job (exchange_wait t p n outcome) m)
-    → answer_of_turn job m t ≡ makes (exchange_wait t p n outcome) → StandsAt job m t at
+    → OwesFor job m (exchange_wait t p n outcome) → StandsAt job m t at
     → StandsAt job (after_turn job (exchange_wait t p n outcome) m) t
     (record at { owed = owed_after_exchange (task_at job.graph t) at.owed (number outcome) })
-exchange_follows job m t p n outcome at is reached now answer stands =
-    let event = exchange_wait t p n outcome in
-    let after = after_turn job event m in
-    let next : IsNext job m event =
-    turn_makes_next job m t event is reached.ran (λ c due. reached.to_come) answer in
+exchange_follows job m t p n outcome at is ran next now for_event stands =
+    let after = after_turn job (exchange_wait t p n outcome) m in
     let there = next.0.task in
     let peer = next.1.peer in
     let s = exchange_wait_is job m t p n outcome next.1 in
-    let got = gets_one job m after t 1 p n outcome s in
-    let ran_before = reached.ran.tasks t there in
+    let got = gets_all job m after t 1 p n (outcome ∷ []) s in
+    let ran_before = ran.tasks t there in
     let ran_now = now.tasks t there in
-    let for_event = event_owes job m t event answer in
     let owed_is = owes_exchange job m t for_event.0 at.owed stands.owes for_event.1 for_event.2 in
     let x = owed_is.0 in
     let w = ranged (((task_at job.graph t).mul *ℤ x) -ℤ number outcome) in
@@ -187,12 +184,12 @@ exchange_follows job m t p n outcome at is reached now answer stands =
     ≡ true in
     let steps : after.begun t ≡ m.begun t =
     (let here : eqb t t ≡ true = eq-eqb t t refl in rw here refl) in
-    let lacks : Lacks job after t (value 1 w) =
+    let lacks : Lacks job after t (values 1 (w ∷ [])) =
     exchange_lacks job m after t outcome x w is ran_before ran_now there peer got steps before in
     let P : Owed → Type 0 = λ o. StandsAt job after t
     (record at { owed = owed_after_exchange (task_at job.graph t) o (number outcome) }) in
     subst P (sym owed_is.1)
-    (stays_at job m after t at.begun (value 1 w) at stands
+    (stays_at job m after t at.begun (values 1 (w ∷ [])) at stands
     (keeps_moved job m after t p (Waited n 1) t s.moved (λ b at. refl)) (steps ∙ stands.begun)
     (exchange_owes job m after t outcome x is ran_before ran_now there peer got owes before
     (subst W same for_event.2) lacks) lacks)

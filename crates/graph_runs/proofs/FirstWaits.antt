@@ -1,19 +1,23 @@
 -- The place of a task after the first wait of a step.
-use Rattle.std.proofs.Common.{◌≡◌, ◌≢◌, ℕ, zero, suc, ◌+◌, ◌-◌, ◌*◌, ◌/◌, ◌%◌, ◌<◌, ◌≤◌, Bool, true, false, cond, eqb, List, [], ◌∷◌, ◌++◌, length, get_or, ℤ, pos, refl, sym, ap, subst, ◌∙◌, arith}
-use Rattle.std.specs.Prelude.{Result, Ok, nat_le, unsigned_abs}
+use Rattle.std.proofs.Common.{◌≡◌, ◌≢◌, ℕ, zero, suc, ◌+◌, ◌-◌, ◌*◌, ◌/◌, ◌%◌, ◌<◌, ◌≤◌, Bool, true, false, cond, eqb, List, [], ◌∷◌, ◌++◌, None, length, get_or, map, ℤ, pos, refl, sym, ap, subst, ◌∙◌, arith}
+use Rattle.std.specs.Prelude.{Result, Ok, nat_le, unsigned_abs, drop}
 use Rattle.std.specs.List.{range_with_len}
 use Rattle.std.proofs.lemmas.Bool.{eq-eqb, eqb-true, ne_eqb, not-false}
 use Rattle.std.proofs.lemmas.Nat.{mod_below, div-add-mod', div-mul-add}
-use Rattle.std.proofs.lemmas.List.{get_or-append_right, length-append, length-map}
+use Rattle.std.proofs.lemmas.List.{get_or-append_right, length-append, length-map, length-drop}
 use Rattle.std.proofs.lemmas.List.FromFn.{get_or-map-range_with_len, length-range_with_len}
 use Rattle.stream_lists.specs.stream_filters.Range.{ranged}
-use Rattle.stream_lists.specs.stream_filters.Filter.{outputs, output_after}
-use Rattle.stream_lists.proofs.stream_filters_lemmas.Outputs.{outputs-push}
 use Rattle.stream_lists.specs.stream_filters.declared.fault.TooBigValue.{TooBigValue}
 use Rattle.phase_history.specs.declared.event.Event.TheVariants.{Waited}
 use Rattle.phase_history.specs.phase_accum.declared.outcome.Outcome.{Outcome}
 use Rattle.phase_history.specs.phase_accum.Sends.{value_max}
 use Rattle.phase_history.specs.Legal.{IsLegal}
+use Rattle.phase_history.specs.phase_base.Limits.{Limits}
+use Rattle.phase_history.specs.phase_base.Members.{entry_of}
+use Rattle.phase_history.specs.declared.refusal.WaitRefusal.TheVariants.{NoTask}
+use Rattle.phase_history.specs.Histories.{History, members_of, positions_of}
+use Rattle.phase_history.specs.Refusals.{wait_refusal, wait_rows, is_bad_block}
+use Rattle.phase_history.proofs.Refused.{Passes, passes_from}
 use Rattle.stream_lists.specs.graph_base.declared.line.Kind.{Kind}
 use Rattle.stream_lists.specs.graph_base.declared.line.Kind.TheVariants.{Source, Fir, Split, Join, Peer, Sink}
 use Rattle.stream_lists.specs.graph_base.Graphs.{task_at}
@@ -24,19 +28,20 @@ use Rattle.stream_lists.specs.Lists.{number, entry, every, in_turn, turn_at}
 use Rattle.stream_lists.specs.Ranges.{is_out_of_range}
 use Rattle.graph_runs.specs.Moments.{Moment, HasRun, TaskRan, made_now, taken_now, first_input, input_at, limits_at}
 use Rattle.graph_runs.proofs.Tasks.{now_at}
-use Rattle.graph_runs.proofs.Nexts.{turns-next, turns-stay}
-use Rattle.graph_runs.proofs.Turned.{first_wait_is}
+use Rattle.graph_runs.specs.Moves.{further, IsBlock}
+use Rattle.graph_runs.specs.NextBlocks.{block_of}
+use Rattle.graph_runs.proofs.Blocks.{block_few}
+use Rattle.graph_runs.proofs.BlockOwes.{fir_owes_block}
+use Rattle.graph_runs.proofs.Nexts.{turns-next, turns-stay, further-length}
+use Rattle.graph_runs.proofs.InBlocks.{first_waits_are}
 use Rattle.graph_runs.specs.TaskEvents.{IsNext, first_wait, after_turn}
 use Rattle.graph_runs.specs.Nexts.{waits_first, signals, exchanges}
-use Rattle.graph_runs.specs.Answers.{makes, answer_of_turn}
-use Rattle.graph_runs.specs.Reached.{IsReachable}
-use Rattle.graph_runs.specs.TaskPlaces.{Owed, nothing, value, Owes, TaskPlace, StandsAt, lacking, owed_after_wait}
-use Rattle.graph_runs.proofs.Boundaries.{made_many, peer_ends}
-use Rattle.graph_runs.proofs.Turning.{turn_makes_next}
+use Rattle.graph_runs.specs.TaskPlaces.{Owed, nothing, values, Owes, TaskPlace, StandsAt, lacking, owed_after_wait, outputs_of_block}
+use Rattle.graph_runs.proofs.Boundaries.{all_put, made_many, peer_ends}
 use Rattle.graph_runs.proofs.Ranged.{taken_ranged}
-use Rattle.graph_runs.proofs.Following.{Lacks, GetsOne, gets_one, stays_at, keeps_moved}
-use Rattle.graph_runs.proofs.InOrder.{event_owes}
-use Rattle.graph_runs.proofs.Lacking.{first_none, first_is}
+use Rattle.graph_runs.proofs.Following.{Lacks, GetsAll, gets_all, stays_at, keeps_moved}
+use Rattle.graph_runs.proofs.InOrder.{OwesFor}
+use Rattle.graph_runs.proofs.Lacking.{first_none, first_is, lacks_here, next_all, next_one}
 use Rattle.graph_runs.proofs.Stepping.{owes_nothing}
 
 -- what stands behind a list
@@ -65,8 +70,7 @@ turn_count m b some =
 -- ---- what a first wait changes
 
 -- the facts of a first wait, by its input number and what was taken
-pub record FirstWait (job : Job) (m after : Moment) (t k : ℕ) (outcome : Outcome)
-    : Type 0 where
+pub record FirstWait (job : Job) (m after : Moment) (t k : ℕ) (xs : List ℤ) : Type 0 where
   pub is : IsGraph job.graph
   pub ran : TaskRan job m t
   pub now : TaskRan job after t
@@ -74,27 +78,37 @@ pub record FirstWait (job : Job) (m after : Moment) (t k : ℕ) (outcome : Outco
       (after.history (input_at (task_at job.graph t) k))
   pub there : t < length job.graph.tasks
   pub few : k < length (task_at job.graph t).inputs
-  pub waits : GetsOne m after t k outcome
+  pub waits : GetsAll m after t k xs
   pub first : k ≡ first_input (task_at job.graph t) (m.begun t)
-  pub steps : after.begun t ≡ suc (m.begun t)
+  pub steps : after.begun t ≡ m.begun t + length xs
+  pub some : 1 ≤ length xs
+  pub block : IsBlock (task_at job.graph t).kind (length xs)
+  pub room : length xs ≤ (task_at job.graph t).block
   pub all_taken : length (m.taken t k) ≡ takes_from (task_at job.graph t) (m.begun t) k
   pub lacks : Lacks job m t nothing
 
-wait_lacks : (job : Job) (m after : Moment) (t k : ℕ) (outcome : Outcome) (owed : Owed)
-    → FirstWait job m after t k outcome
+-- what a first wait leaves owed
+abbrev pub LeavesOwed : Job → Moment → ℕ → Owed → Type 0
+LeavesOwed job after t owed = Owes job after t owed × Lacks job after t owed
+
+-- ---- the first wait of one step
+
+wait_lacks : (job : Job) (m after : Moment) (t k : ℕ) (x : ℤ) (owed : Owed)
+    → FirstWait job m after t k (x ∷ [])
     → ((i : ℕ) → i < length (signalled_by (task_at job.graph t))
     → puts_on (task_at job.graph t) (suc (m.begun t)) i
     ≡ puts_on (task_at job.graph t) (m.begun t) i + lacking (task_at job.graph t).kind owed i)
     → Lacks job after t owed
-wait_lacks job m after t k outcome owed w grows i lt =
+wait_lacks job m after t k x owed w grows i lt =
     let many : length (made_now job after t i)
     ≡ puts_on (task_at job.graph t) (after.begun t) i =
     made_many job after t i w.is w.now w.there lt in
     let was : length (made_now job m t i) ≡ puts_on (task_at job.graph t) (m.begun t) i =
     made_many job m t i w.is w.ran w.there lt in
+    let one : after.begun t ≡ m.begun t + 1 = w.steps in
     let step : puts_on (task_at job.graph t) (after.begun t) i
     ≡ puts_on (task_at job.graph t) (suc (m.begun t)) i =
-    ap (λ b. puts_on (task_at job.graph t) b i) w.steps in
+    ap (λ b. puts_on (task_at job.graph t) b i) (one ∙ omega arith) in
     let full : length (made_now job m t i) ≡ length (m.put t i) + 0 = w.lacks i lt in
     let put : length (after.put t i) ≡ length (m.put t i) = ap length (w.waits.put i) in
     let more : puts_on (task_at job.graph t) (suc (m.begun t)) i
@@ -102,48 +116,48 @@ wait_lacks job m after t k outcome owed w grows i lt =
     + lacking (task_at job.graph t).kind owed i = grows i lt in
     omega arith
 
--- the value on output j is next, where it stands behind what was made before
-wait_owes : (job : Job) (m after : Moment) (t k j : ℕ) (outcome : Outcome) (v : ℤ)
-    (r : Result ℤ TooBigValue) → FirstWait job m after t k outcome
-    → Lacks job after t (value j r) → j < length (signalled_by (task_at job.graph t))
-    → ((i : ℕ) → i < j → lacking (task_at job.graph t).kind (value j r) i ≡ 0)
+-- the value that was taken is in range
+wait_ranged : (job : Job) (m after : Moment) (t k : ℕ) (x : ℤ)
+    → FirstWait job m after t k (x ∷ []) → ranged x ≡ Ok x
+wait_ranged job m after t k x w =
+    let all = taken_ranged job after t k w.now w.legal w.few in
+    let last : get_or (after.taken t k) (length (m.taken t k)) (pos 0) ≡ x =
+    ap (λ l. get_or l (length (m.taken t k)) (pos 0)) w.waits.taken
+    ∙ behind (m.taken t k) x (length (m.taken t k)) refl in
+    in_range_is x (ap is_out_of_range (sym last) ∙ all.at (length (m.taken t k)))
+
+-- it is next on output j, where it stands behind what was made before
+wait_owes : (job : Job) (m after : Moment) (t k j : ℕ) (x : ℤ)
+    → FirstWait job m after t k (x ∷ []) → Lacks job after t (values j (Ok x ∷ []))
+    → j < length (signalled_by (task_at job.graph t))
+    → ((i : ℕ) → i < j → lacking (task_at job.graph t).kind (values j (Ok x ∷ [])) i ≡ 0)
     → ((a b : ℕ) → waits_first (task_at job.graph t).kind j a b ≡ false)
-    → get_or (made_now job after t j) (length (made_now job m t j)) (pos 0) ≡ v → ranged v ≡ r
-    → Owes job after t (value j r)
-wait_owes job m after t k j outcome v r w lacks lt below no_wait made is_r =
-    let one : lacking (task_at job.graph t).kind (value j r) j ≡ 1 =
-    (let here : eqb j j ≡ true = eq-eqb j j refl in rw here refl) in
+    → get_or (made_now job after t j) (length (made_now job m t j)) (pos 0) ≡ x
+    → Owes job after t (values j (Ok x ∷ []))
+wait_owes job m after t k j x w lacks lt below no_wait made =
+    let one : lacking (task_at job.graph t).kind (values j (Ok x ∷ [])) j ≡ 1 =
+    lacks_here (task_at job.graph t).kind j (Ok x ∷ []) in
+    let long : length (made_now job after t j) ≡ length (after.put t j)
+    + lacking (task_at job.graph t).kind (values j (Ok x ∷ [])) j = lacks j lt in
     let full : length (made_now job m t j) ≡ length (m.put t j) + 0 = w.lacks j lt in
     let put : length (after.put t j) ≡ length (m.put t j) = ap length (w.waits.put j) in
     let index : length (after.put t j) ≡ length (made_now job m t j) = omega arith in (
-      first_is job after t j (value j r) lacks lt one below,
+      first_is job after t j (values j (Ok x ∷ [])) lacks lt (omega arith) below,
       ap (λ b. cond b exchanges (signals j))
           (no_wait (length (after.put t j)) (length (after.taken t 1))),
-      ap ranged (ap (λ i. get_or (made_now job after t j) i (pos 0)) index ∙ made) ∙ is_r,
+      ap (λ l. map ranged l)
+          (next_one job after t j (w.is.tasks t w.there).block.some (omega arith))
+          ∙ ap (λ v. ranged v ∷ [])
+          (ap (λ i. get_or (made_now job after t j) i (pos 0)) index ∙ made)
+          ∙ ap (λ r. r ∷ []) (wait_ranged job m after t k x w),
     )
 
--- the value that was taken is in range
-wait_ranged : (job : Job) (m after : Moment) (t k : ℕ) (outcome : Outcome)
-    → FirstWait job m after t k outcome → ranged (number outcome) ≡ Ok (number outcome)
-wait_ranged job m after t k outcome w =
-    let all = taken_ranged job after t k w.now w.legal w.few in
-    let last : get_or (after.taken t k) (length (m.taken t k)) (pos 0) ≡ number outcome =
-    ap (λ l. get_or l (length (m.taken t k)) (pos 0)) w.waits.taken
-    ∙ behind (m.taken t k) (number outcome) (length (m.taken t k)) refl in
-    in_range_is (number outcome)
-    (ap is_out_of_range (sym last) ∙ all.at (length (m.taken t k)))
-
 -- what is taken from the input, as the step sees it
-now_taken : (job : Job) (m after : Moment) (t k : ℕ) (outcome : Outcome)
-    → FirstWait job m after t k outcome
-    → get_or (taken_now after (task_at job.graph t) t) k []
-    ≡ m.taken t k ++ number outcome ∷ []
-now_taken job m after t k outcome w =
+now_taken : (job : Job) (m after : Moment) (t k : ℕ) (x : ℤ)
+    → FirstWait job m after t k (x ∷ [])
+    → get_or (taken_now after (task_at job.graph t) t) k [] ≡ m.taken t k ++ x ∷ []
+now_taken job m after t k x w =
     now_at after (task_at job.graph t) t k w.few ∙ w.waits.taken
-
--- what a first wait leaves owed
-abbrev pub LeavesOwed : Job → Moment → ℕ → Owed → Type 0
-LeavesOwed job after t owed = Owes job after t owed × Lacks job after t owed
 
 -- ---- kind by kind
 
@@ -151,18 +165,19 @@ single_output : (i : ℕ) (n : ℕ) → n ≡ 1 → i < n → i ≡ 0
 single_output i n one lt = omega arith
 
 none_below : (kind : Kind) (r : Result ℤ TooBigValue) (i : ℕ) → i < 0
-    → lacking kind (value 0 r) i ≡ 0
+    → lacking kind (values 0 (r ∷ [])) i ≡ 0
 none_below kind r i lt = absurd (omega arith)
 
-fir_owes : (job : Job) (m after : Moment) (t k : ℕ) (outcome : Outcome)
-    → FirstWait job m after t k outcome → (task_at job.graph t).kind ≡ Fir
+-- a filter owes an output for each number
+fir_owes : (job : Job) (m after : Moment) (t k : ℕ) (xs : List ℤ)
+    → FirstWait job m after t k xs → (task_at job.graph t).kind ≡ Fir
     → LeavesOwed job after t
-    (value 0 (ranged (output_after (task_at job.graph t).taps (task_at job.graph t).shift
-    (m.taken t 0 ++ number outcome ∷ []))))
-fir_owes job m after t k outcome w e =
+    (values 0 (map ranged (outputs_of_block (task_at job.graph t).taps
+    (task_at job.graph t).shift (m.taken t 0) xs)))
+fir_owes job m after t k xs w e =
     let task = task_at job.graph t in
-    let xs = m.taken t 0 ++ number outcome ∷ [] in
-    let v = output_after task.taps task.shift xs in
+    let vs = outputs_of_block task.taps task.shift (m.taken t 0) xs in
+    let rs = map ranged vs in
     let H : Kind → Type 0 = λ kind. HasEnds kind (length task.inputs) (length task.outputs) in
     let ends : (length task.inputs ≡ 1) × (length task.outputs ≡ 1) =
     subst H e (w.is.tasks t w.there).ends in
@@ -171,51 +186,47 @@ fir_owes job m after t k outcome w e =
     let many : length (signalled_by task) ≡ 1 = ap length outs ∙ ends.1 in
     let few : k < length task.inputs = w.few in
     let zero_k : k ≡ 0 = omega arith in
-    let now_is : get_or (taken_now after task t) 0 [] ≡ xs =
-    ap (λ i. get_or (taken_now after task t) i []) (sym zero_k)
-    ∙ now_taken job m after t k outcome w
-    ∙ ap (λ i. m.taken t i ++ number outcome ∷ []) zero_k in
-    let was : get_or (taken_now m task t) 0 [] ≡ m.taken t 0 =
-    now_at m task t 0 (omega arith) in
-    let made : made_now job after t 0 ≡ outputs task.taps task.shift (m.taken t 0) ++ v ∷ [] =
-    (let is : made_now job after t 0
-    ≡ outputs task.taps task.shift (get_or (taken_now after task t) 0 []) = rw e refl in
-    is ∙ ap (λ l. outputs task.taps task.shift l) now_is
-    ∙ outputs-push task.taps task.shift (m.taken t 0) (number outcome)) in
-    let before : made_now job m t 0 ≡ outputs task.taps task.shift (m.taken t 0) =
-    (let is : made_now job m t 0
-    ≡ outputs task.taps task.shift (get_or (taken_now m task t) 0 []) = rw e refl in
-    is ∙ ap (λ l. outputs task.taps task.shift l) was) in
-    let lacks : Lacks job after t (value 0 (ranged v)) =
-    wait_lacks job m after t k outcome (value 0 (ranged v)) w
-    (λ i lt.
-    (let at : i ≡ 0 = single_output i (length (signalled_by task)) many lt in
-    let next : puts_on task (suc (m.begun t)) i ≡ suc (m.begun t) = rw e refl in
-    let last : puts_on task (m.begun t) i ≡ m.begun t = rw e refl in
-    let one : lacking task.kind (value 0 (ranged v)) i ≡ 1 =
-    ap (λ j. lacking task.kind (value 0 (ranged v)) j) at in
-    omega arith)) in (
-      wait_owes job m after t k 0 outcome v (ranged v) w lacks (omega arith)
-          (none_below task.kind (ranged v)) (λ a b. rw e refl)
-          (ap (λ l. get_or l (length (made_now job m t 0)) (pos 0)) made
-          ∙ behind (outputs task.taps task.shift (m.taken t 0)) v (length (made_now job m t 0))
-          (ap length before)) refl,
+    let G : ℕ → Type 0 = λ i. GetsAll m after t i xs in
+    let block = fir_owes_block job m after t xs w.is w.there e w.ran w.now
+    (subst G zero_k w.waits) w.steps
+    (all_put job m t w.ran w.there (first_none job m t w.lacks) 0 (omega arith)) in
+    let made : length (made_now job after t 0) ≡ length (after.put t 0) + length xs =
+    block.many in
+    let rest : length (drop (length (after.put t 0)) (made_now job after t 0))
+    ≡ length (made_now job after t 0) - length (after.put t 0) =
+    length-drop (length (after.put t 0)) (made_now job after t 0) in
+    let long : length (drop (length (after.put t 0)) (made_now job after t 0)) ≡ length vs =
+    ap length block.values in
+    let same : length rs ≡ length vs = length-map vs ranged in
+    let some : 1 ≤ length xs = w.some in
+    let room : length xs ≤ task.block = w.room in
+    let here : length (made_now job after t 0)
+    ≡ length (after.put t 0) + lacking task.kind (values 0 rs) 0 = omega arith in
+    let L : ℕ → Type 0 = λ i. length (made_now job after t i)
+    ≡ length (after.put t i) + lacking task.kind (values 0 rs) i in
+    let lacks : Lacks job after t (values 0 rs) =
+    λ i lt. subst L (sym (single_output i (length (signalled_by task)) many lt)) here in (
+      (
+        first_is job after t 0 (values 0 rs) lacks (omega arith) (omega arith)
+            (λ i lt. absurd (omega arith)),
+        (rw e refl),
+        ap (λ l. map ranged l) (next_all job after t 0 (omega arith) ∙ block.values),
+      ),
       lacks,
     )
 
-peer_first_owes : (job : Job) (m after : Moment) (t k : ℕ) (outcome : Outcome)
-    → FirstWait job m after t k outcome → (task_at job.graph t).kind ≡ Peer
-    → LeavesOwed job after t (value 0 (Ok (number outcome)))
-peer_first_owes job m after t k outcome w e =
+peer_first_owes : (job : Job) (m after : Moment) (t k : ℕ) (x : ℤ)
+    → FirstWait job m after t k (x ∷ []) → (task_at job.graph t).kind ≡ Peer
+    → LeavesOwed job after t (values 0 (Ok x ∷ []))
+peer_first_owes job m after t k x w e =
     let task = task_at job.graph t in
-    let x = number outcome in
     let ends = peer_ends job t w.is w.there e in
     let two : length task.inputs ≡ 2 = ends.0 in
     let both : length (signalled_by task) ≡ 2 = ends.1 in
     let zero_k : k ≡ 0 = w.first ∙ rw e refl in
     let now_is : get_or (taken_now after task t) 0 [] ≡ m.taken t 0 ++ x ∷ [] =
     ap (λ i. get_or (taken_now after task t) i []) (sym zero_k)
-    ∙ now_taken job m after t k outcome w ∙ ap (λ i. m.taken t i ++ x ∷ []) zero_k in
+    ∙ now_taken job m after t k x w ∙ ap (λ i. m.taken t i ++ x ∷ []) zero_k in
     let was : get_or (taken_now m task t) 0 [] ≡ m.taken t 0 =
     now_at m task t 0 (omega arith) in
     let made : made_now job after t 0 ≡ m.taken t 0 ++ x ∷ [] =
@@ -223,33 +234,31 @@ peer_first_owes job m after t k outcome w e =
     is ∙ now_is) in
     let before : made_now job m t 0 ≡ m.taken t 0 =
     (let is : made_now job m t 0 ≡ get_or (taken_now m task t) 0 [] = rw e refl in is ∙ was) in
-    let lacks : Lacks job after t (value 0 (Ok x)) =
-    wait_lacks job m after t k outcome (value 0 (Ok x)) w
+    let lacks : Lacks job after t (values 0 (Ok x ∷ [])) =
+    wait_lacks job m after t k x (values 0 (Ok x ∷ [])) w
     (λ i lt.
     (let next : puts_on task (suc (m.begun t)) i ≡ suc (m.begun t) = rw e refl in
     let last : puts_on task (m.begun t) i ≡ m.begun t = rw e refl in
-    let one : lacking task.kind (value 0 (Ok x)) i ≡ 1 =
-    ap (λ kind. lacking kind (value 0 (Ok x)) i) e ∙ each_lacks x i (omega arith) in
+    let one : lacking task.kind (values 0 (Ok x ∷ [])) i ≡ 1 =
+    ap (λ kind. lacking kind (values 0 (Ok x ∷ [])) i) e ∙ each_lacks x i (omega arith) in
     omega arith)) in (
-      wait_owes job m after t k 0 outcome x (Ok x) w lacks (omega arith)
+      wait_owes job m after t k 0 x w lacks (omega arith)
           (none_below task.kind (Ok x)) (λ a b. rw e refl)
           (ap (λ l. get_or l (length (made_now job m t 0)) (pos 0)) made
-          ∙ behind (m.taken t 0) x (length (made_now job m t 0)) (ap length before))
-          (wait_ranged job m after t k outcome w),
+          ∙ behind (m.taken t 0) x (length (made_now job m t 0)) (ap length before)),
       lacks,
     )
   where
-    each_lacks : (x : ℤ) (i : ℕ) → i < 2 → lacking Peer (value 0 (Ok x)) i ≡ 1
+    each_lacks : (x : ℤ) (i : ℕ) → i < 2 → lacking Peer (values 0 (Ok x ∷ [])) i ≡ 1
     each_lacks x zero lt = refl
     each_lacks x (suc zero) lt = refl
     each_lacks x (suc (suc i)) lt = absurd (omega arith)
 
-join_owes : (job : Job) (m after : Moment) (t k : ℕ) (outcome : Outcome)
-    → FirstWait job m after t k outcome → (task_at job.graph t).kind ≡ Join
-    → LeavesOwed job after t (value 0 (Ok (number outcome)))
-join_owes job m after t k outcome w e =
+join_owes : (job : Job) (m after : Moment) (t k : ℕ) (x : ℤ)
+    → FirstWait job m after t k (x ∷ []) → (task_at job.graph t).kind ≡ Join
+    → LeavesOwed job after t (values 0 (Ok x ∷ []))
+join_owes job m after t k x w e =
     let task = task_at job.graph t in
-    let x = number outcome in
     let b = m.begun t in
     let H : Kind → Type 0 = λ kind. HasEnds kind (length task.inputs) (length task.outputs) in
     let ends = subst H e (w.is.tasks t w.there).ends in
@@ -271,40 +280,38 @@ join_owes job m after t k outcome w e =
     let before : length (made_now job m t 0) ≡ puts_on task b 0 =
     made_many job m t 0 w.is w.ran w.there (omega arith) in
     let index : length (made_now job m t 0) ≡ b = omega arith in
-    let steps : after.begun t ≡ suc b = w.steps in
+    let steps : after.begun t ≡ b + 1 = w.steps in
     let below : b < after.begun t = omega arith in
     let from : 0 + b ≡ b = omega arith in
     let at_turn : turn_at lists b ≡ x =
     ap (λ m. entry (get_or lists (b % m) []) (b / m)) long
     ∙ ap (λ i. entry (get_or lists i []) (b / length task.inputs)) (sym first)
-    ∙ ap (λ l. entry l (b / length task.inputs)) (now_taken job m after t k outcome w)
+    ∙ ap (λ l. entry l (b / length task.inputs)) (now_taken job m after t k x w)
     ∙ behind (m.taken t k) x (b / length task.inputs) (sym count) in
-    let lacks : Lacks job after t (value 0 (Ok x)) =
-    wait_lacks job m after t k outcome (value 0 (Ok x)) w
+    let lacks : Lacks job after t (values 0 (Ok x ∷ [])) =
+    wait_lacks job m after t k x (values 0 (Ok x ∷ [])) w
     (λ i lt.
     (let at : i ≡ 0 = single_output i (length (signalled_by task)) many lt in
     let next : puts_on task (suc (m.begun t)) i ≡ suc (m.begun t) = rw e refl in
     let last : puts_on task (m.begun t) i ≡ m.begun t = rw e refl in
-    let one : lacking task.kind (value 0 (Ok x)) i ≡ 1 =
-    ap (λ j. lacking task.kind (value 0 (Ok x)) j) at in
+    let one : lacking task.kind (values 0 (Ok x ∷ [])) i ≡ 1 =
+    ap (λ j. lacking task.kind (values 0 (Ok x ∷ [])) j) at in
     omega arith)) in (
-      wait_owes job m after t k 0 outcome x (Ok x) w lacks (omega arith)
+      wait_owes job m after t k 0 x w lacks (omega arith)
           (none_below task.kind (Ok x)) (λ a b. rw e refl)
           (ap (λ l. get_or l (length (made_now job m t 0)) (pos 0)) made
           ∙ ap (λ i. get_or (in_turn lists (after.begun t)) i (pos 0)) index
           ∙ get_or-map-range_with_len (turn_at lists) 0 (after.begun t) b b (pos 0) below from
-          ∙ at_turn)
-          (wait_ranged job m after t k outcome w),
+          ∙ at_turn),
       lacks,
     )
 
-split_owes : (job : Job) (m after : Moment) (t k : ℕ) (outcome : Outcome)
-    → FirstWait job m after t k outcome → (task_at job.graph t).kind ≡ Split
+split_owes : (job : Job) (m after : Moment) (t k : ℕ) (x : ℤ)
+    → FirstWait job m after t k (x ∷ []) → (task_at job.graph t).kind ≡ Split
     → LeavesOwed job after t
-    (value (m.begun t % length (task_at job.graph t).outputs) (Ok (number outcome)))
-split_owes job m after t k outcome w e =
+    (values (m.begun t % length (task_at job.graph t).outputs) (Ok x ∷ []))
+split_owes job m after t k x w e =
     let task = task_at job.graph t in
-    let x = number outcome in
     let b = m.begun t in
     let outs_many = length task.outputs in
     let j = b % outs_many in
@@ -319,7 +326,7 @@ split_owes job m after t k outcome w e =
     let zero_k : k ≡ 0 = omega arith in
     let now_is : get_or (taken_now after task t) 0 [] ≡ m.taken t 0 ++ x ∷ [] =
     ap (λ i. get_or (taken_now after task t) i []) (sym zero_k)
-    ∙ now_taken job m after t k outcome w ∙ ap (λ i. m.taken t i ++ x ∷ []) zero_k in
+    ∙ now_taken job m after t k x w ∙ ap (λ i. m.taken t i ++ x ∷ []) zero_k in
     let taken : length (m.taken t 0) ≡ b =
     ap (λ i. length (m.taken t i)) (sym zero_k) ∙ w.all_taken ∙ rw e refl in
     let longer : length (m.taken t 0 ++ x ∷ []) ≡ suc b =
@@ -342,24 +349,23 @@ split_owes job m after t k outcome w e =
     let from : 0 + q ≡ q = omega arith in
     let whole : q * outs_many + j ≡ b = div-add-mod' b outs_many in
     let at : j + q * outs_many ≡ length (m.taken t 0) = omega arith in
-    let lacks : Lacks job after t (value j (Ok x)) =
-    wait_lacks job m after t k outcome (value j (Ok x)) w
+    let lacks : Lacks job after t (values j (Ok x ∷ [])) =
+    wait_lacks job m after t k x (values j (Ok x ∷ [])) w
     (λ i lt. grows (omega arith) i lt (eqb i j) refl) in (
-      wait_owes job m after t k j outcome x (Ok x) w lacks (omega arith)
+      wait_owes job m after t k j x w lacks (omega arith)
           (λ i lt. other_lacks i (λ same. omega arith)) (λ a b. rw e refl)
           (ap (λ l. get_or l (length (made_now job m t j)) (pos 0)) made
           ∙ ap (λ i. get_or (every outs_many j (m.taken t 0 ++ x ∷ [])) i (pos 0)) index
           ∙ get_or-map-range_with_len
           (λ i. entry (m.taken t 0 ++ x ∷ []) (j + i * outs_many)) 0
           (turns_below outs_many j (length (m.taken t 0 ++ x ∷ []))) q q (pos 0) below from
-          ∙ behind (m.taken t 0) x (j + q * outs_many) at)
-          (wait_ranged job m after t k outcome w),
+          ∙ behind (m.taken t 0) x (j + q * outs_many) at),
       lacks,
     )
   where
     other_lacks : (i : ℕ) → i ≢ m.begun t % length (task_at job.graph t).outputs
         → lacking (task_at job.graph t).kind
-        (value (m.begun t % length (task_at job.graph t).outputs) (Ok (number outcome))) i ≡ 0
+        (values (m.begun t % length (task_at job.graph t).outputs) (Ok x ∷ [])) i ≡ 0
     other_lacks i apart =
         let no_turn : eqb i (m.begun t % length (task_at job.graph t).outputs) ≡ false =
         ne_eqb i (m.begun t % length (task_at job.graph t).outputs) apart in
@@ -371,7 +377,7 @@ split_owes job m after t k outcome w e =
         → puts_on (task_at job.graph t) (suc (m.begun t)) i
         ≡ puts_on (task_at job.graph t) (m.begun t) i
         + lacking (task_at job.graph t).kind
-        (value (m.begun t % length (task_at job.graph t).outputs) (Ok (number outcome))) i
+        (values (m.begun t % length (task_at job.graph t).outputs) (Ok x ∷ [])) i
     grows some i lt true f =
         let task = task_at job.graph t in
         let outs : signalled_by task ≡ task.outputs = rw e refl in
@@ -385,7 +391,7 @@ split_owes job m after t k outcome w e =
         turns-next (length task.outputs) (m.begun t) i (omega arith)
         (eqb-true i (m.begun t % length task.outputs) f) in
         let one : lacking task.kind
-        (value (m.begun t % length task.outputs) (Ok (number outcome))) i ≡ 1 = rw f refl in
+        (values (m.begun t % length task.outputs) (Ok x ∷ [])) i ≡ 1 = rw f refl in
         omega arith
     grows some i lt false f =
         let task = task_at job.graph t in
@@ -402,32 +408,34 @@ split_owes job m after t k outcome w e =
         ≡ turns_below (length task.outputs) i (m.begun t) =
         turns-stay (length task.outputs) (m.begun t) i (omega arith) apart in
         let none : lacking task.kind
-        (value (m.begun t % length task.outputs) (Ok (number outcome))) i ≡ 0 =
+        (values (m.begun t % length task.outputs) (Ok x ∷ [])) i ≡ 0 =
         other_lacks i apart in
         omega arith
 
--- a sink owes nothing, and no source waits
-sink_owes : (job : Job) (m after : Moment) (t k : ℕ) (outcome : Outcome)
-    → FirstWait job m after t k outcome → length (signalled_by (task_at job.graph t)) ≡ 0
+-- a sink owes nothing
+sink_owes : (job : Job) (m after : Moment) (t k : ℕ) (xs : List ℤ)
+    → FirstWait job m after t k xs → length (signalled_by (task_at job.graph t)) ≡ 0
     → LeavesOwed job after t nothing
-sink_owes job m after t k outcome w none =
+sink_owes job m after t k xs w none =
     let lacks : Lacks job after t nothing = λ i lt. absurd (omega arith) in
     (first_none job after t lacks, lacks)
 
 -- ---- the place
 
-pub wait_leaves : (job : Job) (m after : Moment) (t k : ℕ) (outcome : Outcome)
-    → FirstWait job m after t k outcome
+-- the number of a list of one
+single_is : (xs : List ℤ) → length xs ≡ 1 → (x : ℤ) × (xs ≡ x ∷ [])
+single_is [] one = absurd (omega arith)
+single_is (x ∷ []) one = (x, refl)
+single_is (x ∷ (y ∷ ys)) one = absurd (omega arith)
+
+pub wait_leaves : (job : Job) (m after : Moment) (t k : ℕ) (xs : List ℤ)
+    → FirstWait job m after t k xs
     → LeavesOwed job after t
-    (owed_after_wait (task_at job.graph t) (m.begun t) (m.taken t 0) (number outcome))
-wait_leaves job m after t k outcome w = by (task_at job.graph t).kind refl
+    (owed_after_wait (task_at job.graph t) (m.begun t) (m.taken t 0) xs)
+wait_leaves job m after t k xs w = by (task_at job.graph t).kind refl
   where
     Left : Owed → Type 0
     Left o = LeavesOwed job after t o
-
-    Goal_is : Type 0
-    Goal_is = LeavesOwed job after t
-        (owed_after_wait (task_at job.graph t) (m.begun t) (m.taken t 0) (number outcome))
 
     ends : (kind : Kind) → (task_at job.graph t).kind ≡ kind
         → HasEnds kind (length (task_at job.graph t).inputs) (length (task_at job.graph t).outputs)
@@ -436,79 +444,116 @@ wait_leaves job m after t k outcome w = by (task_at job.graph t).kind refl
         (length (task_at job.graph t).outputs) in
         subst H e (w.is.tasks t w.there).ends
 
+    -- where a block is a step
+    single : (kind : Kind) → (task_at job.graph t).kind ≡ kind → (IsBlock kind (length xs)
+        → length xs ≡ 1)
+        → ((x : ℤ) → FirstWait job m after t k (x ∷ []) → LeavesOwed job after t
+        (owed_after_wait (task_at job.graph t) (m.begun t) (m.taken t 0) (x ∷ [])))
+        → LeavesOwed job after t
+        (owed_after_wait (task_at job.graph t) (m.begun t) (m.taken t 0) xs)
+    single kind e one step =
+        let B : Kind → Type 0 = λ kind. IsBlock kind (length xs) in
+        let x = single_is xs (one (subst B e w.block)) in
+        let W : List ℤ → Type 0 = λ l. FirstWait job m after t k l in
+        let O : List ℤ → Type 0 = λ l. LeavesOwed job after t
+        (owed_after_wait (task_at job.graph t) (m.begun t) (m.taken t 0) l) in
+        subst O (sym x.1) (step x.0 (subst W x.1 w))
+
     by : (kind : Kind) → (task_at job.graph t).kind ≡ kind
         → LeavesOwed job after t
-        (owed_after_wait (task_at job.graph t) (m.begun t) (m.taken t 0) (number outcome))
+        (owed_after_wait (task_at job.graph t) (m.begun t) (m.taken t 0) xs)
     by Source e =
         let no_input : length (task_at job.graph t).inputs ≡ 0 = (ends Source e).0 in
         let few : k < length (task_at job.graph t).inputs = w.few in
         absurd (omega arith)
     by Fir e =
-        let left : owed_after_wait (task_at job.graph t) (m.begun t) (m.taken t 0)
-        (number outcome) ≡ value 0 (ranged (output_after (task_at job.graph t).taps
-        (task_at job.graph t).shift (m.taken t 0 ++ number outcome ∷ []))) = rw e refl in
-        subst Left (sym left) (fir_owes job m after t k outcome w e)
+        let left : owed_after_wait (task_at job.graph t) (m.begun t) (m.taken t 0) xs
+        ≡ values 0 (map ranged (outputs_of_block (task_at job.graph t).taps
+        (task_at job.graph t).shift (m.taken t 0) xs)) = rw e refl in
+        subst Left (sym left) (fir_owes job m after t k xs w e)
     by Split e =
-        let left : owed_after_wait (task_at job.graph t) (m.begun t) (m.taken t 0)
-        (number outcome)
-        ≡ value (m.begun t % length (task_at job.graph t).outputs) (Ok (number outcome)) =
-        rw e refl in
-        subst Left (sym left) (split_owes job m after t k outcome w e)
+        single Split e (λ one. one) (λ x v.
+        (let left : owed_after_wait (task_at job.graph t) (m.begun t) (m.taken t 0) (x ∷ [])
+        ≡ values (m.begun t % length (task_at job.graph t).outputs) (Ok x ∷ []) = rw e refl in
+        subst Left (sym left) (split_owes job m after t k x v e)))
     by Join e =
-        let left : owed_after_wait (task_at job.graph t) (m.begun t) (m.taken t 0)
-        (number outcome) ≡ value 0 (Ok (number outcome)) = rw e refl in
-        subst Left (sym left) (join_owes job m after t k outcome w e)
+        single Join e (λ one. one) (λ x v.
+        (let left : owed_after_wait (task_at job.graph t) (m.begun t) (m.taken t 0) (x ∷ [])
+        ≡ values 0 (Ok x ∷ []) = rw e refl in
+        subst Left (sym left) (join_owes job m after t k x v e)))
     by Peer e =
-        let left : owed_after_wait (task_at job.graph t) (m.begun t) (m.taken t 0)
-        (number outcome) ≡ value 0 (Ok (number outcome)) = rw e refl in
-        subst Left (sym left) (peer_first_owes job m after t k outcome w e)
+        single Peer e (λ one. one) (λ x v.
+        (let left : owed_after_wait (task_at job.graph t) (m.begun t) (m.taken t 0) (x ∷ [])
+        ≡ values 0 (Ok x ∷ []) = rw e refl in
+        subst Left (sym left) (peer_first_owes job m after t k x v e)))
     by Sink e =
-        let left : owed_after_wait (task_at job.graph t) (m.begun t) (m.taken t 0)
-        (number outcome) ≡ nothing = rw e refl in
+        let left : owed_after_wait (task_at job.graph t) (m.begun t) (m.taken t 0) xs
+        ≡ nothing = rw e refl in
         let no_output : length (task_at job.graph t).outputs ≡ 0 = (ends Sink e).1 in
         let outs : signalled_by (task_at job.graph t) ≡ (task_at job.graph t).outputs =
         rw e refl in
-        subst Left (sym left)
-        (sink_owes job m after t k outcome w (ap length outs ∙ no_output))
+        subst Left (sym left) (sink_owes job m after t k xs w (ap length outs ∙ no_output))
 
-pub first_wait_follows : (job : Job) (m : Moment) (t k p n : ℕ) (outcome : Outcome)
-    (at : TaskPlace) → IsGraph job.graph → IsReachable job m
-    → HasRun job (after_turn job (first_wait t k p n outcome) m)
-    → answer_of_turn job m t ≡ makes (first_wait t k p n outcome) → StandsAt job m t at
-    → StandsAt job (after_turn job (first_wait t k p n outcome) m) t
+-- an accepted wait is for a phase at least
+waits_some : (limits : Limits) (h : History) (n steps : ℕ) → wait_refusal limits h n steps ≡ None
+    → 1 ≤ steps
+waits_some limits h n steps none =
+    let p : Passes (entry_of (members_of h) n) (wait_rows limits (positions_of h) steps) =
+    passes_from (entry_of (members_of h) n) NoTask (wait_rows limits (positions_of h) steps) none in
+    by steps p.passes.1.0
+  where
+    by : (steps : ℕ) → is_bad_block limits steps ≡ false → 1 ≤ steps
+    by zero good = absurd (cc)
+    by (suc n) good = omega arith
+
+pub first_wait_follows : (job : Job) (m : Moment) (t k p n : ℕ) (outcomes : List Outcome)
+    (at : TaskPlace) → IsGraph job.graph → HasRun job m
+    → IsNext job m (first_wait t k p n outcomes)
+    → HasRun job (after_turn job (first_wait t k p n outcomes) m)
+    → OwesFor job m (first_wait t k p n outcomes) → StandsAt job m t at
+    → StandsAt job (after_turn job (first_wait t k p n outcomes) m) t
     (record at {
-      begun = suc at.begun;
-      owed = owed_after_wait (task_at job.graph t) at.begun (m.taken t 0) (number outcome);
+      begun = further at.begun outcomes;
+      owed = owed_after_wait (task_at job.graph t) at.begun (m.taken t 0) (map number outcomes);
     })
-first_wait_follows job m t k p n outcome at is reached now answer stands =
-    let event = first_wait t k p n outcome in
-    let after = after_turn job event m in
-    let next : IsNext job m event =
-    turn_makes_next job m t event is reached.ran (λ c due. reached.to_come) answer in
-    let s = first_wait_is job m t k p n outcome next.1 in
-    let none : at.owed ≡ nothing =
-    owes_nothing job m t at.owed stands.owes (event_owes job m t event answer) in
+first_wait_follows job m t k p n outcomes at is ran next now owes stands =
+    let after = after_turn job (first_wait t k p n outcomes) m in
+    let there = next.0.task in
+    let xs = map number outcomes in
+    let s = first_waits_are job m t k p n outcomes next.1 in
+    let none : at.owed ≡ nothing = owes_nothing job m t at.owed stands.owes owes.0 in
     let L : Owed → Type 0 = λ o. Lacks job m t o in
-    let steps : after.begun t ≡ suc (m.begun t) =
+    let steps : after.begun t ≡ further (m.begun t) outcomes =
     (let here : eqb t t ≡ true = eq-eqb t t refl in rw here refl) in
-    let w : FirstWait job m after t k outcome = record {
+    let more : further (m.begun t) outcomes ≡ m.begun t + length outcomes =
+    further-length (m.begun t) outcomes in
+    let many : length xs ≡ length outcomes = length-map outcomes number in
+    let B : ℕ → Type 0 = λ i. IsBlock (task_at job.graph t).kind i in
+    let some : 1 ≤ length outcomes =
+    waits_some (limits_at job p) (m.history p) n (length outcomes) next.1.wait.accepted.0 in
+    let most : length outcomes ≤ block_of job m t = owes.1 in
+    let few : block_of job m t ≤ (task_at job.graph t).block = block_few job m t in
+    let w : FirstWait job m after t k xs = record {
       is = is;
-      ran = reached.ran.tasks t next.0.task;
-      now = now.tasks t next.0.task;
+      ran = ran.tasks t there;
+      now = now.tasks t there;
       legal = (now.phasers (input_at (task_at job.graph t) k)
-          ((is.tasks t next.0.task).inputs k 0 next.1.wait.few)).legal;
-      there = next.0.task;
+          ((is.tasks t there).inputs k 0 next.1.wait.few)).legal;
+      there = there;
       few = next.1.wait.few;
-      waits = gets_one job m after t k p n outcome s;
+      waits = gets_all job m after t k p n outcomes s;
       first = next.1.first;
-      steps = steps;
+      steps = omega arith;
+      some = omega arith;
+      block = subst B (sym many) next.1.block;
+      room = omega arith;
       all_taken = next.1.may_begin.taken k next.1.wait.few;
       lacks = subst L none stands.lacks;
     } in
-    let B : ℕ → Type 0 = λ b. LeavesOwed job after t
-    (owed_after_wait (task_at job.graph t) b (m.taken t 0) (number outcome)) in
-    let left = subst B stands.begun (wait_leaves job m after t k outcome w) in
-    stays_at job m after t (suc at.begun)
-    (owed_after_wait (task_at job.graph t) at.begun (m.taken t 0) (number outcome)) at stands
-    (keeps_moved job m after t p (Waited n 1) t s.moved (λ b at. refl))
-    (steps ∙ ap suc stands.begun) left.0 left.1
+    let A : ℕ → Type 0 = λ b. LeavesOwed job after t
+    (owed_after_wait (task_at job.graph t) b (m.taken t 0) xs) in
+    let left = subst A stands.begun (wait_leaves job m after t k xs w) in
+    stays_at job m after t (further at.begun outcomes)
+    (owed_after_wait (task_at job.graph t) at.begun (m.taken t 0) xs) at stands
+    (keeps_moved job m after t p (Waited n (length outcomes)) t s.moved (λ b at. refl))
+    (steps ∙ ap (λ b. further b outcomes) stands.begun) left.0 left.1

@@ -1,6 +1,6 @@
 -- A task's place after others' events, and after those of its own that signal and wait for nothing.
-use Rattle.std.proofs.Common.{◌≡◌, ◌≢◌, ℕ, ◌+◌, ◌-◌, ◌<◌, ◌≤◌, Bool, true, false, cond, eqb, List, [], ◌∷◌, ◌++◌, Some, length, get_or, slice_get, ℤ, pos, refl, sym, ap, ◌∙◌, arith, ◌⊎◌, inl, inr}
-use Rattle.std.specs.Prelude.{nat_lt, unwrap_or}
+use Rattle.std.proofs.Common.{◌≡◌, ◌≢◌, ℕ, ◌+◌, ◌-◌, ◌<◌, ◌≤◌, Bool, true, false, cond, eqb, List, [], ◌∷◌, ◌++◌, Some, length, get_or, slice_get, map, ℤ, pos, refl, sym, ap, ◌∙◌, arith, ◌⊎◌, inl, inr}
+use Rattle.std.specs.Prelude.{nat_lt, unwrap_or, take, drop}
 use Rattle.std.specs.List.{find, range_with_len}
 use Rattle.std.proofs.lemmas.Bool.{eqb-true, eq-eqb, ne_eqb, cases_lt, le-ltb}
 use Rattle.std.proofs.lemmas.List.{length-append, get_or-append_right, get_or_append_left}
@@ -8,7 +8,7 @@ use Rattle.std.proofs.lemmas.Option.{slice_get-get_or, slice_get_past}
 use Rattle.stream_lists.specs.stream_filters.Range.{ranged}
 use Rattle.phase_history.specs.phase_base.declared.mode.Mode.{Mode}
 use Rattle.phase_history.specs.declared.event.Event.{Event}
-use Rattle.phase_history.specs.declared.event.Event.TheVariants.{Dropped}
+use Rattle.phase_history.specs.declared.event.Event.TheVariants.{Registered, RegisteredNow, Dropped}
 use Rattle.phase_history.specs.Histories.{History, has_dropped, greatest_used}
 use Rattle.phase_history.specs.phase_accum.declared.outcome.Outcome.{Outcome}
 use Rattle.phase_history.specs.phase_accum.declared.outcome.Outcome.TheVariants.{Empty}
@@ -21,11 +21,11 @@ use Rattle.stream_lists.specs.Jobs.{Job}
 use Rattle.stream_lists.specs.Spans.{signalled_by}
 use Rattle.stream_lists.specs.Lists.{number}
 use Rattle.graph_runs.specs.Moments.{Moment, made_now, limits_at}
-use Rattle.graph_runs.specs.Moves.{HasMoved, SameTask, Registers, Signals, Waits}
-use Rattle.graph_runs.proofs.Framed.{made_same}
+use Rattle.graph_runs.specs.Moves.{HasMoved, SameTask, Registers, RegistersNow, SignalsAll, WaitsAll}
+use Rattle.graph_runs.proofs.OwnEvents.{made_still, history_where}
 use Rattle.graph_runs.specs.Nexts.{is_owed, first_owed, in_step, waits_first, has_left, number_on, registrations_at, signals, exchanges}
-use Rattle.graph_runs.specs.Answers.{next_value}
-use Rattle.graph_runs.specs.TaskPlaces.{Owed, nothing, value, exchange, Owes, TaskPlace, StandsAt, registration_at, child_place, lacking}
+use Rattle.graph_runs.specs.Answers.{next_values}
+use Rattle.graph_runs.specs.TaskPlaces.{Owed, nothing, values, exchange, Owes, TaskPlace, StandsAt, registration_at, child_place, lacking}
 use Rattle.graph_runs.proofs.Reaching.{one_registration}
 
 -- ---- what is owed stays
@@ -37,7 +37,22 @@ find-same f g (x ∷ xs) same =
     ap (λ b. cond b (Some x) (find f xs)) (same x)
     ∙ ap (λ o. cond (g x) (Some x) o) (find-same f g xs same)
 
-pub first_owed_same : (job : Job) (before after : Moment) (t : ℕ) → SameTask before after t
+-- what a moment says of the steps of a task, wherever they begin
+pub record SameSteps (before after : Moment) (t : ℕ) : Type 0 where
+  pub begun : after.begun t ≡ before.begun t
+  pub taken : (k : ℕ) → after.taken t k ≡ before.taken t k
+  pub put : (j : ℕ) → after.put t j ≡ before.put t j
+
+pub same_steps : (before after : Moment) (t : ℕ) → SameTask before after t
+    → SameSteps before after t
+same_steps before after t same =
+    record { begun = same.begun; taken = same.taken; put = same.put }
+
+made_same : (job : Job) (before after : Moment) (t j : ℕ) → SameSteps before after t
+    → made_now job after t j ≡ made_now job before t j
+made_same job before after t j same = made_still job before after t j same.taken same.begun
+
+first_owed_same : (job : Job) (before after : Moment) (t : ℕ) → SameSteps before after t
     → first_owed job after t ≡ first_owed job before t
 first_owed_same job before after t same =
     find-same (is_owed job after t) (is_owed job before t)
@@ -46,7 +61,7 @@ first_owed_same job before after t same =
     ∙ ap (λ l. nat_lt (length (before.put t j)) (length l))
     (made_same job before after t j same))
 
-in_step_same : (job : Job) (before after : Moment) (t j : ℕ) → SameTask before after t
+in_step_same : (job : Job) (before after : Moment) (t j : ℕ) → SameSteps before after t
     → in_step job after t j ≡ in_step job before t j
 in_step_same job before after t j same =
     ap (λ l. cond (waits_first (task_at job.graph t).kind j (length l) (length (after.taken t 1)))
@@ -54,17 +69,22 @@ in_step_same job before after t j same =
     ∙ ap (λ l. cond (waits_first (task_at job.graph t).kind j (length (before.put t j)) (length l))
     exchanges (signals j)) (same.taken 1)
 
-pub owes_same : (job : Job) (before after : Moment) (t : ℕ) (owed : Owed) → SameTask before after t
+next_same : (job : Job) (before after : Moment) (t j : ℕ) → SameSteps before after t
+    → next_values job after t j ≡ next_values job before t j
+next_same job before after t j same =
+    ap (λ l. take (task_at job.graph t).block (drop (length (after.put t j)) l))
+    (made_same job before after t j same)
+    ∙ ap (λ l. take (task_at job.graph t).block (drop (length l) (made_now job before t j)))
+    (same.put j)
+
+owes_same : (job : Job) (before after : Moment) (t : ℕ) (owed : Owed) → SameSteps before after t
     → Owes job before t owed → Owes job after t owed
 owes_same job before after t nothing same owes = first_owed_same job before after t same ∙ owes
-owes_same job before after t (value j v) same owes =
-    let next : next_value job after t j ≡ next_value job before t j =
-    ap (λ l. get_or l (length (after.put t j)) (pos 0)) (made_same job before after t j same)
-    ∙ ap (λ l. get_or (made_now job before t j) (length l) (pos 0)) (same.put j) in (
-      first_owed_same job before after t same ∙ owes.0,
-      in_step_same job before after t j same ∙ owes.1,
-      ap ranged next ∙ owes.2,
-    )
+owes_same job before after t (values j vs) same owes = (
+  first_owed_same job before after t same ∙ owes.0,
+  in_step_same job before after t j same ∙ owes.1,
+  ap (λ l. map ranged l) (next_same job before after t j same) ∙ owes.2,
+)
 owes_same job before after t (exchange x) same owes = (
   first_owed_same job before after t same ∙ owes.0,
   in_step_same job before after t 1 same ∙ owes.1,
@@ -77,34 +97,49 @@ abbrev pub Lacks : Job → Moment → ℕ → Owed → Type 0
 Lacks job m t owed = (j : ℕ) → j < length (signalled_by (task_at job.graph t))
     → length (made_now job m t j) ≡ length (m.put t j) + lacking (task_at job.graph t).kind owed j
 
-pub lacks_same : (job : Job) (before after : Moment) (t : ℕ) (owed : Owed)
-    → SameTask before after t → Lacks job before t owed → Lacks job after t owed
+-- the steps of a task, as its place has them
+pub record StepsAt (job : Job) (m : Moment) (t : ℕ) (at : TaskPlace) : Type 0 where
+  pub begun : m.begun t ≡ at.begun
+  pub owes : Owes job m t at.owed
+  pub lacks : Lacks job m t at.owed
+
+lacks_same : (job : Job) (before after : Moment) (t : ℕ) (owed : Owed)
+    → SameSteps before after t → Lacks job before t owed → Lacks job after t owed
 lacks_same job before after t owed same lacks j lt =
     ap length (made_same job before after t j same) ∙ lacks j lt
     ∙ ap (λ l. length l + lacking (task_at job.graph t).kind owed j) (sym (same.put j))
 
+pub steps_stay : (job : Job) (before after : Moment) (t : ℕ) (at : TaskPlace)
+    → SameSteps before after t → StandsAt job before t at → StepsAt job after t at
+steps_stay job before after t at same stands = record {
+  begun = same.begun ∙ stands.begun;
+  owes = owes_same job before after t at.owed same stands.owes;
+  lacks = lacks_same job before after t at.owed same stands.lacks;
+}
+
 -- ---- what a call changes
 
--- task t has put v on its output j, and nothing else
-pub record PutsOne (before after : Moment) (t j : ℕ) (v : ℤ) : Type 0 where
+-- task t has put these values on its output j, and nothing else
+pub record PutsAll (before after : Moment) (t j : ℕ) (vs : List ℤ) : Type 0 where
   pub taken : (k : ℕ) → after.taken t k ≡ before.taken t k
-  pub put : after.put t j ≡ before.put t j ++ v ∷ []
+  pub put : after.put t j ≡ before.put t j ++ vs
   pub other_puts : (i : ℕ) → i ≢ j → after.put t i ≡ before.put t i
 
--- task t has got this outcome from its input k, and nothing else
-pub record GetsOne (before after : Moment) (t k : ℕ) (outcome : Outcome) : Type 0 where
-  pub taken : after.taken t k ≡ before.taken t k ++ number outcome ∷ []
+-- task t has got these numbers from its input k, and nothing else
+pub record GetsAll (before after : Moment) (t k : ℕ) (xs : List ℤ) : Type 0 where
+  pub taken : after.taken t k ≡ before.taken t k ++ xs
   pub other_takes : (i : ℕ) → i ≢ k → after.taken t i ≡ before.taken t i
   pub put : (j : ℕ) → after.put t j ≡ before.put t j
 
-pub puts_one : (job : Job) (before after : Moment) (t j p n : ℕ) (v : ℤ)
-    → Signals job before after t j p n v → PutsOne before after t j v
-puts_one job before after t j p n v s =
+pub puts_all : (job : Job) (before after : Moment) (t j p n : ℕ) (vs : List ℤ)
+    → SignalsAll job before after t j p n vs → PutsAll before after t j vs
+puts_all job before after t j p n vs s =
     record { taken = s.taken; put = s.put; other_puts = s.other_puts }
 
-pub gets_one : (job : Job) (before after : Moment) (t k p n : ℕ) (outcome : Outcome)
-    → Waits job before after t k p n outcome → GetsOne before after t k outcome
-gets_one job before after t k p n outcome s =
+pub gets_all : (job : Job) (before after : Moment) (t k p n : ℕ) (outcomes : List Outcome)
+    → WaitsAll job before after t k p n outcomes
+    → GetsAll before after t k (map number outcomes)
+gets_all job before after t k p n outcomes s =
     record { taken = s.taken; other_takes = s.other_takes; put = s.put }
 
 -- ---- registrations stay
@@ -153,9 +188,8 @@ pub stays_same : (job : Job) (before after : Moment) (t : ℕ) (at : TaskPlace)
     → StandsAt job before t at → KeepsPlaces before after t → SameTask before after t
     → StandsAt job after t at
 stays_same job before after t at stands keeps same =
-    stays_at job before after t at.begun at.owed at stands keeps (same.begun ∙ stands.begun)
-    (owes_same job before after t at.owed same stands.owes)
-    (lacks_same job before after t at.owed same stands.lacks)
+    let steps = steps_stay job before after t at (same_steps before after t same) stands in
+    stays_at job before after t at.begun at.owed at stands keeps steps.begun steps.owes steps.lacks
 
 -- ---- which events keep them
 
@@ -186,42 +220,54 @@ pub dropped_other : (h : History) (n other : ℕ) → n ≢ other
     → has_dropped (Dropped n ∷ h) other ≡ has_dropped h other
 dropped_other h n other apart = let no : eqb n other ≡ false = ne_eqb n other apart in rw no refl
 
--- nobody leaves by a registration
-pub left_registered : (job : Job) (before after : Moment) (t p n c a : ℕ) (mode : Mode)
-    (u : Parent) → Registers job before after t p n c a mode u → (q b : ℕ)
-    → has_dropped (after.history q) b ≡ has_dropped (before.history q) b
-left_registered job before after t p n c a mode u s q b = by (eqb q p) refl
-  where
-    by : (d : Bool) → eqb q p ≡ d
-        → has_dropped (after.history q) b ≡ has_dropped (before.history q) b
-    by true e =
-        let same : q ≡ p = eqb-true q p e in
-        ap (λ x. has_dropped (after.history x) b) same ∙ ap (λ h. has_dropped h b) s.here
-        ∙ ap (λ x. has_dropped (before.history x) b) (sym same)
-    by false e =
-        ap (λ h. has_dropped h b)
-        (s.elsewhere q (λ same. (let no = sym (eq-eqb q p same) ∙ e in cc)))
+-- a registration gave task c number a on phaser p: nobody else got one, and nobody left
+pub record GivesNumber (before after : Moment) (p c a : ℕ) : Type 0 where
+  pub number : after.number p c ≡ Some a
+  pub other_numbers : (q x : ℕ) → (q ≢ p) ⊎ (x ≢ c) → after.number q x ≡ before.number q x
+  pub left : (q b : ℕ) → has_dropped (after.history q) b ≡ has_dropped (before.history q) b
 
--- a child's registration, of any task but the child
-pub keeps_registered : (job : Job) (before after : Moment) (t p n c a : ℕ) (mode : Mode)
-    (u : Parent) (x : ℕ) → Registers job before after t p n c a mode u → x ≢ c
-    → KeepsPlaces before after x
-keeps_registered job before after t p n c a mode u x s apart = record {
+pub gives : (job : Job) (before after : Moment) (t p n c a : ℕ) (mode : Mode) (u : Parent)
+    → Registers job before after t p n c a mode u → GivesNumber before after p c a
+gives job before after t p n c a mode u s = record {
+  number = s.number;
+  other_numbers = s.other_numbers;
+  left = λ q b.
+      history_where before after p (Registered n a mode)
+      (λ h. has_dropped h b ≡ has_dropped (before.history q) b) q s.here s.elsewhere
+      (λ same. refl) (λ apart. refl);
+}
+
+pub gives_now : (job : Job) (before after : Moment) (t p n c a : ℕ) (u : Parent)
+    → RegistersNow job before after t p n c a u → GivesNumber before after p c a
+gives_now job before after t p n c a u s = record {
+  number = s.number;
+  other_numbers = s.other_numbers;
+  left = λ q b.
+      history_where before after p (RegisteredNow n a)
+      (λ h. has_dropped h b ≡ has_dropped (before.history q) b) q s.here s.elsewhere
+      (λ same. refl) (λ apart. refl);
+}
+
+-- any task but the child keeps its own
+pub keeps_registered : (before after : Moment) (p c a x : ℕ) → GivesNumber before after p c a
+    → x ≢ c → KeepsPlaces before after x
+keeps_registered before after p c a x s apart = record {
   number = λ q. s.other_numbers q x (inr apart);
-  left = λ q b at. left_registered job before after t p n c a mode u s q b;
+  left = λ q b at. s.left q b;
 }
 
 -- ---- the child
 
 -- a registration is for the first that the child misses
-pub child_stands : (job : Job) (before after : Moment) (t p n c a : ℕ) (mode : Mode) (u : Parent)
-    (at : TaskPlace) → IsGraph job.graph → IsLegal (limits_at job p) (before.history p)
-    → Registers job before after t p n c a mode u → StandsAt job before c at
+pub child_stands : (job : Job) (before after : Moment) (p c a : ℕ) (at : TaskPlace)
+    → IsGraph job.graph → c < length job.graph.tasks
+    → IsLegal (limits_at job p) (before.history p) → GivesNumber before after p c a
+    → SameSteps before after c → StandsAt job before c at
     → length at.numbers < length (registrations_at job c)
     → (registration_at job c (length at.numbers)).phaser ≡ p
     → greatest_used (before.history p) < a
     → StandsAt job after c (child_place a at)
-child_stands job before after t p n c a mode u at is legal s stands room here new = record {
+child_stands job before after p c a at is there legal s same stands room here new = record {
   few = (let l = length-append at.numbers (a ∷ []) in omega arith);
   few_left = (let l = length-append at.numbers (a ∷ []) in
       let le : at.left ≤ length at.numbers = stands.few_left in omega arith);
@@ -230,16 +276,19 @@ child_stands job before after t p n c a mode u at is legal s stands room here ne
   leaves = λ i lt.
       (let l = length-append at.numbers (a ∷ []) in
       leaves i (omega arith) (cases_lt i (length at.numbers)));
-  begun = (s.same c).begun ∙ stands.begun;
-  owes = owes_same job before after c at.owed (s.same c) stands.owes;
-  lacks = lacks_same job before after c at.owed (s.same c) stands.lacks;
+  begun = steps.begun;
+  owes = steps.owes;
+  lacks = steps.lacks;
 }
   where
+    steps : StepsAt job after c at
+    steps = steps_stay job before after c at same stands
+
     -- another registration of the child is on another phaser
     apart : (i : ℕ) → i < length (registrations_at job c) → i ≢ length at.numbers
         → (registration_at job c i).phaser ≢ p
     apart i lt other same =
-        other (one_registration job c i (length at.numbers) is s.child lt room
+        other (one_registration job c i (length at.numbers) is there lt room
         (same ∙ sym here))
 
     same_number : (i : ℕ) → i < length (registrations_at job c) → i ≢ length at.numbers
@@ -278,7 +327,7 @@ child_stands job before after t p n c a mode u at is legal s stands room here ne
         let q = (registration_at job c i).phaser in
         ap (λ o. has_dropped (after.history q) (unwrap_or o 0))
         (s.other_numbers q c (inl (apart i (omega arith) (λ e. omega arith))))
-        ∙ left_registered job before after t p n c a mode u s q (number_on before c q)
+        ∙ s.left q (number_on before c q)
         ∙ stands.leaves i low
     leaves i lt (inr le) =
         let same : i ≡ length at.numbers = omega arith in
@@ -291,5 +340,5 @@ child_stands job before after t p n c a mode u at is legal s stands room here ne
         let few : at.left ≤ length at.numbers = stands.few_left in
         ap (λ x. has_dropped (after.history x) (unwrap_or (after.number x c) 0)) at_p
         ∙ ap (λ o. has_dropped (after.history p) (unwrap_or o 0)) s.number
-        ∙ left_registered job before after t p n c a mode u s p a ∙ none
+        ∙ s.left p a ∙ none
         ∙ sym (le-ltb i at.left (omega arith))

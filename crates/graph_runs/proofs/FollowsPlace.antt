@@ -1,34 +1,36 @@
 -- The place of a task after each of its calls, by what the call leaves of its part.
-use Rattle.std.proofs.Common.{◌≡◌, ℕ, suc, ◌<◌, ◌≤◌, true, eqb, ◌∷◌, Option, Some, None, length, ℤ, refl, sym, ap, subst, ◌∙◌, arith, inl, inr}
+use Rattle.std.proofs.Common.{◌≡◌, ℕ, suc, ◌<◌, ◌≤◌, true, eqb, [], ◌∷◌, Option, Some, None, length, map, ℤ, refl, sym, ap, subst, ◌∙◌, arith, inl, inr}
 use Rattle.std.specs.Prelude.{Ok, ◌*ℤ◌, ◌-ℤ◌}
 use Rattle.std.proofs.lemmas.Bool.{eq-eqb}
 use Rattle.stream_lists.specs.stream_filters.Range.{ranged}
 use Rattle.phase_history.specs.phase_accum.declared.outcome.Outcome.{Outcome}
 use Rattle.phase_history.specs.declared.event.Event.TheVariants.{Dropped}
 use Rattle.phase_history.specs.Histories.{History, has_dropped}
-use Rattle.stream_lists.specs.graph_base.declared.line.Kind.TheVariants.{Source, Peer}
+use Rattle.stream_lists.specs.graph_base.declared.line.Kind.{Kind}
+use Rattle.stream_lists.specs.graph_base.declared.line.Kind.TheVariants.{Source, Fir, Split, Join, Peer, Sink}
 use Rattle.stream_lists.specs.graph_base.Graphs.{task_at}
 use Rattle.stream_lists.specs.graph_base.TaskLines.{IsGraph}
 use Rattle.stream_lists.specs.Jobs.{Job}
 use Rattle.stream_lists.specs.Lists.{number}
 use Rattle.stream_lists.specs.Spans.{signalled_by}
 use Rattle.graph_runs.specs.Moments.{Moment, TakenOn, OnLine, input_at}
-use Rattle.graph_runs.specs.Moves.{IsStaying}
-use Rattle.graph_runs.specs.Answers.{output_at, next_value}
+use Rattle.graph_runs.specs.Moves.{IsStaying, IsBlock}
+use Rattle.graph_runs.specs.Answers.{output_at, next_values}
 use Rattle.graph_runs.specs.Nexts.{waits_first}
-use Rattle.graph_runs.specs.TaskPlaces.{Owed, nothing, value, exchange, TaskPlace, StandsAt, registration_at, owed_after_wait, owed_after_signal, owed_after_exchange}
+use Rattle.graph_runs.specs.TaskPlaces.{Owed, nothing, values, exchange, TaskPlace, StandsAt, registration_at, owed_after_wait, owed_after_signal, owed_after_exchange}
 use Rattle.graph_runs.proofs.Boundaries.{peer_ends}
 use Rattle.graph_runs.proofs.Calling.{waits_as_peer}
 use Rattle.graph_runs.proofs.Exchanging.{exchange_lacks, exchange_owes}
 use Rattle.graph_runs.proofs.FirstWaits.{FirstWait, LeavesOwed, wait_leaves}
-use Rattle.graph_runs.proofs.Following.{Lacks, KeepsPlaces, PutsOne, GetsOne, stays_at, stays_same}
+use Rattle.graph_runs.proofs.Following.{Lacks, KeepsPlaces, PutsAll, GetsAll, stays_at, stays_same}
 use Rattle.graph_runs.proofs.Lacking.{first_none}
 use Rattle.graph_runs.proofs.PlacesLemmas.{place_of_output}
 use Rattle.graph_runs.proofs.PlacesFollow.{LeavesOne, leave_stands}
+use Rattle.graph_runs.proofs.Signalling.{owed}
 use Rattle.graph_runs.proofs.Stepping.{puts_stand, peer_in_turn, sample_lacks}
 use Rattle.graph_runs.specs.Parts.{HasPart, HasSeen, HasPut, HasGot, LeavesPart, BeginsStep}
 use Rattle.graph_runs.specs.Places.{owing, after_step, after_leaving}
-use Rattle.graph_runs.proofs.TellsNext.{staying_at, owes_as, ranged_value, is_first}
+use Rattle.graph_runs.proofs.TellsNext.{staying_at, owes_as, ranged_values, is_first}
 
 -- a task that stays on all its phasers before and after keeps its registrations
 keeps_staying : (m after : Moment) (t : ℕ)
@@ -89,18 +91,21 @@ in_turn job m t is there part staying e = by (m.number (output_at job t 0) t) re
 
 pub put_follows : (job : Job) (m after : Moment) (t j p : ℕ) (v : ℤ) (at : TaskPlace)
     (now : History) → IsGraph job.graph → t < length job.graph.tasks → HasPart job m t
-    → StandsAt job m t at → at.left ≡ 0 → at.owed ≡ value j (Ok v)
+    → StandsAt job m t at → at.left ≡ 0 → at.owed ≡ values j (Ok v ∷ [])
     → HasPut job m after t j p v (m.begun t) now
-    → StandsAt job after t (owing (owed_after_signal (task_at job.graph t) j v) at)
+    → StandsAt job after t (owing (owed_after_signal (task_at job.graph t) j (v ∷ [])) at)
 put_follows job m after t j p v at now is there part stands none owed_is s =
     let staying = staying_at job m t at is there part.ran stands none in
-    let owes = owes_as job m t at (value j (Ok v)) stands owed_is in
-    let puts : PutsOne m after t j v =
+    let owes = owes_as job m t at (values j (Ok v ∷ [])) stands owed_is in
+    let next : next_values job m t j ≡ v ∷ [] =
+    ranged_values (next_values job m t j) v owes.2 in
+    let puts : PutsAll m after t j (v ∷ []) =
     record { taken = s.taken; put = s.put; other_puts = s.other_puts } in
-    puts_stand job m after t j v (Ok v) at is there part.ran
+    puts_stand job m after t j (v ∷ []) at is there part.ran
     (λ e. in_turn job m t is there part staying e) puts
     (keeps_staying m after t s.moved.numbers staying s.staying) s.begun_is
-    (ranged_value (next_value job m t j) v owes.2) owed_is stands
+    (owed job m t j owes.0).1 next
+    (owed_is ∙ ap (λ l. values j l) (sym owes.2) ∙ ap (λ l. values j (map ranged l)) next) stands
 
 pub sampled_follows : (job : Job) (m after : Moment) (t p : ℕ) (v : ℤ) (at : TaskPlace)
     (now : History) → IsGraph job.graph → t < length job.graph.tasks → HasPart job m t
@@ -109,45 +114,56 @@ pub sampled_follows : (job : Job) (m after : Moment) (t p : ℕ) (v : ℤ) (at :
     → StandsAt job after t (after_step nothing at)
 sampled_follows job m after t p v at now is there part stands none owed_is source s =
     let staying = staying_at job m t at is there part.ran stands none in
-    let puts : PutsOne m after t 0 v =
+    let puts : PutsAll m after t 0 (v ∷ []) =
     record { taken = s.taken; put = s.put; other_puts = s.other_puts } in
     let lacks : Lacks job after t nothing =
-    sample_lacks job m after t 0 v is part.ran s.moved.part.ran there source puts refl s.begun_is
-    (lacks_as job m t at nothing stands owed_is) in
+    sample_lacks job m after t 0 (v ∷ []) is part.ran s.moved.part.ran there source puts refl
+    (s.begun_is ∙ omega arith) (lacks_as job m t at nothing stands owed_is) in
     stays_at job m after t (suc at.begun) nothing at stands
     (keeps_staying m after t s.moved.numbers staying s.staying) (s.begun_is ∙ ap suc stands.begun)
     (first_none job after t lacks) lacks
 
 -- ---- waits
 
+-- a step is a block of any kind
+one_step : (kind : Kind) → IsBlock kind 1
+one_step Source = tt
+one_step Fir = tt
+one_step Split = refl
+one_step Join = refl
+one_step Peer = refl
+one_step Sink = tt
+
 pub first_wait_follows : (job : Job) (m after : Moment) (t k p : ℕ) (outcome : Outcome)
     (at : TaskPlace) (now : History) → IsGraph job.graph → t < length job.graph.tasks
     → HasPart job m t → StandsAt job m t at → at.left ≡ 0 → at.owed ≡ nothing
     → BeginsStep job m t k p → HasGot job m after t k p outcome (suc (m.begun t)) now
     → StandsAt job after t (after_step
-    (owed_after_wait (task_at job.graph t) at.begun (m.taken t 0) (number outcome)) at)
+    (owed_after_wait (task_at job.graph t) at.begun (m.taken t 0) (number outcome ∷ [])) at)
 first_wait_follows job m after t k p outcome at now is there part stands none owed_is next s =
+    let xs = number outcome ∷ [] in
     let staying = staying_at job m t at is there part.ran stands none in
-    let gets : GetsOne m after t k outcome =
-    record { taken = s.taken; other_takes = s.other_takes; put = s.put } in
-    let w : FirstWait job m after t k outcome = record {
+    let w : FirstWait job m after t k xs = record {
       is = is;
       ran = part.ran;
       now = s.moved.part.ran;
       legal = s.moved.part.legal (input_at (task_at job.graph t) k) (inr (k, next.few, refl));
       there = there;
       few = next.few;
-      waits = gets;
+      waits = record { taken = s.taken; other_takes = s.other_takes; put = s.put };
       first = next.first;
-      steps = s.begun_is;
+      steps = s.begun_is ∙ omega arith;
+      some = omega arith;
+      block = one_step (task_at job.graph t).kind;
+      room = (is.tasks t there).block.some;
       all_taken = next.may_begin.taken k next.few;
       lacks = lacks_as job m t at nothing stands owed_is;
     } in
     let B : ℕ → Type 0 = λ b. LeavesOwed job after t
-    (owed_after_wait (task_at job.graph t) b (m.taken t 0) (number outcome)) in
-    let left = subst B stands.begun (wait_leaves job m after t k outcome w) in
+    (owed_after_wait (task_at job.graph t) b (m.taken t 0) xs) in
+    let left = subst B stands.begun (wait_leaves job m after t k xs w) in
     stays_at job m after t (suc at.begun)
-    (owed_after_wait (task_at job.graph t) at.begun (m.taken t 0) (number outcome)) at stands
+    (owed_after_wait (task_at job.graph t) at.begun (m.taken t 0) xs) at stands
     (keeps_staying m after t s.moved.numbers staying s.staying) (s.begun_is ∙ ap suc stands.begun)
     left.0 left.1
 
@@ -165,17 +181,17 @@ exchanged_follows job m after t p x outcome at now is there part stands none owe
     (length (m.taken t 1))) 1 owes.1 in
     let peer = (waits_as_peer (task_at job.graph t).kind 1 (length (m.put t 1))
     (length (m.taken t 1)) first).0 in
-    let gets : GetsOne m after t 1 outcome =
+    let gets : GetsAll m after t 1 (number outcome ∷ []) =
     record { taken = s.taken; other_takes = s.other_takes; put = s.put } in
     let w = ranged (((task_at job.graph t).mul *ℤ x) -ℤ number outcome) in
     let ran_now = s.moved.part.ran in
-    let lacks : Lacks job after t (value 1 w) =
+    let lacks : Lacks job after t (values 1 (w ∷ [])) =
     exchange_lacks job m after t outcome x w is part.ran ran_now there peer gets s.begun_is
     before in
     let P : Owed → Type 0 = λ o. StandsAt job after t
     (owing (owed_after_exchange (task_at job.graph t) o (number outcome)) at) in
     subst P (sym owed_is)
-    (stays_at job m after t at.begun (value 1 w) at stands
+    (stays_at job m after t at.begun (values 1 (w ∷ [])) at stands
     (keeps_staying m after t s.moved.numbers staying s.staying) (s.begun_is ∙ stands.begun)
     (exchange_owes job m after t outcome x is part.ran ran_now there peer gets owes before first
     lacks) lacks)

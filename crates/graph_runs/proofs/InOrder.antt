@@ -1,32 +1,38 @@
 -- What a task owes where its turn makes an event.
-use Rattle.std.proofs.Common.{◌≡◌, ℕ, ◌+◌, Bool, true, false, ◌||◌, cond, Option, Some, None, length, get_or, pos, refl, subst}
+use Rattle.std.proofs.Common.{◌≡◌, ℕ, ◌+◌, ◌≤◌, Bool, true, false, ◌||◌, cond, Option, Some, None, length, refl, subst}
+use Rattle.std.specs.Prelude.{slice_range}
 use Rattle.phase_history.specs.Histories.{greatest_used}
-use Rattle.phase_history.specs.Refusals.{register_refusal, drop_refusal}
+use Rattle.phase_history.specs.Phases.{stream_of}
+use Rattle.phase_history.specs.Refusals.{register_refusal, register_now_refusal, drop_refusal}
 use Rattle.stream_lists.specs.graph_base.declared.line.Kind.{Kind}
 use Rattle.stream_lists.specs.graph_base.declared.line.Kind.TheVariants.{Source, Fir, Split, Join, Peer, Sink}
 use Rattle.stream_lists.specs.graph_base.declared.registration.Registration.{Registration}
 use Rattle.stream_lists.specs.graph_base.Graphs.{task_at}
-use Rattle.stream_lists.specs.Jobs.{Job, samples_at}
-use Rattle.graph_runs.specs.Moments.{Moment, input_at}
-use Rattle.graph_runs.specs.TaskEvents.{TaskEvent, sample, signal, first_wait, exchange_wait, leave, child}
+use Rattle.stream_lists.specs.Jobs.{Job}
+use Rattle.graph_runs.specs.Moments.{Moment, input_at, value_at}
+use Rattle.graph_runs.specs.TaskEvents.{TaskEvent, sample, signal, first_wait, exchange_wait, leave, child, child_now}
+use Rattle.graph_runs.specs.NextBlocks.{block_of}
 use Rattle.graph_runs.specs.Nexts.{is_not_live, registers, leaves, samples, signals, waits, exchanges, is_live, of_live, at_boundary, next_step, first_owed, first_due, first_missing, first_kept, is_cut, has_input_ended, waits_first, number_on}
-use Rattle.graph_runs.specs.Answers.{makes, answer_to, answer_of_turn, next_value, call_leave, call_register, output_at}
+use Rattle.graph_runs.specs.Answers.{makes, answer_to, answer_of_turn, next_values, next_samples, call_leave, call_register, register_answer, output_at}
 use Rattle.graph_runs.proofs.Signalling.{signalled}
-use Rattle.graph_runs.proofs.Calling.{answered, accepted}
+use Rattle.graph_runs.proofs.Calling.{answered, answered_all, accepted}
+use Rattle.graph_runs.proofs.Blocks.{answered_block}
 
--- what is owed where this event comes: nothing where a step begins; the value that is signalled; the
--- value on Y where a peer waits on E
+-- what is owed where this event comes: nothing where steps begin, not more of them than a block has;
+-- the values that are signalled; the value on Y where a peer waits on E
 abbrev pub OwesFor : Job → Moment → TaskEvent → Type 0
-OwesFor job m (sample t j p n v) = first_owed job m t ≡ None
-OwesFor job m (signal t j p n v) =
-    (first_owed job m t ≡ Some j) × (next_value job m t j ≡ v)
+OwesFor job m (sample t j p n vs) = first_owed job m t ≡ None
+OwesFor job m (signal t j p n vs) =
+    (first_owed job m t ≡ Some j) × (next_values job m t j ≡ vs)
     × (waits_first (task_at job.graph t).kind j (length (m.put t j)) (length (m.taken t 1)) ≡ false)
-OwesFor job m (first_wait t k p n outcome) = first_owed job m t ≡ None
+OwesFor job m (first_wait t k p n outcomes) =
+    (first_owed job m t ≡ None) × (length outcomes ≤ block_of job m t)
 OwesFor job m (exchange_wait t p n outcome) =
     (j : ℕ) × (first_owed job m t ≡ Some j)
     × (waits_first (task_at job.graph t).kind j (length (m.put t j)) (length (m.taken t 1)) ≡ true)
 OwesFor job m (leave t p n) = Unit {0}
 OwesFor job m (child t p n c a mode) = Unit {0}
+OwesFor job m (child_now t p n c a) = Unit {0}
 
 owes_for : (job : Job) (m : Moment) (made event : TaskEvent) → made ≡ event
     → OwesFor job m made → OwesFor job m event
@@ -48,29 +54,44 @@ register_owes : (job : Job) (m : Moment) (t c : ℕ) (event : TaskEvent)
     → answer_to job m t (registers c) ≡ makes event → OwesFor job m event
 register_owes job m t c event e = by (first_missing job m c) e
   where
-    by : (o : Option Registration) → call_register m t c o ≡ makes event → OwesFor job m event
+    by : (o : Option Registration) → call_register job m t c o ≡ makes event
+        → OwesFor job m event
     by None e = absurd (cc)
-    by (Some r) e =
-        let n = number_on m t r.phaser in
-        let a = greatest_used (m.history r.phaser) + 1 in
-        owes_for job m (child t r.phaser n c a r.mode) event
-        (accepted (child t r.phaser n c a r.mode) event
-        (register_refusal (m.history r.phaser) n a r.mode) e).1 tt
+    by (Some r) e = of (task_at job.graph c).joins_now e
+      where
+        of : (b : Bool) → register_answer m t c r b ≡ makes event → OwesFor job m event
+        of true e =
+            let n = number_on m t r.phaser in
+            let a = greatest_used (m.history r.phaser) + 1 in
+            owes_for job m (child_now t r.phaser n c a) event
+            (accepted (child_now t r.phaser n c a) event
+            (register_now_refusal (m.history r.phaser) n a) e).1 tt
+        of false e =
+            let n = number_on m t r.phaser in
+            let a = greatest_used (m.history r.phaser) + 1 in
+            owes_for job m (child t r.phaser n c a r.mode) event
+            (accepted (child t r.phaser n c a r.mode) event
+            (register_refusal (m.history r.phaser) n a r.mode) e).1 tt
 
 sample_owes : (job : Job) (m : Moment) (t : ℕ) (event : TaskEvent) → first_owed job m t ≡ None
     → answer_to job m t samples ≡ makes event → OwesFor job m event
 sample_owes job m t event none e =
     let p = output_at job t 0 in
-    let v = get_or (samples_at job t) (m.begun t) (pos 0) in
-    let made = sample t 0 p (number_on m t p) v in
-    owes_for job m made event (signalled job m t 0 v made event e).2 none
+    let vs = next_samples job m t in
+    let made = sample t 0 p (number_on m t p) vs in
+    owes_for job m made event (signalled job m t 0 vs made event e).2 none
 
 wait_owes : (job : Job) (m : Moment) (t k : ℕ) (event : TaskEvent) → first_owed job m t ≡ None
     → answer_to job m t (waits k) ≡ makes event → OwesFor job m event
 wait_owes job m t k event none e =
     let p = input_at (task_at job.graph t) k in
-    let a = answered job m t p (first_wait t k p (number_on m t p)) event e in
-    owes_for job m (first_wait t k p (number_on m t p) a.outcome) event a.is none
+    let made = first_wait t k p (number_on m t p) in
+    let a = answered_all job m t p (block_of job m t) made event e in
+    let outcomes = slice_range (stream_of (value_at job p) (m.history p)) a.phase
+    (a.phase + a.count) in
+    let b = answered_block job (m.history p) p (number_on m t p) (block_of job m t) a.phase a.count
+    a.reply in
+    owes_for job m (made outcomes) event a.is (none, b.few)
 
 step_owes : (job : Job) (m : Moment) (t : ℕ) (event : TaskEvent) → first_owed job m t ≡ None
     → (kind : Kind)
@@ -99,9 +120,9 @@ owing_owes job m t j event owes answer =
         owes_for job m (exchange_wait t p (number_on m t p) a.outcome) event a.is (j, owes, first)
     by false first e =
         let p = output_at job t j in
-        let v = next_value job m t j in
-        let made = signal t j p (number_on m t p) v in
-        owes_for job m made event (signalled job m t j v made event e).2 (owes, refl, first)
+        let vs = next_values job m t j in
+        let made = signal t j p (number_on m t p) vs in
+        owes_for job m made event (signalled job m t j vs made event e).2 (owes, refl, first)
 
 pub event_owes : (job : Job) (m : Moment) (t : ℕ) (event : TaskEvent)
     → answer_of_turn job m t ≡ makes event → OwesFor job m event

@@ -1,8 +1,13 @@
--- What the outputs of a task lack tells what it owes first.
-use Rattle.std.proofs.Common.{◌≡◌, ℕ, zero, suc, ◌+◌, ◌-◌, ◌<◌, ◌≤◌, ◌*◌, ◌/◌, Bool, true, false, cond, [], Some, None, length, refl, ap, ◌∙◌, arith, ◌⊎◌, inl, inr}
+-- What the outputs of a task lack tells what it owes first, and which values are next.
+use Rattle.std.proofs.Common.{◌≡◌, ℕ, zero, suc, ◌+◌, ◌-◌, ◌<◌, ◌≤◌, ◌*◌, ◌/◌, Bool, true, false, cond, eqb, List, [], ◌∷◌, Some, None, length, get_or, ℤ, pos, refl, ap, ◌∙◌, arith, ◌⊎◌, inl, inr}
+use Rattle.std.specs.Prelude.{Result, take, drop}
 use Rattle.std.specs.List.{find, range_with_len}
-use Rattle.std.proofs.lemmas.Bool.{cases_lt, lt-ltb, le-ltb}
+use Rattle.std.proofs.Math.Seq.{drop-cons, take-nil}
+use Rattle.std.proofs.Math.ListN.{drop_of_length-le}
+use Rattle.std.proofs.lemmas.Bool.{cases_lt, lt-ltb, le-ltb, eq-eqb}
+use Rattle.std.proofs.lemmas.List.{length-drop}
 use Rattle.std.proofs.lemmas.Nat.{div-mul-add}
+use Rattle.stream_lists.specs.stream_filters.declared.fault.TooBigValue.{TooBigValue}
 use Rattle.stream_lists.specs.graph_base.declared.line.Kind.{Kind}
 use Rattle.stream_lists.specs.graph_base.declared.line.Kind.TheVariants.{Source, Fir, Split, Join, Peer, Sink}
 use Rattle.stream_lists.specs.graph_base.Graphs.{Task, task_at}
@@ -11,7 +16,8 @@ use Rattle.stream_lists.specs.Jobs.{Job}
 use Rattle.stream_lists.specs.Spans.{signalled_by, puts_on, turns_below}
 use Rattle.graph_runs.specs.Moments.{Moment, TaskRan, made_now}
 use Rattle.graph_runs.specs.Nexts.{first_owed, is_owed}
-use Rattle.graph_runs.specs.TaskPlaces.{Owed, nothing, lacking}
+use Rattle.graph_runs.specs.Answers.{next_values}
+use Rattle.graph_runs.specs.TaskPlaces.{Owed, nothing, values, lacking}
 use Rattle.graph_runs.proofs.Boundaries.{made_many}
 use Rattle.graph_runs.proofs.Following.{Lacks}
 
@@ -46,7 +52,7 @@ find_first test from (suc many) j low high is none =
         ap (λ b. cond b (Some from) (find test (range_with_len (from + 1) many)))
         (ap test same ∙ is) ∙ ap (λ x. Some x) same
 
--- an output that lacks nothing is not owed, and one that lacks a value is
+-- an output that lacks nothing is not owed, and one that lacks values is
 not_owed : (job : Job) (m : Moment) (t j : ℕ) (owed : Owed) → Lacks job m t owed
     → j < length (signalled_by (task_at job.graph t))
     → lacking (task_at job.graph t).kind owed j ≡ 0 → is_owed job m t j ≡ false
@@ -57,8 +63,8 @@ not_owed job m t j owed lacks lt none =
 
 is_lacking : (job : Job) (m : Moment) (t j : ℕ) (owed : Owed) → Lacks job m t owed
     → j < length (signalled_by (task_at job.graph t))
-    → lacking (task_at job.graph t).kind owed j ≡ 1 → is_owed job m t j ≡ true
-is_lacking job m t j owed lacks lt one =
+    → 0 < lacking (task_at job.graph t).kind owed j → is_owed job m t j ≡ true
+is_lacking job m t j owed lacks lt some =
     let long : length (made_now job m t j)
     ≡ length (m.put t j) + lacking (task_at job.graph t).kind owed j = lacks j lt in
     lt-ltb (length (m.put t j)) (length (made_now job m t j)) (omega arith)
@@ -71,13 +77,63 @@ first_none job m t lacks =
 
 pub first_is : (job : Job) (m : Moment) (t j : ℕ) (owed : Owed) → Lacks job m t owed
     → j < length (signalled_by (task_at job.graph t))
-    → lacking (task_at job.graph t).kind owed j ≡ 1
+    → 0 < lacking (task_at job.graph t).kind owed j
     → ((i : ℕ) → i < j → lacking (task_at job.graph t).kind owed i ≡ 0)
     → first_owed job m t ≡ Some j
-first_is job m t j owed lacks lt one none =
+first_is job m t j owed lacks lt some none =
     find_first (is_owed job m t) 0 (length (signalled_by (task_at job.graph t))) j (omega arith)
-    (omega arith) (is_lacking job m t j owed lacks lt one)
+    (omega arith) (is_lacking job m t j owed lacks lt some)
     (λ i low less. not_owed job m t i owed lacks (omega arith) (none i less))
+
+-- what lacks of these values on an output
+pub lacks_here : (kind : Kind) (j : ℕ) (vs : List (Result ℤ TooBigValue))
+    → lacking kind (values j vs) j ≡ length vs
+lacks_here kind j vs = let here : eqb j j ≡ true = eq-eqb j j refl in rw here refl
+
+-- ---- which values are next
+
+take_all : (n : ℕ) (xs : List ℤ) → length xs ≤ n → take n xs ≡ xs
+take_all n [] le = take-nil n
+take_all zero (x ∷ xs) le = absurd (omega arith)
+take_all (suc n) (x ∷ xs) le = ap (λ l. x ∷ l) (take_all n xs (omega arith))
+
+-- all that the output lacks, where a block has room for it
+pub next_all : (job : Job) (m : Moment) (t j : ℕ)
+    → length (made_now job m t j) ≤ length (m.put t j) + (task_at job.graph t).block
+    → next_values job m t j ≡ drop (length (m.put t j)) (made_now job m t j)
+next_all job m t j le =
+    let long : length (drop (length (m.put t j)) (made_now job m t j))
+    ≡ length (made_now job m t j) - length (m.put t j) =
+    length-drop (length (m.put t j)) (made_now job m t j) in
+    take_all (task_at job.graph t).block (drop (length (m.put t j)) (made_now job m t j))
+    (omega arith)
+
+-- the first of them stands behind what was put
+pub next_begins : (job : Job) (m : Moment) (t j : ℕ) → 1 ≤ (task_at job.graph t).block
+    → length (m.put t j) < length (made_now job m t j)
+    → next_values job m t j
+    ≡ get_or (made_now job m t j) (length (m.put t j)) (pos 0)
+    ∷ take ((task_at job.graph t).block - 1) (drop (suc (length (m.put t j))) (made_now job m t j))
+next_begins job m t j some more =
+    let made = made_now job m t j in
+    let put = length (m.put t j) in
+    let block = (task_at job.graph t).block in
+    let cut : block ≡ suc (block - 1) = omega arith in
+    ap (λ l. take block l) (drop-cons made put (pos 0) more)
+    ∙ ap (λ n. take n (get_or made put (pos 0) ∷ drop (suc put) made)) cut
+
+-- where it lacks one, that is all
+pub next_one : (job : Job) (m : Moment) (t j : ℕ) → 1 ≤ (task_at job.graph t).block
+    → length (made_now job m t j) ≡ length (m.put t j) + 1
+    → next_values job m t j ≡ get_or (made_now job m t j) (length (m.put t j)) (pos 0) ∷ []
+next_one job m t j some one =
+    let made = made_now job m t j in
+    let put = length (m.put t j) in
+    let n = (task_at job.graph t).block - 1 in
+    let none : drop (suc put) made ≡ [] = drop_of_length-le made {i = suc put} (omega arith) in
+    next_begins job m t j some (omega arith)
+    ∙ ap (λ l. get_or made put (pos 0) ∷ take n l) none
+    ∙ ap (λ l. get_or made put (pos 0) ∷ l) (take-nil n)
 
 -- ---- what lacks at the start
 

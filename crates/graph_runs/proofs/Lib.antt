@@ -71,6 +71,7 @@ pub mod ToldFaults
 pub mod Outputs
 pub mod Absent
 pub mod CallsFollow
+pub mod Found
 pub mod Founding
 pub mod Joined
 pub mod OnPhasers

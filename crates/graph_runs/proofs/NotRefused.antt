@@ -1,47 +1,48 @@
 -- No turn is refused: each call of a live task is accepted, or comes too early.
-use Rattle.std.proofs.Common.{◌≡◌, ℕ, ◌+◌, ◌-◌, ◌<◌, ◌≤◌, Bool, true, false, not, ◌&&◌, cond, eqb, [], ◌∷◌, Option, Some, None, is_some, length, get_or, ℤ, refl, sym, ap, subst, ◌∙◌, arith, ◌⊎◌, inl, inr}
-use Rattle.std.specs.Prelude.{Result, Ok, Err, unwrap_or}
-use Rattle.std.proofs.lemmas.Bool.{and_left, and_right, ne_eqb, false_from_ne_true, cases_lt, not-true}
+use Rattle.std.proofs.Common.{◌≡◌, ◌≢◌, ℕ, ◌+◌, ◌-◌, ◌<◌, ◌≤◌, Bool, true, false, not, ◌&&◌, ◌||◌, cond, eqb, List, [], ◌∷◌, Option, Some, None, is_some, length, map, get_or, ℤ, refl, sym, ap, subst, ◌∙◌, arith, ◌⊎◌, inl, inr}
+use Rattle.std.specs.Prelude.{unwrap_or, nat_lt}
+use Rattle.std.specs.List.{position_from}
+use Rattle.std.proofs.lemmas.Bool.{and_left, and_right, ne_eqb, false_from_ne_true, cases_lt, not-true, le-ltb, lt-ltb}
 use Rattle.phase_history.specs.phase_base.Members.{entry_of}
 use Rattle.phase_history.specs.phase_base.Modes.{holds, mode_signals, mode_waits}
 use Rattle.phase_history.specs.phase_base.declared.mode.Mode.{Mode}
+use Rattle.phase_history.specs.phase_base.declared.mode.Mode.TheVariants.{Wait}
+use Rattle.phase_history.specs.phase_base.Limits.{Limits}
 use Rattle.phase_history.specs.phase_accum.declared.outcome.Outcome.{Outcome}
-use Rattle.phase_history.specs.declared.got.Got.{Got}
-use Rattle.phase_history.specs.declared.got.Got.TheVariants as got
 use Rattle.phase_history.specs.declared.refusal.SignalRefusal.{SignalRefusal}
 use Rattle.phase_history.specs.declared.refusal.SignalRefusal.TheVariants as signal_refusals
-use Rattle.phase_history.specs.declared.refusal.WaitRefusal.{WaitRefusal}
-use Rattle.phase_history.specs.declared.refusal.WaitRefusal.TheVariants as wait_refusals
 use Rattle.phase_history.specs.phase_base.declared.entry.Entry.{Entry}
-use Rattle.phase_history.specs.Histories.{members_of, done_of, has_dropped, greatest_used, IsAlive}
-use Rattle.phase_history.specs.Refusals.{signal_refusal, drop_refusal, register_refusal, refusal_at}
-use Rattle.phase_history.specs.Replies.{wait_reply}
+use Rattle.phase_history.specs.Histories.{History, members_of, done_of, wait_phase, has_dropped, greatest_used, IsAlive}
+use Rattle.phase_history.specs.Refusals.{signal_refusal, wait_refusal, drop_refusal, register_refusal, register_now_refusal, refusal_at, is_bad_block}
+use Rattle.phase_history.specs.Replies.{wait_reply, wait_block_reply}
 use Rattle.phase_history.proofs.Alive.{alive_law}
-use Rattle.stream_lists.specs.graph_base.declared.line.Kind.TheVariants.{Peer}
+use Rattle.stream_lists.specs.graph_base.declared.line.Kind.{Kind}
+use Rattle.stream_lists.specs.graph_base.declared.line.Kind.TheVariants.{Source, Fir, Split, Join, Peer, Sink}
 use Rattle.stream_lists.specs.graph_base.declared.limits.TheConstants.{TASKS_MAX}
 use Rattle.stream_lists.specs.graph_base.declared.place.Place.TheVariants as place
 use Rattle.stream_lists.specs.graph_base.declared.registration.Registration.{Registration}
 use Rattle.stream_lists.specs.graph_base.Graphs.{task_at, phaser_at}
 use Rattle.stream_lists.specs.graph_base.Registrations.{ends_of, as_input, as_output, no_registration}
-use Rattle.stream_lists.specs.graph_base.TaskLines.{IsGraph}
+use Rattle.stream_lists.specs.graph_base.TaskLines.{IsGraph, has_blocks}
 use Rattle.stream_lists.proofs.graph_base_lemmas.Registered.{registrations-plain, length-registrations, end-input, end-output}
 use Rattle.stream_lists.specs.Jobs.{Job, index_in}
 use Rattle.stream_lists.specs.Spans.{signalled_by}
 use Rattle.stream_lists.specs.Ranges.{are_made, is_out_of_range}
 use Rattle.stream_lists.proofs.Ordered.{place-at, parent_signals, parent_waits}
-use Rattle.graph_runs.specs.Moments.{Moment, HasEnded, OnLine, limits_at, value_at, input_at, numbers_on}
+use Rattle.graph_runs.specs.Moments.{one, Moment, HasEnded, OnLine, limits_at, value_at, input_at, numbers_on}
 use Rattle.graph_runs.proofs.OnLines.{on_phaser}
-use Rattle.graph_runs.specs.TaskEvents.{TaskEvent, leave, child}
+use Rattle.graph_runs.specs.TaskEvents.{TaskEvent, leave, child, child_now}
 use Rattle.graph_runs.specs.Nexts.{first_due, first_kept, first_missing, has_registered, has_left, has_signaller, number_on, registrations_at}
-use Rattle.graph_runs.specs.Answers.{Answer, makes, is_blocked, is_gone, has_made, is_refused, signal_answer, wait_answer, accepted_answer, signal_turn, call_signal, call_leave, call_register, output_at}
+use Rattle.graph_runs.specs.Answers.{Answer, makes, is_blocked, is_gone, has_made, is_refused, signal_answer, wait_answer, block_answer, accepted_answer, register_answer, signal_turn, call_leave, call_register, output_at}
 use Rattle.graph_runs.specs.Reached.{IsReachable}
 use Rattle.graph_runs.proofs.PlacesLemmas.{find-some, find-none, place_of_output}
 use Rattle.graph_runs.proofs.Signalling.{Live, number_there, stays}
 use Rattle.graph_runs.proofs.Boundaries.{peer_ends}
-use Rattle.graph_runs.proofs.TurnRegistering.{IsDueChild, due_child, plain_outputs, no_peer, IsFor, is_for, on_parents_line}
+use Rattle.graph_runs.proofs.TurnRegistering.{IsDueChild, due_child, plain_outputs, no_peer, IsFor, is_for, on_parents_line, sink_mode}
 use Rattle.graph_runs.proofs.TurnEntries.{IsMember, member, on_output, on_input, signal_phase_is, wait_phase_is, numbers_few}
 use Rattle.graph_runs.proofs.EndModes.{HasRegistration, SignalMode, signal_mode, WaitMode, wait_mode}
-use Rattle.graph_runs.proofs.Refusing.{MaySignal, may_signal, MayWait, may_wait, may_register}
+use Rattle.graph_runs.proofs.Refusing.{MaySignal, may_signal, WaitMay, may_wait, may_register}
+use Rattle.graph_runs.proofs.Blocks.{may_signal_block}
 
 -- the answer is one of the table's
 abbrev pub IsTold : Answer → Type 0
@@ -64,15 +65,24 @@ signal_told event (Some signal_refusals.Ahead) may = tt
 signal_told event (Some signal_refusals.SingleDiffers) may = absurd may
 signal_told event (Some signal_refusals.PhaseFull) may = absurd may
 
-pub wait_told : (event : Outcome → TaskEvent) (r : Result Got WaitRefusal) → MayWait r
-    → IsTold (wait_answer event r)
-wait_told event (Ok (got.Value phase outcome)) may = tt
-wait_told event (Ok got.Ended) may = absurd may
-wait_told event (Err wait_refusals.NoTask) may = absurd may
-wait_told event (Err wait_refusals.NoWait) may = absurd may
-wait_told event (Err wait_refusals.BadBlock) may = absurd may
-wait_told event (Err wait_refusals.SignalFirst) may = absurd may
-wait_told event (Err wait_refusals.NotYet) may = tt
+pub wait_told : (event : Outcome → TaskEvent) (value : List ℤ → Outcome) (limits : Limits)
+    (h : History) (n : ℕ) → WaitMay limits h n 1
+    → IsTold (wait_answer event (wait_reply value limits h n))
+wait_told event value limits h n (inl yet) = rw yet tt
+wait_told event value limits h n (inr ready) =
+    let none : wait_refusal limits h n 1 ≡ None = ready.0 in
+    let complete : nat_lt (wait_phase h n) (done_of h) ≡ true =
+    lt-ltb (wait_phase h n) (done_of h) ready.1 in
+    rw none (rw complete tt)
+
+pub block_told : (event : ℕ → ℕ → TaskEvent) (limits : Limits) (h : History) (n steps : ℕ)
+    → WaitMay limits h n steps → IsTold (block_answer event (wait_block_reply limits h n steps))
+block_told event limits h n steps (inl yet) = rw yet tt
+block_told event limits h n steps (inr ready) =
+    let none : wait_refusal limits h n steps ≡ None = ready.0 in
+    let complete : nat_lt (wait_phase h n) (done_of h) ≡ true =
+    lt-ltb (wait_phase h n) (done_of h) ready.1 in
+    rw none (rw complete tt)
 
 accepted_told : {R : Type 0} (event : TaskEvent) (o : Option R) → o ≡ None
     → IsTold (accepted_answer event o)
@@ -97,17 +107,60 @@ member_on job m t p n mode reached there r pp at stays =
 
 -- ---- signals
 
--- a live task that has not come to its end signals on output j. A peer that waits on E, its output
--- 0, has not yet put there one value more than it has taken
-pub signal_passes : (job : Job) (m : Moment) (t j : ℕ) (v : ℤ) → IsGraph job.graph
+-- so many phases are a block of a phaser with this bound
+good_block : (limits : Limits) (n : ℕ) → 1 ≤ n → n ≤ limits.bound
+    → is_bad_block limits n ≡ false
+good_block limits n some few =
+    ap (λ b. b || nat_lt limits.bound n) (ne_eqb n 0 (λ e. omega arith)) ∙ le-ltb limits.bound n few
+
+-- a line's block is at most the bound of each phaser that its task signals
+block_fits : (job : Job) (t j : ℕ) → IsGraph job.graph → t < length job.graph.tasks
+    → j < length (signalled_by (task_at job.graph t)) → output_at job t j < length job.graph.phasers
+    → (task_at job.graph t).block ≤ (phaser_at job.graph (output_at job t j)).bound
+block_fits job t j is there lt pp = by (task_at job.graph t).kind refl
+  where
+    other : (task_at job.graph t).kind ≢ Peer
+        → (task_at job.graph t).block ≤ (phaser_at job.graph (output_at job t j)).bound
+    other plain =
+        let outs = plain_outputs job t plain in
+        let P : List ℕ → Type 0 =
+        λ l. (task_at job.graph t).block ≤ (phaser_at job.graph (get_or l j 0)).bound in
+        let long : length (signalled_by (task_at job.graph t))
+        ≡ length (task_at job.graph t).outputs = ap length outs in
+        subst P (sym outs) ((is.tasks t there).block.outputs j 0 (omega arith))
+
+    by : (kind : Kind) → (task_at job.graph t).kind ≡ kind
+        → (task_at job.graph t).block ≤ (phaser_at job.graph (output_at job t j)).bound
+    by Source e = other (λ peer. (let wrong = sym e ∙ peer in cc))
+    by Fir e = other (λ peer. (let wrong = sym e ∙ peer in cc))
+    by Split e = other (λ peer. (let wrong = sym e ∙ peer in cc))
+    by Join e = other (λ peer. (let wrong = sym e ∙ peer in cc))
+    by Sink e = other (λ peer. (let wrong = sym e ∙ peer in cc))
+    by Peer e =
+        let one : (task_at job.graph t).block ≡ 1 =
+        (is.tasks t there).block.kind (ap has_blocks e) in
+        let some : 1 ≤ (phaser_at job.graph (output_at job t j)).bound =
+        (is.phasers (output_at job t j) pp).bound.0 in
+        omega arith
+
+-- a list of one
+one_of : (vs : List ℤ) → 1 ≤ length vs → length vs ≤ 1 → (v : ℤ) × (vs ≡ v ∷ [])
+one_of [] some few = absurd (omega arith)
+one_of (v ∷ []) some few = (v, refl)
+one_of (v ∷ w ∷ vs) some few = absurd (omega arith)
+
+-- a live task that has not come to its end signals a block on output j. A peer that waits on E, its
+-- output 0, has not yet put there one value more than it has taken
+pub signal_passes : (job : Job) (m : Moment) (t j : ℕ) (vs : List ℤ) → IsGraph job.graph
     → IsReachable job m → Live job m t → j < length (signalled_by (task_at job.graph t))
     → (HasEnded job m t → ⊥)
     → ((task_at job.graph t).kind ≡ Peer → j ≡ 0
     → length (m.put t 0) < length (m.taken t 1) + 1)
+    → 1 ≤ length vs → length vs ≤ (task_at job.graph t).block
     → MaySignal (signal_refusal (limits_at job (output_at job t j))
-    (m.history (output_at job t j)) (number_on m t (output_at job t j)) ((v ∷ []) ∷ [])
+    (m.history (output_at job t j)) (number_on m t (output_at job t j)) (map one vs)
     (phaser_at job.graph (output_at job t j)).single)
-signal_passes job m t j v is reached live lt more turn =
+signal_passes job m t j vs is reached live lt more turn some few =
     let p = output_at job t j in
     let n = number_on m t p in
     let place = place_of_output job.graph t (task_at job.graph t) j (is.tasks t live.there) lt in
@@ -118,8 +171,7 @@ signal_passes job m t j v is reached live lt more turn =
     let mode = signal_mode job t j is live.there lt in
     let e = member_on job m t p n mode.mode reached live.there mode.on pp at here in
     let on = on_output job m t j p n (reached.ran.tasks t live.there) live.there pp place at in
-    may_signal job m p n v mode.mode is reached.ran pp e mode.signals mode.named
-    (by mode e (signal_phase_is job m t j p n mode.mode on e) pp at mode.in_turn)
+    by mode e (signal_phase_is job m t j p n mode.mode on e) pp at mode.in_turn
   where
     by : (mode : SignalMode job t j (output_at job t j))
         (e : IsMember m (output_at job t j) (number_on m t (output_at job t j)) mode.mode)
@@ -128,9 +180,14 @@ signal_passes job m t j v is reached live lt more turn =
         → m.number (output_at job t j) t ≡ Some (number_on m t (output_at job t j))
         → (mode_waits mode.mode ≡ false) ⊎ ((task_at job.graph t).kind ≡ Peer) × (j ≡ 0)
         × (input_at (task_at job.graph t) 1 ≡ output_at job t j)
-        → (mode_waits mode.mode && eqb e.entry.signal_phase (e.entry.wait_phase + 1)) ≡ false
+        → MaySignal (signal_refusal (limits_at job (output_at job t j))
+        (m.history (output_at job t j)) (number_on m t (output_at job t j)) (map one vs)
+        (phaser_at job.graph (output_at job t j)).single)
     by mode e s pp at (inl none) =
-        and_left (mode_waits mode.mode) (eqb e.entry.signal_phase (e.entry.wait_phase + 1)) none
+        let fits = block_fits job t j is live.there lt pp in
+        may_signal_block job m (output_at job t j) (number_on m t (output_at job t j)) vs mode.mode
+        is reached.ran pp e mode.signals none mode.named
+        (good_block (limits_at job (output_at job t j)) (length vs) some (omega arith))
     by mode e s pp at (inr peer) =
         let p = output_at job t j in
         let n = number_on m t p in
@@ -142,47 +199,56 @@ signal_passes job m t j v is reached live lt more turn =
         let s_is : e.entry.signal_phase ≡ m.offset t + length (m.put t j) = s in
         let same : length (m.put t j) ≡ length (m.put t 0) =
         ap (λ i. length (m.put t i)) peer.1 in
-        let few : length (m.put t 0) < length (m.taken t 1) + 1 = turn peer.0 peer.1 in
-        and_right (mode_waits mode.mode) (eqb e.entry.signal_phase (e.entry.wait_phase + 1))
-        (ne_eqb e.entry.signal_phase (e.entry.wait_phase + 1) (λ clash. omega arith))
+        let low : length (m.put t 0) < length (m.taken t 1) + 1 = turn peer.0 peer.1 in
+        let block : (task_at job.graph t).block ≡ 1 =
+        (is.tasks t live.there).block.kind (ap has_blocks peer.0) in
+        let v = one_of vs some (omega arith) in
+        let S : List ℤ → Type 0 = λ l. MaySignal (signal_refusal (limits_at job p) (m.history p) n
+        (map one l) (phaser_at job.graph p).single) in
+        subst S (sym v.1) (may_signal job m p n v.0 mode.mode is reached.ran pp e mode.signals
+        mode.named
+        (and_right (mode_waits mode.mode) (eqb e.entry.signal_phase (e.entry.wait_phase + 1))
+        (ne_eqb e.entry.signal_phase (e.entry.wait_phase + 1) (λ clash. omega arith))))
 
--- a value that is in range, or that a filter or a peer made, is signalled or told as out of range
-pub signal_turn_told : (job : Job) (m : Moment) (t j : ℕ) (v : ℤ) (event : TaskEvent)
-    → (are_made (task_at job.graph t).kind j ≡ false → is_out_of_range v ≡ false)
+-- values that are in range, or that a filter or a peer made, are signalled or told as out of range
+pub signal_turn_told : (job : Job) (m : Moment) (t j : ℕ) (vs : List ℤ) (event : TaskEvent)
+    → (are_made (task_at job.graph t).kind j ≡ false
+    → position_from is_out_of_range (length (m.put t j)) vs ≡ None)
     → MaySignal (signal_refusal (limits_at job (output_at job t j))
-    (m.history (output_at job t j)) (number_on m t (output_at job t j)) ((v ∷ []) ∷ [])
+    (m.history (output_at job t j)) (number_on m t (output_at job t j)) (map one vs)
     (phaser_at job.graph (output_at job t j)).single)
-    → IsTold (signal_turn job m t j v event)
-signal_turn_told job m t j v event ranged may =
-    by (is_out_of_range v) refl (are_made (task_at job.graph t).kind j) refl
+    → IsTold (signal_turn job m t j vs event)
+signal_turn_told job m t j vs event ranged may =
+    by (position_from is_out_of_range (length (m.put t j)) vs) refl
+    (are_made (task_at job.graph t).kind j) refl
   where
-    by : (out : Bool) → is_out_of_range v ≡ out → (made : Bool)
-        → are_made (task_at job.graph t).kind j ≡ made
-        → IsTold (cond out (cond made (has_made (place.Task t, length (m.put t j))) is_refused)
-        (call_signal job m t (output_at job t j) v event))
-    by false out made is =
-        signal_told event
+    by : (o : Option ℕ) → position_from is_out_of_range (length (m.put t j)) vs ≡ o
+        → (made : Bool) → are_made (task_at job.graph t).kind j ≡ made
+        → IsTold (signal_turn job m t j vs event)
+    by None found made is =
+        rw found (signal_told event
         (signal_refusal (limits_at job (output_at job t j)) (m.history (output_at job t j))
-        (number_on m t (output_at job t j)) ((v ∷ []) ∷ [])
-        (phaser_at job.graph (output_at job t j)).single) may
-    by true out true is = tt
-    by true out false is = absurd (let no : true ≡ false = sym out ∙ ranged is in cc)
+        (number_on m t (output_at job t j)) (map one vs)
+        (phaser_at job.graph (output_at job t j)).single) may)
+    by (Some step) found true is = rw found (rw is tt)
+    by (Some step) found false is =
+        absurd (let no : Some step ≡ None = sym found ∙ ranged is in cc)
 
 -- ---- waits
 
 -- a live task that has not come to its end waits on input k. A peer that signals E, its input 1, too
 -- has put there more values than it has taken, and where nobody signals there are more to take
-pub wait_passes : (job : Job) (m : Moment) (t k : ℕ) → IsGraph job.graph → IsReachable job m
-    → Live job m t → k < length (task_at job.graph t).inputs → (HasEnded job m t → ⊥)
+pub wait_passes : (job : Job) (m : Moment) (t k steps : ℕ) → IsGraph job.graph
+    → IsReachable job m → Live job m t → k < length (task_at job.graph t).inputs
+    → (HasEnded job m t → ⊥) → 1 ≤ steps → steps ≤ (task_at job.graph t).block
     → ((task_at job.graph t).kind ≡ Peer → k ≡ 1 → length (m.taken t 1) < length (m.put t 0))
     → (has_signaller (m.history (input_at (task_at job.graph t) k)) ≡ false
     → m.offset t + length (m.taken t k)
     < done_of (m.history (input_at (task_at job.graph t) k)))
-    → MayWait (wait_reply (value_at job (input_at (task_at job.graph t) k))
-    (limits_at job (input_at (task_at job.graph t) k))
+    → WaitMay (limits_at job (input_at (task_at job.graph t) k))
     (m.history (input_at (task_at job.graph t) k))
-    (number_on m t (input_at (task_at job.graph t) k)))
-wait_passes job m t k is reached live lt more turn later =
+    (number_on m t (input_at (task_at job.graph t) k)) steps
+wait_passes job m t k steps is reached live lt more some few turn later =
     let p = input_at (task_at job.graph t) k in
     let n = number_on m t p in
     let line : OnLine (task_at job.graph t) p = inr (k, lt, refl) in
@@ -193,7 +259,10 @@ wait_passes job m t k is reached live lt more turn later =
     let e = member_on job m t p n mode.mode reached live.there mode.on pp at here in
     let into = on_input job m t k p n (reached.ran.tasks t live.there) live.there lt refl at in
     let w = wait_phase_is job m t k p n mode.mode (reached.ran.phasers p pp).legal into e in
-    may_wait job m p n mode.mode is pp e mode.waits (by mode e w pp at mode.first)
+    let fits : (task_at job.graph t).block ≤ (phaser_at job.graph p).bound =
+    (is.tasks t live.there).block.inputs k 0 lt in
+    may_wait job m p n steps mode.mode e mode.waits
+    (good_block (limits_at job p) steps some (omega arith)) (by mode e w pp at mode.first)
     (λ quiet. (let w_is : e.entry.wait_phase ≡ m.offset t + length (m.taken t k) = w in
     let below : m.offset t + length (m.taken t k) < done_of (m.history p) = later quiet in
     omega arith))
@@ -348,7 +417,7 @@ parent_holds job m t c i is there d lt = by (cases_lt i (length (task_at job.gra
 
 pub register_told : (job : Job) (m : Moment) (t c : ℕ) → IsGraph job.graph → IsReachable job m
     → Live job m t → first_due job m t ≡ Some c
-    → IsTold (call_register m t c (first_missing job m c))
+    → IsTold (call_register job m t c (first_missing job m c))
 register_told job m t c is reached live due =
     let d = due_child job m t c is due in by (first_missing job m c) refl d d.missing
   where
@@ -356,8 +425,31 @@ register_told job m t c is reached live due =
     absent None e = refl
     absent (Some n) e = absurd (cc)
 
+    -- a sink that joins now is registered as a waiter
+    told : (r : Registration) (b : Bool)
+        → register_refusal (m.history r.phaser) (number_on m t r.phaser)
+        (greatest_used (m.history r.phaser) + 1) r.mode ≡ None → (b ≡ true → Wait ≡ r.mode)
+        → IsTold (register_answer m t c r b)
+    told r false accepted mode =
+        let n = number_on m t r.phaser in
+        let a = greatest_used (m.history r.phaser) + 1 in
+        accepted_told (child t r.phaser n c a r.mode)
+        (register_refusal (m.history r.phaser) n a r.mode) accepted
+    told r true accepted mode =
+        let n = number_on m t r.phaser in
+        let a = greatest_used (m.history r.phaser) + 1 in
+        accepted_told (child_now t r.phaser n c a) (register_now_refusal (m.history r.phaser) n a)
+        (ap (λ x. register_refusal (m.history r.phaser) n a x) (mode refl) ∙ accepted)
+
+    joins : (r : Registration) (i : ℕ) → i < length (registrations_at job c)
+        → get_or (registrations_at job c) i no_registration ≡ r → IsDueChild job m t c
+        → (task_at job.graph c).joins_now ≡ true → Wait ≡ r.mode
+    joins r i lt same d now =
+        sym (sink_mode job c i is d.there ((is.tasks c d.there).now now).0 lt)
+        ∙ ap (λ x. x.mode) same
+
     by : (o : Option Registration) → first_missing job m c ≡ o → IsDueChild job m t c
-        → is_some o ≡ true → IsTold (call_register m t c o)
+        → is_some o ≡ true → IsTold (call_register job m t c o)
     by None missing d some = absurd (cc)
     by (Some r) missing d some =
         let f = find-some (λ x. not (has_registered m c x)) (registrations_at job c) r
@@ -387,6 +479,6 @@ register_told job m t c is reached live due =
         let numbers : length (numbers_on job m p) ≤ length job.graph.tasks =
         numbers_few job m p in
         let tasks : length job.graph.tasks ≤ TASKS_MAX = is.few_tasks in
-        let a = greatest_used (m.history p) + 1 in
-        accepted_told (child t p n c a r.mode) (register_refusal (m.history p) n a r.mode)
+        told r (task_at job.graph c).joins_now
         (may_register m p n held.mode r.mode e held.holding (omega arith))
+        (joins r f.1.0 f.1.1 f.1.2 d)

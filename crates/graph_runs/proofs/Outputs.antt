@@ -21,8 +21,8 @@ output_there job t j is there few =
     on_phaser job t (output_at job t j) is there
     (inl (j, place_of_output job.graph t (task_at job.graph t) j (is.tasks t there) few))
 
--- a filter owes its answer on its output
+-- a filter that got one value owes its answer on its output
 pub filter_owes : (task : Task) (begun : ℕ) (taken : List ℤ) (x : ℤ) (answer : Result ℤ TooBigValue)
     → task.kind ≡ Fir → answer ≡ ranged (output_after task.taps task.shift (taken ++ x ∷ []))
-    → turns.value 0 answer ≡ turns.owed_after_wait task begun taken x
-filter_owes task begun taken x answer kind is = rw kind (ap (λ v. turns.value 0 v) is)
+    → turns.values 0 (answer ∷ []) ≡ turns.owed_after_wait task begun taken (x ∷ [])
+filter_owes task begun taken x answer kind is = rw kind (ap (λ v. turns.values 0 (v ∷ [])) is)

@@ -48,7 +48,7 @@ map_ranged {X = X} f xs each = record { at = λ i. at xs i }
     at (x ∷ xs) zero = each x
     at (x ∷ xs) (suc i) = at xs i
 
-take_ranged : (n : ℕ) (xs : List ℤ) → AreRanged xs → AreRanged (take n xs)
+pub take_ranged : (n : ℕ) (xs : List ℤ) → AreRanged xs → AreRanged (take n xs)
 take_ranged n xs are = record { at = λ i. at n xs i (are.at i) }
   where
     at : (n : ℕ) (xs : List ℤ) (i : ℕ) → is_out_of_range (get_or xs i (pos 0)) ≡ false
@@ -58,7 +58,7 @@ take_ranged n xs are = record { at = λ i. at n xs i (are.at i) }
     at (suc n) (x ∷ xs) zero e = e
     at (suc n) (x ∷ xs) (suc i) e = at n xs i e
 
-drop_ranged : (n : ℕ) (xs : List ℤ) → AreRanged xs → AreRanged (drop n xs)
+pub drop_ranged : (n : ℕ) (xs : List ℤ) → AreRanged xs → AreRanged (drop n xs)
 drop_ranged zero xs are = are
 drop_ranged (suc n) [] are = are
 drop_ranged (suc n) (x ∷ xs) are = drop_ranged n xs (record { at = λ i. are.at (suc i) })

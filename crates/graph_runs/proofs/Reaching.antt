@@ -28,7 +28,6 @@ use Rattle.stream_lists.proofs.Ordered.{place-distinct}
 use Rattle.graph_runs.specs.Moments.{Moment, HasRun, numbers_on, limits_at}
 use Rattle.graph_runs.specs.Moves.{HasMoved, SameTask, Registers}
 use Rattle.graph_runs.proofs.Opened.{opened_ran}
-use Rattle.graph_runs.proofs.Turned.{next_sample_is, next_signal_is, first_wait_is, exchange_wait_is, next_leave_is, next_child_is}
 use Rattle.graph_runs.specs.TaskEvents.{TaskEvent, IsNext, sample, signal, first_wait, exchange_wait, leave, child, after_turn}
 use Rattle.graph_runs.specs.Nexts.{HasChildrenToCome, first_missing, has_registered, registrations_at}
 use Rattle.graph_runs.specs.Reached.{HasMode, HasModes, HasOnlyTasks, HasTaskMembers, IsOfTask, HasBegun, IsReachable}
@@ -219,7 +218,7 @@ numbers_moved job before after t p event moved none were q n qq used stays =
         ap (λ h. has_dropped h n)
         (sym (moved.elsewhere q (λ same. (let no = sym (eq-eqb q p same) ∙ e in cc)))) ∙ stays
 
-numbers_registered : (job : Job) (before after : Moment) (t p n c a : ℕ) (mode : Mode) (u : Parent)
+pub numbers_registered : (job : Job) (before after : Moment) (t p n c a : ℕ) (mode : Mode) (u : Parent)
     → Registers job before after t p n c a mode u → HasTaskNumbers job before
     → HasTaskNumbers job after
 numbers_registered job before after t p n c a mode u s were =
@@ -353,7 +352,7 @@ get_or-any [] k d e lt = absurd (omega arith)
 get_or-any (x ∷ xs) zero d e lt = refl
 get_or-any (x ∷ xs) (suc k) d e lt = get_or-any xs k d e (omega arith)
 
-modes_registered : (job : Job) (before after : Moment) (t p n c a : ℕ) (mode : Mode) (u : Parent)
+pub modes_registered : (job : Job) (before after : Moment) (t p n c a : ℕ) (mode : Mode) (u : Parent)
     → IsGraph job.graph → HasRun job before → HasRun job after
     → Registers job before after t p n c a mode u
     → IsInOrder job before (child t p n c a mode) → p < length job.graph.phasers
@@ -488,7 +487,7 @@ length-joined f g from (suc many) c a low high none some same =
         ∙ sym (ap (λ o. suc (length (cons_option o (filter_map f (range_with_len (from + 1) many)))))
         (ap f at ∙ none))
 
-tasks_registered : (job : Job) (before after : Moment) (t p n c a : ℕ) (mode : Mode) (u : Parent)
+pub tasks_registered : (job : Job) (before after : Moment) (t p n c a : ℕ) (mode : Mode) (u : Parent)
     → Registers job before after t p n c a mode u → HasOnlyTasks job before
     → HasOnlyTasks job after
 tasks_registered job before after t p n c a mode u s only q lt = by (eqb q p) refl
@@ -527,7 +526,7 @@ tasks_registered job before after t p n c a mode u s only q lt = by (eqb q p) re
         let was : length (members_of (before.history q)) ≤ length (numbers_on job before q) = few in
         omega arith
 
-to_come_registered : (job : Job) (before after : Moment) (t p n c a : ℕ) (mode : Mode) (u : Parent)
+pub to_come_registered : (job : Job) (before after : Moment) (t p n c a : ℕ) (mode : Mode) (u : Parent)
     → Registers job before after t p n c a mode u → HasChildrenToCome job before
     → HasChildrenToCome job after
 to_come_registered job before after t p n c a mode u s come =
@@ -550,7 +549,7 @@ to_come_registered job before after t p n c a mode u s come =
         ap (λ y. is_some (after.number y x)) (eqb-true q p e)
         ∙ ap (λ y. is_some (after.number p y)) (eqb-true x c f) ∙ ap is_some s.number
 
--- ---- a turn's event
+-- ---- an event of a task
 
 pub reached_moved : (job : Job) (before after : Moment) (t p : ℕ) (event : Event)
     → HasMoved job before after t p event → GivesNoNumber event
@@ -565,47 +564,6 @@ reached_moved job before after t p event moved none all ran reached = record {
       (by_numbers job before reached.ran reached.members));
   to_come = to_come_moved job before after t p event moved all reached.to_come;
 }
-
-pub reached_after : (job : Job) (m : Moment) (event : TaskEvent) → IsGraph job.graph
-    → IsReachable job m → IsNext job m event → first_missing job m (task_of event) ≡ None
-    → IsInOrder job m event → HasRun job (after_turn job event m)
-    → IsReachable job (after_turn job event m)
-reached_after job m (sample t j p n v) is reached next all missing ran =
-    let s = next_sample_is job m t j p n v next.1 (reached.ran.tasks t next.0.task) in
-    reached_moved job m (after_turn job (sample t j p n v) m) t p
-    (Signalled n ((v ∷ []) ∷ []) (phaser_at job.graph p).single) s.moved
-    (signal_gives_none n ((v ∷ []) ∷ []) (phaser_at job.graph p).single) all ran reached
-reached_after job m (signal t j p n v) is reached next all missing ran =
-    let s = next_signal_is job m t j p n v next.1 (reached.ran.tasks t next.0.task) in
-    reached_moved job m (after_turn job (signal t j p n v) m) t p
-    (Signalled n ((v ∷ []) ∷ []) (phaser_at job.graph p).single) s.moved
-    (signal_gives_none n ((v ∷ []) ∷ []) (phaser_at job.graph p).single) all ran reached
-reached_after job m (first_wait t k p n outcome) is reached next all missing ran =
-    let s = first_wait_is job m t k p n outcome next.1 in
-    reached_moved job m (after_turn job (first_wait t k p n outcome) m) t p (Waited n 1) s.moved
-    (wait_gives_none n 1) all ran reached
-reached_after job m (exchange_wait t p n outcome) is reached next all missing ran =
-    let s = exchange_wait_is job m t p n outcome next.1 in
-    reached_moved job m (after_turn job (exchange_wait t p n outcome) m) t p (Waited n 1) s.moved
-    (wait_gives_none n 1) all ran reached
-reached_after job m (leave t p n) is reached next all missing ran =
-    let s = next_leave_is job m t p n next.1 in
-    reached_moved job m (after_turn job (leave t p n) m) t p (Dropped n) s.moved
-    (drop_gives_none n) all ran reached
-reached_after job m (child t p n c a mode) is reached next all missing ran =
-    let after = after_turn job (child t p n c a mode) m in
-    let u = next.1.0 in
-    let s = next_child_is job m t p n c a mode u next.1.1 in
-    record {
-      ran = ran;
-      modes = modes_registered job m after t p n c a mode u is reached.ran ran s missing
-          next.0.phaser reached.modes;
-      only_tasks = tasks_registered job m after t p n c a mode u s reached.only_tasks;
-      members = by_members job after ran
-          (numbers_registered job m after t p n c a mode u s
-          (by_numbers job m reached.ran reached.members));
-      to_come = to_come_registered job m after t p n c a mode u s reached.to_come;
-    }
 
 -- ---- the opening
 

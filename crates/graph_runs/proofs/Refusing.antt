@@ -1,7 +1,7 @@
 -- What a live task's calls cannot be refused for.
 use Rattle.std.proofs.Common.{◌≡◌, ℕ, ◌+◌, ◌<◌, ◌≤◌, Bool, true, false, not, ◌&&◌, cond, eqb, [], ◌∷◌, Option, Some, None, is_some, length, ℤ, refl, sym, ap, subst, ◌∙◌, arith, ◌⊎◌, inl, inr}
-use Rattle.std.specs.Prelude.{Result, Ok, Err, nat_le, nat_lt}
-use Rattle.std.proofs.lemmas.Bool.{and_right, and_cases, le-ltb, lt-leb, leb-false, lt-ltb, not_from_true}
+use Rattle.std.specs.Prelude.{nat_le, nat_lt}
+use Rattle.std.proofs.lemmas.Bool.{and_right, and_cases, le-ltb, lt-leb, leb-false, not_from_true}
 use Rattle.std.proofs.lemmas.Bool.Decides.{Decides-int_eq}
 use Rattle.phase_history.specs.phase_base.Members.{least, wait_phases}
 use Rattle.phase_history.specs.phase_base.Modes.{holds, mode_signals, mode_waits, is_single}
@@ -12,25 +12,22 @@ use Rattle.phase_history.specs.phase_accum.declared.single.Single.{Single}
 use Rattle.phase_history.specs.phase_accum.declared.single.Single.TheVariants.{Neg, Abs, Halve, Clamp}
 use Rattle.phase_history.specs.phase_accum.Singles.{differs, is_same}
 use Rattle.phase_history.specs.declared.event.Event.TheVariants.{Made, Registered, RegisteredNow, Signalled, Waited, Dropped}
-use Rattle.phase_history.specs.declared.got.Got.{Got}
-use Rattle.phase_history.specs.declared.got.Got.TheVariants as got
 use Rattle.phase_history.specs.declared.refusal.SignalRefusal.{SignalRefusal}
 use Rattle.phase_history.specs.declared.refusal.SignalRefusal.TheVariants as signal
-use Rattle.phase_history.specs.declared.refusal.WaitRefusal.{WaitRefusal}
 use Rattle.phase_history.specs.declared.refusal.WaitRefusal.TheVariants as wait
 use Rattle.phase_history.specs.declared.refusal.RegisterRefusal.TheVariants as register
-use Rattle.phase_history.specs.Histories.{History, members_of, done_of, signal_phase, wait_phase, greatest_used}
+use Rattle.phase_history.specs.Histories.{History, positions_of, members_of, done_of, signal_phase, wait_phase, greatest_used}
 use Rattle.phase_history.specs.Phases.{sends_of_phase, named_in_phase, first_named, is_among}
-use Rattle.phase_history.specs.Refusals.{signal_refusal, register_refusal, is_ahead, is_bad_block}
+use Rattle.phase_history.specs.Refusals.{signal_refusal, register_refusal, wait_refusal, wait_rows, refusal_at, is_ahead, is_bad_block}
 use Rattle.phase_history.specs.phase_base.Lists.{first_row}
-use Rattle.phase_history.specs.Replies.{wait_reply, refused_or, got_at}
+use Rattle.phase_history.specs.phase_base.Limits.{Limits}
 use Rattle.phase_history.specs.Sent.{NamesAll}
 use Rattle.phase_history.proofs.Steps.{member_entry_is}
 use Rattle.stream_lists.specs.graph_base.Graphs.{phaser_at}
 use Rattle.stream_lists.specs.graph_base.TaskLines.{IsGraph}
 use Rattle.stream_lists.specs.graph_base.declared.limits.TheConstants.{TASKS_MAX}
 use Rattle.stream_lists.specs.Jobs.{Job}
-use Rattle.graph_runs.specs.Moments.{Moment, HasRun, limits_at, value_at}
+use Rattle.graph_runs.specs.Moments.{Moment, HasRun, limits_at}
 use Rattle.graph_runs.specs.Nexts.{has_signaller}
 use Rattle.graph_runs.proofs.TurnEntries.{IsMember, sends_few}
 
@@ -133,59 +130,68 @@ may_signal job m p n v mode is ran pp e signals named twice =
 
 -- ---- a wait
 
--- it is answered a value, or refused as NotYet
-abbrev pub MayWait : Result Got WaitRefusal → Type 0
-MayWait (Ok (got.Value phase outcome)) = Unit {0}
-MayWait (Ok got.Ended) = ⊥
-MayWait (Err wait.NotYet) = Unit {0}
-MayWait (Err refusal) = ⊥
+-- it is refused as NotYet, or accepted where a phase is complete
+abbrev pub WaitMay : Limits → History → ℕ → ℕ → Type 0
+WaitMay limits h n steps =
+    (wait_refusal limits h n steps ≡ Some wait.NotYet)
+    ⊎ (wait_refusal limits h n steps ≡ None) × (wait_phase h n < done_of h)
 
-wait_rows_pass : (no_wait bad first yet : Bool) (g : Got) → no_wait ≡ false → bad ≡ false
-    → first ≡ false → (yet ≡ false → MayWait (Ok g))
-    → MayWait (refused_or (first_row ((no_wait, wait.NoWait) ∷ (bad, wait.BadBlock)
-    ∷ (first, wait.SignalFirst) ∷ (yet, wait.NotYet) ∷ [])) g)
-wait_rows_pass no_wait bad first true g a b c got = rw a (rw b (rw c tt))
-wait_rows_pass no_wait bad first false g a b c got = rw a (rw b (rw c (got refl)))
+wait_rows_pass : (no_wait bad first yet : Bool) → no_wait ≡ false → bad ≡ false → first ≡ false
+    → first_row ((no_wait, wait.NoWait) ∷ (bad, wait.BadBlock) ∷ (first, wait.SignalFirst)
+    ∷ (yet, wait.NotYet) ∷ []) ≡ cond yet (Some wait.NotYet) None
+wait_rows_pass no_wait bad first true a b c = rw a (rw b (rw c refl))
+wait_rows_pass no_wait bad first false a b c = rw a (rw b (rw c refl))
 
-pub may_wait : (job : Job) (m : Moment) (p n : ℕ) (mode : Mode) → IsGraph job.graph
-    → p < length job.graph.phasers → (e : IsMember m p n mode) → mode_waits mode ≡ true
+pub may_wait : (job : Job) (m : Moment) (p n steps : ℕ) (mode : Mode)
+    → (e : IsMember m p n mode) → mode_waits mode ≡ true
+    → is_bad_block (limits_at job p) steps ≡ false
     → (mode_signals mode && eqb e.entry.signal_phase e.entry.wait_phase) ≡ false
     → (has_signaller (m.history p) ≡ false → e.entry.wait_phase < done_of (m.history p))
-    → MayWait (wait_reply (value_at job p) (limits_at job p) (m.history p) n)
-may_wait job m p n mode is pp e waits first later =
-    let h = m.history p in
-    let w = e.entry.wait_phase in
-    let at : wait_phase h n ≡ w =
-    ap (λ (x : Entry). x.wait_phase) (member_entry_is (members_of h) n e.entry e.is) in
-    let bound : 1 ≤ (phaser_at job.graph p).bound = (is.phasers p pp).bound.0 in
-    let M : Mode → Type 0 = λ x. MayWait (refused_or (first_row
-    ((not (mode_waits x), wait.NoWait) ∷ (is_bad_block (limits_at job p) 1, wait.BadBlock)
-    ∷ (mode_signals x && eqb e.entry.signal_phase w, wait.SignalFirst)
-    ∷ (nat_le (done_of h) w && has_signaller h, wait.NotYet) ∷ []))
-    (got_at (value_at job p) h w)) in
-    rw at (rw (e.is) (subst M (sym e.mode_is) (wait_rows_pass (not (mode_waits mode))
-    (is_bad_block (limits_at job p) 1) (mode_signals mode && eqb e.entry.signal_phase w)
-    (nat_le (done_of h) w && has_signaller h) (got_at (value_at job p) h w)
-    (not_from_true (mode_waits mode) waits) (le-ltb (phaser_at job.graph p).bound 1 bound) first
-    (λ ready. got ready))))
+    → WaitMay (limits_at job p) (m.history p) n steps
+may_wait job m p n steps mode e waits good first later =
+    by (nat_le (done_of h) w && has_signaller h) refl
   where
-    got : (nat_le (done_of (m.history p)) e.entry.wait_phase && has_signaller (m.history p)) ≡ false
-        → MayWait (Ok (got_at (value_at job p) (m.history p) e.entry.wait_phase))
-    got ready = by (and_cases (nat_le (done_of (m.history p)) e.entry.wait_phase)
-        (has_signaller (m.history p)) ready)
-      where
-        below : e.entry.wait_phase < done_of (m.history p)
-            → MayWait (Ok (got_at (value_at job p) (m.history p) e.entry.wait_phase))
-        below lt =
-            let yes : nat_lt e.entry.wait_phase (done_of (m.history p)) ≡ true =
-            lt-ltb e.entry.wait_phase (done_of (m.history p)) lt in
-            rw yes tt
+    h : History
+    h = m.history p
 
-        by : (nat_le (done_of (m.history p)) e.entry.wait_phase ≡ false)
-            ⊎ (has_signaller (m.history p) ≡ false)
-            → MayWait (Ok (got_at (value_at job p) (m.history p) e.entry.wait_phase))
-        by (inl early) = below (leb-false (done_of (m.history p)) e.entry.wait_phase early)
-        by (inr quiet) = below (later quiet)
+    w : ℕ
+    w = e.entry.wait_phase
+
+    at : wait_phase h n ≡ w
+    at = ap (λ (x : Entry). x.wait_phase) (member_entry_is (members_of h) n e.entry e.is)
+
+    W : Mode → Type 0
+    W x = not (mode_waits x) ≡ false
+
+    F : Mode → Type 0
+    F x = (mode_signals x && eqb e.entry.signal_phase e.entry.wait_phase) ≡ false
+
+    rows : wait_refusal (limits_at job p) h n steps
+        ≡ cond (nat_le (done_of h) w && has_signaller h) (Some wait.NotYet) None
+    rows =
+        ap (λ o. refusal_at o wait.NoTask (wait_rows (limits_at job p) (positions_of h) steps)) e.is
+        ∙ wait_rows_pass (not (mode_waits e.entry.mode)) (is_bad_block (limits_at job p) steps)
+        (mode_signals e.entry.mode && eqb e.entry.signal_phase w)
+        (nat_le (done_of h) w && has_signaller h)
+        (subst W (sym e.mode_is) (not_from_true (mode_waits mode) waits)) good
+        (subst F (sym e.mode_is) first)
+
+    below : (nat_le (done_of h) w ≡ false) ⊎ (has_signaller h ≡ false) → wait_phase h n < done_of h
+    below (inl early) =
+        let more : w < done_of h = leb-false (done_of h) w early in
+        let same : wait_phase h n ≡ w = at in omega arith
+    below (inr quiet) =
+        let more : w < done_of h = later quiet in
+        let same : wait_phase h n ≡ w = at in omega arith
+
+    by : (b : Bool) → (nat_le (done_of h) w && has_signaller h) ≡ b
+        → WaitMay (limits_at job p) h n steps
+    by true yet = inl (rows ∙ ap (λ b. cond b (Some wait.NotYet) None) yet)
+    by false yet =
+        inr (
+          rows ∙ ap (λ b. cond b (Some wait.NotYet) None) yet,
+          below (and_cases (nat_le (done_of h) w) (has_signaller h) yet),
+        )
 
 -- ---- a registration
 

@@ -1,7 +1,10 @@
--- A value that a turn signals is the task's next one.
-use Rattle.std.proofs.Common.{◌≡◌, ℕ, zero, suc, ◌+◌, ◌<◌, Bool, true, false, not, ◌&&◌, cond, [], ◌∷◌, Option, Some, None, is_some, length, get_or, ℤ, refl, ap, subst, arith, inl, inr}
-use Rattle.std.specs.Prelude.{unsigned_abs, nat_lt, nat_le}
-use Rattle.std.specs.List.{range_with_len, find}
+-- The values that a turn signals are the task's next ones.
+use Rattle.std.proofs.Common.{◌≡◌, ℕ, zero, suc, ◌+◌, ◌<◌, ◌≤◌, Bool, true, false, not, ◌&&◌, cond, List, [], ◌∷◌, ◌++◌, Option, Some, None, is_some, length, get_or, map, ℤ, refl, sym, ap, subst, ◌∙◌, arith, inl, inr}
+use Rattle.std.specs.Prelude.{unsigned_abs, nat_lt, nat_le, take, drop}
+use Rattle.std.specs.List.{range_with_len, find, position_from}
+use mathlib.Core.List.{IsPrefix}
+use Rattle.std.proofs.Math.Seq.{drop-append_seam}
+use Rattle.std.proofs.lemmas.List.{append_assoc, length-take, take-append-drop}
 use Rattle.std.proofs.lemmas.Bool.{and_parts, ltb-true, leb-true, leb-false}
 use Rattle.std.proofs.lemmas.List.FromFn.{length-range_with_len, get_or-range_with_len}
 use Rattle.phase_history.specs.phase_accum.Sends.{IsSend, value_max}
@@ -9,21 +12,22 @@ use Rattle.phase_history.specs.declared.refusal.SignalRefusal.{SignalRefusal}
 use Rattle.phase_history.specs.declared.refusal.SignalRefusal.TheVariants as refusal
 use Rattle.phase_history.specs.Histories.{has_dropped}
 use Rattle.phase_history.specs.Refusals.{signal_refusal}
+use Rattle.phase_history.specs.Legal.{AreLists}
 use Rattle.stream_lists.specs.graph_base.declared.line.Kind.{Kind}
 use Rattle.stream_lists.specs.graph_base.declared.line.Kind.TheVariants.{Source, Fir, Split, Join, Peer, Sink}
 use Rattle.stream_lists.specs.graph_base.declared.place.Place.TheVariants as place
 use Rattle.stream_lists.specs.graph_base.Graphs.{task_at, phaser_at}
-use Rattle.stream_lists.specs.graph_base.TaskLines.{IsGraph}
+use Rattle.stream_lists.specs.graph_base.TaskLines.{IsGraph, has_blocks}
 use Rattle.stream_lists.proofs.graph_base_lemmas.Registered.{registrations-phasers}
 use Rattle.stream_lists.specs.Jobs.{Job, index_in}
 use Rattle.stream_lists.specs.Spans.{signalled_by}
 use Rattle.stream_lists.specs.Ranges.{are_made, is_out_of_range}
-use Rattle.graph_runs.specs.Moments.{Moment, HasRun, TaskRan, HasEnded, HasExchanged, OnLine, OnPhaser, PutOn, TakenOn, OnOutput, OnInput, limits_at, made_now}
+use Rattle.graph_runs.specs.Moments.{one, Moment, HasRun, TaskRan, HasEnded, HasExchanged, OnLine, OnPhaser, PutOn, TakenOn, OnOutput, OnInput, limits_at, made_now}
 use Rattle.graph_runs.proofs.OnLines.{on_phaser}
 use Rattle.graph_runs.specs.Moves.{IsStaying}
 use Rattle.graph_runs.specs.TaskEvents.{TaskEvent, IsNext, signal}
 use Rattle.graph_runs.specs.Nexts.{is_live, is_owed, first_owed, first_missing, first_kept, waits_first, number_on}
-use Rattle.graph_runs.specs.Answers.{Answer, makes, is_blocked, is_gone, has_made, is_refused, signal_answer, signal_turn, call_signal, next_value, output_at}
+use Rattle.graph_runs.specs.Answers.{Answer, makes, is_blocked, is_gone, has_made, is_refused, signal_answer, signal_turn, call_signal, next_values, output_at}
 use Rattle.graph_runs.proofs.PlacesLemmas.{place_of_output, numbered, find-some}
 
 -- ---- a live task
@@ -108,42 +112,53 @@ signal_accepted made event (Some refusal.SingleDiffers) e = absurd (cc)
 signal_accepted made event (Some refusal.PhaseFull) e = absurd (cc)
 
 -- what a turn signals is in range, and the phaser accepts it
-pub signalled : (job : Job) (m : Moment) (t j : ℕ) (v : ℤ) (made event : TaskEvent)
-    → signal_turn job m t j v made ≡ makes event
-    → (is_out_of_range v ≡ false)
+pub signalled : (job : Job) (m : Moment) (t j : ℕ) (vs : List ℤ) (made event : TaskEvent)
+    → signal_turn job m t j vs made ≡ makes event
+    → (position_from is_out_of_range (length (m.put t j)) vs ≡ None)
     × (signal_refusal (limits_at job (output_at job t j)) (m.history (output_at job t j))
-    (number_on m t (output_at job t j)) ((v ∷ []) ∷ [])
+    (number_on m t (output_at job t j)) (map one vs)
     (phaser_at job.graph (output_at job t j)).single ≡ None) × (made ≡ event)
-signalled job m t j v made event e = by (is_out_of_range v) refl e
+signalled job m t j vs made event e =
+    by (position_from is_out_of_range (length (m.put t j)) vs) refl
+    (are_made (task_at job.graph t).kind j) refl e
   where
-    by : (b : Bool) → is_out_of_range v ≡ b
-        → cond b (cond (are_made (task_at job.graph t).kind j)
-        (has_made (place.Task t, length (m.put t j))) is_refused)
-        (call_signal job m t (output_at job t j) v made) ≡ makes event
-        → (is_out_of_range v ≡ false)
+    Of : Option ℕ → Type 0
+    Of o = (o ≡ None)
         × (signal_refusal (limits_at job (output_at job t j)) (m.history (output_at job t j))
-        (number_on m t (output_at job t j)) ((v ∷ []) ∷ [])
+        (number_on m t (output_at job t j)) (map one vs)
         (phaser_at job.graph (output_at job t j)).single ≡ None) × (made ≡ event)
-    by false out e =
-        let r = signal_accepted made event _ e in (out, r.0, r.1)
-    by true out e = absurd (wrong (are_made (task_at job.graph t).kind j) e)
-      where
-        wrong : (b : Bool) → cond b (has_made (place.Task t, length (m.put t j))) is_refused
-            ≡ makes event → ⊥
-        wrong true e = (cc)
-        wrong false e = (cc)
+
+    by : (o : Option ℕ) → position_from is_out_of_range (length (m.put t j)) vs ≡ o
+        → (b : Bool) → are_made (task_at job.graph t).kind j ≡ b
+        → signal_turn job m t j vs made ≡ makes event
+        → Of (position_from is_out_of_range (length (m.put t j)) vs)
+    by None found b is e =
+        let call : call_signal job m t (output_at job t j) vs made ≡ makes event =
+        (let at : signal_turn job m t j vs made
+        ≡ call_signal job m t (output_at job t j) vs made = rw found refl in sym at ∙ e) in
+        let r = signal_accepted made event _ call in (found, r.0, r.1)
+    by (Some step) found true is e =
+        let at : signal_turn job m t j vs made ≡ has_made (place.Task t, step) =
+        rw found (rw is refl) in
+        absurd (let clash : has_made (place.Task t, step) ≡ makes event = sym at ∙ e in cc)
+    by (Some step) found false is e =
+        let at : signal_turn job m t j vs made ≡ is_refused = rw found (rw is refl) in
+        absurd (let clash : is_refused ≡ makes event = sym at ∙ e in cc)
 
 -- ---- a value that is owed
 
-pub may_put : (kind : Kind) (j put taken : ℕ) → waits_first kind j put taken ≡ false
-    → HasExchanged kind j (suc put) taken
-may_put Source j put taken e = tt
-may_put Fir j put taken e = tt
-may_put Split j put taken e = tt
-may_put Join j put taken e = tt
-may_put Sink j put taken e = tt
-may_put Peer zero put taken e = tt
-may_put Peer (suc j) put taken e = leb-false taken put e
+-- a peer puts one value at once
+pub may_put : (kind : Kind) (j put taken many : ℕ) → (kind ≡ Peer → many ≤ 1)
+    → waits_first kind j put taken ≡ false → HasExchanged kind j (put + many) taken
+may_put Source j put taken many one e = tt
+may_put Fir j put taken many one e = tt
+may_put Split j put taken many one e = tt
+may_put Join j put taken many one e = tt
+may_put Sink j put taken many one e = tt
+may_put Peer zero put taken many one e = tt
+may_put Peer (suc j) put taken many one e =
+    let few : many ≤ 1 = one refl in
+    let more : put < taken = leb-false taken put e in omega arith
 
 pub sendable : (v : ℤ) → is_out_of_range v ≡ false → IsSend v
 sendable v e = by (nat_le (unsigned_abs v) value_max) refl e
@@ -151,6 +166,20 @@ sendable v e = by (nat_le (unsigned_abs v) value_max) refl e
     by : (b : Bool) → nat_le (unsigned_abs v) value_max ≡ b → not b ≡ false → IsSend v
     by true is e = record { small = leb-true (unsigned_abs v) value_max is }
     by false is e = absurd (cc)
+
+-- values in range can be sent, one a phase
+pub lists_sendable : (from : ℕ) (vs : List ℤ)
+    → position_from is_out_of_range from vs ≡ None → AreLists (map one vs)
+lists_sendable from [] e = tt
+lists_sendable from (v ∷ vs) e =
+    by (is_out_of_range v) refl e (λ rest. lists_sendable (from + 1) vs rest)
+  where
+    by : (b : Bool) → is_out_of_range v ≡ b
+        → cond b (Some from) (position_from is_out_of_range (from + 1) vs) ≡ None
+        → (position_from is_out_of_range (from + 1) vs ≡ None → AreLists (map one vs))
+        → AreLists (map one (v ∷ vs))
+    by false out e rest = ((sendable v out, tt), omega arith, rest e)
+    by true out e rest = absurd (cc)
 
 pub found_below : (test : ℕ → Bool) (n x : ℕ) → find test (range_with_len 0 n) ≡ Some x
     → (test x ≡ true) × (x < n)
@@ -177,19 +206,46 @@ not_ended job m t j lt few ended =
     let same : length (m.put t j) ≡ length (made_now job m t j) = ap length (ended.all_put j lt) in
     omega arith
 
+-- a list goes on as a prefix by some of what it lacks
+pub begins_some : (k : ℕ) (xs ys : List ℤ) → IsPrefix xs ys
+    → IsPrefix (xs ++ take k (drop (length xs) ys)) ys
+begins_some k xs ys a =
+    let rest = drop (length xs) ys in
+    let is : rest ≡ a.0 =
+    ap (λ l. drop (length xs) l) (sym a.1) ∙ drop-append_seam xs a.0 in (
+      drop k rest,
+      append_assoc xs (take k rest) (drop k rest)
+          ∙ ap (λ l. xs ++ l) (take-append-drop k rest ∙ is) ∙ a.1,
+    )
+
+-- a line makes at most its block of values at once, and one at least
+pub values_few : (job : Job) (m : Moment) (t j : ℕ)
+    → length (next_values job m t j) ≤ (task_at job.graph t).block
+values_few job m t j =
+    let many = length-take (task_at job.graph t).block
+    (drop (length (m.put t j)) (made_now job m t j)) in
+    omega arith
+
+pub one_value : (job : Job) (m : Moment) (t j : ℕ) → IsGraph job.graph
+    → t < length job.graph.tasks → has_blocks (task_at job.graph t).kind ≡ false
+    → length (next_values job m t j) ≤ 1
+one_value job m t j is there e =
+    let one : (task_at job.graph t).block ≡ 1 = (is.tasks t there).block.kind e in
+    let few = values_few job m t j in omega arith
+
 pub signal_next : (job : Job) (m : Moment) (t j : ℕ) (event : TaskEvent) → IsGraph job.graph
     → HasRun job m → Live job m t → first_owed job m t ≡ Some j
     → waits_first (task_at job.graph t).kind j (length (m.put t j)) (length (m.taken t 1)) ≡ false
-    → signal_turn job m t j (next_value job m t j)
-    (signal t j (output_at job t j) (number_on m t (output_at job t j)) (next_value job m t j))
+    → signal_turn job m t j (next_values job m t j)
+    (signal t j (output_at job t j) (number_on m t (output_at job t j)) (next_values job m t j))
     ≡ makes event → IsNext job m event
 signal_next job m t j event is ran live owes first answer =
     let o = owed job m t j owes in
     let line = is.tasks t live.there in
     let p = output_at job t j in
-    let v = next_value job m t j in
+    let vs = next_values job m t j in
     let n = number_on m t p in
-    let a = signalled job m t j v (signal t j p n v) event answer in
+    let a = signalled job m t j vs (signal t j p n vs) event answer in
     let place : index_in (signalled_by (task_at job.graph t)) p ≡ Some j =
     place_of_output job.graph t (task_at job.graph t) j line o.0 in
     let on : OnLine (task_at job.graph t) p = inl (j, place) in
@@ -199,14 +255,14 @@ signal_next job m t j event is ran live owes first answer =
       record { task = live.there; phaser = phaser },
       record {
         signal = record {
-          accepted = (a.1, ((sendable v a.0, tt), omega arith, tt), (is.phasers p phaser).single);
+          accepted = (a.1, lists_sendable (length (m.put t j)) vs a.0, (is.phasers p phaser).single);
           numbered = number_there job m t p is live on;
           place = place;
           staying = stays job m t is (ran.tasks t live.there) live.there (not_ended job m t j o.0 o.1);
         };
-        few = o.1;
-        entry = refl;
+        entries = begins_some (task_at job.graph t).block (m.put t j) (made_now job m t j)
+            ((ran.tasks t live.there).puts j o.0);
         exchanged = may_put (task_at job.graph t).kind j (length (m.put t j)) (length (m.taken t 1))
-            first;
+            (length vs) (λ peer. one_value job m t j is live.there (ap has_blocks peer)) first;
       },
     )

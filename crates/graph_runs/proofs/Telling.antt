@@ -1,13 +1,14 @@
 -- Each row of the table of turns, and so each turn, has an answer of the table.
-use Rattle.std.proofs.Common.{◌≡◌, ℕ, zero, suc, ◌+◌, ◌<◌, ◌≤◌, Bool, true, false, not, ◌&&◌, ◌||◌, cond, Option, Some, None, is_some, length, get_or, pos, refl, sym, ap, subst, ◌∙◌, arith, ◌⊎◌, inl, inr}
-use Rattle.std.specs.Prelude.{nat_le, nat_lt}
+use Rattle.std.proofs.Common.{◌≡◌, ℕ, zero, suc, ◌+◌, ◌-◌, ◌<◌, ◌≤◌, Bool, true, false, not, ◌&&◌, ◌||◌, cond, Option, Some, None, is_some, length, take, drop, get_or, pos, refl, sym, ap, subst, ◌∙◌, arith, ◌⊎◌, inl, inr}
+use Rattle.std.specs.Prelude.{nat_le, nat_lt, min, slice_range}
+use Rattle.std.proofs.lemmas.List.{length-take, length-take-le, length-drop}
 use Rattle.std.specs.List.{find, range_with_len}
 use Rattle.std.proofs.lemmas.Bool.{and_parts, and_cases, leb-false, ltb-false, cases_lt, not_from_false}
 use Rattle.std.proofs.lemmas.Option.{same_Some}
 use Rattle.phase_history.specs.phase_base.Members.{signal_phases}
 use Rattle.phase_history.specs.phase_accum.Sends.{AreSends}
 use Rattle.phase_history.specs.Histories.{members_of, done_of, HasNoSignaller}
-use Rattle.phase_history.specs.Replies.{wait_reply}
+use Rattle.phase_history.specs.Phases.{stream_of}
 use Rattle.phase_history.proofs.Signallers.{all_dropped}
 use Rattle.stream_lists.specs.graph_base.declared.line.Kind.{Kind}
 use Rattle.stream_lists.specs.graph_base.declared.line.Kind.TheVariants.{Source, Fir, Split, Join, Peer, Sink}
@@ -15,20 +16,24 @@ use Rattle.stream_lists.specs.graph_base.Graphs.{task_at}
 use Rattle.stream_lists.specs.graph_base.TaskLines.{IsGraph}
 use Rattle.stream_lists.specs.Jobs.{Job, samples_at, index_in}
 use Rattle.stream_lists.specs.Spans.{signalled_by, puts_on}
+use Rattle.stream_lists.specs.Ranges.{is_out_of_range}
 use Rattle.graph_runs.specs.Moments.{Moment, TaskRan, HasTaken, OnLine, limits_at, value_at, input_at, first_input, made_now}
 use Rattle.graph_runs.proofs.OnLines.{on_phaser}
 use Rattle.graph_runs.proofs.Tasks.{first_looks}
 use Rattle.graph_runs.specs.TaskEvents.{sample, signal, first_wait, exchange_wait}
 use Rattle.graph_runs.specs.Nexts.{is_not_live, leaves, signals, waits, exchanges, is_live, of_live, at_boundary, without_child, next_step, first_owed, is_owed, first_due, first_kept, first_missing, has_signaller, has_input_ended, has_run_out, is_cut, waits_first, number_on}
-use Rattle.graph_runs.specs.Answers.{answer_to, answer_of_turn, output_at, next_value}
+use Rattle.graph_runs.specs.Answers.{answer_to, answer_of_turn, output_at, next_values, next_samples}
+use Rattle.graph_runs.specs.NextBlocks.{block_of, sample_block_of}
 use Rattle.graph_runs.specs.Reached.{IsReachable}
 use Rattle.graph_runs.proofs.PlacesLemmas.{place_of_output}
-use Rattle.graph_runs.proofs.Signalling.{Live, live-is, number_there, stays, owed, not_ended}
+use Rattle.graph_runs.proofs.Signalling.{Live, live-is, number_there, stays, owed, not_ended, values_few}
+use Rattle.graph_runs.proofs.Found.{all_fail}
+use Rattle.graph_runs.proofs.Blocks.{block_some, block_few}
 use Rattle.graph_runs.proofs.Boundaries.{made_many, peer_ends, goes_on, no_signaller, or_false}
 use Rattle.graph_runs.proofs.Calling.{waits_as_peer, source_ends}
-use Rattle.graph_runs.proofs.Ranged.{made_ranged, sends_ranged}
+use Rattle.graph_runs.proofs.Ranged.{made_ranged, sends_ranged, take_ranged, drop_ranged}
 use Rattle.graph_runs.proofs.TurnEntries.{on_output}
-use Rattle.graph_runs.proofs.NotRefused.{IsTold, signal_passes, signal_turn_told, wait_passes, wait_told, leave_told, register_told}
+use Rattle.graph_runs.proofs.NotRefused.{IsTold, signal_passes, signal_turn_told, wait_passes, wait_told, block_told, leave_told, register_told}
 
 -- ---- what is owed
 
@@ -67,24 +72,37 @@ signals_told : (job : Job) (m : Moment) (t j : ℕ) → IsGraph job.graph
 signals_told job m t j is samples reached live owes =
     let o = owed job m t j owes in
     let p = output_at job t j in
-    let v = next_value job m t j in
-    signal_turn_told job m t j v (signal t j p (number_on m t p) v)
-    (λ plain. (made_ranged job m t j is reached.ran live.there samples plain).at
-    (length (m.put t j)))
-    (signal_passes job m t j v is reached live o.0 (not_ended job m t j o.0 o.1)
-    (λ peer first.
-    (let taken = peer_taken job m t is (reached.ran.tasks t live.there) live.there peer in
-    let high : m.begun t ≤ length (m.taken t 1) + 1 = taken.1 in
-    let two : length (signalled_by (task_at job.graph t)) ≡ 2 =
-    (peer_ends job t is live.there peer).1 in
-    let plain : puts_on (task_at job.graph t) (m.begun t) 0 ≡ m.begun t = rw peer refl in
-    let many : length (made_now job m t 0) ≡ puts_on (task_at job.graph t) (m.begun t) 0 =
-    made_many job m t 0 is (reached.ran.tasks t live.there) live.there (omega arith) in
-    let few : length (m.put t j) < length (made_now job m t j) = o.1 in
-    let put : length (m.put t j) ≡ length (m.put t 0) = ap (λ i. length (m.put t i)) first in
-    let made : length (made_now job m t j) ≡ length (made_now job m t 0) =
-    ap (λ i. length (made_now job m t i)) first in
-    omega arith)))
+    let vs = next_values job m t j in
+    let put = length (m.put t j) in
+    let rest = drop put (made_now job m t j) in
+    let block = (task_at job.graph t).block in
+    let some_block : 1 ≤ block = (is.tasks t live.there).block.some in
+    let many : length vs ≡ min block (length rest) = length-take block rest in
+    let left : length rest ≡ length (made_now job m t j) - put =
+    length-drop put (made_now job m t j) in
+    let few : put < length (made_now job m t j) = o.1 in
+    signal_turn_told job m t j vs (signal t j p (number_on m t p) vs)
+    (λ plain. all_fail is_out_of_range put vs (pos 0) (λ i lt.
+    (take_ranged block rest (drop_ranged put (made_now job m t j)
+    (made_ranged job m t j is reached.ran live.there samples plain))).at i))
+    (signal_passes job m t j vs is reached live o.0 (not_ended job m t j o.0 o.1)
+    (λ peer first. in_turn peer first o.1) (omega arith) (values_few job m t j))
+  where
+    in_turn : (task_at job.graph t).kind ≡ Peer → j ≡ 0
+        → length (m.put t j) < length (made_now job m t j)
+        → length (m.put t 0) < length (m.taken t 1) + 1
+    in_turn peer first few =
+        let taken = peer_taken job m t is (reached.ran.tasks t live.there) live.there peer in
+        let high : m.begun t ≤ length (m.taken t 1) + 1 = taken.1 in
+        let two : length (signalled_by (task_at job.graph t)) ≡ 2 =
+        (peer_ends job t is live.there peer).1 in
+        let plain : puts_on (task_at job.graph t) (m.begun t) 0 ≡ m.begun t = rw peer refl in
+        let many : length (made_now job m t 0) ≡ puts_on (task_at job.graph t) (m.begun t) 0 =
+        made_many job m t 0 is (reached.ran.tasks t live.there) live.there (omega arith) in
+        let put : length (m.put t j) ≡ length (m.put t 0) = ap (λ i. length (m.put t i)) first in
+        let made : length (made_now job m t j) ≡ length (made_now job m t 0) =
+        ap (λ i. length (made_now job m t i)) first in
+        omega arith
 
 exchange_told : (job : Job) (m : Moment) (t j : ℕ) → IsGraph job.graph → IsReachable job m
     → Live job m t → first_owed job m t ≡ Some j
@@ -96,9 +114,10 @@ exchange_told job m t j is reached live owes first =
     first in
     let two : length (task_at job.graph t).inputs ≡ 2 = (peer_ends job t is live.there w.0).0 in
     let p = input_at (task_at job.graph t) 1 in
-    wait_told (exchange_wait t p (number_on m t p))
-    (wait_reply (value_at job p) (limits_at job p) (m.history p) (number_on m t p))
-    (wait_passes job m t 1 is reached live (omega arith) (not_ended job m t j o.0 o.1)
+    wait_told (exchange_wait t p (number_on m t p)) (value_at job p) (limits_at job p)
+    (m.history p) (number_on m t p)
+    (wait_passes job m t 1 1 is reached live (omega arith) (not_ended job m t j o.0 o.1)
+    (omega arith) (is.tasks t live.there).block.some
     (λ peer one. below w.0 w.1 o.0 o.1 j refl)
     (λ quiet. absurd (noisy w.0 quiet)))
   where
@@ -171,11 +190,26 @@ samples_told job m t is samples reached live source uncut more =
     let one : length (signalled_by (task_at job.graph t)) ≡ 1 =
     source_ends job t is live.there source in
     let p = output_at job t 0 in
-    let v = get_or (samples_at job t) (m.begun t) (pos 0) in
-    signal_turn_told job m t 0 v (sample t 0 p (number_on m t p) v)
-    (λ plain. (sends_ranged (samples_at job t) samples).at (m.begun t))
-    (signal_passes job m t 0 v is reached live (omega arith) (goes_on job m t uncut more)
-    (λ peer first. absurd (let no = sym source ∙ peer in cc)))
+    let vs = next_samples job m t in
+    let rest = drop (m.begun t) (samples_at job t) in
+    let steps : ℕ = sample_block_of job m t in
+    let steps_is : steps ≡ min (block_of job m t) (length (samples_at job t) - m.begun t) = refl in
+    let some : 1 ≤ block_of job m t =
+    block_some job m t is (reached.ran.tasks t live.there) live.there uncut in
+    let few : block_of job m t ≤ (task_at job.graph t).block = block_few job m t in
+    let open_still : nat_le (length (samples_at job t)) (m.begun t) ≡ false =
+    ap (λ k. has_input_ended job m t k) (sym source) ∙ more in
+    let below : m.begun t < length (samples_at job t) =
+    leb-false (length (samples_at job t)) (m.begun t) open_still in
+    let left : length rest ≡ length (samples_at job t) - m.begun t =
+    length-drop (m.begun t) (samples_at job t) in
+    let many : length vs ≡ steps = length-take-le steps rest (omega arith) in
+    signal_turn_told job m t 0 vs (sample t 0 p (number_on m t p) vs)
+    (λ plain. all_fail is_out_of_range (length (m.put t 0)) vs (pos 0) (λ i lt.
+    (take_ranged steps rest (drop_ranged (m.begun t) (samples_at job t)
+    (sends_ranged (samples_at job t) samples))).at i))
+    (signal_passes job m t 0 vs is reached live (omega arith) (goes_on job m t uncut more)
+    (λ peer first. absurd (let no = sym source ∙ peer in cc)) (omega arith) (omega arith))
 
 waits_told : (job : Job) (m : Moment) (t : ℕ) → IsGraph job.graph → IsReachable job m
     → Live job m t → ((task_at job.graph t).kind ≡ Source → ⊥)
@@ -190,9 +224,12 @@ waits_told job m t is reached live no_source uncut more open_still =
     let lt : k < length task.inputs =
     (first_looks task (m.begun t) (is.tasks t live.there).ends no_source).0 in
     let p = input_at task k in
-    wait_told (first_wait t k p (number_on m t p))
-    (wait_reply (value_at job p) (limits_at job p) (m.history p) (number_on m t p))
-    (wait_passes job m t k is reached live lt (goes_on job m t uncut more)
+    let made = first_wait t k p (number_on m t p) in
+    block_told
+    (λ phase count. made (slice_range (stream_of (value_at job p) (m.history p)) phase
+    (phase + count))) (limits_at job p) (m.history p) (number_on m t p) (block_of job m t)
+    (wait_passes job m t k (block_of job m t) is reached live lt (goes_on job m t uncut more)
+    (block_some job m t is (reached.ran.tasks t live.there) live.there uncut) (block_few job m t)
     (λ peer one. (let zero_is : k ≡ 0 = rw peer refl in absurd (omega arith)))
     (λ quiet. later (and_cases (not (has_signaller (m.history p)))
     (nat_le (done_of (m.history p)) (m.offset t + length (m.taken t k))) open_still) quiet))

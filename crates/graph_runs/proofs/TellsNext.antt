@@ -1,6 +1,7 @@
 -- What the place of a task tells of its next event and of its end, by what the task alone has seen.
-use Rattle.std.proofs.Common.{◌≡◌, ℕ, suc, ◌<◌, ◌≤◌, Bool, true, false, ◌&&◌, cond, eqb, ◌++◌, Some, None, is_some, length, get_or, ℤ, pos, refl, sym, ap, subst, ◌∙◌, arith, ◌⊎◌, inl, inr}
+use Rattle.std.proofs.Common.{◌≡◌, ℕ, suc, ◌<◌, ◌≤◌, Bool, true, false, ◌&&◌, cond, eqb, List, [], ◌∷◌, ◌++◌, Some, None, is_some, length, map, get_or, ℤ, pos, refl, sym, ap, subst, ◌∙◌, arith, ◌⊎◌, inl, inr}
 use Rattle.std.specs.Prelude.{Result, Ok, Err, nat_le, unwrap_or, unsigned_abs}
+use Rattle.std.proofs.Math.Numerals.{add-one}
 use Rattle.std.proofs.lemmas.Bool.{cases_lt, eq-eqb, le-ltb}
 use Rattle.std.proofs.lemmas.List.{length-map, get_or-map}
 use Rattle.std.proofs.lemmas.Option.{slice_get_past}
@@ -15,15 +16,16 @@ use Rattle.stream_lists.specs.graph_base.TaskLines.{IsGraph}
 use Rattle.stream_lists.proofs.graph_base_lemmas.Registered.{registrations-phasers}
 use Rattle.stream_lists.specs.Jobs.{Job, samples_at}
 use Rattle.stream_lists.specs.Spans.{signalled_by, puts_on}
-use Rattle.graph_runs.specs.Moments.{Moment, TaskRan, HasEnded, MayStop, at_until, no_sample, no_input, RanOut, HasSamples, OnLine, made_now, input_at, first_input}
+use Rattle.graph_runs.specs.Moments.{Moment, TaskRan, HasEnded, MayStop, at_until, no_sample, no_input, RanOut, HasSamples, HasExchanged, OnLine, made_now, input_at, first_input}
 use Rattle.graph_runs.proofs.Tasks.{first_looks}
 use Rattle.graph_runs.specs.Moves.{IsStaying, NoneDue, MayBegin}
-use Rattle.graph_runs.specs.Answers.{output_at, next_value}
+use Rattle.graph_runs.specs.Answers.{output_at, next_values}
 use Rattle.graph_runs.specs.Nexts.{signals, exchanges, waits_first, first_owed, has_left, registrations_at, comes_by, is_cut}
-use Rattle.graph_runs.specs.TaskPlaces.{Owed, nothing, value, exchange, Owes, TaskPlace, StandsAt, registration_at}
+use Rattle.graph_runs.specs.TaskPlaces.{Owed, nothing, values, exchange, Owes, TaskPlace, StandsAt, registration_at}
 use Rattle.graph_runs.proofs.PlacesLemmas.{on_ends, place_of_output}
 use Rattle.graph_runs.proofs.Signalling.{owed, may_put}
 use Rattle.graph_runs.proofs.Boundaries.{all_put, made_many, all_taken, peer_ends, one_more}
+use Rattle.graph_runs.proofs.Lacking.{next_begins}
 use Rattle.graph_runs.proofs.Calling.{source_ends, until_is, waits_as_peer}
 use Rattle.graph_runs.specs.Parts.{HasPart, IsNextValue, IsNextOfSamples, BeginsStep, IsExchange}
 use Rattle.graph_runs.specs.Places.{HasChildrenBy}
@@ -85,12 +87,19 @@ is_first true j e = refl
 is_first false j e = absurd (cc)
 
 -- a value in range is the number itself
-pub ranged_value : (x v : ℤ) → ranged x ≡ Ok v → x ≡ v
+ranged_value : (x v : ℤ) → ranged x ≡ Ok v → x ≡ v
 ranged_value x v e = by (nat_le (unsigned_abs x) 9223372036854775807) e
   where
     by : (b : Bool) → cond {A = Result ℤ TooBigValue} b (Ok x) (Err (record {})) ≡ Ok v → x ≡ v
     by true e = cc
     by false e = absurd (cc)
+
+-- and of a list of one
+pub ranged_values : (xs : List ℤ) (v : ℤ) → map ranged xs ≡ Ok v ∷ [] → xs ≡ v ∷ []
+ranged_values [] v e = absurd (cc)
+ranged_values (x ∷ []) v e =
+    let same : ranged x ≡ Ok v = cc in ap (λ y. y ∷ []) (ranged_value x v same)
+ranged_values (x ∷ (y ∷ ys)) v e = absurd (cc)
 
 -- what a place that owes something says of the moment
 pub owes_as : (job : Job) (m : Moment) (t : ℕ) (at : TaskPlace) (o : Owed) → StandsAt job m t at
@@ -100,18 +109,23 @@ owes_as job m t at o stands is =
 
 pub next_value_is : (job : Job) (m : Moment) (t j : ℕ) (v : ℤ) (at : TaskPlace)
     → IsGraph job.graph → t < length job.graph.tasks → HasPart job m t → StandsAt job m t at
-    → at.left ≡ 0 → at.owed ≡ value j (Ok v) → IsNextValue job m t j (output_at job t j) v
+    → at.left ≡ 0 → at.owed ≡ values j (Ok v ∷ []) → IsNextValue job m t j (output_at job t j) v
 next_value_is job m t j v at is there part stands none owed_is =
-    let owes = owes_as job m t at (value j (Ok v)) stands owed_is in
+    let owes = owes_as job m t at (values j (Ok v ∷ [])) stands owed_is in
     let o = owed job m t j owes.0 in
+    let X : ℕ → Type 0 =
+    λ n. HasExchanged (task_at job.graph t).kind j n (length (m.taken t 1)) in
     record {
       place = place_of_output job.graph t (task_at job.graph t) j (is.tasks t there) o.0;
       staying = staying_at job m t at is there part.ran stands none;
       few = o.1;
-      entry = ranged_value (next_value job m t j) v owes.2;
-      exchanged = may_put (task_at job.graph t).kind j (length (m.put t j)) (length (m.taken t 1))
+      entry = (let next = ranged_values (next_values job m t j) v owes.2 in
+          let begins = next_begins job m t j (is.tasks t there).block.some o.1 in cc);
+      exchanged = subst X (add-one (length (m.put t j)))
+          (may_put (task_at job.graph t).kind j (length (m.put t j)) (length (m.taken t 1)) 1
+          (λ peer. omega arith)
           (not_first (waits_first (task_at job.graph t).kind j (length (m.put t j))
-          (length (m.taken t 1))) j owes.1);
+          (length (m.taken t 1))) j owes.1));
     }
 
 pub next_exchange_is : (job : Job) (m : Moment) (t : ℕ) (x : ℤ) (at : TaskPlace)

@@ -28,13 +28,13 @@ use Rattle.graph_runs.specs.Moments.{Moment, HasRun, OnLine, numbers_on, limits_
 use Rattle.graph_runs.specs.Moves.{SameTask, RegistersNow}
 use Rattle.graph_runs.proofs.OwnEvents.{eq_case}
 use Rattle.graph_runs.proofs.JoinsNow.{join_keeps}
-use Rattle.graph_runs.specs.TaskEvents.{child}
+use Rattle.graph_runs.specs.TaskEvents.{child_now}
 use Rattle.graph_runs.specs.Nexts.{HasChildrenToCome, first_missing, has_registered, registrations_at}
 use Rattle.graph_runs.specs.Reached.{HasMode, HasModes, HasOnlyTasks, HasTaskMembers, IsReachable}
 use Rattle.graph_runs.proofs.PlacesLemmas.{find-some}
 use Rattle.graph_runs.proofs.Whose.{IsInOrder}
 use Rattle.graph_runs.proofs.Reaching.{get_or-any, one_registration, length-joined, missed, one_number, by_numbers, by_members}
-use Rattle.graph_runs.proofs.TurnRegistering.{plain_outputs}
+use Rattle.graph_runs.proofs.TurnRegistering.{plain_outputs, sink_mode}
 
 module _ (job : Job) (before after : Moment) (t p n c a : ℕ) (u : Parent) (is : IsGraph job.graph)
     (s : RegistersNow job before after t p n c a u) where
@@ -114,7 +114,7 @@ module _ (job : Job) (before after : Moment) (t p n c a : ℕ) (u : Parent) (is 
   -- ---- what is reachable
 
   join_modes : HasRun job before → HasRun job after → p < length job.graph.phasers
-      → IsInOrder job before (child t p n c a Wait) → HasModes job before → HasModes job after
+      → IsInOrder job before (child_now t p n c a) → HasModes job before → HasModes job after
   join_modes ran now pp missing modes x there k d lt =
       let R : Registration → Type 0 = λ r. HasMode after x r in
       subst R (get_or-any (registrations_at job x) k no_registration d lt) (λ b start at start_is.
@@ -159,8 +159,8 @@ module _ (job : Job) (before after : Moment) (t p n c a : ℕ) (u : Parent) (is 
           let is_start : Some begins ≡ Some start =
           sym now_is ∙ ap (λ h. start_of h b) (sym s.here)
           ∙ ap (λ q. start_of (after.history q) b) (sym here) ∙ start_is in
-          sym (ap (λ e. e.mode) (same_Some begins start is_start)) ∙ sym missing.3
-          ∙ ap (λ r. r.mode) (sym mine)
+          sym (ap (λ e. e.mode) (same_Some begins start is_start))
+          ∙ sym (sink_mode job c i is s.child kind f.1.1) ∙ ap (λ r. r.mode) (f.1.2 ∙ sym mine)
 
       of_other : (get_or (registrations_at job x) k no_registration).phaser ≡ p → x ≢ c → Mode_of
       of_other here apart b start at start_is =
@@ -293,7 +293,7 @@ module _ (job : Job) (before after : Moment) (t p n c a : ℕ) (u : Parent) (is 
           let wrong : true ≡ false = sym joins ∙ is_parent.stays in cc))).offset
 
   pub join_reached : t < length job.graph.tasks → p < length job.graph.phasers
-      → IsInOrder job before (child t p n c a Wait) → IsReachable job before → IsReachable job after
+      → IsInOrder job before (child_now t p n c a) → IsReachable job before → IsReachable job after
   join_reached there pp missing reached =
       let ran : HasRun job after = join_keeps job before after t p n c a u is there s reached.ran in
       record {

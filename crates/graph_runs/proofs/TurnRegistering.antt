@@ -1,10 +1,12 @@
 -- A child that a turn registers is the one that is next.
-use Rattle.std.proofs.Common.{◌≡◌, ◌≢◌, ℕ, zero, suc, ◌+◌, [], ◌∷◌, ◌-◌, ◌<◌, ◌≤◌, true, false, not, eqb, Option, Some, None, is_some, length, get_or, refl, sym, ap, subst, ◌∙◌, arith, ◌⊎◌, inl, inr}
+use Rattle.std.proofs.Common.{◌≡◌, ◌≢◌, ℕ, zero, suc, ◌+◌, [], ◌∷◌, ◌-◌, ◌<◌, ◌≤◌, Bool, true, false, not, eqb, Option, Some, None, is_some, length, get_or, refl, sym, ap, subst, ◌∙◌, arith, ◌⊎◌, inl, inr}
 use Rattle.std.proofs.lemmas.Bool.{and_parts, eqb-true, cases_lt}
 use Rattle.std.proofs.lemmas.List.{length-map, length-append}
 use Rattle.phase_history.specs.phase_base.Modes.{mode_signals, mode_waits}
 use Rattle.phase_history.specs.Histories.{greatest_used}
-use Rattle.phase_history.specs.Refusals.{register_refusal}
+use Rattle.phase_history.specs.phase_base.declared.mode.Mode.{Mode}
+use Rattle.phase_history.specs.phase_base.declared.mode.Mode.TheVariants.{Wait}
+use Rattle.phase_history.specs.Refusals.{register_refusal, register_now_refusal}
 use Rattle.stream_lists.specs.graph_base.declared.line.Kind.{Kind}
 use Rattle.stream_lists.specs.graph_base.declared.line.Kind.TheVariants.{Source, Fir, Split, Join, Peer, Sink}
 use Rattle.stream_lists.specs.graph_base.declared.line.Parent.{Parent}
@@ -14,7 +16,7 @@ use Rattle.stream_lists.specs.graph_base.declared.line.PhaserLine.{PhaserLine}
 use Rattle.stream_lists.specs.graph_base.Graphs.{Task, task_at, phaser_at}
 use Rattle.stream_lists.specs.graph_base.Registrations.{ends_of, as_input, as_output, as_exchange, exchange_mode, no_registration}
 use Rattle.stream_lists.specs.graph_base.TaskLines.{IsGraph, IsTaskLine, HasEnds, IsExchangeBelow, has_children, IsParent}
-use Rattle.stream_lists.proofs.graph_base_lemmas.Registered.{registrations-phasers, registrations-plain, end-input, end-output}
+use Rattle.stream_lists.proofs.graph_base_lemmas.Registered.{registrations-phasers, registrations-plain, length-registrations, end-input, end-output}
 use Rattle.stream_lists.specs.Jobs.{Job, index_in}
 use Rattle.stream_lists.specs.Spans.{signalled_by, takes_from}
 use Rattle.stream_lists.proofs.SpansAbove.{parent-is}
@@ -22,9 +24,10 @@ use Rattle.stream_lists.proofs.Ordered.{place-at, parent_signals, parent_waits}
 use Rattle.graph_runs.specs.Moments.{Moment, HasRun, OnLine, input_at}
 use Rattle.graph_runs.proofs.OnLines.{on_phaser}
 use Rattle.graph_runs.proofs.OutputLists.{puts-few}
-use Rattle.graph_runs.specs.TaskEvents.{TaskEvent, IsNext, child}
+use Rattle.graph_runs.specs.Turned.{IsNextChild}
+use Rattle.graph_runs.specs.TaskEvents.{TaskEvent, IsNext, IsThere, child, child_now}
 use Rattle.graph_runs.specs.Nexts.{HasChildrenToCome, first_owed, first_due, first_missing, is_due, comes_by, has_registered, registrations_at, number_on}
-use Rattle.graph_runs.specs.Answers.{makes, call_register}
+use Rattle.graph_runs.specs.Answers.{makes, call_register, register_answer}
 use Rattle.graph_runs.proofs.PlacesLemmas.{find-some, place_of_output}
 use Rattle.graph_runs.proofs.Signalling.{Live, number_there, found_below}
 use Rattle.graph_runs.proofs.Boundaries.{all_put, all_taken, made_many}
@@ -325,66 +328,122 @@ on_parents_line job m t c p is d on =
 
 -- ---- the event
 
-pub child_next : (job : Job) (m : Moment) (t c : ℕ) (event : TaskEvent) → IsGraph job.graph
-    → HasRun job m → HasChildrenToCome job m → Live job m t → first_owed job m t ≡ None
-    → first_due job m t ≡ Some c
-    → call_register m t c (first_missing job m c) ≡ makes event → IsNext job m event
-child_next job m t c event is ran to_come live none due answer =
-    by (first_missing job m c) refl (due_child job m t c is due) answer
+-- the mode of a sink's registration
+pub sink_mode : (job : Job) (c i : ℕ) → IsGraph job.graph → c < length job.graph.tasks
+    → (task_at job.graph c).kind ≡ Sink → i < length (registrations_at job c)
+    → (get_or (registrations_at job c) i no_registration).mode ≡ Wait
+sink_mode job c i is there kind lt =
+    let task = task_at job.graph c in
+    let line = is.tasks c there in
+    let E : Kind → Type 0 = λ k. HasEnds k (length task.inputs) (length task.outputs) in
+    let ends : (length task.inputs ≡ 1) × (length task.outputs ≡ 0) = subst E kind line.ends in
+    let same : registrations_at job c ≡ ends_of task =
+    registrations-plain job.graph task (λ peer. (let wrong = sym kind ∙ peer in cc)) in
+    let long : length (registrations_at job c) ≡ length task.inputs + length task.outputs =
+    length-registrations job.graph task line.ends in
+    let inputs : length task.inputs ≡ 1 = ends.0 in
+    let outputs : length task.outputs ≡ 0 = ends.1 in
+    ap (λ rs. (get_or rs i no_registration).mode) same
+    ∙ ap (λ r. r.mode) (end-input task i (omega arith))
+
+-- the child that is due is the next one, where the phaser accepts it in this mode
+next_child : (job : Job) (m : Moment) (t c : ℕ) (r : Registration) (mode : Mode)
+    → IsGraph job.graph → HasRun job m → HasChildrenToCome job m → Live job m t
+    → first_owed job m t ≡ None → (d : IsDueChild job m t c) → first_missing job m c ≡ Some r
+    → register_refusal (m.history r.phaser) (number_on m t r.phaser)
+    (greatest_used (m.history r.phaser) + 1) mode ≡ None → mode ≡ r.mode
+    → IsThere job t r.phaser
+    × IsNextChild job m t r.phaser (number_on m t r.phaser) c
+    (greatest_used (m.history r.phaser) + 1) mode d.comes.by
+next_child job m t c r mode is ran to_come live none d missing accepts same =
+    let f = find-some (λ x. not (has_registered m c x)) (registrations_at job c) r
+    no_registration missing in
+    let For : Registration → Type 0 = λ x. IsFor job c x in
+    let use_of : IsFor job c r =
+    subst For f.1.2 (is_for job c f.1.0 is d.there f.1.1) in
+    let p = r.phaser in
+    let above : OnLine (task_at job.graph t) p =
+    on_parents_line job m t c p is d use_of.on_line in (
+      record {
+        task = live.there;
+        phaser = on_phaser job t p is live.there above;
+      },
+      record {
+        child = d.there;
+        parent = d.comes.is;
+        by = d.comes.task;
+        on_line = use_of.on_line;
+        numbered = number_there job m t p is live above;
+        absent = absent (m.number p c) f.0;
+        accepted = accepts;
+        signals = λ j place. ap mode_signals same ∙ use_of.signals j place;
+        waits = λ k lt at. ap mode_waits same ∙ use_of.waits k lt at;
+        boundary = sym d.comes.at;
+        offset = to_come.offset c d.comes.by d.there d.comes.is d.missing
+            ∙ ap (λ x. m.offset x + d.comes.by.at) d.comes.task;
+        nothing_put = λ j place. to_come.nothing_put c j d.there d.missing;
+        nothing_taken = λ k lt at. to_come.nothing_taken c k d.there d.missing;
+        nothing_begun = to_come.nothing_begun c d.there d.missing;
+        all_put = λ i place.
+            (let at = place-at (signalled_by (task_at job.graph t)) p i place in
+            ap length (all_put job m t (ran.tasks t live.there) live.there none i at.0)
+            ∙ made_many job m t i is (ran.tasks t live.there) live.there at.0
+            ∙ puts-few (task_at job.graph t) (m.begun t) i (is.tasks t live.there).ends
+            d.parent_plain);
+        all_taken = λ k lt at.
+            all_taken job m t is (ran.tasks t live.there) live.there none k lt
+            ∙ plain_takes job t (m.begun t) k d.parent_plain;
+      },
+    )
   where
     absent : (o : Option ℕ) → not (is_some o) ≡ true → o ≡ None
     absent None e = refl
     absent (Some n) e = absurd (cc)
 
-    by : (o : Option Registration) → first_missing job m c ≡ o → IsDueChild job m t c
-        → call_register m t c o ≡ makes event → IsNext job m event
-    by None missing d e = absurd (cc)
-    by (Some r) missing d e =
+pub child_next : (job : Job) (m : Moment) (t c : ℕ) (event : TaskEvent) → IsGraph job.graph
+    → HasRun job m → HasChildrenToCome job m → Live job m t → first_owed job m t ≡ None
+    → first_due job m t ≡ Some c
+    → call_register job m t c (first_missing job m c) ≡ makes event → IsNext job m event
+child_next job m t c event is ran to_come live none due answer =
+    by (first_missing job m c) refl (due_child job m t c is due) answer
+  where
+    Next : TaskEvent → Type 0
+    Next e = IsNext job m e
+
+    of : (r : Registration) → first_missing job m c ≡ Some r → IsDueChild job m t c → (b : Bool)
+        → (task_at job.graph c).joins_now ≡ b → register_answer m t c r b ≡ makes event
+        → IsNext job m event
+    of r missing d true now e =
+        let n = number_on m t r.phaser in
+        let a = greatest_used (m.history r.phaser) + 1 in
+        let made = accepted (child_now t r.phaser n c a) event
+        (register_now_refusal (m.history r.phaser) n a) e in
         let f = find-some (λ x. not (has_registered m c x)) (registrations_at job c) r
         no_registration missing in
-        let For : Registration → Type 0 = λ x. IsFor job c x in
-        let use_of : IsFor job c r =
-        subst For f.1.2 (is_for job c f.1.0 is d.there f.1.1) in
-        let p = r.phaser in
-        let n = number_on m t p in
-        let a = greatest_used (m.history p) + 1 in
-        let made = accepted (child t p n c a r.mode) event
-        (register_refusal (m.history p) n a r.mode) e in
-        let above : OnLine (task_at job.graph t) p =
-        on_parents_line job m t c p is d use_of.on_line in
-        let Next : TaskEvent → Type 0 = λ e. IsNext job m e in
+        let sink : (task_at job.graph c).kind ≡ Sink = ((is.tasks c d.there).now now).0 in
+        let mode : r.mode ≡ Wait =
+        ap (λ x. x.mode) (sym f.1.2) ∙ sink_mode job c f.1.0 is d.there sink f.1.1 in
+        let next = next_child job m t c r Wait is ran to_come live none d missing made.0 (sym mode) in
         subst Next made.1 (
-          record {
-            task = live.there;
-            phaser = on_phaser job t p is live.there above;
-          },
+          next.0,
           (
             d.comes.by,
             record {
-              child = d.there;
-              parent = d.comes.is;
-              by = d.comes.task;
-              on_line = use_of.on_line;
-              numbered = number_there job m t p is live above;
-              absent = absent (m.number p c) f.0;
-              accepted = made.0;
-              signals = use_of.signals;
-              waits = use_of.waits;
-              boundary = sym d.comes.at;
-              offset = to_come.offset c d.comes.by d.there d.comes.is d.missing
-                  ∙ ap (λ x. m.offset x + d.comes.by.at) d.comes.task;
-              nothing_put = λ j place. to_come.nothing_put c j d.there d.missing;
-              nothing_taken = λ k lt at. to_come.nothing_taken c k d.there d.missing;
-              nothing_begun = to_come.nothing_begun c d.there d.missing;
-              all_put = λ i place.
-                  (let at = place-at (signalled_by (task_at job.graph t)) p i place in
-                  ap length (all_put job m t (ran.tasks t live.there) live.there none i at.0)
-                  ∙ made_many job m t i is (ran.tasks t live.there) live.there at.0
-                  ∙ puts-few (task_at job.graph t) (m.begun t) i (is.tasks t live.there).ends
-                  d.parent_plain);
-              all_taken = λ k lt at.
-                  all_taken job m t is (ran.tasks t live.there) live.there none k lt
-                  ∙ plain_takes job t (m.begun t) k d.parent_plain;
+              child = next.1;
+              now = now;
+              nothing_taken = λ k. to_come.nothing_taken c k d.there d.missing;
             },
           ),
         )
+    of r missing d false now e =
+        let n = number_on m t r.phaser in
+        let a = greatest_used (m.history r.phaser) + 1 in
+        let made = accepted (child t r.phaser n c a r.mode) event
+        (register_refusal (m.history r.phaser) n a r.mode) e in
+        let next = next_child job m t c r r.mode is ran to_come live none d missing made.0 refl in
+        subst Next made.1 (next.0, (d.comes.by, next.1))
+
+    by : (o : Option Registration) → first_missing job m c ≡ o → IsDueChild job m t c
+        → call_register job m t c o ≡ makes event → IsNext job m event
+    by None missing d e = absurd (cc)
+    by (Some r) missing d e = of r missing d (task_at job.graph c).joins_now refl e

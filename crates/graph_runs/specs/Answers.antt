@@ -1,28 +1,31 @@
 -- What a turn of a task makes and answers at a moment.
-use Rattle.std.specs.Prelude.{ℕ, ◌+◌, Bool, true, false, ◌&&◌, ℤ, pos, List, [], ◌∷◌, length, Option, Some, None, Result, Ok, Err, get_or, if◌then◌else◌}
-use Rattle.std.specs.List.{range_with_len, list_any, list_all}
+use Rattle.std.specs.Prelude.{ℕ, ◌+◌, Bool, true, false, ◌&&◌, ℤ, List, [], ◌∷◌, length, map, take, drop, slice_range, Option, Some, None, Result, Ok, Err, get_or, if◌then◌else◌}
+use Rattle.std.specs.List.{range_with_len, list_any, list_all, position_from}
 use Rattle.phase_history.specs.phase_accum.declared.outcome.Outcome.{Outcome}
-use Rattle.phase_history.specs.phase_accum.declared.outcome.Outcome.TheVariants as outcome
 use Rattle.phase_history.specs.declared.got.Got.{Got}
 use Rattle.phase_history.specs.declared.got.Got.TheVariants as got
+use Rattle.phase_history.specs.declared.got.GotBlock.{GotBlock}
+use Rattle.phase_history.specs.declared.got.GotBlock.TheVariants as block
 use Rattle.phase_history.specs.declared.refusal.SignalRefusal.{SignalRefusal}
 use Rattle.phase_history.specs.declared.refusal.SignalRefusal.TheVariants.{Ahead, Spent}
 use Rattle.phase_history.specs.declared.refusal.WaitRefusal.{WaitRefusal}
 use Rattle.phase_history.specs.declared.refusal.WaitRefusal.TheVariants.{NotYet}
 use Rattle.phase_history.specs.Histories.{greatest_used, wait_phase}
-use Rattle.phase_history.specs.Refusals.{register_refusal, signal_refusal, drop_refusal}
-use Rattle.phase_history.specs.Replies.{wait_reply}
+use Rattle.phase_history.specs.Phases.{stream_of}
+use Rattle.phase_history.specs.Refusals.{register_refusal, register_now_refusal, signal_refusal, drop_refusal}
+use Rattle.phase_history.specs.Replies.{wait_reply, wait_block_reply}
 use Rattle.stream_lists.specs.graph_base.declared.place.Place.TheVariants as place
 use Rattle.stream_lists.specs.graph_base.declared.registration.Registration.{Registration}
 use Rattle.stream_lists.specs.graph_base.Graphs.{task_at, phaser_at}
 use Rattle.stream_lists.specs.graph_base.Registrations.{signalled_by}
 use Rattle.stream_lists.specs.Jobs.{Job, samples_at}
-use Rattle.stream_lists.specs.Ranges.{Where, are_made, is_out_of_range}
-use Rattle.graph_runs.specs.Moments.{Moment, limits_at, value_at, input_at, made_now}
-use Rattle.graph_runs.specs.TaskEvents.{TaskEvent, sample, signal, first_wait, exchange_wait, leave, child, after_turn}
+use Rattle.stream_lists.specs.Ranges.{Where, are_made, is_out_of_range, is_too_big}
+use Rattle.graph_runs.specs.Moments.{one, Moment, limits_at, value_at, input_at, made_now}
+use Rattle.graph_runs.specs.NextBlocks.{block_of, sample_block_of}
+use Rattle.graph_runs.specs.TaskEvents.{TaskEvent, sample, signal, first_wait, exchange_wait, leave, child, child_now, after_turn}
 use Rattle.graph_runs.specs.Nexts.{Next, is_not_live, registers, leaves, samples, signals, waits, exchanges, next_of, is_live, number_on, first_missing, first_kept}
 
--- a turn makes one event; or none, as its call is Ahead or NotYet or the phaser has no phase left for
+-- a turn makes one event, of a step or of a block of them; or none, as its call is Ahead or NotYet or the phaser has no phase left for
 -- it, as the task is not live, as the value that it would signal is out of range at this place, or as
 -- the phaser refuses the call for another reason, which no run comes to
 pub data Answer : Type 0 where
@@ -41,7 +44,14 @@ signal_answer event (Some Ahead) = is_blocked
 signal_answer event (Some Spent) = is_blocked
 signal_answer event (Some refusal) = is_refused
 
--- a wait, which makes the event of its outcome
+-- a wait for a block, which makes the event of its outcomes
+abbrev pub block_answer : (ℕ → ℕ → TaskEvent) → Result GotBlock WaitRefusal → Answer
+block_answer event (Ok (block.Values phase count)) = makes (event phase count)
+block_answer event (Ok block.Ended) = is_refused
+block_answer event (Err NotYet) = is_blocked
+block_answer event (Err refusal) = is_refused
+
+-- a plain wait, which makes the event of its outcome
 abbrev pub wait_answer : (Outcome → TaskEvent) → Result Got WaitRefusal → Answer
 wait_answer event (Ok (got.Value phase outcome)) = makes (event outcome)
 wait_answer event (Ok got.Ended) = is_refused
@@ -55,13 +65,21 @@ accepted_answer event (Some refusal) = is_refused
 
 -- ---- each call
 
--- task t signals v on phaser p by this event
-abbrev pub call_signal : Job → Moment → ℕ → ℕ → ℤ → TaskEvent → Answer
-call_signal job m t p v event =
+-- task t signals these values on phaser p, one a phase, by this event
+abbrev pub call_signal : Job → Moment → ℕ → ℕ → List ℤ → TaskEvent → Answer
+call_signal job m t p vs event =
     signal_answer event (signal_refusal (limits_at job p) (m.history p) (number_on m t p)
-    ((v ∷ []) ∷ []) (phaser_at job.graph p).single)
+    (map one vs) (phaser_at job.graph p).single)
 
--- task t waits on phaser p
+-- task t waits on phaser p for at most so many phases, and takes those that are complete
+abbrev pub call_block : Job → Moment → ℕ → ℕ → ℕ → (List Outcome → TaskEvent) → Answer
+call_block job m t p steps event =
+    let h = m.history p in
+    block_answer
+    (λ phase count. event (slice_range (stream_of (value_at job p) h) phase (phase + count)))
+    (wait_block_reply (limits_at job p) h (number_on m t p) steps)
+
+-- task t waits on phaser p for one phase
 abbrev pub call_wait : Job → Moment → ℕ → ℕ → (Outcome → TaskEvent) → Answer
 call_wait job m t p event =
     wait_answer event
@@ -74,14 +92,23 @@ call_leave m t (Some r) =
     accepted_answer (leave t r.phaser (number_on m t r.phaser))
     (drop_refusal (m.history r.phaser) (number_on m t r.phaser))
 
--- task t registers its child c, as the number above all that were used on the phaser
-abbrev pub call_register : Moment → ℕ → ℕ → Option Registration → Answer
-call_register m t c None = is_refused
-call_register m t c (Some r) =
+-- task t registers its child c, as the number above all that were used on the phaser, as a sink that
+-- joins now or in the mode of its line
+abbrev pub register_answer : Moment → ℕ → ℕ → Registration → Bool → Answer
+register_answer m t c r true =
+    let n = number_on m t r.phaser in
+    let a = greatest_used (m.history r.phaser) + 1 in
+    accepted_answer (child_now t r.phaser n c a) (register_now_refusal (m.history r.phaser) n a)
+register_answer m t c r false =
     let n = number_on m t r.phaser in
     let a = greatest_used (m.history r.phaser) + 1 in
     accepted_answer (child t r.phaser n c a r.mode)
     (register_refusal (m.history r.phaser) n a r.mode)
+
+-- the first registration that the child misses
+abbrev pub call_register : Job → Moment → ℕ → ℕ → Option Registration → Answer
+call_register job m t c None = is_refused
+call_register job m t c (Some r) = register_answer m t c r (task_at job.graph c).joins_now
 
 -- ---- the table
 
@@ -89,34 +116,42 @@ call_register m t c (Some r) =
 abbrev pub output_at : Job → ℕ → ℕ → ℕ
 output_at job t j = get_or (signalled_by (task_at job.graph t)) j 0
 
--- the value that is next on output j of task t
-abbrev pub next_value : Job → Moment → ℕ → ℕ → ℤ
-next_value job m t j = get_or (made_now job m t j) (length (m.put t j)) (pos 0)
+-- the next samples of task t, a block of them
+abbrev pub next_samples : Job → Moment → ℕ → List ℤ
+next_samples job m t = take (sample_block_of job m t) (drop (m.begun t) (samples_at job t))
 
--- a value is signalled, where it is in range. What a filter or a peer has made is checked here
-abbrev pub signal_turn : Job → Moment → ℕ → ℕ → ℤ → TaskEvent → Answer
-signal_turn job m t j v event =
-    if is_out_of_range v
-    then (if are_made (task_at job.graph t).kind j then has_made (place.Task t, length (m.put t j))
-    else is_refused)
-    else call_signal job m t (output_at job t j) v event
+-- the values that are next on output j of task t: those that it owes there, at most a block of them
+abbrev pub next_values : Job → Moment → ℕ → ℕ → List ℤ
+next_values job m t j =
+    take (task_at job.graph t).block (drop (length (m.put t j)) (made_now job m t j))
+
+-- values are signalled, where all of them are in range. What a filter or a peer has made is checked
+-- here: the first that is out of range is told, and none of them is signalled
+abbrev pub signal_turn : Job → Moment → ℕ → ℕ → List ℤ → TaskEvent → Answer
+signal_turn job m t j vs event = of (position_from is_out_of_range (length (m.put t j)) vs)
+  where
+    of : Option ℕ → Answer
+    of None = call_signal job m t (output_at job t j) vs event
+    of (Some step) =
+        if are_made (task_at job.graph t).kind j then has_made (place.Task t, step)
+        else is_refused
 
 -- the answer to what task t does next
 abbrev pub answer_to : Job → Moment → ℕ → Next → Answer
 answer_to job m t is_not_live = is_gone
-answer_to job m t (registers c) = call_register m t c (first_missing job m c)
+answer_to job m t (registers c) = call_register job m t c (first_missing job m c)
 answer_to job m t leaves = call_leave m t (first_kept job m t)
 answer_to job m t samples =
     let p = output_at job t 0 in
-    let v = get_or (samples_at job t) (m.begun t) (pos 0) in
-    signal_turn job m t 0 v (sample t 0 p (number_on m t p) v)
+    let vs = next_samples job m t in
+    signal_turn job m t 0 vs (sample t 0 p (number_on m t p) vs)
 answer_to job m t (signals j) =
     let p = output_at job t j in
-    let v = next_value job m t j in
-    signal_turn job m t j v (signal t j p (number_on m t p) v)
+    let vs = next_values job m t j in
+    signal_turn job m t j vs (signal t j p (number_on m t p) vs)
 answer_to job m t (waits k) =
     let p = input_at (task_at job.graph t) k in
-    call_wait job m t p (first_wait t k p (number_on m t p))
+    call_block job m t p (block_of job m t) (first_wait t k p (number_on m t p))
 answer_to job m t exchanges =
     let p = input_at (task_at job.graph t) 1 in
     call_wait job m t p (exchange_wait t p (number_on m t p))
@@ -141,15 +176,23 @@ pub data Told : Type 0 where
   Gone : Told
   TooBig : Where → Told
 
+-- of a wait on phaser p that got these outcomes, the first of this phase: the first of them that is
+-- too big, where one is
+abbrev pub told_got : ℕ → ℕ → List Outcome → Told
+told_got p phase outcomes = of (position_from is_too_big phase outcomes)
+  where
+    of : Option ℕ → Told
+    of None = Moved
+    of (Some first) = TooBig (place.Phaser p, first)
+
 -- of a wait on phaser p by number n
-abbrev pub told_wait : Moment → ℕ → ℕ → Outcome → Told
-told_wait m p n outcome.TooBig = TooBig (place.Phaser p, wait_phase (m.history p) n)
-told_wait m p n outcome = Moved
+abbrev pub told_wait : Moment → ℕ → ℕ → List Outcome → Told
+told_wait m p n outcomes = told_got p (wait_phase (m.history p) n) outcomes
 
 -- of an event
 abbrev pub told_event : Job → Moment → TaskEvent → Told
-told_event job m (first_wait t k p n outcome) = told_wait m p n outcome
-told_event job m (exchange_wait t p n outcome) = told_wait m p n outcome
+told_event job m (first_wait t k p n outcomes) = told_wait m p n outcomes
+told_event job m (exchange_wait t p n outcome) = told_wait m p n (outcome ∷ [])
 told_event job m (leave t p n) =
     if is_live job (after_turn job (leave t p n) m) t then Moved else Ended
 told_event job m event = Moved

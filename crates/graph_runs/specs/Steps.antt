@@ -1,5 +1,5 @@
 -- What the code of a task keeps of its step.
-use Rattle.std.specs.Prelude.{◌≡◌, List, ℤ, Option, Some}
+use Rattle.std.specs.Prelude.{◌≡◌, [], ◌∷◌, List, ℤ, Option, Some}
 use Rattle.stream_lists.specs.stream_filters.Filter.{FirState, StandsFor}
 use Rattle.stream_lists.specs.graph_base.declared.line.Kind.TheVariants.{Fir}
 use Rattle.stream_lists.specs.graph_base.Graphs.{Task}
@@ -10,7 +10,7 @@ use Rattle.graph_runs.specs.declared.owed.Owed.TheVariants as code
 -- what is owed, by the definitions
 abbrev pub owed_of : Owed → turns.Owed
 owed_of code.Nothing = turns.nothing
-owed_of (code.Value output value) = turns.value output value
+owed_of (code.Value output value) = turns.values output (value ∷ [])
 owed_of (code.Exchange x) = turns.exchange x
 
 -- a filter task has the filter of its line, which has taken these values

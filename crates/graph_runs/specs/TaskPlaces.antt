@@ -1,6 +1,6 @@
 -- Where the code of a task stands: on which phasers it is registered and which of them it has left,
 -- how many steps it has begun, and what its begun steps owe. It changes by events as a function.
-use Rattle.std.specs.Prelude.{◌≡◌, ℕ, zero, suc, ◌+◌, ◌<◌, ◌≤◌, ◌%◌, ℤ, pos, ◌*ℤ◌, ◌-ℤ◌, List, [], ◌∷◌, ◌++◌, length, get_or, slice_get, Option, Some, None, Result, Ok, nat_lt, ◌==◌, if◌then◌else◌}
+use Rattle.std.specs.Prelude.{◌≡◌, ℕ, zero, suc, ◌+◌, ◌<◌, ◌≤◌, ◌%◌, ℤ, pos, ◌*ℤ◌, ◌-ℤ◌, List, [], ◌∷◌, ◌++◌, length, map, get_or, slice_get, Option, Some, None, Result, Ok, nat_lt, ◌==◌, if◌then◌else◌}
 use Rattle.stream_lists.specs.stream_filters.declared.fault.TooBigValue.{TooBigValue}
 use Rattle.stream_lists.specs.stream_filters.Range.{ranged}
 use Rattle.stream_lists.specs.stream_filters.Filter.{output_after}
@@ -12,15 +12,16 @@ use Rattle.stream_lists.specs.graph_base.Registrations.{no_registration, signall
 use Rattle.stream_lists.specs.Jobs.{Job}
 use Rattle.stream_lists.specs.Lists.{number}
 use Rattle.graph_runs.specs.Moments.{Moment, made_now}
+use Rattle.graph_runs.specs.Moves.{further}
 use Rattle.graph_runs.specs.Nexts.{signals, exchanges, in_step, first_owed, has_left, registrations_at}
-use Rattle.graph_runs.specs.TaskEvents.{TaskEvent, sample, signal, first_wait, exchange_wait, leave, child}
-use Rattle.graph_runs.specs.Answers.{next_value}
+use Rattle.graph_runs.specs.TaskEvents.{TaskEvent, sample, signal, first_wait, exchange_wait, leave, child, child_now}
+use Rattle.graph_runs.specs.Answers.{next_values}
 
--- what the begun steps of a task owe next: nothing; this value on output j, where it is in range;
--- or a peer's wait on E, with what it took from X
+-- what the begun steps of a task owe next: nothing; these values on output j, each where it is in
+-- range; or a peer's wait on E, with what it took from X
 pub data Owed : Type 0 where
   nothing : Owed
-  value : (j : ℕ) (v : Result ℤ TooBigValue) → Owed
+  values : (j : ℕ) (vs : List (Result ℤ TooBigValue)) → Owed
   exchange : (x : ℤ) → Owed
 
 -- a task's numbers on the first of its phasers, in the order of its registrations; how many of
@@ -48,18 +49,18 @@ registration_of_output task j = of task.kind
 -- what task t owes at a moment
 abbrev pub Owes : Job → Moment → ℕ → Owed → Type 0
 Owes job m t nothing = first_owed job m t ≡ None
-Owes job m t (value j v) =
+Owes job m t (values j vs) =
     (first_owed job m t ≡ Some j) × (in_step job m t j ≡ signals j)
-    × (ranged (next_value job m t j) ≡ v)
+    × (map ranged (next_values job m t j) ≡ vs)
 Owes job m t (exchange x) =
     (first_owed job m t ≡ Some 1) × (in_step job m t 1 ≡ exchanges)
     × (get_or (m.taken t 0) (length (m.taken t 1)) (pos 0) ≡ x)
 
 -- how many values an output lacks of what the begun steps of a task made, where the task owes this:
--- one on the output that is next. While a peer owes its value on E, it lacks one on Y as well
+-- those on the output that is next. While a peer owes its value on E, it lacks one on Y as well
 abbrev pub lacking : Kind → Owed → ℕ → ℕ
 lacking kind nothing j = 0
-lacking kind (value i v) j = if j == i then 1 else behind kind i j
+lacking kind (values i vs) j = if j == i then length vs else behind kind i j
   where
     behind : Kind → ℕ → ℕ → ℕ
     behind Peer zero (suc j) = 1
@@ -86,47 +87,54 @@ at_start numbers = record { numbers = numbers; left = 0; begun = 0; owed = nothi
 
 -- ---- how events change it
 
--- what a task owes after the first wait of a step, which got this number. It began so many steps
--- before it, and has taken these values from its input
-abbrev pub owed_after_wait : Task → ℕ → List ℤ → ℤ → Owed
-owed_after_wait task begun taken x = of task.kind
+-- what a filter that took these values makes of the next ones, one after the other
+abbrev pub outputs_of_block : List ℤ → ℕ → List ℤ → List ℤ → List ℤ
+outputs_of_block taps shift taken [] = []
+outputs_of_block taps shift taken (x ∷ xs) =
+    output_after taps shift (taken ++ x ∷ []) ∷ outputs_of_block taps shift (taken ++ x ∷ []) xs
+
+-- what a task owes after the first wait of its next steps, which got these numbers. It began so many
+-- steps before it, and has taken these values from its input
+abbrev pub owed_after_wait : Task → ℕ → List ℤ → List ℤ → Owed
+owed_after_wait task begun taken xs = of task.kind
   where
     of : Kind → Owed
-    of Fir = value 0 (ranged (output_after task.taps task.shift (taken ++ x ∷ [])))
-    of Split = value (begun % length task.outputs) (Ok x)
-    of Join = value 0 (Ok x)
-    of Peer = value 0 (Ok x)
+    of Fir = values 0 (map ranged (outputs_of_block task.taps task.shift taken xs))
+    of Split = values (begun % length task.outputs) (map (λ x. Ok x) xs)
+    of Join = values 0 (map (λ x. Ok x) xs)
+    of Peer = values 0 (map (λ x. Ok x) xs)
     of Source = nothing
     of Sink = nothing
 
 -- what a task owes after it has signalled this on output j: a peer that has signalled E waits there
-abbrev pub owed_after_signal : Task → ℕ → ℤ → Owed
-owed_after_signal task j x = of task.kind j
+abbrev pub owed_after_signal : Task → ℕ → List ℤ → Owed
+owed_after_signal task j xs = of task.kind j xs
   where
-    of : Kind → ℕ → Owed
-    of Peer zero = exchange x
-    of kind j = nothing
+    of : Kind → ℕ → List ℤ → Owed
+    of Peer zero (x ∷ []) = exchange x
+    of kind j xs = nothing
 
 -- what a peer owes that has got this number on E
 abbrev pub owed_after_exchange : Task → Owed → ℤ → Owed
-owed_after_exchange task (exchange x) e = value 1 (ranged ((task.mul *ℤ x) -ℤ e))
+owed_after_exchange task (exchange x) e = values 1 (ranged ((task.mul *ℤ x) -ℤ e) ∷ [])
 owed_after_exchange task nothing e = nothing
-owed_after_exchange task (value j v) e = nothing
+owed_after_exchange task (values j vs) e = nothing
 
 -- the place of a task after its own event, at the moment before
 abbrev pub own_place : Job → Moment → TaskEvent → TaskPlace → TaskPlace
-own_place job m (sample t j p n v) at = record at { begun = suc at.begun }
-own_place job m (signal t j p n v) at =
-    record at { owed = owed_after_signal (task_at job.graph t) j v }
-own_place job m (first_wait t k p n outcome) at =
+own_place job m (sample t j p n vs) at = record at { begun = further at.begun vs }
+own_place job m (signal t j p n vs) at =
+    record at { owed = owed_after_signal (task_at job.graph t) j vs }
+own_place job m (first_wait t k p n outcomes) at =
     record at {
-      begun = suc at.begun;
-      owed = owed_after_wait (task_at job.graph t) at.begun (m.taken t 0) (number outcome);
+      begun = further at.begun outcomes;
+      owed = owed_after_wait (task_at job.graph t) at.begun (m.taken t 0) (map number outcomes);
     }
 own_place job m (exchange_wait t p n outcome) at =
     record at { owed = owed_after_exchange (task_at job.graph t) at.owed (number outcome) }
 own_place job m (leave t p n) at = record at { left = suc at.left }
 own_place job m (child t p n c a mode) at = at
+own_place job m (child_now t p n c a) at = at
 
 -- the place of task c after it was registered as number a
 abbrev pub child_place : ℕ → TaskPlace → TaskPlace
@@ -135,4 +143,11 @@ child_place a at = record at { numbers = at.numbers ++ a ∷ [] }
 -- the task that an event registers, where it registers one
 abbrev pub child_of : TaskEvent → Option ℕ
 child_of (child t p n c a mode) = Some c
+child_of (child_now t p n c a) = Some c
 child_of event = None
+
+-- the number that it gives to this task
+abbrev pub number_given : TaskEvent → Option ℕ
+number_given (child t p n c a mode) = Some a
+number_given (child_now t p n c a) = Some a
+number_given event = None

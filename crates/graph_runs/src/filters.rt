@@ -30,8 +30,8 @@ pub fn first_filter(alloc: Global, job: &Job, t: usize) -> Result<Option<Fir>, A
     }
 }
 
-/// What the filter of task number `t` answers to the next sample.
-pub(crate) fn filtered(
+/// Returns what the filter of task number `t` answers to `x`, its next sample. It takes no memory.
+pub fn filtered(
     job: &Job,
     t: usize,
     filter: &mut Option<Fir>,

@@ -35,7 +35,7 @@ mod steps;
 mod taken;
 pub mod turns;
 
-pub use filters::first_filter;
+pub use filters::{filtered, first_filter};
 pub use lines::{
     first_input_of, input_of, is_sink, is_source, kind_of, output_of, parent_of, until_of,
 };

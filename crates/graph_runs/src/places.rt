@@ -1,6 +1,6 @@
 //! What the place of a task tells who moves the task alone, and how it goes on. Each function here
 //! makes no call and has no effect: its contract is the law.
-ghost use Rattle.std.specs.Prelude.{◌≡◌, true, false, ◌<◌, ◌≤◌, ℕ, zero, suc, ℤ, pos, ◌∷◌, length, get_or, Some, Ok};
+ghost use Rattle.std.specs.Prelude.{◌≡◌, true, false, ◌<◌, ◌≤◌, ℕ, zero, suc, ℤ, pos, [], ◌∷◌, length, get_or, Some, Ok};
 ghost use Rattle.phase_history.specs.phase_accum.declared.outcome.Outcome.{Outcome};
 ghost use Rattle.phase_history.specs.Histories.{History};
 ghost use Rattle.stream_lists.specs.graph_base.declared.line.Kind.TheVariants as kind;
@@ -12,7 +12,7 @@ ghost use Rattle.graph_runs.specs.Moments.{Moment, HasEnded, RanOut, input_at, f
 ghost use Rattle.graph_runs.specs.Moves.{IsStaying, NoneDue};
 ghost use Rattle.graph_runs.specs.Answers.{output_at};
 ghost use Rattle.graph_runs.specs.Nexts.{is_cut};
-ghost use Rattle.graph_runs.specs.TaskPlaces.{nothing, value, exchange, TaskPlace, StandsAt, registration_at, owed_after_wait, owed_after_signal, owed_after_exchange};
+ghost use Rattle.graph_runs.specs.TaskPlaces.{nothing, values, exchange, TaskPlace, StandsAt, registration_at, owed_after_wait, owed_after_signal, owed_after_exchange};
 ghost use Rattle.graph_runs.specs.Parts.{HasPart, HasSeen, HasPut, HasGot, LeavesPart, IsNextValue, IsNextOfSamples, BeginsStep, IsExchange};
 ghost use Rattle.graph_runs.specs.Places.{owing, after_step, after_leaving, HasChildrenBy};
 
@@ -25,7 +25,8 @@ use phase_history::Event;
 pub fn tells_next()
     ensures value { (job : Job) (m : Moment) (t j : ℕ) (v : ℤ) (at : TaskPlace)
         → IsGraph job.graph → t < length job.graph.tasks → HasPart job m t → StandsAt job m t at
-        → at.left ≡ 0 → at.owed ≡ value j (Ok v) → IsNextValue job m t j (output_at job t j) v }
+        → at.left ≡ 0 → at.owed ≡ values j (Ok v ∷ [])
+        → IsNextValue job m t j (output_at job t j) v }
     ensures sample { (job : Job) (m : Moment) (t : ℕ) (at : TaskPlace) → IsGraph job.graph
         → t < length job.graph.tasks → HasPart job m t → StandsAt job m t at → at.left ≡ 0
         → at.owed ≡ nothing → (task_at job.graph t).kind ≡ kind.Source
@@ -79,9 +80,9 @@ pub fn follow()
         → StandsAt job m t at → HasSeen job m after t p now → StandsAt job after t at }
     ensures put { (job : Job) (m after : Moment) (t j p : ℕ) (v : ℤ) (at : TaskPlace)
         (now : History) → IsGraph job.graph → t < length job.graph.tasks → HasPart job m t
-        → StandsAt job m t at → at.left ≡ 0 → at.owed ≡ value j (Ok v)
+        → StandsAt job m t at → at.left ≡ 0 → at.owed ≡ values j (Ok v ∷ [])
         → HasPut job m after t j p v (m.begun t) now
-        → StandsAt job after t (owing (owed_after_signal (task_at job.graph t) j v) at) }
+        → StandsAt job after t (owing (owed_after_signal (task_at job.graph t) j (v ∷ [])) at) }
     ensures sample { (job : Job) (m after : Moment) (t p : ℕ) (v : ℤ) (at : TaskPlace)
         (now : History) → IsGraph job.graph → t < length job.graph.tasks → HasPart job m t
         → StandsAt job m t at → at.left ≡ 0 → at.owed ≡ nothing
@@ -93,7 +94,7 @@ pub fn follow()
         → HasPart job m t → StandsAt job m t at → at.left ≡ 0 → at.owed ≡ nothing
         → BeginsStep job m t k p → HasGot job m after t k p outcome (suc (m.begun t)) now
         → StandsAt job after t (after_step
-        (owed_after_wait (task_at job.graph t) at.begun (m.taken t 0) (number outcome)) at) }
+        (owed_after_wait (task_at job.graph t) at.begun (m.taken t 0) (number outcome ∷ [])) at) }
     ensures exchange { (job : Job) (m after : Moment) (t p : ℕ) (x : ℤ) (outcome : Outcome)
         (at : TaskPlace) (now : History) → IsGraph job.graph → t < length job.graph.tasks
         → HasPart job m t → StandsAt job m t at → at.left ≡ 0 → at.owed ≡ exchange x

@@ -17,7 +17,7 @@ pub fn owed_after_wait(job: &Job, t: usize, begun: u64, filter: &mut Option<Fir>
     requires task { t < length job.now.graph.tasks }
     requires filter { (taken : List ℤ) × HasFilter (task_at job.now.graph t) filter.old taken }
     ensures owed { (taken : List ℤ) → HasFilter (task_at job.now.graph t) filter.old taken
-        → owed_of result ≡ turns.owed_after_wait (task_at job.now.graph t) begun taken x }
+        → owed_of result ≡ turns.owed_after_wait (task_at job.now.graph t) begun taken (x ∷ []) }
     ensures filter { (taken : List ℤ) → HasFilter (task_at job.now.graph t) filter.old taken
         → HasFilter (task_at job.now.graph t) filter.new (taken ++ x ∷ []) }
 {
@@ -42,7 +42,7 @@ pub fn owed_after_wait(job: &Job, t: usize, begun: u64, filter: &mut Option<Fir>
 /// signalled E waits there. It takes no memory.
 pub fn owed_after_signal(job: &Job, t: usize, output: usize, x: i64) -> Owed
     requires { t < length job.now.graph.tasks }
-    ensures { owed_of result ≡ turns.owed_after_signal (task_at job.now.graph t) output x }
+    ensures { owed_of result ≡ turns.owed_after_signal (task_at job.now.graph t) output (x ∷ []) }
 {
     if kind_of(job, t) == Kind::Peer && output == 0 {
         return Owed::Exchange { x };

@@ -1,7 +1,6 @@
 //! What a turn makes is the task's next event. Each function here makes no call and has no effect:
 //! its contract is the law.
 ghost use Rattle.std.specs.Prelude.{◌≡◌, ◌≢◌, ◌+◌, ◌-◌, ◌<◌, ◌≤◌, ℕ, List, Option, Some, None, false, IsSome, length, slice_get, ℤ};
-ghost use Rattle.phase_history.specs.phase_base.declared.mode.Mode.{Mode};
 ghost use Rattle.phase_history.specs.phase_accum.Sends.{AreSends};
 ghost use Rattle.phase_history.specs.phase_accum.declared.outcome.Outcome.{Outcome};
 ghost use Rattle.stream_lists.specs.graph_base.Graphs.{task_at};
@@ -14,12 +13,12 @@ ghost use Rattle.graph_runs.specs.Moments.{Moment, HasRun, HasSamples, input_at}
 ghost use Rattle.graph_runs.specs.Moves.{further, MayBeginTo};
 ghost use Rattle.graph_runs.specs.Turned.{after_signals, after_waits, IsNextSamples, IsNextSignals, IsFirstWaits};
 ghost use Rattle.graph_runs.specs.NextBlocks.{block_of, until_allows};
-ghost use Rattle.graph_runs.specs.TaskEvents.{TaskEvent, IsNext, after_turn, sample, signal, first_wait, exchange_wait, child, leave};
+ghost use Rattle.graph_runs.specs.TaskEvents.{TaskEvent, IsNext, after_turn, sample, signal, first_wait, exchange_wait, leave};
 ghost use Rattle.graph_runs.specs.Nexts.{first_due, HasChildrenToCome, first_missing, first_kept, first_owed, is_cut, registrations_at};
 ghost use Rattle.graph_runs.specs.Answers.{answer_of_turn, after_answer, after_turns, makes, is_refused, turn_tells, output_at};
 ghost use Rattle.graph_runs.specs.Beginnings.{opening};
 ghost use Rattle.graph_runs.specs.Reached.{HasBegun, IsReachable};
-ghost use Rattle.graph_runs.specs.TaskPlaces.{TaskPlace, StandsAt, own_place, child_place, child_of, registration_at, registration_of_output};
+ghost use Rattle.graph_runs.specs.TaskPlaces.{TaskPlace, StandsAt, own_place, child_place, child_of, number_given, registration_at, registration_of_output};
 
 use crate::moves;
 
@@ -39,6 +38,7 @@ pub fn turns_make_next_events()
         → IsNext job m event × HasRun job (after_turn job event m) }
 {
     moves::turns_keep();
+    moves::blocks_keep();
 }
 
 /// The opening is reached, and turns lead from a reached moment to reached ones, whichever tasks
@@ -136,40 +136,39 @@ pub fn places_tell()
 
 /// The places of the tasks follow a turn's event. Another task stays at its place, `others`, but a
 /// child that is registered has one number more, `child`. The task itself goes on to its `own_place`:
-/// a parent stays, who leaves a phaser has left one more, and who begins a step, signals or waits
-/// owes the rest of the step. So whoever moves tasks keeps for each of them its place alone.
+/// a parent stays, who leaves a phaser has left one more, and who begins steps, signals or waits
+/// owes the rest of the steps. So whoever moves tasks keeps for each of them its place alone.
 pub fn places_follow()
     ensures others { (job : Job) (m : Moment) (t u : ℕ) (event : TaskEvent) (at : TaskPlace)
         → IsGraph job.graph → IsReachable job m → answer_of_turn job m t ≡ makes event
         → u < length job.graph.tasks → u ≢ t → child_of event ≢ Some u → StandsAt job m u at
         → StandsAt job (after_turn job event m) u at }
-    ensures child { (job : Job) (m : Moment) (t p n c a : ℕ) (mode : Mode) (at : TaskPlace)
-        → IsGraph job.graph → IsReachable job m
-        → answer_of_turn job m t ≡ makes (child t p n c a mode) → StandsAt job m c at
-        → StandsAt job (after_turn job (child t p n c a mode) m) c (child_place a at) }
-    ensures parent { (job : Job) (m : Moment) (t p n c a : ℕ) (mode : Mode) (at : TaskPlace)
-        → IsGraph job.graph → IsReachable job m
-        → answer_of_turn job m t ≡ makes (child t p n c a mode) → StandsAt job m t at
-        → StandsAt job (after_turn job (child t p n c a mode) m) t
-        (own_place job m (child t p n c a mode) at) }
+    ensures child { (job : Job) (m : Moment) (t c a : ℕ) (event : TaskEvent) (at : TaskPlace)
+        → IsGraph job.graph → IsReachable job m → answer_of_turn job m t ≡ makes event
+        → child_of event ≡ Some c → number_given event ≡ Some a → StandsAt job m c at
+        → StandsAt job (after_turn job event m) c (child_place a at) }
+    ensures parent { (job : Job) (m : Moment) (t c : ℕ) (event : TaskEvent) (at : TaskPlace)
+        → IsGraph job.graph → IsReachable job m → answer_of_turn job m t ≡ makes event
+        → child_of event ≡ Some c → StandsAt job m t at
+        → StandsAt job (after_turn job event m) t (own_place job m event at) }
     ensures leave { (job : Job) (m : Moment) (t p n : ℕ) (at : TaskPlace) → IsGraph job.graph
         → IsReachable job m → answer_of_turn job m t ≡ makes (leave t p n) → StandsAt job m t at
         → StandsAt job (after_turn job (leave t p n) m) t (own_place job m (leave t p n) at) }
-    ensures sample { (job : Job) (m : Moment) (t j p n : ℕ) (v : ℤ) (at : TaskPlace)
+    ensures sample { (job : Job) (m : Moment) (t j p n : ℕ) (vs : List ℤ) (at : TaskPlace)
         → IsGraph job.graph → IsReachable job m
-        → answer_of_turn job m t ≡ makes (sample t j p n v) → StandsAt job m t at
-        → StandsAt job (after_turn job (sample t j p n v) m) t
-        (own_place job m (sample t j p n v) at) }
-    ensures signal { (job : Job) (m : Moment) (t j p n : ℕ) (v : ℤ) (at : TaskPlace)
+        → answer_of_turn job m t ≡ makes (sample t j p n vs) → StandsAt job m t at
+        → StandsAt job (after_turn job (sample t j p n vs) m) t
+        (own_place job m (sample t j p n vs) at) }
+    ensures signal { (job : Job) (m : Moment) (t j p n : ℕ) (vs : List ℤ) (at : TaskPlace)
         → IsGraph job.graph → IsReachable job m
-        → answer_of_turn job m t ≡ makes (signal t j p n v) → StandsAt job m t at
-        → StandsAt job (after_turn job (signal t j p n v) m) t
-        (own_place job m (signal t j p n v) at) }
-    ensures first_wait { (job : Job) (m : Moment) (t k p n : ℕ) (outcome : Outcome)
+        → answer_of_turn job m t ≡ makes (signal t j p n vs) → StandsAt job m t at
+        → StandsAt job (after_turn job (signal t j p n vs) m) t
+        (own_place job m (signal t j p n vs) at) }
+    ensures first_wait { (job : Job) (m : Moment) (t k p n : ℕ) (outcomes : List Outcome)
         (at : TaskPlace) → IsGraph job.graph → IsReachable job m
-        → answer_of_turn job m t ≡ makes (first_wait t k p n outcome) → StandsAt job m t at
-        → StandsAt job (after_turn job (first_wait t k p n outcome) m) t
-        (own_place job m (first_wait t k p n outcome) at) }
+        → answer_of_turn job m t ≡ makes (first_wait t k p n outcomes) → StandsAt job m t at
+        → StandsAt job (after_turn job (first_wait t k p n outcomes) m) t
+        (own_place job m (first_wait t k p n outcomes) at) }
     ensures exchange_wait { (job : Job) (m : Moment) (t p n : ℕ) (outcome : Outcome)
         (at : TaskPlace) → IsGraph job.graph → IsReachable job m
         → answer_of_turn job m t ≡ makes (exchange_wait t p n outcome) → StandsAt job m t at

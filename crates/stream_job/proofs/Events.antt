@@ -11,30 +11,43 @@ use Rattle.stream_eval.specs.stream_lists.Jobs.{Job}
 use Rattle.stream_eval.specs.stream_lists.Lists.{sinks_of}
 use Rattle.stream_eval.specs.Results.{sink_values}
 use Rattle.graph_runs.specs.Moments.{Moment}
-use Rattle.graph_runs.specs.TaskEvents.{TaskEvent, sample, signal, first_wait, exchange_wait, leave, child, after_turn}
+use Rattle.graph_runs.specs.TaskEvents.{TaskEvent, sample, signal, first_wait, exchange_wait, leave, child, child_now, after_turn}
 use Rattle.graph_runs.specs.Answers.{makes, answer_of_turn, after_answer}
 use Rattle.graph_runs.specs.Reached.{IsReachable}
 use Rattle.graph_runs.specs.TaskPlaces.{child_of}
 use Rattle.graph_runs.proofs.Whose.{task_of, made_by}
 use Rattle.graph_runs.proofs.PlacesFollow.{others_follow}
 use Rattle.graph_runs.specs.Steps.{HasFilter}
-use Rattle.stream_job.specs.SinkLines.{kept_by}
+use Rattle.stream_job.specs.SinkLines.{kept_by, begins_at}
 use Rattle.stream_job.specs.Places.{IsTaskAt, place_of}
 use Rattle.stream_job.specs.Machines.{IsMachineAt, HasCores, IsLineOf, UsesFew}
 use Rattle.stream_job.specs.declared.machine.Machine.{Machine}
 use Rattle.stream_job.specs.declared.task_state.TaskState.{TaskState}
+use Rattle.stream_job.proofs.SinkLines.{map_same}
 use Rattle.stream_job.proofs.Setting.{slice_get-set_same, slice_get-set_other, same_cores}
 use Rattle.graph_runs.specs.Turned.{with_at}
 
 -- what another task has taken
 pub taken_other : (job : Job) (m : Moment) (event : TaskEvent) (u k : ℕ) → u ≢ task_of event
     → (after_turn job event m).taken u k ≡ m.taken u k
-taken_other job m (sample t j p n v) u k apart = refl
-taken_other job m (signal t j p n v) u k apart = refl
-taken_other job m (first_wait t i p n outcome) u k apart = rw (ne_eqb u t apart) refl
+taken_other job m (sample t j p n vs) u k apart = refl
+taken_other job m (signal t j p n vs) u k apart = refl
+taken_other job m (first_wait t i p n outcomes) u k apart = rw (ne_eqb u t apart) refl
 taken_other job m (exchange_wait t p n outcome) u k apart = rw (ne_eqb u t apart) refl
 taken_other job m (leave t p n) u k apart = refl
 taken_other job m (child t p n c a mode) u k apart = refl
+taken_other job m (child_now t p n c a) u k apart = refl
+
+-- an event that registers no child leaves where each sink begins
+pub begins_same : (job : Job) (m : Moment) (event : TaskEvent) (u : ℕ) → child_of event ≡ None
+    → begins_at job m u ≡ begins_at job (after_turn job event m) u
+begins_same job m (sample t j p n vs) u none = refl
+begins_same job m (signal t j p n vs) u none = refl
+begins_same job m (first_wait t i p n outcomes) u none = refl
+begins_same job m (exchange_wait t p n outcome) u none = refl
+begins_same job m (leave t p n) u none = refl
+begins_same job m (child t p n c a mode) u none = absurd (cc)
+begins_same job m (child_now t p n c a) u none = absurd (cc)
 
 -- another task is as it was
 pub keeps_other : (job : Job) (m : Moment) (t u : ℕ) (event : TaskEvent) (state : TaskState)
@@ -50,6 +63,9 @@ keeps_other job m t u event state is reached answer there apart another at =
           at.stands;
       room = at.room;
       filter = subst (HasFilter (task_at job.graph u) state.filter) (sym taken) at.filter;
+      made_room = at.made_room;
+      made_by = at.made_by;
+      made_none = at.made_none;
       sink = at.sink;
     }
 
@@ -89,9 +105,10 @@ pub after_own : (job : Job) (m : Moment) (old new : Machine) (t : ℕ) (event : 
     → IsTaskAt job (after_turn job event m) t state
     → map sink_values new.lines.items
     ≡ map (λ u. (u, kept_by job (after_turn job event m) u)) (sinks_of job)
+    → map (λ line. line.start) new.lines.items ≡ map (λ line. line.start) old.lines.items
     → All (IsLineOf job) new.lines.items
     → IsMachineAt job (after_answer job (answer_of_turn job m t) m) new
-after_own job m old new t event state at answer none there reached few cores tasks here lines own =
+after_own job m old new t event state at answer none there reached few cores tasks here lines starts own =
     let after = after_turn job event m in
     let long = length-set old.tasks.items t state in
     let many : length new.tasks.items ≡ length (set old.tasks.items t state) = ap length tasks in
@@ -110,6 +127,9 @@ after_own job m old new t event state at answer none there reached few cores tas
       tasks = λ u other found. all u other
           (subst (λ xs. slice_get xs u ≡ Some other) tasks found);
       lines = lines;
+      starts = starts ∙ at.starts
+          ∙ map_same (begins_at job m) (begins_at job after) (sinks_of job)
+          (λ u. begins_same job m event u none);
       own = own;
     }
 
@@ -127,5 +147,6 @@ unchanged job m old new p at cores tasks lines = record {
   tasks = λ u state found. at.tasks u state
       (subst (λ v. slice_get v.items u ≡ Some state) tasks found);
   lines = ap (λ l. map sink_values l.items) lines ∙ at.lines;
+  starts = ap (λ l. map (λ line. line.start) l.items) lines ∙ at.starts;
   own = subst (λ l. All (IsLineOf job) l.items) (sym lines) at.own;
 }

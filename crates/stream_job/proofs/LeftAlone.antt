@@ -1,5 +1,5 @@
 -- What the event of one task leaves of another.
-use Rattle.std.proofs.Common.{◌≡◌, ◌≢◌, ℕ, zero, suc, ◌<◌, Bool, true, false, not, ◌&&◌, cond, eqb, List, [], ◌∷◌, Some, None, is_some, length, slice_get, refl, sym, ap, ◌∙◌, arith, inr}
+use Rattle.std.proofs.Common.{◌≡◌, ◌≢◌, ℕ, zero, suc, ◌<◌, Bool, true, false, not, ◌&&◌, cond, eqb, List, [], ◌∷◌, Some, None, is_some, length, map, slice_get, refl, sym, ap, ◌∙◌, arith, inr}
 use Rattle.std.specs.List.{find, range_with_len}
 use Rattle.std.proofs.lemmas.Bool.{eqb-true, eq-eqb, ne_eqb}
 use Rattle.std.proofs.lemmas.Option.{same_Some}
@@ -9,10 +9,12 @@ use Rattle.phase_core.specs.phase_history.declared.event.Event.TheVariants.{Sign
 use Rattle.graph_lang.specs.graph_base.declared.line.Parent.{Parent}
 use Rattle.graph_lang.specs.graph_base.Graphs.{task_at, phaser_at}
 use Rattle.stream_eval.specs.stream_lists.Jobs.{Job}
-use Rattle.graph_runs.specs.Moments.{Moment}
-use Rattle.graph_runs.specs.Moves.{HasMoved, SameTask, Registers}
-use Rattle.graph_runs.proofs.Turned.{next_sample_is, next_signal_is, first_wait_is, exchange_wait_is, next_leave_is, next_child_is}
-use Rattle.graph_runs.specs.TaskEvents.{TaskEvent, IsNext, sample, signal, first_wait, exchange_wait, leave, child, after_turn}
+use Rattle.graph_runs.specs.Moments.{one, Moment}
+use Rattle.graph_runs.specs.Moves.{HasMoved, SameTask, Registers, RegistersNow}
+use Rattle.graph_runs.proofs.InBlocks.{next_samples_are, next_signals_are, first_waits_are}
+use Rattle.graph_runs.proofs.JoinsNow.{next_child_now_is}
+use Rattle.graph_runs.proofs.Turned.{exchange_wait_is, next_leave_is, next_child_is}
+use Rattle.graph_runs.specs.TaskEvents.{TaskEvent, IsNext, sample, signal, first_wait, exchange_wait, leave, child, child_now, after_turn}
 use Rattle.graph_runs.specs.TaskPlaces.{child_of}
 use Rattle.graph_runs.specs.Nexts.{comes_by, first_due, first_missing, has_registered, is_due, is_live, registrations_at}
 use Rattle.graph_runs.specs.Reached.{IsReachable}
@@ -74,6 +76,27 @@ not_due job m u c parent is apart =
     ∙ ap (λ b. (b && eqb parent.at (m.begun u)) && is_some (first_missing job m c))
     (ne_eqb parent.task u apart)
 
+-- task u has the children to register that it had, where another task registered a child
+due_apart : (job : Job) (before after : Moment) (t c u : ℕ) (parent : Parent)
+    → (task_at job.graph c).parent ≡ Some parent → parent.task ≡ t → u ≢ t
+    → after.begun u ≡ before.begun u
+    → ((q d : ℕ) → d ≢ c → after.number q d ≡ before.number q d)
+    → first_due job after u ≡ first_due job before u
+due_apart job before after t c u parent its_parent by_task apart begun numbers =
+    found_same (is_due job after u) (is_due job before u)
+    (range_with_len 0 (length job.graph.tasks)) (λ d. by d (eqb d c) refl)
+  where
+    by : (d : ℕ) (b : Bool) → eqb d c ≡ b → is_due job after u d ≡ is_due job before u d
+    by d true e =
+        let same : d ≡ c = eqb-true d c e in
+        let its : (task_at job.graph d).parent ≡ Some parent =
+        ap (λ x. (task_at job.graph x).parent) same ∙ its_parent in
+        let another : parent.task ≢ u = λ it. apart (sym it ∙ by_task) in
+        not_due job after u d parent its another ∙ sym (not_due job before u d parent its another)
+    by d false e =
+        due_same job before after u d begun
+        (λ q. numbers q d (λ same. (let no = sym (eq-eqb d c same) ∙ e in cc)))
+
 alone_registered : (job : Job) (before after : Moment) (t p n c a u : ℕ) (mode : Mode)
     (parent : Parent) → Registers job before after t p n c a mode parent → u ≢ t → u ≢ c
     → LeavesAlone job before after u p
@@ -81,36 +104,37 @@ alone_registered job before after t p n c a u mode parent s apart other = record
   same = s.same u;
   numbers = λ q. s.other_numbers q u (inr other);
   elsewhere = s.elsewhere;
-  due = found_same (is_due job after u) (is_due job before u)
-      (range_with_len 0 (length job.graph.tasks)) (λ d. by d (eqb d c) refl);
+  due = due_apart job before after t c u parent s.parent s.by apart (s.same u).begun
+      (λ q d differs. s.other_numbers q d (inr differs));
 }
-  where
-    by : (d : ℕ) (b : Bool) → eqb d c ≡ b → is_due job after u d ≡ is_due job before u d
-    by d true e =
-        let same : d ≡ c = eqb-true d c e in
-        let its : (task_at job.graph d).parent ≡ Some parent =
-        ap (λ x. (task_at job.graph x).parent) same ∙ s.parent in
-        let another : parent.task ≢ u = λ it. apart (sym it ∙ s.by) in
-        not_due job after u d parent its another ∙ sym (not_due job before u d parent its another)
-    by d false e =
-        due_same job before after u d (s.same u).begun
-        (λ q. s.other_numbers q d (inr (λ same. (let no = sym (eq-eqb d c same) ∙ e in cc))))
+
+-- a sink that joins now is registered by another task
+alone_now : (job : Job) (before after : Moment) (t p n c a u : ℕ) (parent : Parent)
+    → RegistersNow job before after t p n c a parent → u ≢ t → u ≢ c
+    → LeavesAlone job before after u p
+alone_now job before after t p n c a u parent s apart other = record {
+  same = s.same u other;
+  numbers = λ q. s.other_numbers q u (inr other);
+  elsewhere = s.elsewhere;
+  due = due_apart job before after t c u parent s.parent s.by apart (s.same u other).begun
+      (λ q d differs. s.other_numbers q d (inr differs));
+}
 
 pub alone : (job : Job) (m : Moment) (event : TaskEvent) (u : ℕ) → IsReachable job m
     → IsNext job m event → u ≢ task_of event → child_of event ≢ Some u
     → LeavesAlone job m (after_turn job event m) u (phaser_of event)
-alone job m (sample t j p n v) u reached next apart other =
-    let s = next_sample_is job m t j p n v next.1 (reached.ran.tasks t next.0.task) in
-    alone_moved job m (after_turn job (sample t j p n v) m) t u p
-    (Signalled n ((v ∷ []) ∷ []) (phaser_at job.graph p).single) s.moved apart
-alone job m (signal t j p n v) u reached next apart other =
-    let s = next_signal_is job m t j p n v next.1 (reached.ran.tasks t next.0.task) in
-    alone_moved job m (after_turn job (signal t j p n v) m) t u p
-    (Signalled n ((v ∷ []) ∷ []) (phaser_at job.graph p).single) s.moved apart
-alone job m (first_wait t k p n outcome) u reached next apart other =
-    let s = first_wait_is job m t k p n outcome next.1 in
-    alone_moved job m (after_turn job (first_wait t k p n outcome) m) t u p (Waited n 1) s.moved
-    apart
+alone job m (sample t j p n vs) u reached next apart other =
+    let s = next_samples_are job m t j p n vs next.1 (reached.ran.tasks t next.0.task) in
+    alone_moved job m (after_turn job (sample t j p n vs) m) t u p
+    (Signalled n (map one vs) (phaser_at job.graph p).single) s.moved apart
+alone job m (signal t j p n vs) u reached next apart other =
+    let s = next_signals_are job m t j p n vs next.1 (reached.ran.tasks t next.0.task) in
+    alone_moved job m (after_turn job (signal t j p n vs) m) t u p
+    (Signalled n (map one vs) (phaser_at job.graph p).single) s.moved apart
+alone job m (first_wait t k p n outcomes) u reached next apart other =
+    let s = first_waits_are job m t k p n outcomes next.1 in
+    alone_moved job m (after_turn job (first_wait t k p n outcomes) m) t u p
+    (Waited n (length outcomes)) s.moved apart
 alone job m (exchange_wait t p n outcome) u reached next apart other =
     let s = exchange_wait_is job m t p n outcome next.1 in
     alone_moved job m (after_turn job (exchange_wait t p n outcome) m) t u p (Waited n 1) s.moved
@@ -122,18 +146,25 @@ alone job m (child t p n c a mode) u reached next apart other =
     let s = next_child_is job m t p n c a mode next.1.0 next.1.1 in
     alone_registered job m (after_turn job (child t p n c a mode) m) t p n c a u mode next.1.0 s
     apart (λ same. other (ap (λ x. Some x) (sym same)))
+alone job m (child_now t p n c a) u reached next apart other =
+    let s = next_child_now_is job m t p n c a next.1.0 next.1.1 in
+    alone_now job m (after_turn job (child_now t p n c a) m) t p n c a u next.1.0 s apart
+    (λ same. other (ap (λ x. Some x) (sym same)))
 
 -- ---- it is live
 
 -- a task that misses no registration is none that is registered
 pub no_child : (job : Job) (m : Moment) (event : TaskEvent) (u : ℕ) → IsInOrder job m event
     → first_missing job m u ≡ None → child_of event ≢ Some u
-no_child job m (sample t j p n v) u order none = λ e. (cc)
-no_child job m (signal t j p n v) u order none = λ e. (cc)
-no_child job m (first_wait t k p n outcome) u order none = λ e. (cc)
+no_child job m (sample t j p n vs) u order none = λ e. (cc)
+no_child job m (signal t j p n vs) u order none = λ e. (cc)
+no_child job m (first_wait t k p n outcomes) u order none = λ e. (cc)
 no_child job m (exchange_wait t p n outcome) u order none = λ e. (cc)
 no_child job m (leave t p n) u order none = λ e. (cc)
 no_child job m (child t p n c a mode) u order none = λ e.
+    (let wrong : Some order.0 ≡ None =
+    sym order.1 ∙ ap (first_missing job m) (same_Some c u e) ∙ none in cc)
+no_child job m (child_now t p n c a) u order none = λ e.
     (let wrong : Some order.0 ≡ None =
     sym order.1 ∙ ap (first_missing job m) (same_Some c u e) ∙ none in cc)
 

@@ -1,6 +1,6 @@
 -- How many numbers were used on a phaser: one for each task that is registered there, and the
 -- founder's.
-use Rattle.std.proofs.Common.{◌≡◌, ◌≢◌, ℕ, zero, suc, ◌+◌, ◌-◌, ◌<◌, ◌≤◌, Bool, true, false, cond, eqb, [], ◌∷◌, ◌^◌, Option, Some, None, is_some, length, max, refl, sym, ap, ◌∙◌, arith, ◌⊎◌, inl, inr}
+use Rattle.std.proofs.Common.{◌≡◌, ◌≢◌, ℕ, zero, suc, ◌+◌, ◌-◌, ◌<◌, ◌≤◌, Bool, true, false, cond, eqb, [], ◌∷◌, ◌^◌, Option, Some, None, is_some, length, max, map, refl, sym, ap, ◌∙◌, arith, ◌⊎◌, inl, inr}
 use Rattle.std.specs.Prelude.{nat_lt}
 use Rattle.std.proofs.lemmas.Bool.{eqb-true, eq-eqb, cases_lt, lt-ltb}
 use Rattle.phase_core.specs.phase_base.declared.mode.Mode.{Mode}
@@ -9,14 +9,15 @@ use Rattle.phase_core.specs.phase_history.declared.event.Event.TheVariants.{Sign
 use Rattle.phase_core.specs.phase_history.Histories.{History, greatest_used}
 use Rattle.phase_core.specs.phase_registry.Rosters.{next_after}
 use Rattle.graph_lang.specs.graph_base.declared.limits.TheConstants.{TASKS_MAX}
-use Rattle.graph_lang.specs.graph_base.declared.line.Parent.{Parent}
 use Rattle.graph_lang.specs.graph_base.Graphs.{phaser_at}
 use Rattle.graph_lang.specs.graph_base.TaskLines.{IsGraph}
 use Rattle.stream_eval.specs.stream_lists.Jobs.{Job}
-use Rattle.graph_runs.specs.Moments.{Moment}
-use Rattle.graph_runs.specs.Moves.{HasMoved, Registers}
-use Rattle.graph_runs.proofs.Turned.{next_sample_is, next_signal_is, first_wait_is, exchange_wait_is, next_leave_is, next_child_is}
-use Rattle.graph_runs.specs.TaskEvents.{TaskEvent, IsNext, sample, signal, first_wait, exchange_wait, leave, child, after_turn}
+use Rattle.graph_runs.specs.Moments.{one, Moment}
+use Rattle.graph_runs.specs.Moves.{HasMoved}
+use Rattle.graph_runs.proofs.InBlocks.{next_samples_are, next_signals_are, first_waits_are}
+use Rattle.graph_runs.proofs.JoinsNow.{next_child_now_is}
+use Rattle.graph_runs.proofs.Turned.{exchange_wait_is, next_leave_is, next_child_is}
+use Rattle.graph_runs.specs.TaskEvents.{TaskEvent, IsNext, sample, signal, first_wait, exchange_wait, leave, child, child_now, after_turn}
 use Rattle.graph_runs.specs.Answers.{Answer, makes, is_blocked, is_gone, has_made, is_refused, answer_of_turn, after_answer}
 use Rattle.graph_runs.specs.Beginnings.{opening, root_mode, root_number, roots_joined, number_after, with_root}
 use Rattle.graph_runs.specs.Reached.{IsReachable}
@@ -104,10 +105,15 @@ few_moved job before after t p event moved same few q lt = by (eqb q p) refl
         from (ap greatest_used
         (moved.elsewhere q (λ s. (let no = sym (eq-eqb q p s) ∙ e in cc))))
 
-few_registered : (job : Job) (before after : Moment) (t p n c a : ℕ) (mode : Mode) (u : Parent)
-    → Registers job before after t p n c a mode u → greatest_used (before.history p) + 1 ≡ a
-    → UsesFew job before → UsesFew job after
-few_registered job before after t p n c a mode u s next few q lt = by (eqb q p) refl
+-- one task more has a number, the one above all that were used on phaser p
+few_joined : (job : Job) (before after : Moment) (p c a : ℕ) → c < length job.graph.tasks
+    → before.number p c ≡ None → after.number p c ≡ Some a
+    → ((q x : ℕ) → (q ≢ p) ⊎ (x ≢ c) → after.number q x ≡ before.number q x)
+    → ((q : ℕ) → q ≢ p → after.history q ≡ before.history q)
+    → greatest_used (after.history p) ≡ max a (greatest_used (before.history p))
+    → greatest_used (before.history p) + 1 ≡ a → UsesFew job before → UsesFew job after
+few_joined job before after p c a there absent number others elsewhere used next few q lt =
+    by (eqb q p) refl
   where
     was : greatest_used (before.history q) ≤ numbered (before.number q) (length job.graph.tasks)
     was = few q lt
@@ -117,7 +123,7 @@ few_registered job before after t p n c a mode u s next few q lt = by (eqb q p) 
     by true e =
         let at : q ≡ p = eqb-true q p e in
         let now : greatest_used (after.history q) ≡ max a (greatest_used (before.history p)) =
-        ap (λ x. greatest_used (after.history x)) at ∙ ap greatest_used s.here in
+        ap (λ x. greatest_used (after.history x)) at ∙ used in
         let one : greatest_used (before.history p) + 1 ≡ a = next in
         let here : greatest_used (before.history q) ≡ greatest_used (before.history p) =
         ap (λ x. greatest_used (before.history x)) at in
@@ -125,37 +131,37 @@ few_registered job before after t p n c a mode u s next few q lt = by (eqb q p) 
         ≤ numbered (before.number q) (length job.graph.tasks) = was in
         let joined : numbered (after.number q) (length job.graph.tasks)
         ≡ suc (numbered (before.number q) (length job.graph.tasks)) =
-        numbered_joined (before.number q) (after.number q) (length job.graph.tasks) c a s.child
-        (ap (λ x. before.number x c) at ∙ s.absent) (ap (λ x. after.number x c) at ∙ s.number)
-        (λ x apart. s.other_numbers q x (inr apart)) in
+        numbered_joined (before.number q) (after.number q) (length job.graph.tasks) c a there
+        (ap (λ x. before.number x c) at ∙ absent) (ap (λ x. after.number x c) at ∙ number)
+        (λ x apart. others q x (inr apart)) in
         omega arith
     by false e =
         let apart : q ≢ p = λ same. (let no = sym (eq-eqb q p same) ∙ e in cc) in
         let now : greatest_used (after.history q) ≡ greatest_used (before.history q) =
-        ap greatest_used (s.elsewhere q apart) in
+        ap greatest_used (elsewhere q apart) in
         let low : greatest_used (before.history q)
         ≤ numbered (before.number q) (length job.graph.tasks) = was in
         let many : numbered (after.number q) (length job.graph.tasks)
         ≡ numbered (before.number q) (length job.graph.tasks) =
         numbered_same (after.number q) (before.number q) (length job.graph.tasks)
-        (λ x less. s.other_numbers q x (inl apart)) in
+        (λ x less. others q x (inl apart)) in
         omega arith
 
 few_after_event : (job : Job) (m : Moment) (event : TaskEvent) → IsReachable job m
     → IsNext job m event → IsInOrder job m event → UsesFew job m
     → UsesFew job (after_turn job event m)
-few_after_event job m (sample t j p n v) reached next order few =
-    let s = next_sample_is job m t j p n v next.1 (reached.ran.tasks t next.0.task) in
-    few_moved job m (after_turn job (sample t j p n v) m) t p
-    (Signalled n ((v ∷ []) ∷ []) (phaser_at job.graph p).single) s.moved (λ h. refl) few
-few_after_event job m (signal t j p n v) reached next order few =
-    let s = next_signal_is job m t j p n v next.1 (reached.ran.tasks t next.0.task) in
-    few_moved job m (after_turn job (signal t j p n v) m) t p
-    (Signalled n ((v ∷ []) ∷ []) (phaser_at job.graph p).single) s.moved (λ h. refl) few
-few_after_event job m (first_wait t k p n outcome) reached next order few =
-    let s = first_wait_is job m t k p n outcome next.1 in
-    few_moved job m (after_turn job (first_wait t k p n outcome) m) t p (Waited n 1) s.moved
-    (λ h. refl) few
+few_after_event job m (sample t j p n vs) reached next order few =
+    let s = next_samples_are job m t j p n vs next.1 (reached.ran.tasks t next.0.task) in
+    few_moved job m (after_turn job (sample t j p n vs) m) t p
+    (Signalled n (map one vs) (phaser_at job.graph p).single) s.moved (λ h. refl) few
+few_after_event job m (signal t j p n vs) reached next order few =
+    let s = next_signals_are job m t j p n vs next.1 (reached.ran.tasks t next.0.task) in
+    few_moved job m (after_turn job (signal t j p n vs) m) t p
+    (Signalled n (map one vs) (phaser_at job.graph p).single) s.moved (λ h. refl) few
+few_after_event job m (first_wait t k p n outcomes) reached next order few =
+    let s = first_waits_are job m t k p n outcomes next.1 in
+    few_moved job m (after_turn job (first_wait t k p n outcomes) m) t p
+    (Waited n (length outcomes)) s.moved (λ h. refl) few
 few_after_event job m (exchange_wait t p n outcome) reached next order few =
     let s = exchange_wait_is job m t p n outcome next.1 in
     few_moved job m (after_turn job (exchange_wait t p n outcome) m) t p (Waited n 1) s.moved
@@ -165,8 +171,12 @@ few_after_event job m (leave t p n) reached next order few =
     few_moved job m (after_turn job (leave t p n) m) t p (Dropped n) s.moved (λ h. refl) few
 few_after_event job m (child t p n c a mode) reached next order few =
     let s = next_child_is job m t p n c a mode next.1.0 next.1.1 in
-    few_registered job m (after_turn job (child t p n c a mode) m) t p n c a mode next.1.0 s order.4
-    few
+    few_joined job m (after_turn job (child t p n c a mode) m) p c a s.child s.absent s.number
+    s.other_numbers s.elsewhere (ap greatest_used s.here) order.4 few
+few_after_event job m (child_now t p n c a) reached next order few =
+    let s = next_child_now_is job m t p n c a next.1.0 next.1.1 in
+    few_joined job m (after_turn job (child_now t p n c a) m) p c a s.child s.absent s.number
+    s.other_numbers s.elsewhere (ap greatest_used s.here) order.3 few
 
 -- what a turn leaves
 pub few_after : (job : Job) (m : Moment) (t : ℕ) → IsGraph job.graph → IsReachable job m

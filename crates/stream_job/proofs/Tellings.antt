@@ -11,7 +11,7 @@ use Rattle.graph_runs.specs.Settled.{IsFaultAt}
 use Rattle.graph_runs.proofs.AnsweredInTurn.{turn_answers_none, turn_answers_one}
 use Rattle.graph_runs.proofs.ToldFaults.{told_fault}
 use Rattle.graph_runs.proofs.OnLines.{on_phaser}
-use Rattle.graph_runs.specs.TaskEvents.{TaskEvent, IsNext, sample, signal, first_wait, exchange_wait, leave, child, after_turn}
+use Rattle.graph_runs.specs.TaskEvents.{TaskEvent, IsNext, sample, signal, first_wait, exchange_wait, leave, child, child_now, after_turn}
 use Rattle.graph_runs.specs.Nexts.{Next, is_not_live, registers, leaves, samples, signals, waits, exchanges, next_of}
 use Rattle.graph_runs.specs.Answers.{Answer, Moved, Blocked, Ended, Gone, TooBig, makes, is_blocked, is_gone, has_made, is_refused, answer_to, answer_of_turn, after_answer, word_of_answer, turn_tells, was_blocked}
 use Rattle.graph_runs.specs.Reached.{IsReachable}
@@ -92,12 +92,13 @@ parks_so job m t is_refused made.Nothing parked s = absurd s
 
 event_there : (job : Job) (m : Moment) (event : TaskEvent) → IsNext job m event
     → phaser_of event < length job.graph.phasers
-event_there job m (sample t j p n v) next = next.0.phaser
-event_there job m (signal t j p n v) next = next.0.phaser
-event_there job m (first_wait t k p n outcome) next = next.0.phaser
+event_there job m (sample t j p n vs) next = next.0.phaser
+event_there job m (signal t j p n vs) next = next.0.phaser
+event_there job m (first_wait t k p n outcomes) next = next.0.phaser
 event_there job m (exchange_wait t p n outcome) next = next.0.phaser
 event_there job m (leave t p n) next = next.0.phaser
 event_there job m (child t p n c a mode) next = next.0.phaser
+event_there job m (child_now t p n c a) next = next.0.phaser
 
 input_there : (job : Job) (t k : ℕ) → IsGraph job.graph → t < length job.graph.tasks
     → k < length (task_at job.graph t).inputs
@@ -170,7 +171,7 @@ pub gone_turn : (job : Job) (machine : Machine) (t : ℕ)
     → HadTurn job machine machine t made.Nothing
 gone_turn job machine t gone = record {
   shows = λ m at. shows m at;
-  after = λ m at. after m at;
+  after = λ m at none. after m at;
 }
   where
     answer : (m : Moment) → IsMachineAt job m machine → answer_of_turn job m t ≡ is_gone
@@ -218,19 +219,21 @@ turn_blocks_so job old new m t it parked after had same at were =
     (sym (same ∙ parks_so job m t (answer_of_turn job m t) it parked (had.shows m at)))
     (blocked_after job m old t parked at were)
 
--- no event sets where a task begins
-started_same : (job : Job) (m : Moment) (answer : Answer)
+-- what tells a value out of range sets no task's beginning
+started_same : (job : Job) (m : Moment) (answer : Answer) (at : Where)
+    → word_of_answer job m answer ≡ Some (TooBig at)
     → started job (after_answer job answer m) ≡ started job m
-started_same job m (makes (sample t j p n v)) = refl
-started_same job m (makes (signal t j p n v)) = refl
-started_same job m (makes (first_wait t k p n outcome)) = refl
-started_same job m (makes (exchange_wait t p n outcome)) = refl
-started_same job m (makes (leave t p n)) = refl
-started_same job m (makes (child t p n c a mode)) = refl
-started_same job m is_blocked = refl
-started_same job m is_gone = refl
-started_same job m (has_made at) = refl
-started_same job m is_refused = refl
+started_same job m (makes (sample t j p n vs)) at told = refl
+started_same job m (makes (signal t j p n vs)) at told = refl
+started_same job m (makes (first_wait t k p n outcomes)) at told = refl
+started_same job m (makes (exchange_wait t p n outcome)) at told = refl
+started_same job m (makes (leave t p n)) at told = refl
+started_same job m (makes (child t p n c a mode)) at told = refl
+started_same job m (makes (child_now t p n c a)) at told = absurd (cc)
+started_same job m is_blocked at told = refl
+started_same job m is_gone at told = refl
+started_same job m (has_made place) at told = refl
+started_same job m is_refused at told = refl
 
 -- what a world has met after the turn
 pub turn_met_so : (job : Job) (old new : Machine) (m : Moment) (t : ℕ) (it : Made)
@@ -246,7 +249,7 @@ turn_met_so job old new m t it word had at none told = by word told
     runs : (event : TaskEvent) → answer_of_turn job m t ≡ makes event
         → HasRun job (after_turn job event m)
     runs event e =
-        (subst (λ a. IsMachineAt job (after_answer job a m) new) e (had.after m at)).reached.ran
+        (subst (λ a. IsMachineAt job (after_answer job a m) new) e (had.after m at none)).reached.ran
 
     by : (word : Turned) → turn_tells job None m t ≡ Some (told_of word)
         → HasMet job (after_answer job (answer_of_turn job m t) m) (met_by None word)
@@ -256,7 +259,7 @@ turn_met_so job old new m t it word had at none told = by word told
     by turned.Gone told = kept (λ there same. (let wrong : Some Gone ≡ Some (TooBig there) = sym told ∙ same in cc))
     by (turned.TooBig place phase) told = record {
       fault = subst (λ j. IsFaultAt j (place, phase))
-          (sym (started_same job m (answer_of_turn job m t)))
+          (sym (started_same job m (answer_of_turn job m t) (place, phase) told))
           (told_fault job m t (place, phase) (record { graph = at.graph; apart = at.apart })
           at.reached runs told);
       last = turn_answers_one job m t none;
@@ -273,7 +276,7 @@ pub turn_stands_so : (world : WorldState) (new : Machine) (parked : List (List �
 turn_stands_so world new parked met m t it word none had same says as_told at =
     subst (IsWorldAt record { job = world.job; machine = new; met = met; parked = parked })
     (sym (as_is world none)) record {
-      machine = had.after m at.machine;
+      machine = had.after m at.machine (subst (HasMet world.job m) none at.met);
       parked = turn_blocks_so world.job world.machine new m t it world.parked parked had same
           at.machine at.parked;
       met = subst (HasMet world.job (after_answer world.job (answer_of_turn world.job m t) m))

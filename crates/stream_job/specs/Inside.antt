@@ -1,55 +1,59 @@
 -- What the code keeps while tasks take turns: what a wait tells, and when a call is blocked.
-use Rattle.std.specs.Prelude.{◌≡◌, ℕ, ◌+◌, ◌≤◌, ℤ, List, [], ◌∷◌, ◌++◌, Option, Some, None, slice_get, set, get_or, Bool, true, false, ◌&&◌, ◌||◌, nat_le, Ok, Err, ◌≢◌}
+use Rattle.std.specs.Prelude.{◌≡◌, ℕ, ◌+◌, ◌≤◌, ℤ, List, [], ◌∷◌, ◌++◌, Option, Some, None, slice_get, set, get_or, Bool, true, false, ◌&&◌, ◌||◌, nat_le, Ok, Err, ◌≢◌, ◌==◌, length, map, nat_lt, ◌-◌, Result, if◌then◌else◌}
+use Rattle.std.specs.List.{All}
 use Rattle.std.specs.Vec.{vec_len, vec_capacity}
-use Rattle.phase_core.specs.phase_accum.declared.outcome.Outcome.{Outcome}
-use Rattle.graph_runs.specs.Answers.{Told, answer_to, was_blocked, answer_of_turn, after_answer}
+use Rattle.graph_runs.specs.Answers.{answer_to, was_blocked, answer_of_turn, after_answer}
 use Rattle.stream_eval.specs.declared.whole.Lines.{Lines}
 use Rattle.phase_core.specs.phase_base.Limits.{Limits}
 use Rattle.phase_core.specs.phase_base.declared.entry.Entry.{Entry}
 use Rattle.phase_core.specs.phase_base.Members.{entry_of, least, wait_phases}
 use Rattle.phase_core.specs.phase_history.Histories.{History, members_of, done_of}
-use Rattle.phase_core.specs.phase_history.Refusals.{is_ahead}
+use Rattle.phase_core.specs.phase_history.Refusals.{is_ahead, register_refusal, register_now_refusal}
 use Rattle.stream_eval.specs.stream_lists.Jobs.{Job}
 use Rattle.graph_runs.specs.Moments.{Moment}
 use Rattle.graph_runs.specs.Nexts.{Next, has_signaller, next_of}
-use Rattle.graph_runs.specs.TaskPlaces.{Owed, nothing, value, exchange}
+use Rattle.graph_runs.specs.TaskPlaces.{Owed, nothing, values, exchange}
+use Rattle.graph_lang.specs.stream_filters.declared.fault.TooBigValue.{TooBigValue}
 use Rattle.graph_runs.specs.Reached.{IsReachable}
-use Rattle.phase_core.specs.phase_accum.declared.outcome.Outcome.TheVariants as outcome
-use Rattle.graph_lang.specs.graph_base.declared.place.Place.TheVariants as place
 use Rattle.graph_runs.specs.Answers as answers
 use Rattle.graph_runs.specs.Nexts as turns
-use Rattle.stream_job.specs.Machines.{IsMachine, IsMachineAt, UsesFew}
+use Rattle.phase_core.specs.phase_base.declared.mode.Mode.{Mode}
+use Rattle.phase_core.specs.phase_history.declared.event.Event.{Event}
+use Rattle.phase_core.specs.phase_history.declared.event.Event.TheVariants.{Registered, RegisteredNow}
+use Rattle.phase_core.specs.phase_history.declared.refusal.RegisterRefusal.{RegisterRefusal}
+use Rattle.graph_lang.specs.graph_base.Graphs.{task_at}
+use Rattle.stream_eval.specs.stream_lists.Lists.{sinks_of}
+use Rattle.stream_eval.specs.Results.{sink_values}
+use Rattle.stream_job.specs.Machines.{IsMachine, IsMachineAt, UsesFew, IsLineOf}
+use Rattle.stream_job.specs.SinkLines.{begins_at}
+use Rattle.stream_job.specs.declared.task_state.TaskState.{TaskState}
 use Rattle.stream_job.specs.declared.machine.Machine.{Machine}
 
--- what a turn tells of a wait on phaser p that got the outcome of this phase
-abbrev pub told_got : ℕ → ℕ → Outcome → Told
-told_got p phase outcome.TooBig = answers.TooBig (place.Phaser p, phase)
-told_got p phase outcome = answers.Moved
+-- a sink's values with these behind them
+abbrev pub more : List ℤ → ℕ × List ℤ → ℕ × List ℤ
+more xs line = (line.0, line.1 ++ xs)
 
--- a sink's values with one more
-abbrev pub one_more : ℤ → ℕ × List ℤ → ℕ × List ℤ
-one_more x line = (line.0, line.1 ++ x ∷ [])
+-- the lines, where the sink of this place, if there is one, has these more
+abbrev pub with_line : Option ℕ → List ℤ → List (ℕ × List ℤ) → List (ℕ × List ℤ)
+with_line None xs lines = lines
+with_line (Some i) xs lines = set lines i (more xs (get_or lines i (0, [])))
 
--- the lines, where the sink of this place, if there is one, has one more
-abbrev pub with_line : Option ℕ → ℤ → List (ℕ × List ℤ) → List (ℕ × List ℤ)
-with_line None x lines = lines
-with_line (Some i) x lines = set lines i (one_more x (get_or lines i (0, [])))
+-- line i has room for so many more values
+abbrev pub HasRoomIn : List Lines → ℕ → ℕ → Type 0
+HasRoomIn lines many i = (line : Lines) → slice_get lines i ≡ Some line
+    → vec_len line.values + many ≤ vec_capacity line.values
 
--- line i has room for one more value
-abbrev pub HasRoomIn : List Lines → ℕ → Type 0
-HasRoomIn lines i = (line : Lines) → slice_get lines i ≡ Some line
-    → vec_len line.values + 1 ≤ vec_capacity line.values
-
--- a signal of the entry's phase: past the last phase, or too far ahead of the slowest waiter
-abbrev pub blocks_signal_at : Limits → History → Option Entry → Bool
-blocks_signal_at limits h None = false
-blocks_signal_at limits h (Some entry) =
-    nat_le limits.phases_max entry.signal_phase
-    || is_ahead (least (wait_phases (members_of h))) limits.bound entry.signal_phase
+-- a signal of so many phases, the first the entry's: past the last phase, or too far ahead of the
+-- slowest waiter
+abbrev pub blocks_signal_at : Limits → History → ℕ → Option Entry → Bool
+blocks_signal_at limits h many None = false
+blocks_signal_at limits h many (Some entry) =
+    nat_lt limits.phases_max (entry.signal_phase + many)
+    || is_ahead (least (wait_phases (members_of h))) limits.bound (entry.signal_phase + many - 1)
 
 -- a signal of this number
-abbrev pub blocks_signal : Limits → History → ℕ → Bool
-blocks_signal limits h n = blocks_signal_at limits h (entry_of (members_of h) n)
+abbrev pub blocks_signal : Limits → History → ℕ → ℕ → Bool
+blocks_signal limits h n many = blocks_signal_at limits h many (entry_of (members_of h) n)
 
 -- a wait for the entry's phase: it is not complete, and somebody signals
 abbrev pub blocks_wait_at : History → Option Entry → Bool
@@ -64,12 +68,23 @@ blocks_wait h n = blocks_wait_at h (entry_of (members_of h) n)
 abbrev pub would_block : Job → Moment → ℕ → Next → Bool
 would_block job m t next = was_blocked (answer_to job m t next)
 
--- whether what is owed is a value that can be signalled
-abbrev pub is_value_in_range : Owed → Bool
-is_value_in_range nothing = false
-is_value_in_range (value j (Ok v)) = true
-is_value_in_range (value j (Err out)) = false
-is_value_in_range (exchange x) = false
+-- whether all of these are in range
+abbrev pub in_range : List (Result ℤ TooBigValue) → Bool
+in_range [] = true
+in_range (Ok v ∷ vs) = in_range vs
+in_range (Err out ∷ vs) = false
+
+-- whether what is owed is values that can be signalled
+abbrev pub are_in_range : Owed → Bool
+are_in_range nothing = false
+are_in_range (values j vs) = in_range vs
+are_in_range (exchange x) = false
+
+-- how many values are owed
+abbrev pub owed_many : Owed → ℕ
+owed_many nothing = 0
+owed_many (values j vs) = length vs
+owed_many (exchange x) = 0
 
 -- at each moment of the machine this is what task t does next, and its phaser does not refuse it
 pub record IsNextIn (job : Job) (machine : Machine) (t : ℕ) (next : turns.Next) : Type 0 where
@@ -81,3 +96,38 @@ pub record IsNextIn (job : Job) (machine : Machine) (t : ℕ) (next : turns.Next
       → UsesFew job (after_answer job (answer_of_turn job m t) m)
   pub answered : (m : Moment) → IsMachineAt job m machine
       → answer_of_turn job m t ≢ answers.is_refused
+
+-- task t is a filter that has made values which it has not signalled
+abbrev pub OwesMade : Machine → ℕ → Type 0
+OwesMade machine t = (state : TaskState) → slice_get machine.tasks.items t ≡ Some state
+    → state.made.items ≢ []
+
+-- whether a value is out of range
+abbrev pub is_over : Result ℤ TooBigValue → Bool
+is_over (Ok v) = false
+is_over (Err out) = true
+
+-- ---- a child's registration, as a sink that joins now or in this mode
+
+-- the refusal
+abbrev pub add_refusal : Job → ℕ → History → ℕ → ℕ → Mode → Option RegisterRefusal
+add_refusal job c h parent child mode =
+    if (task_at job.graph c).joins_now then register_now_refusal h parent child
+    else register_refusal h parent child mode
+
+-- the event
+abbrev pub add_event : Job → ℕ → ℕ → ℕ → Mode → Event
+add_event job c parent child mode =
+    if (task_at job.graph c).joins_now then RegisteredNow parent child
+    else Registered parent child mode
+
+-- where each sink begins after it, where the registration is at this phase
+abbrev pub begins_with : Job → Moment → ℕ → ℕ → ℕ → Option ℕ
+begins_with job m c phase t =
+    if (task_at job.graph c).joins_now && t == c then Some phase else begins_at job m t
+
+-- the lines after it
+pub record HasBegun (job : Job) (m : Moment) (c phase : ℕ) (old new : List Lines) : Type 0 where
+  pub values : map sink_values new ≡ map sink_values old
+  pub starts : map (λ line. line.start) new ≡ map (begins_with job m c phase) (sinks_of job)
+  pub own : All (IsLineOf job) old → All (IsLineOf job) new

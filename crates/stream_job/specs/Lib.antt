@@ -1,4 +1,5 @@
 pub mod Blocking
+pub mod Buffers
 pub mod Cores
 pub mod Inside
 pub mod Machines

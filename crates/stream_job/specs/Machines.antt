@@ -5,7 +5,7 @@ use Rattle.phase_core.specs.phase_history.Histories.{History, greatest_used}
 use Rattle.graph_lang.specs.graph_base.Graphs.{phaser_at, task_at}
 use Rattle.graph_lang.specs.graph_base.TaskLines.{IsGraph}
 use Rattle.stream_eval.specs.stream_lists.Jobs.{Job, least}
-use Rattle.stream_eval.specs.stream_lists.Lists.{sinks_of, start_in}
+use Rattle.stream_eval.specs.stream_lists.Lists.{sinks_of}
 use Rattle.stream_eval.specs.stream_lists.Meetings.{meeting_line}
 use Rattle.stream_eval.specs.stream_lists.Spans.{span_in}
 use Rattle.stream_eval.specs.Results.{sink_values}
@@ -16,7 +16,7 @@ use Rattle.stream_job.specs.declared.any_core.AnyCore.{AnyCore}
 use Rattle.graph_runs.specs.Reached.{IsReachable}
 use Rattle.graph_runs.specs.Nexts as turns
 use Rattle.stream_job.specs.Places.{IsTaskAt}
-use Rattle.stream_job.specs.SinkLines.{kept_by}
+use Rattle.stream_job.specs.SinkLines.{kept_by, begins_at}
 use Rattle.stream_job.specs.declared.machine.Machine.{Machine}
 use Rattle.stream_job.specs.declared.step.Step.{Step}
 use Rattle.stream_job.specs.declared.step.Step.TheVariants as step
@@ -38,11 +38,9 @@ abbrev pub UsesFew : Job → Moment → Type 0
 UsesFew job m = (p : ℕ) → p < length job.graph.phasers
     → greatest_used (m.history p) ≤ numbered (m.number p) (length job.graph.tasks)
 
--- a sink's line has room for all that the sink takes in its steps, wherever it begins, and its start,
--- where it has one, is the least that it may be
+-- a sink's line has room for all that the sink takes in its steps, wherever it begins
 pub record IsLineOf (job : Job) (line : Lines) : Type 0 where
   pub room : (span_in (least job) line.task).steps ≤ vec_capacity line.values
-  pub start : line.start ≡ start_in job line.task
 
 -- the machine stands at a moment that turns lead to: each core has the history of its phaser, each
 -- task is in its state, and the lines are what the sinks keep
@@ -56,6 +54,8 @@ pub record IsMachineAt (job : Job) (m : Moment) (machine : Machine) : Type 0 whe
   pub tasks : (t : ℕ) (state : TaskState) → slice_get machine.tasks.items t ≡ Some state
       → IsTaskAt job m t state
   pub lines : map sink_values machine.lines.items ≡ map (λ t. (t, kept_by job m t)) (sinks_of job)
+  pub starts : map (λ line. line.start) machine.lines.items
+      ≡ map (begins_at job m) (sinks_of job)
   pub own : All (IsLineOf job) machine.lines.items
 
 -- the machine stands at some moment

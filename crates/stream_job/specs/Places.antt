@@ -1,13 +1,22 @@
 -- The place that the fields of a task's state have.
-use Rattle.std.specs.Prelude.{◌≡◌, ℕ, ℤ, List, [], ◌∷◌, ◌++◌, ◌+◌, ◌≤◌, Some, slice_get}
-use Rattle.graph_lang.specs.graph_base.declared.line.Kind.TheVariants.{Sink}
+use Rattle.std.specs.Prelude.{◌≡◌, ◌≢◌, ℕ, ℤ, List, [], ◌∷◌, ◌++◌, ◌+◌, ◌≤◌, length, Some, Result, slice_get}
+use Rattle.graph_lang.specs.graph_base.declared.line.Kind.TheVariants.{Fir, Sink}
+use Rattle.graph_lang.specs.stream_filters.declared.fault.TooBigValue.{TooBigValue}
 use Rattle.graph_lang.specs.graph_base.Graphs.{Task, task_at}
 use Rattle.stream_eval.specs.stream_lists.Jobs.{Job}
 use Rattle.stream_eval.specs.stream_lists.Lists.{sinks_of}
 use Rattle.graph_runs.specs.Moments.{Moment}
+use Rattle.graph_runs.specs.TaskPlaces as turns
 use Rattle.graph_runs.specs.TaskPlaces.{TaskPlace, StandsAt, owed_after_wait}
+use Rattle.graph_runs.specs.declared.owed.Owed.{Owed}
+use Rattle.graph_runs.specs.declared.owed.Owed.TheVariants.{Nothing}
 use Rattle.graph_runs.specs.Steps.{HasFilter, owed_of}
 use Rattle.stream_job.specs.declared.task_state.TaskState.{TaskState}
+
+-- what a task owes: the values that its filter has made, where there are some
+abbrev pub owed_in : Owed → List (Result ℤ TooBigValue) → turns.Owed
+owed_in owed [] = owed_of owed
+owed_in owed (v ∷ vs) = turns.values 0 (v ∷ vs)
 
 -- the place of a task in this state
 abbrev pub place_of : TaskState → TaskPlace
@@ -15,7 +24,7 @@ place_of state = record {
   numbers = state.numbers.items;
   left = state.left;
   begun = state.begun;
-  owed = owed_of state.owed;
+  owed = owed_in state.owed state.made.items;
 }
 
 -- task t stands in this state at a moment
@@ -24,15 +33,22 @@ pub record IsTaskAt (job : Job) (m : Moment) (t : ℕ) (state : TaskState) : Typ
   -- a number for each registration fits without an allocation
   pub room : 9 ≤ state.numbers.capacity
   pub filter : HasFilter (task_at job.graph t) state.filter (m.taken t 0)
+  -- a filter keeps what it owes in its list, which has room for a block, and others owe one value
+  pub made_room : (task_at job.graph t).kind ≡ Fir → (task_at job.graph t).block ≤ state.made.cap
+  pub made_by : (task_at job.graph t).kind ≡ Fir → state.owed ≡ Nothing
+  pub made_none : (task_at job.graph t).kind ≢ Fir → state.made.items ≡ []
   pub sink : (task_at job.graph t).kind ≡ Sink → slice_get (sinks_of job) state.sink ≡ Some t
 
--- a state after its task took x by the first wait of a step
-pub record HasTakenOne (task : Task) (x : ℤ) (old new : TaskState) : Type 0 where
+-- a state after its task took these numbers by the first wait of its next steps
+pub record HasTaken (task : Task) (xs : List ℤ) (old new : TaskState) : Type 0 where
   pub numbers : new.numbers ≡ old.numbers
   pub left : new.left ≡ old.left
   pub sink : new.sink ≡ old.sink
-  pub begun : new.begun ≡ old.begun + 1
+  pub begun : new.begun ≡ old.begun + length xs
+  pub room : new.made.cap ≡ old.made.cap
   pub owed : (taken : List ℤ) → HasFilter task old.filter taken
-      → owed_of new.owed ≡ owed_after_wait task old.begun taken x
+      → owed_in new.owed new.made.items ≡ owed_after_wait task old.begun taken xs
+  pub made_by : task.kind ≡ Fir → new.owed ≡ Nothing
+  pub made_none : task.kind ≢ Fir → new.made.items ≡ []
   pub filter : (taken : List ℤ) → HasFilter task old.filter taken
-      → HasFilter task new.filter (taken ++ x ∷ [])
+      → HasFilter task new.filter (taken ++ xs)

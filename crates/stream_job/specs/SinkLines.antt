@@ -1,9 +1,8 @@
--- What a sink keeps of what its waits were answered.
-use Rattle.std.specs.Prelude.{◌≡◌, ℕ, ◌<◌, ℤ, List, [], Option, Some, None, length, map, not, true}
-use Rattle.std.specs.List.{filter}
+-- What a sink keeps of what its waits were answered, and where it begins.
+use Rattle.std.specs.Prelude.{◌≡◌, ℕ, ◌<◌, ℤ, List, [], Option, Some, None, length, map, not, true, option_map, if◌then◌else◌}
+use Rattle.std.specs.List.{take_while}
 use mathlib.Core.List.{IsPrefix}
 use Rattle.phase_core.specs.phase_accum.declared.outcome.Outcome.{Outcome}
-use Rattle.phase_core.specs.phase_accum.declared.outcome.Outcome.TheVariants as outcome
 use Rattle.phase_core.specs.phase_history.Phases.{received_by}
 use Rattle.graph_lang.specs.graph_base.Graphs.{task_at}
 use Rattle.stream_eval.specs.stream_lists.Jobs.{Job}
@@ -11,9 +10,9 @@ use Rattle.stream_eval.specs.stream_lists.Lists.{is_sink_at, number}
 use Rattle.stream_eval.specs.stream_lists.Ranges.{is_too_big}
 use Rattle.graph_runs.specs.Moments.{Moment, input_at, value_at}
 
--- the numbers of the outcomes that are in range, which is of a run all but a last one
+-- the numbers of the outcomes before the first that is too big
 abbrev pub kept_of : List Outcome → List ℤ
-kept_of outcomes = map number (filter (λ outcome. not (is_too_big outcome)) outcomes)
+kept_of outcomes = map number (take_while (λ outcome. not (is_too_big outcome)) outcomes)
 
 -- of what number n on phaser p has received, where there is a number
 abbrev pub kept_on : Job → Moment → ℕ → Option ℕ → List ℤ
@@ -31,7 +30,8 @@ abbrev pub KeepsBeginnings : Job → Moment → Type 0
 KeepsBeginnings job m = (t : ℕ) → t < length job.graph.tasks → is_sink_at job t ≡ true
     → IsPrefix (kept_by job m t) (m.taken t 0)
 
--- the place of a sink's line, where the sink keeps this outcome
-abbrev pub line_of : Option ℕ → Outcome → Option ℕ
-line_of sink outcome.TooBig = None
-line_of sink outcome = sink
+-- where a sink that joins now begins, once it is registered
+abbrev pub begins_at : Job → Moment → ℕ → Option ℕ
+begins_at job m t =
+    let task = task_at job.graph t in
+    if task.joins_now then option_map (λ n. m.offset t) (m.number (input_at task 0) t) else None

@@ -3,7 +3,7 @@ use Rattle.std.specs.Prelude.{◌≡◌, ℕ, List, [], Option, Some, None, set,
 use Rattle.graph_lang.specs.graph_base.declared.place.Place.TheVariants as place
 use Rattle.stream_eval.specs.stream_lists.Jobs.{Job}
 use Rattle.stream_eval.specs.stream_lists.Ranges.{Where}
-use Rattle.graph_runs.specs.Moments.{Moment}
+use Rattle.graph_runs.specs.Moments.{Moment, HasAnsweredNone}
 use Rattle.graph_runs.specs.TaskEvents as events
 use Rattle.graph_runs.specs.TaskEvents.{TaskEvent}
 use Rattle.graph_runs.specs.Nexts as turns
@@ -29,12 +29,13 @@ told_of (turned.TooBig at phase) = answers.TooBig (at, phase)
 
 -- the phaser of an event
 abbrev pub phaser_of : TaskEvent → ℕ
-phaser_of (events.sample t j p n v) = p
-phaser_of (events.signal t j p n v) = p
-phaser_of (events.first_wait t k p n outcome) = p
+phaser_of (events.sample t j p n vs) = p
+phaser_of (events.signal t j p n vs) = p
+phaser_of (events.first_wait t k p n outcomes) = p
 phaser_of (events.exchange_wait t p n outcome) = p
 phaser_of (events.leave t p n) = p
 phaser_of (events.child t p n c a mode) = p
+phaser_of (events.child_now t p n c a) = p
 
 -- the lists of blocked tasks after an answer: a task that was blocked stands in the list of the
 -- phaser of its call, and an event on a phaser empties that one's list
@@ -61,10 +62,11 @@ Shows job m t answers.is_gone made.Nothing = Unit {0}
 Shows job m t answer it = ⊥
 
 -- the machine had a turn of task t, of which the code tells so: at each moment that the machine stood
--- for it tells the answer of the table, and the machine stands for the moment after
+-- for it tells the answer of the table, and the machine stands for the moment after, where no wait
+-- was answered a value too big before
 pub record HadTurn (job : Job) (old new : Machine) (t : ℕ) (it : Made) : Type 0 where
   pub shows : (m : Moment) → IsMachineAt job m old → Shows job m t (answer_of_turn job m t) it
-  pub after : (m : Moment) → IsMachineAt job m old
+  pub after : (m : Moment) → IsMachineAt job m old → HasAnsweredNone job m
       → IsMachineAt job (after_answer job (answer_of_turn job m t) m) new
 
 -- ---- a world

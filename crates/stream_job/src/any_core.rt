@@ -1,8 +1,8 @@
 //! A phaser of a graph, under any of the operations.
-ghost use Rattle.std.specs.Prelude.{◌≡◌, ◌≢◌, ◌≤◌, ℕ, [], ◌∷◌, Ok, Some, None, is_some, length, IfOk, IfErr, OnOk, OnErr};
+ghost use Rattle.std.specs.Prelude.{◌≡◌, ◌≢◌, ◌≤◌, ℕ, [], ◌∷◌, Ok, Some, None, is_some, length, map, IfOk, IfErr, OnOk, OnErr};
 ghost use Rattle.phase_core.specs.phase_base.Limits.{Limits};
 ghost use Rattle.phase_core.specs.phase_base.Members.{entry_of, signal_phases, wait_phases, least};
-ghost use Rattle.phase_core.specs.phase_accum.Sends.{IsSend};
+ghost use Rattle.phase_core.specs.phase_accum.Sends.{AreSends, IsSend};
 ghost use Rattle.phase_core.specs.phase_accum.Values.{value_by};
 ghost use Rattle.phase_core.specs.phase_history.declared.event.Event.TheVariants.{Made, Registered, RegisteredNow, Dropped};
 ghost use Rattle.phase_core.specs.phase_history.Histories.{History, members_of, done_of, greatest_used};
@@ -11,8 +11,11 @@ ghost use Rattle.phase_core.specs.phase_history.Phases.{stream_of};
 ghost use Rattle.phase_core.specs.phase_history.Replies.{wait_block_reply, after_wait_block, signal_reply, wait_reply, after_signal, after_wait};
 ghost use Rattle.phase_core.specs.Blocks.{written};
 ghost use Rattle.phase_core.specs.phase_registry.Rosters.{next_after};
+ghost use Rattle.graph_runs.specs.Moments.{one};
 
+use crate::block_send::signal_values;
 use crate::one_send::signal_one;
+use crate::parcels::Parcels;
 use phase_core::phase_accum::{Any, Greatest, Least, Op, Outcome, Product, Single, Sum};
 use phase_core::phase_base::{Entry, Mode, Spec};
 use phase_core::{Got, GotBlock, NoTask, PhaserCore, RegisterRefusal, SignalRefusal, WaitRefusal};
@@ -70,6 +73,47 @@ impl AnyCore {
             AnyCore::Least(core) => signal_one(core, task, value, single),
             AnyCore::Greatest(core) => signal_one(core, task, value, single),
             AnyCore::Any(core) => signal_one(core, task, value, single),
+        }
+    }
+
+    /// Signals as many phases in a row as there are values, the first the task's, with one send
+    /// each and a single for all of them or none, and answers the first phase. A refused block
+    /// signals nothing. It takes no memory.
+    ///
+    /// Any value can be sent but `NO_VALUE`. The parcels are used where there is more than one
+    /// value or none.
+    pub fn signal_values(
+        &mut self,
+        task: u64,
+        values: &[i64],
+        single: Option<Single>,
+        parcels: &mut Parcels,
+    ) -> Result<u64, SignalRefusal>
+        requires sends { AreSends values.now }
+        requires room { length values.now ≤ parcels.old }
+        ensures reply { (op : Op) (limits : Limits) (h : History)
+            → CoreStandsFor self.old op limits h
+            → signal_reply limits h task (map one values.now) single ≡ result }
+        ensures after { (op : Op) (limits : Limits) (h : History)
+            → CoreStandsFor self.old op limits h
+            → CoreStandsFor self.new op limits
+            (after_signal result task (map one values.now) single h) }
+        ensures err { OnErr result (self.new ≡ self.old) }
+        ensures parcels { parcels.new ≡ parcels.old }
+    {
+        if let [value] = values {
+            return self.signal_one(task, *value, single);
+        }
+        match self {
+            AnyCore::Sum(core) => signal_values(core, task, values, single, &mut parcels.sum),
+            AnyCore::Product(core) => {
+                signal_values(core, task, values, single, &mut parcels.product)
+            }
+            AnyCore::Least(core) => signal_values(core, task, values, single, &mut parcels.least),
+            AnyCore::Greatest(core) => {
+                signal_values(core, task, values, single, &mut parcels.greatest)
+            }
+            AnyCore::Any(core) => signal_values(core, task, values, single, &mut parcels.any),
         }
     }
 

@@ -1,17 +1,22 @@
 //! The calls of a task on its phasers.
-ghost use Rattle.std.specs.Prelude.{◌≡◌, ◌≢◌, ◌<◌, [], ◌∷◌, length, Some, None, IfErr, OnOk, OnErr};
-ghost use Rattle.phase_core.specs.phase_accum.Sends.{IsSend};
+ghost use Rattle.std.specs.Prelude.{◌≡◌, ◌≢◌, ◌<◌, ◌≤◌, [], ◌∷◌, length, map, Some, None, IfOk, IfErr, OnOk, OnErr};
+ghost use Rattle.phase_core.specs.phase_accum.Sends.{AreSends, IsSend};
 ghost use Rattle.phase_core.specs.phase_accum.Values.{value_by};
-ghost use Rattle.phase_core.specs.phase_history.declared.event.Event.TheVariants.{Dropped, Registered};
-ghost use Rattle.phase_core.specs.phase_history.Refusals.{drop_refusal, register_refusal};
-ghost use Rattle.phase_core.specs.phase_history.Replies.{signal_reply, wait_reply, after_signal, after_wait};
+ghost use Rattle.phase_core.specs.phase_history.declared.event.Event.TheVariants.{Dropped, Registered, RegisteredNow};
+ghost use Rattle.phase_core.specs.phase_history.Histories.{done_of};
+ghost use Rattle.phase_core.specs.phase_history.Phases.{stream_of};
+ghost use Rattle.phase_core.specs.Blocks.{written};
+ghost use Rattle.phase_core.specs.phase_history.Refusals.{drop_refusal, register_refusal, register_now_refusal};
+ghost use Rattle.phase_core.specs.phase_history.Replies.{signal_reply, wait_reply, wait_block_reply, after_signal, after_wait, after_wait_block};
 ghost use Rattle.graph_lang.specs.graph_base.Graphs.{phaser_at};
-ghost use Rattle.graph_runs.specs.Moments.{Moment, limits_at, value_at};
+ghost use Rattle.graph_runs.specs.Moments.{one, Moment, limits_at, value_at};
 ghost use Rattle.graph_runs.specs.Turned.{with_at};
 
 use crate::machine::Machine;
+use crate::parcels::Parcels;
+use phase_core::phase_accum::Outcome;
 use phase_core::phase_base::Mode;
-use phase_core::{Got, NoTask, RegisterRefusal, SignalRefusal, WaitRefusal};
+use phase_core::{Got, GotBlock, NoTask, RegisterRefusal, SignalRefusal, WaitRefusal};
 use stream_eval::stream_lists::Job;
 
 impl Machine {
@@ -71,6 +76,84 @@ impl Machine {
     {
         let single = job.graph().phaser(p).single;
         self.cores[p].signal_one(number, x, single)
+    }
+
+    /// Signals these values on phaser `p`, one a phase.
+    pub fn signal_values_on(
+        &mut self,
+        job: &Job,
+        p: usize,
+        number: u64,
+        values: &[i64],
+        parcels: &mut Parcels,
+    ) -> Result<u64, SignalRefusal>
+        requires machine { IsMachine job.now self.old }
+        requires phaser { p < length job.now.graph.phasers }
+        requires sends { AreSends values.now }
+        requires room { length values.now ≤ parcels.old }
+        ensures reply { (m : Moment) → IsMachineAt job.now m self.old
+            → signal_reply (limits_at job.now p) (m.history p) number (map one values.now)
+            (phaser_at job.now.graph p).single ≡ result }
+        ensures cores { (m : Moment) → IsMachineAt job.now m self.old
+            → HasCores job.now (with_at p (after_signal result number (map one values.now)
+            (phaser_at job.now.graph p).single (m.history p)) m.history) self.new.cores.items }
+        ensures tasks { self.new.tasks ≡ self.old.tasks }
+        ensures lines { self.new.lines ≡ self.old.lines }
+        ensures parcels { parcels.new ≡ parcels.old }
+    {
+        let single = job.graph().phaser(p).single;
+        self.cores[p].signal_values(number, values, single, parcels)
+    }
+
+    /// Waits on phaser `p` for a block, for at most as many phases as there are places.
+    pub fn wait_block_on(
+        &mut self,
+        job: &Job,
+        p: usize,
+        number: u64,
+        out: &mut [Outcome],
+    ) -> Result<GotBlock, WaitRefusal>
+        requires machine { IsMachine job.now self.old }
+        requires phaser { p < length job.now.graph.phasers }
+        ensures reply { (m : Moment) → IsMachineAt job.now m self.old
+            → wait_block_reply (limits_at job.now p) (m.history p) number (length out.old)
+            ≡ result }
+        ensures out { (m : Moment) → IsMachineAt job.now m self.old
+            → out.new ≡ written result (stream_of (value_at job.now p) (m.history p)) out.old }
+        ensures cores { (m : Moment) → IsMachineAt job.now m self.old
+            → HasCores job.now (with_at p (after_wait_block result number (m.history p)) m.history)
+            self.new.cores.items }
+        ensures tasks { self.new.tasks ≡ self.old.tasks }
+        ensures lines { self.new.lines ≡ self.old.lines }
+    {
+        self.cores[p].wait_block(number, out)
+    }
+
+    /// Registers a task as this child of a task on phaser `p`, at the first phase that is not
+    /// complete, which it answers.
+    pub fn register_now_on(
+        &mut self,
+        job: &Job,
+        p: usize,
+        parent: u64,
+        child: u64,
+    ) -> Result<u64, RegisterRefusal>
+        requires machine { IsMachine job.now self.old }
+        requires phaser { p < length job.now.graph.phasers }
+        ensures refused { IfErr result (λ e. e ≢ RegisterRefusal.OutOfMemory → (m : Moment)
+            → IsMachineAt job.now m self.old
+            → register_now_refusal (m.history p) parent child ≡ Some e) }
+        ensures ok { IfOk result (λ phase. (m : Moment) → IsMachineAt job.now m self.old
+            → (register_now_refusal (m.history p) parent child ≡ None)
+            × (phase ≡ done_of (m.history p))) }
+        ensures cores { OnOk result ((m : Moment) → IsMachineAt job.now m self.old
+            → HasCores job.now (with_at p (RegisteredNow parent child ∷ m.history p) m.history)
+            self.new.cores.items) }
+        ensures err { OnErr result (self.new.cores ≡ self.old.cores) }
+        ensures tasks { self.new.tasks ≡ self.old.tasks }
+        ensures lines { self.new.lines ≡ self.old.lines }
+    {
+        self.cores[p].register_now(parent, child)
     }
 
     /// Registers a task as this child of a task on phaser `p`.

@@ -7,6 +7,8 @@
 #![tactic(auto)]
 
 mod any_core;
+mod block_send;
+mod buffers;
 mod calls;
 mod machine;
 mod made;
@@ -15,8 +17,10 @@ mod one_send;
 mod opened_cores;
 mod opened_tasks;
 mod opening;
+mod parcels;
 mod parked;
 mod plan;
+mod plan_blocks;
 mod roots;
 mod runs;
 mod stalls;
@@ -31,6 +35,7 @@ mod world;
 pub use any_core::AnyCore;
 pub use graph_lang::{graph_base, stream_filters};
 pub use graph_runs;
+pub use parcels::Parcels;
 pub use phase_core;
 pub use phase_core::{phase_accum, phase_base, phase_history};
 pub use runs::{RunTurnsFault, run_turns};

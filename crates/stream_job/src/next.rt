@@ -54,6 +54,9 @@ impl Machine {
         if t >= self.tasks.len() || !self.tasks[t].is_live(job, t) {
             return Step::NotLive;
         }
+        if !self.tasks[t].made.is_empty() {
+            return Step::Signal { output: 0 };
+        }
         match self.tasks[t].owed {
             Owed::Value { output, .. } => Step::Signal { output },
             Owed::Exchange { .. } => Step::Exchange,

@@ -1,5 +1,7 @@
 //! The tasks of a graph at its opening.
-ghost use Rattle.std.specs.Prelude.{◌≡◌, ◌<◌, ◌≤◌, ℕ, length, slice_get, Some, IfOk};
+ghost use Rattle.std.specs.Prelude.{◌≡◌, ◌<◌, ◌≤◌, ℕ, [], length, slice_get, Some, IfOk, vec_capacity};
+ghost use Rattle.graph_lang.specs.graph_base.Graphs.{task_at};
+ghost use Rattle.graph_lang.specs.graph_base.declared.line.Kind.TheVariants.{Fir as filters};
 ghost use Rattle.std.specs.List.{filter, range_with_len};
 ghost use Rattle.graph_lang.specs.graph_base.TaskLines.{IsGraph};
 ghost use Rattle.stream_eval.specs.stream_lists.Lists.{is_sink_at};
@@ -10,7 +12,9 @@ ghost use Rattle.stream_job.specs.Places.{IsTaskAt};
 
 use crate::roots::root_number;
 use crate::task_state::TaskState;
-use graph_runs::{Owed, first_filter, is_sink, parent_of};
+use graph_lang::graph_base::Kind;
+use graph_lang::stream_filters::TooBigValue;
+use graph_runs::{Owed, first_filter, is_sink, kind_of, parent_of};
 use smallvec::SmallVec;
 use std::alloc::{AllocError, Global};
 use stream_eval::stream_lists::Job;
@@ -35,6 +39,26 @@ fn root_numbers(alloc: Global, job: &Job, t: usize) -> SmallVec<u64, 9>
     numbers
 }
 
+/// What task number `t` has made, which is nothing, with room for a block of a filter.
+fn first_made(
+    alloc: Global,
+    job: &Job,
+    t: usize,
+) -> Result<Vec<Result<i64, TooBigValue>>, AllocError>
+    requires { t < length job.now.graph.tasks }
+    ensures none { IfOk result (λ made. made.items ≡ []) }
+    ensures room { IfOk result (λ made. (task_at job.now.graph t).kind ≡ filters
+        → (task_at job.now.graph t).block ≤ vec_capacity made) }
+{
+    if kind_of(job, t) != Kind::Fir {
+        return Ok(Vec::new(alloc));
+    }
+    let Ok(block) = usize::try_from(job.graph().task(t).block) else {
+        return Err(AllocError);
+    };
+    Vec::with_capacity(alloc, block)
+}
+
 /// The state of task number `t`, above which there are so many sinks.
 fn opened_task(alloc: Global, job: &Job, t: usize, sink: usize) -> Result<TaskState, AllocError>
     requires graph { IsGraph job.now.graph }
@@ -48,6 +72,7 @@ fn opened_task(alloc: Global, job: &Job, t: usize, sink: usize) -> Result<TaskSt
         begun: 0,
         owed: Owed::Nothing,
         filter: first_filter(alloc, job, t)?,
+        made: first_made(alloc, job, t)?,
         sink,
     })
 }

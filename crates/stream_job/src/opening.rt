@@ -1,5 +1,5 @@
 //! The opening of a run.
-ghost use Rattle.std.specs.Prelude.{◌≡◌, ◌<◌, [], length, map, IfOk};
+ghost use Rattle.std.specs.Prelude.{◌≡◌, ◌<◌, [], length, map, None, IfOk};
 ghost use Rattle.std.specs.List.{All};
 ghost use Rattle.stream_eval.specs.Results.{sink_values};
 ghost use Rattle.stream_eval.specs.stream_lists.Lists.{sinks_of};
@@ -18,6 +18,7 @@ use stream_eval::stream_lists::Job;
 fn opened_line(alloc: Global, job: &Job, t: usize) -> Result<Lines, AllocError>
     requires { t < length job.now.graph.tasks }
     ensures line { IfOk result (λ line. sink_values line ≡ (t, [])) }
+    ensures start { IfOk result (λ line. line.start ≡ None) }
     ensures own { IfOk result (IsLineOf job.now) }
 {
     let Ok(steps) = usize::try_from(job.span(t).steps) else {
@@ -25,7 +26,7 @@ fn opened_line(alloc: Global, job: &Job, t: usize) -> Result<Lines, AllocError>
     };
     Ok(Lines {
         task: t,
-        start: job.start(t),
+        start: None,
         values: Vec::with_capacity(alloc, steps)?,
     })
 }
@@ -34,6 +35,8 @@ fn opened_line(alloc: Global, job: &Job, t: usize) -> Result<Lines, AllocError>
 fn opened_lines(alloc: Global, job: &Job) -> Result<Vec<Lines>, AllocError>
     ensures lines { IfOk result (λ lines.
         map sink_values lines.items ≡ map (λ t. (t, [])) (sinks_of job.now)) }
+    ensures starts { IfOk result (λ lines.
+        map (λ line. line.start) lines.items ≡ map (λ t. None) (sinks_of job.now)) }
     ensures own { IfOk result (λ lines. All (IsLineOf job.now) lines.items) }
 {
     let mut lines = Vec::with_capacity(alloc, job.graph().tasks())?;

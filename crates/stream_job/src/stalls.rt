@@ -1,5 +1,5 @@
 //! Whether no task can move.
-ghost use Rattle.std.specs.Prelude.{◌≡◌, ◌<◌, ◌&&◌, ◌||◌, ℕ, true, false, nat_le, length, get_or, Some};
+ghost use Rattle.std.specs.Prelude.{◌≡◌, ◌<◌, ◌≤◌, ◌&&◌, ◌||◌, ℕ, true, false, nat_le, length, get_or, Some};
 ghost use Rattle.std.specs.List.{list_any, list_all, range_with_len};
 ghost use Rattle.phase_core.specs.phase_base.Limits.{Limits};
 ghost use Rattle.phase_core.specs.phase_base.Members.{least, wait_phases};
@@ -9,10 +9,9 @@ ghost use Rattle.graph_lang.specs.graph_base.Graphs.{phaser_at, task_at};
 ghost use Rattle.graph_lang.specs.graph_base.Registrations.{signalled_by};
 ghost use Rattle.stream_job.specs.Cores.{CoreStandsFor};
 ghost use Rattle.graph_runs.specs.Moments.{Moment, limits_at, input_at};
-ghost use Rattle.graph_runs.specs.Nexts.{has_signaller, is_live, number_on, signals};
+ghost use Rattle.graph_runs.specs.Nexts.{has_signaller, is_live, number_on, samples, signals};
 ghost use Rattle.graph_runs.specs.Answers.{is_stalled, is_still, output_at};
-ghost use Rattle.graph_runs.specs.Steps.{owed_of};
-ghost use Rattle.stream_job.specs.Inside.{blocks_signal, blocks_wait, would_block, is_value_in_range};
+ghost use Rattle.stream_job.specs.Inside.{blocks_signal, blocks_wait, would_block};
 ghost use Rattle.stream_job.specs.Blocking.{AreBlocked};
 ghost use Rattle.stream_job.specs.Machines.{next_by};
 ghost use Rattle.stream_job.specs.Plans.{IsPlan};
@@ -23,7 +22,7 @@ use crate::parked::Parked;
 use crate::plan::Plan;
 use crate::step::Step;
 use graph_lang::{Op, TASKS_MAX};
-use graph_runs::{Owed, input_of, output_of};
+use graph_runs::{input_of, output_of};
 use phase_core::phase_base::PHASES_MAX;
 use stream_eval::stream_lists::Job;
 
@@ -84,12 +83,13 @@ impl Machine {
         if !self.state(job, t).is_live(job, t) {
             return true;
         }
-        self.step_blocks(job, t, self.next(job, plan, t))
+        self.step_blocks(job, plan, t, self.next(job, plan, t))
     }
 
     /// Whether a live task's turn would be blocked, where this is what it does next.
-    fn step_blocks(&self, job: &Job, t: usize, step: Step) -> bool
-        requires { MakesNext job.now self.now t (next_by step) }
+    fn step_blocks(&self, job: &Job, plan: &Plan, t: usize, step: Step) -> bool
+        requires next { MakesNext job.now self.now t (next_by step) }
+        requires plan { IsPlan job.now plan.now }
         ensures { (m : Moment) → IsMachineAt job.now m self.now
             → would_block job.now m t (next_by step) ≡ result }
     {
@@ -97,37 +97,55 @@ impl Machine {
             Step::NotLive => false,
             Step::Register { .. } => false,
             Step::Leave => false,
-            Step::Sample => self.signal_blocks(job, t, 0),
-            Step::Signal { output } => self.value_blocks(job, t, output),
+            Step::Sample => self.samples_block(job, plan, t),
+            Step::Signal { output } => self.values_block(job, t, output),
             Step::Wait { input } => self.wait_blocks(job, t, input),
             Step::Exchange => self.wait_blocks(job, t, 1),
         }
     }
 
-    /// Whether the signal of a value that is owed on output `j` would be blocked. One that is out of
-    /// range is not signalled.
-    fn value_blocks(&self, job: &Job, t: usize, j: usize) -> bool
+    /// Whether the signal of a source's next samples would be blocked.
+    fn samples_block(&self, job: &Job, plan: &Plan, t: usize) -> bool
+        requires next { MakesNext job.now self.now t samples }
+        requires plan { IsPlan job.now plan.now }
+        ensures { (m : Moment) → IsMachineAt job.now m self.now
+            → would_block job.now m t samples ≡ result }
+    {
+        let many = plan.sample_block(job, t, self.state(job, t).begun);
+        self.signal_blocks(job, t, 0, many)
+    }
+
+    /// Whether the signal of the values that are owed on output `j` would be blocked. Where one is
+    /// out of range, none is signalled.
+    fn values_block(&self, job: &Job, t: usize, j: usize) -> bool
         requires { MakesNext job.now self.now t (signals j) }
         ensures { (m : Moment) → IsMachineAt job.now m self.now
             → would_block job.now m t (signals j) ≡ result }
     {
-        if !is_value_in_range(self.state(job, t).owed) {
+        let state = self.state(job, t);
+        if !state.are_in_range() {
             return false;
         }
-        self.signal_blocks(job, t, j)
+        self.signal_blocks(job, t, j, state.owed_many())
     }
 
-    /// Whether a live task's signal on its output `j` would be blocked.
-    fn signal_blocks(&self, job: &Job, t: usize, j: usize) -> bool
+    /// Whether a live task's signal of so many phases on its output `j` would be blocked.
+    fn signal_blocks(&self, job: &Job, t: usize, j: usize, many: u64) -> bool
         requires live { IsLiveIn job.now self.now t }
         requires output { j < length (signalled_by (task_at job.now.graph t)) }
+        requires some { 1 ≤ many }
         ensures { (m : Moment) → IsMachineAt job.now m self.now → is_live job.now m t ≡ true
             → let p = output_at job.now t j in
-            blocks_signal (limits_at job.now p) (m.history p) (number_on m t p) ≡ result }
+            blocks_signal (limits_at job.now p) (m.history p) (number_on m t p) many ≡ result }
     {
         let (k, p) = output_of(job, t, j);
         let bound = job.graph().phaser(p).bound;
-        signal_blocks(self.core(job, p), bound, self.state(job, t).numbers[k])
+        signal_blocks(
+            self.core(job, p),
+            bound,
+            self.state(job, t).numbers[k],
+            many,
+        )
     }
 
     /// Whether a live task's wait on its input `k` would be blocked.
@@ -143,23 +161,20 @@ impl Machine {
     }
 }
 
-/// Whether what is owed is a value in range.
-fn is_value_in_range(owed: Owed) -> bool
-    ensures { is_value_in_range (owed_of owed) ≡ result }
-{
-    matches!(owed, Owed::Value { value: Ok(_), .. })
-}
-
-/// Whether a signal is past the last phase, or too far ahead of the slowest waiter.
-fn signal_blocks(core: &AnyCore, bound: u64, number: u64) -> bool
+/// Whether a signal of so many phases is past the last one, or too far ahead of the slowest waiter.
+fn signal_blocks(core: &AnyCore, bound: u64, number: u64, many: u64) -> bool
+    requires { 1 ≤ many }
     ensures { (op : Op) (limits : Limits) (h : History) → CoreStandsFor core.now op limits h
         → limits.phases_max ≡ PHASES_MAX → limits.bound ≡ bound
-        → blocks_signal limits h number ≡ result }
+        → blocks_signal limits h number many ≡ result }
 {
     let Some(entry) = core.view(number) else {
         return false;
     };
-    entry.signal_phase >= PHASES_MAX || is_ahead(core.least_wait(), bound, entry.signal_phase)
+    let Some(last) = entry.signal_phase.checked_add(many - 1) else {
+        return true;
+    };
+    last >= PHASES_MAX || is_ahead(core.least_wait(), bound, last)
 }
 
 /// Whether phase `s` is the bound or more ahead of the slowest waiter.

@@ -1,13 +1,19 @@
 //! How far a task has come.
-ghost use Rattle.std.specs.Prelude.{◌≡◌, ◌<◌, not, is_some, length, List, ℤ};
+ghost use Rattle.std.specs.Prelude.{◌≡◌, ◌<◌, ◌≤◌, ◌+◌, [], not, is_some, length, map, List, ℤ, vec_capacity};
+ghost use Rattle.graph_lang.specs.graph_base.declared.line.Kind.TheVariants.{Fir as filters};
+ghost use Rattle.stream_eval.specs.stream_lists.Lists.{number};
+ghost use Rattle.graph_runs.specs.Moves.{IsBlock};
+ghost use Rattle.graph_runs.specs.declared.owed.Owed.TheVariants.{Nothing};
 ghost use Rattle.graph_lang.specs.graph_base.Graphs.{task_at};
 ghost use Rattle.graph_runs.specs.Steps.{HasFilter};
 ghost use Rattle.graph_runs.specs.Moments.{Moment};
 ghost use Rattle.graph_runs.specs.Nexts.{first_missing, is_live};
 ghost use Rattle.graph_runs.specs.TaskPlaces.{StandsAt};
 
-use graph_lang::stream_filters::Fir;
-use graph_runs::{Owed, owed_after_wait};
+use graph_lang::graph_base::Kind;
+use graph_lang::stream_filters::{Fir, TooBigValue};
+use graph_runs::{Owed, filtered, kind_of, number_taken, owed_after_wait};
+use phase_core::phase_accum::Outcome;
 use smallvec::SmallVec;
 use stream_eval::stream_lists::Job;
 
@@ -20,16 +26,19 @@ pub struct TaskState {
     pub left: usize,
     /// How many steps it has begun.
     pub begun: u64,
-    /// What these steps owe next.
+    /// What these steps owe next, of a task that is no filter.
     pub owed: Owed,
     /// The filter of a task that is one.
     pub filter: Option<Fir>,
+    /// What it has made and not signalled: all that a filter owes.
+    pub made: Vec<Result<i64, TooBigValue>>,
     /// How many sinks stand above the task.
     pub sink: usize,
 }
 
 impl TaskState {
-    ghost use Rattle.stream_job.specs.Places.{place_of, HasTakenOne};
+    ghost use Rattle.stream_job.specs.Places.{place_of, owed_in, HasTaken};
+    ghost use Rattle.stream_job.specs.Inside.{are_in_range, owed_many};
 
     /// Whether task number `t` is registered on all phasers of its line.
     pub fn is_registered(&self, job: &Job, t: usize) -> bool
@@ -49,15 +58,47 @@ impl TaskState {
         self.is_registered(job, t) && self.left < self.numbers.len()
     }
 
-    /// Takes `x` by the first wait of a step.
-    pub fn take(&mut self, job: &Job, t: usize, x: i64)
+    /// Takes what the first wait of the next steps got, of which it owes nothing yet.
+    pub fn take(&mut self, job: &Job, t: usize, outcomes: &[Outcome])
         requires task { t < length job.now.graph.tasks }
-        requires begun { self.old.begun < 18446744073709551615 }
+        requires begun { self.old.begun + length outcomes.now ≤ 18446744073709551615 }
         requires filter { (taken : List ℤ)
             × HasFilter (task_at job.now.graph t) self.old.filter taken }
-        ensures { HasTakenOne (task_at job.now.graph t) x self.old self.new }
+        requires block { IsBlock (task_at job.now.graph t).kind (length outcomes.now) }
+        requires nothing { (self.old.owed ≡ Nothing) × (self.old.made.items ≡ []) }
+        requires room { (task_at job.now.graph t).kind ≡ filters
+            → length outcomes.now ≤ vec_capacity self.old.made }
+        ensures { HasTaken (task_at job.now.graph t) (map number outcomes.now) self.old self.new }
     {
-        self.owed = owed_after_wait(job, t, self.begun, &mut self.filter, x);
-        self.begun += 1;
+        for outcome in outcomes {
+            let x = number_taken(*outcome);
+            if kind_of(job, t) == Kind::Fir {
+                self.made
+                    .push_reserved(filtered(job, t, &mut self.filter, x));
+            } else {
+                self.owed = owed_after_wait(job, t, self.begun, &mut self.filter, x);
+            }
+            self.begun += 1;
+        }
+    }
+
+    /// Whether what the task owes is values that are all in range.
+    pub fn are_in_range(&self) -> bool
+        ensures { are_in_range (owed_in self.now.owed self.now.made.items) ≡ result }
+    {
+        if self.made.is_empty() {
+            return matches!(self.owed, Owed::Value { value: Ok(_), .. });
+        }
+        self.made.iter().all(|value| value.is_ok())
+    }
+
+    /// How many values the task owes.
+    pub fn owed_many(&self) -> u64
+        ensures { owed_many (owed_in self.now.owed self.now.made.items) ≡ result }
+    {
+        if self.made.is_empty() && matches!(self.owed, Owed::Value { .. }) {
+            return 1;
+        }
+        self.made.len() as u64
     }
 }

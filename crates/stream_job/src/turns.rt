@@ -1,19 +1,25 @@
 //! The turn of a task, by what it does next.
-ghost use Rattle.std.specs.Prelude.{◌≡◌, ◌<◌, ℕ, true, length, map, slice_get, Some, None, Ok, IfSome, IfOk, OnOk, OnErr, if◌then◌else◌};
-ghost use Rattle.std.specs.List.{All};
+ghost use Rattle.std.specs.Prelude.{◌≡◌, ◌≢◌, ◌<◌, ◌≤◌, ◌+◌, ◌++◌, ◌∷◌, [], ℕ, true, length, map, slice_get, Some, None, Ok, IfSome, IfOk, IfErr, OnOk, OnErr, if◌then◌else◌, vec_capacity};
+ghost use Rattle.std.specs.List.{All, position_from};
+ghost use Rattle.graph_lang.specs.graph_base.Graphs.{task_at};
+ghost use Rattle.graph_lang.specs.graph_base.declared.line.Kind.TheVariants.{Fir as filters};
+ghost use Rattle.phase_core.specs.phase_history.Histories.{done_of};
 ghost use Rattle.graph_lang.specs.stream_filters.Range.{ranged};
 ghost use Rattle.graph_runs.specs.Moments.{Moment};
-ghost use Rattle.graph_runs.specs.Answers.{next_value};
+ghost use Rattle.graph_runs.specs.Answers.{next_values, told_got};
+ghost use Rattle.graph_runs.specs.Turned.{with_at};
 ghost use Rattle.graph_runs.specs.Nexts as turns;
 ghost use Rattle.graph_runs.specs.Nexts.{is_live, number_on};
 ghost use Rattle.stream_job.specs.Turning.{IsRegistration, HadTurn, told_of};
-ghost use Rattle.stream_job.specs.Inside.{IsNextIn, told_got, with_line, HasRoomIn};
+ghost use Rattle.stream_job.specs.Inside.{IsNextIn, with_line, HasRoomIn, OwesMade, is_over, add_refusal, add_event, HasBegun};
+ghost use Rattle.stream_job.specs.Buffers.{HasPlaces};
 ghost use Rattle.stream_job.specs.Plans.{IsPlan};
-ghost use Rattle.stream_job.specs.SinkLines.{line_of};
+ghost use Rattle.stream_job.specs.SinkLines.{kept_of};
 ghost use Rattle.stream_eval.specs.stream_lists.Jobs.{Job as JobValue};
 ghost use Rattle.stream_eval.specs.stream_lists.Lists.{is_sink_at};
 ghost use Rattle.stream_eval.specs.Results.{sink_values};
 
+use crate::buffers::Buffers;
 use crate::machine::Machine;
 use crate::made::Made;
 use crate::plan::Plan;
@@ -21,26 +27,36 @@ use crate::step::Step;
 use crate::task_state::TaskState;
 use crate::turned::Turned;
 use graph_lang::Place;
+use graph_lang::stream_filters::TooBigValue;
 use graph_runs::{
     Owed, input_of, is_sink, number_taken, output_of, owed_after_exchange, owed_after_signal,
-    owed_after_wait, turns as laws,
+    turns as laws,
 };
 use phase_core::phase_accum::Outcome;
-use phase_core::{Got, RegisterRefusal};
+use phase_core::phase_base::Mode;
+use phase_core::{Got, GotBlock, RegisterRefusal};
 use std::alloc::AllocError;
 use stream_eval::stream_lists::Job;
 
 impl Machine {
-    ghost use Rattle.stream_job.specs.Machines.{IsMachine, IsMachineAt, IsLiveIn, IsLineOf, next_by};
+    ghost use Rattle.stream_job.specs.Machines.{IsMachine, IsMachineAt, IsLiveIn, IsLineOf, HasCores, next_by};
 
     /// Gives a turn to task number `t`: it makes its next call.
-    pub fn make(&mut self, job: &Job, plan: &Plan, t: usize) -> Result<Made, AllocError>
+    pub fn make(
+        &mut self,
+        job: &Job,
+        plan: &Plan,
+        buffers: &mut Buffers,
+        t: usize,
+    ) -> Result<Made, AllocError>
         requires machine { IsMachine job.now self.old }
         requires plan { IsPlan job.now plan.now }
+        requires places { HasPlaces job.now buffers.old }
         ensures made { IfOk result (λ made. HadTurn job.now self.old self.new t made) }
         ensures err { OnErr result (self.new ≡ self.old) }
         ensures memory { OnErr result ((m : Moment) → IsMachineAt job.now m self.old
             → IsRegistration (turns.next_of job.now m t)) }
+        ensures places { buffers.new ≡ buffers.old }
     {
         let step = self.next(job, plan, t);
         if step == Step::NotLive {
@@ -49,7 +65,7 @@ impl Machine {
         let _samples = plan.samples(job, t);
         laws::turns_stay_reached();
         laws::no_turn_is_refused();
-        self.make_step(job, plan, t, step)
+        self.make_step(job, plan, buffers, t, step)
     }
 
     /// A task makes this step.
@@ -57,23 +73,26 @@ impl Machine {
         &mut self,
         job: &Job,
         plan: &Plan,
+        buffers: &mut Buffers,
         t: usize,
         step: Step,
     ) -> Result<Made, AllocError>
         requires next { IsNextIn job.now self.old t (next_by step) }
         requires plan { IsPlan job.now plan.now }
+        requires places { HasPlaces job.now buffers.old }
         ensures made { IfOk result (λ made. HadTurn job.now self.old self.new t made) }
         ensures err { OnErr result (self.new ≡ self.old) }
         // A registration alone asks for memory.
         ensures memory { OnErr result (IsRegistration (next_by step)) }
+        ensures places { buffers.new ≡ buffers.old }
     {
         match step {
             Step::NotLive => Ok(Made::Nothing),
             Step::Register { child } => self.register_child(job, t, child),
             Step::Leave => Ok(self.leave(job, t)),
-            Step::Sample => Ok(self.signal_sample(job, plan, t)),
-            Step::Signal { output } => Ok(self.signal_owed(job, t, output)),
-            Step::Wait { input } => Ok(self.wait_first(job, t, input)),
+            Step::Sample => Ok(self.signal_samples(job, plan, buffers, t)),
+            Step::Signal { output } => Ok(self.signal_owed(job, buffers, t, output)),
+            Step::Wait { input } => Ok(self.wait_first(job, plan, buffers, t, input)),
             Step::Exchange => Ok(self.wait_exchange(job, t)),
         }
     }
@@ -98,21 +117,25 @@ impl Machine {
         }
     }
 
-    /// A source signals its next sample.
-    fn signal_sample(&mut self, job: &Job, plan: &Plan, t: usize) -> Made
+    /// A source signals its next samples, a block of them.
+    fn signal_samples(&mut self, job: &Job, plan: &Plan, buffers: &mut Buffers, t: usize) -> Made
         requires next { IsNextIn job.now self.old t turns.samples }
         requires plan { IsPlan job.now plan.now }
-        ensures { HadTurn job.now self.old self.new t result }
+        requires places { HasPlaces job.now buffers.old }
+        ensures made { HadTurn job.now self.old self.new t result }
+        ensures places { buffers.new ≡ buffers.old }
     {
         let (k, phaser) = output_of(job, t, 0);
         let state = &self.tasks[t];
         let begun = state.begun;
         let number = state.numbers[k];
-        let x = plan.samples(job, t)[begun as usize];
-        let Ok(_) = self.signal_on(job, phaser, number, x) else {
+        let many = plan.sample_block(job, t, begun);
+        let samples = &plan.samples(job, t)[begun as usize..(begun + many) as usize];
+        let parcels = &mut buffers.parcels;
+        let Ok(_) = self.signal_values_on(job, phaser, number, samples, parcels) else {
             return Made::Blocked { phaser };
         };
-        self.tasks[t].begun = begun + 1;
+        self.tasks[t].begun = begun + many;
         Made::Event {
             phaser,
             told: Turned::Moved,
@@ -120,12 +143,17 @@ impl Machine {
     }
 
     /// A task signals what it owes on this output.
-    fn signal_owed(&mut self, job: &Job, t: usize, output: usize) -> Made
-        requires { IsNextIn job.now self.old t (turns.signals output) }
-        ensures { HadTurn job.now self.old self.new t result }
+    fn signal_owed(&mut self, job: &Job, buffers: &mut Buffers, t: usize, output: usize) -> Made
+        requires next { IsNextIn job.now self.old t (turns.signals output) }
+        requires places { HasPlaces job.now buffers.old }
+        ensures made { HadTurn job.now self.old self.new t result }
+        ensures places { buffers.new ≡ buffers.old }
     {
         let state = &self.tasks[t];
         let begun = state.begun;
+        if !state.made.is_empty() {
+            return self.signal_made(job, buffers, t);
+        }
         let Owed::Value { value, .. } = state.owed else {
             unreachable!()
         };
@@ -135,11 +163,40 @@ impl Machine {
         }
     }
 
-    /// A task signals this value, which is in range, on this output.
+    /// A filter signals all that it has made, where all of it is in range.
+    fn signal_made(&mut self, job: &Job, buffers: &mut Buffers, t: usize) -> Made
+        requires next { IsNextIn job.now self.old t (turns.signals 0) }
+        requires made { OwesMade self.old t }
+        requires places { HasPlaces job.now buffers.old }
+        ensures made { HadTurn job.now self.old self.new t result }
+        ensures places { buffers.new ≡ buffers.old }
+    {
+        let state = &self.tasks[t];
+        let first = state.begun - state.made.len() as u64;
+        if let Some(place) = put_values(&state.made, &mut buffers.values) {
+            return Made::OutOfRange {
+                step: first + place as u64,
+            };
+        }
+        let (k, phaser) = output_of(job, t, 0);
+        let number = self.tasks[t].numbers[k];
+        let parcels = &mut buffers.parcels;
+        let Ok(_) = self.signal_values_on(job, phaser, number, &buffers.values, parcels) else {
+            return Made::Blocked { phaser };
+        };
+        self.tasks[t].made.clear();
+        Made::Event {
+            phaser,
+            told: Turned::Moved,
+        }
+    }
+
+    /// A task that is no filter signals this value, which is in range, on this output.
     fn signal_value(&mut self, job: &Job, t: usize, output: usize, x: i64) -> Made
         requires next { IsNextIn job.now self.old t (turns.signals output) }
+        requires kind { (task_at job.now.graph t).kind ≢ filters }
         requires value { (m : Moment) → IsMachineAt job.now m self.old
-            → ranged (next_value job.now m t output) ≡ Ok x }
+            → map ranged (next_values job.now m t output) ≡ Ok x ∷ [] }
         ensures { HadTurn job.now self.old self.new t result }
     {
         let (k, phaser) = output_of(job, t, output);
@@ -154,26 +211,37 @@ impl Machine {
         }
     }
 
-    /// A task waits on this input for its next step.
-    fn wait_first(&mut self, job: &Job, t: usize, k: usize) -> Made
-        requires { IsNextIn job.now self.old t (turns.waits k) }
-        ensures { HadTurn job.now self.old self.new t result }
+    /// A task waits on this input for its next steps, a block of them.
+    fn wait_first(
+        &mut self,
+        job: &Job,
+        plan: &Plan,
+        buffers: &mut Buffers,
+        t: usize,
+        k: usize,
+    ) -> Made
+        requires next { IsNextIn job.now self.old t (turns.waits k) }
+        requires plan { IsPlan job.now plan.now }
+        requires places { HasPlaces job.now buffers.old }
+        ensures made { HadTurn job.now self.old self.new t result }
+        ensures places { buffers.new ≡ buffers.old }
     {
         let phaser = input_of(job, t, k);
         let number = self.tasks[t].numbers[k];
+        let steps = plan.block(job, t, self.tasks[t].begun) as usize;
         let sink = self.sink_of(job, t);
-        match self.wait_on(job, phaser, number) {
-            Ok(Got::Value { phase, outcome }) => {
-                let x = number_taken(outcome);
-                let line = line_of(sink, outcome);
-                self.tasks[t].take(job, t, x);
-                self.keep_line(line, x);
+        let out = &mut buffers.outcomes[..steps];
+        match self.wait_block_on(job, phaser, number, out) {
+            Ok(GotBlock::Values { phase, count }) => {
+                let got = &out[..count as usize];
+                self.tasks[t].take(job, t, got);
+                self.keep(sink, got);
                 Made::Event {
                     phaser,
-                    told: told_wait(phaser, phase, outcome),
+                    told: told_got(phaser, phase, got),
                 }
             }
-            Ok(Got::Ended) => unreachable!(),
+            Ok(GotBlock::Ended) => unreachable!(),
             Err(_) => Made::Blocked { phaser },
         }
     }
@@ -191,19 +259,21 @@ impl Machine {
         None
     }
 
-    /// Keeps a value of a sink, for which there is room.
-    fn keep_line(&mut self, sink: Option<usize>, x: i64)
+    /// Keeps the values of a sink before the first that is too big, for which there is room.
+    fn keep(&mut self, sink: Option<usize>, outcomes: &[Outcome])
         requires there { IfSome sink (λ i. i < length self.old.lines.items) }
-        requires room { IfSome sink (HasRoomIn self.old.lines.items) }
+        requires room { IfSome sink (HasRoomIn self.old.lines.items (length outcomes.now)) }
         ensures lines { map sink_values self.new.lines.items
-            ≡ with_line sink x (map sink_values self.old.lines.items) }
+            ≡ with_line sink (kept_of outcomes.now) (map sink_values self.old.lines.items) }
+        ensures starts { map (λ line. line.start) self.new.lines.items
+            ≡ map (λ line. line.start) self.old.lines.items }
         ensures own { (job : JobValue) → All (IsLineOf job) self.old.lines.items
             → All (IsLineOf job) self.new.lines.items }
         ensures cores { self.new.cores ≡ self.old.cores }
         ensures tasks { self.new.tasks ≡ self.old.tasks }
     {
         if let Some(i) = sink {
-            self.lines[i].values.push_reserved(x);
+            keep_values(&mut self.lines[i].values, outcomes);
         }
     }
 
@@ -223,7 +293,7 @@ impl Machine {
                 self.tasks[t].owed = owed_after_exchange(job, t, x, number_taken(outcome));
                 Made::Event {
                     phaser,
-                    told: told_wait(phaser, phase, outcome),
+                    told: told_got(phaser, phase, &[outcome]),
                 }
             }
             Ok(Got::Ended) => unreachable!(),
@@ -245,7 +315,8 @@ impl Machine {
         let Some(number) = self.core(job, phaser).next_number() else {
             unreachable!()
         };
-        let refusal = match self.register_on(job, phaser, parent, number, registration.mode) {
+        let mode = registration.mode;
+        let refusal = match self.add_on(job, c, phaser, parent, number, mode) {
             Ok(()) => {
                 self.tasks[c].numbers.push_reserved(number);
                 return Ok(Made::Event {
@@ -259,6 +330,43 @@ impl Machine {
             RegisterRefusal::OutOfMemory => Err(AllocError),
             _ => unreachable!(),
         }
+    }
+
+    /// Registers task `c` as this child of a task on phaser `p`: in this mode, or, where it is a sink
+    /// that joins now, at the first phase that is not complete, where its line then begins.
+    fn add_on(
+        &mut self,
+        job: &Job,
+        c: usize,
+        p: usize,
+        parent: u64,
+        child: u64,
+        mode: Mode,
+    ) -> Result<(), RegisterRefusal>
+        requires machine { IsMachine job.now self.old }
+        requires phaser { p < length job.now.graph.phasers }
+        requires child { c < length job.now.graph.tasks }
+        ensures refused { IfErr result (λ e. e ≢ RegisterRefusal.OutOfMemory → (m : Moment)
+            → IsMachineAt job.now m self.old
+            → add_refusal job.now c (m.history p) parent child mode ≡ Some e) }
+        ensures ok { OnOk result ((m : Moment) → IsMachineAt job.now m self.old
+            → add_refusal job.now c (m.history p) parent child mode ≡ None) }
+        ensures cores { OnOk result ((m : Moment) → IsMachineAt job.now m self.old
+            → HasCores job.now (with_at p (add_event job.now c parent child mode ∷ m.history p)
+            m.history) self.new.cores.items) }
+        ensures lines { OnOk result ((m : Moment) → IsMachineAt job.now m self.old
+            → HasBegun job.now m c (done_of (m.history p)) self.old.lines.items
+            self.new.lines.items) }
+        ensures err { OnErr result (self.new ≡ self.old) }
+        ensures tasks { self.new.tasks ≡ self.old.tasks }
+    {
+        if !job.graph().task(c).joins_now {
+            return self.register_on(job, p, parent, child, mode);
+        }
+        let phase = self.register_now_on(job, p, parent, child)?;
+        let sink = self.tasks[c].sink;
+        self.lines[sink].start = Some(phase);
+        Ok(())
     }
 
     /// The number of a live task on a phaser, 0 where it has none.
@@ -276,25 +384,52 @@ impl Machine {
     }
 }
 
-/// The place of a sink's line, where the sink keeps this: any but a value that is too big.
-fn line_of(sink: Option<usize>, outcome: Outcome) -> Option<usize>
-    ensures { result ≡ line_of sink outcome }
+/// Keeps the values before the first that is too big, for which there is room.
+fn keep_values(values: &mut Vec<i64>, outcomes: &[Outcome])
+    requires { length values.old.items + length outcomes.now ≤ vec_capacity values.old }
+    ensures values { values.new.items ≡ values.old.items ++ kept_of outcomes.now }
+    ensures room { vec_capacity values.new ≡ vec_capacity values.old }
 {
-    match outcome {
-        Outcome::TooBig => None,
-        _ => sink,
+    for outcome in outcomes {
+        if *outcome == Outcome::TooBig {
+            return;
+        }
+        values.push_reserved(number_taken(*outcome));
     }
 }
 
-/// What a turn tells of a wait that got this.
-fn told_wait(phaser: usize, phase: u64, outcome: Outcome) -> Turned
-    ensures { told_of result ≡ told_got phaser phase outcome }
+/// Puts these values in place of those that are there, and answers the place of the first that is
+/// out of range, where one is.
+fn put_values(made: &[Result<i64, TooBigValue>], values: &mut Vec<i64>) -> Option<usize>
+    requires room { length made.now ≤ vec_capacity values.old }
+    ensures some { result ≡ position_from is_over 0 made.now }
+    ensures none { result ≡ None → map (λ x. Ok x) values.new.items ≡ made.now }
+    ensures room { vec_capacity values.new ≡ vec_capacity values.old }
 {
-    match outcome {
-        Outcome::TooBig => Turned::TooBig {
-            place: Place::Phaser(phaser),
-            phase,
-        },
-        _ => Turned::Moved,
+    values.clear();
+    for place in 0..made.len() {
+        let Ok(x) = made[place] else {
+            return Some(place);
+        };
+        values.push_reserved(x);
     }
+    None
+}
+
+/// What a turn tells of a wait that got these, the first of this phase.
+fn told_got(phaser: usize, phase: u64, outcomes: &[Outcome]) -> Turned
+    requires { phase + length outcomes.now ≤ 18446744073709551615 }
+    ensures { told_of result ≡ told_got phaser phase outcomes.now }
+{
+    let mut at = phase;
+    for outcome in outcomes {
+        if *outcome == Outcome::TooBig {
+            return Turned::TooBig {
+                place: Place::Phaser(phaser),
+                phase: at,
+            };
+        }
+        at += 1;
+    }
+    Turned::Moved
 }

@@ -1,9 +1,8 @@
 //! A run of a graph on one thread.
 ghost use Rattle.std.specs.Prelude.{◌≡◌, ◌≢◌, ◌<◌, ℕ, Some, None, Ok, [], length, get_or, map, IfOk, OnOk, OnErr, true, false};
-ghost use Rattle.std.specs.List.{All};
 ghost use mathlib.Core.List.{IsPrefix};
 ghost use Rattle.stream_eval.specs.Results.{sink_values};
-ghost use Rattle.stream_eval.specs.stream_lists.Lists.{is_sink_at, numbers_of, sinks_of, start_in, taken_from};
+ghost use Rattle.stream_eval.specs.stream_lists.Lists.{is_sink_at, numbers_of, sinks_of, taken_from};
 ghost use Rattle.stream_eval.specs.stream_lists.Spans.{span_in};
 ghost use Rattle.graph_lang.specs.graph_base.Graphs.{task_at};
 ghost use Rattle.stream_eval.specs.stream_lists.Ranges.{answer_of};
@@ -12,6 +11,7 @@ ghost use Rattle.graph_runs.specs.Beginnings.{opening};
 ghost use Rattle.graph_runs.specs.Nexts.{is_live, next_of};
 ghost use Rattle.graph_runs.specs.Answers.{is_stalled, turn_tells};
 
+use crate::buffers::Buffers;
 use crate::machine::Machine;
 use crate::parked::Parked;
 use crate::plan::Plan;
@@ -33,6 +33,7 @@ pub struct World<'a> {
     job: &'a Job,
     plan: Plan,
     machine: Machine,
+    buffers: Buffers,
     // where a value was out of range
     met: Option<(Place, u64)>,
     parked: Parked,
@@ -45,6 +46,7 @@ impl<'a> Model for World<'a> {
     ghost use Rattle.stream_job.specs.Blocking.{AreBlocked};
     ghost use Rattle.stream_job.specs.Machines.{IsMachineAt};
     ghost use Rattle.stream_job.specs.Plans.{IsPlan};
+    ghost use Rattle.stream_job.specs.Buffers.{HasPlaces};
 
     ghost Value = { WorldState };
 
@@ -57,22 +59,23 @@ impl<'a> Model for World<'a> {
 
     ghost invariant = { λ w. ((m : Moment) × IsMachineAt w.job.now m w.machine
         × AreBlocked w.job.now m w.parked × HasMet w.job.now m w.met)
-        × (length w.parked ≡ length w.job.now.graph.phasers) × IsPlan w.job.now w.plan };
+        × (length w.parked ≡ length w.job.now.graph.phasers) × IsPlan w.job.now w.plan
+        × HasPlaces w.job.now w.buffers };
 }
 
 impl<'a> World<'a> {
     ghost use Rattle.stream_job.specs.Machines.{next_by};
     ghost use Rattle.stream_job.specs.Worlds.{IsWorldAt};
-    ghost use Rattle.stream_job.specs.SinkLines.{kept_by};
+    ghost use Rattle.stream_job.specs.SinkLines.{kept_by, begins_at};
     ghost use Rattle.stream_job.specs.Turning.{told_of, met_by, after_turn_of, parked_by, IsRegistration};
 
     /// Makes a run of a job at its opening: on each phaser a founder has registered the tasks
     /// without a parent, in the order of their lines, as 1, 2, .., and has left.
     ///
     /// It takes memory for a slot of each phase that a phaser may have open, an entry for each
-    /// registration, the window of each filter, a list for each phaser and one of each task's
-    /// children, and all values that each sink takes where the run comes to its end, 8 bytes for a
-    /// value.
+    /// registration, the window of each filter, a block of each filter and some for the greatest
+    /// block, a list for each phaser and one of each task's children, and all values that each sink
+    /// takes where the run comes to its end, 8 bytes for a value.
     pub fn new(alloc: Global, job: &'a Job) -> Result<World<'a>, AllocError>
         ensures job { IfOk result (λ world. world.job ≡ job.now) }
         ensures opening { IfOk result (λ world. IsWorldAt world (opening job.now)) }
@@ -81,11 +84,13 @@ impl<'a> World<'a> {
     {
         let plan = Plan::new(alloc, job)?;
         let machine = Machine::new(alloc, job)?;
+        let buffers = Buffers::new(alloc, job)?;
         let parked = Parked::new(alloc, job.graph().phasers())?;
         Ok(World {
             job,
             plan,
             machine,
+            buffers,
             met: None,
             parked,
         })
@@ -103,8 +108,8 @@ impl<'a> World<'a> {
     }
 
     /// Returns each sink's number and what it has taken so far, in the order of the lines. A value
-    /// that is too big is not among them. A sink that joins now has the least start that it may have.
-    /// It takes no memory.
+    /// that is too big is not among them, and what came behind it in its block is not either. A sink
+    /// that joins now and is registered has the phase at which it began. It takes no memory.
     ///
     /// Where no value was out of range and no task is live, they are all that the sinks get.
     pub fn lines(&self) -> &[Lines]
@@ -121,7 +126,8 @@ impl<'a> World<'a> {
         ensures all { (m : Moment) → IsWorldAt self.now m → self.now.met ≡ None
             → ((t : ℕ) → is_live self.now.job m t ≡ false)
             → answer_of (started self.now.job m) ≡ Ok (map sink_values result.now) }
-        ensures starts { All (λ line. line.start ≡ start_in self.now.job line.task) result.now }
+        ensures starts { (m : Moment) → IsWorldAt self.now m → map (λ line. line.start) result.now
+            ≡ map (begins_at self.now.job m) (sinks_of self.now.job) }
     {
         moments::takes();
         outcomes::all_gone();
@@ -148,8 +154,10 @@ impl<'a> World<'a> {
         self.met.is_none() && self.machine.is_stalled(self.job, &self.plan, &self.parked)
     }
 
-    /// Gives a turn to task number `task`: it makes its next call, or tells why it makes none. After
-    /// a value out of range each turn tells it again, and does nothing.
+    /// Gives a turn to task number `task`: it makes its next call, or tells why it makes none. A task
+    /// whose line names a block makes so many steps by one call, but none past its `until` or past
+    /// the boundary of a child. After a value out of range each turn tells it again, and does
+    /// nothing.
     ///
     /// A child's registration may ask for memory, and no other call does. Where there is none, the
     /// world is as it was, and the turn can be given again.
@@ -169,7 +177,9 @@ impl<'a> World<'a> {
         if let Some((place, phase)) = self.met {
             return Ok(Turned::TooBig { place, phase });
         }
-        let made = self.machine.make(self.job, &self.plan, task)?;
+        let made = self
+            .machine
+            .make(self.job, &self.plan, &mut self.buffers, task)?;
         self.parked.note(made, task);
         self.plan.pass(self.job, &self.machine.tasks, task);
         let told = made.told(task);

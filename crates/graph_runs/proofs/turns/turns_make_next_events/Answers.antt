@@ -2,7 +2,7 @@
 use Rattle.stream_lists.specs.graph_base.TaskLines.{IsGraph}
 use Rattle.stream_lists.specs.Jobs.{Job}
 use Rattle.graph_runs.specs.Moments.{Moment, HasRun}
-use Rattle.graph_runs.specs.TaskEvents.{TaskEvent, sample, signal, first_wait, exchange_wait, leave, child, after_turn, IsNext}
+use Rattle.graph_runs.specs.TaskEvents.{TaskEvent, sample, signal, first_wait, exchange_wait, leave, child, child_now, after_turn, IsNext}
 use Rattle.graph_runs.proofs.Turning.{turn_makes_next, childless_makes_next}
 use Rattle.graph_runs.proofs.turns.turns_make_next_events.Goals as goal
 
@@ -16,13 +16,13 @@ returns-clause-keeps c = λ job m t event is ran to_come answer.
   where
     keeps : (job : Job) → IsGraph job.graph → (m : Moment) (event : TaskEvent)
         → IsNext job m event → HasRun job m → HasRun job (after_turn job event m)
-    keeps job is m (sample t j p n v) next ran =
-        c.turns_keep.ensures.sample job m t j p n v is next.0.task next.0.phaser next.1 ran
-    keeps job is m (signal t j p n v) next ran =
-        c.turns_keep.ensures.signal job m t j p n v is next.0.task next.0.phaser next.1 ran
-    keeps job is m (first_wait t k p n outcome) next ran =
-        c.turns_keep.ensures.first_wait job m t k p n outcome is next.0.task next.0.phaser next.1
-        ran
+    keeps job is m (sample t j p n vs) next ran =
+        c.blocks_keep.ensures.samples job m t j p n vs is next.0.task next.0.phaser next.1 ran
+    keeps job is m (signal t j p n vs) next ran =
+        c.blocks_keep.ensures.signals job m t j p n vs is next.0.task next.0.phaser next.1 ran
+    keeps job is m (first_wait t k p n outcomes) next ran =
+        c.blocks_keep.ensures.first_waits job m t k p n outcomes is next.0.task next.0.phaser
+        next.1 ran
     keeps job is m (exchange_wait t p n outcome) next ran =
         c.turns_keep.ensures.exchange_wait job m t p n outcome is next.0.task next.0.phaser next.1
         ran
@@ -30,6 +30,8 @@ returns-clause-keeps c = λ job m t event is ran to_come answer.
         c.turns_keep.ensures.leave job m t p n is next.0.task next.0.phaser next.1 ran
     keeps job is m (child t p n d a mode) next ran =
         c.turns_keep.ensures.child job m t p n d a mode next.1.0 is next.0.task next.1.1 ran
+    keeps job is m (child_now t p n d a) next ran =
+        c.blocks_keep.ensures.child_now job m t p n d a next.1.0 is next.0.task next.1.1 ran
 
 pub returns-clause-childless : goal.returns-clause-childless
 returns-clause-childless c = λ job m t event is ran due answer. (
@@ -39,13 +41,13 @@ returns-clause-childless c = λ job m t event is ran due answer. (
   where
     keeps : (job : Job) → IsGraph job.graph → (m : Moment) (event : TaskEvent)
         → IsNext job m event → HasRun job m → HasRun job (after_turn job event m)
-    keeps job is m (sample t j p n v) next ran =
-        c.turns_keep.ensures.sample job m t j p n v is next.0.task next.0.phaser next.1 ran
-    keeps job is m (signal t j p n v) next ran =
-        c.turns_keep.ensures.signal job m t j p n v is next.0.task next.0.phaser next.1 ran
-    keeps job is m (first_wait t k p n outcome) next ran =
-        c.turns_keep.ensures.first_wait job m t k p n outcome is next.0.task next.0.phaser next.1
-        ran
+    keeps job is m (sample t j p n vs) next ran =
+        c.blocks_keep.ensures.samples job m t j p n vs is next.0.task next.0.phaser next.1 ran
+    keeps job is m (signal t j p n vs) next ran =
+        c.blocks_keep.ensures.signals job m t j p n vs is next.0.task next.0.phaser next.1 ran
+    keeps job is m (first_wait t k p n outcomes) next ran =
+        c.blocks_keep.ensures.first_waits job m t k p n outcomes is next.0.task next.0.phaser
+        next.1 ran
     keeps job is m (exchange_wait t p n outcome) next ran =
         c.turns_keep.ensures.exchange_wait job m t p n outcome is next.0.task next.0.phaser next.1
         ran
@@ -53,3 +55,5 @@ returns-clause-childless c = λ job m t event is ran due answer. (
         c.turns_keep.ensures.leave job m t p n is next.0.task next.0.phaser next.1 ran
     keeps job is m (child t p n d a mode) next ran =
         c.turns_keep.ensures.child job m t p n d a mode next.1.0 is next.0.task next.1.1 ran
+    keeps job is m (child_now t p n d a) next ran =
+        c.blocks_keep.ensures.child_now job m t p n d a next.1.0 is next.0.task next.1.1 ran

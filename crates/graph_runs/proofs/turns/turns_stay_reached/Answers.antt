@@ -9,7 +9,8 @@ use Rattle.graph_runs.specs.Answers.{Answer, makes, is_blocked, is_gone, has_mad
 use Rattle.graph_runs.specs.Reached.{IsReachable}
 use Rattle.graph_runs.proofs.Turning.{turn_makes_next}
 use Rattle.graph_runs.proofs.Whose.{made_by}
-use Rattle.graph_runs.proofs.Reaching.{begun_reached, reached_after}
+use Rattle.graph_runs.proofs.Reaching.{begun_reached}
+use Rattle.graph_runs.proofs.BlockReach.{reached_after}
 use Rattle.graph_runs.proofs.turns.turns_stay_reached.Goals as goal
 
 -- a turn keeps it, where its event leaves a moment that has run
