@@ -141,7 +141,7 @@ pub state_puts : (job : Job) (spots : ℕ → Spot) (m : Moment) (s : TaskState)
     (old new : AnyMember) (owed : Owed) → IsWhole job s
     → k < length (registrations_at job s.number) → (registration_at job s.number k).phaser ≡ p
     → output_at job s.number j ≡ p → s.over ≡ false → s.owed ≡ Value j (Ok v)
-    → owed_of owed ≡ owed_after_signal (task_at job.graph s.number) j v
+    → owed_of owed ≡ owed_after_signal (task_at job.graph s.number) j (v ∷ [])
     → IsTaskAt job spots m s → IsOn job spots m s.number p old
     → HasSignalled v (phaser_at job.graph p).single old new
     → (after : Moment)
@@ -153,7 +153,7 @@ state_puts job spots m s j k p v old new owed whole few here out going owes then
     let now = put_event job p n v ∷ before in
     let after = after_signal job t j p n v (m.begun t) (with_history p before m) in
     let left : length s.lefts.items ≡ 0 = whole.staying going in
-    let owed_is : owed_of s.owed ≡ turns.value j (Ok v) = ap owed_of owes in
+    let owed_is : owed_of s.owed ≡ turns.values j (Ok v ∷ []) = ap owed_of owes in
     let next = subst (λ q. IsNextValue job m t j q v) out
     (next_value_is job m t j v (place_of s) whole.graph whole.there at.part at.place left owed_is) in
     let sees = sees_own job spots m t p (signal_of v (phaser_at job.graph p).single) old new before on made.1 in
@@ -242,7 +242,7 @@ pub task_puts : (job : Job) (spots : ℕ → Spot) (s : TaskState) (j k p : ℕ)
     (owed : Owed) → k < length (registrations_at job s.number)
     → (registration_at job s.number k).phaser ≡ p → output_at job s.number j ≡ p
     → s.over ≡ false → s.owed ≡ Value j (Ok v)
-    → owed_of owed ≡ owed_after_signal (task_at job.graph s.number) j v
+    → owed_of owed ≡ owed_after_signal (task_at job.graph s.number) j (v ∷ [])
     → old ≡ get_or s.holds.items k old
     → GoesOn (HasSignalled v (phaser_at job.graph p).single) old new → IsTask job spots s
     → IsTask job spots (record s { owed = owed; holds = with_item s.holds k new })
@@ -270,7 +270,7 @@ owed_output job spots s j v met owes task =
     let m = (task.stands met).0 in
     let at = (task.stands met).1 in
     (owed job m s.number j
-    (owes_as job m s.number (place_of s) (turns.value j (Ok v)) at.place (ap owed_of owes)).0).0
+    (owes_as job m s.number (place_of s) (turns.values j (Ok v ∷ [])) at.place (ap owed_of owes)).0).0
 
 -- the registration of an output
 pub output_on : (job : Job) (s : TaskState) (j k p : ℕ) → IsWhole job s

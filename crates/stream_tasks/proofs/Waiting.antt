@@ -105,7 +105,7 @@ pub state_takes : (job : Job) (spots : ℕ → Spot) (m : Moment) (s : TaskState
     → s.over ≡ false → s.owed ≡ Nothing → k ≡ first_input (task_at job.graph s.number) s.begun
     → begun ≡ suc s.begun
     → ((taken : List ℤ) → HasFilter (task_at job.graph s.number) s.filter taken
-    → owed_of owed ≡ owed_after_wait (task_at job.graph s.number) s.begun taken x)
+    → owed_of owed ≡ owed_after_wait (task_at job.graph s.number) s.begun taken (x ∷ []))
     → ((taken : List ℤ) → HasFilter (task_at job.graph s.number) s.filter taken
     → HasFilter (task_at job.graph s.number) filter (taken ++ x ∷ []))
     → ((task_at job.graph s.number).kind ≡ kind.Sink → lines.items ≡ s.lines.items ++ x ∷ [])
@@ -128,8 +128,8 @@ state_takes job spots m s k p begun x old new owed filter lines entered whole fe
     let took : k ≡ 0 → after.taken t 0 ≡ m.taken t 0 ++ x ∷ [] =
     λ zero_is. (let T : ℕ → Type 0 = λ i. after.taken t i ≡ m.taken t i ++ number w.outcome ∷ [] in
     subst (λ v. after.taken t 0 ≡ m.taken t 0 ++ v ∷ []) (sym w.is) (subst T zero_is got.taken)) in
-    let owed_then : owed_of owed ≡ owed_after_wait (task_at job.graph t) s.begun (m.taken t 0) (number w.outcome) =
-    then (m.taken t 0) at.filter ∙ ap (λ v. owed_after_wait (task_at job.graph t) s.begun (m.taken t 0) v) w.is in (
+    let owed_then : owed_of owed ≡ owed_after_wait (task_at job.graph t) s.begun (m.taken t 0) (number w.outcome ∷ []) =
+    then (m.taken t 0) at.filter ∙ ap (λ v. owed_after_wait (task_at job.graph t) s.begun (m.taken t 0) (v ∷ [])) w.is in (
       after,
       state_moves job spots m after s k p now new begun owed filter lines entered
           whole few (omega arith) here going at got.moved
@@ -270,7 +270,7 @@ pub task_takes : (job : Job) (spots : ℕ → Spot) (s : TaskState) (k p begun :
     → ((task_at job.graph s.number).kind ≡ kind.Source → ⊥)
     → k ≡ first_input (task_at job.graph s.number) s.begun → begun ≡ suc s.begun
     → ((taken : List ℤ) → HasFilter (task_at job.graph s.number) s.filter taken
-    → owed_of owed ≡ owed_after_wait (task_at job.graph s.number) s.begun taken x)
+    → owed_of owed ≡ owed_after_wait (task_at job.graph s.number) s.begun taken (x ∷ []))
     → ((taken : List ℤ) → HasFilter (task_at job.graph s.number) s.filter taken
     → HasFilter (task_at job.graph s.number) filter (taken ++ x ∷ []))
     → ((task_at job.graph s.number).kind ≡ kind.Sink → lines.items ≡ s.lines.items ++ x ∷ [])

@@ -55,7 +55,7 @@ returns-in-Ok-Value g c = λ spots task.
     c.owed_after_wait-self.result c.owed_after_wait-self.new.filter c.keep.new.lines false
     on.0 on.1 (sym c.input_of-p.ensures.phaser) step c.requires.kind c.first_input_of-k.ensures.input (omega arith)
     (λ taken has. c.owed_after_wait-self.ensures.owed taken has
-    ∙ ap (λ y. owed_after_wait (task_at job.graph t) s.begun taken y) same)
+    ∙ ap (λ y. owed_after_wait (task_at job.graph t) s.begun taken (y ∷ [])) same)
     (λ taken has. subst (λ y. HasFilter (task_at job.graph t) c.owed_after_wait-self.new.filter (taken ++ y ∷ [])) same
     (c.owed_after_wait-self.ensures.filter taken has))
     (λ sink. (let yes : is_sink_at job t ≡ true = rw sink refl in

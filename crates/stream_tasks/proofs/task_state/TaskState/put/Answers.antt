@@ -3,7 +3,7 @@ use Rattle.std.proofs.Common.{◌≡◌, ◌<◌, ℕ, length, sym, ◌≤◌, r
 use Rattle.graph_runs.specs.Nexts.{registrations_at}
 use Rattle.graph_runs.specs.TaskPlaces.{owed_after_signal}
 use Rattle.graph_runs.specs.Steps.{owed_of}
-use Rattle.std.specs.Prelude.{Ok}
+use Rattle.std.specs.Prelude.{Ok, [], ◌∷◌}
 use Rattle.graph_runs.specs.graph_base.Graphs.{task_at, phaser_at}
 use Rattle.stream_eval.specs.stream_lists.Jobs.{Job}
 use Rattle.graph_runs.specs.Moments.{Moment}
@@ -40,7 +40,7 @@ returns-in-Ok c = λ spots task.
     let on = output_on job s j k p task.whole less c.output_of-k.ensures.registration c.output_of-k.ensures.phaser in
     task_puts job spots s j k p c.args.value c.index_mut.result.now c.put.new.self c.owed_after_signal-self.result
     on.0 on.1 (sym c.output_of-k.ensures.phaser) c.requires.over c.requires.owed
-    (subst (λ v. owed_of c.owed_after_signal-self.result ≡ owed_after_signal (task_at job.graph s.number) j v)
+    (subst (λ v. owed_of c.owed_after_signal-self.result ≡ owed_after_signal (task_at job.graph s.number) j (v ∷ []))
     (to_z-of_z c.ranges.value) c.owed_after_signal-self.ensures)
     c.index_mut.ensures.value
     (subst (λ v. GoesOn (HasSignalled v (phaser_at job.graph p).single) c.index_mut.result.now c.put.new.self)
