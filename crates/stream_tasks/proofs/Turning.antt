@@ -1,19 +1,16 @@
 -- The state of a task after a call of one of its registrations.
-use Rattle.std.proofs.Common.{◌≡◌, ◌≢◌, ℕ, zero, suc, ◌+◌, ◌<◌, ◌≤◌, ℤ, true, false, List, [], ◌∷◌, ◌++◌, Some, Ok, length, get_or, set, refl, sym, ap, subst, ◌∙◌, arith, pos}
+use Rattle.std.proofs.Common.{◌≡◌, ℕ, ◌<◌, ◌≤◌, ℤ, true, false, List, [], ◌∷◌, Some, Ok, length, get_or, refl, sym, ap, subst, ◌∙◌, arith}
 use Rattle.std.specs.Global.{Global}
 use Rattle.std.specs.Vec.{with_item}
-use Rattle.std.specs.Prelude.{slice_get, is_some, Option, Bool, Vec}
-use Rattle.std.proofs.lemmas.List.{length-set, get_or-set_same}
+use Rattle.std.specs.Prelude.{is_some, Option, Bool, Vec}
+use Rattle.std.proofs.lemmas.List.{length-set}
 use Rattle.std.proofs.lemmas.Option.{slice_get-get_or, same_Some}
 use Rattle.stream_eval.specs.stream_filters.Filter.{FirState}
 use Rattle.graph_runs.specs.phase_history.Histories.{History}
 use Rattle.graph_runs.specs.graph_base.declared.line.Kind.TheVariants.{Sink}
-use Rattle.graph_runs.specs.graph_base.declared.registration.Registration.{Registration}
 use Rattle.graph_runs.specs.graph_base.Graphs.{task_at, phaser_at}
-use Rattle.graph_runs.specs.graph_base.TaskLines.{IsGraph}
 use Rattle.stream_eval.specs.stream_lists.Jobs.{Job}
 use Rattle.graph_runs.specs.Moments.{Moment}
-use Rattle.graph_runs.specs.Moves.{SameTask}
 use Rattle.stream_members.specs.Members.{Spot}
 use Rattle.stream_members.specs.AnyMembers.{member_in}
 use Rattle.stream_members.specs.declared.any_member.AnyMember.{AnyMember}
@@ -21,8 +18,8 @@ use Rattle.graph_runs.specs.Answers.{output_at}
 use Rattle.graph_runs.specs.Nexts.{registrations_at}
 use Rattle.graph_runs.specs.TaskPlaces as turns
 use Rattle.graph_runs.specs.TaskPlaces.{StandsAt, registration_at, registration_of_output, owed_after_signal}
-use Rattle.graph_runs.specs.Parts.{HasPart, HasSeen, HasPut, HasMovedOn, IsNextValue, put_event}
-use Rattle.graph_runs.specs.Places.{HasChildrenBy, IsNumbered}
+use Rattle.graph_runs.specs.Parts.{HasSeen, HasPut, HasMovedOn, IsNextValue, put_event}
+use Rattle.graph_runs.specs.Places.{HasChildrenBy}
 use Rattle.graph_runs.proofs.PartsLemmas.{with_history, seen, puts_value}
 use Rattle.graph_runs.specs.TaskEnds.{HasOwnCalls}
 use Rattle.graph_runs.proofs.CallsFollow.{calls_seen, calls_put}
@@ -37,7 +34,7 @@ use Rattle.graph_runs.specs.Steps.{owed_of, HasFilter}
 use Rattle.graph_runs.specs.declared.owed.Owed.{Owed}
 use Rattle.graph_runs.specs.declared.owed.Owed.TheVariants.{Value}
 use Rattle.stream_tasks.specs.Holds.{GoesOn, HasSeenOthers, HasSignalled, signal_of}
-use Rattle.stream_tasks.specs.Tasks.{IsOn, IsHeldOn, HasHolds, HasGivenNumbers, IsAtEnd, IsTaskAt, IsWhole, IsTask, place_of}
+use Rattle.stream_tasks.specs.Tasks.{IsOn, IsHeldOn, HasGivenNumbers, IsTaskAt, IsWhole, IsTask, place_of}
 use Rattle.stream_tasks.specs.declared.child.Child.{Child}
 use Rattle.stream_tasks.specs.declared.hold.Hold.{Hold}
 use Rattle.stream_tasks.specs.declared.hold.Hold.TheVariants.{On, Gone}

@@ -1,13 +1,10 @@
 -- The value is that which is owed.
-use Rattle.std.proofs.Common.{◌≡◌, ◌<◌, ℕ, length, sym, ◌≤◌, refl, subst, ap, ◌∙◌, arith, to_z-of_z, to_z, of_z, w64}
+use Rattle.std.proofs.Common.{◌≡◌, ◌<◌, length, sym, refl, subst, ap, ◌∙◌, arith, to_z-of_z, to_z, of_z, w64}
 use Rattle.graph_runs.specs.Nexts.{registrations_at}
 use Rattle.graph_runs.specs.TaskPlaces.{owed_after_signal}
 use Rattle.graph_runs.specs.Steps.{owed_of}
-use Rattle.std.specs.Prelude.{Ok, [], ◌∷◌}
+use Rattle.std.specs.Prelude.{[], ◌∷◌}
 use Rattle.graph_runs.specs.graph_base.Graphs.{task_at, phaser_at}
-use Rattle.stream_eval.specs.stream_lists.Jobs.{Job}
-use Rattle.graph_runs.specs.Moments.{Moment}
-use Rattle.graph_runs.specs.declared.owed.Owed.TheVariants.{Value}
 use Rattle.stream_tasks.specs.Holds.{GoesOn, HasSignalled}
 use Rattle.stream_tasks.proofs.Turning.{task_sees, task_puts, owed_output, output_on}
 use Rattle.stream_tasks.proofs.task_state.TaskState.put.Goals as goal
