@@ -1,19 +1,20 @@
--- Tests of the next event of a task, where it is of several phases.
-use Rattle.std.proofs.Common.{◌≡◌, ℕ, ◌+◌, ◌<◌, List, [], ◌∷◌, ◌++◌, ℤ, length, take, drop, eqb}
+-- Tests of the next event of a task, where it is of several steps, and of any event.
+use Rattle.std.proofs.Common.{ℕ, ◌+◌, List, ◌++◌, ℤ, length, take, drop, refl}
 use mathlib.Core.List.{IsPrefix}
 use Rattle.stream_job.specs.phase_accum.declared.outcome.Outcome.{Outcome}
 use Rattle.stream_job.specs.graph_base.declared.line.Kind.{Kind}
 use Rattle.stream_job.specs.graph_base.declared.line.Kind.TheVariants.{Source, Fir, Split, Join, Peer, Sink}
+use Rattle.stream_job.specs.graph_base.declared.line.Parent.{Parent}
 use Rattle.stream_job.specs.graph_base.Graphs.{task_at}
 use Rattle.stream_job.specs.graph_base.TaskLines.{IsGraph}
 use Rattle.stream_job.specs.stream_lists.Jobs.{Job, samples_at}
 use Rattle.stream_job.specs.graph_runs.Moments.{Moment, HasRun, made_now, first_input}
 use Rattle.stream_job.specs.graph_runs.Moves.{further, IsBlock}
-use Rattle.stream_job.specs.graph_runs.Turned.{IsNextSignals, IsNextSamples, IsFirstWaits}
-use Rattle.graph_tests.specs.BlockRuns.{BlockEvent, samples, signals, first_waits, turn, after_block, after_blocks, IsNextBlock, AreNextBlocks}
+use Rattle.stream_job.specs.graph_runs.Turned.{IsNextSignals, IsNextSamples, IsFirstWaits, IsExchangeWait, IsNextLeave, IsNextChild}
+use Rattle.graph_tests.specs.Runs.{TaskEvent, sample, signal, first_wait, exchange_wait, leave, child, child_now, IsNext}
 use Rattle.graph_tests.proofs.Tests as test
-use Rattle.graph_tests.proofs.Tests.{Test, Both, always, giving, both}
-use Rattle.graph_tests.proofs.NextTests.{Given, is_source_kind, may_begin_to, has_exchanged, is_accepted_signals, is_answered_waits, is_next, on_it}
+use Rattle.graph_tests.proofs.Tests.{Test, Both, never, always, giving, both}
+use Rattle.graph_tests.proofs.NextTests.{Given, is_source_kind, may_begin_to, has_exchanged, is_accepted_signals, is_answered_waits, is_exchange_wait, is_next_leave, is_child_of, on_it}
 
 abbrev pub begins : (xs ys : List ℤ) → Test (IsPrefix xs ys)
 begins xs ys =
@@ -70,28 +71,22 @@ is_first_waits job m t k p n outcomes =
     (both (is_block (task_at job.graph t).kind (length outcomes))
     (may_begin_to job m t p (further (m.begun t) outcomes)))))
 
-abbrev pub is_next_block : (job : Job) (m : Moment) (event : BlockEvent)
-    → Test (IsGraph job.graph → HasRun job m → IsNextBlock job m event)
-is_next_block job m (samples t j p n vs) =
+-- ---- any event
+
+-- a sink that joins now has no test: of all its inputs it is said that nothing was taken
+abbrev pub is_next : (job : Job) (m : Moment) (turn : TaskEvent)
+    → Test (IsGraph job.graph → HasRun job m → IsNext job m turn)
+is_next job m (sample t j p n vs) =
     on_it job m t p (IsNextSamples job m t j p n vs) (is_next_samples job m t j p n vs)
-is_next_block job m (signals t j p n vs) =
+is_next job m (signal t j p n vs) =
     on_it job m t p (IsNextSignals job m t j p n vs) (is_next_signals job m t j p n vs)
-is_next_block job m (first_waits t k p n outcomes) =
+is_next job m (first_wait t k p n outcomes) =
     on_it job m t p (IsFirstWaits job m t k p n outcomes) (is_first_waits job m t k p n outcomes)
-is_next_block job m (turn event) = is_next job m event
-
-abbrev pub are_next_blocks : (job : Job) (m : Moment) (events : List BlockEvent)
-    → Test (IsGraph job.graph → AreNextBlocks job m events)
-are_next_blocks job m [] = always (λ is. tt)
-are_next_blocks job m (event ∷ events) =
-    giving (λ b is. (λ ran. b.left is ran, b.right is))
-    (both (is_next_block job m event) (are_next_blocks job (after_block job event m) events))
-
--- where each next event keeps what a run has, all do
-pub run_in_blocks : (job : Job) (m : Moment) (events : List BlockEvent)
-    → ((m : Moment) (event : BlockEvent) → IsNextBlock job m event → HasRun job m
-    → HasRun job (after_block job event m))
-    → AreNextBlocks job m events → HasRun job m → HasRun job (after_blocks job m events)
-run_in_blocks job m [] keeps next ran = ran
-run_in_blocks job m (event ∷ events) keeps next ran =
-    run_in_blocks job (after_block job event m) events keeps next.1 (keeps m event (next.0 ran) ran)
+is_next job m (exchange_wait t p n outcome) =
+    on_it job m t p (IsExchangeWait job m t p n outcome) (is_exchange_wait job m t p n outcome)
+is_next job m (leave t p n) =
+    on_it job m t p (IsNextLeave job m t p n) (giving (λ e g. e) (is_next_leave job m t p n))
+is_next job m (child t p n c a mode) =
+    on_it job m t p ((u : Parent) × IsNextChild job m t p n c a mode u)
+    (giving (λ e g. e) (is_child_of job m t p n c a mode (task_at job.graph c).parent refl))
+is_next job m (child_now t p n c a) = never

@@ -10,7 +10,7 @@ use Rattle.stream_job.specs.graph_runs.Moments.{Moment, HasRun}
 use Rattle.stream_job.proofs.graph_runs_lemmas.OnLines.{on_phaser}
 use Rattle.stream_job.specs.graph_runs.Moves.{HasGrown, OthersMoved}
 use Rattle.stream_job.specs.graph_runs.Turned.{with_at}
-use Rattle.graph_tests.specs.Runs.{TaskEvent, sample, signal, first_wait, exchange_wait, leave, child, after_turn, after_all}
+use Rattle.graph_tests.specs.Runs.{TaskEvent, sample, signal, first_wait, exchange_wait, leave, child, child_now, after_turn, after_all}
 
 pub event_begins : (p q : ℕ) (event : Event) (h : ℕ → History)
     → IsBeginning (h q) (with_at p (event ∷ h p) h q)
@@ -24,12 +24,13 @@ event_begins p q event h = by (eqb q p) refl
 
 pub turn_begins : (job : Job) (turn : TaskEvent) (m : Moment) (q : ℕ)
     → IsBeginning (m.history q) ((after_turn job turn m).history q)
-turn_begins job (sample t j p n v) m q = event_begins p q _ m.history
-turn_begins job (signal t j p n v) m q = event_begins p q _ m.history
-turn_begins job (first_wait t k p n outcome) m q = event_begins p q _ m.history
+turn_begins job (sample t j p n vs) m q = event_begins p q _ m.history
+turn_begins job (signal t j p n vs) m q = event_begins p q _ m.history
+turn_begins job (first_wait t k p n outcomes) m q = event_begins p q _ m.history
 turn_begins job (exchange_wait t p n outcome) m q = event_begins p q _ m.history
 turn_begins job (leave t p n) m q = event_begins p q _ m.history
 turn_begins job (child t p n c a mode) m q = event_begins p q _ m.history
+turn_begins job (child_now t p n c a) m q = event_begins p q _ m.history
 
 pub turns_begin : (job : Job) (turns : List TaskEvent) (m : Moment) (q : ℕ)
     → IsBeginning (m.history q) ((after_all job m turns).history q)

@@ -1,4 +1,4 @@
--- Tests of the next event of a task.
+-- Tests of the next event of a task, where it is of one step.
 use Rattle.std.proofs.Common.{◌≡◌, ℕ, zero, suc, ◌+◌, ◌<◌, ◌≤◌, Bool, true, false, ◌||◌, cond, eqb, eq-eqb, List, [], ◌∷◌, ◌++◌, Option, Some, None, is_some, is_none, ℤ, pos, length, map, get_or, take, drop, unsigned_abs, refl, sym, ◌∙◌, ap, arith, inl, inr}
 use Rattle.std.specs.List.{position_from}
 use Rattle.stream_job.specs.phase_base.Modes.{mode_signals, mode_waits}
@@ -22,7 +22,7 @@ use Rattle.stream_job.specs.graph_runs.Moments.{one, Moment, HasRun, limits_at, 
 use Rattle.stream_job.proofs.graph_runs_lemmas.OnLines.{on_phaser}
 use Rattle.stream_job.specs.graph_runs.Moves.{IsStaying, NoneDue, NoneBefore, MayBegin, MayBeginTo}
 use Rattle.stream_job.specs.graph_runs.Turned.{IsAcceptedSignals, IsAcceptedSignal, IsNextSignal, IsNextSample, IsAnsweredWaits, IsAnsweredWait, IsFirstWait, IsExchangeWait, IsNextLeave, IsNextChild}
-use Rattle.graph_tests.specs.Runs.{TaskEvent, sample, signal, first_wait, exchange_wait, leave, child, IsThere, IsNext}
+use Rattle.graph_tests.specs.Runs.{IsThere}
 use Rattle.graph_tests.proofs.Tests as test
 use Rattle.graph_tests.proofs.Tests.{Test, Both, never, always, giving, both, either, each, when_some, where_so}
 
@@ -394,7 +394,7 @@ is_child_of job m t p n c a mode (Some u) e =
         (λ k. where_so (input_at task k ≡ p) (P k) (eqb (input_at task k) p)
         (λ same. eq-eqb (input_at task k) p same) (f k))
 
--- ---- any event
+-- ---- where it is
 
 abbrev pub is_there_at : (job : Job) (t p : ℕ) → Test (IsThere job t p)
 is_there_at job t p =
@@ -407,19 +407,3 @@ abbrev pub on_it : (job : Job) (m : Moment) (t p : ℕ) (P : Type 0) → Test (G
 on_it job m t p P next =
     giving (λ b is ran. (b.left, b.right (record { graph = is; ran = ran; there = b.left })))
     (both (is_there_at job t p) next)
-
-abbrev pub is_next : (job : Job) (m : Moment) (turn : TaskEvent)
-    → Test (IsGraph job.graph → HasRun job m → IsNext job m turn)
-is_next job m (sample t j p n v) =
-    on_it job m t p (IsNextSample job m t j p n v) (is_next_sample job m t j p n v)
-is_next job m (signal t j p n v) =
-    on_it job m t p (IsNextSignal job m t j p n v) (is_next_signal job m t j p n v)
-is_next job m (first_wait t k p n outcome) =
-    on_it job m t p (IsFirstWait job m t k p n outcome) (is_first_wait job m t k p n outcome)
-is_next job m (exchange_wait t p n outcome) =
-    on_it job m t p (IsExchangeWait job m t p n outcome) (is_exchange_wait job m t p n outcome)
-is_next job m (leave t p n) =
-    on_it job m t p (IsNextLeave job m t p n) (giving (λ e g. e) (is_next_leave job m t p n))
-is_next job m (child t p n c a mode) =
-    on_it job m t p ((u : Parent) × IsNextChild job m t p n c a mode u)
-    (giving (λ e g. e) (is_child_of job m t p n c a mode (task_at job.graph c).parent refl))

@@ -14,7 +14,7 @@ use Rattle.graph_tests.specs.Runs.{TaskEvent, after_turn, after_all, IsNext, Are
 use Rattle.graph_tests.proofs.Tests as test
 use Rattle.graph_tests.proofs.Tests.{Test, Both, never, always, giving, both, either, each, when_some}
 use Rattle.graph_tests.proofs.GraphTests.{all_of}
-use Rattle.graph_tests.proofs.NextTests.{is_next}
+use Rattle.graph_tests.proofs.BlockTests.{is_next}
 
 abbrev pub are_next : (job : Job) (m : Moment) (turns : List TaskEvent)
     → Test (IsGraph job.graph → AreNext job m turns)

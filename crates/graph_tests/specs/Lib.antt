@@ -1,4 +1,3 @@
-pub mod BlockRuns
 pub mod Runs
 pub mod Worked
 pub mod WorkedBlocks

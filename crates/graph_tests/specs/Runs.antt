@@ -1,9 +1,9 @@
--- Runs of a graph as lists of events, one event of one task at a time.
+-- Runs of a graph as lists of events, one event of one task at a time, of one step or of a block.
 use Rattle.std.specs.Prelude.{ℕ, List, [], ◌∷◌, Option, None, get_or}
 use Rattle.stream_job.specs.phase_history.Histories.{History}
 use Rattle.stream_job.specs.stream_lists.Jobs.{Job}
 use Rattle.stream_job.specs.graph_runs.Moments.{Moment, HasRun}
-pub use Rattle.stream_job.specs.graph_runs.TaskEvents.{TaskEvent, sample, signal, first_wait, exchange_wait, leave, child, IsThere, after_turn, IsNext}
+pub use Rattle.stream_job.specs.graph_runs.TaskEvents.{TaskEvent, sample, signal, first_wait, exchange_wait, leave, child, child_now, IsThere, after_turn, IsNext}
 
 -- each of these events is the next one, where the run came so far
 abbrev pub AreNext : Job → Moment → List TaskEvent → Type 0

@@ -78,30 +78,30 @@ worked_opening = opened worked_histories worked_numbers worked_offsets
 -- the source's samples go through the peer, which puts 3 * 5 - 5 and 3 * 7 - 7 on Y
 abbrev pub peer_turns : List TaskEvent
 peer_turns =
-    sample 0 0 0 1 (pos 5)
-    ∷ first_wait 1 0 0 2 (Value (pos 5))
-    ∷ signal 1 0 1 1 (pos 5)
+    sample 0 0 0 1 (pos 5 ∷ [])
+    ∷ first_wait 1 0 0 2 (Value (pos 5) ∷ [])
+    ∷ signal 1 0 1 1 (pos 5 ∷ [])
     ∷ exchange_wait 1 1 1 (Value (pos 5))
-    ∷ signal 1 1 2 1 (pos 10)
-    ∷ sample 0 0 0 1 (pos 7)
-    ∷ first_wait 1 0 0 2 (Value (pos 7))
-    ∷ signal 1 0 1 1 (pos 7)
+    ∷ signal 1 1 2 1 (pos 10 ∷ [])
+    ∷ sample 0 0 0 1 (pos 7 ∷ [])
+    ∷ first_wait 1 0 0 2 (Value (pos 7) ∷ [])
+    ∷ signal 1 0 1 1 (pos 7 ∷ [])
     ∷ leave 0 0 1
     ∷ exchange_wait 1 1 1 (Value (pos 7))
-    ∷ signal 1 1 2 1 (pos 14)
+    ∷ signal 1 1 2 1 (pos 14 ∷ [])
     ∷ []
 
 -- the splitter puts 10 on A, and the joiner puts it on Z, where out takes it; the splitter puts 14
 -- on B
 abbrev pub lane_turns : List TaskEvent
 lane_turns =
-    first_wait 2 0 2 2 (Value (pos 10))
-    ∷ signal 2 0 3 1 (pos 10)
-    ∷ first_wait 3 0 3 2 (Value (pos 10))
-    ∷ first_wait 2 0 2 2 (Value (pos 14))
-    ∷ signal 3 0 5 1 (pos 10)
-    ∷ first_wait 4 0 5 2 (Value (pos 10))
-    ∷ signal 2 1 4 1 (pos 14)
+    first_wait 2 0 2 2 (Value (pos 10) ∷ [])
+    ∷ signal 2 0 3 1 (pos 10 ∷ [])
+    ∷ first_wait 3 0 3 2 (Value (pos 10) ∷ [])
+    ∷ first_wait 2 0 2 2 (Value (pos 14) ∷ [])
+    ∷ signal 3 0 5 1 (pos 10 ∷ [])
+    ∷ first_wait 4 0 5 2 (Value (pos 10) ∷ [])
+    ∷ signal 2 1 4 1 (pos 14 ∷ [])
     ∷ []
 
 -- out registers late on Z
@@ -112,9 +112,9 @@ late_registers = child 4 5 2 5 3 Wait
 abbrev pub late_turns : List TaskEvent
 late_turns =
     leave 4 5 2
-    ∷ first_wait 3 1 4 2 (Value (pos 14))
-    ∷ signal 3 0 5 1 (pos 14)
-    ∷ first_wait 5 0 5 3 (Value (pos 14))
+    ∷ first_wait 3 1 4 2 (Value (pos 14) ∷ [])
+    ∷ signal 3 0 5 1 (pos 14 ∷ [])
+    ∷ first_wait 5 0 5 3 (Value (pos 14) ∷ [])
     ∷ []
 
 -- the peer, the splitter and the joiner leave, each when its input has ended
@@ -162,15 +162,15 @@ worked_end = after_turn worked late_leaves before_end
 
 -- the first moment after the opening: the source has signalled 5
 abbrev pub after_sample : Moment
-after_sample = after_turn worked (sample 0 0 0 1 (pos 5)) worked_opening
+after_sample = after_turn worked (sample 0 0 0 1 (pos 5 ∷ [])) worked_opening
 
 -- the peer has taken it from X
 abbrev pub after_first_wait : Moment
-after_first_wait = after_turn worked (first_wait 1 0 0 2 (Value (pos 5))) after_sample
+after_first_wait = after_turn worked (first_wait 1 0 0 2 (Value (pos 5) ∷ [])) after_sample
 
 -- the peer has put it on E
 abbrev pub after_signal_on_e : Moment
-after_signal_on_e = after_turn worked (signal 1 0 1 1 (pos 5)) after_first_wait
+after_signal_on_e = after_turn worked (signal 1 0 1 1 (pos 5 ∷ [])) after_first_wait
 
 -- and has taken it there
 abbrev pub after_exchange : Moment

@@ -2,16 +2,13 @@
 -- and a child of the sink that joins now, from the opening to the end.
 use Rattle.std.specs.Prelude.{ℕ, List, [], ◌∷◌, Option, Some, None, pos, codes, true}
 use Rattle.stream_job.specs.phase_accum.declared.outcome.Outcome.TheVariants.{Value}
-use Rattle.stream_job.specs.phase_history.Histories.{History}
 use Rattle.stream_job.specs.graph_base.declared.line.Kind.TheVariants.{Source, Fir}
 use Rattle.stream_job.specs.graph_base.declared.line.Parent.{Parent}
 use Rattle.stream_job.specs.graph_base.declared.place.Place.TheVariants as place
 use Rattle.stream_job.specs.graph_base.Graphs.{Graph, no_task}
 use Rattle.stream_job.specs.stream_lists.Jobs.{Job}
 use Rattle.stream_job.specs.graph_runs.Moments.{Moment}
-use Rattle.stream_job.specs.graph_runs.Turned.{after_register_now}
-use Rattle.graph_tests.specs.Runs.{opened, sample, signal, first_wait, leave}
-use Rattle.graph_tests.specs.BlockRuns.{BlockEvent, samples, signals, first_waits, turn, after_block, after_blocks}
+use Rattle.graph_tests.specs.Runs.{TaskEvent, sample, signal, first_wait, leave, child_now, opened, after_turn, after_all}
 use Rattle.graph_tests.specs.Worked.{bus, founded}
 
 -- phaser X sum 4 / phaser Y sum 4 / source s s.csv -> X block=3
@@ -61,76 +58,80 @@ abbrev pub block_opening : Moment
 block_opening = opened (founded ∷ founded ∷ []) block_numbers (0 ∷ 0 ∷ 0 ∷ 3 ∷ [])
 
 -- the source's first three samples
-abbrev pub three_samples : BlockEvent
-three_samples = samples 0 0 0 1 (pos 1 ∷ pos 2 ∷ pos 3 ∷ [])
+abbrev pub three_samples : TaskEvent
+three_samples = sample 0 0 0 1 (pos 1 ∷ pos 2 ∷ pos 3 ∷ [])
 
 -- they go through the filter, which puts 1, 1 + 2 and 2 + 3 on Y, to out
-abbrev pub three_waits : BlockEvent
-three_waits = first_waits 1 0 0 2 (Value (pos 1) ∷ Value (pos 2) ∷ Value (pos 3) ∷ [])
+abbrev pub three_waits : TaskEvent
+three_waits = first_wait 1 0 0 2 (Value (pos 1) ∷ Value (pos 2) ∷ Value (pos 3) ∷ [])
 
 -- what the filter makes of them
-abbrev pub three_signals : BlockEvent
-three_signals = signals 1 0 1 1 (pos 1 ∷ pos 3 ∷ pos 5 ∷ [])
+abbrev pub three_signals : TaskEvent
+three_signals = signal 1 0 1 1 (pos 1 ∷ pos 3 ∷ pos 5 ∷ [])
 
 -- what out gets
-abbrev pub three_taken : BlockEvent
-three_taken = first_waits 2 0 1 2 (Value (pos 1) ∷ Value (pos 3) ∷ Value (pos 5) ∷ [])
+abbrev pub three_taken : TaskEvent
+three_taken = first_wait 2 0 1 2 (Value (pos 1) ∷ Value (pos 3) ∷ Value (pos 5) ∷ [])
 
 -- the fourth sample, as a block of one
-abbrev pub one_sample : BlockEvent
-one_sample = samples 0 0 0 1 (pos 4 ∷ [])
+abbrev pub one_sample : TaskEvent
+one_sample = sample 0 0 0 1 (pos 4 ∷ [])
 
 -- and the filter's value of it, 3 + 4
-abbrev pub one_value : List BlockEvent
-one_value = turn (first_wait 1 0 0 2 (Value (pos 4))) ∷ signals 1 0 1 1 (pos 7 ∷ []) ∷ []
+abbrev pub one_value : List TaskEvent
+one_value = first_wait 1 0 0 2 (Value (pos 4) ∷ []) ∷ signal 1 0 1 1 (pos 7 ∷ []) ∷ []
 
 -- the filter puts 4 + 5, which out takes with 7, and late alone; and all leave
-abbrev pub last_blocks : List BlockEvent
+abbrev pub last_blocks : List TaskEvent
 last_blocks =
-    turn (sample 0 0 0 1 (pos 5))
-    ∷ turn (first_wait 1 0 0 2 (Value (pos 5)))
-    ∷ turn (signal 1 0 1 1 (pos 9))
-    ∷ first_waits 2 0 1 2 (Value (pos 7) ∷ Value (pos 9) ∷ [])
-    ∷ first_waits 3 0 1 3 (Value (pos 9) ∷ [])
-    ∷ turn (leave 0 0 1)
-    ∷ turn (leave 1 0 2)
-    ∷ turn (leave 1 1 1)
-    ∷ turn (leave 2 1 2)
-    ∷ turn (leave 3 1 3)
+    sample 0 0 0 1 (pos 5 ∷ [])
+    ∷ first_wait 1 0 0 2 (Value (pos 5) ∷ [])
+    ∷ signal 1 0 1 1 (pos 9 ∷ [])
+    ∷ first_wait 2 0 1 2 (Value (pos 7) ∷ Value (pos 9) ∷ [])
+    ∷ first_wait 3 0 1 3 (Value (pos 9) ∷ [])
+    ∷ leave 0 0 1
+    ∷ leave 1 0 2
+    ∷ leave 1 1 1
+    ∷ leave 2 1 2
+    ∷ leave 3 1 3
     ∷ []
 
 -- the source has signalled three samples
 abbrev pub after_three_samples : Moment
-after_three_samples = after_block in_blocks three_samples block_opening
+after_three_samples = after_turn in_blocks three_samples block_opening
 
 -- the filter has got them
 abbrev pub after_three_waits : Moment
-after_three_waits = after_block in_blocks three_waits after_three_samples
+after_three_waits = after_turn in_blocks three_waits after_three_samples
 
 -- and has put three values
 abbrev pub after_three_signals : Moment
-after_three_signals = after_block in_blocks three_signals after_three_waits
+after_three_signals = after_turn in_blocks three_signals after_three_waits
 
 -- which out has got
 abbrev pub after_three_taken : Moment
-after_three_taken = after_block in_blocks three_taken after_three_signals
+after_three_taken = after_turn in_blocks three_taken after_three_signals
 
 -- the source has signalled the fourth
 abbrev pub after_one_sample : Moment
-after_one_sample = after_block in_blocks one_sample after_three_taken
+after_one_sample = after_turn in_blocks one_sample after_three_taken
 
 -- Y has four values, of which out has taken three, and late is not registered
 abbrev pub before_join : Moment
-before_join = after_blocks in_blocks after_one_sample one_value
+before_join = after_all in_blocks after_one_sample one_value
 
 -- late comes by out, after three steps of it
 abbrev pub by_out_at_3 : Parent
 by_out_at_3 = record { task = 2; at = 3 }
 
+-- out registers late, which joins now
+abbrev pub late_joins : TaskEvent
+late_joins = child_now 2 1 2 3 3
+
 -- out has registered late, which begins behind the fourth value
 abbrev pub after_join : Moment
-after_join = after_register_now 1 2 3 3 before_join
+after_join = after_turn in_blocks late_joins before_join
 
 -- all have left
 abbrev pub block_end : Moment
-block_end = after_blocks in_blocks after_join last_blocks
+block_end = after_all in_blocks after_join last_blocks

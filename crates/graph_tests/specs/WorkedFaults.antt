@@ -77,11 +77,11 @@ faulty_opening = opened faulty_histories faulty_numbers faulty_offsets
 -- much
 abbrev pub faulty_turns : List TaskEvent
 faulty_turns =
-    sample 0 0 0 1 greatest
-    ∷ sample 1 0 0 2 greatest
-    ∷ first_wait 2 0 0 3 TooBig
-    ∷ sample 3 0 1 1 greatest
-    ∷ first_wait 4 0 1 2 (Value greatest)
+    sample 0 0 0 1 (greatest ∷ [])
+    ∷ sample 1 0 0 2 (greatest ∷ [])
+    ∷ first_wait 2 0 0 3 (TooBig ∷ [])
+    ∷ sample 3 0 1 1 (greatest ∷ [])
+    ∷ first_wait 4 0 1 2 (Value greatest ∷ [])
     ∷ []
 
 -- out has met the sum, and the filter has taken its value

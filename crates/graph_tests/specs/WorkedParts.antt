@@ -4,7 +4,7 @@ use Rattle.stream_job.specs.phase_base.declared.mode.Mode.TheVariants.{Sig, Wait
 use Rattle.stream_job.specs.phase_history.declared.event.Event.TheVariants.{Made, Registered, Signalled, Dropped}
 use Rattle.stream_job.specs.phase_history.Histories.{History}
 use Rattle.stream_job.specs.graph_runs.Moments.{Moment}
-use Rattle.stream_job.specs.graph_runs.TaskPlaces.{TaskPlace, StandsAt, at_start, value, exchange}
+use Rattle.stream_job.specs.graph_runs.TaskPlaces.{TaskPlace, StandsAt, at_start, values, exchange}
 use Rattle.stream_job.specs.graph_runs.Parts.{HasPart}
 use Rattle.stream_job.specs.graph_runs.Places.{owing, after_step}
 use Rattle.graph_tests.specs.Worked.{worked}
@@ -33,7 +33,7 @@ peer_begins = at_start (2 ∷ 1 ∷ 1 ∷ [])
 
 -- where it owes 5 on E
 abbrev pub peer_owes_e : TaskPlace
-peer_owes_e = after_step (value 0 (Ok (pos 5))) peer_begins
+peer_owes_e = after_step (values 0 (Ok (pos 5) ∷ [])) peer_begins
 
 -- where it waits on E
 abbrev pub peer_exchanges : TaskPlace
@@ -41,7 +41,7 @@ peer_exchanges = owing (exchange (pos 5)) peer_owes_e
 
 -- where it owes 3 * 5 - 5 on Y
 abbrev pub peer_owes_y : TaskPlace
-peer_owes_y = owing (value 1 (Ok (pos 10))) peer_exchanges
+peer_owes_y = owing (values 1 (Ok (pos 10) ∷ [])) peer_exchanges
 
 -- the peer is number 2 on X and number 1 on E, stands here, and has seen this of X and of E
 pub record PeerKnows (m : Moment) (at : TaskPlace) (on_x on_e : History) : Type 0 where

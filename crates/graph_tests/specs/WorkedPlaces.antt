@@ -16,8 +16,8 @@ peer_at = at_start (2 ∷ 1 ∷ 1 ∷ [])
 
 -- the source has signalled 5
 abbrev pub after_sample : Moment
-after_sample = after_turn worked (sample 0 0 0 1 (pos 5)) worked_opening
+after_sample = after_turn worked (sample 0 0 0 1 (pos 5 ∷ [])) worked_opening
 
 -- the peer has taken it
 abbrev pub after_peer_wait : Moment
-after_peer_wait = after_turn worked (first_wait 1 0 0 2 (Value (pos 5))) after_sample
+after_peer_wait = after_turn worked (first_wait 1 0 0 2 (Value (pos 5) ∷ [])) after_sample

@@ -2,6 +2,7 @@
 use Rattle.std.specs.Prelude.{ℕ, zero, suc, ℤ, List, [], ◌∷◌, Some, None, pos, codes}
 use Rattle.stream_job.specs.phase_base.declared.mode.Mode.TheVariants.{Sig, Wait}
 use Rattle.stream_job.specs.phase_base.declared.operation.Op.TheVariants.{Sum}
+use Rattle.stream_job.specs.phase_accum.declared.outcome.Outcome.TheVariants.{Value}
 use Rattle.stream_job.specs.phase_history.declared.event.Event.TheVariants.{Made, Registered, Dropped}
 use Rattle.stream_job.specs.graph_base.declared.line.Kind.TheVariants.{Source, Fir, Split}
 use Rattle.stream_job.specs.graph_base.declared.line.PhaserLine.{PhaserLine}
@@ -9,8 +10,8 @@ use Rattle.stream_job.specs.graph_base.declared.place.Place.TheVariants as place
 use Rattle.stream_job.specs.graph_base.Graphs.{Graph, no_task}
 use Rattle.stream_job.specs.stream_lists.Jobs.{Job}
 use Rattle.stream_job.specs.graph_runs.Moments.{Moment}
-use Rattle.stream_job.specs.graph_runs.Answers.{after_turns}
-use Rattle.graph_tests.specs.Runs.{opened}
+use Rattle.stream_job.specs.graph_runs.Answers.{Answer, makes, is_blocked, after_turns}
+use Rattle.graph_tests.specs.Runs.{sample, first_wait, opened}
 use Rattle.graph_tests.specs.Worked.{bus, founded}
 
 -- so many rounds of the tasks' turns
@@ -169,3 +170,41 @@ crossed_opening = opened
 abbrev pub crossed_after : List ℤ → ℕ → Moment
 crossed_after samples rounds =
     after_rounds (crossed samples) (0 ∷ 1 ∷ 2 ∷ 3 ∷ 4 ∷ []) rounds crossed_opening
+
+-- ---- a source of blocks of two
+
+-- phaser X sum 2 / source s s.csv -> X block=2 / sink out X
+abbrev pub two_graph : Graph
+two_graph = record {
+  names = (codes "X", place.Phaser 0) ∷ (codes "s", place.Task 0) ∷ (codes "out", place.Task 1) ∷ [];
+  phasers = record { op = Sum; bound = 2; single = None } ∷ [];
+  tasks = record no_task { line = 2; kind = Source; outputs = 0 ∷ []; block = 2 }
+      ∷ record no_task { line = 3; inputs = 0 ∷ [] }
+      ∷ [];
+  files = codes "s.csv" ∷ [];
+}
+
+-- the samples 1 to 3
+abbrev pub by_two : Job
+by_two = record {
+  graph = two_graph;
+  samples = (pos 1 ∷ pos 2 ∷ pos 3 ∷ []) ∷ [];
+  starts = [];
+}
+
+-- s is 1 and out 2
+abbrev pub two_opening : Moment
+two_opening = opened (founded ∷ []) ((Some 1 ∷ Some 2 ∷ []) ∷ []) (0 ∷ 0 ∷ [])
+
+-- two turns of s, one of out, and one of s
+abbrev pub two_order : List ℕ
+two_order = 0 ∷ 0 ∷ 1 ∷ 0 ∷ []
+
+-- what they come to
+abbrev pub two_answers : List Answer
+two_answers =
+    makes (sample 0 0 0 1 (pos 1 ∷ pos 2 ∷ []))
+    ∷ is_blocked
+    ∷ makes (first_wait 1 0 0 2 (Value (pos 1) ∷ []))
+    ∷ makes (sample 0 0 0 1 (pos 3 ∷ []))
+    ∷ []

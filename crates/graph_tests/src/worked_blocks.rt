@@ -1,29 +1,16 @@
 //! A whole run in blocks, with a sink that joins now, and each law of blocks used at it.
-ghost use Rattle.std.specs.Prelude.{◌≡◌, ℕ, List, [], ◌∷◌, Ok, pos};
+ghost use Rattle.std.specs.Prelude.{◌≡◌, [], ◌∷◌, Ok, pos};
 ghost use Rattle.stream_job.specs.phase_accum.declared.outcome.Outcome.TheVariants.{Value};
 ghost use Rattle.stream_job.specs.graph_base.TaskLines.{IsGraph};
-ghost use Rattle.stream_job.specs.stream_lists.Jobs.{Job};
 ghost use Rattle.stream_job.specs.stream_lists.Ranges.{answer_of};
-ghost use Rattle.stream_job.specs.graph_runs.Moments.{Moment, HasRun, TaskRan, started};
+ghost use Rattle.stream_job.specs.graph_runs.Moments.{HasRun, TaskRan, started};
 ghost use Rattle.stream_job.specs.graph_runs.Moves.{Signals, SignalsAll, WaitsAll, RegistersNow, MayBeginTo};
-ghost use Rattle.stream_job.specs.graph_runs.Turned.{IsFirstWaits};
+ghost use Rattle.stream_job.specs.graph_runs.Turned.{after_signal};
 ghost use Rattle.stream_job.specs.graph_runs.NextBlocks.{block_of};
-ghost use Rattle.stream_job.specs.graph_runs.TaskEvents.{after_turn, sample};
-ghost use Rattle.graph_tests.specs.BlockRuns.{BlockEvent, AreNextBlocks, after_blocks};
 ghost use Rattle.graph_tests.specs.WorkedBlocks.{in_blocks, block_opening, block_end, after_three_samples, after_three_waits, after_three_signals, after_three_taken, after_one_sample, before_join, after_join, by_out_at_3};
 
 use crate::worked_run::turns_lead_on;
 use stream_job::graph_runs::{moments, moves, turns};
-
-/// Events of one phase or several that are each the next one of their task lead from one moment of
-/// a run to another.
-fn blocks_lead_on()
-    ensures { (job : Job) (m : Moment) (events : List BlockEvent) → IsGraph job.graph
-        → AreNextBlocks job m events → HasRun job m → HasRun job (after_blocks job m events) }
-{
-    moves::blocks_keep();
-    turns_lead_on();
-}
 
 /// A source, a filter, a sink, and its child that joins now run to their end in blocks.
 fn a_run_in_blocks()
@@ -37,7 +24,7 @@ fn a_run_in_blocks()
 {
     moves::opening();
     moves::blocks_keep();
-    blocks_lead_on();
+    turns_lead_on();
 }
 
 /// Three samples, three waits, three values and what the sink gets of them are one move each, and
@@ -59,12 +46,12 @@ fn a_block_of_three_is_one_move()
 
 /// A block of one is the move of one step, and leads where it does.
 fn a_block_of_one_is_one_step()
-    ensures moment { after_one_sample ≡ after_turn in_blocks (sample 0 0 0 1 (pos 4))
-        after_three_taken }
+    ensures moment { after_one_sample
+        ≡ after_signal in_blocks 0 0 0 1 (pos 4) 4 after_three_taken }
     ensures signals { Signals in_blocks after_three_taken after_one_sample 0 0 0 1 (pos 4) }
 {
     a_run_in_blocks();
-    blocks_lead_on();
+    turns_lead_on();
     moves::next_blocks_are_moves();
 }
 

@@ -7,11 +7,11 @@ ghost use Rattle.stream_job.specs.graph_runs.Answers.{answers_in_turn, makes, tu
 ghost use Rattle.stream_job.specs.graph_runs.Beginnings.{opening};
 ghost use Rattle.stream_job.specs.graph_runs.Reached.{HasBegun, IsReachable};
 ghost use Rattle.stream_job.specs.graph_runs.Nexts.{first_kept};
-ghost use Rattle.stream_job.specs.graph_runs.TaskPlaces.{StandsAt, registration_at, value};
+ghost use Rattle.stream_job.specs.graph_runs.TaskPlaces.{StandsAt, registration_at, values};
 ghost use Rattle.graph_tests.specs.Worked.{worked, worked_opening, worked_turns, worked_order, after_signal_on_e, with_late, before_end, worked_end, before_late, late_registers, founded, founded_exchange};
 ghost use Rattle.graph_tests.specs.WorkedFaults.{faulty, faulty_moment, before_fault};
 ghost use Rattle.graph_tests.specs.WorkedPlaces.{source_at, peer_at, after_sample, after_peer_wait};
-ghost use Rattle.graph_tests.specs.WorkedTurns.{late, late_after, with_child, child_after, crossed, crossed_after, six, seven};
+ghost use Rattle.graph_tests.specs.WorkedTurns.{late, late_after, with_child, child_after, crossed, crossed_after, six, seven, by_two, two_opening, two_order, two_answers};
 
 use crate::worked_run::a_run_from_its_opening_to_its_end;
 use stream_job::graph_runs::turns;
@@ -24,7 +24,7 @@ fn turns_make_the_run()
 /// By the law the source's first sample is its next event, and late's drop, the last event of all,
 /// leaves a moment that has run. So does the event by which out registers late.
 fn turns_make_next_events()
-    ensures childless { IsNext worked worked_opening (sample 0 0 0 1 (pos 5)) }
+    ensures childless { IsNext worked worked_opening (sample 0 0 0 1 (pos 5 ∷ [])) }
     ensures end { HasRun worked worked_end }
     ensures next { IsNext worked before_late late_registers }
     ensures keeps { HasRun worked with_late }
@@ -77,7 +77,7 @@ fn places_follow_the_run()
     ensures begun { StandsAt worked after_sample 0 (record source_at { begun = 1 }) }
     ensures waits { StandsAt worked after_sample 1 peer_at }
     ensures owes { StandsAt worked after_peer_wait 1
-        (record peer_at { begun = 1; owed = value 0 (Ok (pos 5)) }) }
+        (record peer_at { begun = 1; owed = values 0 (Ok (pos 5) ∷ []) }) }
     ensures leaves_first { first_kept worked worked_opening 1 ≡ Some (registration_at worked 1 0) }
 {
     a_run_from_its_opening_to_its_end();
@@ -134,4 +134,10 @@ fn the_seventh_sample_stalls()
     ensures gone { turn_tells (crossed six) None (crossed_after six 30) 4 ≡ Some Gone }
     ensures over { is_stalled (crossed six) (crossed_after six 30) ≡ false }
     ensures stalled { is_stalled (crossed seven) (crossed_after seven 20) ≡ true }
+{}
+
+/// On a phaser of bound 2 a source of blocks of two signals 1 and 2 in one event. It is blocked until
+/// the sink has waited, and then signals 3, which alone is left.
+fn a_block_waits_for_its_room()
+    ensures { answers_in_turn by_two two_opening two_order ≡ two_answers }
 {}

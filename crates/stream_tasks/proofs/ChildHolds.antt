@@ -1,5 +1,5 @@
 -- A task registers a child: what its state and the child's child_holds are after each call.
-use Rattle.std.proofs.Common.{◌≡◌, ◌≢◌, ℕ, zero, suc, ◌+◌, ◌<◌, ◌≤◌, ◌-◌, ℤ, true, false, List, [], ◌∷◌, ◌++◌, Option, Some, None, length, get_or, set, refl, sym, ap, subst, ◌∙◌, arith, ◌⊎◌, inl, inr}
+use Rattle.std.proofs.Common.{◌≡◌, ◌≢◌, ℕ, ◌+◌, ◌<◌, ◌≤◌, ◌-◌, ℤ, true, false, List, [], ◌∷◌, ◌++◌, Some, None, length, get_or, set, refl, sym, ap, subst, ◌∙◌, arith, ◌⊎◌, inl, inr}
 use Rattle.std.specs.Prelude.{slice_get, Vec}
 use Rattle.std.specs.Global.{Global}
 use Rattle.std.specs.Vec.{with_item}
@@ -8,8 +8,6 @@ use Rattle.std.proofs.lemmas.List.{length-append, get_or-append_right, get_or_ap
 use Rattle.std.proofs.lemmas.Option.{slice_get-get_or, slice_get_past, slice_get_within, same_Some}
 use Rattle.graph_runs.specs.phase_history.declared.event.Event.TheVariants.{Registered}
 use Rattle.graph_runs.specs.phase_history.Histories.{History}
-use Rattle.graph_runs.specs.graph_base.declared.line.Kind.TheVariants.{Sink}
-use Rattle.graph_runs.specs.graph_base.declared.line.Parent.{Parent}
 use Rattle.graph_runs.specs.graph_base.Graphs.{task_at}
 use Rattle.graph_runs.specs.graph_base.TaskLines.{IsGraph}
 use Rattle.stream_eval.specs.stream_lists.Jobs.{Job}
@@ -24,7 +22,7 @@ use Rattle.graph_runs.specs.Nexts.{registrations_at}
 use Rattle.graph_runs.specs.TaskPlaces as turns
 use Rattle.graph_runs.specs.TaskPlaces.{StandsAt, registration_at}
 use Rattle.graph_runs.proofs.Reaching.{one_registration}
-use Rattle.graph_runs.specs.Parts.{HasMovedOn, SeesOthers, SeesOwn}
+use Rattle.graph_runs.specs.Parts.{SeesOwn}
 use Rattle.graph_runs.specs.Places.{HasNewChild, HasSeenBoth, HasAddedChild, KnowsOthers}
 use Rattle.graph_runs.proofs.ChildMoments.{with_child, child_is_new, both_see, child_is_added}
 use Rattle.graph_runs.proofs.KnownOthers.{known_moved, known_begins, known_registers, known_child}
@@ -41,7 +39,7 @@ use Rattle.stream_tasks.specs.declared.child.Child.{Child}
 use Rattle.stream_tasks.specs.declared.hold.Hold.{Hold}
 use Rattle.stream_tasks.specs.declared.hold.Hold.TheVariants.{On, Gone}
 use Rattle.stream_tasks.specs.declared.task_state.TaskState.{TaskState}
-use Rattle.stream_tasks.proofs.Holding.{same_or_apart, sees_others, sees_own, on_after, holds_move, held_elsewhere}
+use Rattle.stream_tasks.proofs.Holding.{same_or_apart, sees_others, sees_own, on_after}
 
 -- ---- holds at a later moment
 

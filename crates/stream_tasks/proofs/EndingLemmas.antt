@@ -1,5 +1,5 @@
 -- The state of a task that makes no further step, and leaves.
-use Rattle.std.proofs.Common.{◌≡◌, ◌≢◌, ℕ, zero, suc, ◌+◌, ◌<◌, ◌≤◌, ℤ, true, false, List, [], ◌∷◌, ◌++◌, Some, None, Ok, length, get_or, set, refl, sym, ap, subst, ◌∙◌, arith, pos, ◌⊎◌, inl, inr}
+use Rattle.std.proofs.Common.{◌≡◌, ◌≢◌, ℕ, zero, suc, ◌+◌, ◌<◌, ◌≤◌, ℤ, true, false, List, [], ◌∷◌, ◌++◌, Some, None, Ok, length, get_or, set, refl, sym, ap, subst, ◌∙◌, arith, ◌⊎◌, inl, inr}
 use Rattle.std.specs.Global.{Global}
 use Rattle.std.specs.Vec.{with_item}
 use Rattle.std.specs.Prelude.{slice_get, is_some, Option, Bool, Vec, ◌==◌, ◌&&◌}
@@ -16,21 +16,20 @@ use Rattle.graph_runs.specs.phase_accum.Values.{value_by}
 use Rattle.graph_runs.specs.graph_base.declared.line.Kind.TheVariants as kind
 use Rattle.graph_runs.specs.graph_base.declared.line.Parent.{Parent}
 use Rattle.graph_runs.specs.graph_base.declared.line.Kind.{Kind}
-use Rattle.graph_runs.specs.graph_base.Graphs.{Task, task_at, phaser_at, is_source}
+use Rattle.graph_runs.specs.graph_base.Graphs.{task_at, is_source}
 use Rattle.graph_runs.specs.graph_base.TaskLines.{IsGraph}
-use Rattle.stream_eval.specs.stream_lists.Jobs.{Job, samples_at}
+use Rattle.stream_eval.specs.stream_lists.Jobs.{Job}
 use Rattle.graph_runs.specs.Moments.{Moment, HasEnded, RanOut, input_at, first_input, limits_at, value_at}
 use Rattle.stream_members.specs.Members.{Spot, limits_on}
-use Rattle.stream_members.specs.AnyMembers.{member_in, member_op, left_in}
+use Rattle.stream_members.specs.AnyMembers.{member_in, left_in}
 use Rattle.stream_members.specs.declared.any_member.AnyMember.{AnyMember}
 use Rattle.stream_members.specs.declared.any_left.AnyLeft.{AnyLeft}
-use Rattle.graph_runs.specs.Nexts.{registrations_at, is_cut, comes_by}
+use Rattle.graph_runs.specs.Nexts.{registrations_at, comes_by}
 use Rattle.graph_runs.specs.TaskPlaces as turns
 use Rattle.graph_runs.specs.TaskPlaces.{StandsAt, registration_at}
 use Rattle.graph_runs.proofs.Reaching.{one_registration}
 use Rattle.graph_runs.specs.Turned.{after_leave}
-use Rattle.graph_runs.specs.Parts.{HasPart, HasSeen, SeesOthers, SeesOwn, HasMovedOn, LeavesPart}
-use Rattle.graph_runs.specs.Places.{HasChildrenBy, IsNumbered}
+use Rattle.graph_runs.specs.Parts.{HasSeen, SeesOthers, SeesOwn, HasMovedOn}
 use Rattle.graph_runs.proofs.PartsLemmas.{with_history, sees_end, left_phaser}
 use Rattle.graph_runs.proofs.KnownOthers.{known_moved}
 use Rattle.graph_runs.proofs.FollowsPlace.{left_follows}
@@ -40,13 +39,12 @@ use Rattle.graph_runs.specs.Steps.{owed_of, HasFilter}
 use Rattle.graph_runs.specs.declared.owed.Owed.TheVariants.{Nothing}
 use Rattle.stream_tasks.specs.Holds as holds
 use Rattle.stream_tasks.specs.Holds.{GoesOn, HasRunOut, Leaves}
-use Rattle.stream_tasks.specs.Tasks.{IsOn, HasLeftOn, IsHeldOn, HasHolds, IsAtEnd, IsTaskAt, IsWhole, IsTask, HasAllNow, place_of}
+use Rattle.stream_tasks.specs.Tasks.{IsOn, HasLeftOn, IsHeldOn, HasHolds, IsTaskAt, IsWhole, IsTask, HasAllNow, place_of}
 use Rattle.stream_tasks.specs.Inside.{HasChildrenNow}
-use Rattle.stream_tasks.specs.declared.child.Child.{Child}
 use Rattle.stream_tasks.specs.declared.hold.Hold.{Hold}
 use Rattle.stream_tasks.specs.declared.hold.Hold.TheVariants.{On, Gone}
 use Rattle.stream_tasks.specs.declared.task_state.TaskState.{TaskState}
-use Rattle.stream_tasks.proofs.Holding.{same_or_apart, sees_others, on_after, held_elsewhere, left_elsewhere}
+use Rattle.stream_tasks.proofs.Holding.{same_or_apart, sees_others, held_elsewhere, left_elsewhere}
 use Rattle.stream_tasks.proofs.Turning.{state_sees, given_stay, children_stay, held, goes}
 
 -- ---- lists

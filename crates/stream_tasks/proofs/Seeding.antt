@@ -12,7 +12,7 @@ use Rattle.stream_members.specs.AnyMembers.{member_in}
 use Rattle.stream_members.specs.declared.any_member.AnyMember.{AnyMember}
 use Rattle.graph_runs.specs.Moments.{Moment}
 use Rattle.graph_runs.specs.Nexts.{registrations_at}
-use Rattle.graph_runs.specs.TaskPlaces.{StandsAt, registration_at, at_start, nothing}
+use Rattle.graph_runs.specs.TaskPlaces.{StandsAt, registration_at, nothing}
 use Rattle.graph_runs.specs.Steps.{owed_of, HasFilter}
 use Rattle.graph_runs.specs.Places.{IsRootOn, IsFirstMoment}
 use Rattle.graph_runs.specs.TaskEnds.{HasOwnCalls}
@@ -22,8 +22,8 @@ use Rattle.stream_tasks.specs.declared.child.Child.{Child}
 use Rattle.stream_tasks.specs.declared.hold.Hold.{Hold}
 use Rattle.stream_tasks.specs.declared.hold.Hold.TheVariants.{On, Gone}
 use Rattle.stream_tasks.specs.declared.task_state.TaskState.{TaskState}
-use Rattle.stream_tasks.specs.Tasks.{IsTask, IsTaskAt, IsWhole, KnowsChildren, AreApart, HasGivenNumbers, HasHolds, IsHeldOn, place_of}
-use Rattle.stream_tasks.specs.Seeds.{HasNoRegistration, AreChildrenBelow, IsSeed, HasRoom, HasRegistration, HasReceived}
+use Rattle.stream_tasks.specs.Tasks.{IsTask, IsTaskAt, IsWhole, KnowsChildren, AreApart, IsHeldOn, place_of}
+use Rattle.stream_tasks.specs.Seeds.{HasNoRegistration, AreChildrenBelow, IsSeed, HasRegistration, HasReceived}
 
 -- ---- lists
 

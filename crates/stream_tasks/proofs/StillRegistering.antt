@@ -1,5 +1,5 @@
 -- A task that registers a child goes on doing so after each call.
-use Rattle.std.proofs.Common.{◌≡◌, ◌≢◌, ℕ, ◌+◌, ◌<◌, ◌≤◌, true, false, List, [], ◌∷◌, ◌++◌, Some, None, length, get_or, set, refl, sym, ap, subst, ◌∙◌, arith, ◌⊎◌, inl, inr}
+use Rattle.std.proofs.Common.{◌≡◌, ◌≢◌, ℕ, ◌<◌, ◌≤◌, true, false, List, [], ◌∷◌, ◌++◌, Some, None, length, get_or, set, refl, sym, ap, subst, ◌∙◌, arith, ◌⊎◌, inl, inr}
 use Rattle.std.specs.Prelude.{slice_get, Vec}
 use Rattle.std.specs.Global.{Global}
 use Rattle.std.specs.Vec.{with_item}
@@ -7,7 +7,6 @@ use Rattle.std.proofs.lemmas.Bool.{cases_lt}
 use Rattle.std.proofs.lemmas.List.{length-set}
 use Rattle.std.proofs.lemmas.Option.{slice_get_within, slice_get_past, same_Some}
 use Rattle.graph_runs.specs.phase_base.declared.mode.Mode.{Mode}
-use Rattle.graph_runs.specs.graph_base.Graphs.{task_at}
 use Rattle.stream_eval.specs.stream_lists.Jobs.{Job}
 use Rattle.graph_runs.specs.Moments.{Moment}
 use Rattle.graph_runs.specs.Turned.{after_register}
@@ -22,7 +21,7 @@ use Rattle.graph_runs.proofs.PartsLemmas.{with_history}
 use Rattle.graph_runs.specs.TaskEnds.{IsChildOf}
 use Rattle.stream_tasks.specs.Holds.{GoesOn, HasSeenOthers}
 use Rattle.stream_tasks.specs.Registering.{HasAdded, AddsTo, HasFirstHolds, IsRegistering}
-use Rattle.stream_tasks.specs.Tasks.{IsOn, IsHeldOn, IsDue, IsTask, IsTaskAt, IsTaskChild, IsWhole}
+use Rattle.stream_tasks.specs.Tasks.{IsDue, IsTask, IsTaskAt, IsTaskChild, IsWhole}
 use Rattle.stream_tasks.specs.declared.child.Child.{Child}
 use Rattle.stream_tasks.specs.declared.hold.Hold.{Hold}
 use Rattle.stream_tasks.specs.declared.hold.Hold.TheVariants.{On, Gone}

@@ -1,19 +1,16 @@
 -- The state of a task after a call of one of its registrations.
-use Rattle.std.proofs.Common.{◌≡◌, ◌≢◌, ℕ, zero, suc, ◌+◌, ◌<◌, ◌≤◌, ℤ, true, false, List, [], ◌∷◌, ◌++◌, Some, Ok, length, get_or, set, refl, sym, ap, subst, ◌∙◌, arith, pos}
+use Rattle.std.proofs.Common.{◌≡◌, ℕ, ◌<◌, ◌≤◌, ℤ, true, false, List, [], ◌∷◌, Some, Ok, length, get_or, refl, sym, ap, subst, ◌∙◌, arith}
 use Rattle.std.specs.Global.{Global}
 use Rattle.std.specs.Vec.{with_item}
-use Rattle.std.specs.Prelude.{slice_get, is_some, Option, Bool, Vec}
-use Rattle.std.proofs.lemmas.List.{length-set, get_or-set_same}
+use Rattle.std.specs.Prelude.{is_some, Option, Bool, Vec}
+use Rattle.std.proofs.lemmas.List.{length-set}
 use Rattle.std.proofs.lemmas.Option.{slice_get-get_or, same_Some}
 use Rattle.stream_eval.specs.stream_filters.Filter.{FirState}
 use Rattle.graph_runs.specs.phase_history.Histories.{History}
 use Rattle.graph_runs.specs.graph_base.declared.line.Kind.TheVariants.{Sink}
-use Rattle.graph_runs.specs.graph_base.declared.registration.Registration.{Registration}
 use Rattle.graph_runs.specs.graph_base.Graphs.{task_at, phaser_at}
-use Rattle.graph_runs.specs.graph_base.TaskLines.{IsGraph}
 use Rattle.stream_eval.specs.stream_lists.Jobs.{Job}
 use Rattle.graph_runs.specs.Moments.{Moment}
-use Rattle.graph_runs.specs.Moves.{SameTask}
 use Rattle.stream_members.specs.Members.{Spot}
 use Rattle.stream_members.specs.AnyMembers.{member_in}
 use Rattle.stream_members.specs.declared.any_member.AnyMember.{AnyMember}
@@ -21,8 +18,8 @@ use Rattle.graph_runs.specs.Answers.{output_at}
 use Rattle.graph_runs.specs.Nexts.{registrations_at}
 use Rattle.graph_runs.specs.TaskPlaces as turns
 use Rattle.graph_runs.specs.TaskPlaces.{StandsAt, registration_at, registration_of_output, owed_after_signal}
-use Rattle.graph_runs.specs.Parts.{HasPart, HasSeen, HasPut, HasMovedOn, IsNextValue, put_event}
-use Rattle.graph_runs.specs.Places.{HasChildrenBy, IsNumbered}
+use Rattle.graph_runs.specs.Parts.{HasSeen, HasPut, HasMovedOn, IsNextValue, put_event}
+use Rattle.graph_runs.specs.Places.{HasChildrenBy}
 use Rattle.graph_runs.proofs.PartsLemmas.{with_history, seen, puts_value}
 use Rattle.graph_runs.specs.TaskEnds.{HasOwnCalls}
 use Rattle.graph_runs.proofs.CallsFollow.{calls_seen, calls_put}
@@ -37,7 +34,7 @@ use Rattle.graph_runs.specs.Steps.{owed_of, HasFilter}
 use Rattle.graph_runs.specs.declared.owed.Owed.{Owed}
 use Rattle.graph_runs.specs.declared.owed.Owed.TheVariants.{Value}
 use Rattle.stream_tasks.specs.Holds.{GoesOn, HasSeenOthers, HasSignalled, signal_of}
-use Rattle.stream_tasks.specs.Tasks.{IsOn, IsHeldOn, HasHolds, HasGivenNumbers, IsAtEnd, IsTaskAt, IsWhole, IsTask, place_of}
+use Rattle.stream_tasks.specs.Tasks.{IsOn, IsHeldOn, HasGivenNumbers, IsTaskAt, IsWhole, IsTask, place_of}
 use Rattle.stream_tasks.specs.declared.child.Child.{Child}
 use Rattle.stream_tasks.specs.declared.hold.Hold.{Hold}
 use Rattle.stream_tasks.specs.declared.hold.Hold.TheVariants.{On, Gone}
@@ -141,7 +138,7 @@ pub state_puts : (job : Job) (spots : ℕ → Spot) (m : Moment) (s : TaskState)
     (old new : AnyMember) (owed : Owed) → IsWhole job s
     → k < length (registrations_at job s.number) → (registration_at job s.number k).phaser ≡ p
     → output_at job s.number j ≡ p → s.over ≡ false → s.owed ≡ Value j (Ok v)
-    → owed_of owed ≡ owed_after_signal (task_at job.graph s.number) j v
+    → owed_of owed ≡ owed_after_signal (task_at job.graph s.number) j (v ∷ [])
     → IsTaskAt job spots m s → IsOn job spots m s.number p old
     → HasSignalled v (phaser_at job.graph p).single old new
     → (after : Moment)
@@ -153,7 +150,7 @@ state_puts job spots m s j k p v old new owed whole few here out going owes then
     let now = put_event job p n v ∷ before in
     let after = after_signal job t j p n v (m.begun t) (with_history p before m) in
     let left : length s.lefts.items ≡ 0 = whole.staying going in
-    let owed_is : owed_of s.owed ≡ turns.value j (Ok v) = ap owed_of owes in
+    let owed_is : owed_of s.owed ≡ turns.values j (Ok v ∷ []) = ap owed_of owes in
     let next = subst (λ q. IsNextValue job m t j q v) out
     (next_value_is job m t j v (place_of s) whole.graph whole.there at.part at.place left owed_is) in
     let sees = sees_own job spots m t p (signal_of v (phaser_at job.graph p).single) old new before on made.1 in
@@ -242,7 +239,7 @@ pub task_puts : (job : Job) (spots : ℕ → Spot) (s : TaskState) (j k p : ℕ)
     (owed : Owed) → k < length (registrations_at job s.number)
     → (registration_at job s.number k).phaser ≡ p → output_at job s.number j ≡ p
     → s.over ≡ false → s.owed ≡ Value j (Ok v)
-    → owed_of owed ≡ owed_after_signal (task_at job.graph s.number) j v
+    → owed_of owed ≡ owed_after_signal (task_at job.graph s.number) j (v ∷ [])
     → old ≡ get_or s.holds.items k old
     → GoesOn (HasSignalled v (phaser_at job.graph p).single) old new → IsTask job spots s
     → IsTask job spots (record s { owed = owed; holds = with_item s.holds k new })
@@ -270,7 +267,7 @@ owed_output job spots s j v met owes task =
     let m = (task.stands met).0 in
     let at = (task.stands met).1 in
     (owed job m s.number j
-    (owes_as job m s.number (place_of s) (turns.value j (Ok v)) at.place (ap owed_of owes)).0).0
+    (owes_as job m s.number (place_of s) (turns.values j (Ok v ∷ [])) at.place (ap owed_of owes)).0).0
 
 -- the registration of an output
 pub output_on : (job : Job) (s : TaskState) (j k p : ℕ) → IsWhole job s

@@ -1,24 +1,19 @@
 -- The state of a task after a step has begun, or after a wait.
-use Rattle.std.proofs.Common.{◌≡◌, ◌≢◌, ℕ, zero, suc, ◌+◌, ◌<◌, ◌≤◌, ℤ, true, false, List, [], ◌∷◌, ◌++◌, Some, Ok, length, get_or, set, refl, sym, ap, subst, ◌∙◌, arith, pos}
+use Rattle.std.proofs.Common.{◌≡◌, ℕ, suc, ◌+◌, ◌<◌, ℤ, false, List, [], ◌∷◌, ◌++◌, length, get_or, refl, sym, ap, subst, ◌∙◌, arith, pos}
 use Rattle.std.specs.Global.{Global}
 use Rattle.std.specs.Vec.{with_item}
-use Rattle.std.specs.Prelude.{slice_get, Option, Bool, Vec}
+use Rattle.std.specs.Prelude.{Option, Bool, Vec}
 use Rattle.stream_eval.specs.stream_filters.Filter.{FirState}
 use Rattle.graph_runs.specs.phase_accum.Values.{value_by}
-use Rattle.graph_runs.specs.phase_accum.declared.outcome.Outcome.{Outcome}
 use Rattle.graph_runs.specs.phase_history.declared.event.Event.TheVariants.{Waited}
-use Rattle.graph_runs.specs.phase_history.declared.got.Got.TheVariants.{Ended}
-use Rattle.graph_runs.specs.phase_history.Histories.{History}
-use Rattle.graph_runs.specs.phase_history.Replies.{wait_reply}
 use Rattle.graph_runs.specs.phase_history.Phases.{received_by}
 use Rattle.graph_runs.specs.graph_base.declared.line.Kind.TheVariants as kind
 use Rattle.graph_runs.specs.graph_base.Graphs.{Task, task_at, phaser_at}
-use Rattle.graph_runs.specs.graph_base.TaskLines.{IsGraph}
 use Rattle.stream_eval.specs.stream_lists.Jobs.{Job, samples_at}
 use Rattle.stream_eval.specs.stream_lists.Lists.{number}
-use Rattle.graph_runs.specs.Moments.{Moment, input_at, first_input, limits_at, value_at}
-use Rattle.stream_members.specs.Members.{Spot, limits_on}
-use Rattle.stream_members.specs.AnyMembers.{member_in, member_op}
+use Rattle.graph_runs.specs.Moments.{Moment, input_at, first_input}
+use Rattle.stream_members.specs.Members.{Spot}
+use Rattle.stream_members.specs.AnyMembers.{member_in}
 use Rattle.stream_members.specs.declared.any_member.AnyMember.{AnyMember}
 use Rattle.graph_runs.specs.Answers.{output_at}
 use Rattle.graph_runs.specs.Nexts.{registrations_at}
@@ -26,22 +21,22 @@ use Rattle.graph_runs.specs.TaskPlaces as turns
 use Rattle.graph_runs.specs.TaskPlaces.{StandsAt, registration_at, owed_after_wait, owed_after_exchange}
 use Rattle.graph_runs.proofs.Standing.{of_input, many}
 use Rattle.graph_runs.specs.Turned.{after_signal, after_wait}
-use Rattle.graph_runs.specs.Parts.{HasPart, HasSeen, HasPut, HasGot, IsNextOfSamples, IsAnsweredBy, BeginsStep, IsExchange, put_event}
-use Rattle.graph_runs.proofs.PartsLemmas.{with_history, puts_sample, gets_first, gets_exchange, sees_end}
+use Rattle.graph_runs.specs.Parts.{HasPut, HasGot, IsNextOfSamples, IsAnsweredBy, BeginsStep, IsExchange, put_event}
+use Rattle.graph_runs.proofs.PartsLemmas.{with_history, puts_sample, gets_first, gets_exchange}
 use Rattle.graph_runs.proofs.FollowsPlace.{sampled_follows, first_wait_follows, exchanged_follows}
-use Rattle.graph_runs.proofs.TellsNext.{next_sample_at, next_wait_at, next_exchange_is, staying_at, ended_no_input, ended_cut, ended_no_sample}
+use Rattle.graph_runs.proofs.TellsNext.{next_sample_at, next_wait_at, next_exchange_is}
 use Rattle.graph_runs.proofs.CallsFollow.{calls_put, calls_got}
 use Rattle.graph_runs.specs.Steps.{owed_of, HasFilter}
 use Rattle.graph_runs.specs.declared.owed.Owed.{Owed}
 use Rattle.graph_runs.specs.declared.owed.Owed.TheVariants.{Nothing, Exchange}
-use Rattle.stream_tasks.specs.Holds.{GoesOn, HasSignalled, HasWaited, HasRunOut, signal_of, wait_of}
-use Rattle.stream_tasks.specs.Tasks.{IsOn, IsAtEnd, IsTaskAt, IsWhole, IsTask, place_of}
+use Rattle.stream_tasks.specs.Holds.{GoesOn, HasSignalled, HasWaited, signal_of, wait_of}
+use Rattle.stream_tasks.specs.Tasks.{IsOn, IsTaskAt, IsWhole, IsTask, place_of}
 use Rattle.stream_tasks.specs.Inside.{MayStep}
 use Rattle.stream_tasks.specs.declared.hold.Hold.{Hold}
-use Rattle.stream_tasks.specs.declared.hold.Hold.TheVariants.{On, Gone}
+use Rattle.stream_tasks.specs.declared.hold.Hold.TheVariants.{On}
 use Rattle.stream_tasks.specs.declared.task_state.TaskState.{TaskState}
-use Rattle.stream_tasks.proofs.Holding.{sees_others, sees_own, on_after}
-use Rattle.stream_tasks.proofs.Turning.{state_sees, state_moves, whole_moves, goes, held, children_stay}
+use Rattle.stream_tasks.proofs.Holding.{sees_own, on_after}
+use Rattle.stream_tasks.proofs.Turning.{state_moves, whole_moves, goes, held}
 
 -- a source has begun a step, by a signal with its next sample
 pub state_samples : (job : Job) (spots : ℕ → Spot) (m : Moment) (s : TaskState) (k p begun : ℕ)
@@ -105,7 +100,7 @@ pub state_takes : (job : Job) (spots : ℕ → Spot) (m : Moment) (s : TaskState
     → s.over ≡ false → s.owed ≡ Nothing → k ≡ first_input (task_at job.graph s.number) s.begun
     → begun ≡ suc s.begun
     → ((taken : List ℤ) → HasFilter (task_at job.graph s.number) s.filter taken
-    → owed_of owed ≡ owed_after_wait (task_at job.graph s.number) s.begun taken x)
+    → owed_of owed ≡ owed_after_wait (task_at job.graph s.number) s.begun taken (x ∷ []))
     → ((taken : List ℤ) → HasFilter (task_at job.graph s.number) s.filter taken
     → HasFilter (task_at job.graph s.number) filter (taken ++ x ∷ []))
     → ((task_at job.graph s.number).kind ≡ kind.Sink → lines.items ≡ s.lines.items ++ x ∷ [])
@@ -128,8 +123,8 @@ state_takes job spots m s k p begun x old new owed filter lines entered whole fe
     let took : k ≡ 0 → after.taken t 0 ≡ m.taken t 0 ++ x ∷ [] =
     λ zero_is. (let T : ℕ → Type 0 = λ i. after.taken t i ≡ m.taken t i ++ number w.outcome ∷ [] in
     subst (λ v. after.taken t 0 ≡ m.taken t 0 ++ v ∷ []) (sym w.is) (subst T zero_is got.taken)) in
-    let owed_then : owed_of owed ≡ owed_after_wait (task_at job.graph t) s.begun (m.taken t 0) (number w.outcome) =
-    then (m.taken t 0) at.filter ∙ ap (λ v. owed_after_wait (task_at job.graph t) s.begun (m.taken t 0) v) w.is in (
+    let owed_then : owed_of owed ≡ owed_after_wait (task_at job.graph t) s.begun (m.taken t 0) (number w.outcome ∷ []) =
+    then (m.taken t 0) at.filter ∙ ap (λ v. owed_after_wait (task_at job.graph t) s.begun (m.taken t 0) (v ∷ [])) w.is in (
       after,
       state_moves job spots m after s k p now new begun owed filter lines entered
           whole few (omega arith) here going at got.moved
@@ -270,7 +265,7 @@ pub task_takes : (job : Job) (spots : ℕ → Spot) (s : TaskState) (k p begun :
     → ((task_at job.graph s.number).kind ≡ kind.Source → ⊥)
     → k ≡ first_input (task_at job.graph s.number) s.begun → begun ≡ suc s.begun
     → ((taken : List ℤ) → HasFilter (task_at job.graph s.number) s.filter taken
-    → owed_of owed ≡ owed_after_wait (task_at job.graph s.number) s.begun taken x)
+    → owed_of owed ≡ owed_after_wait (task_at job.graph s.number) s.begun taken (x ∷ []))
     → ((taken : List ℤ) → HasFilter (task_at job.graph s.number) s.filter taken
     → HasFilter (task_at job.graph s.number) filter (taken ++ x ∷ []))
     → ((task_at job.graph s.number).kind ≡ kind.Sink → lines.items ≡ s.lines.items ++ x ∷ [])

@@ -3,9 +3,8 @@ use Rattle.std.specs.Prelude.{◌≡◌, ℕ, ℤ, [], ◌∷◌, ◌++◌, Opti
 use Rattle.graph_runs.specs.phase_accum.Values.{value_by}
 use Rattle.graph_runs.specs.phase_accum.declared.outcome.Outcome.{Outcome}
 use Rattle.graph_runs.specs.phase_accum.declared.single.Single.{Single}
-use Rattle.graph_runs.specs.phase_base.declared.mode.Mode.{Mode}
 use Rattle.graph_runs.specs.phase_history.declared.event.Event.{Event}
-use Rattle.graph_runs.specs.phase_history.declared.event.Event.TheVariants.{Registered, Signalled, Waited, Dropped}
+use Rattle.graph_runs.specs.phase_history.declared.event.Event.TheVariants.{Signalled, Waited, Dropped}
 use Rattle.graph_runs.specs.phase_history.declared.got.Got.TheVariants as got
 use Rattle.graph_runs.specs.phase_history.Histories.{History}
 use Rattle.graph_runs.specs.phase_history.Phases.{received_by}

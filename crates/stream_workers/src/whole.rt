@@ -21,6 +21,9 @@ use stream_tasks::{Gate, Run, open_phasers};
 use thiserror::Error;
 use worker_pool::Fault;
 
+#[cfg(test)]
+mod tests;
+
 /// Why a run gives no lines.
 #[derive(Clone, Copy, Debug, PartialEq, Eq, Error)]
 pub enum RunFault {

@@ -1,8 +1,9 @@
 -- The block's event is the step's by computing, and the next one, as a test says.
 use Rattle.std.proofs.Common.{[], ◌∷◌, pos, refl, arith}
 use Rattle.graph_tests.specs.WorkedBlocks.{in_blocks, three_signals, three_taken, one_sample, after_three_waits, after_three_taken}
-use Rattle.graph_tests.proofs.BlockTests.{is_next_block}
-use Rattle.graph_tests.proofs.WorkedBlocks.{in_blocks-is, part}
+use Rattle.graph_tests.proofs.BlockTests.{is_next}
+use Rattle.graph_tests.proofs.WorkedBlocks.{in_blocks-is}
+use Rattle.graph_tests.proofs.WorkedRun.{part}
 use Rattle.graph_tests.proofs.worked_blocks.a_block_of_one_is_one_step.Goals as goal
 
 pub returns-clause-moment : goal.returns-clause-moment
@@ -11,8 +12,8 @@ returns-clause-moment c = refl
 pub returns-clause-signals : goal.returns-clause-signals
 returns-clause-signals c =
     let ran =
-    part c.blocks_lead_on.ensures in_blocks after_three_waits (three_signals ∷ three_taken ∷ [])
+    part c.turns_lead_on.ensures in_blocks after_three_waits (three_signals ∷ three_taken ∷ [])
     in_blocks-is refl c.a_run_in_blocks.ensures.got in
     c.next_blocks_are_moves.ensures.samples in_blocks after_three_taken 0 0 0 1 (pos 4 ∷ [])
-    ((is_next_block in_blocks after_three_taken one_sample).sound refl in_blocks-is ran).1
+    ((is_next in_blocks after_three_taken one_sample).sound refl in_blocks-is ran).1
     (ran.tasks 0 (omega arith))

@@ -3,7 +3,8 @@ use Rattle.std.proofs.Common.{[], ◌∷◌, refl, arith}
 use Rattle.graph_tests.specs.Worked.{founded}
 use Rattle.graph_tests.specs.WorkedBlocks.{in_blocks, block_numbers, block_opening, three_samples, three_waits, three_signals, three_taken, one_sample, one_value, last_blocks, after_three_samples, after_three_waits, after_one_sample, before_join, after_join, by_out_at_3}
 use Rattle.graph_tests.proofs.OpeningTests.{has_opened}
-use Rattle.graph_tests.proofs.WorkedBlocks.{in_blocks-is, part, late-next}
+use Rattle.graph_tests.proofs.WorkedBlocks.{in_blocks-is, late-next}
+use Rattle.graph_tests.proofs.WorkedRun.{part}
 use Rattle.graph_tests.proofs.worked_blocks.a_run_in_blocks.Goals as goal
 
 pub returns-clause-graph : goal.returns-clause-graph
@@ -17,18 +18,18 @@ returns-clause-opening c =
 
 pub returns-clause-signalled : goal.returns-clause-signalled
 returns-clause-signalled c =
-    part c.blocks_lead_on.ensures in_blocks block_opening (three_samples ∷ []) in_blocks-is refl
+    part c.turns_lead_on.ensures in_blocks block_opening (three_samples ∷ []) in_blocks-is refl
     (returns-clause-opening c)
 
 pub returns-clause-got : goal.returns-clause-got
 returns-clause-got c =
-    part c.blocks_lead_on.ensures in_blocks after_three_samples (three_waits ∷ []) in_blocks-is refl
+    part c.turns_lead_on.ensures in_blocks after_three_samples (three_waits ∷ []) in_blocks-is refl
     (returns-clause-signalled c)
 
 pub returns-clause-before_join : goal.returns-clause-before_join
 returns-clause-before_join c =
-    part c.blocks_lead_on.ensures in_blocks after_one_sample one_value in_blocks-is refl
-    (part c.blocks_lead_on.ensures in_blocks after_three_waits
+    part c.turns_lead_on.ensures in_blocks after_one_sample one_value in_blocks-is refl
+    (part c.turns_lead_on.ensures in_blocks after_three_waits
     (three_signals ∷ three_taken ∷ one_sample ∷ []) in_blocks-is refl
     (returns-clause-got c))
 
@@ -39,5 +40,5 @@ returns-clause-joined c =
 
 pub returns-clause-end : goal.returns-clause-end
 returns-clause-end c =
-    part c.blocks_lead_on.ensures in_blocks after_join last_blocks in_blocks-is refl
+    part c.turns_lead_on.ensures in_blocks after_join last_blocks in_blocks-is refl
     (returns-clause-joined c)

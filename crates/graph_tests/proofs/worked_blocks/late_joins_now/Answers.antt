@@ -1,8 +1,7 @@
 -- By the laws, from the moment before.
-use Rattle.std.proofs.Common.{ℕ, [], ◌∷◌, refl, arith}
-use Rattle.stream_job.specs.phase_history.declared.event.Event.TheVariants.{RegisteredNow}
-use Rattle.graph_tests.specs.WorkedBlocks.{in_blocks, before_join, after_join, by_out_at_3}
-use Rattle.graph_tests.proofs.Histories.{event_begins, grown}
+use Rattle.std.proofs.Common.{refl, arith}
+use Rattle.graph_tests.specs.WorkedBlocks.{in_blocks, before_join, late_joins, after_join, by_out_at_3}
+use Rattle.graph_tests.proofs.Histories.{turn_begins, grown}
 use Rattle.graph_tests.proofs.WorkedBlocks.{in_blocks-is, late-next}
 use Rattle.graph_tests.proofs.worked_blocks.late_joins_now.Goals as goal
 
@@ -19,8 +18,7 @@ returns-clause-parent c =
     c.own_blocks_keep.ensures.register_now in_blocks before_join after_join 2 1 2 3 3 by_out_at_3
     in_blocks-is (omega arith)
     (grown in_blocks before_join after_join 2 in_blocks-is (omega arith) was
-    c.a_run_in_blocks.ensures.joined
-    (λ q. event_begins 1 q (RegisteredNow 2 3) before_join.history))
+    c.a_run_in_blocks.ensures.joined (turn_begins in_blocks late_joins before_join))
     (returns-clause-moved c) (was.tasks 2 (omega arith))
 
 pub returns-clause-child : goal.returns-clause-child

@@ -1,5 +1,5 @@
 -- At the opening place by place, and from there by the laws.
-use Rattle.std.proofs.Common.{◌≡◌, ℕ, zero, suc, ◌+◌, ◌<◌, pos, length, refl, arith}
+use Rattle.std.proofs.Common.{◌≡◌, ℕ, zero, suc, ◌+◌, ◌<◌, [], ◌∷◌, pos, length, refl, arith}
 use Rattle.std.specs.Prelude.{slice_get, nat_lt}
 use Rattle.stream_job.specs.graph_base.Graphs.{task_at}
 use Rattle.stream_job.specs.graph_runs.Moments.{made_now}
@@ -85,18 +85,18 @@ returns-clause-peer c = peer_stands
 
 pub returns-clause-begun : goal.returns-clause-begun
 returns-clause-begun c =
-    c.places_follow.ensures.sample worked worked_opening 0 0 0 1 (pos 5) source_at worked-is
+    c.places_follow.ensures.sample worked worked_opening 0 0 0 1 (pos 5 ∷ []) source_at worked-is
     c.the_run_is_reached.ensures.opening refl source_stands
 
 pub returns-clause-waits : goal.returns-clause-waits
 returns-clause-waits c =
-    c.places_follow.ensures.others worked worked_opening 0 1 (sample 0 0 0 1 (pos 5)) peer_at
-    worked-is c.the_run_is_reached.ensures.opening refl (omega arith) (λ e. (cc)) (λ e. (cc))
+    c.places_follow.ensures.others worked worked_opening 0 1 (sample 0 0 0 1 (pos 5 ∷ []))
+    peer_at worked-is c.the_run_is_reached.ensures.opening refl (omega arith) (λ e. (cc)) (λ e. (cc))
     peer_stands
 
 pub returns-clause-owes : goal.returns-clause-owes
 returns-clause-owes c =
-    c.places_follow.ensures.first_wait worked after_sample 1 0 0 2 (Value (pos 5)) peer_at
+    c.places_follow.ensures.first_wait worked after_sample 1 0 0 2 (Value (pos 5) ∷ []) peer_at
     worked-is c.the_run_is_reached.ensures.turn refl (returns-clause-waits c)
 
 pub returns-clause-leaves_first : goal.returns-clause-leaves_first

@@ -1,11 +1,12 @@
 -- By the law; what the turns make is computed.
-use Rattle.std.proofs.Common.{◌≡◌, ℕ, zero, suc, ◌+◌, ◌<◌, true, [], Some, is_some, refl, subst, pos, arith}
+use Rattle.std.proofs.Common.{◌≡◌, ℕ, zero, suc, ◌+◌, ◌<◌, true, [], ◌∷◌, Some, is_some, refl, subst, pos, arith}
 use Rattle.std.proofs.lemmas.Option.{same_Some}
 use Rattle.stream_job.specs.graph_base.declared.line.Parent.{Parent}
 use Rattle.stream_job.specs.graph_base.Graphs.{task_at}
 use Rattle.stream_job.specs.graph_runs.TaskEvents.{sample, leave}
 use Rattle.stream_job.specs.graph_runs.Nexts.{HasChildrenToCome, first_missing}
 use Rattle.graph_tests.specs.Worked.{worked, worked_opening, before_late, late_registers, before_end, by_out}
+use Rattle.graph_tests.proofs.Tests.{untrue}
 use Rattle.graph_tests.proofs.worked_turns.turns_make_next_events.Goals as goal
 
 -- of all tasks late alone is a child, and it alone is not there
@@ -32,37 +33,37 @@ late_to_come = record {
 
     begun : (c : ℕ) → c < 6 → is_some (first_missing worked before_late c) ≡ true
         → before_late.begun c ≡ 0
-    begun zero lt e = absurd (cc)
-    begun (suc zero) lt e = absurd (cc)
-    begun (suc (suc zero)) lt e = absurd (cc)
-    begun (suc (suc (suc zero))) lt e = absurd (cc)
-    begun (suc (suc (suc (suc zero)))) lt e = absurd (cc)
+    begun zero lt e = untrue e
+    begun (suc zero) lt e = untrue e
+    begun (suc (suc zero)) lt e = untrue e
+    begun (suc (suc (suc zero))) lt e = untrue e
+    begun (suc (suc (suc (suc zero)))) lt e = untrue e
     begun (suc (suc (suc (suc (suc zero))))) lt e = refl
     begun (suc (suc (suc (suc (suc (suc c)))))) lt e = absurd (omega arith)
 
     taken : (c k : ℕ) → c < 6 → is_some (first_missing worked before_late c) ≡ true
         → before_late.taken c k ≡ []
-    taken zero k lt e = absurd (cc)
-    taken (suc zero) k lt e = absurd (cc)
-    taken (suc (suc zero)) k lt e = absurd (cc)
-    taken (suc (suc (suc zero))) k lt e = absurd (cc)
-    taken (suc (suc (suc (suc zero)))) k lt e = absurd (cc)
+    taken zero k lt e = untrue e
+    taken (suc zero) k lt e = untrue e
+    taken (suc (suc zero)) k lt e = untrue e
+    taken (suc (suc (suc zero))) k lt e = untrue e
+    taken (suc (suc (suc (suc zero)))) k lt e = untrue e
     taken (suc (suc (suc (suc (suc zero))))) k lt e = refl
     taken (suc (suc (suc (suc (suc (suc c)))))) k lt e = absurd (omega arith)
 
     put : (c j : ℕ) → c < 6 → is_some (first_missing worked before_late c) ≡ true
         → before_late.put c j ≡ []
-    put zero j lt e = absurd (cc)
-    put (suc zero) j lt e = absurd (cc)
-    put (suc (suc zero)) j lt e = absurd (cc)
-    put (suc (suc (suc zero))) j lt e = absurd (cc)
-    put (suc (suc (suc (suc zero)))) j lt e = absurd (cc)
+    put zero j lt e = untrue e
+    put (suc zero) j lt e = untrue e
+    put (suc (suc zero)) j lt e = untrue e
+    put (suc (suc (suc zero))) j lt e = untrue e
+    put (suc (suc (suc (suc zero)))) j lt e = untrue e
     put (suc (suc (suc (suc (suc zero))))) j lt e = refl
     put (suc (suc (suc (suc (suc (suc c)))))) j lt e = absurd (omega arith)
 
 pub returns-clause-childless : goal.returns-clause-childless
 returns-clause-childless c =
-    (c.turns_make_next_events.ensures.childless worked worked_opening 0 (sample 0 0 0 1 (pos 5))
+    (c.turns_make_next_events.ensures.childless worked worked_opening 0 (sample 0 0 0 1 (pos 5 ∷ []))
     c.a_run_from_its_opening_to_its_end.ensures.graph
     c.a_run_from_its_opening_to_its_end.ensures.opening refl refl).0
 

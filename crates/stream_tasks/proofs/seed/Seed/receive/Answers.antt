@@ -1,5 +1,4 @@
 -- A registration stands behind those that were received before.
-use Rattle.std.proofs.Common.{refl}
 use Rattle.stream_tasks.proofs.Seeding.{has_received}
 use Rattle.stream_tasks.proofs.seed.Seed.receive.Goals as goal
 

@@ -1,5 +1,5 @@
 -- The turn keeps the task one of its run, with the child that it is registering.
-use Rattle.std.proofs.Common.{◌≡◌, ℕ, Option, Some, None, false, sym, subst}
+use Rattle.std.proofs.Common.{◌≡◌, ℕ, Option, false, sym, subst}
 use Rattle.stream_eval.specs.stream_lists.Jobs.{Job}
 use Rattle.stream_tasks.specs.Registering.{IsRegistering, IsWith}
 use Rattle.stream_tasks.specs.Tasks.{IsDue, IsTask, IsWhole}

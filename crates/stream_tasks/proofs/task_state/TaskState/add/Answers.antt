@@ -1,14 +1,12 @@
 -- The parent's moment serves the child after each answer.
-use Rattle.std.proofs.Common.{◌≡◌, ◌<◌, ℕ, List, [], ◌∷◌, ◌++◌, length, sym, subst, ap, ◌∙◌, arith}
+use Rattle.std.proofs.Common.{◌≡◌, [], ◌∷◌, ◌++◌, length, sym, subst, ap, ◌∙◌}
 use Rattle.std.proofs.lemmas.Option.{slice_get_within, same_Some}
 use Rattle.graph_runs.specs.phase_base.declared.mode.Mode.{Mode}
 use Rattle.stream_members.specs.AnyMembers.{member_in}
-use Rattle.stream_members.specs.declared.any_member.AnyMember.{AnyMember}
 use Rattle.graph_runs.specs.TaskPlaces.{registration_at}
 use Rattle.stream_tasks.specs.Holds.{GoesOn}
 use Rattle.stream_tasks.specs.Tasks.{IsWhole}
-use Rattle.stream_tasks.specs.Registering.{IsRegistering, HasAdded, AddsTo}
-use Rattle.stream_tasks.specs.Inside.{IsNextOn}
+use Rattle.stream_tasks.specs.Registering.{IsRegistering, HasAdded}
 use Rattle.stream_tasks.specs.declared.child.Child.{Child}
 use Rattle.stream_tasks.specs.declared.task_state.TaskState.{TaskState}
 use Rattle.stream_tasks.proofs.StillRegistering.{registering_waits, registering_adds, whole_keeps, adds_goes}

@@ -1,5 +1,5 @@
 -- `until` allows a step or not.
-use Rattle.std.proofs.Common.{◌≡◌, true, false, ℕ, sym, subst, ap, ◌∙◌}
+use Rattle.std.proofs.Common.{◌≡◌, true, sym, ap, ◌∙◌}
 use Rattle.graph_runs.specs.graph_base.Graphs.{task_at}
 use Rattle.graph_runs.specs.Nexts.{is_cut}
 use Rattle.graph_runs.specs.Steps.{owed_of}

@@ -1,5 +1,5 @@
 -- The peer is registered on E, as it owes its wait there.
-use Rattle.std.proofs.Common.{◌≡◌, ◌<◌, ◌≤◌, ℕ, length, refl, sym, subst, ap, ◌∙◌, arith, to_z-of_z, rules, FitsSigned, to_z, of_z, w64, Ok}
+use Rattle.std.proofs.Common.{◌≡◌, ◌<◌, length, refl, sym, subst, ◌∙◌, arith, to_z-of_z, rules, FitsSigned, to_z, of_z, w64, Ok}
 use Rattle.std.proofs.lemmas.Int.{to_z-of_z as signed}
 use Rattle.graph_runs.specs.TaskPlaces as turns
 use Rattle.graph_runs.specs.TaskPlaces.{owed_after_exchange}

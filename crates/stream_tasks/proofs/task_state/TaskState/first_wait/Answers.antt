@@ -1,12 +1,11 @@
 -- The wait is on the input that the step begins with.
-use Rattle.std.proofs.Common.{◌≡◌, ◌<◌, ◌≤◌, ℕ, suc, ◌+◌, List, ℤ, [], ◌∷◌, ◌++◌, true, false, length, refl, sym, subst, ap, ◌∙◌, arith, Ok, rules, FitsSigned, to_z, of_z, w64}
+use Rattle.std.proofs.Common.{◌≡◌, ◌<◌, ◌+◌, [], ◌∷◌, ◌++◌, true, false, length, refl, sym, subst, ap, ◌∙◌, arith, Ok, rules, FitsSigned, to_z, of_z, w64}
 use Rattle.std.proofs.lemmas.Int.{to_z-of_z as signed}
-use Rattle.graph_runs.specs.graph_base.declared.line.Kind.TheVariants as kind
 use Rattle.graph_runs.specs.graph_base.Graphs.{task_at}
 use Rattle.stream_eval.specs.stream_lists.Lists.{is_sink_at}
 use Rattle.graph_runs.specs.Nexts.{registrations_at}
 use Rattle.graph_runs.specs.TaskPlaces.{owed_after_wait}
-use Rattle.graph_runs.specs.Steps.{owed_of, HasFilter}
+use Rattle.graph_runs.specs.Steps.{HasFilter}
 use Rattle.stream_tasks.specs.Holds.{GoesOn, HasGot}
 use Rattle.stream_tasks.proofs.Turning.{task_sees, whole_moves}
 use Rattle.stream_tasks.proofs.Waiting.{task_takes, input_on}
@@ -55,7 +54,7 @@ returns-in-Ok-Value g c = λ spots task.
     c.owed_after_wait-self.result c.owed_after_wait-self.new.filter c.keep.new.lines false
     on.0 on.1 (sym c.input_of-p.ensures.phaser) step c.requires.kind c.first_input_of-k.ensures.input (omega arith)
     (λ taken has. c.owed_after_wait-self.ensures.owed taken has
-    ∙ ap (λ y. owed_after_wait (task_at job.graph t) s.begun taken y) same)
+    ∙ ap (λ y. owed_after_wait (task_at job.graph t) s.begun taken (y ∷ [])) same)
     (λ taken has. subst (λ y. HasFilter (task_at job.graph t) c.owed_after_wait-self.new.filter (taken ++ y ∷ [])) same
     (c.owed_after_wait-self.ensures.filter taken has))
     (λ sink. (let yes : is_sink_at job t ≡ true = rw sink refl in

@@ -1,5 +1,5 @@
 -- The child at the place that was looked up is this task.
-use Rattle.std.proofs.Common.{◌≡◌, ◌≤◌, ◌<◌, ℕ, length, Some, sym, subst, ap, ◌∙◌, arith, rules}
+use Rattle.std.proofs.Common.{◌≡◌, ◌≤◌, ◌<◌, ℕ, length, Some, sym, subst, ap, ◌∙◌, arith}
 use Rattle.std.specs.Prelude.{slice_get}
 use Rattle.std.proofs.lemmas.Bool.{leb-true}
 use Rattle.std.proofs.lemmas.Option.{slice_get-get_or}

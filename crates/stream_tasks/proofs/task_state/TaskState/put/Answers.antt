@@ -1,13 +1,10 @@
 -- The value is that which is owed.
-use Rattle.std.proofs.Common.{◌≡◌, ◌<◌, ℕ, length, sym, ◌≤◌, refl, subst, ap, ◌∙◌, arith, to_z-of_z, to_z, of_z, w64}
+use Rattle.std.proofs.Common.{◌≡◌, ◌<◌, length, sym, refl, subst, ap, ◌∙◌, arith, to_z-of_z, to_z, of_z, w64}
 use Rattle.graph_runs.specs.Nexts.{registrations_at}
 use Rattle.graph_runs.specs.TaskPlaces.{owed_after_signal}
 use Rattle.graph_runs.specs.Steps.{owed_of}
-use Rattle.std.specs.Prelude.{Ok}
+use Rattle.std.specs.Prelude.{[], ◌∷◌}
 use Rattle.graph_runs.specs.graph_base.Graphs.{task_at, phaser_at}
-use Rattle.stream_eval.specs.stream_lists.Jobs.{Job}
-use Rattle.graph_runs.specs.Moments.{Moment}
-use Rattle.graph_runs.specs.declared.owed.Owed.TheVariants.{Value}
 use Rattle.stream_tasks.specs.Holds.{GoesOn, HasSignalled}
 use Rattle.stream_tasks.proofs.Turning.{task_sees, task_puts, owed_output, output_on}
 use Rattle.stream_tasks.proofs.task_state.TaskState.put.Goals as goal
@@ -40,7 +37,7 @@ returns-in-Ok c = λ spots task.
     let on = output_on job s j k p task.whole less c.output_of-k.ensures.registration c.output_of-k.ensures.phaser in
     task_puts job spots s j k p c.args.value c.index_mut.result.now c.put.new.self c.owed_after_signal-self.result
     on.0 on.1 (sym c.output_of-k.ensures.phaser) c.requires.over c.requires.owed
-    (subst (λ v. owed_of c.owed_after_signal-self.result ≡ owed_after_signal (task_at job.graph s.number) j v)
+    (subst (λ v. owed_of c.owed_after_signal-self.result ≡ owed_after_signal (task_at job.graph s.number) j (v ∷ []))
     (to_z-of_z c.ranges.value) c.owed_after_signal-self.ensures)
     c.index_mut.ensures.value
     (subst (λ v. GoesOn (HasSignalled v (phaser_at job.graph p).single) c.index_mut.result.now c.put.new.self)

@@ -1,5 +1,5 @@
 -- The value is the next sample.
-use Rattle.std.proofs.Common.{◌≡◌, ◌<◌, ◌≤◌, ℕ, suc, ◌+◌, false, length, refl, sym, subst, ap, ◌∙◌, arith, get_or, pos, rules, FitsSigned, to_z, of_z, w64}
+use Rattle.std.proofs.Common.{◌≡◌, ◌<◌, ◌≤◌, ◌+◌, false, length, refl, sym, subst, ap, ◌∙◌, arith, get_or, pos, rules, FitsSigned, to_z, of_z, w64}
 use Rattle.std.proofs.lemmas.Int.{to_z-of_z as signed}
 use Rattle.graph_runs.specs.graph_base.Graphs.{task_at, phaser_at}
 use Rattle.graph_runs.specs.graph_base.Registrations.{signalled_by}
