@@ -2,9 +2,9 @@
 -- refused as Ahead or Spent alone; and its wait is answered as many values as are complete, at most
 -- its steps.
 use Rattle.std.proofs.Common.{◌≡◌, ℕ, zero, suc, ◌+◌, ◌-◌, ◌<◌, ◌≤◌, Bool, true, false, not, ◌&&◌, cond, eqb, List, [], ◌∷◌, ◌++◌, Option, Some, None, is_some, length, map, ℤ, refl, sym, ap, subst, ◌∙◌, arith, ◌⊎◌, inl, inr}
-use Rattle.std.specs.Prelude.{min, nat_lt, nat_le, if◌then◌else◌, Ok, slice_range, take, drop}
+use Rattle.std.specs.Prelude.{min, nat_lt, nat_le, Ok, slice_range, take, drop}
 use Rattle.std.specs.List.{range_with_len, fold}
-use Rattle.std.proofs.lemmas.Bool.{and_right, le-ltb, lt-leb, leb-false, lt-ltb, not_from_true, eq-eqb, cases_lt}
+use Rattle.std.proofs.lemmas.Bool.{and_right, le-ltb, lt-ltb, not_from_true, eq-eqb, cases_lt}
 use Rattle.std.proofs.lemmas.List.{length-map, length-take-le, length-drop}
 use Rattle.std.proofs.lemmas.List.FromFn.{length-range_with_len}
 use Rattle.std.proofs.lemmas.Bool.Decides.{nat_tests}
@@ -15,7 +15,6 @@ use Rattle.phase_history.specs.phase_base.declared.limits.TheConstants.{SENDS_MA
 use Rattle.phase_history.specs.phase_base.declared.mode.Mode.{Mode}
 use Rattle.phase_history.specs.phase_base.Lists.{first_row}
 use Rattle.phase_history.specs.phase_accum.declared.outcome.Outcome.{Outcome}
-use Rattle.phase_history.specs.phase_accum.declared.single.Single.{Single}
 use Rattle.phase_history.specs.phase_accum.Singles.{differs}
 use Rattle.phase_history.specs.declared.event.Event.TheVariants.{Waited}
 use Rattle.phase_history.specs.declared.got.GotBlock.TheVariants as block
@@ -23,22 +22,18 @@ use Rattle.phase_history.specs.declared.refusal.SignalRefusal.{SignalRefusal}
 use Rattle.phase_history.specs.declared.refusal.SignalRefusal.TheVariants as signal
 use Rattle.phase_history.specs.Histories.{History, members_of, done_of, wait_phase}
 use Rattle.phase_history.specs.Phases.{sends_of_phase, named_in_phase, stream_of, received_by, value_of_phase}
-use Rattle.phase_history.specs.Refusals.{signal_refusal, wait_refusal, list_rows, is_ahead, is_bad_block}
-use Rattle.phase_history.specs.Replies.{wait_block_reply, refused_or, got_block_at}
-use Rattle.phase_history.specs.Sent.{NamesAll}
-use Rattle.phase_history.specs.Legal.{IsAccepted}
+use Rattle.phase_history.specs.Refusals.{signal_refusal, list_rows, is_ahead, is_bad_block}
+use Rattle.phase_history.specs.Replies.{wait_block_reply}
 use Rattle.phase_history.proofs.BlockAnswers.{block_answers_law}
-use Rattle.stream_lists.specs.graph_base.declared.line.Kind.{Kind}
-use Rattle.stream_lists.specs.graph_base.declared.line.Kind.TheVariants.{Source, Fir, Split, Join, Peer, Sink}
 use Rattle.stream_lists.specs.graph_base.declared.line.Parent.{Parent}
 use Rattle.stream_lists.specs.graph_base.Graphs.{task_at, phaser_at}
 use Rattle.stream_lists.specs.graph_base.TaskLines.{IsGraph}
 use Rattle.stream_lists.specs.graph_base.declared.limits.TheConstants.{TASKS_MAX}
 use Rattle.stream_lists.specs.Jobs.{Job, samples_at}
 use Rattle.graph_runs.specs.Moments.{one, Moment, HasRun, TaskRan, AtMost, HasSamples, limits_at, value_at}
-use Rattle.graph_runs.specs.Moves.{MayBeginTo, NoneBefore, NoneDue}
-use Rattle.graph_runs.specs.Nexts.{first_owed, first_due, is_cut, has_input_ended}
-use Rattle.graph_runs.specs.NextBlocks.{until_allows, child_allows, block_of, sample_block_of}
+use Rattle.graph_runs.specs.Moves.{MayBeginTo}
+use Rattle.graph_runs.specs.Nexts.{first_owed, first_due, is_cut}
+use Rattle.graph_runs.specs.NextBlocks.{until_allows, child_allows, block_of}
 use Rattle.graph_runs.proofs.Boundaries.{all_taken, none_due, one_more}
 use Rattle.graph_runs.proofs.TurnEntries.{IsMember, sends_few}
 use Rattle.graph_runs.proofs.Refusing.{MaySignal, differs-none}

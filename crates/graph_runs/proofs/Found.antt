@@ -1,5 +1,5 @@
 -- The first of a list that passes a test: where none does, and where it stands.
-use Rattle.std.proofs.Common.{◌≡◌, ℕ, zero, suc, ◌+◌, ◌<◌, Bool, true, false, cond, List, [], ◌∷◌, Option, Some, None, length, get_or, refl, arith}
+use Rattle.std.proofs.Common.{◌≡◌, ℕ, zero, suc, ◌+◌, ◌<◌, Bool, true, false, cond, List, [], ◌∷◌, Some, None, length, get_or, refl, arith}
 use Rattle.std.specs.List.{All, position_from}
 use Rattle.std.proofs.lemmas.Option.{same_Some}
 

@@ -1,12 +1,9 @@
 -- The moment after an event of several phases has what every moment has.
-use Rattle.std.proofs.Common.{◌≡◌, ◌≢◌, ℕ, ◌+◌, ◌<◌, ◌≤◌, true, false, eqb, List, [], ◌∷◌, ◌++◌, Some, ℤ, length, map, take, drop, refl, sym, ap, subst, ◌∙◌, arith, ◌⊎◌, inl, inr}
+use Rattle.std.proofs.Common.{◌≡◌, ◌≢◌, ℕ, ◌+◌, ◌<◌, ◌≤◌, List, [], ◌∷◌, ◌++◌, ℤ, length, map, take, drop, refl, sym, ap, subst, ◌∙◌, arith, inl, inr}
 use mathlib.Core.List.{IsPrefix}
-use Rattle.std.proofs.lemmas.Bool.{ne_eqb, eq-eqb}
 use Rattle.std.proofs.lemmas.List.{append-nil, length-append, take-append-drop, take-take, drop-take}
 use Rattle.phase_history.specs.phase_accum.declared.outcome.Outcome.{Outcome}
-use Rattle.phase_history.specs.declared.event.Event.TheVariants.{Registered, Signalled, Waited, Dropped}
-use Rattle.phase_history.specs.phase_base.declared.mode.Mode.{Mode}
-use Rattle.stream_lists.specs.graph_base.declared.line.Parent.{Parent}
+use Rattle.phase_history.specs.declared.event.Event.TheVariants.{Signalled, Waited}
 use Rattle.stream_lists.specs.graph_base.declared.line.Kind.{Kind}
 use Rattle.stream_lists.specs.graph_base.declared.line.Kind.TheVariants.{Source}
 use Rattle.stream_lists.specs.graph_base.Graphs.{task_at, phaser_at}
@@ -19,7 +16,7 @@ use Rattle.graph_runs.specs.Moments.{one, Moment, HasRun, TaskRan, HasExchanged,
 use Rattle.graph_runs.specs.Moves.{further, SignalsAll, WaitsAll, HasMoved}
 use Rattle.graph_runs.specs.Turned.{with_at, after_signals, after_waits, IsAcceptedSignals, IsNextSignals, IsNextSamples, IsAnsweredWaits, IsFirstWaits}
 use Rattle.graph_runs.proofs.Entries.{take_full, prefix_whole}
-use Rattle.graph_runs.proofs.OwnEvents.{made_still, eq_case}
+use Rattle.graph_runs.proofs.OwnEvents.{made_still}
 use Rattle.graph_runs.proofs.Keeping.{signals_keep, waits_keep}
 use Rattle.graph_runs.proofs.Nexts.{further-length}
 use Rattle.graph_runs.proofs.Turned.{at_same, at_other}

@@ -1,14 +1,13 @@
 -- The phases at which tasks begin by the opening of a run are the least starts: a run whose sinks
 -- that join now begin at their parents' boundaries has the answer with the least starts.
-use Rattle.std.proofs.Common.{◌≡◌, ℕ, zero, suc, ◌+◌, ◌<◌, ◌≤◌, ◌&&◌, Bool, true, false, List, [], ◌∷◌, length, map, get_or, Option, Some, None, refl, sym, ap, ◌∙◌, arith}
+use Rattle.std.proofs.Common.{◌≡◌, ℕ, zero, suc, ◌+◌, ◌<◌, ◌&&◌, Bool, true, false, List, [], ◌∷◌, length, get_or, Option, Some, None, refl, sym, ap, ◌∙◌, arith}
 use Rattle.std.specs.Prelude.{max, nat_le, if◌then◌else◌}
-use Rattle.std.specs.List.{range_with_len}
 use Rattle.stream_lists.specs.graph_base.Graphs.{Task, task_at}
-use Rattle.stream_lists.specs.graph_base.TaskLines.{IsGraph, IsTaskLine, IsParent}
+use Rattle.stream_lists.specs.graph_base.TaskLines.{IsGraph, IsParent}
 use Rattle.stream_lists.specs.graph_base.declared.line.Parent.{Parent}
 use Rattle.stream_lists.specs.declared.span.Span.{Span}
 use Rattle.stream_lists.specs.Jobs.{Job, samples_at, start_at, with_starts, least}
-use Rattle.stream_lists.specs.Spans.{nowhere, offset_of, span_at, span_of, span_in, spans_of, lengths_of, Schedule, schedule_of}
+use Rattle.stream_lists.specs.Spans.{nowhere, offset_of, span_at, span_of, span_in, spans_of, lengths_of, Schedule}
 use Rattle.stream_lists.specs.Ranges.{answer_of}
 use Rattle.stream_lists.proofs.Growing.{length-grown}
 use Rattle.stream_lists.proofs.SpansAbove.{parent-is, same_offset, spans_all}

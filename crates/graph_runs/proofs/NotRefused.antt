@@ -1,5 +1,5 @@
 -- No turn is refused: each call of a live task is accepted, or comes too early.
-use Rattle.std.proofs.Common.{◌≡◌, ◌≢◌, ℕ, ◌+◌, ◌-◌, ◌<◌, ◌≤◌, Bool, true, false, not, ◌&&◌, ◌||◌, cond, eqb, List, [], ◌∷◌, Option, Some, None, is_some, length, map, get_or, ℤ, refl, sym, ap, subst, ◌∙◌, arith, ◌⊎◌, inl, inr}
+use Rattle.std.proofs.Common.{◌≡◌, ◌≢◌, ℕ, ◌+◌, ◌-◌, ◌<◌, ◌≤◌, Bool, true, false, not, ◌&&◌, ◌||◌, eqb, List, [], ◌∷◌, Option, Some, None, is_some, length, map, get_or, ℤ, refl, sym, ap, subst, ◌∙◌, arith, ◌⊎◌, inl, inr}
 use Rattle.std.specs.Prelude.{unwrap_or, nat_lt}
 use Rattle.std.specs.List.{position_from}
 use Rattle.std.proofs.lemmas.Bool.{and_left, and_right, ne_eqb, false_from_ne_true, cases_lt, not-true, le-ltb, lt-ltb}
@@ -19,7 +19,6 @@ use Rattle.phase_history.proofs.Alive.{alive_law}
 use Rattle.stream_lists.specs.graph_base.declared.line.Kind.{Kind}
 use Rattle.stream_lists.specs.graph_base.declared.line.Kind.TheVariants.{Source, Fir, Split, Join, Peer, Sink}
 use Rattle.stream_lists.specs.graph_base.declared.limits.TheConstants.{TASKS_MAX}
-use Rattle.stream_lists.specs.graph_base.declared.place.Place.TheVariants as place
 use Rattle.stream_lists.specs.graph_base.declared.registration.Registration.{Registration}
 use Rattle.stream_lists.specs.graph_base.Graphs.{task_at, phaser_at}
 use Rattle.stream_lists.specs.graph_base.Registrations.{ends_of, as_input, as_output, no_registration}
@@ -29,7 +28,7 @@ use Rattle.stream_lists.specs.Jobs.{Job, index_in}
 use Rattle.stream_lists.specs.Spans.{signalled_by}
 use Rattle.stream_lists.specs.Ranges.{are_made, is_out_of_range}
 use Rattle.stream_lists.proofs.Ordered.{place-at, parent_signals, parent_waits}
-use Rattle.graph_runs.specs.Moments.{one, Moment, HasEnded, OnLine, limits_at, value_at, input_at, numbers_on}
+use Rattle.graph_runs.specs.Moments.{one, Moment, HasEnded, OnLine, limits_at, input_at, numbers_on}
 use Rattle.graph_runs.proofs.OnLines.{on_phaser}
 use Rattle.graph_runs.specs.TaskEvents.{TaskEvent, leave, child, child_now}
 use Rattle.graph_runs.specs.Nexts.{first_due, first_kept, first_missing, has_registered, has_left, has_signaller, number_on, registrations_at}

@@ -17,7 +17,7 @@ use Rattle.phase_history.proofs.Alive.{alive_law}
 use Rattle.phase_history.proofs.Used.{start_from, start_of-longer}
 use Rattle.stream_lists.specs.graph_base.declared.line.Parent.{Parent}
 use Rattle.stream_lists.specs.graph_base.declared.registration.Registration.{Registration}
-use Rattle.stream_lists.specs.graph_base.Graphs.{task_at, phaser_at}
+use Rattle.stream_lists.specs.graph_base.Graphs.{task_at}
 use Rattle.stream_lists.specs.graph_base.Registrations.{no_registration}
 use Rattle.stream_lists.specs.graph_base.TaskLines.{IsGraph}
 use Rattle.phase_history.specs.phase_base.Lists.{is_distinct}
@@ -28,11 +28,11 @@ use Rattle.stream_lists.proofs.Ordered.{place-distinct}
 use Rattle.graph_runs.specs.Moments.{Moment, HasRun, numbers_on, limits_at}
 use Rattle.graph_runs.specs.Moves.{HasMoved, SameTask, Registers}
 use Rattle.graph_runs.proofs.Opened.{opened_ran}
-use Rattle.graph_runs.specs.TaskEvents.{TaskEvent, IsNext, sample, signal, first_wait, exchange_wait, leave, child, after_turn}
+use Rattle.graph_runs.specs.TaskEvents.{child}
 use Rattle.graph_runs.specs.Nexts.{HasChildrenToCome, first_missing, has_registered, registrations_at}
 use Rattle.graph_runs.specs.Reached.{HasMode, HasModes, HasOnlyTasks, HasTaskMembers, IsOfTask, HasBegun, IsReachable}
 use Rattle.graph_runs.proofs.PlacesLemmas.{find-some}
-use Rattle.graph_runs.proofs.Whose.{task_of, IsInOrder}
+use Rattle.graph_runs.proofs.Whose.{IsInOrder}
 
 -- ---- events that give no number
 

@@ -1,14 +1,14 @@
 -- What a moment has of a job it has of the job with other starts.
-use Rattle.std.proofs.Common.{◌≡◌, ℕ, ◌<◌, Option, Some, None, length, refl, ap, ◌∙◌, arith}
+use Rattle.std.proofs.Common.{◌≡◌, ℕ, ◌<◌, Option, Some, None, length, ap, ◌∙◌, arith}
 use Rattle.std.specs.Prelude.{if◌then◌else◌, List}
 use Rattle.std.proofs.lemmas.List.FromFn.{get_or-map-range_with_len}
 use Rattle.stream_lists.specs.graph_base.Graphs.{task_at}
 use Rattle.stream_lists.specs.graph_base.TaskLines.{IsGraph}
-use Rattle.stream_lists.specs.Jobs.{Job, samples_at, start_at, index_in, with_starts}
+use Rattle.stream_lists.specs.Jobs.{Job, start_at, index_in, with_starts}
 use Rattle.stream_lists.specs.Spans.{signalled_by}
 use Rattle.stream_lists.specs.Meetings.{meeting_line}
 use Rattle.stream_lists.proofs.Starts.{meetings_stay}
-use Rattle.graph_runs.specs.Moments.{Moment, HasRun, PhaserRan, TaskRan, HasEnded, OnOutput, OnInput, OnPhaser, PutOn, TakenOn, SilentOn, input_at, started}
+use Rattle.graph_runs.specs.Moments.{Moment, HasRun, PhaserRan, TaskRan, HasEnded, OnOutput, OnInput, OnPhaser, PutOn, TakenOn, input_at, started}
 use Rattle.graph_runs.specs.Settled.{IsReady}
 
 -- a graph that was read, no two tasks of which meet, in a job whose sinks that join now begin where

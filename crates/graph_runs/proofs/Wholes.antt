@@ -1,5 +1,5 @@
 -- The moment of the whole run has run and is over, and so its sinks have taken the job's answer.
-use Rattle.std.proofs.Common.{◌≡◌, ℕ, ◌+◌, ◌<◌, ◌≤◌, false, List, [], ◌∷◌, Option, Some, None, Ok, length, map, slice_get, refl, sym, ap, subst, ◌∙◌, arith}
+use Rattle.std.proofs.Common.{◌≡◌, ℕ, ◌<◌, ◌≤◌, false, List, [], ◌∷◌, Option, Some, None, Ok, length, map, slice_get, refl, sym, ap, subst, ◌∙◌, arith}
 use Rattle.std.specs.List.{All, range_with_len}
 use Rattle.std.proofs.lemmas.Option.{same_Some}
 use Rattle.phase_history.specs.phase_accum.declared.outcome.Outcome.{Outcome}
@@ -14,7 +14,6 @@ use Rattle.stream_lists.specs.Jobs.{Job, with_starts, least}
 use Rattle.stream_lists.specs.Lists.{sinks_of, is_sink_at}
 use Rattle.stream_lists.specs.Ranges.{answer_of, is_too_big}
 use Rattle.graph_runs.proofs.Started.{ready_as, run_started}
-use Rattle.std.specs.Prelude.{get_or}
 use Rattle.std.proofs.lemmas.List.FromFn.{get_or-map-range_with_len}
 use Rattle.graph_runs.proofs.LeastStarts.{opening_answer}
 use Rattle.graph_runs.specs.Moments.{Moment, started, HasRun, PhaserRan, TaskRan, IsOver, HasMetNone, OnLine, IsRegistered, IsChild, value_at}
@@ -31,7 +30,7 @@ use Rattle.graph_runs.proofs.AtOpening.{opening_has_begun}
 use Rattle.graph_runs.specs.TaskEnds.{TaskEnd}
 use Rattle.graph_runs.specs.RunEnds.{Ends, HasCome, IsRunEnd, lines_in}
 use Rattle.graph_runs.proofs.Absent.{absent_ran}
-use Rattle.graph_runs.proofs.Owns.{found_on, HasOwn, has_number, has_some}
+use Rattle.graph_runs.proofs.Owns.{found_on, HasOwn, has_number}
 use Rattle.graph_runs.proofs.Joined.{Status, absent, came, number_by, begun_by, taken_by, put_by, status, whole, has_whole, IsNumbered, is_numbered, number_given, begun_there, registered_there}
 use Rattle.graph_runs.proofs.OnPhasers.{part_of, quiet, phaser_ran}
 

@@ -31,12 +31,7 @@ pub fn first_filter(alloc: Global, job: &Job, t: usize) -> Result<Option<Fir>, A
 }
 
 /// Returns what the filter of task number `t` answers to `x`, its next sample. It takes no memory.
-pub fn filtered(
-    job: &Job,
-    t: usize,
-    filter: &mut Option<Fir>,
-    x: i64,
-) -> Result<i64, TooBigValue>
+pub fn filtered(job: &Job, t: usize, filter: &mut Option<Fir>, x: i64) -> Result<i64, TooBigValue>
     requires task { t < length job.now.graph.tasks }
     requires kind { (task_at job.now.graph t).kind ≡ filters }
     requires filter { (taken : List ℤ) × HasFilter (task_at job.now.graph t) filter.old taken }
