@@ -143,7 +143,8 @@ others_owe task many begun mid taken after xs x block other few same =
     by Sink e block = rw e refl
 
 pub took_other : (task : Task) (many : ℕ) (xs ys : List ℤ) (x : ℤ) (old mid new : TaskState)
-    → ys ≡ xs ++ x ∷ [] → TookSoFar task xs old mid → task.kind ≢ Fir → IsBlock task.kind many → length xs < many
+    → ys ≡ xs ++ x ∷ [] → TookSoFar task xs old mid → task.kind ≢ Fir → IsBlock task.kind many
+    → length xs < many
     → ((taken : List ℤ) → HasFilter task mid.filter taken
     → owed_of new.owed ≡ owed_after_wait task mid.begun taken (x ∷ []))
     → ((taken : List ℤ) → HasFilter task mid.filter taken
