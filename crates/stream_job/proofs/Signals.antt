@@ -1,6 +1,6 @@
 -- The turn of a task that signals.
 use Rattle.std.proofs.Common.{◌≡◌, ◌≢◌, ℕ, ℤ, List, zero, suc, ◌+◌, ◌-◌, ◌<◌, ◌≤◌, Bool, true, false, cond, not, eqb, [], ◌∷◌, Option, Some, None, length, get_or, slice_get, set, map, take, drop, refl, sym, ap, subst, ◌∙◌, arith}
-use Rattle.std.specs.Prelude.{Result, Ok, Err, nat_le, unsigned_abs, min}
+use Rattle.std.specs.Prelude.{Result, Ok, Err, nat_le, unsigned_abs}
 use Rattle.std.specs.List.{All, position_from}
 use Rattle.std.specs.declared.vec.Vec.{Vec}
 use Rattle.std.specs.Global.{Global}
@@ -27,7 +27,7 @@ use Rattle.stream_eval.specs.stream_lists.Jobs.{Job, samples_at}
 use Rattle.stream_eval.specs.stream_lists.Ranges.{is_out_of_range, are_made}
 use Rattle.stream_eval.specs.stream_lists.Spans.{puts_on}
 use Rattle.stream_eval.specs.Results.{sink_values}
-use Rattle.graph_runs.specs.Moments.{one, Moment, HasAnsweredNone, limits_at, made_now}
+use Rattle.graph_runs.specs.Moments.{one, Moment, limits_at, made_now}
 use Rattle.graph_runs.specs.Moves.{further}
 use Rattle.graph_runs.specs.Turned.{with_at}
 use Rattle.graph_runs.specs.NextBlocks.{block_of, sample_block_of}

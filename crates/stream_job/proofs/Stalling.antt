@@ -1,6 +1,6 @@
 -- Whether the call of a live task is blocked, where no turn is refused.
-use Rattle.std.proofs.Common.{◌≡◌, ◌≢◌, ℕ, zero, suc, ◌+◌, ◌-◌, ◌<◌, ◌≤◌, Bool, true, false, not, eqb, ◌&&◌, ◌||◌, cond, ℤ, pos, List, [], ◌∷◌, Option, Some, None, is_some, map, take, drop, get_or, refl, sym, ap, subst, ◌∙◌, arith}
-use Rattle.std.specs.Prelude.{Result, Ok, Err, nat_le, nat_lt, min, length}
+use Rattle.std.proofs.Common.{◌≡◌, ◌≢◌, ℕ, suc, ◌+◌, ◌-◌, ◌<◌, ◌≤◌, Bool, true, false, not, eqb, ◌&&◌, ◌||◌, cond, ℤ, pos, List, [], ◌∷◌, Option, Some, None, is_some, map, drop, refl, sym, ap, subst, ◌∙◌, arith}
+use Rattle.std.specs.Prelude.{nat_le, nat_lt, length}
 use Rattle.std.specs.List.{position_from}
 use Rattle.std.proofs.lemmas.Bool.{leb-true, leb-false, le-leb, lt-ltb, le-ltb}
 use Rattle.std.proofs.lemmas.List.{length-map, length-drop, length-take-le}
@@ -24,7 +24,6 @@ use Rattle.phase_core.specs.phase_history.Refusals.{refusal_at, signal_rows, lis
 use Rattle.phase_core.specs.phase_base.Lists.{first_row}
 use Rattle.phase_core.specs.phase_history.Replies.{wait_reply, wait_block_reply, refused_or, got_at, got_block_at}
 use Rattle.phase_core.specs.phase_accum.Sends.{AreSends}
-use Rattle.graph_lang.specs.stream_filters.declared.fault.TooBigValue.{TooBigValue}
 use Rattle.graph_lang.specs.stream_filters.Range.{ranged}
 use Rattle.graph_lang.specs.graph_base.declared.place.Place.TheVariants as place
 use Rattle.graph_lang.specs.graph_base.declared.registration.Registration.{Registration}
@@ -32,9 +31,9 @@ use Rattle.graph_lang.specs.graph_base.Graphs.{task_at, phaser_at}
 use Rattle.graph_lang.specs.graph_base.TaskLines.{IsGraph}
 use Rattle.stream_eval.specs.stream_lists.Jobs.{Job, samples_at}
 use Rattle.stream_eval.specs.stream_lists.Ranges.{are_made, is_out_of_range}
-use Rattle.graph_runs.specs.Moments.{one, Moment, limits_at, value_at, input_at, made_now}
+use Rattle.graph_runs.specs.Moments.{one, Moment, limits_at, value_at, input_at}
 use Rattle.graph_runs.specs.NextBlocks.{block_of, sample_block_of}
-use Rattle.graph_runs.specs.TaskEvents.{TaskEvent, sample, signal, first_wait, exchange_wait}
+use Rattle.graph_runs.specs.TaskEvents.{TaskEvent, sample, signal, exchange_wait}
 use Rattle.graph_runs.specs.Nexts.{Next, registers, leaves, samples, signals, waits, exchanges, has_input_ended, has_signaller, next_of, number_on, first_missing, first_kept}
 use Rattle.graph_runs.specs.Answers.{has_made, is_refused, signal_answer, block_answer, wait_answer, accepted_answer, register_answer, was_blocked, answer_to, signal_turn, call_leave, call_register, output_at, next_samples, next_values}
 use Rattle.graph_runs.specs.TaskPlaces.{Owed, Owes}

@@ -1,5 +1,5 @@
 -- A task whose call is blocked stays so until there is an event on the phaser of the call.
-use Rattle.std.proofs.Common.{◌≡◌, ◌≢◌, ℕ, ◌+◌, ◌-◌, Bool, true, false, not, ◌&&◌, ◌||◌, cond, ℤ, List, [], ◌∷◌, Option, Some, None, length, map, take, drop, refl, sym, ap, subst, ◌∙◌, ◌⊎◌, inl, inr}
+use Rattle.std.proofs.Common.{◌≡◌, ◌≢◌, ℕ, ◌+◌, ◌-◌, true, false, not, ◌&&◌, ◌||◌, cond, ℤ, List, Option, Some, None, length, map, take, drop, refl, sym, ap, subst, ◌∙◌, ◌⊎◌, inl, inr}
 use Rattle.std.specs.Prelude.{unwrap_or, nat_le, nat_lt, min, slice_range}
 use Rattle.std.specs.List.{fold, position_from, range_with_len}
 use Rattle.phase_core.specs.phase_accum.declared.outcome.Outcome.{Outcome}
@@ -9,11 +9,10 @@ use Rattle.phase_core.specs.phase_history.Refusals.{signal_refusal}
 use Rattle.phase_core.specs.phase_history.Replies.{wait_reply, wait_block_reply}
 use Rattle.graph_lang.specs.graph_base.declared.line.Kind.{Kind}
 use Rattle.graph_lang.specs.graph_base.declared.line.Kind.TheVariants.{Source, Fir, Split, Join, Peer, Sink}
-use Rattle.graph_lang.specs.graph_base.declared.place.Place.TheVariants as place
 use Rattle.graph_lang.specs.graph_base.Graphs.{task_at, phaser_at}
 use Rattle.graph_lang.specs.graph_base.Registrations.{signalled_by}
 use Rattle.stream_eval.specs.stream_lists.Jobs.{Job, samples_at}
-use Rattle.stream_eval.specs.stream_lists.Ranges.{are_made, is_out_of_range}
+use Rattle.stream_eval.specs.stream_lists.Ranges.{is_out_of_range}
 use Rattle.graph_runs.specs.Moments.{one, Moment, limits_at, value_at, input_at, made_now, first_input}
 use Rattle.graph_runs.specs.Moves.{SameTask}
 use Rattle.graph_runs.specs.NextBlocks.{block_of, child_allows, until_allows}
@@ -21,7 +20,7 @@ use Rattle.graph_runs.proofs.Framed.{made_same}
 use Rattle.graph_runs.specs.TaskEvents.{TaskEvent, sample, signal, first_wait, exchange_wait, after_turn}
 use Rattle.graph_runs.specs.Nexts as turns
 use Rattle.graph_runs.specs.Nexts.{Next, first_due, first_owed, has_input_ended, has_run_out, has_signaller, in_step, is_cut, is_live, next_of, is_owed, next_step, number_on, of_live, waits_first, at_boundary}
-use Rattle.graph_runs.specs.Answers.{Answer, makes, is_blocked, has_made, is_refused, answer_of_turn, answer_to, block_answer, call_block, call_wait, signal_answer, signal_turn, wait_answer, output_at, next_samples, next_values, was_blocked}
+use Rattle.graph_runs.specs.Answers.{Answer, makes, is_blocked, answer_of_turn, answer_to, block_answer, call_block, call_wait, signal_answer, signal_turn, wait_answer, output_at, next_samples, next_values, was_blocked}
 use Rattle.graph_runs.proofs.Signalling.{live-is}
 use Rattle.graph_runs.proofs.Turning.{turn_makes_next}
 use Rattle.graph_runs.proofs.Whose.{made_by}

@@ -1,5 +1,5 @@
 -- The values before this place are in range, and stand in place of those that were there.
-use Rattle.std.proofs.Common.{◌≡◌, List, map, take, drop, vec_capacity}
+use Rattle.std.proofs.Common.{◌≡◌, map, take, drop, vec_capacity}
 use Rattle.std.specs.Prelude.{Ok}
 use Rattle.std.specs.List.{position_from}
 use Rattle.stream_job.specs.Inside.{is_over}

@@ -1,5 +1,5 @@
 -- All that is made is signalled, where all of it is in range.
-use Rattle.std.proofs.Common.{◌≡◌, ◌<◌, ◌≤◌, ◌+◌, ◌-◌, [], map, length, get_or, refl, sym, ap, ◌∙◌, arith}
+use Rattle.std.proofs.Common.{◌≡◌, ◌<◌, ◌+◌, ◌-◌, [], map, length, get_or, refl, sym, ap, ◌∙◌, arith}
 use Rattle.std.specs.Prelude.{Ok, Result, ℤ}
 use Rattle.std.specs.List.{position_from}
 use Rattle.std.proofs.lemmas.List.{length-map}
@@ -14,7 +14,7 @@ use Rattle.stream_job.specs.Machines.{IsMachineAt}
 use Rattle.stream_job.specs.Places.{owed_in}
 use Rattle.stream_job.proofs.Lively.{has_state}
 use Rattle.stream_job.proofs.Setting.{read_same, set_read}
-use Rattle.stream_job.proofs.Signals.{HasMade, MadeOver, NextAre, filter_owes, has_made, made_begun, made_few, made_over, over_turn, refused_turn, signal_few, signalled_turn, signals_at, signals_so, values_sent, with_owing}
+use Rattle.stream_job.proofs.Signals.{HasMade, MadeOver, NextAre, filter_owes, has_made, made_begun, made_few, made_over, over_turn, refused_turn, signalled_turn, signals_at, signals_so, values_sent, with_owing}
 use Rattle.stream_job.proofs.machine.Machine.signal_made.Goals as goal
 
 pub overflow_sub-first : goal.overflow_sub-first

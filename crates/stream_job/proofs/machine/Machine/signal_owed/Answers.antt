@@ -1,5 +1,5 @@
 -- By what the state owes.
-use Rattle.std.proofs.Common.{rules, ◌≡◌, ◌-◌, [], ◌∷◌, length, refl, sym, ap, subst, ◌∙◌, arith, SFits, w64, to_z-of_z}
+use Rattle.std.proofs.Common.{rules, ◌-◌, [], ◌∷◌, length, refl, sym, ap, subst, ◌∙◌, arith, SFits, w64, to_z-of_z}
 use Rattle.std.specs.Prelude.{Ok, Err}
 use Rattle.std.proofs.lemmas.Option.{slice_get_read, same_Some}
 use Rattle.graph_runs.specs.Moments.{Moment}
