@@ -1,5 +1,5 @@
 -- The turn of a task that registers its child.
-use Rattle.std.proofs.Common.{◌≡◌, ◌≢◌, ℕ, List, ◌+◌, ◌-◌, ◌^◌, ◌<◌, ◌≤◌, Bool, true, false, cond, eqb, [], ◌∷◌, ◌++◌, Option, Some, None, length, get_or, slice_get, set, map, is_some, refl, sym, ap, subst, ◌∙◌, ◌⊎◌, inl, inr, arith}
+use Rattle.std.proofs.Common.{◌≡◌, ◌≢◌, ℕ, List, ◌+◌, ◌-◌, ◌^◌, ◌<◌, ◌≤◌, Bool, true, false, cond, eqb, [], ◌∷◌, ◌++◌, Option, Some, None, length, get_or, slice_get, set, is_some, refl, sym, ap, subst, ◌∙◌, ◌⊎◌, inl, inr, arith}
 use Rattle.std.specs.Prelude.{unwrap_or, nat_lt, option_map}
 use Rattle.smallvec.specs.SmallVec.{SmallVec}
 use Rattle.phase_core.specs.phase_registry.Rosters.{next_after}
@@ -13,14 +13,13 @@ use Rattle.std.proofs.lemmas.Bool.{cases_lt, eqb-true, eq-eqb}
 use Rattle.std.proofs.lemmas.Option.{slice_get-get_or, slice_get_past}
 use Rattle.phase_core.specs.phase_base.declared.mode.Mode.{Mode}
 use Rattle.phase_core.specs.phase_history.declared.refusal.RegisterRefusal.{RegisterRefusal}
-use Rattle.phase_core.specs.phase_history.Histories.{History, greatest_used, done_of}
+use Rattle.phase_core.specs.phase_history.Histories.{greatest_used, done_of}
 use Rattle.phase_core.specs.phase_history.Refusals.{register_refusal, register_now_refusal}
 use Rattle.graph_lang.specs.graph_base.Graphs.{task_at}
 use Rattle.graph_lang.specs.graph_base.Registrations.{no_registration}
 use Rattle.graph_lang.specs.graph_base.TaskLines.{IsGraph, HasEnds}
 use Rattle.stream_eval.specs.stream_lists.Jobs.{Job}
 use Rattle.stream_eval.specs.stream_lists.Lists.{sinks_of}
-use Rattle.stream_eval.specs.Results.{sink_values}
 use Rattle.graph_runs.specs.Moments.{Moment, HasRun, input_at, first_input}
 use Rattle.graph_runs.specs.Turned.{with_at}
 use Rattle.graph_runs.specs.Nexts.{is_live, is_due, next_of, number_on, first_due, registrations_at, registers, signals, exchanges, samples, waits}

@@ -1,6 +1,6 @@
 -- What a task has taken of the first wait of its next steps, outcome by outcome.
 use Rattle.std.proofs.Common.{◌≡◌, ◌≢◌, ℕ, suc, ◌+◌, ◌<◌, ◌≤◌, ℤ, List, [], ◌∷◌, ◌++◌, length, map, refl, sym, ap, subst, ◌∙◌, arith}
-use Rattle.std.specs.Prelude.{Result, ◌%◌}
+use Rattle.std.specs.Prelude.{Result}
 use Rattle.std.proofs.lemmas.List.{append-nil, append_assoc, length-append, length-map, map-append}
 use Rattle.graph_lang.specs.stream_filters.declared.fault.TooBigValue.{TooBigValue}
 use Rattle.graph_lang.specs.stream_filters.Filter.{output_after}
@@ -12,7 +12,6 @@ use Rattle.graph_runs.specs.Moves.{IsBlock}
 use Rattle.graph_runs.specs.Steps.{HasFilter, owed_of}
 use Rattle.graph_runs.specs.TaskPlaces as places
 use Rattle.graph_runs.specs.TaskPlaces.{owed_after_wait, outputs_of_block}
-use Rattle.graph_runs.specs.declared.owed.Owed.{Owed}
 use Rattle.graph_runs.specs.declared.owed.Owed.TheVariants.{Nothing}
 use Rattle.stream_job.specs.Places.{HasTaken, owed_in}
 use Rattle.stream_job.specs.declared.task_state.TaskState.{TaskState}

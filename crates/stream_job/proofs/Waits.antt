@@ -1,5 +1,5 @@
 -- The turn of a task that waits.
-use Rattle.std.proofs.Common.{◌≡◌, ◌≢◌, ℕ, ℤ, List, suc, ◌+◌, ◌<◌, ◌≤◌, Bool, true, false, cond, eqb, [], ◌∷◌, ◌++◌, Option, Some, None, length, get_or, slice_get, set, map, refl, sym, ap, subst, ◌∙◌, arith}
+use Rattle.std.proofs.Common.{◌≡◌, ◌≢◌, ℕ, ℤ, List, ◌+◌, ◌<◌, ◌≤◌, Bool, true, false, cond, eqb, [], ◌∷◌, ◌++◌, Option, Some, None, length, get_or, slice_get, set, map, refl, sym, ap, subst, ◌∙◌, arith}
 use Rattle.std.specs.Prelude.{Result, Ok, Err, nat_lt, IfSome, min, slice_range, take, drop, ◌-◌}
 use Rattle.std.specs.List.{All, range_with_len}
 use Rattle.std.proofs.Math.Seq.{take-append_seam}
@@ -67,7 +67,6 @@ use Rattle.stream_job.specs.declared.task_state.TaskState.{TaskState}
 use Rattle.stream_job.specs.declared.made.Made.{Made}
 use Rattle.stream_job.specs.declared.made.Made.TheVariants.{Event, Blocked}
 use Rattle.stream_job.specs.declared.turned.Turned.{Turned}
-use Rattle.stream_eval.specs.declared.whole.Lines.{Lines}
 use Rattle.stream_job.specs.SinkLines.{kept_by, kept_of}
 use Rattle.stream_job.proofs.SinksKeep.{lines_keep, lines_stay}
 use Rattle.stream_job.proofs.Begun.{begun_few}

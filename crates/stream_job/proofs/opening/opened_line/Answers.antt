@@ -1,6 +1,5 @@
 -- The span that a job keeps is the one with the least starts.
-use Rattle.std.proofs.Common.{rules, ◌≡◌, ◌≤◌, ℕ, [], length, sym, ap, subst, ◌∙◌, arith}
-use Rattle.std.specs.Prelude.{vec_capacity}
+use Rattle.std.proofs.Common.{◌≡◌, sym, ap, arith}
 use Rattle.stream_eval.specs.stream_lists.declared.span.Span.{Span}
 use Rattle.stream_eval.specs.stream_lists.Jobs.{Job, with_starts, least}
 use Rattle.stream_eval.specs.stream_lists.Spans.{span_in}

@@ -1,5 +1,5 @@
 -- The line of a sink that joins now begins, and the others stay.
-use Rattle.std.proofs.Common.{◌≡◌, ◌<◌, true, false, not, Some, length, get_or, set, refl, sym, ap, subst, ◌∙◌, arith}
+use Rattle.std.proofs.Common.{◌≡◌, ◌<◌, true, false, Some, length, get_or, set, refl, sym, ap, subst, ◌∙◌, arith}
 use Rattle.std.proofs.lemmas.Option.{slice_get_read}
 use Rattle.std.specs.Vec.{vec_len}
 use Rattle.graph_lang.specs.graph_base.Graphs.{task_at}

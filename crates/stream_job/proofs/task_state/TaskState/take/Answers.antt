@@ -1,5 +1,5 @@
 -- A filter has made one output more; of others a block is one step, or they owe nothing.
-use Rattle.std.proofs.Common.{rules, SFits, w64, to_z, of_z, pos, ◌≡◌, ◌≢◌, ◌<◌, ◌≤◌, ◌+◌, ◌++◌, ◌∷◌, [], ℕ, ℤ, List, length, map, get_or, take, refl, sym, ap, subst, ◌∙◌, arith, to_z-of_z}
+use Rattle.std.proofs.Common.{rules, SFits, w64, to_z, of_z, pos, ◌≡◌, ◌≢◌, ◌<◌, ◌≤◌, ◌+◌, ◌++◌, ◌∷◌, [], length, map, get_or, take, refl, sym, ap, subst, ◌∙◌, arith, to_z-of_z}
 use Rattle.std.proofs.lemmas.List.{take_more, take_all, length-map, length-take-le, map-append}
 use Rattle.phase_core.specs.phase_accum.declared.outcome.Outcome.TheVariants.{Value}
 use Rattle.graph_lang.specs.graph_base.declared.line.Kind.TheVariants.{Fir}
@@ -7,7 +7,7 @@ use Rattle.graph_lang.specs.graph_base.Graphs.{task_at}
 use Rattle.graph_lang.specs.stream_filters.Filter.{output_after}
 use Rattle.graph_lang.specs.stream_filters.Range.{ranged}
 use Rattle.stream_eval.specs.stream_lists.Lists.{number as number_of}
-use Rattle.graph_runs.specs.Steps.{HasFilter, owed_of}
+use Rattle.graph_runs.specs.Steps.{HasFilter}
 use Rattle.graph_runs.specs.TaskPlaces.{owed_after_wait}
 use Rattle.stream_job.specs.declared.task_state.TaskState.{TaskState}
 use Rattle.stream_job.proofs.Taking.{TookSoFar, took_filtered, took_other, took_all, many_made}
