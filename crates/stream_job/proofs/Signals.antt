@@ -407,9 +407,6 @@ values_sent job machine t j vs next value =
 abbrev pub Values : Type 0
 Values = Vec (Result ℤ TooBigValue) Global
 
-abbrev pub with_owed : TaskState → Owed → TaskState
-with_owed state owed = record state { owed = owed }
-
 abbrev pub with_owing : TaskState → Owed → Values → TaskState
 with_owing state owed made = record state { owed = owed; made = made }
 
