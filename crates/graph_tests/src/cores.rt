@@ -1,12 +1,12 @@
 //! Phasers of a graph under each operation, with the members that a graph's tasks are.
 use std::alloc::Global;
 use std::test::Fail;
-use stream_job::AnyCore;
 use stream_job::phase_accum::{NO_VALUE, Op, Outcome, Single, VALUE_MAX};
 use stream_job::phase_base::{Entry, Mode, Spec};
 use stream_job::phase_history::{
     Got, GotBlock, NoTask, RegisterRefusal, SignalRefusal, WaitRefusal,
 };
+use stream_job::{AnyCore, Parcels};
 
 const ALL: [Op; 5] = [Op::Sum, Op::Product, Op::Least, Op::Greatest, Op::Any];
 
@@ -170,11 +170,14 @@ fn a_block_has_the_complete_phases(rt: HostRuntime) -> Result<(), Fail> {
         (Op::Any, 4),
     ] {
         let mut core = opened(rt.alloc(), op)?;
+        let mut parcels = Parcels::new(rt.alloc(), 3)?;
         let mut out = [Outcome::Empty; 3];
         let early = core.wait_block(3, &mut out[..2]);
         assert_eq!(rt; early, Err(WaitRefusal::NotYet), "{op:?}");
-        assert_eq!(rt; core.signal_one(1, 4, None), Ok(0));
-        assert_eq!(rt; core.signal_one(1, 4, None), Ok(1));
+        let long = core.signal_values(1, &[4, 4, 4], None, &mut parcels);
+        assert_eq!(rt; long, Err(SignalRefusal::BadBlock), "{op:?}");
+        let many = core.signal_values(1, &[4, 4], None, &mut parcels);
+        assert_eq!(rt; many, Ok(0), "{op:?}");
         assert_eq!(rt; core.signal_one(2, -1, None), Ok(0));
         let long = core.wait_block(3, &mut out);
         assert_eq!(rt; long, Err(WaitRefusal::BadBlock), "{op:?}");

@@ -68,11 +68,15 @@ pub fn last_round(world: &mut World<'_>, tasks: usize) -> Result<Round, AllocErr
     Ok(Round::Moved)
 }
 
-/// The numbers and values of sinks, a line for each.
+/// The numbers and values of sinks, a line for each, with the start of one that joined now.
 pub fn text_of(alloc: Global, lines: &[Lines]) -> Result<String, Fail> {
     let mut text = String::new(alloc);
     for line in lines {
-        text.push_str(&format!(in alloc; "{}:", line.task)?)?;
+        text.push_str(&format!(in alloc; "{}", line.task)?)?;
+        if let Some(start) = line.start {
+            text.push_str(&format!(in alloc; " from {start}")?)?;
+        }
+        text.push_str(":")?;
         for value in &line.values {
             text.push_str(&format!(in alloc; " {value}")?)?;
         }

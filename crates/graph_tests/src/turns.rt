@@ -25,7 +25,12 @@ const TOLD: Turned = Turned::TooBig {
     phase: 0,
 };
 
-const CASES: [Case; 3] = [
+const SECOND: Turned = Turned::TooBig {
+    place: Place::Task(1),
+    phase: 1,
+};
+
+const CASES: [Case; 7] = [
     Case {
         name: "each turn makes one event",
         graph: "phaser X sum ?\nphaser Y sum ?\nsource s s.csv -> X\n\
@@ -75,6 +80,76 @@ const CASES: [Case; 3] = [
             (2, TOLD),
             (3, TOLD),
             (18446744073709551615, TOLD),
+        ],
+        lines: "2:\n",
+    },
+    Case {
+        name: "a sink joins now where the stream stands",
+        graph: "graph 2\nphaser X sum 4\nsource s s.csv -> X block=4\nsink out X block=2\n\
+            sink late X by out at 2 now\n",
+        samples: "1\n2\n3\n4\n",
+        rounds: 0,
+        turns: &[
+            (0, Turned::Moved),
+            (1, Turned::Moved),
+            (1, Turned::Moved),
+            (0, Turned::Ended),
+            (1, Turned::Moved),
+            (1, Turned::Ended),
+            (2, Turned::Ended),
+            (2, Turned::Gone),
+        ],
+        lines: "1: 1 2 3 4\n2 from 4:\n",
+    },
+    Case {
+        name: "a block goes no further than a child's place or until",
+        graph: "graph 2\nphaser X sum 4\nsource s s.csv -> X block=4\nsink out X block=4\n\
+            sink late X by out at 2\nsink early X until 2 block=4\n",
+        samples: "1\n2\n3\n4\n",
+        rounds: 0,
+        turns: &[
+            (0, Turned::Moved),
+            (1, Turned::Moved),
+            (1, Turned::Moved),
+            (1, Turned::Moved),
+            (3, Turned::Moved),
+            (3, Turned::Ended),
+            (0, Turned::Ended),
+            (1, Turned::Ended),
+            (2, Turned::Moved),
+            (2, Turned::Moved),
+            (2, Turned::Ended),
+        ],
+        lines: "1: 1 2 3 4\n2: 3 4\n3: 1 2\n",
+    },
+    Case {
+        name: "a block that does not fit whole is not signalled",
+        graph: "graph 2\nphaser X sum 4\nsource s s.csv -> X block=3\nsink out X\n",
+        samples: "1\n2\n3\n4\n5\n6\n",
+        rounds: 0,
+        turns: &[
+            (0, Turned::Moved),
+            (0, Turned::Blocked),
+            (1, Turned::Moved),
+            (0, Turned::Blocked),
+            (1, Turned::Moved),
+            (0, Turned::Moved),
+            (0, Turned::Ended),
+        ],
+        lines: "1: 1 2\n",
+    },
+    Case {
+        name: "the first value of a block that is out of range is told",
+        graph: "graph 2\nphaser X sum 4\nphaser Y sum 4\nsource s s.csv -> X block=3\n\
+            fir f X -> Y shift 0 taps 2 block=3\nsink out Y\n",
+        samples: "1\n9223372036854775807\n3\n",
+        rounds: 0,
+        turns: &[
+            (2, Turned::Blocked),
+            (0, Turned::Moved),
+            (1, Turned::Moved),
+            (1, SECOND),
+            (2, SECOND),
         ],
         lines: "2:\n",
     },
