@@ -28,7 +28,7 @@ struct Case {
     lines: &'static str,
 }
 
-const CASES: [Case; 22] = [
+const CASES: [Case; 24] = [
     Case {
         name: "a filter rounds down",
         graph: "phaser X sum ?\nphaser Y sum ?\nsource s s.csv -> X\n\
@@ -189,6 +189,22 @@ const CASES: [Case; 22] = [
             sink next Y by out at 2 until 2\nsink last Y by next at 2\n",
         samples: &["1\n2\n3\n4\n5\n6\n7\n"],
         lines: "3: 1 2\n4: 3 4\n5: 5 6 7\n",
+    },
+    // The parent steps one by one, so that its child comes at the boundary of its line.
+    Case {
+        name: "sinks by blocks have what sinks by single steps have",
+        graph: "graph 2\nphaser X sum 4\nsource s s.csv -> X block=4\nsink out X\n\
+            sink late X by out at 2\nsink early X until 2 block=4\n",
+        samples: &["1\n2\n3\n4\n"],
+        lines: "1: 1 2 3 4\n2: 3 4\n3: 1 2\n",
+    },
+    Case {
+        name: "a child filter by blocks begins with zeros",
+        graph: "graph 2\nphaser X sum 4\nphaser Y sum 4\nsource s s.csv -> X block=3\n\
+            fir f X -> Y shift 0 taps 1 1 block=4\n\
+            fir g X -> Y shift 0 taps 1 1 by f at 2 until 1 block=4\nsink out Y\n",
+        samples: &["1\n2\n3\n4\n"],
+        lines: "3: 1 3 8 7\n",
     },
 ];
 

@@ -213,6 +213,19 @@ fn given(alloc: Global, graph: &str, samples: &str, rounds: usize) -> Result<(St
 }
 
 #[test]
+fn given_turns_move_blocks_and_tell_where_a_sink_joined(rt: HostRuntime) -> Result<(), Fail> {
+    let graph = "graph 2\nphaser X sum 4\nsource s s.csv -> X block=4\nsink out X block=2\n\
+        sink late X by out at 2 now\n";
+    let job = job_of(rt.alloc(), graph, &["1\n2\n3\n4\n"])?;
+    let left = match run_turns(rt.alloc(), &job, &[0, 1, 1, 0, 1, 1, 2]) {
+        Ok(world) => text_of(rt.alloc(), world.lines())?,
+        Err(_) => String::new(rt.alloc()),
+    };
+    assert_eq!(rt; left.as_str(), "1: 1 2 3 4\n2 from 4:\n");
+    Ok(())
+}
+
+#[test]
 fn turns_in_rotation_end_a_run_and_no_turns_leave_it_at_its_opening(
     rt: HostRuntime,
 ) -> Result<(), Fail> {
