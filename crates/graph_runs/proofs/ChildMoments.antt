@@ -1,10 +1,13 @@
 -- A parent's moment, while it registers a child, is one of the child's as well.
 use Rattle.std.proofs.Common.{◌≡◌, ◌≢◌, ℕ, ◌+◌, ◌<◌, false, true, eqb, List, [], ◌∷◌, ◌++◌, Option, Some, None, length, refl, sym, ap, subst, ◌∙◌, arith, ◌⊎◌, inl, inr}
 use Rattle.std.proofs.lemmas.Bool.{eq-eqb, ne_eqb}
+use Rattle.std.proofs.lemmas.List.{length-map, length-append}
 use Rattle.std.proofs.lemmas.Option.{slice_get_past}
 use Rattle.phase_history.specs.phase_base.declared.mode.Mode.{Mode}
-use Rattle.phase_history.specs.declared.event.Event.TheVariants.{Registered}
-use Rattle.phase_history.specs.Histories.{History, IsBeginning, has_dropped, greatest_used}
+use Rattle.phase_history.specs.phase_base.declared.mode.Mode.TheVariants.{Wait}
+use Rattle.phase_history.specs.declared.event.Event.{Event}
+use Rattle.phase_history.specs.declared.event.Event.TheVariants.{Registered, RegisteredNow}
+use Rattle.phase_history.specs.Histories.{History, IsBeginning, done_of, has_dropped, greatest_used}
 use Rattle.phase_history.specs.Legal.{IsLegal, IsAccepted}
 use Rattle.phase_history.proofs.Refused.{registers_from}
 use Rattle.stream_lists.specs.graph_base.declared.line.Parent.{Parent}
@@ -12,28 +15,30 @@ use Rattle.stream_lists.specs.graph_base.Graphs.{task_at}
 use Rattle.stream_lists.specs.graph_base.TaskLines.{IsGraph, has_children}
 use Rattle.stream_lists.specs.Jobs.{Job, index_in}
 use Rattle.stream_lists.specs.Spans.{signalled_by}
+use Rattle.stream_lists.proofs.graph_base_lemmas.Registered.{registrations-phasers}
 use Rattle.stream_lists.proofs.Ordered.{place-at}
 use Rattle.graph_runs.specs.Moments.{Moment, TaskRan, OnLine, OnPhaser, PutOn, TakenOn, SilentOn, IsChild, input_at, limits_at}
 use Rattle.graph_runs.proofs.OutputLists.{puts-few}
 use Rattle.graph_runs.proofs.Whole.{parent_of}
-use Rattle.graph_runs.specs.Moves.{SameTask, HasGrown, PartStays, Registers}
-use Rattle.graph_runs.specs.Turned.{with_at, after_register, IsNextChild}
+use Rattle.graph_runs.specs.Moves.{SameTask, HasGrown, PartStays, Registers, RegistersNow}
+use Rattle.graph_runs.specs.Turned.{with_at, after_register, after_register_now, IsNextChild}
 use Rattle.graph_runs.proofs.ChildBegins.{child_begins}
 use Rattle.graph_runs.proofs.Framed.{ListsRan, task_later}
+use Rattle.graph_runs.proofs.JoinsNow.{sink_line, join_now_is, own_join, child_joins}
 use Rattle.graph_runs.proofs.Opened.{nothing_ran}
 use Rattle.graph_runs.proofs.OwnEvents.{eq_case}
 use Rattle.graph_runs.proofs.Registering.{own_register}
 use Rattle.graph_runs.proofs.Turned.{next_child_is}
 use Rattle.graph_runs.specs.Beginnings.{opening}
 use Rattle.graph_runs.specs.Nexts.{first_owed, registrations_at}
-use Rattle.graph_runs.specs.TaskPlaces.{nothing, TaskPlace, StandsAt, registration_at, at_start}
+use Rattle.graph_runs.specs.TaskPlaces.{nothing, TaskPlace, StandsUpTo, registration_at, at_start}
 use Rattle.graph_runs.proofs.AtOpening.{opening_has_begun}
 use Rattle.graph_runs.proofs.Boundaries.{all_put, all_taken, made_many}
-use Rattle.graph_runs.proofs.Following.{same_steps, stays_same, GivesNumber, gives, keeps_registered, child_stands}
+use Rattle.graph_runs.proofs.Following.{SameSteps, same_steps, stays_same, GivesNumber, gives, gives_now, keeps_registered, child_stands}
 use Rattle.graph_runs.proofs.Lacking.{first_none, nothing_lacks}
 use Rattle.graph_runs.proofs.TurnRegistering.{is_for, on_parent, plain_takes}
-use Rattle.graph_runs.specs.Parts.{HasPart, HasSeen, SeesOthers, SeesOwn}
-use Rattle.graph_runs.specs.Places.{IsJoining, HasNewChild, HasSeenBoth, HasAddedChild}
+use Rattle.graph_runs.specs.Parts.{HasPart, HasSeen, SeesOthers}
+use Rattle.graph_runs.specs.Places.{IsJoining, HasNewChild, HasSeenBoth, HasAddedChild, HasAddedNow}
 use Rattle.graph_runs.proofs.FollowsPlace.{seen_follows}
 use Rattle.graph_runs.proofs.PartsLemmas.{with_history, same_at, other_at, where_at, still, no_change, seen}
 use Rattle.graph_runs.proofs.TellsNext.{owes_as}
@@ -61,12 +66,12 @@ pub child_is_new : (job : Job) (m : Moment) (t c : ℕ) (u : Parent) → IsGraph
 child_is_new job m t c u is there there_c part parent of_t none = record {
   part = record { ran = parent_ran; legal = part.legal };
   same = same;
-  place = λ at stands.
+  place = λ most at stands.
       stays_same job m (with_child c m) t at stands
       (record { number = λ q. refl; left = λ q n at. refl }) same;
   child = record {
     part = record { ran = child_ran; legal = λ p on. legal p on };
-    place = record {
+    place = λ most. record {
       few = omega arith;
       few_left = omega arith;
       numbered = λ i lt.
@@ -184,11 +189,12 @@ pub both_see : (job : Job) (m : Moment) (t c p n : ℕ) (u : Parent) (numbers : 
 both_see job m t c p n u numbers now is there there_c part joining parent of_t absent sees =
     record {
       seen = has_seen;
-      place = λ at stands.
+      place = λ most at stands.
           seen_follows job m (with_history p now m) t p at now stands has_seen;
       child = record {
         part = record { ran = ran; legal = grown.legal };
-        place = stays_same job m (with_history p now m) c (at_start numbers) joining.place
+        place = λ most.
+            stays_same job m (with_history p now m) c (at_start numbers) (joining.place most)
             (record { number = λ q. refl; left = λ q b at. left q b at }) same;
         nothing_put = joining.nothing_put;
         nothing_taken = joining.nothing_taken;
@@ -242,16 +248,30 @@ both_see job m t c p n u numbers now is there there_c part joining parent of_t a
 
 -- ---- a registration
 
-module _ (job : Job) (m : Moment) (t c n a : ℕ) (u : Parent) (at : TaskPlace)
+-- a task that joins now has one
+pub has_registration : (job : Job) (c : ℕ) → IsGraph job.graph → c < length job.graph.tasks
+    → (task_at job.graph c).joins_now ≡ true → 0 < length (registrations_at job c)
+has_registration job c is there now =
+    let line = is.tasks c there in
+    let rs = registrations_at job c in
+    let inputs = (task_at job.graph c).inputs in
+    let outputs = (task_at job.graph c).outputs in
+    let long : length rs ≡ length (inputs ++ outputs) =
+    sym (length-map rs (λ r. r.phaser))
+    ∙ ap length (registrations-phasers job.graph c (task_at job.graph c) line) in
+    let both : length (inputs ++ outputs) ≡ length inputs + length outputs =
+    length-append inputs outputs in
+    let one : length inputs ≡ 1 = (sink_line job c 0 is there (line.now now).0).0 in
+    omega arith
+
+module _ (job : Job) (m : Moment) (t c n a : ℕ) (u : Parent) (at : TaskPlace) (most : ℕ)
     (numbers : List ℕ) (before : History) (is : IsGraph job.graph)
     (there : t < length job.graph.tasks) (there_c : c < length job.graph.tasks)
-    (part : HasPart job m t) (stands : StandsAt job m t at) (owed_is : at.owed ≡ nothing)
+    (part : HasPart job m t) (stands : StandsUpTo most job m t at) (owed_is : at.owed ≡ nothing)
     (begun_is : at.begun ≡ u.at) (parent : (task_at job.graph c).parent ≡ Some u)
-    (of_t : u.task ≡ t) (child_offset : m.offset c ≡ (opening job).offset c)
-    (own_offset : m.offset t ≡ (opening job).offset t) (joining : IsJoining job m c numbers)
+    (of_t : u.task ≡ t) (joining : IsJoining job m c numbers)
     (room : length numbers < length (registrations_at job c))
-    (sees : SeesOwn job m t (registration_at job c (length numbers)).phaser n
-    (Registered n a (registration_at job c (length numbers)).mode) before) where
+    (sees : SeesOthers job m t (registration_at job c (length numbers)).phaser n before) where
   abbrev p : ℕ
   p = (registration_at job c (length numbers)).phaser
 
@@ -261,31 +281,28 @@ module _ (job : Job) (m : Moment) (t c n a : ℕ) (u : Parent) (at : TaskPlace)
   abbrev now : Moment
   now = with_history (registration_at job c (length numbers)).phaser before m
 
-  abbrev after : Moment
-  after = after_register p n c a mode now
-
   absent : m.number p c ≡ None
   absent =
-      joining.place.numbered (length numbers) room
+      (joining.place most).numbered (length numbers) room
       ∙ slice_get_past numbers (length numbers) (omega arith)
 
   both : HasSeenBoth job m now t c p numbers before
   both =
-      both_see job m t c p n u numbers before is there there_c part joining parent of_t absent
-      (record { numbered = sees.numbered; others = sees.others; legal = sees.legal.0 })
+      both_see job m t c p n u numbers before is there there_c part joining parent of_t absent sees
 
   apart : t ≢ c
   apart = λ same. (let low : t < c = above job t c u is there_c parent of_t in omega arith)
 
-  accepted : IsAccepted (limits_at job p) (now.history p) (Registered n a mode)
-  accepted =
-      let A : History → Type 0 = λ h. IsAccepted (limits_at job p) h (Registered n a mode) in
-      subst A (sym (same_at p before m)) sees.legal.1
+  accepted_now : (event : Event) → IsAccepted (limits_at job p) before event
+      → IsAccepted (limits_at job p) (now.history p) event
+  accepted_now event accepted =
+      let A : History → Type 0 = λ h. IsAccepted (limits_at job p) h event in
+      subst A (sym (same_at p before m)) accepted
 
   legal_now : IsLegal (limits_at job p) (now.history p)
   legal_now =
       let L : History → Type 0 = λ h. IsLegal (limits_at job p) h in
-      subst L (sym (same_at p before m)) sees.legal.0
+      subst L (sym (same_at p before m)) sees.legal
 
   plain : has_children (task_at job.graph t).kind ≡ true
   plain =
@@ -295,41 +312,22 @@ module _ (job : Job) (m : Moment) (t c n a : ℕ) (u : Parent) (at : TaskPlace)
   idle : first_owed job m t ≡ None
   idle = owes_as job m t at nothing stands owed_is
 
-  next : IsNextChild job now t p n c a mode u
-  next = record {
-    child = there_c;
-    parent = parent;
-    by = of_t;
-    on_line = (is_for job c (length numbers) is there_c room).on_line;
-    numbered = sees.numbered;
-    absent = absent;
-    accepted = accepted;
-    signals = (is_for job c (length numbers) is there_c room).signals;
-    waits = (is_for job c (length numbers) is there_c room).waits;
-    boundary = stands.begun ∙ begun_is;
-    offset = child_offset ∙ (opening_has_begun job is).offset c u there_c parent
-        ∙ ap (λ x. (opening job).offset x + u.at) of_t ∙ ap (λ x. x + u.at) (sym own_offset);
-    nothing_put = λ j place. joining.nothing_put j;
-    nothing_taken = λ k lt here. joining.nothing_taken k;
-    nothing_begun = joining.place.begun;
-    all_put = λ i place.
-        (let found = place-at (signalled_by (task_at job.graph t)) p i place in
-        ap length (all_put job m t part.ran there idle i found.0)
-        ∙ made_many job m t i is part.ran there found.0
-        ∙ puts-few (task_at job.graph t) (m.begun t) i (is.tasks t there).ends plain);
-    all_taken = λ k lt here.
-        all_taken job m t is part.ran there idle k lt ∙ plain_takes job t (m.begun t) k plain;
-  }
+  taken_all : (k : ℕ) → k < length (task_at job.graph t).inputs → length (m.taken t k) ≡ m.begun t
+  taken_all k lt =
+      all_taken job m t is part.ran there idle k lt ∙ plain_takes job t (m.begun t) k plain
 
-  s : Registers job now after t p n c a mode u
-  s = next_child_is job now t p n c a mode u next
+  on_line : OnLine (task_at job.graph c) p
+  on_line = (is_for job c (length numbers) is there_c room).on_line
 
-  given : GivesNumber now after p c a
-  given = gives job now after t p n c a mode u s
+  -- ---- what either registration leaves
 
-  -- whose part it is, its histories grew
-  grown : (x : ℕ) → HasPart job now x → HasGrown job now after x
-  grown x own = record {
+  -- whose part it is, its histories grew by the event
+  grown : (after : Moment) (event : Event)
+      → IsLegal (limits_at job p) (event ∷ now.history p)
+      → after.history p ≡ event ∷ now.history p
+      → ((q : ℕ) → q ≢ p → after.history q ≡ now.history q)
+      → (x : ℕ) → HasPart job now x → HasGrown job now after x
+  grown after event both_legal here elsewhere x own = record {
     was = own.legal;
     legal = λ q on. legal q on (eq_case q p);
     beginning = λ q on. begins q (eq_case q p);
@@ -340,62 +338,182 @@ module _ (job : Job) (m : Moment) (t c n a : ℕ) (u : Parent) (at : TaskPlace)
       legal q on (inl e) =
           let L : ℕ → Type 0 = λ y. IsLegal (limits_at job y) (after.history y) in
           let H : History → Type 0 = λ h. IsLegal (limits_at job p) h in
-          let both_legal : IsLegal (limits_at job p) (Registered n a mode ∷ now.history p) =
-          (legal_now, accepted) in
-          subst L (sym e) (subst H (sym s.here) both_legal)
+          subst L (sym e) (subst H (sym here) both_legal)
       legal q on (inr other) =
           let H : History → Type 0 = λ h. IsLegal (limits_at job q) h in
-          subst H (sym (s.elsewhere q other)) (own.legal q on)
+          subst H (sym (elsewhere q other)) (own.legal q on)
 
       begins : (q : ℕ) → (q ≡ p) ⊎ (q ≢ p) → IsBeginning (now.history q) (after.history q)
       begins q (inl e) =
           let B : ℕ → Type 0 = λ y. IsBeginning (now.history y) (after.history y) in
-          subst B (sym e) (record { later = Registered n a mode ∷ []; is = s.here })
-      begins q (inr other) = record { later = []; is = s.elsewhere q other }
+          subst B (sym e) (record { later = event ∷ []; is = here })
+      begins q (inr other) = record { later = []; is = elsewhere q other }
 
-  part_after : HasPart job after t
-  part_after = record {
-    ran = own_register job now after t p n c a mode u is there (grown t both.seen.moved.part) s
-        both.seen.moved.part.ran;
-    legal = (grown t both.seen.moved.part).legal;
-  }
+  -- the parent's place stays
+  parent_place : (after : Moment) → GivesNumber now after p c a → SameTask now after t
+      → (most : ℕ) (place : TaskPlace) → StandsUpTo most job m t place
+      → StandsUpTo most job after t place
+  parent_place after given same most place own =
+      stays_same job now after t place (both.place most place own)
+      (keeps_registered now after p c a t given apart) same
 
-  child_after : HasPart job after c
-  child_after = record {
-    ran = child_begins job now after t p n c a mode u is there legal_now
-        (grown c both.child.part) s both.seen.moved.part.ran both.child.part.ran;
-    legal = (grown c both.child.part).legal;
-  }
+  -- the child has one number more
+  child_place : (after : Moment) → GivesNumber now after p c a → SameSteps now after c
+      → greatest_used (now.history p) < a → (most : ℕ)
+      → StandsUpTo most job after c (at_start (numbers ++ a ∷ []))
+  child_place after given same new most =
+      child_stands job now after p c a (at_start numbers) is there_c legal_now given same
+      (both.child.place most) room refl new
 
-  child_place_after : StandsAt job after c (at_start (numbers ++ a ∷ []))
-  child_place_after =
-      let new : greatest_used (now.history p) < a =
-      (registers_from (now.history p) n a mode accepted).new_number in
-      child_stands job now after p c a (at_start numbers) is there_c legal_now given
-      (same_steps now after c (s.same c)) both.child.place room refl new
+  -- ---- at the parent's phases
 
-  pub child_is_added : HasAddedChild job m after t c p a numbers (Registered n a mode ∷ before)
-  child_is_added = record {
-    part = part_after;
-    same = record {
-      offset = (s.same t).offset;
-      begun = (s.same t).begun;
-      taken = (s.same t).taken;
-      put = (s.same t).put;
-    };
-    place = λ place own.
-        stays_same job now after t place (both.place place own)
-        (keeps_registered now after p c a t given apart) (s.same t);
-    child = record {
-      part = child_after;
-      place = child_place_after;
-      nothing_put = λ j. (s.same c).put j ∙ joining.nothing_put j;
-      nothing_taken = λ k. (s.same c).taken k ∙ joining.nothing_taken k;
-    };
-    here = s.here ∙ ap (λ h. Registered n a mode ∷ h) (same_at p before m);
-    elsewhere = λ q other. s.elsewhere q other ∙ other_at p before m q other;
-    number = s.number;
-    other_numbers = s.other_numbers;
-    offset = λ x. (s.same x).offset;
-    begun = λ x. (s.same x).begun;
-  }
+  module _ (child_offset : m.offset c ≡ (opening job).offset c)
+      (own_offset : m.offset t ≡ (opening job).offset t)
+      (accepted : IsAccepted (limits_at job p) before (Registered n a mode)) where
+    abbrev after : Moment
+    after = after_register p n c a mode now
+
+    next : IsNextChild job now t p n c a mode u
+    next = record {
+      child = there_c;
+      parent = parent;
+      by = of_t;
+      on_line = on_line;
+      numbered = sees.numbered;
+      absent = absent;
+      accepted = accepted_now (Registered n a mode) accepted;
+      signals = (is_for job c (length numbers) is there_c room).signals;
+      waits = (is_for job c (length numbers) is there_c room).waits;
+      boundary = stands.begun ∙ begun_is;
+      offset = child_offset ∙ (opening_has_begun job is).offset c u there_c parent
+          ∙ ap (λ x. (opening job).offset x + u.at) of_t ∙ ap (λ x. x + u.at) (sym own_offset);
+      nothing_put = λ j place. joining.nothing_put j;
+      nothing_taken = λ k lt here. joining.nothing_taken k;
+      nothing_begun = (joining.place most).begun;
+      all_put = λ i place.
+          (let found = place-at (signalled_by (task_at job.graph t)) p i place in
+          ap length (all_put job m t part.ran there idle i found.0)
+          ∙ made_many job m t i is part.ran there found.0
+          ∙ puts-few (task_at job.graph t) (m.begun t) i (is.tasks t there).ends plain);
+      all_taken = λ k lt here. taken_all k lt;
+    }
+
+    s : Registers job now after t p n c a mode u
+    s = next_child_is job now t p n c a mode u next
+
+    given : GivesNumber now after p c a
+    given = gives job now after t p n c a mode u s
+
+    grows : (x : ℕ) → HasPart job now x → HasGrown job now after x
+    grows = grown after (Registered n a mode) (legal_now, s.accepted) s.here s.elsewhere
+
+    part_after : HasPart job after t
+    part_after = record {
+      ran = own_register job now after t p n c a mode u is there (grows t both.seen.moved.part) s
+          both.seen.moved.part.ran;
+      legal = (grows t both.seen.moved.part).legal;
+    }
+
+    child_after : HasPart job after c
+    child_after = record {
+      ran = child_begins job now after t p n c a mode u is there legal_now
+          (grows c both.child.part) s both.seen.moved.part.ran both.child.part.ran;
+      legal = (grows c both.child.part).legal;
+    }
+
+    pub child_is_added : HasAddedChild job m after t c p a numbers (Registered n a mode ∷ before)
+    child_is_added = record {
+      part = part_after;
+      same = record {
+        offset = (s.same t).offset;
+        begun = (s.same t).begun;
+        taken = (s.same t).taken;
+        put = (s.same t).put;
+      };
+      place = parent_place after given (s.same t);
+      child = record {
+        part = child_after;
+        place = child_place after given (same_steps now after c (s.same c))
+            (registers_from (now.history p) n a mode s.accepted).new_number;
+        nothing_put = λ j. (s.same c).put j ∙ joining.nothing_put j;
+        nothing_taken = λ k. (s.same c).taken k ∙ joining.nothing_taken k;
+      };
+      here = s.here ∙ ap (λ h. Registered n a mode ∷ h) (same_at p before m);
+      elsewhere = λ q other. s.elsewhere q other ∙ other_at p before m q other;
+      number = s.number;
+      other_numbers = s.other_numbers;
+      offset = λ x. (s.same x).offset;
+      begun = λ x. (s.same x).begun;
+    }
+
+  -- ---- at the first phase that is not complete
+
+  module _ (joins : (task_at job.graph c).joins_now ≡ true) (first : numbers ≡ [])
+      (accepted : IsAccepted (limits_at job p) before (RegisteredNow n a)) where
+    abbrev joined : Moment
+    joined = after_register_now p n c a now
+
+    s_now : RegistersNow job now joined t p n c a u
+    s_now = join_now_is job now t p n c a u (record {
+      child = there_c;
+      now = joins;
+      parent = parent;
+      by = of_t;
+      on_line = on_line;
+      numbered = sees.numbered;
+      absent = absent;
+      accepted = accepted_now (RegisteredNow n a) accepted;
+      boundary = stands.begun ∙ begun_is;
+      nothing_begun = (joining.place most).begun;
+      nothing_taken = joining.nothing_taken;
+      all_taken = λ k lt here. taken_all k lt;
+    })
+
+    given_now : GivesNumber now joined p c a
+    given_now = gives_now job now joined t p n c a u s_now
+
+    grows_now : (x : ℕ) → HasPart job now x → HasGrown job now joined x
+    grows_now =
+        grown joined (RegisteredNow n a) (legal_now, s_now.accepted) s_now.here s_now.elsewhere
+
+    same_now : SameTask m joined t
+    same_now = record {
+      offset = (s_now.same t apart).offset;
+      begun = (s_now.same t apart).begun;
+      taken = (s_now.same t apart).taken;
+      put = (s_now.same t apart).put;
+    }
+
+    child_now : IsJoining job joined c (numbers ++ a ∷ [])
+    child_now = record {
+      part = record {
+        ran = child_joins job now joined t p n c a u is there legal_now s_now
+            both.seen.moved.part.ran both.child.part.ran;
+        legal = (grows_now c both.child.part).legal;
+      };
+      place = child_place joined given_now
+          (record { begun = refl; taken = λ k. refl; put = λ j. refl })
+          (registers_from (now.history p) n a Wait s_now.accepted).new_number;
+      nothing_put = joining.nothing_put;
+      nothing_taken = joining.nothing_taken;
+    }
+
+    pub child_is_added_now : HasAddedNow job m joined t c p a (done_of before)
+        (RegisteredNow n a ∷ before)
+    child_is_added_now = record {
+      part = record {
+        ran = own_join job now joined t p n c a u is there (grows_now t both.seen.moved.part) s_now
+            both.seen.moved.part.ran;
+        legal = (grows_now t both.seen.moved.part).legal;
+      };
+      same = same_now;
+      place = parent_place joined given_now (s_now.same t apart);
+      child = subst (λ l. IsJoining job joined c (l ++ a ∷ [])) first child_now;
+      here = s_now.here ∙ ap (λ h. RegisteredNow n a ∷ h) (same_at p before m);
+      elsewhere = λ q other. s_now.elsewhere q other ∙ other_at p before m q other;
+      number = s_now.number;
+      other_numbers = s_now.other_numbers;
+      start_is = s_now.offset ∙ ap done_of (same_at p before m);
+      offset = λ x other. (s_now.same x other).offset;
+      begun = λ x. refl;
+    }

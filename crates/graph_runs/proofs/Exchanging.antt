@@ -21,7 +21,7 @@ use Rattle.graph_runs.proofs.Tasks.{now_at}
 use Rattle.graph_runs.proofs.Turned.{exchange_wait_is}
 use Rattle.graph_runs.specs.TaskEvents.{IsNext, exchange_wait, after_turn}
 use Rattle.graph_runs.specs.Nexts.{first_owed, waits_first, signals, exchanges}
-use Rattle.graph_runs.specs.TaskPlaces.{Owed, nothing, values, exchange, Owes, TaskPlace, StandsAt, lacking, owed_after_exchange}
+use Rattle.graph_runs.specs.TaskPlaces.{Owed, nothing, values, exchange, Owes, OwesUpTo, TaskPlace, StandsAt, lacking, owed_after_exchange}
 use Rattle.graph_runs.proofs.Signalling.{owed}
 use Rattle.graph_runs.proofs.Boundaries.{made_many, peer_ends}
 use Rattle.graph_runs.proofs.Following.{Lacks, GetsAll, gets_all, stays_at, keeps_moved}
@@ -70,16 +70,17 @@ exchange_lacks job m after t outcome x w is ran now there e s steps lacks i lt =
     (ap (λ k. lacking k (exchange x) i) e ∙ same_lacking w x i
     ∙ ap (λ k. lacking k (values 1 (w ∷ [])) i) (sym e))
 
-pub exchange_owes : (job : Job) (m after : Moment) (t : ℕ) (outcome : Outcome) (x : ℤ)
-    → IsGraph job.graph → TaskRan job m t → TaskRan job after t → t < length job.graph.tasks
-    → (task_at job.graph t).kind ≡ Peer → GetsAll m after t 1 (number outcome ∷ [])
-    → Owes job m t (exchange x) → Lacks job m t (exchange x)
+pub exchange_owes : (most : ℕ) (job : Job) (m after : Moment) (t : ℕ) (outcome : Outcome) (x : ℤ)
+    → 1 ≤ most → IsGraph job.graph → TaskRan job m t → TaskRan job after t
+    → t < length job.graph.tasks → (task_at job.graph t).kind ≡ Peer
+    → GetsAll m after t 1 (number outcome ∷ [])
+    → OwesUpTo most job m t (exchange x) → Lacks job m t (exchange x)
     → waits_first (task_at job.graph t).kind 1 (length (m.put t 1)) (length (m.taken t 1)) ≡ true
     → Lacks job after t
     (values 1 (ranged (((task_at job.graph t).mul *ℤ x) -ℤ number outcome) ∷ []))
-    → Owes job after t
+    → OwesUpTo most job after t
     (values 1 (ranged (((task_at job.graph t).mul *ℤ x) -ℤ number outcome) ∷ []))
-exchange_owes job m after t outcome x is ran now there e s owes before first lacks =
+exchange_owes most job m after t outcome x some is ran now there e s owes before first lacks =
     let task = task_at job.graph t in
     let out = number outcome in
     let w = ranged ((task.mul *ℤ x) -ℤ out) in
@@ -148,7 +149,7 @@ exchange_owes job m after t outcome x is ran now there e s owes before first lac
     ∙ ap (λ b. (task.mul *ℤ x) -ℤ b) last in (
       first_is job after t 1 (values 1 (w ∷ [])) lacks (omega arith) (omega arith) (λ k lt. none_below w k lt),
       ap (λ b. cond b exchanges (signals 1)) in_turn,
-      ap (λ l. map ranged l) (next_one job after t 1 (is.tasks t there).block.some lacks_one)
+      ap (λ l. map ranged l) (next_one most job after t 1 some lacks_one)
           ∙ ap (λ v. ranged v ∷ []) is_value,
     )
   where
@@ -191,5 +192,6 @@ exchange_follows job m t p n outcome at is ran next now for_event stands =
     subst P (sym owed_is.1)
     (stays_at job m after t at.begun (values 1 (w ∷ [])) at stands
     (keeps_moved job m after t p (Waited n 1) t s.moved (λ b at. refl)) (steps ∙ stands.begun)
-    (exchange_owes job m after t outcome x is ran_before ran_now there peer got owes before
+    (exchange_owes (task_at job.graph t).block job m after t outcome x
+    (is.tasks t there).block.some is ran_before ran_now there peer got owes before
     (subst W same for_event.2) lacks) lacks)

@@ -36,7 +36,7 @@ use Rattle.graph_runs.proofs.Nexts.{turns-next, turns-stay, further-length}
 use Rattle.graph_runs.proofs.InBlocks.{first_waits_are}
 use Rattle.graph_runs.specs.TaskEvents.{IsNext, first_wait, after_turn}
 use Rattle.graph_runs.specs.Nexts.{waits_first, signals, exchanges}
-use Rattle.graph_runs.specs.TaskPlaces.{Owed, nothing, values, Owes, TaskPlace, StandsAt, lacking, owed_after_wait, outputs_of_block}
+use Rattle.graph_runs.specs.TaskPlaces.{Owed, nothing, values, OwesUpTo, TaskPlace, StandsAt, lacking, owed_after_wait, outputs_of_block}
 use Rattle.graph_runs.proofs.Boundaries.{all_put, made_many, peer_ends}
 use Rattle.graph_runs.proofs.Ranged.{taken_ranged}
 use Rattle.graph_runs.proofs.Following.{Lacks, GetsAll, gets_all, stays_at, keeps_moved}
@@ -69,8 +69,10 @@ turn_count m b some =
 
 -- ---- what a first wait changes
 
--- the facts of a first wait, by its input number and what was taken
-pub record FirstWait (job : Job) (m after : Moment) (t k : ℕ) (xs : List ℤ) : Type 0 where
+-- the facts of a first wait, by its input number and what was taken, where the task makes at most
+-- so many steps in one event
+pub record FirstWait (most : ℕ) (job : Job) (m after : Moment) (t k : ℕ) (xs : List ℤ) : Type
+    0 where
   pub is : IsGraph job.graph
   pub ran : TaskRan job m t
   pub now : TaskRan job after t
@@ -83,18 +85,18 @@ pub record FirstWait (job : Job) (m after : Moment) (t k : ℕ) (xs : List ℤ) 
   pub steps : after.begun t ≡ m.begun t + length xs
   pub some : 1 ≤ length xs
   pub block : IsBlock (task_at job.graph t).kind (length xs)
-  pub room : length xs ≤ (task_at job.graph t).block
+  pub room : length xs ≤ most
   pub all_taken : length (m.taken t k) ≡ takes_from (task_at job.graph t) (m.begun t) k
   pub lacks : Lacks job m t nothing
 
 -- what a first wait leaves owed
-abbrev pub LeavesOwed : Job → Moment → ℕ → Owed → Type 0
-LeavesOwed job after t owed = Owes job after t owed × Lacks job after t owed
+abbrev pub LeavesOwed : ℕ → Job → Moment → ℕ → Owed → Type 0
+LeavesOwed most job after t owed = OwesUpTo most job after t owed × Lacks job after t owed
 
 -- ---- the first wait of one step
 
-wait_lacks : (job : Job) (m after : Moment) (t k : ℕ) (x : ℤ) (owed : Owed)
-    → FirstWait job m after t k (x ∷ [])
+wait_lacks : {most : ℕ} (job : Job) (m after : Moment) (t k : ℕ) (x : ℤ) (owed : Owed)
+    → FirstWait most job m after t k (x ∷ [])
     → ((i : ℕ) → i < length (signalled_by (task_at job.graph t))
     → puts_on (task_at job.graph t) (suc (m.begun t)) i
     ≡ puts_on (task_at job.graph t) (m.begun t) i + lacking (task_at job.graph t).kind owed i)
@@ -117,8 +119,8 @@ wait_lacks job m after t k x owed w grows i lt =
     omega arith
 
 -- the value that was taken is in range
-wait_ranged : (job : Job) (m after : Moment) (t k : ℕ) (x : ℤ)
-    → FirstWait job m after t k (x ∷ []) → ranged x ≡ Ok x
+wait_ranged : {most : ℕ} (job : Job) (m after : Moment) (t k : ℕ) (x : ℤ)
+    → FirstWait most job m after t k (x ∷ []) → ranged x ≡ Ok x
 wait_ranged job m after t k x w =
     let all = taken_ranged job after t k w.now w.legal w.few in
     let last : get_or (after.taken t k) (length (m.taken t k)) (pos 0) ≡ x =
@@ -127,34 +129,35 @@ wait_ranged job m after t k x w =
     in_range_is x (ap is_out_of_range (sym last) ∙ all.at (length (m.taken t k)))
 
 -- it is next on output j, where it stands behind what was made before
-wait_owes : (job : Job) (m after : Moment) (t k j : ℕ) (x : ℤ)
-    → FirstWait job m after t k (x ∷ []) → Lacks job after t (values j (Ok x ∷ []))
+wait_owes : {most : ℕ} (job : Job) (m after : Moment) (t k j : ℕ) (x : ℤ)
+    → FirstWait most job m after t k (x ∷ []) → Lacks job after t (values j (Ok x ∷ []))
     → j < length (signalled_by (task_at job.graph t))
     → ((i : ℕ) → i < j → lacking (task_at job.graph t).kind (values j (Ok x ∷ [])) i ≡ 0)
     → ((a b : ℕ) → waits_first (task_at job.graph t).kind j a b ≡ false)
     → get_or (made_now job after t j) (length (made_now job m t j)) (pos 0) ≡ x
-    → Owes job after t (values j (Ok x ∷ []))
-wait_owes job m after t k j x w lacks lt below no_wait made =
+    → OwesUpTo most job after t (values j (Ok x ∷ []))
+wait_owes {most} job m after t k j x w lacks lt below no_wait made =
     let one : lacking (task_at job.graph t).kind (values j (Ok x ∷ [])) j ≡ 1 =
     lacks_here (task_at job.graph t).kind j (Ok x ∷ []) in
     let long : length (made_now job after t j) ≡ length (after.put t j)
     + lacking (task_at job.graph t).kind (values j (Ok x ∷ [])) j = lacks j lt in
     let full : length (made_now job m t j) ≡ length (m.put t j) + 0 = w.lacks j lt in
     let put : length (after.put t j) ≡ length (m.put t j) = ap length (w.waits.put j) in
-    let index : length (after.put t j) ≡ length (made_now job m t j) = omega arith in (
+    let index : length (after.put t j) ≡ length (made_now job m t j) = omega arith in
+    let room : 1 ≤ most = w.room in (
       first_is job after t j (values j (Ok x ∷ [])) lacks lt (omega arith) below,
       ap (λ b. cond b exchanges (signals j))
           (no_wait (length (after.put t j)) (length (after.taken t 1))),
       ap (λ l. map ranged l)
-          (next_one job after t j (w.is.tasks t w.there).block.some (omega arith))
+          (next_one most job after t j room (omega arith))
           ∙ ap (λ v. ranged v ∷ [])
           (ap (λ i. get_or (made_now job after t j) i (pos 0)) index ∙ made)
           ∙ ap (λ r. r ∷ []) (wait_ranged job m after t k x w),
     )
 
 -- what is taken from the input, as the step sees it
-now_taken : (job : Job) (m after : Moment) (t k : ℕ) (x : ℤ)
-    → FirstWait job m after t k (x ∷ [])
+now_taken : {most : ℕ} (job : Job) (m after : Moment) (t k : ℕ) (x : ℤ)
+    → FirstWait most job m after t k (x ∷ [])
     → get_or (taken_now after (task_at job.graph t) t) k [] ≡ m.taken t k ++ x ∷ []
 now_taken job m after t k x w =
     now_at after (task_at job.graph t) t k w.few ∙ w.waits.taken
@@ -169,12 +172,12 @@ none_below : (kind : Kind) (r : Result ℤ TooBigValue) (i : ℕ) → i < 0
 none_below kind r i lt = absurd (omega arith)
 
 -- a filter owes an output for each number
-fir_owes : (job : Job) (m after : Moment) (t k : ℕ) (xs : List ℤ)
-    → FirstWait job m after t k xs → (task_at job.graph t).kind ≡ Fir
-    → LeavesOwed job after t
+fir_owes : {most : ℕ} (job : Job) (m after : Moment) (t k : ℕ) (xs : List ℤ)
+    → FirstWait most job m after t k xs → (task_at job.graph t).kind ≡ Fir
+    → LeavesOwed most job after t
     (values 0 (map ranged (outputs_of_block (task_at job.graph t).taps
     (task_at job.graph t).shift (m.taken t 0) xs)))
-fir_owes job m after t k xs w e =
+fir_owes {most} job m after t k xs w e =
     let task = task_at job.graph t in
     let vs = outputs_of_block task.taps task.shift (m.taken t 0) xs in
     let rs = map ranged vs in
@@ -199,7 +202,7 @@ fir_owes job m after t k xs w e =
     ap length block.values in
     let same : length rs ≡ length vs = length-map vs ranged in
     let some : 1 ≤ length xs = w.some in
-    let room : length xs ≤ task.block = w.room in
+    let room : length xs ≤ most = w.room in
     let here : length (made_now job after t 0)
     ≡ length (after.put t 0) + lacking task.kind (values 0 rs) 0 = omega arith in
     let L : ℕ → Type 0 = λ i. length (made_now job after t i)
@@ -210,14 +213,14 @@ fir_owes job m after t k xs w e =
         first_is job after t 0 (values 0 rs) lacks (omega arith) (omega arith)
             (λ i lt. absurd (omega arith)),
         (rw e refl),
-        ap (λ l. map ranged l) (next_all job after t 0 (omega arith) ∙ block.values),
+        ap (λ l. map ranged l) (next_all most job after t 0 (omega arith) ∙ block.values),
       ),
       lacks,
     )
 
-peer_first_owes : (job : Job) (m after : Moment) (t k : ℕ) (x : ℤ)
-    → FirstWait job m after t k (x ∷ []) → (task_at job.graph t).kind ≡ Peer
-    → LeavesOwed job after t (values 0 (Ok x ∷ []))
+peer_first_owes : {most : ℕ} (job : Job) (m after : Moment) (t k : ℕ) (x : ℤ)
+    → FirstWait most job m after t k (x ∷ []) → (task_at job.graph t).kind ≡ Peer
+    → LeavesOwed most job after t (values 0 (Ok x ∷ []))
 peer_first_owes job m after t k x w e =
     let task = task_at job.graph t in
     let ends = peer_ends job t w.is w.there e in
@@ -254,9 +257,9 @@ peer_first_owes job m after t k x w e =
     each_lacks x (suc zero) lt = refl
     each_lacks x (suc (suc i)) lt = absurd (omega arith)
 
-join_owes : (job : Job) (m after : Moment) (t k : ℕ) (x : ℤ)
-    → FirstWait job m after t k (x ∷ []) → (task_at job.graph t).kind ≡ Join
-    → LeavesOwed job after t (values 0 (Ok x ∷ []))
+join_owes : {most : ℕ} (job : Job) (m after : Moment) (t k : ℕ) (x : ℤ)
+    → FirstWait most job m after t k (x ∷ []) → (task_at job.graph t).kind ≡ Join
+    → LeavesOwed most job after t (values 0 (Ok x ∷ []))
 join_owes job m after t k x w e =
     let task = task_at job.graph t in
     let b = m.begun t in
@@ -306,9 +309,9 @@ join_owes job m after t k x w e =
       lacks,
     )
 
-split_owes : (job : Job) (m after : Moment) (t k : ℕ) (x : ℤ)
-    → FirstWait job m after t k (x ∷ []) → (task_at job.graph t).kind ≡ Split
-    → LeavesOwed job after t
+split_owes : {most : ℕ} (job : Job) (m after : Moment) (t k : ℕ) (x : ℤ)
+    → FirstWait most job m after t k (x ∷ []) → (task_at job.graph t).kind ≡ Split
+    → LeavesOwed most job after t
     (values (m.begun t % length (task_at job.graph t).outputs) (Ok x ∷ []))
 split_owes job m after t k x w e =
     let task = task_at job.graph t in
@@ -413,9 +416,9 @@ split_owes job m after t k x w e =
         omega arith
 
 -- a sink owes nothing
-sink_owes : (job : Job) (m after : Moment) (t k : ℕ) (xs : List ℤ)
-    → FirstWait job m after t k xs → length (signalled_by (task_at job.graph t)) ≡ 0
-    → LeavesOwed job after t nothing
+sink_owes : {most : ℕ} (job : Job) (m after : Moment) (t k : ℕ) (xs : List ℤ)
+    → FirstWait most job m after t k xs → length (signalled_by (task_at job.graph t)) ≡ 0
+    → LeavesOwed most job after t nothing
 sink_owes job m after t k xs w none =
     let lacks : Lacks job after t nothing = λ i lt. absurd (omega arith) in
     (first_none job after t lacks, lacks)
@@ -428,14 +431,14 @@ single_is [] one = absurd (omega arith)
 single_is (x ∷ []) one = (x, refl)
 single_is (x ∷ (y ∷ ys)) one = absurd (omega arith)
 
-pub wait_leaves : (job : Job) (m after : Moment) (t k : ℕ) (xs : List ℤ)
-    → FirstWait job m after t k xs
-    → LeavesOwed job after t
+pub wait_leaves : {most : ℕ} (job : Job) (m after : Moment) (t k : ℕ) (xs : List ℤ)
+    → FirstWait most job m after t k xs
+    → LeavesOwed most job after t
     (owed_after_wait (task_at job.graph t) (m.begun t) (m.taken t 0) xs)
-wait_leaves job m after t k xs w = by (task_at job.graph t).kind refl
+wait_leaves {most} job m after t k xs w = by (task_at job.graph t).kind refl
   where
     Left : Owed → Type 0
-    Left o = LeavesOwed job after t o
+    Left o = LeavesOwed most job after t o
 
     ends : (kind : Kind) → (task_at job.graph t).kind ≡ kind
         → HasEnds kind (length (task_at job.graph t).inputs) (length (task_at job.graph t).outputs)
@@ -447,20 +450,20 @@ wait_leaves job m after t k xs w = by (task_at job.graph t).kind refl
     -- where a block is a step
     single : (kind : Kind) → (task_at job.graph t).kind ≡ kind → (IsBlock kind (length xs)
         → length xs ≡ 1)
-        → ((x : ℤ) → FirstWait job m after t k (x ∷ []) → LeavesOwed job after t
+        → ((x : ℤ) → FirstWait most job m after t k (x ∷ []) → LeavesOwed most job after t
         (owed_after_wait (task_at job.graph t) (m.begun t) (m.taken t 0) (x ∷ [])))
-        → LeavesOwed job after t
+        → LeavesOwed most job after t
         (owed_after_wait (task_at job.graph t) (m.begun t) (m.taken t 0) xs)
     single kind e one step =
         let B : Kind → Type 0 = λ kind. IsBlock kind (length xs) in
         let x = single_is xs (one (subst B e w.block)) in
-        let W : List ℤ → Type 0 = λ l. FirstWait job m after t k l in
-        let O : List ℤ → Type 0 = λ l. LeavesOwed job after t
+        let W : List ℤ → Type 0 = λ l. FirstWait most job m after t k l in
+        let O : List ℤ → Type 0 = λ l. LeavesOwed most job after t
         (owed_after_wait (task_at job.graph t) (m.begun t) (m.taken t 0) l) in
         subst O (sym x.1) (step x.0 (subst W x.1 w))
 
     by : (kind : Kind) → (task_at job.graph t).kind ≡ kind
-        → LeavesOwed job after t
+        → LeavesOwed most job after t
         (owed_after_wait (task_at job.graph t) (m.begun t) (m.taken t 0) xs)
     by Source e =
         let no_input : length (task_at job.graph t).inputs ≡ 0 = (ends Source e).0 in
@@ -533,7 +536,7 @@ first_wait_follows job m t k p n outcomes at is ran next now owes stands =
     waits_some (limits_at job p) (m.history p) n (length outcomes) next.1.wait.accepted.0 in
     let most : length outcomes ≤ block_of job m t = owes.1 in
     let few : block_of job m t ≤ (task_at job.graph t).block = block_few job m t in
-    let w : FirstWait job m after t k xs = record {
+    let w : FirstWait (task_at job.graph t).block job m after t k xs = record {
       is = is;
       ran = ran.tasks t there;
       now = now.tasks t there;
@@ -550,7 +553,7 @@ first_wait_follows job m t k p n outcomes at is ran next now owes stands =
       all_taken = next.1.may_begin.taken k next.1.wait.few;
       lacks = subst L none stands.lacks;
     } in
-    let A : ℕ → Type 0 = λ b. LeavesOwed job after t
+    let A : ℕ → Type 0 = λ b. LeavesOwed (task_at job.graph t).block job after t
     (owed_after_wait (task_at job.graph t) b (m.taken t 0) xs) in
     let left = subst A stands.begun (wait_leaves job m after t k xs w) in
     stays_at job m after t (further at.begun outcomes)

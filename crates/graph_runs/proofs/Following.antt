@@ -24,8 +24,7 @@ use Rattle.graph_runs.specs.Moments.{Moment, made_now, limits_at}
 use Rattle.graph_runs.specs.Moves.{HasMoved, SameTask, Registers, RegistersNow, SignalsAll, WaitsAll}
 use Rattle.graph_runs.proofs.OwnEvents.{made_still, history_where}
 use Rattle.graph_runs.specs.Nexts.{is_owed, first_owed, in_step, waits_first, has_left, number_on, registrations_at, signals, exchanges}
-use Rattle.graph_runs.specs.Answers.{next_values}
-use Rattle.graph_runs.specs.TaskPlaces.{Owed, nothing, values, exchange, Owes, TaskPlace, StandsAt, registration_at, child_place, lacking}
+use Rattle.graph_runs.specs.TaskPlaces.{Owed, nothing, values, exchange, OwesUpTo, TaskPlace, StandsUpTo, registration_at, child_place, lacking}
 use Rattle.graph_runs.proofs.Reaching.{one_registration}
 
 -- ---- what is owed stays
@@ -69,23 +68,28 @@ in_step_same job before after t j same =
     ∙ ap (λ l. cond (waits_first (task_at job.graph t).kind j (length (before.put t j)) (length l))
     exchanges (signals j)) (same.taken 1)
 
-next_same : (job : Job) (before after : Moment) (t j : ℕ) → SameSteps before after t
-    → next_values job after t j ≡ next_values job before t j
-next_same job before after t j same =
-    ap (λ l. take (task_at job.graph t).block (drop (length (after.put t j)) l))
-    (made_same job before after t j same)
-    ∙ ap (λ l. take (task_at job.graph t).block (drop (length l) (made_now job before t j)))
-    (same.put j)
+-- at most so many values that are next on output j of task t
+abbrev pub next_up_to : ℕ → Job → Moment → ℕ → ℕ → List ℤ
+next_up_to most job m t j = take most (drop (length (m.put t j)) (made_now job m t j))
 
-owes_same : (job : Job) (before after : Moment) (t : ℕ) (owed : Owed) → SameSteps before after t
-    → Owes job before t owed → Owes job after t owed
-owes_same job before after t nothing same owes = first_owed_same job before after t same ∙ owes
-owes_same job before after t (values j vs) same owes = (
+next_same : (most : ℕ) (job : Job) (before after : Moment) (t j : ℕ)
+    → SameSteps before after t
+    → next_up_to most job after t j ≡ next_up_to most job before t j
+next_same most job before after t j same =
+    ap (λ l. take most (drop (length (after.put t j)) l)) (made_same job before after t j same)
+    ∙ ap (λ l. take most (drop (length l) (made_now job before t j))) (same.put j)
+
+owes_same : (most : ℕ) (job : Job) (before after : Moment) (t : ℕ) (owed : Owed)
+    → SameSteps before after t → OwesUpTo most job before t owed
+    → OwesUpTo most job after t owed
+owes_same most job before after t nothing same owes =
+    first_owed_same job before after t same ∙ owes
+owes_same most job before after t (values j vs) same owes = (
   first_owed_same job before after t same ∙ owes.0,
   in_step_same job before after t j same ∙ owes.1,
-  ap (λ l. map ranged l) (next_same job before after t j same) ∙ owes.2,
+  ap (λ l. map ranged l) (next_same most job before after t j same) ∙ owes.2,
 )
-owes_same job before after t (exchange x) same owes = (
+owes_same most job before after t (exchange x) same owes = (
   first_owed_same job before after t same ∙ owes.0,
   in_step_same job before after t 1 same ∙ owes.1,
   ap (λ l. get_or l (length (after.taken t 1)) (pos 0)) (same.taken 0)
@@ -98,9 +102,9 @@ Lacks job m t owed = (j : ℕ) → j < length (signalled_by (task_at job.graph t
     → length (made_now job m t j) ≡ length (m.put t j) + lacking (task_at job.graph t).kind owed j
 
 -- the steps of a task, as its place has them
-pub record StepsAt (job : Job) (m : Moment) (t : ℕ) (at : TaskPlace) : Type 0 where
+pub record StepsAt (most : ℕ) (job : Job) (m : Moment) (t : ℕ) (at : TaskPlace) : Type 0 where
   pub begun : m.begun t ≡ at.begun
-  pub owes : Owes job m t at.owed
+  pub owes : OwesUpTo most job m t at.owed
   pub lacks : Lacks job m t at.owed
 
 lacks_same : (job : Job) (before after : Moment) (t : ℕ) (owed : Owed)
@@ -109,11 +113,11 @@ lacks_same job before after t owed same lacks j lt =
     ap length (made_same job before after t j same) ∙ lacks j lt
     ∙ ap (λ l. length l + lacking (task_at job.graph t).kind owed j) (sym (same.put j))
 
-pub steps_stay : (job : Job) (before after : Moment) (t : ℕ) (at : TaskPlace)
-    → SameSteps before after t → StandsAt job before t at → StepsAt job after t at
-steps_stay job before after t at same stands = record {
+pub steps_stay : {most : ℕ} (job : Job) (before after : Moment) (t : ℕ) (at : TaskPlace)
+    → SameSteps before after t → StandsUpTo most job before t at → StepsAt most job after t at
+steps_stay {most} job before after t at same stands = record {
   begun = same.begun ∙ stands.begun;
-  owes = owes_same job before after t at.owed same stands.owes;
+  owes = owes_same most job before after t at.owed same stands.owes;
   lacks = lacks_same job before after t at.owed same stands.lacks;
 }
 
@@ -151,8 +155,8 @@ pub record KeepsPlaces (before after : Moment) (t : ℕ) : Type 0 where
       → has_dropped (after.history q) n ≡ has_dropped (before.history q) n
 
 -- what stands at a place that the list has
-pub number_is : (job : Job) (m : Moment) (t i : ℕ) (at : TaskPlace) → StandsAt job m t at
-    → i < length at.numbers
+pub number_is : {most : ℕ} (job : Job) (m : Moment) (t i : ℕ) (at : TaskPlace)
+    → StandsUpTo most job m t at → i < length at.numbers
     → m.number (registration_at job t i).phaser t
     ≡ Some (number_on m t (registration_at job t i).phaser)
 number_is job m t i at stands lt =
@@ -161,8 +165,8 @@ number_is job m t i at stands lt =
     stands.numbered i (omega arith) ∙ slice_get-get_or at.numbers i 0 lt in
     some ∙ ap (λ n. Some n) (ap (λ o. unwrap_or o 0) (sym some))
 
-left_same : (job : Job) (before after : Moment) (t i : ℕ) (at : TaskPlace)
-    → StandsAt job before t at → KeepsPlaces before after t → i < length at.numbers
+left_same : {most : ℕ} (job : Job) (before after : Moment) (t i : ℕ) (at : TaskPlace)
+    → StandsUpTo most job before t at → KeepsPlaces before after t → i < length at.numbers
     → has_left after t (registration_at job t i) ≡ has_left before t (registration_at job t i)
 left_same job before after t i at stands keeps lt =
     let q = (registration_at job t i).phaser in
@@ -170,10 +174,10 @@ left_same job before after t i at stands keeps lt =
     ∙ keeps.left q (number_on before t q) (number_is job before t i at stands lt)
 
 -- the place stays, but for how many steps were begun and what is owed
-pub stays_at : (job : Job) (before after : Moment) (t begun : ℕ) (owed : Owed) (at : TaskPlace)
-    → StandsAt job before t at → KeepsPlaces before after t → after.begun t ≡ begun
-    → Owes job after t owed → Lacks job after t owed
-    → StandsAt job after t (record at { begun = begun; owed = owed })
+pub stays_at : {most : ℕ} (job : Job) (before after : Moment) (t begun : ℕ) (owed : Owed)
+    (at : TaskPlace) → StandsUpTo most job before t at → KeepsPlaces before after t
+    → after.begun t ≡ begun → OwesUpTo most job after t owed → Lacks job after t owed
+    → StandsUpTo most job after t (record at { begun = begun; owed = owed })
 stays_at job before after t begun owed at stands keeps steps owes lacks = record {
   few = stands.few;
   few_left = stands.few_left;
@@ -184,9 +188,9 @@ stays_at job before after t begun owed at stands keeps steps owes lacks = record
   lacks = lacks;
 }
 
-pub stays_same : (job : Job) (before after : Moment) (t : ℕ) (at : TaskPlace)
-    → StandsAt job before t at → KeepsPlaces before after t → SameTask before after t
-    → StandsAt job after t at
+pub stays_same : {most : ℕ} (job : Job) (before after : Moment) (t : ℕ) (at : TaskPlace)
+    → StandsUpTo most job before t at → KeepsPlaces before after t → SameTask before after t
+    → StandsUpTo most job after t at
 stays_same job before after t at stands keeps same =
     let steps = steps_stay job before after t at (same_steps before after t same) stands in
     stays_at job before after t at.begun at.owed at stands keeps steps.begun steps.owes steps.lacks
@@ -259,15 +263,15 @@ keeps_registered before after p c a x s apart = record {
 -- ---- the child
 
 -- a registration is for the first that the child misses
-pub child_stands : (job : Job) (before after : Moment) (p c a : ℕ) (at : TaskPlace)
+pub child_stands : {most : ℕ} (job : Job) (before after : Moment) (p c a : ℕ) (at : TaskPlace)
     → IsGraph job.graph → c < length job.graph.tasks
     → IsLegal (limits_at job p) (before.history p) → GivesNumber before after p c a
-    → SameSteps before after c → StandsAt job before c at
+    → SameSteps before after c → StandsUpTo most job before c at
     → length at.numbers < length (registrations_at job c)
     → (registration_at job c (length at.numbers)).phaser ≡ p
     → greatest_used (before.history p) < a
-    → StandsAt job after c (child_place a at)
-child_stands job before after p c a at is there legal s same stands room here new = record {
+    → StandsUpTo most job after c (child_place a at)
+child_stands {most} job before after p c a at is there legal s same stands room here new = record {
   few = (let l = length-append at.numbers (a ∷ []) in omega arith);
   few_left = (let l = length-append at.numbers (a ∷ []) in
       let le : at.left ≤ length at.numbers = stands.few_left in omega arith);
@@ -281,7 +285,7 @@ child_stands job before after p c a at is there legal s same stands room here ne
   lacks = steps.lacks;
 }
   where
-    steps : StepsAt job after c at
+    steps : StepsAt most job after c at
     steps = steps_stay job before after c at same stands
 
     -- another registration of the child is on another phaser

@@ -1,13 +1,13 @@
 -- The place of a task after each of its calls, by what the call leaves of its part.
-use Rattle.std.proofs.Common.{◌≡◌, ℕ, suc, ◌<◌, ◌≤◌, true, eqb, [], ◌∷◌, Option, Some, None, length, map, ℤ, refl, sym, ap, subst, ◌∙◌, arith, inl, inr}
+use Rattle.std.proofs.Common.{◌≡◌, ℕ, ◌+◌, ◌<◌, ◌≤◌, true, eqb, List, [], ◌∷◌, Option, Some, None, length, map, ℤ, refl, sym, ap, subst, ◌∙◌, arith, inl, inr}
 use Rattle.std.specs.Prelude.{Ok, ◌*ℤ◌, ◌-ℤ◌}
 use Rattle.std.proofs.lemmas.Bool.{eq-eqb}
+use Rattle.std.proofs.lemmas.List.{length-map}
 use Rattle.stream_lists.specs.stream_filters.Range.{ranged}
 use Rattle.phase_history.specs.phase_accum.declared.outcome.Outcome.{Outcome}
 use Rattle.phase_history.specs.declared.event.Event.TheVariants.{Dropped}
 use Rattle.phase_history.specs.Histories.{History, has_dropped}
-use Rattle.stream_lists.specs.graph_base.declared.line.Kind.{Kind}
-use Rattle.stream_lists.specs.graph_base.declared.line.Kind.TheVariants.{Source, Fir, Split, Join, Peer, Sink}
+use Rattle.stream_lists.specs.graph_base.declared.line.Kind.TheVariants.{Source, Peer}
 use Rattle.stream_lists.specs.graph_base.Graphs.{task_at}
 use Rattle.stream_lists.specs.graph_base.TaskLines.{IsGraph}
 use Rattle.stream_lists.specs.Jobs.{Job}
@@ -15,21 +15,21 @@ use Rattle.stream_lists.specs.Lists.{number}
 use Rattle.stream_lists.specs.Spans.{signalled_by}
 use Rattle.graph_runs.specs.Moments.{Moment, TakenOn, OnLine, input_at}
 use Rattle.graph_runs.specs.Moves.{IsStaying, IsBlock}
-use Rattle.graph_runs.specs.Answers.{output_at, next_values}
+use Rattle.graph_runs.specs.Answers.{output_at}
 use Rattle.graph_runs.specs.Nexts.{waits_first}
-use Rattle.graph_runs.specs.TaskPlaces.{Owed, nothing, values, exchange, TaskPlace, StandsAt, registration_at, owed_after_wait, owed_after_signal, owed_after_exchange}
+use Rattle.graph_runs.specs.TaskPlaces.{Owed, nothing, values, exchange, TaskPlace, StandsUpTo, registration_at, owed_after_wait, owed_after_signal, owed_after_exchange}
 use Rattle.graph_runs.proofs.Boundaries.{peer_ends}
 use Rattle.graph_runs.proofs.Calling.{waits_as_peer}
 use Rattle.graph_runs.proofs.Exchanging.{exchange_lacks, exchange_owes}
 use Rattle.graph_runs.proofs.FirstWaits.{FirstWait, LeavesOwed, wait_leaves}
-use Rattle.graph_runs.proofs.Following.{Lacks, KeepsPlaces, PutsAll, GetsAll, stays_at, stays_same}
+use Rattle.graph_runs.proofs.Following.{Lacks, next_up_to, KeepsPlaces, PutsAll, GetsAll, stays_at, stays_same}
 use Rattle.graph_runs.proofs.Lacking.{first_none}
 use Rattle.graph_runs.proofs.PlacesLemmas.{place_of_output}
 use Rattle.graph_runs.proofs.PlacesFollow.{LeavesOne, leave_stands}
 use Rattle.graph_runs.proofs.Signalling.{owed}
 use Rattle.graph_runs.proofs.Stepping.{puts_stand, peer_in_turn, sample_lacks}
-use Rattle.graph_runs.specs.Parts.{HasPart, HasSeen, HasPut, HasGot, LeavesPart, BeginsStep}
-use Rattle.graph_runs.specs.Places.{owing, after_step, after_leaving}
+use Rattle.graph_runs.specs.Parts.{HasPart, HasSeen, HasPut, HasGot, LeavesPart, BeginsSteps}
+use Rattle.graph_runs.specs.Places.{owing, after_steps, after_leaving, IsMost}
 use Rattle.graph_runs.proofs.TellsNext.{staying_at, owes_as, ranged_values, is_first}
 
 -- a task that stays on all its phasers before and after keeps its registrations
@@ -42,13 +42,14 @@ keeps_staying m after t numbers before now = record {
 }
 
 -- what the outputs lack at a place that owes this
-lacks_as : (job : Job) (m : Moment) (t : ℕ) (at : TaskPlace) (o : Owed) → StandsAt job m t at
-    → at.owed ≡ o → Lacks job m t o
+lacks_as : {most : ℕ} (job : Job) (m : Moment) (t : ℕ) (at : TaskPlace) (o : Owed)
+    → StandsUpTo most job m t at → at.owed ≡ o → Lacks job m t o
 lacks_as job m t at o stands is =
     let L : Owed → Type 0 = λ x. Lacks job m t x in subst L is stands.lacks
 
-pub seen_follows : (job : Job) (m after : Moment) (t p : ℕ) (at : TaskPlace) (now : History)
-    → StandsAt job m t at → HasSeen job m after t p now → StandsAt job after t at
+pub seen_follows : {most : ℕ} (job : Job) (m after : Moment) (t p : ℕ) (at : TaskPlace)
+    (now : History) → StandsUpTo most job m t at → HasSeen job m after t p now
+    → StandsUpTo most job after t at
 seen_follows job m after t p at now stands seen =
     stays_same job m after t at stands
     (record { number = λ q. seen.moved.numbers q t; left = seen.left }) seen.same
@@ -89,61 +90,59 @@ in_turn job m t is there part staying e = by (m.number (output_at job t 0) t) re
         let none : length (m.taken t 1) ≡ 0 = ap length on.0 in
         omega arith
 
-pub put_follows : (job : Job) (m after : Moment) (t j p : ℕ) (v : ℤ) (at : TaskPlace)
+pub put_follows : (job : Job) (m after : Moment) (t j p most : ℕ) (vs : List ℤ) (at : TaskPlace)
     (now : History) → IsGraph job.graph → t < length job.graph.tasks → HasPart job m t
-    → StandsAt job m t at → at.left ≡ 0 → at.owed ≡ values j (Ok v ∷ [])
-    → HasPut job m after t j p v (m.begun t) now
-    → StandsAt job after t (owing (owed_after_signal (task_at job.graph t) j (v ∷ [])) at)
-put_follows job m after t j p v at now is there part stands none owed_is s =
+    → IsMost job t most → StandsUpTo most job m t at → at.left ≡ 0
+    → at.owed ≡ values j (map (λ v. Ok v) vs) → HasPut job m after t j p vs (m.begun t) now
+    → StandsUpTo most job after t (owing (owed_after_signal (task_at job.graph t) j vs) at)
+put_follows job m after t j p most vs at now is there part allowed stands none owed_is s =
     let staying = staying_at job m t at is there part.ran stands none in
-    let owes = owes_as job m t at (values j (Ok v ∷ [])) stands owed_is in
-    let next : next_values job m t j ≡ v ∷ [] =
-    ranged_values (next_values job m t j) v owes.2 in
-    let puts : PutsAll m after t j (v ∷ []) =
+    let owes = owes_as job m t at (values j (map (λ v. Ok v) vs)) stands owed_is in
+    let next : next_up_to most job m t j ≡ vs =
+    ranged_values (next_up_to most job m t j) vs owes.2 in
+    let puts : PutsAll m after t j vs =
     record { taken = s.taken; put = s.put; other_puts = s.other_puts } in
-    puts_stand job m after t j (v ∷ []) at is there part.ran
+    puts_stand job m after t j vs at is there allowed part.ran
     (λ e. in_turn job m t is there part staying e) puts
     (keeps_staying m after t s.moved.numbers staying s.staying) s.begun_is
     (owed job m t j owes.0).1 next
     (owed_is ∙ ap (λ l. values j l) (sym owes.2) ∙ ap (λ l. values j (map ranged l)) next) stands
 
-pub sampled_follows : (job : Job) (m after : Moment) (t p : ℕ) (v : ℤ) (at : TaskPlace)
-    (now : History) → IsGraph job.graph → t < length job.graph.tasks → HasPart job m t
-    → StandsAt job m t at → at.left ≡ 0 → at.owed ≡ nothing
-    → (task_at job.graph t).kind ≡ Source → HasPut job m after t 0 p v (suc (m.begun t)) now
-    → StandsAt job after t (after_step nothing at)
-sampled_follows job m after t p v at now is there part stands none owed_is source s =
+pub sampled_follows : {most : ℕ} (job : Job) (m after : Moment) (t p : ℕ) (vs : List ℤ)
+    (at : TaskPlace) (now : History) → IsGraph job.graph → t < length job.graph.tasks
+    → HasPart job m t → StandsUpTo most job m t at → at.left ≡ 0 → at.owed ≡ nothing
+    → (task_at job.graph t).kind ≡ Source
+    → HasPut job m after t 0 p vs (m.begun t + length vs) now
+    → StandsUpTo most job after t (after_steps (length vs) nothing at)
+sampled_follows job m after t p vs at now is there part stands none owed_is source s =
     let staying = staying_at job m t at is there part.ran stands none in
-    let puts : PutsAll m after t 0 (v ∷ []) =
+    let puts : PutsAll m after t 0 vs =
     record { taken = s.taken; put = s.put; other_puts = s.other_puts } in
     let lacks : Lacks job after t nothing =
-    sample_lacks job m after t 0 (v ∷ []) is part.ran s.moved.part.ran there source puts refl
-    (s.begun_is ∙ omega arith) (lacks_as job m t at nothing stands owed_is) in
-    stays_at job m after t (suc at.begun) nothing at stands
-    (keeps_staying m after t s.moved.numbers staying s.staying) (s.begun_is ∙ ap suc stands.begun)
-    (first_none job after t lacks) lacks
+    sample_lacks job m after t 0 vs is part.ran s.moved.part.ran there source puts refl s.begun_is
+    (lacks_as job m t at nothing stands owed_is) in
+    stays_at job m after t (at.begun + length vs) nothing at stands
+    (keeps_staying m after t s.moved.numbers staying s.staying)
+    (s.begun_is ∙ ap (λ b. b + length vs) stands.begun) (first_none job after t lacks) lacks
 
 -- ---- waits
 
--- a step is a block of any kind
-one_step : (kind : Kind) → IsBlock kind 1
-one_step Source = tt
-one_step Fir = tt
-one_step Split = refl
-one_step Join = refl
-one_step Peer = refl
-one_step Sink = tt
-
-pub first_wait_follows : (job : Job) (m after : Moment) (t k p : ℕ) (outcome : Outcome)
-    (at : TaskPlace) (now : History) → IsGraph job.graph → t < length job.graph.tasks
-    → HasPart job m t → StandsAt job m t at → at.left ≡ 0 → at.owed ≡ nothing
-    → BeginsStep job m t k p → HasGot job m after t k p outcome (suc (m.begun t)) now
-    → StandsAt job after t (after_step
-    (owed_after_wait (task_at job.graph t) at.begun (m.taken t 0) (number outcome ∷ [])) at)
-first_wait_follows job m after t k p outcome at now is there part stands none owed_is next s =
-    let xs = number outcome ∷ [] in
+pub first_wait_follows : (job : Job) (m after : Moment) (t k p most : ℕ)
+    (outcomes : List Outcome) (at : TaskPlace) (now : History) → IsGraph job.graph
+    → t < length job.graph.tasks → HasPart job m t → StandsUpTo most job m t at → at.left ≡ 0
+    → at.owed ≡ nothing → BeginsSteps job m t k p (length outcomes) → 1 ≤ length outcomes
+    → length outcomes ≤ most
+    → HasGot job m after t k p outcomes (m.begun t + length outcomes) now
+    → StandsUpTo most job after t (after_steps (length outcomes)
+    (owed_after_wait (task_at job.graph t) at.begun (m.taken t 0) (map number outcomes)) at)
+first_wait_follows job m after t k p most outcomes at now is there part stands none owed_is next
+    some room s =
+    let xs = map number outcomes in
+    let many : length xs ≡ length outcomes = length-map outcomes number in
+    let begun : after.begun t ≡ m.begun t + length outcomes = s.begun_is in
+    let K : ℕ → Type 0 = λ n. IsBlock (task_at job.graph t).kind n in
     let staying = staying_at job m t at is there part.ran stands none in
-    let w : FirstWait job m after t k xs = record {
+    let w : FirstWait most job m after t k xs = record {
       is = is;
       ran = part.ran;
       now = s.moved.part.ran;
@@ -152,28 +151,30 @@ first_wait_follows job m after t k p outcome at now is there part stands none ow
       few = next.few;
       waits = record { taken = s.taken; other_takes = s.other_takes; put = s.put };
       first = next.first;
-      steps = s.begun_is ∙ omega arith;
+      steps = omega arith;
       some = omega arith;
-      block = one_step (task_at job.graph t).kind;
-      room = (is.tasks t there).block.some;
+      block = subst K (sym many) next.block;
+      room = omega arith;
       all_taken = next.may_begin.taken k next.few;
       lacks = lacks_as job m t at nothing stands owed_is;
     } in
-    let B : ℕ → Type 0 = λ b. LeavesOwed job after t
+    let B : ℕ → Type 0 = λ b. LeavesOwed most job after t
     (owed_after_wait (task_at job.graph t) b (m.taken t 0) xs) in
     let left = subst B stands.begun (wait_leaves job m after t k xs w) in
-    stays_at job m after t (suc at.begun)
+    stays_at job m after t (at.begun + length outcomes)
     (owed_after_wait (task_at job.graph t) at.begun (m.taken t 0) xs) at stands
-    (keeps_staying m after t s.moved.numbers staying s.staying) (s.begun_is ∙ ap suc stands.begun)
-    left.0 left.1
+    (keeps_staying m after t s.moved.numbers staying s.staying)
+    (s.begun_is ∙ ap (λ b. b + length outcomes) stands.begun) left.0 left.1
 
-pub exchanged_follows : (job : Job) (m after : Moment) (t p : ℕ) (x : ℤ) (outcome : Outcome)
-    (at : TaskPlace) (now : History) → IsGraph job.graph → t < length job.graph.tasks
-    → HasPart job m t → StandsAt job m t at → at.left ≡ 0 → at.owed ≡ exchange x
-    → HasGot job m after t 1 p outcome (m.begun t) now
-    → StandsAt job after t
+pub exchanged_follows : (job : Job) (m after : Moment) (t p most : ℕ) (x : ℤ)
+    (outcome : Outcome) (at : TaskPlace) (now : History) → IsGraph job.graph
+    → t < length job.graph.tasks → HasPart job m t → IsMost job t most
+    → StandsUpTo most job m t at → at.left ≡ 0 → at.owed ≡ exchange x
+    → HasGot job m after t 1 p (outcome ∷ []) (m.begun t) now
+    → StandsUpTo most job after t
     (owing (owed_after_exchange (task_at job.graph t) at.owed (number outcome)) at)
-exchanged_follows job m after t p x outcome at now is there part stands none owed_is s =
+exchanged_follows job m after t p most x outcome at now is there part allowed stands none owed_is
+    s =
     let staying = staying_at job m t at is there part.ran stands none in
     let owes = owes_as job m t at (exchange x) stands owed_is in
     let before = lacks_as job m t at (exchange x) stands owed_is in
@@ -188,21 +189,22 @@ exchanged_follows job m after t p x outcome at now is there part stands none owe
     let lacks : Lacks job after t (values 1 (w ∷ [])) =
     exchange_lacks job m after t outcome x w is part.ran ran_now there peer gets s.begun_is
     before in
-    let P : Owed → Type 0 = λ o. StandsAt job after t
+    let P : Owed → Type 0 = λ o. StandsUpTo most job after t
     (owing (owed_after_exchange (task_at job.graph t) o (number outcome)) at) in
     subst P (sym owed_is)
     (stays_at job m after t at.begun (values 1 (w ∷ [])) at stands
     (keeps_staying m after t s.moved.numbers staying s.staying) (s.begun_is ∙ stands.begun)
-    (exchange_owes job m after t outcome x is part.ran ran_now there peer gets owes before first
-    lacks) lacks)
+    (exchange_owes most job m after t outcome x allowed.some is part.ran ran_now there peer gets
+    owes before first lacks) lacks)
 
 -- ---- leaving
 
-pub left_follows : (job : Job) (m after : Moment) (t p n : ℕ) (at : TaskPlace) (before : History)
-    → IsGraph job.graph → t < length job.graph.tasks → StandsAt job m t at
-    → at.left < length at.numbers → (registration_at job t at.left).phaser ≡ p
-    → m.number p t ≡ Some n → LeavesPart job m after t p (Dropped n ∷ before)
-    → StandsAt job after t (after_leaving at)
+pub left_follows : {most : ℕ} (job : Job) (m after : Moment) (t p n : ℕ) (at : TaskPlace)
+    (before : History) → IsGraph job.graph → t < length job.graph.tasks
+    → StandsUpTo most job m t at → at.left < length at.numbers
+    → (registration_at job t at.left).phaser ≡ p → m.number p t ≡ Some n
+    → LeavesPart job m after t p (Dropped n ∷ before)
+    → StandsUpTo most job after t (after_leaving at)
 left_follows job m after t p n at before is there stands room here numbered s =
     let first : eqb n n ≡ true = eq-eqb n n refl in
     let dropped : has_dropped (Dropped n ∷ before) n ≡ true = rw first refl in

@@ -30,6 +30,10 @@ abbrev pub begun_by : {job : Job} {ends : Ends} {t : ℕ} → Status job ends t 
 begun_by {t = t} (absent never) = 0
 begun_by {t = t} (came end is m own there) = m.begun t
 
+abbrev pub offset_by : {job : Job} {ends : Ends} {t : ℕ} → Status job ends t → ℕ
+offset_by {job = job} {t = t} (absent never) = (opening job).offset t
+offset_by {t = t} (came end is m own there) = m.offset t
+
 abbrev pub taken_by : {job : Job} {ends : Ends} {t : ℕ} → Status job ends t → ℕ → List ℤ
 taken_by {t = t} (absent never) k = []
 taken_by {t = t} (came end is m own there) k = m.taken t k
@@ -78,7 +82,7 @@ module _ (job : Job) (ends : Ends) (is : IsGraph job.graph) (r : IsRunEnd job en
   whole = record {
     history = whole_history;
     number = λ p t. number_by (status t) p;
-    offset = (opening job).offset;
+    offset = λ t. offset_by (status t);
     begun = λ t. begun_by (status t);
     taken = λ t k. taken_by (status t) k;
     put = λ t j. put_by (status t) j;

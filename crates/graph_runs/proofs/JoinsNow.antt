@@ -11,7 +11,7 @@ use Rattle.phase_history.specs.declared.event.Event.TheVariants.{RegisteredNow}
 use Rattle.phase_history.specs.Histories.{History, IsBeginning, entry_at, signal_phase, wait_phase, done_of, has_dropped, greatest_used, start_of, phases_waited}
 use Rattle.phase_history.specs.Phases.{received_by}
 use Rattle.phase_history.specs.Laws.{HasNoEvents, HasReceivedFrom}
-use Rattle.phase_history.specs.Legal.{IsLegal}
+use Rattle.phase_history.specs.Legal.{IsLegal, IsAccepted}
 use Rattle.phase_history.specs.Others.{IsUsed}
 use Rattle.phase_history.specs.Sent.{NamesAll, IsSilent}
 use Rattle.phase_history.proofs.LawProofs.{above_law}
@@ -107,7 +107,7 @@ own_join job before after t p n c a u is there grown s ran =
 -- ---- the child
 
 -- the one phaser of a sink's line
-sink_line : (job : Job) (c p : ℕ) → IsGraph job.graph → c < length job.graph.tasks
+pub sink_line : (job : Job) (c p : ℕ) → IsGraph job.graph → c < length job.graph.tasks
     → (task_at job.graph c).kind ≡ Sink
     → (length (task_at job.graph c).inputs ≡ 1)
     × (length (signalled_by (task_at job.graph c)) ≡ 0)
@@ -496,19 +496,36 @@ join_keeps job before after t p n c a u is there s ran = record {
 
 -- ---- the next event
 
--- the registration that comes next is an event of the run
-pub next_child_now_is : (job : Job) (m : Moment) (t p n c a : ℕ) (u : Parent)
-    → IsNextChildNow job m t p n c a u
+-- a child that joins now may come: it has done nothing, and its parent is at the boundary. Where it
+-- began before is free
+pub record MayJoinNow (job : Job) (m : Moment) (t p n c a : ℕ) (u : Parent) : Type 0 where
+  pub child : c < length job.graph.tasks
+  pub now : (task_at job.graph c).joins_now ≡ true
+  pub parent : (task_at job.graph c).parent ≡ Some u
+  pub by : u.task ≡ t
+  pub on_line : OnLine (task_at job.graph c) p
+  pub numbered : m.number p t ≡ Some n
+  pub absent : m.number p c ≡ None
+  pub accepted : IsAccepted (limits_at job p) (m.history p) (RegisteredNow n a)
+  pub boundary : m.begun t ≡ u.at
+  pub nothing_begun : m.begun c ≡ 0
+  pub nothing_taken : (k : ℕ) → m.taken c k ≡ []
+  pub all_taken : (k : ℕ) → k < length (task_at job.graph t).inputs
+      → input_at (task_at job.graph t) k ≡ p → length (m.taken t k) ≡ m.begun t
+
+-- its registration is an event of the run
+pub join_now_is : (job : Job) (m : Moment) (t p n c a : ℕ) (u : Parent)
+    → MayJoinNow job m t p n c a u
     → RegistersNow job m (after_register_now p n c a m) t p n c a u
-next_child_now_is job m t p n c a u next = record {
-  child = next.child.child;
+join_now_is job m t p n c a u next = record {
+  child = next.child;
   now = next.now;
-  parent = next.child.parent;
-  by = next.child.by;
-  on_line = next.child.on_line;
-  numbered = next.child.numbered;
-  absent = next.child.absent;
-  accepted = next.child.accepted;
+  parent = next.parent;
+  by = next.by;
+  on_line = next.on_line;
+  numbered = next.numbered;
+  absent = next.absent;
+  accepted = next.accepted;
   here = at_same p (RegisteredNow n a ∷ m.history p) m.history;
   elsewhere = λ q apart. at_other p (RegisteredNow n a ∷ m.history p) m.history q apart;
   same = λ x apart. record {
@@ -520,11 +537,11 @@ next_child_now_is job m t p n c a u next = record {
   number = ap (λ f. f c) (at_same p (with_at c (Some a) (m.number p)) m.number)
       ∙ at_same c (Some a) (m.number p);
   other_numbers = λ q x which. other q x which (eq_case q p);
-  boundary = next.child.boundary;
+  boundary = next.boundary;
   offset = at_same c (done_of (m.history p)) m.offset;
-  nothing_begun = next.child.nothing_begun;
+  nothing_begun = next.nothing_begun;
   nothing_taken = next.nothing_taken;
-  all_taken = next.child.all_taken;
+  all_taken = next.all_taken;
 }
   where
     other : (q x : ℕ) → (q ≢ p) ⊎ (x ≢ c) → (q ≡ p) ⊎ (q ≢ p)
@@ -538,6 +555,26 @@ next_child_now_is job m t p n c a u next = record {
         subst N (sym same)
         (ap (λ f. f x) (at_same p (with_at c (Some a) (m.number p)) m.number)
         ∙ at_other c (Some a) (m.number p) x apart)
+
+-- the registration that comes next is an event of the run
+pub next_child_now_is : (job : Job) (m : Moment) (t p n c a : ℕ) (u : Parent)
+    → IsNextChildNow job m t p n c a u
+    → RegistersNow job m (after_register_now p n c a m) t p n c a u
+next_child_now_is job m t p n c a u next =
+    join_now_is job m t p n c a u (record {
+      child = next.child.child;
+      now = next.now;
+      parent = next.child.parent;
+      by = next.child.by;
+      on_line = next.child.on_line;
+      numbered = next.child.numbered;
+      absent = next.child.absent;
+      accepted = next.child.accepted;
+      boundary = next.child.boundary;
+      nothing_begun = next.child.nothing_begun;
+      nothing_taken = next.nothing_taken;
+      all_taken = next.child.all_taken;
+    })
 
 pub next_child_now_keeps : (job : Job) (m : Moment) (t p n c a : ℕ) (u : Parent)
     → IsGraph job.graph → t < length job.graph.tasks → IsNextChildNow job m t p n c a u

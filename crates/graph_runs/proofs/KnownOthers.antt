@@ -1,5 +1,5 @@
 -- What a task's own moment says of other tasks stays by its calls.
-use Rattle.std.proofs.Common.{◌≡◌, ◌≢◌, ℕ, ◌<◌, List, [], Option, Some, None, length, refl, sym, ap, subst, ◌∙◌, arith, ◌⊎◌, inl, inr}
+use Rattle.std.proofs.Common.{◌≡◌, ◌≢◌, ℕ, ◌<◌, true, false, List, [], Option, Some, None, length, refl, sym, ap, subst, ◌∙◌, arith, ◌⊎◌, inl, inr}
 use Rattle.phase_history.specs.Histories.{History}
 use Rattle.stream_lists.specs.graph_base.declared.line.Parent.{Parent}
 use Rattle.stream_lists.specs.graph_base.Graphs.{task_at}
@@ -11,7 +11,7 @@ use Rattle.graph_runs.proofs.OwnEvents.{eq_case}
 use Rattle.graph_runs.specs.Nexts.{registrations_at}
 use Rattle.graph_runs.specs.TaskPlaces.{registration_at}
 use Rattle.graph_runs.specs.Parts.{HasMovedOn}
-use Rattle.graph_runs.specs.Places.{IsFirstMoment, HasNewChild, HasAddedChild, KnowsOthers}
+use Rattle.graph_runs.specs.Places.{IsFirstMoment, HasNewChild, HasAddedChild, HasAddedNow, KnowsOthers}
 use Rattle.graph_runs.proofs.TellsNext.{registration_on}
 
 -- a task's parent stands above it
@@ -30,7 +30,7 @@ same_parent job c u w e f = by (sym e ∙ f)
 pub known_first : (job : Job) (m : Moment) (t : ℕ) (numbers : List ℕ) (seen : ℕ → History)
     → IsGraph job.graph → IsFirstMoment job m t numbers seen → KnowsOthers job m t
 known_first job m t numbers seen is first = record {
-  offset = first.offset;
+  offset = λ u stays. first.offset u;
   lines = λ p c n u there parent of_t at.
       (let less : u.task < c = below job c u is there parent in
       let none : m.number p c ≡ None = first.others p c (λ same. omega arith) in
@@ -45,7 +45,7 @@ known_same : (job : Job) (m after : Moment) (t : ℕ)
     → ((q u : ℕ) → after.number q u ≡ m.number q u)
     → ((u : ℕ) → after.offset u ≡ m.offset u) → KnowsOthers job m t → KnowsOthers job after t
 known_same job m after t numbers offset known = record {
-  offset = λ u. offset u ∙ known.offset u;
+  offset = λ u stays. offset u ∙ known.offset u stays;
   lines = λ p c n u there parent of_t at.
       known.lines p c n u there parent of_t (sym (numbers p c) ∙ at);
   unregistered = λ p d u there parent behind.
@@ -62,15 +62,18 @@ pub known_begins : (job : Job) (m after : Moment) (t c : ℕ) → HasNewChild jo
 known_begins job m after t c new known =
     known_same job m after t new.numbers_stay new.offset known
 
-pub known_registers : (job : Job) (m after : Moment) (t c p a : ℕ) (u : Parent)
-    (numbers : List ℕ) (now : History) → (task_at job.graph c).parent ≡ Some u → u.task ≡ t
-    → OnLine (task_at job.graph c) p → HasAddedChild job m after t c p a numbers now
+-- task c, a child of task t, has got a number on a phaser of its line, and where it began may have
+-- changed
+known_added : (job : Job) (m after : Moment) (t c p : ℕ) (u : Parent)
+    → (task_at job.graph c).parent ≡ Some u → u.task ≡ t → OnLine (task_at job.graph c) p
+    → ((q d : ℕ) → (q ≢ p) ⊎ (d ≢ c) → after.number q d ≡ m.number q d)
+    → ((d : ℕ) → (task_at job.graph d).joins_now ≡ false → after.offset d ≡ m.offset d)
     → KnowsOthers job m t → KnowsOthers job after t
-known_registers job m after t c p a u numbers now parent of_t on added known = record {
-  offset = λ x. added.offset x ∙ known.offset x;
+known_added job m after t c p u parent of_t on numbers offset known = record {
+  offset = λ d stays. offset d stays ∙ known.offset d stays;
   lines = λ q d n w there e by at. lines q d n w there e by at (eq_case q p) (eq_case d c);
   unregistered = λ q d w there e behind.
-      added.other_numbers q d (inr (λ same. apart d w e behind same))
+      numbers q d (inr (λ same. apart d w e behind same))
       ∙ known.unregistered q d w there e behind;
 }
   where
@@ -88,9 +91,30 @@ known_registers job m after t c p a u numbers now parent of_t on added known = r
         let D : ℕ → Type 0 = λ x. OnLine (task_at job.graph x) p in
         subst P (sym here) (subst D (sym same) on)
     lines q d n w there e by at (inl here) (inr other) =
-        known.lines q d n w there e by (sym (added.other_numbers q d (inr other)) ∙ at)
+        known.lines q d n w there e by (sym (numbers q d (inr other)) ∙ at)
     lines q d n w there e by at (inr other) case =
-        known.lines q d n w there e by (sym (added.other_numbers q d (inl other)) ∙ at)
+        known.lines q d n w there e by (sym (numbers q d (inl other)) ∙ at)
+
+pub known_registers : (job : Job) (m after : Moment) (t c p a : ℕ) (u : Parent)
+    (numbers : List ℕ) (now : History) → (task_at job.graph c).parent ≡ Some u → u.task ≡ t
+    → OnLine (task_at job.graph c) p → HasAddedChild job m after t c p a numbers now
+    → KnowsOthers job m t → KnowsOthers job after t
+known_registers job m after t c p a u numbers now parent of_t on added known =
+    known_added job m after t c p u parent of_t on added.other_numbers
+    (λ d stays. added.offset d) known
+
+pub known_registers_now : (job : Job) (m after : Moment) (t c p a start : ℕ) (u : Parent)
+    (now : History) → (task_at job.graph c).parent ≡ Some u → u.task ≡ t
+    → (task_at job.graph c).joins_now ≡ true → OnLine (task_at job.graph c) p
+    → HasAddedNow job m after t c p a start now → KnowsOthers job m t → KnowsOthers job after t
+known_registers_now job m after t c p a start u now parent of_t joins on added known =
+    known_added job m after t c p u parent of_t on added.other_numbers
+    (λ d stays. added.offset d (apart d stays)) known
+  where
+    apart : (d : ℕ) → (task_at job.graph d).joins_now ≡ false → d ≢ c
+    apart d stays same =
+        let no : true ≡ false =
+        sym joins ∙ ap (λ x. (task_at job.graph x).joins_now) (sym same) ∙ stays in cc
 
 pub known_child : (job : Job) (m : Moment) (t c : ℕ) (u : Parent) → IsGraph job.graph
     → c < length job.graph.tasks → (task_at job.graph c).parent ≡ Some u → u.task ≡ t

@@ -16,10 +16,9 @@ use Rattle.stream_lists.specs.Jobs.{Job}
 use Rattle.stream_lists.specs.Spans.{signalled_by, puts_on, turns_below}
 use Rattle.graph_runs.specs.Moments.{Moment, TaskRan, made_now}
 use Rattle.graph_runs.specs.Nexts.{first_owed, is_owed}
-use Rattle.graph_runs.specs.Answers.{next_values}
 use Rattle.graph_runs.specs.TaskPlaces.{Owed, nothing, values, lacking}
 use Rattle.graph_runs.proofs.Boundaries.{made_many}
-use Rattle.graph_runs.proofs.Following.{Lacks}
+use Rattle.graph_runs.proofs.Following.{Lacks, next_up_to}
 
 -- ---- the first that is owed
 
@@ -97,41 +96,40 @@ take_all n [] le = take-nil n
 take_all zero (x ∷ xs) le = absurd (omega arith)
 take_all (suc n) (x ∷ xs) le = ap (λ l. x ∷ l) (take_all n xs (omega arith))
 
--- all that the output lacks, where a block has room for it
-pub next_all : (job : Job) (m : Moment) (t j : ℕ)
-    → length (made_now job m t j) ≤ length (m.put t j) + (task_at job.graph t).block
-    → next_values job m t j ≡ drop (length (m.put t j)) (made_now job m t j)
-next_all job m t j le =
+-- all that the output lacks, where there is room for it
+pub next_all : (most : ℕ) (job : Job) (m : Moment) (t j : ℕ)
+    → length (made_now job m t j) ≤ length (m.put t j) + most
+    → next_up_to most job m t j ≡ drop (length (m.put t j)) (made_now job m t j)
+next_all most job m t j le =
     let long : length (drop (length (m.put t j)) (made_now job m t j))
     ≡ length (made_now job m t j) - length (m.put t j) =
     length-drop (length (m.put t j)) (made_now job m t j) in
-    take_all (task_at job.graph t).block (drop (length (m.put t j)) (made_now job m t j))
-    (omega arith)
+    take_all most (drop (length (m.put t j)) (made_now job m t j)) (omega arith)
 
 -- the first of them stands behind what was put
-pub next_begins : (job : Job) (m : Moment) (t j : ℕ) → 1 ≤ (task_at job.graph t).block
+pub next_begins : (most : ℕ) (job : Job) (m : Moment) (t j : ℕ) → 1 ≤ most
     → length (m.put t j) < length (made_now job m t j)
-    → next_values job m t j
+    → next_up_to most job m t j
     ≡ get_or (made_now job m t j) (length (m.put t j)) (pos 0)
-    ∷ take ((task_at job.graph t).block - 1) (drop (suc (length (m.put t j))) (made_now job m t j))
-next_begins job m t j some more =
+    ∷ take (most - 1) (drop (suc (length (m.put t j))) (made_now job m t j))
+next_begins most job m t j some more =
     let made = made_now job m t j in
     let put = length (m.put t j) in
-    let block = (task_at job.graph t).block in
-    let cut : block ≡ suc (block - 1) = omega arith in
-    ap (λ l. take block l) (drop-cons made put (pos 0) more)
+    let cut : most ≡ suc (most - 1) = omega arith in
+    ap (λ l. take most l) (drop-cons made put (pos 0) more)
     ∙ ap (λ n. take n (get_or made put (pos 0) ∷ drop (suc put) made)) cut
 
 -- where it lacks one, that is all
-pub next_one : (job : Job) (m : Moment) (t j : ℕ) → 1 ≤ (task_at job.graph t).block
+pub next_one : (most : ℕ) (job : Job) (m : Moment) (t j : ℕ) → 1 ≤ most
     → length (made_now job m t j) ≡ length (m.put t j) + 1
-    → next_values job m t j ≡ get_or (made_now job m t j) (length (m.put t j)) (pos 0) ∷ []
-next_one job m t j some one =
+    → next_up_to most job m t j
+    ≡ get_or (made_now job m t j) (length (m.put t j)) (pos 0) ∷ []
+next_one most job m t j some one =
     let made = made_now job m t j in
     let put = length (m.put t j) in
-    let n = (task_at job.graph t).block - 1 in
+    let n = most - 1 in
     let none : drop (suc put) made ≡ [] = drop_of_length-le made {i = suc put} (omega arith) in
-    next_begins job m t j some (omega arith)
+    next_begins most job m t j some (omega arith)
     ∙ ap (λ l. get_or made put (pos 0) ∷ take n l) none
     ∙ ap (λ l. get_or made put (pos 0) ∷ l) (take-nil n)
 

@@ -78,5 +78,5 @@ pub mod OnPhasers
 pub mod OwnCalls
 pub mod Owns
 pub mod Wholes
-pub mod LeastStarts
+pub mod StartsAtEnd
 pub use Rattle.phase_history.proofs as phase_history_lemmas

@@ -1,13 +1,14 @@
 -- What a task's own calls were stays under others' events, and goes on by its own.
-use Rattle.std.proofs.Common.{◌≡◌, ◌≢◌, ℕ, Bool, true, false, cond, eqb, ◌||◌, List, [], ◌∷◌, Some, ℤ, refl, sym, ap, subst, ◌∙◌, ◌⊎◌, inl, inr, All}
+use Rattle.std.proofs.Common.{◌≡◌, ◌≢◌, ℕ, Bool, true, false, cond, eqb, ◌||◌, List, [], ◌∷◌, Option, Some, length, ℤ, refl, sym, ap, subst, ◌∙◌, ◌⊎◌, inl, inr, All}
 use Rattle.std.proofs.lemmas.Bool.{eq-eqb, eqb-true}
 use Rattle.std.proofs.lemmas.List.{append-nil}
-use Rattle.std.proofs.lemmas.List.Elements.{All-cons, All-nil, All-append}
+use Rattle.std.proofs.lemmas.List.Elements.{All-nil, All-append}
 use Rattle.std.proofs.lemmas.Option.{same_Some}
 use Rattle.phase_history.specs.phase_accum.declared.outcome.Outcome.{Outcome}
+use Rattle.phase_history.specs.phase_accum.declared.single.Single.{Single}
 use Rattle.phase_history.specs.phase_base.declared.mode.Mode.{Mode}
 use Rattle.phase_history.specs.declared.event.Event.{Event}
-use Rattle.phase_history.specs.declared.event.Event.TheVariants.{Registered, Waited, Dropped}
+use Rattle.phase_history.specs.declared.event.Event.TheVariants.{Registered, RegisteredNow, Waited, Dropped}
 use Rattle.phase_history.specs.Histories.{History}
 use Rattle.phase_history.specs.Phases.{received_by}
 use Rattle.phase_history.specs.Others.{events_of, children_in, OthersCame}
@@ -42,8 +43,8 @@ own_on job m t p n own at = record {
 }
 
 -- others' events leave it
-pub own_came : (job : Job) (m : Moment) (t p n : ℕ) (old new : History) → OthersCame (n ∷ []) old new
-    → AreOwn job m t p n old → AreOwn job m t p n new
+pub own_came : (job : Job) (m : Moment) (t p n : ℕ) (old new : History)
+    → OthersCame (n ∷ []) old new → AreOwn job m t p n old → AreOwn job m t p n new
 own_came job m t p n old new came own =
     let same : events_of n new ≡ events_of n old = events_stay n old new came in
     let part = part_came n old new came in
@@ -60,10 +61,10 @@ mine : (n : ℕ) (event : Event) (before : History) (b : Bool) → b ≡ true
     → cond b (event ∷ events_of n before) (events_of n before) ≡ event ∷ events_of n before
 mine n event before b e = ap (λ c. cond c (event ∷ events_of n before) (events_of n before)) e
 
-pub own_put : (job : Job) (m : Moment) (t p n : ℕ) (v : ℤ) (before : History)
-    → AreOwn job m t p n before → AreOwn job m t p n (put_event job p n v ∷ before)
-own_put job m t p n v before own =
-    let event = put_event job p n v in
+pub own_put : (job : Job) (m : Moment) (t p n : ℕ) (vs : List ℤ) (before : History)
+    → AreOwn job m t p n before → AreOwn job m t p n (put_event job p n vs ∷ before)
+own_put job m t p n vs before own =
+    let event = put_event job p n vs in
     let events : events_of n (event ∷ before) ≡ event ∷ events_of n before =
     mine n event before (eqb n n) (eq-eqb n n refl) in
     let N : History → Type 0 = λ h. NamesAll (phaser_at job.graph p).single h in
@@ -73,11 +74,11 @@ own_put job m t p n v before own =
       children = λ a e. own.children a (ap (λ h. is_in a (children_in h)) (sym events) ∙ e);
     }
 
-pub own_got : (job : Job) (m : Moment) (t p n : ℕ) (outcome : Outcome) (before : History)
-    → IsAnsweredBy job p n outcome before → is_too_big outcome ≡ false
-    → AreOwn job m t p n before → AreOwn job m t p n (Waited n 1 ∷ before)
-own_got job m t p n outcome before answered fits own =
-    let event : Event = Waited n 1 in
+pub own_got : (job : Job) (m : Moment) (t p n : ℕ) (outcomes : List Outcome) (before : History)
+    → IsAnsweredBy job p n outcomes before → All (λ outcome. is_too_big outcome ≡ false) outcomes
+    → AreOwn job m t p n before → AreOwn job m t p n (Waited n (length outcomes) ∷ before)
+own_got job m t p n outcomes before answered fits own =
+    let event : Event = Waited n (length outcomes) in
     let events : events_of n (event ∷ before) ≡ event ∷ events_of n before =
     mine n event before (eqb n n) (eq-eqb n n refl) in
     let N : History → Type 0 = λ h. NamesAll (phaser_at job.graph p).single h in
@@ -86,8 +87,7 @@ own_got job m t p n outcome before answered fits own =
     record {
       named = subst N (sym events) own.named;
       met_none = subst A (sym answered)
-          (All-append Fit (received_by (value_at job p) before n) (outcome ∷ []) own.met_none
-          (All-cons Fit outcome [] fits (All-nil Fit)));
+          (All-append Fit (received_by (value_at job p) before n) outcomes own.met_none fits);
       children = λ a e. own.children a (ap (λ h. is_in a (children_in h)) (sym events) ∙ e);
     }
 
@@ -104,19 +104,46 @@ own_left job m t p n before own =
       children = λ a e. own.children a (ap (λ h. is_in a (children_in h)) (sym events) ∙ e);
     }
 
-pub own_registered : (job : Job) (m : Moment) (t p n a : ℕ) (mode : Mode) (before : History)
-    → HasGiven job m t p a → AreOwn job m t p n before
-    → AreOwn job m t p n (Registered n a mode ∷ before)
-own_registered job m t p n a mode before given own =
-    let event : Event = Registered n a mode in
-    let events : events_of n (event ∷ before) ≡ event ∷ events_of n before =
-    mine n event before (eqb n n) (eq-eqb n n refl) in
+-- an event of its own that is a registration, under number a
+pub record IsRegistration (n a : ℕ) (event : Event) (before : History) : Type 0 where
+  pub events : events_of n (event ∷ before) ≡ event ∷ events_of n before
+  pub named : (single : Option Single) → NamesAll single (events_of n before)
+      → NamesAll single (event ∷ events_of n before)
+  pub received : (value : List ℤ → Outcome)
+      → received_by value (event ∷ before) n ≡ received_by value before n
+  pub children : children_in (event ∷ events_of n before) ≡ a ∷ children_in (events_of n before)
+
+pub plain_registration : (n a : ℕ) (mode : Mode) (before : History)
+    → IsRegistration n a (Registered n a mode) before
+plain_registration n a mode before = record {
+  events = mine n (Registered n a mode) before (eqb n n) (eq-eqb n n refl);
+  named = λ single all. all;
+  received = λ value. refl;
+  children = refl;
+}
+
+pub registration_now : (n a : ℕ) (before : History)
+    → IsRegistration n a (RegisteredNow n a) before
+registration_now n a before = record {
+  events = mine n (RegisteredNow n a) before (eqb n n) (eq-eqb n n refl);
+  named = λ single all. all;
+  received = λ value. refl;
+  children = refl;
+}
+
+pub own_registered : (job : Job) (m : Moment) (t p n a : ℕ) (event : Event) (before : History)
+    → IsRegistration n a event before → HasGiven job m t p a → AreOwn job m t p n before
+    → AreOwn job m t p n (event ∷ before)
+own_registered job m t p n a event before is given own =
     let N : History → Type 0 = λ h. NamesAll (phaser_at job.graph p).single h in
+    let A : List Outcome → Type 0 = λ l. All (λ outcome. is_too_big outcome ≡ false) l in
     record {
-      named = subst N (sym events) own.named;
-      met_none = own.met_none;
+      named = subst N (sym is.events) (is.named (phaser_at job.graph p).single own.named);
+      met_none = subst A (sym (is.received (value_at job p))) own.met_none;
       children = λ b e.
-          by b (eqb a b) refl (ap (λ h. is_in b (children_in h)) (sym events) ∙ e);
+          by b (eqb a b) refl
+          (ap (λ l. is_in b l) (sym is.children)
+          ∙ ap (λ h. is_in b (children_in h)) (sym is.events) ∙ e);
     }
   where
     by : (b : ℕ) (c : Bool) → eqb a b ≡ c
@@ -145,7 +172,7 @@ own_new job m t p n h none =
 
 -- what a moment says of the beginning of a task, and of the numbers of all, is as it was, or more
 pub record BeginsAsBefore (job : Job) (before after : Moment) (t : ℕ) : Type 0 where
-  pub offset : after.offset t ≡ before.offset t
+  pub offset : (task_at job.graph t).joins_now ≡ false → after.offset t ≡ before.offset t
   pub above : (u : Parent) → (task_at job.graph t).parent ≡ Some u
       → after.offset u.task ≡ before.offset u.task
   pub parent : (u : Parent) → (task_at job.graph t).parent ≡ Some u
@@ -153,8 +180,8 @@ pub record BeginsAsBefore (job : Job) (before after : Moment) (t : ℕ) : Type 0
   pub own_numbers : (q : ℕ) → after.number q t ≡ before.number q t
   pub numbers : (q c a : ℕ) → before.number q c ≡ Some a → after.number q c ≡ Some a
 
-pub given_later : (job : Job) (before after : Moment) (t p a : ℕ) → BeginsAsBefore job before after t
-    → HasGiven job before t p a → HasGiven job after t p a
+pub given_later : (job : Job) (before after : Moment) (t p a : ℕ)
+    → BeginsAsBefore job before after t → HasGiven job before t p a → HasGiven job after t p a
 given_later job before after t p a same given = record {
   child = given.child;
   is_child = given.is_child;
@@ -175,7 +202,7 @@ pub calls_go_on : (job : Job) (before after : Moment) (t p n : ℕ)
     → ((q : ℕ) → q ≢ p → after.history q ≡ before.history q)
     → AreOwn job after t p n (after.history p) → HasOwnCalls job after t
 calls_go_on job before after t p n same own numbered elsewhere here = record {
-  offset = same.offset ∙ own.offset;
+  offset = λ stays. same.offset stays ∙ own.offset stays;
   above = λ u e. same.above u e ∙ own.above u e;
   parent = λ u e. same.parent u e ∙ own.parent u e;
   named = λ q k at. (all q k at).named;

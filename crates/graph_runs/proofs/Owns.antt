@@ -81,6 +81,7 @@ pub record HasOwn (job : Job) (m : Moment) (end : TaskEnd) (t : ℕ) : Type 0 wh
   pub part : HasPart job m t
   pub own : HasOwnCalls job m t
   pub begun : m.begun t ≡ end.begun
+  pub start : (task_at job.graph t).joins_now ≡ true → m.offset t ≡ end.start
   pub numbered : (i : ℕ) → i < length (registrations_at job t)
       → m.number (registration_at job t i).phaser t ≡ slice_get end.numbers i
   pub whole : length end.numbers ≡ length (registrations_at job t)
@@ -98,6 +99,7 @@ owns job m end is = record {
   part = is.part;
   own = is.own;
   begun = is.stands.begun ∙ is.begun;
+  start = is.start;
   numbered = λ i lt. is.stands.numbered i lt ∙ ap (λ l. slice_get l i) is.numbers;
   whole = is.whole;
   left = λ i n lt e. left i n lt e;

@@ -1,11 +1,11 @@
 -- A part stays one under others' events, and goes on by the task's own.
-use Rattle.std.proofs.Common.{◌≡◌, ◌≢◌, ℕ, suc, ◌+◌, ◌<◌, ◌≤◌, true, false, eqb, [], ◌∷◌, ◌++◌, Option, Some, Ok, ℤ, length, refl, sym, ap, subst, ◌∙◌, arith, ◌⊎◌, inl, inr}
+use Rattle.std.proofs.Common.{◌≡◌, ◌≢◌, ℕ, ◌+◌, ◌<◌, ◌≤◌, true, false, eqb, List, [], ◌∷◌, ◌++◌, Option, Some, Ok, ℤ, length, refl, sym, ap, subst, ◌∙◌, arith, ◌⊎◌, inl, inr}
 use Rattle.std.specs.Prelude.{is_some}
 use Rattle.std.proofs.lemmas.Bool.{ne_eqb, eq-eqb}
 use Rattle.std.proofs.lemmas.List.{length-map}
 use Rattle.phase_history.specs.phase_accum.declared.outcome.Outcome.{Outcome}
 use Rattle.phase_history.specs.declared.event.Event.{Event}
-use Rattle.phase_history.specs.declared.event.Event.TheVariants.{Signalled, Waited, Dropped}
+use Rattle.phase_history.specs.declared.event.Event.TheVariants.{Waited, Dropped}
 use Rattle.phase_history.specs.phase_base.declared.entry.Entry.{Entry}
 use Rattle.phase_history.specs.phase_base.Members.{entry_of}
 use Rattle.phase_history.specs.declared.got.Got.TheVariants.{Ended}
@@ -21,19 +21,21 @@ use Rattle.phase_history.proofs.Answered.{ended_tells}
 use Rattle.stream_lists.specs.Lists.{number}
 use Rattle.phase_history.specs.Phases.{received_by}
 use Rattle.phase_history.specs.Legal.{IsLegal, IsAccepted}
-use Rattle.stream_lists.specs.graph_base.Graphs.{task_at, phaser_at}
+use Rattle.stream_lists.specs.graph_base.Graphs.{task_at}
 use Rattle.stream_lists.specs.graph_base.TaskLines.{IsGraph}
 use Rattle.stream_lists.specs.Jobs.{Job}
 use Rattle.graph_runs.specs.Moments.{Moment, TaskRan, OnLine, OnInput, TakenOn, RanOut, HasEnded, limits_at, value_at, input_at}
-use Rattle.graph_runs.specs.Moves.{SameTask, HasGrown, OthersMoved, PartStays, IsStaying, MayBegin, HasMoved, Signals, Waits, NoneDue}
-use Rattle.graph_runs.specs.Turned.{with_at, after_signal, after_wait, after_leave}
+use Rattle.graph_runs.specs.Moves.{further, SameTask, HasGrown, OthersMoved, PartStays, IsStaying, MayBeginTo, HasMoved, SignalsAll, WaitsAll, NoneDue}
+use Rattle.graph_runs.specs.Turned.{with_at, after_signals, after_waits, after_leave}
 use Rattle.graph_runs.proofs.Framed.{part_came, task_later, ended_later}
 use Rattle.graph_runs.proofs.OwnEvents.{eq_case}
-use Rattle.graph_runs.proofs.OwnSignals.{own_signal}
-use Rattle.graph_runs.proofs.OwnWaits.{own_wait}
+use Rattle.graph_runs.proofs.OwnSignals.{own_signals}
+use Rattle.graph_runs.proofs.OwnWaits.{own_waits}
 use Rattle.graph_runs.proofs.OwnLeaves.{own_leave}
-use Rattle.graph_runs.proofs.Turned.{next_signal_is, next_sample_is, first_wait_is, exchange_wait_is, next_leave_is}
-use Rattle.graph_runs.specs.Parts.{HasPart, SeesOthers, SeesOwn, IsNextValue, IsNextOfSamples, BeginsStep, IsExchange, HasMovedOn, HasSeen, HasPut, HasGot, LeavesPart}
+use Rattle.graph_runs.proofs.InBlocks.{next_signals_are, next_samples_are, first_waits_are}
+use Rattle.graph_runs.proofs.Nexts.{further-length}
+use Rattle.graph_runs.proofs.Turned.{exchange_wait_is, next_leave_is}
+use Rattle.graph_runs.specs.Parts.{HasPart, SeesOthers, SeesOwn, put_event, AreNextValues, AreNextSamples, BeginsSteps, IsExchange, HasMovedOn, HasSeen, HasPut, HasGot, LeavesPart}
 
 -- ---- one history later
 
@@ -199,12 +201,16 @@ module _ (job : Job) (m : Moment) (t p n : ℕ) (before : History) (is : IsGraph
   abbrev now : Moment
   now = with_history p before m
 
-  may_begin_now : MayBegin job m t → MayBegin job now t
-  may_begin_now b = record { taken = b.taken; cut = b.cut; samples = b.samples; children = b.children }
+  may_begin_now : {X : Type 0} (xs : List X) → MayBeginTo job m t (m.begun t + length xs)
+      → MayBeginTo job now t (further (m.begun t) xs)
+  may_begin_now xs b =
+      let B : ℕ → Type 0 = λ steps. MayBeginTo job now t steps in
+      subst B (sym (further-length (m.begun t) xs))
+      (record { taken = b.taken; cut = b.cut; samples = b.samples; children = b.children })
 
-  module _ (j : ℕ) (v : ℤ) (sees : SeesOwn job m t p n (Signalled n ((v ∷ []) ∷ []) (phaser_at job.graph p).single) before) where
+  module _ (j : ℕ) (vs : List ℤ) (sees : SeesOwn job m t p n (put_event job p n vs) before) where
     abbrev event : Event
-    event = Signalled n ((v ∷ []) ∷ []) (phaser_at job.graph p).single
+    event = put_event job p n vs
 
     others : SeesOthers job m t p n before
     others = record { numbered = sees.numbered; others = sees.others; legal = sees.legal.0 }
@@ -214,27 +220,30 @@ module _ (job : Job) (m : Moment) (t p n : ℕ) (before : History) (is : IsGraph
         let A : History → Type 0 = λ h. IsAccepted (limits_at job p) h event in
         subst A (sym (same_at p before m)) sees.legal.1
 
-    put_of : (begun : ℕ) → Signals job now (after_signal job t j p n v begun now) t j p n v
-        → IsStaying m t
-        → HasPut job m (after_signal job t j p n v begun now) t j p v begun (event ∷ before)
-    put_of begun signals staying =
-        let after = after_signal job t j p n v begun now in
-        let ran = own_signal job now after t j p n v is there signals (later_part job m t p n before others is there part).ran in
+    put_of : (begun steps : ℕ) → begun ≡ steps
+        → SignalsAll job now (after_signals job t j p n vs begun now) t j p n vs → IsStaying m t
+        → HasPut job m (after_signals job t j p n vs begun now) t j p vs steps (event ∷ before)
+    put_of begun steps same signals staying =
+        let after = after_signals job t j p n vs begun now in
+        let ran = own_signals job now after t j p n vs is there signals
+        (later_part job m t p n before others is there part).ran in
         record {
-          moved = moved_on job m after t p n event before part sees.legal signals.moved ran (λ u. refl);
-          begun_is = set_at t begun m.begun;
+          moved = moved_on job m after t p n event before part sees.legal signals.moved ran
+              (λ u. refl);
+          begun_is = set_at t begun m.begun ∙ same;
           taken = signals.taken;
           put = signals.put;
           other_puts = signals.other_puts;
-          staying = staying_after job m after t p n event before part sees.legal signals.moved (λ h u. refl)
-              staying (later_staying job m t p n before others staying);
+          staying = staying_after job m after t p n event before part sees.legal signals.moved
+              (λ h u. refl) staying (later_staying job m t p n before others staying);
         }
 
-    pub puts_value : IsNextValue job m t j p v
-        → HasPut job m (after_signal job t j p n v (m.begun t) now) t j p v (m.begun t) (event ∷ before)
-    puts_value next =
-        put_of (m.begun t)
-        (next_signal_is job now t j p n v
+    pub puts_values : AreNextValues job m t j p vs
+        → HasPut job m (after_signals job t j p n vs (m.begun t) now) t j p vs (m.begun t)
+        (event ∷ before)
+    puts_values next =
+        put_of (m.begun t) (m.begun t) refl
+        (next_signals_are job now t j p n vs
         (record {
           signal = record {
             accepted = accepted;
@@ -242,18 +251,18 @@ module _ (job : Job) (m : Moment) (t p n : ℕ) (before : History) (is : IsGraph
             place = next.place;
             staying = later_staying job m t p n before others next.staying;
           };
-          few = next.few;
-          entry = next.entry;
+          entries = next.entries;
           exchanged = next.exchanged;
         })
         (later_part job m t p n before others is there part).ran)
         next.staying
 
-    pub puts_sample : IsNextOfSamples job m t j p v
-        → HasPut job m (after_signal job t j p n v (suc (m.begun t)) now) t j p v (suc (m.begun t)) (event ∷ before)
-    puts_sample next =
-        put_of (suc (m.begun t))
-        (next_sample_is job now t j p n v
+    pub puts_samples : AreNextSamples job m t j p vs
+        → HasPut job m (after_signals job t j p n vs (further (m.begun t) vs) now) t j p vs
+        (m.begun t + length vs) (event ∷ before)
+    puts_samples next =
+        put_of (further (m.begun t) vs) (m.begun t + length vs) (further-length (m.begun t) vs)
+        (next_samples_are job now t j p n vs
         (record {
           signal = record {
             accepted = accepted;
@@ -262,52 +271,63 @@ module _ (job : Job) (m : Moment) (t p n : ℕ) (before : History) (is : IsGraph
             staying = later_staying job m t p n before others next.staying;
           };
           source = next.source;
-          may_begin = may_begin_now next.may_begin;
+          may_begin = may_begin_now vs next.may_begin;
           all_put = next.all_put;
-          sample = next.sample;
+          samples = next.samples;
         })
         (later_part job m t p n before others is there part).ran)
         next.staying
 
-  module _ (sees : SeesOwn job m t p n (Waited n 1) before) where
+  module _ (outcomes : List Outcome)
+      (sees : SeesOwn job m t p n (Waited n (length outcomes)) before) where
     waited : SeesOthers job m t p n before
     waited = record { numbered = sees.numbered; others = sees.others; legal = sees.legal.0 }
 
-    wait_accepted : IsAccepted (limits_at job p) (now.history p) (Waited n 1)
+    abbrev wait : Event
+    wait = Waited n (length outcomes)
+
+    wait_accepted : IsAccepted (limits_at job p) (now.history p) wait
     wait_accepted =
-        let A : History → Type 0 = λ h. IsAccepted (limits_at job p) h (Waited n 1) in
+        let A : History → Type 0 = λ h. IsAccepted (limits_at job p) h wait in
         subst A (sym (same_at p before m)) sees.legal.1
 
-    module _ (outcome : Outcome) (answered : received_by (value_at job p) (Waited n 1 ∷ before) n
-        ≡ received_by (value_at job p) before n ++ outcome ∷ []) where
-      answered_now : received_by (value_at job p) (Waited n 1 ∷ now.history p) n
-          ≡ received_by (value_at job p) (now.history p) n ++ outcome ∷ []
+    module _ (answered : received_by (value_at job p) (Waited n (length outcomes) ∷ before) n
+        ≡ received_by (value_at job p) before n ++ outcomes) where
+      answered_now : received_by (value_at job p) (wait ∷ now.history p) n
+          ≡ received_by (value_at job p) (now.history p) n ++ outcomes
       answered_now =
           let A : History → Type 0 =
-          λ h. received_by (value_at job p) (Waited n 1 ∷ h) n ≡ received_by (value_at job p) h n ++ outcome ∷ [] in
+          λ h. received_by (value_at job p) (wait ∷ h) n
+          ≡ received_by (value_at job p) h n ++ outcomes in
           subst A (sym (same_at p before m)) answered
 
-      got_of : (k begun : ℕ)
-          → Waits job now (after_wait t k p n outcome begun now) t k p n outcome → IsStaying m t
-          → HasGot job m (after_wait t k p n outcome begun now) t k p outcome begun (Waited n 1 ∷ before)
-      got_of k begun waits staying =
-          let after = after_wait t k p n outcome begun now in
-          let ran = own_wait job now after t k p n outcome is there waits (later_part job m t p n before waited is there part).ran in
+      got_of : (k begun steps : ℕ) → begun ≡ steps
+          → WaitsAll job now (after_waits t k p n outcomes begun now) t k p n outcomes
+          → IsStaying m t
+          → HasGot job m (after_waits t k p n outcomes begun now) t k p outcomes steps
+          (wait ∷ before)
+      got_of k begun steps same waits staying =
+          let after = after_waits t k p n outcomes begun now in
+          let ran = own_waits job now after t k p n outcomes is there waits
+          (later_part job m t p n before waited is there part).ran in
           record {
-            moved = moved_on job m after t p n (Waited n 1) before part sees.legal waits.moved ran (λ u. refl);
-            begun_is = set_at t begun m.begun;
+            moved = moved_on job m after t p n wait before part sees.legal waits.moved ran
+                (λ u. refl);
+            begun_is = set_at t begun m.begun ∙ same;
             taken = waits.taken;
             other_takes = waits.other_takes;
             put = waits.put;
-            staying = staying_after job m after t p n (Waited n 1) before part sees.legal waits.moved (λ h u. refl)
-                staying (later_staying job m t p n before waited staying);
+            staying = staying_after job m after t p n wait before part sees.legal waits.moved
+                (λ h u. refl) staying (later_staying job m t p n before waited staying);
           }
 
-      pub gets_first : (k : ℕ) → BeginsStep job m t k p
-          → HasGot job m (after_wait t k p n outcome (suc (m.begun t)) now) t k p outcome (suc (m.begun t)) (Waited n 1 ∷ before)
+      pub gets_first : (k : ℕ) → BeginsSteps job m t k p (length outcomes)
+          → HasGot job m (after_waits t k p n outcomes (further (m.begun t) outcomes) now) t k p
+          outcomes (m.begun t + length outcomes) (wait ∷ before)
       gets_first k next =
-          got_of k (suc (m.begun t))
-          (first_wait_is job now t k p n outcome
+          got_of k (further (m.begun t) outcomes) (m.begun t + length outcomes)
+          (further-length (m.begun t) outcomes)
+          (first_waits_are job now t k p n outcomes
           (record {
             wait = record {
               accepted = wait_accepted;
@@ -318,28 +338,33 @@ module _ (job : Job) (m : Moment) (t p n : ℕ) (before : History) (is : IsGraph
               answered = answered_now;
             };
             first = next.first;
-            may_begin = may_begin_now next.may_begin;
+            block = next.block;
+            may_begin = may_begin_now outcomes next.may_begin;
           }))
           next.staying
 
-      pub gets_exchange : IsExchange job m t p
-          → HasGot job m (after_wait t 1 p n outcome (m.begun t) now) t 1 p outcome (m.begun t) (Waited n 1 ∷ before)
-      gets_exchange next =
-          got_of 1 (m.begun t)
-          (exchange_wait_is job now t p n outcome
-          (record {
-            wait = record {
-              accepted = wait_accepted;
-              numbered = sees.numbered;
-              few = next.few;
-              place = next.place;
-              staying = later_staying job m t p n before waited next.staying;
-              answered = answered_now;
-            };
-            peer = next.peer;
-            behind = next.behind;
-          }))
-          next.staying
+  pub gets_exchange : (outcome : Outcome) → SeesOwn job m t p n (Waited n 1) before
+      → received_by (value_at job p) (Waited n 1 ∷ before) n
+      ≡ received_by (value_at job p) before n ++ outcome ∷ []
+      → IsExchange job m t p
+      → HasGot job m (after_waits t 1 p n (outcome ∷ []) (m.begun t) now) t 1 p (outcome ∷ [])
+      (m.begun t) (Waited n 1 ∷ before)
+  gets_exchange outcome sees answered next =
+      got_of (outcome ∷ []) sees answered 1 (m.begun t) (m.begun t) refl
+      (exchange_wait_is job now t p n outcome
+      (record {
+        wait = record {
+          accepted = wait_accepted (outcome ∷ []) sees;
+          numbered = sees.numbered;
+          few = next.few;
+          place = next.place;
+          staying = later_staying job m t p n before (waited (outcome ∷ []) sees) next.staying;
+          answered = answered_now (outcome ∷ []) sees answered;
+        };
+        peer = next.peer;
+        behind = next.behind;
+      }))
+      next.staying
 
   module _ (sees : SeesOwn job m t p n (Dropped n) before) where
     dropping : SeesOthers job m t p n before

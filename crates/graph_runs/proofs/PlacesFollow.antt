@@ -18,7 +18,7 @@ use Rattle.graph_runs.proofs.JoinsNow.{next_child_now_is}
 use Rattle.graph_runs.proofs.Turned.{exchange_wait_is, next_leave_is, next_child_is}
 use Rattle.graph_runs.specs.TaskEvents.{TaskEvent, IsNext, sample, signal, first_wait, exchange_wait, leave, child, child_now, after_turn}
 use Rattle.graph_runs.specs.Nexts.{has_left, number_on, registrations_at, first_missing}
-use Rattle.graph_runs.specs.TaskPlaces.{TaskPlace, StandsAt, registration_at, own_place, child_place, child_of, number_given}
+use Rattle.graph_runs.specs.TaskPlaces.{TaskPlace, StandsAt, StandsUpTo, registration_at, own_place, child_place, child_of, number_given}
 use Rattle.graph_runs.proofs.Signalling.{Live}
 use Rattle.graph_runs.proofs.Whose.{task_of, IsInOrder}
 use Rattle.graph_runs.proofs.Reaching.{one_registration}
@@ -182,11 +182,12 @@ pub record LeavesOne (before after : Moment) (t p n : ℕ) : Type 0 where
   pub same : SameTask before after t
 
 -- a task leaves the phaser of its next registration
-pub leave_stands : (job : Job) (m after : Moment) (t p n : ℕ) (at : TaskPlace) → IsGraph job.graph
-    → t < length job.graph.tasks → LeavesOne m after t p n → StandsAt job m t at
-    → at.left < length at.numbers → (registration_at job t at.left).phaser ≡ p
-    → StandsAt job after t (record at { left = suc at.left })
-leave_stands job m after t p n at is there s stands room here = record {
+pub leave_stands : {most : ℕ} (job : Job) (m after : Moment) (t p n : ℕ) (at : TaskPlace)
+    → IsGraph job.graph → t < length job.graph.tasks → LeavesOne m after t p n
+    → StandsUpTo most job m t at → at.left < length at.numbers
+    → (registration_at job t at.left).phaser ≡ p
+    → StandsUpTo most job after t (record at { left = suc at.left })
+leave_stands {most} job m after t p n at is there s stands room here = record {
   few = stands.few;
   few_left = omega arith;
   numbered = λ i lt. s.numbers (registration_at job t i).phaser ∙ stands.numbered i lt;
@@ -196,7 +197,7 @@ leave_stands job m after t p n at is there s stands room here = record {
   lacks = steps.lacks;
 }
   where
-    steps : StepsAt job after t at
+    steps : StepsAt most job after t at
     steps = steps_stay job m after t at (same_steps m after t s.same) stands
 
     all : length at.numbers ≤ length (registrations_at job t)

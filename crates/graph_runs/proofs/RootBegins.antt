@@ -34,7 +34,7 @@ use Rattle.graph_runs.proofs.Framed.{ListsRan}
 use Rattle.graph_runs.proofs.Opened.{nothing_ran}
 use Rattle.graph_runs.specs.Beginnings.{opening}
 use Rattle.graph_runs.specs.Nexts.{has_left, registrations_at}
-use Rattle.graph_runs.specs.TaskPlaces.{StandsAt, registration_at, at_start}
+use Rattle.graph_runs.specs.TaskPlaces.{StandsUpTo, registration_at, at_start}
 use Rattle.graph_runs.proofs.AtOpening.{opening_has_begun}
 use Rattle.graph_runs.proofs.Lacking.{first_none, nothing_lacks}
 use Rattle.graph_runs.proofs.Reaching.{registration_placed}
@@ -255,7 +255,8 @@ first_is job t numbers seen is there root all roots = record {
         by (Some i) e found =
             let stands = place-at (map (λ r. r.phaser) (registrations_at job t)) p i e in
             let long : length (map (λ r. r.phaser) (registrations_at job t))
-            ≡ length (registrations_at job t) = length-map (registrations_at job t) (λ r. r.phaser) in
+            ≡ length (registrations_at job t) =
+            length-map (registrations_at job t) (λ r. r.phaser) in
             let few : i < length (map (λ r. r.phaser) (registrations_at job t)) = stands.0 in
             let lt : i < length (registrations_at job t) = omega arith in (
               i,
@@ -423,8 +424,9 @@ first_is job t numbers seen is there root all roots = record {
           } in passed);
     }
 
-    place : StandsAt job (first_moment job t numbers seen) t (at_start numbers)
-    place =
+    place : (most : ℕ)
+        → StandsUpTo most job (first_moment job t numbers seen) t (at_start numbers)
+    place most =
         let lacks = nothing_lacks job (first_moment job t numbers seen) t is ran there refl
         (λ j. refl) in
         record {

@@ -13,14 +13,15 @@ use Rattle.stream_lists.specs.Jobs.{Job}
 use Rattle.stream_lists.specs.Spans.{signalled_by, puts_on}
 use Rattle.stream_lists.proofs.Ordered.{place-at}
 use Rattle.graph_runs.specs.Moments.{one, Moment, HasRun, TaskRan, made_now, OnLine, limits_at, value_at, taken_now}
-use Rattle.graph_runs.specs.Moves.{IsStaying, further}
+use Rattle.graph_runs.specs.Moves.{IsStaying, IsBlock, further}
+use Rattle.graph_runs.specs.Places.{IsMost}
 use Rattle.graph_runs.proofs.OwnEvents.{made_still}
 use Rattle.graph_runs.proofs.InBlocks.{next_samples_are, next_signals_are}
 use Rattle.graph_runs.proofs.Nexts.{further-length}
 use Rattle.graph_runs.specs.TaskEvents.{IsNext, sample, signal, after_turn}
 use Rattle.graph_runs.specs.Nexts.{first_owed, waits_first, signals, exchanges, number_on}
 use Rattle.graph_runs.specs.Answers.{next_values, output_at}
-use Rattle.graph_runs.specs.TaskPlaces.{Owed, nothing, values, exchange, Owes, TaskPlace, StandsAt, lacking, owed_after_signal}
+use Rattle.graph_runs.specs.TaskPlaces.{Owed, nothing, values, exchange, Owes, OwesUpTo, TaskPlace, StandsAt, StandsUpTo, lacking, owed_after_signal}
 use Rattle.stream_lists.specs.stream_filters.Range.{ranged}
 use Rattle.stream_lists.specs.stream_filters.declared.fault.TooBigValue.{TooBigValue}
 use Rattle.phase_history.specs.phase_base.Modes.{mode_signals, mode_waits}
@@ -42,7 +43,7 @@ use Rattle.graph_runs.proofs.Tasks.{now_at}
 use Rattle.graph_runs.proofs.TurnEntries.{IsMember, on_output, on_input, signal_phase_is, wait_phase_is}
 use Rattle.graph_runs.proofs.Boundaries.{made_many, peer_ends}
 use Rattle.graph_runs.proofs.Calling.{source_ends}
-use Rattle.graph_runs.proofs.Following.{Lacks, PutsAll, puts_all, KeepsPlaces, stays_at, keeps_moved}
+use Rattle.graph_runs.proofs.Following.{Lacks, next_up_to, PutsAll, puts_all, KeepsPlaces, stays_at, keeps_moved}
 use Rattle.graph_runs.proofs.InOrder.{OwesFor}
 use Rattle.graph_runs.proofs.Lacking.{first_none, first_is, lacks_here, next_begins}
 
@@ -290,36 +291,62 @@ peer_owes job m after t v w is ran there low e s next before lacks =
     none_below zero lt = refl
     none_below (suc i) lt = absurd (omega arith)
 
--- a peer puts one value at a time
-peer_next : (job : Job) (m : Moment) (t j : ℕ) → IsGraph job.graph → t < length job.graph.tasks
+-- a block of its line is a number of steps that a task may make at most
+pub line_most : (job : Job) (t : ℕ) → IsGraph job.graph → t < length job.graph.tasks
+    → IsMost job t (task_at job.graph t).block
+line_most job t is there = record {
+  some = (is.tasks t there).block.some;
+  block = by (task_at job.graph t).kind refl;
+}
+  where
+    by : (kind : Kind) → (task_at job.graph t).kind ≡ kind
+        → IsBlock kind (task_at job.graph t).block
+    by Source e = tt
+    by Fir e = tt
+    by Split e = (is.tasks t there).block.kind (ap has_blocks e)
+    by Join e = (is.tasks t there).block.kind (ap has_blocks e)
+    by Peer e = (is.tasks t there).block.kind (ap has_blocks e)
+    by Sink e = tt
+
+-- a peer makes one step at most
+pub peer_most : (job : Job) (t most : ℕ) → IsMost job t most
+    → (task_at job.graph t).kind ≡ Peer → most ≡ 1
+peer_most job t most allowed e =
+    let B : Kind → Type 0 = λ kind. IsBlock kind most in subst B e allowed.block
+
+-- and puts one value at a time
+peer_next : (most : ℕ) (job : Job) (m : Moment) (t j : ℕ) → IsMost job t most
     → (task_at job.graph t).kind ≡ Peer → length (m.put t j) < length (made_now job m t j)
-    → next_values job m t j ≡ get_or (made_now job m t j) (length (m.put t j)) (pos 0) ∷ []
-peer_next job m t j is there e more =
-    let block = (is.tasks t there).block in
+    → next_up_to most job m t j
+    ≡ get_or (made_now job m t j) (length (m.put t j)) (pos 0) ∷ []
+peer_next most job m t j allowed e more =
     let made = made_now job m t j in
     let put = length (m.put t j) in
-    next_begins job m t j block.some more
+    next_begins most job m t j allowed.some more
     ∙ ap (λ b. get_or made put (pos 0) ∷ take (b - 1) (drop (suc put) made))
-    (block.kind (ap has_blocks e))
+    (peer_most job t most allowed e)
 
 -- the place after the values that are next were put on output j, where a peer has taken no more
 -- from E than it has put
-pub puts_stand : (job : Job) (m after : Moment) (t j : ℕ) (vs : List ℤ) (at : TaskPlace)
-    → IsGraph job.graph → t < length job.graph.tasks → TaskRan job m t
+pub puts_stand : {most : ℕ} (job : Job) (m after : Moment) (t j : ℕ) (vs : List ℤ)
+    (at : TaskPlace) → IsGraph job.graph → t < length job.graph.tasks → IsMost job t most
+    → TaskRan job m t
     → ((task_at job.graph t).kind ≡ Peer → length (m.taken t 1) ≤ length (m.put t 0))
     → PutsAll m after t j vs → KeepsPlaces m after t → after.begun t ≡ m.begun t
-    → length (m.put t j) < length (made_now job m t j) → next_values job m t j ≡ vs
-    → at.owed ≡ values j (map ranged vs) → StandsAt job m t at
-    → StandsAt job after t (record at { owed = owed_after_signal (task_at job.graph t) j vs })
-puts_stand job m after t j vs at is there ran in_turn puts keeps steps more next owed_is stands =
+    → length (m.put t j) < length (made_now job m t j) → next_up_to most job m t j ≡ vs
+    → at.owed ≡ values j (map ranged vs) → StandsUpTo most job m t at
+    → StandsUpTo most job after t
+    (record at { owed = owed_after_signal (task_at job.graph t) j vs })
+puts_stand {most} job m after t j vs at is there allowed ran in_turn puts keeps steps more next
+    owed_is stands =
     by (task_at job.graph t).kind j refl refl
   where
     Place : Owed → Type 0
-    Place o = StandsAt job after t (record at { owed = o })
+    Place o = StandsUpTo most job after t (record at { owed = o })
 
     -- with what is left
-    stay : (left : Owed) → Owes job after t left → Lacks job after t left
-        → StandsAt job after t (record at { owed = left })
+    stay : (left : Owed) → OwesUpTo most job after t left → Lacks job after t left
+        → StandsUpTo most job after t (record at { owed = left })
     stay left now lacks =
         stays_at job m after t at.begun left at stands keeps (steps ∙ stands.begun) now lacks
 
@@ -327,7 +354,7 @@ puts_stand job m after t j vs at is there ran in_turn puts keeps steps more next
     alone : (kind : Kind) → (task_at job.graph t).kind ≡ kind
         → ((i : ℕ) → i ≢ j → lacking kind (values j (map ranged vs)) i ≡ 0)
         → owed_after_signal (task_at job.graph t) j vs ≡ nothing
-        → StandsAt job after t (record at { owed = owed_after_signal (task_at job.graph t) j vs })
+        → Place (owed_after_signal (task_at job.graph t) j vs)
     alone kind e none left =
         let L : Owed → Type 0 = λ o. Lacks job m t o in
         let many : lacking (task_at job.graph t).kind (values j (map ranged vs)) j ≡ length vs =
@@ -342,7 +369,7 @@ puts_stand job m after t j vs at is there ran in_turn puts keeps steps more next
     -- a peer's value on E
     peer : (v : ℤ) → (task_at job.graph t).kind ≡ Peer → j ≡ 0 → vs ≡ v ∷ []
         → get_or (made_now job m t j) (length (m.put t j)) (pos 0) ≡ v
-        → StandsAt job after t (record at { owed = owed_after_signal (task_at job.graph t) j vs })
+        → Place (owed_after_signal (task_at job.graph t) j vs)
     peer v e same single value_is =
         let left : owed_after_signal (task_at job.graph t) j vs ≡ exchange v =
         ap (λ l. owed_after_signal (task_at job.graph t) j l) single
@@ -365,7 +392,8 @@ puts_stand job m after t j vs at is there ran in_turn puts keeps steps more next
         lacks)
 
     by : (kind : Kind) (i : ℕ) → (task_at job.graph t).kind ≡ kind → j ≡ i
-        → StandsAt job after t (record at { owed = owed_after_signal (task_at job.graph t) j vs })
+        → StandsUpTo most job after t
+        (record at { owed = owed_after_signal (task_at job.graph t) j vs })
     by Source i e same =
         alone Source e
         (λ x apart. (let other : eqb x j ≡ false = ne_eqb x j apart in rw other refl)) (rw e refl)
@@ -387,7 +415,7 @@ puts_stand job m after t j vs at is there ran in_turn puts keeps steps more next
         (rw e (rw same refl))
     by Peer zero e same =
         peer (get_or (made_now job m t j) (length (m.put t j)) (pos 0)) e same
-        (sym next ∙ peer_next job m t j is there e more) refl
+        (sym next ∙ peer_next most job m t j allowed e more) refl
 
 pub signal_follows : (job : Job) (m : Moment) (t j p n : ℕ) (vs : List ℤ) (at : TaskPlace)
     → IsGraph job.graph → HasRun job m → Live job m t → IsNext job m (signal t j p n vs)
@@ -401,8 +429,8 @@ signal_follows job m t j p n vs at is ran live next owes stands =
     let steps : after.begun t ≡ m.begun t =
     (let here : eqb t t ≡ true = eq-eqb t t refl in rw here refl) in
     let o = owed job m t j owes.0 in
-    puts_stand job m after t j vs at is there (ran.tasks t there) (λ e. in_turn e)
-    (puts_all job m after t j p n vs s)
+    puts_stand job m after t j vs at is there (line_most job t is there) (ran.tasks t there)
+    (λ e. in_turn e) (puts_all job m after t j p n vs s)
     (keeps_moved job m after t p
     (Signalled n (map one vs) (phaser_at job.graph p).single) t s.moved (λ b at. refl)) steps
     o.1 owes.1

@@ -1,9 +1,9 @@
 -- What the place of a task tells of its next event and of its end, by what the task alone has seen.
-use Rattle.std.proofs.Common.{◌≡◌, ℕ, suc, ◌<◌, ◌≤◌, Bool, true, false, ◌&&◌, cond, eqb, List, [], ◌∷◌, ◌++◌, Some, None, is_some, length, map, get_or, ℤ, pos, refl, sym, ap, subst, ◌∙◌, arith, ◌⊎◌, inl, inr}
+use Rattle.std.proofs.Common.{◌≡◌, ℕ, ◌+◌, ◌-◌, ◌<◌, ◌≤◌, Bool, true, false, ◌&&◌, cond, eqb, List, [], ◌∷◌, ◌++◌, Option, Some, None, is_some, length, map, get_or, take, drop, ℤ, refl, sym, ap, subst, ◌∙◌, arith, ◌⊎◌, inl, inr}
+use mathlib.Core.List.{IsPrefix}
 use Rattle.std.specs.Prelude.{Result, Ok, Err, nat_le, unwrap_or, unsigned_abs}
-use Rattle.std.proofs.Math.Numerals.{add-one}
 use Rattle.std.proofs.lemmas.Bool.{cases_lt, eq-eqb, le-ltb}
-use Rattle.std.proofs.lemmas.List.{length-map, get_or-map}
+use Rattle.std.proofs.lemmas.List.{length-map, length-take, length-drop, get_or-map}
 use Rattle.std.proofs.lemmas.Option.{slice_get_past}
 use Rattle.stream_lists.specs.stream_filters.Range.{ranged}
 use Rattle.stream_lists.specs.stream_filters.declared.fault.TooBigValue.{TooBigValue}
@@ -16,19 +16,20 @@ use Rattle.stream_lists.specs.graph_base.TaskLines.{IsGraph}
 use Rattle.stream_lists.proofs.graph_base_lemmas.Registered.{registrations-phasers}
 use Rattle.stream_lists.specs.Jobs.{Job, samples_at}
 use Rattle.stream_lists.specs.Spans.{signalled_by, puts_on}
-use Rattle.graph_runs.specs.Moments.{Moment, TaskRan, HasEnded, MayStop, at_until, no_sample, no_input, RanOut, HasSamples, HasExchanged, OnLine, made_now, input_at, first_input}
+use Rattle.graph_runs.specs.Moments.{Moment, AtMost, TaskRan, HasEnded, MayStop, at_until, no_sample, no_input, RanOut, HasSamples, OnLine, made_now, input_at, first_input}
 use Rattle.graph_runs.proofs.Tasks.{first_looks}
-use Rattle.graph_runs.specs.Moves.{IsStaying, NoneDue, MayBegin}
-use Rattle.graph_runs.specs.Answers.{output_at, next_values}
+use Rattle.graph_runs.specs.Moves.{IsStaying, IsBlock, NoneDue, MayBeginTo}
+use Rattle.graph_runs.specs.Answers.{output_at}
 use Rattle.graph_runs.specs.Nexts.{signals, exchanges, waits_first, first_owed, has_left, registrations_at, comes_by, is_cut}
-use Rattle.graph_runs.specs.TaskPlaces.{Owed, nothing, values, exchange, Owes, TaskPlace, StandsAt, registration_at}
+use Rattle.graph_runs.specs.TaskPlaces.{Owed, nothing, values, exchange, OwesUpTo, TaskPlace, StandsUpTo, registration_at}
 use Rattle.graph_runs.proofs.PlacesLemmas.{on_ends, place_of_output}
-use Rattle.graph_runs.proofs.Signalling.{owed, may_put}
-use Rattle.graph_runs.proofs.Boundaries.{all_put, made_many, all_taken, peer_ends, one_more}
-use Rattle.graph_runs.proofs.Lacking.{next_begins}
+use Rattle.graph_runs.proofs.Signalling.{owed, may_put, begins_some}
+use Rattle.graph_runs.proofs.Boundaries.{all_put, made_many, all_taken, peer_ends}
+use Rattle.graph_runs.proofs.Following.{next_up_to}
+use Rattle.graph_runs.proofs.Stepping.{peer_most}
 use Rattle.graph_runs.proofs.Calling.{source_ends, until_is, waits_as_peer}
-use Rattle.graph_runs.specs.Parts.{HasPart, IsNextValue, IsNextOfSamples, BeginsStep, IsExchange}
-use Rattle.graph_runs.specs.Places.{HasChildrenBy}
+use Rattle.graph_runs.specs.Parts.{HasPart, AreNextValues, AreNextSamples, BeginsSteps, IsExchange}
+use Rattle.graph_runs.specs.Places.{HasChildrenBy, MayMake, IsMost}
 
 -- ---- registrations
 
@@ -51,8 +52,8 @@ registration_on job t p is there on =
     )
 
 -- a number stands among those of the place
-pub numbered_within : (job : Job) (m : Moment) (t i n : ℕ) (at : TaskPlace) → StandsAt job m t at
-    → i < length (registrations_at job t)
+pub numbered_within : {most : ℕ} (job : Job) (m : Moment) (t i n : ℕ) (at : TaskPlace)
+    → StandsUpTo most job m t at → i < length (registrations_at job t)
     → m.number (registration_at job t i).phaser t ≡ Some n → i < length at.numbers
 numbered_within job m t i n at stands lt number = by (cases_lt i (length at.numbers))
   where
@@ -63,9 +64,9 @@ numbered_within job m t i n at stands lt number = by (cases_lt i (length at.numb
         sym (slice_get_past at.numbers i past) ∙ sym (stands.numbered i lt) ∙ number in cc)
 
 -- a task whose place has left none stays on all
-pub staying_at : (job : Job) (m : Moment) (t : ℕ) (at : TaskPlace) → IsGraph job.graph
-    → t < length job.graph.tasks → TaskRan job m t → StandsAt job m t at → at.left ≡ 0
-    → IsStaying m t
+pub staying_at : {most : ℕ} (job : Job) (m : Moment) (t : ℕ) (at : TaskPlace)
+    → IsGraph job.graph → t < length job.graph.tasks → TaskRan job m t
+    → StandsUpTo most job m t at → at.left ≡ 0 → IsStaying m t
 staying_at job m t at is there ran stands none p n number =
     let r = registration_on job t p is there (ran.lines p n number) in
     let found : m.number (registration_at job t r.0).phaser t ≡ Some n =
@@ -94,43 +95,53 @@ ranged_value x v e = by (nat_le (unsigned_abs x) 9223372036854775807) e
     by true e = cc
     by false e = absurd (cc)
 
--- and of a list of one
-pub ranged_values : (xs : List ℤ) (v : ℤ) → map ranged xs ≡ Ok v ∷ [] → xs ≡ v ∷ []
-ranged_values [] v e = absurd (cc)
-ranged_values (x ∷ []) v e =
-    let same : ranged x ≡ Ok v = cc in ap (λ y. y ∷ []) (ranged_value x v same)
-ranged_values (x ∷ (y ∷ ys)) v e = absurd (cc)
+-- two lists with the same head and the same rest
+same_parts : {X : Type 0} (x y : X) (xs ys : List X) → x ∷ xs ≡ y ∷ ys → (x ≡ y) × (xs ≡ ys)
+same_parts x y xs ys e = (cc, cc)
+
+-- and so of a list
+pub ranged_values : (xs vs : List ℤ) → map ranged xs ≡ map (λ v. Ok v) vs → xs ≡ vs
+ranged_values [] [] e = refl
+ranged_values [] (v ∷ vs) e = absurd (cc)
+ranged_values (x ∷ xs) [] e = absurd (cc)
+ranged_values (x ∷ xs) (v ∷ vs) e =
+    let both = same_parts (ranged x) (Ok v) (map ranged xs) (map (λ w. Ok w) vs) e in
+    ap (λ y. y ∷ xs) (ranged_value x v both.0) ∙ ap (λ l. v ∷ l) (ranged_values xs vs both.1)
 
 -- what a place that owes something says of the moment
-pub owes_as : (job : Job) (m : Moment) (t : ℕ) (at : TaskPlace) (o : Owed) → StandsAt job m t at
-    → at.owed ≡ o → Owes job m t o
-owes_as job m t at o stands is =
-    let O : Owed → Type 0 = λ x. Owes job m t x in subst O is stands.owes
+pub owes_as : {most : ℕ} (job : Job) (m : Moment) (t : ℕ) (at : TaskPlace) (o : Owed)
+    → StandsUpTo most job m t at → at.owed ≡ o → OwesUpTo most job m t o
+owes_as {most} job m t at o stands is =
+    let O : Owed → Type 0 = λ x. OwesUpTo most job m t x in subst O is stands.owes
 
-pub next_value_is : (job : Job) (m : Moment) (t j : ℕ) (v : ℤ) (at : TaskPlace)
-    → IsGraph job.graph → t < length job.graph.tasks → HasPart job m t → StandsAt job m t at
-    → at.left ≡ 0 → at.owed ≡ values j (Ok v ∷ []) → IsNextValue job m t j (output_at job t j) v
-next_value_is job m t j v at is there part stands none owed_is =
-    let owes = owes_as job m t at (values j (Ok v ∷ [])) stands owed_is in
+pub next_values_are : (job : Job) (m : Moment) (t j most : ℕ) (vs : List ℤ) (at : TaskPlace)
+    → IsGraph job.graph → t < length job.graph.tasks → HasPart job m t → IsMost job t most
+    → StandsUpTo most job m t at → at.left ≡ 0 → at.owed ≡ values j (map (λ v. Ok v) vs)
+    → AreNextValues job m t j (output_at job t j) vs
+next_values_are job m t j most vs at is there part allowed stands none owed_is =
+    let owes = owes_as job m t at (values j (map (λ v. Ok v) vs)) stands owed_is in
     let o = owed job m t j owes.0 in
-    let X : ℕ → Type 0 =
-    λ n. HasExchanged (task_at job.graph t).kind j n (length (m.taken t 1)) in
+    let rest = drop (length (m.put t j)) (made_now job m t j) in
+    let next : next_up_to most job m t j ≡ vs =
+    ranged_values (next_up_to most job m t j) vs owes.2 in
+    let many : length (next_up_to most job m t j) ≡ length vs = ap length next in
+    let cut = length-take most rest in
+    let P : List ℤ → Type 0 = λ l. IsPrefix (m.put t j ++ l) (made_now job m t j) in
     record {
       place = place_of_output job.graph t (task_at job.graph t) j (is.tasks t there) o.0;
       staying = staying_at job m t at is there part.ran stands none;
-      few = o.1;
-      entry = (let next = ranged_values (next_values job m t j) v owes.2 in
-          let begins = next_begins job m t j (is.tasks t there).block.some o.1 in cc);
-      exchanged = subst X (add-one (length (m.put t j)))
-          (may_put (task_at job.graph t).kind j (length (m.put t j)) (length (m.taken t 1)) 1
-          (λ peer. omega arith)
+      entries = subst P next
+          (begins_some most (m.put t j) (made_now job m t j) (part.ran.puts j o.0));
+      exchanged = may_put (task_at job.graph t).kind j (length (m.put t j))
+          (length (m.taken t 1)) (length vs)
+          (λ peer. (let one : most ≡ 1 = peer_most job t most allowed peer in omega arith))
           (not_first (waits_first (task_at job.graph t).kind j (length (m.put t j))
-          (length (m.taken t 1))) j owes.1));
+          (length (m.taken t 1))) j owes.1);
     }
 
-pub next_exchange_is : (job : Job) (m : Moment) (t : ℕ) (x : ℤ) (at : TaskPlace)
-    → IsGraph job.graph → t < length job.graph.tasks → HasPart job m t → StandsAt job m t at
-    → at.left ≡ 0 → at.owed ≡ exchange x
+pub next_exchange_is : {most : ℕ} (job : Job) (m : Moment) (t : ℕ) (x : ℤ) (at : TaskPlace)
+    → IsGraph job.graph → t < length job.graph.tasks → HasPart job m t
+    → StandsUpTo most job m t at → at.left ≡ 0 → at.owed ≡ exchange x
     → IsExchange job m t (input_at (task_at job.graph t) 1)
 next_exchange_is job m t x at is there part stands none owed_is =
     let owes = owes_as job m t at (exchange x) stands owed_is in
@@ -157,8 +168,9 @@ next_exchange_is job m t x at is there part stands none owed_is =
 -- ---- a boundary
 
 -- where the children that come here have their numbers, none is due
-pub none_due_at : (job : Job) (m : Moment) (t p : ℕ) (at : TaskPlace) → IsGraph job.graph
-    → HasPart job m t → StandsAt job m t at → HasChildrenBy job m t at.begun → NoneDue job m t p
+pub none_due_at : {most : ℕ} (job : Job) (m : Moment) (t p : ℕ) (at : TaskPlace)
+    → IsGraph job.graph → HasPart job m t → StandsUpTo most job m t at
+    → HasChildrenBy job m t at.begun → NoneDue job m t p
 none_due_at job m t p at is part stands children c n u below parent of_t number absent on =
     by (cases_lt (m.begun t) u.at)
   where
@@ -183,44 +195,59 @@ none_due_at job m t p at is part stands children c n u below parent of_t number 
     by (inl lt) = lt
     by (inr ge) = let le : m.begun t ≤ u.at = early in absurd (clash (omega arith))
 
--- the next step may begin
-begins_at : (job : Job) (m : Moment) (t : ℕ) (at : TaskPlace) → IsGraph job.graph
-    → t < length job.graph.tasks → HasPart job m t → StandsAt job m t at → at.owed ≡ nothing
-    → is_cut (task_at job.graph t).until at.begun ≡ false → HasChildrenBy job m t at.begun
-    → HasSamples (task_at job.graph t).kind (suc (m.begun t)) (length (samples_at job t))
-    → MayBegin job m t
-begins_at job m t at is there part stands owed_is uncut children samples = record {
-  taken = λ k lt.
-      all_taken job m t is part.ran there (owes_as job m t at nothing stands owed_is) k lt;
-  cut = one_more (task_at job.graph t).until (m.begun t)
-      (ap (λ b. is_cut (task_at job.graph t).until b) stands.begun ∙ uncut) part.ran.cut;
-  samples = samples;
-  children = λ p. none_due_at job m t p at is part stands children;
-}
+-- the next steps may begin
+begins_at : {most : ℕ} (job : Job) (m : Moment) (t steps : ℕ) (at : TaskPlace)
+    → IsGraph job.graph → t < length job.graph.tasks → HasPart job m t
+    → StandsUpTo most job m t at → at.owed ≡ nothing → MayMake job t at.begun steps
+    → HasChildrenBy job m t at.begun
+    → HasSamples (task_at job.graph t).kind (m.begun t + steps) (length (samples_at job t))
+    → MayBeginTo job m t (m.begun t + steps)
+begins_at job m t steps at is there part stands owed_is may children samples =
+    let B : ℕ → Type 0 = λ b. MayMake job t b steps in
+    let now : MayMake job t (m.begun t) steps = subst B (sym stands.begun) may in
+    record {
+      taken = λ k lt.
+          all_taken job m t is part.ran there (owes_as job m t at nothing stands owed_is) k lt;
+      cut = now.cut;
+      samples = samples;
+      children = λ p c n u below parent of_t number absent on.
+          now.children c u below parent of_t
+          (none_due_at job m t p at is part stands children c n u below parent of_t number absent
+          on);
+    }
 
-pub next_sample_at : (job : Job) (m : Moment) (t : ℕ) (at : TaskPlace) → IsGraph job.graph
-    → t < length job.graph.tasks → HasPart job m t → StandsAt job m t at → at.left ≡ 0
-    → at.owed ≡ nothing → (task_at job.graph t).kind ≡ Source
-    → at.begun < length (samples_at job t)
-    → is_cut (task_at job.graph t).until at.begun ≡ false → HasChildrenBy job m t at.begun
-    → IsNextOfSamples job m t 0 (output_at job t 0) (get_or (samples_at job t) at.begun (pos 0))
-next_sample_at job m t at is there part stands none owed_is source less uncut children =
+pub next_samples_at : {most : ℕ} (job : Job) (m : Moment) (t : ℕ) (vs : List ℤ)
+    (at : TaskPlace) → IsGraph job.graph → t < length job.graph.tasks → HasPart job m t
+    → StandsUpTo most job m t at → at.left ≡ 0 → at.owed ≡ nothing
+    → (task_at job.graph t).kind ≡ Source
+    → vs ≡ take (length vs) (drop at.begun (samples_at job t))
+    → MayMake job t at.begun (length vs) → HasChildrenBy job m t at.begun
+    → AreNextSamples job m t 0 (output_at job t 0) vs
+next_samples_at job m t vs at is there part stands none owed_is source samples may children =
     let idle : first_owed job m t ≡ None = owes_as job m t at nothing stands owed_is in
     let one : length (signalled_by (task_at job.graph t)) ≡ 1 = source_ends job t is there source in
     let lt : 0 < length (signalled_by (task_at job.graph t)) = omega arith in
     let plain : puts_on (task_at job.graph t) (m.begun t) 0 ≡ m.begun t = rw source refl in
-    let steps : m.begun t ≡ at.begun = stands.begun in
-    let more : suc (m.begun t) ≤ length (samples_at job t) = omega arith in
-    let S : Kind → Type 0 = λ kind. HasSamples kind (suc (m.begun t)) (length (samples_at job t)) in
+    let here : m.begun t ≡ at.begun = stands.begun in
+    let B : Kind → Type 0 = λ kind. HasSamples kind (m.begun t) (length (samples_at job t)) in
+    let begun : m.begun t ≤ length (samples_at job t) = subst B source part.ran.samples in
+    let rest = drop at.begun (samples_at job t) in
+    let many : length vs ≡ length (take (length vs) rest) = ap length samples in
+    let cut = length-take (length vs) rest in
+    let left = length-drop at.begun (samples_at job t) in
+    let more : m.begun t + length vs ≤ length (samples_at job t) = omega arith in
+    let S : Kind → Type 0 =
+    λ kind. HasSamples kind (m.begun t + length vs) (length (samples_at job t)) in
     record {
       place = place_of_output job.graph t (task_at job.graph t) 0 (is.tasks t there) lt;
       staying = staying_at job m t at is there part.ran stands none;
       source = source;
-      may_begin = begins_at job m t at is there part stands owed_is uncut children
+      may_begin = begins_at job m t (length vs) at is there part stands owed_is may children
           (subst S (sym source) more);
       all_put = ap length (all_put job m t part.ran there idle 0 lt)
           ∙ made_many job m t 0 is part.ran there lt ∙ plain;
-      sample = ap (λ b. get_or (samples_at job t) b (pos 0)) steps;
+      samples = samples
+          ∙ ap (λ b. take (length vs) (drop b (samples_at job t))) (sym here);
     }
 
 no_samples : (kind : Kind) (b n : ℕ) → (kind ≡ Source → ⊥) → HasSamples kind b n
@@ -231,51 +258,83 @@ no_samples Join b n never = tt
 no_samples Peer b n never = tt
 no_samples Sink b n never = tt
 
-pub next_wait_at : (job : Job) (m : Moment) (t : ℕ) (at : TaskPlace) → IsGraph job.graph
-    → t < length job.graph.tasks → HasPart job m t → StandsAt job m t at → at.left ≡ 0
-    → at.owed ≡ nothing → ((task_at job.graph t).kind ≡ Source → ⊥)
-    → is_cut (task_at job.graph t).until at.begun ≡ false → HasChildrenBy job m t at.begun
-    → BeginsStep job m t (first_input (task_at job.graph t) at.begun)
-    (input_at (task_at job.graph t) (first_input (task_at job.graph t) at.begun))
-next_wait_at job m t at is there part stands none owed_is never uncut children = record {
-  few = (first_looks (task_at job.graph t) at.begun (is.tasks t there).ends never).0;
-  place = refl;
-  staying = staying_at job m t at is there part.ran stands none;
-  first = ap (λ b. first_input (task_at job.graph t) b) (sym stands.begun);
-  may_begin = begins_at job m t at is there part stands owed_is uncut children
-      (no_samples (task_at job.graph t).kind (suc (m.begun t)) (length (samples_at job t)) never);
+-- a part of what may be made may be made
+at_most_fewer : (limit : Option ℕ) (few many : ℕ) → few ≤ many → AtMost many limit
+    → AtMost few limit
+at_most_fewer None few many le most = tt
+at_most_fewer (Some limit) few many le most =
+    let high : many ≤ limit = most in omega arith
+
+makes_fewer : (job : Job) (t begun few many : ℕ) → few ≤ many → MayMake job t begun many
+    → MayMake job t begun few
+makes_fewer job t begun few many le may = record {
+  cut = at_most_fewer (task_at job.graph t).until (begun + few) (begun + many) (omega arith)
+      may.cut;
+  children = λ c u below parent of_t later.
+      (let high : begun + many ≤ u.at = may.children c u below parent of_t later in omega arith);
 }
+
+-- some steps, no more than a block has, are a block
+block_within : (kind : Kind) (steps most : ℕ) → 1 ≤ steps → steps ≤ most → IsBlock kind most
+    → IsBlock kind steps
+block_within Source steps most some few is = tt
+block_within Fir steps most some few is = tt
+block_within Sink steps most some few is = tt
+block_within Split steps most some few is = let one : most ≡ 1 = is in omega arith
+block_within Join steps most some few is = let one : most ≡ 1 = is in omega arith
+block_within Peer steps most some few is = let one : most ≡ 1 = is in omega arith
+
+pub next_waits_at : (job : Job) (m : Moment) (t most allowed steps : ℕ) (at : TaskPlace)
+    → IsGraph job.graph → t < length job.graph.tasks → HasPart job m t → IsMost job t most
+    → StandsUpTo most job m t at → at.left ≡ 0 → at.owed ≡ nothing
+    → ((task_at job.graph t).kind ≡ Source → ⊥) → MayMake job t at.begun allowed
+    → HasChildrenBy job m t at.begun → 1 ≤ steps → steps ≤ allowed → steps ≤ most
+    → BeginsSteps job m t (first_input (task_at job.graph t) at.begun)
+    (input_at (task_at job.graph t) (first_input (task_at job.graph t) at.begun)) steps
+next_waits_at job m t most allowed steps at is there part able stands none owed_is never may
+    children some few room = record {
+      few = (first_looks (task_at job.graph t) at.begun (is.tasks t there).ends never).0;
+      place = refl;
+      staying = staying_at job m t at is there part.ran stands none;
+      first = ap (λ b. first_input (task_at job.graph t) b) (sym stands.begun);
+      block = block_within (task_at job.graph t).kind steps most some room able.block;
+      may_begin = begins_at job m t steps at is there part stands owed_is
+          (makes_fewer job t at.begun steps allowed few may) children
+          (no_samples (task_at job.graph t).kind (m.begun t + steps) (length (samples_at job t))
+          never);
+    }
 
 -- ---- the end
 
-ended_by : (job : Job) (m : Moment) (t : ℕ) (at : TaskPlace) → t < length job.graph.tasks
-    → HasPart job m t → StandsAt job m t at → at.owed ≡ nothing
-    → MayStop m (task_at job.graph t) t (length (samples_at job t)) → HasEnded job m t
+ended_by : {most : ℕ} (job : Job) (m : Moment) (t : ℕ) (at : TaskPlace)
+    → t < length job.graph.tasks → HasPart job m t → StandsUpTo most job m t at
+    → at.owed ≡ nothing → MayStop m (task_at job.graph t) t (length (samples_at job t))
+    → HasEnded job m t
 ended_by job m t at there part stands owed_is may_end = record {
   all_put = λ j lt.
       all_put job m t part.ran there (owes_as job m t at nothing stands owed_is) j lt;
   may_end = may_end;
 }
 
-pub ended_cut : (job : Job) (m : Moment) (t : ℕ) (at : TaskPlace) → t < length job.graph.tasks
-    → HasPart job m t → StandsAt job m t at → at.owed ≡ nothing
-    → is_cut (task_at job.graph t).until at.begun ≡ true → HasEnded job m t
+pub ended_cut : {most : ℕ} (job : Job) (m : Moment) (t : ℕ) (at : TaskPlace)
+    → t < length job.graph.tasks → HasPart job m t → StandsUpTo most job m t at
+    → at.owed ≡ nothing → is_cut (task_at job.graph t).until at.begun ≡ true → HasEnded job m t
 ended_cut job m t at there part stands owed_is cut =
     ended_by job m t at there part stands owed_is
     (at_until (until_is (task_at job.graph t).until (m.begun t)
     (ap (λ b. is_cut (task_at job.graph t).until b) stands.begun ∙ cut)))
 
-pub ended_no_sample : (job : Job) (m : Moment) (t : ℕ) (at : TaskPlace)
-    → t < length job.graph.tasks → HasPart job m t → StandsAt job m t at → at.owed ≡ nothing
-    → (task_at job.graph t).kind ≡ Source → length (samples_at job t) ≤ at.begun
+pub ended_no_sample : {most : ℕ} (job : Job) (m : Moment) (t : ℕ) (at : TaskPlace)
+    → t < length job.graph.tasks → HasPart job m t → StandsUpTo most job m t at
+    → at.owed ≡ nothing → (task_at job.graph t).kind ≡ Source → length (samples_at job t) ≤ at.begun
     → HasEnded job m t
 ended_no_sample job m t at there part stands owed_is source used =
     ended_by job m t at there part stands owed_is
     (no_sample source (let steps : m.begun t ≡ at.begun = stands.begun in omega arith))
 
-pub ended_no_input : (job : Job) (m : Moment) (t : ℕ) (at : TaskPlace)
-    → t < length job.graph.tasks → HasPart job m t → StandsAt job m t at → at.owed ≡ nothing
-    → ((task_at job.graph t).kind ≡ Source → ⊥)
+pub ended_no_input : {most : ℕ} (job : Job) (m : Moment) (t : ℕ) (at : TaskPlace)
+    → t < length job.graph.tasks → HasPart job m t → StandsUpTo most job m t at
+    → at.owed ≡ nothing → ((task_at job.graph t).kind ≡ Source → ⊥)
     → RanOut m (task_at job.graph t) t (first_input (task_at job.graph t) at.begun)
     → HasEnded job m t
 ended_no_input job m t at there part stands owed_is never out =

@@ -1,5 +1,6 @@
--- The moment of the whole run has run and is over, and so its sinks have taken the job's answer.
-use Rattle.std.proofs.Common.{◌≡◌, ℕ, ◌<◌, ◌≤◌, false, List, [], ◌∷◌, Option, Some, None, Ok, length, map, slice_get, refl, sym, ap, subst, ◌∙◌, arith}
+-- The moment of the whole run has run and is over, and so its sinks have taken the job's answer,
+-- for the starts that came about.
+use Rattle.std.proofs.Common.{◌≡◌, ℕ, ◌<◌, ◌≤◌, Bool, true, false, List, [], ◌∷◌, Option, Some, None, Ok, length, map, get_or, slice_get, refl, sym, ap, subst, ◌∙◌, arith}
 use Rattle.std.specs.List.{All, range_with_len}
 use Rattle.std.proofs.lemmas.Option.{same_Some}
 use Rattle.phase_history.specs.phase_accum.declared.outcome.Outcome.{Outcome}
@@ -10,12 +11,13 @@ use Rattle.stream_lists.specs.graph_base.Graphs.{task_at}
 use Rattle.stream_lists.specs.graph_base.TaskLines.{IsGraph}
 use Rattle.stream_lists.specs.graph_base.declared.line.Kind.TheVariants.{Sink}
 use Rattle.stream_lists.specs.graph_base.declared.line.Parent.{Parent}
-use Rattle.stream_lists.specs.Jobs.{Job, with_starts, least}
-use Rattle.stream_lists.specs.Lists.{sinks_of, is_sink_at}
-use Rattle.stream_lists.specs.Ranges.{answer_of, is_too_big}
+use Rattle.stream_lists.specs.Jobs.{Job}
+use Rattle.stream_lists.specs.Lists.{is_sink_at, start_in}
+use Rattle.stream_lists.specs.Ranges.{is_too_big}
+use Rattle.stream_lists.proofs.Starts.{lengths_stay}
 use Rattle.graph_runs.proofs.Started.{ready_as, run_started}
-use Rattle.std.proofs.lemmas.List.FromFn.{get_or-map-range_with_len}
-use Rattle.graph_runs.proofs.LeastStarts.{opening_answer}
+use Rattle.graph_runs.proofs.StartsAtEnd.{start_of_others, start_registered, start_absent, start_in_time}
+use Rattle.graph_runs.proofs.Whole.{parent_of, stands_all}
 use Rattle.graph_runs.specs.Moments.{Moment, started, HasRun, PhaserRan, TaskRan, IsOver, HasMetNone, OnLine, IsRegistered, IsChild, value_at}
 use Rattle.graph_runs.specs.Settled.{IsReady}
 use Rattle.graph_runs.proofs.OnLines.{on_phaser}
@@ -28,10 +30,10 @@ use Rattle.graph_runs.specs.Beginnings.{opening}
 use Rattle.graph_runs.specs.Reached.{HasBegun}
 use Rattle.graph_runs.proofs.AtOpening.{opening_has_begun}
 use Rattle.graph_runs.specs.TaskEnds.{TaskEnd}
-use Rattle.graph_runs.specs.RunEnds.{Ends, HasCome, IsRunEnd, lines_in}
+use Rattle.graph_runs.specs.RunEnds.{Ends, HasCome, IsRunEnd, HasAnswer, lines_in, start_in_end}
 use Rattle.graph_runs.proofs.Absent.{absent_ran}
 use Rattle.graph_runs.proofs.Owns.{found_on, HasOwn, has_number}
-use Rattle.graph_runs.proofs.Joined.{Status, absent, came, number_by, begun_by, taken_by, put_by, status, whole, has_whole, IsNumbered, is_numbered, number_given, begun_there, registered_there}
+use Rattle.graph_runs.proofs.Joined.{Status, absent, came, number_by, offset_by, begun_by, taken_by, put_by, status, whole, has_whole, IsNumbered, is_numbered, number_given, begun_there, registered_there}
 use Rattle.graph_runs.proofs.OnPhasers.{part_of, quiet, phaser_ran}
 
 module _ (job : Job) (ends : Ends) (is : IsGraph job.graph) (r : IsRunEnd job ends) where
@@ -64,7 +66,8 @@ module _ (job : Job) (ends : Ends) (is : IsGraph job.graph) (r : IsRunEnd job en
   -- a task that came
   module _ (t : ℕ) (end : TaskEnd) (has : HasCome ends t end) (o : Moment) (own : HasOwn job o end t)
       (there : t < length job.graph.tasks)
-      (number_is : (p : ℕ) → m.number p t ≡ o.number p t) (begun_is : m.begun t ≡ o.begun t)
+      (number_is : (p : ℕ) → m.number p t ≡ o.number p t)
+      (offset_is : m.offset t ≡ o.offset t) (begun_is : m.begun t ≡ o.begun t)
       (taken_is : (k : ℕ) → m.taken t k ≡ o.taken t k) (put_is : (j : ℕ) → m.put t j ≡ o.put t j) where
     -- others alone made what it has seen longer
     came_others : (p : ℕ) → (on : OnLine (task_at job.graph t) p) → (n : ℕ)
@@ -94,7 +97,7 @@ module _ (job : Job) (ends : Ends) (is : IsGraph job.graph) (r : IsRunEnd job en
 
     came_same : SameTask o m t
     came_same = record {
-      offset = sym own.own.offset;
+      offset = offset_is;
       begun = begun_is;
       taken = taken_is;
       put = put_is;
@@ -117,6 +120,17 @@ module _ (job : Job) (ends : Ends) (is : IsGraph job.graph) (r : IsRunEnd job en
             (record { there = there_c; parent = u; has = e; by = by }) f in
             absurd (let no : None ≡ Some a = sym none ∙ given in cc)
 
+    -- a parent that came began where the opening says
+    offset_of_parent : (u : Parent) (other : TaskEnd) → HasCome ends u.task other
+        → (task_at job.graph u.task).joins_now ≡ false
+        → m.offset u.task ≡ (opening job).offset u.task
+    offset_of_parent u other has_u stays = by (status job ends is r u.task) refl
+      where
+        by : (s : Status job ends u.task) → status job ends is r u.task ≡ s
+            → m.offset u.task ≡ (opening job).offset u.task
+        by (absent never) e = absurd (never other has_u)
+        by (came end2 has2 o2 own2 here2) e = ap (λ x. offset_by x) e ∙ own2.own.offset stays
+
     came_parent : (u : Parent) → (task_at job.graph t).parent ≡ Some u
         → (m.offset u.task ≡ o.offset u.task) × (o.begun u.task ≤ m.begun u.task)
         × (IsRegistered o u.task → IsRegistered m u.task)
@@ -125,8 +139,10 @@ module _ (job : Job) (ends : Ends) (is : IsGraph job.graph) (r : IsRunEnd job en
         let begun : m.begun u.task ≡ other.0.begun =
         begun_there job ends is r u.task other.0 other.1 in
         let at : o.begun u.task ≡ u.at = own.own.parent u e in
-        let enough : u.at ≤ other.0.begun = other.2 in (
-          sym (own.own.above u e),
+        let enough : u.at ≤ other.0.begun = other.2 in
+        let stays : (task_at job.graph u.task).joins_now ≡ false =
+        (parent_of job t u is there e).stays in (
+          offset_of_parent u other.0 other.1 stays ∙ sym (own.own.above u e),
           omega arith,
           λ was. registered_there job ends is r u.task other.0 other.1,
         )
@@ -143,13 +159,13 @@ module _ (job : Job) (ends : Ends) (is : IsGraph job.graph) (r : IsRunEnd job en
   -- a task that never came
   never_ran : (t : ℕ) → t < length job.graph.tasks
       → ((end : TaskEnd) → HasCome ends t end → ⊥) → (s : Status job ends t) → status job ends is r t ≡ s
-      → ((p : ℕ) → number_by s p ≡ None) → begun_by s ≡ 0 → ((k : ℕ) → taken_by s k ≡ [])
-      → ((j : ℕ) → put_by s j ≡ []) → TaskRan job m t
-  never_ran t there never s e nowhere begun taken put =
+      → ((p : ℕ) → number_by s p ≡ None) → offset_by s ≡ (opening job).offset t → begun_by s ≡ 0
+      → ((k : ℕ) → taken_by s k ≡ []) → ((j : ℕ) → put_by s j ≡ []) → TaskRan job m t
+  never_ran t there never s e nowhere offset begun taken put =
       absent_ran job m t is there begins (record {
         child = child (task_at job.graph t).parent refl;
         nowhere = λ p. ap (λ x. number_by x p) e ∙ nowhere p;
-        offset = refl;
+        offset = ap (λ x. offset_by x) e ∙ offset;
         begun = ap (λ x. begun_by x) e ∙ begun;
         taken = λ k. ap (λ x. taken_by x k) e ∙ taken k;
         put = λ j. ap (λ x. put_by x j) e ∙ put j;
@@ -163,7 +179,8 @@ module _ (job : Job) (ends : Ends) (is : IsGraph job.graph) (r : IsRunEnd job en
   ran_by : (t : ℕ) → t < length job.graph.tasks → (s : Status job ends t) → status job ends is r t ≡ s
       → TaskRan job (own_by s) t
   ran_by t there (absent never) e =
-      never_ran t there never (absent never) e (λ p. refl) refl (λ k. refl) (λ j. refl)
+      never_ran t there never (absent never) e (λ p. refl) refl refl (λ k. refl)
+      (λ j. refl)
   ran_by t there (came end has o own here) e = own.part.ran
 
   grown_by : (t : ℕ) → t < length job.graph.tasks → (s : Status job ends t) → status job ends is r t ≡ s
@@ -174,7 +191,8 @@ module _ (job : Job) (ends : Ends) (is : IsGraph job.graph) (r : IsRunEnd job en
     beginning = λ p on. IsBeginning-refl (m.history p);
   }
   grown_by t there (came end has o own here) e =
-      came_grown t end has o own here (λ p. ap (λ x. number_by x p) e) (ap (λ x. begun_by x) e)
+      came_grown t end has o own here (λ p. ap (λ x. number_by x p) e)
+      (ap (λ x. offset_by x) e) (ap (λ x. begun_by x) e)
       (λ k. ap (λ x. taken_by x k) e) (λ j. ap (λ x. put_by x j) e)
 
   moved_by : (t : ℕ) → t < length job.graph.tasks → (s : Status job ends t) → status job ends is r t ≡ s
@@ -187,7 +205,8 @@ module _ (job : Job) (ends : Ends) (is : IsGraph job.graph) (r : IsRunEnd job en
     parent = λ u f. (refl, omega arith, λ was. was);
   }
   moved_by t there (came end has o own here) e =
-      came_moved t end has o own here (λ p. ap (λ x. number_by x p) e) (ap (λ x. begun_by x) e)
+      came_moved t end has o own here (λ p. ap (λ x. number_by x p) e)
+      (ap (λ x. offset_by x) e) (ap (λ x. begun_by x) e)
       (λ k. ap (λ x. taken_by x k) e) (λ j. ap (λ x. put_by x j) e)
 
   -- ---- the whole
@@ -230,25 +249,71 @@ module _ (job : Job) (ends : Ends) (is : IsGraph job.graph) (r : IsRunEnd job en
           none (Some None) f = ap lines_in f
           none (Some (Some end)) f = absurd (never end f)
 
--- the answer of the job is what the sinks have taken
-pub answer_at_end : (job : Job) (ends : Ends) → IsReady job → job.starts ≡ [] → IsRunEnd job ends
-    → answer_of job ≡ Ok (map (λ t. (t, lines_in (slice_get ends t))) (sinks_of job))
-answer_at_end job ends ready none r =
+  -- ---- the answer
+
+  -- the starts of the tasks that came, and of the others where the opening has them
+  abbrev starts_at_end : List ℕ
+  starts_at_end = map m.offset (range_with_len 0 (length job.graph.tasks))
+
+  -- a task's start at the end is the one that its span has with these starts
+  begins_at : IsReady job → (t : ℕ) → t < length job.graph.tasks
+      → start_in_end (task_at job.graph t).joins_now (slice_get ends t) ≡ start_in (started job m) t
+  begins_at ready t there = by (task_at job.graph t).joins_now refl
+    where
+      by : (b : Bool) → (task_at job.graph t).joins_now ≡ b
+          → start_in_end (task_at job.graph t).joins_now (slice_get ends t)
+          ≡ start_in (started job m) t
+      by false stays =
+          ap (λ b. start_in_end b (slice_get ends t)) stays
+          ∙ sym (start_of_others (started job m) t stays)
+      by true now =
+          ap (λ b. start_in_end b (slice_get ends t)) now ∙ of (status job ends is r t) refl
+        where
+          of : (s : Status job ends t) → status job ends is r t ≡ s
+              → start_in_end true (slice_get ends t) ≡ start_in (started job m) t
+          of (came end has o own here) e =
+              ap (start_in_end true) has
+              ∙ ap (λ n. Some n) (sym (ap (λ x. offset_by x) e ∙ own.start now))
+              ∙ sym (start_registered (started job m) m t now
+              (stands_all (started job m) m (ready_as job m ready) (run_started job m has_run) t
+              there (registered_there job ends is r t end has)))
+          of (absent never) e =
+              none (slice_get ends t) refl
+              ∙ sym (start_absent (started job m) m t (ready_as job m ready)
+              (run_started job m has_run)
+              (record { quiet = is_over.quiet; gone = is_over.gone }) there now
+              (λ p. ap (λ x. number_by x p) e))
+            where
+              none : (o : Option (Option TaskEnd)) → slice_get ends t ≡ o
+                  → start_in_end true (slice_get ends t) ≡ None
+              none None f = ap (start_in_end true) f
+              none (Some None) f = ap (start_in_end true) f
+              none (Some (Some end)) f = absurd (never end f)
+
+-- the answer of the job, with these starts, is what the sinks have taken
+pub answer_at_end : (job : Job) (ends : Ends) → IsReady job → IsRunEnd job ends
+    → HasAnswer job ends
+answer_at_end job ends ready r =
     let m = whole job ends ready.graph r in
     let over = is_over job ends ready.graph r in
-    let count = length job.graph.tasks in
-    let starts : List ℕ = map (opening job).offset (range_with_len 0 count) in
-    let is_least : least job ≡ job = ap (λ s. with_starts s job) (sym none) in
-    sym (ap answer_of is_least)
-    ∙ sym (opening_answer job starts ready.graph
-    (λ t there now.
-    get_or-map-range_with_len (opening job).offset 0 count t t 0 there (omega arith)))
-    ∙ answer_is (started job m) m (ready_as job m ready)
-    (run_started job m (has_run job ends ready.graph r))
-    (record { quiet = over.quiet; gone = over.gone })
-    (met_none job ends ready.graph r)
-    ∙ ap (λ lines. Ok lines) (map-filtered (λ t. (t, m.taken t 0)) (λ t. (t, lines_in (slice_get ends t)))
-    (is_sink_at job) 0 (length job.graph.tasks)
-    (λ t lt e. (let there : t < length job.graph.tasks = omega arith in
-    ap (λ values. (t, values))
-    (sink_lines job ends ready.graph r t there (sink_is (task_at job.graph t).kind e)))))
+    let ready_now = ready_as job m ready in
+    let ran_now = run_started job m (has_run job ends ready.graph r) in
+    let over_now : IsOver (started job m) m = record { quiet = over.quiet; gone = over.gone } in
+    record {
+      starts = starts_at_end job ends ready.graph r;
+      answer = answer_is (started job m) m ready_now ran_now over_now
+          (met_none job ends ready.graph r)
+          ∙ ap (λ lines. Ok lines) (map-filtered (λ t. (t, m.taken t 0))
+          (λ t. (t, lines_in (slice_get ends t)))
+          (is_sink_at job) 0 (length job.graph.tasks)
+          (λ t lt e. (let there : t < length job.graph.tasks = omega arith in
+          ap (λ values. (t, values))
+          (sink_lines job ends ready.graph r t there
+          (sink_is (task_at job.graph t).kind e)))));
+      began = begins_at job ends ready.graph r ready;
+      in_time = λ t start there e.
+          (let L : List ℕ → Type 0 =
+          λ lengths. start ≤ get_or lengths (get_or (task_at job.graph t).inputs 0 0) 0 in
+          subst L (lengths_stay job (starts_at_end job ends ready.graph r) ready.graph)
+          (start_in_time (started job m) m t start ready_now ran_now over_now there e));
+    }

@@ -1,6 +1,7 @@
 -- What is known of a run by who moves one task alone, and what the calls of its registrations
 -- leave.
-use Rattle.std.specs.Prelude.{◌≡◌, ◌≢◌, ℕ, suc, ◌<◌, ℤ, pos, [], ◌∷◌, ◌++◌, length, get_or, Some, Ok}
+use Rattle.std.specs.Prelude.{◌≡◌, ◌≢◌, ℕ, ◌+◌, ◌<◌, ℤ, List, [], ◌∷◌, ◌++◌, length, map, take, drop, Some, Ok}
+use mathlib.Core.List.{IsPrefix}
 use Rattle.phase_history.specs.phase_accum.declared.outcome.Outcome.{Outcome}
 use Rattle.phase_history.specs.declared.event.Event.{Event}
 use Rattle.phase_history.specs.declared.event.Event.TheVariants.{Signalled, Waited}
@@ -15,8 +16,8 @@ use Rattle.stream_lists.specs.graph_base.declared.line.Kind.TheVariants.{Source,
 use Rattle.stream_lists.specs.Jobs.{Job, samples_at, index_in}
 use Rattle.stream_lists.specs.Spans.{signalled_by}
 use Rattle.stream_lists.specs.Lists.{number}
-use Rattle.graph_runs.specs.Moments.{Moment, TaskRan, OnLine, HasEnded, HasExchanged, limits_at, value_at, made_now, input_at, first_input}
-use Rattle.graph_runs.specs.Moves.{SameTask, IsStaying, MayBegin}
+use Rattle.graph_runs.specs.Moments.{one, Moment, TaskRan, OnLine, HasEnded, HasExchanged, limits_at, value_at, made_now, input_at, first_input}
+use Rattle.graph_runs.specs.Moves.{SameTask, IsBlock, IsStaying, MayBeginTo}
 
 -- a moment of task t's own: the task has done what it has by then, and each phaser on its line has
 -- a legal history. Of other tasks and phasers it says nothing
@@ -37,15 +38,15 @@ pub record SeesOwn (job : Job) (m : Moment) (t p n : ℕ) (event : Event) (befor
   pub others : OthersCame (n ∷ []) (m.history p) before
   pub legal : IsLegal (limits_at job p) (event ∷ before)
 
--- the event of number n on phaser p that puts v
-abbrev pub put_event : Job → ℕ → ℕ → ℤ → Event
-put_event job p n v = Signalled n ((v ∷ []) ∷ []) (phaser_at job.graph p).single
+-- the event of number n on phaser p that puts these values, one a phase
+abbrev pub put_event : Job → ℕ → ℕ → List ℤ → Event
+put_event job p n vs = Signalled n (map one vs) (phaser_at job.graph p).single
 
--- a wait of number n on phaser p is answered with this outcome
-abbrev pub IsAnsweredBy : Job → ℕ → ℕ → Outcome → History → Type 0
-IsAnsweredBy job p n outcome before =
-    received_by (value_at job p) (Waited n 1 ∷ before) n
-    ≡ received_by (value_at job p) before n ++ outcome ∷ []
+-- a wait of number n on phaser p is answered with these outcomes
+abbrev pub IsAnsweredBy : Job → ℕ → ℕ → List Outcome → History → Type 0
+IsAnsweredBy job p n outcomes before =
+    received_by (value_at job p) (Waited n (length outcomes) ∷ before) n
+    ≡ received_by (value_at job p) before n ++ outcomes
 
 -- it is answered that the stream has ended
 abbrev pub IsAnsweredEnd : Job → ℕ → ℕ → History → Type 0
@@ -53,31 +54,31 @@ IsAnsweredEnd job p n now = wait_reply (value_at job p) (limits_at job p) now n 
 
 -- ---- what is next
 
--- v is the next entry of what the begun steps of task t make on its output j, phaser p
-pub record IsNextValue (job : Job) (m : Moment) (t j p : ℕ) (v : ℤ) : Type 0 where
+-- vs are the next entries of what the begun steps of task t make on its output j, phaser p
+pub record AreNextValues (job : Job) (m : Moment) (t j p : ℕ) (vs : List ℤ) : Type 0 where
   pub place : index_in (signalled_by (task_at job.graph t)) p ≡ Some j
   pub staying : IsStaying m t
-  pub few : length (m.put t j) < length (made_now job m t j)
-  pub entry : get_or (made_now job m t j) (length (m.put t j)) (pos 0) ≡ v
-  pub exchanged : HasExchanged (task_at job.graph t).kind j (suc (length (m.put t j)))
+  pub entries : IsPrefix (m.put t j ++ vs) (made_now job m t j)
+  pub exchanged : HasExchanged (task_at job.graph t).kind j (length (m.put t j) + length vs)
       (length (m.taken t 1))
 
--- v is the next sample of task t, a source, on phaser p
-pub record IsNextOfSamples (job : Job) (m : Moment) (t j p : ℕ) (v : ℤ) : Type 0 where
+-- vs are the next samples of task t, a source, on phaser p
+pub record AreNextSamples (job : Job) (m : Moment) (t j p : ℕ) (vs : List ℤ) : Type 0 where
   pub place : index_in (signalled_by (task_at job.graph t)) p ≡ Some j
   pub staying : IsStaying m t
   pub source : (task_at job.graph t).kind ≡ Source
-  pub may_begin : MayBegin job m t
+  pub may_begin : MayBeginTo job m t (m.begun t + length vs)
   pub all_put : length (m.put t j) ≡ m.begun t
-  pub sample : get_or (samples_at job t) (m.begun t) (pos 0) ≡ v
+  pub samples : vs ≡ take (length vs) (drop (m.begun t) (samples_at job t))
 
--- a wait on input k, phaser p, begins the next step of task t
-pub record BeginsStep (job : Job) (m : Moment) (t k p : ℕ) : Type 0 where
+-- a wait on input k, phaser p, that is answered so many outcomes begins as many steps of task t
+pub record BeginsSteps (job : Job) (m : Moment) (t k p steps : ℕ) : Type 0 where
   pub few : k < length (task_at job.graph t).inputs
   pub place : input_at (task_at job.graph t) k ≡ p
   pub staying : IsStaying m t
   pub first : k ≡ first_input (task_at job.graph t) (m.begun t)
-  pub may_begin : MayBegin job m t
+  pub block : IsBlock (task_at job.graph t).kind steps
+  pub may_begin : MayBeginTo job m t (m.begun t + steps)
 
 -- a wait on phaser p is that of task t, a peer, for the value on E
 pub record IsExchange (job : Job) (m : Moment) (t p : ℕ) : Type 0 where
@@ -107,22 +108,22 @@ pub record HasSeen (job : Job) (before after : Moment) (t p : ℕ) (now : Histor
   pub staying : IsStaying before t → IsStaying after t
   pub ended : HasEnded job before t → HasEnded job after t
 
--- task t has put v on its output j, and begun so many steps
-pub record HasPut (job : Job) (before after : Moment) (t j p : ℕ) (v : ℤ) (begun : ℕ)
+-- task t has put these values on its output j, and begun so many steps
+pub record HasPut (job : Job) (before after : Moment) (t j p : ℕ) (vs : List ℤ) (begun : ℕ)
     (now : History) : Type 0 where
   pub moved : HasMovedOn job before after t p now
   pub begun_is : after.begun t ≡ begun
   pub taken : (k : ℕ) → after.taken t k ≡ before.taken t k
-  pub put : after.put t j ≡ before.put t j ++ v ∷ []
+  pub put : after.put t j ≡ before.put t j ++ vs
   pub other_puts : (i : ℕ) → i ≢ j → after.put t i ≡ before.put t i
   pub staying : IsStaying after t
 
--- task t has taken an outcome's number from its input k, and begun so many steps
-pub record HasGot (job : Job) (before after : Moment) (t k p : ℕ) (outcome : Outcome) (begun : ℕ)
-    (now : History) : Type 0 where
+-- task t has taken the numbers of these outcomes from its input k, and begun so many steps
+pub record HasGot (job : Job) (before after : Moment) (t k p : ℕ) (outcomes : List Outcome)
+    (begun : ℕ) (now : History) : Type 0 where
   pub moved : HasMovedOn job before after t p now
   pub begun_is : after.begun t ≡ begun
-  pub taken : after.taken t k ≡ before.taken t k ++ number outcome ∷ []
+  pub taken : after.taken t k ≡ before.taken t k ++ map number outcomes
   pub other_takes : (i : ℕ) → i ≢ k → after.taken t i ≡ before.taken t i
   pub put : (j : ℕ) → after.put t j ≡ before.put t j
   pub staying : IsStaying after t

@@ -1,6 +1,6 @@
 -- How the place of a task stands by what its calls leave of its part, and how a task begins: a root
 -- by its founder, and a child while its parent registers it.
-use Rattle.std.specs.Prelude.{◌≡◌, ◌≢◌, ℕ, suc, ◌<◌, List, [], ◌∷◌, ◌++◌, length, Some, None, is_some, true, ◌⊎◌}
+use Rattle.std.specs.Prelude.{◌≡◌, ◌≢◌, ℕ, suc, ◌+◌, ◌<◌, ◌≤◌, List, [], ◌∷◌, ◌++◌, length, Some, None, is_some, true, false, ◌⊎◌}
 use Rattle.phase_history.specs.declared.event.Event.{Event}
 use Rattle.phase_history.specs.declared.event.Event.TheVariants.{Made, Registered}
 use Rattle.phase_history.specs.Histories.{History, IsBeginning}
@@ -10,11 +10,11 @@ use Rattle.stream_lists.specs.graph_base.declared.line.Parent.{Parent}
 use Rattle.stream_lists.specs.graph_base.Graphs.{task_at}
 use Rattle.stream_lists.specs.graph_base.declared.registration.Registration.{Registration}
 use Rattle.stream_lists.specs.Jobs.{Job}
-use Rattle.graph_runs.specs.Moments.{Moment, OnLine, limits_at}
-use Rattle.graph_runs.specs.Moves.{SameTask}
+use Rattle.graph_runs.specs.Moments.{Moment, AtMost, OnLine, limits_at}
+use Rattle.graph_runs.specs.Moves.{SameTask, IsBlock}
 use Rattle.graph_runs.specs.Beginnings.{opening}
 use Rattle.graph_runs.specs.Nexts.{comes_by, registrations_at}
-use Rattle.graph_runs.specs.TaskPlaces.{Owed, TaskPlace, StandsAt, registration_at, at_start}
+use Rattle.graph_runs.specs.TaskPlaces.{Owed, TaskPlace, StandsUpTo, registration_at, at_start}
 use Rattle.graph_runs.specs.Parts.{HasPart, HasSeen}
 
 -- ---- places
@@ -23,9 +23,9 @@ use Rattle.graph_runs.specs.Parts.{HasPart, HasSeen}
 abbrev pub owing : Owed → TaskPlace → TaskPlace
 owing owed at = record at { owed = owed }
 
--- the place of a task that has begun one step more, and owes this of it
-abbrev pub after_step : Owed → TaskPlace → TaskPlace
-after_step owed at = record at { begun = suc at.begun; owed = owed }
+-- the place of a task that has begun so many steps more, and owes this of them
+abbrev pub after_steps : ℕ → Owed → TaskPlace → TaskPlace
+after_steps steps owed at = record at { begun = at.begun + steps; owed = owed }
 
 -- the place of a task that has left one phaser more
 abbrev pub after_leaving : TaskPlace → TaskPlace
@@ -40,6 +40,19 @@ IsNumbered job m t = (i : ℕ) → i < length (registrations_at job t)
 abbrev pub HasChildrenBy : Job → Moment → ℕ → ℕ → Type 0
 HasChildrenBy job m t steps = (c : ℕ) → c < length job.graph.tasks
     → comes_by t steps (task_at job.graph c).parent ≡ true → IsNumbered job m c
+
+-- task t, which has begun so many steps, may make so many more in one event: `until` allows them, and
+-- none of its children comes before the last of them
+pub record MayMake (job : Job) (t begun steps : ℕ) : Type 0 where
+  pub cut : AtMost (begun + steps) (task_at job.graph t).until
+  pub children : (c : ℕ) (u : Parent) → c < length job.graph.tasks
+      → (task_at job.graph c).parent ≡ Some u → u.task ≡ t → begun < u.at
+      → begun + steps ≤ u.at
+
+-- a number of steps that task t may make at most in one event: one, or more where its kind has blocks
+pub record IsMost (job : Job) (t most : ℕ) : Type 0 where
+  pub some : 1 ≤ most
+  pub block : IsBlock (task_at job.graph t).kind most
 
 -- ---- a root
 
@@ -64,7 +77,7 @@ pub record IsRootOn (job : Job) (r : Registration) (n : ℕ) (seen : History) : 
 pub record IsFirstMoment (job : Job) (m : Moment) (t : ℕ) (numbers : List ℕ) (seen : ℕ → History)
     : Type 0 where
   pub part : HasPart job m t
-  pub place : StandsAt job m t (at_start numbers)
+  pub place : (most : ℕ) → StandsUpTo most job m t (at_start numbers)
   pub history : (i : ℕ) → i < length (registrations_at job t)
       → m.history (registration_at job t i).phaser ≡ seen i
   pub others : (p u : ℕ) → u ≢ t → m.number p u ≡ None
@@ -77,7 +90,7 @@ pub record IsFirstMoment (job : Job) (m : Moment) (t : ℕ) (numbers : List ℕ)
 -- task c has these numbers so far, on the first of its registrations, and has done nothing
 pub record IsJoining (job : Job) (m : Moment) (c : ℕ) (numbers : List ℕ) : Type 0 where
   pub part : HasPart job m c
-  pub place : StandsAt job m c (at_start numbers)
+  pub place : (most : ℕ) → StandsUpTo most job m c (at_start numbers)
   pub nothing_put : (j : ℕ) → m.put c j ≡ []
   pub nothing_taken : (k : ℕ) → m.taken c k ≡ []
 
@@ -87,7 +100,8 @@ pub record HasNewChild (job : Job) (before after : Moment) (t c : ℕ) (numbers 
     0 where
   pub part : HasPart job after t
   pub same : SameTask before after t
-  pub place : (at : TaskPlace) → StandsAt job before t at → StandsAt job after t at
+  pub place : (most : ℕ) (at : TaskPlace) → StandsUpTo most job before t at
+      → StandsUpTo most job after t at
   pub child : IsJoining job after c numbers
   pub history : (q : ℕ) → after.history q ≡ before.history q
   pub numbers_stay : (q u : ℕ) → after.number q u ≡ before.number q u
@@ -98,7 +112,8 @@ pub record HasNewChild (job : Job) (before after : Moment) (t c : ℕ) (numbers 
 pub record HasSeenBoth (job : Job) (before after : Moment) (t c p : ℕ) (numbers : List ℕ)
     (now : History) : Type 0 where
   pub seen : HasSeen job before after t p now
-  pub place : (at : TaskPlace) → StandsAt job before t at → StandsAt job after t at
+  pub place : (most : ℕ) (at : TaskPlace) → StandsUpTo most job before t at
+      → StandsUpTo most job after t at
   pub child : IsJoining job after c numbers
 
 -- task t has registered its child c as number a on phaser p, whose history is this now
@@ -106,7 +121,8 @@ pub record HasAddedChild (job : Job) (before after : Moment) (t c p a : ℕ) (nu
     (now : History) : Type 0 where
   pub part : HasPart job after t
   pub same : SameTask before after t
-  pub place : (at : TaskPlace) → StandsAt job before t at → StandsAt job after t at
+  pub place : (most : ℕ) (at : TaskPlace) → StandsUpTo most job before t at
+      → StandsUpTo most job after t at
   pub child : IsJoining job after c (numbers ++ a ∷ [])
   pub here : after.history p ≡ now
   pub elsewhere : (q : ℕ) → q ≢ p → after.history q ≡ before.history q
@@ -115,13 +131,31 @@ pub record HasAddedChild (job : Job) (before after : Moment) (t c p a : ℕ) (nu
   pub offset : (u : ℕ) → after.offset u ≡ before.offset u
   pub begun : (u : ℕ) → after.begun u ≡ before.begun u
 
+-- task t has registered its child c, a sink that joins now, as number a on phaser p, whose history
+-- is this now: it begins at this phase
+pub record HasAddedNow (job : Job) (before after : Moment) (t c p a start : ℕ) (now : History)
+    : Type 0 where
+  pub part : HasPart job after t
+  pub same : SameTask before after t
+  pub place : (most : ℕ) (at : TaskPlace) → StandsUpTo most job before t at
+      → StandsUpTo most job after t at
+  pub child : IsJoining job after c (a ∷ [])
+  pub here : after.history p ≡ now
+  pub elsewhere : (q : ℕ) → q ≢ p → after.history q ≡ before.history q
+  pub number : after.number p c ≡ Some a
+  pub other_numbers : (q u : ℕ) → (q ≢ p) ⊎ (u ≢ c) → after.number q u ≡ before.number q u
+  pub start_is : after.offset c ≡ start
+  pub offset : (u : ℕ) → u ≢ c → after.offset u ≡ before.offset u
+  pub begun : (u : ℕ) → after.begun u ≡ before.begun u
+
 -- ---- other tasks
 
 -- what a moment of task t's own says of others: each begins where it does at the opening of the
--- run; the children of task t have numbers on the phasers of their lines alone; and no child of a
--- task behind it has a number
+-- run, but for a sink that joins now; the children of task t have numbers on the phasers of their
+-- lines alone; and no child of a task behind it has a number
 pub record KnowsOthers (job : Job) (m : Moment) (t : ℕ) : Type 0 where
-  pub offset : (u : ℕ) → m.offset u ≡ (opening job).offset u
+  pub offset : (u : ℕ) → (task_at job.graph u).joins_now ≡ false
+      → m.offset u ≡ (opening job).offset u
   pub lines : (p c n : ℕ) (u : Parent) → c < length job.graph.tasks
       → (task_at job.graph c).parent ≡ Some u → u.task ≡ t → m.number p c ≡ Some n
       → OnLine (task_at job.graph c) p

@@ -1,13 +1,16 @@
 -- The end of a run: what the tasks and the founders know, each by itself, and one history a phaser
 -- that all of theirs begin.
-use Rattle.std.specs.Prelude.{◌≡◌, ◌≢◌, ℕ, ◌<◌, ◌≤◌, ℤ, List, [], ◌∷◌, length, slice_get, Option, Some, None, true, ◌⊎◌}
+use Rattle.std.specs.Prelude.{◌≡◌, ◌≢◌, ℕ, ◌<◌, ◌≤◌, ℤ, List, [], ◌∷◌, length, map, get_or, slice_get, Option, Some, None, Ok, Bool, true, ◌⊎◌}
 use Rattle.phase_history.specs.Histories.{History}
 use Rattle.phase_history.specs.Legal.{IsLegal}
 use Rattle.phase_history.specs.Others.{OthersCame}
 use Rattle.phase_history.specs.phase_base.Lists.{is_in}
 use Rattle.stream_lists.specs.graph_base.declared.line.Parent.{Parent}
 use Rattle.stream_lists.specs.graph_base.Graphs.{task_at}
-use Rattle.stream_lists.specs.Jobs.{Job}
+use Rattle.stream_lists.specs.Jobs.{Job, with_starts}
+use Rattle.stream_lists.specs.Lists.{sinks_of, start_in}
+use Rattle.stream_lists.specs.Ranges.{answer_of}
+use Rattle.stream_lists.specs.Spans.{lengths_of}
 use Rattle.graph_runs.specs.Moments.{Moment, limits_at}
 use Rattle.graph_runs.specs.Nexts.{registrations_at}
 use Rattle.graph_runs.specs.TaskPlaces.{registration_at}
@@ -71,3 +74,21 @@ abbrev pub lines_in : Option (Option TaskEnd) → List ℤ
 lines_in None = []
 lines_in (Some None) = []
 lines_in (Some (Some end)) = end.lines
+
+-- the phase at which a task began that came and joins now
+abbrev pub start_in_end : Bool → Option (Option TaskEnd) → Option ℕ
+start_in_end true (Some (Some end)) = Some end.start
+start_in_end joins_now end = None
+
+-- the answer of the job for these starts is what its sinks have taken, and each sink that joins now
+-- began where its span does with them, at most one phase behind the last of its phaser's list
+pub record HasAnswer (job : Job) (ends : Ends) : Type 0 where
+  pub starts : List ℕ
+  pub answer : answer_of (with_starts starts job)
+      ≡ Ok (map (λ t. (t, lines_in (slice_get ends t))) (sinks_of job))
+  pub began : (t : ℕ) → t < length job.graph.tasks
+      → start_in_end (task_at job.graph t).joins_now (slice_get ends t)
+      ≡ start_in (with_starts starts job) t
+  pub in_time : (t start : ℕ) → t < length job.graph.tasks
+      → start_in (with_starts starts job) t ≡ Some start
+      → start ≤ get_or (lengths_of job) (get_or (task_at job.graph t).inputs 0 0) 0

@@ -17,7 +17,7 @@ use Rattle.graph_runs.specs.Moments.{Moment, value_at, OnLine}
 use Rattle.graph_runs.specs.Parts.{HasPart}
 use Rattle.graph_runs.specs.Beginnings.{opening}
 use Rattle.graph_runs.specs.Nexts.{registrations_at}
-use Rattle.graph_runs.specs.TaskPlaces.{TaskPlace, StandsAt, registration_at}
+use Rattle.graph_runs.specs.TaskPlaces.{TaskPlace, StandsUpTo, registration_at}
 
 -- ---- a task's own calls
 
@@ -34,12 +34,12 @@ pub record HasGiven (job : Job) (m : Moment) (t p a : ℕ) : Type 0 where
   pub is_child : IsChildOf job child t
   pub numbered : m.number p child ≡ Some a
 
--- what the calls of task t were, up to a moment of its own: it and its parent began where the
--- opening says, and a child when its parent had begun as many steps as it comes after; its signals
--- named the single of each phaser; no wait was answered a value that is too big; and whom it
--- registered are its children
+-- what the calls of task t were, up to a moment of its own: it began where the opening says, but for
+-- a sink that joins now, and so did its parent; a child began when its parent had begun as many
+-- steps as it comes after; its signals named the single of each phaser; no wait was answered a value
+-- that is too big; and whom it registered are its children
 pub record HasOwnCalls (job : Job) (m : Moment) (t : ℕ) : Type 0 where
-  pub offset : m.offset t ≡ (opening job).offset t
+  pub offset : (task_at job.graph t).joins_now ≡ false → m.offset t ≡ (opening job).offset t
   pub above : (u : Parent) → (task_at job.graph t).parent ≡ Some u
       → m.offset u.task ≡ (opening job).offset u.task
   pub parent : (u : Parent) → (task_at job.graph t).parent ≡ Some u → m.begun u.task ≡ u.at
@@ -60,12 +60,13 @@ pub record HasNumbers (job : Job) (m : Moment) (t : ℕ) (numbers : List ℕ) : 
 
 -- ---- a task that has left
 
--- a task that has left: how many steps it has begun; its numbers, and what it has seen of each
--- phaser, in the order of its registrations; what it has taken, where it is a sink; and the numbers
--- that it gave to each task that it registered
+-- a task that has left: how many steps it has begun; the phase at which it began, where it joined
+-- now; its numbers, and what it has seen of each phaser, in the order of its registrations; what it
+-- has taken, where it is a sink; and the numbers that it gave to each task that it registered
 pub record TaskEnd : Type 0 where
   pub task : ℕ
   pub begun : ℕ
+  pub start : ℕ
   pub numbers : List ℕ
   pub seen : List History
   pub lines : List ℤ
@@ -75,9 +76,11 @@ pub record TaskEnd : Type 0 where
 pub record HasLeftAt (job : Job) (m : Moment) (end : TaskEnd) : Type 0 where
   pub part : HasPart job m end.task
   pub own : HasOwnCalls job m end.task
+  pub most : ℕ
   pub at : TaskPlace
-  pub stands : StandsAt job m end.task at
+  pub stands : StandsUpTo most job m end.task at
   pub begun : at.begun ≡ end.begun
+  pub start : (task_at job.graph end.task).joins_now ≡ true → m.offset end.task ≡ end.start
   pub numbers : at.numbers ≡ end.numbers
   -- it was registered on all its phasers, and has left them all
   pub whole : length end.numbers ≡ length (registrations_at job end.task)

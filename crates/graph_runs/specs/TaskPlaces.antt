@@ -1,6 +1,6 @@
 -- Where the code of a task stands: on which phasers it is registered and which of them it has left,
 -- how many steps it has begun, and what its begun steps owe. It changes by events as a function.
-use Rattle.std.specs.Prelude.{◌≡◌, ℕ, zero, suc, ◌+◌, ◌<◌, ◌≤◌, ◌%◌, ℤ, pos, ◌*ℤ◌, ◌-ℤ◌, List, [], ◌∷◌, ◌++◌, length, map, get_or, slice_get, Option, Some, None, Result, Ok, nat_lt, ◌==◌, if◌then◌else◌}
+use Rattle.std.specs.Prelude.{◌≡◌, ℕ, zero, suc, ◌+◌, ◌<◌, ◌≤◌, ◌%◌, ℤ, pos, ◌*ℤ◌, ◌-ℤ◌, List, [], ◌∷◌, ◌++◌, length, map, take, drop, get_or, slice_get, Option, Some, None, Result, Ok, nat_lt, ◌==◌, if◌then◌else◌}
 use Rattle.stream_lists.specs.stream_filters.declared.fault.TooBigValue.{TooBigValue}
 use Rattle.stream_lists.specs.stream_filters.Range.{ranged}
 use Rattle.stream_lists.specs.stream_filters.Filter.{output_after}
@@ -15,7 +15,6 @@ use Rattle.graph_runs.specs.Moments.{Moment, made_now}
 use Rattle.graph_runs.specs.Moves.{further}
 use Rattle.graph_runs.specs.Nexts.{signals, exchanges, in_step, first_owed, has_left, registrations_at}
 use Rattle.graph_runs.specs.TaskEvents.{TaskEvent, sample, signal, first_wait, exchange_wait, leave, child, child_now}
-use Rattle.graph_runs.specs.Answers.{next_values}
 
 -- what the begun steps of a task owe next: nothing; these values on output j, each where it is in
 -- range; or a peer's wait on E, with what it took from X
@@ -46,15 +45,19 @@ registration_of_output task j = of task.kind
     of Peer = suc j
     of kind = length task.inputs + j
 
--- what task t owes at a moment
-abbrev pub Owes : Job → Moment → ℕ → Owed → Type 0
-Owes job m t nothing = first_owed job m t ≡ None
-Owes job m t (values j vs) =
+-- what task t owes at a moment, where it makes at most so many steps in one event
+abbrev pub OwesUpTo : ℕ → Job → Moment → ℕ → Owed → Type 0
+OwesUpTo most job m t nothing = first_owed job m t ≡ None
+OwesUpTo most job m t (values j vs) =
     (first_owed job m t ≡ Some j) × (in_step job m t j ≡ signals j)
-    × (map ranged (next_values job m t j) ≡ vs)
-Owes job m t (exchange x) =
+    × (map ranged (take most (drop (length (m.put t j)) (made_now job m t j))) ≡ vs)
+OwesUpTo most job m t (exchange x) =
     (first_owed job m t ≡ Some 1) × (in_step job m t 1 ≡ exchanges)
     × (get_or (m.taken t 0) (length (m.taken t 1)) (pos 0) ≡ x)
+
+-- the same, where it makes at most a block of its line
+abbrev pub Owes : Job → Moment → ℕ → Owed → Type 0
+Owes job m t = OwesUpTo (task_at job.graph t).block job m t
 
 -- how many values an output lacks of what the begun steps of a task made, where the task owes this:
 -- those on the output that is next. While a peer owes its value on E, it lacks one on Y as well
@@ -67,8 +70,8 @@ lacking kind (values i vs) j = if j == i then length vs else behind kind i j
     behind kind i j = 0
 lacking kind (exchange x) j = if j == 1 then 1 else 0
 
--- the code of task t stands at this place
-pub record StandsAt (job : Job) (m : Moment) (t : ℕ) (at : TaskPlace) : Type 0 where
+-- the code of task t, which makes at most so many steps in one event, stands at this place
+pub record StandsUpTo (most : ℕ) (job : Job) (m : Moment) (t : ℕ) (at : TaskPlace) : Type 0 where
   pub few : length at.numbers ≤ length (registrations_at job t)
   pub few_left : at.left ≤ length at.numbers
   pub numbered : (i : ℕ) → i < length (registrations_at job t)
@@ -76,10 +79,14 @@ pub record StandsAt (job : Job) (m : Moment) (t : ℕ) (at : TaskPlace) : Type 0
   pub leaves : (i : ℕ) → i < length at.numbers
       → has_left m t (registration_at job t i) ≡ nat_lt i at.left
   pub begun : m.begun t ≡ at.begun
-  pub owes : Owes job m t at.owed
+  pub owes : OwesUpTo most job m t at.owed
   pub lacks : (j : ℕ) → j < length (signalled_by (task_at job.graph t))
       → length (made_now job m t j)
       ≡ length (m.put t j) + lacking (task_at job.graph t).kind at.owed j
+
+-- the same, where it makes at most a block of its line
+abbrev pub StandsAt : Job → Moment → ℕ → TaskPlace → Type 0
+StandsAt job m t at = StandsUpTo (task_at job.graph t).block job m t at
 
 -- the place of a task that has done nothing
 abbrev pub at_start : List ℕ → TaskPlace

@@ -1,7 +1,7 @@
 //! How a task begins, for who moves it alone: as a root, or as a child while its parent registers
 //! it. Each function here makes no call and has no effect: its contract is the law.
-ghost use Rattle.std.specs.Prelude.{◌≡◌, ◌<◌, ℕ, List, [], ◌∷◌, length, get_or, Some, None};
-ghost use Rattle.phase_history.specs.Histories.{History};
+ghost use Rattle.std.specs.Prelude.{◌≡◌, ◌<◌, ℕ, List, [], ◌∷◌, length, true, get_or, Some, None};
+ghost use Rattle.phase_history.specs.Histories.{History, done_of};
 ghost use Rattle.stream_lists.specs.graph_base.declared.line.Parent.{Parent};
 ghost use Rattle.stream_lists.specs.graph_base.Graphs.{task_at};
 ghost use Rattle.stream_lists.specs.graph_base.TaskLines.{IsGraph};
@@ -9,9 +9,9 @@ ghost use Rattle.stream_lists.specs.Jobs.{Job};
 ghost use Rattle.graph_runs.specs.Moments.{Moment, OnLine};
 ghost use Rattle.graph_runs.specs.Beginnings.{opening};
 ghost use Rattle.graph_runs.specs.Nexts.{registrations_at};
-ghost use Rattle.graph_runs.specs.TaskPlaces.{nothing, TaskPlace, StandsAt, registration_at};
+ghost use Rattle.graph_runs.specs.TaskPlaces.{nothing, TaskPlace, StandsUpTo, registration_at};
 ghost use Rattle.graph_runs.specs.Parts.{HasPart, SeesOthers, SeesOwn, HasMovedOn};
-ghost use Rattle.graph_runs.specs.Places.{IsRootOn, IsFirstMoment, IsJoining, HasNewChild, HasSeenBoth, HasAddedChild, KnowsOthers};
+ghost use Rattle.graph_runs.specs.Places.{IsRootOn, IsFirstMoment, IsJoining, HasNewChild, HasSeenBoth, HasAddedChild, HasAddedNow, KnowsOthers};
 
 use phase_history::Event;
 
@@ -28,8 +28,9 @@ pub fn roots_begin()
 
 /// A parent's moment serves its child as well while it registers it: from where the child has no
 /// number, `begins`; past others' events on a phaser where the child has none yet, `waits`; to where
-/// the child has all its numbers, one registration of the child after the other, `registers`. Then
-/// the child goes on alone, from a moment that is the parent's as well.
+/// the child has all its numbers, one registration of the child after the other, `registers`, or by
+/// the one of a sink that joins now, `registers_now`. Then the child goes on alone, from a moment
+/// that is the parent's as well.
 pub fn children_begin()
     ensures begins { (job : Job) (m : Moment) (t c : ℕ) (u : Parent) → IsGraph job.graph
         → t < length job.graph.tasks → c < length job.graph.tasks → HasPart job m t
@@ -43,8 +44,9 @@ pub fn children_begin()
         → SeesOthers job m t p n now
         → (after : Moment) × HasSeenBoth job m after t c p numbers now }
     ensures registers { (job : Job) (m : Moment) (t c n a : ℕ) (u : Parent) (at : TaskPlace)
-        (numbers : List ℕ) (before : History) → IsGraph job.graph → t < length job.graph.tasks
-        → c < length job.graph.tasks → HasPart job m t → StandsAt job m t at
+        (most : ℕ) (numbers : List ℕ) (before : History) → IsGraph job.graph
+        → t < length job.graph.tasks
+        → c < length job.graph.tasks → HasPart job m t → StandsUpTo most job m t at
         → at.owed ≡ nothing → at.begun ≡ u.at → (task_at job.graph c).parent ≡ Some u
         → u.task ≡ t → m.offset c ≡ (opening job).offset c → m.offset t ≡ (opening job).offset t
         → IsJoining job m c numbers → length numbers < length (registrations_at job c)
@@ -53,6 +55,16 @@ pub fn children_begin()
         → (after : Moment)
         × HasAddedChild job m after t c (registration_at job c (length numbers)).phaser a numbers
         (Event.Registered n a (registration_at job c (length numbers)).mode ∷ before) }
+    ensures registers_now { (job : Job) (m : Moment) (t c n a : ℕ) (u : Parent) (at : TaskPlace)
+        (most : ℕ) (before : History) → IsGraph job.graph → t < length job.graph.tasks
+        → c < length job.graph.tasks → HasPart job m t → StandsUpTo most job m t at
+        → at.owed ≡ nothing → at.begun ≡ u.at → (task_at job.graph c).parent ≡ Some u
+        → u.task ≡ t → (task_at job.graph c).joins_now ≡ true
+        → m.offset t ≡ (opening job).offset t → IsJoining job m c []
+        → SeesOwn job m t (registration_at job c 0).phaser n (Event.RegisteredNow n a) before
+        → (after : Moment)
+        × HasAddedNow job m after t c (registration_at job c 0).phaser a (done_of before)
+        (Event.RegisteredNow n a ∷ before) }
 {}
 
 /// What a task's own moment says of other tasks stays by each of its calls, and is handed on to a
@@ -69,6 +81,11 @@ pub fn others_are_known()
         (numbers : List ℕ) (now : History) → (task_at job.graph c).parent ≡ Some u → u.task ≡ t
         → OnLine (task_at job.graph c) p → HasAddedChild job m after t c p a numbers now
         → KnowsOthers job m t → KnowsOthers job after t }
+    ensures registers_now { (job : Job) (m after : Moment) (t c p a start : ℕ) (u : Parent)
+        (now : History) → (task_at job.graph c).parent ≡ Some u → u.task ≡ t
+        → (task_at job.graph c).joins_now ≡ true → OnLine (task_at job.graph c) p
+        → HasAddedNow job m after t c p a start now → KnowsOthers job m t
+        → KnowsOthers job after t }
     ensures child { (job : Job) (m : Moment) (t c : ℕ) (u : Parent) → IsGraph job.graph
         → c < length job.graph.tasks → (task_at job.graph c).parent ≡ Some u → u.task ≡ t
         → KnowsOthers job m t → KnowsOthers job m c }

@@ -1,6 +1,7 @@
 //! What is known at the end of a run of which each task knows its own part. Each function here makes
 //! no call and has no effect: its contract is the law.
-ghost use Rattle.std.specs.Prelude.{◌≡◌, ◌<◌, ℕ, ℤ, List, [], ◌∷◌, true, false, length, slice_get, get_or, map, Ok, Some, None};
+ghost use Rattle.std.specs.Prelude.{◌≡◌, ◌<◌, ℕ, ℤ, List, [], ◌∷◌, true, false, length, get_or, Some, None};
+ghost use Rattle.std.specs.List.{All};
 ghost use Rattle.phase_history.specs.phase_base.declared.mode.Mode.{Mode};
 ghost use Rattle.phase_history.specs.phase_accum.declared.outcome.Outcome.{Outcome};
 ghost use Rattle.phase_history.specs.Histories.{History, has_dropped};
@@ -9,25 +10,23 @@ ghost use Rattle.phase_history.specs.phase_base.Lists.{is_in};
 ghost use Rattle.stream_lists.specs.graph_base.Graphs.{task_at};
 ghost use Rattle.stream_lists.specs.graph_base.TaskLines.{IsGraph};
 ghost use Rattle.stream_lists.specs.Jobs.{Job};
-ghost use Rattle.stream_lists.specs.Lists.{sinks_of};
-ghost use Rattle.stream_lists.specs.Ranges.{answer_of, is_too_big};
+ghost use Rattle.stream_lists.specs.Ranges.{is_too_big};
 ghost use Rattle.graph_runs.specs.Moments.{Moment};
 ghost use Rattle.graph_runs.specs.Settled.{IsReady};
 ghost use Rattle.graph_runs.specs.Parts.{SeesOthers, SeesOwn, HasSeen, HasPut, HasGot, LeavesPart, put_event, IsAnsweredBy};
-ghost use Rattle.graph_runs.specs.Places.{IsRootOn, IsFirstMoment, HasNewChild, HasSeenBoth, HasAddedChild};
+ghost use Rattle.graph_runs.specs.Places.{IsRootOn, IsFirstMoment, HasNewChild, HasSeenBoth, HasAddedChild, HasAddedNow};
 ghost use Rattle.graph_runs.specs.Beginnings.{opening};
 ghost use Rattle.graph_runs.specs.Nexts.{registrations_at};
 ghost use Rattle.graph_runs.specs.TaskPlaces.{registration_at};
 ghost use Rattle.graph_runs.specs.TaskEnds.{HasFounded, HasOwnCalls, IsChildOf};
-ghost use Rattle.graph_runs.specs.RunEnds.{Ends, IsRunEnd, lines_in};
+ghost use Rattle.graph_runs.specs.RunEnds.{Ends, IsRunEnd, HasAnswer};
 
 use phase_history::Event;
 
-/// Where a run is over, the answer of its job is what its sinks have taken. This is what threads that
-/// have run a graph to its end write.
+/// Where a run is over, the answer of its job is what its sinks have taken, for the starts that came
+/// about of those that join now. This is what threads that have run a graph to its end write.
 pub fn runs_end()
-    ensures { (job : Job) (ends : Ends) → IsReady job → job.starts ≡ [] → IsRunEnd job ends
-        → answer_of job ≡ Ok (map (λ t. (t, lines_in (slice_get ends t))) (sinks_of job)) }
+    ensures { (job : Job) (ends : Ends) → IsReady job → IsRunEnd job ends → HasAnswer job ends }
 {}
 
 /// Who made a phaser has founded it, registers tasks under numbers that it keeps, and leaves,
@@ -44,23 +43,24 @@ pub fn founders()
         × (has_dropped (Event.Dropped number ∷ before) number ≡ true) }
 {}
 
-/// A task's own calls are what the end asks for, past others' events and past each of its own: a
-/// value that it puts, one that it gets and that is in range, and that it leaves. So who moves one
-/// task keeps this of it from its first moment to its last.
+/// A task's own calls are what the end asks for, past others' events and past each of its own:
+/// values that it puts, values that it gets and that are in range, and that it leaves. So who moves
+/// one task keeps this of it from its first moment to its last.
 pub fn own_calls()
     ensures seen { (job : Job) (m after : Moment) (t p n : ℕ) (now : History) → IsGraph job.graph
         → t < length job.graph.tasks → SeesOthers job m t p n now
         → HasSeen job m after t p now → HasOwnCalls job m t → HasOwnCalls job after t }
-    ensures put { (job : Job) (m after : Moment) (t p j n begun : ℕ) (v : ℤ) (before : History)
-        → IsGraph job.graph → t < length job.graph.tasks
-        → SeesOwn job m t p n (put_event job p n v) before
-        → HasPut job m after t j p v begun (put_event job p n v ∷ before)
-        → HasOwnCalls job m t → HasOwnCalls job after t }
-    ensures got { (job : Job) (m after : Moment) (t p k n begun : ℕ) (outcome : Outcome)
+    ensures put { (job : Job) (m after : Moment) (t p j n begun : ℕ) (vs : List ℤ)
         (before : History) → IsGraph job.graph → t < length job.graph.tasks
-        → SeesOwn job m t p n (Event.Waited n 1) before → IsAnsweredBy job p n outcome before
-        → is_too_big outcome ≡ false
-        → HasGot job m after t k p outcome begun (Event.Waited n 1 ∷ before)
+        → SeesOwn job m t p n (put_event job p n vs) before
+        → HasPut job m after t j p vs begun (put_event job p n vs ∷ before)
+        → HasOwnCalls job m t → HasOwnCalls job after t }
+    ensures got { (job : Job) (m after : Moment) (t p k n begun : ℕ) (outcomes : List Outcome)
+        (before : History) → IsGraph job.graph → t < length job.graph.tasks
+        → SeesOwn job m t p n (Event.Waited n (length outcomes)) before
+        → IsAnsweredBy job p n outcomes before
+        → All (λ outcome. is_too_big outcome ≡ false) outcomes
+        → HasGot job m after t k p outcomes begun (Event.Waited n (length outcomes) ∷ before)
         → HasOwnCalls job m t → HasOwnCalls job after t }
     ensures left { (job : Job) (m after : Moment) (t p n : ℕ) (before : History)
         → IsGraph job.graph → t < length job.graph.tasks
@@ -82,7 +82,8 @@ pub fn first_calls()
     ensures begins { (job : Job) (m after : Moment) (t c : ℕ) → IsGraph job.graph
         → t < length job.graph.tasks → (child : IsChildOf job c t)
         → HasNewChild job m after t c [] → m.begun t ≡ child.parent.at
-        → m.offset c ≡ (opening job).offset c → ((p : ℕ) → m.number p c ≡ None)
+        → ((task_at job.graph c).joins_now ≡ false → m.offset c ≡ (opening job).offset c)
+        → ((p : ℕ) → m.number p c ≡ None)
         → HasOwnCalls job m t → HasOwnCalls job after t × HasOwnCalls job after c }
     ensures waits { (job : Job) (m after : Moment) (t c : ℕ) → IsGraph job.graph
         → t < length job.graph.tasks → IsChildOf job c t → (p n : ℕ) (numbers : List ℕ)
@@ -94,6 +95,13 @@ pub fn first_calls()
         (numbers : List ℕ) (before : History)
         → SeesOwn job m t p n (Event.Registered n a mode) before → m.number p c ≡ None
         → HasAddedChild job m after t c p a numbers (Event.Registered n a mode ∷ before)
+        → HasOwnCalls job m t → HasOwnCalls job m c
+        → HasOwnCalls job after t × HasOwnCalls job after c }
+    ensures registers_now { (job : Job) (m after : Moment) (t c : ℕ) → IsGraph job.graph
+        → t < length job.graph.tasks → IsChildOf job c t → (p n a start : ℕ) (before : History)
+        → (task_at job.graph c).joins_now ≡ true
+        → SeesOwn job m t p n (Event.RegisteredNow n a) before → m.number p c ≡ None
+        → HasAddedNow job m after t c p a start (Event.RegisteredNow n a ∷ before)
         → HasOwnCalls job m t → HasOwnCalls job m c
         → HasOwnCalls job after t × HasOwnCalls job after c }
 {}

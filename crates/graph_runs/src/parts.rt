@@ -1,6 +1,6 @@
 //! What a task's calls leave of its part. Each function here makes no call and has no effect: its
 //! contract is the law.
-ghost use Rattle.std.specs.Prelude.{◌<◌, ℕ, suc, ℤ, ◌∷◌, length};
+ghost use Rattle.std.specs.Prelude.{◌<◌, ◌+◌, ℕ, ℤ, List, [], ◌∷◌, length};
 ghost use Rattle.phase_history.specs.phase_accum.declared.outcome.Outcome.{Outcome};
 ghost use Rattle.phase_history.specs.Histories.{History};
 ghost use Rattle.stream_lists.specs.graph_base.Graphs.{task_at};
@@ -8,7 +8,7 @@ ghost use Rattle.stream_lists.specs.graph_base.TaskLines.{IsGraph};
 ghost use Rattle.stream_lists.specs.Jobs.{Job};
 ghost use Rattle.graph_runs.specs.Moments.{Moment, HasEnded, RanOut, input_at};
 ghost use Rattle.graph_runs.specs.Moves.{IsStaying, NoneDue};
-ghost use Rattle.graph_runs.specs.Parts.{HasPart, SeesOthers, SeesOwn, HasSeen, put_event, IsAnsweredBy, IsAnsweredEnd, IsNextValue, IsNextOfSamples, HasPut, BeginsStep, IsExchange, HasGot, LeavesPart};
+ghost use Rattle.graph_runs.specs.Parts.{HasPart, SeesOthers, SeesOwn, HasSeen, put_event, IsAnsweredBy, IsAnsweredEnd, AreNextValues, AreNextSamples, HasPut, BeginsSteps, IsExchange, HasGot, LeavesPart};
 
 use phase_history::Event;
 
@@ -20,34 +20,36 @@ pub fn others_come()
         → (after : Moment) × HasSeen job m after t p now }
 {}
 
-/// A signal with the next value of a begun step, or of a source with its next sample, which begins
-/// a step, leaves the part with that value put.
+/// A signal with the next values of begun steps, or of a source with its next samples, which begins
+/// as many steps, leaves the part with those values put.
 pub fn puts()
-    ensures value { (job : Job) (m : Moment) (t j p n : ℕ) (v : ℤ) (before : History)
+    ensures values { (job : Job) (m : Moment) (t j p n : ℕ) (vs : List ℤ) (before : History)
         → IsGraph job.graph → t < length job.graph.tasks → HasPart job m t
-        → SeesOwn job m t p n (put_event job p n v) before → IsNextValue job m t j p v
+        → SeesOwn job m t p n (put_event job p n vs) before → AreNextValues job m t j p vs
         → (after : Moment)
-        × HasPut job m after t j p v (m.begun t) (put_event job p n v ∷ before) }
-    ensures sample { (job : Job) (m : Moment) (t j p n : ℕ) (v : ℤ) (before : History)
+        × HasPut job m after t j p vs (m.begun t) (put_event job p n vs ∷ before) }
+    ensures samples { (job : Job) (m : Moment) (t j p n : ℕ) (vs : List ℤ) (before : History)
         → IsGraph job.graph → t < length job.graph.tasks → HasPart job m t
-        → SeesOwn job m t p n (put_event job p n v) before → IsNextOfSamples job m t j p v
-        → (after : Moment)
-        × HasPut job m after t j p v (suc (m.begun t)) (put_event job p n v ∷ before) }
+        → SeesOwn job m t p n (put_event job p n vs) before → AreNextSamples job m t j p vs
+        → (after : Moment) × HasPut job m after t j p vs (m.begun t + length vs)
+        (put_event job p n vs ∷ before) }
 {}
 
-/// A wait that begins a step, or a peer's for the value on E, leaves the part with what it was
+/// A wait that begins steps, or a peer's for the value on E, leaves the part with what it was
 /// answered taken.
 pub fn gets()
-    ensures first { (job : Job) (m : Moment) (t k p n : ℕ) (outcome : Outcome) (before : History)
-        → IsGraph job.graph → t < length job.graph.tasks → HasPart job m t
-        → SeesOwn job m t p n (Event.Waited n 1) before → IsAnsweredBy job p n outcome before
-        → BeginsStep job m t k p → (after : Moment)
-        × HasGot job m after t k p outcome (suc (m.begun t)) (Event.Waited n 1 ∷ before) }
+    ensures first { (job : Job) (m : Moment) (t k p n : ℕ) (outcomes : List Outcome)
+        (before : History) → IsGraph job.graph → t < length job.graph.tasks → HasPart job m t
+        → SeesOwn job m t p n (Event.Waited n (length outcomes)) before
+        → IsAnsweredBy job p n outcomes before → BeginsSteps job m t k p (length outcomes)
+        → (after : Moment) × HasGot job m after t k p outcomes (m.begun t + length outcomes)
+        (Event.Waited n (length outcomes) ∷ before) }
     ensures exchange { (job : Job) (m : Moment) (t p n : ℕ) (outcome : Outcome) (before : History)
         → IsGraph job.graph → t < length job.graph.tasks → HasPart job m t
-        → SeesOwn job m t p n (Event.Waited n 1) before → IsAnsweredBy job p n outcome before
+        → SeesOwn job m t p n (Event.Waited n 1) before
+        → IsAnsweredBy job p n (outcome ∷ []) before
         → IsExchange job m t p → (after : Moment)
-        × HasGot job m after t 1 p outcome (m.begun t) (Event.Waited n 1 ∷ before) }
+        × HasGot job m after t 1 p (outcome ∷ []) (m.begun t) (Event.Waited n 1 ∷ before) }
 {}
 
 /// A wait that is answered that its input has ended leaves the part with that input run out.

@@ -354,7 +354,7 @@ pub values_some : (job : Job) (m : Moment) (t j : ℕ) → IsGraph job.graph
     → t < length job.graph.tasks → next_of job m t ≡ signals j → 1 ≤ length (next_values job m t j)
 values_some job m t j is there next =
     let more = (owed job m t j (signals_owes job m t j next)).1 in
-    let begins = next_begins job m t j (is.tasks t there).block.some more in
+    let begins = next_begins (task_at job.graph t).block job m t j (is.tasks t there).block.some more in
     let long = ap length begins in
     omega arith
 

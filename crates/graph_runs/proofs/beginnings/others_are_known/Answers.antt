@@ -1,5 +1,5 @@
 -- By what each call leaves of numbers and offsets.
-use Rattle.graph_runs.proofs.KnownOthers.{known_first, known_moved, known_begins, known_registers, known_child, known_nowhere}
+use Rattle.graph_runs.proofs.KnownOthers.{known_first, known_moved, known_begins, known_registers, known_registers_now, known_child, known_nowhere}
 use Rattle.graph_runs.proofs.beginnings.others_are_known.Goals as goal
 
 pub returns-clause-first : goal.returns-clause-first
@@ -15,6 +15,10 @@ returns-clause-begins c = λ job m after t d new known. known_begins job m after
 pub returns-clause-registers : goal.returns-clause-registers
 returns-clause-registers c = λ job m after t d p a u numbers now parent of_t on added known.
     known_registers job m after t d p a u numbers now parent of_t on added known
+
+pub returns-clause-registers_now : goal.returns-clause-registers_now
+returns-clause-registers_now c = λ job m after t d p a start u now parent of_t joins on added known.
+    known_registers_now job m after t d p a start u now parent of_t joins on added known
 
 pub returns-clause-child : goal.returns-clause-child
 returns-clause-child c = λ job m t d u is there parent of_t known.
