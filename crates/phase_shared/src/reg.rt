@@ -8,6 +8,7 @@ ghost use Rattle.phase_core.specs.phase_accum.Parcels.{StandsForSends};
 ghost use Rattle.phase_core.specs.phase_history.Histories.{members_of};
 ghost use Rattle.phase_shared.specs.Regs.{IsGoodOn};
 
+use crate::phaser::Phaser;
 use crate::refusal::SendRefusal;
 use crate::rule::SignalRule;
 use crate::seats::view::PhaserSeat;
@@ -123,5 +124,13 @@ impl<A: Accumulate, K: SignalRule> Reg<A, K> {
             ≡ Some self.now.entry }
     {
         (self.entry.signal_phase, self.entry.wait_phase)
+    }
+
+    /// Returns how many phases from its signal phase on are not ahead, as far as the turns that have
+    /// ended tell: there may be room for more by now. It takes no turn.
+    ///
+    /// It is a hint for how much to signal next, and no contract speaks of it.
+    pub fn room(&self, phaser: &Phaser<A, K>) -> u64 {
+        phaser.locked.hints.room(self.entry.signal_phase)
     }
 }

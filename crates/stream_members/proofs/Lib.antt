@@ -1,2 +1,3 @@
+mod Filled
 mod Looks
 mod OneLists

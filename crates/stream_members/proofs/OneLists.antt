@@ -1,5 +1,5 @@
--- A block with one value a phase.
-use Rattle.std.proofs.Common.{◌≡◌, ℕ, ℤ, List, [], ◌∷◌, Option, refl, sym, ap, ◌∙◌}
+-- Signals with one value a phase.
+use Rattle.std.proofs.Common.{◌≡◌, ℕ, ℤ, List, [], ◌∷◌, Option, refl, sym, ap, subst, ◌∙◌}
 use Rattle.std.specs.Prelude.{Result, Ok, Err}
 use Rattle.phase_shared.specs.phase_base.Limits.{Limits}
 use Rattle.phase_shared.specs.phase_accum.Operations.{Operation, AccumulateLaws}
@@ -9,12 +9,16 @@ use Rattle.phase_shared.specs.phase_core.Blocks.{StandForLists}
 use Rattle.phase_shared.specs.phase_history.declared.refusal.SignalRefusal.{SignalRefusal}
 use Rattle.phase_shared.specs.phase_history.Histories.{History}
 use Rattle.phase_shared.specs.phase_history.Replies.{after_signal}
+use Rattle.phase_shared.specs.declared.phaser.Phaser.{Phaser}
+use Rattle.phase_shared.specs.declared.rule.NoRule.{NoRule}
 use Rattle.phase_shared.specs.declared.tried.Tried.{Tried}
 use Rattle.phase_shared.specs.declared.tried.Tried.TheVariants.{Busy, Refused}
 use Rattle.phase_shared.specs.Blocks.{SignalsBlock}
 use Rattle.phase_shared.specs.Calls.{Tries}
+use Rattle.phase_shared.specs.Regs.{RegState, phaser_lock, phaser_limits}
 use Rattle.phase_shared.proofs.OneValue.{one_list}
-use Rattle.stream_members.specs.Members.{one_each, SignalsValues}
+use Rattle.stream_members.specs.declared.refusal.PutRefusal.{PutRefusal}
+use Rattle.stream_members.specs.Members.{limits_on, member_state, one_each, SignalsValues, Puts, IsPutAnswer}
 
 -- what stands for these values, one a phase, stands for no other lists
 pub one_lists : {A : Type 0} (op : Operation A) (parcels : List (Parcel A)) (values : List ℤ)
@@ -29,6 +33,7 @@ one_lists op (held ∷ more) (v ∷ values) (sends ∷ lists) laws one stand =
     ap (λ s. s ∷ lists) (one_list op held v sends laws one.0 stand.0)
     ∙ ap (λ l. (v ∷ []) ∷ l) (one_lists op more values lists laws one.1 stand.1)
 
+-- a signal of what stands for these values, one a phase, is a signal of these values
 pub signals_values : {A : Type 0} (op : Operation A) (limits : Limits) (me : ℕ)
     (parcels : List (Parcel A)) (values : List ℤ) (single : Option Single) (old new : History)
     (answer : Result ℕ SignalRefusal) → AccumulateLaws op
@@ -44,15 +49,33 @@ signals_values op limits me parcels values single old new answer laws one s = re
   reply = s.reply (one_each values) one;
 }
 
--- the same of a try
-pub tries_values : {A : Type 0} (op : Operation A) (same : Type 0) (limits : Limits) (me : ℕ)
-    (parcels : List (Parcel A)) (values : List ℤ) (single : Option Single) (old new : History)
-    (result : Result ℕ (Tried SignalRefusal)) → AccumulateLaws op
+-- a signal by the limits of the phaser that the registration is on
+on_its_limits : {A : Type 0} (op : Operation A) (phaser : Phaser A NoRule)
+    (parcels : List (Parcel A)) (single : Option Single) (old new : RegState A NoRule)
+    (answer : Result ℕ SignalRefusal) → old.at ≡ phaser_lock phaser
+    → SignalsBlock op (phaser_limits phaser) old.number parcels single old.seen new.seen answer
+    → SignalsBlock op (limits_on old.at) old.number parcels single old.seen new.seen answer
+on_its_limits op phaser parcels single old new answer at =
+    subst (λ (limits : Limits). SignalsBlock op limits old.number parcels single old.seen new.seen
+    answer) (sym (ap limits_on at))
+
+-- the same of a try, as it is told of values
+pub puts_values : {A : Type 0} (op : Operation A) (phaser : Phaser A NoRule)
+    (parcels : List (Parcel A)) (values : List ℤ) (single : Option Single)
+    (old new : RegState A NoRule) (answer : Result ℕ (Tried SignalRefusal))
+    (told : Result ℕ PutRefusal) → AccumulateLaws op → old.at ≡ phaser_lock phaser
     → StandForLists op parcels (one_each values)
-    → Tries same (SignalsBlock op limits me parcels single old new) result
-    → Tries same (SignalsValues limits me values single old new) result
-tries_values op same limits me parcels values single old new (Ok phase) laws one call =
-    signals_values op limits me parcels values single old new (Ok phase) laws one call
-tries_values op same limits me parcels values single old new (Err Busy) laws one call = call
-tries_values op same limits me parcels values single old new (Err (Refused r)) laws one call =
-    signals_values op limits me parcels values single old new (Err r) laws one call
+    → Tries (new ≡ old)
+    (SignalsBlock op (phaser_limits phaser) old.number parcels single old.seen new.seen) answer
+    → IsPutAnswer answer told → Puts values single (member_state old) (member_state new) told
+puts_values op phaser parcels values single old new (Ok phase) told laws at one call is =
+    subst (Puts values single (member_state old) (member_state new)) (sym is)
+    (signals_values op (limits_on old.at) old.number parcels values single old.seen new.seen
+    (Ok phase) laws one (on_its_limits op phaser parcels single old new (Ok phase) at call))
+puts_values op phaser parcels values single old new (Err Busy) told laws at one call is =
+    subst (Puts values single (member_state old) (member_state new)) (sym is)
+    (ap member_state call)
+puts_values op phaser parcels values single old new (Err (Refused r)) told laws at one call is =
+    subst (Puts values single (member_state old) (member_state new)) (sym is)
+    (signals_values op (limits_on old.at) old.number parcels values single old.seen new.seen
+    (Err r) laws one (on_its_limits op phaser parcels single old new (Err r) at call))

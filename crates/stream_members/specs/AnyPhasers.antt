@@ -1,6 +1,6 @@
 -- A phaser under one of the five operations and the registration of its founder, as contracts see
 -- them.
-use Rattle.std.specs.Prelude.{◌≡◌, ℕ, [], ◌∷◌, None}
+use Rattle.std.specs.Prelude.{◌≡◌, ℕ, [], ◌∷◌}
 use Rattle.phase_shared.specs.phase_base.declared.mode.Mode.TheVariants.{Single}
 use Rattle.phase_shared.specs.phase_base.declared.operation.Op.{Op}
 use Rattle.phase_shared.specs.phase_base.declared.operation.Op.TheVariants.{Sum, Product, Least, Greatest, Any}
@@ -36,13 +36,13 @@ reg_op (reg.Least r) = Least
 reg_op (reg.Greatest r) = Greatest
 reg_op (reg.Any r) = Any
 
--- the registration as a member that holds nothing
+-- the registration as a member
 abbrev pub reg_in : AnyReg → MemberState
-reg_in (reg.Sum r) = member_state r None
-reg_in (reg.Product r) = member_state r None
-reg_in (reg.Least r) = member_state r None
-reg_in (reg.Greatest r) = member_state r None
-reg_in (reg.Any r) = member_state r None
+reg_in (reg.Sum r) = member_state r
+reg_in (reg.Product r) = member_state r
+reg_in (reg.Least r) = member_state r
+reg_in (reg.Greatest r) = member_state r
+reg_in (reg.Any r) = member_state r
 
 -- how many sends it holds
 abbrev pub sends_held : AnyReg → ℕ
@@ -58,7 +58,6 @@ founder_at at = record {
   at = at;
   number = 0;
   mode = Single;
-  held = None;
   seen = Made 0 ∷ [];
 }
 

@@ -1,16 +1,12 @@
 -- What contracts see of a registration with its phaser, and what its calls do to the history that
 -- it has seen.
-use Rattle.std.specs.Prelude.{◌≡◌, ◌≢◌, ℕ, ◌+◌, ℤ, List, [], ◌∷◌, ◌++◌, map, Option, Some, None, Result, Ok, Err, true}
+use Rattle.std.specs.Prelude.{◌≡◌, ℕ, ◌+◌, ℤ, List, [], ◌∷◌, ◌++◌, map, Option, Some, None, Result, Ok, Err, true}
 use Rattle.phase_shared.specs.turn_lock.Seats.{Place}
 use Rattle.phase_shared.specs.phase_base.Limits.{Limits, limits}
 use Rattle.phase_shared.specs.phase_base.Members.{entry_of}
-use Rattle.phase_shared.specs.phase_base.Modes.{mode_signals}
 use Rattle.phase_shared.specs.phase_base.declared.entry.Entry.{Entry}
 use Rattle.phase_shared.specs.phase_base.declared.mode.Mode.{Mode}
 use Rattle.phase_shared.specs.phase_base.declared.mode.Mode.TheVariants.{Wait}
-use Rattle.phase_shared.specs.phase_accum.Operations.{Operation}
-use Rattle.phase_shared.specs.phase_accum.Parcels.{Parcel, StandsForSends}
-use Rattle.phase_shared.specs.phase_accum.declared.outcome.TheConstants.{NO_VALUE}
 use Rattle.phase_shared.specs.phase_accum.declared.single.Single.{Single}
 use Rattle.phase_shared.specs.phase_history.declared.refusal.RegisterRefusal.{RegisterRefusal}
 use Rattle.phase_shared.specs.phase_history.declared.event.Event.TheVariants.{RegisteredNow}
@@ -22,12 +18,13 @@ use Rattle.phase_shared.specs.phase_history.Legal.{IsLegal}
 use Rattle.phase_shared.specs.phase_history.Others.{OthersCame, OnlyUsed}
 use Rattle.phase_shared.specs.phase_base.Lists.{is_distinct}
 use Rattle.phase_shared.specs.declared.rule.Terms.{Terms}
+use Rattle.phase_shared.specs.declared.tried.Tried.{Tried}
+use Rattle.phase_shared.specs.declared.tried.Tried.TheVariants as tried
 use Rattle.phase_shared.specs.declared.rule.NoRule.{NoRule}
 use Rattle.phase_shared.specs.Calls.{HasRegistered, RefusesRegister, Leaves}
-use Rattle.phase_shared.specs.Puts.{SignalsValue}
 use Rattle.phase_shared.specs.Regs.{RegState, PastState}
 use Rattle.stream_members.specs.declared.refusal.PutRefusal.{PutRefusal}
-use Rattle.stream_members.specs.declared.refusal.PutRefusal.TheVariants.{BadValue, HoldsAnother, Busy, Refused}
+use Rattle.stream_members.specs.declared.refusal.PutRefusal.TheVariants.{Busy, Refused}
 
 -- which phaser it is
 abbrev pub Spot : Type 0
@@ -42,33 +39,25 @@ limits_of (Some terms) = terms.limits
 abbrev pub limits_on : Spot → Limits
 limits_on at = limits_of at.1
 
--- a member: its phaser, its number, its mode, the value that it holds where one was refused, and
--- the history that it has seen
+-- a member: its phaser, its number, its mode, and the history that it has seen
 pub record MemberState : Type 0 where
   pub at : Spot
   pub number : ℕ
   pub mode : Mode
-  pub held : Option ℤ
   pub seen : History
 
 -- what a member that left has seen
 abbrev pub LeftState : Type 0
 LeftState = PastState NoRule
 
--- a registration as a member, with the value that it holds
-abbrev pub member_state : {A : Type 0} → RegState A NoRule → Option ℤ → MemberState
-member_state reg held = record {
+-- a registration as a member
+abbrev pub member_state : {A : Type 0} → RegState A NoRule → MemberState
+member_state reg = record {
   at = reg.at;
   number = reg.number;
   mode = reg.entry.mode;
-  held = held;
   seen = reg.seen;
 }
-
--- for the code: what is held is this value alone, or nothing
-abbrev pub HoldsJust : {A : Type 0} → Operation A → Parcel A → Option ℤ → Type 0
-HoldsJust op held None = held.count ≡ 0
-HoldsJust op held (Some value) = StandsForSends op held (value ∷ [])
 
 -- it is registered, in its mode, and what it has seen is legal
 pub record IsMember (m : MemberState) : Type 0 where
@@ -88,34 +77,7 @@ pub record Stays (old new : MemberState) : Type 0 where
 pub record IsAlone (m : MemberState) : Type 0 where
   pub only : OnlyUsed (m.number ∷ []) m.seen
 
--- ---- a value that is put
-
--- another value is held
-abbrev pub HoldsOther : Option ℤ → ℤ → Type 0
-HoldsOther None value = ⊥
-HoldsOther (Some other) value = other ≢ value
-
--- the value is held, where the mode signals
-abbrev pub IsHeld : MemberState → ℤ → Type 0
-IsHeld m value = mode_signals m.mode ≡ true → m.held ≡ Some value
-
--- a refused value: all stayed as it was, or the value is held now, where the mode signals
-abbrev pub RefusesPut : ℤ → Option Single → MemberState → MemberState → PutRefusal → Type 0
-RefusesPut value single old new BadValue = (value ≡ NO_VALUE) × (new ≡ old)
-RefusesPut value single old new HoldsAnother = HoldsOther old.held value × (new ≡ old)
-RefusesPut value single old new Busy = (new.seen ≡ old.seen) × IsHeld new value
-RefusesPut value single old new (Refused refusal) =
-    SignalsValue (limits_on old.at) old.number value single old.seen new.seen (Err refusal)
-    × IsHeld new value
-
--- a value that is put by a signal of its own, or the refusal
-abbrev pub Puts : ℤ → Option Single → MemberState → MemberState → Result ℕ PutRefusal → Type 0
-Puts value single old new (Ok phase) =
-    SignalsValue (limits_on old.at) old.number value single old.seen new.seen (Ok phase)
-    × (new.held ≡ None)
-Puts value single old new (Err refusal) = RefusesPut value single old new refusal
-
--- ---- blocks
+-- ---- values that are put
 
 -- one send a phase
 abbrev pub one_each : List ℤ → List (List ℤ)
@@ -130,15 +92,29 @@ pub record SignalsValues (limits : Limits) (me : ℕ) (values : List ℤ) (singl
   pub seen : new ≡ after_signal answer me (one_each values) single before
   pub reply : signal_reply limits before me (one_each values) single ≡ answer
 
+-- values that are put by a signal, or the refusal: where the phaser was not asked, all stayed as it
+-- was
+abbrev pub Puts : List ℤ → Option Single → MemberState → MemberState → Result ℕ PutRefusal → Type 0
+Puts values single old new (Ok phase) =
+    SignalsValues (limits_on old.at) old.number values single old.seen new.seen (Ok phase)
+Puts values single old new (Err (Refused refusal)) =
+    SignalsValues (limits_on old.at) old.number values single old.seen new.seen (Err refusal)
+Puts values single old new (Err refusal) = new ≡ old
+
+-- for the code: what a try of a signal answers, as it is told of values
+abbrev pub IsPutAnswer : Result ℕ (Tried SignalRefusal) → Result ℕ PutRefusal → Type 0
+IsPutAnswer (Ok phase) answer = answer ≡ Ok phase
+IsPutAnswer (Err tried.Busy) answer = answer ≡ Err Busy
+IsPutAnswer (Err (tried.Refused refusal)) answer = answer ≡ Err (Refused refusal)
+
 -- ---- members that come and go
 
--- a child: it is on its parent's phaser, has seen what its parent has, and holds nothing
+-- a child: it is on its parent's phaser, and has seen what its parent has
 pub record HasAdded (mode : Mode) (old new child : MemberState) : Type 0 where
   pub registered : HasRegistered old.number child.number mode old.seen new.seen
   pub at : child.at ≡ old.at
   pub mode_is : child.mode ≡ mode
   pub seen : child.seen ≡ new.seen
-  pub none_held : child.held ≡ None
 
 -- a child, or the refusal
 abbrev pub Adds : Mode → MemberState → MemberState → Result MemberState RegisterRefusal → Type 0
@@ -157,7 +133,6 @@ pub record HasAddedNow (old new child : MemberState) (start : ℕ) : Type 0 wher
   pub at : child.at ≡ old.at
   pub mode_is : child.mode ≡ Wait
   pub seen : child.seen ≡ new.seen
-  pub none_held : child.held ≡ None
 
 -- such a child, or the refusal
 abbrev pub AddsNow : MemberState → MemberState → Result (MemberState × ℕ) RegisterRefusal → Type 0

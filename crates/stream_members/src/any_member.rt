@@ -1,21 +1,24 @@
 //! A member under one of the operations.
-ghost use Rattle.std.specs.Prelude.{◌≡◌, ◌≢◌, ◌↔◌, Err, IfOk, IfErr, IsOk};
-ghost use Rattle.phase_shared.specs.phase_accum.declared.outcome.TheConstants.{NO_VALUE};
+ghost use Rattle.std.specs.Prelude.{◌≡◌, ◌≢◌, ◌↔◌, ◌<◌, ◌≤◌, [], ◌∷◌, Err, IfOk, IfErr, IsOk, length};
+ghost use Rattle.phase_shared.specs.phase_accum.Sends.{AreSends, IsSend};
 ghost use Rattle.phase_shared.specs.phase_accum.Values.{value_by};
-ghost use Rattle.phase_shared.specs.Calls.{Tries, Waits};
-ghost use Rattle.stream_members.specs.Members.{limits_on, IsMember, Stays, IsAlone, HoldsOther, Puts, HasLeftPhaser};
-ghost use Rattle.stream_members.specs.AnyMembers.{member_in, member_op, left_in, left_op, AddsAny};
+ghost use Rattle.phase_shared.specs.Blocks.{WaitsBlock};
+ghost use Rattle.phase_shared.specs.Calls.{Tries};
+ghost use Rattle.stream_members.specs.Members.{limits_on, IsMember, Stays, IsAlone, Puts, HasLeftPhaser};
+ghost use Rattle.stream_members.specs.AnyMembers.{member_in, member_op, left_in, left_op, room_for, AddsAny, AddsAnyNow};
 
 use crate::any_left::AnyLeft;
 use crate::member::Member;
+use crate::places::Places;
 use crate::refusal::PutRefusal;
 use phase_shared::Tried;
-use phase_shared::phase_accum::{Any, Greatest, Least, Product, Single, Sum};
-use phase_shared::phase_base::Mode;
-use phase_shared::phase_core::{Got, RegisterRefusal, SignalRefusal, WaitRefusal};
+use phase_shared::phase_accum::{Any, Greatest, Least, Outcome, Pending, Product, Single, Sum};
+use phase_shared::phase_base::{Mode, Op};
+use phase_shared::phase_core::{GotBlock, RegisterRefusal, SignalRefusal, WaitRefusal};
 use std::sync::Wait;
 
-/// A member, by the operation of its phaser. Each call is the one of `Member` of the same name.
+/// A member, by the operation of its phaser. Each call is the one of `Member` of the same name, and
+/// `try_put` a `try_put_all` with a place of its own.
 ///
 /// **End.** It cannot be thrown away. `leave` and `try_leave` end it, and give an `AnyLeft`.
 pub enum AnyMember<'a> {
@@ -67,6 +70,16 @@ macro_rules! each_child {
     };
 }
 
+// The call with the places of this operation, or with none where they are of another.
+macro_rules! put_all {
+    ($operation:ident, $one:ident, $values:ident, $single:ident, $places:ident) => {
+        match $places {
+            Places::$operation(places) => $one.try_put_all($values, $single, places),
+            _ => $one.try_put_all($values, $single, &mut []),
+        }
+    };
+}
+
 impl<'a> AnyMember<'a> {
     /// Says what holds of it wherever it was kept meanwhile, as in a list or under a lock. It does
     /// nothing.
@@ -83,42 +96,73 @@ impl<'a> AnyMember<'a> {
         each!(self, one => one.number())
     }
 
-    /// Returns the value that it holds, where one was refused.
-    pub fn held(&self) -> Option<i64>
-        ensures { result ≡ (member_in self.now).held }
-    {
-        each!(self, one => one.held())
+    /// Returns how many phases from its signal phase on are not ahead, as far as the turns that
+    /// have ended tell. It takes no turn. It is a hint for how much to put, and no contract speaks
+    /// of it.
+    pub fn room(&self) -> u64 {
+        each!(self, one => one.room())
     }
 
     /// Signals its phase with this value as its one send, and a single or none, and answers that
-    /// phase. It takes no memory.
+    /// phase. A refused value is not held. It takes no memory.
     pub fn try_put(&mut self, value: i64, single: Option<Single>) -> Result<u64, PutRefusal>
-        ensures call { Puts value single (member_in self.old) (member_in self.new) result }
+        ensures call { Puts (value ∷ []) single (member_in self.old) (member_in self.new) result }
         ensures stays { Stays (member_in self.old) (member_in self.new) }
         ensures op { member_op self.new ≡ member_op self.old }
-        ensures bad_value { (result ≡ Err PutRefusal.BadValue) ↔ (value ≡ NO_VALUE) }
-        ensures another { (result ≡ Err PutRefusal.HoldsAnother)
-            ↔ ((value ≢ NO_VALUE) × HoldsOther (member_in self.old).held value) }
+        ensures bad_value { (result ≡ Err PutRefusal.BadValue) ↔ (IsSend value → ⊥) }
+        ensures room { result ≢ Err PutRefusal.TooMany }
         ensures known { result ≢ Err (PutRefusal.Refused SignalRefusal.NoTask) }
         // Where it is the only one that it has seen, nobody is in its way.
         ensures alone { IsAlone (member_in self.old) → result ≢ Err PutRefusal.Busy }
     {
-        each!(self, one => one.try_put(value, single))
+        each!(self, one => one.try_put_all(&[value], single, &mut [Pending::new()]))
     }
 
-    /// Waits for its phase, and answers it with its value, or that no more will come. It takes no
-    /// memory.
-    pub fn try_get(&mut self) -> Result<Got, Tried<WaitRefusal>>
-        ensures call { let old = member_in self.old in let new = member_in self.new in
-            Tries (new ≡ old) (Waits (value_by (member_op self.old)) (limits_on old.at) old.number
-            old.seen new.seen) result }
+    /// Signals as many phases in a row as there are values, its own first, with one send each and a
+    /// single for all of them or none, and answers the first phase. A refused signal signals
+    /// nothing, and none of the values is held. It takes no memory: the places have the sends
+    /// meanwhile.
+    pub fn try_put_all(
+        &mut self,
+        values: &[i64],
+        single: Option<Single>,
+        places: &mut Places,
+    ) -> Result<u64, PutRefusal>
+        ensures call { Puts values.now single (member_in self.old) (member_in self.new) result }
         ensures stays { Stays (member_in self.old) (member_in self.new) }
         ensures op { member_op self.new ≡ member_op self.old }
-        ensures held { (member_in self.new).held ≡ (member_in self.old).held }
+        ensures too_many { (result ≡ Err PutRefusal.TooMany)
+            ↔ (room_for (member_op self.old) places.old < length values.now) }
+        ensures bad_value { (result ≡ Err PutRefusal.BadValue)
+            ↔ ((length values.now ≤ room_for (member_op self.old) places.old)
+            × (AreSends values.now → ⊥)) }
+        ensures known { result ≢ Err (PutRefusal.Refused SignalRefusal.NoTask) }
+        ensures alone { IsAlone (member_in self.old) → result ≢ Err PutRefusal.Busy }
+        ensures places { (op : Op) → room_for op places.new ≡ room_for op places.old }
+    {
+        match self {
+            AnyMember::Sum(one) => put_all!(Sum, one, values, single, places),
+            AnyMember::Product(one) => put_all!(Product, one, values, single, places),
+            AnyMember::Least(one) => put_all!(Least, one, values, single, places),
+            AnyMember::Greatest(one) => put_all!(Greatest, one, values, single, places),
+            AnyMember::Any(one) => put_all!(Any, one, values, single, places),
+        }
+    }
+
+    /// Waits for its phase, and answers it with the number of phases that are complete from there
+    /// on, at most one for each place, and writes their values in the first places; or answers that
+    /// no more will come. It takes no memory.
+    pub fn try_get(&mut self, out: &mut [Outcome]) -> Result<GotBlock, Tried<WaitRefusal>>
+        ensures call { let old = member_in self.old in let new = member_in self.new in
+            Tries ((new ≡ old) × (out.new ≡ out.old))
+            (WaitsBlock (value_by (member_op self.old)) (limits_on old.at) old.number old.seen
+            new.seen out.old out.new) result }
+        ensures stays { Stays (member_in self.old) (member_in self.new) }
+        ensures op { member_op self.new ≡ member_op self.old }
         ensures known { result ≢ Err (Tried.Refused WaitRefusal.NoTask) }
         ensures alone { IsAlone (member_in self.old) → result ≢ Err Tried.Busy }
     {
-        each!(self, one => one.try_get())
+        each!(self, one => one.try_get(out))
     }
 
     /// Registers a child in a mode that its own mode holds, at both of its phases. It may take
@@ -128,11 +172,44 @@ impl<'a> AnyMember<'a> {
             (AddsAny mode self.old self.new) result }
         ensures stays { Stays (member_in self.old) (member_in self.new) }
         ensures op { member_op self.new ≡ member_op self.old }
-        ensures held { (member_in self.new).held ≡ (member_in self.old).held }
         ensures known { result ≢ Err (Tried.Refused RegisterRefusal.NoTask) }
         ensures alone { IsAlone (member_in self.old) → result ≢ Err Tried.Busy }
     {
         each_child!(self, one => one.try_add(mode))
+    }
+
+    /// Registers a child in `Wait`, at the first phase that is not complete, and answers it with
+    /// that phase. Its own mode has to hold `Wait`. It may take memory.
+    pub fn try_add_now(&mut self) -> Result<(AnyMember<'a>, u64), Tried<RegisterRefusal>>
+        ensures call { Tries (member_in self.new ≡ member_in self.old)
+            (AddsAnyNow self.old self.new) result }
+        ensures stays { Stays (member_in self.old) (member_in self.new) }
+        ensures op { member_op self.new ≡ member_op self.old }
+        ensures known { result ≢ Err (Tried.Refused RegisterRefusal.NoTask) }
+        ensures alone { IsAlone (member_in self.old) → result ≢ Err Tried.Busy }
+    {
+        match self {
+            AnyMember::Sum(one) => match one.try_add_now() {
+                Ok((child, start)) => Ok((AnyMember::Sum(child), start)),
+                Err(refusal) => Err(refusal),
+            },
+            AnyMember::Product(one) => match one.try_add_now() {
+                Ok((child, start)) => Ok((AnyMember::Product(child), start)),
+                Err(refusal) => Err(refusal),
+            },
+            AnyMember::Least(one) => match one.try_add_now() {
+                Ok((child, start)) => Ok((AnyMember::Least(child), start)),
+                Err(refusal) => Err(refusal),
+            },
+            AnyMember::Greatest(one) => match one.try_add_now() {
+                Ok((child, start)) => Ok((AnyMember::Greatest(child), start)),
+                Err(refusal) => Err(refusal),
+            },
+            AnyMember::Any(one) => match one.try_add_now() {
+                Ok((child, start)) => Ok((AnyMember::Any(child), start)),
+                Err(refusal) => Err(refusal),
+            },
+        }
     }
 
     /// Registers a child, as `try_add` does. It waits for its turn.
@@ -140,14 +217,13 @@ impl<'a> AnyMember<'a> {
         ensures call { AddsAny mode self.old self.new result }
         ensures stays { Stays (member_in self.old) (member_in self.new) }
         ensures op { member_op self.new ≡ member_op self.old }
-        ensures held { (member_in self.new).held ≡ (member_in self.old).held }
         ensures known { result ≢ Err RegisterRefusal.NoTask }
     {
         each_child!(self, one => one.add(rt, mode))
     }
 
-    /// Ends the registration: the value that it holds is in no phase. Where another is in the
-    /// middle of a call it comes back as it was. It takes no memory.
+    /// Ends the registration. Where another is in the middle of a call it comes back as it was. It
+    /// takes no memory.
     pub fn try_leave(self) -> Result<AnyLeft<'a>, AnyMember<'a>>
         ensures ok { IfOk result (λ left. HasLeftPhaser (member_in self.entry) (left_in left)
             × (left_op left ≡ member_op self.entry)) }

@@ -1,13 +1,13 @@
-//! Why a value was not put.
+//! Why values were not put.
 use phase_shared::phase_core::SignalRefusal;
 
-/// Why a value was not put. The variants stand in the order in which they are checked.
+/// Why values were not put. The variants stand in the order in which they are checked.
 #[derive(Clone, Copy, Debug, PartialEq, Eq)]
 pub enum PutRefusal {
-    /// The value is `NO_VALUE`, which cannot be sent.
+    /// There are not so many places for sends of the phaser's operation.
+    TooMany,
+    /// One of them is `NO_VALUE`, which cannot be sent.
     BadValue,
-    /// Another value is held, which was refused before and has to be put first.
-    HoldsAnother,
     /// Another registration was in the middle of a call.
     Busy,
     /// The phaser refused the signal.

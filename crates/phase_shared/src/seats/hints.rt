@@ -132,6 +132,12 @@ impl Hints {
         }
     }
 
+    // Returns how many phases from this one on may be signalled, as far as was told.
+    pub fn room(&self, phase: u64) -> u64 {
+        let base = self.base.number.load(SeqCst);
+        base.saturating_add(self.bound).saturating_sub(phase)
+    }
+
     // Pauses while a signal of the phases below `next` is ahead.
     pub fn pause_for_room<R: Wait>(&self, rt: &R, next: u64) {
         self.base.pause(rt, next.saturating_sub(self.bound));

@@ -8,4 +8,4 @@ pub returns : goal.returns
 returns g c =
     let own = c.self.inside in
     subst IsMember c.self.view_is
-    (is_member _ own.phaser.now own.reg own.held c.self.invariant.0 c.look.ensures.good c.look.ensures.entry)
+    (is_member _ own.phaser.now own.reg c.self.invariant.0 c.look.ensures.good c.look.ensures.entry)

@@ -5,4 +5,4 @@ use Rattle.stream_members.proofs.member.Member.try_get.Goals as goal
 pub returns-clause-alone : goal.returns-clause-alone
 returns-clause-alone g c = λ alone.
     let own = c.self.inside in
-    c.try_wait.ensures.call.alone (only_used own.reg own.held c.args.self.now c.self.view_is alone)
+    c.try_wait_block.ensures.call.alone (only_used own.reg c.args.self.now c.self.view_is alone)
