@@ -14,6 +14,8 @@ pub struct Bell {
     rings: AtomicU64,
     // 1 where there is a task to take
     work: AtomicU64,
+    // how many look whether there is one
+    watchers: AtomicU64,
 }
 
 impl Bell {
@@ -22,7 +24,23 @@ impl Bell {
         Bell {
             rings: AtomicU64::new(0),
             work: AtomicU64::new(0),
+            watchers: AtomicU64::new(0),
         }
+    }
+
+    /// Notes that a worker looks from now on.
+    pub fn begin_watch(&self) {
+        self.watchers.fetch_add(1, SeqCst);
+    }
+
+    /// Notes that a worker looks no more.
+    pub fn end_watch(&self) {
+        self.watchers.fetch_sub(1, SeqCst);
+    }
+
+    /// Returns whether a worker looks.
+    pub fn is_watched(&self) -> bool {
+        self.watchers.load(SeqCst) != 0
     }
 
     /// Tells those who look whether there is a task to take.

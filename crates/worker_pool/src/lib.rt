@@ -4,6 +4,8 @@
 //! A worker goes on with a task as far as it comes, and then takes another, best one that meets no
 //! other task with which a worker is at work. A task that waits on a phaser is not taken again
 //! before something happens there. A worker with nothing to do sleeps, for a millisecond at most.
+//! Tasks that do little at a time, as in a chain of bound 1, are left to one worker while it is at
+//! work with one of them, since a change of workers would cost more than they do.
 //!
 //! ```text
 //! let mut pool = Pool::with_room(alloc, 2)?;
@@ -30,6 +32,7 @@ mod pool;
 mod task_sets;
 mod work;
 mod workers;
+mod worths;
 
 pub use pool::Pool;
 pub use work::{Fault, Progress, Work};

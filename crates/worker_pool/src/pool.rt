@@ -16,6 +16,9 @@ use std::{hint, thread};
 // How many turns a worker makes with one task before it puts it back, at most.
 const TURNS_MAX: u32 = 1024;
 
+// How much a turn counts beside what it did, as in `Work::effort`.
+const TURN_EFFORT: u64 = 128;
+
 // How often it tries again where another is in the middle of a call.
 const TRIES_MAX: u32 = 300;
 
@@ -119,6 +122,17 @@ impl<T: Work> Pool<T> {
 
     /// Waits for a task: yields for a while, and then sleeps.
     pub(crate) fn wait<W: Wait>(&self, rt: &W) -> Next {
+        self.bell.begin_watch();
+        let next = self.watch(rt);
+        self.bell.end_watch();
+        match next {
+            Next::Wait => self.sleep_on(rt),
+            next => next,
+        }
+    }
+
+    // Looks for a task for a while.
+    fn watch<W: Wait>(&self, rt: &W) -> Next {
         for _ in 0..YIELDS {
             if self.bell.has_work() {
                 match self.take(rt, Choice::Apart) {
@@ -128,7 +142,14 @@ impl<T: Work> Pool<T> {
             }
             thread::yield_now();
         }
-        self.sleep_on(rt)
+        Next::Wait
+    }
+
+    // Tells those who look whether there is a task to take.
+    fn show(&self, sets: &TaskSets) {
+        if self.bell.is_watched() {
+            self.bell.show(sets.has_apart());
+        }
     }
 
     // Sleeps until there is a task to take.
@@ -146,7 +167,7 @@ impl<T: Work> Pool<T> {
     pub(crate) fn take<W: Wait>(&self, rt: &W, choice: Choice) -> Next {
         let mut sets = self.sets.lock(rt);
         let next = sets.take(choice);
-        self.bell.show(sets.has_apart());
+        self.show(&sets);
         next
     }
 
@@ -164,7 +185,7 @@ impl<T: Work> Pool<T> {
         } else {
             Choice::Apart
         };
-        self.sets.lock(rt).woke();
+        self.sets.lock(rt).woke(choice);
         self.take(rt, choice)
     }
 
@@ -184,7 +205,7 @@ impl<T: Work> Pool<T> {
         sets.put_back(taken, went);
         let next = sets.take(Choice::Apart);
         let calls = sets.calls();
-        self.bell.show(sets.has_apart());
+        self.show(&sets);
         drop(sets);
         match next {
             Next::Over => self.bell.ring_all(),
@@ -200,7 +221,10 @@ impl<T: Work> Pool<T> {
             return stuck();
         };
         let mut task = task.lock(rt);
+        let before = task.effort();
         let mut went = go_on(&mut *task);
+        let effort = task.effort().saturating_sub(before);
+        went.effort = went.effort.saturating_add(effort);
         if let Progress::Child(child) = went.turned {
             if child == number || !self.bring(rt, &mut *task, child) {
                 return stuck();
@@ -230,7 +254,7 @@ fn stuck() -> Went {
     Went {
         turned: Progress::Failed(Fault::Stalled),
         events: NumberSet::new(),
-        turns: 0,
+        effort: 0,
     }
 }
 
@@ -250,7 +274,7 @@ fn go_on<T: Work>(task: &mut T) -> Went {
                 return Went {
                     turned,
                     events,
-                    turns,
+                    effort: u64::from(turns) * TURN_EFFORT,
                 };
             }
         }
@@ -258,6 +282,6 @@ fn go_on<T: Work>(task: &mut T) -> Went {
     Went {
         turned: Progress::Ready,
         events,
-        turns: TURNS_MAX,
+        effort: u64::from(TURNS_MAX) * TURN_EFFORT,
     }
 }

@@ -11,9 +11,10 @@ use crate::event_counts::EventCounts;
 use crate::number_set::NumberSet;
 use crate::places::{Place, Places};
 use crate::work::{Fault, Progress};
+use crate::worths::Worths;
 
-// A worker that sleeps is called at most once in so many turns of tasks.
-const TURNS_BETWEEN_CALLS: u32 = 256;
+// A worker that sleeps is called at most once in so much effort of tasks, some 60 microseconds.
+const EFFORT_BETWEEN_CALLS: u64 = 131_072;
 
 /// What a worker is to do.
 #[derive(Clone, Copy, Debug)]
@@ -37,12 +38,13 @@ pub struct Taken {
 /// Which of the tasks a worker takes.
 #[derive(Clone, Copy, Debug, PartialEq, Eq)]
 pub enum Choice {
-    /// One that may go on, none of whose phasers is in use by another worker.
+    /// One that may go on, none of whose phasers is in use by another worker. Of those whose takes
+    /// are short one worker at a time takes, so that the others sleep and do not get in its way.
     Apart,
-    /// Where there is none, one whose phasers are in use by workers alone that have had their tasks
-    /// since before so many takes: they may be held. Where there is none either, such a one that
-    /// waits for an event, while a worker is held that may have made one: it tells of its events
-    /// only when it puts its task back.
+    /// Where there is none, one, short or not, whose phasers are in use by workers alone that have
+    /// had their tasks since before so many takes: they may be held. Where there is none either,
+    /// such a one that waits for an event, while a worker is held that may have made one: it tells
+    /// of its events only when it puts its task back.
     Beside(u64),
 }
 
@@ -50,9 +52,9 @@ pub enum Choice {
 #[derive(Clone, Copy, Debug)]
 pub struct Went {
     pub turned: Progress,
-    // the phasers on which it made events, and how many turns it made
+    // the phasers on which it made events, and how much it did, with its turns
     pub events: NumberSet,
-    pub turns: u32,
+    pub effort: u64,
 }
 
 /// The tasks by what may be done with them. Of a greater number than 63 it keeps the remainder by
@@ -66,11 +68,14 @@ pub struct TaskSets {
     // how often tasks were taken, and for each task the last time
     takes: u64,
     last_taken: [u64; 64],
+    // those whose task was taken last at such a take, or before, may be held
+    held: u64,
     // the number of the task after the one that was taken last
     from: usize,
-    // how many workers sleep, and the turns since one was called
+    worths: Worths,
+    // how many workers sleep, and the effort since one was called
     asleep: u32,
-    turns: u32,
+    effort: u64,
     fault: Option<Fault>,
 }
 
@@ -99,9 +104,11 @@ impl TaskSets {
             phasers: [NumberSet::new(); 64],
             takes: 0,
             last_taken: [0; 64],
+            held: 0,
             from: 0,
+            worths: Worths::new(),
             asleep: 0,
-            turns: 0,
+            effort: 0,
             fault: None,
         }
     }
@@ -175,11 +182,12 @@ impl TaskSets {
     fn choose(&self, choice: Choice) -> Option<usize>
         ensures { IfSome result (λ t. (t < 64) × MayTake choice (place_in self.now t)) }
     {
-        let apart = self.first_apart(self.places.ready(), 0);
+        let ready = self.places.ready();
+        let apart = self.first_apart(ready, 0, self.left_to_one());
         match choice {
             Choice::Apart => apart,
             Choice::Beside(takes) => apart
-                .or(self.first_apart(self.places.ready(), takes))
+                .or(self.first_apart(ready, takes, NumberSet::new()))
                 .or(self.first_to_try(takes)),
         }
     }
@@ -190,7 +198,7 @@ impl TaskSets {
         ensures { IfSome result (λ t. (t < 64) × (has (tasks_in self.now).waiting t ≡ true)) }
     {
         if self.has_held(takes) {
-            self.first_apart(self.places.waiting(), takes)
+            self.first_apart(self.places.waiting(), takes, NumberSet::new())
         } else {
             None
         }
@@ -208,14 +216,29 @@ impl TaskSets {
         false
     }
 
-    // The first of these, none of whose phasers is in use since so many takes.
-    fn first_apart(&self, tasks: NumberSet, takes: u64) -> Option<usize>
+    // The tasks whose takes are short, where a worker that is not held is at work with one: to it
+    // they are left.
+    fn left_to_one(&self) -> NumberSet {
+        let short = self.worths.short();
+        let mut rest = self.places.working();
+        while let Some(task) = rest.first_from(0) {
+            if self.last_taken[task] > self.held && short.contains(task) {
+                return short;
+            }
+            rest.remove(task);
+        }
+        NumberSet::new()
+    }
+
+    // The first of these that is not left to another, none of whose phasers is in use since so many
+    // takes.
+    fn first_apart(&self, tasks: NumberSet, takes: u64, left: NumberSet) -> Option<usize>
         ensures { IfSome result (λ t. (t < 64) × (has tasks t ≡ true)) }
     {
         let in_use = self.in_use(takes);
         let mut rest = tasks;
         while let Some(task) = rest.first_from(self.from) {
-            if !self.phasers[task].meets(in_use) {
+            if !self.phasers[task].meets(in_use) && !left.contains(task) {
                 return Some(task);
             }
             rest.remove(task);
@@ -240,7 +263,8 @@ impl TaskSets {
     pub fn put_back(&mut self, taken: Taken, went: Went)
         ensures { HasPutBack taken went self.old self.new }
     {
-        self.turns = self.turns.saturating_add(went.turns);
+        self.effort = self.effort.saturating_add(went.effort);
+        self.worths.note(taken.task, went.effort);
         // An event that the task made itself came before it was refused.
         let place = place_after(&self.events, taken, went.turned);
         self.events.tell(went.events);
@@ -253,7 +277,8 @@ impl TaskSets {
 
     /// Returns whether there is a task to take beside those that are with workers.
     pub fn has_apart(&self) -> bool {
-        self.first_apart(self.places.ready(), 0).is_some()
+        self.first_apart(self.places.ready(), 0, self.left_to_one())
+            .is_some()
     }
 
     /// Notes that a worker goes to sleep, and tells how often tasks were taken.
@@ -264,21 +289,24 @@ impl TaskSets {
         self.takes
     }
 
-    /// Notes that a worker woke.
-    pub fn woke(&mut self)
+    /// Notes that a worker woke, and which workers may be held where it takes beside such.
+    pub fn woke(&mut self, choice: Choice)
         ensures { IsSame self.old self.new }
     {
         self.asleep = self.asleep.saturating_sub(1);
+        if let Choice::Beside(takes) = choice {
+            self.held = takes.max(self.held);
+        }
     }
 
     /// Returns whether a worker that sleeps should be called.
     pub fn calls(&mut self) -> bool
         ensures { IsSame self.old self.new }
     {
-        if self.asleep == 0 || self.turns < TURNS_BETWEEN_CALLS || !self.has_apart() {
+        if self.asleep == 0 || self.effort < EFFORT_BETWEEN_CALLS || !self.has_apart() {
             return false;
         }
-        self.turns = 0;
+        self.effort = 0;
         true
     }
 }
