@@ -169,7 +169,7 @@ module _ (job : Job) (spots : ℕ → Spot) (t : ℕ) (part : TaskKnowledge) (le
     joined_long = long ∙ so.joined_long;
     tasks = λ u end has. known u end (in_longer ends (Some (end_of t part lefts)) (Some end) u has);
     tells = tells_more parts ends (Some part) (Some (end_of t part lefts)) so.long so.tells
-        (refl, refl, refl, λ c. refl);
+        (refl, refl, refl, refl, λ c. refl);
     phasers = λ p founder is.
         (let g = so.phasers p founder is in
         let now = grown p g.0 g.1 in

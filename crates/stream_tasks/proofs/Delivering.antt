@@ -1,9 +1,11 @@
 -- A child that is delivered stands at its parent's moment, and its parent goes on from there.
-use Rattle.std.proofs.Common.{◌≡◌, ℕ, ◌≤◌, List, [], ◌∷◌, ◌++◌, length, refl, sym, ap, subst, ◌∙◌, arith}
+use Rattle.std.proofs.Common.{◌≡◌, ℕ, ◌<◌, ◌≤◌, true, List, [], ◌∷◌, ◌++◌, length, refl, sym, ap, subst, ◌∙◌, arith}
 use Rattle.std.proofs.lemmas.Option.{same_Some}
 use Rattle.stream_eval.specs.stream_lists.Jobs.{Job}
 use Rattle.stream_members.specs.Members.{Spot}
+use Rattle.graph_runs.specs.graph_base.Graphs.{task_at}
 use Rattle.graph_runs.specs.Nexts.{registrations_at}
+use Rattle.graph_runs.proofs.ChildMoments.{has_registration}
 use Rattle.graph_runs.specs.TaskEnds.{IsChildOf}
 use Rattle.stream_tasks.specs.Tasks.{IsTask, IsTaskAt, IsWhole}
 use Rattle.stream_tasks.specs.Seeds.{IsReady}
@@ -12,6 +14,7 @@ use Rattle.stream_tasks.specs.Deliveries.{IsRegisteredChild, HasDelivered}
 use Rattle.stream_tasks.specs.declared.child.Child.{Child}
 use Rattle.stream_tasks.specs.declared.task_state.TaskState.{TaskState}
 use Rattle.stream_tasks.proofs.ChildHolds.{child_goes_alone}
+use Rattle.stream_tasks.proofs.Keeping.{places_stay}
 use Rattle.stream_tasks.proofs.Seeding.{knows_children}
 
 -- a list without an entry
@@ -32,6 +35,10 @@ goes_on job spots i seed old new child task has = subst (IsTask job spots) (sym 
     children = whole.children;
     staying = whole.staying;
     room = whole.room;
+    places = places_stay job old (record old { child_holds = seed.holds }) refl refl refl
+        (omega arith) whole.places;
+    filters = whole.filters;
+    others = whole.others;
   };
   stands = λ met.
       (let at = (task.stands met).1 in (
@@ -41,6 +48,7 @@ goes_on job spots i seed old new child task has = subst (IsTask job spots) (sym 
           own = at.own;
           knows = at.knows;
           place = at.place;
+          start = at.start;
           holds = at.holds;
           filter = at.filter;
           lines = at.lines;
@@ -83,7 +91,9 @@ module _ (job : Job) (spots : ℕ → Spot) (i : ℕ) (seed old new child : Task
   count : length kid.numbers.items ≡ length (registrations_at job seed.number)
   count =
       let few : length kid.numbers.items ≤ length (registrations_at job seed.number) =
-      first_holds.joining.place.few in let made = all_made in omega arith
+      (first_holds.joining.place 1).few in
+      let made = all_made in
+      omega arith
 
   numbers_are : child.numbers.items ≡ kid.numbers.items
   numbers_are =
@@ -92,14 +102,27 @@ module _ (job : Job) (spots : ℕ → Spot) (i : ℕ) (seed old new child : Task
       ∙ ap (λ (x : Child). x.numbers.items) (same_Some has.kid kid (sym has.found ∙ registering.found))
 
   abbrev made : TaskState
-  made = record seed { numbers = child.numbers; holds = old.child_holds }
+  made = record seed { numbers = child.numbers; holds = old.child_holds; start = has.kid.start }
+
+  -- a child that joins now began where its parent has registered it
+  starts : (task_at job.graph seed.number).joins_now ≡ true
+      → registering.moment.offset seed.number ≡ has.kid.start
+  starts joins =
+      let S : ℕ → Type 0 = λ c. (task_at job.graph c).joins_now ≡ true
+      → 0 < length kid.numbers.items → registering.moment.offset c ≡ kid.start in
+      let some : 0 < length (registrations_at job seed.number) =
+      has_registration job seed.number whole.graph ready.seed.there joins in
+      let many = count in
+      (subst S task_is registering.start) joins (omega arith)
+      ∙ ap (λ (x : Child). x.start) (same_Some kid has.kid (sym registering.found ∙ has.found))
 
   at : IsTaskAt job spots registering.moment made
   at =
       child_goes_alone job spots registering.moment old.number made kid.numbers.items
       old.child_holds.items whole.graph (subst (λ c. IsChildOf job c old.number) task_is registering.child)
       registering.at.knows first_holds count numbers_are refl ready.seed.lefts ready.seed.begun
-      ready.seed.owed ready.seed.staying ready.seed.lines ready.seed.filter
+      (ready.seed.owed, ready.seed.made) ready.seed.staying ready.seed.lines starts
+      ready.seed.filter
       (λ j one e.
       let unregistered = ready.seed.children.each j one e in (
         unregistered.none,
@@ -121,6 +144,9 @@ module _ (job : Job) (spots : ℕ → Spot) (i : ℕ) (seed old new child : Task
     children = knows_children job seed.number seed.children.items ready.seed.children;
     staying = λ over. ap length ready.seed.lefts;
     room = let wide = ready.room.lefts in let few = registered.few in omega arith;
+    places = places_stay job seed made refl refl refl (omega arith) ready.seed.places;
+    filters = λ filter. ready.seed.owed;
+    others = λ other. ready.seed.made;
   }
 
   pub is_delivered : IsTask job spots child

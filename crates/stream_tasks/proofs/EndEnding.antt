@@ -1,25 +1,30 @@
 -- What was gathered and found to agree is the end of a run.
-use Rattle.std.proofs.Common.{◌≡◌, ℕ, zero, suc, ◌+◌, ◌<◌, ◌≤◌, Bool, true, false, cond, List, [], ◌∷◌, Option, Some, None, ℤ, length, map, get_or, slice_get, refl, sym, ap, subst, ◌∙◌, arith, ◌⊎◌, inl, inr}
-use Rattle.std.specs.List.{filter, range_with_len}
+use Rattle.std.proofs.Common.{◌≡◌, ℕ, zero, suc, ◌+◌, ◌<◌, ◌≤◌, Bool, true, false, cond, List, [], ◌∷◌, Option, Some, None, ℤ, Ok, length, map, get_or, slice_get, refl, sym, ap, subst, ◌∙◌, arith, ◌⊎◌, inl, inr}
+use Rattle.std.specs.List.{All, filter, range_with_len}
+use Rattle.std.specs.Prelude.{slice_index_or}
 use Rattle.std.proofs.lemmas.Option.{slice_get-get_or}
 use Rattle.graph_runs.specs.phase_history.Histories.{History}
 use Rattle.graph_runs.specs.phase_history.Legal.{IsLegal}
 use Rattle.graph_runs.specs.phase_history.Others.{OthersCame}
 use Rattle.graph_runs.specs.phase_base.Lists.{is_in}
 use Rattle.graph_runs.specs.phase_base.Limits.{Limits}
-use Rattle.stream_eval.specs.stream_lists.Jobs.{Job}
-use Rattle.stream_eval.specs.stream_lists.Lists.{sinks_of, is_sink_at}
+use Rattle.graph_runs.specs.graph_base.Graphs.{task_at}
+use Rattle.stream_eval.specs.Results.{sink_values}
+use Rattle.stream_eval.specs.declared.whole.Lines.{Lines}
+use Rattle.stream_eval.specs.stream_lists.Jobs.{Job, with_starts}
+use Rattle.stream_eval.specs.stream_lists.Lists.{sinks_of, is_sink_at, start_in}
 use Rattle.graph_runs.specs.Moments.{limits_at}
 use Rattle.stream_members.specs.Members.{Spot, limits_on}
 use Rattle.stream_members.specs.AnyMembers.{left_in}
 use Rattle.stream_members.specs.declared.any_left.AnyLeft.{AnyLeft}
 use Rattle.graph_runs.specs.Nexts.{registrations_at}
 use Rattle.graph_runs.specs.TaskEnds.{TaskEnd, FounderEnd}
-use Rattle.graph_runs.specs.RunEnds.{Ends, HasCome, IsRegisteredOn, HasWhole, IsRunEnd, lines_in}
+use Rattle.graph_runs.specs.RunEnds.{Ends, HasCome, IsRegisteredOn, HasWhole, IsRunEnd, HasAnswer, lines_in, start_in_end}
 use Rattle.stream_tasks.specs.declared.ending.task_left.TaskKnowledge.{TaskKnowledge}
 use Rattle.stream_tasks.specs.Joinings.{IsAt}
 use Rattle.stream_tasks.specs.Gatherings.{Tells, AreGathered}
-use Rattle.stream_tasks.specs.TaskLefts.{given_to, AreFounders, part_lines, lines_at}
+use Rattle.stream_tasks.specs.RunAnswers.{AreLinesOf}
+use Rattle.stream_tasks.specs.TaskLefts.{given_to, AreFounders, part_lines, lines_at, part_start}
 use Rattle.stream_tasks.specs.Agreeing.{Agrees, IsOfTask, AreOfTasks}
 use Rattle.stream_tasks.proofs.Gathered.{below_length}
 
@@ -135,7 +140,7 @@ module _ (job : Job) (spots : ℕ → Spot) (founders joined : List (Option AnyL
               came = e.has;
               few = of.has.few;
               phaser = of.has.phaser;
-              number = ap (λ l. slice_get l of.has.i) e.tells.1 ∙ of.has.number;
+              number = ap (λ l. slice_get l of.has.i) e.tells.2 ∙ of.has.number;
               saw = slice_get-get_or e.end.seen of.has.i [] (omega arith);
             },
           )
@@ -157,7 +162,7 @@ module _ (job : Job) (spots : ℕ → Spot) (founders joined : List (Option AnyL
         (other.end, other.has, omega arith));
     children = λ c u end there e has.
         (let above = part_of_end u.task end has in
-        children c end above (above.tells.3 c) ((agree c there).given u above.part e above.at));
+        children c end above (above.tells.4 c) ((agree c there).given u above.part e above.at));
   }
     where
       children : (c : ℕ) (end : TaskEnd) {t : ℕ} (above : HasPartOf t end)
@@ -170,7 +175,7 @@ module _ (job : Job) (spots : ℕ → Spot) (founders joined : List (Option AnyL
       children c end above same (inl none) = inl (same ∙ none)
       children c end above same (inr other) =
           let e = end_of_part c other.0 other.1 in
-          inr (e.end, e.has, e.tells.1 ∙ (other.2 ∙ sym same))
+          inr (e.end, e.has, e.tells.2 ∙ (other.2 ∙ sym same))
 
   pub lines_are : (t : ℕ) → t < length job.graph.tasks → lines_in (slice_get ends t) ≡ lines_at parts t
   lines_are t there =
@@ -186,7 +191,33 @@ module _ (job : Job) (spots : ℕ → Spot) (founders joined : List (Option AnyL
       by None None tells = refl
       by None (Some part) tells = absurd tells
       by (Some end) None tells = absurd tells
-      by (Some end) (Some part) tells = tells.2
+      by (Some end) (Some part) tells = tells.3
+
+  -- so is where each began that joins now
+  starts_are : (t : ℕ) → t < length job.graph.tasks
+      → part_start (task_at job.graph t).joins_now (get_or parts t None)
+      ≡ start_in_end (task_at job.graph t).joins_now (slice_get ends t)
+  starts_are t there =
+      let joins = (task_at job.graph t).joins_now in
+      let same : length parts ≡ length ends = g.long in
+      let is : slice_get ends t ≡ Some (get_or ends t None) =
+      slice_get-get_or ends t None (omega arith) in
+      let at : slice_get parts t ≡ Some (get_or parts t None) =
+      slice_get-get_or parts t None (omega arith) in
+      by joins (get_or ends t None) (get_or parts t None)
+      (g.tells t (get_or parts t None) (get_or ends t None) at is)
+      ∙ ap (λ o. start_in_end joins o) (sym is)
+    where
+      by : (joins : Bool) (o : Option TaskEnd) (p : Option TaskKnowledge) → Tells p o
+          → part_start joins p ≡ start_in_end joins (Some o)
+      by true None None tells = refl
+      by true None (Some part) tells = absurd tells
+      by true (Some end) None tells = absurd tells
+      by true (Some end) (Some part) tells = ap Some (sym tells.1)
+      by false None None tells = refl
+      by false None (Some part) tells = refl
+      by false (Some end) None tells = refl
+      by false (Some end) (Some part) tells = refl
 
   -- the lines of the sinks are those of the parts
   pub sinks_are : map {B = ℕ × List ℤ} (λ t. (t, lines_in (slice_get ends t))) (sinks_of job)
@@ -198,3 +229,23 @@ module _ (job : Job) (spots : ℕ → Spot) (founders joined : List (Option AnyL
       (λ t lt. (let there : t < length job.graph.tasks = omega arith in
       let pair : List ℤ → ℕ × List ℤ = λ l. (t, l) in
       ap pair (lines_are t there)))
+
+  -- what was told of the sinks is the answer
+  pub are_lines : HasAnswer job ends → (lines : List Lines)
+      → map sink_values lines ≡ map (λ t. (t, lines_at parts t)) (sinks_of job)
+      → All (λ line. line.start
+      ≡ part_start (task_at job.graph line.task).joins_now (get_or parts line.task None)) lines
+      → All (λ line. line.task < length job.graph.tasks) lines → AreLinesOf job lines
+  are_lines answer lines values starts there = record {
+    starts = answer.starts;
+    answer = answer.answer ∙ ap (λ told. Ok told) (sinks_are ∙ sym values);
+    told = began;
+    in_time = λ i line lt start is.
+        answer.in_time (slice_index_or lines i line).task start (there i line lt)
+        (sym (began i line lt) ∙ is);
+  }
+    where
+      began : All (λ line. line.start ≡ start_in (with_starts answer.starts job) line.task) lines
+      began i line lt =
+          let t = (slice_index_or lines i line).task in
+          starts i line lt ∙ starts_are t (there i line lt) ∙ answer.began t (there i line lt)

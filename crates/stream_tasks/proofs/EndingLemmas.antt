@@ -13,6 +13,7 @@ use Rattle.graph_runs.specs.phase_history.Legal.{IsLegal}
 use Rattle.graph_runs.specs.phase_history.Others.{OthersCame}
 use Rattle.graph_runs.specs.phase_history.Replies.{wait_reply}
 use Rattle.graph_runs.specs.phase_accum.Values.{value_by}
+use Rattle.graph_runs.specs.phase_accum.declared.outcome.Outcome.{Outcome}
 use Rattle.graph_runs.specs.graph_base.declared.line.Kind.TheVariants as kind
 use Rattle.graph_runs.specs.graph_base.declared.line.Parent.{Parent}
 use Rattle.graph_runs.specs.graph_base.declared.line.Kind.{Kind}
@@ -26,7 +27,7 @@ use Rattle.stream_members.specs.declared.any_member.AnyMember.{AnyMember}
 use Rattle.stream_members.specs.declared.any_left.AnyLeft.{AnyLeft}
 use Rattle.graph_runs.specs.Nexts.{registrations_at, comes_by}
 use Rattle.graph_runs.specs.TaskPlaces as turns
-use Rattle.graph_runs.specs.TaskPlaces.{StandsAt, registration_at}
+use Rattle.graph_runs.specs.TaskPlaces.{StandsUpTo, registration_at}
 use Rattle.graph_runs.proofs.Reaching.{one_registration}
 use Rattle.graph_runs.specs.Turned.{after_leave}
 use Rattle.graph_runs.specs.Parts.{HasSeen, SeesOthers, SeesOwn, HasMovedOn}
@@ -35,16 +36,16 @@ use Rattle.graph_runs.proofs.KnownOthers.{known_moved}
 use Rattle.graph_runs.proofs.FollowsPlace.{left_follows}
 use Rattle.graph_runs.proofs.TellsNext.{staying_at, none_due_at, ended_no_input}
 use Rattle.graph_runs.proofs.CallsFollow.{calls_left}
-use Rattle.graph_runs.specs.Steps.{owed_of, HasFilter}
-use Rattle.graph_runs.specs.declared.owed.Owed.TheVariants.{Nothing}
+use Rattle.graph_runs.specs.Steps.{HasFilter}
 use Rattle.stream_tasks.specs.Holds as holds
 use Rattle.stream_tasks.specs.Holds.{GoesOn, HasRunOut, Leaves}
-use Rattle.stream_tasks.specs.Tasks.{IsOn, HasLeftOn, IsHeldOn, HasHolds, IsTaskAt, IsWhole, IsTask, HasAllNow, place_of}
+use Rattle.stream_tasks.specs.Tasks.{IsOn, HasLeftOn, IsHeldOn, HasHolds, IsTaskAt, IsWhole, IsTask, HasAllNow, OwesNothing, owed_by, place_of}
 use Rattle.stream_tasks.specs.Inside.{HasChildrenNow}
 use Rattle.stream_tasks.specs.declared.hold.Hold.{Hold}
 use Rattle.stream_tasks.specs.declared.hold.Hold.TheVariants.{On, Gone}
 use Rattle.stream_tasks.specs.declared.task_state.TaskState.{TaskState}
 use Rattle.stream_tasks.proofs.Holding.{same_or_apart, sees_others, held_elsewhere, left_elsewhere}
+use Rattle.stream_tasks.proofs.Keeping.{owed_none, places_stay}
 use Rattle.stream_tasks.proofs.Turning.{state_sees, given_stay, children_stay, held, goes}
 
 -- ---- lists
@@ -109,10 +110,14 @@ over_whole job s whole = record {
   children = whole.children;
   staying = λ no. absurd (let clash : true ≡ false = no in cc);
   room = whole.room;
+  places = places_stay job s (record s { over = true }) refl refl refl (omega arith)
+      whole.places;
+  filters = whole.filters;
+  others = whole.others;
 }
 
 -- a task that has ended makes no further step
-pub at_end : (job : Job) (spots : ℕ → Spot) (s : TaskState) → s.met ≡ false → s.owed ≡ Nothing
+pub at_end : (job : Job) (spots : ℕ → Spot) (s : TaskState) → s.met ≡ false → OwesNothing s
     → HasChildrenNow job s
     → ((m : Moment) → IsTaskAt job spots m s → HasEnded job m s.number)
     → IsTask job spots s → IsTask job spots (record s { over = true })
@@ -127,13 +132,14 @@ at_end job spots s met owes children ended task = record {
           own = at.own;
           knows = at.knows;
           place = at.place;
+          start = at.start;
           holds = at.holds;
           filter = at.filter;
           lines = at.lines;
           given = at.given;
           at_end = λ over. record {
             ended = ended m at;
-            nothing_owed = ap owed_of owes;
+            nothing_owed = owed_none s owes;
             children = children spots m at;
           };
         },
@@ -142,7 +148,8 @@ at_end job spots s met owes children ended task = record {
 
 -- the input that its next step would wait for first has run out
 pub runs_out : (job : Job) (spots : ℕ → Spot) (s : TaskState) (k p : ℕ) (old new : Hold)
-    (lines : Vec ℤ Global) (entered : Bool) → s.met ≡ false → s.over ≡ false → s.owed ≡ Nothing
+    (lines : Vec ℤ Global) (entered : Bool) (outcomes : Vec Outcome Global) → s.met ≡ false
+    → s.over ≡ false → OwesNothing s
     → ((task_at job.graph s.number).kind ≡ kind.Source → ⊥)
     → k ≡ first_input (task_at job.graph s.number) s.begun
     → k < length (task_at job.graph s.number).inputs
@@ -151,8 +158,14 @@ pub runs_out : (job : Job) (spots : ℕ → Spot) (s : TaskState) (k p : ℕ) (o
     → old ≡ get_or s.holds.items k old → lines.items ≡ s.lines.items
     → HasChildrenNow job s → GoesOn HasRunOut old new → IsTask job spots s
     → IsTask job spots
-    (record s { over = true; lines = lines; entered = entered; holds = with_item s.holds k new })
-runs_out job spots s k p old new lines entered met going owes never first input_there input few here looked same children g task =
+    (record s {
+      over = true;
+      lines = lines;
+      entered = entered;
+      outcomes = outcomes;
+      holds = with_item s.holds k new;
+    })
+runs_out job spots s k p old new lines entered outcomes met going owes never first input_there input few here looked same children g task =
     let whole = task.whole in
     let t = s.number in
     let m = (task.stands met).0 in
@@ -179,9 +192,9 @@ runs_out job spots s k p old new lines entered met going owes never first input_
     (staying_at job m t (place_of s) whole.graph whole.there at.part.ran at.place none)
     input_there
     (subst (λ q. wait_reply (value_at job q) (limits_at job q) now n ≡ Ok Ended) (sym input) reply)) in
-    let then = state_sees job spots m after s k p x y lines entered whole few (omega arith) here same at on
+    let then = state_sees job spots m after s k p x y lines entered outcomes s.places whole few (omega arith) here same at on
     out.seen ended.0 in
-    let owed_is : owed_of s.owed ≡ turns.nothing = ap owed_of owes in
+    let owed_is : owed_by s.owed s.made.items ≡ turns.nothing = owed_none s owes in
     record {
       whole = record {
         graph = whole.graph;
@@ -192,6 +205,17 @@ runs_out job spots s k p old new lines entered met going owes never first input_
         children = whole.children;
         staying = λ no. absurd (let clash : true ≡ false = no in cc);
         room = whole.room;
+        places = places_stay job s
+            (record s {
+              over = true;
+              lines = lines;
+              entered = entered;
+              outcomes = outcomes;
+              holds = with_item s.holds k new;
+            })
+            refl refl refl (omega arith) whole.places;
+        filters = whole.filters;
+        others = whole.others;
       };
       stands = λ again. (
         after,
@@ -200,6 +224,7 @@ runs_out job spots s k p old new lines entered met going owes never first input_
           own = then.own;
           knows = then.knows;
           place = then.place;
+          start = then.start;
           holds = subst (λ h. HasHolds job spots after t (set s.holds.items k h) s.lefts.items) (sym both.1.2) then.holds;
           filter = then.filter;
           lines = then.lines;
@@ -318,6 +343,11 @@ task_leaves job spots s p old new left lefts met over few here looked g more roo
         children = whole.children;
         staying = λ no. absurd (let clash : true ≡ false = sym over ∙ no in cc);
         room = omega arith;
+        places = places_stay job s
+            (record s { holds = with_item s.holds (length s.lefts.items) new; lefts = lefts })
+            refl refl refl (omega arith) whole.places;
+        filters = whole.filters;
+        others = whole.others;
       };
       stands = λ again. (
         after,
@@ -325,10 +355,16 @@ task_leaves job spots s p old new left lefts met over few here looked g more roo
           part = gone.moved.part;
           own = calls_left job m after t p whole.graph whole.there n one.before sees gone at.own;
           knows = known_moved job m after t p now gone.moved at.knows;
-          place = subst (λ i. StandsAt job after t (record { numbers = s.numbers.items; left = i; begun = s.begun; owed = owed_of s.owed }))
+          place = subst (λ i. StandsUpTo s.most job after t (record {
+            numbers = s.numbers.items;
+            left = i;
+            begun = s.begun;
+            owed = owed_by s.owed s.made.items;
+          }))
               (sym count)
               (left_follows job m after t p n (place_of s) one.before whole.graph whole.there at.place
               (omega arith) here on.numbered gone);
+          start = λ joins. gone.moved.offset t ∙ at.start joins;
           holds = subst (λ ls. HasHolds job spots after t (set s.holds.items k new) ls) (sym more)
               (subst (λ h. HasHolds job spots after t (set s.holds.items k h) (s.lefts.items ++ left ∷ []))
               (sym x.1.1)
@@ -366,6 +402,7 @@ task_lines job spots s lines same task = record {
           own = at.own;
           knows = at.knows;
           place = at.place;
+          start = at.start;
           holds = at.holds;
           filter = at.filter;
           lines = λ sink. same ∙ at.lines sink;
@@ -390,6 +427,10 @@ task_lines job spots s lines same task = record {
       children = whole.children;
       staying = whole.staying;
       room = whole.room;
+      places = places_stay job s (record s { lines = lines }) refl refl refl (omega arith)
+          whole.places;
+      filters = whole.filters;
+      others = whole.others;
     }
 
 -- a kind that is a source's, and one that is not

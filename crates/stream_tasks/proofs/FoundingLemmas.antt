@@ -125,7 +125,6 @@ is_root old new child gave more mode is adds stays op child_op member =
       op = child_op ∙ sym op;
       at = adds.at ∙ sym stays.at;
       mode_is = adds.mode_is;
-      none_held = adds.none_held;
       legal = subst (λ at. IsLegal (limits_on at) (member_in child).seen)
           (adds.at ∙ sym stays.at) member.legal;
       registered = record {

@@ -1,9 +1,14 @@
 mod Holding
+mod Taking
+mod Keeping
 mod Turning
 mod Waiting
 mod EndingLemmas
 mod Gone
 mod ChildHolds
+mod ChildAdded
+mod ChildRegisters
+mod ChildJoinsNow
 mod Seeding
 mod StillRegistering
 mod Delivering

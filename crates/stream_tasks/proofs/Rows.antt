@@ -302,7 +302,6 @@ root_member job spots t i p mode founders old new member at_p in_mode here op at
       line = subst (λ o. IsOfLine job (registration_at job t i).phaser o
           (spots (registration_at job t i).phaser)) (sym root.op) on.line;
       mode = root.mode_is ∙ in_mode;
-      none_held = root.none_held;
       root = record {
         before = just.before;
         is = just.is

@@ -1,6 +1,6 @@
 -- How a root begins: its founders' registrations, one after the other, and then its first moment.
 use Rattle.std.proofs.Common.{◌≡◌, ◌≢◌, ◌⊎◌, inl, inr, ℕ, zero, suc, ◌+◌, ◌<◌, ◌≤◌, true, false, List, [], ◌∷◌, ◌++◌, length, Some, None, refl, sym, ap, subst, ◌∙◌, arith}
-use Rattle.std.specs.Prelude.{slice_get, get_or, IfSome}
+use Rattle.std.specs.Prelude.{slice_get, get_or, IfSome, IsSome}
 use Rattle.std.proofs.lemmas.List.{length-append}
 use Rattle.graph_runs.specs.phase_history.Histories.{History}
 use Rattle.graph_runs.specs.graph_base.declared.line.Parent.{Parent}
@@ -12,8 +12,9 @@ use Rattle.stream_members.specs.AnyMembers.{member_in}
 use Rattle.stream_members.specs.declared.any_member.AnyMember.{AnyMember}
 use Rattle.graph_runs.specs.Moments.{Moment}
 use Rattle.graph_runs.specs.Nexts.{registrations_at}
-use Rattle.graph_runs.specs.TaskPlaces.{StandsAt, registration_at, nothing}
-use Rattle.graph_runs.specs.Steps.{owed_of, HasFilter}
+use Rattle.graph_runs.specs.TaskPlaces.{Owed, StandsUpTo, registration_at, nothing}
+use Rattle.graph_runs.specs.Steps.{HasFilter}
+use Rattle.graph_runs.specs.declared.owed.Owed.TheVariants.{Nothing}
 use Rattle.graph_runs.specs.Places.{IsRootOn, IsFirstMoment}
 use Rattle.graph_runs.specs.TaskEnds.{HasOwnCalls}
 use Rattle.stream_tasks.specs.Openings.{IsRootMember}
@@ -22,7 +23,7 @@ use Rattle.stream_tasks.specs.declared.child.Child.{Child}
 use Rattle.stream_tasks.specs.declared.hold.Hold.{Hold}
 use Rattle.stream_tasks.specs.declared.hold.Hold.TheVariants.{On, Gone}
 use Rattle.stream_tasks.specs.declared.task_state.TaskState.{TaskState}
-use Rattle.stream_tasks.specs.Tasks.{IsTask, IsTaskAt, IsWhole, KnowsChildren, AreApart, IsHeldOn, place_of}
+use Rattle.stream_tasks.specs.Tasks.{IsTask, IsTaskAt, IsWhole, KnowsChildren, AreApart, IsHeldOn, owed_by, place_of}
 use Rattle.stream_tasks.specs.Seeds.{HasNoRegistration, AreChildrenBelow, IsSeed, HasRegistration, HasReceived}
 
 -- ---- lists
@@ -273,17 +274,26 @@ apart job t c u is few has by e =
     let above = parent.above in
     omega arith
 
+-- a root does not join now
+not_now : (job : Job) (t : ℕ) → IsGraph job.graph → t < length job.graph.tasks
+    → (task_at job.graph t).parent ≡ None → (task_at job.graph t).joins_now ≡ true → ⊥
+not_now job t is there root now = differ (subst IsSome root ((is.tasks t there).now now).1)
+  where
+    differ : false ≡ true → ⊥
+    differ e = cc
+
 -- a root stands at its first moment
 pub stands_first : (job : Job) (spots : ℕ → Spot) (s : TaskState) (m : Moment) → IsGraph job.graph
-    → IsSeed job s → HasReceived job spots s
+    → (task_at job.graph s.number).parent ≡ None → IsSeed job s → HasReceived job spots s
     → length s.holds.items ≡ length (registrations_at job s.number)
     → IsFirstMoment job m s.number s.numbers.items (seen_by s.holds.items)
     → HasOwnCalls job m s.number → IsTaskAt job spots m s
-stands_first job spots s m is seed has all first own = record {
+stands_first job spots s m is root seed has all first own = record {
   part = first.part;
   own = own;
   knows = known_first job m s.number s.numbers.items (seen_by s.holds.items) is first;
   place = place;
+  start = λ now. absurd (not_now job s.number is seed.there root now);
   holds = record {
     on = λ i lt le. held i lt;
     off = λ i left e. absurd (none left i (ap (λ xs. slice_get xs i) (sym seed.lefts) ∙ e));
@@ -315,26 +325,29 @@ stands_first job spots s m is seed has all first own = record {
     none : {X : Type 0} (x : X) (i : ℕ) → slice_get [] i ≡ Some x → ⊥
     none x i e = cc
 
-    place : StandsAt job m s.number (place_of s)
+    owes_nothing : owed_by s.owed s.made.items ≡ nothing
+    owes_nothing = ap (λ o. owed_by o s.made.items) seed.owed ∙ ap (owed_by Nothing) seed.made
+
+    place : StandsUpTo s.most job m s.number (place_of s)
     place =
-        subst (λ o. StandsAt job m s.number (record {
+        subst (λ (o : Owed). StandsUpTo s.most job m s.number (record {
           numbers = s.numbers.items;
           left = length s.lefts.items;
           begun = s.begun;
           owed = o;
-        })) (sym (ap owed_of seed.owed))
-        (subst (λ b. StandsAt job m s.number (record {
+        })) (sym owes_nothing)
+        (subst (λ b. StandsUpTo s.most job m s.number (record {
           numbers = s.numbers.items;
           left = length s.lefts.items;
           begun = b;
           owed = nothing;
         })) (sym seed.begun)
-        (subst (λ l. StandsAt job m s.number (record {
+        (subst (λ l. StandsUpTo s.most job m s.number (record {
           numbers = s.numbers.items;
           left = l;
           begun = 0;
           owed = nothing;
-        })) (sym (ap length seed.lefts)) first.place))
+        })) (sym (ap length seed.lefts)) (first.place s.most)))
 
     held : (i : ℕ) → i < length (registrations_at job s.number)
         → IsHeldOn job spots m s.number (registration_at job s.number i).phaser
@@ -348,7 +361,7 @@ stands_first job spots s m is seed has all first own = record {
           op = on.line.op_is;
           at = on.at;
           limits = on.line.limits_are;
-          numbered = first.place.numbered i few ∙ r.number;
+          numbered = (first.place s.most).numbered i few ∙ r.number;
           seen = sym (first.history i few ∙ seen_at s.holds.items i r.member r.hold);
         })
 
@@ -384,16 +397,20 @@ is_whole job spots s is seed has all room = record {
   children = knows_children job s.number s.children.items seed.children;
   staying = λ over. ap length seed.lefts;
   room = room;
+  places = seed.places;
+  filters = λ kind. seed.owed;
+  others = λ kind. seed.made;
 }
 
 -- a root that has received all its registrations is a task of its run
-pub begins : (job : Job) (spots : ℕ → Spot) (s : TaskState) → IsGraph job.graph → IsSeed job s
-    → HasReceived job spots s → length s.holds.items ≡ length (registrations_at job s.number)
+pub begins : (job : Job) (spots : ℕ → Spot) (s : TaskState) → IsGraph job.graph
+    → (task_at job.graph s.number).parent ≡ None → IsSeed job s → HasReceived job spots s
+    → length s.holds.items ≡ length (registrations_at job s.number)
     → length (registrations_at job s.number) ≤ s.lefts.cap
     → (m : Moment) × IsFirstMoment job m s.number s.numbers.items (seen_by s.holds.items)
     × HasOwnCalls job m s.number
     → IsTask job spots s
-begins job spots s is seed has all room first = record {
+begins job spots s is root seed has all room first = record {
   whole = is_whole job spots s is seed has all room;
-  stands = λ met. (first.0, stands_first job spots s first.0 is seed has all first.1 first.2);
+  stands = λ met. (first.0, stands_first job spots s first.0 is root seed has all first.1 first.2);
 }

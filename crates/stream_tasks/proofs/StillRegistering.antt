@@ -1,15 +1,19 @@
 -- A task that registers a child goes on doing so after each call.
-use Rattle.std.proofs.Common.{◌≡◌, ◌≢◌, ℕ, ◌<◌, ◌≤◌, true, false, List, [], ◌∷◌, ◌++◌, Some, None, length, get_or, set, refl, sym, ap, subst, ◌∙◌, arith, ◌⊎◌, inl, inr}
+use Rattle.std.proofs.Common.{◌≡◌, ◌≢◌, ℕ, ◌+◌, ◌<◌, ◌≤◌, true, false, List, [], ◌∷◌, ◌++◌, Some, None, length, get_or, set, refl, sym, ap, subst, ◌∙◌, arith, ◌⊎◌, inl, inr}
 use Rattle.std.specs.Prelude.{slice_get, Vec}
 use Rattle.std.specs.Global.{Global}
 use Rattle.std.specs.Vec.{with_item}
 use Rattle.std.proofs.lemmas.Bool.{cases_lt}
-use Rattle.std.proofs.lemmas.List.{length-set}
+use Rattle.std.proofs.lemmas.List.{length-append, length-map, length-set, nil_from_length}
 use Rattle.std.proofs.lemmas.Option.{slice_get_within, slice_get_past, same_Some}
 use Rattle.graph_runs.specs.phase_base.declared.mode.Mode.{Mode}
+use Rattle.graph_runs.specs.graph_base.declared.registration.Registration.{Registration}
+use Rattle.graph_runs.specs.graph_base.Graphs.{task_at}
+use Rattle.graph_runs.specs.graph_base.TaskLines.{IsGraph, HasEnds}
 use Rattle.stream_eval.specs.stream_lists.Jobs.{Job}
+use Rattle.stream_eval.proofs.stream_lists_lemmas.graph_base_lemmas.Registered.{registrations-phasers}
 use Rattle.graph_runs.specs.Moments.{Moment}
-use Rattle.graph_runs.specs.Turned.{after_register}
+use Rattle.graph_runs.specs.Turned.{after_register, after_register_now}
 use Rattle.stream_members.specs.Members.{Spot}
 use Rattle.stream_members.specs.AnyMembers.{member_in}
 use Rattle.stream_members.specs.declared.any_member.AnyMember.{AnyMember}
@@ -20,14 +24,19 @@ use Rattle.graph_runs.proofs.KnownOthers.{known_nowhere}
 use Rattle.graph_runs.proofs.PartsLemmas.{with_history}
 use Rattle.graph_runs.specs.TaskEnds.{IsChildOf}
 use Rattle.stream_tasks.specs.Holds.{GoesOn, HasSeenOthers}
-use Rattle.stream_tasks.specs.Registering.{HasAdded, AddsTo, HasFirstHolds, IsRegistering}
+use Rattle.stream_tasks.specs.Inside.{IsNextOn, IsNextNow}
+use Rattle.stream_tasks.specs.Registering.{HasAdded, AddsTo, HasAddedNow, AddsNowTo, HasFirstHolds, IsRegistering}
 use Rattle.stream_tasks.specs.Tasks.{IsDue, IsTask, IsTaskAt, IsTaskChild, IsWhole}
 use Rattle.stream_tasks.specs.declared.child.Child.{Child}
 use Rattle.stream_tasks.specs.declared.hold.Hold.{Hold}
 use Rattle.stream_tasks.specs.declared.hold.Hold.TheVariants.{On, Gone}
 use Rattle.stream_tasks.specs.declared.task_state.TaskState.{TaskState}
+use Rattle.stream_tasks.proofs.Keeping.{places_stay}
 use Rattle.stream_tasks.proofs.Turning.{held, goes}
-use Rattle.stream_tasks.proofs.ChildHolds.{first_holds_begin, first_holds_wait, first_holds_register, HasGivenOne, written, unwritten}
+use Rattle.stream_tasks.proofs.ChildHolds.{first_holds_begin, first_holds_wait}
+use Rattle.stream_tasks.proofs.ChildAdded.{HasGivenOne, written, unwritten}
+use Rattle.stream_tasks.proofs.ChildRegisters.{first_holds_register}
+use Rattle.stream_tasks.proofs.ChildJoinsNow.{first_holds_register_now}
 
 -- ---- a child begins
 
@@ -62,6 +71,8 @@ registering_begins job spots s i met due none empty task =
       moment = with_child c m;
       at = then.1;
       first_holds = subst H (sym empty) (subst N (sym none) then.2);
+      start = λ joins some. absurd (let more : 0 < length kid.numbers.items = some in
+          let zero : length kid.numbers.items ≡ 0 = ap length none in omega arith);
     }
 
 -- ---- registrations
@@ -72,8 +83,46 @@ next_absent : (job : Job) (spots : ℕ → Spot) (m : Moment) (c : ℕ) (numbers
     → length numbers < length (registrations_at job c)
     → m.number (registration_at job c (length numbers)).phaser c ≡ None
 next_absent job spots m c numbers child_holds first_holds room =
-    first_holds.joining.place.numbered (length numbers) room
+    (first_holds.joining.place 1).numbered (length numbers) room
     ∙ slice_get_past numbers (length numbers) (omega arith)
+
+-- a child that joins now has one registration
+one_now : (job : Job) (c : ℕ) → IsGraph job.graph → c < length job.graph.tasks
+    → (task_at job.graph c).joins_now ≡ true → length (registrations_at job c) ≡ 1
+one_now job c is there joins =
+    let line = is.tasks c there in
+    let rs = registrations_at job c in
+    let inputs = (task_at job.graph c).inputs in
+    let outputs = (task_at job.graph c).outputs in
+    let sink : length inputs ≡ 1 × length outputs ≡ 0 =
+    subst (λ kind. HasEnds kind (length inputs) (length outputs)) (line.now joins).0 line.ends in
+    let one = sink.0 in
+    let none = sink.1 in
+    let long : length rs ≡ length (inputs ++ outputs) =
+    sym (length-map rs (λ r. r.phaser))
+    ∙ ap length (registrations-phasers job.graph c (task_at job.graph c) line) in
+    let both : length (inputs ++ outputs) ≡ length inputs + length outputs =
+    length-append inputs outputs in
+    omega arith
+
+-- where its next registration is to be made, that is its first, which none was before
+pub next_now : (job : Job) (spots : ℕ → Spot) (s : TaskState) (i k : ℕ) (r : Registration)
+    → IsWhole job s → (n : IsNextOn job spots s i k r)
+    → (task_at job.graph n.registering.kid.task).joins_now ≡ true
+    → IsNextNow job spots s i k r.phaser
+next_now job spots s i k r whole n joins =
+    let c = n.registering.kid.task in
+    let room = n.room in
+    let one : length (registrations_at job c) ≡ 1 =
+    one_now job c whole.graph n.registering.child.there joins in
+    let none : length n.registering.kid.numbers.items ≡ 0 = omega arith in
+    record {
+      registering = n.registering;
+      none = nil_from_length n.registering.kid.numbers.items none;
+      now = joins;
+      first = ap (λ x. (registration_at job c x).phaser) (sym none) ∙ ap (λ x. x.phaser) (sym n.is);
+      on = n.on;
+    }
 
 -- a hold that has added a child has gone on
 pub adds_goes : (mode : Mode) (old new : Hold) (child : AnyMember) → AddsTo mode old new child
@@ -114,12 +163,93 @@ registering_waits job spots s i k old new whole n room few here looked g =
       moment = after;
       at = subst T (sym both.1.2) then.1;
       first_holds = then.2;
+      start = n.start;
     }
+
+-- a hold that has added a child that joins now has gone on
+pub adds_now_goes : (old new : Hold) (child : AnyMember) (start : ℕ) → AddsNowTo old new child start
+    → GoesOn (λ x y. HasAddedNow x y child start) old new
+adds_now_goes (On old) (On new) child start added = added
+adds_now_goes (On old) Gone child start added = absurd added
+adds_now_goes Gone new child start added = absurd added
+
+-- such a call that registered nothing
+pub registering_waits_now : (job : Job) (spots : ℕ → Spot) (s : TaskState) (i k p : ℕ)
+    (old new : Hold) → IsWhole job s → IsNextNow job spots s i k p
+    → old ≡ get_or s.holds.items k old → GoesOn HasSeenOthers old new
+    → IsRegistering job spots (record s { holds = with_item s.holds k new }) i
+registering_waits_now job spots s i k p old new whole next looked g =
+    let n = next.registering in
+    let c = n.kid.task in
+    let none : length n.kid.numbers.items ≡ 0 = ap length next.none in
+    let one : length (registrations_at job c) ≡ 1 =
+    one_now job c whole.graph n.child.there next.now in
+    registering_waits job spots s i k old new whole n (omega arith) next.on.few
+    (next.on.here ∙ sym next.first ∙ ap (λ x. (registration_at job c x).phaser) (sym none)) looked g
+
+-- what the parent has registered of the child at this place has one number more
+module _ (job : Job) (spots : ℕ → Spot) (s : TaskState) (i : ℕ) (a : ℕ) (kid : Child)
+    (kids : Vec Child Global) (n : IsRegistering job spots s i) (whole : IsWhole job s)
+    (is_kids : kids.items ≡ set s.children.items i kid) (same_task : kid.task ≡ n.kid.task)
+    (same_numbers : kid.numbers.items ≡ n.kid.numbers.items ++ a ∷ []) where
+  at_place : i < length s.children.items
+  at_place = slice_get_within s.children.items i n.kid n.found
+
+  -- it is the one child that it was given to
+  given_one : HasGivenOne s.children.items kids.items n.kid.task a n.kid.numbers.items
+  given_one = record {
+    place = i;
+    kid = kid;
+    few = at_place;
+    is = is_kids;
+    task = same_task;
+    numbers_are = same_numbers;
+    one = λ j other found same. whole.children.apart j i other n.kid found n.found same;
+  }
+
+  -- the moment after serves both
+  registering_more : (k : ℕ) (new : Hold) (child_holds : Vec Hold Global) (after : Moment)
+      → IsTaskAt job spots after (record s { holds = with_item s.holds k new; children = kids })
+      → HasFirstHolds job spots after n.kid.task kid.numbers.items child_holds.items
+      → ((task_at job.graph n.kid.task).joins_now ≡ true → after.offset n.kid.task ≡ kid.start)
+      → IsRegistering job spots
+      (record s { holds = with_item s.holds k new; children = kids; child_holds = child_holds }) i
+  registering_more k new child_holds after task_now first_holds start =
+      let C : ℕ → Type 0 =
+      λ d. HasFirstHolds job spots after d kid.numbers.items child_holds.items in
+      let D : ℕ → Type 0 = λ d. (w : IsChildOf job d s.number) × (s.begun ≡ w.parent.at) in
+      let S : ℕ → Type 0 =
+      λ d. (task_at job.graph d).joins_now ≡ true → after.offset d ≡ kid.start in
+      let kid_child = subst D (sym same_task) (n.child, n.boundary) in
+      record {
+        kid = kid;
+        found = ap (λ l. slice_get l i) is_kids ∙ written s.children.items i kid at_place;
+        child = kid_child.0;
+        boundary = kid_child.1;
+        going = n.going;
+        owes = n.owes;
+        moment = after;
+        at = record {
+          part = task_now.part;
+          own = task_now.own;
+          knows = task_now.knows;
+          place = task_now.place;
+          start = task_now.start;
+          holds = task_now.holds;
+          filter = task_now.filter;
+          lines = task_now.lines;
+          given = task_now.given;
+          at_end = λ over. absurd (let no : false ≡ true = sym n.going ∙ over in cc);
+        };
+        first_holds = subst C (sym same_task) first_holds;
+        start = λ joins some. (subst S (sym same_task) start) joins;
+      }
 
 -- a call that registered the child once more
 pub registering_adds : (job : Job) (spots : ℕ → Spot) (s : TaskState) (i k : ℕ) (old new : Hold)
     (child : AnyMember) (kid : Child) (kids : Vec Child Global) (child_holds : Vec Hold Global)
     → IsWhole job s → (n : IsRegistering job spots s i)
+    → (task_at job.graph n.kid.task).joins_now ≡ false
     → length n.kid.numbers.items < length (registrations_at job n.kid.task)
     → k < length (registrations_at job s.number)
     → (registration_at job s.number k).phaser
@@ -132,9 +262,11 @@ pub registering_adds : (job : Job) (spots : ℕ → Spot) (s : TaskState) (i k :
     → child_holds.items ≡ s.child_holds.items ++ On child ∷ []
     → IsRegistering job spots
     (record s { holds = with_item s.holds k new; children = kids; child_holds = child_holds }) i
-registering_adds job spots s i k old new child kid kids child_holds whole n room few here looked g is_kids same_task same_numbers are_child_holds =
+registering_adds job spots s i k old new child kid kids child_holds whole n stays room few here
+    looked g is_kids same_task same_numbers are_child_holds =
     let c = n.kid.task in
     let numbers = n.kid.numbers.items in
+    let a = (member_in child).number in
     let p = (registration_at job c (length numbers)).phaser in
     let mode = (registration_at job c (length numbers)).mode in
     let none : length s.lefts.items ≡ 0 = whole.staying n.going in
@@ -143,52 +275,61 @@ registering_adds job spots s i k old new child kid kids child_holds whole n room
     let x = both.0 in
     let y = both.1.0 in
     let added : HasAdded mode x y child = both.1.3 in
-    let at_place : i < length s.children.items = slice_get_within s.children.items i n.kid n.found in
-    let given : HasGivenOne s.children.items kids.items c (member_in child).number numbers = record {
-      place = i;
-      kid = kid;
-      few = at_place;
-      is = is_kids;
-      task = same_task;
-      numbers_are = same_numbers;
-      one = λ j other found same.
-          whole.children.apart j i other n.kid found n.found same;
-    } in
-    let then = first_holds_register job spots n.moment s c k numbers s.child_holds.items x y child kids
-    whole n.at n.first_holds n.child n.boundary n.going n.owes room few here both.1.4 added given in
-    let after = after_register p (member_in x).number c (member_in child).number mode
+    let then = first_holds_register job spots n.moment s c k numbers s.child_holds.items x y child
+    kids whole n.at n.first_holds n.child n.boundary n.going n.owes stays room few here both.1.4 added
+    (given_one job spots s i a kid kids n whole is_kids same_task same_numbers) in
+    let after = after_register p (member_in x).number c a mode
     (with_history p added.before n.moment) in
     let T : Hold → Type 0 = λ h. IsTaskAt job spots after
     (record s { holds = with_item s.holds k h; children = kids }) in
-    let task_now = subst T (sym both.1.2) then.1 in
-    let N : List Hold → Type 0 = λ l. HasFirstHolds job spots after c
-    (numbers ++ (member_in child).number ∷ []) l in
+    let N : List Hold → Type 0 = λ l. HasFirstHolds job spots after c (numbers ++ a ∷ []) l in
     let M : List ℕ → Type 0 = λ l. HasFirstHolds job spots after c l child_holds.items in
-    let C : ℕ → Type 0 = λ d. HasFirstHolds job spots after d kid.numbers.items child_holds.items in
-    let D : ℕ → Type 0 = λ d. (w : IsChildOf job d s.number) × (s.begun ≡ w.parent.at) in
-    let kid_child = subst D (sym same_task) (n.child, n.boundary) in
-    record {
-      kid = kid;
-      found = ap (λ l. slice_get l i) is_kids ∙ written s.children.items i kid at_place;
-      child = kid_child.0;
-      boundary = kid_child.1;
-      going = n.going;
-      owes = n.owes;
-      moment = after;
-      at = record {
-        part = task_now.part;
-        own = task_now.own;
-        knows = task_now.knows;
-        place = task_now.place;
-        holds = task_now.holds;
-        filter = task_now.filter;
-        lines = task_now.lines;
-        given = task_now.given;
-        at_end = λ over. absurd (let no : false ≡ true = sym n.going ∙ over in cc);
-      };
-      first_holds = subst C (sym same_task)
-          (subst M (sym same_numbers) (subst N (sym are_child_holds) then.2));
-    }
+    registering_more job spots s i a kid kids n whole is_kids same_task same_numbers k new
+    child_holds after (subst T (sym both.1.2) then.0)
+    (subst M (sym same_numbers) (subst N (sym are_child_holds) then.1))
+    (λ joins. absurd (let no : false ≡ true = sym stays ∙ joins in cc))
+
+-- a call that registered a child that joins now
+pub registering_adds_now : (job : Job) (spots : ℕ → Spot) (s : TaskState) (i k p : ℕ)
+    (old new : Hold) (child : AnyMember) (start : ℕ) (kid : Child) (kids : Vec Child Global)
+    (child_holds : Vec Hold Global) → IsWhole job s → (next : IsNextNow job spots s i k p)
+    → old ≡ get_or s.holds.items k old → GoesOn (λ x y. HasAddedNow x y child start) old new
+    → kids.items ≡ set s.children.items i kid → kid.task ≡ next.registering.kid.task
+    → kid.numbers.items ≡ next.registering.kid.numbers.items ++ (member_in child).number ∷ []
+    → kid.start ≡ start → child_holds.items ≡ s.child_holds.items ++ On child ∷ []
+    → IsRegistering job spots
+    (record s { holds = with_item s.holds k new; children = kids; child_holds = child_holds }) i
+registering_adds_now job spots s i k p old new child start kid kids child_holds whole next looked
+    g is_kids same_task same_numbers starts are_child_holds =
+    let n = next.registering in
+    let c = n.kid.task in
+    let a = (member_in child).number in
+    let q = (registration_at job c 0).phaser in
+    let here : (registration_at job s.number k).phaser ≡ q = next.on.here ∙ sym next.first in
+    let none : length s.lefts.items ≡ 0 = whole.staying n.going in
+    let both = goes (λ x y. HasAddedNow x y child start) job spots n.moment s.number q old new g
+    (held job spots n.moment s k q old whole n.at next.on.few here (omega arith) looked) in
+    let x = both.0 in
+    let y = both.1.0 in
+    let added : HasAddedNow x y child start = both.1.3 in
+    let F : List ℕ → Type 0 = λ l. HasFirstHolds job spots n.moment c l s.child_holds.items in
+    let G : List ℕ → Type 0 = λ l. HasGivenOne s.children.items kids.items c a l in
+    let then = first_holds_register_now job spots n.moment s c k s.child_holds.items x y child start
+    kids whole n.at (subst F next.none n.first_holds) n.child n.boundary n.going n.owes next.now
+    next.on.few here both.1.4 added
+    (subst G next.none
+    (given_one job spots s i a kid kids n whole is_kids same_task same_numbers)) in
+    let after = after_register_now q (member_in x).number c a
+    (with_history q added.before n.moment) in
+    let T : Hold → Type 0 = λ h. IsTaskAt job spots after
+    (record s { holds = with_item s.holds k h; children = kids }) in
+    let N : List Hold → Type 0 = λ l. HasFirstHolds job spots after c (a ∷ []) l in
+    let M : List ℕ → Type 0 = λ l. HasFirstHolds job spots after c l child_holds.items in
+    registering_more job spots s i a kid kids n whole is_kids same_task same_numbers k new
+    child_holds after (subst T (sym both.1.2) then.0)
+    (subst M (sym (same_numbers ∙ ap (λ l. l ++ a ∷ []) next.none))
+    (subst N (sym are_child_holds) then.1))
+    (λ joins. then.2 ∙ sym starts)
 
 -- ---- what holds always
 
@@ -217,6 +358,11 @@ whole_keeps job s i k new kids child_holds before kid whole found is_kids task a
   };
   staying = whole.staying;
   room = whole.room;
+  places = places_stay job s
+      (record s { holds = with_item s.holds k new; children = kids; child_holds = child_holds })
+      refl refl refl (omega arith) whole.places;
+  filters = whole.filters;
+  others = whole.others;
 }
   where
     few : i < length s.children.items

@@ -1,26 +1,29 @@
 -- The state of a task after a call of one of its registrations.
-use Rattle.std.proofs.Common.{◌≡◌, ℕ, ◌<◌, ◌≤◌, ℤ, true, false, List, [], ◌∷◌, Some, Ok, length, get_or, refl, sym, ap, subst, ◌∙◌, arith}
+use Rattle.std.proofs.Common.{◌≡◌, ◌≢◌, ℕ, ◌<◌, ◌≤◌, ℤ, true, false, List, [], ◌∷◌, Some, length, get_or, map, refl, sym, ap, subst, ◌∙◌, arith}
 use Rattle.std.specs.Global.{Global}
 use Rattle.std.specs.Vec.{with_item}
-use Rattle.std.specs.Prelude.{is_some, Option, Bool, Vec}
+use Rattle.std.specs.Prelude.{is_some, Ok, Option, Bool, Vec}
 use Rattle.std.proofs.lemmas.List.{length-set}
 use Rattle.std.proofs.lemmas.Option.{slice_get-get_or, same_Some}
 use Rattle.stream_eval.specs.stream_filters.Filter.{FirState}
+use Rattle.graph_runs.specs.phase_accum.declared.outcome.Outcome.{Outcome}
 use Rattle.graph_runs.specs.phase_history.Histories.{History}
-use Rattle.graph_runs.specs.graph_base.declared.line.Kind.TheVariants.{Sink}
-use Rattle.graph_runs.specs.graph_base.Graphs.{task_at, phaser_at}
+use Rattle.graph_runs.specs.graph_base.declared.line.Kind.{Kind}
+use Rattle.graph_runs.specs.graph_base.declared.line.Kind.TheVariants.{Source, Fir, Split, Join, Peer, Sink}
+use Rattle.graph_runs.specs.graph_base.Graphs.{Task, task_at, phaser_at}
 use Rattle.stream_eval.specs.stream_lists.Jobs.{Job}
 use Rattle.graph_runs.specs.Moments.{Moment}
 use Rattle.stream_members.specs.Members.{Spot}
 use Rattle.stream_members.specs.AnyMembers.{member_in}
 use Rattle.stream_members.specs.declared.any_member.AnyMember.{AnyMember}
+use Rattle.stream_members.specs.declared.places.Places.{Places}
 use Rattle.graph_runs.specs.Answers.{output_at}
 use Rattle.graph_runs.specs.Nexts.{registrations_at}
 use Rattle.graph_runs.specs.TaskPlaces as turns
-use Rattle.graph_runs.specs.TaskPlaces.{StandsAt, registration_at, registration_of_output, owed_after_signal}
-use Rattle.graph_runs.specs.Parts.{HasSeen, HasPut, HasMovedOn, IsNextValue, put_event}
+use Rattle.graph_runs.specs.TaskPlaces.{StandsUpTo, registration_at, registration_of_output, owed_after_signal}
+use Rattle.graph_runs.specs.Parts.{HasSeen, HasPut, HasMovedOn, AreNextValues, put_event}
 use Rattle.graph_runs.specs.Places.{HasChildrenBy}
-use Rattle.graph_runs.proofs.PartsLemmas.{with_history, seen, puts_value}
+use Rattle.graph_runs.proofs.PartsLemmas.{with_history, seen, puts_values}
 use Rattle.graph_runs.specs.TaskEnds.{HasOwnCalls}
 use Rattle.graph_runs.proofs.CallsFollow.{calls_seen, calls_put}
 use Rattle.graph_runs.proofs.KnownOthers.{known_moved}
@@ -28,18 +31,64 @@ use Rattle.graph_runs.proofs.FollowsPlace.{seen_follows, put_follows}
 use Rattle.graph_runs.proofs.Signalling.{owed}
 use Rattle.graph_runs.proofs.Standing.{of_output}
 use Rattle.graph_runs.specs.graph_base.Registrations.{signalled_by}
-use Rattle.graph_runs.proofs.TellsNext.{next_value_is, owes_as}
-use Rattle.graph_runs.specs.Turned.{after_signal}
-use Rattle.graph_runs.specs.Steps.{owed_of, HasFilter}
+use Rattle.graph_runs.proofs.TellsNext.{next_values_are, owes_as}
+use Rattle.graph_runs.specs.Turned.{after_signals}
+use Rattle.graph_runs.specs.Steps.{HasFilter}
 use Rattle.graph_runs.specs.declared.owed.Owed.{Owed}
-use Rattle.graph_runs.specs.declared.owed.Owed.TheVariants.{Value}
+use Rattle.graph_runs.specs.declared.owed.Owed.TheVariants.{Value, Nothing}
 use Rattle.stream_tasks.specs.Holds.{GoesOn, HasSeenOthers, HasSignalled, signal_of}
-use Rattle.stream_tasks.specs.Tasks.{IsOn, IsHeldOn, HasGivenNumbers, IsTaskAt, IsWhole, IsTask, place_of}
+use Rattle.stream_tasks.specs.Tasks.{IsOn, IsHeldOn, HasGivenNumbers, HasPlaces, IsTaskAt, IsWhole, IsTask, owed_by, place_of}
 use Rattle.stream_tasks.specs.declared.child.Child.{Child}
 use Rattle.stream_tasks.specs.declared.hold.Hold.{Hold}
 use Rattle.stream_tasks.specs.declared.hold.Hold.TheVariants.{On, Gone}
 use Rattle.stream_tasks.specs.declared.task_state.TaskState.{TaskState}
 use Rattle.stream_tasks.proofs.Holding.{sees_others, sees_own, on_after, holds_move}
+
+-- ---- what changes
+
+-- what a call on one registration may change of a task's state beside what it holds
+pub record Changes : Type 0 where
+  pub begun : ℕ
+  pub owed : Owed
+  pub made : Vec ℤ Global
+  pub filter : Option FirState
+  pub lines : Vec ℤ Global
+  pub entered : Bool
+  pub outcomes : Vec Outcome Global
+  pub places : Places
+
+-- the state with these changes
+abbrev pub changed : TaskState → Changes → Vec Hold Global → TaskState
+changed s x holds = record s {
+  begun = x.begun;
+  owed = x.owed;
+  made = x.made;
+  filter = x.filter;
+  lines = x.lines;
+  entered = x.entered;
+  outcomes = x.outcomes;
+  places = x.places;
+  holds = holds;
+}
+
+-- no changes
+abbrev pub as_it_is : TaskState → Changes
+as_it_is s = record {
+  begun = s.begun;
+  owed = s.owed;
+  made = s.made;
+  filter = s.filter;
+  lines = s.lines;
+  entered = s.entered;
+  outcomes = s.outcomes;
+  places = s.places;
+}
+
+-- the places stay as many, a filter owes what it has made, and other tasks make nothing
+pub record FitPlaces (job : Job) (s : TaskState) (x : Changes) : Type 0 where
+  pub made : x.made.cap ≡ s.made.cap
+  pub filters : (task_at job.graph s.number).kind ≡ Fir → x.owed ≡ s.owed
+  pub others : (task_at job.graph s.number).kind ≢ Fir → x.made.items ≡ []
 
 -- a hold that was looked up by its own value
 pub looked_up : (holds : List Hold) (k : ℕ) (old : Hold) → k < length holds
@@ -72,14 +121,15 @@ children_stay job m after t p steps now moved have c there comes i less =
 
 -- the state after others' events were seen on phaser p
 pub state_sees : (job : Job) (spots : ℕ → Spot) (m after : Moment) (s : TaskState) (k p : ℕ)
-    (old new : AnyMember) (lines : Vec ℤ Global) (entered : Bool) → IsWhole job s
+    (old new : AnyMember) (lines : Vec ℤ Global) (entered : Bool) (outcomes : Vec Outcome Global)
+    (places : Places) → IsWhole job s
     → k < length (registrations_at job s.number) → length s.lefts.items ≤ k
     → (registration_at job s.number k).phaser ≡ p → lines.items ≡ s.lines.items
     → IsTaskAt job spots m s → IsOn job spots m s.number p old → HasSeenOthers old new
     → HasSeen job m after s.number p (member_in new).seen
     → IsTaskAt job spots after
-    (record s { lines = lines; entered = entered; holds = with_item s.holds k (On new) })
-state_sees job spots m after s k p old new lines entered whole few kept here same at on goes is_seen =
+    (record s { lines = lines; entered = entered; outcomes = outcomes; places = places; holds = with_item s.holds k (On new) })
+state_sees job spots m after s k p old new lines entered outcomes places whole few kept here same at on goes is_seen =
     let t = s.number in
     let now = (member_in new).seen in
     let s_o = sees_others job spots m t p old new on goes in
@@ -89,6 +139,7 @@ state_sees job spots m after s k p old new lines entered whole few kept here sam
           is_seen at.own;
       knows = known_moved job m after t p now is_seen.moved at.knows;
       place = seen_follows job m after t p (place_of s) now at.place is_seen;
+      start = λ joins. is_seen.moved.offset t ∙ at.start joins;
       holds = holds_move job spots m after t k p now s.holds.items s.lefts.items (On new)
           whole.graph whole.there few here whole.holds kept is_seen.moved at.holds
           (on_after job spots m after t p now old new on goes.same is_seen.moved refl);
@@ -107,24 +158,23 @@ state_sees job spots m after s k p old new lines entered whole few kept here sam
 
 -- the state after an event of the task's own on phaser p
 pub state_moves : (job : Job) (spots : ℕ → Spot) (m after : Moment) (s : TaskState) (k p : ℕ)
-    (now : History) (new : AnyMember) (begun : ℕ) (owed : Owed) (filter : Option FirState)
-    (lines : Vec ℤ Global) (entered : Bool) → IsWhole job s
+    (now : History) (new : AnyMember) (x : Changes) → IsWhole job s
     → k < length (registrations_at job s.number) → length s.lefts.items ≤ k
     → (registration_at job s.number k).phaser ≡ p → s.over ≡ false → IsTaskAt job spots m s
     → HasMovedOn job m after s.number p now → HasOwnCalls job after s.number
-    → StandsAt job after s.number
-    (record { numbers = s.numbers.items; left = length s.lefts.items; begun = begun; owed = owed_of owed })
+    → StandsUpTo s.most job after s.number
+    (place_of (changed s x (with_item s.holds k (On new))))
     → IsOn job spots after s.number p new
-    → HasFilter (task_at job.graph s.number) filter (after.taken s.number 0)
-    → ((task_at job.graph s.number).kind ≡ Sink → lines.items ≡ after.taken s.number 0)
-    → IsTaskAt job spots after
-    (record s { begun = begun; owed = owed; filter = filter; lines = lines; entered = entered; holds = with_item s.holds k (On new) })
-state_moves job spots m after s k p now new begun owed filter lines entered whole few kept here going at moved own place on has taken =
+    → HasFilter (task_at job.graph s.number) x.filter (after.taken s.number 0)
+    → ((task_at job.graph s.number).kind ≡ Sink → x.lines.items ≡ after.taken s.number 0)
+    → IsTaskAt job spots after (changed s x (with_item s.holds k (On new)))
+state_moves job spots m after s k p now new x whole few kept here going at moved own place on has taken =
     let t = s.number in record {
       part = moved.part;
       own = own;
       knows = known_moved job m after t p now moved at.knows;
       place = place;
+      start = λ joins. moved.offset t ∙ at.start joins;
       holds = holds_move job spots m after t k p now s.holds.items s.lefts.items (On new)
           whole.graph whole.there few here whole.holds kept moved at.holds on;
       filter = has;
@@ -133,37 +183,40 @@ state_moves job spots m after s k p now new begun owed filter lines entered whol
       at_end = λ over. absurd (let no = sym going ∙ over in cc);
     }
 
--- it has put the value that it owed on output j, phaser p
-pub state_puts : (job : Job) (spots : ℕ → Spot) (m : Moment) (s : TaskState) (j k p : ℕ) (v : ℤ)
-    (old new : AnyMember) (owed : Owed) → IsWhole job s
+-- it has put the values that it owed on output j, phaser p
+pub state_puts : (job : Job) (spots : ℕ → Spot) (m : Moment) (s : TaskState) (j k p : ℕ)
+    (vs : List ℤ) (old new : AnyMember) (owed : Owed) (made : Vec ℤ Global) (places : Places)
+    → IsWhole job s
     → k < length (registrations_at job s.number) → (registration_at job s.number k).phaser ≡ p
-    → output_at job s.number j ≡ p → s.over ≡ false → s.owed ≡ Value j (Ok v)
-    → owed_of owed ≡ owed_after_signal (task_at job.graph s.number) j (v ∷ [])
+    → output_at job s.number j ≡ p → s.over ≡ false
+    → owed_by s.owed s.made.items ≡ turns.values j (map (λ v. Ok v) vs)
+    → owed_by owed made.items ≡ owed_after_signal (task_at job.graph s.number) j vs
     → IsTaskAt job spots m s → IsOn job spots m s.number p old
-    → HasSignalled v (phaser_at job.graph p).single old new
+    → HasSignalled vs (phaser_at job.graph p).single old new
     → (after : Moment)
-    × IsTaskAt job spots after (record s { owed = owed; holds = with_item s.holds k (On new) })
-state_puts job spots m s j k p v old new owed whole few here out going owes then at on made =
+    × IsTaskAt job spots after
+    (record s { owed = owed; made = made; places = places; holds = with_item s.holds k (On new) })
+state_puts job spots m s j k p vs old new owed made places whole few here out going owes then at on is_made =
     let t = s.number in
     let n = (member_in old).number in
-    let before = made.0 in
-    let now = put_event job p n v ∷ before in
-    let after = after_signal job t j p n v (m.begun t) (with_history p before m) in
+    let before = is_made.0 in
+    let now = put_event job p n vs ∷ before in
+    let after = after_signals job t j p n vs (m.begun t) (with_history p before m) in
     let left : length s.lefts.items ≡ 0 = whole.staying going in
-    let owed_is : owed_of s.owed ≡ turns.values j (Ok v ∷ []) = ap owed_of owes in
-    let next = subst (λ q. IsNextValue job m t j q v) out
-    (next_value_is job m t j v (place_of s) whole.graph whole.there at.part at.place left owed_is) in
-    let sees = sees_own job spots m t p (signal_of v (phaser_at job.graph p).single) old new before on made.1 in
-    let put : HasPut job m after t j p v (m.begun t) now =
-    puts_value job m t p n before whole.graph whole.there at.part j v sees next in (
+    let next = subst (λ q. AreNextValues job m t j q vs) out
+    (next_values_are job m t j s.most vs (place_of s) whole.graph whole.there at.part whole.places.most at.place left owes) in
+    let sees = sees_own job spots m t p (signal_of vs (phaser_at job.graph p).single) old new before on is_made.1 in
+    let put : HasPut job m after t j p vs (m.begun t) now =
+    puts_values job m t p n before whole.graph whole.there at.part j vs sees next in (
       after,
-      state_moves job spots m after s k p now new s.begun owed s.filter s.lines s.entered
+      state_moves job spots m after s k p now new
+          (record (as_it_is s) { owed = owed; made = made; places = places })
           whole few (omega arith) here going at put.moved
-          (calls_put job m after t p whole.graph whole.there j n (m.begun t) v before sees put at.own)
-          (subst (λ o. StandsAt job after t (record { numbers = s.numbers.items; left = length s.lefts.items; begun = s.begun; owed = o }))
+          (calls_put job m after t p whole.graph whole.there j n (m.begun t) vs before sees put at.own)
+          (subst (λ o. StandsUpTo s.most job after t (record { numbers = s.numbers.items; left = length s.lefts.items; begun = s.begun; owed = o }))
           (sym then)
-          (put_follows job m after t j p v (place_of s) now whole.graph whole.there at.part at.place left owed_is put))
-          (on_after job spots m after t p now old new on made.1.same put.moved made.1.seen)
+          (put_follows job m after t j p s.most vs (place_of s) now whole.graph whole.there at.part whole.places.most at.place left owes put))
+          (on_after job spots m after t p now old new on is_made.1.same put.moved is_made.1.seen)
           (subst (λ taken. HasFilter (task_at job.graph t) s.filter taken) (sym (put.taken 0)) at.filter)
           (λ sink. at.lines sink ∙ sym (put.taken 0)),
     )
@@ -171,11 +224,9 @@ state_puts job spots m s j k p v old new owed whole few here out going owes then
 -- ---- tasks
 
 -- what holds always stays by a call
-pub whole_moves : (job : Job) (s : TaskState) (k begun : ℕ) (new : Hold) (owed : Owed)
-    (filter : Option FirState) (lines : Vec ℤ Global) (entered : Bool) → IsWhole job s
-    → IsWhole job
-    (record s { begun = begun; owed = owed; filter = filter; lines = lines; entered = entered; holds = with_item s.holds k new })
-whole_moves job s k begun new owed filter lines entered whole = record {
+pub whole_moves : (job : Job) (s : TaskState) (k : ℕ) (new : Hold) (x : Changes)
+    → FitPlaces job s x → IsWhole job s → IsWhole job (changed s x (with_item s.holds k new))
+whole_moves job s k new x fit whole = record {
   graph = whole.graph;
   there = whole.there;
   samples = whole.samples;
@@ -184,6 +235,26 @@ whole_moves job s k begun new owed filter lines entered whole = record {
   children = whole.children;
   staying = whole.staying;
   room = whole.room;
+  places = record {
+    most = whole.places.most;
+    own = whole.places.own;
+    own_few = whole.places.own_few;
+    block = whole.places.block;
+    made = subst (λ cap. s.most ≤ cap) (sym fit.made) whole.places.made;
+  };
+  filters = λ fir. fit.filters fir ∙ whole.filters fir;
+  others = fit.others;
+}
+
+-- a call that changes no more than what a wait writes, and the room of a list, fits
+pub fits : (job : Job) (s : TaskState) (lines : Vec ℤ Global) (entered : Bool)
+    (outcomes : Vec Outcome Global) (places : Places) → IsWhole job s
+    → FitPlaces job s
+    (record (as_it_is s) { lines = lines; entered = entered; outcomes = outcomes; places = places })
+fits job s lines entered outcomes places whole = record {
+  made = refl;
+  filters = λ fir. refl;
+  others = whole.others;
 }
 
 -- the registrations of a hold that has gone on
@@ -208,13 +279,16 @@ held job spots m s k p old whole at few here kept looked =
 
 -- a task whose call on registration k made no event
 pub task_sees : (job : Job) (spots : ℕ → Spot) (s : TaskState) (k p : ℕ) (old new : Hold)
-    (lines : Vec ℤ Global) (entered : Bool)
+    (lines : Vec ℤ Global) (entered : Bool) (outcomes : Vec Outcome Global) (places : Places)
     → k < length (registrations_at job s.number) → (registration_at job s.number k).phaser ≡ p
     → length s.lefts.items ≤ k → old ≡ get_or s.holds.items k old → lines.items ≡ s.lines.items
     → GoesOn HasSeenOthers old new → IsTask job spots s
-    → IsTask job spots (record s { lines = lines; entered = entered; holds = with_item s.holds k new })
-task_sees job spots s k p old new lines entered few here kept looked same g task = record {
-  whole = whole_moves job s k s.begun new s.owed s.filter lines entered task.whole;
+    → IsTask job spots
+    (record s { lines = lines; entered = entered; outcomes = outcomes; places = places; holds = with_item s.holds k new })
+task_sees job spots s k p old new lines entered outcomes places few here kept looked same g task = record {
+  whole = whole_moves job s k new
+      (record (as_it_is s) { lines = lines; entered = entered; outcomes = outcomes; places = places })
+      (fits job s lines entered outcomes places task.whole) task.whole;
   stands = λ met.
       let m = (task.stands met).0 in
       let at = (task.stands met).1 in
@@ -222,52 +296,56 @@ task_sees job spots s k p old new lines entered few here kept looked same g task
       (held job spots m s k p old task.whole at few here kept looked) in
       let now = (member_in both.1.0).seen in
       let after = with_history p now m in
-      let then = state_sees job spots m after s k p both.0 both.1.0 lines entered task.whole few kept here
+      let then = state_sees job spots m after s k p both.0 both.1.0 lines entered outcomes places task.whole few kept here
       same at both.1.4 both.1.3
       (seen job m s.number p (member_in both.0).number now
       (sees_others job spots m s.number p both.0 both.1.0 both.1.4 both.1.3)
       task.whole.graph task.whole.there at.part) in (
         after,
         subst (λ h. IsTaskAt job spots after
-            (record s { lines = lines; entered = entered; holds = with_item s.holds k h }))
+            (record s { lines = lines; entered = entered; outcomes = outcomes; places = places; holds = with_item s.holds k h }))
             (sym both.1.2) then,
       );
 }
 
--- a task that has put the value that it owed on output j
-pub task_puts : (job : Job) (spots : ℕ → Spot) (s : TaskState) (j k p : ℕ) (v : ℤ) (old new : Hold)
-    (owed : Owed) → k < length (registrations_at job s.number)
+-- a task that has put the values that it owed on output j
+pub task_puts : (job : Job) (spots : ℕ → Spot) (s : TaskState) (j k p : ℕ) (vs : List ℤ)
+    (old new : Hold) (owed : Owed) (made : Vec ℤ Global) (places : Places)
+    → k < length (registrations_at job s.number)
     → (registration_at job s.number k).phaser ≡ p → output_at job s.number j ≡ p
-    → s.over ≡ false → s.owed ≡ Value j (Ok v)
-    → owed_of owed ≡ owed_after_signal (task_at job.graph s.number) j (v ∷ [])
+    → s.over ≡ false → owed_by s.owed s.made.items ≡ turns.values j (map (λ v. Ok v) vs)
+    → owed_by owed made.items ≡ owed_after_signal (task_at job.graph s.number) j vs
+    → FitPlaces job s (record (as_it_is s) { owed = owed; made = made; places = places })
     → old ≡ get_or s.holds.items k old
-    → GoesOn (HasSignalled v (phaser_at job.graph p).single) old new → IsTask job spots s
-    → IsTask job spots (record s { owed = owed; holds = with_item s.holds k new })
-task_puts job spots s j k p v old new owed few here out going owes then looked g task = record {
-  whole = whole_moves job s k s.begun new owed s.filter s.lines s.entered task.whole;
+    → GoesOn (HasSignalled vs (phaser_at job.graph p).single) old new → IsTask job spots s
+    → IsTask job spots
+    (record s { owed = owed; made = made; places = places; holds = with_item s.holds k new })
+task_puts job spots s j k p vs old new owed made places few here out going owes then fit looked g task = record {
+  whole = whole_moves job s k new
+      (record (as_it_is s) { owed = owed; made = made; places = places }) fit task.whole;
   stands = λ met.
       let m = (task.stands met).0 in
       let at = (task.stands met).1 in
       let none : length s.lefts.items ≡ 0 = task.whole.staying going in
-      let both = goes (HasSignalled v (phaser_at job.graph p).single) job spots m s.number p old new g
+      let both = goes (HasSignalled vs (phaser_at job.graph p).single) job spots m s.number p old new g
       (held job spots m s k p old task.whole at few here (omega arith) looked) in
-      let next = state_puts job spots m s j k p v both.0 both.1.0 owed task.whole few here out going owes then
+      let next = state_puts job spots m s j k p vs both.0 both.1.0 owed made places task.whole few here out going owes then
       at both.1.4 both.1.3 in (
         next.0,
         subst (λ h. IsTaskAt job spots next.0
-            (record s { owed = owed; holds = with_item s.holds k h })) (sym both.1.2) next.1,
+            (record s { owed = owed; made = made; places = places; holds = with_item s.holds k h })) (sym both.1.2) next.1,
       );
 }
 
--- the output on which a value is owed is one of the task's
-pub owed_output : (job : Job) (spots : ℕ → Spot) (s : TaskState) (j : ℕ) (v : ℤ)
-    → s.met ≡ false → s.owed ≡ Value j (Ok v) → IsTask job spots s
-    → j < length (signalled_by (task_at job.graph s.number))
-owed_output job spots s j v met owes task =
+-- the output on which values are owed is one of the task's
+pub owed_output : (job : Job) (spots : ℕ → Spot) (s : TaskState) (j : ℕ) (vs : List ℤ)
+    → s.met ≡ false → owed_by s.owed s.made.items ≡ turns.values j (map (λ v. Ok v) vs)
+    → IsTask job spots s → j < length (signalled_by (task_at job.graph s.number))
+owed_output job spots s j vs met owes task =
     let m = (task.stands met).0 in
     let at = (task.stands met).1 in
     (owed job m s.number j
-    (owes_as job m s.number (place_of s) (turns.values j (Ok v ∷ [])) at.place (ap owed_of owes)).0).0
+    (owes_as job m s.number (place_of s) (turns.values j (map (λ v. Ok v) vs)) at.place owes).0).0
 
 -- the registration of an output
 pub output_on : (job : Job) (s : TaskState) (j k p : ℕ) → IsWhole job s
@@ -279,3 +357,66 @@ output_on job s j k p whole few is at =
     let tells = of_output job s.number j whole.graph whole.there few in
     subst (λ x. (x < length (registrations_at job s.number)) × ((registration_at job s.number x).phaser ≡ p))
     (sym is) (tells.0, tells.1 ∙ sym at)
+
+-- ---- a value that is owed
+
+-- a task that owes a value on output j, and has made nothing, owes it by the definitions
+pub owes_value : (s : TaskState) (j : ℕ) (v : ℤ) → s.owed ≡ Value j (Ok v) → s.made.items ≡ []
+    → owed_by s.owed s.made.items ≡ turns.values j (map (λ x. Ok x) (v ∷ []))
+owes_value s j v owes none =
+    ap (λ o. owed_by o s.made.items) owes ∙ ap (λ l. owed_by (Value j (Ok v)) l) none
+
+-- it is no filter, so what it owes next fits
+pub value_fits : (job : Job) (s : TaskState) (j : ℕ) (v : ℤ) (owed : Owed) → IsWhole job s
+    → s.owed ≡ Value j (Ok v) → FitPlaces job s (record (as_it_is s) { owed = owed })
+value_fits job s j v owed whole owes = record {
+  made = refl;
+  filters = λ fir. absurd (let no : Nothing ≡ Value j (Ok v) = sym (whole.filters fir) ∙ owes in cc);
+  others = whole.others;
+}
+
+-- a filter that has made these values owes them
+pub owes_made : (s : TaskState) → s.made.items ≢ []
+    → owed_by s.owed s.made.items ≡ turns.values 0 (map (λ x. Ok x) s.made.items)
+owes_made s some = by s.made.items some
+  where
+    by : (l : List ℤ) → l ≢ [] → owed_by s.owed l ≡ turns.values 0 (map (λ x. Ok x) l)
+    by [] none = absurd (none refl)
+    by (v ∷ vs) more = refl
+
+-- who has made something is a filter
+pub is_filter : (job : Job) (s : TaskState) → IsWhole job s → s.made.items ≢ []
+    → (task_at job.graph s.number).kind ≡ Fir
+is_filter job s whole some = by (task_at job.graph s.number).kind refl
+  where
+    by : (k : Kind) → (task_at job.graph s.number).kind ≡ k
+        → (task_at job.graph s.number).kind ≡ Fir
+    by Fir e = e
+    by Source e = absurd (some (whole.others (λ fir. (let no : Source ≡ Fir = sym e ∙ fir in cc))))
+    by Split e = absurd (some (whole.others (λ fir. (let no : Split ≡ Fir = sym e ∙ fir in cc))))
+    by Join e = absurd (some (whole.others (λ fir. (let no : Join ≡ Fir = sym e ∙ fir in cc))))
+    by Peer e = absurd (some (whole.others (λ fir. (let no : Peer ≡ Fir = sym e ∙ fir in cc))))
+    by Sink e = absurd (some (whole.others (λ fir. (let no : Sink ≡ Fir = sym e ∙ fir in cc))))
+
+-- once it has put them it owes nothing
+pub put_all_owes : (job : Job) (s : TaskState) (made : Vec ℤ Global) → IsWhole job s
+    → s.made.items ≢ [] → made.items ≡ []
+    → owed_by s.owed made.items ≡ owed_after_signal (task_at job.graph s.number) 0 s.made.items
+put_all_owes job s made whole some none =
+    let fir = is_filter job s whole some in
+    let after : owed_after_signal (task_at job.graph s.number) 0 s.made.items ≡ turns.nothing =
+    of_filter (task_at job.graph s.number) s.made.items fir in
+    ap (λ l. owed_by s.owed l) none ∙ ap (λ o. owed_by o []) (whole.filters fir) ∙ sym after
+  where
+    of_filter : (task : Task) (vs : List ℤ) → task.kind ≡ Fir
+        → owed_after_signal task 0 vs ≡ turns.nothing
+    of_filter task vs e = rw e refl
+
+pub made_fits : (job : Job) (s : TaskState) (made : Vec ℤ Global) (places : Places) → IsWhole job s
+    → made.items ≡ [] → made.cap ≡ s.made.cap
+    → FitPlaces job s (record (as_it_is s) { made = made; places = places })
+made_fits job s made places whole none room = record {
+  made = room;
+  filters = λ fir. refl;
+  others = λ no. none;
+}

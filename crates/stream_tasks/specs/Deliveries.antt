@@ -19,5 +19,9 @@ pub record HasDelivered (i : ℕ) (seed old new child : TaskState) : Type 0 wher
   pub kid : Child
   pub found : slice_get old.children.items i ≡ Some kid
   pub numbers : child.numbers.items ≡ seed.numbers.items ++ kid.numbers.items
-  pub child_is : child ≡ record seed { numbers = child.numbers; holds = old.child_holds }
+  pub child_is : child ≡ record seed {
+    numbers = child.numbers;
+    holds = old.child_holds;
+    start = kid.start;
+  }
   pub parent_is : new ≡ record old { child_holds = seed.holds }

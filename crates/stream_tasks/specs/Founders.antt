@@ -55,7 +55,6 @@ pub record IsRoot (mode : Mode) (founder : FounderState) (member : AnyMember) : 
   pub op : member_op member ≡ founder.op
   pub at : (member_in member).at ≡ founder.at
   pub mode_is : (member_in member).mode ≡ mode
-  pub none_held : (member_in member).held ≡ None
   pub legal : IsLegal (limits_on founder.at) (member_in member).seen
   pub registered : HasJustRegistered (member_in member).number mode (member_in member).seen
 

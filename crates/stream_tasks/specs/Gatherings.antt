@@ -28,7 +28,7 @@ pub record HasGathered (job : Job) (ends : Ends) (p : ℕ) (founder all : AnyLef
 abbrev pub Tells : Option TaskKnowledge → Option TaskEnd → Type 0
 Tells None None = Unit {0}
 Tells (Some part) (Some end) =
-    (end.begun ≡ part.begun) × (end.numbers ≡ part.numbers.items)
+    (end.begun ≡ part.begun) × (end.start ≡ part.start) × (end.numbers ≡ part.numbers.items)
     × (end.lines ≡ part.lines.items) × ((c : ℕ) → end.given c ≡ given_to part.given.items c)
 Tells part end = ⊥
 

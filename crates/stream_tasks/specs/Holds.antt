@@ -1,5 +1,5 @@
 -- What the calls of a registration do to what it has seen.
-use Rattle.std.specs.Prelude.{◌≡◌, ℕ, ℤ, [], ◌∷◌, ◌++◌, Option, Result, Ok, Err, true, false}
+use Rattle.std.specs.Prelude.{◌≡◌, ℕ, ◌≤◌, ℤ, List, [], ◌∷◌, ◌++◌, length, map, take, Option, Result, Ok, Err}
 use Rattle.graph_runs.specs.phase_accum.Values.{value_by}
 use Rattle.graph_runs.specs.phase_accum.declared.outcome.Outcome.{Outcome}
 use Rattle.graph_runs.specs.phase_accum.declared.single.Single.{Single}
@@ -11,8 +11,7 @@ use Rattle.graph_runs.specs.phase_history.Phases.{received_by}
 use Rattle.graph_runs.specs.phase_history.Legal.{IsLegal}
 use Rattle.graph_runs.specs.phase_history.Others.{OthersCame}
 use Rattle.graph_runs.specs.phase_history.Replies.{wait_reply}
-use Rattle.stream_eval.specs.stream_lists.Lists.{number}
-use Rattle.stream_eval.specs.stream_lists.Ranges.{is_too_big}
+use Rattle.graph_runs.specs.Moments.{one}
 use Rattle.stream_members.specs.Members.{limits_on}
 use Rattle.stream_members.specs.AnyMembers.{member_in, member_op, left_in, left_op}
 use Rattle.stream_members.specs.declared.any_member.AnyMember.{AnyMember}
@@ -43,39 +42,26 @@ pub record HasMade (event : ℕ → Event) (old new : AnyMember) (before : Histo
 
 -- ---- values
 
--- its signal with this value
-abbrev pub signal_of : ℤ → Option Single → ℕ → Event
-signal_of value single n = Signalled n ((value ∷ []) ∷ []) single
+-- its signal with these values, one a phase
+abbrev pub signal_of : List ℤ → Option Single → ℕ → Event
+signal_of values single n = Signalled n (map one values) single
 
--- it has signalled with this value
-abbrev pub HasSignalled : ℤ → Option Single → AnyMember → AnyMember → Type 0
-HasSignalled value single old new =
-    (before : History) × HasMade (signal_of value single) old new before
+-- it has signalled with these values
+abbrev pub HasSignalled : List ℤ → Option Single → AnyMember → AnyMember → Type 0
+HasSignalled values single old new =
+    (before : History) × HasMade (signal_of values single) old new before
 
--- its wait
-abbrev pub wait_of : ℕ → Event
-wait_of n = Waited n 1
+-- its wait for so many phases
+abbrev pub wait_of : ℕ → ℕ → Event
+wait_of phases n = Waited n phases
 
--- it has waited, and was answered an outcome of this number
-pub record HasWaited (x : ℤ) (old new : AnyMember) : Type 0 where
+-- it has waited, and was answered these outcomes
+pub record HasWaited (outcomes : List Outcome) (old new : AnyMember) : Type 0 where
   pub before : History
-  pub made : HasMade wait_of old new before
-  pub outcome : Outcome
-  pub is : x ≡ number outcome
-  pub fits : is_too_big outcome ≡ false
-  pub answered : received_by (value_by (member_op old)) (Waited (member_in old).number 1 ∷ before)
-      (member_in old).number
-      ≡ received_by (value_by (member_op old)) before (member_in old).number ++ outcome ∷ []
-
--- it has waited, and was answered an outcome that is out of range
-pub record HasMetTooBig (old new : AnyMember) : Type 0 where
-  pub before : History
-  pub made : HasMade wait_of old new before
-  pub outcome : Outcome
-  pub too_big : is_too_big outcome ≡ true
-  pub answered : received_by (value_by (member_op old)) (Waited (member_in old).number 1 ∷ before)
-      (member_in old).number
-      ≡ received_by (value_by (member_op old)) before (member_in old).number ++ outcome ∷ []
+  pub made : HasMade (wait_of (length outcomes)) old new before
+  pub answered : received_by (value_by (member_op old))
+      (Waited (member_in old).number (length outcomes) ∷ before) (member_in old).number
+      ≡ received_by (value_by (member_op old)) before (member_in old).number ++ outcomes
 
 -- it was answered that no more will come
 pub record HasRunOut (old new : AnyMember) : Type 0 where
@@ -83,12 +69,16 @@ pub record HasRunOut (old new : AnyMember) : Type 0 where
   pub ended : wait_reply (value_by (member_op old)) (limits_on (member_in old).at)
       (member_in new).seen (member_in old).number ≡ Ok got.Ended
 
--- what a wait gave
-abbrev pub HasGot : Result Given Held → AnyMember → AnyMember → Type 0
-HasGot (Ok (given.Value x)) old new = HasWaited x old new
-HasGot (Ok given.TooBig) old new = HasMetTooBig old new
-HasGot (Ok given.Ended) old new = HasRunOut old new
-HasGot (Err held) old new = HasSeenOthers old new
+-- what a wait gave, whose places have this now
+abbrev pub HasGot : Result Given Held → List Outcome → AnyMember → AnyMember → Type 0
+HasGot (Ok (given.Values count)) out old new = HasWaited (take count out) old new
+HasGot (Ok given.Ended) out old new = HasRunOut old new
+HasGot (Err held) out old new = HasSeenOthers old new
+
+-- so many values at most, and one at least, or the end
+abbrev pub IsAtMost : ℕ → Given → Type 0
+IsAtMost most (given.Values count) = (1 ≤ count) × (count ≤ most)
+IsAtMost most given.Ended = Unit {0}
 
 -- ---- holds
 

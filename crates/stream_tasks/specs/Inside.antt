@@ -1,33 +1,31 @@
 -- What the code keeps of a task between threads: its children, its seed, and what it holds.
-use Rattle.std.specs.Prelude.{◌≡◌, ℕ, ◌<◌, ◌≤◌, [], ◌∷◌, length, slice_get, Some, true, false, ◌++◌, Option, ◌+◌, slice_set, None, ◌≢◌}
+use Rattle.std.specs.Prelude.{◌≡◌, ◌≢◌, ℕ, ◌+◌, ◌-◌, ◌<◌, ◌≤◌, ℤ, List, [], ◌∷◌, ◌++◌, length, map, min, slice_get, slice_set, Option, Some, None, true, false}
+use Rattle.std.specs.List.{All}
 use Rattle.stream_eval.specs.stream_lists.Jobs.{Job}
 use Rattle.graph_runs.specs.Moments.{Moment}
-use Rattle.stream_members.specs.Members.{Spot}
-use Rattle.graph_runs.specs.TaskPlaces.{registration_at}
 use Rattle.graph_runs.specs.phase_accum.declared.outcome.Outcome.{Outcome}
+use Rattle.stream_eval.specs.stream_filters.Filter.{FirState}
+use Rattle.stream_members.specs.Members.{Spot}
+use Rattle.graph_runs.specs.TaskPlaces as turns
+use Rattle.graph_runs.specs.TaskPlaces.{registration_at}
 use Rattle.stream_eval.specs.stream_lists.Lists.{number}
 use Rattle.stream_eval.specs.stream_lists.Ranges.{is_too_big}
 use Rattle.stream_members.specs.AnyMembers.{member_in}
 use Rattle.stream_members.specs.declared.any_member.AnyMember.{AnyMember}
 use Rattle.graph_runs.specs.graph_base.declared.registration.Registration.{Registration}
 use Rattle.graph_runs.specs.Nexts.{registrations_at, is_cut}
+use Rattle.graph_runs.specs.declared.owed.Owed.{Owed}
 use Rattle.graph_runs.specs.declared.owed.Owed.TheVariants.{Nothing}
+use Rattle.graph_runs.specs.graph_base.declared.line.Kind.TheVariants.{Fir}
 use Rattle.graph_runs.specs.graph_base.declared.line.Parent.{Parent}
 use Rattle.graph_runs.specs.graph_base.Graphs.{task_at}
 use Rattle.graph_runs.specs.Places.{HasChildrenBy}
+use Rattle.graph_runs.specs.Steps.{HasFilter}
 use Rattle.stream_tasks.specs.declared.child.Child.{Child}
 use Rattle.stream_tasks.specs.declared.task_state.TaskState.{TaskState}
-use Rattle.stream_tasks.specs.declared.hold.Given.{Given}
 use Rattle.stream_tasks.specs.declared.hold.Hold.TheVariants.{On}
 use Rattle.stream_tasks.specs.Registering.{IsRegistering}
-use Rattle.stream_tasks.specs.Tasks.{IsTaskAt, IsTask}
-use Rattle.stream_tasks.specs.declared.hold.Given.TheVariants as given
-
--- what is given for an outcome: its number, or that it is out of range
-abbrev pub IsGivenAs : Outcome → Given → Type 0
-IsGivenAs outcome (given.Value x) = (x ≡ number outcome) × (is_too_big outcome ≡ false)
-IsGivenAs outcome given.TooBig = is_too_big outcome ≡ true
-IsGivenAs outcome given.Ended = ⊥
+use Rattle.stream_tasks.specs.Tasks.{IsTaskAt, IsTask, OwesNothing, owed_by}
 
 -- registration k of task t is on phaser p
 pub record IsPlaceOn (job : Job) (t p k : ℕ) : Type 0 where
@@ -40,8 +38,8 @@ pub record HasChildRoom (s : TaskState) (i : ℕ) : Type 0 where
       → length kid.numbers.items + 1 ≤ kid.numbers.capacity
   pub child_holds : length s.child_holds.items < s.child_holds.cap
 
--- another registration of the child at this place is kept
-pub record HasKept (i : ℕ) (child : AnyMember) (old new : TaskState) : Type 0 where
+-- another registration of the child at this place is kept, and where the child begins
+pub record HasKept (i : ℕ) (child : AnyMember) (start : ℕ) (old new : TaskState) : Type 0 where
   pub before : Child
   pub kid : Child
   pub found : slice_get old.children.items i ≡ Some before
@@ -49,6 +47,7 @@ pub record HasKept (i : ℕ) (child : AnyMember) (old new : TaskState) : Type 0 
   pub task : kid.task ≡ before.task
   pub at : kid.at ≡ before.at
   pub numbers : kid.numbers.items ≡ before.numbers.items ++ (member_in child).number ∷ []
+  pub start_is : kid.start ≡ start
   pub child_holds : new.child_holds.items ≡ old.child_holds.items ++ On child ∷ []
   pub rest : new ≡ record old { children = new.children; child_holds = new.child_holds }
 
@@ -59,6 +58,15 @@ pub record IsNextOn (job : Job) (spots : ℕ → Spot) (s : TaskState) (i k : �
   pub room : length registering.kid.numbers.items < length (registrations_at job registering.kid.task)
   pub is : r ≡ registration_at job registering.kid.task (length registering.kid.numbers.items)
   pub on : IsPlaceOn job s.number r.phaser k
+
+-- the child joins now and has no registration yet: its first is on phaser p, and registration k of the
+-- task is there
+pub record IsNextNow (job : Job) (spots : ℕ → Spot) (s : TaskState) (i k p : ℕ) : Type 0 where
+  pub registering : IsRegistering job spots s i
+  pub none : registering.kid.numbers.items ≡ []
+  pub now : (task_at job.graph registering.kid.task).joins_now ≡ true
+  pub first : (registration_at job registering.kid.task 0).phaser ≡ p
+  pub on : IsPlaceOn job s.number p k
 
 -- whether task c is a child of task t, and after how many steps it comes
 abbrev pub TellsChild : Job → ℕ → ℕ → Option ℕ → Type 0
@@ -77,6 +85,29 @@ pub record MayStep (job : Job) (s : TaskState) : Type 0 where
   pub task : IsTask job spots s
   pub met : s.met ≡ false
   pub over : s.over ≡ false
-  pub owed : s.owed ≡ Nothing
+  pub owed : OwesNothing s
   pub uncut : is_cut (task_at job.graph s.number).until s.begun ≡ false
   pub children : HasChildrenNow job s
+
+-- so many steps, of which `until` allows some after those that were begun
+abbrev pub until_allows : Option ℕ → ℕ → ℕ → ℕ
+until_allows None begun steps = steps
+until_allows (Some until) begun steps = min steps (until - begun)
+
+-- none of these children that comes later does before the last of so many steps
+abbrev pub ChildrenAllow : List Child → ℕ → ℕ → Type 0
+ChildrenAllow children begun steps = (i : ℕ) (child : Child) → slice_get children i ≡ Some child
+    → begun < child.at → begun + steps ≤ child.at
+
+-- task t, which began so many steps before, has taken these outcomes of the first wait of as many
+-- steps: none is out of range, and this is what the steps owe next
+pub record HasTaken (job : Job) (t begun : ℕ) (outcomes : List Outcome) (old new : Option FirState)
+    (owed : Owed) (made : List ℤ) : Type 0 where
+  pub fit : All (λ outcome. is_too_big outcome ≡ false) outcomes
+  pub owes : (taken : List ℤ) → HasFilter (task_at job.graph t) old taken
+      → owed_by owed made
+      ≡ turns.owed_after_wait (task_at job.graph t) begun taken (map number outcomes)
+  pub filter : (taken : List ℤ) → HasFilter (task_at job.graph t) old taken
+      → HasFilter (task_at job.graph t) new (taken ++ map number outcomes)
+  pub filters : (task_at job.graph t).kind ≡ Fir → owed ≡ Nothing
+  pub others : (task_at job.graph t).kind ≢ Fir → made ≡ []

@@ -8,6 +8,7 @@ pub mod Inside
 pub mod Joinings
 pub mod Openings
 pub mod Registering
+pub mod RunAnswers
 pub mod Runs
 pub mod Seeds
 pub mod TaskLefts

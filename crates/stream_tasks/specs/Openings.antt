@@ -98,6 +98,5 @@ pub record IsRootMember (job : Job) (spots : ℕ → Spot) (t i : ℕ) (member :
   pub line : IsOfLine job (registration_at job t i).phaser (member_op member)
       (spots (registration_at job t i).phaser)
   pub mode : (member_in member).mode ≡ (registration_at job t i).mode
-  pub none_held : (member_in member).held ≡ None
   pub root : IsRootOn job (registration_at job t i) (member_in member).number
       (member_in member).seen

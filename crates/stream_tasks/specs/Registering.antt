@@ -1,9 +1,9 @@
 -- A child while its parent registers it: the parent's moment serves both.
-use Rattle.std.specs.Prelude.{◌≡◌, ℕ, ◌<◌, List, length, get_or, slice_get, Option, Some, None, false}
+use Rattle.std.specs.Prelude.{◌≡◌, ℕ, ◌<◌, List, length, get_or, slice_get, Option, Some, None, true, false}
 use Rattle.graph_runs.specs.phase_base.declared.mode.Mode.{Mode}
 use Rattle.graph_runs.specs.phase_history.declared.event.Event.{Event}
-use Rattle.graph_runs.specs.phase_history.declared.event.Event.TheVariants.{Registered}
-use Rattle.graph_runs.specs.phase_history.Histories.{History}
+use Rattle.graph_runs.specs.phase_history.declared.event.Event.TheVariants.{Registered, RegisteredNow}
+use Rattle.graph_runs.specs.phase_history.Histories.{History, done_of}
 use Rattle.stream_eval.specs.stream_lists.Jobs.{Job}
 use Rattle.graph_runs.specs.Moments.{Moment}
 use Rattle.stream_members.specs.Members.{Spot}
@@ -12,9 +12,9 @@ use Rattle.stream_members.specs.declared.any_member.AnyMember.{AnyMember}
 use Rattle.graph_runs.specs.TaskPlaces.{registration_at}
 use Rattle.graph_runs.specs.Places.{IsJoining}
 use Rattle.graph_runs.specs.TaskEnds.{HasOwnCalls, IsChildOf}
-use Rattle.graph_runs.specs.declared.owed.Owed.TheVariants.{Nothing}
+use Rattle.graph_runs.specs.graph_base.Graphs.{task_at}
 use Rattle.stream_tasks.specs.Holds.{HasMade}
-use Rattle.stream_tasks.specs.Tasks.{IsHeldOn, IsTaskAt}
+use Rattle.stream_tasks.specs.Tasks.{IsHeldOn, IsTaskAt, OwesNothing}
 use Rattle.stream_tasks.specs.declared.child.Child.{Child}
 use Rattle.stream_tasks.specs.declared.task_state.TaskState.{TaskState}
 use Rattle.stream_tasks.specs.declared.hold.Hold.{Hold}
@@ -38,6 +38,26 @@ AddsTo mode (On old) (On new) child = HasAdded mode old new child
 AddsTo mode (On old) Gone child = ⊥
 AddsTo mode Gone new child = ⊥
 
+-- the registration of a child that joins now as this number
+abbrev pub registration_now_of : ℕ → ℕ → Event
+registration_now_of child n = RegisteredNow n child
+
+-- a registration has added a child that joins now on its phaser, which has seen what it has, and
+-- begins at the first phase that was not complete
+pub record HasAddedNow (old new child : AnyMember) (start : ℕ) : Type 0 where
+  pub before : History
+  pub made : HasMade (registration_now_of (member_in child).number) old new before
+  pub start_is : start ≡ done_of before
+  pub op : member_op child ≡ member_op old
+  pub at : (member_in child).at ≡ (member_in old).at
+  pub seen : (member_in child).seen ≡ (member_in new).seen
+
+-- the registration of a hold has added such a child
+abbrev pub AddsNowTo : Hold → Hold → AnyMember → ℕ → Type 0
+AddsNowTo (On old) (On new) child start = HasAddedNow old new child start
+AddsNowTo (On old) Gone child start = ⊥
+AddsNowTo Gone new child start = ⊥
+
 -- at this moment, which is its parent's, task c has these numbers and these holds, on the first of
 -- its phasers
 pub record HasFirstHolds (job : Job) (spots : ℕ → Spot) (m : Moment) (c : ℕ) (numbers : List ℕ)
@@ -56,10 +76,13 @@ pub record IsRegistering (job : Job) (spots : ℕ → Spot) (s : TaskState) (i :
   pub child : IsChildOf job kid.task s.number
   pub boundary : s.begun ≡ child.parent.at
   pub going : s.over ≡ false
-  pub owes : s.owed ≡ Nothing
+  pub owes : OwesNothing s
   pub moment : Moment
   pub at : IsTaskAt job spots moment s
   pub first_holds : HasFirstHolds job spots moment kid.task kid.numbers.items s.child_holds.items
+  -- a child that joins now and was registered knows where it begins
+  pub start : (task_at job.graph kid.task).joins_now ≡ true → 0 < length kid.numbers.items
+      → moment.offset kid.task ≡ kid.start
 
 -- a task that registers the child at this place, where there is one
 abbrev pub IsWith : Job → (ℕ → Spot) → TaskState → Option ℕ → Type 0

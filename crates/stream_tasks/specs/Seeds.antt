@@ -9,7 +9,7 @@ use Rattle.stream_members.specs.declared.any_member.AnyMember.{AnyMember}
 use Rattle.graph_runs.specs.Steps.{HasFilter}
 use Rattle.graph_runs.specs.declared.owed.Owed.TheVariants.{Nothing}
 use Rattle.stream_tasks.specs.Openings.{IsRootMember}
-use Rattle.stream_tasks.specs.Tasks.{AreApart}
+use Rattle.stream_tasks.specs.Tasks.{AreApart, HasPlaces}
 use Rattle.stream_tasks.specs.declared.child.Child.{Child}
 use Rattle.stream_tasks.specs.declared.hold.Hold.{Hold}
 use Rattle.stream_tasks.specs.declared.hold.Hold.TheVariants.{On}
@@ -48,6 +48,8 @@ pub record IsSeed (job : Job) (s : TaskState) : Type 0 where
   pub samples : s.samples.now ≡ samples_at job s.number
   pub begun : s.begun ≡ 0
   pub owed : s.owed ≡ Nothing
+  pub made : s.made.items ≡ []
+  pub places : HasPlaces job s
   pub filter : HasFilter (task_at job.graph s.number) s.filter []
   pub lines : s.lines.items ≡ []
   pub lefts : s.lefts.items ≡ []

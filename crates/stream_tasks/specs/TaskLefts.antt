@@ -1,5 +1,5 @@
 -- What a task leaves behind, and what the end of a run knows of it.
-use Rattle.std.specs.Prelude.{◌≡◌, ℕ, ℤ, ◌<◌, ◌≤◌, get_or, List, [], ◌∷◌, length, map, slice_get, Option, Some, None, true, false, ◌==◌, if◌then◌else◌}
+use Rattle.std.specs.Prelude.{◌≡◌, ℕ, ℤ, ◌<◌, ◌≤◌, get_or, List, [], ◌∷◌, length, map, slice_get, Option, Some, None, Bool, true, false, ◌==◌, if◌then◌else◌}
 use Rattle.graph_runs.specs.phase_history.Legal.{IsLegal}
 use Rattle.graph_runs.specs.graph_base.Graphs.{phaser_at}
 use Rattle.stream_eval.specs.stream_lists.Jobs.{Job}
@@ -25,7 +25,13 @@ pub record IsGone (s : TaskState) : Type 0 where
 abbrev pub left_by : TaskState → TaskLeft
 left_by s = record {
   task = s.number;
-  part = record { begun = s.begun; numbers = s.numbers; lines = s.lines; given = s.children };
+  part = record {
+    begun = s.begun;
+    start = s.start;
+    numbers = s.numbers;
+    lines = s.lines;
+    given = s.children;
+  };
   lefts = s.lefts;
 }
 
@@ -39,6 +45,7 @@ abbrev pub end_of : ℕ → TaskKnowledge → List AnyLeft → TaskEnd
 end_of t part lefts = record {
   task = t;
   begun = part.begun;
+  start = part.start;
   numbers = part.numbers.items;
   seen = map (λ l. (left_in l).seen) lefts;
   lines = part.lines.items;
@@ -82,3 +89,8 @@ part_lines (Some part) = part.lines.items
 -- the same of task t
 abbrev pub lines_at : List (Option TaskKnowledge) → ℕ → List ℤ
 lines_at parts t = part_lines (get_or parts t None)
+
+-- where a task began that joins now and came
+abbrev pub part_start : Bool → Option TaskKnowledge → Option ℕ
+part_start true (Some part) = Some part.start
+part_start joins_now part = None

@@ -1,8 +1,8 @@
 -- What the code of a task keeps: a moment of the task's own, at which each of its registrations has
 -- just the history that it has seen.
-use Rattle.std.specs.Prelude.{◌≡◌, ℕ, ◌<◌, ◌≤◌, List, [], ◌∷◌, length, get_or, slice_get, Some, true, false}
+use Rattle.std.specs.Prelude.{◌≡◌, ◌≢◌, ℕ, ◌<◌, ◌≤◌, ℤ, List, [], ◌∷◌, length, map, get_or, slice_get, Some, Ok, true, false}
 use Rattle.graph_runs.specs.graph_base.declared.line.Parent.{Parent}
-use Rattle.graph_runs.specs.graph_base.declared.line.Kind.TheVariants.{Sink}
+use Rattle.graph_runs.specs.graph_base.declared.line.Kind.TheVariants.{Fir, Sink}
 use Rattle.graph_runs.specs.graph_base.Graphs.{task_at, phaser_at}
 use Rattle.graph_runs.specs.graph_base.TaskLines.{IsGraph}
 use Rattle.stream_eval.specs.stream_lists.Jobs.{Job, samples_at}
@@ -13,12 +13,13 @@ use Rattle.stream_members.specs.declared.any_member.AnyMember.{AnyMember}
 use Rattle.stream_members.specs.declared.any_left.AnyLeft.{AnyLeft}
 use Rattle.graph_runs.specs.Nexts.{registrations_at}
 use Rattle.graph_runs.specs.TaskPlaces as turns
-use Rattle.graph_runs.specs.TaskPlaces.{TaskPlace, StandsAt, registration_at}
+use Rattle.graph_runs.specs.TaskPlaces.{TaskPlace, StandsUpTo, registration_at}
 use Rattle.graph_runs.specs.TaskEnds.{HasOwnCalls, HasNumbers, IsChildOf}
 use Rattle.graph_runs.specs.Steps.{owed_of, HasFilter}
+use Rattle.graph_runs.specs.declared.owed.Owed.{Owed}
 use Rattle.graph_runs.specs.declared.owed.Owed.TheVariants.{Nothing}
 use Rattle.graph_runs.specs.Parts.{HasPart}
-use Rattle.graph_runs.specs.Places.{HasChildrenBy, KnowsOthers}
+use Rattle.graph_runs.specs.Places.{HasChildrenBy, IsMost, KnowsOthers}
 use Rattle.stream_tasks.specs.declared.child.Child.{Child}
 use Rattle.stream_tasks.specs.declared.hold.Hold.{Hold}
 use Rattle.stream_tasks.specs.declared.hold.Hold.TheVariants.{On, Gone}
@@ -85,6 +86,17 @@ abbrev pub HasGivenNumbers : Job → Moment → List Child → Type 0
 HasGivenNumbers job m children = (i : ℕ) (child : Child) → slice_get children i ≡ Some child
     → HasNumbers job m child.task child.numbers.items
 
+-- ---- what is owed
+
+-- what is owed of the steps of a task: what its filter has made, or else this
+abbrev pub owed_by : Owed → List ℤ → turns.Owed
+owed_by owed [] = owed_of owed
+owed_by owed (v ∷ vs) = turns.values 0 (map (λ x. Ok x) (v ∷ vs))
+
+-- it owes nothing
+abbrev pub OwesNothing : TaskState → Type 0
+OwesNothing s = (s.owed ≡ Nothing) × (s.made.items ≡ [])
+
 -- ---- the whole
 
 -- the place of a task in this state
@@ -93,14 +105,14 @@ place_of s = record {
   numbers = s.numbers.items;
   left = length s.lefts.items;
   begun = s.begun;
-  owed = owed_of s.owed;
+  owed = owed_by s.owed s.made.items;
 }
 
 -- a task that makes no further step has ended: it owes nothing, and its children that come now are
 -- all there
 pub record IsAtEnd (job : Job) (m : Moment) (s : TaskState) : Type 0 where
   pub ended : HasEnded job m s.number
-  pub nothing_owed : owed_of s.owed ≡ turns.nothing
+  pub nothing_owed : owed_by s.owed s.made.items ≡ turns.nothing
   pub children : HasChildrenBy job m s.number s.begun
 
 -- a task in this state at a moment of its own
@@ -108,12 +120,22 @@ pub record IsTaskAt (job : Job) (spots : ℕ → Spot) (m : Moment) (s : TaskSta
   pub part : HasPart job m s.number
   pub own : HasOwnCalls job m s.number
   pub knows : KnowsOthers job m s.number
-  pub place : StandsAt job m s.number (place_of s)
+  pub place : StandsUpTo s.most job m s.number (place_of s)
+  pub start : (task_at job.graph s.number).joins_now ≡ true → m.offset s.number ≡ s.start
   pub holds : HasHolds job spots m s.number s.holds.items s.lefts.items
   pub filter : HasFilter (task_at job.graph s.number) s.filter (m.taken s.number 0)
   pub lines : (task_at job.graph s.number).kind ≡ Sink → s.lines.items ≡ m.taken s.number 0
   pub given : HasGivenNumbers job m s.children.items
   pub at_end : s.over ≡ true → IsAtEnd job m s
+
+-- the places of a task for the steps of one event: for so many of its own accord, and for a block of
+-- its line
+pub record HasPlaces (job : Job) (s : TaskState) : Type 0 where
+  pub most : IsMost job s.number s.most
+  pub own : 1 ≤ s.own
+  pub own_few : s.own ≤ s.most
+  pub block : (task_at job.graph s.number).block ≤ s.most
+  pub made : s.most ≤ s.made.cap
 
 -- what holds of a task always, whatever it met
 pub record IsWhole (job : Job) (s : TaskState) : Type 0 where
@@ -126,6 +148,10 @@ pub record IsWhole (job : Job) (s : TaskState) : Type 0 where
   pub staying : s.over ≡ false → length s.lefts.items ≡ 0
   -- what it has seen of each phaser finds room
   pub room : length (registrations_at job s.number) ≤ s.lefts.cap
+  pub places : HasPlaces job s
+  -- a filter owes what it has made, and other tasks make nothing
+  pub filters : (task_at job.graph s.number).kind ≡ Fir → s.owed ≡ Nothing
+  pub others : (task_at job.graph s.number).kind ≢ Fir → s.made.items ≡ []
 
 -- each child of a task that comes now has as many numbers as registrations
 abbrev pub HasAllNow : Job → TaskState → Type 0
@@ -135,7 +161,7 @@ HasAllNow job s = (i : ℕ) (child : Child) → slice_get s.children.items i ≡
 
 -- no child of a task comes now, where it stands between two steps, that has not all its numbers
 abbrev pub HasNoneDue : Job → TaskState → Type 0
-HasNoneDue job s = s.over ≡ false → s.owed ≡ Nothing → HasAllNow job s
+HasNoneDue job s = s.over ≡ false → OwesNothing s → HasAllNow job s
 
 -- the child at this place comes now, and has not all its numbers
 pub record IsMissing (job : Job) (s : TaskState) (i : ℕ) : Type 0 where
@@ -147,7 +173,7 @@ pub record IsMissing (job : Job) (s : TaskState) (i : ℕ) : Type 0 where
 -- the same where the task stands between two steps
 pub record IsDue (job : Job) (s : TaskState) (i : ℕ) : Type 0 where
   pub going : s.over ≡ false
-  pub owes : s.owed ≡ Nothing
+  pub owes : OwesNothing s
   pub missing : IsMissing job s i
 
 -- a task of a run in this state: it stands at a moment, but where it met what ends all

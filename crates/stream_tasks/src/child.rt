@@ -11,4 +11,6 @@ pub struct Child {
     pub at: u64,
     /// The numbers that the parent gave it, in the order of its registrations.
     pub numbers: SmallVec<u64, 9>,
+    /// The phase at which it began, once it is registered, of one that joins now.
+    pub start: u64,
 }

@@ -3,7 +3,7 @@ ghost use Rattle.std.specs.Prelude.{◌≡◌, ◌<◌, ◌≤◌, ℕ, length, 
 ghost use Rattle.stream_eval.specs.stream_lists.Jobs.{Job as JobValue};
 ghost use Rattle.stream_members.specs.Members.{Spot};
 ghost use Rattle.graph_runs.specs.Nexts.{registrations_at};
-ghost use Rattle.stream_tasks.specs.Inside.{IsPlaceOn, HasChildRoom, HasKept, IsNextOn};
+ghost use Rattle.stream_tasks.specs.Inside.{IsPlaceOn, HasChildRoom, HasKept, IsNextOn, IsNextNow};
 ghost use Rattle.stream_tasks.specs.Registering.{IsRegistering, IsWith};
 ghost use Rattle.stream_tasks.specs.Tasks.{HasAllNow, HasNoneDue, IsDue, IsMissing, IsTask, IsWhole};
 
@@ -24,7 +24,7 @@ impl<'a> TaskState<'a> {
         ensures none { result ≡ None → HasNoneDue job.now self.now }
         ensures some { IfSome result (IsDue job.now self.now) }
     {
-        if self.over {
+        if self.over || !self.made.is_empty() {
             return None;
         }
         match self.owed {
@@ -101,12 +101,34 @@ impl<'a> TaskState<'a> {
         ensures registering { (spots : ℕ → Spot) → IsNextOn job.now spots self.old i k registration
             → IsRegistering job.now spots self.new i }
     {
+        if job.graph().task(self.children[i].task).joins_now {
+            return self.add_now(i, k, registration.phaser);
+        }
         match self.holds[k].add(registration.mode) {
             Ok(member) => {
-                self.keep(i, member);
+                self.keep(i, member, 0);
                 Went::Moved(registration.phaser)
             }
             Err(held) => held.on(registration.phaser),
+        }
+    }
+
+    /// Makes the registration of the child at place `i`, which joins now, on registration `k` of its
+    /// own, phaser `p`.
+    fn add_now(&mut self, i: usize, k: usize, p: usize) -> Went
+        requires room { HasChildRoom self.old i }
+        requires next { (job : JobValue) × (spots : ℕ → Spot) × IsWhole job self.old
+            × IsNextNow job spots self.old i k p }
+        ensures whole { (job : JobValue) → IsWhole job self.old → IsWhole job self.new }
+        ensures registering { (job : JobValue) (spots : ℕ → Spot) → IsWhole job self.old
+            → IsNextNow job spots self.old i k p → IsRegistering job spots self.new i }
+    {
+        match self.holds[k].add_now() {
+            Ok((member, start)) => {
+                self.keep(i, member, start);
+                Went::Moved(p)
+            }
+            Err(held) => held.on(p),
         }
     }
 
@@ -119,14 +141,15 @@ impl<'a> TaskState<'a> {
         numbers.len() < numbers.capacity() && self.child_holds.len() < self.child_holds.capacity()
     }
 
-    /// Keeps another registration of the child at place `i`.
-    fn keep(&mut self, i: usize, member: AnyMember<'a>)
+    /// Keeps another registration of the child at place `i`, and where the child begins.
+    fn keep(&mut self, i: usize, member: AnyMember<'a>, start: u64)
         requires child { i < length self.old.children.items }
         requires room { HasChildRoom self.old i }
-        ensures { HasKept i member.entry self.old self.new }
+        ensures { HasKept i member.entry start self.old self.new }
     {
         let child = &mut self.children[i];
         child.numbers.push_reserved(member.number());
+        child.start = start;
         self.child_holds.push_reserved(Hold::On(member));
     }
 }

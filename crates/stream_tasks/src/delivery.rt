@@ -37,6 +37,7 @@ impl<'a> TaskState<'a> {
         if child.numbers.extend_from_slice(numbers).is_err() {
             unreachable!()
         }
+        child.start = self.children[i].start;
         mem::swap(&mut self.child_holds, &mut child.holds);
         child
     }

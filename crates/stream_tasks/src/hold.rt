@@ -1,18 +1,16 @@
 //! What a task holds of a phaser.
-ghost use Rattle.std.specs.Prelude.{◌≡◌, IfErr, IfOk, OnErr, OnOk};
-ghost use Rattle.stream_eval.specs.stream_lists.Lists.{number};
-ghost use Rattle.stream_tasks.specs.Holds.{GoesOn, HasSignalled, HasGot, HasSeenOthers, Leaves};
-ghost use Rattle.stream_tasks.specs.Inside.{IsGivenAs};
-ghost use Rattle.stream_tasks.specs.Registering.{AddsTo};
+ghost use Rattle.std.specs.Prelude.{◌≡◌, ◌↔◌, [], ◌∷◌, length, IfOk, IsOk, OnErr, OnOk};
+ghost use Rattle.stream_tasks.specs.Holds.{GoesOn, HasSignalled, HasGot, HasSeenOthers, IsAtMost, Leaves};
+ghost use Rattle.stream_tasks.specs.Registering.{AddsTo, AddsNowTo};
 
 use crate::held::Held;
 use graph_runs::phase_accum::{Outcome, Single};
 use graph_runs::phase_base::Mode;
 use std::mem;
 use std::sync::Wait;
-use stream_members::phase_core::{Got, RegisterRefusal, SignalRefusal, WaitRefusal, laws};
+use stream_members::phase_core::{GotBlock, RegisterRefusal, SignalRefusal, WaitRefusal, laws};
 use stream_members::phase_shared::Tried;
-use stream_members::{AnyLeft, AnyMember, PutRefusal};
+use stream_members::{AnyLeft, AnyMember, Places, PutRefusal};
 
 /// What a task holds of a phaser: its registration, until it leaves.
 pub enum Hold<'a> {
@@ -23,45 +21,64 @@ pub enum Hold<'a> {
 /// What a wait gave.
 #[derive(Clone, Copy, Debug, PartialEq, Eq)]
 pub enum Given {
-    /// A number, 0 for no value.
-    Value(i64),
-    /// A value that is out of range.
-    TooBig,
+    /// So many values, one at least.
+    Values(usize),
     /// No more will come.
     Ended,
 }
 
 impl<'a> Hold<'a> {
+    /// How many phases may be signalled, as far as is known without a turn. It is a hint.
+    pub fn room(&self) -> u64 {
+        match self {
+            Hold::On(member) => member.room(),
+            Hold::Gone => 0,
+        }
+    }
+
     /// Signals with one value.
     pub fn put(&mut self, value: i64, single: Option<Single>) -> Result<(), Held>
-        ensures ok { OnOk result (GoesOn (HasSignalled value single) self.old self.new) }
+        ensures ok { OnOk result (GoesOn (HasSignalled (value ∷ []) single) self.old self.new) }
         ensures err { OnErr result (GoesOn HasSeenOthers self.old self.new) }
     {
         laws::others_come();
         let Hold::On(member) = self else {
             return Err(Held::Stuck);
         };
-        match member.try_put(value, single) {
-            Ok(_) => Ok(()),
-            Err(PutRefusal::Busy) => Err(Held::Busy),
-            Err(PutRefusal::Refused(SignalRefusal::Ahead)) => Err(Held::Blocked),
-            Err(PutRefusal::Refused(SignalRefusal::Spent)) => Err(Held::Blocked),
-            Err(_) => Err(Held::Stuck),
-        }
+        signalled(member.try_put(value, single))
     }
 
-    /// Waits for the next value.
-    pub fn get(&mut self) -> Result<Given, Held>
-        ensures { GoesOn (HasGot result) self.old self.new }
+    /// Signals with these values, one a phase.
+    pub fn put_all(
+        &mut self,
+        values: &[i64],
+        single: Option<Single>,
+        places: &mut Places,
+    ) -> Result<(), Held>
+        ensures ok { OnOk result (GoesOn (HasSignalled values.now single) self.old self.new) }
+        ensures err { OnErr result (GoesOn HasSeenOthers self.old self.new) }
+    {
+        laws::others_come();
+        let Hold::On(member) = self else {
+            return Err(Held::Stuck);
+        };
+        signalled(member.try_put_all(values, single, places))
+    }
+
+    /// Waits for the next values, as many as there are places at most, which get them.
+    pub fn get(&mut self, out: &mut [Outcome]) -> Result<Given, Held>
+        ensures call { GoesOn (HasGot result out.new) self.old self.new }
+        ensures few { IfOk result (IsAtMost (length out.old)) }
+        ensures out { length out.new ≡ length out.old }
     {
         laws::others_come();
         laws::answers();
         let Hold::On(member) = self else {
             return Err(Held::Stuck);
         };
-        match member.try_get() {
-            Ok(Got::Value { phase: _, outcome }) => Ok(number_in(outcome)),
-            Ok(Got::Ended) => Ok(Given::Ended),
+        match member.try_get(out) {
+            Ok(GotBlock::Values { phase: _, count }) => Ok(Given::Values(count as usize)),
+            Ok(GotBlock::Ended) => Ok(Given::Ended),
             Err(Tried::Busy) => Err(Held::Busy),
             Err(Tried::Refused(WaitRefusal::NotYet)) => Err(Held::Blocked),
             Err(_) => Err(Held::Stuck),
@@ -78,6 +95,23 @@ impl<'a> Hold<'a> {
             return Err(Held::Stuck);
         };
         match member.try_add(mode) {
+            Ok(child) => Ok(child),
+            Err(Tried::Busy) => Err(Held::Busy),
+            Err(Tried::Refused(RegisterRefusal::OutOfMemory)) => Err(Held::OutOfMemory),
+            Err(_) => Err(Held::Stuck),
+        }
+    }
+
+    /// Registers a child that joins now, and tells where it begins.
+    pub fn add_now(&mut self) -> Result<(AnyMember<'a>, u64), Held>
+        ensures ok { IfOk result (λ child. AddsNowTo self.old self.new child.0 child.1) }
+        ensures err { OnErr result (GoesOn HasSeenOthers self.old self.new) }
+    {
+        laws::others_come();
+        let Hold::On(member) = self else {
+            return Err(Held::Stuck);
+        };
+        match member.try_add_now() {
             Ok(child) => Ok(child),
             Err(Tried::Busy) => Err(Held::Busy),
             Err(Tried::Refused(RegisterRefusal::OutOfMemory)) => Err(Held::OutOfMemory),
@@ -111,13 +145,15 @@ impl<'a> Hold<'a> {
     }
 }
 
-/// What a wait gave, as a number.
-fn number_in(outcome: Outcome) -> Given
-    ensures { IsGivenAs outcome result }
+/// What a signal answers.
+fn signalled(answer: Result<u64, PutRefusal>) -> Result<(), Held>
+    ensures { IsOk result ↔ IsOk answer }
 {
-    match outcome {
-        Outcome::Value(value) => Given::Value(value),
-        Outcome::Empty => Given::Value(0),
-        Outcome::TooBig => Given::TooBig,
+    match answer {
+        Ok(_) => Ok(()),
+        Err(PutRefusal::Busy) => Err(Held::Busy),
+        Err(PutRefusal::Refused(SignalRefusal::Ahead)) => Err(Held::Blocked),
+        Err(PutRefusal::Refused(SignalRefusal::Spent)) => Err(Held::Blocked),
+        Err(_) => Err(Held::Stuck),
     }
 }

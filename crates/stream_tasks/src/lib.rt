@@ -28,6 +28,7 @@
 //! have all left, none is known where it is.
 #![tactic(auto)]
 
+mod blocks;
 mod child;
 mod children;
 mod delivery;

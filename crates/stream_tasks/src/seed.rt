@@ -6,9 +6,11 @@ ghost use Rattle.stream_tasks.specs.Seeds.{seed_state, IsSeed, HasRoom, HasRecei
 ghost use Rattle.stream_tasks.specs.Inside.{TellsChild};
 ghost use Rattle.stream_eval.specs.stream_lists.Jobs.{Job as JobValue};
 
+use crate::blocks::{own_steps, places_for};
 use crate::child::Child;
 use crate::hold::Hold;
 use crate::task_state::TaskState;
+use graph_runs::phase_accum::Outcome;
 use graph_runs::{Owed, first_filter, parent_of};
 use smallvec::SmallVec;
 use std::alloc::{AllocError, Global};
@@ -27,8 +29,8 @@ pub struct Seed<'a> {
 impl<'a> Seed<'a> {
     /// Makes that of task number `task`, which is registered nowhere.
     ///
-    /// It takes memory for its registrations and for those of a child, for its children, and for
-    /// the taps and the window of a filter.
+    /// It takes memory for its registrations and for those of a child, for its children, for the
+    /// values of a block, and for the taps and the window of a filter.
     pub fn new(alloc: Global, job: &'a Job, task: usize) -> Result<Seed<'a>, AllocError>
         requires task { task < length job.now.graph.tasks }
         ensures number { IfOk result (λ seed. (seed_state seed).number ≡ task) }
@@ -38,6 +40,13 @@ impl<'a> Seed<'a> {
         ensures received { IfOk result (λ seed. (job : JobValue) (spots : ℕ → Spot)
             → HasReceived job spots (seed_state seed)) }
     {
+        let own = own_steps(job, task);
+        let Ok(most) = usize::try_from(own.max(job.graph().task(task).block)) else {
+            return Err(AllocError);
+        };
+        let outcomes = vec![in alloc; Outcome::Empty; most]?;
+        let made = Vec::with_capacity(alloc, most)?;
+        let places = places_for(alloc, job, task, most)?;
         let filter = first_filter(alloc, job, task)?;
         let children = children_of(alloc, job, task)?;
         let lefts = Vec::with_capacity(alloc, 9)?;
@@ -50,12 +59,18 @@ impl<'a> Seed<'a> {
             state: TaskState {
                 number: task,
                 samples: job.samples_of(task),
+                most,
+                own,
                 begun: 0,
+                start: 0,
                 owed: Owed::Nothing,
+                made,
                 filter,
                 lines: Vec::new(alloc),
                 numbers: SmallVec::new(alloc),
                 holds,
+                outcomes,
+                places,
                 lefts,
                 over: false,
                 entered: false,
@@ -130,6 +145,7 @@ fn children_of(alloc: Global, job: &Job, task: usize) -> Result<Vec<Child>, Allo
                 task: c,
                 at,
                 numbers: SmallVec::new(alloc),
+                start: 0,
             })?;
         }
     }

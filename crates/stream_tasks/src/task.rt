@@ -84,6 +84,12 @@ impl<'a, J: Run> Task<'a, J> {
         set
     }
 
+    /// How much its steps did so far, where a multiplication of a filter counts 1.
+    pub fn effort(&self) -> u64 {
+        let taps = self.job.graph().task(self.state.number).taps.len() as u64;
+        self.state.begun.saturating_mul(taps.saturating_add(16))
+    }
+
     /// Makes its next event, where it can: one call at most.
     ///
     /// Where a child comes it registers the child on the phasers of its line, one after the other,

@@ -6,10 +6,11 @@ use crate::child::Child;
 use crate::ending::task_left::{TaskKnowledge, TaskLeft};
 use crate::hold::Hold;
 use graph_runs::Owed;
+use graph_runs::phase_accum::Outcome;
 use smallvec::SmallVec;
 use std::sync::Wait;
 use stream_eval::stream_filters::Fir;
-use stream_members::AnyLeft;
+use stream_members::{AnyLeft, Places};
 
 /// How far a task has come, with its registrations.
 pub struct TaskState<'a> {
@@ -17,10 +18,18 @@ pub struct TaskState<'a> {
     pub number: usize,
     /// The samples of a task that is a source.
     pub samples: &'a [i64],
+    /// How many steps it makes in one event at most: a block of its line, or as many as follow.
+    pub most: usize,
+    /// How many steps it makes in one event of its own accord, at most.
+    pub own: u64,
     /// How many steps it has begun.
     pub begun: u64,
-    /// What these steps owe next.
+    /// The phase at which it began, of a sink that joined now.
+    pub start: u64,
+    /// What these steps owe next, of a task that is no filter.
     pub owed: Owed,
+    /// What these steps owe, of a filter.
+    pub made: Vec<i64>,
     /// The filter of a task that is one.
     pub filter: Option<Fir>,
     /// What a sink has taken.
@@ -29,6 +38,9 @@ pub struct TaskState<'a> {
     pub numbers: SmallVec<u64, 9>,
     /// What it holds of its phasers, in that order.
     pub holds: Vec<Hold<'a>>,
+    /// Places for what its waits get, and for the sends of its signals.
+    pub outcomes: Vec<Outcome>,
+    pub places: Places,
     /// What it has seen of the phasers that it has left, which are the first of them.
     pub lefts: Vec<AnyLeft<'a>>,
     /// Whether it makes no further step.
@@ -64,12 +76,18 @@ impl<'a> TaskState<'a> {
         let TaskState {
             number,
             samples: _,
+            most: _,
+            own: _,
             begun,
+            start,
             owed: _,
+            made: _,
             filter: _,
             lines,
             numbers,
             holds,
+            outcomes: _,
+            places: _,
             lefts,
             over: _,
             entered: _,
@@ -83,6 +101,7 @@ impl<'a> TaskState<'a> {
             task: number,
             part: TaskKnowledge {
                 begun,
+                start,
                 numbers,
                 lines,
                 given: children,

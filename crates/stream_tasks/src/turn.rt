@@ -1,22 +1,32 @@
 //! One event of a task.
-ghost use Rattle.std.specs.Prelude.{◌≡◌, ◌≢◌, ◌<◌, ℕ, [], ◌∷◌, ◌++◌, Ok, true, false, vec_len, vec_capacity};
+ghost use Rattle.std.specs.Prelude.{◌≡◌, ◌≢◌, ◌+◌, ◌<◌, ◌≤◌, ℕ, ℤ, List, [], ◌++◌, Ok, true, false, length, map, vec_len, vec_capacity, IfSome};
+ghost use Rattle.std.specs.List.{All};
 ghost use Rattle.graph_runs.specs.graph_base.Graphs.{task_at};
 ghost use Rattle.graph_runs.specs.graph_base.declared.line.Kind.TheVariants as kind;
+ghost use Rattle.stream_eval.specs.stream_filters.Range.{ranged};
 ghost use Rattle.stream_eval.specs.stream_lists.Jobs.{Job as JobValue};
+ghost use Rattle.stream_eval.specs.stream_lists.Lists.{number};
+ghost use Rattle.stream_eval.specs.stream_lists.Ranges.{is_too_big};
 ghost use Rattle.stream_members.specs.Members.{Spot};
-ghost use Rattle.graph_runs.specs.declared.owed.Owed.TheVariants.{Value, Exchange, Nothing};
+ghost use Rattle.graph_runs.specs.declared.owed.Owed.TheVariants.{Value, Exchange};
+ghost use Rattle.graph_runs.specs.Moves.{IsBlock};
 ghost use Rattle.graph_runs.specs.Nexts.{is_cut};
-ghost use Rattle.stream_tasks.specs.Tasks.{HasAllNow, HasNoneDue, IsTask, IsWhole, Keeps};
-ghost use Rattle.stream_tasks.specs.Inside.{MayStep};
+ghost use Rattle.graph_runs.specs.Steps.{HasFilter};
+ghost use Rattle.graph_runs.specs.TaskPlaces.{outputs_of_block};
+ghost use Rattle.stream_tasks.specs.Tasks.{HasAllNow, HasNoneDue, IsTask, IsWhole, Keeps, OwesNothing};
+ghost use Rattle.stream_tasks.specs.Inside.{HasTaken, MayStep};
 
 use crate::gate::Gate;
 use crate::hold::Given;
 use crate::task_state::TaskState;
 use crate::went::Went;
+use graph_runs::graph_base::Kind;
+use graph_runs::phase_accum::Outcome;
 use graph_runs::{
-    Owed, first_input_of, input_of, is_sink, is_source, kind_of, output_of, owed_after_exchange,
-    owed_after_signal, owed_after_wait, until_of,
+    Owed, filtered, first_input_of, input_of, is_sink, is_source, kind_of, number_taken, output_of,
+    owed_after_exchange, owed_after_signal, owed_after_wait, until_of,
 };
+use stream_eval::stream_filters::Fir;
 use stream_eval::stream_lists::Job;
 
 impl<'a> TaskState<'a> {
@@ -29,6 +39,9 @@ impl<'a> TaskState<'a> {
     {
         if self.over {
             return self.leave_next(job);
+        }
+        if !self.made.is_empty() {
+            return self.put_made(job);
         }
         match self.owed {
             Owed::Value {
@@ -72,12 +85,32 @@ impl<'a> TaskState<'a> {
         }
     }
 
+    /// Puts all that its filter has made.
+    fn put_made(&mut self, job: &Job) -> Went
+        requires task { (spots : ℕ → Spot) × IsTask job.now spots self.old }
+        requires met { self.old.met ≡ false }
+        requires over { self.old.over ≡ false }
+        requires made { self.old.made.items ≢ [] }
+        ensures { Keeps job.now self.old self.new }
+    {
+        let (k, p) = output_of(job, self.number, 0);
+        let single = job.graph().phaser(p).single;
+        match self.holds[k].put_all(&self.made, single, &mut self.places) {
+            Ok(()) => {
+                self.made.clear();
+                Went::Moved(p)
+            }
+            Err(held) => held.on(p),
+        }
+    }
+
     /// Puts the value that it owes on an output.
     fn put(&mut self, job: &Job, output: usize, value: i64) -> Went
         requires task { (spots : ℕ → Spot) × IsTask job.now spots self.old }
         requires met { self.old.met ≡ false }
         requires over { self.old.over ≡ false }
         requires owed { self.old.owed ≡ Value output (Ok value) }
+        requires none_made { self.old.made.items ≡ [] }
         ensures { Keeps job.now self.old self.new }
     {
         let (k, p) = output_of(job, self.number, output);
@@ -96,15 +129,23 @@ impl<'a> TaskState<'a> {
         requires met { self.old.met ≡ false }
         requires over { self.old.over ≡ false }
         requires owed { self.old.owed ≡ Exchange x }
+        requires none_made { self.old.made.items ≡ [] }
         ensures { Keeps job.now self.old self.new }
     {
         let p = input_of(job, self.number, 1);
-        match self.holds[1].get() {
-            Ok(Given::Value(e)) => {
-                self.owed = owed_after_exchange(job, self.number, x, e);
+        if self.outcomes.is_empty() {
+            return self.meet(Went::Stuck);
+        }
+        let out = &mut self.outcomes[..1];
+        match self.holds[1].get(out) {
+            Ok(Given::Values(_)) => {
+                let got = out[0];
+                if is_too_big(got) {
+                    return self.meet(Went::TooBig);
+                }
+                self.owed = owed_after_exchange(job, self.number, x, number_taken(got));
                 Went::Moved(p)
             }
-            Ok(Given::TooBig) => self.meet(Went::TooBig),
             Ok(Given::Ended) => self.meet(Went::Stuck),
             Err(held) => held.on(p),
         }
@@ -115,7 +156,7 @@ impl<'a> TaskState<'a> {
         requires task { (spots : ℕ → Spot) × IsTask job.now spots self.old }
         requires met { self.old.met ≡ false }
         requires over { self.old.over ≡ false }
-        requires owed { self.old.owed ≡ Nothing }
+        requires owed { OwesNothing self.old }
         requires children { HasAllNow job.now self.old }
         ensures { Keeps job.now self.old self.new }
     {
@@ -124,31 +165,32 @@ impl<'a> TaskState<'a> {
             return Went::Ready;
         }
         if is_source(kind_of(job, self.number)) {
-            self.put_sample(job, gate)
+            self.put_samples(job, gate)
         } else {
             self.first_wait(job, gate)
         }
     }
 
-    /// Begins a step of a source, by a signal with its next sample.
-    fn put_sample<G: Gate>(&mut self, job: &Job, gate: &G) -> Went
+    /// Begins steps of a source, by a signal with its next samples.
+    fn put_samples<G: Gate>(&mut self, job: &Job, gate: &G) -> Went
         requires step { MayStep job.now self.old }
         requires kind { (task_at job.now.graph self.old.number).kind ≡ kind.Source }
         ensures { Keeps job.now self.old self.new }
     {
-        let Some(sample) = self.samples.get(self.begun as usize) else {
+        let samples = self.samples;
+        let begun = self.begun;
+        if begun >= samples.len() as u64 {
             self.over = true;
             return Went::Ready;
-        };
-        let value = *sample;
-        let Some(next) = self.begun.checked_add(1) else {
-            return self.meet(Went::Stuck);
-        };
-        enter(gate, &mut self.entered, self.number, self.begun);
+        }
+        let steps = self.steps(job, gate).min(samples.len() as u64 - begun);
+        enter(gate, &mut self.entered, self.number, begun);
+        let values = &samples[begun as usize..(begun + steps) as usize];
         let (k, p) = output_of(job, self.number, 0);
-        match self.holds[k].put(value, job.graph().phaser(p).single) {
+        let single = job.graph().phaser(p).single;
+        match self.holds[k].put_all(values, single, &mut self.places) {
             Ok(()) => {
-                self.begun = next;
+                self.begun = begun + steps;
                 self.entered = false;
                 Went::Moved(p)
             }
@@ -156,31 +198,40 @@ impl<'a> TaskState<'a> {
         }
     }
 
-    /// Begins a step of another task, by its first wait.
+    /// Begins steps of another task, by their first wait.
     fn first_wait<G: Gate>(&mut self, job: &Job, gate: &G) -> Went
         requires step { MayStep job.now self.old }
         requires kind { (task_at job.now.graph self.old.number).kind ≢ kind.Source }
         ensures { Keeps job.now self.old self.new }
     {
+        let steps = self.steps(job, gate) as usize;
+        if steps > self.outcomes.len() {
+            return self.meet(Went::Stuck);
+        }
+        if self.begun.checked_add(steps as u64).is_none() {
+            return self.meet(Went::Stuck);
+        }
         let sink = is_sink(job, self.number);
-        if !make_room(&mut self.lines, sink) {
+        if !make_room(&mut self.lines, sink, steps) {
             return Went::OutOfMemory;
         }
-        let Some(next) = self.begun.checked_add(1) else {
-            return self.meet(Went::Stuck);
-        };
         enter(gate, &mut self.entered, self.number, self.begun);
         let k = first_input_of(job, self.number, self.begun);
         let p = input_of(job, self.number, k);
-        match self.holds[k].get() {
-            Ok(Given::Value(x)) => {
-                keep(&mut self.lines, sink, x);
-                self.owed = owed_after_wait(job, self.number, self.begun, &mut self.filter, x);
-                self.begun = next;
+        let out = &mut self.outcomes[..steps];
+        match self.holds[k].get(out) {
+            Ok(Given::Values(count)) => {
+                let got = &out[..count];
+                let (filter, made) = (&mut self.filter, &mut self.made);
+                let Some(owed) = owed_after(job, self.number, self.begun, filter, made, got) else {
+                    return self.meet(Went::TooBig);
+                };
+                keep(&mut self.lines, sink, got);
+                self.owed = owed;
+                self.begun += count as u64;
                 self.entered = false;
                 Went::Moved(p)
             }
-            Ok(Given::TooBig) => self.meet(Went::TooBig),
             Ok(Given::Ended) => {
                 self.over = true;
                 Went::Ready
@@ -188,6 +239,93 @@ impl<'a> TaskState<'a> {
             Err(held) => held.on(p),
         }
     }
+}
+
+/// Whether none of these outcomes is out of range.
+fn all_fit(outcomes: &[Outcome]) -> bool
+    ensures { result ≡ true → All (λ outcome. is_too_big outcome ≡ false) outcomes.now }
+{
+    for outcome in outcomes {
+        if is_too_big(*outcome) {
+            return false;
+        }
+    }
+    true
+}
+
+/// Whether an outcome is out of range.
+fn is_too_big(outcome: Outcome) -> bool
+    ensures { result ≡ is_too_big outcome }
+{
+    matches!(outcome, Outcome::TooBig)
+}
+
+/// What task number `t`, which is no source, owes after the first wait of its next steps, which got
+/// these outcomes, one for each; it began so many before. A filter takes them, and what it makes is
+/// put to `made`. None where an outcome, or what a filter makes, is out of range.
+fn owed_after(
+    job: &Job,
+    t: usize,
+    begun: u64,
+    filter: &mut Option<Fir>,
+    made: &mut Vec<i64>,
+    got: &[Outcome],
+) -> Option<Owed>
+    requires task { t < length job.now.graph.tasks }
+    requires source { (task_at job.now.graph t).kind ≢ kind.Source }
+    requires filter { (taken : List ℤ) × HasFilter (task_at job.now.graph t) filter.old taken }
+    requires none { made.old.items ≡ [] }
+    requires some { 1 ≤ length got.now }
+    requires block { IsBlock (task_at job.now.graph t).kind (length got.now) }
+    requires room { length got.now ≤ vec_capacity made.old }
+    ensures taken { IfSome result (λ owed.
+        HasTaken job.now t begun got.now filter.old filter.new owed made.new.items) }
+    ensures others { (task_at job.now.graph t).kind ≢ kind.Fir → made.new.items ≡ [] }
+    ensures room { vec_capacity made.new ≡ vec_capacity made.old }
+{
+    if !all_fit(got) {
+        return None;
+    }
+    match kind_of(job, t) {
+        Kind::Fir => filter_all(job, t, filter, got, made).then_some(Owed::Nothing),
+        _ => {
+            let x = number_taken(got[0]);
+            Some(owed_after_wait(job, t, begun, filter, x))
+        }
+    }
+}
+
+/// Makes what the filter of task number `t` makes of these outcomes, and tells whether all of it is
+/// in range. There is room for it.
+fn filter_all(
+    job: &Job,
+    t: usize,
+    filter: &mut Option<Fir>,
+    outcomes: &[Outcome],
+    made: &mut Vec<i64>,
+) -> bool
+    requires task { t < length job.now.graph.tasks }
+    requires kind { (task_at job.now.graph t).kind ≡ kind.Fir }
+    requires filter { (taken : List ℤ) × HasFilter (task_at job.now.graph t) filter.old taken }
+    requires none { made.old.items ≡ [] }
+    requires room { length outcomes.now ≤ vec_capacity made.old }
+    ensures made { result ≡ true → (taken : List ℤ)
+        → HasFilter (task_at job.now.graph t) filter.old taken
+        → let task = task_at job.now.graph t in
+        map ranged (outputs_of_block task.taps task.shift taken (map number outcomes.now))
+        ≡ map (λ v. Ok v) made.new.items }
+    ensures filter { result ≡ true → (taken : List ℤ)
+        → HasFilter (task_at job.now.graph t) filter.old taken
+        → HasFilter (task_at job.now.graph t) filter.new (taken ++ map number outcomes.now) }
+    ensures room { vec_capacity made.new ≡ vec_capacity made.old }
+{
+    for outcome in outcomes {
+        let Ok(value) = filtered(job, t, filter, number_taken(*outcome)) else {
+            return false;
+        };
+        made.push_reserved(value);
+    }
+    true
 }
 
 /// Enters the next step of a task, where no worker has.
@@ -208,23 +346,34 @@ fn is_cut(until: Option<u64>, steps: u64) -> bool
     }
 }
 
-/// Makes room for what a sink takes, and tells whether there is room. Other tasks need none.
-fn make_room(lines: &mut Vec<i64>, sink: bool) -> bool
+/// Makes room for so many more of what a sink takes, and tells whether there is room. Other tasks
+/// need none.
+fn make_room(lines: &mut Vec<i64>, sink: bool, steps: usize) -> bool
     ensures items { lines.new.items ≡ lines.old.items }
-    ensures room { result ≡ true → sink ≡ true → vec_len lines.new < vec_capacity lines.new }
+    ensures room { result ≡ true → sink ≡ true → vec_len lines.new + steps ≤ vec_capacity lines.new }
 {
     if sink {
-        return lines.reserve(1).is_ok();
+        return lines.reserve(steps).is_ok();
     }
     true
 }
 
-/// Keeps what a sink took. Other tasks keep nothing.
-fn keep(lines: &mut Vec<i64>, sink: bool, x: i64)
-    requires { sink ≡ true → vec_len lines.old < vec_capacity lines.old }
-    ensures pushed { sink ≡ true → lines.new.items ≡ lines.old.items ++ x ∷ [] }
+/// Keeps the numbers of what a sink got, for which there is room. Other tasks keep nothing.
+fn keep(lines: &mut Vec<i64>, sink: bool, outcomes: &[Outcome])
+    requires { sink ≡ true → vec_len lines.old + length outcomes.now ≤ vec_capacity lines.old }
+    ensures kept { sink ≡ true → lines.new.items ≡ lines.old.items ++ map number outcomes.now }
 {
     if sink {
-        lines.push_reserved(x);
+        keep_all(lines, outcomes);
+    }
+}
+
+/// Keeps the numbers of these outcomes, for which there is room.
+fn keep_all(lines: &mut Vec<i64>, outcomes: &[Outcome])
+    requires { vec_len lines.old + length outcomes.now ≤ vec_capacity lines.old }
+    ensures { lines.new.items ≡ lines.old.items ++ map number outcomes.now }
+{
+    for outcome in outcomes {
+        lines.push_reserved(number_taken(*outcome));
     }
 }

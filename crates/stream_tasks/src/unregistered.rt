@@ -33,8 +33,8 @@ impl<'a, J: Run> Model for Unregistered<'a, J> {
 impl<'a, J: Run> Unregistered<'a, J> {
     /// Makes that of task number `task`.
     ///
-    /// It takes memory for its registrations and for those of a child, for its children, and for
-    /// the taps and the window of a filter.
+    /// It takes memory for its registrations and for those of a child, for its children, for the
+    /// values of a block, and for the taps and the window of a filter.
     pub fn new(alloc: Global, job: &'a Job, task: usize) -> Result<Unregistered<'a, J>, AllocError>
         requires job { job.now ≡ J.job }
         requires task { task < length job.now.graph.tasks }

@@ -1,12 +1,9 @@
 //! The end of a run between threads.
-ghost use Rattle.std.specs.Prelude.{◌≡◌, ◌<◌, [], ℕ, Ok, length, map, get_or, IfOk, IfSome};
-ghost use Rattle.std.specs.List.{All};
+ghost use Rattle.std.specs.Prelude.{◌≡◌, [], ℕ, length, map, get_or, IfOk, IfSome};
 ghost use Rattle.stream_members.specs.Members.{Spot};
-ghost use Rattle.stream_eval.specs.Results.{sink_values};
-ghost use Rattle.stream_eval.specs.stream_lists.Lists.{start_in};
-ghost use Rattle.stream_eval.specs.stream_lists.Ranges.{answer_of};
 ghost use Rattle.stream_tasks.specs.declared.ending.task_left.TaskLeft.{TaskLeft as TaskLeftValue};
 ghost use Rattle.stream_tasks.specs.Joinings.{IsAt};
+ghost use Rattle.stream_tasks.specs.RunAnswers.{AreLinesOf};
 ghost use Rattle.stream_tasks.specs.TaskLefts.{IsTaskLeft, AreFounders};
 
 use crate::ending::agreeing::all_agree;
@@ -21,7 +18,8 @@ use stream_eval::stream_lists::Job;
 use stream_members::AnyLeft;
 
 /// What the sinks have taken, where what the tasks and the founders leave behind agrees: then it is
-/// the answer of the job. None where something differs, or is missing.
+/// the answer of the job, for the starts of the sinks that joined now. None where something differs,
+/// or is missing.
 ///
 /// The founders' and the tasks' places are those of the lines; a task that never came has none. It
 /// takes memory for a list of the tasks, and one of the sinks.
@@ -39,10 +37,7 @@ pub fn finish<'a>(
         × AreFounders job.now spots founders.items (λ p. get_or (map (λ g. g.items) gave.now) p [])
         × ((t : ℕ) (left : TaskLeftValue) → IsAt tasks.items t left
         → IsTaskLeft job.now spots left) }
-    ensures done { IfOk result (λ found. IfSome found (λ lines.
-        answer_of job.now ≡ Ok (map sink_values lines.items))) }
-    ensures starts { IfOk result (λ found. IfSome found (λ lines.
-        All (λ line. line.start ≡ start_in job.now line.task) lines.items)) }
+    ensures { IfOk result (λ found. IfSome found (λ lines. AreLinesOf job.now lines.items)) }
 {
     runs_end();
     let mut joined = founders;

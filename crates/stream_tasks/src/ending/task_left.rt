@@ -9,6 +9,8 @@ use stream_members::AnyLeft;
 pub struct TaskKnowledge {
     /// How many steps it has begun.
     pub begun: u64,
+    /// The phase at which it began, of a sink that joined now.
+    pub start: u64,
     /// Its numbers on its phasers, in the order of its registrations.
     pub numbers: SmallVec<u64, 9>,
     /// What it has taken, where it is a sink.

@@ -44,7 +44,7 @@ pub fn found<'a, W: Wait>(
 }
 
 /// Registration `i` of task number `t`, which is on a phaser of the graph.
-fn registration_of(job: &Job, t: usize, i: usize) -> Registration
+pub fn registration_of(job: &Job, t: usize, i: usize) -> Registration
     requires task { t < length job.now.graph.tasks }
     requires number { i < length (registrations_of job.now.graph (task_at job.now.graph t)) }
     ensures registration { result ≡ registration_at job.now t i }

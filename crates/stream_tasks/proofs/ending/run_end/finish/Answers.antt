@@ -1,11 +1,11 @@
 -- What was gathered and agrees is the end of a run, of which the law tells the answer.
-use Rattle.std.proofs.Common.{◌≡◌, ◌<◌, ℕ, [], Ok, length, map, get_or, IfSome, sym, ap, subst, ◌∙◌, arith}
+use Rattle.std.proofs.Common.{◌≡◌, ◌<◌, ℕ, [], length, map, get_or, IfSome, subst, arith}
 use Rattle.graph_runs.specs.graph_base.TaskLines.{IsGraph}
 use Rattle.graph_runs.specs.Settled.{IsReady}
 use Rattle.graph_runs.specs.RunEnds.{Ends}
 use Rattle.stream_tasks.specs.Gatherings.{AreGathered}
 use Rattle.stream_tasks.specs.Agreeing.{Agrees, AreOfTasks}
-use Rattle.stream_tasks.proofs.EndEnding.{is_run_end, sinks_are}
+use Rattle.stream_tasks.proofs.EndEnding.{is_run_end, are_lines}
 use Rattle.stream_tasks.proofs.ending.run_end.finish.Goals as goal
 
 pub gather-requires-clause-graph : goal.gather-requires-clause-graph
@@ -18,8 +18,8 @@ gather-requires-clause-left c = (
   c.requires.left.2,
 )
 
-pub returns-clause-done : goal.returns-clause-done
-returns-clause-done c =
+pub returns : goal.returns
+returns c =
     let job = c.args.job.now in
     let parts = c.in-Some.parts.items in
     let joined = c.gather.new.joined.items in
@@ -39,12 +39,8 @@ returns-clause-done c =
     } in
     let is = is_run_end job c.requires.left.0 c.args.founders.items joined parts all.0 given all.1 all.2
     agree c.requires.left.1 known in
-    c.runs_end.ensures job all.0 ready c.graph.ensures.least is
-    ∙ ap (λ lines. Ok lines)
-    (sinks_are job c.requires.left.0 c.args.founders.items joined parts all.0 given all.1 all.2
-    agree c.requires.left.1 known
-    ∙ sym c.in_ok-sink_lines.ensures.values)
-
--- each line has its start
-pub returns-clause-starts : goal.returns-clause-starts
-returns-clause-starts c = c.in_ok-sink_lines.ensures.starts
+    let answer = c.runs_end.ensures job all.0 ready is in
+    are_lines job c.requires.left.0 c.args.founders.items joined parts all.0 given all.1 all.2
+    agree c.requires.left.1 known answer c.in_ok-sink_lines.field-0.items
+    c.in_ok-sink_lines.ensures.values c.in_ok-sink_lines.ensures.starts
+    c.in_ok-sink_lines.ensures.tasks

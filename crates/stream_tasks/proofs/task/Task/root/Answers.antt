@@ -34,6 +34,7 @@ invariant_of-result g c =
       c.requires.job,
       subst (IsTask g.J.Run.job g.J.Run.spots) (sym c.open.ensures)
           (subst (λ j. IsTask j g.J.Run.spots s) c.requires.job
-          (begins job g.J.Run.spots s is seed has all room (first.0, first.1, own))),
+          (begins job g.J.Run.spots s is c.requires.root seed has all room
+          (first.0, first.1, own))),
       tt,
     )

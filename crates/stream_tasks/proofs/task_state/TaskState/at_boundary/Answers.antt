@@ -2,11 +2,11 @@
 use Rattle.std.proofs.Common.{◌≡◌, true, sym, ap, ◌∙◌}
 use Rattle.graph_runs.specs.graph_base.Graphs.{task_at}
 use Rattle.graph_runs.specs.Nexts.{is_cut}
-use Rattle.graph_runs.specs.Steps.{owed_of}
 use Rattle.graph_runs.proofs.TellsNext.{ended_cut}
 use Rattle.stream_tasks.specs.Tasks.{place_of}
 use Rattle.stream_tasks.specs.Inside.{MayStep}
 use Rattle.stream_tasks.proofs.EndingLemmas.{at_end, all_now}
+use Rattle.stream_tasks.proofs.Keeping.{owed_none}
 use Rattle.stream_tasks.proofs.task_state.TaskState.at_boundary.Goals as goal
 
 pub returns-then-is_cut : goal.returns-then-is_cut
@@ -18,10 +18,10 @@ returns-then-is_cut g c = λ spots task.
     at_end job spots s c.requires.met c.requires.owed
     (all_now job s task.whole c.requires.children)
     (λ m at. ended_cut job m s.number (place_of s) task.whole.there at.part at.place
-    (ap owed_of c.requires.owed) cut) task
+    (owed_none s c.requires.owed) cut) task
 
-pub put_sample-requires-clause-step : goal.put_sample-requires-clause-step
-put_sample-requires-clause-step g c =
+pub put_samples-requires-clause-step : goal.put_samples-requires-clause-step
+put_samples-requires-clause-step g c =
     let s = c.args.self.now in
     let job = c.args.job.now in
     let step : MayStep job s = record {

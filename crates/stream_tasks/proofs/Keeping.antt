@@ -1,0 +1,39 @@
+-- What a task keeps from one state to the next.
+use Rattle.std.proofs.Common.{◌≡◌, ℕ, ◌≤◌, length, sym, ap, subst, ◌∙◌, arith}
+use Rattle.graph_runs.specs.graph_base.Graphs.{task_at}
+use Rattle.graph_runs.specs.Places.{IsMost}
+use Rattle.graph_runs.specs.TaskPlaces as turns
+use Rattle.graph_runs.specs.declared.owed.Owed.TheVariants.{Nothing}
+use Rattle.stream_eval.specs.stream_lists.Jobs.{Job}
+use Rattle.stream_tasks.specs.Tasks.{HasPlaces, OwesNothing, owed_by}
+use Rattle.stream_tasks.specs.declared.task_state.TaskState.{TaskState}
+
+-- a task that owes nothing does so by the definitions
+pub owed_none : (s : TaskState) → OwesNothing s → owed_by s.owed s.made.items ≡ turns.nothing
+owed_none s owes =
+    ap (λ o. owed_by o s.made.items) owes.0 ∙ ap (λ made. owed_by Nothing made) owes.1
+
+-- the places of a task stay where another state has as many of them
+pub places_stay : (job : Job) (s after : TaskState) → after.number ≡ s.number → after.most ≡ s.most
+    → after.own ≡ s.own
+    → s.made.cap ≤ after.made.cap → HasPlaces job s → HasPlaces job after
+places_stay job s after number most own room places =
+    let few = places.own_few in
+    let block = places.block in
+    let made = places.made in
+    let some = places.own in
+    let same : (task_at job.graph after.number).block ≡ (task_at job.graph s.number).block =
+    ap (λ t. (task_at job.graph t).block) number in
+    record {
+      most = able;
+      own = omega arith;
+      own_few = omega arith;
+      block = omega arith;
+      made = omega arith;
+    }
+  where
+    able : IsMost job after.number after.most
+    able =
+        let M : ℕ → Type 0 = λ n. IsMost job after.number n in
+        let N : ℕ → Type 0 = λ t. IsMost job t s.most in
+        subst M (sym most) (subst N (sym number) places.most)

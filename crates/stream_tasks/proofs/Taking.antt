@@ -1,0 +1,122 @@
+-- What tasks take by their first waits, and what a filter makes of values that it takes one after the
+-- other.
+use Rattle.std.proofs.Common.{◌≡◌, ◌≢◌, ℕ, zero, suc, nat_eq, true, false, ◌+◌, ◌<◌, ◌≤◌, ℤ, List, [], ◌∷◌, ◌++◌, length, get_or, map, refl, sym, ap, subst, ◌∙◌, arith}
+use Rattle.std.specs.Prelude.{Ok, Option, take}
+use Rattle.std.proofs.lemmas.List.{append_assoc, append-nil, length-append, map-append, take_all}
+use Rattle.stream_eval.specs.stream_filters.Filter.{FirState, output_after}
+use Rattle.stream_eval.specs.stream_filters.Range.{ranged}
+use Rattle.stream_eval.specs.stream_lists.Lists.{number}
+use Rattle.graph_runs.specs.phase_accum.declared.outcome.Outcome.{Outcome}
+use Rattle.graph_runs.specs.graph_base.Graphs.{Task}
+use Rattle.graph_runs.specs.graph_base.declared.line.Kind.{Kind}
+use Rattle.graph_runs.specs.graph_base.declared.line.Kind.TheVariants.{Source, Fir, Split, Join, Peer, Sink}
+use Rattle.graph_runs.specs.Moves.{IsBlock}
+use Rattle.graph_runs.specs.Steps.{HasFilter}
+use Rattle.graph_runs.specs.TaskPlaces as turns
+use Rattle.graph_runs.specs.TaskPlaces.{outputs_of_block, owed_after_wait}
+use Rattle.graph_runs.specs.declared.owed.Owed.TheVariants.{Nothing}
+use Rattle.stream_tasks.specs.Tasks.{owed_by}
+
+-- of one value more there is one output more
+outputs_more : (taps : List ℤ) (shift : ℕ) (taken xs : List ℤ) (x : ℤ)
+    → outputs_of_block taps shift taken (xs ++ x ∷ [])
+    ≡ outputs_of_block taps shift taken xs
+    ++ output_after taps shift ((taken ++ xs) ++ x ∷ []) ∷ []
+outputs_more taps shift taken [] x =
+    ap (λ l. output_after taps shift (l ++ x ∷ []) ∷ []) (sym (append-nil taken))
+outputs_more taps shift taken (y ∷ xs) x =
+    let next = taken ++ y ∷ [] in
+    ap (λ l. output_after taps shift next ∷ l) (outputs_more taps shift next xs x)
+    ∙ ap (λ l. output_after taps shift next ∷ (outputs_of_block taps shift next xs
+    ++ output_after taps shift (l ++ x ∷ []) ∷ []))
+    (append_assoc taken (y ∷ []) xs)
+
+-- a filter has taken these values, and made these of them, all in range
+pub record MadeSoFar (task : Task) (xs : List ℤ) (old new : Option FirState) (made : List ℤ)
+    : Type 0 where
+  pub filter : (taken : List ℤ) → HasFilter task old taken → HasFilter task new (taken ++ xs)
+  pub made_are : (taken : List ℤ) → HasFilter task old taken
+      → map ranged (outputs_of_block task.taps task.shift taken xs) ≡ map (λ v. Ok v) made
+  pub many : length made ≡ length xs
+
+pub made_none : (task : Task) (filter : Option FirState) (made : List ℤ) → made ≡ []
+    → MadeSoFar task [] filter filter made
+made_none task filter made none = record {
+  filter = λ taken has. subst (λ l. HasFilter task filter l) (sym (append-nil taken)) has;
+  made_are = λ taken has. ap (λ l. map (λ v. Ok v) l) (sym none);
+  many = ap length none;
+}
+
+-- and one value more
+pub made_more : (task : Task) (xs : List ℤ) (x v : ℤ) (old between new : Option FirState)
+    (made after : List ℤ) → MadeSoFar task xs old between made → after ≡ made ++ v ∷ []
+    → ((taken : List ℤ) → HasFilter task between taken
+    → Ok v ≡ ranged (output_after task.taps task.shift (taken ++ x ∷ [])))
+    → ((taken : List ℤ) → HasFilter task between taken → HasFilter task new (taken ++ x ∷ []))
+    → MadeSoFar task (xs ++ x ∷ []) old new after
+made_more task xs x v old between new made after so more answer next = record {
+  filter = λ taken has.
+      subst (λ l. HasFilter task new l) (append_assoc taken xs (x ∷ []))
+      (next (taken ++ xs) (so.filter taken has));
+  made_are = λ taken has.
+      ap (map ranged) (outputs_more task.taps task.shift taken xs x)
+      ∙ map-append ranged (outputs_of_block task.taps task.shift taken xs)
+      (output_after task.taps task.shift ((taken ++ xs) ++ x ∷ []) ∷ [])
+      ∙ ap (λ l. l ++ ranged (output_after task.taps task.shift ((taken ++ xs) ++ x ∷ [])) ∷ [])
+      (so.made_are taken has)
+      ∙ ap (λ r. map (λ y. Ok y) made ++ r ∷ []) (sym (answer (taken ++ xs) (so.filter taken has)))
+      ∙ sym (map-append (λ y. Ok y) made (v ∷ []))
+      ∙ ap (λ l. map (λ y. Ok y) l) (sym more);
+  many = ap length more ∙ length-append made (v ∷ [])
+      ∙ (let same : length made ≡ length xs = so.many in
+      let sum = length-append xs (x ∷ []) in omega arith);
+}
+
+-- what a filter has made of what it took is what it owes
+pub filter_owes : (task : Task) (begun : ℕ) (taken : List ℤ) (os : List Outcome) (made : List ℤ)
+    → task.kind ≡ Fir → 1 ≤ length os
+    → map ranged (outputs_of_block task.taps task.shift taken (map number os))
+    ≡ map (λ v. Ok v) made
+    → owed_by Nothing made ≡ owed_after_wait task begun taken (map number os)
+filter_owes task begun taken [] made fir some e = absurd (let no : 1 ≤ 0 = some in omega arith)
+filter_owes task begun taken (o ∷ os) [] fir some e = absurd (cc)
+filter_owes task begun taken (o ∷ os) (v ∷ vs) fir some e = rw fir (ap (turns.values 0) (sym e))
+
+-- a list of one
+pub one_of : (os : List Outcome) (d : Outcome) → length os ≡ 1 → os ≡ get_or os 0 d ∷ []
+one_of [] d e = absurd (let no : 0 ≡ 1 = e in omega arith)
+one_of (o ∷ []) d e = refl
+one_of (o ∷ p ∷ os) d e = absurd (omega arith)
+
+-- the first places of a list of one are all of it
+pub first_of : (os : List Outcome) (d : Outcome) (count : ℕ) → length os ≡ 1 → 1 ≤ count
+    → take count os ≡ get_or os 0 d ∷ []
+first_of os d count long some =
+    take_all count os (omega arith) ∙ one_of os d long
+
+-- what a task that is no filter owes after a first wait: of a block of one step, its value
+pub others_owe : (task : Task) (begun : ℕ) (taken : List ℤ) (os : List Outcome) (d : Outcome)
+    → task.kind ≢ Source → task.kind ≢ Fir → IsBlock task.kind (length os)
+    → owed_after_wait task begun taken (number (get_or os 0 d) ∷ [])
+    ≡ owed_after_wait task begun taken (map number os)
+others_owe task begun taken os d no_source no_filter block = by task.kind refl
+  where
+    one : length os ≡ 1
+        → owed_after_wait task begun taken (number (get_or os 0 d) ∷ [])
+        ≡ owed_after_wait task begun taken (map number os)
+    one long = ap (λ l. owed_after_wait task begun taken (map number l)) (sym (one_of os d long))
+
+    by : (k : Kind) → task.kind ≡ k
+        → owed_after_wait task begun taken (number (get_or os 0 d) ∷ [])
+        ≡ owed_after_wait task begun taken (map number os)
+    by Source e = absurd (no_source e)
+    by Fir e = absurd (no_filter e)
+    by Split e = one (subst (λ k. IsBlock k (length os)) e block)
+    by Join e = one (subst (λ k. IsBlock k (length os)) e block)
+    by Peer e = one (subst (λ k. IsBlock k (length os)) e block)
+    by Sink e = rw e refl
+
+-- a number that is not zero
+pub some_of : (n : ℕ) → nat_eq n 0 ≡ false → 1 ≤ n
+some_of zero e = absurd (let no : true ≡ false = e in cc)
+some_of (suc n) e = omega arith

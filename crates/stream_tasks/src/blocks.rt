@@ -1,0 +1,123 @@
+//! How many steps a task makes in one event, and the places for them.
+ghost use Rattle.std.specs.Prelude.{◌≡◌, ◌<◌, ◌≤◌, length};
+ghost use Rattle.graph_runs.specs.Places.{MayMake, IsMost};
+ghost use Rattle.stream_tasks.specs.Tasks.{IsWhole};
+ghost use Rattle.stream_tasks.specs.Inside.{ChildrenAllow, MayStep, until_allows};
+
+use crate::child::Child;
+use crate::gate::Gate;
+use crate::opening::founders::registration_of;
+use crate::task_state::TaskState;
+use graph_runs::graph_base::Kind;
+use graph_runs::phase_base::Op;
+use graph_runs::{kind_of, output_of, until_of};
+use std::alloc::{AllocError, Global};
+use stream_eval::stream_lists::Job;
+use stream_members::Places;
+
+/// How many steps a task makes in one event of its own accord, at most.
+const OWN_STEPS: u64 = 64;
+
+/// How many steps task number `task` makes in one event of its own accord, at most: one, or more
+/// where its kind has blocks, and no more than the bound of each of its phasers.
+pub fn own_steps(job: &Job, task: usize) -> u64
+    requires task { task < length job.now.graph.tasks }
+    ensures { IsMost job.now task result }
+{
+    match kind_of(job, task) {
+        Kind::Source | Kind::Fir | Kind::Sink => least_bound(job, task),
+        Kind::Split | Kind::Join | Kind::Peer => 1,
+    }
+}
+
+/// The least bound of the phasers of task number `task`, at most `OWN_STEPS`.
+fn least_bound(job: &Job, task: usize) -> u64
+    requires task { task < length job.now.graph.tasks }
+    ensures { 1 ≤ result }
+{
+    let mut least = OWN_STEPS;
+    for k in 0..job.graph().registrations(task) {
+        let phaser = registration_of(job, task, k).phaser;
+        least = least.min(job.graph().phaser(phaser).bound);
+    }
+    least.max(1)
+}
+
+/// Makes the places for the sends of so many phases on the output of task number `task`, where its
+/// kind signals blocks. It takes memory for them.
+pub fn places_for(alloc: Global, job: &Job, task: usize, most: usize) -> Result<Places, AllocError>
+    requires task { task < length job.now.graph.tasks }
+{
+    let _lines = job.graph().tasks();
+    match kind_of(job, task) {
+        Kind::Source | Kind::Fir => {
+            let (_, phaser) = output_of(job, task, 0);
+            Places::new(alloc, job.graph().phaser(phaser).op, most)
+        }
+        Kind::Split | Kind::Join | Kind::Peer | Kind::Sink => Places::new(alloc, Op::Sum, 0),
+    }
+}
+
+impl<'a> TaskState<'a> {
+    /// How many steps its next event makes, at most: none past `until`, and none past the boundary
+    /// of a child that comes later.
+    pub fn steps<G: Gate>(&self, job: &Job, gate: &G) -> u64
+        requires { MayStep job.now self.now }
+        ensures may { MayMake job.now self.now.number self.now.begun result }
+        ensures some { 1 ≤ result }
+        ensures few { result ≤ self.now.most }
+    {
+        let steps = until_allows(
+            until_of(job, self.number),
+            self.begun,
+            self.wanted(job, gate),
+        );
+        children_allow(&self.children, self.begun, steps)
+    }
+
+    /// How many steps it would make, if only `until` and its children allow them: a block of its
+    /// line; or, of a line that names none, as many as there is room for on its output, where nobody
+    /// looks at steps.
+    fn wanted<G: Gate>(&self, job: &Job, gate: &G) -> u64
+        requires { IsWhole job.now self.now }
+        ensures some { 1 ≤ result }
+        ensures few { result ≤ self.now.most }
+    {
+        let block = job.graph().task(self.number).block;
+        if block > 1 || !gate.is_open() {
+            return block;
+        }
+        match kind_of(job, self.number) {
+            Kind::Source | Kind::Fir => {
+                let (k, _) = output_of(job, self.number, 0);
+                self.holds[k].room().clamp(1, self.own)
+            }
+            Kind::Split | Kind::Join | Kind::Peer | Kind::Sink => self.own,
+        }
+    }
+}
+
+/// So many steps, of which `until` allows some after those that were begun.
+fn until_allows(until: Option<u64>, begun: u64, steps: u64) -> u64
+    ensures { result ≡ until_allows until begun steps }
+{
+    match until {
+        None => steps,
+        Some(until) => steps.min(until.saturating_sub(begun)),
+    }
+}
+
+/// So many steps, but none past the boundary of a child that comes later.
+fn children_allow(children: &[Child], begun: u64, steps: u64) -> u64
+    ensures some { 1 ≤ steps → 1 ≤ result }
+    ensures few { result ≤ steps }
+    ensures children { ChildrenAllow children.now begun result }
+{
+    let mut allowed = steps;
+    for child in children {
+        if child.at > begun {
+            allowed = allowed.min(child.at - begun);
+        }
+    }
+    allowed
+}
