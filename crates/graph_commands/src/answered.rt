@@ -6,6 +6,7 @@ ghost use Rattle.graph_commands.specs.FileJobs.{IsJobOf, Known};
 ghost use Rattle.graph_commands.specs.GraphRuns.{AsksSink, CheckEnds, EvalEnds, check_line};
 ghost use Rattle.graph_commands.specs.OutputTexts.{lines_text};
 ghost use Rattle.stream_eval.specs.Results.{sink_output, sink_values};
+ghost use Rattle.stream_eval.specs.stream_lists.Jobs.{with_starts};
 ghost use Rattle.stream_eval.specs.stream_lists.Lists.{lines_of};
 ghost use Rattle.graph_show.specs.watched_io.Statuses.{Reports};
 ghost use Rattle.graph_show.specs.watched_io.declared.fault.IoFault.TheVariants.{WriteFault};
@@ -187,8 +188,8 @@ fn eval_job<W: Write, E: Write>(
     }
 }
 
-/// Writes the text of each of these sinks of a job, or the values of the one of this number alone. It
-/// takes no memory.
+/// Writes the text of each of these sinks of a job, or the values of the one of this number alone. The
+/// lines are those of the job, for some starts of its sinks that join now. It takes no memory.
 /// After a failed write the writer has a prefix of them.
 pub fn write_sinks<W: Write>(
     writer: &mut Watched<W>,
@@ -196,7 +197,8 @@ pub fn write_sinks<W: Write>(
     lines: &[Lines],
     sink: Option<usize>,
 ) -> Result<(), WriteFailed>
-    requires { map sink_values lines.now ≡ lines_of job.now }
+    requires { (starts : List ℕ)
+        × (map sink_values lines.now ≡ lines_of (with_starts starts job.now)) }
     ensures ok { OnOk result (Appends (W.contents (inner_of writer.old))
         (W.contents (inner_of writer.new)) (lines_text job.now.graph (map sink_output lines.now) sink)) }
     ensures err { OnErr result (AppendsPrefix (W.contents (inner_of writer.old))

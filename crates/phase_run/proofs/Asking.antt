@@ -1,6 +1,6 @@
 -- What words ask for, and which statuses may come.
 use Rattle.std.proofs.Common.{◌≡◌, ◌≢◌, ◌⊎◌, inl, inr, ℕ, List, refl, arith}
-use Rattle.phase_run.specs.Ends.{AnswerEnds, AnswerStops, IsStatus, MayEnd, MayEndAsRun}
+use Rattle.phase_run.specs.Ends.{IsStatus, MayEnd, MayEndAsRun}
 use Rattle.phase_run.specs.Inside.{IsAnswer}
 use Rattle.stream_workers.specs.graph_commands.watched_io.Statuses.{Reports}
 use Rattle.phase_words.proofs.NoCalls.{none-or-some, one-some, refusal-none-shown, refusal-some, shown-some}

@@ -1,7 +1,7 @@
 -- How a run of the program may end, by what its words ask for.
 use Rattle.std.specs.Prelude.{◌≡◌, ◌⊎◌, ℕ, true, List}
 use Rattle.stream_workers.specs.graph_commands.watched_io.Statuses.{Reports}
-use Rattle.phase_words.specs.RunLine.{AreRunRefused, AreRunTaken, AskRunHelp, AskRunVersion, Run}
+use Rattle.phase_words.specs.RunLine.{AreRunRefused, AreRunTaken, AskRunHelp, AskRunVersion}
 use Rattle.stream_workers.specs.graph_commands.watched_io.States.{WriterState}
 use Rattle.stream_workers.specs.graph_commands.watched_io.Watched.{has_failed_of}
 use Rattle.stream_workers.specs.graph_commands.watched_io.declared.fault.IoFault.TheVariants.{OutOfMemory, WriteFault}

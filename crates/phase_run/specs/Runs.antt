@@ -3,11 +3,37 @@ use Rattle.std.specs.Prelude.{◌≡◌, ◌≢◌, ◌⊎◌, ℕ, List, codes}
 use Rattle.std.specs.declared.option.Option.{Option}
 use Rattle.stream_workers.specs.graph_commands.Explained.{IsNoJobExplained}
 use Rattle.stream_workers.specs.graph_commands.FileJobs.{IsJobOf, Known}
-use Rattle.stream_workers.specs.graph_commands.GraphRuns.{Evaluates, EvaluatesPrefix, IsNoJob, IsNoSink, IsTooBig, IsUnwritten}
+use Rattle.stream_workers.specs.graph_commands.GraphRuns.{AsksSink, IsNoJob, IsNoSink, IsTooBig, IsUnwritten, sinks_text}
 use Rattle.stream_workers.specs.graph_commands.watched_io.Statuses.{Says}
-use Rattle.stream_workers.specs.graph_commands.stream_lists.Jobs.{Job}
+use Rattle.stream_workers.specs.graph_commands.stream_lists.Jobs.{Job, with_starts}
+use Rattle.stream_workers.specs.graph_commands.stream_lists.Ranges.{Fits}
+use Rattle.stream_workers.specs.graph_commands.watched_io.Prefix.{AppendsPrefix}
+use Rattle.std.specs.Io.KnownBytes.{Appends}
 use Rattle.stream_workers.specs.graph_commands.watched_io.States.{WriterState, writer_state}
 use Rattle.stream_workers.specs.graph_commands.watched_io.declared.watched.Watched.{Watched}
+
+-- the files tell a job whose values fit for some starts of its sinks that join now, and the lists of
+-- the sinks that were asked for were written, with these starts
+pub record Runs (known : Known) (name : List ℕ) (asked : Option (List ℕ))
+    (old new : WriterState) : Type 0 where
+  pub job : Job
+  pub job_of : IsJobOf known name job
+  pub starts : List ℕ
+  pub fits : Fits (with_starts starts job)
+  pub sink : Option ℕ
+  pub asks : AsksSink job asked sink
+  pub written : Appends old.written new.written (sinks_text (with_starts starts job) sink)
+
+-- and a prefix of these lists was written
+pub record RunsPrefix (known : Known) (name : List ℕ) (asked : Option (List ℕ))
+    (old new : WriterState) : Type 0 where
+  pub job : Job
+  pub job_of : IsJobOf known name job
+  pub starts : List ℕ
+  pub fits : Fits (with_starts starts job)
+  pub sink : Option ℕ
+  pub asks : AsksSink job asked sink
+  pub written : AppendsPrefix old.written new.written (sinks_text (with_starts starts job) sink)
 
 -- the line of a run that is told as stalled
 abbrev pub stalled_line : List ℕ
@@ -32,16 +58,16 @@ pub record RunStops {W : Type 0} (known : Known) (name : List ℕ) (asked : Opti
       ⊎ (IsNoSink known name asked status line old new
       ⊎ (IsTooBig known name status line old new
       ⊎ (IsStalled known name status line old new
-      ⊎ IsUnwritten (EvaluatesPrefix known name asked (writer_state contents old)
+      ⊎ IsUnwritten (RunsPrefix known name asked (writer_state contents old)
       (writer_state contents new)) status line (writer_state contents new))))
   pub says : Says line before after
 
--- how a run ends, by its status: where it is done, what an evaluation writes was written
+-- how a run ends, by its status: where it is done, its lists were written
 pub record RunEnds {W : Type 0} (known : Known) (name : List ℕ) (asked : Option (List ℕ))
     (status : ℕ) (contents : W → Option (List ℕ)) (old new : Watched W)
     (before after : WriterState) : Type 0 where
   pub done : status ≡ 0
-      → Evaluates known name asked (writer_state contents old) (writer_state contents new)
+      → Runs known name asked (writer_state contents old) (writer_state contents new)
   pub stops : status ≢ 0 → RunStops known name asked status contents old new before after
 
 -- how a run ends that explains: as one that does not, or the files tell no job

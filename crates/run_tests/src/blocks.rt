@@ -1,20 +1,11 @@
 //! Blocks that members put and get, and a child that joins now.
-ghost use Rattle.std.specs.Prelude.{◌≡◌, None};
-
+use std::alloc::Global;
 use std::sync::Wait;
 use std::test::Fail;
-use stream_job::phase_accum::{Outcome, Pending, Sum};
-use stream_job::phase_base::{Mode, Spec};
+use stream_job::phase_accum::{NO_VALUE, Outcome};
+use stream_job::phase_base::{Mode, Op, Spec};
 use stream_job::phase_core::{GotBlock, SignalRefusal};
-use stream_workers::phase_shared::{NoRule, Phaser, Tried};
-use stream_workers::stream_members::Member;
-
-// A parcel of this one value.
-fn parcel(value: i64) -> Pending<Sum> {
-    let mut pending = Pending::new();
-    let _sent = pending.send(value);
-    pending
-}
+use stream_workers::stream_members::{AnyMember, AnyPhaser, Places, PutRefusal};
 
 // What two waits for at most four phases are answered and write, the first of a parent and the
 // second of the child that it registered now, with the phase that the child joins at.
@@ -27,32 +18,33 @@ struct Seen {
     value: Outcome,
 }
 
-// Whether 5, 6 and 7 are put in a block, and then two more are ahead, and none of them is put.
-fn puts_three(signaller: &mut Member<'_, Sum>) -> bool
-    requires { signaller.old.held ≡ None }
-    ensures { signaller.new.held ≡ None }
-{
-    let three = signaller.try_put_block(&[parcel(5), parcel(6), parcel(7)], None);
-    let ahead = signaller.try_put_block(&[parcel(8), parcel(9)], None);
-    three == Ok(0) && ahead == Err(Tried::Refused(SignalRefusal::Ahead))
+// Whether 5, 6 and 7 are put in a block, where none of more values than places, of values of which
+// one is none, and of two that are ahead is put.
+fn puts_three(signaller: &mut AnyMember<'_>, places: &mut Places) -> bool {
+    let many = signaller.try_put_all(&[1, 2, 3, 4], None, places);
+    let bad = signaller.try_put_all(&[1, NO_VALUE], None, places);
+    let three = signaller.try_put_all(&[5, 6, 7], None, places);
+    let ahead = signaller.try_put_all(&[8, 9], None, places);
+    many == Err(PutRefusal::TooMany)
+        && bad == Err(PutRefusal::BadValue)
+        && three == Ok(0)
+        && ahead == Err(PutRefusal::Refused(SignalRefusal::Ahead))
 }
 
 // What is got, where the signaller puts 8 once the child is there.
 fn joined<R: Wait>(
     rt: &R,
-    signaller: &mut Member<'_, Sum>,
-    waiter: &mut Member<'_, Sum>,
-) -> Option<Seen>
-    requires { signaller.old.held ≡ None }
-{
+    signaller: &mut AnyMember<'_>,
+    waiter: &mut AnyMember<'_>,
+) -> Option<Seen> {
     let mut values = [Outcome::Empty; 4];
-    let first = waiter.try_get_block(&mut values).ok();
+    let first = waiter.try_get(&mut values).ok();
     let Ok((mut late, start)) = waiter.try_add_now() else {
         return None;
     };
-    let put = signaller.try_put_block(&[parcel(8)], None);
+    let put = signaller.try_put(8, None);
     let mut out = [Outcome::Empty];
-    let second = late.try_get_block(&mut out).ok();
+    let second = late.try_get(&mut out).ok();
     let _late = late.leave(rt);
     (put == Ok(3)).then_some(Seen {
         first,
@@ -63,12 +55,15 @@ fn joined<R: Wait>(
     })
 }
 
-// What is got between a signaller that holds nothing and a waiter, which then leave.
-fn waiting<R: Wait>(rt: &R, signaller: Member<'_, Sum>, waiter: Member<'_, Sum>) -> Option<Seen>
-    requires { signaller.held ≡ None }
-{
+// What is got between a signaller and a waiter, which then leave.
+fn waiting<R: Wait>(
+    rt: &R,
+    signaller: AnyMember<'_>,
+    waiter: AnyMember<'_>,
+    places: &mut Places,
+) -> Option<Seen> {
     let (mut signaller, mut waiter) = (signaller, waiter);
-    let seen = if puts_three(&mut signaller) {
+    let seen = if puts_three(&mut signaller, places) {
         joined(rt, &mut signaller, &mut waiter)
     } else {
         None
@@ -79,7 +74,7 @@ fn waiting<R: Wait>(rt: &R, signaller: Member<'_, Sum>, waiter: Member<'_, Sum>)
 }
 
 // A founder that registers a signaller and a waiter, and leaves them to it.
-fn blocks<R: Wait>(rt: &R, founder: Member<'_, Sum>) -> Option<Seen> {
+fn blocks<R: Wait>(rt: &R, founder: AnyMember<'_>, places: &mut Places) -> Option<Seen> {
     let mut founder = founder;
     let Ok(signaller) = founder.try_add(Mode::Sig) else {
         let _left = founder.leave(rt);
@@ -88,7 +83,7 @@ fn blocks<R: Wait>(rt: &R, founder: Member<'_, Sum>) -> Option<Seen> {
     let waiter = founder.try_add(Mode::Wait);
     let _founder = founder.leave(rt);
     match waiter {
-        Ok(waiter) => waiting(rt, signaller, waiter),
+        Ok(waiter) => waiting(rt, signaller, waiter, places),
         Err(_) => {
             let _signaller = signaller.leave(rt);
             None
@@ -96,9 +91,15 @@ fn blocks<R: Wait>(rt: &R, founder: Member<'_, Sum>) -> Option<Seen> {
     }
 }
 
+// The same on a phaser of this operation, with places of that one.
+fn seen_of<R: Wait>(rt: &R, alloc: Global, op: Op, places: Op) -> Result<Option<Seen>, Fail> {
+    let mut places = Places::new(alloc, places, 3)?;
+    let (phaser, founder) = AnyPhaser::make(alloc, op, Spec::new(4, 100)?)?;
+    Ok(blocks(rt, phaser.member(founder), &mut places))
+}
+
 #[test]
 fn a_block_is_put_and_got_whole(rt: HostRuntime) -> Result<(), Fail> {
-    let (phaser, founder) = Phaser::<Sum, NoRule>::make(rt.alloc(), Spec::new(4, 100)?, NoRule)?;
     let expected = Seen {
         first: Some(GotBlock::Values { phase: 0, count: 3 }),
         values: [
@@ -111,6 +112,9 @@ fn a_block_is_put_and_got_whole(rt: HostRuntime) -> Result<(), Fail> {
         second: Some(GotBlock::Values { phase: 3, count: 1 }),
         value: Outcome::Value(8),
     };
-    assert_eq!(rt; blocks(&rt, Member::of(&phaser, founder)), Some(expected));
+    for op in [Op::Sum, Op::Product, Op::Least, Op::Greatest, Op::Any] {
+        assert_eq!(rt; seen_of(&rt, rt.alloc(), op, op)?, Some(expected), "{op:?}");
+    }
+    assert_eq!(rt; seen_of(&rt, rt.alloc(), Op::Sum, Op::Any)?, None);
     Ok(())
 }

@@ -38,6 +38,10 @@ impl Gate for Together {
             self.missed.store(1, SeqCst);
         }
     }
+
+    fn is_open(&self) -> bool {
+        false
+    }
 }
 
 const BUS: &str = "phaser X sum 2\nsource a a.csv -> X\nsource b b.csv -> X\nsink out X\n";
@@ -74,6 +78,10 @@ impl Gate for Behind {
             (1, 2) if !comes_to(&self.ahead, 1) => self.missed.store(1, SeqCst),
             _ => {}
         }
+    }
+
+    fn is_open(&self) -> bool {
+        false
     }
 }
 
@@ -166,6 +174,10 @@ impl Gate for Counted {
         if entered != step {
             self.wrong.fetch_add(1, SeqCst);
         }
+    }
+
+    fn is_open(&self) -> bool {
+        false
     }
 }
 

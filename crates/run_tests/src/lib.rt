@@ -10,8 +10,6 @@ mod children;
 #[cfg(test)]
 mod gates;
 #[cfg(test)]
-mod held;
-#[cfg(test)]
 mod jobs;
 #[cfg(test)]
 mod meeting;
@@ -27,3 +25,5 @@ mod runs;
 mod tasks;
 #[cfg(test)]
 mod toys;
+#[cfg(test)]
+mod unheld;

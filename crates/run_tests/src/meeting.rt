@@ -7,16 +7,14 @@ use std::sync::Wait;
 use std::test::Fail;
 use stream_job::phase_accum::{Outcome, Single};
 use stream_job::phase_base::{Mode, Op, Spec};
-use stream_job::phase_core::{Got, WaitRefusal};
+use stream_job::phase_core::{GotBlock, WaitRefusal};
 use stream_workers::phase_shared::Tried;
 use stream_workers::stream_members::{AnyLeft, AnyMember, AnyPhaser};
 
 // What is got of the first phase, where its value is this.
-fn first(value: i64) -> Option<Got> {
-    Some(Got::Value {
-        phase: 0,
-        outcome: Outcome::Value(value),
-    })
+fn first(value: i64) -> Option<(GotBlock, Outcome)> {
+    let got = GotBlock::Values { phase: 0, count: 1 };
+    Some((got, Outcome::Value(value)))
 }
 
 // Whether 4 and 6 are put in the first phase, with the sign of the value turned.
@@ -27,16 +25,17 @@ fn put_both(founder: &mut AnyMember<'_>, child: &mut AnyMember<'_>) -> bool {
 }
 
 // What is got of a phase, where another wait is refused until the next signal.
-fn got_once(member: &mut AnyMember<'_>) -> Option<Got> {
-    let Ok(got) = member.try_get() else {
+fn got_once(member: &mut AnyMember<'_>) -> Option<(GotBlock, Outcome)> {
+    let mut out = [Outcome::Empty];
+    let Ok(got) = member.try_get(&mut out) else {
         return None;
     };
-    let early = member.try_get();
-    (early == Err(Tried::Refused(WaitRefusal::SignalFirst))).then_some(got)
+    let early = member.try_get(&mut out);
+    (early == Err(Tried::Refused(WaitRefusal::SignalFirst))).then_some((got, out[0]))
 }
 
 // What the founder gets, where it puts 4 and its child 6.
-fn meeting<R: Wait>(rt: &R, founder: AnyMember<'_>) -> Option<Got> {
+fn meeting<R: Wait>(rt: &R, founder: AnyMember<'_>) -> Option<(GotBlock, Outcome)> {
     let mut founder = founder;
     let Ok(mut child) = founder.add(rt, Mode::Single) else {
         let _left = founder.leave(rt);
@@ -53,7 +52,11 @@ fn meeting<R: Wait>(rt: &R, founder: AnyMember<'_>) -> Option<Got> {
 }
 
 // The same on a phaser of this operation.
-fn meets<R: Wait>(rt: &R, alloc: Global, op: Op) -> Result<Option<Got>, Fail> {
+fn meets<R: Wait>(
+    rt: &R,
+    alloc: Global,
+    op: Op,
+) -> Result<Option<(GotBlock, Outcome)>, Fail> {
     let (phaser, founder) = AnyPhaser::make(alloc, op, Spec::new(1, 100)?)?;
     Ok(meeting(rt, phaser.member(founder)))
 }

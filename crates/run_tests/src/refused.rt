@@ -1,7 +1,7 @@
 //! What a member's mode does not hold, and a single that differs.
 use std::sync::Wait;
 use std::test::Fail;
-use stream_job::phase_accum::{Single, Sum};
+use stream_job::phase_accum::{Outcome, Single, Sum};
 use stream_job::phase_base::{Mode, Op, Spec};
 use stream_job::phase_core::{RegisterRefusal, SignalRefusal, WaitRefusal};
 use stream_workers::phase_shared::{NoRule, Phaser, Tried};
@@ -79,22 +79,23 @@ fn a_single_of_a_phase_is_named_by_all(rt: HostRuntime) -> Result<(), Fail> {
 }
 
 // The calls of a member whose operation is known: a founder that only leaves.
-fn alone<R: Wait>(rt: &R, founder: Member<'_, Sum>) -> (u64, Option<i64>, bool) {
+fn alone<R: Wait>(rt: &R, founder: Member<'_, Sum>) -> (u64, bool) {
     let mut founder = founder;
-    let told = (founder.number(), founder.held());
-    let early = founder.try_get() == Err(Tried::Refused(WaitRefusal::SignalFirst));
+    let number = founder.number();
+    let early = founder.try_get(&mut [Outcome::Empty])
+        == Err(Tried::Refused(WaitRefusal::SignalFirst));
     match founder.try_leave() {
         Ok(_left) => {}
         Err(back) => {
             let _left = back.leave(rt);
         }
     }
-    (told.0, told.1, early)
+    (number, early)
 }
 
 #[test]
-fn a_founder_is_number_zero_and_holds_nothing(rt: HostRuntime) -> Result<(), Fail> {
+fn a_founder_is_number_zero_and_signals_first(rt: HostRuntime) -> Result<(), Fail> {
     let (phaser, founder) = Phaser::<Sum, NoRule>::make(rt.alloc(), Spec::new(1, 100)?, NoRule)?;
-    assert_eq!(rt; alone(&rt, Member::of(&phaser, founder)), (0, None, true));
+    assert_eq!(rt; alone(&rt, Member::of(&phaser, founder)), (0, true));
     Ok(())
 }

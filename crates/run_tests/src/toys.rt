@@ -292,6 +292,10 @@ impl<'a> Work for Toy<'a> {
         }
     }
 
+    fn effort(&self) -> u64 {
+        0
+    }
+
     fn bring(&mut self, child: &mut Toy<'a>) -> bool {
         let Toy::Child { at, left } = *child else {
             return false;

@@ -1,3 +1,4 @@
+mod Evaluated
 mod Grown
 mod Lefts
 mod StartsInTime

@@ -1,10 +1,7 @@
 //! What the founders and the tasks of a run leave behind, taken to the end.
-ghost use Rattle.std.specs.Prelude.{◌≡◌, Ok, Some, length, map, IfOk, IfSome};
-ghost use Rattle.std.specs.List.{All};
+ghost use Rattle.std.specs.Prelude.{◌≡◌, Some, length, map, IfOk, IfSome};
 ghost use Rattle.stream_tasks.specs.Openings.{HaveFoundersLeft};
-ghost use Rattle.stream_tasks.specs.stream_eval.Results.{sink_values};
-ghost use Rattle.stream_tasks.specs.stream_lists.Lists.{start_in};
-ghost use Rattle.stream_tasks.specs.stream_lists.Ranges.{answer_of};
+ghost use Rattle.stream_tasks.specs.RunAnswers.{AreLinesOf};
 ghost use Rattle.stream_workers.specs.TasksLeft.{AreTasksLeft};
 
 use std::alloc::{AllocError, Global};
@@ -47,10 +44,7 @@ pub fn finish_run<'a, J: Run>(
     requires founders { HaveFoundersLeft J.job J.spots founders.items }
     requires many { length tasks.items ≡ length J.job.graph.tasks }
     requires tasks { AreTasksLeft J.job J.spots tasks.items }
-    ensures done { IfOk result (λ found. IfSome found (λ lines.
-        answer_of job.now ≡ Ok (map sink_values lines.items))) }
-    ensures starts { IfOk result (λ found. IfSome found (λ lines.
-        All (λ line. line.start ≡ start_in job.now line.task) lines.items)) }
+    ensures { IfOk result (λ found. IfSome found (λ lines. AreLinesOf job.now lines.items)) }
 {
     let (lefts, gave) = founders_left(alloc, founders)?;
     finish(alloc, job, lefts, &gave, tasks)

@@ -11,8 +11,9 @@
 //! write_lines(&mut writer, job.graph(), &lines)?;    // as text
 //! ```
 //!
-//! Proved: that an answer `Ok` is the answer of the job, whatever the workers' turns were, and that
-//! `TooBig` names the first value out of range. Only tested: that a run comes back, and that `Stalled`
+//! Proved: that an answer `Ok` is the answer of the job, for the starts that it tells of sinks that
+//! join now, whatever the workers' turns were, and that `TooBig` names the first value out of range.
+//! Only tested: that a run comes back, and that `Stalled`
 //! and `OutOfMemory` are said only where they are so.
 #![tactic(auto)]
 

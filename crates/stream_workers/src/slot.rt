@@ -118,6 +118,13 @@ impl<'a, J: Run, G: Gate> Work for Slot<'a, J, G> {
         }
     }
 
+    fn effort(&self) -> u64 {
+        match &self.place {
+            TaskSlot::Task(task) => task.effort(),
+            _ => 0,
+        }
+    }
+
     fn bring(&mut self, child: &mut Slot<'a, J, G>) -> bool {
         match &mut self.place {
             TaskSlot::Task(task) => child.place.become_child(task),

@@ -1,14 +1,13 @@
 //! Whole runs of a graph on worker threads.
-ghost use Rattle.std.specs.Prelude.{◌≡◌, ℕ, Some, Ok, Err, map, IfOk};
-ghost use Rattle.std.specs.List.{All};
+ghost use Rattle.std.specs.Prelude.{◌≡◌, ℕ, Some, Err, IfOk};
 ghost use Rattle.stream_tasks.specs.Openings.{ArePhasers, AreFoundersFrom, spot_at};
-ghost use Rattle.stream_tasks.specs.stream_eval.Results.{sink_values};
-ghost use Rattle.stream_tasks.specs.stream_lists.Lists.{start_in};
-ghost use Rattle.stream_tasks.specs.stream_lists.Ranges.{answer_of, first_too_big};
+ghost use Rattle.stream_tasks.specs.RunAnswers.{AreLinesOf};
+ghost use Rattle.stream_tasks.specs.stream_lists.Ranges.{first_too_big};
 ghost use Rattle.stream_tasks.specs.graph_base.declared.place.Place.{Place as PlaceValue};
 
 use crate::behind::{Behind, run_on};
 use crate::finishing::finish_run;
+use crate::laws::starts_are_in_time;
 use std::alloc::Global;
 use std::marker::Brand;
 use std::sync::Wait;
@@ -46,12 +45,12 @@ pub enum RunFault {
 /// What a job's run answers where a worker met a value out of range: the job's own answer. It names
 /// the first such value, or has the lines, where no value that the job takes is out of range.
 fn too_big(alloc: Global, job: &Job) -> Result<Vec<Lines>, RunFault>
-    ensures done { IfOk result (λ lines. answer_of job.now ≡ Ok (map sink_values lines.items)) }
-    ensures starts { IfOk result (λ lines.
-        All (λ line. line.start ≡ start_in job.now line.task) lines.items) }
+    ensures done { IfOk result (λ lines. AreLinesOf job.now lines.items) }
     ensures too_big { (place : PlaceValue) (n : ℕ) → result ≡ Err (RunFault.TooBig place n)
         → first_too_big job.now ≡ Some (place, n) }
 {
+    let _tasks = job.graph().tasks();
+    starts_are_in_time();
     match eval(alloc, job) {
         Ok(lines) => Ok(lines),
         Err(EvalFault::TooBig { place, phase }) => Err(RunFault::TooBig { place, phase }),
@@ -61,9 +60,7 @@ fn too_big(alloc: Global, job: &Job) -> Result<Vec<Lines>, RunFault>
 
 /// What a run answers that ended before all its tasks were done.
 fn after_fault(alloc: Global, job: &Job, fault: Fault) -> Result<Vec<Lines>, RunFault>
-    ensures done { IfOk result (λ lines. answer_of job.now ≡ Ok (map sink_values lines.items)) }
-    ensures starts { IfOk result (λ lines.
-        All (λ line. line.start ≡ start_in job.now line.task) lines.items) }
+    ensures done { IfOk result (λ lines. AreLinesOf job.now lines.items) }
     ensures too_big { (place : PlaceValue) (n : ℕ) → result ≡ Err (RunFault.TooBig place n)
         → first_too_big job.now ≡ Some (place, n) }
 {
@@ -88,9 +85,7 @@ fn run_named<'a, J: Run + Send + Sync, G: Gate + Sync, R: Threads + Wait + Sync>
     requires spots { spot_at phasers.now ≡ J.spots }
     requires phasers { ArePhasers J.job phasers.now }
     requires founders { AreFoundersFrom 0 phasers.now regs.items }
-    ensures done { IfOk result (λ lines. answer_of job.now ≡ Ok (map sink_values lines.items)) }
-    ensures starts { IfOk result (λ lines.
-        All (λ line. line.start ≡ start_in job.now line.task) lines.items) }
+    ensures done { IfOk result (λ lines. AreLinesOf job.now lines.items) }
     ensures too_big { (place : PlaceValue) (n : ℕ) → result ≡ Err (RunFault.TooBig place n)
         → first_too_big job.now ≡ Some (place, n) }
 {
@@ -107,8 +102,9 @@ fn run_named<'a, J: Run + Send + Sync, G: Gate + Sync, R: Threads + Wait + Sync>
 }
 
 /// Runs a job by so many worker threads, of which the caller's is one, and gives the values of each
-/// sink in the order of the lines. A sink that joins now begins at the least phase that it may. The
-/// gate is called once a step, as a worker enters it.
+/// sink in the order of the lines. A sink that joins now begins where its phaser stands when its
+/// parent's turn comes to register it, and tells where. The gate is called once a step, as a worker
+/// enters it, and once for a block of steps.
 ///
 /// It takes memory for the phasers, the tasks, their registrations and the sinks' values, and waits.
 /// `Stalled` is said where every task that is left waits for another; nothing is promised of it. It
@@ -120,9 +116,7 @@ pub fn run<R: Threads + Wait + Sync, G: Gate + Sync>(
     workers: usize,
     gate: &G,
 ) -> Result<Vec<Lines>, RunFault>
-    ensures done { IfOk result (λ lines. answer_of job.now ≡ Ok (map sink_values lines.items)) }
-    ensures starts { IfOk result (λ lines.
-        All (λ line. line.start ≡ start_in job.now line.task) lines.items) }
+    ensures done { IfOk result (λ lines. AreLinesOf job.now lines.items) }
     ensures too_big { (place : PlaceValue) (n : ℕ) → result ≡ Err (RunFault.TooBig place n)
         → first_too_big job.now ≡ Some (place, n) }
 {

@@ -18,7 +18,7 @@ report_too_big-requires g c =
 
 -- the lines are the job's
 pub write_sinks-requires : goal.write_sinks-requires
-write_sinks-requires g c = rw c.deref.ensures.value c.in-Ok.ensures.ok
+write_sinks-requires g c = (c.args.job.now.starts, rw c.deref.ensures.value c.in-Ok.ensures.ok)
 
 -- a value is out of range
 pub returns-in-Err-TooBig-clause-ends : goal.returns-in-Err-TooBig-clause-ends

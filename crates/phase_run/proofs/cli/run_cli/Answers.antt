@@ -1,5 +1,4 @@
-use Rattle.std.proofs.Common.{inl, inr, refl, sym, subst, ap, ◌∙◌, ℕ, List, Option}
-use Rattle.phase_words.specs.CommandLine.{texts}
+use Rattle.std.proofs.Common.{inl, inr, refl, sym, subst, ◌∙◌}
 use Rattle.phase_words.specs.RunLine.{Run}
 use Rattle.stream_workers.specs.graph_commands.watched_io.States.{writer_state}
 use Rattle.phase_run.specs.Inside.{RunEndsBy}

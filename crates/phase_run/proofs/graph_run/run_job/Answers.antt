@@ -1,11 +1,12 @@
 use Rattle.std.proofs.Common.{◌≡◌, map, rules}
 use Rattle.std.specs.List.{All}
-use Rattle.stream_workers.proofs.graph_commands_lemmas.Ends.{eval-no_memory, eval-too_big, eval-written}
+use Rattle.stream_workers.proofs.graph_commands_lemmas.Ends.{eval-no_memory, eval-too_big}
 use Rattle.stream_workers.proofs.graph_commands_lemmas.Places.{place-first_too_big}
 use Rattle.stream_workers.proofs.stream_eval_lemmas.SinkStarts.{outputs-are}
+use Rattle.stream_workers.specs.graph_commands.stream_lists.Jobs.{Job, with_starts}
 use Rattle.stream_workers.specs.graph_commands.stream_lists.Lists.{lines_of, start_in}
 use Rattle.stream_workers.specs.stream_eval.Results.{sink_values}
-use Rattle.phase_run.proofs.Answered.{answer-fits, answer-lines, ends-as, ends-stalled}
+use Rattle.phase_run.proofs.Answered.{answer-fits, answer-lines, ends-as, ends-stalled, run-written}
 use Rattle.phase_run.proofs.graph_run.run_job.Goals as goal
 
 -- the place is one of the graph
@@ -17,9 +18,11 @@ report_too_big-requires g c =
     (place-first_too_big c.args.job.now (place, phase)
     (c.in-Err-TooBig.ensures.too_big place phase (search rules)))
 
--- the lines are the job's
+-- the lines are those of the job's sinks, which stand where they stood
 pub write_sinks-requires : goal.write_sinks-requires
-write_sinks-requires g c = rw c.deref.ensures.value (answer-lines c.args.job.now _ c.in-Ok.ensures.done)
+write_sinks-requires g c =
+    let told = c.in-Ok.ensures.done in
+    (told.starts, rw c.deref.ensures.value (answer-lines (with_starts told.starts c.args.job.now) _ told.answer))
 
 -- a value is out of range
 pub returns-in-Err-TooBig-clause-ends : goal.returns-in-Err-TooBig-clause-ends
@@ -49,17 +52,16 @@ returns-in-Err-OutOfMemory-clause-ends g c known name asked of asks =
 -- the lists were written, or a prefix of them
 pub returns-in-Ok-clause-ends : goal.returns-in-Ok-clause-ends
 returns-in-Ok-clause-ends g c known name asked of asks =
-    let job = c.args.job.now in
+    let told = c.in-Ok.ensures.done in
+    let job : Job = with_starts told.starts c.args.job.now in
     let lines = c.deref.result.now in
     let values : map sink_values lines ≡ lines_of job =
-    rw c.deref.ensures.value (answer-lines job _ c.in-Ok.ensures.done) in
+    rw c.deref.ensures.value (answer-lines job _ told.answer) in
     let starts : All (λ line. line.start ≡ start_in job line.task) lines =
-    rw c.deref.ensures.value c.in-Ok.ensures.starts in
+    rw c.deref.ensures.value told.told in
     let outputs = outputs-are job lines values starts in
-    ends-as known name asked c.report_written.result g.W.Write.contents c.args.output.now
-    c.write_sinks.new.writer _ _
-    (eval-written _ g.W.Write.contents known name asked c.args.sink c.args.job.now
+    run-written _ g.W.Write.contents known name asked c.args.sink c.args.job.now told.starts
     c.write_sinks.result c.report_written.result c.args.output.now c.write_sinks.new.writer _ _ of
-    asks (answer-fits c.args.job.now _ c.in-Ok.ensures.done)
+    asks (answer-fits job _ told.answer)
     (rw outputs at c.write_sinks.ensures.ok) (rw outputs at c.write_sinks.ensures.err)
-    c.write_sinks.ensures.failed c.report_written.ensures.done c.report_written.ensures.stops)
+    c.write_sinks.ensures.failed c.report_written.ensures.done c.report_written.ensures.stops
