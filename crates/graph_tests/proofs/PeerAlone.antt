@@ -1,16 +1,18 @@
 -- What the peer of the worked run sees: legal histories, and events of others before its own.
-use Rattle.std.proofs.Common.{◌≡◌, ℕ, zero, suc, ◌<◌, leb-true, [], ◌∷◌, ◌++◌, None, get_or, pos, refl, sym, ap, subst, ◌∙◌, arith}
+use Rattle.std.proofs.Common.{◌≡◌, ℕ, zero, suc, ◌<◌, ◌≤◌, leb-true, Some, [], ◌∷◌, ◌++◌, None, get_or, pos, refl, sym, ap, subst, ◌∙◌, arith}
 use Rattle.stream_job.specs.phase_base.Limits.{AreLimits}
 use Rattle.stream_job.specs.phase_base.declared.mode.Mode.TheVariants.{Sig}
 use Rattle.stream_job.specs.phase_history.declared.event.Event.TheVariants.{Made, Registered, Signalled, Waited, Dropped}
 use Rattle.stream_job.specs.phase_history.Histories.{History}
 use Rattle.stream_job.specs.phase_history.Legal.{IsLegal}
 use Rattle.stream_job.specs.phase_history.Others.{OthersCame, events_of}
+use Rattle.stream_job.specs.graph_base.Graphs.{task_at}
+use Rattle.stream_job.specs.graph_base.declared.line.Parent.{Parent}
 use Rattle.stream_job.specs.graph_runs.Moments.{Moment, limits_at}
 use Rattle.stream_job.specs.graph_runs.TaskPlaces.{registration_at}
 use Rattle.stream_job.proofs.graph_runs_lemmas.Signalling.{sendable}
 use Rattle.stream_job.specs.graph_runs.Parts.{SeesOwn, put_event}
-use Rattle.stream_job.specs.graph_runs.Places.{HasChildrenBy, IsFirstMoment, IsRootOn}
+use Rattle.stream_job.specs.graph_runs.Places.{HasChildrenBy, IsFirstMoment, IsRootOn, MayMake, IsMost}
 use Rattle.graph_tests.specs.Worked.{worked}
 use Rattle.graph_tests.specs.WorkedParts.{PeerKnows, peer_seen, x_before, e_before, e_signalled, peer_begins, peer_owes_e, peer_exchanges}
 use Rattle.graph_tests.proofs.Histories.{only_one}
@@ -75,11 +77,11 @@ pub knows_first : (m : Moment) → IsFirstMoment worked m 1 (2 ∷ 1 ∷ 1 ∷ [
     → PeerKnows m peer_begins (peer_seen 0) (peer_seen 1)
 knows_first m first = record {
   part = first.part;
-  place = first.place;
+  place = first.place 1;
   x = first.history 0 (leb-true 1 3 refl);
   e = first.history 1 (leb-true 2 3 refl);
-  number_x = first.place.numbered 0 (leb-true 1 3 refl);
-  number_e = first.place.numbered 1 (leb-true 2 3 refl);
+  number_x = (first.place 1).numbered 0 (leb-true 1 3 refl);
+  number_e = (first.place 1).numbered 1 (leb-true 2 3 refl);
 }
 
 -- ---- its calls
@@ -93,6 +95,17 @@ childless m (suc (suc (suc zero))) lt e = absurd (cc)
 childless m (suc (suc (suc (suc zero)))) lt e = absurd (cc)
 childless m (suc (suc (suc (suc (suc zero))))) lt e = absurd (cc)
 childless m (suc (suc (suc (suc (suc (suc c)))))) lt e = absurd (omega arith)
+
+-- and makes its steps one by one
+pub one_by_one : IsMost worked 1 1
+one_by_one = record { some = leb-true 1 1 refl; block = refl }
+
+pub may_make : MayMake worked 1 0 1
+may_make = record { cut = tt; children = none }
+  where
+    none : (c : ℕ) (u : Parent) → c < 6 → (task_at worked.graph c).parent ≡ Some u → u.task ≡ 1
+        → 0 < u.at → 1 ≤ u.at
+    none c u lt is of lt′ = lt′
 
 -- none of the later events is number n's
 came : (n : ℕ) (later old before seen : History) → old ≡ seen → before ≡ later ++ seen
@@ -114,7 +127,7 @@ sees_x m k = record {
 }
 
 pub sees_e : (m : Moment) → PeerKnows m peer_owes_e (Waited 2 1 ∷ x_before) (peer_seen 1)
-    → SeesOwn worked m 1 1 1 (put_event worked 1 1 (pos 5)) e_before
+    → SeesOwn worked m 1 1 1 (put_event worked 1 1 (pos 5 ∷ [])) e_before
 sees_e m k = record {
   numbered = k.number_e;
   others = came 1 (Dropped 0 ∷ []) (m.history 1) e_before (peer_seen 1) k.e refl refl;

@@ -6,7 +6,7 @@ use Rattle.stream_job.specs.phase_history.Histories.{History}
 use Rattle.stream_job.specs.graph_runs.Moments.{Moment}
 use Rattle.stream_job.specs.graph_runs.TaskPlaces.{TaskPlace, StandsAt, at_start, values, exchange}
 use Rattle.stream_job.specs.graph_runs.Parts.{HasPart}
-use Rattle.stream_job.specs.graph_runs.Places.{owing, after_step}
+use Rattle.stream_job.specs.graph_runs.Places.{owing, after_steps}
 use Rattle.graph_tests.specs.Worked.{worked}
 
 -- what the peer has seen of X, E and Y where it begins: it is registered last
@@ -33,7 +33,7 @@ peer_begins = at_start (2 ∷ 1 ∷ 1 ∷ [])
 
 -- where it owes 5 on E
 abbrev pub peer_owes_e : TaskPlace
-peer_owes_e = after_step (values 0 (Ok (pos 5) ∷ [])) peer_begins
+peer_owes_e = after_steps 1 (values 0 (Ok (pos 5) ∷ [])) peer_begins
 
 -- where it waits on E
 abbrev pub peer_exchanges : TaskPlace

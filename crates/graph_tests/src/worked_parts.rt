@@ -1,9 +1,9 @@
 //! The peer of the worked run alone, by the laws of parts: from its beginning to where it owes its
 //! value on Y.
-ghost use Rattle.std.specs.Prelude.{pos, ◌∷◌};
+ghost use Rattle.std.specs.Prelude.{pos, [], ◌∷◌};
 ghost use Rattle.stream_job.specs.phase_history.declared.event.Event.TheVariants.{Waited};
 ghost use Rattle.stream_job.specs.graph_runs.Moments.{Moment};
-ghost use Rattle.stream_job.specs.graph_runs.Parts.{IsNextValue};
+ghost use Rattle.stream_job.specs.graph_runs.Parts.{AreNextValues};
 ghost use Rattle.graph_tests.specs.Worked.{worked};
 ghost use Rattle.graph_tests.specs.WorkedParts.{PeerKnows, peer_seen, x_before, e_before, e_signalled, peer_begins, peer_owes_e, peer_exchanges, peer_owes_y};
 
@@ -43,7 +43,7 @@ fn the_peer_waits_on_e()
         × PeerKnows after peer_owes_y (Waited 2 1 ∷ x_before) (Waited 1 1 ∷ e_signalled) }
     ensures next { (m : Moment)
         → PeerKnows m peer_owes_y (Waited 2 1 ∷ x_before) (Waited 1 1 ∷ e_signalled)
-        → IsNextValue worked m 1 1 2 (pos 10) }
+        → AreNextValues worked m 1 1 2 (pos 10 ∷ []) }
 {
     laws::gets();
     places::tells_next();

@@ -1,24 +1,24 @@
 -- As its place tells.
-use Rattle.std.proofs.Common.{pos, refl, ◌∙◌, arith}
+use Rattle.std.proofs.Common.{[], ◌∷◌, pos, refl, ◌∙◌, arith}
 use Rattle.graph_tests.specs.Worked.{worked}
 use Rattle.graph_tests.specs.WorkedParts.{e_before, e_signalled, peer_owes_e}
-use Rattle.graph_tests.proofs.PeerAlone.{sees_e}
+use Rattle.graph_tests.proofs.PeerAlone.{one_by_one, sees_e}
 use Rattle.graph_tests.proofs.WorkedRun.{worked-is}
 use Rattle.graph_tests.proofs.worked_parts.the_peer_signals_e.Goals as goal
 
 pub returns : goal.returns
 returns c = λ m k.
-    let next = c.tells_next.ensures.value worked m 1 0 (pos 5) peer_owes_e worked-is (omega arith)
-    k.part k.place refl refl in
-    let put = c.puts.ensures.value worked m 1 0 1 1 (pos 5) e_before worked-is (omega arith) k.part
-    (sees_e m k) next in
+    let next = c.tells_next.ensures.values worked m 1 0 1 (pos 5 ∷ []) peer_owes_e worked-is
+    (omega arith) k.part one_by_one k.place refl refl in
+    let put = c.puts.ensures.values worked m 1 0 1 1 (pos 5 ∷ []) e_before worked-is (omega arith)
+    k.part (sees_e m k) next in
     let after = put.0 in
     let moved = put.1.moved in (
       after,
       record {
         part = moved.part;
-        place = c.follow.ensures.put worked m after 1 0 1 (pos 5) peer_owes_e e_signalled worked-is
-            (omega arith) k.part k.place refl refl put.1;
+        place = c.follow.ensures.put worked m after 1 0 1 1 (pos 5 ∷ []) peer_owes_e e_signalled
+            worked-is (omega arith) k.part one_by_one k.place refl refl put.1;
         x = moved.elsewhere 0 (λ same. omega arith) ∙ k.x;
         e = moved.here;
         number_x = moved.numbers 0 1 ∙ k.number_x;
