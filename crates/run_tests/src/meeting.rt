@@ -52,11 +52,7 @@ fn meeting<R: Wait>(rt: &R, founder: AnyMember<'_>) -> Option<(GotBlock, Outcome
 }
 
 // The same on a phaser of this operation.
-fn meets<R: Wait>(
-    rt: &R,
-    alloc: Global,
-    op: Op,
-) -> Result<Option<(GotBlock, Outcome)>, Fail> {
+fn meets<R: Wait>(rt: &R, alloc: Global, op: Op) -> Result<Option<(GotBlock, Outcome)>, Fail> {
     let (phaser, founder) = AnyPhaser::make(alloc, op, Spec::new(1, 100)?)?;
     Ok(meeting(rt, phaser.member(founder)))
 }
