@@ -1,7 +1,7 @@
 // Makes reads or writes of a program fail, or do less than they are asked for. Load it before the C
 // library, with variables: CALL is `read` or `write`; AT is the number of the call that is meant, counted
-// from 1, or 0 for each; HOW is what it does: `fails`, takes or gives `nothing`, or one `byte`. With HOW
-// `shrinks` or `grows` the file CHANGED loses all its bytes, or gets 65,536 more, before the call goes on.
+// from 1, or 0 for each; HOW is what it does: `fails`, is `interrupted`, takes or gives `nothing`, or one
+// `byte`. With HOW `shrinks` or `grows` the file CHANGED loses all its bytes, or gets 65,536 more, before the call goes on.
 // Writes are those to standard output, or to the descriptor in OF. At the end file descriptor 9 gets how
 // many calls there were. A program that has threads ends by `_exit`, past all destructors.
 #define _GNU_SOURCE
@@ -64,8 +64,8 @@ static void change(void) {
 
 // How many bytes the call may move: fewer than it is asked for, or all, or -1 where it fails.
 static ssize_t allowed(size_t size) {
-    if (strcmp(how, "fails") == 0) {
-        errno = EIO;
+    if (strcmp(how, "fails") == 0 || strcmp(how, "interrupted") == 0) {
+        errno = strcmp(how, "fails") == 0 ? EIO : EINTR;
         return -1;
     }
     if (strcmp(how, "nothing") == 0) {
