@@ -1,9 +1,10 @@
 // Makes reads or writes of a program fail, or do less than they are asked for. Load it before the C
 // library, with variables: CALL is `read` or `write`; AT is the number of the call that is meant, counted
 // from 1, or 0 for each; HOW is what it does: `fails`, is `interrupted`, takes or gives `nothing`, or one
-// `byte`. With HOW `shrinks` or `grows` the file CHANGED loses all its bytes, or gets 65,536 more, before the call goes on.
-// Writes are those to standard output, or to the descriptor in OF. At the end file descriptor 9 gets how
-// many calls there were. A program that has threads ends by `_exit`, past all destructors.
+// `byte`. With HOW `shrinks` or `grows` the file CHANGED loses all its bytes, or gets 65,536 more, before
+// the call goes on. Writes are those to standard output, or to the descriptor in OF. At the end file
+// descriptor 9 gets how many calls there were. A program that has threads ends by `_exit`, past all
+// destructors.
 #define _GNU_SOURCE
 #include <dlfcn.h>
 #include <errno.h>
@@ -50,14 +51,16 @@ static int is_meant(const char *name) {
 static void change(void) {
     static char more[65536];
     const char *path = getenv("CHANGED");
-    int file = path ? open(path, strcmp(how, "shrinks") == 0 ? O_WRONLY | O_TRUNC : O_WRONLY | O_APPEND) : -1;
+    int as = strcmp(how, "shrinks") == 0 ? O_WRONLY | O_TRUNC : O_WRONLY | O_APPEND;
+    int file = path ? open(path, as) : -1;
     if (file < 0) {
         return;
     }
     if (strcmp(how, "grows") == 0) {
-        ssize_t (*put)(int, const void *, size_t) = (ssize_t (*)(int, const void *, size_t))dlsym(RTLD_NEXT, "write");
+        ssize_t (*next)(int, const void *, size_t);
+        next = (ssize_t (*)(int, const void *, size_t))dlsym(RTLD_NEXT, "write");
         memset(more, '\n', sizeof more);
-        put(file, more, sizeof more);
+        next(file, more, sizeof more);
     }
     close(file);
 }
@@ -72,7 +75,7 @@ static ssize_t allowed(size_t size) {
         return 0;
     }
     if (strcmp(how, "byte") == 0) {
-        return size < 1 ? 0 : 1;
+        return size > 0;
     }
     change();
     return (ssize_t)size;
