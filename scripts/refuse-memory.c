@@ -1,8 +1,8 @@
 // Refuses the request for memory whose number the variable REFUSED tells, counted from 1, and each
 // new thread where the variable ALONE is set. Load it before the C library. Where REFUSED is 0 it
-// refuses no request, and at the end it writes to file descriptor 9 how many there were, how many
-// bytes they asked for, and how many threads were asked for. Threads count together. A program that
-// has threads ends by `_exit`, past all destructors.
+// refuses no request. At the end it writes to file descriptor 9, where that is open, how many requests
+// there were, how many bytes they asked for, and how many threads were asked for. Threads count
+// together. A program that has threads ends by `_exit`, past all destructors.
 #define _GNU_SOURCE
 #include <dlfcn.h>
 #include <errno.h>
@@ -22,10 +22,9 @@ __attribute__((constructor)) static void begin(void) {
 }
 
 __attribute__((destructor)) static void end(void) {
-    if (refused == 0) {
-        unsigned long count = atomic_load(&requests), size = atomic_load(&bytes);
-        dprintf(9, "%lu %lu %lu\n", count, size, (unsigned long)atomic_load(&threads));
-    }
+    unsigned long count = atomic_load(&requests), size = atomic_load(&bytes);
+    refused = 0;
+    dprintf(9, "%lu %lu %lu\n", count, size, (unsigned long)atomic_load(&threads));
 }
 
 void _exit(int status) {
