@@ -1,0 +1,5 @@
+pub mod Lent
+pub mod Evaluations
+pub mod Refusals
+pub mod Told
+pub mod Inside
