@@ -2,7 +2,9 @@
 use Rattle.std.proofs.Common.{◌≡◌, ℕ, zero, suc, ◌+◌, ◌<◌, ◌≤◌, List, [], ◌∷◌, ◌++◌, ℤ, length, map, take, drop, get_or, nat_abs, w64, SFits, of_z, refl, sym, ap, subst, ◌∙◌, arith, append_assoc, Vec}
 use Rattle.std.proofs.lemmas.Int.{ints}
 use Rattle.std.proofs.lemmas.List.{drop_more, map_push, take_more}
+use Rattle.std.proofs.lemmas.List.Sums.{sum_by-drop_more}
 use Rattle.std.specs.Global.{Global}
+use Rattle.std.specs.List.{sum}
 use Rattle.stream_eval.specs.stream_filters.Range.{lowest}
 use Rattle.graph_lang.specs.phase_accum.Sends.{AreSends, IsSend}
 use Rattle.stream_eval.specs.stream_lists.Inside.{items_of}
@@ -40,3 +42,8 @@ cut_more lists list counts i d rest whole less is before =
     ∙ (append_assoc (items_of lists) (list.items ∷ []) behind
     ∙ (ap (λ xs. items_of lists ++ xs ∷ behind) is
     ∙ (ap (λ ns. items_of lists ++ cut ns rest) (sym (drop_more counts i d less)) ∙ before)))
+
+-- the counts that are left make the next one and those behind it
+pub sum_left : (counts : List ℕ) (i d : ℕ) → i < length counts
+    → sum (drop i counts) ≡ get_or counts i d + sum (drop (i + 1) counts)
+sum_left counts i d less = sum_by-drop_more (λ n. n) counts i d less

@@ -9,7 +9,7 @@ ghost use Rattle.phase_c.specs.Refusals.{IsDone, Refuses, RefusesJob, RefusesLen
 use crate::counts::{are_counts, has_room};
 use crate::refusal::Refusal;
 use crate::samples::{first_no_sample, lists_of};
-use crate::sinks::{sinks_of, write_counts, write_starts};
+use crate::sinks::{sinks_of, tell_sinks};
 use crate::written::write_values;
 use graph_lang::{FaultKind, Graph, GraphFault, read_graph};
 use std::alloc::Global;
@@ -106,10 +106,7 @@ fn evaluate_job(
     ensures same { OnErr result (out.new ≡ out.old) }
     ensures least { job.now.starts ≡ [] }
 {
-    let Ok(found) = sinks_of(alloc, job.graph()) else {
-        return Err(Refusal::OutOfMemory);
-    };
-    if !write_counts(job, &found, sinks) || !write_starts(job, &found, starts) {
+    if !tell_sinks(alloc, job, sinks, starts) {
         return Err(Refusal::OutOfMemory);
     }
     if !has_room(sinks, out.len()) {

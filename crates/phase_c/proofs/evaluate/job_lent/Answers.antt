@@ -8,8 +8,8 @@ returns-in-Err-AnyMeets-clause-refused c =
     inr (
       refl,
       record {
-        job = given c.in-Ok.graph c.in_ok-lists.lists.items;
-        lent = record { graph_lent = c.in-Ok.ensures.lent; samples_are = c.in_ok-lists.ensures.lists };
+        job = given c.in-Ok.graph c.in-Ok-lists_of.lists.items;
+        lent = record { graph_lent = c.in-Ok.ensures.lent; samples_are = c.in-Ok-lists_of.ensures.lists };
         least = refl;
         meets = c.in-Err-AnyMeets.ensures.any_meets c.in-Err-AnyMeets.line (search rules);
       },
