@@ -2,8 +2,8 @@
  *
  * Link libphase.a or libphase.so, which scripts/bind makes. docs/BINDINGS.md begins with an example.
  *
- * A call answers PHASE_OK, or a negative status that tells why not; then it has written the fault,
- * and out stands as it stood. A length is behind its pointer, and counts values, bytes of a text.
+ * A call answers PHASE_OK, or a negative status that tells why not; then it has written the fault, and
+ * left what it says. A length is behind its pointer, and counts values, bytes of a text.
  * A pointer may be NULL where its length is 0.
  *
  * A caller owes: pointers to as many values as their lengths say; what a call writes overlaps nothing
@@ -33,7 +33,9 @@ enum {
     /* out is too short; sink_counts and sink_starts are those of the answer. */
     PHASE_E_ROOM = -5,
     /* There was no memory, or a list has more values than any memory holds. */
-    PHASE_E_MEMORY = -6
+    PHASE_E_MEMORY = -6,
+    /* No filter has these taps and this shift. */
+    PHASE_E_TAPS = -7
 };
 
 /* The kinds of fault of a graph's text, as docs/FORMATS.md has them. */
@@ -62,6 +64,9 @@ enum { PHASE_NO_START = -1 };
 #define PHASE_PHASERS_MAX 64
 #define PHASE_TASKS_MAX 64
 
+/* The most taps of a filter. */
+#define PHASE_TAPS_MAX 64
+
 /* The most samples of a source. */
 #define PHASE_SAMPLES_MAX 67108864
 
@@ -89,7 +94,9 @@ int32_t phase_check(const uint8_t *text, size_t text_len, phase_counts *counts, 
  * where each begins that joins now, at the least start. What stands behind the values stays.
  *
  * The samples are those of each source, one source behind the other in the order of the lines, and
- * counts says how many each has. With out too short the answer is PHASE_E_ROOM, and sink_counts tells
+ * counts says how many each has. A refusal leaves out as it was, and sink_counts and sink_starts but at
+ * PHASE_E_ROOM and PHASE_E_TOO_BIG, where they are those of the answer, and at PHASE_E_MEMORY, where they may be
+ * anything. With out too short the answer is PHASE_E_ROOM, and sink_counts tells
  * how many values there are: so a first call with NULL, 0 asks, and composes no list. */
 int32_t phase_eval(const uint8_t *text, size_t text_len,
                    const int64_t *samples, size_t samples_len,
@@ -98,6 +105,19 @@ int32_t phase_eval(const uint8_t *text, size_t text_len,
                    size_t *sink_counts, size_t sink_counts_len,
                    int64_t *sink_starts, size_t sink_starts_len,
                    phase_fault *fault);
+
+/* A filter over a block of samples, as the line `fir` of a graph has it, which goes on where the block before it
+ * ended: state has the last taps_len - 1 samples before the block, the oldest first, and zeros where there were
+ * none. At PHASE_OK out has a value for each sample, and state has the last samples. What stands behind the values
+ * stays.
+ *
+ * done tells how many values of out are right: all, or at PHASE_E_TOO_BIG those before the first that is out of
+ * range, and else none. A refusal leaves state as it was. Taps have a magnitude of at most 2^31 - 1, and shift is
+ * at most 62; a sample may be any number. PHASE_E_COUNTS says that state is not one shorter than taps. */
+int32_t phase_fir(const int64_t *taps, size_t taps_len, uint32_t shift,
+                  int64_t *state, size_t state_len,
+                  const int64_t *block, size_t block_len,
+                  int64_t *out, size_t out_len, size_t *done);
 
 #ifdef __cplusplus
 }

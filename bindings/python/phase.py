@@ -27,6 +27,7 @@ E_SAMPLE = -3
 E_TOO_BIG = -4
 E_ROOM = -5
 E_MEMORY = -6
+E_TAPS = -7
 
 SYNTAX = 1
 LIMIT = 2
@@ -105,7 +106,8 @@ def _load():
     text = [ctypes.c_char_p, ctypes.c_size_t]
     lib.phase_check.argtypes = text + [ctypes.POINTER(_Counts)] + fault
     lib.phase_eval.argtypes = text + array * 5 + fault
-    lib.phase_check.restype = lib.phase_eval.restype = ctypes.c_int32
+    lib.phase_fir.argtypes = array + [ctypes.c_uint32] + array * 3 + [ctypes.POINTER(ctypes.c_size_t)]
+    lib.phase_check.restype = lib.phase_eval.restype = lib.phase_fir.restype = ctypes.c_int32
     return lib
 
 
@@ -124,6 +126,7 @@ def eval(graph, samples=(), **named):
 
     Samples are whole numbers, in arrays or lists. Values are arrays of int64.
 
+    >>> import phase
     >>> phase.eval("phaser x sum 4\\nsource s s.csv -> x\\nsink out x", s=[2**63 - 1, -5])["out"]
     array([9223372036854775807,                  -5])
     """
@@ -142,6 +145,38 @@ def eval(graph, samples=(), **named):
         status, fault = _eval(text, joined, lent, out, sinks, starts)
     _stop(status, fault, text)
     return _values(_names(text, "sink"), out, sinks, starts)
+
+
+class Fir:
+    """A filter that goes on where the block before ended: the sum of each tap times the sample so far back,
+    divided by 2 to the power of the shift and rounded down.
+
+    >>> import phase
+    >>> sums = phase.Fir([1, 1])
+    >>> sums([1, 2, 3])
+    array([1, 3, 5])
+    >>> sums([4])
+    array([7])
+    """
+
+    def __init__(self, taps, shift=0):
+        self.taps, self.shift = _whole(taps), shift
+        self._state = numpy.zeros(max(len(self.taps) - 1, 0), numpy.int64)
+
+    def __call__(self, samples):
+        block = _whole(samples)
+        out, done = numpy.empty_like(block), ctypes.c_size_t()
+        arrays = [(it.ctypes.data, len(it)) for it in (self.taps, self._state, block, out)]
+        status = _lib.phase_fir(*arrays[0], self.shift, *arrays[1], *arrays[2], *arrays[3], done)
+        if status == E_TAPS:
+            raise ValueError("a filter has 1 to 64 taps up to 2**31 - 1, and a shift up to 62")
+        if status == E_TOO_BIG:
+            raise TooBig("a block", done.value)
+        if status == E_MEMORY:
+            raise MemoryError
+        if status != OK:
+            raise RuntimeError(f"libphase answered a status that is none: {status}")
+        return out
 
 
 def _bytes(graph):

@@ -210,6 +210,34 @@ static void sinks_that_join_now(void)
              && room.counts[0] == 4 && room.counts[1] == 2 && room.starts[1] == 2);
 }
 
+static void blocks(void)
+{
+    int64_t taps[3] = {1, 2, 1}, big[2] = {INT64_C(2147483648), 1}, state[2] = {0, 0}, block[4] = {-1, -1, 0, 4};
+    int64_t out[5] = {-77, -77, -77, -77, -77}, ones[2] = {1, 1}, last[1] = {3}, most[3] = {0, INT64_MAX, 1};
+    size_t done = 77;
+    look("a block, rounded down",
+         phase_fir(taps, 3, 2, state, 2, block, 4, out, 5, &done) == PHASE_OK && done == 4 && out[0] == -1
+             && out[1] == -1 && out[2] == -1 && out[3] == 0 && out[4] == -77 && state[0] == 0 && state[1] == 4);
+    look("the next block goes on, in a block shorter than the state",
+         phase_fir(taps, 3, 0, state, 2, ones, 1, out, 5, &done) == PHASE_OK && done == 1 && out[0] == 9
+             && state[0] == 4 && state[1] == 1);
+    look("an empty block, NULL with 0",
+         phase_fir(taps, 3, 0, state, 2, NULL, 0, NULL, 0, &done) == PHASE_OK && done == 0 && state[0] == 4);
+    look("one tap has no state, NULL with 0",
+         phase_fir(ones, 1, 0, NULL, 0, block, 2, out, 5, &done) == PHASE_OK && out[1] == -1);
+    out[2] = -77;
+    look("too big: so many are right, and the state stays",
+         phase_fir(ones, 2, 0, last, 1, most, 3, out, 5, &done) == PHASE_E_TOO_BIG && done == 2 && out[0] == 3
+             && out[1] == INT64_MAX && out[2] == -77 && last[0] == 3);
+    look("a state that is too long",
+         phase_fir(ones, 2, 0, state, 2, most, 3, out, 5, &done) == PHASE_E_COUNTS && done == 0 && state[1] == 1);
+    look("no room",
+         phase_fir(ones, 2, 0, last, 1, most, 3, out, 2, &done) == PHASE_E_ROOM && done == 0 && out[0] == 3);
+    look("a tap that is too large", phase_fir(big, 2, 0, last, 1, most, 3, out, 5, &done) == PHASE_E_TAPS && done == 0);
+    look("a shift that is too large", phase_fir(ones, 2, 63, last, 1, most, 3, out, 5, &done) == PHASE_E_TAPS);
+    look("no taps", phase_fir(NULL, 0, 0, NULL, 0, most, 3, out, 5, &done) == PHASE_E_TAPS && last[0] == 3);
+}
+
 static const int64_t shared[3] = {1, 2, 3};
 
 static void *evaluates(void *right)
@@ -243,6 +271,7 @@ int main(void)
     lengths();
     values();
     sinks_that_join_now();
+    blocks();
     four_threads();
     printf("edges: %d passed, %d failed\n", passed, failed);
     return failed != 0;

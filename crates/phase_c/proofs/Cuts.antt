@@ -1,5 +1,5 @@
 -- Samples, and the lists that they are cut into.
-use Rattle.std.proofs.Common.{◌≡◌, ℕ, zero, suc, ◌+◌, ◌<◌, ◌≤◌, List, [], ◌∷◌, ◌++◌, ℤ, length, map, take, drop, get_or, nat_abs, w64, SFits, of_z, refl, sym, ap, subst, ◌∙◌, arith, append_assoc, Vec}
+use Rattle.std.proofs.Common.{◌≡◌, ℕ, ◌+◌, ◌<◌, List, [], ◌∷◌, ◌++◌, ℤ, length, take, drop, get_or, w64, SFits, of_z, sym, ap, subst, ◌∙◌, arith, append_assoc, Vec}
 use Rattle.std.proofs.lemmas.Int.{ints}
 use Rattle.std.proofs.lemmas.List.{drop_more, map_push, take_more}
 use Rattle.std.proofs.lemmas.List.Sums.{sum_by-drop_more}
@@ -18,7 +18,7 @@ can_send v fits other = record { small = omega (arith, ints) }
 pub is_lowest : (v : ℤ) → SFits w64 v → of_z w64 v ≡ 9223372036854775808 → v ≡ lowest
 is_lowest v fits same = omega (arith, ints)
 
-AreSends-append : (xs ys : List ℤ) → AreSends xs → AreSends ys → AreSends (xs ++ ys)
+pub AreSends-append : (xs ys : List ℤ) → AreSends xs → AreSends ys → AreSends (xs ++ ys)
 AreSends-append [] ys s t = t
 AreSends-append (x ∷ xs) ys s t = (s.0, AreSends-append xs ys s.1 t)
 

@@ -3,3 +3,4 @@ pub mod Evaluations
 pub mod Refusals
 pub mod Told
 pub mod Inside
+pub mod Filtered

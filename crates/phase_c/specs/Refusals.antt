@@ -6,7 +6,6 @@ use Rattle.graph_lang.specs.graph_base.Graphs.{Graph}
 use Rattle.graph_lang.specs.graph_base.declared.place.Place.{Place}
 use Rattle.graph_lang.specs.graph_text.Texts.{lines_of as text_lines}
 use Rattle.graph_lang.specs.declared.fault.FaultKind.TheVariants.{AnyMeets}
-use Rattle.graph_lang.specs.declared.fault.GraphFault.{GraphFault}
 use Rattle.graph_lang.specs.declared.fault.GraphRefusal.{GraphRefusal}
 use Rattle.graph_lang.specs.declared.fault.GraphRefusal.TheVariants as graph
 use Rattle.stream_eval.specs.stream_lists.Jobs.{Job}

@@ -1,10 +1,12 @@
 //! The exports, which `phase.h` declares. None requires anything.
 ghost use Rattle.std.specs.Prelude.{◌≡◌, ◌≢◌, pos, length, IfOk, IfErr};
+ghost use Rattle.phase_c.specs.Filtered.{FilterStops, FiltersAll};
 ghost use Rattle.phase_c.specs.Refusals.{IsDone, RefusesText};
 ghost use Rattle.phase_c.specs.Told.{CheckStops, Counted, EvalStops};
 
 use crate::evaluate::evaluate;
 use crate::fault::{PhaseCounts, PhaseFault};
+use crate::filter::{filter_block, filter_status_of};
 use crate::refusal::Refusal;
 use crate::sinks::sinks_of;
 use crate::told::{fault_of, status_of};
@@ -83,5 +85,32 @@ pub extern "C" fn phase_eval(
             *fault = fault_of(why);
             status_of(why)
         }
+    }
+}
+
+/// Answers 0 with what a filter gives at each sample of a block, or a status that tells why not.
+///
+/// The state has the last samples before the block, one less than there are taps, the oldest first,
+/// and zeros where there were none; at 0 it has those of the block too. What stands behind the values
+/// stays. `done` is how many of them are right.
+#[unsafe(no_mangle)]
+pub extern "C" fn phase_fir(
+    alloc: Global,
+    taps: &[i64],
+    shift: u32,
+    state: &mut [i64],
+    block: &[i64],
+    out: &mut [i64],
+    done: &mut usize,
+) -> i32
+    ensures all { result ≡ pos 0 → FiltersAll taps.now shift state.old state.new block.now
+        out.old out.new done.new }
+    ensures stops { result ≢ pos 0 → FilterStops taps.now shift state.old block.now
+        out.old out.new done.new result }
+    ensures same { result ≢ pos 0 → state.new ≡ state.old }
+{
+    match filter_block(alloc, taps, shift, state, block, out, done) {
+        Ok(()) => 0,
+        Err(why) => filter_status_of(why),
     }
 }

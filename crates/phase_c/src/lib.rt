@@ -9,6 +9,7 @@ mod counts;
 mod evaluate;
 mod exports;
 mod fault;
+mod filter;
 mod refusal;
 mod samples;
 mod sinks;

@@ -8,6 +8,7 @@ pub const PHASE_E_SAMPLE: i32 = -3;
 pub const PHASE_E_TOO_BIG: i32 = -4;
 pub const PHASE_E_ROOM: i32 = -5;
 pub const PHASE_E_MEMORY: i32 = -6;
+pub const PHASE_E_TAPS: i32 = -7;
 
 pub const PHASE_SYNTAX: i32 = 1;
 pub const PHASE_LIMIT: i32 = 2;
@@ -81,5 +82,20 @@ unsafe extern "C" {
         sink_starts: *mut i64,
         sink_starts_len: usize,
         fault: *mut PhaseFault,
+    ) -> i32;
+
+    /// # Safety
+    /// As of `phase_check`.
+    pub fn phase_fir(
+        taps: *const i64,
+        taps_len: usize,
+        shift: u32,
+        state: *mut i64,
+        state_len: usize,
+        block: *const i64,
+        block_len: usize,
+        out: *mut i64,
+        out_len: usize,
+        done: *mut usize,
     ) -> i32;
 }

@@ -15,8 +15,10 @@
 //! The file behind a source's name is not read: its samples are the slice that is given.
 
 mod error;
+mod fir;
 
 pub use error::{Error, FaultKind, Place};
+pub use fir::{Fir, FirError};
 pub use phase_sys::PhaseCounts as Counts;
 use phase_sys::{
     PHASE_E_ROOM, PHASE_NO_START, PHASE_OK, PhaseCounts, PhaseFault, phase_check, phase_eval,
