@@ -1,4 +1,4 @@
-/* Each request for memory of an evaluation refused in turn: the answer is PHASE_E_MEMORY with the output as it
+/* Each request for memory of an evaluation and of a filter refused in turn: the answer is PHASE_E_MEMORY with the output as it
  * was, or right all the same, and all memory is given back. Linked with --wrap of malloc, realloc and free. */
 #include "phase.h"
 #include <stdio.h>
@@ -49,33 +49,69 @@ static int is_right(const int64_t *out, const size_t *counts, const int64_t *sta
            && starts[0] == PHASE_NO_START && starts[1] == PHASE_NO_START && starts[2] == 1;
 }
 
-int main(void)
+static long requests, refused, right, wrong;
+
+/* A call of an evaluation with request number `request` refused: whether no request was. */
+static int evaluates(long request)
 {
     const int64_t samples[6] = {1, 2, 3, 4, 5, 6};
     const size_t counts[2] = {3, 3};
-    long refused = 0, right = 0, wrong = 0, requests = 0;
-    for (int is_done = 0; !is_done; requests++) {
-        int64_t out[12], was[12], starts[3];
-        size_t found[3];
-        phase_fault fault;
-        memset(out, 0x55, sizeof out);
-        memcpy(was, out, sizeof was);
-        granted = requests;
+    int64_t out[12], was[12], starts[3];
+    size_t found[3];
+    phase_fault fault;
+    memset(out, 0x55, sizeof out);
+    memcpy(was, out, sizeof was);
+    granted = request;
+    int32_t status = phase_eval((const uint8_t *)graph, strlen(graph), samples, 6, counts, 2, out, 12, found, 3,
+                                starts, 3, &fault);
+    int is_done = granted >= 0;
+    granted = -1;
+    if (status == PHASE_E_MEMORY && !is_done && !memcmp(out, was, sizeof was))
+        refused++;
+    else if (status == PHASE_OK && is_right(out, found, starts))
+        right++;
+    else
+        wrong++, printf("memory: status %d after request %ld was refused\n", (int)status, request);
+    return is_done;
+}
+
+/* The same of a block through a filter. */
+static int filters(long request)
+{
+    const int64_t taps[2] = {1, 1}, block[2] = {1, 2};
+    int64_t state[1] = {4}, out[2] = {-77, -77};
+    size_t done = 77;
+    granted = request;
+    int32_t status = phase_fir(taps, 2, 0, state, 1, block, 2, out, 2, &done);
+    int is_done = granted >= 0;
+    granted = -1;
+    if (status == PHASE_E_MEMORY && !is_done && done == 0 && state[0] == 4 && out[0] == -77)
+        refused++;
+    else if (status == PHASE_OK && done == 2 && state[0] == 2 && out[0] == 5 && out[1] == 3)
+        right++;
+    else
+        wrong++, printf("memory: status %d of a block after request %ld was refused\n", (int)status, request);
+    return is_done;
+}
+
+static void all_refused(int (*call)(long))
+{
+    int is_done = 0;
+    for (long request = 0; !is_done; request++) {
         held = 0;
-        int32_t status = phase_eval((const uint8_t *)graph, strlen(graph), samples, 6, counts, 2, out, 12, found, 3,
-                                    starts, 3, &fault);
-        is_done = granted >= 0;
-        granted = -1;
+        is_done = call(request);
+        requests += !is_done;
         if (held != 0)
-            wrong++, printf("memory: %ld blocks are held after request %ld was refused\n", held, requests);
-        else if (status == PHASE_E_MEMORY && !is_done && !memcmp(out, was, sizeof was))
-            refused++;
-        else if (status == PHASE_OK && is_right(out, found, starts))
-            right++;
-        else
-            wrong++, printf("memory: status %d after request %ld was refused\n", (int)status, requests);
+            wrong++, printf("memory: %ld blocks are held after request %ld was refused\n", held, request);
     }
-    printf("memory: %ld requests, each refused in turn: %ld told, %ld answered all the same, %ld wrong\n",
-           requests - 1, refused, right - 1, wrong);
-    return wrong != 0 || refused == 0 || right == 0;
+}
+
+int main(void)
+{
+    all_refused(evaluates);
+    all_refused(filters);
+    /* With no request refused each has answered once. */
+    printf("memory: %ld requests, each refused in turn: %ld told, %ld answered all the same, %ld wrong\n", requests,
+           refused, right - 2, wrong);
+    return wrong != 0 || refused == 0 || right < 2;
 }
