@@ -7,7 +7,7 @@
  * A pointer may be NULL where its length is 0.
  *
  * A caller owes: pointers to as many values as their lengths say; what a call writes overlaps nothing
- * else that it is given; and counts and fault are not NULL. A call keeps no pointer. It takes memory by
+ * else that it is given; and counts, fault and done are not NULL. A call keeps no pointer. It takes memory by
  * malloc and realloc, and gives all of it back. Calls may run side by side, also on the same values
  * where these are only read; none is made from a signal handler. */
 #ifndef PHASE_H
