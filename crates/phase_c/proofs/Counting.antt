@@ -62,14 +62,16 @@ all_long job (suc n) is le = by (is_sink_at job n) refl (all_long job n is (omeg
 
     by : (b : Bool) → is_sink_at job n ≡ b
         → map (λ t. length (list_of job t)) (sinks_to job n) ≡ map (steps_of job) (sinks_to job n)
-        → map (λ t. length (list_of job t)) (sinks_to job (suc n)) ≡ map (steps_of job) (sinks_to job (suc n))
+        → map (λ t. length (list_of job t)) (sinks_to job (suc n))
+        ≡ map (steps_of job) (sinks_to job (suc n))
     by true e before =
         let next : sinks_to job (suc n) ≡ sinks_to job n ++ n ∷ [] =
         ap (sinks_to job) more ∙ filter-take (is_sink_at job) n e in
         ap (map (λ t. length (list_of job t))) next
         ∙ (map_push (λ t. length (list_of job t)) (sinks_to job n) n
         ∙ (ap (λ ns. ns ++ length (list_of job n) ∷ []) before
-        ∙ (ap (λ k. map (steps_of job) (sinks_to job n) ++ k ∷ []) (one_long job n is (omega arith) e)
+        ∙ (ap (λ k. map (steps_of job) (sinks_to job n) ++ k ∷ [])
+        (one_long job n is (omega arith) e)
         ∙ (sym (map_push (steps_of job) (sinks_to job n) n)
         ∙ ap (map (steps_of job)) (sym next)))))
     by false e before =

@@ -37,9 +37,10 @@ pub answer_is : (taps other : List ℤ) (shift moved : ℕ) (before block : List
     → answer ≡ ranged (output_after other moved ((before ++ take n block) ++ get_or block n d ∷ []))
     → answer ≡ ranged (output_behind taps shift before block n)
 answer_is taps other shift moved before block n d answer same unmoved less is =
+    let samples = (before ++ take n block) ++ get_or block n d ∷ [] in
     is
-    ∙ (ap (λ ts. ranged (output_after ts moved ((before ++ take n block) ++ get_or block n d ∷ []))) same
-    ∙ (ap (λ k. ranged (output_after taps k ((before ++ take n block) ++ get_or block n d ∷ []))) unmoved
+    ∙ (ap (λ ts. ranged (output_after ts moved samples)) same
+    ∙ (ap (λ k. ranged (output_after taps k samples)) unmoved
     ∙ ap (λ xs. ranged (output_after taps shift xs)) (one_more before block n d less)))
 
 -- a value that was answered is the output, and in range

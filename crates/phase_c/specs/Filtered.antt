@@ -8,7 +8,7 @@ use Rattle.phase_c.specs.declared.filter.FilterRefusal.TheVariants as refusal
 
 -- ---- outputs
 
--- the output at sample number n of a block, behind the samples before it, before its range is checked
+-- the output at sample number n of a block, behind the samples before it; its range is not checked
 abbrev pub output_behind : List ℤ → ℕ → List ℤ → List ℤ → ℕ → ℤ
 output_behind taps shift before block n = output_after taps shift (before ++ take (n + 1) block)
 
@@ -24,8 +24,8 @@ Shows state samples = (j : ℕ) → j < length state → back state j ≡ back s
 
 -- ---- a block
 
--- of a block behind any samples that the state shows the first outputs were written, so many. Each is
--- in range, and what stands behind them stays
+-- of a block behind any samples that the state shows the first outputs were written, so many. Each
+-- is in range, and what stands behind them stays
 pub record Filters (taps : List ℤ) (shift : ℕ) (state block old new : List ℤ) (count : ℕ)
     : Type 0 where
   pub are_taps : AreTaps taps shift

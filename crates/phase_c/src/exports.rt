@@ -28,8 +28,8 @@ fn counts_of_text(alloc: Global, text: &[u8]) -> Result<PhaseCounts, Refusal>
     })
 }
 
-/// Answers 0 with how many phasers, tasks, sources and sinks a graph has, or a status that tells why
-/// not, and the fault.
+/// Answers 0 with how many phasers, tasks, sources and sinks a graph has, or a status that tells
+/// why not, and the fault.
 #[unsafe(no_mangle)]
 pub extern "C" fn phase_check(
     alloc: Global,
@@ -91,8 +91,8 @@ pub extern "C" fn phase_eval(
 /// Answers 0 with what a filter gives at each sample of a block, or a status that tells why not.
 ///
 /// The state has the last samples before the block, one less than there are taps, the oldest first,
-/// and zeros where there were none; at 0 it has those of the block too. What stands behind the values
-/// stays. `done` is how many of them are right.
+/// and zeros where there were none; at 0 it has those of the block too. What stands behind the
+/// values stays. `done` is how many of them are right.
 #[unsafe(no_mangle)]
 pub extern "C" fn phase_fir(
     alloc: Global,

@@ -63,8 +63,8 @@ fn number_of_start(start: Option<u64>) -> Option<i64>
     }
 }
 
-/// Writes where each of these sinks begins, of those that join now and are live. It is false where a
-/// number does not fit, of a list that no memory holds.
+/// Writes where each of these sinks begins, of those that join now and are live. It is false where
+/// a number does not fit, of a list that no memory holds.
 fn write_starts(job: &Job, sinks: &[usize], starts: &mut [i64]) -> bool
     requires tasks { All (λ t. t < length job.now.graph.tasks) sinks.now }
     requires each { length starts.old ≡ length sinks.now }

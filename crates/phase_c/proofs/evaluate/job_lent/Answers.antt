@@ -9,7 +9,10 @@ returns-in-Err-AnyMeets-clause-refused c =
       refl,
       record {
         job = given c.in-Ok.graph c.in-Ok-lists_of.lists.items;
-        lent = record { graph_lent = c.in-Ok.ensures.lent; samples_are = c.in-Ok-lists_of.ensures.lists };
+        lent = record {
+          graph_lent = c.in-Ok.ensures.lent;
+          samples_are = c.in-Ok-lists_of.ensures.lists;
+        };
         least = refl;
         meets = c.in-Err-AnyMeets.ensures.any_meets c.in-Err-AnyMeets.line (search rules);
       },

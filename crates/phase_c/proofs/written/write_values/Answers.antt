@@ -12,7 +12,8 @@ put-requires c =
     let here = ap count_in c.line-item.is in
     omega (
       arith,
-      room-more lines c.loop-line.line-index line (length c.args.out.now) c.loop-line-test.true c.requires,
+      room-more lines c.loop-line.line-index line (length c.args.out.now) c.loop-line-test.true
+          c.requires,
       c.loop-line.invariant.place,
       c.loop-line.auto.out,
       ap length c.deref.ensures.value,
