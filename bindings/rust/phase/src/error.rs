@@ -1,0 +1,115 @@
+//! Why there are no values.
+use phase_sys::*;
+use std::fmt;
+
+/// Why there are no values.
+#[derive(Clone, Copy, Debug, PartialEq, Eq)]
+pub enum Error {
+    /// The graph's text has a fault: its first line with one, from 1 on, and the kind.
+    Graph { line: u64, kind: FaultKind },
+    /// There is not one list of samples for each source, or one has more than 67,108,864.
+    Counts,
+    /// A sample is `i64::MIN`, which is none: its source, and its place there.
+    Sample { source: usize, at: usize },
+    /// A value is out of range: the phase on the phaser, or the step of the task.
+    TooBig { place: Place, at: u64 },
+    /// Memory ran out.
+    OutOfMemory,
+}
+
+/// A phaser or a task of a graph, each numbered from 0 on in the order of their lines.
+#[derive(Clone, Copy, Debug, PartialEq, Eq)]
+pub enum Place {
+    Phaser(u64),
+    Task(u64),
+}
+
+/// What is wrong with a line of a graph's text, as `docs/FORMATS.md` has it.
+#[derive(Clone, Copy, Debug, PartialEq, Eq)]
+pub enum FaultKind {
+    Syntax,
+    Limit,
+    Twice,
+    Unknown,
+    OutBeforeIn,
+    BadParent,
+    NotHeld,
+    OverBound,
+    AnyMeets,
+}
+
+impl fmt::Display for FaultKind {
+    fn fmt(&self, f: &mut fmt::Formatter<'_>) -> fmt::Result {
+        f.write_str(match self {
+            FaultKind::Syntax => "syntax",
+            FaultKind::Limit => "limit",
+            FaultKind::Twice => "twice",
+            FaultKind::Unknown => "unknown",
+            FaultKind::OutBeforeIn => "out-before-in",
+            FaultKind::BadParent => "bad-parent",
+            FaultKind::NotHeld => "not-held",
+            FaultKind::OverBound => "over-bound",
+            FaultKind::AnyMeets => "any-meets",
+        })
+    }
+}
+
+impl fmt::Display for Error {
+    fn fmt(&self, f: &mut fmt::Formatter<'_>) -> fmt::Result {
+        match self {
+            Error::Graph { line, kind } => write!(f, "graph line {line}: {kind}"),
+            Error::Counts => f.write_str("not one list of samples for each source"),
+            Error::Sample { source, at } => write!(f, "source {source}: sample {at} is i64::MIN"),
+            Error::TooBig { place: Place::Phaser(p), at } => write!(f, "too big at phaser {p} {at}"),
+            Error::TooBig { place: Place::Task(t), at } => write!(f, "too big at task {t} {at}"),
+            Error::OutOfMemory => f.write_str("out of memory"),
+        }
+    }
+}
+
+impl std::error::Error for Error {}
+
+fn kind_of(number: i32) -> FaultKind {
+    match number {
+        PHASE_SYNTAX => FaultKind::Syntax,
+        PHASE_LIMIT => FaultKind::Limit,
+        PHASE_TWICE => FaultKind::Twice,
+        PHASE_UNKNOWN => FaultKind::Unknown,
+        PHASE_OUT_BEFORE_IN => FaultKind::OutBeforeIn,
+        PHASE_BAD_PARENT => FaultKind::BadParent,
+        PHASE_NOT_HELD => FaultKind::NotHeld,
+        PHASE_OVER_BOUND => FaultKind::OverBound,
+        PHASE_ANY_MEETS => FaultKind::AnyMeets,
+        other => unreachable!("libphase told a kind of fault that is none: {other}"),
+    }
+}
+
+/// The source of a sample, and its place there, by its place among all.
+fn sample_at(counts: &[usize], at: u64) -> Error {
+    let mut at = at as usize;
+    for (source, count) in counts.iter().enumerate() {
+        if at < *count {
+            return Error::Sample { source, at };
+        }
+        at -= *count;
+    }
+    unreachable!("libphase told a sample that is none")
+}
+
+/// What a status other than PHASE_OK says, of a call over so many samples of each source.
+pub(crate) fn of(status: i32, fault: &PhaseFault, counts: &[usize]) -> Error {
+    match status {
+        PHASE_E_GRAPH => Error::Graph { line: fault.line, kind: kind_of(fault.kind) },
+        PHASE_E_COUNTS => Error::Counts,
+        PHASE_E_SAMPLE => sample_at(counts, fault.at),
+        PHASE_E_TOO_BIG => Error::TooBig {
+            place: match fault.place {
+                PHASE_AT_PHASER => Place::Phaser(fault.number),
+                _ => Place::Task(fault.number),
+            },
+            at: fault.at,
+        },
+        PHASE_E_MEMORY => Error::OutOfMemory,
+        other => unreachable!("libphase answered a status that is none: {other}"),
+    }
+}

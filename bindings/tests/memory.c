@@ -1,0 +1,117 @@
+/* Each request for memory of an evaluation and of a filter refused in turn: the answer is PHASE_E_MEMORY with the output as it
+ * was, or right all the same, and all memory is given back. Linked with --wrap of malloc, realloc and free. */
+#include "phase.h"
+#include <stdio.h>
+#include <string.h>
+
+void *__real_malloc(size_t);
+void *__real_realloc(void *, size_t);
+void __real_free(void *);
+
+/* How many requests are still granted, or -1 where all are; and how many blocks are held. */
+static long granted = -1, held;
+
+static int is_refused(void)
+{
+    return granted >= 0 && granted-- == 0;
+}
+
+void *__wrap_malloc(size_t size)
+{
+    void *block = is_refused() ? NULL : __real_malloc(size);
+    held += block != NULL;
+    return block;
+}
+
+void *__wrap_realloc(void *block, size_t size)
+{
+    void *grown = is_refused() ? NULL : __real_realloc(block, size);
+    held += !block && grown;
+    return grown;
+}
+
+void __wrap_free(void *block)
+{
+    held -= block != NULL;
+    __real_free(block);
+}
+
+static const char *graph = "graph 2\nphaser x sum 4\nphaser y greatest 4\nsource s s.csv -> x\n"
+                           "source t t.csv -> x by s at 1\nfir f x -> y shift 0 taps 1 1\n"
+                           "sink out y\nsink all x\nsink late x by all at 1 now\n";
+
+/* Whether the answer is that of the graph: s is 1 2 3, and t is 4 5 6 from phase 1 on, so that x is 1 6 8 6, and y
+ * is 1 7 14 14; late has x from phase 1 on. */
+static int is_right(const int64_t *out, const size_t *counts, const int64_t *starts)
+{
+    static const int64_t wanted[11] = {1, 7, 14, 14, 1, 6, 8, 6, 6, 8, 6};
+    return !memcmp(out, wanted, sizeof wanted) && counts[0] == 4 && counts[1] == 4 && counts[2] == 3
+           && starts[0] == PHASE_NO_START && starts[1] == PHASE_NO_START && starts[2] == 1;
+}
+
+static long requests, refused, right, wrong;
+
+/* A call of an evaluation with request number `request` refused: whether no request was. */
+static int evaluates(long request)
+{
+    const int64_t samples[6] = {1, 2, 3, 4, 5, 6};
+    const size_t counts[2] = {3, 3};
+    int64_t out[12], was[12], starts[3];
+    size_t found[3];
+    phase_fault fault;
+    memset(out, 0x55, sizeof out);
+    memcpy(was, out, sizeof was);
+    granted = request;
+    int32_t status = phase_eval((const uint8_t *)graph, strlen(graph), samples, 6, counts, 2, out, 12, found, 3,
+                                starts, 3, &fault);
+    int is_done = granted >= 0;
+    granted = -1;
+    if (status == PHASE_E_MEMORY && !is_done && !memcmp(out, was, sizeof was))
+        refused++;
+    else if (status == PHASE_OK && is_right(out, found, starts))
+        right++;
+    else
+        wrong++, printf("memory: status %d after request %ld was refused\n", (int)status, request);
+    return is_done;
+}
+
+/* The same of a block through a filter. */
+static int filters(long request)
+{
+    const int64_t taps[2] = {1, 1}, block[2] = {1, 2};
+    int64_t state[1] = {4}, out[2] = {-77, -77};
+    size_t done = 77;
+    granted = request;
+    int32_t status = phase_fir(taps, 2, 0, state, 1, block, 2, out, 2, &done);
+    int is_done = granted >= 0;
+    granted = -1;
+    if (status == PHASE_E_MEMORY && !is_done && done == 0 && state[0] == 4 && out[0] == -77)
+        refused++;
+    else if (status == PHASE_OK && done == 2 && state[0] == 2 && out[0] == 5 && out[1] == 3)
+        right++;
+    else
+        wrong++, printf("memory: status %d of a block after request %ld was refused\n", (int)status, request);
+    return is_done;
+}
+
+static void all_refused(int (*call)(long))
+{
+    int is_done = 0;
+    for (long request = 0; !is_done; request++) {
+        held = 0;
+        is_done = call(request);
+        requests += !is_done;
+        if (held != 0)
+            wrong++, printf("memory: %ld blocks are held after request %ld was refused\n", held, request);
+    }
+}
+
+int main(void)
+{
+    all_refused(evaluates);
+    all_refused(filters);
+    /* With no request refused each has answered once. */
+    printf("memory: %ld requests, each refused in turn: %ld told, %ld answered all the same, %ld wrong\n", requests,
+           refused, right - 2, wrong);
+    return wrong != 0 || refused == 0 || right < 2;
+}

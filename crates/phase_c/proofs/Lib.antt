@@ -1,0 +1,4 @@
+pub mod Cuts
+pub mod Counting
+pub mod Writing
+pub mod Streams

@@ -1,0 +1,161 @@
+-- Samples that a filter takes one after the other, and a state that shows the last of them.
+use Rattle.std.proofs.Common.{◌≡◌, ℕ, ◌+◌, ◌-◌, ◌<◌, ◌≤◌, Bool, true, false, not, List, [], ◌∷◌, ◌++◌, ℤ, pos, length, take, drop, reverse, get_or, Ok, Err, refl, sym, ap, subst, ◌∙◌, arith, append_assoc, length-append}
+use Rattle.std.specs.Prelude.{Result, nat_le, nat_lt, unsigned_abs}
+use Rattle.std.proofs.Math.Seq.{drop-append-add}
+use Rattle.std.proofs.lemmas.Bool.{le-leb, ltb-false, ltb-true}
+use Rattle.std.proofs.lemmas.List.{take_more, reverse-append, length-reverse, get_or_append_left, get_or-append_right, get_or-drop, get_or-reverse, length-drop, length-take-le}
+use Rattle.std.proofs.lemmas.List.FromFn.{map-range_with_len_more}
+use Rattle.graph_lang.specs.phase_accum.Sends.{IsSend, value_max}
+use Rattle.stream_eval.specs.stream_filters.Filter.{back, output_after, shifted_down}
+use Rattle.stream_eval.specs.stream_filters.Range.{ranged}
+use Rattle.stream_eval.specs.stream_filters.declared.fault.TooBigValue.{TooBigValue}
+use Rattle.stream_eval.proofs.Made.{ranged-err, ranged-ok}
+use Rattle.stream_eval.proofs.stream_lists_lemmas.Growing.{map-same}
+use Rattle.stream_eval.proofs.stream_lists_lemmas.InRange.{IsSend-in_range}
+use Rattle.stream_eval.proofs.stream_lists_lemmas.stream_filters_lemmas.Weighted.{weighted-same}
+use Rattle.phase_c.specs.Filtered.{Shows, first_outputs, output_behind}
+
+-- ---- one sample after the other
+
+-- one more sample behind those that were taken
+pub one_more : (before samples : List ℤ) (i : ℕ) (d : ℤ) → i < length samples
+    → (before ++ take i samples) ++ get_or samples i d ∷ [] ≡ before ++ take (i + 1) samples
+one_more before samples i d less =
+    append_assoc before (take i samples) (get_or samples i d ∷ [])
+    ∙ ap (λ xs. before ++ xs) (sym (take_more samples i d less))
+
+-- and one more output
+pub outputs_more : (taps : List ℤ) (shift : ℕ) (before block : List ℤ) (n : ℕ)
+    → first_outputs taps shift before block (n + 1)
+    ≡ first_outputs taps shift before block n ++ output_behind taps shift before block n ∷ []
+outputs_more taps shift before block n =
+    map-range_with_len_more (output_behind taps shift before block) 0 n n (omega arith)
+
+-- what a filter with these taps and this shift answers there
+pub answer_is : (taps other : List ℤ) (shift moved : ℕ) (before block : List ℤ) (n : ℕ) (d : ℤ)
+    (answer : Result ℤ TooBigValue) → other ≡ taps → moved ≡ shift → n < length block
+    → answer ≡ ranged (output_after other moved ((before ++ take n block) ++ get_or block n d ∷ []))
+    → answer ≡ ranged (output_behind taps shift before block n)
+answer_is taps other shift moved before block n d answer same unmoved less is =
+    let samples = (before ++ take n block) ++ get_or block n d ∷ [] in
+    is
+    ∙ (ap (λ ts. ranged (output_after ts moved samples)) same
+    ∙ (ap (λ k. ranged (output_after taps k samples)) unmoved
+    ∙ ap (λ xs. ranged (output_after taps shift xs)) (one_more before block n d less)))
+
+-- a value that was answered is the output, and in range
+pub answered : (z v : ℤ) → ranged z ≡ Ok v → (v ≡ z) × IsSend v
+answered z v e =
+    let is = ranged-ok z v e in
+    (sym is.0, subst IsSend is.0 (IsSend-in_range z is.1))
+
+-- a value that was not is out of range
+pub unanswered : (z : ℤ) (f : TooBigValue) → ranged z ≡ Err f → IsSend z → ⊥
+unanswered z f e is =
+    let inside : nat_le (unsigned_abs z) value_max ≡ true =
+    le-leb (unsigned_abs z) value_max is.small in
+    let no : not true ≡ true = sym (ap not inside) ∙ ranged-err z f e in
+    absurd (cc)
+
+-- ---- what a state shows
+
+-- the same samples behind both are shown too
+pub shows_behind : (m : ℕ) (xs ys block : List ℤ)
+    → ((j : ℕ) → j < m → back xs j ≡ back ys j)
+    → (j : ℕ) → j < m + length block → back (xs ++ block) j ≡ back (ys ++ block) j
+shows_behind m xs ys block same j less = by (nat_lt j (length block)) refl
+  where
+    long : length (reverse block) ≡ length block
+    long = length-reverse block
+
+    apart : (zs : List ℤ) → back (zs ++ block) j ≡ get_or (reverse block ++ reverse zs) j (pos 0)
+    apart zs = ap (λ rs. get_or rs j (pos 0)) (reverse-append zs block)
+
+    by : (b : Bool) → nat_lt j (length block) ≡ b → back (xs ++ block) j ≡ back (ys ++ block) j
+    by true e =
+        let inside : j < length block = ltb-true j (length block) e in
+        let within : j < length (reverse block) = omega (arith, long, inside) in
+        apart xs
+        ∙ (get_or_append_left (reverse block) (reverse xs) (pos 0) j within
+        ∙ (sym (get_or_append_left (reverse block) (reverse ys) (pos 0) j within)
+        ∙ sym (apart ys)))
+    by false e =
+        let past : length block ≤ j = ltb-false j (length block) e in
+        apart xs
+        ∙ (get_or-append_right (reverse block) (reverse xs) (length block) j (pos 0) long past
+        ∙ (same (j - length block) (omega (arith, past, less))
+        ∙ (sym (get_or-append_right (reverse block) (reverse ys) (length block) j (pos 0) long past)
+        ∙ sym (apart ys))))
+
+-- the output behind a state is the one behind the samples that it shows
+pub output_same : (taps : List ℤ) (shift : ℕ) (state before block : List ℤ) (n : ℕ)
+    → length state + 1 ≡ length taps → Shows state before → n < length block
+    → output_behind taps shift state block n ≡ output_behind taps shift before block n
+output_same taps shift state before block n long shows less =
+    let some : length (take (n + 1) block) ≡ n + 1 =
+    length-take-le (n + 1) block (omega (arith, less)) in
+    ap (λ z. shifted_down z shift)
+    (weighted-same (back (state ++ take (n + 1) block)) (back (before ++ take (n + 1) block)) taps
+    (λ j lt. shows_behind (length state) state before (take (n + 1) block) shows j
+    (omega (arith, some, long, lt))))
+
+-- so are the first ones
+pub outputs_same : (taps : List ℤ) (shift : ℕ) (state before block : List ℤ) (n : ℕ)
+    → length state + 1 ≡ length taps → Shows state before → n ≤ length block
+    → first_outputs taps shift state block n ≡ first_outputs taps shift before block n
+outputs_same taps shift state before block n long shows few =
+    map-same (output_behind taps shift state block) (output_behind taps shift before block) 0 n
+    (λ k less. output_same taps shift state before block k long shows (omega (arith, few, less)))
+
+-- the last of these samples show all of them
+pub drop_shows : (samples : List ℤ) (n j : ℕ) → n + j < length samples
+    → back (drop n samples) j ≡ back samples j
+drop_shows samples n j less =
+    let short : length (drop n samples) ≡ length samples - n = length-drop n samples in
+    let place : n + (length (drop n samples) - 1 - j) ≡ length samples - 1 - j =
+    omega (arith, short, less) in
+    get_or-reverse (drop n samples) j (pos 0) (omega (arith, short, less))
+    ∙ (get_or-drop n samples (length (drop n samples) - 1 - j) (pos 0)
+    ∙ (ap (λ k. get_or samples k (pos 0)) place
+    ∙ sym (get_or-reverse samples j (pos 0) (omega (arith, less)))))
+
+-- a state that keeps the last samples shows those of the block too
+pub keeps_shows : (state before block new : List ℤ) → Shows state before
+    → new ≡ drop (length block) (state ++ block) → Shows new (before ++ block)
+keeps_shows state before block new shows is j less =
+    let all : length (state ++ block) ≡ length state + length block = length-append state block in
+    let short : length new ≡ length (state ++ block) - length block =
+    ap length is ∙ length-drop (length block) (state ++ block) in
+    ap (λ xs. back xs j) is
+    ∙ (drop_shows (state ++ block) (length block) j (omega (arith, all, short, less))
+    ∙ shows_behind (length state) state before block shows j (omega (arith, all, short, less)))
+
+-- ---- a block behind a state
+
+-- a block as long as the state takes its place
+pub drop_past : (state block : List ℤ) → length state ≤ length block
+    → drop (length block - length state) block ≡ drop (length block) (state ++ block)
+drop_past state block le =
+    let whole : length state + (length block - length state) ≡ length block = omega (arith, le) in
+    sym (ap (λ n. drop n (state ++ block)) (sym whole)
+    ∙ drop-append-add state block (length block - length state))
+
+-- what a filter with these taps gives behind a state are the outputs behind what the state shows
+pub outputs_are : (taps other : List ℤ) (shift moved : ℕ) (state before block : List ℤ) (n : ℕ)
+    → other ≡ taps → moved ≡ shift → length state + 1 ≡ length taps → Shows state before
+    → n ≤ length block
+    → first_outputs other moved state block n ≡ first_outputs taps shift before block n
+outputs_are taps other shift moved state before block n same unmoved long shows few =
+    ap (λ ts. first_outputs ts moved state block n) same
+    ∙ (ap (λ k. first_outputs taps k state block n) unmoved
+    ∙ outputs_same taps shift state before block n long shows few)
+
+-- an output behind the state that is out of range is so behind what the state shows
+pub too_big_is : (taps other : List ℤ) (shift moved : ℕ) (state before block : List ℤ) (n : ℕ)
+    → other ≡ taps → moved ≡ shift → length state + 1 ≡ length taps → Shows state before
+    → n < length block → ¬ (IsSend (output_behind other moved state block n))
+    → ¬ (IsSend (output_behind taps shift before block n))
+too_big_is taps other shift moved state before block n same unmoved long shows less big is =
+    big (subst IsSend (sym (ap (λ ts. output_behind ts moved state block n) same
+    ∙ (ap (λ k. output_behind taps k state block n) unmoved
+    ∙ output_same taps shift state before block n long shows less))) is)

@@ -1,0 +1,89 @@
+-- A block of a stream of samples through a filter, and the samples before it that it weighs too.
+use Rattle.std.specs.Prelude.{◌≡◌, ◌<◌, ◌+◌, ℕ, ℤ, negsuc, List, ◌++◌, length, map, take, drop}
+use Rattle.std.specs.List.{range_with_len}
+use Rattle.graph_lang.specs.phase_accum.Sends.{AreSends, IsSend}
+use Rattle.stream_eval.specs.stream_filters.Filter.{AreTaps, back, output_after}
+use Rattle.phase_c.specs.declared.filter.FilterRefusal.{FilterRefusal}
+use Rattle.phase_c.specs.declared.filter.FilterRefusal.TheVariants as refusal
+
+-- ---- outputs
+
+-- the output at sample number n of a block, behind the samples before it; its range is not checked
+abbrev pub output_behind : List ℤ → ℕ → List ℤ → List ℤ → ℕ → ℤ
+output_behind taps shift before block n = output_after taps shift (before ++ take (n + 1) block)
+
+-- the outputs at the first samples of a block
+abbrev pub first_outputs : List ℤ → ℕ → List ℤ → List ℤ → ℕ → List ℤ
+first_outputs taps shift before block n =
+    map (output_behind taps shift before block) (range_with_len 0 n)
+
+-- a state of so many taps less one shows the samples so far: it has the last ones, and 0 before the
+-- first
+abbrev pub Shows : List ℤ → List ℤ → Type 0
+Shows state samples = (j : ℕ) → j < length state → back state j ≡ back samples j
+
+-- ---- a block
+
+-- of a block behind any samples that the state shows the first outputs were written, so many. Each
+-- is in range, and what stands behind them stays
+pub record Filters (taps : List ℤ) (shift : ℕ) (state block old new : List ℤ) (count : ℕ)
+    : Type 0 where
+  pub are_taps : AreTaps taps shift
+  pub long : length state + 1 ≡ length taps
+  pub written : (before : List ℤ) → Shows state before
+      → take count new ≡ first_outputs taps shift before block count
+  pub fits : AreSends (take count new)
+  pub behind : drop count new ≡ drop count old
+
+-- the whole block went through, and the state shows its samples too
+pub record FiltersAll (taps : List ℤ) (shift : ℕ) (old_state new_state block old new : List ℤ)
+    (done : ℕ) : Type 0 where
+  pub filters : Filters taps shift old_state block old new (length block)
+  pub shows : (before : List ℤ) → Shows old_state before → Shows new_state (before ++ block)
+  pub long : length new_state ≡ length old_state
+  pub done_is : done ≡ length block
+
+-- the block went through up to the first output that is out of range
+pub record FiltersTo (taps : List ℤ) (shift : ℕ) (state block old new : List ℤ) (done : ℕ)
+    : Type 0 where
+  pub filters : Filters taps shift state block old new done
+  pub less : done < length block
+  pub too_big : (before : List ℤ) → Shows state before
+      → ¬ (IsSend (output_behind taps shift before block done))
+
+-- ---- refusals
+
+-- nothing was filtered, for this reason
+pub record FiltersNone (Why : Type 0) (old new : List ℤ) (done : ℕ) : Type 0 where
+  pub because : Why
+  pub same : new ≡ old
+  pub none : done ≡ 0
+
+-- why a block was not filtered, or not to its end
+abbrev pub RefusesBlock : List ℤ → ℕ → List ℤ → List ℤ → List ℤ → List ℤ → ℕ → FilterRefusal
+    → Type 0
+RefusesBlock taps shift state block old new done refusal.Taps =
+    FiltersNone (¬ (AreTaps taps shift)) old new done
+RefusesBlock taps shift state block old new done refusal.Counts =
+    FiltersNone (¬ (length state + 1 ≡ length taps)) old new done
+RefusesBlock taps shift state block old new done refusal.Room =
+    FiltersNone (length old < length block) old new done
+RefusesBlock taps shift state block old new done refusal.OutOfMemory =
+    FiltersNone (Unit {0}) old new done
+RefusesBlock taps shift state block old new done refusal.TooBig =
+    FiltersTo taps shift state block old new done
+
+-- the status of a refusal
+abbrev pub filter_status_of : FilterRefusal → ℤ
+filter_status_of refusal.Counts = negsuc 1
+filter_status_of refusal.TooBig = negsuc 3
+filter_status_of refusal.Room = negsuc 4
+filter_status_of refusal.OutOfMemory = negsuc 5
+filter_status_of refusal.Taps = negsuc 6
+
+-- a block was refused: it is told why
+pub record FilterStops (taps : List ℤ) (shift : ℕ) (state block old new : List ℤ) (done : ℕ)
+    (status : ℤ) : Type 0 where
+  pub why : FilterRefusal
+  pub refuses : RefusesBlock taps shift state block old new done why
+  pub status_is : status ≡ filter_status_of why

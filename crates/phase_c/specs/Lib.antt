@@ -1,0 +1,6 @@
+pub mod Lent
+pub mod Evaluations
+pub mod Refusals
+pub mod Told
+pub mod Inside
+pub mod Filtered

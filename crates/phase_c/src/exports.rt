@@ -1,0 +1,116 @@
+//! The exports, which `phase.h` declares. None requires anything.
+ghost use Rattle.std.specs.Prelude.{◌≡◌, ◌≢◌, pos, length, IfOk, IfErr};
+ghost use Rattle.phase_c.specs.Filtered.{FilterStops, FiltersAll};
+ghost use Rattle.phase_c.specs.Refusals.{IsDone, RefusesText};
+ghost use Rattle.phase_c.specs.Told.{CheckStops, Counted, EvalStops};
+
+use crate::evaluate::evaluate;
+use crate::fault::{PhaseCounts, PhaseFault};
+use crate::filter::{filter_block, filter_status_of};
+use crate::refusal::Refusal;
+use crate::sinks::sinks_of;
+use crate::told::{fault_of, status_of};
+use graph_lang::read_graph;
+use std::alloc::Global;
+
+/// The counts of a graph's text.
+fn counts_of_text(alloc: Global, text: &[u8]) -> Result<PhaseCounts, Refusal>
+    ensures counted { IfOk result (λ counts. Counted text.now counts) }
+    ensures refused { IfErr result (λ why. RefusesText text.now why) }
+{
+    let graph = read_graph(alloc, text)?;
+    let sinks = sinks_of(alloc, &graph)?.len();
+    Ok(PhaseCounts {
+        phasers: graph.phasers(),
+        tasks: graph.tasks(),
+        sources: graph.sources(),
+        sinks,
+    })
+}
+
+/// Answers 0 with how many phasers, tasks, sources and sinks a graph has, or a status that tells
+/// why not, and the fault.
+#[unsafe(no_mangle)]
+pub extern "C" fn phase_check(
+    alloc: Global,
+    text: &[u8],
+    counts: &mut PhaseCounts,
+    fault: &mut PhaseFault,
+) -> i32
+    ensures done { result ≡ pos 0 → Counted text.now counts.new }
+    ensures quiet { result ≡ pos 0 → fault.new ≡ fault.old }
+
+    ensures stops { result ≢ pos 0 → CheckStops text.now result fault.new }
+    ensures same { result ≢ pos 0 → counts.new ≡ counts.old }
+{
+    match counts_of_text(alloc, text) {
+        Ok(found) => {
+            *counts = found;
+            0
+        }
+        Err(why) => {
+            *fault = fault_of(why);
+            status_of(why)
+        }
+    }
+}
+
+/// Answers 0 with the values of each sink of a graph, one sink behind the other, how many each has,
+/// and where each begins that joins now; or a status that tells why not, and the fault.
+///
+/// The samples are those of each source, one source behind the other, and each count says how many
+/// a source has. What stands behind the values stays.
+#[unsafe(no_mangle)]
+pub extern "C" fn phase_eval(
+    alloc: Global,
+    text: &[u8],
+    samples: &[i64],
+    counts: &[usize],
+    out: &mut [i64],
+    sinks: &mut [usize],
+    starts: &mut [i64],
+    fault: &mut PhaseFault,
+) -> i32
+    ensures done { result ≡ pos 0 → IsDone text.now samples.now counts.now out.old out.new
+        sinks.new starts.new }
+    ensures quiet { result ≡ pos 0 → fault.new ≡ fault.old }
+
+    ensures stops { result ≢ pos 0 → EvalStops text.now samples.now counts.now
+        (length out.old) sinks.old sinks.new starts.old starts.new result fault.new }
+    ensures same { result ≢ pos 0 → out.new ≡ out.old }
+{
+    match evaluate(alloc, text, samples, counts, out, sinks, starts) {
+        Ok(()) => 0,
+        Err(why) => {
+            *fault = fault_of(why);
+            status_of(why)
+        }
+    }
+}
+
+/// Answers 0 with what a filter gives at each sample of a block, or a status that tells why not.
+///
+/// The state has the last samples before the block, one less than there are taps, the oldest first,
+/// and zeros where there were none; at 0 it has those of the block too. What stands behind the
+/// values stays. `done` is how many of them are right.
+#[unsafe(no_mangle)]
+pub extern "C" fn phase_fir(
+    alloc: Global,
+    taps: &[i64],
+    shift: u32,
+    state: &mut [i64],
+    block: &[i64],
+    out: &mut [i64],
+    done: &mut usize,
+) -> i32
+    ensures all { result ≡ pos 0 → FiltersAll taps.now shift state.old state.new block.now
+        out.old out.new done.new }
+    ensures stops { result ≢ pos 0 → FilterStops taps.now shift state.old block.now
+        out.old out.new done.new result }
+    ensures same { result ≢ pos 0 → state.new ≡ state.old }
+{
+    match filter_block(alloc, taps, shift, state, block, out, done) {
+        Ok(()) => 0,
+        Err(why) => filter_status_of(why),
+    }
+}

@@ -1,0 +1,17 @@
+//! Graphs and filters for C, and for whatever calls C: an export for each call of `phase.h` that
+//! stands on no phaser of a caller's.
+//!
+//! No export requires anything of its caller, so each looks at all that it is lent. The numbers of
+//! statuses, of kinds of fault and of places stand in `specs/Told.antt`.
+#![tactic(auto)]
+
+mod counts;
+mod evaluate;
+mod exports;
+mod fault;
+mod filter;
+mod refusal;
+mod samples;
+mod sinks;
+mod told;
+mod written;
