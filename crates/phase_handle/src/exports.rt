@@ -1,7 +1,7 @@
 //! What C calls.
-ghost use Rattle.std.specs.Prelude.{◌≡◌, ◌≢◌, ◌≤◌, ◌<◌, [], ◌∷◌, ℕ, Option, Some, None, IsSome, Ok, length};
-ghost use Rattle.phase_core.specs.phase_base.Limits.{Limits, limits};
-ghost use Rattle.phase_core.specs.phase_base.declared.limits.TheConstants.{SENDS_MAX};
+ghost use Rattle.std.specs.Prelude.{◌≡◌, ◌≢◌, ◌≤◌, ◌<◌, ◌⊎◌, [], ◌∷◌, ℕ, Option, Some, None, IsSome, Ok, length};
+ghost use Rattle.phase_core.specs.phase_base.Limits.{Limits, limits, IsBound};
+ghost use Rattle.phase_core.specs.phase_base.declared.limits.TheConstants.{BOUND_MAX, PHASES_MAX, SENDS_MAX};
 ghost use Rattle.phase_core.specs.phase_accum.Sends.{AreSends};
 ghost use Rattle.phase_core.specs.phase_accum.Values.{value_by};
 ghost use Rattle.phase_core.specs.phase_accum.declared.single.Single.{Single};
@@ -25,8 +25,8 @@ use phase_core::phase_base::{SENDS_MAX, Spec, SpecFault};
 use std::alloc::Global;
 
 /// Makes a phaser under an operation, whose signallers may be `bound` phases ahead of its slowest
-/// waiter, and which has at most `phases` phases. Its one task is its founder, number 0, in `Single`
-/// at phase 0.
+/// waiter, and which has at most `phases` phases. Its one task is its founder, number 0, in
+/// `Single` at phase 0.
 #[unsafe(no_mangle)]
 pub extern "C" fn phase_phaser_new(
     alloc: Global,
@@ -41,6 +41,10 @@ pub extern "C" fn phase_phaser_new(
     ensures has_phaser { IsSome handle.old.place.phaser → result ≡ HAS_PHASER }
     ensures bad_operation { handle.old.place.phaser ≡ None → op_numbered operation ≡ None
         → result ≡ BAD_OPERATION }
+    ensures bad_bound { handle.old.place.phaser ≡ None → IsSome (op_numbered operation)
+        → (bound < 1) ⊎ (BOUND_MAX < bound) → result ≡ BAD_BOUND }
+    ensures bad_phases { handle.old.place.phaser ≡ None → IsSome (op_numbered operation)
+        → IsBound bound → (phases < 1) ⊎ (PHASES_MAX < phases) → result ≡ BAD_PHASES }
     ensures same { result ≢ GOOD → handle.new.place.phaser ≡ handle.old.place.phaser }
 {
     if handle.live {
@@ -135,8 +139,8 @@ pub extern "C" fn phase_phaser_signal(
     }
 }
 
-/// Waits for the task's phase, and writes it with the number of its value; or answers `ENDED`, where
-/// no more will come.
+/// Waits for the task's phase, and writes it with the number of its value; or answers `ENDED`,
+/// where no more will come.
 #[unsafe(no_mangle)]
 pub extern "C" fn phase_phaser_wait(
     alloc: Global,

@@ -30,8 +30,10 @@ into_slot_spec 𝓤 𝓛 𝓜 𝓡 wired =
     let ended = f.ended in
     let c = f.clauses 𝓛 𝓜.mem 𝓡.returns in
     let fn = code.function in
-    let stayed : Stays ended.signature.params ended.kept = (stay_dropped (plain (λ _. AsPlace)) yes, tt) in
-    proved_at 𝓛 ended stayed c 𝓜 𝓡 (Goes-dropped 𝓛 0 (plain (λ _. AsPlace)) yes (λ κs x w. refl), tt)
+    let stayed : Stays ended.signature.params ended.kept =
+    (stay_dropped (plain (λ _. AsPlace)) yes, tt) in
+    proved_at 𝓛 ended stayed c 𝓜 𝓡
+    (Goes-dropped 𝓛 0 (plain (λ _. AsPlace)) yes (λ κs x w. refl), tt)
     #self fn (code.unfolded 𝓤 𝓛.H 𝓜 𝓡 wired) (λ y are.
     let from = y.0.3.0 in let Post = (walk_of 𝓛 ended stayed c).post y in
     let Run = λ (us : List Val). prop (WpFn 𝓤 𝓛.H 𝓣.C 𝓣.Λ fn us Post) in
