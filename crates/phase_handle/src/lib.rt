@@ -1,0 +1,25 @@
+//! A phaser for one thread behind a handle, for C: what a static library exports. The handle is a
+//! struct that the caller keeps. A call answers `GOOD`, or why it was refused, by a number of
+//! `numbers`. The first calls are `phase_phaser_new`, `phase_phaser_signal` and
+//! `phase_phaser_wait`.
+#![tactic(auto)]
+
+mod any_phaser;
+mod calls;
+mod codes;
+mod exports;
+mod handle;
+mod joining;
+mod member_calls;
+mod member_exports;
+mod numbers;
+mod place;
+mod sends;
+
+pub use exports::{phase_phaser_free, phase_phaser_new, phase_phaser_signal, phase_phaser_wait};
+pub use handle::Handle;
+pub use member_exports::{
+    Standing, phase_phaser_drop, phase_phaser_register, phase_phaser_register_now,
+    phase_phaser_view,
+};
+pub use phase_core;
