@@ -45,6 +45,9 @@ pub extern "C" fn phase_phaser_new(
         → (bound < 1) ⊎ (BOUND_MAX < bound) → result ≡ BAD_BOUND }
     ensures bad_phases { handle.old.place.phaser ≡ None → IsSome (op_numbered operation)
         → IsBound bound → (phases < 1) ⊎ (PHASES_MAX < phases) → result ≡ BAD_PHASES }
+    ensures accepted { handle.old.place.phaser ≡ None → IsSome (op_numbered operation)
+        → IsBound bound → 1 ≤ phases → phases ≤ PHASES_MAX
+        → (result ≡ GOOD) ⊎ (result ≡ OUT_OF_MEMORY) }
     ensures same { result ≢ GOOD → handle.new.place.phaser ≡ handle.old.place.phaser }
 {
     if handle.live {
