@@ -1,4 +1,4 @@
-/* phase.h: graphs of whole-number filters, evaluated exactly, from C and C++.
+/* phase.h: graphs of whole-number filters, evaluated exactly, and phasers for one thread, from C and C++.
  *
  * Link libphase.a or libphase.so, which scripts/bind makes. docs/BINDINGS.md begins with an example.
  *
@@ -7,18 +7,19 @@
  * A pointer may be NULL where its length is 0.
  *
  * A caller owes: pointers to as many values as their lengths say; what a call writes overlaps nothing
- * else that it is given; and counts, fault and done are not NULL. A call keeps no pointer. It takes memory by
- * malloc and realloc, and gives all of it back. Calls may run side by side, also on the same values
- * where these are only read; none is made from a signal handler. */
+ * else that it is given; and a pointer with no length behind it, as counts, fault or a phaser, is not NULL. A call
+ * keeps no pointer. It takes memory by malloc and realloc, and gives back all but what a phaser keeps. Calls may
+ * run side by side, also on the same values where these are only read; none is made from a signal handler. */
 #ifndef PHASE_H
 #define PHASE_H
+#include <stdbool.h>
 #include <stddef.h>
 #include <stdint.h>
 #ifdef __cplusplus
 extern "C" {
 #endif
 
-/* The statuses. */
+/* The statuses. Those of phasers stand further below. */
 enum {
     PHASE_OK = 0,
     /* The text has a fault, at fault->line, of fault->kind. */
@@ -118,6 +119,151 @@ int32_t phase_fir(const int64_t *taps, size_t taps_len, uint32_t shift,
                   int64_t *state, size_t state_len,
                   const int64_t *block, size_t block_len,
                   int64_t *out, size_t out_len, size_t *done);
+
+/* ---- A phaser for one thread.
+ *
+ * Tasks meet at a phaser, phase by phase. A signaller is a registered task whose mode signals, a waiter one whose
+ * mode waits. A phase is complete when each signaller has signalled it, and its value is what the sends of its
+ * signals come to. docs/DEFINITIONS.md says what each word means.
+ *
+ * A phaser stands in a struct of the caller's, which has none while all of it is zero: `phase_phaser phaser = {0};`.
+ * Beside what is said above a caller owes: nobody else writes into the struct, and it is not copied; calls on one
+ * phaser are made by one thread at a time, each after the one before it has ended; and a phaser that was made is freed
+ * once, for its memory. Any number may be given for a task, an operation, a mode, a single, or a limit.
+ *
+ * Where a call answers a negative status, the phaser and what the call writes are as they were. */
+
+/* The statuses of a phaser, beside PHASE_OK, and PHASE_E_MEMORY from calls that make and register. A signal
+ * and a wait take no memory. */
+enum {
+    /* A wait: no signaller is registered, and the task has got every phase. */
+    PHASE_ENDED = 1,
+    /* There is no phaser. */
+    PHASE_E_NO_PHASER = -20,
+    /* There is a phaser already. */
+    PHASE_E_HAS_PHASER = -21,
+    /* The number is none of an operation. */
+    PHASE_E_BAD_OPERATION = -22,
+    /* The bound is not from 1 to PHASE_BOUND_MAX. */
+    PHASE_E_BAD_BOUND = -23,
+    /* The number of phases is not from 1 to PHASE_PHASES_MAX. */
+    PHASE_E_BAD_PHASES = -24,
+    /* The number is none of a mode. */
+    PHASE_E_BAD_MODE = -25,
+    /* The number is none of a single; or a clamp's low end is above its high end, or an end is INT64_MIN. */
+    PHASE_E_BAD_SINGLE = -26,
+    /* A value to be sent is INT64_MIN. */
+    PHASE_E_BAD_VALUE = -27,
+    /* The values to be sent are more than PHASE_SENDS_MAX. */
+    PHASE_E_TOO_MANY_SENDS = -28,
+    /* The task, or the parent, is not registered. */
+    PHASE_E_NO_TASK = -29,
+    /* The parent's mode does not hold the child's. */
+    PHASE_E_NOT_ALLOWED = -30,
+    /* No number is left for a child. */
+    PHASE_E_NOT_NEW = -31,
+    /* PHASE_MEMBERS_MAX tasks are registered. */
+    PHASE_E_TOO_MANY_TASKS = -32,
+    /* The task's mode does not signal. */
+    PHASE_E_NO_SIGNAL = -33,
+    /* A single is named, and the task's mode is not PHASE_SINGLE. */
+    PHASE_E_NOT_SINGLE = -34,
+    /* A block of no phase, or of more than the bound: no call of this header has one. */
+    PHASE_E_BAD_BLOCK = -35,
+    /* The task waits too, and has signalled since its last wait. */
+    PHASE_E_SIGNAL_TWICE = -36,
+    /* The phaser was made for fewer phases. */
+    PHASE_E_SPENT = -37,
+    /* A waiter is registered, and the phase is the bound or more ahead of the slowest. */
+    PHASE_E_AHEAD = -38,
+    /* A waiter is registered, and the first signal of the phase named another single, or none. */
+    PHASE_E_SINGLE_DIFFERS = -39,
+    /* A waiter is registered, and the phase would have more than PHASE_SENDS_MAX sends. */
+    PHASE_E_PHASE_FULL = -40,
+    /* The task's mode does not wait. */
+    PHASE_E_NO_WAIT = -41,
+    /* The task signals too, and has not signalled since its last wait. */
+    PHASE_E_SIGNAL_FIRST = -42,
+    /* The phase is not complete, and a signaller is registered. */
+    PHASE_E_NOT_YET = -43
+};
+
+/* The operations: what the sends of a phase come to. */
+enum {
+    PHASE_SUM = 1,
+    PHASE_PRODUCT = 2,
+    PHASE_LEAST = 3,
+    PHASE_GREATEST = 4,
+    PHASE_ANY = 5 /* the first of them */
+};
+
+/* The modes of a task. A mode holds itself and those above it, but PHASE_WAIT does not hold PHASE_SIG. */
+enum {
+    PHASE_SIG = 1,
+    PHASE_WAIT = 2,
+    PHASE_SIG_WAIT = 3, /* signals and waits, in turn */
+    PHASE_SINGLE = 4    /* the same, and may name a single at a signal */
+};
+
+/* The singles: what is done once with the value of a phase. */
+enum {
+    PHASE_NO_SINGLE = 0,
+    PHASE_NEG = 1,
+    PHASE_ABS = 2,
+    PHASE_HALVE = 3, /* by two, rounded down */
+    PHASE_CLAMP = 4  /* the nearest value from low to high */
+};
+
+/* The greatest bound, the greatest number of phases, the most tasks at a time, and the most sends of a phase. */
+#define PHASE_BOUND_MAX 65536
+#define PHASE_PHASES_MAX 4611686018427387904
+#define PHASE_MEMBERS_MAX 1024
+#define PHASE_SENDS_MAX 65536
+
+/* The place of a phaser. Nobody reads or writes its fields, but for the zeros at first. */
+typedef struct phase_phaser {
+    void *at;
+    bool live; /* whether there is a phaser */
+} phase_phaser;
+
+/* What a registered task stands at: the phases that it signals and waits for next, counted from 0, and its mode. */
+typedef struct phase_standing {
+    uint64_t signal_phase;
+    uint64_t wait_phase;
+    uint32_t mode;
+} phase_standing;
+
+/* Makes a phaser of at most this many phases, whose signallers may be `bound` phases ahead of its slowest waiter.
+ * Its one task is number 0, in the mode PHASE_SINGLE at phase 0. */
+int32_t phase_phaser_new(uint32_t operation, uint64_t bound, uint64_t phases, phase_phaser *phaser);
+
+/* Ends the phaser and gives its memory back. There is none then. Where there is none it does nothing. */
+void phase_phaser_free(phase_phaser *phaser);
+
+/* Registers a task in a mode that the mode of parent holds, at both phases of parent, and writes its number: 1 more
+ * than the greatest before. */
+int32_t phase_phaser_register(phase_phaser *phaser, uint64_t parent, uint32_t mode, uint64_t *task);
+
+/* Registers a task in the mode PHASE_WAIT at the first phase that is not complete, and writes its number and that
+ * phase. The mode of parent waits. */
+int32_t phase_phaser_register_now(phase_phaser *phaser, uint64_t parent, uint64_t *task, uint64_t *phase);
+
+/* Ends a task's registration. */
+int32_t phase_phaser_drop(phase_phaser *phaser, uint64_t task);
+
+/* Signals the task's phase with these sends and a single or PHASE_NO_SINGLE, and writes that phase. low and high
+ * are the ends of a PHASE_CLAMP, and else not read. */
+int32_t phase_phaser_signal(phase_phaser *phaser, uint64_t task,
+                            const int64_t *values, size_t values_len,
+                            uint32_t single, int64_t low, int64_t high, uint64_t *phase);
+
+/* Gets the task's phase and its value; or answers PHASE_ENDED, and writes neither. It does not block: where the phase
+ * is not complete the answer is PHASE_E_NOT_YET. The value is INT64_MIN where the phase has none: a sum or a product
+ * that is out of range, and under the other operations a phase without a send. */
+int32_t phase_phaser_wait(phase_phaser *phaser, uint64_t task, uint64_t *phase, int64_t *value);
+
+/* Writes what a task stands at. */
+int32_t phase_phaser_view(phase_phaser *phaser, uint64_t task, phase_standing *standing);
 
 #ifdef __cplusplus
 }

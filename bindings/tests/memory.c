@@ -1,5 +1,6 @@
-/* Each request for memory of an evaluation and of a filter refused in turn: the answer is PHASE_E_MEMORY with the output as it
- * was, or right all the same, and all memory is given back. Linked with --wrap of malloc, realloc and free. */
+/* Each request for memory of an evaluation, of a filter and of a phaser refused in turn: the answer is PHASE_E_MEMORY
+ * with the output as it was, or right all the same, and all memory is given back. Linked with --wrap of malloc,
+ * realloc and free. */
 #include "phase.h"
 #include <stdio.h>
 #include <string.h>
@@ -8,11 +9,12 @@ void *__real_malloc(size_t);
 void *__real_realloc(void *, size_t);
 void __real_free(void *);
 
-/* How many requests are still granted, or -1 where all are; and how many blocks are held. */
-static long granted = -1, held;
+/* How many requests are still granted, or -1 where all are; how many blocks are held; how many requests there were. */
+static long granted = -1, held, asked;
 
 static int is_refused(void)
 {
+    asked++;
     return granted >= 0 && granted-- == 0;
 }
 
@@ -94,6 +96,53 @@ static int filters(long request)
     return is_done;
 }
 
+/* The same of a phaser with 40 waiters: what was refused is done when it is asked for again, and neither signals nor
+ * waits ask for memory. */
+static int phasers(long request)
+{
+    phase_phaser phaser = {0};
+    const int64_t one = 1;
+    uint64_t task = 77, phase = 77;
+    int64_t value = 77;
+    int told = 0, is_good = 1;
+    granted = request;
+    int32_t status = phase_phaser_new(PHASE_SUM, 4, 100, &phaser);
+    if (status == PHASE_E_MEMORY) {
+        told++;
+        is_good = !phaser.live;
+        status = phase_phaser_new(PHASE_SUM, 4, 100, &phaser);
+    }
+    is_good = is_good && status == PHASE_OK;
+    for (uint64_t waiter = 1; waiter <= 40; waiter++) {
+        uint64_t was = task;
+        status = phase_phaser_register(&phaser, 0, PHASE_WAIT, &task);
+        if (status == PHASE_E_MEMORY) {
+            told++;
+            is_good = is_good && task == was;
+            status = phase_phaser_register(&phaser, 0, PHASE_WAIT, &task);
+        }
+        is_good = is_good && status == PHASE_OK && task == waiter;
+    }
+    int is_done = granted >= 0;
+    long asked_so_far = asked;
+    for (uint64_t at = 0; at < 10; at++) {
+        is_good = is_good && phase_phaser_signal(&phaser, 0, &one, 1, PHASE_NO_SINGLE, 0, 0, &phase) == PHASE_OK;
+        for (uint64_t waiter = 0; waiter <= 40; waiter++)
+            is_good = is_good && phase_phaser_wait(&phaser, waiter, &phase, &value) == PHASE_OK && phase == at
+                      && value == 1;
+    }
+    is_good = is_good && asked == asked_so_far;
+    granted = -1;
+    phase_phaser_free(&phaser);
+    if (is_good && told == 1 && !is_done && !phaser.live)
+        refused++;
+    else if (is_good && told == 0 && !phaser.live)
+        right++;
+    else
+        wrong++, printf("memory: status %d of a phaser after request %ld was refused\n", (int)status, request);
+    return is_done;
+}
+
 static void all_refused(int (*call)(long))
 {
     int is_done = 0;
@@ -110,8 +159,9 @@ int main(void)
 {
     all_refused(evaluates);
     all_refused(filters);
+    all_refused(phasers);
     /* With no request refused each has answered once. */
     printf("memory: %ld requests, each refused in turn: %ld told, %ld answered all the same, %ld wrong\n", requests,
-           refused, right - 2, wrong);
-    return wrong != 0 || refused == 0 || right < 2;
+           refused, right - 3, wrong);
+    return wrong != 0 || refused == 0 || right < 3;
 }

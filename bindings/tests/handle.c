@@ -1,0 +1,305 @@
+/* What the calls of a phaser answer and write, beside values worked out by hand and the replies that examples/replay
+ * keeps of the scripts members, late, singles and ending; and each refusal, which leaves all as it was. */
+#include "phase.h"
+#include <stdio.h>
+#include <string.h>
+
+static int passed, failed;
+
+/* Whether a number is the one that is wanted. */
+#define IS(found, wanted) is(__LINE__, #found, (int64_t)(found), (int64_t)(wanted))
+
+static void is(int line, const char *name, int64_t found, int64_t wanted)
+{
+    if (found != wanted)
+        printf("handle: line %d: %s is %lld, and not %lld\n", line, name, (long long)found, (long long)wanted);
+    *(found == wanted ? &passed : &failed) += 1;
+}
+
+/* A signal with no single. */
+static int32_t signals(phase_phaser *phaser, uint64_t task, const int64_t *values, size_t count, uint64_t *phase)
+{
+    return phase_phaser_signal(phaser, task, values, count, PHASE_NO_SINGLE, 0, 0, phase);
+}
+
+/* A wait that is answered with this phase and this value. */
+#define GETS(phaser, task, wanted_phase, wanted)                                                                  \
+    do {                                                                                                          \
+        uint64_t phase_ = 77;                                                                                     \
+        int64_t value_ = 77;                                                                                      \
+        IS(phase_phaser_wait(phaser, task, &phase_, &value_), PHASE_OK);                                          \
+        IS(phase_, wanted_phase);                                                                                 \
+        IS(value_, wanted);                                                                                       \
+    } while (0)
+
+/* A wait that is answered so, and writes nothing. */
+#define GETS_NONE(phaser, task, status)                                                                           \
+    do {                                                                                                          \
+        uint64_t phase_ = 77;                                                                                     \
+        int64_t value_ = 77;                                                                                      \
+        IS(phase_phaser_wait(phaser, task, &phase_, &value_), status);                                            \
+        IS(phase_, 77);                                                                                           \
+        IS(value_, 77);                                                                                           \
+    } while (0)
+
+/* What 4, 9, -3 come to, what no send comes to, and what the greatest value twice. */
+static void operations(void)
+{
+    const int64_t sends[3] = {4, 9, -3}, most[2] = {INT64_MAX, INT64_MAX};
+    const int64_t of_sends[] = {0, 10, -108, -3, 9, 4};
+    const int64_t of_none[] = {0, 0, 1, INT64_MIN, INT64_MIN, INT64_MIN};
+    const int64_t of_most[] = {0, INT64_MIN, INT64_MIN, INT64_MAX, INT64_MAX, INT64_MAX};
+    for (uint32_t operation = PHASE_SUM; operation <= PHASE_ANY; operation++) {
+        phase_phaser phaser = {0};
+        uint64_t phase = 77;
+        IS(phase_phaser_new(operation, 2, 100, &phaser), PHASE_OK);
+        IS(phaser.live, true);
+        IS(signals(&phaser, 0, sends, 3, &phase), PHASE_OK);
+        IS(phase, 0);
+        GETS(&phaser, 0, 0, of_sends[operation]);
+        IS(signals(&phaser, 0, NULL, 0, &phase), PHASE_OK);
+        IS(phase, 1);
+        GETS(&phaser, 0, 1, of_none[operation]);
+        IS(signals(&phaser, 0, most, 2, &phase), PHASE_OK);
+        GETS(&phaser, 0, 2, of_most[operation]);
+        phase_phaser_free(&phaser);
+        IS(phaser.live, false);
+        phase_phaser_free(&phaser);
+        GETS_NONE(&phaser, 0, PHASE_E_NO_PHASER);
+    }
+}
+
+/* The script members, and where its tasks stand at the end. */
+static void members(void)
+{
+    phase_phaser phaser = {0};
+    phase_standing standing;
+    uint64_t phase = 77, task = 77;
+    const int64_t five = 5, six = 6;
+    IS(phase_phaser_new(PHASE_SUM, 2, 100, &phaser), PHASE_OK);
+    IS(phase_phaser_register(&phaser, 0, PHASE_SIG, &task), PHASE_OK);
+    IS(task, 1);
+    IS(phase_phaser_register(&phaser, 0, PHASE_WAIT, &task), PHASE_OK);
+    IS(phase_phaser_register(&phaser, 0, PHASE_WAIT, &task), PHASE_OK);
+    IS(task, 3);
+    IS(phase_phaser_drop(&phaser, 0), PHASE_OK);
+    IS(signals(&phaser, 1, NULL, 0, &phase), PHASE_OK);
+    IS(phase, 0);
+    IS(signals(&phaser, 1, NULL, 0, &phase), PHASE_OK);
+    IS(phase, 1);
+    IS(phase_phaser_register(&phaser, 1, PHASE_SIG, &task), PHASE_OK);
+    IS(task, 4);
+    GETS(&phaser, 2, 0, 0);
+    GETS(&phaser, 2, 1, 0);
+    GETS_NONE(&phaser, 2, PHASE_E_NOT_YET);
+    IS(signals(&phaser, 1, NULL, 0, &phase), PHASE_E_AHEAD);
+    IS(phase, 1);
+    GETS(&phaser, 3, 0, 0);
+    IS(signals(&phaser, 1, &five, 1, &phase), PHASE_OK);
+    IS(phase, 2);
+    GETS_NONE(&phaser, 2, PHASE_E_NOT_YET);
+    IS(signals(&phaser, 4, &six, 1, &phase), PHASE_OK);
+    IS(phase, 2);
+    GETS(&phaser, 2, 2, 11);
+    GETS(&phaser, 3, 1, 0);
+    GETS(&phaser, 3, 2, 11);
+    memset(&standing, 0x55, sizeof standing);
+    IS(phase_phaser_view(&phaser, 3, &standing), PHASE_OK);
+    IS(standing.mode, PHASE_WAIT);
+    IS(standing.wait_phase, 3);
+    IS(standing.signal_phase, 0);
+    IS(phase_phaser_view(&phaser, 1, &standing), PHASE_OK);
+    IS(standing.mode, PHASE_SIG);
+    IS(standing.signal_phase, 3);
+    IS(standing.wait_phase, 0);
+    standing.mode = 77;
+    IS(phase_phaser_view(&phaser, 0, &standing), PHASE_E_NO_TASK);
+    IS(standing.mode, 77);
+    phase_phaser_free(&phaser);
+}
+
+/* The script late; its last line names a number of its own, which no call of C does. */
+static void late(void)
+{
+    phase_phaser phaser = {0};
+    uint64_t phase = 77, task = 77;
+    const int64_t ten = 10, twenty = 20;
+    IS(phase_phaser_new(PHASE_SUM, 4, 100, &phaser), PHASE_OK);
+    IS(phase_phaser_register(&phaser, 0, PHASE_SIG, &task), PHASE_OK);
+    IS(phase_phaser_register(&phaser, 0, PHASE_WAIT, &task), PHASE_OK);
+    IS(phase_phaser_drop(&phaser, 0), PHASE_OK);
+    IS(signals(&phaser, 1, &ten, 1, &phase), PHASE_OK);
+    IS(signals(&phaser, 1, &twenty, 1, &phase), PHASE_OK);
+    IS(phase_phaser_register_now(&phaser, 2, &task, &phase), PHASE_OK);
+    IS(task, 3);
+    IS(phase, 2);
+    GETS_NONE(&phaser, 3, PHASE_E_NOT_YET);
+    IS(signals(&phaser, 1, NULL, 0, &phase), PHASE_OK);
+    IS(phase, 2);
+    GETS(&phaser, 3, 2, 0);
+    GETS(&phaser, 2, 0, 10);
+    IS(phase_phaser_register_now(&phaser, 1, &task, &phase), PHASE_E_NOT_ALLOWED);
+    IS(phase_phaser_register_now(&phaser, 9, &task, &phase), PHASE_E_NO_TASK);
+    IS(task, 3);
+    IS(phase, 2);
+    phase_phaser_free(&phaser);
+}
+
+/* The script singles; then each other single on 5 or -5, and the end of the stream. */
+static void singles(void)
+{
+    phase_phaser phaser = {0};
+    uint64_t phase = 77, task = 77;
+    const int64_t five = 5, less = -5;
+    IS(phase_phaser_new(PHASE_SUM, 2, 100, &phaser), PHASE_OK);
+    IS(phase_phaser_register(&phaser, 0, PHASE_WAIT, &task), PHASE_OK);
+    IS(phase_phaser_register(&phaser, 0, PHASE_SIG_WAIT, &task), PHASE_OK);
+    IS(phase_phaser_signal(&phaser, 0, &five, 1, PHASE_HALVE, 0, 0, &phase), PHASE_OK);
+    IS(phase, 0);
+    IS(signals(&phaser, 2, NULL, 0, &phase), PHASE_E_SINGLE_DIFFERS);
+    IS(phase_phaser_signal(&phaser, 2, NULL, 0, PHASE_HALVE, 0, 0, &phase), PHASE_E_NOT_SINGLE);
+    IS(phase_phaser_drop(&phaser, 2), PHASE_OK);
+    GETS(&phaser, 0, 0, 2);
+    GETS(&phaser, 1, 0, 2);
+    IS(phase_phaser_signal(&phaser, 0, &five, 1, PHASE_CLAMP, -3, 3, &phase), PHASE_OK);
+    IS(phase, 1);
+    GETS(&phaser, 0, 1, 3);
+    IS(phase_phaser_signal(&phaser, 0, &five, 1, PHASE_NEG, 1, 0, &phase), PHASE_OK);
+    GETS(&phaser, 0, 2, -5);
+    GETS(&phaser, 1, 1, 3);
+    GETS(&phaser, 1, 2, -5);
+    IS(phase_phaser_signal(&phaser, 0, &less, 1, PHASE_ABS, 0, 0, &phase), PHASE_OK);
+    GETS(&phaser, 0, 3, 5);
+    IS(phase_phaser_signal(&phaser, 0, &less, 1, PHASE_HALVE, 0, 0, &phase), PHASE_OK);
+    GETS(&phaser, 0, 4, -3);
+    IS(phase_phaser_drop(&phaser, 0), PHASE_OK);
+    GETS(&phaser, 1, 3, 5);
+    GETS(&phaser, 1, 4, -3);
+    GETS_NONE(&phaser, 1, PHASE_ENDED);
+    GETS_NONE(&phaser, 1, PHASE_ENDED);
+    phase_phaser_free(&phaser);
+}
+
+/* The script ending: a signaller that leaves completes what it has not signalled. */
+static void ending(void)
+{
+    phase_phaser phaser = {0};
+    uint64_t phase = 77, task = 77;
+    const int64_t sends[4] = {1, 10, 20, 30};
+    IS(phase_phaser_new(PHASE_SUM, 4, 100, &phaser), PHASE_OK);
+    IS(phase_phaser_register(&phaser, 0, PHASE_SIG, &task), PHASE_OK);
+    IS(phase_phaser_register(&phaser, 0, PHASE_SIG, &task), PHASE_OK);
+    IS(phase_phaser_register(&phaser, 0, PHASE_WAIT, &task), PHASE_OK);
+    IS(phase_phaser_drop(&phaser, 0), PHASE_OK);
+    IS(signals(&phaser, 1, &sends[0], 1, &phase), PHASE_OK);
+    for (uint64_t at = 0; at < 3; at++) {
+        IS(signals(&phaser, 2, &sends[1 + at], 1, &phase), PHASE_OK);
+        IS(phase, at);
+    }
+    IS(phase_phaser_drop(&phaser, 2), PHASE_OK);
+    GETS(&phaser, 3, 0, 11);
+    GETS_NONE(&phaser, 3, PHASE_E_NOT_YET);
+    IS(phase_phaser_drop(&phaser, 1), PHASE_OK);
+    GETS(&phaser, 3, 1, 20);
+    GETS(&phaser, 3, 2, 30);
+    GETS_NONE(&phaser, 3, PHASE_ENDED);
+    phase_phaser_free(&phaser);
+}
+
+/* Every call of a struct of zeros, and good and bad numbers for a phaser. */
+static void made(void)
+{
+    phase_phaser phaser = {0};
+    phase_standing standing = {1, 2, 3};
+    uint64_t phase = 7, task = 8;
+    const int64_t one = 1;
+    IS(signals(&phaser, 0, &one, 1, &phase), PHASE_E_NO_PHASER);
+    GETS_NONE(&phaser, 0, PHASE_E_NO_PHASER);
+    IS(phase_phaser_register(&phaser, 0, PHASE_SIG, &task), PHASE_E_NO_PHASER);
+    IS(phase_phaser_register_now(&phaser, 0, &task, &phase), PHASE_E_NO_PHASER);
+    IS(phase_phaser_drop(&phaser, 0), PHASE_E_NO_PHASER);
+    IS(phase_phaser_view(&phaser, 0, &standing), PHASE_E_NO_PHASER);
+    phase_phaser_free(&phaser);
+    IS(phase, 7);
+    IS(task, 8);
+    IS(standing.signal_phase, 1);
+    IS(standing.wait_phase, 2);
+    IS(standing.mode, 3);
+    IS(phase_phaser_new(0, 2, 100, &phaser), PHASE_E_BAD_OPERATION);
+    IS(phase_phaser_new(PHASE_ANY + 1, 0, 0, &phaser), PHASE_E_BAD_OPERATION);
+    IS(phase_phaser_new(PHASE_SUM, 0, 0, &phaser), PHASE_E_BAD_BOUND);
+    IS(phase_phaser_new(PHASE_SUM, PHASE_BOUND_MAX + 1, 100, &phaser), PHASE_E_BAD_BOUND);
+    IS(phase_phaser_new(PHASE_SUM, 2, 0, &phaser), PHASE_E_BAD_PHASES);
+    IS(phase_phaser_new(PHASE_SUM, 2, PHASE_PHASES_MAX + UINT64_C(1), &phaser), PHASE_E_BAD_PHASES);
+    IS(phaser.live, false);
+    IS(phase_phaser_new(PHASE_SUM, PHASE_BOUND_MAX, PHASE_PHASES_MAX, &phaser), PHASE_OK);
+    const void *at = phaser.at;
+    IS(phase_phaser_new(PHASE_SUM, 2, 100, &phaser), PHASE_E_HAS_PHASER);
+    IS(phaser.at == at && phaser.live, true);
+    phase_phaser_free(&phaser);
+}
+
+/* Each refusal of a signal, a wait and a registration, and the last phase. */
+static void refused(void)
+{
+    static const int64_t zeros[PHASE_SENDS_MAX + 1];
+    phase_phaser phaser = {0};
+    uint64_t phase = 7, task = 8;
+    const int64_t low = INT64_MIN, one = 1;
+    IS(phase_phaser_new(PHASE_SUM, 2, 3, &phaser), PHASE_OK);
+    IS(phase_phaser_register(&phaser, 0, 0, &task), PHASE_E_BAD_MODE);
+    IS(phase_phaser_register(&phaser, 0, PHASE_SINGLE + 1, &task), PHASE_E_BAD_MODE);
+    IS(phase_phaser_register(&phaser, 1, PHASE_SIG, &task), PHASE_E_NO_TASK);
+    IS(signals(&phaser, 0, &low, 1, &phase), PHASE_E_BAD_VALUE);
+    IS(signals(&phaser, 0, zeros, PHASE_SENDS_MAX + 1, &phase), PHASE_E_TOO_MANY_SENDS);
+    IS(phase_phaser_signal(&phaser, 0, &one, 1, PHASE_CLAMP + 1, 0, 0, &phase), PHASE_E_BAD_SINGLE);
+    IS(phase_phaser_signal(&phaser, 0, &one, 1, PHASE_CLAMP, 1, 0, &phase), PHASE_E_BAD_SINGLE);
+    IS(phase_phaser_signal(&phaser, 0, &one, 1, PHASE_CLAMP, INT64_MIN, 0, &phase), PHASE_E_BAD_SINGLE);
+    IS(signals(&phaser, 5, &one, 1, &phase), PHASE_E_NO_TASK);
+    IS(phase_phaser_drop(&phaser, UINT64_MAX), PHASE_E_NO_TASK);
+    GETS_NONE(&phaser, 0, PHASE_E_SIGNAL_FIRST);
+    GETS_NONE(&phaser, 5, PHASE_E_NO_TASK);
+    IS(phase, 7);
+    IS(task, 8);
+    IS(phase_phaser_register(&phaser, 0, PHASE_SIG, &task), PHASE_OK);
+    IS(phase_phaser_register(&phaser, 0, PHASE_WAIT, &task), PHASE_OK);
+    IS(signals(&phaser, 0, zeros, PHASE_SENDS_MAX, &phase), PHASE_OK);
+    IS(signals(&phaser, 0, NULL, 0, &phase), PHASE_E_SIGNAL_TWICE);
+    IS(signals(&phaser, 1, &one, 1, &phase), PHASE_E_PHASE_FULL);
+    IS(signals(&phaser, 2, NULL, 0, &phase), PHASE_E_NO_SIGNAL);
+    GETS_NONE(&phaser, 1, PHASE_E_NO_WAIT);
+    IS(phase_phaser_drop(&phaser, 1), PHASE_OK);
+    IS(phase_phaser_drop(&phaser, 2), PHASE_OK);
+    for (uint64_t at = 0; at < 2; at++) {
+        GETS(&phaser, 0, at, 0);
+        IS(signals(&phaser, 0, NULL, 0, &phase), PHASE_OK);
+    }
+    GETS(&phaser, 0, 2, 0);
+    IS(signals(&phaser, 0, NULL, 0, &phase), PHASE_E_SPENT);
+    IS(phase, 2);
+    /* The founder and 1,023 others, of the numbers from 3 on. */
+    for (uint64_t more = 3; more < PHASE_MEMBERS_MAX + 2; more++) {
+        IS(phase_phaser_register(&phaser, 0, PHASE_SIG_WAIT, &task), PHASE_OK);
+        IS(task, more);
+    }
+    IS(phase_phaser_register(&phaser, 0, PHASE_SIG_WAIT, &task), PHASE_E_TOO_MANY_TASKS);
+    IS(phase_phaser_register(&phaser, 3, PHASE_SINGLE, &task), PHASE_E_NOT_ALLOWED);
+    IS(task, PHASE_MEMBERS_MAX + 1);
+    IS(phase_phaser_drop(&phaser, 3), PHASE_OK);
+    IS(phase_phaser_register(&phaser, 0, PHASE_SIG_WAIT, &task), PHASE_OK);
+    IS(task, PHASE_MEMBERS_MAX + 2);
+    phase_phaser_free(&phaser);
+}
+
+int main(void)
+{
+    operations();
+    members();
+    late();
+    singles();
+    ending();
+    made();
+    refused();
+    printf("handle: %d passed, %d failed\n", passed, failed);
+    return failed != 0 || passed == 0;
+}
