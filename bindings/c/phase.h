@@ -127,9 +127,9 @@ int32_t phase_fir(const int64_t *taps, size_t taps_len, uint32_t shift,
  * signals come to. docs/DEFINITIONS.md says what each word means.
  *
  * A phaser stands in a struct of the caller's, which has none while all of it is zero: `phase_phaser phaser = {0};`.
- * Beside what is said above a caller owes: nobody else writes into the struct, and it is not copied; calls on one
- * phaser are made by one thread at a time, each after the one before it has ended; and a phaser that was made is freed
- * once, for its memory. Any number may be given for a task, an operation, a mode, a single, or a limit.
+ * Beside what is said above a caller owes: nobody else writes into the struct, and it is not copied; every call on a
+ * phaser is made by the thread that made it; and a phaser that was made is freed once, for its memory. Any number may
+ * be given for a task, an operation, a mode, a single, or a limit.
  *
  * Where a call answers a negative status, the phaser and what the call writes are as they were. */
 

@@ -9,7 +9,7 @@ void *__real_malloc(size_t);
 void *__real_realloc(void *, size_t);
 void __real_free(void *);
 
-/* How many requests are still granted, or -1 where all are; how many blocks are held; how many requests there were. */
+/* How many requests are still granted, or -1 where all are; how many blocks are held; how many requests came. */
 static long granted = -1, held, asked;
 
 static int is_refused(void)
