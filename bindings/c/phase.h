@@ -31,7 +31,7 @@ enum {
     PHASE_E_SAMPLE = -3,
     /* A value is out of range: value fault->at of the phaser or task fault->number, by fault->place. */
     PHASE_E_TOO_BIG = -4,
-    /* out is too short; sink_counts and sink_starts are those of the answer. */
+    /* out is too short; sink_counts and sink_starts, or needed, are those of the answer. */
     PHASE_E_ROOM = -5,
     /* There was no memory, or a list has more values than any memory holds. */
     PHASE_E_MEMORY = -6,
@@ -91,6 +91,14 @@ typedef struct phase_counts {
 /* How many phasers, tasks, sources and sinks a graph has. A refusal leaves counts as it was. */
 int32_t phase_check(const uint8_t *text, size_t text_len, phase_counts *counts, phase_fault *fault);
 
+/* The names of the sources and then of the sinks, each in the order of their lines and followed by '\n', as
+ * phase_eval has their samples and values. What stands behind them stays; no '\0' is written.
+ *
+ * needed is how many bytes they are. With out too short the answer is PHASE_E_ROOM, out is as it was, and needed is
+ * right: so a first call with NULL, 0 asks. Any other refusal leaves out and needed as they were. */
+int32_t phase_names(const uint8_t *text, size_t text_len, uint8_t *out, size_t out_len,
+                    size_t *needed, phase_fault *fault);
+
 /* The values of each sink, one sink behind the other in the order of the lines; how many each has; and
  * where each begins that joins now, at the least start. What stands behind the values stays.
  *
@@ -133,8 +141,8 @@ int32_t phase_fir(const int64_t *taps, size_t taps_len, uint32_t shift,
  *
  * Where a call answers a negative status, the phaser and what the call writes are as they were. */
 
-/* The statuses of a phaser, beside PHASE_OK, and PHASE_E_MEMORY from calls that make and register. A signal
- * and a wait take no memory. */
+/* The statuses of a phaser, beside PHASE_OK, and PHASE_E_MEMORY from calls that make and register, and from those
+ * of blocks. A signal and a wait of one phase take no memory. */
 enum {
     /* A wait: no signaller is registered, and the task has got every phase. */
     PHASE_ENDED = 1,
@@ -168,7 +176,7 @@ enum {
     PHASE_E_NO_SIGNAL = -33,
     /* A single is named, and the task's mode is not PHASE_SINGLE. */
     PHASE_E_NOT_SINGLE = -34,
-    /* A block of no phase, or of more than the bound: no call of this header has one. */
+    /* A block of no phase, or of more than the bound. */
     PHASE_E_BAD_BLOCK = -35,
     /* The task waits too, and has signalled since its last wait. */
     PHASE_E_SIGNAL_TWICE = -36,
@@ -261,6 +269,22 @@ int32_t phase_phaser_signal(phase_phaser *phaser, uint64_t task,
  * is not complete the answer is PHASE_E_NOT_YET. The value is INT64_MIN where the phase has none: a sum or a product
  * that is out of range, and under the other operations a phase without a send. */
 int32_t phase_phaser_wait(phase_phaser *phaser, uint64_t task, uint64_t *phase, int64_t *value);
+
+/* Signals as many phases in a row as there are values, the first the task's, with one send each and the single, or
+ * PHASE_NO_SINGLE, for all of them; and writes the first phase. It is refused where one of the signals would be, made
+ * one by one, or where it is a PHASE_E_BAD_BLOCK; then no phase is signalled. It takes memory for the sends, and gives
+ * it back. */
+int32_t phase_phaser_signal_block(phase_phaser *phaser, uint64_t task,
+                                  const int64_t *values, size_t values_len,
+                                  uint32_t single, int64_t low, int64_t high, uint64_t *phase);
+
+/* Gets the task's phase and those behind it that are complete, at most values_len of them, which may be no more than
+ * the bound; writes the first phase, how many there are, and the value of each, as phase_phaser_wait has it, into the
+ * first places of values; or answers PHASE_ENDED, and writes nothing. What stands behind the values stays. It does not
+ * block. It takes memory for as many values as there are places, where these are at most PHASE_BOUND_MAX, and gives it
+ * back. */
+int32_t phase_phaser_wait_block(phase_phaser *phaser, uint64_t task, int64_t *values, size_t values_len,
+                                uint64_t *phase, size_t *count);
 
 /* Writes what a task stands at. */
 int32_t phase_phaser_view(phase_phaser *phaser, uint64_t task, phase_standing *standing);

@@ -11,12 +11,16 @@
 >>> phase.eval(graph, s=[2, 4, 6])["out"]
 array([1, 3, 5])
 
-The file behind a source's name is not read: its samples are the array that is given. The library is
-libphase.so in the folder lib beside this one, which scripts/bind makes, or the one that PHASE_LIB names.
+The file behind a source's name is not read: its samples are the array that is given. `Phaser` is a
+phaser for one thread. The library is libphase.so in the folder lib beside this one, which
+scripts/bind makes, or the one that PHASE_LIB names.
 """
 import collections
 import ctypes
+import operator
 import os
+import threading
+import weakref
 
 import numpy
 
@@ -44,6 +48,58 @@ AT_TASK = 2
 
 NO_START = -1
 
+ENDED = 1
+E_NO_PHASER = -20
+E_HAS_PHASER = -21
+E_BAD_OPERATION = -22
+E_BAD_BOUND = -23
+E_BAD_PHASES = -24
+E_BAD_MODE = -25
+E_BAD_SINGLE = -26
+E_BAD_VALUE = -27
+E_TOO_MANY_SENDS = -28
+E_NO_TASK = -29
+E_NOT_ALLOWED = -30
+E_NOT_NEW = -31
+E_TOO_MANY_TASKS = -32
+E_NO_SIGNAL = -33
+E_NOT_SINGLE = -34
+E_BAD_BLOCK = -35
+E_SIGNAL_TWICE = -36
+E_SPENT = -37
+E_AHEAD = -38
+E_SINGLE_DIFFERS = -39
+E_PHASE_FULL = -40
+E_NO_WAIT = -41
+E_SIGNAL_FIRST = -42
+E_NOT_YET = -43
+
+SUM = 1
+PRODUCT = 2
+LEAST = 3
+GREATEST = 4
+ANY = 5
+
+SIG = 1
+WAIT = 2
+SIG_WAIT = 3
+SINGLE = 4
+
+NO_SINGLE = 0
+NEG = 1
+ABS = 2
+HALVE = 3
+CLAMP = 4
+
+PHASERS_MAX = 64
+TASKS_MAX = 64
+TAPS_MAX = 64
+SAMPLES_MAX = 67108864
+BOUND_MAX = 65536
+PHASES_MAX = 4611686018427387904
+MEMBERS_MAX = 1024
+SENDS_MAX = 65536
+
 # The words of the kinds of fault, as docs/FORMATS.md has them.
 KINDS = {
     SYNTAX: "syntax",
@@ -58,6 +114,7 @@ KINDS = {
 }
 
 Counts = collections.namedtuple("Counts", "phasers tasks sources sinks")
+Names = collections.namedtuple("Names", "sources sinks")
 
 
 class GraphError(ValueError):
@@ -82,6 +139,161 @@ class Values(dict):
     starts = {}
 
 
+class PhaserError(Exception):
+    """Why a call on a phaser was refused: the class says it, and `status` is its number."""
+
+    status = None
+
+    def __init__(self):
+        super().__init__(self.__doc__)
+
+
+class NoPhaser(PhaserError):
+    """The phaser was closed."""
+
+    status = E_NO_PHASER
+
+
+class BadOperation(PhaserError):
+    """The number is none of an operation."""
+
+    status = E_BAD_OPERATION
+
+
+class BadBound(PhaserError):
+    """The bound is not from 1 to 65,536."""
+
+    status = E_BAD_BOUND
+
+
+class BadPhases(PhaserError):
+    """The number of phases is not from 1 to 2**62."""
+
+    status = E_BAD_PHASES
+
+
+class BadMode(PhaserError):
+    """The number is none of a mode."""
+
+    status = E_BAD_MODE
+
+
+class BadSingle(PhaserError):
+    """There is no such single, or a clamp has no range with such ends."""
+
+    status = E_BAD_SINGLE
+
+
+class BadValue(PhaserError):
+    """A value to be sent is -2**63, which is none."""
+
+    status = E_BAD_VALUE
+
+
+class TooManySends(PhaserError):
+    """The values to be sent are more than 65,536."""
+
+    status = E_TOO_MANY_SENDS
+
+
+class NoTask(PhaserError):
+    """The task, or the parent, is not registered."""
+
+    status = E_NO_TASK
+
+
+class NotAllowed(PhaserError):
+    """The parent's mode does not hold the child's."""
+
+    status = E_NOT_ALLOWED
+
+
+class NotNew(PhaserError):
+    """No number is left for a child."""
+
+    status = E_NOT_NEW
+
+
+class TooManyTasks(PhaserError):
+    """1,024 tasks are registered."""
+
+    status = E_TOO_MANY_TASKS
+
+
+class NoSignal(PhaserError):
+    """The task's mode does not signal."""
+
+    status = E_NO_SIGNAL
+
+
+class NotSingle(PhaserError):
+    """A single is named, and the task's mode is not SINGLE."""
+
+    status = E_NOT_SINGLE
+
+
+class BadBlock(PhaserError):
+    """A block of no phase, or of more than the bound."""
+
+    status = E_BAD_BLOCK
+
+
+class SignalTwice(PhaserError):
+    """The task waits too, and has signalled since its last wait."""
+
+    status = E_SIGNAL_TWICE
+
+
+class Spent(PhaserError):
+    """The phaser was made for fewer phases."""
+
+    status = E_SPENT
+
+
+class Ahead(PhaserError):
+    """A waiter is registered, and the phase is the bound or more ahead of the slowest."""
+
+    status = E_AHEAD
+
+
+class SingleDiffers(PhaserError):
+    """A waiter is registered, and the first signal of the phase named another single, or none."""
+
+    status = E_SINGLE_DIFFERS
+
+
+class PhaseFull(PhaserError):
+    """A waiter is registered, and the phase would have more than 65,536 sends."""
+
+    status = E_PHASE_FULL
+
+
+class NoWait(PhaserError):
+    """The task's mode does not wait."""
+
+    status = E_NO_WAIT
+
+
+class SignalFirst(PhaserError):
+    """The task signals too, and has not signalled since its last wait."""
+
+    status = E_SIGNAL_FIRST
+
+
+class NotYet(PhaserError):
+    """The phase is not complete, and a signaller is registered."""
+
+    status = E_NOT_YET
+
+
+_REFUSALS = {it.status: it for it in PhaserError.__subclasses__()}
+
+Got = collections.namedtuple("Got", "phase value")
+GotBlock = collections.namedtuple("GotBlock", "phase values")
+Standing = collections.namedtuple("Standing", "signal_phase wait_phase mode")
+Clamp = collections.namedtuple("Clamp", "low high")
+
+
 class _Fault(ctypes.Structure):
     _fields_ = [
         ("line", ctypes.c_uint64),
@@ -96,6 +308,18 @@ class _Counts(ctypes.Structure):
     _fields_ = [(it, ctypes.c_size_t) for it in Counts._fields]
 
 
+class _Place(ctypes.Structure):
+    _fields_ = [("at", ctypes.c_void_p), ("live", ctypes.c_bool)]
+
+
+class _Standing(ctypes.Structure):
+    _fields_ = [
+        ("signal_phase", ctypes.c_uint64),
+        ("wait_phase", ctypes.c_uint64),
+        ("mode", ctypes.c_uint32),
+    ]
+
+
 def _load():
     here = os.path.dirname(os.path.abspath(__file__))
     name = os.environ.get("PHASE_LIB") or os.path.join(here, "..", "lib", "libphase.so")
@@ -107,8 +331,34 @@ def _load():
     lib.phase_check.argtypes = text + [ctypes.POINTER(_Counts)] + fault
     lib.phase_eval.argtypes = text + array * 5 + fault
     lib.phase_fir.argtypes = array + [ctypes.c_uint32] + array * 3 + [ctypes.POINTER(ctypes.c_size_t)]
-    lib.phase_check.restype = lib.phase_eval.restype = lib.phase_fir.restype = ctypes.c_int32
+    lib.phase_names.argtypes = text + array + [ctypes.POINTER(ctypes.c_size_t)] + fault
+    for call in (lib.phase_check, lib.phase_eval, lib.phase_fir, lib.phase_names):
+        call.restype = ctypes.c_int32
+    _load_phasers(lib, array)
     return lib
+
+
+def _load_phasers(lib, array):
+    place, whole, few = [ctypes.POINTER(_Place)], ctypes.c_uint64, ctypes.c_uint32
+    number, value = ctypes.POINTER(ctypes.c_uint64), ctypes.POINTER(ctypes.c_int64)
+    ends = [ctypes.c_int64, ctypes.c_int64]
+    calls = {
+        "new": [few, whole, whole] + place,
+        "register": place + [whole, few, number],
+        "register_now": place + [whole, number, number],
+        "drop": place + [whole],
+        "signal": place + [whole] + array + [few] + ends + [number],
+        "wait": place + [whole, number, value],
+        "signal_block": place + [whole] + array + [few] + ends + [number],
+        "wait_block": place + [whole] + array + [number, ctypes.POINTER(ctypes.c_size_t)],
+        "view": place + [whole, ctypes.POINTER(_Standing)],
+    }
+    for name, arguments in calls.items():
+        # A call that the library lacks is an AttributeError where it is made.
+        if hasattr(lib, "phase_phaser_" + name):
+            call = getattr(lib, "phase_phaser_" + name)
+            call.argtypes, call.restype = arguments, ctypes.c_int32
+    lib.phase_phaser_free.argtypes, lib.phase_phaser_free.restype = place, None
 
 
 _lib = _load()
@@ -117,6 +367,17 @@ _lib = _load()
 def check(graph):
     """How many phasers, tasks, sources and sinks a graph has."""
     return _check(_bytes(graph))
+
+
+def names(graph):
+    """The names of a graph's sources and sinks, each in the order of their lines.
+
+    >>> import phase
+    >>> phase.names("phaser x sum 4\\nsource s s.csv -> x\\nsink a x\\nsink b x")
+    Names(sources=['s'], sinks=['a', 'b'])
+    """
+    text = _bytes(graph)
+    return _ends(text, _check(text))
 
 
 def eval(graph, samples=(), **named):
@@ -132,7 +393,8 @@ def eval(graph, samples=(), **named):
     """
     text = _bytes(graph)
     counts = _check(text)
-    lists = [_whole(it) for it in (_by_name(text, named) if named else samples)]
+    ends = _ends(text, counts)
+    lists = [_whole(it) for it in (_by_name(ends.sources, named) if named else samples)]
     joined = numpy.concatenate(lists) if len(lists) > 1 else (lists + [_none()])[0]
     lent = numpy.array([len(it) for it in lists], numpy.uintp)
     sinks = numpy.zeros(counts.sinks, numpy.uintp)
@@ -144,7 +406,7 @@ def eval(graph, samples=(), **named):
         out = numpy.empty(sum(int(it) for it in sinks), numpy.int64)
         status, fault = _eval(text, joined, lent, out, sinks, starts)
     _stop(status, fault, text)
-    return _values(_names(text, "sink"), out, sinks, starts)
+    return _values(ends.sinks, out, sinks, starts)
 
 
 class Fir:
@@ -179,6 +441,209 @@ class Fir:
         return out
 
 
+class Phaser:
+    """A phaser for one thread, at which tasks meet phase by phase: a phase is complete when each
+    registered task whose mode signals has signalled it, and its value is what the sends of these
+    signals come to. Tasks are numbers, and number 0 is there, in the mode SINGLE.
+
+    >>> import phase
+    >>> with phase.Phaser(phase.GREATEST, bound=2, phases=100) as phaser:
+    ...     other = phaser.register(0, phase.SIG)
+    ...     phaser.signal(0, [4, -3])
+    ...     phaser.signal(other, [9])
+    ...     phaser.wait(0)
+    0
+    0
+    Got(phase=0, value=9)
+
+    The operation is SUM, PRODUCT, LEAST, GREATEST or ANY, the first of the sends. Signallers may be
+    `bound` phases ahead of the slowest waiter, from 1 to 65,536; the phases are 1 to 2**62. No call
+    blocks. What is refused raises the PhaserError of its reason, and leaves the phaser as it was;
+    want of memory is a MemoryError. The phaser is closed at the end of `with`, by `close`, or with
+    the object. It stays on the thread that made it: elsewhere a call is a RuntimeError.
+    """
+
+    def __init__(self, operation, bound, phases):
+        operation = _numbered(operation, 32, BadOperation)
+        bound, phases = _numbered(bound, 64, BadBound), _numbered(phases, 64, BadPhases)
+        self._place, self._thread = _Place(), threading.get_ident()
+        _done(_lib.phase_phaser_new(operation, bound, phases, self._place))
+        weakref.finalize(self, _free, self._place, self._thread)
+
+    def register(self, parent, mode):
+        """Registers a task in a mode that the mode of the parent holds, at both phases of the
+        parent, and returns its number: 1 more than the greatest before. The modes are SIG, WAIT,
+        SIG_WAIT and SINGLE; each holds itself and those before it, but WAIT does not hold SIG.
+
+        It raises NoTask, BadMode, NotAllowed, NotNew, TooManyTasks or MemoryError.
+        """
+        task = ctypes.c_uint64()
+        mode = _numbered(mode, 32, BadMode)
+        _done(_lib.phase_phaser_register(self._here(), _task(parent), mode, task))
+        return task.value
+
+    def register_now(self, parent):
+        """Registers a task in the mode WAIT at the first phase that is not complete, and returns its
+        number and that phase. It raises what `register` does."""
+        task, phase = ctypes.c_uint64(), ctypes.c_uint64()
+        _done(_lib.phase_phaser_register_now(self._here(), _task(parent), task, phase))
+        return task.value, phase.value
+
+    def drop(self, task):
+        """Ends a task's registration. It raises NoTask."""
+        _done(_lib.phase_phaser_drop(self._here(), _task(task)))
+
+    def signal(self, task, values, single=None):
+        """Signals the task's phase with these sends, a row of whole numbers as of `eval`, and returns
+        that phase. A single is done once with the value of the phase: NEG, ABS, HALVE, which rounds
+        down, or Clamp(low, high).
+
+        It raises BadSingle, TooManySends, BadValue, NoTask, NoSignal, NotSingle, SignalTwice, Spent,
+        Ahead, SingleDiffers or PhaseFull.
+
+        >>> import phase
+        >>> phaser = phase.Phaser(phase.SUM, 2, 100)
+        >>> phaser.signal(0, [4, 5], phase.Clamp(0, 7)), phaser.wait(0)
+        (0, Got(phase=0, value=7))
+        """
+        sends, phase = _whole(values), ctypes.c_uint64()
+        row = sends.ctypes.data, len(sends)
+        _done(_lib.phase_phaser_signal(self._here(), _task(task), *row, *_single(single), phase))
+        return phase.value
+
+    def wait(self, task):
+        """The task's phase and its value, or None where no more will come. The value is None where a
+        sum or a product is out of range, and under the other operations where the phase has no send.
+
+        It raises NoTask, NoWait, SignalFirst, or NotYet where it would have to block.
+        """
+        phase, value = ctypes.c_uint64(), ctypes.c_int64()
+        status = _lib.phase_phaser_wait(self._here(), _task(task), phase, value)
+        if status == ENDED:
+            return None
+        _done(status)
+        return Got(phase.value, value.value if value.value != _NO_VALUE else None)
+
+    def signal_block(self, task, values, single=None):
+        """Signals as many phases in a row as there are values, the first the task's, with one send
+        each and the single or none for all of them, and returns the first phase.
+
+        It raises what `signal` does where one of the signals would, made one by one, and BadBlock or
+        MemoryError; then no phase is signalled.
+        """
+        sends, phase = _whole(values), ctypes.c_uint64()
+        row = sends.ctypes.data, len(sends)
+        _done(_lib.phase_phaser_signal_block(self._here(), _task(task), *row, *_single(single), phase))
+        return phase.value
+
+    def wait_block(self, task, out):
+        """The first of the task's phases that are complete, in a row, and their values; or None where
+        no more will come. Where a phase has no value, -2**63 stands.
+
+        `out` says how many phases there may be; or it is a row of int64 without gaps, as long as
+        that, into whose first places the values are written, and of which they are a view. What
+        stands behind them stays. It raises what `wait` does, and BadBlock, TypeError or MemoryError.
+
+        >>> import phase
+        >>> phaser = phase.Phaser(phase.SUM, 3, 100)
+        >>> signaller, waiter = phaser.register(0, phase.SIG), phaser.register(0, phase.WAIT)
+        >>> phaser.drop(0)
+        >>> phaser.signal_block(signaller, [5, 6])
+        0
+        >>> phaser.wait_block(waiter, 3)
+        GotBlock(phase=0, values=array([5, 6]))
+        """
+        values = _places(out)
+        phase, count = ctypes.c_uint64(), ctypes.c_size_t()
+        row = values.ctypes.data, len(values)
+        status = _lib.phase_phaser_wait_block(self._here(), _task(task), *row, phase, count)
+        if status == ENDED:
+            return None
+        _done(status)
+        return GotBlock(phase.value, values[: count.value])
+
+    def view(self, task):
+        """What a task stands at: the phases that it signals and waits for next, and its mode.
+        It raises NoTask."""
+        standing = _Standing()
+        _done(_lib.phase_phaser_view(self._here(), _task(task), standing))
+        return Standing(*(getattr(standing, it) for it in Standing._fields))
+
+    def close(self):
+        """Ends the phaser and gives its memory back. Later calls raise NoPhaser; to close it again
+        does nothing."""
+        _lib.phase_phaser_free(self._here())
+
+    def __enter__(self):
+        return self
+
+    def __exit__(self, *_):
+        self.close()
+
+    def __reduce__(self):
+        raise TypeError("a phaser is not copied")
+
+    def _here(self):
+        if self._thread != threading.get_ident():
+            raise RuntimeError("a phaser stays on the thread that made it")
+        return self._place
+
+
+# What stands for a value where a phase has none.
+_NO_VALUE = -(2**63)
+
+
+def _free(place, thread):
+    # Where another thread lets go of a phaser, its memory stays taken.
+    if thread == threading.get_ident():
+        _lib.phase_phaser_free(place)
+
+
+def _numbered(number, bits, refusal):
+    """A whole number for C, which would cut off its bits past these."""
+    number = operator.index(number)
+    if not 0 <= number < 2**bits:
+        raise refusal
+    return number
+
+
+def _places(out):
+    """Places for what a wait for a block writes: those that are lent, or so many."""
+    if not isinstance(out, numpy.ndarray):
+        # More than any bound allows are refused as one more is.
+        return numpy.empty(min(_numbered(out, 64, BadBlock), BOUND_MAX + 1), numpy.int64)
+    if out.ndim != 1 or out.dtype != numpy.int64 or not out.flags.carray:
+        raise TypeError("values are written into one row of int64 without gaps")
+    return out
+
+
+def _task(task):
+    return _numbered(task, 64, NoTask)
+
+
+def _single(single):
+    """The number of a single or of none, and the ends of a clamp."""
+    if not isinstance(single, Clamp):
+        number = NO_SINGLE if single is None else _numbered(single, 32, BadSingle)
+        if number == CLAMP:
+            raise TypeError("a clamp has two ends: Clamp(low, high)")
+        return number, 0, 0
+    low, high = (operator.index(it) for it in single)
+    if min(low, high) < -(2**63) or max(low, high) > 2**63 - 1:
+        raise BadSingle
+    return CLAMP, low, high
+
+
+def _done(status):
+    if status == OK:
+        return
+    if status == E_MEMORY:
+        raise MemoryError
+    if status not in _REFUSALS:
+        raise RuntimeError(f"libphase answered a status that is none: {status}")
+    raise _REFUSALS[status]
+
+
 def _bytes(graph):
     return graph.encode() if isinstance(graph, str) else bytes(graph)
 
@@ -210,28 +675,36 @@ def _values(names, out, sinks, starts):
     return values
 
 
+def _ends(text, counts):
+    """The names of the sources and sinks of a text that is known to be good."""
+    # Each name stands in the text with a byte behind it, but for one at its end.
+    room, needed, fault = ctypes.create_string_buffer(len(text) + 1), ctypes.c_size_t(), _Fault()
+    _stop(_lib.phase_names(text, len(text), room, len(room), needed, fault), fault, text)
+    names = room.raw[: needed.value].decode("latin-1").split("\n")
+    return Names(names[: counts.sources], names[counts.sources : -1])
+
+
 def _names(text, *kinds):
     """The names that lines of these kinds declare, of a text that is known to be good."""
     lines = (line.split() for line in text.decode("latin-1").split("\n"))
     return [words[1] for words in lines if words and words[0] in kinds]
 
 
-def _by_name(text, named):
-    names = _names(text, "source")
+def _by_name(names, named):
     if set(names) != set(named):
         raise ValueError(f"the sources are {' '.join(names) or 'none'}, and not {' '.join(named)}")
     return [named[it] for it in names]
 
 
 def _whole(values):
-    """Whole numbers as one row of int64 without gaps."""
+    """Whole numbers as one row of int64 without gaps, where C may read it."""
     given = numpy.asarray(values)
     if given.ndim != 1 or given.size and given.dtype.kind not in "iu":
         raise TypeError(f"samples are one row of whole numbers, and not {given.dtype} in {given.ndim} rows")
     # numpy compares a uint64 with a number of Python as floats.
     if given.dtype.kind == "u" and given.size and int(given.max()) > 2**63 - 1:
         raise OverflowError("a sample is above 2**63 - 1")
-    return numpy.ascontiguousarray(given, numpy.int64)
+    return numpy.require(given, numpy.int64, ("C_CONTIGUOUS", "ALIGNED"))
 
 
 def _stop(status, fault, text):

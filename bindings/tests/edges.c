@@ -99,6 +99,38 @@ static void check_edges(void)
                  && is_fault(&fault, lines[kind - 1], kind, 0, 0, 0));
 }
 
+/* The names of a text with so much room: whether the answer is this status, the names these, and what stands behind
+ * them as it was. Where the status is not PHASE_OK no name is written. */
+static int are_names(const char *text, size_t room, int32_t status, size_t wanted_bytes, const char *wanted)
+{
+    uint8_t out[32];
+    size_t needed = 77;
+    phase_fault fault;
+    memset(out, '.', sizeof out);
+    memset(&fault, 0x55, sizeof fault);
+    int is_right = phase_names(TEXT(text), room > 0 ? out : NULL, room, &needed, &fault) == status
+                   && needed == wanted_bytes && !memcmp(out, wanted, strlen(wanted));
+    for (size_t at = strlen(wanted); at < sizeof out; at++)
+        is_right = is_right && out[at] == '.';
+    return is_right && (status == PHASE_OK ? fault.line == 0x5555555555555555 : fault.line != 0x5555555555555555);
+}
+
+static void names(void)
+{
+    /* A sink stands above a source. */
+    const char *mixed = "phaser x sum 4\nphaser y sum 4\nsource s s.csv -> x\nsink first x\n"
+                        "source t t.csv -> y\nsink last y\n";
+    look("sources before sinks", are_names(mixed, 32, PHASE_OK, 15, "s\nt\nfirst\nlast\n"));
+    look("names that just fit", are_names(mixed, 15, PHASE_OK, 15, "s\nt\nfirst\nlast\n"));
+    look("names that are one too long", are_names(mixed, 14, PHASE_E_ROOM, 15, ""));
+    look("how long names are is asked", are_names(mixed, 0, PHASE_E_ROOM, 15, ""));
+    look("a filter is not named", are_names(sums, 32, PHASE_OK, 6, "s\nout\n"));
+    look("sinks that join now are named", are_names(late, 32, PHASE_OK, 17, "s\nall\nlate\nnever\n"));
+    look("a graph of nothing has no names", are_names("", 0, PHASE_OK, 0, ""));
+    look("a fault has no names", are_names("phaser x mean 2\n", 32, PHASE_E_GRAPH, 77, ""));
+    look("two sources meet in an evaluation alone", are_names(twice, 32, PHASE_OK, 8, "s\nt\nout\n"));
+}
+
 static void lengths(void)
 {
     int64_t in[4] = {1, 2, 3, 4};
@@ -268,6 +300,7 @@ static void four_threads(void)
 int main(void)
 {
     check_edges();
+    names();
     lengths();
     values();
     sinks_that_join_now();

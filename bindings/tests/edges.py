@@ -40,6 +40,7 @@ look("64 bits without a sign", sums(numpy.array([1, 2], numpy.uint64)) == [1, 3]
 look("every second one", sums(numpy.arange(6)[::2]) == [0, 2, 6])
 look("backwards", sums(numpy.arange(3)[::-1]) == [2, 3, 1])
 look("a big end first", sums(numpy.array([1, 2], ">i8")) == [1, 3])
+look("a place where no int64 stands", sums(numpy.frombuffer(bytes([0, 5] + [0] * 15), numpy.int64, 2, 1)) == [5, 5])
 look("the greatest and the least", sums([MOST, -MOST]) == [MOST, 0])
 look("floats are refused", refused(TypeError, sums, [1.0, 2.0]))
 look("two rows are refused", refused(TypeError, sums, [[1, 2], [3, 4]]))

@@ -291,6 +291,153 @@ static void refused(void)
     phase_phaser_free(&phaser);
 }
 
+/* A signal of a block with no single. */
+static int32_t signals_block(phase_phaser *phaser, uint64_t task, const int64_t *values, size_t count,
+                             uint64_t *phase)
+{
+    return phase_phaser_signal_block(phaser, task, values, count, PHASE_NO_SINGLE, 0, 0, phase);
+}
+
+/* A wait for at most `places` phases that is answered with the first and with these values, and leaves what stands
+ * behind them. */
+static void gets_block(int line, phase_phaser *phaser, uint64_t task, size_t places, uint64_t first, size_t wanted,
+                       const int64_t *values)
+{
+    int64_t got[8] = {77, 77, 77, 77, 77, 77, 77, 77};
+    uint64_t phase = 77;
+    size_t count = 77;
+    is(line, "the status of a block", phase_phaser_wait_block(phaser, task, got, places, &phase, &count), PHASE_OK);
+    is(line, "the first phase", (int64_t)phase, (int64_t)first);
+    is(line, "the number of phases", (int64_t)count, (int64_t)wanted);
+    for (size_t at = 0; at < 8; at++)
+        is(line, "a value of the block", got[at], at < wanted ? values[at] : 77);
+}
+
+/* A wait for at most `places` phases that is answered so, and writes nothing. */
+static void gets_no_block(int line, phase_phaser *phaser, uint64_t task, size_t places, int32_t status)
+{
+    int64_t got[8] = {77, 77, 77, 77, 77, 77, 77, 77};
+    uint64_t phase = 77;
+    size_t count = 77;
+    is(line, "the status of no block", phase_phaser_wait_block(phaser, task, got, places, &phase, &count), status);
+    is(line, "the phase of no block", (int64_t)phase, 77);
+    is(line, "the number of no block", (int64_t)count, 77);
+    for (size_t at = 0; at < 8; at++)
+        is(line, "a place of no block", got[at], 77);
+}
+
+/* Blocks under bound 4: the waiter at phase 2 lets phases up to 5 be signalled, and gets them in order. */
+static void blocks(void)
+{
+    phase_phaser phaser = {0};
+    phase_standing standing;
+    uint64_t phase = 77, task = 77;
+    const int64_t first[3] = {10, 20, 30}, more[4] = {40, 50, 60, 70}, behind[4] = {30, 40, 50, 60};
+    IS(phase_phaser_new(PHASE_SUM, 4, 100, &phaser), PHASE_OK);
+    IS(phase_phaser_register(&phaser, 0, PHASE_SIG, &task), PHASE_OK);
+    IS(phase_phaser_register(&phaser, 0, PHASE_WAIT, &task), PHASE_OK);
+    IS(phase_phaser_drop(&phaser, 0), PHASE_OK);
+    gets_no_block(__LINE__, &phaser, 2, 4, PHASE_E_NOT_YET);
+    IS(signals_block(&phaser, 1, first, 3, &phase), PHASE_OK);
+    IS(phase, 0);
+    gets_no_block(__LINE__, &phaser, 2, 0, PHASE_E_BAD_BLOCK);
+    gets_no_block(__LINE__, &phaser, 2, 5, PHASE_E_BAD_BLOCK);
+    gets_block(__LINE__, &phaser, 2, 2, 0, 2, first);
+    /* The last of these would be phase 6. */
+    IS(signals_block(&phaser, 1, more, 4, &phase), PHASE_E_AHEAD);
+    IS(phase, 0);
+    IS(phase_phaser_view(&phaser, 1, &standing), PHASE_OK);
+    IS(standing.signal_phase, 3);
+    IS(signals_block(&phaser, 1, more, 3, &phase), PHASE_OK);
+    IS(phase, 3);
+    IS(signals_block(&phaser, 1, more, 1, &phase), PHASE_E_AHEAD);
+    IS(phase, 3);
+    gets_block(__LINE__, &phaser, 2, 4, 2, 4, behind);
+    gets_no_block(__LINE__, &phaser, 2, 4, PHASE_E_NOT_YET);
+    IS(signals_block(&phaser, 1, first, 1, &phase), PHASE_OK);
+    IS(phase, 6);
+    IS(phase_phaser_drop(&phaser, 1), PHASE_OK);
+    gets_block(__LINE__, &phaser, 2, 4, 6, 1, first);
+    gets_no_block(__LINE__, &phaser, 2, 4, PHASE_ENDED);
+    gets_no_block(__LINE__, &phaser, 2, 5, PHASE_E_BAD_BLOCK);
+    phase_phaser_free(&phaser);
+}
+
+/* Two tasks whose blocks meet, phases with no value, and a single. */
+static void blocks_that_meet(void)
+{
+    phase_phaser phaser = {0};
+    uint64_t phase = 77, task = 77;
+    const int64_t most[2] = {INT64_MAX, 1}, other[2] = {1, 2}, sums[2] = {INT64_MIN, 3};
+    const int64_t five = 5, half = 2, none = INT64_MIN;
+    IS(phase_phaser_new(PHASE_SUM, 2, 100, &phaser), PHASE_OK);
+    IS(phase_phaser_register(&phaser, 0, PHASE_SIG, &task), PHASE_OK);
+    IS(phase_phaser_register(&phaser, 0, PHASE_SIG, &task), PHASE_OK);
+    IS(phase_phaser_register(&phaser, 0, PHASE_WAIT, &task), PHASE_OK);
+    IS(phase_phaser_drop(&phaser, 0), PHASE_OK);
+    IS(signals_block(&phaser, 1, most, 2, &phase), PHASE_OK);
+    IS(phase, 0);
+    gets_no_block(__LINE__, &phaser, 3, 2, PHASE_E_NOT_YET);
+    IS(signals_block(&phaser, 2, other, 2, &phase), PHASE_OK);
+    IS(phase, 0);
+    gets_block(__LINE__, &phaser, 3, 2, 0, 2, sums);
+    phase_phaser_free(&phaser);
+    IS(phase_phaser_new(PHASE_LEAST, 2, 100, &phaser), PHASE_OK);
+    IS(signals(&phaser, 0, NULL, 0, &phase), PHASE_OK);
+    gets_block(__LINE__, &phaser, 0, 2, 0, 1, &none);
+    IS(phase_phaser_signal_block(&phaser, 0, &five, 1, PHASE_HALVE, 0, 0, &phase), PHASE_OK);
+    IS(phase, 1);
+    gets_block(__LINE__, &phaser, 0, 1, 1, 1, &half);
+    IS(phase_phaser_signal_block(&phaser, 0, &five, 1, PHASE_CLAMP, -2, 2, &phase), PHASE_OK);
+    gets_block(__LINE__, &phaser, 0, 2, 2, 1, &half);
+    phase_phaser_free(&phaser);
+}
+
+/* Each refusal of a block, of which the last row that it meets tells. */
+static void refused_blocks(void)
+{
+    static int64_t zeros[PHASE_BOUND_MAX + 1];
+    phase_phaser phaser = {0};
+    uint64_t phase = 7, task = 8;
+    size_t count = 9;
+    const int64_t values[3] = {1, 2, INT64_MIN};
+    IS(signals_block(&phaser, 0, values, 2, &phase), PHASE_E_NO_PHASER);
+    gets_no_block(__LINE__, &phaser, 0, 2, PHASE_E_NO_PHASER);
+    IS(phase_phaser_new(PHASE_SUM, 2, 3, &phaser), PHASE_OK);
+    IS(phase_phaser_signal_block(&phaser, 0, values, 3, PHASE_CLAMP + 1, 0, 0, &phase), PHASE_E_BAD_SINGLE);
+    IS(phase_phaser_signal_block(&phaser, 0, values, 1, PHASE_CLAMP, 1, 0, &phase), PHASE_E_BAD_SINGLE);
+    IS(signals_block(&phaser, 9, values, 3, &phase), PHASE_E_BAD_VALUE);
+    IS(signals_block(&phaser, 9, values, 2, &phase), PHASE_E_NO_TASK);
+    IS(signals_block(&phaser, 0, NULL, 0, &phase), PHASE_E_BAD_BLOCK);
+    IS(signals_block(&phaser, 0, zeros, 3, &phase), PHASE_E_BAD_BLOCK);
+    IS(signals_block(&phaser, 0, zeros, PHASE_BOUND_MAX + 1, &phase), PHASE_E_BAD_BLOCK);
+    /* The founder waits too, so that it signals one phase at a time. */
+    IS(signals_block(&phaser, 0, values, 2, &phase), PHASE_E_SIGNAL_TWICE);
+    gets_no_block(__LINE__, &phaser, 0, 1, PHASE_E_SIGNAL_FIRST);
+    gets_no_block(__LINE__, &phaser, 9, 1, PHASE_E_NO_TASK);
+    IS(phase_phaser_wait_block(&phaser, 0, zeros, PHASE_BOUND_MAX + 1, &phase, &count), PHASE_E_BAD_BLOCK);
+    IS(phase_phaser_register(&phaser, 0, PHASE_SIG, &task), PHASE_OK);
+    IS(phase_phaser_register(&phaser, 0, PHASE_WAIT, &task), PHASE_OK);
+    IS(phase_phaser_signal_block(&phaser, 1, values, 1, PHASE_NEG, 0, 0, &phase), PHASE_E_NOT_SINGLE);
+    IS(signals_block(&phaser, 2, values, 1, &phase), PHASE_E_NO_SIGNAL);
+    gets_no_block(__LINE__, &phaser, 1, 1, PHASE_E_NO_WAIT);
+    IS(phase_phaser_signal_block(&phaser, 0, values, 1, PHASE_NEG, 0, 0, &phase), PHASE_OK);
+    IS(phase, 0);
+    IS(signals_block(&phaser, 1, values, 2, &phase), PHASE_E_SINGLE_DIFFERS);
+    IS(phase, 0);
+    IS(phase_phaser_drop(&phaser, 2), PHASE_OK);
+    IS(phase_phaser_drop(&phaser, 0), PHASE_OK);
+    IS(signals_block(&phaser, 1, values, 2, &phase), PHASE_OK);
+    IS(phase, 0);
+    /* The phaser was made for three phases. */
+    IS(signals_block(&phaser, 1, values, 2, &phase), PHASE_E_SPENT);
+    IS(signals_block(&phaser, 1, values, 1, &phase), PHASE_OK);
+    IS(phase, 2);
+    IS(task, 2);
+    IS(count, 9);
+    phase_phaser_free(&phaser);
+}
+
 int main(void)
 {
     operations();
@@ -300,6 +447,9 @@ int main(void)
     ending();
     made();
     refused();
+    blocks();
+    blocks_that_meet();
+    refused_blocks();
     printf("handle: %d passed, %d failed\n", passed, failed);
     return failed != 0 || passed == 0;
 }

@@ -143,6 +143,48 @@ static int phasers(long request)
     return is_done;
 }
 
+/* The same of a block of three phases that is signalled and got: what was refused left all as it was, and is done
+ * when it is asked for again. */
+static int blocks(long request)
+{
+    phase_phaser phaser = {0};
+    const int64_t values[3] = {4, 5, 6};
+    int64_t got[4] = {77, 77, 77, 77};
+    uint64_t task = 77, phase = 77;
+    size_t count = 77;
+    int told = 0;
+    int is_good = phase_phaser_new(PHASE_SUM, 4, 100, &phaser) == PHASE_OK
+                  && phase_phaser_register(&phaser, 0, PHASE_SIG, &task) == PHASE_OK
+                  && phase_phaser_register(&phaser, 0, PHASE_WAIT, &task) == PHASE_OK
+                  && phase_phaser_drop(&phaser, 0) == PHASE_OK;
+    granted = request;
+    int32_t status = phase_phaser_signal_block(&phaser, 1, values, 3, PHASE_NO_SINGLE, 0, 0, &phase);
+    if (status == PHASE_E_MEMORY) {
+        told++;
+        is_good = is_good && phase == 77 && phaser.live;
+        status = phase_phaser_signal_block(&phaser, 1, values, 3, PHASE_NO_SINGLE, 0, 0, &phase);
+    }
+    is_good = is_good && status == PHASE_OK && phase == 0;
+    status = phase_phaser_wait_block(&phaser, 2, got, 4, &phase, &count);
+    if (status == PHASE_E_MEMORY) {
+        told++;
+        is_good = is_good && count == 77 && got[0] == 77 && phaser.live;
+        status = phase_phaser_wait_block(&phaser, 2, got, 4, &phase, &count);
+    }
+    is_good = is_good && status == PHASE_OK && phase == 0 && count == 3 && !memcmp(got, values, sizeof values)
+              && got[3] == 77;
+    int is_done = granted >= 0;
+    granted = -1;
+    phase_phaser_free(&phaser);
+    if (is_good && told == 1 && !is_done)
+        refused++;
+    else if (is_good && told == 0)
+        right++;
+    else
+        wrong++, printf("memory: status %d of blocks of phases after request %ld was refused\n", (int)status, request);
+    return is_done;
+}
+
 static void all_refused(int (*call)(long))
 {
     int is_done = 0;
@@ -160,8 +202,9 @@ int main(void)
     all_refused(evaluates);
     all_refused(filters);
     all_refused(phasers);
+    all_refused(blocks);
     /* With no request refused each has answered once. */
     printf("memory: %ld requests, each refused in turn: %ld told, %ld answered all the same, %ld wrong\n", requests,
-           refused, right - 3, wrong);
-    return wrong != 0 || refused == 0 || right < 3;
+           refused, right - 4, wrong);
+    return wrong != 0 || refused == 0 || right < 4;
 }

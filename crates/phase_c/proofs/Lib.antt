@@ -1,4 +1,5 @@
 pub mod Cuts
 pub mod Counting
+pub mod Naming
 pub mod Writing
 pub mod Streams

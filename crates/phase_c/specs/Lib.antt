@@ -1,5 +1,6 @@
 pub mod Lent
 pub mod Evaluations
+pub mod Names
 pub mod Refusals
 pub mod Told
 pub mod Inside

@@ -7,6 +7,7 @@ use Rattle.graph_lang.specs.graph_text.Texts.{lines_of as text_lines}
 use Rattle.graph_lang.specs.declared.fault.FaultKind.{FaultKind}
 use Rattle.graph_lang.specs.declared.fault.FaultKind.TheVariants.{Syntax, Limit, Twice, Unknown, OutBeforeIn, BadParent, NotHeld, OverBound, AnyMeets}
 use Rattle.phase_c.specs.Lent.{sinks_in}
+use Rattle.phase_c.specs.Names.{RefusesNames}
 use Rattle.phase_c.specs.Refusals.{Refuses, RefusesText}
 use Rattle.phase_c.specs.declared.refusal.Refusal.{Refusal}
 use Rattle.phase_c.specs.declared.refusal.Refusal.TheVariants as refusal
@@ -68,6 +69,13 @@ pub record EvalStops (text : List ℕ) (samples : List ℤ) (counts : List ℕ) 
 pub record CheckStops (text : List ℕ) (status : ℤ) (fault : PhaseFault) : Type 0 where
   pub why : Refusal
   pub refuses : RefusesText text why
+  pub says : Says why status fault
+
+-- names were not written: it is told why
+pub record NamesStop (text : List ℕ) (room old_needed new_needed : ℕ) (status : ℤ)
+    (fault : PhaseFault) : Type 0 where
+  pub why : Refusal
+  pub refuses : RefusesNames text room old_needed new_needed why
   pub says : Says why status fault
 
 -- the counts are those of the graph that the text declares

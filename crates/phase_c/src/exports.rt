@@ -1,12 +1,14 @@
 //! The exports, which `phase.h` declares. None requires anything.
 ghost use Rattle.std.specs.Prelude.{◌≡◌, ◌≢◌, pos, length, IfOk, IfErr};
 ghost use Rattle.phase_c.specs.Filtered.{FilterStops, FiltersAll};
+ghost use Rattle.phase_c.specs.Names.{WritesNames};
 ghost use Rattle.phase_c.specs.Refusals.{IsDone, RefusesText};
-ghost use Rattle.phase_c.specs.Told.{CheckStops, Counted, EvalStops};
+ghost use Rattle.phase_c.specs.Told.{CheckStops, Counted, EvalStops, NamesStop};
 
 use crate::evaluate::evaluate;
 use crate::fault::{PhaseCounts, PhaseFault};
 use crate::filter::{filter_block, filter_status_of};
+use crate::names::write_names;
 use crate::refusal::Refusal;
 use crate::sinks::sinks_of;
 use crate::told::{fault_of, status_of};
@@ -48,6 +50,35 @@ pub extern "C" fn phase_check(
             *counts = found;
             0
         }
+        Err(why) => {
+            *fault = fault_of(why);
+            status_of(why)
+        }
+    }
+}
+
+/// Answers 0 with the names of a graph's sources and then of its sinks, each in the order of their
+/// lines and followed by a line end, or a status that tells why not, and the fault.
+///
+/// `needed` is how many bytes the names are, also where they have no room. What stands behind them
+/// stays. It takes memory for the graph and for the names, and gives it back.
+#[unsafe(no_mangle)]
+pub extern "C" fn phase_names(
+    alloc: Global,
+    text: &[u8],
+    out: &mut [u8],
+    needed: &mut usize,
+    fault: &mut PhaseFault,
+) -> i32
+    ensures done { result ≡ pos 0 → WritesNames text.now out.old out.new needed.new }
+    ensures quiet { result ≡ pos 0 → fault.new ≡ fault.old }
+
+    ensures stops { result ≢ pos 0 → NamesStop text.now (length out.old)
+        needed.old needed.new result fault.new }
+    ensures same { result ≢ pos 0 → out.new ≡ out.old }
+{
+    match write_names(alloc, text, out, needed) {
+        Ok(()) => 0,
         Err(why) => {
             *fault = fault_of(why);
             status_of(why)

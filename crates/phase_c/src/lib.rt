@@ -10,6 +10,7 @@ mod evaluate;
 mod exports;
 mod fault;
 mod filter;
+mod names;
 mod refusal;
 mod samples;
 mod sinks;

@@ -1,3 +1,4 @@
+pub mod Blocks
 pub mod Numbers
 pub mod Phasers
 pub mod Places

@@ -12,6 +12,8 @@ use Rattle.phase_core.specs.phase_accum.declared.outcome.TheConstants.{NO_VALUE}
 use Rattle.phase_core.specs.phase_accum.Ranges.{IsRange}
 use Rattle.phase_core.specs.phase_history.declared.got.Got.{Got}
 use Rattle.phase_core.specs.phase_history.declared.got.Got.TheVariants as got
+use Rattle.phase_core.specs.phase_history.declared.got.GotBlock.{GotBlock}
+use Rattle.phase_core.specs.phase_history.declared.got.GotBlock.TheVariants as block
 use Rattle.phase_core.specs.phase_history.declared.refusal.RegisterRefusal.{RegisterRefusal}
 use Rattle.phase_core.specs.phase_history.declared.refusal.RegisterRefusal.TheVariants as register
 use Rattle.phase_core.specs.phase_history.declared.refusal.SignalRefusal.{SignalRefusal}
@@ -95,6 +97,12 @@ abbrev pub wait_status : Result Got WaitRefusal → ℤ
 wait_status (Ok (got.Value phase outcome)) = GOOD
 wait_status (Ok got.Ended) = ENDED
 wait_status (Err refusal) = wait_number refusal
+
+-- the number of what a wait for a block is answered
+abbrev pub wait_block_status : Result GotBlock WaitRefusal → ℤ
+wait_block_status (Ok (block.Values phase count)) = GOOD
+wait_block_status (Ok block.Ended) = ENDED
+wait_block_status (Err refusal) = wait_number refusal
 
 -- the number of a phase's value. `NO_VALUE` is no value: under `least`, `greatest` and `any` the
 -- phase has no send, under `sum` and `product` its exact value is out of range

@@ -4,7 +4,12 @@
 //! `phase_phaser_wait`.
 #![tactic(auto)]
 
+mod any_blocks;
 mod any_phaser;
+mod block_calls;
+mod block_exports;
+mod block_places;
+mod block_sends;
 mod calls;
 mod codes;
 mod exports;
@@ -16,6 +21,7 @@ mod numbers;
 mod place;
 mod sends;
 
+pub use block_exports::{phase_phaser_signal_block, phase_phaser_wait_block};
 pub use exports::{phase_phaser_free, phase_phaser_new, phase_phaser_signal, phase_phaser_wait};
 pub use handle::Handle;
 pub use member_exports::{

@@ -1,19 +1,17 @@
 //! eval GRAPH: writes what `phase eval GRAPH` does. A file of samples has a number a line.
-use phase::{Error, Sink, eval};
+use phase::{Error, Sink, eval, names};
 use std::{env, fmt::Write, fs, process::exit};
 
-/// What the lines of a good graph name: the file of each source, and each sink.
-fn names_of(graph: &str) -> (Vec<&str>, Vec<&str>) {
-    let (mut files, mut sinks) = (vec![], vec![]);
+/// The files that the lines of the sources name.
+fn files_of(graph: &str) -> Vec<&str> {
+    let mut files = vec![];
     for line in graph.lines() {
         let words: Vec<&str> = line.split([' ', '\t']).filter(|it| !it.is_empty()).collect();
-        match words.as_slice() {
-            ["source", _, file, ..] => files.push(*file),
-            ["sink", name, ..] => sinks.push(*name),
-            _ => {}
+        if let ["source", _, file, ..] = words.as_slice() {
+            files.push(*file);
         }
     }
-    (files, sinks)
+    files
 }
 
 /// The bytes of a file, which is text.
@@ -28,7 +26,7 @@ fn numbers(name: &str) -> Vec<i64> {
     text_of(name).lines().map_while(|line| line.parse().ok()).collect()
 }
 
-fn output(names: &[&str], sinks: &[Sink]) -> String {
+fn output(names: &[String], sinks: &[Sink]) -> String {
     let mut text = String::new();
     for (name, sink) in names.iter().zip(sinks) {
         let start = sink.start.map_or(String::new(), |phase| format!(" from {phase}"));
@@ -46,11 +44,11 @@ fn main() {
         exit(2)
     };
     let graph = text_of(&name);
-    let (files, names) = names_of(&graph);
-    let samples: Vec<Vec<i64>> = files.into_iter().map(numbers).collect();
+    let samples: Vec<Vec<i64>> = files_of(&graph).into_iter().map(numbers).collect();
     let sources: Vec<&[i64]> = samples.iter().map(Vec::as_slice).collect();
-    match eval(&graph, &sources) {
-        Ok(sinks) => print!("{}", output(&names, &sinks)),
+    let found = eval(&graph, &sources).and_then(|sinks| Ok((names(&graph)?.sinks, sinks)));
+    match found {
+        Ok((names, sinks)) => print!("{}", output(&names, &sinks)),
         Err(why) => {
             eprintln!("phase: {why}");
             exit(match why {

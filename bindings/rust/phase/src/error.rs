@@ -6,13 +6,28 @@ use std::fmt;
 #[derive(Clone, Copy, Debug, PartialEq, Eq)]
 pub enum Error {
     /// The graph's text has a fault: its first line with one, from 1 on, and the kind.
-    Graph { line: u64, kind: FaultKind },
+    Graph {
+        /// The line.
+        line: u64,
+        /// The kind.
+        kind: FaultKind,
+    },
     /// There is not one list of samples for each source, or one has more than 67,108,864.
     Counts,
     /// A sample is `i64::MIN`, which is none: its source, and its place there.
-    Sample { source: usize, at: usize },
+    Sample {
+        /// The source, from 0 on in the order of the lines.
+        source: usize,
+        /// The place of the sample, from 0 on.
+        at: usize,
+    },
     /// A value is out of range: the phase on the phaser, or the step of the task.
-    TooBig { place: Place, at: u64 },
+    TooBig {
+        /// The phaser or the task.
+        place: Place,
+        /// The phase or the step, from 0 on.
+        at: u64,
+    },
     /// Memory ran out.
     OutOfMemory,
 }
@@ -20,21 +35,32 @@ pub enum Error {
 /// A phaser or a task of a graph, each numbered from 0 on in the order of their lines.
 #[derive(Clone, Copy, Debug, PartialEq, Eq)]
 pub enum Place {
+    /// A phaser.
     Phaser(u64),
+    /// A task.
     Task(u64),
 }
 
 /// What is wrong with a line of a graph's text, as `docs/FORMATS.md` has it.
 #[derive(Clone, Copy, Debug, PartialEq, Eq)]
 pub enum FaultKind {
+    /// The line is not in the grammar.
     Syntax,
+    /// A number, or how many taps, outputs, inputs, phasers or tasks there are, is outside its limit.
     Limit,
+    /// A name was declared before, or one phaser stands twice on the line.
     Twice,
+    /// A name is declared nowhere above.
     Unknown,
+    /// An output is declared above an input.
     OutBeforeIn,
+    /// The parent is a task that registers none such.
     BadParent,
+    /// The parent does not wait or signal where the task does, or an output has a single.
     NotHeld,
+    /// A block is above the bound of a phaser of the line.
     OverBound,
+    /// Two tasks signal a phaser with `any` in one phase.
     AnyMeets,
 }
 
@@ -60,7 +86,9 @@ impl fmt::Display for Error {
             Error::Graph { line, kind } => write!(f, "graph line {line}: {kind}"),
             Error::Counts => f.write_str("not one list of samples for each source"),
             Error::Sample { source, at } => write!(f, "source {source}: sample {at} is i64::MIN"),
-            Error::TooBig { place: Place::Phaser(p), at } => write!(f, "too big at phaser {p} {at}"),
+            Error::TooBig { place: Place::Phaser(p), at } => {
+                write!(f, "too big at phaser {p} {at}")
+            }
             Error::TooBig { place: Place::Task(t), at } => write!(f, "too big at task {t} {at}"),
             Error::OutOfMemory => f.write_str("out of memory"),
         }

@@ -10,7 +10,10 @@ pub enum FirError {
     /// The output is shorter than the block.
     Room,
     /// So many values are right, and the next is out of range.
-    TooBig { done: usize },
+    TooBig {
+        /// How many values are right.
+        done: usize,
+    },
     /// Memory ran out.
     OutOfMemory,
 }

@@ -1,5 +1,5 @@
 //! Graphs of whole-number filters: the values of each sink, exactly, or the first that is out of
-//! range.
+//! range; and [phasers](Phaser) for one thread.
 //!
 //! ```
 //! let graph = "phaser x sum 4\n\
@@ -13,16 +13,22 @@
 //! ```
 //!
 //! The file behind a source's name is not read: its samples are the slice that is given.
+#![deny(missing_docs)]
 
 mod error;
 mod fir;
+mod phaser;
+mod phaser_error;
 
 pub use error::{Error, FaultKind, Place};
 pub use fir::{Fir, FirError};
 pub use phase_sys::PhaseCounts as Counts;
 use phase_sys::{
     PHASE_E_ROOM, PHASE_NO_START, PHASE_OK, PhaseCounts, PhaseFault, phase_check, phase_eval,
+    phase_names,
 };
+pub use phaser::{Got, GotBlock, Mode, Operation, Phaser, Single, Standing};
+pub use phaser_error::PhaserError;
 
 /// What a sink got.
 #[derive(Clone, Debug, PartialEq, Eq)]
@@ -50,6 +56,50 @@ pub fn check(graph: impl AsRef<[u8]>) -> Result<Counts, Error> {
         PHASE_OK => Ok(counts),
         status => Err(error::of(status, &fault, &[])),
     }
+}
+
+/// The names of a graph's sources and sinks, each in the order of their lines.
+#[derive(Clone, Debug, Default, PartialEq, Eq)]
+pub struct Names {
+    /// The names of the sources.
+    pub sources: Vec<String>,
+    /// The names of the sinks.
+    pub sinks: Vec<String>,
+}
+
+/// Returns the names of a graph's sources and sinks, as `eval` has their samples and values.
+///
+/// ```
+/// let names = phase::names("phaser x sum 4\nsource s s.csv -> x\nsink a x\nsink b x")?;
+/// assert_eq!(names.sources, ["s"]);
+/// assert_eq!(names.sinks, ["a", "b"]);
+/// # Ok::<(), phase::Error>(())
+/// ```
+pub fn names(graph: impl AsRef<[u8]>) -> Result<Names, Error> {
+    let text = graph.as_ref();
+    let sources = check(text)?.sources;
+    let mut fault = PhaseFault::default();
+    let mut needed = 0;
+    // Each name stands in the text with a byte behind it, but for one at its end.
+    let mut room = vec![0; text.len() + 1];
+    // SAFETY: each pointer and length are those of one slice, and the others are to values of this
+    // function.
+    let status = unsafe {
+        phase_names(
+            text.as_ptr(),
+            text.len(),
+            room.as_mut_ptr(),
+            room.len(),
+            &mut needed,
+            &mut fault,
+        )
+    };
+    if status != PHASE_OK {
+        return Err(error::of(status, &fault, &[]));
+    }
+    let written = String::from_utf8_lossy(&room[..needed]);
+    let mut names = written.lines().map(str::to_string);
+    Ok(Names { sources: names.by_ref().take(sources).collect(), sinks: names.collect() })
 }
 
 /// Returns what each sink got, in the order of the lines, from the samples of each source in theirs.
