@@ -1,12 +1,16 @@
 -- The drawing of a graph, as text for Graphviz.
-use Rattle.std.specs.Prelude.{ℕ, ◌==◌, Bool, if◌then◌else◌, List, [], ◌∷◌, ◌++◌, length, Option, None, Some, codes, decimal}
+use Rattle.std.specs.Prelude.{ℕ, ℤ, ◌==◌, ◌||◌, Bool, if◌then◌else◌, List, [], ◌∷◌, ◌++◌, length, Option, None, Some, codes, decimal}
+use Rattle.std.specs.Fmt.{signed_decimal}
 use Rattle.std.specs.List.{concat, flat_map, range_with_len}
 use Rattle.graph_lang.specs.phase_base.OperationWords.{operation_word}
-use Rattle.graph_lang.specs.graph_base.Graphs.{Graph, name_at, phaser_at, task_at}
+use Rattle.graph_lang.specs.phase_accum.declared.single.Single.{Single}
+use Rattle.graph_lang.specs.phase_accum.declared.single.Single.TheVariants as single
+use Rattle.graph_lang.specs.graph_base.Graphs.{Graph, name_at, phaser_at, task_at, file_at, source_number}
 use Rattle.graph_lang.specs.graph_base.Registrations.{signalled_by}
 use Rattle.graph_lang.specs.graph_base.declared.line.Kind.{Kind}
 use Rattle.graph_lang.specs.graph_base.declared.line.Kind.TheVariants.{Source, Fir, Split, Join, Peer, Sink}
 use Rattle.graph_lang.specs.graph_base.declared.line.Parent.{Parent}
+use Rattle.graph_lang.specs.graph_base.declared.line.PhaserLine.{PhaserLine}
 use Rattle.graph_lang.specs.graph_base.declared.place.Place.TheVariants as place
 
 -- the first word of the line of a task
@@ -20,43 +24,103 @@ kind_word Sink = codes "sink"
 
 -- ---- nodes
 
--- an ellipse with a name, and below it an operation and a bound
-abbrev pub ellipse : List ℕ → List ℕ → List ℕ → List ℕ
-ellipse name operation bound =
-    concat (codes "    \"" ∷ name ∷ codes "\" [shape=ellipse, label=\"" ∷ name ∷ codes "\\n"
-    ∷ operation ∷ codes " " ∷ bound ∷ codes "\"];\n" ∷ [])
+-- what stands on a line of its own below a name
+abbrev pub note : List ℕ → List ℕ
+note text = codes "\\n" ++ text
+
+-- a byte within quotes
+abbrev pub quoted : ℕ → List ℕ
+quoted b = if (b == 34) || (b == 92) then 92 ∷ b ∷ [] else b ∷ []
+
+-- a clamp with its ends
+abbrev pub clamp_note : ℤ → ℤ → List ℕ
+clamp_note low high =
+    note (codes "clamp " ++ signed_decimal low ++ codes " " ++ signed_decimal high)
+
+-- the ends of a single that is a clamp
+abbrev pub clamp_ends : Single → Option (ℤ × ℤ)
+clamp_ends single.Neg = None
+clamp_ends single.Abs = None
+clamp_ends single.Halve = None
+clamp_ends (single.Clamp range) = Some range
+
+-- the single of a phaser, by its word
+abbrev pub single_note : Option Single → List ℕ
+single_note None = []
+single_note (Some single.Neg) = note (codes "neg")
+single_note (Some single.Abs) = note (codes "abs")
+single_note (Some single.Halve) = note (codes "halve")
+single_note (Some (single.Clamp range)) = clamp_note range.0 range.1
+
+-- what an ellipse says of a phaser
+abbrev pub phaser_notes : PhaserLine → List ℕ
+phaser_notes line =
+    note (operation_word line.op ++ codes " " ++ decimal line.bound) ++ single_note line.single
+
+-- the file of a source
+abbrev pub file_note : Graph → ℕ → List ℕ
+file_note graph t =
+    note (flat_map quoted (file_at graph (source_number graph.tasks t)))
+
+-- a tap behind a space
+abbrev pub tap_text : ℤ → List ℕ
+tap_text tap = codes " " ++ signed_decimal tap
+
+-- the shift and the taps of a filter
+abbrev pub taps_note : ℕ → List ℤ → List ℕ
+taps_note shift taps =
+    note (codes "shift " ++ decimal shift ++ note (codes "taps")) ++ flat_map tap_text taps
+
+-- what a box says of a task of this kind alone
+abbrev pub kind_notes : Graph → ℕ → Kind → List ℕ
+kind_notes graph t Source = file_note graph t
+kind_notes graph t Fir = taps_note (task_at graph t).shift (task_at graph t).taps
+kind_notes graph t Split = []
+kind_notes graph t Join = []
+kind_notes graph t Peer = note (codes "mul " ++ signed_decimal (task_at graph t).mul)
+kind_notes graph t Sink = []
+
+-- how many steps a task makes at most
+abbrev pub until_note : Option ℕ → List ℕ
+until_note None = []
+until_note (Some steps) = note (codes "until " ++ decimal steps)
+
+-- whether a task joins now
+abbrev pub now_note : Bool → List ℕ
+now_note joins_now = if joins_now then note (codes "now") else []
+
+-- the steps of a block, where they are several
+abbrev pub block_note : ℕ → List ℕ
+block_note block = if block == 1 then [] else note (codes "block " ++ decimal block)
+
+-- what a box says of a task
+abbrev pub task_notes : Graph → ℕ → List ℕ
+task_notes graph t =
+    let task = task_at graph t in
+    note (kind_word task.kind) ++ kind_notes graph t task.kind ++ until_note task.until
+    ++ now_note task.joins_now ++ block_note task.block
+
+-- how the node of a name begins that has this shape
+abbrev pub node_start : List ℕ → List ℕ → List ℕ
+node_start name shape =
+    concat (codes "    \"" ∷ name ∷ codes "\" [shape=" ∷ shape ∷ codes ", label=\"" ∷ name ∷ [])
+
+-- and how it ends
+abbrev pub node_end : List ℕ
+node_end = codes "\"];\n"
+
+-- a node of this name and shape, which says these notes below the name
+abbrev pub node : List ℕ → List ℕ → List ℕ → List ℕ
+node name shape notes = node_start name shape ++ (notes ++ node_end)
 
 -- phaser p
 abbrev pub phaser_node : Graph → ℕ → List ℕ
 phaser_node graph p =
-    let line = phaser_at graph p in
-    ellipse (name_at graph (place.Phaser p)) (operation_word line.op) (decimal line.bound)
-
--- what a box says, below the kind, of a task that joins now
-abbrev pub now_note : Bool → List ℕ
-now_note joins_now = if joins_now then codes "\\nnow" else []
-
--- what it says before the steps of a block, where they are several
-abbrev pub block_sign : ℕ → List ℕ
-block_sign block = if block == 1 then [] else codes "\\nblock "
-
--- these steps, where they are several
-abbrev pub block_steps : ℕ → List ℕ
-block_steps block = if block == 1 then [] else decimal block
-
--- a box with a name, below it a kind, and below that what is said of a task that joins now and of
--- the steps of a block
-abbrev pub box : List ℕ → List ℕ → List ℕ → List ℕ → List ℕ → List ℕ
-box name kind now sign steps =
-    concat (codes "    \"" ∷ name ∷ codes "\" [shape=box, label=\"" ∷ name ∷ codes "\\n"
-    ∷ kind ∷ now ∷ sign ∷ steps ∷ codes "\"];\n" ∷ [])
+    node (name_at graph (place.Phaser p)) (codes "ellipse") (phaser_notes (phaser_at graph p))
 
 -- task t
 abbrev pub task_node : Graph → ℕ → List ℕ
-task_node graph t =
-    let task = task_at graph t in
-    box (name_at graph (place.Task t)) (kind_word task.kind) (now_note task.joins_now)
-    (block_sign task.block) (block_steps task.block)
+task_node graph t = node (name_at graph (place.Task t)) (codes "box") (task_notes graph t)
 
 -- ---- arrows
 
@@ -78,15 +142,15 @@ dashed from to step =
     concat (codes "    \"" ∷ from ∷ codes "\" -> \"" ∷ to
     ∷ codes "\" [style=dashed, label=\"at " ∷ step ∷ codes "\"];\n" ∷ [])
 
--- a child is dashed to its parent, which registers it after so many steps
+-- a parent is dashed to its child, which it registers after so many steps
 abbrev pub parent_arrow : Graph → ℕ → Option Parent → List ℕ
 parent_arrow graph t None = []
 parent_arrow graph t (Some parent) =
-    dashed (name_at graph (place.Task t)) (name_at graph (place.Task parent.task))
+    dashed (name_at graph (place.Task parent.task)) (name_at graph (place.Task t))
     (decimal parent.at)
 
 -- the arrows of task t: one from each phaser on which it waits, one to each that it signals, and
--- one to its parent
+-- one from its parent
 abbrev pub task_arrows : Graph → ℕ → List ℕ
 task_arrows graph t =
     let task = task_at graph t in

@@ -2,25 +2,35 @@
 
 use crate::explain_parts::Part;
 use crate::grammar::{Known, Reading};
+use crate::names::are_near;
 use graph_lang::graph_text::{Version, begins_comment, is_heading, without_cr, words_of};
 use std::alloc::{AllocError, Global};
 
 /// The words of each line above, each with what it is, but for the heading and the lines that are
-/// ignored; and the version of the text, where one of them tells it.
+/// ignored, with its number, counted from 1; and the version of the text, where one of them tells it.
 #[derive(Drop)]
 pub(crate) struct Above<'a> {
     lines: Vec<Vec<Known<'a>>>,
+    numbers: Vec<usize>,
     pub(crate) known: Option<Version>,
 }
 
-/// Whether a line of these words declares the name.
-fn declares(line: &[Known<'_>], name: &[u8]) -> bool {
+/// The name that a line of these words declares.
+fn own_of<'a>(line: &[Known<'a>]) -> Option<&'a [u8]> {
     for (part, word) in line {
-        if matches!(part, Part::Own) && *word == name {
-            return true;
+        if matches!(part, Part::Own) {
+            return Some(*word);
         }
     }
-    false
+    None
+}
+
+/// Whether a line of these words declares the name.
+pub(crate) fn declares(line: &[Known<'_>], name: &[u8]) -> bool {
+    match own_of(line) {
+        Some(own) => own == name,
+        None => false,
+    }
 }
 
 /// Whether a line of these words declares a phaser.
@@ -66,17 +76,18 @@ impl<'a> Above<'a> {
     pub(crate) fn of(alloc: Global, lines: &[&'a [u8]]) -> Result<Above<'a>, AllocError> {
         let mut above = Above {
             lines: Vec::new(alloc),
+            numbers: Vec::new(alloc),
             known: None,
         };
-        for line in lines {
-            let words = words_of(alloc, without_cr(*line))?;
-            above.add(alloc, &words)?;
+        for index in 0..lines.len() {
+            let words = words_of(alloc, without_cr(lines[index]))?;
+            above.add(alloc, &words, index.saturating_add(1))?;
         }
         Ok(above)
     }
 
-    /// Adds a line of these words, where it is not ignored.
-    fn add(&mut self, alloc: Global, words: &[&'a [u8]]) -> Result<(), AllocError> {
+    /// Adds a line of these words and of this number, where it is not ignored.
+    fn add(&mut self, alloc: Global, words: &[&'a [u8]], number: usize) -> Result<(), AllocError> {
         if begins_comment(words) {
             return Ok(());
         }
@@ -86,6 +97,7 @@ impl<'a> Above<'a> {
         }
         self.known = Some(self.version());
         let reading = Reading::of(alloc, words, self.known)?;
+        self.numbers.push(number)?;
         self.lines.push(reading.found)?;
         Ok(())
     }
@@ -93,6 +105,37 @@ impl<'a> Above<'a> {
     /// The version of the text: the first, where no line above tells it.
     pub(crate) fn version(&self) -> Version {
         self.known.unwrap_or(Version::One)
+    }
+
+    /// The number of the line that declares a name, counted from 1 in the text, or 0 where none does.
+    pub(crate) fn line_of(&self, name: &[u8]) -> usize {
+        match self.place_of(name) {
+            Some(i) if i < self.numbers.len() => self.numbers[i],
+            _ => 0,
+        }
+    }
+
+    /// A name that becomes this one by so many edits, fewer than this one has bytes, where one is
+    /// declared, as that of a phaser or else as that of a task.
+    fn near(&self, name: &[u8], edits: usize, is_phaser: bool) -> Option<&'a [u8]> {
+        for line in &self.lines {
+            if let Some(own) = own_of(line) {
+                let is_asked = is_of_phaser(line) == is_phaser && edits < name.len();
+                if is_asked && are_near(own, name, edits) {
+                    return Some(own);
+                }
+            }
+        }
+        None
+    }
+
+    /// The first of the names that are declared, as that of a phaser or else as that of a task, that
+    /// becomes this one by one edit, or else by two.
+    pub(crate) fn nearest(&self, name: &[u8], is_phaser: bool) -> Option<&'a [u8]> {
+        match self.near(name, 1, is_phaser) {
+            Some(near) => Some(near),
+            None => self.near(name, 2, is_phaser),
+        }
     }
 
     /// The number of the line that declares a name, among these.

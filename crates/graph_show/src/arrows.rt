@@ -111,7 +111,7 @@ fn put_dashed<'a>(
     put(text, parts.as_slice())
 }
 
-/// Puts the arrow of a child, task number `t`, to its parent behind the text.
+/// Puts the arrow to a child, task number `t`, from its parent behind the text.
 fn put_parent(
     text: &mut Vec<u8>,
     graph: &Graph,
@@ -128,7 +128,7 @@ fn put_parent(
     let child = graph.name(Place::Task(t));
     let mut buffer = Buffer::new();
     let step = buffer.format(parent.at);
-    put_dashed(text, child, graph.name(Place::Task(parent.task)), step)
+    put_dashed(text, graph.name(Place::Task(parent.task)), child, step)
 }
 
 /// Puts the arrows of task number `t` behind the text.

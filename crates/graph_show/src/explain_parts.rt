@@ -1,5 +1,6 @@
 //! What may stand at a place of a line, and what a person is told of it.
 
+use crate::wanted::Wanted;
 use graph_lang::Op;
 use graph_lang::phase_base::{is_digit, is_file, is_name};
 
@@ -62,7 +63,7 @@ fn is_signed(word: &[u8]) -> bool {
 }
 
 /// Whether the word is the first of a line.
-fn is_kind(word: &[u8]) -> bool {
+pub(crate) fn is_kind(word: &[u8]) -> bool {
     word == b"phaser".as_slice()
         || word == b"source".as_slice()
         || word == b"fir".as_slice()
@@ -70,6 +71,23 @@ fn is_kind(word: &[u8]) -> bool {
         || word == b"join".as_slice()
         || word == b"peer".as_slice()
         || word == b"sink".as_slice()
+}
+
+/// Whether the word is one of the grammar, and so no name.
+fn is_of_grammar(word: &[u8]) -> bool {
+    is_kind(word)
+        || word == b"by".as_slice()
+        || word == b"at".as_slice()
+        || word == b"until".as_slice()
+        || word == b"shift".as_slice()
+        || word == b"taps".as_slice()
+        || word == b"mul".as_slice()
+        || word == b"single".as_slice()
+}
+
+/// Whether the word is an arrow.
+fn is_arrow(word: &[u8]) -> bool {
+    word == b"->".as_slice() || word == b"<->".as_slice()
 }
 
 /// Whether the word is the function of a single.
@@ -122,8 +140,27 @@ impl Part {
         matches!(self, Part::Output | Part::Outputs | Part::Exchange)
     }
 
-    /// What may stand there, for a person.
-    pub(crate) fn told(self) -> &'static str {
+    /// Whether a phaser stands there.
+    fn is_of_phaser(self) -> bool {
+        self.is_input() || self.is_output()
+    }
+
+    /// Whether a name stands there.
+    fn is_named(self) -> bool {
+        self.is_of_phaser() || matches!(self, Part::Own | Part::Parent)
+    }
+
+    /// What is missing there, for a person, where a name is.
+    fn missing(self) -> &'static str {
+        match self {
+            Part::Own => "a name",
+            Part::Parent => "the name of a task",
+            _ => "the name of a phaser",
+        }
+    }
+
+    /// What may stand there, for a person, of which a name has to be one of its letters.
+    fn told(self) -> &'static str {
         match self {
             Part::Kind => "`phaser`, `source`, `fir`, `split`, `join`, `peer` or `sink`",
             Part::Operation => "`sum`, `product`, `least`, `greatest` or `any`",
@@ -137,6 +174,47 @@ impl Part {
             _ => {
                 "a name: a letter, then letters, digits and _, at most 32 in all, and no word of the grammar"
             }
+        }
+    }
+
+    /// What is said of a comment that stands there.
+    fn for_comment(self) -> Wanted<'static> {
+        match self {
+            Part::End(_) => Wanted::text("the end of the line: a comment has a line of its own"),
+            Part::Sign(sign) => {
+                Wanted::with_word(
+                    "`",
+                    sign,
+                    b"".as_slice(),
+                    "`; a comment has a line of its own",
+                )
+            }
+            _ => Wanted::with_word(
+                self.told(),
+                "; a comment has a line of its own",
+                b"".as_slice(),
+                "",
+            ),
+        }
+    }
+
+    /// What is wanted there, for a person, where this word stands instead, or none, which is empty.
+    pub(crate) fn wanted_for<'a>(self, word: &'a [u8]) -> Wanted<'a> {
+        if word.starts_with(b"#") {
+            return self.for_comment();
+        }
+        if self.is_named() && is_arrow(word) {
+            return Wanted::with_word(self.missing(), " before `", word, "`");
+        }
+        if self.is_named() && is_of_grammar(word) {
+            return Wanted::with_word("a name, and `", "", word, "` is a word of the grammar");
+        }
+        if word.is_empty() && (self.is_of_phaser() || matches!(self, Part::Parent)) {
+            return Wanted::text(self.missing());
+        }
+        match self {
+            Part::Sign(sign) => Wanted::with_word("`", sign, b"".as_slice(), "`"),
+            _ => Wanted::text(self.told()),
         }
     }
 }

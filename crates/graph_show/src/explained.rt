@@ -4,10 +4,13 @@ ghost use Rattle.std.specs.List.{flat_map};
 ghost use Rattle.graph_show.specs.Explanations.{ExplainsLine, Marks, blank_under, marked_text, shown};
 
 use crate::above::Above;
+use crate::below::Below;
 use crate::grammar::Reading;
-use crate::mark::mark_of;
+use crate::mark::{Mark, mark_of};
+use crate::parts::put;
 use graph_lang::graph_text::{are_printable, lines_of, without_cr, words_of};
 use graph_lang::{FaultKind, GraphFault};
+use itoa::Buffer;
 use std::alloc::{AllocError, Global};
 
 /// A byte as it is shown.
@@ -51,7 +54,7 @@ fn marked(
     line: &[u8],
     start: usize,
     count: usize,
-    wanted: &str,
+    wanted: &[u8],
 ) -> Result<Vec<u8>, AllocError>
     requires { start ≤ length line.now }
     ensures { IfOk result (λ text. text.items ≡ marked_text line.now start count wanted.now) }
@@ -66,7 +69,7 @@ fn marked(
         &blanks,
         &marks,
         b"\n  expected: ",
-        wanted.as_bytes(),
+        wanted,
         b"\n",
     ];
     joined(alloc, parts.as_slice())
@@ -103,28 +106,44 @@ fn bad_byte_of(line: &[u8]) -> usize
     line.len()
 }
 
-/// Explains a fault of a line, by the lines above it.
-fn line_explained(
+/// The longest line whose words nobody has to count, in bytes.
+const SHORT_MAX: usize = 100;
+
+/// What was expected at a mark, and the number of its word, counted from 1, where the line is long.
+fn wanted_at(alloc: Global, line: &[u8], mark: Mark<'_>) -> Result<Vec<u8>, AllocError> {
+    let mut wanted = mark.wanted.told(alloc)?;
+    if line.len() > SHORT_MAX {
+        let mut buffer = Buffer::new();
+        let number = buffer.format(mark.word.saturating_add(1));
+        put(&mut wanted, [" (word ", number, ")"].as_slice())?;
+    }
+    Ok(wanted)
+}
+
+/// Explains a fault of a line, by the lines above it and those below.
+fn line_explained<'a>(
     alloc: Global,
-    above: &[&[u8]],
-    line: &[u8],
+    above: &[&'a [u8]],
+    below: &Below<'_, 'a>,
+    line: &'a [u8],
     kind: FaultKind,
 ) -> Result<Vec<u8>, AllocError>
     ensures { IfOk result (λ text. Marks line.now text.items) }
 {
     if !are_printable(line) {
-        let wanted = "bytes from 33 to 126, spaces and tabs alone";
+        let wanted = b"bytes from 33 to 126, spaces and tabs alone";
         return marked(alloc, line, bad_byte_of(line), 1, wanted);
     }
     let words = words_of(alloc, line)?;
     let above = Above::of(alloc, above)?;
     let reading = Reading::of(alloc, &words, above.known)?;
-    let mark = mark_of(kind, &reading, &above);
+    let mark = mark_of(alloc, kind, &reading, &above, below)?;
     let count = match words.get(mark.word) {
         Some(word) => word.len(),
         None => 1,
     };
-    marked(alloc, line, start_of(line, mark.word), count, mark.wanted)
+    let wanted = wanted_at(alloc, line, mark)?;
+    marked(alloc, line, start_of(line, mark.word), count, &wanted)
 }
 
 /// Explains the first fault of a graph's text: gives the faulty line, a mark under the word that is at
@@ -144,5 +163,15 @@ pub fn explanation(alloc: Global, text: &[u8], fault: GraphFault) -> Result<Vec<
         return Ok(Vec::new(alloc));
     }
     let index = (fault.line - 1) as usize;
-    line_explained(alloc, &lines[..index], without_cr(lines[index]), fault.kind)
+    let below = Below {
+        lines: &lines,
+        first: index.saturating_add(1),
+    };
+    line_explained(
+        alloc,
+        &lines[..index],
+        &below,
+        without_cr(lines[index]),
+        fault.kind,
+    )
 }

@@ -212,7 +212,7 @@ impl<'w, 'a> Reading<'w, 'a> {
     }
 
     /// The first word that was not read, or an empty one.
-    fn next(&self) -> &'a [u8] {
+    pub(crate) fn next(&self) -> &'a [u8] {
         match self.words.get(self.found.len()) {
             Some(word) => *word,
             None => b"".as_slice(),

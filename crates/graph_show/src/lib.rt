@@ -1,9 +1,9 @@
 //! A graph and its faults, for people: its drawing, and what explains a fault of its text.
 //!
-//! The drawing is text for Graphviz: phasers as ellipses with their operation and bound, tasks as
-//! boxes with their kind, with the steps of a block and with `now` where a line has them, an arrow
-//! for each wait and each signal, and children dashed to their parents. `write_drawing` writes it;
-//! `drawing_text` gives it as bytes.
+//! The drawing is text for Graphviz: phasers as ellipses with their operation, bound and single,
+//! tasks as boxes with their kind and what their line says of file, shift and taps, factor, `until`,
+//! `now` and block, an arrow for each wait and each signal, and parents dashed to their children.
+//! `write_drawing` writes it; `drawing_text` gives it as bytes.
 //!
 //! A fault is explained by its line, with the word that is at fault marked, and by what was expected
 //! in its place: by `explanation`.
@@ -14,14 +14,18 @@
 
 mod above;
 mod arrows;
+mod below;
 mod drawing;
 mod explain_parts;
 mod explained;
 mod grammar;
 mod limits;
 mod mark;
+mod names;
 mod nodes;
+mod notes;
 mod parts;
+mod wanted;
 
 pub use drawing::{drawing_text, write_drawing};
 pub use explained::explanation;

@@ -1,36 +1,71 @@
 //! Which word of a line a fault marks, and what was expected there.
 
-use crate::above::Above;
+use crate::above::{Above, declares};
+use crate::below::Below;
 use crate::explain_parts::Part;
 use crate::grammar::{Known, Reading};
 use crate::limits::{count_passed, limit_passed};
+use crate::wanted::Wanted;
 use graph_lang::FaultKind;
 use graph_lang::graph_text::Version;
+use std::alloc::{AllocError, Global};
 
-/// The number of a word of a line, and what was expected in its place.
+/// The number of a word of the line, counted from 0, and what was expected in its place.
 #[derive(Clone, Copy)]
-pub(crate) struct Mark {
+pub(crate) struct Mark<'a> {
     pub(crate) word: usize,
-    pub(crate) wanted: &'static str,
+    pub(crate) wanted: Wanted<'a>,
+}
+
+impl<'a> Mark<'a> {
+    /// This word, and this text.
+    fn text(word: usize, text: &'static str) -> Mark<'a> {
+        Mark {
+            word,
+            wanted: Wanted::text(text),
+        }
+    }
 }
 
 /// The first word of these that fails a test of words, or the first word of the line.
-pub(crate) fn mark_of(kind: FaultKind, reading: &Reading<'_, '_>, above: &Above<'_>) -> Mark {
+pub(crate) fn mark_of<'a>(
+    alloc: Global,
+    kind: FaultKind,
+    reading: &Reading<'_, 'a>,
+    above: &Above<'a>,
+    below: &Below<'_, 'a>,
+) -> Result<Mark<'a>, AllocError> {
     let found = reading.found.as_slice();
-    match kind {
-        FaultKind::Syntax => Mark {
-            word: found.len(),
-            wanted: reading.wanted.told(),
-        },
+    let mark = match kind {
+        FaultKind::Syntax => syntax_mark(reading),
         FaultKind::Limit => limit_mark(found),
         FaultKind::Twice => twice_mark(found, above),
-        FaultKind::Unknown => unknown_mark(found, above),
+        FaultKind::Unknown => return unknown_mark(alloc, found, above, below),
         FaultKind::OutBeforeIn => order_mark(found, above),
         FaultKind::BadParent => parent_mark(found, parent_wanted(above.version())),
         FaultKind::NotHeld => held_mark(found, above),
         FaultKind::OverBound => block_mark(found),
         FaultKind::AnyMeets => meeting_mark(found, above),
+    };
+    Ok(mark)
+}
+
+/// Whether the last of these words is an arrow that was taken for the name of a file.
+fn is_behind_file_arrow(found: &[Known<'_>]) -> bool {
+    match found.last() {
+        Some((part, word)) => matches!(*part, Part::File) && *word == b"->".as_slice(),
+        None => false,
     }
+}
+
+/// The first word that is not in the grammar, or an arrow that was taken for the name of a file.
+fn syntax_mark<'a>(reading: &Reading<'_, 'a>) -> Mark<'a> {
+    let word = reading.found.len();
+    if is_behind_file_arrow(&reading.found) {
+        return Mark::text(word.saturating_sub(1), "the name of a file before `->`");
+    }
+    let wanted = reading.wanted.wanted_for(reading.next());
+    Mark { word, wanted }
 }
 
 /// How many words of a line are counted together with this part.
@@ -45,15 +80,15 @@ fn count_of(found: &[Known<'_>], part: Part) -> usize {
 }
 
 /// The first number past its limit, or the first of too many or too few words.
-fn limit_mark(found: &[Known<'_>]) -> Mark {
+fn limit_mark<'a>(found: &[Known<'a>]) -> Mark<'a> {
     let mut number = 0usize;
     for word in 0..found.len() {
         let (part, text) = found[word];
         if let Some(wanted) = limit_passed(part, text) {
-            return Mark { word, wanted };
+            return Mark::text(word, wanted);
         }
         if let Some(wanted) = count_passed(part, number, count_of(found, part)) {
-            return Mark { word, wanted };
+            return Mark::text(word, wanted);
         }
         if part.is_repeated() {
             number = number.saturating_add(1);
@@ -63,19 +98,13 @@ fn limit_mark(found: &[Known<'_>]) -> Mark {
 }
 
 /// The high end of a clamp, or the first word of a line for which the graph has no room.
-fn end_mark(found: &[Known<'_>]) -> Mark {
+fn end_mark<'a>(found: &[Known<'a>]) -> Mark<'a> {
     for word in 0..found.len() {
         if let (Part::High, _) = found[word] {
-            return Mark {
-                word,
-                wanted: "an end that is not below the other",
-            };
+            return Mark::text(word, "an end that is not below the other");
         }
     }
-    Mark {
-        word: 0,
-        wanted: "at most 64 phasers and 64 tasks",
-    }
+    Mark::text(0, "at most 64 phasers and 64 tasks")
 }
 
 /// Whether one of these words is the same phaser.
@@ -89,40 +118,109 @@ fn is_among(found: &[Known<'_>], name: &[u8]) -> bool {
 }
 
 /// The name that was declared before, or the phaser that stands twice.
-fn twice_mark(found: &[Known<'_>], above: &Above<'_>) -> Mark {
+fn twice_mark<'a>(found: &[Known<'a>], above: &Above<'a>) -> Mark<'a> {
     for word in 0..found.len() {
         let (part, name) = found[word];
         if matches!(part, Part::Own) && above.place_of(name).is_some() {
-            let wanted = "a name that no line above declares";
+            let line = above.line_of(name);
+            let wanted = Wanted::with_line(
+                "a name that no line above declares",
+                line,
+                " declares it",
+            );
             return Mark { word, wanted };
         }
         if (part.is_input() || part.is_output()) && is_among(&found[..word], name) {
-            let wanted = "a phaser that does not stand on the line already";
-            return Mark { word, wanted };
+            return Mark::text(word, "a phaser that does not stand on the line already");
         }
     }
-    Mark {
-        word: 1,
-        wanted: "another name",
-    }
+    Mark::text(1, "another name")
 }
 
 /// The phaser or the parent that no line above declares.
-fn unknown_mark(found: &[Known<'_>], above: &Above<'_>) -> Mark {
+fn unknown_mark<'a>(
+    alloc: Global,
+    found: &[Known<'a>],
+    above: &Above<'a>,
+    below: &Below<'_, 'a>,
+) -> Result<Mark<'a>, AllocError> {
     for word in 0..found.len() {
         let (part, name) = found[word];
         if (part.is_input() || part.is_output()) && !above.is_phaser(name) {
-            let wanted = "a phaser that a line above declares";
-            return Mark { word, wanted };
+            let wanted = if declares(found, name) {
+                task_for_phaser(name)
+            } else {
+                phaser_wanted(alloc, name, above, below)?
+            };
+            return Ok(Mark { word, wanted });
         }
         if matches!(part, Part::Parent) && !above.is_task(name) {
-            let wanted = "a task that a line above declares";
-            return Mark { word, wanted };
+            let wanted = task_wanted(alloc, name, above, below)?;
+            return Ok(Mark { word, wanted });
         }
     }
-    Mark {
-        word: 1,
-        wanted: "names that lines above declare",
+    Ok(Mark::text(1, "names that lines above declare"))
+}
+
+/// What is wanted of a phaser, where the name is that of a task.
+fn task_for_phaser(name: &[u8]) -> Wanted<'_> {
+    Wanted::with_word(
+        "a phaser that a line above declares",
+        ": ",
+        name,
+        " is a task",
+    )
+}
+
+/// What is wanted of a phaser, where no line above declares one of this name.
+fn phaser_wanted<'a>(
+    alloc: Global,
+    name: &'a [u8],
+    above: &Above<'a>,
+    below: &Below<'_, 'a>,
+) -> Result<Wanted<'a>, AllocError> {
+    let wanted = "a phaser that a line above declares";
+    if above.is_task(name) {
+        return Ok(task_for_phaser(name));
+    }
+    if let Some(found) = below.declared(alloc, name)? {
+        let behind = if found.is_phaser {
+            " declares it, below"
+        } else {
+            " declares it, as a task"
+        };
+        return Ok(Wanted::with_line(wanted, found.line, behind));
+    }
+    Ok(nearest_wanted(wanted, above.nearest(name, true)))
+}
+
+/// What is wanted of a parent, where no line above declares a task of this name.
+fn task_wanted<'a>(
+    alloc: Global,
+    name: &'a [u8],
+    above: &Above<'a>,
+    below: &Below<'_, 'a>,
+) -> Result<Wanted<'a>, AllocError> {
+    let wanted = "a task that a line above declares";
+    if above.is_phaser(name) {
+        return Ok(Wanted::with_word(wanted, ": ", name, " is a phaser"));
+    }
+    if let Some(found) = below.declared(alloc, name)? {
+        let behind = if found.is_phaser {
+            " declares it, as a phaser"
+        } else {
+            " declares it, below"
+        };
+        return Ok(Wanted::with_line(wanted, found.line, behind));
+    }
+    Ok(nearest_wanted(wanted, above.nearest(name, false)))
+}
+
+/// This text, and the name that is near, where there is one.
+fn nearest_wanted<'a>(wanted: &'static str, near: Option<&'a [u8]>) -> Wanted<'a> {
+    match near {
+        Some(name) => Wanted::with_word(wanted, ": is `", name, "` meant?"),
+        None => Wanted::text(wanted),
     }
 }
 
@@ -142,7 +240,7 @@ fn lowest_input(found: &[Known<'_>], above: &Above<'_>) -> usize {
 }
 
 /// The output that is declared above an input.
-fn order_mark(found: &[Known<'_>], above: &Above<'_>) -> Mark {
+fn order_mark<'a>(found: &[Known<'a>], above: &Above<'_>) -> Mark<'a> {
     let mut lowest = lowest_input(found, above);
     for word in 0..found.len() {
         let (part, name) = found[word];
@@ -150,27 +248,24 @@ fn order_mark(found: &[Known<'_>], above: &Above<'_>) -> Mark {
             let place = above.place_of(name).unwrap_or(0);
             if place < lowest {
                 let wanted = "a phaser that is declared below those before it on the line";
-                return Mark { word, wanted };
+                return Mark::text(word, wanted);
             }
             if matches!(part, Part::Exchange) {
                 lowest = place;
             }
         }
     }
-    Mark {
-        word: 1,
-        wanted: "outputs that are declared below the inputs",
-    }
+    Mark::text(1, "outputs that are declared below the inputs")
 }
 
 /// The parent.
-fn parent_mark(found: &[Known<'_>], wanted: &'static str) -> Mark {
+fn parent_mark<'a>(found: &[Known<'a>], wanted: &'static str) -> Mark<'a> {
     for word in 0..found.len() {
         if let (Part::Parent, _) = found[word] {
-            return Mark { word, wanted };
+            return Mark::text(word, wanted);
         }
     }
-    Mark { word: 1, wanted }
+    Mark::text(1, wanted)
 }
 
 /// What is wanted of a parent in a text of this version.
@@ -182,23 +277,23 @@ fn parent_wanted(version: Version) -> &'static str {
 }
 
 /// The block that is above a bound.
-fn block_mark(found: &[Known<'_>]) -> Mark {
+fn block_mark<'a>(found: &[Known<'a>]) -> Mark<'a> {
     let wanted = "at most as many steps as the bound of each phaser of the line";
     for word in 0..found.len() {
         if let (Part::Block, _) = found[word] {
-            return Mark { word, wanted };
+            return Mark::text(word, wanted);
         }
     }
-    Mark { word: 1, wanted }
+    Mark::text(1, wanted)
 }
 
 /// The output with a single, or the parent that lacks what its child needs.
-fn held_mark(found: &[Known<'_>], above: &Above<'_>) -> Mark {
+fn held_mark<'a>(found: &[Known<'a>], above: &Above<'_>) -> Mark<'a> {
     for word in 0..found.len() {
         let (part, name) = found[word];
         if matches!(part, Part::Output | Part::Outputs) && above.has_single(name) {
             let wanted = "a phaser with no single";
-            return Mark { word, wanted };
+            return Mark::text(word, wanted);
         }
     }
     parent_mark(
@@ -208,13 +303,13 @@ fn held_mark(found: &[Known<'_>], above: &Above<'_>) -> Mark {
 }
 
 /// The first output on which the task may meet another.
-fn meeting_mark(found: &[Known<'_>], above: &Above<'_>) -> Mark {
+fn meeting_mark<'a>(found: &[Known<'a>], above: &Above<'_>) -> Mark<'a> {
     let wanted = "a phaser that no task of a line above signals in the same phase";
     for word in 0..found.len() {
         let (part, name) = found[word];
         if part.is_output() && above.may_meet(name) {
-            return Mark { word, wanted };
+            return Mark::text(word, wanted);
         }
     }
-    Mark { word: 1, wanted }
+    Mark::text(1, wanted)
 }

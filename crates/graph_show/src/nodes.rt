@@ -2,9 +2,11 @@
 ghost use Rattle.std.specs.Prelude.{◌≡◌, ◌++◌, ◌<◌, length, OnOk};
 ghost use Rattle.std.specs.List.{flat_map, range_with_len};
 ghost use Rattle.graph_lang.specs.phase_base.OperationWords.{operation_word};
-ghost use Rattle.graph_show.specs.Drawings.{box, ellipse, kind_word, now_note, phaser_node, task_node};
+ghost use Rattle.graph_show.specs.Drawings.{kind_word, node_end, node_start, phaser_node, phaser_notes, task_node, task_notes};
 
+use crate::notes::{put_block_note, put_kind_notes, put_now_note, put_single_note, put_until_note};
 use crate::parts::put;
+use graph_lang::graph_base::PhaserLine;
 use graph_lang::{Graph, Kind, Op, Place};
 use itoa::Buffer;
 use std::alloc::AllocError;
@@ -36,28 +38,30 @@ fn kind_word(kind: Kind) -> &'static str
     }
 }
 
-/// Puts a phaser's node behind the text.
-fn put_ellipse<'a>(
-    text: &mut Vec<u8>,
-    name: &'a str,
-    operation: &'a str,
-    bound: &'a str,
-) -> Result<(), AllocError>
-    ensures ok { OnOk result (text.new.items
-        ≡ text.old.items ++ ellipse name.now operation.now bound.now) }
+/// Puts the first part of a node behind the text: its name and shape.
+fn put_start(text: &mut Vec<u8>, name: &str, shape: &str) -> Result<(), AllocError>
+    ensures ok { OnOk result (text.new.items ≡ text.old.items ++ node_start name.now shape.now) }
 {
-    let parts = [
-        "    \"",
-        name,
-        "\" [shape=ellipse, label=\"",
-        name,
-        "\\n",
-        operation,
-        " ",
-        bound,
-        "\"];\n",
-    ];
+    let parts = ["    \"", name, "\" [shape=", shape, ", label=\"", name];
     put(text, parts.as_slice())
+}
+
+/// Puts the last part of a node behind the text.
+fn put_end(text: &mut Vec<u8>) -> Result<(), AllocError>
+    ensures ok { OnOk result (text.new.items ≡ text.old.items ++ node_end) }
+{
+    put(text, ["\"];\n"].as_slice())
+}
+
+/// Puts what the node of a phaser says behind the text.
+fn put_phaser_notes(text: &mut Vec<u8>, line: &PhaserLine) -> Result<(), AllocError>
+    ensures ok { OnOk result (text.new.items ≡ text.old.items ++ phaser_notes line.now) }
+{
+    let mut buffer = Buffer::new();
+    let bound = buffer.format(line.bound);
+    let parts = ["\\n", operation_word(line.op), " ", bound];
+    put(text, parts.as_slice())?;
+    put_single_note(text, line.single)
 }
 
 /// Puts the node of phaser number `p` behind the text.
@@ -65,15 +69,9 @@ fn put_phaser(text: &mut Vec<u8>, graph: &Graph, p: usize) -> Result<(), AllocEr
     requires { p < length graph.now.phasers }
     ensures ok { OnOk result (text.new.items ≡ text.old.items ++ phaser_node graph.now p) }
 {
-    let line = graph.phaser(p);
-    let mut buffer = Buffer::new();
-    let bound = buffer.format(line.bound);
-    put_ellipse(
-        text,
-        graph.name(Place::Phaser(p)),
-        operation_word(line.op),
-        bound,
-    )
+    put_start(text, graph.name(Place::Phaser(p)), "ellipse")?;
+    put_phaser_notes(text, graph.phaser(p))?;
+    put_end(text)
 }
 
 /// Puts the nodes of all phasers behind the text.
@@ -87,38 +85,17 @@ pub(crate) fn put_phasers(text: &mut Vec<u8>, graph: &Graph) -> Result<(), Alloc
     Ok(())
 }
 
-/// What a box says of a task that joins now.
-fn now_note(joins_now: bool) -> &'static str
-    ensures { result.now ≡ now_note joins_now }
+/// Puts what the node of task number `t` says behind the text.
+fn put_task_notes(text: &mut Vec<u8>, graph: &Graph, t: usize) -> Result<(), AllocError>
+    requires { t < length graph.now.tasks }
+    ensures ok { OnOk result (text.new.items ≡ text.old.items ++ task_notes graph.now t) }
 {
-    if joins_now { "\\nnow" } else { "" }
-}
-
-/// Puts a task's node behind the text. It says `sign` before the steps of the task's block.
-fn put_box<'a>(
-    text: &mut Vec<u8>,
-    name: &'a str,
-    kind: &'a str,
-    now: &'a str,
-    sign: &'a str,
-    steps: &'a str,
-) -> Result<(), AllocError>
-    ensures ok { OnOk result (text.new.items
-        ≡ text.old.items ++ box name.now kind.now now.now sign.now steps.now) }
-{
-    let parts = [
-        "    \"",
-        name,
-        "\" [shape=box, label=\"",
-        name,
-        "\\n",
-        kind,
-        now,
-        sign,
-        steps,
-        "\"];\n",
-    ];
-    put(text, parts.as_slice())
+    let task = graph.task(t);
+    put(text, ["\\n", kind_word(task.kind)].as_slice())?;
+    put_kind_notes(text, graph, t)?;
+    put_until_note(text, task.until)?;
+    put_now_note(text, task.joins_now)?;
+    put_block_note(text, task.block)
 }
 
 /// Puts the node of task number `t` behind the text.
@@ -126,22 +103,9 @@ fn put_task(text: &mut Vec<u8>, graph: &Graph, t: usize) -> Result<(), AllocErro
     requires { t < length graph.now.tasks }
     ensures ok { OnOk result (text.new.items ≡ text.old.items ++ task_node graph.now t) }
 {
-    let line = graph.task(t);
-    let name = graph.name(Place::Task(t));
-    let kind = kind_word(line.kind);
-    let now = now_note(line.joins_now);
-    if line.block == 1 {
-        return put_box(text, name, kind, now, "", "");
-    }
-    let mut buffer = Buffer::new();
-    put_box(
-        text,
-        name,
-        kind,
-        now,
-        "\\nblock ",
-        buffer.format(line.block),
-    )
+    put_start(text, graph.name(Place::Task(t)), "box")?;
+    put_task_notes(text, graph, t)?;
+    put_end(text)
 }
 
 /// Puts the nodes of all tasks behind the text.

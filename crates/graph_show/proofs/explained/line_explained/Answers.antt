@@ -21,7 +21,7 @@ returns c =
     (λ text is. record {
       start = c.start_of.result;
       count = c.match-get.count;
-      wanted = c.mark_of-mark.result.wanted.now;
+      wanted = c.deref-3.result.now;
       inside = c.start_of.ensures;
       is = is;
     }) c.marked-2.ensures

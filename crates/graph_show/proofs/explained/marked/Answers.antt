@@ -11,6 +11,5 @@ returns c =
       c.in_ok-blanks.ensures,
       c.deref-3.ensures.value,
       c.in_ok-marks.ensures.items_if_clones_equal (λ y same. same),
-      c.as_bytes.ensures.value,
     )
     at c.joined.ensures

@@ -1,0 +1,179 @@
+//! What the nodes of a drawing say below their names.
+ghost use Rattle.std.specs.Prelude.{◌≡◌, ◌++◌, ◌<◌, ◌≤◌, length, Some, None, OnOk};
+ghost use Rattle.std.specs.List.{flat_map};
+ghost use Rattle.graph_lang.specs.graph_base.Graphs.{task_at, is_source, source_number};
+ghost use Rattle.graph_show.specs.Drawings.{block_note, clamp_ends, clamp_note, file_note, kind_notes, note, now_note, quoted, single_note, tap_text, taps_note, until_note};
+
+use crate::parts::put;
+use graph_lang::phase_accum::Single;
+use graph_lang::{Graph, Kind};
+use itoa::Buffer;
+use std::alloc::AllocError;
+
+/// Puts a clamp with its ends behind the text.
+fn put_clamp_note(text: &mut Vec<u8>, low: i64, high: i64) -> Result<(), AllocError>
+    ensures ok { OnOk result (text.new.items ≡ text.old.items ++ clamp_note low high) }
+{
+    let mut first = Buffer::new();
+    let mut last = Buffer::new();
+    put(
+        text,
+        ["\\nclamp ", first.format(low), " ", last.format(high)].as_slice(),
+    )
+}
+
+/// The ends of a clamp.
+fn ends_of(single: &Single) -> Option<(i64, i64)>
+    ensures { result ≡ clamp_ends single.now }
+{
+    if let Single::Clamp(range) = single {
+        return Some((range.low(), range.high()));
+    }
+    None
+}
+
+/// Puts the single of a phaser behind the text.
+pub(crate) fn put_single_note(text: &mut Vec<u8>, single: Option<Single>) -> Result<(), AllocError>
+    ensures ok { OnOk result (text.new.items ≡ text.old.items ++ single_note single) }
+{
+    let Some(single) = single else {
+        return Ok(());
+    };
+    if let Some((low, high)) = ends_of(&single) {
+        return put_clamp_note(text, low, high);
+    }
+    put(text, ["\\n", word_of(single)].as_slice())
+}
+
+/// The word of a single that is no clamp.
+fn word_of(single: Single) -> &'static str
+    requires { clamp_ends single ≡ None }
+    ensures { note result.now ≡ single_note (Some single) }
+{
+    if single == Single::Neg {
+        return "neg";
+    }
+    if single == Single::Abs {
+        "abs"
+    } else {
+        "halve"
+    }
+}
+
+/// Whether task number `t` is a source.
+fn is_source_line(graph: &Graph, t: usize) -> bool
+    requires { t < length graph.now.tasks }
+    ensures { result ≡ is_source (task_at graph.now t).kind }
+{
+    matches!(graph.task(t).kind, Kind::Source)
+}
+
+/// The number of a source among the sources: how many stand above it.
+fn number_of_source(graph: &Graph, t: usize) -> usize
+    requires { t ≤ length graph.now.tasks }
+    ensures { result ≡ source_number graph.now.tasks t }
+{
+    let mut count = 0;
+    for above in 0..t {
+        if is_source_line(graph, above) {
+            count += 1;
+        }
+    }
+    count
+}
+
+/// Puts a word as it stands within quotes behind the text.
+fn put_quoted(text: &mut Vec<u8>, word: &[u8]) -> Result<(), AllocError>
+    ensures ok { OnOk result (text.new.items ≡ text.old.items ++ flat_map quoted word.now) }
+{
+    for b in word {
+        if *b == b'"' || *b == b'\\' {
+            text.push(b'\\')?;
+        }
+        text.push(*b)?;
+    }
+    Ok(())
+}
+
+/// Puts the file of task number `t`, a source, behind the text.
+fn put_file_note(text: &mut Vec<u8>, graph: &Graph, t: usize) -> Result<(), AllocError>
+    requires task { t < length graph.now.tasks }
+    requires source { (task_at graph.now t).kind ≡ Kind.Source }
+    ensures ok { OnOk result (text.new.items ≡ text.old.items ++ file_note graph.now t) }
+{
+    put(text, ["\\n"].as_slice())?;
+    put_quoted(text, graph.file(number_of_source(graph, t)).as_bytes())
+}
+
+/// Puts taps behind the text, each behind a space.
+fn put_taps(text: &mut Vec<u8>, taps: &[i64]) -> Result<(), AllocError>
+    ensures ok { OnOk result (text.new.items ≡ text.old.items ++ flat_map tap_text taps.now) }
+{
+    for tap in taps {
+        let mut buffer = Buffer::new();
+        put(text, [" ", buffer.format(*tap)].as_slice())?;
+    }
+    Ok(())
+}
+
+/// Puts the shift and the taps of a filter behind the text.
+fn put_taps_note(text: &mut Vec<u8>, shift: u32, taps: &[i64]) -> Result<(), AllocError>
+    ensures ok { OnOk result (text.new.items ≡ text.old.items ++ taps_note shift taps.now) }
+{
+    let mut buffer = Buffer::new();
+    put(
+        text,
+        ["\\nshift ", buffer.format(shift), "\\ntaps"].as_slice(),
+    )?;
+    put_taps(text, taps)
+}
+
+/// Puts what is said of a task of its kind alone behind the text.
+pub(crate) fn put_kind_notes(text: &mut Vec<u8>, graph: &Graph, t: usize) -> Result<(), AllocError>
+    requires { t < length graph.now.tasks }
+    ensures ok { OnOk result (text.new.items
+        ≡ text.old.items ++ kind_notes graph.now t (task_at graph.now t).kind) }
+{
+    let task = graph.task(t);
+    match task.kind {
+        Kind::Source => put_file_note(text, graph, t),
+        Kind::Fir => put_taps_note(text, task.shift, &task.taps),
+        Kind::Peer => {
+            let mut buffer = Buffer::new();
+            put(text, ["\\nmul ", buffer.format(task.mul)].as_slice())
+        }
+        Kind::Split | Kind::Join | Kind::Sink => Ok(()),
+    }
+}
+
+/// Puts how many steps a task makes at most behind the text.
+pub(crate) fn put_until_note(text: &mut Vec<u8>, until: Option<u64>) -> Result<(), AllocError>
+    ensures ok { OnOk result (text.new.items ≡ text.old.items ++ until_note until) }
+{
+    let Some(steps) = until else {
+        return Ok(());
+    };
+    let mut buffer = Buffer::new();
+    put(text, ["\\nuntil ", buffer.format(steps)].as_slice())
+}
+
+/// Puts behind the text that a task joins now, where it does.
+pub(crate) fn put_now_note(text: &mut Vec<u8>, joins_now: bool) -> Result<(), AllocError>
+    ensures ok { OnOk result (text.new.items ≡ text.old.items ++ now_note joins_now) }
+{
+    if joins_now {
+        return put(text, ["\\nnow"].as_slice());
+    }
+    Ok(())
+}
+
+/// Puts the steps of a block behind the text, where they are several.
+pub(crate) fn put_block_note(text: &mut Vec<u8>, block: u64) -> Result<(), AllocError>
+    ensures ok { OnOk result (text.new.items ≡ text.old.items ++ block_note block) }
+{
+    if block == 1 {
+        return Ok(());
+    }
+    let mut buffer = Buffer::new();
+    put(text, ["\\nblock ", buffer.format(block)].as_slice())
+}
